@@ -1,0 +1,24 @@
+-- Laws of a part of a list that is lent on and comes back.
+use Prim.Native.Nat.{ℕ, _+_, _≤_}
+use native.Mathlib.Omega.{arith}
+use native.Mathlib.Nat.{add-assoc}
+use mathlib.Core.Path.{_≡_, refl, sym, ap, _∙_}
+use mathlib.Core.List.{List, _++_, append-assoc}
+use lib.ListN.{length, take, drop, length-drop, length-take, take-append-drop}
+use lib.Seq.{sets, sets-eq, take-take, drop-drop, take-add, length-take-le, drop-append-le}
+use borrow.Rule.Slice.PartMut.{midOf, postOf, putMid}
+
+-- what follows place m in the first k elements, and the rest
+after : (x : List ℕ) (m k : ℕ) → m ≤ k → k ≤ length x → drop m (take k x) ++ drop k x ≡ drop m x
+after x m k hm hk =
+    sym (drop-append-le m (take k x) (drop k x) (rw (length-take-le k x hk) hm)) ∙ ap (drop m) (take-append-drop k x)
+
+-- a run stored at `at` in the part of d that begins at a and has k elements is the run stored at a + at in d
+pub sets-part : (d : List ℕ) (a k at : ℕ) (s : List ℕ) → a + k ≤ length d → at + length s ≤ k
+    → putMid a k d (sets (midOf a k d) at s) ≡ sets d (a + at) s
+sets-part d a k at s hd hs =
+    let hx : k ≤ length (drop a d) = simp length-drop (omega arith) in
+    let hk : at + length s ≤ length (take k (drop a d)) = rw (length-take-le k (drop a d) hx) hs in
+    rw (sets-eq s (take k (drop a d)) at hk, sets-eq s d (a + at) (omega arith))
+    (simp (append-assoc, take-take at k (drop a d) (omega arith), after (drop a d) (at + length s) k hs hx)
+    (simp (append-assoc, take-add, drop-drop, add-assoc)))
