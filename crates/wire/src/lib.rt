@@ -1,4 +1,7 @@
-// What every format of the link shares: bytes and numbers, tests, streams.
+// What every format of the link shares: bytes and numbers, runs of bytes, tests, streams.
 pub mod bytes;
 pub mod logic;
 pub mod stream;
+
+// The largest message, in bytes.
+pub const MESSAGE_LIMIT: usize = 4096;
