@@ -1,3 +1,4 @@
 pub mod Told
 pub mod Bytes
+pub mod Scan
 pub mod Stream

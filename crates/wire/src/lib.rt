@@ -1,6 +1,7 @@
 // What every format of the link shares: bytes and numbers, runs of bytes, tests, streams.
 pub mod bytes;
 pub mod logic;
+pub mod scan;
 pub mod stream;
 
 // The largest message, in bytes.
