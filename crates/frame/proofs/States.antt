@@ -1,0 +1,91 @@
+-- Laws of the extractor's states, and of the loop over many bytes.
+use Prim.Native.Nat.{ℕ, _+_, _<_, _≤_, zero-le}
+use mathlib.Core.Path.{_≡_, refl, _∙_}
+use mathlib.Core.List.{List}
+use mathlib.Core.Bool.{Bool, true, false, cond, not, _&&_, false≢true}
+use native.Mathlib.Numerals.{add-one}
+use native.Mathlib.Omega.{arith}
+use lib.ListN.{length, drop, getD, drop-of-length-le}
+use lib.Seq.{drop-cons}
+use lib.Dec.{eqb, leb, ltb}
+use borrow.Author.Tests.{eqb-true, leb-true, ltb-true}
+use Rattle.frame.specs.declared.extractor.Extractor.{Extractor}
+use Rattle.frame.specs.declared.action.Action.{Action}
+use Rattle.frame.specs.declared.action.Action.the-variants.{Skip, Begin, Restart, Go, Number, Store, Finish, Refuse}
+use Rattle.frame.specs.Mark.{isMark}
+use Rattle.frame.specs.Action.{actionOf}
+use Rattle.frame.specs.Extractor.{allUsed, sequenceRead, lawfulBefore, lawfulAfter, lawful, ready, Step, storeOf, performOf, advanceOf, fed, decides, feedReport, feedFrom, Ready}
+
+-- both sides of a test that holds
+pub both-hold : (a b : Bool) → (a && b) ≡ true → (a ≡ true) × (b ≡ true)
+both-hold true b e = (refl, e)
+both-hold false b e = absurd (false≢true e)
+
+held-within : (limit : ℕ) (t : Bool) (q h : ℕ) → cond t (lawfulAfter limit q h) (lawfulBefore q h) ≡ true → h ≤ limit + 2
+held-within limit true q h e = leb-true _ _ (both-hold (not (isMark q)) (leb h (limit + 2)) e .1)
+held-within limit false q h e = omega (arith, eqb-true h 0 (both-hold (eqb q 0) (eqb h 0) e .1))
+
+-- what a lawful state and the right size give
+pub ready-holds : {limit : ℕ} {s : Extractor} {l : List ℕ} → ready limit s (length l) ≡ true → Ready limit s l
+unfolding ready lawful
+ready-holds {limit} {s} {l} e =
+    let b = both-hold (eqb (length l) (limit + 2)) (lawful limit s) e in
+    record { room = held-within limit (sequenceRead (s .phase)) (s .sequence) (s .held) (b .1); size = eqb-true _ _ (b .0) }
+
+store-held : (limit : ℕ) (s : Extractor) (l : List ℕ) (x : ℕ) → storeOf limit s l x .next .held ≤ limit + 2
+unfolding storeOf
+store-held limit s l x = go (ltb (s .held) (limit + 2)) refl
+  where
+    go : (t : Bool) → ltb (s .held) (limit + 2) ≡ t → storeOf limit s l x .next .held ≤ limit + 2
+    go true e = rw e (omega (arith, ltb-true (s .held) (limit + 2) e))
+    go false e = rw e zero-le
+
+perform-held : (limit : ℕ) (s : Extractor) (l : List ℕ) (b : ℕ) (a : Action) → s .held ≤ limit + 2
+    → performOf limit s l b a .next .held ≤ limit + 2
+perform-held limit s l b Skip h = h
+perform-held limit s l b Begin h = zero-le
+perform-held limit s l b Restart h = zero-le
+perform-held limit s l b (Go p) h = h
+perform-held limit s l b Number h = h
+perform-held limit s l b (Store x) h = store-held limit s l x
+perform-held limit s l b Finish h = zero-le
+perform-held limit s l b (Refuse r) h = zero-le
+
+-- a step keeps the count held within the buffer
+advance-held : (limit : ℕ) (s : Extractor) (l : List ℕ) (b : ℕ) → s .held ≤ limit + 2 → advanceOf limit s l b .next .held ≤ limit + 2
+unfolding advanceOf
+advance-held limit s l b h = perform-held limit s l b (actionOf (s .phase) b) h
+
+-- at the loop's test what is left of the bytes gives what all of them give
+pub record Running (limit : ℕ) (bytes l₀ : List ℕ) (s₀ : Extractor) (l : List ℕ) (s : Extractor) (i : ℕ) : Type 0 where
+  pub within : i ≤ length bytes
+  pub ready : Ready limit s l
+  pub same : length l ≡ length l₀
+  pub rest : feedFrom limit i s l (drop i bytes) ≡ feedFrom limit 0 s₀ l₀ bytes
+
+module _ {limit : ℕ} {bytes l₀ : List ℕ} {s₀ : Extractor} {l : List ℕ} {s : Extractor} {i : ℕ} (inv : Running limit bytes l₀ s₀ l s i) where
+  -- nothing is left of the bytes
+  pub running-end : length bytes ≤ i → fed allUsed i s l ≡ feedFrom limit 0 s₀ l₀ bytes
+  unfolding feedFrom
+  running-end h = rw (drop-of-length-le bytes h) at (inv .rest)
+
+  -- one step, by what its contract says of it
+  module _ {a : Step} (step : a ≡ advanceOf limit s l (getD bytes i 0)) (inside : i < length bytes) where
+    module _ {next : Extractor} (moved : next ≡ a .next) where
+      pub running-stop : decides (a .report) ≡ true → fed (feedReport (a .report)) (i + 1) next (a .buffer) ≡ feedFrom limit 0 s₀ l₀ bytes
+      unfolding feedFrom
+      running-stop e = rw moved (rw (drop-cons bytes i 0 inside, ← step, e) at (inv .rest))
+
+      pub running-more : decides (a .report) ≡ false → length (a .buffer) ≡ length l → Running limit bytes l₀ s₀ (a .buffer) next (i + 1)
+      unfolding feedFrom
+      running-more e kept =
+          record {
+            within = omega arith;
+            ready =
+                record {
+                  room = rw (moved, step) (advance-held limit s l (getD bytes i 0) (inv .ready .room));
+                  size = kept ∙ inv .ready .size;
+                };
+            same = kept ∙ inv .same;
+            rest = rw (moved, add-one) (rw (drop-cons bytes i 0 inside, ← step, e, add-one) at (inv .rest));
+          }
