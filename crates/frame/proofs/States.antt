@@ -1,7 +1,7 @@
 -- Laws of the extractor's states, and of the loop over many bytes.
 use Prim.Native.Nat.{ℕ, _+_, _<_, _≤_, zero-le}
 use mathlib.Core.Path.{_≡_, refl, _∙_}
-use mathlib.Core.List.{List}
+use mathlib.Core.List.{List, [], _∷_}
 use mathlib.Core.Bool.{Bool, true, false, cond, not, _&&_, false≢true}
 use native.Mathlib.Numerals.{add-one}
 use native.Mathlib.Omega.{arith}
@@ -14,7 +14,7 @@ use Rattle.frame.specs.declared.action.Action.{Action}
 use Rattle.frame.specs.declared.action.Action.the-variants.{Skip, Begin, Restart, Go, Number, Store, Finish, Refuse}
 use Rattle.frame.specs.Mark.{isMark}
 use Rattle.frame.specs.Action.{actionOf}
-use Rattle.frame.specs.Extractor.{allUsed, sequenceRead, lawfulBefore, lawfulAfter, lawful, ready, Step, storeOf, performOf, advanceOf, fed, decides, feedReport, feedFrom, Ready}
+use Rattle.frame.specs.Extractor.{Report, refused, allUsed, sequenceRead, lawfulBefore, lawfulAfter, lawful, ready, Step, storeOf, performOf, advanceOf, fed, decides, feedReport, feedFrom, feedOf, Ready}
 
 -- both sides of a test that holds
 pub both-hold : (a b : Bool) → (a && b) ≡ true → (a ≡ true) × (b ≡ true)
@@ -89,3 +89,25 @@ module _ {limit : ℕ} {bytes l₀ : List ℕ} {s₀ : Extractor} {l : List ℕ}
             same = kept ∙ inv .same;
             rest = rw (moved, add-one) (rw (drop-cons bytes i 0 inside, ← step, e, add-one) at (inv .rest));
           }
+
+-- ---- the number of bytes used
+
+used-most : (limit n : ℕ) (s : Extractor) (l bytes : List ℕ) → feedFrom limit n s l bytes .used ≤ n + length bytes
+unfolding feedFrom
+used-most limit n s l [] = omega arith
+used-most limit n s l (b ∷ bs) =
+    let r = advanceOf limit s l b in
+    go (decides (r .report)) (r .report) (r .next) (r .buffer) (used-most limit (n + 1) (r .next) (r .buffer) bs)
+  where
+    go : (t : Bool) (report : Report) (next : Extractor) (buffer : List ℕ) → feedFrom limit (n + 1) next buffer bs .used ≤ n + 1 + length bs
+        → cond t (fed (feedReport report) (n + 1) next buffer) (feedFrom limit (n + 1) next buffer bs) .used ≤ n + length (b ∷ bs)
+    go true report next buffer h = omega arith
+    go false report next buffer h = omega arith
+
+-- no call uses more bytes than it is given
+pub feed-within : (limit : ℕ) (s : Extractor) (l bytes : List ℕ) → feedOf limit s l bytes .used ≤ length bytes
+feed-within limit s l bytes = go (ready limit s (length l))
+  where
+    go : (t : Bool) → cond (not t) (fed (refused 1) 0 s l) (feedFrom limit 0 s l bytes) .used ≤ length bytes
+    go true = omega (arith, used-most limit 0 s l bytes)
+    go false = zero-le

@@ -10,7 +10,7 @@ ghost use mathlib.Core.Path.{_≡_};
 ghost use Rattle.frame.specs.declared.extractor.Outcome.the-variants.{Refused};
 ghost use Prim.Native.Nat.{_+_, _≤_};
 ghost use lib.ListN.{length};
-ghost use Rattle.frame.specs.Extractor.{told, toldFeed, step, outside, begun, sequenceRead, lawfulBefore, lawfulAfter, lawful, ready, storeOf, endOf, performOf, advanceOf, stepOf, fed, decides, feedReport, feedFrom, feedOf, Ready};
+ghost use Rattle.frame.specs.Extractor.{numberOf, told, toldFeed, step, outside, begun, sequenceRead, lawfulBefore, lawfulAfter, lawful, ready, storeOf, endOf, performOf, advanceOf, stepOf, fed, decides, feedReport, feedFrom, feedOf, Ready};
 
 // What the next byte is taken for.
 pub enum Phase {
@@ -71,6 +71,22 @@ pub const ROOM: usize = MESSAGE_LIMIT + 2;
 pub const PACKET_ID: u8 = 0x02;
 
 pub const ERROR_ID: u8 = 0x00;
+
+impl Refusal {
+    pub fn number(self) -> u8
+        ensures { λ r. ⌜ r ≡ numberOf self ⌝ }
+    {
+        match self {
+            Refusal::Unlawful => 1,
+            Refusal::StartInside => 20,
+            Refusal::BadEscape => 23,
+            Refusal::EarlyEnd => 21,
+            Refusal::BadHeader => 22,
+            Refusal::TooLong => 24,
+            Refusal::BadChecksum => 25,
+        }
+    }
+}
 
 impl Extractor {
     pub const START: u8 = 0xf0;

@@ -21,12 +21,23 @@ ghost use lib.Seq.{sets};
 ghost use Rattle.wire.specs.Told.{written};
 ghost use Rattle.frame.specs.Mark.{escapeMark, kindOf};
 ghost use Rattle.frame.specs.Frame.{escapedBy, escapedOf, headerOf, framed, nextSequence};
-ghost use Rattle.frame.specs.Writer.{told, writeOf, Left};
+ghost use Rattle.frame.specs.Writer.{numberOf, told, writeOf, Left};
 
 // Refusals 15 and 14.
 pub enum Refusal {
     BadArgument,
     NoRoom,
+}
+
+impl Refusal {
+    pub fn number(self) -> u8
+        ensures { λ r. ⌜ r ≡ numberOf self ⌝ }
+    {
+        match self {
+            Refusal::BadArgument => 15,
+            Refusal::NoRoom => 14,
+        }
+    }
 }
 
 // The length of the frame written, or why none was.
