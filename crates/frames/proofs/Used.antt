@@ -1,0 +1,17 @@
+-- A call for the rest of a block uses no more than that.
+use Prim.Native.Nat.{ℕ, _-_, _≤_}
+use mathlib.Core.Path.{_≡_, ap}
+use mathlib.Core.List.{List}
+use native.Mathlib.Omega.{arith}
+use lib.ListN.{length, take, drop, length-take, length-drop}
+use Rattle.frame.specs.declared.extractor.Extractor.{Extractor}
+use Rattle.frame.specs.Extractor.{Report, Feed, fed, feedOf}
+use Rattle.frame.proofs.States.{feed-within}
+
+pub used-fits : {r : Report} {n : ℕ} {s′ : Extractor} {l′ : List ℕ} (s : Extractor) (l bytes : List ℕ) (at : ℕ) → at ≤ length bytes
+    → fed r n s′ l′ ≡ feedOf 4096 s l (take (length bytes - at) (drop at bytes)) → n ≤ length bytes - at
+used-fits {r} {n} s l bytes at h e =
+    let u : n ≡ feedOf 4096 s l (take (length bytes - at) (drop at bytes)) .used = ap (λ (f : Feed). f .used) e in
+    let w = feed-within 4096 s l (take (length bytes - at) (drop at bytes)) in
+    let k = length-take (length bytes - at) (drop at bytes) in
+    omega (arith, u, w, k)
