@@ -1,14 +1,14 @@
 -- Laws of the kinds of bytes.
 use Prim.Native.Nat.{ℕ}
 use mathlib.Core.Path.{_≡_, refl}
-use mathlib.Core.Bool.{Bool, true, false, not, true≢false, false≢true}
+use mathlib.Core.Bool.{false, true≢false}
 use lib.Dec.{lit≤}
 use Rattle.wire.specs.Scan.{inRange}
 use Rattle.wire.proofs.Runs.{out-of-range}
 use Rattle.frame.specs.declared.mark.Kind.{Kind}
 use Rattle.frame.specs.declared.mark.Kind.the-variants.{Start, End, Escape, Plain}
 use Rattle.frame.specs.Frame.{packetId, errorId}
-use Rattle.frame.specs.Mark.{startMark, endMark, escapeMark, kindOf, isMarkKind, isMark}
+use Rattle.frame.specs.Mark.{startMark, endMark, escapeMark, kindOf, isMarkKind}
 
 pub start-kind : kindOf startMark ≡ Start
 unfolding kindOf
@@ -37,8 +37,8 @@ clear-plain b e =
     )
 
 -- .. and so is one that is no mark
-pub unmarked-plain : (k : Kind) → not (isMarkKind k) ≡ true → k ≡ Plain
-unmarked-plain Start e = absurd (false≢true e)
-unmarked-plain End e = absurd (false≢true e)
-unmarked-plain Escape e = absurd (false≢true e)
+pub unmarked-plain : (k : Kind) → isMarkKind k ≡ false → k ≡ Plain
+unmarked-plain Start e = absurd (true≢false e)
+unmarked-plain End e = absurd (true≢false e)
+unmarked-plain Escape e = absurd (true≢false e)
 unmarked-plain Plain e = refl

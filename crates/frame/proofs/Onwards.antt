@@ -10,8 +10,9 @@ use lib.ListN.{length, take, drop, getD, set, take-append-drop, length-drop, len
 use lib.Seq.{drop-cons, take-take, drop-drop, sets, length-take-le, length-sets}
 use lib.Dec.{eqb, ltb, lit≤}
 use borrow.Author.Tests.{eqb-true, ltb-false, lt-ltb}
-use Rattle.wire.specs.Scan.{inRange, anyInRange, Clear}
+use Rattle.wire.specs.Scan.{anyInRange, Clear}
 use Rattle.wire.proofs.Runs.{out-of-range, any-first}
+use Rattle.wire.proofs.Tests.{and-left, and-right, not-true}
 use Rattle.frame.specs.declared.extractor.Extractor.{Extractor}
 use Rattle.frame.specs.declared.extractor.Phase.{Phase}
 use Rattle.frame.specs.declared.extractor.Phase.the-variants.{Outside, Body, Escaped}
@@ -24,7 +25,7 @@ use Rattle.frame.specs.Action.{codeOf}
 use Rattle.frame.specs.Extractor.{taken, step, body, Ready, storeOf, advanceOf, feedFrom}
 use Rattle.frame.specs.Glide.{markOf, markAt, isHeader, headerAt, Onward}
 use Rattle.frame.proofs.Marks.{clear-plain, unmarked-plain, start-kind, escape-kind, packet-kind, error-kind}
-use Rattle.frame.proofs.States.{Running, both-hold}
+use Rattle.frame.proofs.States.{Running}
 
 -- ---- what a glide gives
 
@@ -191,19 +192,19 @@ header-four : (limit n : ℕ) (s : Extractor) (l : List ℕ) (a b c d : ℕ) (ys
     → feedFrom limit n s l (a ∷ b ∷ c ∷ d ∷ ys) ≡ feedFrom limit (n + 4) (body d 0) l ys
 unfolding feedFrom advanceOf
 header-four limit n s l a b c d ys p e =
-    let ea = both-hold (eqb a startMark) (eqb b packetId && (eqb c errorId && not (isMark d))) e in
-    let eb = both-hold (eqb b packetId) (eqb c errorId && not (isMark d)) (ea .1) in
-    let ec = both-hold (eqb c errorId) (not (isMark d)) (eb .1) in
+    let tail = eqb c errorId && not (isMark d) in
+    let e₁ = and-right (eqb a startMark) (eqb b packetId && tail) e in
+    let e₂ = and-right (eqb b packetId) tail e₁ in
     let four : n + 1 + 1 + 1 + 1 ≡ n + 4 = omega arith in
     rw (
-      eqb-true a startMark (ea .0),
-      eqb-true b packetId (eb .0),
-      eqb-true c errorId (ec .0),
+      eqb-true a startMark (and-left (eqb a startMark) (eqb b packetId && tail) e),
+      eqb-true b packetId (and-left (eqb b packetId) tail e₁),
+      eqb-true c errorId (and-left (eqb c errorId) (not (isMark d)) e₂),
       p,
       start-kind,
       packet-kind,
       error-kind,
-      unmarked-plain (kindOf d) (ec .1),
+      unmarked-plain (kindOf d) (not-true (isMark d) (and-right (eqb c errorId) (not (isMark d)) e₂)),
       four,
     )
 

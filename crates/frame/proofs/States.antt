@@ -2,13 +2,14 @@
 use Prim.Native.Nat.{ℕ, _+_, _<_, _≤_, zero-le}
 use mathlib.Core.Path.{_≡_, refl, _∙_}
 use mathlib.Core.List.{List, [], _∷_}
-use mathlib.Core.Bool.{Bool, true, false, cond, not, _&&_, false≢true}
+use mathlib.Core.Bool.{Bool, true, false, cond, not}
 use native.Mathlib.Numerals.{add-one}
 use native.Mathlib.Omega.{arith}
 use lib.ListN.{length, drop, getD, drop-of-length-le}
 use lib.Seq.{drop-cons}
 use lib.Dec.{eqb, leb, ltb}
 use borrow.Author.Tests.{eqb-true, leb-true, ltb-true}
+use Rattle.wire.proofs.Tests.{and-left, and-right}
 use Rattle.frame.specs.declared.extractor.Extractor.{Extractor}
 use Rattle.frame.specs.declared.action.Action.{Action}
 use Rattle.frame.specs.declared.action.Action.the-variants.{Skip, Begin, Restart, Go, Number, Store, Finish, Refuse}
@@ -16,21 +17,18 @@ use Rattle.frame.specs.Mark.{isMark}
 use Rattle.frame.specs.Action.{actionOf}
 use Rattle.frame.specs.Extractor.{Report, refused, allUsed, sequenceRead, lawfulBefore, lawfulAfter, lawful, ready, Step, storeOf, performOf, advanceOf, fed, decides, feedReport, feedFrom, feedOf, Ready}
 
--- both sides of a test that holds
-pub both-hold : (a b : Bool) → (a && b) ≡ true → (a ≡ true) × (b ≡ true)
-both-hold true b e = (refl, e)
-both-hold false b e = absurd (false≢true e)
-
 held-within : (limit : ℕ) (t : Bool) (q h : ℕ) → cond t (lawfulAfter limit q h) (lawfulBefore q h) ≡ true → h ≤ limit + 2
-held-within limit true q h e = leb-true _ _ (both-hold (not (isMark q)) (leb h (limit + 2)) e .1)
-held-within limit false q h e = omega (arith, eqb-true h 0 (both-hold (eqb q 0) (eqb h 0) e .1))
+held-within limit true q h e = leb-true _ _ (and-right (not (isMark q)) (leb h (limit + 2)) e)
+held-within limit false q h e = omega (arith, eqb-true h 0 (and-right (eqb q 0) (eqb h 0) e))
 
 -- what a lawful state and the right size give
 pub ready-holds : {limit : ℕ} {s : Extractor} {l : List ℕ} → ready limit s (length l) ≡ true → Ready limit s l
 unfolding ready lawful
 ready-holds {limit} {s} {l} e =
-    let b = both-hold (eqb (length l) (limit + 2)) (lawful limit s) e in
-    record { room = held-within limit (sequenceRead (s .phase)) (s .sequence) (s .held) (b .1); size = eqb-true _ _ (b .0) }
+    record {
+      room = held-within limit (sequenceRead (s .phase)) (s .sequence) (s .held) (and-right (eqb (length l) (limit + 2)) (lawful limit s) e);
+      size = eqb-true _ _ (and-left (eqb (length l) (limit + 2)) (lawful limit s) e);
+    }
 
 store-held : (limit : ℕ) (s : Extractor) (l : List ℕ) (x : ℕ) → storeOf limit s l x .next .held ≤ limit + 2
 unfolding storeOf

@@ -45,11 +45,11 @@ codeOf b =
     (cond (eqb b endCode) (Store endMark)
     (cond (eqb b escapeCode) (Store escapeMark) (Refuse BadEscape)))
 
-abbrev pub escapedBy : Kind → ℕ → Action
-escapedBy Start b = Restart
-escapedBy End b = Refuse BadEscape
-escapedBy Escape b = Refuse BadEscape
-escapedBy Plain b = codeOf b
+abbrev pub codeBy : Kind → ℕ → Action
+codeBy Start b = Restart
+codeBy End b = Refuse BadEscape
+codeBy Escape b = Refuse BadEscape
+codeBy Plain b = codeOf b
 
 abbrev pub actionBy : Phase → Kind → ℕ → Action
 actionBy Outside k b = outsideBy k
@@ -57,7 +57,7 @@ actionBy PacketId k b = headerBy k packetId ErrorId b
 actionBy ErrorId k b = headerBy k errorId Sequence b
 actionBy Sequence k b = sequenceBy k
 actionBy Body k b = bodyBy k b
-actionBy Escaped k b = escapedBy k b
+actionBy Escaped k b = codeBy k b
 
 abbrev pub actionOf : Phase → ℕ → Action
 actionOf phase b = actionBy phase (kindOf b) b

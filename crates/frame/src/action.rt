@@ -8,7 +8,7 @@ use crate::mark::Kind;
 use crate::mark::kind_of;
 ghost use mathlib.Core.Path.{_≡_};
 ghost use Rattle.frame.specs.declared.mark.Kind.the-variants.{Plain};
-ghost use Rattle.frame.specs.Action.{outsideBy, headerBy, sequenceBy, bodyBy, codeOf, escapedBy, actionBy, actionOf};
+ghost use Rattle.frame.specs.Action.{outsideBy, headerBy, sequenceBy, bodyBy, codeOf, codeBy, actionBy, actionOf};
 
 pub enum Action {
     Skip,
@@ -98,7 +98,7 @@ fn code(b: u8) -> Action
 }
 
 fn escaped(kind: Kind, b: u8) -> Action
-    ensures { λ r. ⌜ r ≡ escapedBy kind b ⌝ }
+    ensures { λ r. ⌜ r ≡ codeBy kind b ⌝ }
 {
     match kind {
         Kind::Start => Action::Restart,

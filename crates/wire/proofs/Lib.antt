@@ -1,3 +1,6 @@
 pub mod Stores
 pub mod Parts
 pub mod Runs
+pub mod Tests
+pub mod Tables
+pub mod Streams

@@ -1,0 +1,102 @@
+-- Demands 2 and 3 for Classic: the frames of our writer come back, and damage ends at the next F0.
+use Prim.Native.Nat.{ℕ, _+_, _≤_, _<_}
+use mathlib.Core.Path.{_≡_}
+use mathlib.Core.Logic.{_≢_}
+use mathlib.Core.Bool.{true, false}
+use mathlib.Core.List.{List, [], _∷_, _++_}
+use lib.ListN.{length, getD, set, take}
+use Rattle.wire.specs.Told.{Told, given, refused}
+use Rattle.wire.specs.Bytes.{AllBytes}
+use Rattle.frame.specs.declared.extractor.Extractor.{Extractor}
+use Rattle.frame.specs.Mark.{isMark}
+use Rattle.frame.specs.Frame.{frameOf}
+use Rattle.frame.specs.Extractor.{outside, lawful, feedOf}
+use Rattle.frame.specs.Writer.{writeOf}
+use Rattle.recovery.specs.Run.{Call, runOf, Given, handedBy, handedOut}
+
+-- ---- the frames of our writer
+
+-- a call of the frame writer: its sequence and payload, and the output that is lent to it
+pub record Sending : Type 0 where
+  pub sequence : ℕ
+  pub payload : List ℕ
+  pub out : List ℕ
+
+-- what the writer has to take: a sequence that is no mark, and bytes up to the limit, with room for their frame
+pub record Sendable (limit : ℕ) (m : Sending) : Type 0 where
+  pub unmarked : isMark (m .sequence) ≡ false
+  pub fits : length (m .payload) ≤ limit
+  pub bytes : AllBytes (m .payload)
+  pub room : length (frameOf (m .sequence) (m .payload)) ≤ length (m .out)
+
+-- the first bytes of an output, as many as the writer tells
+abbrev pub toldBytes : Told ℕ → List ℕ → List ℕ
+toldBytes (given n) out = take n out
+toldBytes (refused n) out = []
+
+-- the bytes that our writer writes
+abbrev pub sent : ℕ → Sending → List ℕ
+sent limit m = let w = writeOf limit (m .sequence) (m .payload) (m .out) in toldBytes (w .told) (w .out)
+
+-- what an extractor has to hand out of a frame
+abbrev pub givenOf : Sending → Given
+givenOf m = record { sequence = m .sequence; size = length (m .payload); payload = m .payload }
+
+-- ---- the closing part
+
+-- the place of the sequence byte, which the checksum does not cover
+abbrev pub sequencePlace : ℕ
+sequencePlace = 3
+
+-- the byte at a place turns into another, and neither is a mark
+pub record Turned (bytes : List ℕ) (place new : ℕ) : Type 0 where
+  pub inside : place < length bytes
+  pub wasPlain : isMark (getD bytes place 0) ≡ false
+  pub isPlain : isMark new ≡ false
+  pub byte : new < 256
+  pub other : new ≢ getD bytes place 0
+
+-- a frame of our writer, whole or with the byte at a place turned into another
+pub data Item : Type 0 where
+  whole : Sending → Item
+  damaged : Sending → ℕ → ℕ → Item
+
+-- the bytes of the closing part
+unfoldable pub bytesOf : ℕ → List Item → List ℕ
+bytesOf limit [] = []
+bytesOf limit (whole m ∷ is) = sent limit m ++ bytesOf limit is
+bytesOf limit (damaged m place new ∷ is) = set (sent limit m) place new ++ bytesOf limit is
+
+-- what has to be handed out of it: each whole frame, in order
+unfoldable pub undamaged : List Item → List Given
+undamaged [] = []
+undamaged (whole m ∷ is) = givenOf m ∷ undamaged is
+undamaged (damaged m place new ∷ is) = undamaged is
+
+-- each frame is one that the writer has to take, and the byte that turned is not the sequence byte
+abbrev pub Closing : ℕ → List Item → Type 0
+Closing limit [] = Unit {0}
+Closing limit (whole m ∷ is) = Sendable limit m × Closing limit is
+Closing limit (damaged m place new ∷ is) = Sendable limit m × (place ≢ sequencePlace) × Turned (sent limit m) place new × Closing limit is
+
+-- ---- the claims
+
+-- Demand 3: from every lawful state, whatever bytes come before and wherever calls that use all bytes cut them, the frames decided in the
+-- closing part are the undamaged ones of it, one each, in order
+abbrev pub DamageEnds : Type 0
+DamageEnds =
+    (limit : ℕ) (s : Extractor) (buffer before : List ℕ) (closing : List Item) (calls : List Call)
+    → lawful limit s ≡ true
+    → length buffer ≡ limit + 2
+    → Closing limit closing
+    → (let run = runOf limit calls 0 s buffer (before ++ bytesOf limit closing) in
+    run .unused ≡ [] → handedOut (length before) (run .events) ≡ undamaged closing)
+
+-- Demand 2: a frame of our writer, given at once to an extractor that is outside, is handed out, and all its bytes are used
+abbrev pub FrameReturns : Type 0
+FrameReturns =
+    (limit : ℕ) (m : Sending) (buffer : List ℕ)
+    → Sendable limit m
+    → length buffer ≡ limit + 2
+    → (let r = feedOf limit outside buffer (sent limit m) in
+    (handedBy (r .report) (r .buffer) ≡ givenOf m ∷ []) × (r .used ≡ length (sent limit m)))
