@@ -1,0 +1,62 @@
+-- Laws of the header's bytes.
+use Prim.Native.Nat.{ℕ, _/_, _%_, _<_}
+use native.Mathlib.Omega.{arith}
+use mathlib.Core.Path.{_≡_, refl}
+use mathlib.Core.Bool.{Bool, true, false}
+use lib.Dec.{ltb, eqb}
+use borrow.Author.Tests.{ltb-true}
+use Rattle.wire.specs.Stream.{isStream}
+use Rattle.wire.proofs.Tests.{and-left, and-right}
+use Rattle.wire.proofs.Streams.{stream-low}
+use Rattle.packet.specs.Header.{inRange, bit, firstByte, secondByte, streamBits, idBits, sequenceBits, typeBits, ackBit, extenderBit}
+
+-- numbers in their ranges fit their bits
+pub in-range-low : (stream id sequence : ℕ) → inRange stream id sequence ≡ true → (stream < 16) × (id < 16) × (sequence < 16)
+unfolding inRange
+in-range-low stream id sequence e =
+    let low = and-right (isStream stream) _ e in (
+      stream-low stream (and-left (isStream stream) _ e),
+      ltb-true id 16 (and-left (ltb id 16) _ low),
+      ltb-true sequence 16 (and-right (ltb id 16) _ low),
+    )
+
+-- ---- byte 0, read back
+
+pub stream-back : (stream id : ℕ) → id < 16 → streamBits (firstByte stream id) ≡ stream
+stream-back stream id l = omega arith
+
+pub id-back : (stream id : ℕ) → id < 16 → idBits (firstByte stream id) ≡ id
+id-back stream id l = omega arith
+
+-- ---- byte 1, read back
+
+bit-low : (b : Bool) → bit b < 2
+bit-low true = omega arith
+bit-low false = omega arith
+
+bit-back : (b : Bool) → eqb (bit b) 1 ≡ b
+bit-back true = refl
+bit-back false = refl
+
+module _ (sequence kind : ℕ) (ack extended : Bool) (ls : sequence < 16) (lk : kind < 4) where
+  la : bit ack < 2
+  la = bit-low ack
+
+  le : bit extended < 2
+  le = bit-low extended
+
+  pub sequence-back : sequenceBits (secondByte sequence kind ack extended) ≡ sequence
+  sequence-back = omega (arith, la, le)
+
+  pub type-back : typeBits (secondByte sequence kind ack extended) ≡ kind
+  type-back = omega (arith, la, le)
+
+  pub ack-back : ackBit (secondByte sequence kind ack extended) ≡ ack
+  ack-back =
+      let e : secondByte sequence kind ack extended / 2 % 2 ≡ bit ack = omega (arith, la, le) in
+      rw e (bit-back ack)
+
+  pub extender-back : extenderBit (secondByte sequence kind ack extended) ≡ extended
+  extender-back =
+      let e : secondByte sequence kind ack extended % 2 ≡ bit extended = omega (arith, la, le) in
+      rw e (bit-back extended)

@@ -1,0 +1,4 @@
+pub mod Headers
+pub mod Acknowledgements
+pub mod Reading
+pub mod AcknowledgementsReturn

@@ -1,0 +1,200 @@
+-- Laws of a packet that is read: what is true of one that passes the table, and which ones pass.
+use Prim.Native.Nat.{ℕ, _+_, _/_, _%_, _≤_, _<_}
+use native.Mathlib.Omega.{arith}
+use native.Mathlib.Nat.{div-add-mod'}
+use mathlib.Core.Path.{_≡_, refl}
+use mathlib.Core.Logic.{_≢_}
+use mathlib.Core.List.{List, [], _∷_, _++_}
+use mathlib.Core.Bool.{Bool, true, false, not, cond, _&&_}
+use lib.ListN.{length, getD}
+use lib.Dec.{ltb, eqb}
+use borrow.Author.Tests.{eq-eqb, ne-eqb, le-ltb, eqb-true, ltb-false, not-false}
+use Rattle.wire.specs.Told.{Told, given, refused}
+use Rattle.wire.specs.Bytes.{pairBytes}
+use Rattle.wire.specs.Stream.{isStream, streamOf}
+use Rattle.wire.proofs.Tables.{by-table}
+use Rattle.packet.specs.declared.reader.Head.{Head}
+use Rattle.packet.specs.declared.reader.Fields.{Fields}
+use Rattle.packet.specs.declared.reader.Packet.{Packet}
+use Rattle.packet.specs.declared.reader.Packet.the-variants.{First, Next, Ack, Nack}
+use Rattle.packet.specs.Header.{reservedByte, typeFirst, typeContinuation, typeLast, headerSize, firstByte, secondByte, streamBits}
+use Rattle.packet.specs.Reader.{fieldsBy, fieldsOf, isFirst, isControl, headIn, contentOf, rows, judged, readOf}
+use Rattle.packet.proofs.Headers.{stream-back, id-back, sequence-back, type-back, ack-back, extender-back}
+
+-- ---- a packet that passes
+
+abbrev pub HeadLow : Head → Type 0
+HeadLow h = (h .id < 16) × (h .sequence < 16)
+
+-- the payload lies within a packet of k bytes, and the numbers within their bounds
+abbrev pub Within : ℕ → ℕ → Packet → Type 0
+Within limit k (First h ack total start len) =
+    (start + len ≤ k) × (len ≤ total) × (total ≤ limit) × (len ≡ 0 → total ≡ 0) × HeadLow h
+Within limit k (Next h ack last start len) = (start + len ≤ k) × HeadLow h
+Within limit k (Ack h) = Unit {0}
+Within limit k (Nack h) = Unit {0}
+
+-- what is true of a packet that is told
+pub record Passes (limit k stream : ℕ) (x : Packet) : Type 0 where
+  pub within : Within limit k x
+  pub known : isStream stream ≡ true
+  pub named : headIn x .stream ≡ streamOf stream
+
+-- a law of what is told, where something is
+abbrev pub IfGiven : (Packet → Type 0) → Told Packet → Type 0
+IfGiven P (given x) = P x
+IfGiven P (refused n) = Unit {0}
+
+only-empty : (len total : ℕ) → (eqb len 0 && not (eqb total 0)) ≡ false → len ≡ 0 → total ≡ 0
+only-empty len total h e = eqb-true total 0 (not-false _ (simp (eq-eqb len 0 e) at h))
+
+exact : (size sum : ℕ) → not (eqb size sum) ≡ false → sum ≤ size
+exact size sum h = omega (arith, eqb-true size sum (not-false _ h))
+
+-- what the lines that do not hold say, by the type
+content-within : (limit : ℕ) (f : Fields) (control first ack : Bool)
+    → isControl f ≡ control → isFirst f ≡ first → f .ack ≡ ack → HeadLow (f .head)
+    → (not control && not (eqb (f .size) (f .header + f .len))) ≡ false
+    → (first && ltb limit (f .total)) ≡ false
+    → (not control && (eqb (f .len) 0 && not (first && eqb (f .total) 0))) ≡ false
+    → (first && ltb (f .total) (f .len)) ≡ false
+    → Within limit (f .size) (contentOf f)
+unfolding contentOf
+content-within limit f true first true ec ef ea low h5 h6 h7 h8 = rw (ec, ea) tt
+content-within limit f true first false ec ef ea low h5 h6 h7 h8 = rw (ec, ea) tt
+content-within limit f false true ack ec ef ea low h5 h6 h7 h8 =
+    rw (ec, ef)
+    (exact (f .size) (f .header + f .len) h5, ltb-false (f .total) (f .len) h8, ltb-false limit (f .total) h6, only-empty (f .len) (f .total) h7, low)
+content-within limit f false false ack ec ef ea low h5 h6 h7 h8 = rw (ec, ef) (exact (f .size) (f .header + f .len) h5, low)
+
+content-head : (f : Fields) (control first ack : Bool) → isControl f ≡ control → isFirst f ≡ first → f .ack ≡ ack → headIn (contentOf f) ≡ f .head
+unfolding contentOf
+content-head f true first true ec ef ea = rw (ec, ea)
+content-head f true first false ec ef ea = rw (ec, ea)
+content-head f false true ack ec ef ea = rw (ec, ef)
+content-head f false false ack ec ef ea = rw (ec, ef)
+
+judged-passes : (limit : ℕ) (f : Fields) → HeadLow (f .head) → f .head .stream ≡ streamOf (f .stream)
+    → IfGiven (Passes limit (f .size) (f .stream)) (judged limit f)
+unfolding rows
+judged-passes limit f low named =
+    by-table (IfGiven (Passes limit (f .size) (f .stream))) (rows limit f) refused (given (contentOf f)) (λ n. tt) (λ h.
+    let h3 = h .1 in
+    let h5 = h3 .1 .1 .1 in
+    let h6 = h5 .1 in
+    record {
+      within = content-within limit f (isControl f) (isFirst f) (f .ack) refl refl refl low (h5 .0) (h6 .0) (h6 .1 .0) (h6 .1 .1 .0);
+      known = not-false (isStream (f .stream)) (h3 .0);
+      named = rw (content-head f (isControl f) (isFirst f) (f .ack) refl refl refl) named;
+    })
+
+-- of every packet that is told
+pub read-passes : (limit : ℕ) (p : List ℕ) → IfGiven (Passes limit (length p) (streamBits (getD p 0 0))) (readOf limit p)
+unfolding readOf fieldsOf
+read-passes limit p = judged-passes limit (fieldsOf p) (omega arith, omega arith) refl
+
+-- ---- which packets pass
+
+filled : (len total : ℕ) → (len ≡ 0 → total ≡ 0) → (b : Bool) → eqb len 0 ≡ b → (eqb len 0 && not (eqb total 0)) ≡ false
+filled len total z true e = rw (e, eq-eqb total 0 (z (eqb-true len 0 e)))
+filled len total z false e = rw e
+
+passes-first : (limit : ℕ) (f : Fields) → f .kind ≡ typeFirst → isStream (f .stream) ≡ true → f .reserved ≡ 0 → f .size ≡ f .header + f .len → 2 ≤ f .header
+    → f .total ≤ limit → (f .len ≡ 0 → f .total ≡ 0) → f .len ≤ f .total
+    → judged limit f ≡ given (First (f .head) (f .ack) (f .total) (f .header) (f .len))
+unfolding rows contentOf
+passes-first limit f k known r x h t z n =
+    simp (
+      k,
+      known,
+      r,
+      eq-eqb (f .size) (f .header + f .len) x,
+      le-ltb (f .size) 2 (omega arith),
+      le-ltb (f .size) (f .header) (omega arith),
+      le-ltb limit (f .total) t,
+      filled (f .len) (f .total) z (eqb (f .len) 0) refl,
+      le-ltb (f .total) (f .len) n,
+    )
+
+passes-next : (limit : ℕ) (f : Fields) (last : Bool) → f .kind ≡ cond last typeLast typeContinuation → isStream (f .stream) ≡ true
+    → f .size ≡ f .header + f .len → 2 ≤ f .header → 1 ≤ f .len
+    → judged limit f ≡ given (Next (f .head) (f .ack) last (f .header) (f .len))
+unfolding rows contentOf
+passes-next limit f true k known x h n =
+    simp (
+      k,
+      known,
+      eq-eqb (f .size) (f .header + f .len) x,
+      le-ltb (f .size) 2 (omega arith),
+      le-ltb (f .size) (f .header) (omega arith),
+      ne-eqb (f .len) 0 (λ e. omega arith),
+    )
+passes-next limit f false k known x h n =
+    simp (
+      k,
+      known,
+      eq-eqb (f .size) (f .header + f .len) x,
+      le-ltb (f .size) 2 (omega arith),
+      le-ltb (f .size) (f .header) (omega arith),
+      ne-eqb (f .len) 0 (λ e. omega arith),
+    )
+
+-- byte 0 and byte 1 say what was written there
+pub fields-back : (stream id sequence kind : ℕ) (ack extended : Bool) (rest : List ℕ) → id < 16 → sequence < 16 → kind < 4
+    → fieldsOf (firstByte stream id ∷ secondByte sequence kind ack extended ∷ rest)
+    ≡ fieldsBy (firstByte stream id ∷ secondByte sequence kind ack extended ∷ rest) stream id sequence kind ack extended
+unfolding fieldsOf
+fields-back stream id sequence kind ack extended rest li ls lk =
+    rw (
+      stream-back stream id li,
+      id-back stream id li,
+      sequence-back sequence kind ack extended ls lk,
+      type-back sequence kind ack extended ls lk,
+      ack-back sequence kind ack extended ls lk,
+      extender-back sequence kind ack extended ls lk,
+    )
+
+-- the payload length as a writer puts it: one byte, or two with the extender
+abbrev pub lengthIn : Bool → ℕ → List ℕ
+lengthIn extended n = cond extended (pairBytes n) (n ∷ [])
+
+module _ (limit stream id sequence : ℕ) (ack : Bool) (payload : List ℕ) (known : isStream stream ≡ true) (li : id < 16) (ls : sequence < 16) where
+  abbrev head : Head
+  head = record { stream = streamOf stream; id = id; sequence = sequence }
+
+  -- a first packet
+  pub first-read : (extended : Bool) (total : ℕ) → total ≤ limit → (length payload ≡ 0 → total ≡ 0) → length payload ≤ total
+      → readOf limit
+      (firstByte stream id ∷ secondByte sequence typeFirst ack extended ∷ reservedByte ∷ total / 256 ∷ total % 256 ∷ (lengthIn extended (length payload) ++ payload))
+      ≡ given (First head ack total (headerSize true extended) (length payload))
+  unfolding readOf
+  first-read true total t z n =
+      rw (fields-back stream id sequence typeFirst ack true _ li ls (omega arith), div-add-mod' total 256, div-add-mod' (length payload) 256)
+      (passes-first limit _ refl known refl (omega arith) (omega arith) t z n)
+  first-read false total t z n =
+      rw (fields-back stream id sequence typeFirst ack false _ li ls (omega arith), div-add-mod' total 256)
+      (passes-first limit _ refl known refl (omega arith) (omega arith) t z n)
+
+  next-by : (extended last : Bool) (kind : ℕ) → kind ≡ cond last typeLast typeContinuation → kind ≢ typeFirst → kind < 4 → 1 ≤ length payload
+      → readOf limit (firstByte stream id ∷ secondByte sequence kind ack extended ∷ (lengthIn extended (length payload) ++ payload))
+      ≡ given (Next head ack last (headerSize false extended) (length payload))
+  unfolding readOf
+  next-by true last kind k d lk n =
+      rw (fields-back stream id sequence kind ack true _ li ls lk, ne-eqb kind typeFirst d, div-add-mod' (length payload) 256)
+      (passes-next limit _ last k known (omega arith) (omega arith) n)
+  next-by false last kind k d lk n =
+      rw (fields-back stream id sequence kind ack false _ li ls lk, ne-eqb kind typeFirst d)
+      (passes-next limit _ last k known (omega arith) (omega arith) n)
+
+  -- one that follows: a continuation, or the last
+  pub next-read : (extended last : Bool) → 1 ≤ length payload
+      → readOf limit
+      (firstByte stream id ∷ secondByte sequence (cond last typeLast typeContinuation) ack extended ∷ (lengthIn extended (length payload) ++ payload))
+      ≡ given (Next head ack last (headerSize false extended) (length payload))
+  next-read extended true n = next-by extended true typeLast refl (λ e. omega arith) (omega arith) n
+  next-read extended false n = next-by extended false typeContinuation refl (λ e. omega arith) (omega arith) n
+
+-- a packet without bytes
+pub empty-refused : (limit : ℕ) → readOf limit [] ≡ refused 2
+unfolding readOf fieldsOf rows
+empty-refused limit = refl

@@ -1,0 +1,4 @@
+pub mod Header
+pub mod Acknowledgement
+pub mod Reader
+pub mod AcknowledgementsReturn
