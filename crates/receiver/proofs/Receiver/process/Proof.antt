@@ -1,0 +1,42 @@
+use Rattle.packet.specs.Reader as reader
+use mathlib.Core.Path.{sym, ap, _∙_}
+use borrow.Author.Needs.{needs}
+use Rattle.receiver.proofs.Receiver.process.Statement.{statement}
+use Rattle.receiver.proofs.Receiver.process.Tie as tie
+
+read-requires : tie.Need-read-requires
+read-requires c κs = search needs
+
+enum-known-answer : tie.Need-enum-known-answer
+enum-known-answer c = search needs
+
+enum-known-answer-2 : tie.Need-enum-known-answer-2
+enum-known-answer-2 c = search needs
+
+apply-requires : tie.Need-apply-requires
+apply-requires c κs =
+    let s = c .before .before in
+    (s .before .before .before .before .before .pre, sym (s .before .before .read .ensures) ∙ ap reader.told (s .answer2 .given .1))
+
+returns : tie.Need-returns
+returns c = rw (← c .before .before .before .read .ensures, c .before .answer .given .1)
+
+same-length : tie.Need-same-length
+same-length c = search needs
+
+returns-2 : tie.Need-returns-2
+returns-2 c =
+    let s = c .before .before .before .before in
+    rw (← s .before .before .before .read .ensures, s .before .answer2 .given .1) (c .before .before .apply .ensures)
+
+pub process-spec : {M : Type 1} → statement M
+process-spec =
+    tie.close
+    (tie.spec
+    read-requires
+    enum-known-answer
+    enum-known-answer-2
+    apply-requires
+    returns
+    same-length
+    returns-2)

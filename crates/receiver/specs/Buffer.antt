@@ -1,0 +1,30 @@
+-- The lent buffer: a part for each slot, one after the other.
+use Prim.Native.Nat.{ℕ, _+_, _*_}
+use mathlib.Core.List.{List}
+use lib.ListN.{take, drop}
+use lib.Seq.{sets}
+use Rattle.wire.specs.declared.stream.Stream.{Stream}
+use Rattle.wire.specs.declared.stream.Stream.the-variants.{Control, Ota, Alexa}
+use Rattle.receiver.specs.declared.step.Piece.{Piece}
+
+-- control has the first part, OTA the middle one, Alexa the last
+abbrev pub placeOf : Stream → ℕ
+placeOf Control = 0
+placeOf Ota = 1
+placeOf Alexa = 2
+
+-- where the part of a slot begins
+abbrev pub partStart : ℕ → ℕ → ℕ
+partStart limit place = place * limit
+
+-- the part of a slot
+abbrev pub partOf : ℕ → ℕ → List ℕ → List ℕ
+partOf limit place bytes = take limit (drop (partStart limit place) bytes)
+
+-- the bytes of a piece in its packet
+abbrev pub pieceBytes : List ℕ → Piece → List ℕ
+pieceBytes packet piece = take (piece .len) (drop (piece .start) packet)
+
+-- the piece is written in the part of a slot, and no other byte changes
+abbrev pub stored : ℕ → ℕ → List ℕ → List ℕ → Piece → List ℕ
+stored limit place bytes packet piece = sets bytes (partStart limit place + piece .at) (pieceBytes packet piece)

@@ -1,0 +1,5 @@
+pub mod Answer
+pub mod Slot
+pub mod Step
+pub mod Buffer
+pub mod Receiver
