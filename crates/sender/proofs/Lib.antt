@@ -1,0 +1,5 @@
+pub mod Largest
+pub mod Pieces
+pub mod Packets
+pub mod Guard
+pub mod CallsGiveAll

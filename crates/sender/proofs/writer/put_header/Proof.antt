@@ -1,0 +1,47 @@
+use denote.Ref.{now}
+use borrow.Author.Needs.{needs}
+use Rattle.sender.proofs.Packets.{header-stored}
+use Rattle.sender.proofs.writer.put_header.Statement.{statement}
+use Rattle.sender.proofs.writer.put_header.Tie as tie
+
+put-start-requires : tie.Need-put-start-requires
+put-start-requires c κs = search needs
+
+put-total-requires : tie.Need-put-total-requires
+put-total-requires c κs = search needs
+
+length-place-requires : tie.Need-length-place-requires
+length-place-requires c κs = search needs
+
+put-length-requires : tie.Need-put-length-requires
+put-length-requires c κs = search needs
+
+header-size-requires : tie.Need-header-size-requires
+header-size-requires c κs = search needs
+
+same-length : tie.Need-same-length
+same-length c = search needs
+
+returns : tie.Need-returns
+returns c =
+    let l = c .before .before .before in
+    let t = l .before .before .before .before .before in
+    let s = t .before .before .before .before in
+    let a = s .before .before .before .before .args in (
+      rw (l .put-length .ensures, l .before .length-place .ensures .0, t .put-total .ensures, s .put-start .ensures)
+          (header-stored (a .how) (a .total) (a .piece) (a .last) (now (a .out))),
+      c .header-size .ensures .0,
+      c .header-size .ensures .1,
+    )
+
+pub put-header-spec : {M : Type 1} → statement M
+put-header-spec =
+    tie.close
+    (tie.spec
+    put-start-requires
+    put-total-requires
+    length-place-requires
+    put-length-requires
+    header-size-requires
+    same-length
+    returns)

@@ -1,0 +1,29 @@
+use mathlib.Core.Path.{ap, _∙_}
+use lib.Seq.{length-sets}
+use lib.ListN.{length, length-set}
+use borrow.Author.Needs.{needs}
+use Rattle.sender.proofs.writer.put_total.Statement.{statement}
+use Rattle.sender.proofs.writer.put_total.Tie as tie
+
+slice-write-out : tie.Need-slice-write-out
+slice-write-out c = search needs
+
+add-put-pair : tie.Need-add-put-pair
+add-put-pair c = search needs
+
+put-pair-requires : tie.Need-put-pair-requires
+put-pair-requires c κs = search needs
+
+same-length : tie.Need-same-length
+same-length c = ap length (c .before .before .put-pair .ensures) ∙ simp (length-sets, length-set)
+
+returns : tie.Need-returns
+returns c = rw (c .before .before .before .before .if1 .taken) (c .before .before .put-pair .ensures)
+
+returns-2 : tie.Need-returns-2
+returns-2 c = search needs
+
+pub put-total-spec : {M : Type 1} → statement M
+put-total-spec =
+    tie.close
+    (tie.spec slice-write-out add-put-pair put-pair-requires same-length returns returns-2)
