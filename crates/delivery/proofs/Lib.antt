@@ -1,0 +1,4 @@
+pub mod Reading
+pub mod Growing
+pub mod Steps
+pub mod MessagesArrive

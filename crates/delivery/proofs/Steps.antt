@@ -1,0 +1,215 @@
+-- What the writer's packets do to the receiver, one by one.
+use Prim.Native.Nat.{ℕ, suc, _+_, _*_, _≤_, _<_}
+use native.Mathlib.Omega.{arith}
+use native.Mathlib.Nat.{suc-mul, mul-le-mul-right}
+use mathlib.Core.Path.{_≡_, refl, ap, _∙_}
+use mathlib.Core.Option.{Option, none, some}
+use mathlib.Core.List.{List}
+use mathlib.Core.Bool.{Bool, true, false, cond, _&&_}
+use lib.ListN.{length, getD, take}
+use lib.Seq.{getD-set-same, take-length}
+use borrow.Author.Tests.{eq-eqb, ne-eqb, lt-leb}
+use Rattle.wire.specs.declared.stream.Stream.{Stream}
+use Rattle.wire.specs.declared.stream.Stream.the-variants.{Control, Ota, Alexa}
+use Rattle.wire.specs.Stream.{isStream, streamOf}
+use Rattle.wire.specs.Told.{given}
+use Rattle.packet.specs.declared.reader.Head.{Head}
+use Rattle.packet.specs.declared.reader.Packet.{Packet}
+use Rattle.packet.specs.Header.{headerSize, sequenceAfter}
+use Rattle.packet.specs.Reader.{readOf}
+use Rattle.receiver.specs.declared.slot.Slot.{Slot}
+use Rattle.receiver.specs.declared.step.Piece as part
+use Rattle.receiver.specs.Slot.{idle, slotCount}
+use Rattle.receiver.specs.Step.{finish, hold, firstStep, offTotal, nextStep, slotStep}
+use Rattle.receiver.specs.Buffer.{placeOf, partStart, partOf, stored}
+use Rattle.receiver.specs.Receiver.{Result, applied, placeIn, acceptOf}
+use Rattle.receiver.proofs.Slots.{lawful-count}
+use Rattle.receiver.proofs.Accepting.{Ready, accept-ready, ready-next, accept-other}
+use Rattle.sender.specs.declared.piece.Piece.{Piece}
+use Rattle.sender.specs.declared.writer.Sending.{Sending}
+use Rattle.sender.specs.Piece.{extended, isFirst}
+use Rattle.sender.specs.Writer.{isLast, packetOf}
+use Rattle.sender.proofs.Guard.{InRange}
+use Rattle.delivery.specs.Delivery.{Message, givenBy, ours, messageOf}
+use Rattle.delivery.proofs.Reading.{headFor, first-read, next-read, payload-read}
+use Rattle.delivery.proofs.Growing.{part-grows}
+
+-- ---- a ready receiver
+
+place-low : (s : Stream) → placeOf s < slotCount
+place-low Control = omega arith
+place-low Ota = omega arith
+place-low Alexa = omega arith
+
+-- it does what was read
+accept-read : (limit : ℕ) (slots : List Slot) (bytes p : List ℕ) (x : Packet) → Ready limit slots bytes → readOf limit p ≡ given x
+    → acceptOf limit slots bytes p ≡ applied limit slots bytes p (placeIn x) (slotStep (getD slots (placeIn x) idle) x)
+accept-read limit slots bytes p x o e = accept-ready limit slots bytes p o ∙ rw e
+
+-- what its answer gives
+abbrev pub gives : ℕ → Result → Option Message
+gives limit r = givenBy limit (r .told) (r .bytes)
+
+-- ---- the state between the packets of a message
+
+abbrev pub placeFor : Sending → ℕ
+placeFor w = placeOf (streamOf (w .stream))
+
+abbrev openSlot : Sending → List ℕ → ℕ → ℕ → Slot
+openSlot w m index place =
+    record { opened = true; id = w .id; total = length m; held = place; sequence = sequenceAfter (w .sequence) index }
+
+-- The packets up to the one with this index have come, and none of the stream since: `place` bytes are held, and the part begins with them.
+pub record Holding (limit : ℕ) (w : Sending) (m : List ℕ) (index place : ℕ) (slots : List Slot) (bytes : List ℕ) : Type 0 where
+  pub is-ready : Ready limit slots bytes
+  pub slot : getD slots (placeFor w) idle ≡ openSlot w m index place
+  pub held : take place (partOf limit (placeFor w) bytes) ≡ take place m
+
+-- what a packet that more follow does
+pub record More (limit : ℕ) (w : Sending) (m : List ℕ) (index place : ℕ) (r : Result) : Type 0 where
+  pub nothing : gives limit r ≡ none
+  pub holding : Holding limit w m index place (r .slots) (r .bytes)
+
+-- ---- what the packet of a piece does: it finishes, or more is to come
+
+abbrev pub pieceFor : ℕ → ℕ → ℕ → Piece
+pieceFor index place n = record { index = index; place = place; size = n }
+
+-- where its bytes are and go
+abbrev pieceIn : Piece → part.Piece
+pieceIn p = record { at = p .place; start = headerSize (isFirst (p .index)) (extended (p .size)); len = p .size }
+
+module _ (limit : ℕ) (w : Sending) (m : List ℕ) (ok : InRange limit w (length m)) (slots : List Slot) (bytes : List ℕ) (o : Ready limit slots bytes) where
+  inside : partStart limit (placeFor w) + limit ≤ length bytes
+  inside =
+      let u : suc (placeFor w) * limit ≤ slotCount * limit = mul-le-mul-right limit (place-low (streamOf (w .stream))) in
+      omega (arith, suc-mul (placeFor w) limit, o .size)
+
+  module _ (p : Piece) (within : p .place + p .size ≤ length m) (before : take (p .place) (partOf limit (placeFor w) bytes) ≡ take (p .place) m) (dropped : Bool) (r : Result) where
+    -- the piece stands behind what was held
+    stores : take (p .place + p .size) (partOf limit (placeFor w) (stored limit (placeFor w) bytes (packetOf w m p) (pieceIn p))) ≡ take (p .place + p .size) m
+    stores = rw (payload-read w m p) (part-grows limit (placeFor w) (p .place) (p .size) bytes m inside within (ok .within) before)
+
+    last-gives : p .place + p .size ≡ length m
+        → r ≡ applied limit slots bytes (packetOf w m p) (placeFor w) (finish (headFor w p) (isLast (length m) p && w .ack) (length m) dropped (pieceIn p))
+        → gives limit r ≡ some (messageOf w m)
+    unfolding finish
+    last-gives e f =
+        let all : take (length m) (partOf limit (placeFor w) (stored limit (placeFor w) bytes (packetOf w m p) (pieceIn p))) ≡ m = rw e at stores ∙ take-length m in
+        rw (f, eq-eqb (p .place + p .size) (length m) e, all)
+
+    more-holds : Ready limit (r .slots) (r .bytes) → r ≡ applied limit slots bytes (packetOf w m p) (placeFor w) (hold (headFor w p) (length m) dropped (pieceIn p))
+        → More limit w m (p .index) (p .place + p .size) r
+    unfolding hold
+    more-holds ready f =
+        record {
+          nothing = rw f;
+          holding =
+              record {
+                is-ready = ready;
+                slot = rw f (getD-set-same slots (placeFor w) _ idle (omega (arith, place-low (streamOf (w .stream)), lawful-count limit slots (o .law))));
+                held = rw f stores;
+              };
+        }
+
+-- ---- the first packet
+
+module _ (limit : ℕ) (w : Sending) (m : List ℕ) (ok : InRange limit w (length m)) (slots : List Slot) (bytes : List ℕ) (o : Ready limit slots bytes)
+    (n : ℕ) (small : n ≤ length m) (filled : n ≡ 0 → length m ≡ 0) where
+  abbrev piece : Piece
+  piece = pieceFor 0 0 n
+
+  first-is : acceptOf limit slots bytes (packetOf w m piece)
+      ≡ applied limit slots bytes (packetOf w m piece) (placeFor w)
+      (firstStep (getD slots (placeFor w) idle) (headFor w piece) (isLast (length m) piece && w .ack) (length m) (headerSize true (extended n)) n)
+  first-is =
+      accept-read limit slots bytes (packetOf w m piece) _ o (first-read limit w m piece (ok .known) (ok .id) (omega arith) refl (ok .within) filled)
+
+  first-last : n ≡ length m → gives limit (acceptOf limit slots bytes (packetOf w m piece)) ≡ some (messageOf w m)
+  unfolding firstStep
+  first-last e =
+      last-gives limit w m ok slots bytes o piece (omega arith) refl (getD slots (placeFor w) idle .opened) _ (omega arith)
+      (first-is ∙ rw (eq-eqb n (length m) e))
+
+  first-more : n < length m → More limit w m 0 (0 + n) (acceptOf limit slots bytes (packetOf w m piece))
+  unfolding firstStep
+  first-more l =
+      more-holds limit w m ok slots bytes o piece (omega arith) refl (getD slots (placeFor w) idle .opened) _
+      (ready-next limit slots bytes (packetOf w m piece) o) (first-is ∙ rw (ne-eqb n (length m) (λ e. omega arith)))
+
+-- ---- the packets after the first
+
+-- one that fits an open slot passes the table
+next-passes : (s : Slot) (h : Head) (ack last : Bool) (start n : ℕ) → s .opened ≡ true → s .id ≡ h .id → h .sequence ≡ sequenceAfter (s .sequence) 1
+    → offTotal last (s .held + n) (s .total) ≡ false
+    → nextStep s h ack last start n
+    ≡ cond last (finish h ack (s .total) false (record { at = s .held; start = start; len = n })) (hold h (s .total) false (record { at = s .held; start = start; len = n }))
+unfolding nextStep
+next-passes s h ack last start n u i q t = simp (u, eq-eqb (s .id) (h .id) i, eq-eqb (h .sequence) (sequenceAfter (s .sequence) 1) q, t)
+
+module _ (limit : ℕ) (w : Sending) (m : List ℕ) (ok : InRange limit w (length m)) (slots : List Slot) (bytes : List ℕ) (index place n : ℕ)
+    (h : Holding limit w m index place slots bytes) (some-left : 1 ≤ n) (small : place + n ≤ length m) where
+  abbrev following : Piece
+  following = pieceFor (suc index) place n
+
+  not-first : isFirst (suc index) ≡ false
+  not-first = ne-eqb (suc index) 0 (λ e. omega arith)
+
+  next-is : (last : Bool) → isLast (length m) following ≡ last → offTotal last (place + n) (length m) ≡ false
+      → acceptOf limit slots bytes (packetOf w m following)
+      ≡ applied limit slots bytes (packetOf w m following) (placeFor w)
+      (cond last (finish (headFor w following) (isLast (length m) following && w .ack) (length m) false (pieceIn following))
+      (hold (headFor w following) (length m) false (pieceIn following)))
+  next-is last e t =
+      accept-read limit slots bytes (packetOf w m following) _ (h .is-ready)
+      (next-read limit w m following (ok .known) (ok .id) small not-first some-left)
+      ∙ rw (h .slot, e, not-first)
+      (ap (applied limit slots bytes (packetOf w m following) (placeFor w))
+      (next-passes (openSlot w m index place) (headFor w following) (last && w .ack) last (headerSize false (extended n)) n refl refl (omega arith) t))
+
+  next-last : place + n ≡ length m → gives limit (acceptOf limit slots bytes (packetOf w m following)) ≡ some (messageOf w m)
+  next-last e =
+      let t = eq-eqb (place + n) (length m) e in
+      last-gives limit w m ok slots bytes (h .is-ready) following small (h .held) false _ e (next-is true t (rw t))
+
+  next-more : place + n < length m → More limit w m (suc index) (place + n) (acceptOf limit slots bytes (packetOf w m following))
+  next-more l =
+      more-holds limit w m ok slots bytes (h .is-ready) following small (h .held) false _
+      (ready-next limit slots bytes (packetOf w m following) (h .is-ready))
+      (next-is false (ne-eqb (place + n) (length m) (λ e. omega arith)) (lt-leb (length m) (place + n) l))
+
+-- ---- any packet of the message
+
+-- The next packet of the message is the one with this index, and its piece begins at this place: nothing is known but that the receiver
+-- is ready, or it holds what came before.
+pub data Awaits (limit : ℕ) (w : Sending) (m : List ℕ) (slots : List Slot) (bytes : List ℕ) : ℕ → ℕ → Type 0 where
+  start : Ready limit slots bytes → Awaits limit w m slots bytes 0 0
+  within : {index place : ℕ} → Holding limit w m index place slots bytes → place < length m → Awaits limit w m slots bytes (suc index) place
+
+-- packets of other streams change nothing of it
+pub awaits-kept : {limit : ℕ} {w : Sending} {m : List ℕ} {slots : List Slot} {bytes : List ℕ} {index place : ℕ} (q : List ℕ) → isStream (w .stream) ≡ true
+    → ours w q ≡ false → Awaits limit w m slots bytes index place
+    → Awaits limit w m (acceptOf limit slots bytes q .slots) (acceptOf limit slots bytes q .bytes) index place
+awaits-kept {limit} {w} {m} {slots} {bytes} q known e (start o) = start (ready-next limit slots bytes q o)
+awaits-kept {limit} {w} {m} {slots} {bytes} q known e (within {index} {place} h l) =
+    let k = accept-other limit (w .stream) slots bytes q (h .is-ready) known e in
+    within
+    (record {
+      is-ready = ready-next limit slots bytes q (h .is-ready);
+      slot = k .same-slot ∙ h .slot;
+      held = ap (take place) (k .same-part) ∙ h .held;
+    })
+    l
+
+module _ (limit : ℕ) (w : Sending) (m : List ℕ) (ok : InRange limit w (length m)) (slots : List Slot) (bytes : List ℕ) (n : ℕ) where
+  -- the last packet gives the message
+  pub last-step : {index place : ℕ} → Awaits limit w m slots bytes index place → place + n ≡ length m
+      → gives limit (acceptOf limit slots bytes (packetOf w m (pieceFor index place n))) ≡ some (messageOf w m)
+  last-step (start o) e = first-last limit w m ok slots bytes o n (omega arith) (λ z. omega arith) (omega arith)
+  last-step (within {index} {place} h l) e = next-last limit w m ok slots bytes index place n h (omega arith) (omega arith) e
+
+  -- any other gives nothing, and its piece is held
+  pub more-step : {index place : ℕ} → Awaits limit w m slots bytes index place → 1 ≤ n → place + n < length m
+      → More limit w m index (place + n) (acceptOf limit slots bytes (packetOf w m (pieceFor index place n)))
+  more-step (start o) s l = first-more limit w m ok slots bytes o n (omega arith) (λ y. omega arith) (omega arith)
+  more-step (within {index} {place} h u) s l = next-more limit w m ok slots bytes index place n h s (omega arith) l

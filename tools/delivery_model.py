@@ -1,0 +1,225 @@
+#!/usr/bin/env python3
+"""A second model of the writer's contract and of the claim of crate `delivery`, written from document 01.
+
+A must-fail edit shows only that a written proof no longer fits. This model shows that the statement itself is false under it:
+it tries the two statements on random instances. As they stand no counterexample may be found; with each edit one has to be
+found for the statements named beside it, and none for the other. Run it with no argument.
+
+  contract   the writer's answer and output are those of its definition, at any place (crate sender, `write_packet`): the
+             largest pieces, one ACK flag, sequences modulo 16, 13, 15 and 14
+  delivery   the packets that the writer's calls give for a message, handed in in order, after any packets and among packets
+             of other streams, give the message at the last of them and nothing before (crate delivery, `messages_arrive`)
+
+The edits have the names of the must-fail edits of the two crates. A writer's edit that leaves `delivery` true (a smaller piece
+arrives just as well) is ruled out by the contract alone."""
+import random
+import sys
+
+EDITS = {
+    "ack_on_the_first": ("contract delivery", "the ACK flag stands on the first packet"),
+    "last_piece_empty": ("contract", "a piece of no bytes begins where the message ends"),
+    "piece_one_short": ("contract", "a full piece is one byte less than fits"),
+    "sequence_not_modulo": ("contract", "the definition does not reduce the sequence modulo 16"),
+    "extender_at_255": ("contract", "the extender is used at 255 too"),
+    "last_not_told": ("contract", "the last packet is told with a next place"),
+    "other_ids_between": ("delivery", "packets of the same stream with another id may come between"),
+    "another_ack_wish": ("delivery", "the message given always wants an ACK"),
+    "given_at_each": ("delivery", "each packet gives the message"),
+    "part_of_control": ("delivery", "the message stands in the first part, whatever its stream"),
+    "state_not_kept": ("delivery", "each packet meets the slots of the beginning"),
+}
+STREAMS = [0, 2, 6]
+edit = None
+
+
+# ---- the writer: the definition (pieces by search) and the code (pieces by division)
+def size_for(room, first, rest):
+    fits = lambda n: (6 if first else 3) + (n > 255) + n <= room
+    return max(n for n in range(rest + 1) if n == 0 or fits(n))
+
+
+def pieces(room, length):
+    out, place = [], 0
+    while True:
+        out.append((len(out), place, size_for(room, not out, length - place)))
+        place += out[-1][2]
+        if place == length:
+            return out
+
+
+def full_size(room, first):
+    plain = room - (6 if first else 3)
+    return plain if plain <= 255 else plain - (2 if edit == "piece_one_short" else 1)
+
+
+def piece_at(room, length, place):
+    first, following = full_size(room, True), full_size(room, False)
+    if place == 0:
+        return 0, 0, min(length, first)
+    beyond = length < place if edit == "last_piece_empty" else length <= place
+    if beyond or place < first or (place - first) % following:
+        return None
+    return (place - first) // following + 1, place, min(length - place, following)
+
+
+def packet(w, m, piece, by_code):
+    room, stream, ident, sequence, ack = w
+    index, place, size = piece
+    last, first = place + size == len(m), index == 0
+    wrong = edit if by_code else None
+    flag = ack and (first if wrong == "ack_on_the_first" else last)
+    extended = size >= 255 if wrong == "extender_at_255" else size > 255
+    seq = sequence + index if edit == "sequence_not_modulo" and not by_code else (sequence + index) % 16
+    second = seq * 16 + (0 if first else 2 if last else 1) * 4 + flag * 2 + extended
+    total = [0, len(m) // 256, len(m) % 256] if first else []
+    length = [size // 256, size % 256] if extended else [size]
+    return [stream * 16 + ident, second] + total + length + m[place:place + size]
+
+
+def write(limit, w, m, place, out, by_code=True):
+    room, stream, ident, sequence, ack = w
+    if not 20 <= room <= 512:
+        return 13, out
+    found = piece_at(room, len(m), place) if by_code else next((p for p in pieces(room, len(m)) if p[1] == place), None)
+    if stream not in STREAMS or ident > 15 or sequence > 15 or len(m) > limit or found is None:
+        return 15, out
+    if len(out) < room:
+        return 14, out
+    p, end = packet(w, m, found, by_code), found[1] + found[2]
+    last = end == len(m) and not (by_code and edit == "last_not_told")
+    return ("last", len(p)) if last else ("more", len(p), end), p + out[len(p):]
+
+
+def calls(limit, w, m, out):
+    got, place = [], 0
+    for _ in range(len(m) + 1):
+        told, out = write(limit, w, m, place, out)
+        if isinstance(told, int):
+            break
+        got.append(out[:told[1]])
+        if told[0] == "last":
+            break
+        place = told[2]
+    return got
+
+
+# ---- the receiver
+def read(limit, p):
+    if len(p) < 2:
+        return 2
+    kind, ack, ext = p[1] // 4 % 4, p[1] // 2 % 2 == 1, p[1] % 2
+    header = (6 if kind == 0 else 3) + ext
+    if kind != 3 and len(p) < header:
+        return 2
+    if p[0] // 16 not in STREAMS:
+        return 3
+    head = (p[0] // 16, p[0] % 16, p[1] // 16 % 16)
+    if kind == 3:
+        return ("ack", head) if not ext and p[2:] == [0, 2, 1, 0 if ack else 3] else 12
+    if kind == 0 and p[2] != 0:
+        return 4
+    n = p[header - 2] * 256 + p[header - 1] if ext else p[header - 1]
+    total = p[3] * 256 + p[4] if kind == 0 else None
+    if len(p) != header + n:
+        return 5
+    if kind == 0 and total > limit:
+        return 6
+    if n == 0 and total != 0:
+        return 7
+    if kind == 0 and n > total:
+        return 8
+    return ("first", head, ack, total, p[header:]) if kind == 0 else ("next", head, ack, kind == 2, p[header:])
+
+
+def accept(limit, slots, buf, p):
+    t = read(limit, p)
+    if isinstance(t, int) or t[0] == "ack":
+        return t, slots, buf
+    (stream, ident, sequence), ack, bytes_ = t[1], t[2], t[4]
+    i = STREAMS.index(stream)
+    slot, slots = slots[i], slots[:]
+    slots[i] = None
+    if t[0] == "first":
+        total, at, last = t[3], 0, len(bytes_) == t[3]
+    else:
+        if slot is None or slot[0] != ident:
+            slots[i] = slot
+            return 9, slots, buf
+        if sequence != (slot[3] + 1) % 16:
+            return 10, slots, buf
+        total, at, last = slot[1], slot[2], t[3]
+        end = at + len(bytes_)
+        if end != total if last else end >= total:
+            return 11, slots, buf
+    start = i * limit + at
+    buf = buf[:start] + bytes_ + buf[start + len(bytes_):]
+    if last:
+        return ("finished", stream, ident, total, ack), slots, buf
+    slots[i] = (ident, total, at + len(bytes_), sequence)
+    return ("taken",), slots, buf
+
+
+# ---- the two statements, on one random instance each
+def bytes_of(r, n):
+    return [r.randrange(256) for _ in range(n)]
+
+
+def sending(r):
+    return r.choice([20, 21, 22, 40, 261, 262, 263, 512]), r.choice(STREAMS), r.randrange(16), r.randrange(16), r.random() < .5
+
+
+def contract(r):
+    limit = r.choice([0, 20, 60, 300, 700])
+    w, m = sending(r), bytes_of(r, r.randint(0, limit + 1))
+    ends = [p[1] + p[2] for p in pieces(w[0], len(m))]
+    place, out = r.choice([0, r.randint(0, len(m) + 1)] + ends), bytes_of(r, w[0] + r.randint(-1, 2))
+    return write(limit, w, m, place, out) == write(limit, w, m, place, out, by_code=False)
+
+
+def other(r, limit, ours):
+    while True:
+        w = (20, r.choice(STREAMS), r.randrange(16), r.randrange(16), r.random() < .5)
+        kind = r.random()
+        p = [] if kind < .1 else bytes_of(r, r.randint(1, 9)) if kind < .4 else r.choice(calls(limit, w, bytes_of(r, r.randint(0, limit)), [0] * 20))
+        if not ours(p):
+            return p
+
+
+def delivery(r):
+    limit = r.choice([1, 20, 60, 300, 700])
+    slots = [None if r.random() < .5 or limit < 2 else (r.randrange(16), limit, r.randint(1, limit - 1), r.randrange(16)) for _ in STREAMS]
+    buf = bytes_of(r, 3 * limit)
+    w, m = sending(r), bytes_of(r, r.randint(0, limit))
+    room, stream, ident, sequence, ack = w
+    ours = lambda p: bool(p) and p[0] // 16 == stream and (edit != "other_ids_between" or p[0] % 16 == ident)
+    sent = calls(limit, w, m, bytes_of(r, room))
+    for _ in range(r.randint(0, 4)):
+        _, slots, buf = accept(limit, slots, buf, other(r, limit, lambda p: False))
+    got = []
+    for p in sent:
+        for q in [other(r, limit, ours) for _ in range(r.choice([0, 0, 1, 2]))] + [p]:
+            t, left, buf = accept(limit, slots, buf, q)
+            slots = slots if edit == "state_not_kept" else left
+            if ours(q):
+                part = 0 if edit == "part_of_control" else STREAMS.index(stream) * limit
+                given = not isinstance(t, int) and t[0] == "finished"
+                got.append(t[1:] + (buf[part:part + limit][:t[3]],) if given else None)
+    message = (stream, ident, len(m), True if edit == "another_ack_wish" else ack, m)
+    want = [message if edit == "given_at_each" else None] * (len(sent) - 1) + [message]
+    return got == want
+
+
+def tries(claim, n):
+    r = random.Random(7)
+    return next((k for k in range(1, n + 1) if not claim(r)), None)
+
+
+bad = False
+for edit in [None] + list(EDITS):
+    expected, what = EDITS.get(edit, ("", "as it stands"))
+    found = {claim.__name__: tries(claim, 2000) for claim in (contract, delivery)}
+    said = ", ".join("%s false after %d tries" % f for f in found.items() if f[1]) or "no counterexample"
+    right = [name for name, k in found.items() if k] == expected.split()
+    bad |= not right
+    print("%s%s: %s" % ("" if right else "NOT AS EXPECTED ", what if edit is None else edit + " (" + what + ")", said))
+sys.exit(bad)
