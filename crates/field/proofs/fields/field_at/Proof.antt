@@ -1,0 +1,67 @@
+use mathlib.Core.Path.{ap, sym, _∙_}
+use borrow.Author.Tests.{le-leb, lt-leb}
+use Rattle.field.specs.Tag.{toldTag}
+use Rattle.field.specs.Value.{toldValue}
+use Rattle.field.specs.Fields.{foundAt}
+use borrow.Author.Needs.{needs}
+use Rattle.field.proofs.fields.field_at.Statement.{statement}
+use Rattle.field.proofs.fields.field_at.Tie as tie
+
+returns : tie.Need-returns
+unfolding foundAt
+returns c = rw (le-leb _ _ (c .if1 .taken))
+
+read-tag-requires : tie.Need-read-tag-requires
+read-tag-requires c κs = search needs
+
+enum-known-e : tie.Need-enum-known-e
+enum-known-e c = search needs
+
+enum-known-head : tie.Need-enum-known-head
+enum-known-head c = search needs
+
+read-value-requires : tie.Need-read-value-requires
+read-value-requires c κs = search needs
+
+enum-known-e-2 : tie.Need-enum-known-e-2
+enum-known-e-2 c = search needs
+
+enum-known-value : tie.Need-enum-known-value
+enum-known-value c = search needs
+
+returns-2 : tie.Need-returns-2
+unfolding foundAt
+returns-2 c = rw (lt-leb _ _ (c .before .before .before .before .if1 .left), sym (c .before .before .before .read-tag .ensures) ∙ ap toldTag (c .before .e .given .1))
+
+returns-3 : tie.Need-returns-3
+unfolding foundAt
+returns-3 c =
+    rw (
+      lt-leb _ _ (c .before .before .before .before .before .before .before .before .if1 .left),
+      sym (c .before .before .before .before .before .before .before .read-tag .ensures) ∙ ap toldTag (c .before .before .before .before .before .head .given .1),
+      sym (c .before .before .before .read-value .ensures) ∙ ap toldValue (c .before .e2 .given .1),
+    )
+
+returns-4 : tie.Need-returns-4
+unfolding foundAt
+returns-4 c =
+    rw (
+      lt-leb _ _ (c .before .before .before .before .before .before .before .before .if1 .left),
+      sym (c .before .before .before .before .before .before .before .read-tag .ensures) ∙ ap toldTag (c .before .before .before .before .before .head .given .1),
+      sym (c .before .before .before .read-value .ensures) ∙ ap toldValue (c .before .value .given .1),
+    )
+
+pub field-at-spec : {M : Type 1} → statement M
+field-at-spec =
+    tie.close
+    (tie.spec
+    returns
+    read-tag-requires
+    enum-known-e
+    enum-known-head
+    read-value-requires
+    enum-known-e-2
+    enum-known-value
+    returns-2
+    returns-3
+    returns-4)

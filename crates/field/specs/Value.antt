@@ -1,0 +1,47 @@
+-- A field's value, as its wire type says.
+use Prim.Native.Nat.{ℕ, _+_, _-_}
+use mathlib.Core.Bool.{cond}
+use mathlib.Core.List.{List, [], _∷_}
+use lib.ListN.{length, take, drop}
+use lib.Dec.{ltb, eqb}
+use Rattle.wire.specs.Told.{Told, given, refused, andThen, row, table}
+use Rattle.field.specs.declared.value.Part.{Part}
+use Rattle.field.specs.declared.value.Value.{Value}
+use Rattle.field.specs.declared.value.Value.the-variants.{Number, Bytes, Skipped}
+use Rattle.field.specs.declared.value.ValueRead.{ValueRead}
+use Rattle.field.specs.declared.value.ValueRead.the-variants.{Read, Refused}
+use Rattle.field.specs.Refusal.{numberOf}
+use Rattle.field.specs.Varint.{varintAt}
+use Rattle.field.specs.Tag.{varintType, fixed64Type, lengthType, fixed32Type}
+
+-- n bytes that are passed over
+abbrev pub skippedAt : List ℕ → ℕ → ℕ → Told (Value × ℕ)
+skippedAt s at n = table (row 30 (ltb (length s) (at + n)) ∷ []) refused (given (Skipped, at + n))
+
+-- the part of a length and the place after the length
+abbrev pub partOf : List ℕ → ℕ × ℕ → Told (Value × ℕ)
+partOf s p =
+    table (row 30 (ltb (length s) (p .1 + p .0)) ∷ []) refused (given (Bytes (record { start = p .1; len = p .0 }), p .1 + p .0))
+
+-- the value of a wire type at a place of a message, and the place after it
+unfoldable pub valueAt : List ℕ → ℕ → ℕ → Told (Value × ℕ)
+valueAt s at wire =
+    cond (eqb wire varintType) (andThen (varintAt s at) (λ p. given (Number (p .0), p .1)))
+    (cond (eqb wire lengthType) (andThen (varintAt s at) (partOf s))
+    (cond (eqb wire fixed64Type) (skippedAt s at 8)
+    (cond (eqb wire fixed32Type) (skippedAt s at 4) (refused 32))))
+
+-- the answers of read_value
+abbrev pub toldValue : ValueRead → Told (Value × ℕ)
+toldValue (Read v n) = given (v, n)
+toldValue (Refused e) = refused (numberOf e)
+
+-- the bytes of a part of a message
+abbrev pub bytesOf : List ℕ → Part → List ℕ
+bytesOf s p = take (p .len) (drop (p .start) s)
+
+-- where the part of a value ends; 0 where it has none
+abbrev pub partEnd : Value → ℕ
+partEnd (Number v) = 0
+partEnd (Bytes p) = p .start + p .len
+partEnd Skipped = 0

@@ -1,0 +1,66 @@
+// A field's tag: its number and its wire type.
+ghost use mathlib.Core.Path.{_≡_};
+ghost use Rattle.field.specs.Tag.{badTag, tagAt, toldTag};
+use crate::Refusal;
+use crate::varint::Varint;
+use crate::varint::read_varint;
+
+// The largest field number.
+pub const LAST_FIELD: u64 = 536870911;
+// The wire types: a varint, eight bytes, a length and as many bytes, four bytes.
+pub const VARINT: u64 = 0;
+
+pub const FIXED64: u64 = 1;
+
+pub const LENGTH: u64 = 2;
+
+pub const FIXED32: u64 = 5;
+// The wire types that a tag can say, and the bits that they take.
+pub const WIRE_TYPES: u64 = 8;
+
+const WIRE_BITS: u64 = 3;
+
+// A field's number, its wire type and the place after its tag.
+pub struct Head {
+    pub field: u64,
+    pub wire: u64,
+    pub next: usize,
+}
+
+pub enum Tag {
+    Tagged(Head),
+    Refused(Refusal),
+}
+
+// Whether a tag has a field number or a wire type that does not exist.
+fn bad_tag(field: u64, wire: u64) -> bool
+    ensures { λ r. ⌜ r ≡ badTag field wire ⌝ }
+{
+    if field == 0 {
+        return true;
+    }
+    if LAST_FIELD < field {
+        return true;
+    }
+    if wire <= LENGTH {
+        return false;
+    }
+    wire != FIXED32
+}
+
+// The tag at a place.
+pub fn read_tag(message: &[u8], at: usize) -> Tag
+    ensures { λ r. ⌜ toldTag r ≡ tagAt (now (message .entry)) at ⌝ }
+{
+    match read_varint(message, at) {
+        Varint::Refused(e) => Tag::Refused(e),
+        Varint::Value { value, next } => {
+            let field = value >> WIRE_BITS;
+            let wire = value - field * WIRE_TYPES;
+            if bad_tag(field, wire) {
+                return Tag::Refused(Refusal::BadTag);
+            }
+            Tag::Tagged(Head { field, wire, next })
+        }
+    }
+}

@@ -1,0 +1,95 @@
+// A field's value, as its wire type says.
+ghost use mathlib.Core.Path.{_≡_};
+ghost use Rattle.wire.specs.Told.{andThen};
+ghost use Rattle.field.specs.Varint.{varintAt};
+ghost use Rattle.field.specs.Value.{skippedAt, partOf, valueAt, toldValue};
+use crate::Refusal;
+use crate::tag::FIXED32;
+use crate::tag::FIXED64;
+use crate::tag::LENGTH;
+use crate::tag::VARINT;
+use crate::varint::Varint;
+use crate::varint::read_varint;
+
+// A part of the lent message.
+pub struct Part {
+    pub start: usize,
+    pub len: usize,
+}
+
+// What a field holds: a number, a part of the message, or bytes that are passed over.
+pub enum Value {
+    Number(u64),
+    Bytes(Part),
+    Skipped,
+}
+
+// A value and the place after it, or why there is none.
+pub enum ValueRead {
+    Read { value: Value, next: usize },
+    Refused(Refusal),
+}
+
+// Bytes that are passed over, n of them.
+fn skip(message: &[u8], at: usize, n: usize) -> ValueRead
+    ensures { λ r. ⌜ toldValue r ≡ skippedAt (now (message .entry)) at n ⌝ }
+{
+    let size = message.len();
+    if at <= size {
+        if n <= size - at {
+            let next = at + n;
+            return ValueRead::Read {
+                value: Value::Skipped,
+                next,
+            };
+        }
+    }
+    ValueRead::Refused(Refusal::Cut)
+}
+
+// A length and as many bytes.
+fn read_part(message: &[u8], at: usize) -> ValueRead
+    ensures { λ r. ⌜ toldValue r ≡ andThen (varintAt (now (message .entry)) at) (partOf (now (message .entry))) ⌝ }
+{
+    match read_varint(message, at) {
+        Varint::Refused(e) => ValueRead::Refused(e),
+        Varint::Value { value, next } => {
+            let size = message.len();
+            let left = size - next;
+            if value <= left as u64 {
+                let len = value as usize;
+                let end = next + len;
+                return ValueRead::Read {
+                    value: Value::Bytes(Part { start: next, len }),
+                    next: end,
+                };
+            }
+            ValueRead::Refused(Refusal::Cut)
+        }
+    }
+}
+
+// The value of a wire type at a place.
+pub fn read_value(message: &[u8], at: usize, wire: u64) -> ValueRead
+    ensures { λ r. ⌜ toldValue r ≡ valueAt (now (message .entry)) at wire ⌝ }
+{
+    if wire == VARINT {
+        return match read_varint(message, at) {
+            Varint::Refused(e) => ValueRead::Refused(e),
+            Varint::Value { value, next } => ValueRead::Read {
+                value: Value::Number(value),
+                next,
+            },
+        };
+    }
+    if wire == LENGTH {
+        return read_part(message, at);
+    }
+    if wire == FIXED64 {
+        return skip(message, at, 8);
+    }
+    if wire == FIXED32 {
+        return skip(message, at, 4);
+    }
+    ValueRead::Refused(Refusal::BadTag)
+}
