@@ -1,0 +1,5 @@
+pub mod Walks
+pub mod Steps
+pub mod Written
+pub mod Trips
+pub mod RoundTrip

@@ -1,0 +1,63 @@
+use mathlib.Core.Path.{ap, sym, _∙_}
+use lib.Seq.{length-take-le}
+use borrow.Author.Tests.{eq-eqb, ne-eqb}
+use Rattle.message.specs.Response.{toldResponse}
+use Rattle.message.specs.Envelope.{payloadOf}
+use borrow.Author.Needs.{needs}
+use Rattle.message.proofs.envelope.read_payload.Statement.{statement}
+use Rattle.message.proofs.envelope.read_payload.Tie as tie
+
+returns : tie.Need-returns
+unfolding payloadOf
+returns c = rw (eq-eqb _ _ (c .if1 .taken))
+
+add-end : tie.Need-add-end
+add-end c = search needs
+
+slice-aggregate-read-response : tie.Need-slice-aggregate-read-response
+slice-aggregate-read-response c = sym (length-take-le _ (c .before .before .before .before .before .before .args .message .now) (c .before .before .before .before .before .before .pre))
+
+read-response-requires : tie.Need-read-response-requires
+read-response-requires c κs = search needs
+
+enum-known-e : tie.Need-enum-known-e
+enum-known-e c = search needs
+
+enum-known-r : tie.Need-enum-known-r
+enum-known-r c = search needs
+
+returns-2 : tie.Need-returns-2
+unfolding payloadOf
+returns-2 c =
+    rw (
+      ne-eqb _ _ (c .before .before .before .before .before .before .before .if1 .left),
+      eq-eqb _ _ (c .before .before .before .before .before .before .if2 .taken),
+      sym (c .before .before .before .read-response .ensures) ∙ ap toldResponse (c .before .e .given .1),
+    )
+
+returns-3 : tie.Need-returns-3
+unfolding payloadOf
+returns-3 c =
+    rw (
+      ne-eqb _ _ (c .before .before .before .before .before .before .before .if1 .left),
+      eq-eqb _ _ (c .before .before .before .before .before .before .if2 .taken),
+      sym (c .before .before .before .read-response .ensures) ∙ ap toldResponse (c .before .r .given .1),
+    )
+
+returns-4 : tie.Need-returns-4
+unfolding payloadOf
+returns-4 c = rw (ne-eqb _ _ (c .before .if1 .left), ne-eqb _ _ (c .if2 .left))
+
+pub read-payload-spec : {M : Type 1} → statement M
+read-payload-spec =
+    tie.close
+    (tie.spec
+    returns
+    add-end
+    slice-aggregate-read-response
+    read-response-requires
+    enum-known-e
+    enum-known-r
+    returns-2
+    returns-3
+    returns-4)

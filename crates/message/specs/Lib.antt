@@ -1,0 +1,9 @@
+pub mod Schema
+pub mod Gathered
+pub mod Walk
+pub mod Writer
+pub mod Response
+pub mod Envelope
+pub mod Information
+pub mod Features
+pub mod RoundTrip

@@ -1,0 +1,87 @@
+-- The walk over the fields of a message, whichever it is.
+use Prim.Native.Nat.{ℕ, zero, suc, _+_}
+use mathlib.Core.Bool.{cond, _&&_, not}
+use mathlib.Core.List.{List, [], _∷_}
+use lib.ListN.{length, take}
+use lib.Dec.{leb, eqb}
+use Rattle.wire.specs.Told.{Told, given, refused, andThen, row, table}
+use Rattle.field.specs.Varint.{varintAt}
+use Rattle.field.specs.Tag.{tagAt}
+use Rattle.field.specs.Value.{valueAt}
+use Rattle.field.specs.declared.value.Part.{Part}
+use Rattle.field.specs.declared.value.Value.{Value}
+use Rattle.field.specs.declared.value.Value.the-variants.{Number, Bytes, Skipped}
+use Rattle.message.specs.declared.schema.Schema.{Schema}
+use Rattle.message.specs.declared.schema.Role.{Role}
+use Rattle.message.specs.declared.schema.Role.the-variants.{Scalar, Text, Transports, Nested, Member, Unknown}
+use Rattle.message.specs.declared.gathered.Gathered.{Gathered}
+use Rattle.message.specs.declared.walk.Moved.{Moved}
+use Rattle.message.specs.Schema.{roleOf, fitsRole, isMember}
+use Rattle.message.specs.Gathered.{nothing, withScalar, withText, withMember, withTransport, judgedAs}
+
+-- steps from a place to the end of the bytes, each one with the place after it; fuel bounds their number, and as many as there are bytes is enough
+abbrev pub walk : (List ℕ → ℕ → Gathered → Told (Gathered × ℕ)) → ℕ → List ℕ → ℕ → Gathered → Told Gathered
+walk step zero s at g = given g
+walk step (suc fuel) s at g =
+    cond (leb (length s) at) (given g) (andThen (step s at g) (λ q. walk step fuel s (q .1) (q .0)))
+
+-- what was gathered, with the place after it
+abbrev pub placed : ℕ → Gathered → Told (Gathered × ℕ)
+placed n g = given (g, n)
+
+-- one entry of a packed list
+unfoldable pub entryAt : List ℕ → ℕ → Gathered → Told (Gathered × ℕ)
+entryAt s at g = andThen (varintAt s at) (λ p. andThen (withTransport (p .0) g) (placed (p .1)))
+
+-- the entries of a packed list, from a place to the end
+unfoldable pub packedFrom : List ℕ → ℕ → Gathered → Told Gathered
+packedFrom s at g = walk entryAt (length s) s at g
+
+-- a tag by its role: 33 for a known field with another wire type, 34 for a second member
+unfoldable pub judged : Role → ℕ → ℕ → Told (Unit {0})
+judged role wire member =
+    table (row 33 (not (fitsRole role wire)) ∷ row 34 (isMember role wire && not (eqb member 0)) ∷ []) refused (given tt)
+
+-- what a number adds
+abbrev pub keptNumber : Role → ℕ → Gathered → Told Gathered
+keptNumber (Scalar slot) v g = given (withScalar slot v g)
+keptNumber (Text slot) v g = given g
+keptNumber Transports v g = withTransport v g
+keptNumber Nested v g = given g
+keptNumber Member v g = given g
+keptNumber Unknown v g = given g
+
+-- what a part of the message adds: a packed list is read within its part
+abbrev pub keptPart : List ℕ → Role → ℕ → Part → Gathered → Told Gathered
+keptPart s (Scalar slot) field p g = given g
+keptPart s (Text slot) field p g = given (withText slot p g)
+keptPart s Transports field p g = packedFrom (take (p .start + p .len) s) (p .start) g
+keptPart s Nested field p g = given (withMember field p g)
+keptPart s Member field p g = given (withMember field p g)
+keptPart s Unknown field p g = given g
+
+-- what a value adds
+abbrev pub kept : List ℕ → Role → ℕ → Value → Gathered → Told Gathered
+kept s role field (Number v) g = keptNumber role v g
+kept s role field (Bytes p) g = keptPart s role field p g
+kept s role field Skipped g = given g
+
+-- the value of a field whose tag was judged, and what it adds
+unfoldable pub takenAt : List ℕ → ℕ → ℕ → Role → ℕ → Gathered → Told (Gathered × ℕ)
+takenAt s at wire role field g =
+    andThen (valueAt s at wire) (λ v. andThen (kept s role field (v .0) g) (placed (v .1)))
+
+-- one field: its tag, its tag by its role, then its value
+unfoldable pub fieldAt : Schema → List ℕ → ℕ → Gathered → Told (Gathered × ℕ)
+fieldAt schema s at g =
+    andThen (tagAt s at) (λ h.
+    andThen (judged (roleOf schema (h .field)) (h .wire) (g .field)) (λ _.
+    takenAt s (h .next) (h .wire) (roleOf schema (h .field)) (h .field) g))
+
+-- the fields of a message, from a place to the end
+unfoldable pub fieldsFrom : Schema → List ℕ → ℕ → Told Gathered
+fieldsFrom schema s at = walk (fieldAt schema) (length s) s at nothing
+
+-- the answers of read_entry and read_field
+abbrev pub toldMoved : Moved → Told (Gathered × ℕ)
+toldMoved m = judgedAs (m .verdict) (m .gathered, m .next)

@@ -1,0 +1,140 @@
+// Device information.
+ghost use mathlib.Core.Path.{_≡_};
+ghost use Prim.Native.Nat.{_≤_};
+ghost use lib.ListN.{length};
+ghost use Rattle.wire.specs.Told.{written};
+ghost use Rattle.field.specs.Put.{Put};
+ghost use Rattle.field.specs.Writer.{messageBytes};
+ghost use Rattle.message.specs.Gathered.{mostTransports};
+ghost use Rattle.message.specs.Information.{informationOf, toldInformation, withInformation, informationFields, informationWritten};
+ghost use Rattle.message.specs.Writer.{toldWrote, lessRoom};
+use crate::gathered::MOST_TRANSPORTS;
+use crate::gathered::Verdict;
+use crate::schema::DEVICE_TYPE;
+use crate::schema::FIRST;
+use crate::schema::NAME;
+use crate::schema::SECOND;
+use crate::schema::SERIAL_NUMBER;
+use crate::schema::Schema;
+use crate::schema::THIRD;
+use crate::schema::TRANSPORTS;
+use crate::walk::read_fields;
+use crate::writer::Room;
+use crate::writer::Wrote;
+use field::value::Part;
+use field::writer::packed_len;
+use field::writer::put_packed;
+use field::writer::put_text;
+use field::writer::text_len;
+
+// Strings are parts of the lent message; of the transports the first count are there.
+pub struct DeviceInformation {
+    pub serial_number: Part,
+    pub name: Part,
+    pub transports: [i32; 8],
+    pub count: usize,
+    pub device_type: Part,
+}
+
+// The information stands beside the verdict: an enum cannot hold an array.
+pub struct InformationRead {
+    pub verdict: Verdict,
+    pub information: DeviceInformation,
+}
+
+// Device information.
+pub fn read_information(message: &[u8]) -> InformationRead
+    ensures { λ r. ⌜ toldInformation r ≡ withInformation (informationOf (now (message .entry))) ⌝ }
+{
+    let kept = read_fields(Schema::Information, message, 0);
+    let verdict = kept.verdict;
+    match verdict {
+        Verdict::Refused(e) => {
+            let none = Part { start: 0, len: 0 };
+            InformationRead {
+                verdict: Verdict::Refused(e),
+                information: DeviceInformation {
+                    serial_number: none,
+                    name: none,
+                    transports: [0i32; 8],
+                    count: 0,
+                    device_type: none,
+                },
+            }
+        }
+        Verdict::Fine => {
+            let gathered = kept.gathered;
+            let serial_number = gathered.texts[FIRST];
+            let name = gathered.texts[SECOND];
+            let transports = gathered.transports;
+            let device_type = gathered.texts[THIRD];
+            InformationRead {
+                verdict: Verdict::Fine,
+                information: DeviceInformation {
+                    serial_number,
+                    name,
+                    transports,
+                    count: gathered.count,
+                    device_type,
+                },
+            }
+        }
+    }
+}
+
+// The room that device information leaves in an output of this length.
+fn information_room(
+    len: usize,
+    serial_number: &[u8],
+    name: &[u8],
+    transports: &[i32],
+    device_type: &[u8],
+) -> Room
+    requires { ⌜ length (now transports) ≤ mostTransports ⌝ }
+    ensures { λ r. ⌜ r ≡ lessRoom (length (messageBytes (informationFields (now («serial_number» .entry)) (now (name .entry)) (now (transports .entry)) (now («device_type» .entry))))) (Room.Left len) ⌝ }
+{
+    Room::Left(len)
+        .less(text_len(SERIAL_NUMBER, serial_number))
+        .less(text_len(NAME, name))
+        .less(packed_len(TRANSPORTS, transports))
+        .less(text_len(DEVICE_TYPE, device_type))
+}
+
+// Device information, written from the first byte on; the answer is the place after it.
+fn put_information(
+    out: &mut [u8],
+    serial_number: &[u8],
+    name: &[u8],
+    transports: &[i32],
+    device_type: &[u8],
+) -> usize
+    requires { ⌜ (length (now transports) ≤ mostTransports) × (length (messageBytes (informationFields (now «serial_number») (now name) (now transports) (now «device_type»))) ≤ length (now out)) ⌝ }
+    ensures { λ r. ⌜ Put (now (out .entry)) 0 (messageBytes (informationFields (now («serial_number» .entry)) (now (name .entry)) (now (transports .entry)) (now («device_type» .entry)))) r (now (out .exit)) ⌝ }
+{
+    let second = put_text(out, 0, SERIAL_NUMBER, serial_number);
+    let third = put_text(out, second, NAME, name);
+    let fourth = put_packed(out, third, TRANSPORTS, transports);
+    put_text(out, fourth, DEVICE_TYPE, device_type)
+}
+
+// Writes device information.
+pub fn write_information(
+    out: &mut [u8],
+    serial_number: &[u8],
+    name: &[u8],
+    transports: &[i32],
+    device_type: &[u8],
+) -> Wrote
+    ensures { λ r. ⌜ written (toldWrote r) (now (out .exit)) ≡ informationWritten (now («serial_number» .entry)) (now (name .entry)) (now (transports .entry)) (now («device_type» .entry)) (now (out .entry)) ⌝ }
+{
+    if MOST_TRANSPORTS < transports.len() {
+        return Wrote::OutOfRange;
+    }
+    match information_room(out.len(), serial_number, name, transports, device_type) {
+        Room::Short => Wrote::NoRoom,
+        Room::Left(_) => {
+            let end = put_information(out, serial_number, name, transports, device_type);
+            Wrote::Done(end)
+        }
+    }
+}

@@ -1,0 +1,45 @@
+// What every message writer answers, and the room that it counts.
+ghost use mathlib.Core.Path.{_≡_};
+ghost use Rattle.message.specs.Writer.{badMember, lessRoom};
+use field::tag::LAST_FIELD;
+
+// The smallest number of a member that is written.
+const FIRST_MEMBER: u64 = 2;
+
+pub enum Wrote {
+    // The number of bytes written.
+    Done(usize),
+    // An argument is out of its range.
+    OutOfRange,
+    // The output is smaller than the message.
+    NoRoom,
+}
+
+// Whether a member's number is out of its range.
+pub fn bad_member(field: u64) -> bool
+    ensures { λ r. ⌜ r ≡ badMember field ⌝ }
+{
+    wire::logic::either(field < FIRST_MEMBER, LAST_FIELD < field)
+}
+
+// The room of an output that is left after some bytes, or that they do not fit. A sum of lengths could pass 64 bits.
+pub enum Room {
+    Left(usize),
+    Short,
+}
+
+impl Room {
+    pub fn less(self, n: usize) -> Room
+        ensures { λ r. ⌜ r ≡ lessRoom n self ⌝ }
+    {
+        match self {
+            Room::Short => Room::Short,
+            Room::Left(k) => {
+                if k < n {
+                    return Room::Short;
+                }
+                Room::Left(k - n)
+            }
+        }
+    }
+}
