@@ -1,0 +1,14 @@
+-- Claim (c): appending after a cut.
+use mathlib.Core.Path.{refl}
+use lib.ListN.{take}
+use Rattle.outbox.specs.Reader.{walkOf}
+use Rattle.outbox.specs.Claims.{usable, AppendsAfterCut}
+use Rattle.outbox.proofs.Place.{version-kept}
+use Rattle.outbox.proofs.Run.{whole-version}
+use Rattle.outbox.proofs.Append.{append-resumes}
+
+pub appends-after-cut : AppendsAfterCut
+unfolding AppendsAfterCut
+appends-after-cut fmt lawful file kept some whole room e takes fits =
+    let left = take kept file in
+    append-resumes fmt left (version-kept fmt file kept some (whole-version fmt file whole)) (usable (walkOf fmt left) left) refl lawful e takes room fits

@@ -1,0 +1,12 @@
+pub mod Number
+pub mod Record
+pub mod Place
+pub mod Walk
+pub mod Stored
+pub mod Run
+pub mod Cut
+pub mod CutsAreFound
+pub mod Contents
+pub mod Append
+pub mod RecordsReturn
+pub mod AppendsAfterCut

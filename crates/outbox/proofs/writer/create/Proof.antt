@@ -1,0 +1,25 @@
+use native.Mathlib.Omega.{arith}
+use lib.ListN.{length}
+use borrow.Author.Tests.{le-ltb}
+use borrow.Author.Needs.{needs}
+use denote.Ref.{now}
+use Rattle.outbox.specs.Writer.{newOf}
+use Rattle.outbox.proofs.writer.create.Statement.{statement}
+use Rattle.outbox.proofs.writer.create.Tie as tie
+
+returns : tie.Need-returns
+unfolding newOf
+returns c = rw (c .if1 .taken)
+
+slice-write-buffer : tie.Need-slice-write-buffer
+slice-write-buffer c = search needs
+
+same-length : tie.Need-same-length
+same-length c = search needs
+
+returns-2 : tie.Need-returns-2
+unfolding newOf
+returns-2 c = rw (le-ltb (length (now (c .before .args .buffer))) 1 (omega arith))
+
+pub create-spec : {M : Type 1} → statement M
+create-spec = tie.close (tie.spec returns slice-write-buffer same-length returns-2)

@@ -1,0 +1,130 @@
+-- Demand 2 for the outbox: what is appended is read back, also after a cut at any byte.
+use Prim.Native.Nat.{ℕ, zero, suc, _+_, _≤_}
+use mathlib.Core.Path.{_≡_}
+use mathlib.Core.Bool.{true, cond}
+use mathlib.Core.List.{List, [], _∷_, _++_}
+use lib.Dec.{eqb, leb}
+use lib.ListN.{length, take}
+use Rattle.wire.specs.Stream.{isStream}
+use Rattle.outbox.specs.Format.{Format, Lawful, headSize, firstPlace}
+use Rattle.outbox.specs.Reader.{Answer, given, refused, refusedAt, Item, found, end, foundAt, Handed, handed, readAll, walkOf}
+use Rattle.outbox.specs.Writer.{Stored, stored, newOf, appendOf}
+
+-- a record as its sender has it
+pub record Entry : Type 0 where
+  pub stream : ℕ
+  pub payload : List ℕ
+
+-- one that the writer owes to take: said by the paper and not by the writer's own test, so that one that refuses more breaks the claims
+pub record Takes (fmt : Format) (e : Entry) : Type 0 where
+  pub known : isStream (e .stream) ≡ true
+  pub short : length (e .payload) ≤ fmt .limit
+
+-- the place after a record
+abbrev pub after : Format → ℕ → Entry → ℕ
+after fmt place e = place + headSize fmt + length (e .payload)
+
+-- what reading place after place owes for some records: each at its place with its payload, then the end
+abbrev pub expected : Format → ℕ → List Entry → List Handed
+expected fmt place [] = handed (given end) [] ∷ []
+expected fmt place (e ∷ es) =
+    handed (given (found (foundAt fmt place (e .stream) (length (e .payload))))) (e .payload)
+    ∷ expected fmt (after fmt place e) es
+
+-- ---- (a) appends, then readings
+
+-- the place after all of some records
+abbrev pub afterAll : Format → ℕ → List Entry → ℕ
+afterAll fmt place [] = place
+afterAll fmt place (e ∷ es) = afterAll fmt (after fmt place e) es
+
+-- each of them is one that the writer owes to take
+abbrev pub AllTaken : Format → List Entry → Type 0
+AllTaken fmt [] = Unit {0}
+AllTaken fmt (e ∷ es) = Takes fmt e × AllTaken fmt es
+
+-- an append after the used bytes that the call before it told
+abbrev pub appendNext : Format → Answer ℕ → List ℕ → Entry → Stored
+appendNext fmt (given used) buffer e = appendOf fmt buffer used (e .stream) (e .payload)
+appendNext fmt (refused n) buffer e = stored (refused n) buffer
+appendNext fmt (refusedAt n place) buffer e = stored (refusedAt n place) buffer
+
+-- appends one after another
+abbrev pub appendAll : Format → Stored → List Entry → Stored
+appendAll fmt s [] = s
+appendAll fmt s (e ∷ es) = appendAll fmt (appendNext fmt (s .told) (s .buffer) e) es
+
+-- all were taken, and reading gives them back
+pub record Returned (fmt : Format) (s : Stored) (es : List Entry) : Type 0 where
+  pub taken : s .told ≡ given (afterAll fmt firstPlace es)
+  pub read : readAll fmt (take (afterAll fmt firstPlace es) (s .buffer)) ≡ expected fmt firstPlace es
+
+-- from a new outbox, any records that fit are read back, in order, and then the end
+unfoldable pub RecordsReturn : Type 0
+RecordsReturn =
+    (fmt : Format) → Lawful fmt → (buffer : List ℕ) (es : List Entry) → AllTaken fmt es → afterAll fmt firstPlace es ≤ length buffer
+    → Returned fmt (appendAll fmt (newOf fmt buffer) es) es
+
+-- ---- (b) a cut at any byte
+
+-- a reading of a whole outbox when only some bytes are kept: a record that lies whole in them stays; at the first that does not
+-- stands the end where nothing of it is kept, and else 41 at its place
+abbrev pub cutBy : ℕ → ℕ → Handed → Answer Item → (ℕ → List Handed) → List Handed
+cutBy kept place h (given (found f)) go =
+    cond (leb (f .next) kept)
+    (h ∷ go (f .next))
+    (handed (cond (eqb place kept) (given end) (refusedAt 41 place)) [] ∷ [])
+cutBy kept place h (given end) go = h ∷ []
+cutBy kept place h (refused n) go = h ∷ []
+cutBy kept place h (refusedAt n p) go = h ∷ []
+
+-- the readings from a place on
+abbrev pub cutFrom : ℕ → ℕ → List Handed → List Handed
+cutFrom kept place [] = []
+cutFrom kept place (h ∷ hs) = cutBy kept place h (h .answer) (λ next. cutFrom kept next hs)
+
+-- .. from the first record on; 40 where nothing is kept
+abbrev pub cutAt : ℕ → List Handed → List Handed
+cutAt zero hs = handed (refusedAt 40 0) [] ∷ []
+cutAt (suc k) hs = cutFrom (suc k) firstPlace hs
+
+-- cut at any byte, a whole outbox still gives every record that lies whole in what is kept, and then the end, or 41 at the record that was cut
+unfoldable pub CutsAreFound : Type 0
+CutsAreFound =
+    (fmt : Format) (file : List ℕ) (kept : ℕ) → walkOf fmt file ≡ given tt → readAll fmt (take kept file) ≡ cutAt kept (readAll fmt file)
+
+-- ---- (c) appending after a cut
+
+-- the used bytes that a box goes on with: all that is kept, or up to the place where the walk is refused
+abbrev pub usable : Answer (Unit {0}) → List ℕ → ℕ
+usable (given whole) file = length file
+usable (refused n) file = 0
+usable (refusedAt n place) file = place
+
+-- a reading that is a record's
+abbrev pub recordOf : Handed → Answer Item → List Handed
+recordOf h (given (found f)) = h ∷ []
+recordOf h (given end) = []
+recordOf h (refused n) = []
+recordOf h (refusedAt n place) = []
+
+-- the records among the readings
+abbrev pub recordsOf : List Handed → List Handed
+recordsOf [] = []
+recordsOf (h ∷ hs) = recordOf h (h .answer) ++ recordsOf hs
+
+-- a record appended: taken, all is whole, and after the records of before the new one is read, then the end
+pub record Resumed (fmt : Format) (before : List Handed) (used : ℕ) (e : Entry) (s : Stored) : Type 0 where
+  pub taken : s .told ≡ given (after fmt used e)
+  pub whole : walkOf fmt (take (after fmt used e) (s .buffer)) ≡ given tt
+  pub read : readAll fmt (take (after fmt used e) (s .buffer)) ≡ recordsOf before ++ expected fmt used (e ∷ [])
+
+-- after a cut anywhere but before the version byte, a record appended after what is usable makes a whole outbox again
+unfoldable pub AppendsAfterCut : Type 0
+AppendsAfterCut =
+    (fmt : Format) → Lawful fmt → (file : List ℕ) (kept : ℕ) → 1 ≤ kept → walkOf fmt file ≡ given tt
+    → (room : List ℕ) (e : Entry) → Takes fmt e
+    → let left = take kept file in
+    let used = usable (walkOf fmt left) left in
+    after fmt used e ≤ length (left ++ room)
+    → Resumed fmt (readAll fmt left) used e (appendOf fmt (left ++ room) used (e .stream) (e .payload))

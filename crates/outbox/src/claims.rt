@@ -1,0 +1,24 @@
+// What is appended is read back, also after a cut at any byte. Each claim holds for every format whose lengths fit their field.
+ghost use Rattle.outbox.specs.Format.{versionOne, Lawful};
+ghost use Rattle.outbox.specs.Claims.{RecordsReturn, CutsAreFound, AppendsAfterCut};
+
+// The lengths of version 01 fit their field.
+pub fn version_one_is_lawful()
+    ensures { λ _. ⌜ Lawful (versionOne 4096) ⌝ }
+{}
+
+// From a new outbox, any list of appends that fit, then reading place after place, gives those records in order, and the end.
+pub fn records_return()
+    ensures { λ _. ⌜ RecordsReturn ⌝ }
+{}
+
+// Of a whole outbox cut at any byte, reading gives every record that lies whole in what is kept, then the end, or 41 at the
+// place of the record that was cut, or 40 where nothing is kept.
+pub fn cuts_are_found()
+    ensures { λ _. ⌜ CutsAreFound ⌝ }
+{}
+
+// After a cut, an append after the last whole record gives a whole outbox again, with those records and the new one.
+pub fn appends_after_cut()
+    ensures { λ _. ⌜ AppendsAfterCut ⌝ }
+{}
