@@ -75,7 +75,7 @@ fn narrow(x: u64) -> u8
 }
 
 // The shortest varint of a value, written at a place; the answer is the place after it.
-pub fn put_varint(out: &mut [u8], at: usize, value: u64) -> usize
+pub(crate) fn put_varint(out: &mut [u8], at: usize, value: u64) -> usize
     requires { ⌜ at + length (varintBytes value) ≤ length (now out) ⌝ }
     ensures { λ r. ⌜ Put (now (out .entry)) at (varintBytes value) r (now (out .exit)) ⌝ }
 {

@@ -27,7 +27,7 @@ responseMade g = record { «error_code» = signedOf (getD (g .scalars) first 0);
 unfoldable pub responseFrom : List ℕ → ℕ → Told Response
 responseFrom s at = andThen (fieldsFrom Schema.Response s at) (λ g. given (responseMade g))
 
--- the answers of read_response
+-- the answers of response_from and read_response
 abbrev pub toldResponse : ResponseRead → Told Response
 toldResponse (Read r) = given r
 toldResponse (Refused e) = refused (numberOf e)

@@ -15,7 +15,7 @@ use crate::response::ResponsePayload;
 use crate::response::ResponseRead;
 use crate::response::bad_response_payload;
 use crate::response::put_response;
-use crate::response::read_response;
+use crate::response::response_from;
 use crate::response::response_len;
 use crate::schema::COMMAND;
 use crate::schema::FIRST;
@@ -82,7 +82,7 @@ fn read_payload(message: &[u8], gathered: Gathered) -> PayloadRead
     if field == RESPONSE {
         let start = part.start;
         let end = start + part.len;
-        return match read_response(&message[..end], start) {
+        return match response_from(&message[..end], start) {
             ResponseRead::Refused(e) => PayloadRead::Refused(e),
             ResponseRead::Read(r) => PayloadRead::Read(Payload::Response(r)),
         };

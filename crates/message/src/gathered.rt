@@ -35,7 +35,7 @@ pub struct Kept {
 
 impl Gathered {
     // Nothing yet: scalars are 0, and parts are empty.
-    pub fn nothing() -> Gathered
+    pub(crate) fn nothing() -> Gathered
         ensures { λ r. ⌜ r ≡ nothing ⌝ }
     {
         let none = Part { start: 0, len: 0 };
@@ -50,7 +50,7 @@ impl Gathered {
     }
 
     // A scalar: the last one counts.
-    pub fn with_scalar(self, slot: usize, value: u64) -> Gathered
+    pub(crate) fn with_scalar(self, slot: usize, value: u64) -> Gathered
         ensures { λ r. ⌜ r ≡ withScalar slot value self ⌝ }
     {
         let mut next = self;
@@ -61,7 +61,7 @@ impl Gathered {
     }
 
     // A string: the last one counts.
-    pub fn with_text(self, slot: usize, part: Part) -> Gathered
+    pub(crate) fn with_text(self, slot: usize, part: Part) -> Gathered
         ensures { λ r. ⌜ r ≡ withText slot part self ⌝ }
     {
         let mut next = self;
@@ -72,7 +72,7 @@ impl Gathered {
     }
 
     // The member.
-    pub fn with_member(self, field: u64, part: Part) -> Gathered
+    pub(crate) fn with_member(self, field: u64, part: Part) -> Gathered
         ensures { λ r. ⌜ r ≡ withMember field part self ⌝ }
     {
         let mut next = self;
@@ -82,7 +82,7 @@ impl Gathered {
     }
 
     // One transport more, unless there are too many.
-    pub fn with_transport(self, value: u64) -> Kept
+    pub(crate) fn with_transport(self, value: u64) -> Kept
         ensures { λ r. ⌜ toldKept r ≡ withTransport value self ⌝ }
     {
         let n = self.count;

@@ -43,7 +43,7 @@ pub enum ResponsePayload {
 }
 
 // The response from a place to the end.
-pub fn read_response(message: &[u8], at: usize) -> ResponseRead
+pub(crate) fn response_from(message: &[u8], at: usize) -> ResponseRead
     ensures { λ r. ⌜ toldResponse r ≡ responseFrom (now (message .entry)) at ⌝ }
 {
     let kept = read_fields(Schema::Response, message, at);
@@ -62,8 +62,15 @@ pub fn read_response(message: &[u8], at: usize) -> ResponseRead
     }
 }
 
+// A response by itself.
+pub fn read_response(message: &[u8]) -> ResponseRead
+    ensures { λ r. ⌜ toldResponse r ≡ responseFrom (now (message .entry)) 0 ⌝ }
+{
+    response_from(message, 0)
+}
+
 // Whether a response is not written with this payload.
-pub fn bad_response_payload(payload: ResponsePayload) -> bool
+pub(crate) fn bad_response_payload(payload: ResponsePayload) -> bool
     ensures { λ r. ⌜ r ≡ badResponsePayload payload ⌝ }
 {
     match payload {
@@ -95,7 +102,7 @@ fn put_response_payload(out: &mut [u8], at: usize, payload: ResponsePayload, bod
 }
 
 // The number of bytes of a response; code is the varint's value of its error code.
-pub fn response_len(code: u64, payload: ResponsePayload, body: &[u8]) -> usize
+pub(crate) fn response_len(code: u64, payload: ResponsePayload, body: &[u8]) -> usize
     requires { ⌜ badResponsePayload payload ≡ false ⌝ }
     ensures { λ r. ⌜ (r ≡ length (messageBytes (responseFields code payload (now (body .entry))))) × (r ≤ 40 + length (now (body .entry))) ⌝ }
 {
@@ -103,7 +110,7 @@ pub fn response_len(code: u64, payload: ResponsePayload, body: &[u8]) -> usize
 }
 
 // A response, written at a place; the answer is the place after it.
-pub fn put_response(
+pub(crate) fn put_response(
     out: &mut [u8],
     at: usize,
     code: u64,

@@ -104,7 +104,7 @@ fn features_role(field: u64) -> Role
 }
 
 // What a field is to a message.
-pub fn role_of(schema: Schema, field: u64) -> Role
+pub(crate) fn role_of(schema: Schema, field: u64) -> Role
     ensures { λ r. ⌜ r ≡ roleOf schema field ⌝ }
 {
     match schema {
@@ -116,7 +116,7 @@ pub fn role_of(schema: Schema, field: u64) -> Role
 }
 
 // Whether a field of this role may have this wire type.
-pub fn fits_role(role: Role, wire: u64) -> bool
+pub(crate) fn fits_role(role: Role, wire: u64) -> bool
     ensures { λ r. ⌜ r ≡ fitsRole role wire ⌝ }
 {
     match role {
@@ -130,7 +130,7 @@ pub fn fits_role(role: Role, wire: u64) -> bool
 }
 
 // Whether a field of this role and wire type is the member.
-pub fn is_member(role: Role, wire: u64) -> bool
+pub(crate) fn is_member(role: Role, wire: u64) -> bool
     ensures { λ r. ⌜ r ≡ isMember role wire ⌝ }
 {
     match role {

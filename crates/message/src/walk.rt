@@ -209,7 +209,7 @@ fn read_field(schema: Schema, message: &[u8], at: usize, gathered: Gathered) -> 
 }
 
 // The fields from a place to the end.
-pub fn read_fields(schema: Schema, message: &[u8], from: usize) -> Kept
+pub(crate) fn read_fields(schema: Schema, message: &[u8], from: usize) -> Kept
     ensures { λ r. ⌜ toldKept r ≡ fieldsFrom schema (now (message .entry)) from ⌝ }
 {
     let mut so_far = Gathered::nothing();

@@ -16,7 +16,7 @@ pub enum Wrote {
 }
 
 // Whether a member's number is out of its range.
-pub fn bad_member(field: u64) -> bool
+pub(crate) fn bad_member(field: u64) -> bool
     ensures { λ r. ⌜ r ≡ badMember field ⌝ }
 {
     wire::logic::either(field < FIRST_MEMBER, LAST_FIELD < field)
@@ -29,7 +29,7 @@ pub enum Room {
 }
 
 impl Room {
-    pub fn less(self, n: usize) -> Room
+    pub(crate) fn less(self, n: usize) -> Room
         ensures { λ r. ⌜ r ≡ lessRoom n self ⌝ }
     {
         match self {

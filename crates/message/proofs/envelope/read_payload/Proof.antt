@@ -14,11 +14,11 @@ returns c = rw (eq-eqb _ _ (c .if1 .taken))
 add-end : tie.Need-add-end
 add-end c = search needs
 
-slice-aggregate-read-response : tie.Need-slice-aggregate-read-response
-slice-aggregate-read-response c = sym (length-take-le _ (c .before .before .before .before .before .before .args .message .now) (c .before .before .before .before .before .before .pre))
+slice-aggregate-response-from : tie.Need-slice-aggregate-response-from
+slice-aggregate-response-from c = sym (length-take-le _ (c .before .before .before .before .before .before .args .message .now) (c .before .before .before .before .before .before .pre))
 
-read-response-requires : tie.Need-read-response-requires
-read-response-requires c κs = search needs
+response-from-requires : tie.Need-response-from-requires
+response-from-requires c κs = search needs
 
 enum-known-e : tie.Need-enum-known-e
 enum-known-e c = search needs
@@ -32,7 +32,7 @@ returns-2 c =
     rw (
       ne-eqb _ _ (c .before .before .before .before .before .before .before .if1 .left),
       eq-eqb _ _ (c .before .before .before .before .before .before .if2 .taken),
-      sym (c .before .before .before .read-response .ensures) ∙ ap toldResponse (c .before .e .given .1),
+      sym (c .before .before .before .response-from .ensures) ∙ ap toldResponse (c .before .e .given .1),
     )
 
 returns-3 : tie.Need-returns-3
@@ -41,7 +41,7 @@ returns-3 c =
     rw (
       ne-eqb _ _ (c .before .before .before .before .before .before .before .if1 .left),
       eq-eqb _ _ (c .before .before .before .before .before .before .if2 .taken),
-      sym (c .before .before .before .read-response .ensures) ∙ ap toldResponse (c .before .r .given .1),
+      sym (c .before .before .before .response-from .ensures) ∙ ap toldResponse (c .before .r .given .1),
     )
 
 returns-4 : tie.Need-returns-4
@@ -54,8 +54,8 @@ read-payload-spec =
     (tie.spec
     returns
     add-end
-    slice-aggregate-read-response
-    read-response-requires
+    slice-aggregate-response-from
+    response-from-requires
     enum-known-e
     enum-known-r
     returns-2

@@ -13,8 +13,8 @@ use Rattle.message.specs.declared.response.Response.{Response}
 use Rattle.message.specs.Schema.{first}
 use Rattle.message.specs.Response.{responseFrom}
 use borrow.Author.Needs.{needs}
-use Rattle.message.proofs.response.read_response.Statement.{statement}
-use Rattle.message.proofs.response.read_response.Tie as tie
+use Rattle.message.proofs.response.response_from.Statement.{statement}
+use Rattle.message.proofs.response.response_from.Tie as tie
 
 read-fields-requires : tie.Need-read-fields-requires
 read-fields-requires c κs = search needs
@@ -56,8 +56,8 @@ returns-2 c =
     let g = c .before .before .before .before .before .before .read-fields .result .gathered in
     rw (read (c .before .before .before)) (ap (coded g) (signed-kept _ (getD (g .scalars) first 0) (c .low-signed .ensures)))
 
-pub read-response-spec : {M : Type 1} → statement M
-read-response-spec =
+pub response-from-spec : {M : Type 1} → statement M
+response-from-spec =
     tie.close
     (tie.spec
     read-fields-requires
