@@ -1,0 +1,40 @@
+-- The table of worked cases holds: computed over the whole table, then turned into the rule at each row.
+use mathlib.Core.Path.{_≡_, refl, ap, sym, _∙_}
+use mathlib.Core.List.{List, [], _∷_, map, List·Memᴰ, List·Memᴰ·head, List·Memᴰ·tail}
+use Rattle.wire.specs.Stream.{isStream, streamOf}
+use Rattle.frame.specs.Mark.{kindOf}
+use Rattle.frame.specs.Frame.{escapedOf, total, framed}
+use Rattle.packet.specs.Header.{inRange}
+use Rattle.packet.specs.Reader.{fieldsOf, contentOf, rows, readOf}
+use Rattle.packet.specs.Acknowledgement.{ackOf}
+use Rattle.sender.specs.Piece.{sizeFor}
+use Rattle.sender.specs.Writer.{headerBytes, packetOf, roomFits, argumentsFit, writtenOf}
+use Rattle.sender.specs.Calls.{callsFrom}
+use Rattle.receiver.specs.Slot.{lawfulSlot, lawful}
+use Rattle.receiver.specs.Step.{leave, finish, hold, firstStep, nextStep}
+use Rattle.receiver.specs.Receiver.{ready, acceptOf}
+use Rattle.field.specs.Varint.{varintAt, varintBytes}
+use Rattle.field.specs.Tag.{badTag, tagAt}
+use Rattle.field.specs.Value.{valueAt}
+use Rattle.field.specs.Writer.{tagBytes, headBytes, partBytes, fieldBytes}
+use Rattle.message.specs.Schema.{roleOf}
+use Rattle.message.specs.Walk.{judged, takenAt, fieldAt, fieldsFrom}
+use Rattle.message.specs.Response.{responseFrom}
+use Rattle.message.specs.Envelope.{payloadOf, envelopeOf, envelopeWritten}
+use Rattle.outbox.specs.Format.{numberOf}
+use Rattle.outbox.specs.Reader as outbox
+use Rattle.worked.specs.Question.{answerTo}
+use Rattle.worked.specs.Cases.{Case, cases, WorkedCases}
+
+-- two functions that agree on a whole list agree at each of its elements
+pub agree : {A B : Type 0} (f g : A → B) {l : List A} → map f l ≡ map g l → (a : A) → List·Memᴰ a l → f a ≡ g a
+agree f g same a (List·Memᴰ·head {x = x} {xs = xs} here) = let h : f x ≡ g x = cc in ap f here ∙ h ∙ sym (ap g here)
+agree f g same a (List·Memᴰ·tail {x = x} {xs = xs} there) = let t : map f xs ≡ map g xs = cc in agree f g t a there
+
+-- the whole table, computed
+holds : map (λ (c : Case). answerTo (c .question)) cases ≡ map (λ (c : Case). c .expected) cases
+unfolding answerTo cases isStream streamOf kindOf escapedOf total framed inRange fieldsOf contentOf rows readOf ackOf sizeFor headerBytes packetOf roomFits argumentsFit writtenOf callsFrom lawfulSlot lawful leave finish hold firstStep nextStep ready acceptOf varintAt varintBytes badTag tagAt valueAt tagBytes headBytes partBytes fieldBytes roleOf judged takenAt fieldAt fieldsFrom responseFrom payloadOf envelopeOf envelopeWritten numberOf outbox.otherVersion outbox.badPlace outbox.badLength outbox.cutShort outbox.badStream outbox.recordAt outbox.readOf
+holds = refl
+
+pub worked-cases : WorkedCases
+worked-cases = agree (λ (c : Case). answerTo (c .question)) (λ (c : Case). c .expected) holds

@@ -1,0 +1,102 @@
+-- The worked cases of document 01, P1 to P12: one table, and the one statement that each of its rows holds.
+use Prim.Native.Nat.{ℕ}
+use mathlib.Core.Path.{_≡_}
+use mathlib.Core.Bool.{Bool, true, false}
+use mathlib.Core.List.{List, [], _∷_, _++_, List·Memᴰ}
+use lib.IntN.{ℤ, pos, negℤ}
+use lib.ListN.{take, replicate}
+use Rattle.wire.specs.declared.stream.Stream.the-variants.{Control}
+use Rattle.wire.specs.Told.{given, refused}
+use Rattle.sender.specs.declared.writer.Sending.{Sending}
+use Rattle.receiver.specs.declared.slot.Slot.{Slot}
+use Rattle.receiver.specs.declared.answer.Accepted.the-variants.{Taken, Finished}
+use Rattle.receiver.specs.Slot.{idle, idles}
+use Rattle.message.specs.declared.envelope.Envelope.{Envelope}
+use Rattle.message.specs.declared.envelope.Payload.the-variants as Payload
+use Rattle.message.specs.declared.envelope.EnvelopePayload.the-variants.{Response}
+use Rattle.message.specs.declared.response.ResponsePayload.the-variants.{None}
+use Rattle.message.specs.Gathered.{noPart}
+use Rattle.outbox.specs.Reader as outbox
+use Rattle.worked.specs.Question.{Question, writeFrame, nextSequenceByte, writePackets, readPieces, acceptPacket, writeAcknowledgement, writeEnvelope, readEnvelope, readRecord}
+use Rattle.worked.specs.Question.{Answer, bytes, sequenceByte, packets, pieces, accepted, envelope, reading, Piece, plain, extended, zeros, answerTo}
+
+-- a row: what is asked, and what comes back
+pub record Case : Type 0 where
+  pub question : Question
+  pub expected : Answer
+
+abbrev pub case : Question → Answer → Case
+case q a = record { question = q; expected = a }
+
+-- room, stream, id, first sequence, ACK wanted
+abbrev pub sending : ℕ → ℕ → ℕ → ℕ → Bool → Sending
+sending room stream id sequence ack = record { room = room; stream = stream; id = id; sequence = sequence; ack = ack }
+
+-- a message of which only the room is said: stream, id and sequence 0, no ACK wanted
+abbrev pub inRoom : ℕ → Sending
+inRoom room = sending room 0 0 0 false
+
+-- a control transaction of three bytes, id 0, of which one is held; the last packet had this sequence
+abbrev pub openAfter : ℕ → List Slot
+openAfter sequence = record { opened = true; id = 0; total = 3; held = 1; sequence = sequence } ∷ idle ∷ idle ∷ []
+
+-- error codes of document 000
+abbrev pub success : ℤ
+success = pos 0
+
+abbrev pub unsupported : ℤ
+unsupported = pos 3
+
+-- an envelope with a response that has no payload
+abbrev pub responseRead : ℕ → ℤ → Envelope
+responseRead command code = record { command = pos command; payload = Payload.Response (record { «error_code» = code; field = 0; part = noPart }) }
+
+unfoldable pub cases : List Case
+cases =
+    -- P1 empty payload, sequence 0
+    case (writeFrame 0 []) (bytes (given (0xF0 ∷ 0x02 ∷ 0x00 ∷ 0x00 ∷ 0x00 ∷ 0x02 ∷ 0xF1 ∷ [])))
+    -- P2 payload F0, sequence 5
+    ∷ case (writeFrame 5 (0xF0 ∷ [])) (bytes (given (0xF0 ∷ 0x02 ∷ 0x00 ∷ 0x05 ∷ 0xF2 ∷ 0x02 ∷ 0x00 ∷ 0xF2 ∷ 0x00 ∷ 0xF1 ∷ [])))
+    -- P3 sequence bytes after EF, FF, 00
+    ∷ case (nextSequenceByte 0xEF) (sequenceByte 0xF3)
+    ∷ case (nextSequenceByte 0xFF) (sequenceByte 0x00)
+    ∷ case (nextSequenceByte 0x00) (sequenceByte 0x01)
+    -- P4 35 bytes (zeros here), room 20, stream 6, id 1, sequence 0, ACK wanted: each header, and its piece after it
+    ∷ case (writePackets (sending 20 6 1 0 true) (zeros 35))
+    (packets
+    ((0x61 ∷ 0x00 ∷ 0x00 ∷ 0x00 ∷ 0x23 ∷ 0x0E ∷ zeros 14)
+    ∷ (0x61 ∷ 0x14 ∷ 0x11 ∷ zeros 17)
+    ∷ (0x61 ∷ 0x2A ∷ 0x04 ∷ zeros 4)
+    ∷ []))
+    -- P5 490 bytes, room 244
+    ∷ case (readPieces (inRoom 244) (zeros 490)) (pieces (given (plain 238) ∷ given (plain 241) ∷ given (plain 11) ∷ []))
+    -- P6 300 bytes, rooms 262 and 263
+    ∷ case (readPieces (inRoom 262) (zeros 300)) (pieces (given (plain 255) ∷ given (plain 45) ∷ []))
+    ∷ case (readPieces (inRoom 263) (zeros 300)) (pieces (given (extended 256) ∷ given (plain 44) ∷ []))
+    -- P7 after sequence 15: a continuation of one byte with sequence 0, and one with sequence 10
+    ∷ case (acceptPacket (openAfter 15) (0x00 ∷ 0x04 ∷ 0x01 ∷ 0x00 ∷ [])) (accepted (given (Taken Control 0 false)))
+    ∷ case (acceptPacket (openAfter 15) (0x00 ∷ 0xA4 ∷ 0x01 ∷ 0x00 ∷ [])) (accepted (refused 10))
+    -- P8 ACK and NACK for P4, sequence 0
+    ∷ case (writeAcknowledgement 6 1 0 true) (bytes (given (0x61 ∷ 0x0E ∷ 0x00 ∷ 0x02 ∷ 0x01 ∷ 0x00 ∷ [])))
+    ∷ case (writeAcknowledgement 6 1 0 false) (bytes (given (0x61 ∷ 0x0C ∷ 0x00 ∷ 0x02 ∷ 0x01 ∷ 0x03 ∷ [])))
+    -- P9 empty transaction, stream, id, sequence 0; and a receiver finishes it at once
+    ∷ case (writePackets (sending 20 0 0 0 false) []) (packets (zeros 6 ∷ []))
+    ∷ case (acceptPacket idles (zeros 6)) (accepted (given (Finished Control 0 0 false false)))
+    -- P10 command 94 with success, 20 with unsupported; and each read back
+    ∷ case (writeEnvelope (pos 94) (Response success None)) (bytes (given (0x08 ∷ 0x5E ∷ 0x4A ∷ 0x00 ∷ [])))
+    ∷ case (readEnvelope (0x08 ∷ 0x5E ∷ 0x4A ∷ 0x00 ∷ [])) (envelope (given (responseRead 94 success)))
+    ∷ case (writeEnvelope (pos 20) (Response unsupported None)) (bytes (given (0x08 ∷ 0x14 ∷ 0x4A ∷ 0x02 ∷ 0x08 ∷ 0x03 ∷ [])))
+    ∷ case (readEnvelope (0x08 ∷ 0x14 ∷ 0x4A ∷ 0x02 ∷ 0x08 ∷ 0x03 ∷ [])) (envelope (given (responseRead 20 unsupported)))
+    -- P11 08, nine FF, 01: command -1
+    ∷ case (readEnvelope (0x08 ∷ (replicate 9 0xFF ++ (0x01 ∷ []))))
+    (envelope (given (record { command = negℤ (pos 1); payload = Payload.None })))
+    -- P12 one record, then the end; and its first five bytes
+    ∷ case (readRecord (0x01 ∷ 0x00 ∷ 0x03 ∷ 0x06 ∷ 0x41 ∷ 0x42 ∷ []) 1)
+    (reading (outbox.given (outbox.found (record { stream = 6; start = 4; size = 2; next = 6 }))))
+    ∷ case (readRecord (0x01 ∷ 0x00 ∷ 0x03 ∷ 0x06 ∷ 0x41 ∷ 0x42 ∷ []) 6) (reading (outbox.given outbox.end))
+    ∷ case (readRecord (take 5 (0x01 ∷ 0x00 ∷ 0x03 ∷ 0x06 ∷ 0x41 ∷ 0x42 ∷ [])) 1) (reading (outbox.refusedAt 41 1))
+    ∷ []
+
+-- every row of the table holds
+abbrev pub WorkedCases : Type 0
+WorkedCases = (c : Case) → List·Memᴰ c cases → answerTo (c .question) ≡ c .expected

@@ -1,0 +1,92 @@
+-- What the worked cases ask of the library, and the answers by the definitions that its contracts cite.
+use Prim.Native.Nat.{ℕ, _*_}
+use mathlib.Core.Bool.{Bool, cond}
+use mathlib.Core.List.{List, [], _∷_, map}
+use lib.IntN.{ℤ}
+use lib.ListN.{getD, take, replicate}
+use Rattle.wire.specs.Told.{Told, given, refused, andThen, Written}
+use Rattle.frame.specs.Frame.{nextSequence}
+use Rattle.frame.specs.Writer as frame
+use Rattle.packet.specs.Header.{extenderBit}
+use Rattle.packet.specs.Reader.{readOf, lenIn}
+use Rattle.packet.specs.Acknowledgement.{ackOf}
+use Rattle.sender.specs.declared.writer.Sending.{Sending}
+use Rattle.sender.specs.Calls.{callsOf}
+use Rattle.receiver.specs.declared.slot.Slot.{Slot}
+use Rattle.receiver.specs.declared.answer.Accepted.{Accepted}
+use Rattle.receiver.specs.Slot.{slotCount}
+use Rattle.receiver.specs.Receiver.{acceptOf}
+use Rattle.message.specs.declared.envelope.Envelope.{Envelope}
+use Rattle.message.specs.declared.envelope.EnvelopePayload.{EnvelopePayload}
+use Rattle.message.specs.Envelope.{envelopeOf, envelopeWritten}
+use Rattle.outbox.specs.Format.{versionOne}
+use Rattle.outbox.specs.Reader as outbox
+
+-- the limit of document 01
+abbrev pub limit : ℕ
+limit = 4096
+
+-- what a lent buffer holds before, and a message of which only the length counts
+abbrev pub zeros : ℕ → List ℕ
+zeros n = replicate n 0
+
+-- a call of the library, or its calls for a whole message
+pub data Question : Type 0 where
+  -- the frame with a sequence byte and a payload
+  writeFrame : ℕ → List ℕ → Question
+  -- the sequence byte after one
+  nextSequenceByte : ℕ → Question
+  -- the packets of a message, place after place
+  writePackets : Sending → List ℕ → Question
+  -- the same, and each of them read
+  readPieces : Sending → List ℕ → Question
+  -- a packet, given to a receiver with these slots
+  acceptPacket : List Slot → List ℕ → Question
+  -- an ACK, or a NACK where it is not positive, for a stream and an id, with a sequence
+  writeAcknowledgement : ℕ → ℕ → ℕ → Bool → Question
+  -- an envelope with a command and a payload that has no bytes of its own
+  writeEnvelope : ℤ → EnvelopePayload → Question
+  readEnvelope : List ℕ → Question
+  -- the record of an outbox at a place
+  readRecord : List ℕ → ℕ → Question
+
+-- what a packet carries: so many bytes, their number in one byte or extended
+pub data Piece : Type 0 where
+  plain extended : ℕ → Piece
+
+pub data Answer : Type 0 where
+  -- what was written
+  bytes : Told (List ℕ) → Answer
+  sequenceByte : ℕ → Answer
+  packets : List (List ℕ) → Answer
+  pieces : List (Told Piece) → Answer
+  accepted : Told Accepted → Answer
+  envelope : Told Envelope → Answer
+  reading : outbox.Answer outbox.Item → Answer
+
+-- the bytes that a writer wrote: so many, first in the lent output
+abbrev pub bytesOf : Written ℕ → Told (List ℕ)
+bytesOf w = andThen (w .told) (λ n. given (take n (w .out)))
+
+-- what a packet carries, as it is read; the extender stands in its byte 1
+abbrev pub pieceOf : List ℕ → Told Piece
+pieceOf p = andThen (readOf limit p) (λ x. given (cond (extenderBit (getD p 1 0)) (extended (lenIn x)) (plain (lenIn x))))
+
+-- the output lent to a writer: more than any case needs
+abbrev output : List ℕ
+output = zeros 32
+
+-- the packets of a message: the output is as large as the room
+abbrev packetsOf : Sending → List ℕ → List (List ℕ)
+packetsOf w m = callsOf limit w m (zeros (w .room))
+
+unfoldable pub answerTo : Question → Answer
+answerTo (writeFrame sequence payload) = bytes (bytesOf (frame.writeOf limit sequence payload output))
+answerTo (nextSequenceByte sequence) = sequenceByte (nextSequence sequence)
+answerTo (writePackets w m) = packets (packetsOf w m)
+answerTo (readPieces w m) = pieces (map pieceOf (packetsOf w m))
+answerTo (acceptPacket slots p) = accepted (acceptOf limit slots (zeros (slotCount * limit)) p .told)
+answerTo (writeAcknowledgement stream id sequence positive) = bytes (bytesOf (ackOf stream id sequence positive output))
+answerTo (writeEnvelope command payload) = bytes (bytesOf (envelopeWritten command payload [] output))
+answerTo (readEnvelope m) = envelope (envelopeOf m)
+answerTo (readRecord file place) = reading (outbox.readOf (versionOne limit) file place)
