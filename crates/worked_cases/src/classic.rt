@@ -2,6 +2,7 @@
 use crate::printing::OUTPUT;
 use crate::printing::bytes;
 use crate::printing::end;
+use crate::printing::refused;
 use crate::printing::text;
 use frame::writer::WriteOutcome;
 use frame::writer::next_sequence;
@@ -12,7 +13,7 @@ fn write_frame(label: &[u8], sequence: u8, payload: &[u8]) {
     text(label);
     match outcome {
         WriteOutcome::Frame(n) => bytes(&out, n),
-        WriteOutcome::Refused(_) => text(b" refused"),
+        WriteOutcome::Refused(why) => refused(why.number()),
     }
     end();
 }

@@ -2,6 +2,7 @@
 use crate::printing::OUTPUT;
 use crate::printing::bytes;
 use crate::printing::end;
+use crate::printing::refused;
 use crate::printing::signed;
 use crate::printing::text;
 use message::envelope::Envelope;
@@ -22,8 +23,8 @@ fn write_response(label: &[u8], command: i32, error_code: i32) {
     text(label);
     match wrote {
         Wrote::Done(n) => bytes(&out, n),
-        Wrote::OutOfRange => text(b" refused"),
-        Wrote::NoRoom => text(b" refused"),
+        Wrote::OutOfRange => refused(15),
+        Wrote::NoRoom => refused(14),
     }
     end();
 }

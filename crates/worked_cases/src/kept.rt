@@ -1,6 +1,7 @@
 // The cases of the outbox, P12.
 use crate::printing::end;
 use crate::printing::number;
+use crate::printing::refused;
 use crate::printing::text;
 use outbox::reader::Fault;
 use outbox::reader::Reading;
@@ -18,8 +19,7 @@ fn print_record(stream: u8, start: usize, size: usize, next: usize) {
 }
 
 fn print_broken(fault: Fault, place: usize) {
-    text(b" refused");
-    number(fault.number() as usize);
+    refused(fault.number());
     text(b" at");
     number(place);
 }
@@ -34,7 +34,7 @@ fn read_record(label: &[u8], file: &[u8], place: usize) {
             next,
         } => print_record(stream, start, size, next),
         Reading::End => text(b" end"),
-        Reading::BadPlace => text(b" refused 15"),
+        Reading::BadPlace => refused(15),
         Reading::Broken { fault, place: at } => print_broken(fault, at),
     }
     end();

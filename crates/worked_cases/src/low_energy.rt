@@ -3,6 +3,7 @@ use crate::printing::OUTPUT;
 use crate::printing::bytes;
 use crate::printing::end;
 use crate::printing::number;
+use crate::printing::refused;
 use crate::printing::text;
 use packet::acknowledgement;
 use packet::header::extender_bit;
@@ -12,7 +13,6 @@ use receiver::BUFFER_SIZE;
 use receiver::Receiver;
 use receiver::answer::Accepted;
 use receiver::answer::Answer;
-use receiver::answer::Refusal;
 use receiver::slot::Slot;
 use sender::piece::LARGEST_ROOM;
 use sender::writer;
@@ -68,7 +68,7 @@ fn read_packet(shown: Shown, out: &[u8], length: usize) {
     let n = smaller(length, out.len());
     match reader::read(&out[0..n]) {
         reader::Answer::Read(read) => print_read(shown, out, read),
-        reader::Answer::Refused(_) => text(b" refused"),
+        reader::Answer::Refused(why) => refused(why.number()),
     }
 }
 
@@ -84,8 +84,8 @@ fn next_packet(shown: Shown, how: Sending, message: &[u8], place: usize, out: &m
             read_packet(shown, out, length);
             0
         }
-        writer::Answer::Refused(_) => {
-            text(b" refused");
+        writer::Answer::Refused(why) => {
+            refused(why.number());
             0
         }
     }
@@ -129,16 +129,6 @@ fn print_accepted(accepted: Accepted) {
     }
 }
 
-fn print_refusal(why: Refusal) {
-    match why {
-        Refusal::BufferOrState => text(b" refused 1"),
-        Refusal::OfPacket(_) => text(b" refused"),
-        Refusal::NoTransaction => text(b" refused 9"),
-        Refusal::Sequence => text(b" refused 10"),
-        Refusal::Amount => text(b" refused 11"),
-    }
-}
-
 // A packet given to a receiver with this control slot, the others idle.
 fn accept_packet(label: &[u8], control: Slot, packet: &[u8]) {
     let mut buffer = [0u8; BUFFER_SIZE];
@@ -151,7 +141,7 @@ fn accept_packet(label: &[u8], control: Slot, packet: &[u8]) {
     text(label);
     match answer {
         Answer::Given(accepted) => print_accepted(accepted),
-        Answer::Refused(why) => print_refusal(why),
+        Answer::Refused(why) => refused(why.number()),
     }
     end();
 }
@@ -162,7 +152,7 @@ fn write_acknowledgement(label: &[u8], stream: u8, id: u8, sequence: u8, positiv
     text(label);
     match answer {
         acknowledgement::Answer::Written(n) => bytes(&out, n),
-        acknowledgement::Answer::Refused(_) => text(b" refused"),
+        acknowledgement::Answer::Refused(why) => refused(why.number()),
     }
     end();
 }

@@ -55,3 +55,9 @@ pub fn bytes(all: &[u8], n: usize) {
         i += 1;
     }
 }
+
+// A refusal by its number.
+pub fn refused(by: u8) {
+    text(b" refused");
+    number(by as usize);
+}
