@@ -1,0 +1,284 @@
+//! Runs every implementation on the same call and compares what they return, their answers, their
+//! states and every lent byte.
+
+use crate::implementation::{Call, Implementation, Operation};
+use std::fmt::{self, Write};
+
+/// What one implementation left.
+#[derive(Clone, Debug, Default, PartialEq, Eq)]
+struct Left {
+    returned: u64,
+    state: Vec<u64>,
+    lent: Vec<u8>,
+    answer: Vec<u64>,
+}
+
+/// Two implementations that differ, or a result that is not the one expected; the text tells all.
+pub struct Difference(pub String);
+
+impl fmt::Debug for Difference {
+    fn fmt(&self, f: &mut fmt::Formatter<'_>) -> fmt::Result {
+        f.write_str(&self.0)
+    }
+}
+
+/// Most calls change nothing, or end in a difference.
+pub type Compared<T> = Result<T, Box<Difference>>;
+
+/// The implementations, and a tally of what the calls came to.
+pub struct Comparison<'i> {
+    implementations: Vec<&'i dyn Implementation>,
+    left: Vec<Left>,
+    /// For each operation how often each number was returned.
+    met: Vec<[u64; NUMBERS]>,
+    /// For each operation how often each kind of success was told.
+    outcomes: Vec<[u64; NUMBERS]>,
+    calls: u64,
+    /// What the driver is at, for the text of a difference.
+    pub at: String,
+}
+
+/// More than any refusal number.
+const NUMBERS: usize = 64;
+
+/// Operations whose first answer is a small number that tells the kind of success.
+fn kinds(operation: Operation) -> Option<(usize, &'static [&'static str])> {
+    match operation {
+        Operation::ExtractorStep => Some((0, &["skipped", "taken", "frame"])),
+        Operation::ExtractorFeed => Some((0, &["all used", "", "frame"])),
+        Operation::ReceiverAccept => Some((0, &["held", "finished", "ACK", "NACK"])),
+        Operation::EnvelopeRead => Some((1, &["no payload", "response", "other member"])),
+        Operation::OutboxRecord => Some((0, &["end", "record"])),
+        _ => None,
+    }
+}
+
+impl<'i> Comparison<'i> {
+    pub fn new(implementations: &[&'i dyn Implementation]) -> Comparison<'i> {
+        assert!(!implementations.is_empty());
+        Comparison {
+            implementations: implementations.to_vec(),
+            left: vec![Left::default(); implementations.len()],
+            met: vec![[0; NUMBERS]; Operation::ALL.len()],
+            outcomes: vec![[0; NUMBERS]; Operation::ALL.len()],
+            calls: 0,
+            at: String::new(),
+        }
+    }
+
+    pub fn names(&self) -> Vec<String> {
+        self.implementations
+            .iter()
+            .map(|one| one.name().to_string())
+            .collect()
+    }
+
+    pub fn calls(&self) -> u64 {
+        self.calls
+    }
+
+    /// Runs the call on every implementation, each on its own copy of what is lent. If all agree,
+    /// the call holds what they left, and what they returned is given.
+    pub fn run(&mut self, call: &mut Call) -> Compared<u64> {
+        self.calls += 1;
+        // What stands in the answer row before is no number that an answer has.
+        for (index, cell) in call.answer.iter_mut().enumerate() {
+            *cell = 0xA5A5_5A5A_0000_0000 ^ self.calls << 8 ^ index as u64;
+        }
+        for (one, left) in self.implementations.iter().zip(&mut self.left) {
+            left.state.clone_from(&call.state);
+            left.lent.clone_from(&call.lent);
+            left.answer.clone_from(&call.answer);
+            left.returned = one.call(
+                call.operation,
+                &call.numbers,
+                &call.inputs,
+                &mut left.state,
+                &mut left.lent,
+                &mut left.answer,
+            );
+        }
+        let (first, others) = self.left.split_first_mut().expect("at least one");
+        if others.iter().any(|other| other != first) {
+            return Err(self.difference(call));
+        }
+        std::mem::swap(&mut call.state, &mut first.state);
+        std::mem::swap(&mut call.lent, &mut first.lent);
+        std::mem::swap(&mut call.answer, &mut first.answer);
+        let returned = first.returned;
+        count(&mut self.met[call.operation as usize], returned);
+        if returned == 0 {
+            if let Some((cell, _)) = kinds(call.operation) {
+                count(
+                    &mut self.outcomes[call.operation as usize],
+                    call.answer[cell],
+                );
+            }
+        }
+        Ok(returned)
+    }
+
+    /// Runs the call and holds it to what the paper gives: the number returned, then whatever the
+    /// caller says of what was left.
+    pub fn expect(
+        &mut self,
+        call: &mut Call,
+        returned: u64,
+        holds: impl FnOnce(&Call) -> bool,
+    ) -> Compared<()> {
+        let before = call.clone();
+        let got = self.run(call)?;
+        if got == returned && holds(call) {
+            return Ok(());
+        }
+        let mut text = format!("not as expected: {}\n", self.at);
+        describe(&before, &mut text);
+        let _ = writeln!(text, "  expected to return {returned}");
+        let left = Left {
+            returned: got,
+            state: call.state.clone(),
+            lent: call.lent.clone(),
+            answer: call.answer.clone(),
+        };
+        describe_left(&before, &left, "all", &mut text);
+        Err(Box::new(Difference(text)))
+    }
+
+    /// Holds to the paper what several calls came to, `last` being the last of them.
+    pub fn hold(&self, holds: bool, what: &str, last: &Call) -> Compared<()> {
+        if holds {
+            return Ok(());
+        }
+        let mut text = format!("not as expected: {}: {what}\n", self.at);
+        text.push_str("  the last call, as it stands after it:\n");
+        describe(last, &mut text);
+        Err(Box::new(Difference(text)))
+    }
+
+    fn difference(&self, call: &Call) -> Box<Difference> {
+        let mut text = format!("difference: {}\n", self.at);
+        describe(call, &mut text);
+        for (one, left) in self.implementations.iter().zip(&self.left) {
+            describe_left(call, left, one.name(), &mut text);
+        }
+        Box::new(Difference(text))
+    }
+
+    /// The operations and numbers returned that no call has met.
+    pub fn never_met(&self) -> Vec<String> {
+        let mut missing = Vec::new();
+        for operation in Operation::ALL {
+            let shape = operation.shape();
+            for &number in shape.returns {
+                if self.met[operation as usize][number as usize] == 0 {
+                    missing.push(format!("{} {number}", shape.name));
+                }
+            }
+            if let Some((_, names)) = kinds(operation) {
+                for (kind, name) in names.iter().enumerate() {
+                    if !name.is_empty() && self.outcomes[operation as usize][kind] == 0 {
+                        missing.push(format!("{} {name}", shape.name));
+                    }
+                }
+            }
+        }
+        missing
+    }
+
+    /// How often each operation returned each number.
+    pub fn tally(&self) -> String {
+        let mut text = String::new();
+        for operation in Operation::ALL {
+            let counts: Vec<String> = self.met[operation as usize]
+                .iter()
+                .enumerate()
+                .filter(|(_, &count)| count > 0)
+                .map(|(number, count)| format!("{number}: {count}"))
+                .collect();
+            let _ = write!(text, "  {}  {}", operation.shape().name, counts.join(", "));
+            if let Some((_, names)) = kinds(operation) {
+                let told = &self.outcomes[operation as usize];
+                let counts: Vec<String> = names
+                    .iter()
+                    .enumerate()
+                    .filter(|(_, name)| !name.is_empty())
+                    .map(|(kind, name)| format!("{name}: {}", told[kind]))
+                    .collect();
+                let _ = write!(text, " ({})", counts.join(", "));
+            }
+            text.push('\n');
+        }
+        text
+    }
+}
+
+/// One more of a number.
+fn count(row: &mut [u64; NUMBERS], number: u64) {
+    let last = NUMBERS - 1;
+    row[usize::try_from(number).map_or(last, |number| number.min(last))] += 1;
+}
+
+/// Bytes as text.
+pub fn hex(bytes: &[u8]) -> String {
+    bytes
+        .iter()
+        .map(|byte| format!("{byte:02X}"))
+        .collect::<Vec<_>>()
+        .join(" ")
+}
+
+/// A row of numbers with their names, or without where the row has another length.
+fn row(names: &[&str], numbers: &[u64]) -> String {
+    let shown: Vec<String> = if names.len() == numbers.len() {
+        names
+            .iter()
+            .zip(numbers)
+            .map(|(name, number)| format!("{name} {number}"))
+            .collect()
+    } else {
+        numbers.iter().map(u64::to_string).collect()
+    };
+    format!("{} numbers: {}", numbers.len(), shown.join(", "))
+}
+
+fn describe(call: &Call, text: &mut String) {
+    let shape = call.operation.shape();
+    let _ = writeln!(text, "  call: {}", shape.name);
+    let _ = writeln!(text, "  given {}", row(shape.numbers, &call.numbers));
+    for (name, bytes) in shape.inputs.iter().zip(&call.inputs) {
+        let _ = writeln!(text, "  {name}, {} bytes: {}", bytes.len(), hex(bytes));
+    }
+    let _ = writeln!(text, "  state before, {}", row(shape.state, &call.state));
+    let _ = writeln!(
+        text,
+        "  {} before, {} bytes: {}",
+        shape.lent,
+        call.lent.len(),
+        hex(&call.lent)
+    );
+    let _ = writeln!(text, "  answer before, {}", row(shape.answer, &call.answer));
+}
+
+fn describe_left(before: &Call, left: &Left, who: &str, text: &mut String) {
+    let shape = before.operation.shape();
+    let _ = writeln!(text, "  {who}: returned {}", left.returned);
+    let _ = writeln!(text, "    state {}", row(shape.state, &left.state));
+    let _ = writeln!(text, "    answer {}", row(shape.answer, &left.answer));
+    let changed: Vec<usize> = (0..left.lent.len())
+        .filter(|&place| before.lent.get(place) != Some(&left.lent[place]))
+        .collect();
+    match (changed.first(), changed.last()) {
+        (Some(&first), Some(&last)) => {
+            let _ = writeln!(
+                text,
+                "    {}: {} bytes changed, all from {first} to {last}: {}",
+                shape.lent,
+                changed.len(),
+                hex(&left.lent[first..=last])
+            );
+        }
+        _ => {
+            let _ = writeln!(text, "    {}: unchanged", shape.lent);
+        }
+    }
+}

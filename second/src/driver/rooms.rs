@@ -1,0 +1,143 @@
+//! Messages at rooms: all of 0 to 64 bytes at all rooms, boundary sizes to 4,096 at all rooms. Each
+//! message is written place after place, and its packets go through the receiver.
+
+use super::Plan;
+use crate::comparison::{Compared, Comparison};
+use crate::implementation::{Call, Operation};
+use crate::low_energy::{self, Stream};
+use crate::rng::Rng;
+
+/// Rooms at which a piece gets its second byte of length, and the smallest and largest.
+const EDGES: [usize; 11] = [20, 21, 244, 258, 259, 260, 261, 262, 263, 511, 512];
+
+pub fn run(c: &mut Comparison<'_>, rng: &mut Rng, plan: Plan) -> Compared<()> {
+    let mut desk = Desk::new(rng);
+    // Below scale 1 only some rooms are run, so that a short run stays short; above it all of them
+    // several times, with other messages.
+    let stride = (1.0 / plan.scale).clamp(1.0, 97.0) as usize;
+    let rounds = plan.scale.max(1.0) as usize;
+    let every = |room: &usize| room.is_multiple_of(stride) || EDGES.contains(room);
+    for room in (0..rounds).flat_map(|_| (20..=512).filter(every)) {
+        for size in 0..=64 {
+            desk.message(c, rng, room, size)?;
+            // Every place, whether a piece begins there or not.
+            for place in 0..=size + 1 {
+                desk.write(c, rng, room, place as u64)?;
+            }
+        }
+        for size in boundaries(room) {
+            desk.message(c, rng, room, size)?;
+            for _ in 0..4 {
+                let place = rng.index(size + 2) as u64;
+                desk.write(c, rng, room, place)?;
+            }
+        }
+    }
+    Ok(())
+}
+
+/// Sizes at which something changes: one or two bytes of length, a piece more or less, the largest.
+fn boundaries(room: usize) -> Vec<usize> {
+    let mut sizes: Vec<usize> = [
+        65, 127, 128, 129, 254, 255, 256, 257, 258, 259, 300, 490, 505, 506, 507, 508, 509, 510,
+        511, 512, 513, 760, 1_023, 1_024, 1_025, 2_047, 2_048, 2_049, 4_093, 4_094, 4_095, 4_096,
+    ]
+    .to_vec();
+    // What the whole pieces of this room hold, one after the other.
+    let ends: Vec<usize> = low_energy::pieces(4_096, room)
+        .map(|piece| piece.place + piece.size)
+        .collect();
+    let sixteen = ends.iter().skip(14).take(3);
+    let chosen = ends
+        .iter()
+        .take(3)
+        .chain(sixteen)
+        .chain(ends.iter().rev().take(2));
+    sizes.extend(chosen.flat_map(|&end| [end - 1, end, end + 1]));
+    sizes.retain(|&size| size <= 4_096);
+    sizes.sort_unstable();
+    sizes.dedup();
+    sizes
+}
+
+/// One writer and one receiver, kept over many messages.
+struct Desk {
+    writer: Call,
+    receiver: Call,
+}
+
+impl Desk {
+    fn new(rng: &mut Rng) -> Desk {
+        let writer = Call::new(Operation::PacketWrite);
+        let receiver = Call::new(Operation::ReceiverAccept).lent(rng.bytes(low_energy::BUFFER));
+        Desk { writer, receiver }
+    }
+
+    /// A new message of this size, written and received whole.
+    fn message(
+        &mut self,
+        c: &mut Comparison<'_>,
+        rng: &mut Rng,
+        room: usize,
+        size: usize,
+    ) -> Compared<()> {
+        self.writer.inputs[0].resize(size, 0);
+        rng.fill(&mut self.writer.inputs[0]);
+        let stream = *rng.pick(&Stream::ALL);
+        let wish = [
+            u64::from(stream.number()),
+            rng.below(16),
+            rng.below(16),
+            rng.below(2),
+        ];
+        self.writer.numbers = [&[room as u64], &wish[..], &[0]].concat();
+        let mut place = 0;
+        loop {
+            let returned = self.write(c, rng, room, place)?;
+            let [written, next] = self.writer.answer[..] else {
+                panic!("two numbers")
+            };
+            let last = next == size as u64;
+            self.receiver.inputs[0].clear();
+            let packet = self.writer.lent.iter().take(written as usize);
+            self.receiver.inputs[0].extend(packet);
+            let third = stream.slot() * low_energy::MESSAGE;
+            let message = &self.writer.inputs[0];
+            let expected = [
+                u64::from(last),
+                wish[0],
+                wish[1],
+                0,
+                if last { size as u64 } else { 0 },
+                u64::from(last) & wish[3],
+                0,
+            ];
+            // The writer's packets are always taken, and the last gives the message.
+            c.hold(returned == 0, "a packet is written", &self.writer)?;
+            let returned = c.run(&mut self.receiver)?;
+            let part = third..third + next as usize;
+            let holds = returned == 0
+                && self.receiver.answer == expected
+                && self.receiver.lent[part] == message[..next as usize];
+            c.hold(holds, "a packet of the writer is taken", &self.receiver)?;
+            if last {
+                return Ok(());
+            }
+            place = next;
+        }
+    }
+
+    /// One packet, written at a place into an output of at least the room.
+    fn write(
+        &mut self,
+        c: &mut Comparison<'_>,
+        rng: &mut Rng,
+        room: usize,
+        place: u64,
+    ) -> Compared<u64> {
+        self.writer.numbers[5] = place;
+        let spare = if rng.once_in(4) { rng.index(9) } else { 0 };
+        self.writer.lent.resize(room + spare, 0x3C);
+        c.run(&mut self.writer)
+    }
+}

@@ -1,0 +1,292 @@
+//! Wrong sizes and arguments out of range, of every call: rows and lent bytes a little too short
+//! and too long, each argument at and past its edges, alone and several at once, so that the order
+//! of the refusals shows.
+
+use super::{edge, Plan, EDGES};
+use crate::classic;
+use crate::comparison::{Compared, Comparison};
+use crate::implementation::{Call, Operation};
+use crate::low_energy;
+use crate::rng::Rng;
+
+pub fn run(c: &mut Comparison<'_>, rng: &mut Rng, plan: Plan) -> Compared<()> {
+    for operation in Operation::ALL {
+        c.at = format!("sizes of {}", operation.shape().name);
+        rows(c, rng, operation)?;
+        for _ in 0..plan.times(20_000) {
+            let mut call = ordinary(rng, operation);
+            disturb(rng, &mut call);
+            c.run(&mut call)?;
+        }
+    }
+    c.at = "each number at each edge".to_string();
+    each_edge(c, rng)?;
+    c.at = "every sequence byte".to_string();
+    for byte in 0..=255 {
+        c.run(&mut Call::new(Operation::NextSequence).numbers(&[byte]))?;
+        let mut call = Call::new(Operation::FrameWrite)
+            .numbers(&[byte])
+            .inputs(&[&[byte as u8]])
+            .lent(vec![0; 16]);
+        c.run(&mut call)?;
+    }
+    c.at = "every byte in every state of the extractor".to_string();
+    every_byte(c, rng)?;
+    c.at = "every pair of first bytes".to_string();
+    every_pair(c, rng)
+}
+
+/// A call with nothing wrong in it.
+fn ordinary(rng: &mut Rng, operation: Operation) -> Call {
+    let call = Call::new(operation);
+    let stream = *rng.pick(&[0, 2, 6]);
+    let size = rng.index(30);
+    let text = rng.bytes(size);
+    match operation {
+        Operation::ExtractorStep => call
+            .numbers(&[rng.below(256)])
+            .lent(rng.bytes(classic::BUFFER)),
+        Operation::ExtractorFeed => call.inputs(&[&text]).lent(rng.bytes(classic::BUFFER)),
+        Operation::FrameWrite => call
+            .numbers(&[rng.below(240)])
+            .inputs(&[&text])
+            .lent(rng.bytes(80)),
+        Operation::NextSequence => call.numbers(&[rng.below(256)]),
+        Operation::PacketWrite => {
+            let room = rng.between(20, 512);
+            call.numbers(&[
+                room as u64,
+                stream,
+                rng.below(16),
+                rng.below(16),
+                rng.below(2),
+                0,
+            ])
+            .inputs(&[&text])
+            .lent(rng.bytes(room))
+        }
+        Operation::AckWrite => call
+            .numbers(&[stream, rng.below(16), rng.below(16), rng.below(2)])
+            .lent(rng.bytes(6)),
+        Operation::ReceiverAccept => {
+            let packet = low_energy::acknowledgement(low_energy::Stream::Ota, 3, 9, true);
+            call.inputs(&[&packet]).lent(rng.bytes(low_energy::BUFFER))
+        }
+        Operation::EnvelopeRead | Operation::ResponseRead => call.inputs(&[&[0x08, 0x05]]),
+        Operation::InformationRead | Operation::FeaturesRead => call.inputs(&[&[]]),
+        Operation::EnvelopeWrite => call
+            .numbers(&[rng.below(100), rng.below(3), rng.below(4), 5])
+            .inputs(&[&text])
+            .lent(rng.bytes(80)),
+        Operation::ResponseWrite => call
+            .numbers(&[rng.below(4), 5])
+            .inputs(&[&text])
+            .lent(rng.bytes(80)),
+        Operation::InformationWrite => {
+            let transports: Vec<u64> = (0..rng.below(9)).map(|_| rng.below(2)).collect();
+            call.numbers(&transports)
+                .inputs(&[&text, &text, &text])
+                .lent(rng.bytes(160))
+        }
+        Operation::FeaturesWrite => call.numbers(&[rng.draw(), rng.draw()]).lent(rng.bytes(22)),
+        Operation::OutboxNew => call.lent(rng.bytes(4)),
+        Operation::OutboxAppend => {
+            let mut lent = rng.bytes(60);
+            lent[0] = 1;
+            call.numbers(&[1, stream]).inputs(&[&text]).lent(lent)
+        }
+        Operation::OutboxRecord => call.numbers(&[1]).inputs(&[&[1, 0, 2, 6, 9]]),
+        Operation::OutboxWhole => call.inputs(&[&[1, 0, 2, 6, 9]]),
+    }
+}
+
+/// Rows of all lengths near the right one, and lent bytes of all sizes near theirs.
+fn rows(c: &mut Comparison<'_>, rng: &mut Rng, operation: Operation) -> Compared<()> {
+    let shape = operation.shape();
+    for _ in 0..8 {
+        for length in 0..=shape.answer.len() + 3 {
+            let mut call = ordinary(rng, operation);
+            call.answer.resize(length, 0);
+            let expected = length != shape.answer.len();
+            let returned = c.run(&mut call)?;
+            if expected != (returned == 1) {
+                return c.expect(&mut call, u64::from(expected), |_| true);
+            }
+        }
+        if !shape.state.is_empty() {
+            for length in 0..=shape.state.len() + 6 {
+                let mut call = ordinary(rng, operation);
+                call.state.resize(length, 0);
+                c.run(&mut call)?;
+            }
+        }
+        let call = ordinary(rng, operation);
+        let right = call.lent.len();
+        for size in (0..8).chain(right.saturating_sub(8)..=right + 8) {
+            let mut call = call.clone();
+            call.lent.resize(size, 0x99);
+            c.run(&mut call)?;
+        }
+    }
+    Ok(())
+}
+
+/// Makes one thing or a few of a call wrong, or moves them to an edge.
+fn disturb(rng: &mut Rng, call: &mut Call) {
+    for _ in 0..rng.between(1, 3) {
+        match rng.below(8) {
+            0..=3 if !call.numbers.is_empty() => {
+                let place = rng.index(call.numbers.len());
+                call.numbers[place] = match call.operation {
+                    // One byte by its type.
+                    Operation::ExtractorStep | Operation::NextSequence => edge(rng) & 255,
+                    _ => edge(rng),
+                };
+            }
+            4 if !call.state.is_empty() => {
+                let place = rng.index(call.state.len());
+                call.state[place] = edge(rng);
+            }
+            5 if !call.inputs.is_empty() => {
+                let place = rng.index(call.inputs.len());
+                let size = match rng.below(12) {
+                    0 => *rng.pick(&[4_095, 4_096, 4_097, 5_000, 65_535, 65_536]),
+                    1 | 2 => rng.index(600),
+                    _ => rng.index(30),
+                };
+                call.inputs[place] = rng.bytes(size);
+            }
+            6 => {
+                let size = match rng.below(6) {
+                    0 => *rng.pick(&[0, 1, 4_097, 4_098, 4_099, 4_105, 12_287, 12_288, 12_289]),
+                    1 => rng.index(600),
+                    2 => call.lent.len() + 1,
+                    _ => call.lent.len().saturating_sub(rng.index(8)),
+                };
+                call.lent.resize(size, 0x88);
+            }
+            7 if call.operation == Operation::InformationWrite => {
+                let count = rng.index(12);
+                call.numbers.resize(count, 1);
+            }
+            7 if rng.once_in(10) => {
+                let length = rng.index(call.answer.len() + 2);
+                call.answer.resize(length, 0);
+            }
+            7 if rng.once_in(10) => {
+                let length = rng.index(call.state.len() + 2);
+                call.state.resize(length, 0);
+            }
+            _ => {}
+        }
+    }
+}
+
+/// Each number of each row, alone, at each edge: of the states, lawful otherwise, and of what is
+/// given, in range otherwise.
+fn each_edge(c: &mut Comparison<'_>, rng: &mut Rng) -> Compared<()> {
+    let states: [(Operation, &[&[u64]]); 3] = [
+        (
+            Operation::ExtractorStep,
+            &[&[0, 0, 0], &[3, 0, 0], &[4, 7, 3], &[5, 7, 4_098]],
+        ),
+        (
+            Operation::ExtractorFeed,
+            &[&[0, 0, 0], &[3, 0, 0], &[4, 7, 3], &[5, 7, 4_098]],
+        ),
+        (
+            Operation::ReceiverAccept,
+            &[
+                &[0; 15],
+                &[1, 3, 9, 2, 7, 1, 0, 2, 1, 0, 1, 15, 4_096, 4_095, 15],
+            ],
+        ),
+    ];
+    for (operation, states) in states {
+        for state in states {
+            for place in 0..state.len() {
+                let near = [state[place].wrapping_sub(1), state[place] + 1];
+                for &number in EDGES.iter().chain(&near) {
+                    let mut call = ordinary(rng, operation).state(state);
+                    call.state[place] = number;
+                    c.run(&mut call)?;
+                }
+            }
+        }
+    }
+    for operation in Operation::ALL {
+        if matches!(
+            operation,
+            Operation::ExtractorStep | Operation::NextSequence
+        ) {
+            // Every byte is given elsewhere.
+            continue;
+        }
+        for place in 0..ordinary(rng, operation).numbers.len() {
+            for &number in EDGES {
+                // Twice, as the rest is by chance.
+                for _ in 0..2 {
+                    let mut call = ordinary(rng, operation);
+                    if let Some(cell) = call.numbers.get_mut(place) {
+                        *cell = number;
+                    }
+                    c.run(&mut call)?;
+                }
+            }
+        }
+    }
+    Ok(())
+}
+
+/// Every byte, as a step and as a feed, in each state that differs.
+fn every_byte(c: &mut Comparison<'_>, rng: &mut Rng) -> Compared<()> {
+    let mut states = vec![[0, 0, 0], [1, 0, 0], [2, 0, 0], [3, 0, 0]];
+    for place in [4, 5] {
+        for held in [0, 1, 2, 3, 4_096, 4_097, 4_098] {
+            states.push([place, 0x11, held]);
+        }
+    }
+    for state in states {
+        for byte in 0..=255u8 {
+            for right in [false, true] {
+                let mut lent = rng.bytes(classic::BUFFER);
+                let held = state[2] as usize;
+                if let (true, Some((payload, sum))) = (right, lent[..held].split_last_chunk_mut()) {
+                    *sum = classic::checksum(payload).to_be_bytes();
+                }
+                let mut step = Call::new(Operation::ExtractorStep)
+                    .state(&state)
+                    .numbers(&[u64::from(byte)])
+                    .lent(lent.clone());
+                c.run(&mut step)?;
+                let mut feed = Call::new(Operation::ExtractorFeed)
+                    .state(&state)
+                    .inputs(&[&[byte]])
+                    .lent(lent);
+                c.run(&mut feed)?;
+            }
+        }
+    }
+    Ok(())
+}
+
+/// Every byte 0 and byte 1 of a packet, over a state with two open slots, at several lengths.
+fn every_pair(c: &mut Comparison<'_>, rng: &mut Rng) -> Compared<()> {
+    let state = [1, 3, 9, 2, 7, 0, 0, 0, 0, 0, 1, 12, 5, 4, 15];
+    let mut call = Call::new(Operation::ReceiverAccept).lent(rng.bytes(low_energy::BUFFER));
+    for zeroth in 0..=255u8 {
+        for first in 0..=255u8 {
+            let tail: &[&[u8]] = match first >> 2 & 3 {
+                0 => &[&[0, 0, 3, 1, 0xAA], &[0, 0, 1, 0, 1, 0xAA]],
+                3 => &[&[0, 2, 1, 0], &[0, 2, 1, 3]],
+                _ => &[&[1, 0xAA], &[0, 1, 0xAA]],
+            };
+            for tail in tail {
+                call.state = state.to_vec();
+                call.inputs[0] = [&[zeroth, first], *tail].concat();
+                c.run(&mut call)?;
+            }
+        }
+    }
+    Ok(())
+}

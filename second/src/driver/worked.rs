@@ -1,0 +1,318 @@
+//! "Worked by hand": P1 to P12, and the slips that the paper names.
+
+use super::Plan;
+use crate::classic;
+use crate::comparison::{Compared, Comparison};
+use crate::implementation::{Call, Operation};
+use crate::low_energy;
+use crate::rng::Rng;
+
+/// Bytes from hex text.
+pub fn bytes(text: &str) -> Vec<u8> {
+    text.split_whitespace()
+        .map(|pair| u8::from_str_radix(pair, 16).expect("two hex digits"))
+        .collect()
+}
+
+/// A buffer filled with a byte that no result here has.
+fn blank(size: usize) -> Vec<u8> {
+    vec![0xCC; size]
+}
+
+/// Whether a writer left exactly these bytes at the front and nothing else.
+fn wrote(call: &Call, made: &[u8]) -> bool {
+    call.answer[0] == made.len() as u64
+        && call.lent.starts_with(made)
+        && call.lent[made.len()..].iter().all(|&byte| byte == 0xCC)
+}
+
+pub fn run(c: &mut Comparison<'_>, _: &mut Rng, _: Plan) -> Compared<()> {
+    frames(c)?;
+    packets(c)?;
+    messages(c)?;
+    outbox(c)?;
+    slips(c)
+}
+
+/// Feeds a stream whole, call after call, and holds it to what each call has to tell: the number
+/// returned, then outcome, used, sequence and length.
+fn feeds(c: &mut Comparison<'_>, stream: &[u8], told: &[(u64, [u64; 4])]) -> Compared<Call> {
+    let mut call = Call::new(Operation::ExtractorFeed).lent(blank(classic::BUFFER));
+    let mut rest = stream;
+    for (returned, answer) in told {
+        call.inputs[0] = rest.to_vec();
+        c.expect(&mut call, *returned, |call| call.answer == answer)?;
+        rest = &rest[answer[1] as usize..];
+    }
+    c.hold(rest.is_empty(), "all bytes are used", &call)?;
+    Ok(call)
+}
+
+fn frames(c: &mut Comparison<'_>) -> Compared<()> {
+    let cases: [(u64, &str, &str); 2] = [
+        (0, "", "F0 02 00 00 00 02 F1"),
+        (5, "F0", "F0 02 00 05 F2 02 00 F2 00 F1"),
+    ];
+    for (case, (sequence, payload, frame)) in cases.into_iter().enumerate() {
+        c.at = format!("P{}", case + 1);
+        let (payload, frame) = (bytes(payload), bytes(frame));
+        let mut call = Call::new(Operation::FrameWrite)
+            .numbers(&[sequence])
+            .inputs(&[&payload])
+            .lent(blank(40));
+        c.expect(&mut call, 0, |call| wrote(call, &frame))?;
+        let length = payload.len() as u64;
+        let told = [(0, [2, frame.len() as u64, sequence, length])];
+        let call = feeds(c, &frame, &told)?;
+        c.hold(call.lent.starts_with(&payload), "the payload", &call)?;
+    }
+    c.at = "P3".to_string();
+    for (before, after) in [(0xEF, 0xF3), (0xFF, 0x00), (0x00, 0x01)] {
+        let mut call = Call::new(Operation::NextSequence).numbers(&[before]);
+        c.expect(&mut call, 0, |call| call.answer == [after])?;
+    }
+    c.at = "the bytes of the listing".to_string();
+    let stream = bytes("00 F0 02 00 05 F2 02 00 F2 00 F1 F0 02 F0 02 00 06 00 02 F1");
+    let told = [(0, [2, 11, 5, 1]), (20, [0, 3, 0, 0]), (0, [2, 6, 6, 0])];
+    feeds(c, &stream, &told)?;
+    Ok(())
+}
+
+/// Writes a message place after place; gives the packets.
+pub fn written(
+    c: &mut Comparison<'_>,
+    room: u64,
+    wish: [u64; 4],
+    message: &[u8],
+) -> Compared<Vec<Vec<u8>>> {
+    let mut packets = Vec::new();
+    let mut place = 0;
+    let mut call = Call::new(Operation::PacketWrite).inputs(&[message]);
+    let [stream, id, sequence, ack] = wish;
+    loop {
+        call.lent = blank(room as usize);
+        call.numbers = vec![room, stream, id, sequence, ack, place];
+        c.expect(&mut call, 0, |_| true)?;
+        packets.push(call.lent[..call.answer[0] as usize].to_vec());
+        place = call.answer[1];
+        if place == message.len() as u64 {
+            return Ok(packets);
+        }
+    }
+}
+
+/// The message of the worked cases: its bytes count up.
+fn counting(size: usize) -> Vec<u8> {
+    (0..size).map(|place| place as u8).collect()
+}
+
+/// A call of the receiver on a blank buffer.
+fn receiver(state: &[u64]) -> Call {
+    Call::new(Operation::ReceiverAccept)
+        .state(state)
+        .lent(blank(low_energy::BUFFER))
+}
+
+const IDLE: [u64; 15] = [0; 15];
+
+fn packets(c: &mut Comparison<'_>) -> Compared<()> {
+    c.at = "P4".to_string();
+    let message = counting(35);
+    let made = written(c, 20, [6, 1, 0, 1], &message)?;
+    let expected: Vec<Vec<u8>> = [
+        ("61 00 00 00 23 0E", 0..14),
+        ("61 14 11", 14..31),
+        ("61 2A 04", 31..35),
+    ]
+    .into_iter()
+    .map(|(header, part)| [bytes(header), message[part].to_vec()].concat())
+    .collect();
+    let mut call = receiver(&IDLE);
+    c.hold(made == expected, "the three packets", &call)?;
+    let answers = [
+        ([0, 6, 1, 0, 0, 0, 0], [1, 1, 35, 14, 0]),
+        ([0, 6, 1, 0, 0, 0, 0], [1, 1, 35, 31, 1]),
+        ([1, 6, 1, 0, 35, 1, 0], [0; 5]),
+    ];
+    for (packet, (answer, slot)) in made.iter().zip(answers) {
+        call.inputs[0] = packet.clone();
+        c.expect(&mut call, 0, |call| {
+            call.answer == answer && call.state[10..] == slot
+        })?;
+    }
+    let kept = call.lent[8_192..8_227] == message
+        && call.lent[..8_192].iter().all(|&byte| byte == 0xCC)
+        && call.lent[8_227..].iter().all(|&byte| byte == 0xCC);
+    c.hold(call.state == IDLE && kept, "the message received", &call)?;
+
+    let sizes = [
+        ("P5", 490, 244, vec![238, 241, 11]),
+        ("P6", 300, 262, vec![255, 45]),
+        ("P6", 300, 263, vec![256, 44]),
+    ];
+    for (name, size, room, pieces) in sizes {
+        c.at = format!("{name}, {size} bytes at room {room}");
+        let message = counting(size);
+        let mut place = 0;
+        for (index, piece) in pieces.iter().enumerate() {
+            let mut call = Call::new(Operation::PacketWrite)
+                .numbers(&[room, 0, 0, 0, 0, place as u64])
+                .inputs(&[&message])
+                .lent(blank(room as usize));
+            let header = if index == 0 { 6 } else { 3 } + usize::from(*piece > 255);
+            let answer = [(header + piece) as u64, (place + piece) as u64];
+            let extender = u8::from(*piece > 255);
+            c.expect(&mut call, 0, |call| {
+                call.answer == answer && call.lent[1] & 1 == extender
+            })?;
+            place += piece;
+        }
+        assert_eq!(place, size);
+    }
+
+    c.at = "P7".to_string();
+    // OTA is open with id 4, total 9, one byte held, last sequence 15.
+    let open = [0, 0, 0, 0, 0, 1, 4, 9, 1, 15, 0, 0, 0, 0, 0];
+    let mut call = receiver(&open).inputs(&[&bytes("24 04 02 AA BB")]);
+    c.expect(&mut call, 0, |call| {
+        call.answer == [0, 2, 4, 0, 0, 0, 0]
+            && call.state == [0, 0, 0, 0, 0, 1, 4, 9, 3, 0, 0, 0, 0, 0, 0]
+            && call.lent[4_096..4_100] == [0xCC, 0xAA, 0xBB, 0xCC]
+    })?;
+    let mut call = receiver(&open).inputs(&[&bytes("24 A4 02 AA BB")]);
+    c.expect(&mut call, 10, |call| {
+        call.state == IDLE && call.lent.iter().all(|&byte| byte == 0xCC)
+    })?;
+
+    c.at = "P8".to_string();
+    let cases = [
+        (0, 1, "61 0E 00 02 01 00"),
+        (0, 0, "61 0C 00 02 01 03"),
+        // "any sequence"
+        (11, 1, "61 BE 00 02 01 00"),
+        (15, 0, "61 FC 00 02 01 03"),
+    ];
+    for (sequence, positive, packet) in cases {
+        let packet = bytes(packet);
+        let mut call = Call::new(Operation::AckWrite)
+            .numbers(&[6, 1, sequence, positive])
+            .lent(blank(9));
+        c.expect(&mut call, 0, |call| wrote(call, &packet))?;
+        let mut call = receiver(&open).inputs(&[&packet]);
+        c.expect(&mut call, 0, |call| {
+            call.answer == [3 - positive, 6, 1, sequence, 0, 0, 0] && call.state == open
+        })?;
+    }
+
+    c.at = "P9".to_string();
+    let made = written(c, 20, [0, 0, 0, 0], &[])?;
+    let mut call = receiver(&IDLE).inputs(&[&[0; 6]]);
+    c.hold(made == [[0; 6]], "six zero bytes", &call)?;
+    c.expect(&mut call, 0, |call| {
+        call.answer == [1, 0, 0, 0, 0, 0, 0] && call.state == IDLE
+    })
+}
+
+fn messages(c: &mut Comparison<'_>) -> Compared<()> {
+    c.at = "P10".to_string();
+    for (command, error_code, message) in [(94, 0, "08 5E 4A 00"), (20, 3, "08 14 4A 02 08 03")] {
+        let message = bytes(message);
+        let mut call = Call::new(Operation::EnvelopeWrite)
+            .numbers(&[command, 1, error_code, 0])
+            .lent(blank(12));
+        c.expect(&mut call, 0, |call| wrote(call, &message))?;
+        let mut call = Call::new(Operation::EnvelopeRead).inputs(&[&message]);
+        c.expect(&mut call, 0, |call| {
+            call.answer == [command, 1, error_code, 0, 0, 0]
+        })?;
+    }
+    c.at = "P11".to_string();
+    let message = bytes("08 FF FF FF FF FF FF FF FF FF 01");
+    let mut call = Call::new(Operation::EnvelopeRead).inputs(&[&message]);
+    c.expect(&mut call, 0, |call| {
+        call.answer == [u64::MAX, 0, 0, 0, 0, 0]
+    })?;
+    let mut call = Call::new(Operation::EnvelopeWrite)
+        .numbers(&[u64::MAX, 0, 0, 0])
+        .lent(blank(12));
+    c.expect(&mut call, 0, |call| wrote(call, &message))
+}
+
+fn outbox(c: &mut Comparison<'_>) -> Compared<()> {
+    c.at = "P12".to_string();
+    let file = bytes("01 00 03 06 41 42");
+    let mut call = Call::new(Operation::OutboxRecord)
+        .numbers(&[1])
+        .inputs(&[&file]);
+    c.expect(&mut call, 0, |call| call.answer == [1, 6, 4, 2, 6, 0])?;
+    call.numbers = vec![6];
+    c.expect(&mut call, 0, |call| call.answer == [0; 6])?;
+    let mut call = Call::new(Operation::OutboxWhole).inputs(&[&file]);
+    c.expect(&mut call, 0, |call| call.answer == [0])?;
+    let mut call = Call::new(Operation::OutboxRecord)
+        .numbers(&[1])
+        .inputs(&[&file[..5]]);
+    c.expect(&mut call, 41, |call| call.answer == [0, 0, 0, 0, 0, 1])?;
+    let mut call = Call::new(Operation::OutboxWhole).inputs(&[&file[..5]]);
+    c.expect(&mut call, 41, |call| call.answer == [1])?;
+    let mut call = Call::new(Operation::OutboxNew).lent(blank(2));
+    c.expect(&mut call, 0, |call| wrote(call, &[1]))?;
+    let mut lent = blank(8);
+    lent[0] = 1;
+    let mut call = Call::new(Operation::OutboxAppend)
+        .numbers(&[1, 6])
+        .inputs(&[b"AB"])
+        .lent(lent);
+    c.expect(&mut call, 0, |call| {
+        call.answer == [6, 0] && call.lent.starts_with(&file) && call.lent[6..] == [0xCC, 0xCC]
+    })
+}
+
+/// "Slips we have seen".
+fn slips(c: &mut Comparison<'_>) -> Compared<()> {
+    c.at = "slip: waiting for F1 after a fresh F0".to_string();
+    let stream = bytes("F0 02 00 07 11 F0 02 00 08 00 02 F1");
+    feeds(c, &stream, &[(20, [0, 6, 0, 0]), (0, [2, 6, 8, 0])])?;
+
+    c.at = "slip: summing the escaped payload".to_string();
+    // F0 is F2 02 escaped, which would sum to F4 and give 00 F6.
+    let right = bytes("F0 02 00 05 F2 02 00 F2 00 F1");
+    let wrong = bytes("F0 02 00 05 F2 02 00 F6 F1");
+    feeds(c, &right, &[(0, [2, 10, 5, 1])])?;
+    feeds(c, &wrong, &[(25, [0, 9, 0, 0])])?;
+
+    c.at = "slip: leaving the checksum unescaped".to_string();
+    // 2 + EE is F0, which stands escaped in the checksum.
+    let mut call = Call::new(Operation::FrameWrite)
+        .numbers(&[1])
+        .inputs(&[&[0xEE]])
+        .lent(blank(20));
+    let right = bytes("F0 02 00 01 EE 00 F2 02 F1");
+    c.expect(&mut call, 0, |call| wrote(call, &right))?;
+    feeds(c, &right, &[(0, [2, 9, 1, 1])])?;
+    let wrong = bytes("F0 02 00 01 EE 00 F0 F1");
+    feeds(c, &wrong, &[(20, [0, 7, 0, 0]), (21, [0, 1, 0, 0])])?;
+
+    c.at = "slip: refusing an extender on a length of 200".to_string();
+    let piece = counting(200);
+    let packet = [bytes("65 01 00 00 C8 00 C8"), piece.clone()].concat();
+    let mut call = receiver(&IDLE).inputs(&[&packet]);
+    c.expect(&mut call, 0, |call| {
+        call.answer == [1, 6, 5, 0, 200, 0, 0] && call.lent[8_192..8_392] == piece
+    })?;
+    let open = [0, 0, 0, 0, 0, 0, 0, 0, 0, 0, 1, 5, 300, 7, 3];
+    let packet = [bytes("65 45 00 C8"), piece.clone()].concat();
+    let mut call = receiver(&open).inputs(&[&packet]);
+    c.expect(&mut call, 0, |call| {
+        call.answer == [0, 6, 5, 0, 0, 0, 0]
+            && call.state[10..] == [1, 5, 300, 207, 4]
+            && call.lent[8_199..8_399] == piece
+    })?;
+
+    c.at = "slip: giving a first packet of 14 of 35 bytes as finished".to_string();
+    let packet = [bytes("61 02 00 00 23 0E"), counting(14)].concat();
+    let mut call = receiver(&IDLE).inputs(&[&packet]);
+    c.expect(&mut call, 0, |call| {
+        call.answer == [0, 6, 1, 0, 0, 0, 0] && call.state[10..] == [1, 1, 35, 14, 0]
+    })
+}

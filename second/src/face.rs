@@ -1,0 +1,573 @@
+//! The face of the model: every operation on rows of numbers and byte slices.
+//!
+//! All that is a convention and not the paper's stands here: the order of the rows, the numbers of
+//! outcomes, signed numbers in 64 bits, and what an answer row holds after a refusal.
+//!
+//! - A row of the wrong length, and numbers that no state can have, are refused by 1, and nothing
+//!   changes: neither state, lent bytes nor answer.
+//! - Every other call writes the whole answer row. After a refusal it is 0 throughout, but for what
+//!   the paper tells then: the number used by `feed`, and the place that goes with 41.
+//! - Signed 32-bit numbers stand in two's complement, extended to 64 bits. A number that is no such
+//!   one is out of a writer's range, 15; so is a wish other than 0 or 1.
+
+use crate::classic::{self, Decided, Extractor, Outcome};
+use crate::control::{self, Envelope, Features, Given, Information, Member, Payload, Response};
+use crate::implementation::{Implementation, Operation};
+use crate::low_energy::{self, Accepted, Open, Slots, Stream, Wish};
+use crate::outbox::{self, Broken, Record};
+use crate::refusal::Refusal;
+use std::ops::Range;
+
+/// The model behind its face.
+pub struct Model;
+
+impl Implementation for Model {
+    fn name(&self) -> &str {
+        "second"
+    }
+
+    fn call(
+        &self,
+        operation: Operation,
+        numbers: &[u64],
+        inputs: &[Vec<u8>],
+        state: &mut [u64],
+        lent: &mut [u8],
+        answer: &mut [u64],
+    ) -> u64 {
+        match operation {
+            Operation::ExtractorStep => extractor_step(state, lent, numbers[0] as u8, answer),
+            Operation::ExtractorFeed => extractor_feed(state, lent, &inputs[0], answer),
+            Operation::FrameWrite => frame_write(numbers[0], &inputs[0], lent, answer),
+            Operation::NextSequence => next_sequence(numbers[0] as u8, answer),
+            Operation::PacketWrite => {
+                let [room, stream, id, sequence, ack, place] = numbers else {
+                    panic!("six numbers")
+                };
+                let wish = [*stream, *id, *sequence, *ack];
+                packet_write(*room, wish, &inputs[0], *place, lent, answer)
+            }
+            Operation::AckWrite => {
+                let [stream, id, sequence, positive] = numbers else {
+                    panic!("four numbers")
+                };
+                ack_write([*stream, *id, *sequence, *positive], lent, answer)
+            }
+            Operation::ReceiverAccept => receiver_accept(state, lent, &inputs[0], answer),
+            Operation::EnvelopeRead => envelope_read(&inputs[0], answer),
+            Operation::EnvelopeWrite => {
+                let [command, payload, error_code, field] = numbers else {
+                    panic!("four numbers")
+                };
+                let numbers = [*command, *payload, *error_code, *field];
+                envelope_write(numbers, &inputs[0], lent, answer)
+            }
+            Operation::ResponseRead => response_read(&inputs[0], answer),
+            Operation::ResponseWrite => {
+                response_write(numbers[0], numbers[1], &inputs[0], lent, answer)
+            }
+            Operation::InformationRead => information_read(&inputs[0], answer),
+            Operation::InformationWrite => {
+                let [serial_number, name, device_type] = inputs else {
+                    panic!("three inputs")
+                };
+                information_write(serial_number, name, device_type, numbers, lent, answer)
+            }
+            Operation::FeaturesRead => features_read(&inputs[0], answer),
+            Operation::FeaturesWrite => features_write(numbers[0], numbers[1], lent, answer),
+            Operation::OutboxNew => outbox_new(lent, answer),
+            Operation::OutboxAppend => {
+                outbox_append(lent, numbers[0], numbers[1], &inputs[0], answer)
+            }
+            Operation::OutboxRecord => outbox_record(&inputs[0], numbers[0], answer),
+            Operation::OutboxWhole => outbox_whole(&inputs[0], answer),
+        }
+    }
+}
+
+/// A refusal with the place in the answer row and the number that go with it, if any does.
+struct Refused(Refusal, Option<(usize, u64)>);
+
+impl From<Refusal> for Refused {
+    fn from(refusal: Refusal) -> Refused {
+        Refused(refusal, None)
+    }
+}
+
+/// Does the work, lays what it tells into the answer row, and gives what the function returns. A
+/// row of another length is refused before anything can change.
+fn ask<const N: usize>(
+    answer: &mut [u64],
+    work: impl FnOnce() -> Result<[u64; N], Refused>,
+) -> u64 {
+    if answer.len() != N {
+        return Refusal::Lent.number();
+    }
+    match work() {
+        Ok(row) => {
+            answer.copy_from_slice(&row);
+            0
+        }
+        Err(Refused(Refusal::Lent, _)) => Refusal::Lent.number(),
+        Err(Refused(refusal, told)) => {
+            answer.fill(0);
+            if let Some((place, number)) = told {
+                answer[place] = number;
+            }
+            refusal.number()
+        }
+    }
+}
+
+fn wide(number: usize) -> u64 {
+    number as u64
+}
+
+/// A signed number in a row.
+pub fn signed_out(number: i32) -> u64 {
+    i64::from(number) as u64
+}
+
+/// A signed number from a row.
+fn signed_in(number: u64) -> Result<i32, Refusal> {
+    i32::try_from(number as i64).map_err(|_| Refusal::Argument)
+}
+
+/// A wish from a row.
+fn wish_in(number: u64) -> Option<bool> {
+    match number {
+        0 => Some(false),
+        1 => Some(true),
+        _ => None,
+    }
+}
+
+/// Four bits from a row.
+fn four_bits_in(number: u64) -> Option<u8> {
+    u8::try_from(number).ok().filter(|&number| number < 16)
+}
+
+/// `phase, sequence, held`: phases are 0 outside, 1 to 3 before packet id, error id and sequence
+/// byte, 4 in the body, 5 after F2.
+fn extractor_in(row: &[u64]) -> Option<Extractor> {
+    let [phase, sequence, held] = *row else {
+        return None;
+    };
+    let state = match (phase, sequence, held) {
+        (0, 0, 0) => Extractor::Outside,
+        (1, 0, 0) => Extractor::PacketId,
+        (2, 0, 0) => Extractor::ErrorId,
+        (3, 0, 0) => Extractor::Sequence,
+        (4 | 5, _, _) => Extractor::Body {
+            sequence: sequence.try_into().ok()?,
+            held: held.try_into().ok()?,
+            escape: phase == 5,
+        },
+        _ => return None,
+    };
+    Some(state).filter(|state| state.is_lawful())
+}
+
+fn extractor_out(state: Extractor) -> [u64; 3] {
+    match state {
+        Extractor::Outside => [0, 0, 0],
+        Extractor::PacketId => [1, 0, 0],
+        Extractor::ErrorId => [2, 0, 0],
+        Extractor::Sequence => [3, 0, 0],
+        Extractor::Body {
+            sequence,
+            held,
+            escape,
+        } => [4 + u64::from(escape), u64::from(sequence), wide(held)],
+    }
+}
+
+/// State `phase, sequence, held`; answer `outcome, sequence, length` with outcome 0 skipped,
+/// 1 taken, 2 frame.
+pub fn extractor_step(state: &mut [u64], buffer: &mut [u8], byte: u8, answer: &mut [u64]) -> u64 {
+    ask(answer, || {
+        let (after, told) = extractor_in(state).ok_or(Refusal::Lent)?.step(buffer, byte);
+        state.copy_from_slice(&extractor_out(after));
+        Ok(match told? {
+            Outcome::Skipped => [0, 0, 0],
+            Outcome::Taken => [1, 0, 0],
+            Outcome::Frame { sequence, length } => [2, u64::from(sequence), wide(length)],
+        })
+    })
+}
+
+/// State as for a step; answer `outcome, used, sequence, length` with outcome 0 all used, 2 frame.
+/// After a refusal of a byte it is `0, used, 0, 0`.
+pub fn extractor_feed(
+    state: &mut [u64],
+    buffer: &mut [u8],
+    bytes: &[u8],
+    answer: &mut [u64],
+) -> u64 {
+    ask(answer, || {
+        let (after, used, decided) = extractor_in(state)
+            .ok_or(Refusal::Lent)?
+            .feed(buffer, bytes);
+        state.copy_from_slice(&extractor_out(after));
+        match decided {
+            Decided::AllUsed => Ok([0, wide(used), 0, 0]),
+            Decided::Frame { sequence, length } => {
+                Ok([2, wide(used), u64::from(sequence), wide(length)])
+            }
+            Decided::Refused(refusal) => Err(Refused(refusal, Some((1, wide(used))))),
+        }
+    })
+}
+
+/// Answer `written`.
+pub fn frame_write(sequence: u64, payload: &[u8], output: &mut [u8], answer: &mut [u64]) -> u64 {
+    ask(answer, || {
+        let sequence = u8::try_from(sequence).map_err(|_| Refusal::Argument)?;
+        let written = classic::write_frame(sequence, payload, output)?;
+        Ok([wide(written)])
+    })
+}
+
+/// Answer `next`.
+pub fn next_sequence(sequence: u8, answer: &mut [u64]) -> u64 {
+    ask(answer, || Ok([u64::from(classic::next_sequence(sequence))]))
+}
+
+/// `stream, id, sequence, wish`, if they are in their ranges.
+fn wish_row_in(row: [u64; 4]) -> Option<Wish> {
+    let [stream, id, sequence, ack] = row;
+    Some(Wish {
+        stream: Stream::of(stream)?,
+        id: four_bits_in(id)?,
+        sequence: four_bits_in(sequence)?,
+        ack: wish_in(ack)?,
+    })
+}
+
+/// Answer `written, next place`.
+pub fn packet_write(
+    room: u64,
+    wish: [u64; 4],
+    message: &[u8],
+    place: u64,
+    output: &mut [u8],
+    answer: &mut [u64],
+) -> u64 {
+    ask(answer, || {
+        let wish = wish_row_in(wish);
+        let (written, next) = low_energy::write_packet(room, wish, message, place, output)?;
+        Ok([wide(written), wide(next)])
+    })
+}
+
+/// Answer `written`.
+pub fn ack_write(wish: [u64; 4], output: &mut [u8], answer: &mut [u64]) -> u64 {
+    ask(answer, || {
+        let wish = wish_row_in(wish).ok_or(Refusal::Argument)?;
+        let made = low_energy::acknowledgement(wish.stream, wish.id, wish.sequence, wish.ack);
+        let written = crate::refusal::deliver(&made, output)?;
+        Ok([wide(written)])
+    })
+}
+
+/// Five numbers for each slot, control, OTA, Alexa: `open, id, total, held, sequence`; "a lawful
+/// idle slot's numbers are all 0".
+fn slots_in(row: &[u64]) -> Option<Slots> {
+    let slot = |row: &[u64]| match *row {
+        [0, 0, 0, 0, 0] => Some(None),
+        [1, id, total, held, sequence] => {
+            let open = Open {
+                id: id.try_into().ok()?,
+                total: total.try_into().ok()?,
+                held: held.try_into().ok()?,
+                sequence: sequence.try_into().ok()?,
+            };
+            open.is_lawful().then_some(Some(open))
+        }
+        _ => None,
+    };
+    let slots: Vec<Option<Open>> = row.chunks(5).map(slot).collect::<Option<_>>()?;
+    slots.try_into().ok()
+}
+
+fn slots_out(slots: &Slots) -> Vec<u64> {
+    slots
+        .iter()
+        .flat_map(|slot| match *slot {
+            None => [0; 5],
+            Some(open) => [
+                1,
+                u64::from(open.id),
+                wide(open.total),
+                wide(open.held),
+                u64::from(open.sequence),
+            ],
+        })
+        .collect()
+}
+
+/// Answer `outcome, stream, id, sequence, total, ack wanted, dropped` with outcome 0 a piece held and
+/// more to come, 1 finished, 2 ACK, 3 NACK. The sequence is the packet's own and told with 2 and 3
+/// only, total and ACK wanted with 1 only, dropped with 0 and 1 only; else they are 0.
+pub fn receiver_accept(
+    state: &mut [u64],
+    buffer: &mut [u8],
+    packet: &[u8],
+    answer: &mut [u64],
+) -> u64 {
+    ask(answer, || {
+        let slots = slots_in(state).ok_or(Refusal::Lent)?;
+        let (after, told) = low_energy::accept(slots, buffer, packet);
+        state.copy_from_slice(&slots_out(&after));
+        let of = |stream: Stream| u64::from(stream.number());
+        Ok(match told? {
+            Accepted::Held {
+                stream,
+                id,
+                dropped,
+            } => [0, of(stream), u64::from(id), 0, 0, 0, u64::from(dropped)],
+            Accepted::Finished {
+                stream,
+                id,
+                total,
+                ack_wanted,
+                dropped,
+            } => [
+                1,
+                of(stream),
+                u64::from(id),
+                0,
+                wide(total),
+                u64::from(ack_wanted),
+                u64::from(dropped),
+            ],
+            Accepted::Acknowledgement {
+                stream,
+                id,
+                sequence,
+                positive,
+            } => [
+                if positive { 2 } else { 3 },
+                of(stream),
+                u64::from(id),
+                u64::from(sequence),
+                0,
+                0,
+                0,
+            ],
+        })
+    })
+}
+
+/// `start, length`
+fn part_out(part: &Range<usize>) -> [u64; 2] {
+    [wide(part.start), wide(part.len())]
+}
+
+/// `field, start, length`, all 0 for none.
+fn member_out(member: Option<&Member>) -> [u64; 3] {
+    member.map_or([0; 3], |member| {
+        let [start, length] = part_out(&member.part);
+        [member.field, start, length]
+    })
+}
+
+/// Answer `command, payload, error_code, field, start, length` with payload 0 none, 1 a response,
+/// 2 another member. The last three are the member's, or those of the response's payload.
+pub fn envelope_read(message: &[u8], answer: &mut [u64]) -> u64 {
+    ask(answer, || {
+        let told = Envelope::read(message)?;
+        let (payload, error_code, member) = match &told.payload {
+            Payload::None => (0, 0, None),
+            Payload::Response(response) => (1, response.error_code, response.member.as_ref()),
+            Payload::Other(member) => (2, 0, Some(member)),
+        };
+        let [field, start, length] = member_out(member);
+        Ok([
+            signed_out(told.command),
+            payload,
+            signed_out(error_code),
+            field,
+            start,
+            length,
+        ])
+    })
+}
+
+/// A response's payload: none if the field number is 0.
+fn member_in(field: u64, bytes: &[u8]) -> Option<(u64, &[u8])> {
+    (field != 0).then_some((field, bytes))
+}
+
+/// Numbers `command, payload, error_code, field` with payload as for reading; answer `written`.
+/// What the payload does not need is not looked at: error code, field and bytes with none, the
+/// error code with another member, the bytes of a response with field 0.
+pub fn envelope_write(
+    numbers: [u64; 4],
+    member: &[u8],
+    output: &mut [u8],
+    answer: &mut [u64],
+) -> u64 {
+    ask(answer, || {
+        let [command, payload, error_code, field] = numbers;
+        let command = signed_in(command)?;
+        let payload = match payload {
+            0 => Given::None,
+            1 => Given::Response {
+                error_code: signed_in(error_code)?,
+                member: member_in(field, member),
+            },
+            2 => Given::Other {
+                field,
+                bytes: member,
+            },
+            _ => return Err(Refusal::Argument.into()),
+        };
+        Ok([wide(control::write_envelope(command, payload, output)?)])
+    })
+}
+
+/// Answer `error_code, field, start, length`.
+pub fn response_read(message: &[u8], answer: &mut [u64]) -> u64 {
+    ask(answer, || {
+        let told = Response::read(message)?;
+        let [field, start, length] = member_out(told.member.as_ref());
+        Ok([signed_out(told.error_code), field, start, length])
+    })
+}
+
+/// Answer `written`; field 0 is no payload.
+pub fn response_write(
+    error_code: u64,
+    field: u64,
+    member: &[u8],
+    output: &mut [u8],
+    answer: &mut [u64],
+) -> u64 {
+    ask(answer, || {
+        let error_code = signed_in(error_code)?;
+        let written = control::write_response(error_code, member_in(field, member), output)?;
+        Ok([wide(written)])
+    })
+}
+
+/// Answer `serial_number.start, .length, name.start, .length, device_type.start, .length,
+/// transports` and eight transports, 0 where there are fewer.
+pub fn information_read(message: &[u8], answer: &mut [u64]) -> u64 {
+    ask(answer, || {
+        let told = Information::read(message)?;
+        let parts = [&told.serial_number, &told.name, &told.device_type];
+        let mut row = [0; 15];
+        let numbers = parts
+            .into_iter()
+            .flat_map(part_out)
+            .chain([wide(told.transports.len())])
+            .chain(told.transports.iter().copied().map(signed_out));
+        row.iter_mut()
+            .zip(numbers)
+            .for_each(|(cell, number)| *cell = number);
+        Ok(row)
+    })
+}
+
+/// Answer `written`.
+pub fn information_write(
+    serial_number: &[u8],
+    name: &[u8],
+    device_type: &[u8],
+    transports: &[u64],
+    output: &mut [u8],
+    answer: &mut [u64],
+) -> u64 {
+    ask(answer, || {
+        let transports: Vec<i32> = transports
+            .iter()
+            .copied()
+            .map(signed_in)
+            .collect::<Result<_, _>>()?;
+        let written =
+            control::write_information(serial_number, name, &transports, device_type, output)?;
+        Ok([wide(written)])
+    })
+}
+
+/// Answer `features, device_attributes`.
+pub fn features_read(message: &[u8], answer: &mut [u64]) -> u64 {
+    ask(answer, || {
+        let told = Features::read(message)?;
+        Ok([told.features, told.device_attributes])
+    })
+}
+
+/// Answer `written`.
+pub fn features_write(
+    features: u64,
+    device_attributes: u64,
+    output: &mut [u8],
+    answer: &mut [u64],
+) -> u64 {
+    ask(answer, || {
+        let told = Features {
+            features,
+            device_attributes,
+        };
+        Ok([wide(control::write_features(told, output)?)])
+    })
+}
+
+/// Answer `used`.
+pub fn outbox_new(output: &mut [u8], answer: &mut [u64]) -> u64 {
+    ask(answer, || Ok([wide(outbox::new(output)?)]))
+}
+
+/// A refusal of outbox bytes; the place that goes with 41 stands in the row's last number.
+fn broken_out<const N: usize>(broken: Broken) -> Refused {
+    let told = broken.place.map(|place| (N - 1, wide(place)));
+    Refused(broken.refusal, told)
+}
+
+/// Answer `used, cut place`.
+pub fn outbox_append(
+    buffer: &mut [u8],
+    used: u64,
+    stream: u64,
+    payload: &[u8],
+    answer: &mut [u64],
+) -> u64 {
+    ask(answer, || {
+        let used = outbox::append(buffer, used, stream, payload).map_err(broken_out::<2>)?;
+        Ok([wide(used), 0])
+    })
+}
+
+/// Answer `outcome, stream, start, length, next, cut place` with outcome 0 the end, 1 a record.
+pub fn outbox_record(bytes: &[u8], place: u64, answer: &mut [u64]) -> u64 {
+    ask(answer, || {
+        Ok(
+            match outbox::record(bytes, place).map_err(broken_out::<6>)? {
+                None => [0; 6],
+                Some(Record {
+                    stream,
+                    start,
+                    length,
+                    next,
+                }) => [
+                    1,
+                    u64::from(stream.number()),
+                    wide(start),
+                    wide(length),
+                    wide(next),
+                    0,
+                ],
+            },
+        )
+    })
+}
+
+/// Answer `cut place`.
+pub fn outbox_whole(bytes: &[u8], answer: &mut [u64]) -> u64 {
+    ask(answer, || {
+        outbox::whole(bytes).map_err(broken_out::<1>)?;
+        Ok([0])
+    })
+}

@@ -1,0 +1,351 @@
+//! What every implementation offers: one call for each operation, on rows of numbers and lent
+//! bytes only, so that two implementations can be run side by side and compared number by number
+//! and byte by byte.
+
+/// The operations.
+#[derive(Clone, Copy, Debug, PartialEq, Eq, PartialOrd, Ord)]
+pub enum Operation {
+    ExtractorStep,
+    ExtractorFeed,
+    FrameWrite,
+    NextSequence,
+    PacketWrite,
+    AckWrite,
+    ReceiverAccept,
+    EnvelopeRead,
+    EnvelopeWrite,
+    ResponseRead,
+    ResponseWrite,
+    InformationRead,
+    InformationWrite,
+    FeaturesRead,
+    FeaturesWrite,
+    OutboxNew,
+    OutboxAppend,
+    OutboxRecord,
+    OutboxWhole,
+}
+
+/// The rows of an operation, for building calls and for printing them.
+pub struct Shape {
+    pub name: &'static str,
+    /// Numbers given by value (or, for the transports, as a row of any length).
+    pub numbers: &'static [&'static str],
+    /// Bytes that are only read.
+    pub inputs: &'static [&'static str],
+    /// The row that goes in and out.
+    pub state: &'static [&'static str],
+    /// The row that goes out.
+    pub answer: &'static [&'static str],
+    /// The bytes that are lent for writing.
+    pub lent: &'static str,
+    /// What the operation can return, 0 for success.
+    pub returns: &'static [u64],
+}
+
+const EXTRACTOR: &[&str] = &["phase", "sequence", "held"];
+const RECEIVER: &[&str] = &[
+    "control.open",
+    "control.id",
+    "control.total",
+    "control.held",
+    "control.sequence",
+    "ota.open",
+    "ota.id",
+    "ota.total",
+    "ota.held",
+    "ota.sequence",
+    "alexa.open",
+    "alexa.id",
+    "alexa.total",
+    "alexa.held",
+    "alexa.sequence",
+];
+const INFORMATION: &[&str] = &[
+    "serial_number.start",
+    "serial_number.length",
+    "name.start",
+    "name.length",
+    "device_type.start",
+    "device_type.length",
+    "transports",
+    "transport 0",
+    "transport 1",
+    "transport 2",
+    "transport 3",
+    "transport 4",
+    "transport 5",
+    "transport 6",
+    "transport 7",
+];
+const MESSAGE_READ: &[u64] = &[0, 1, 30, 31, 32, 33, 34];
+
+impl Operation {
+    pub const ALL: [Operation; 19] = [
+        Operation::ExtractorStep,
+        Operation::ExtractorFeed,
+        Operation::FrameWrite,
+        Operation::NextSequence,
+        Operation::PacketWrite,
+        Operation::AckWrite,
+        Operation::ReceiverAccept,
+        Operation::EnvelopeRead,
+        Operation::EnvelopeWrite,
+        Operation::ResponseRead,
+        Operation::ResponseWrite,
+        Operation::InformationRead,
+        Operation::InformationWrite,
+        Operation::FeaturesRead,
+        Operation::FeaturesWrite,
+        Operation::OutboxNew,
+        Operation::OutboxAppend,
+        Operation::OutboxRecord,
+        Operation::OutboxWhole,
+    ];
+
+    pub fn shape(self) -> Shape {
+        let empty = Shape {
+            name: "",
+            numbers: &[],
+            inputs: &[],
+            state: &[],
+            answer: &[],
+            lent: "nothing",
+            returns: &[],
+        };
+        match self {
+            Operation::ExtractorStep => Shape {
+                name: "extractor step",
+                numbers: &["byte"],
+                state: EXTRACTOR,
+                answer: &["outcome", "sequence", "length"],
+                lent: "buffer",
+                returns: &[0, 1, 20, 21, 22, 23, 24, 25],
+                ..empty
+            },
+            Operation::ExtractorFeed => Shape {
+                name: "extractor feed",
+                inputs: &["bytes"],
+                state: EXTRACTOR,
+                answer: &["outcome", "used", "sequence", "length"],
+                lent: "buffer",
+                returns: &[0, 1, 20, 21, 22, 23, 24, 25],
+                ..empty
+            },
+            Operation::FrameWrite => Shape {
+                name: "frame write",
+                numbers: &["sequence"],
+                inputs: &["payload"],
+                answer: &["written"],
+                lent: "output",
+                returns: &[0, 1, 14, 15],
+                ..empty
+            },
+            Operation::NextSequence => Shape {
+                name: "next sequence",
+                numbers: &["sequence"],
+                answer: &["next"],
+                returns: &[0, 1],
+                ..empty
+            },
+            Operation::PacketWrite => Shape {
+                name: "packet write",
+                numbers: &["room", "stream", "id", "sequence", "ack wanted", "place"],
+                inputs: &["message"],
+                answer: &["written", "next place"],
+                lent: "output",
+                returns: &[0, 1, 13, 14, 15],
+                ..empty
+            },
+            Operation::AckWrite => Shape {
+                name: "ack write",
+                numbers: &["stream", "id", "sequence", "positive"],
+                answer: &["written"],
+                lent: "output",
+                returns: &[0, 1, 14, 15],
+                ..empty
+            },
+            Operation::ReceiverAccept => Shape {
+                name: "receiver accept",
+                inputs: &["packet"],
+                state: RECEIVER,
+                answer: &[
+                    "outcome",
+                    "stream",
+                    "id",
+                    "sequence",
+                    "total",
+                    "ack wanted",
+                    "dropped",
+                ],
+                lent: "buffer",
+                returns: &[0, 1, 2, 3, 4, 5, 6, 7, 8, 9, 10, 11, 12],
+                ..empty
+            },
+            Operation::EnvelopeRead => Shape {
+                name: "envelope read",
+                inputs: &["message"],
+                answer: &[
+                    "command",
+                    "payload",
+                    "error_code",
+                    "field",
+                    "start",
+                    "length",
+                ],
+                returns: MESSAGE_READ,
+                ..empty
+            },
+            Operation::EnvelopeWrite => Shape {
+                name: "envelope write",
+                numbers: &["command", "payload", "error_code", "field"],
+                inputs: &["member"],
+                answer: &["written"],
+                lent: "output",
+                returns: &[0, 1, 14, 15],
+                ..empty
+            },
+            Operation::ResponseRead => Shape {
+                name: "response read",
+                inputs: &["message"],
+                answer: &["error_code", "field", "start", "length"],
+                returns: MESSAGE_READ,
+                ..empty
+            },
+            Operation::ResponseWrite => Shape {
+                name: "response write",
+                numbers: &["error_code", "field"],
+                inputs: &["member"],
+                answer: &["written"],
+                lent: "output",
+                returns: &[0, 1, 14, 15],
+                ..empty
+            },
+            Operation::InformationRead => Shape {
+                name: "information read",
+                inputs: &["message"],
+                answer: INFORMATION,
+                returns: MESSAGE_READ,
+                ..empty
+            },
+            Operation::InformationWrite => Shape {
+                name: "information write",
+                numbers: &["transports..."],
+                inputs: &["serial_number", "name", "device_type"],
+                answer: &["written"],
+                lent: "output",
+                returns: &[0, 1, 14, 15],
+                ..empty
+            },
+            Operation::FeaturesRead => Shape {
+                name: "features read",
+                inputs: &["message"],
+                answer: &["features", "device_attributes"],
+                // No member and no transport: nothing is too many.
+                returns: &[0, 1, 30, 31, 32, 33],
+                ..empty
+            },
+            Operation::FeaturesWrite => Shape {
+                name: "features write",
+                numbers: &["features", "device_attributes"],
+                answer: &["written"],
+                lent: "output",
+                returns: &[0, 1, 14],
+                ..empty
+            },
+            Operation::OutboxNew => Shape {
+                name: "outbox new",
+                answer: &["used"],
+                lent: "output",
+                returns: &[0, 1, 14],
+                ..empty
+            },
+            Operation::OutboxAppend => Shape {
+                name: "outbox append",
+                numbers: &["used", "stream"],
+                inputs: &["payload"],
+                answer: &["used", "cut place"],
+                lent: "buffer",
+                returns: &[0, 1, 14, 15, 40, 41, 42, 43],
+                ..empty
+            },
+            Operation::OutboxRecord => Shape {
+                name: "outbox record",
+                numbers: &["place"],
+                inputs: &["bytes"],
+                answer: &["outcome", "stream", "start", "length", "next", "cut place"],
+                returns: &[0, 1, 15, 40, 41, 42, 43],
+                ..empty
+            },
+            Operation::OutboxWhole => Shape {
+                name: "outbox whole",
+                inputs: &["bytes"],
+                answer: &["cut place"],
+                returns: &[0, 1, 40, 41, 42, 43],
+                ..empty
+            },
+        }
+    }
+}
+
+/// Somebody who answers calls.
+pub trait Implementation {
+    fn name(&self) -> &str;
+
+    /// One call: returns 0 or the refusal number; `state`, `lent` and `answer` are what it left.
+    fn call(
+        &self,
+        operation: Operation,
+        numbers: &[u64],
+        inputs: &[Vec<u8>],
+        state: &mut [u64],
+        lent: &mut [u8],
+        answer: &mut [u64],
+    ) -> u64;
+}
+
+/// A call with everything that goes into it.
+#[derive(Clone, Debug)]
+pub struct Call {
+    pub operation: Operation,
+    pub numbers: Vec<u64>,
+    pub inputs: Vec<Vec<u8>>,
+    pub state: Vec<u64>,
+    pub lent: Vec<u8>,
+    pub answer: Vec<u64>,
+}
+
+impl Call {
+    /// A call with rows of the right lengths, all 0, and no bytes.
+    pub fn new(operation: Operation) -> Call {
+        let shape = operation.shape();
+        Call {
+            operation,
+            numbers: vec![0; shape.numbers.len()],
+            inputs: vec![Vec::new(); shape.inputs.len()],
+            state: vec![0; shape.state.len()],
+            lent: Vec::new(),
+            answer: vec![0; shape.answer.len()],
+        }
+    }
+
+    pub fn numbers(mut self, numbers: &[u64]) -> Call {
+        self.numbers = numbers.to_vec();
+        self
+    }
+
+    pub fn inputs(mut self, inputs: &[&[u8]]) -> Call {
+        self.inputs = inputs.iter().map(|bytes| bytes.to_vec()).collect();
+        self
+    }
+
+    pub fn lent(mut self, lent: Vec<u8>) -> Call {
+        self.lent = lent;
+        self
+    }
+
+    pub fn state(mut self, state: &[u64]) -> Call {
+        self.state = state.to_vec();
+        self
+    }
+}

@@ -1,0 +1,289 @@
+//! The verified library, through its C interface (include/pitokaenge.h): the archive that
+//! `rt staticlib capi` writes, linked with the feature `library`.
+
+use crate::implementation::{Implementation, Operation};
+
+// A slice passes as a pointer and then a length.
+#[link(name = "capi", kind = "static")]
+extern "C" {
+    fn pito_extractor_step(
+        state: *mut u64,
+        states: usize,
+        buffer: *mut u8,
+        size: usize,
+        byte: u8,
+        answer: *mut u64,
+        answers: usize,
+    ) -> u64;
+    fn pito_extractor_feed(
+        state: *mut u64,
+        states: usize,
+        buffer: *mut u8,
+        size: usize,
+        bytes: *const u8,
+        length: usize,
+        answer: *mut u64,
+        answers: usize,
+    ) -> u64;
+    fn pito_frame_write(
+        sequence: u64,
+        payload: *const u8,
+        length: usize,
+        output: *mut u8,
+        size: usize,
+        answer: *mut u64,
+        answers: usize,
+    ) -> u64;
+    fn pito_next_sequence(sequence: u8, answer: *mut u64, answers: usize) -> u64;
+    fn pito_packet_write(
+        room: u64,
+        stream: u64,
+        id: u64,
+        sequence: u64,
+        ack: u64,
+        message: *const u8,
+        length: usize,
+        place: u64,
+        output: *mut u8,
+        size: usize,
+        answer: *mut u64,
+        answers: usize,
+    ) -> u64;
+    fn pito_ack_write(
+        stream: u64,
+        id: u64,
+        sequence: u64,
+        positive: u64,
+        output: *mut u8,
+        size: usize,
+        answer: *mut u64,
+        answers: usize,
+    ) -> u64;
+    fn pito_receiver_accept(
+        state: *mut u64,
+        states: usize,
+        buffer: *mut u8,
+        size: usize,
+        packet: *const u8,
+        length: usize,
+        answer: *mut u64,
+        answers: usize,
+    ) -> u64;
+    fn pito_envelope_read(
+        message: *const u8,
+        length: usize,
+        answer: *mut u64,
+        answers: usize,
+    ) -> u64;
+    fn pito_envelope_write(
+        command: u64,
+        payload: u64,
+        error_code: u64,
+        field: u64,
+        bytes: *const u8,
+        length: usize,
+        output: *mut u8,
+        size: usize,
+        answer: *mut u64,
+        answers: usize,
+    ) -> u64;
+    fn pito_response_read(
+        message: *const u8,
+        length: usize,
+        answer: *mut u64,
+        answers: usize,
+    ) -> u64;
+    fn pito_response_write(
+        error_code: u64,
+        field: u64,
+        bytes: *const u8,
+        length: usize,
+        output: *mut u8,
+        size: usize,
+        answer: *mut u64,
+        answers: usize,
+    ) -> u64;
+    fn pito_information_read(
+        message: *const u8,
+        length: usize,
+        answer: *mut u64,
+        answers: usize,
+    ) -> u64;
+    fn pito_information_write(
+        serial_number: *const u8,
+        serial_number_length: usize,
+        name: *const u8,
+        name_length: usize,
+        device_type: *const u8,
+        device_type_length: usize,
+        transports: *const u64,
+        transports_length: usize,
+        output: *mut u8,
+        size: usize,
+        answer: *mut u64,
+        answers: usize,
+    ) -> u64;
+    fn pito_features_read(
+        message: *const u8,
+        length: usize,
+        answer: *mut u64,
+        answers: usize,
+    ) -> u64;
+    fn pito_features_write(
+        features: u64,
+        device_attributes: u64,
+        output: *mut u8,
+        size: usize,
+        answer: *mut u64,
+        answers: usize,
+    ) -> u64;
+    fn pito_outbox_new(output: *mut u8, size: usize, answer: *mut u64, answers: usize) -> u64;
+    fn pito_outbox_append(
+        buffer: *mut u8,
+        size: usize,
+        used: u64,
+        stream: u64,
+        payload: *const u8,
+        length: usize,
+        answer: *mut u64,
+        answers: usize,
+    ) -> u64;
+    fn pito_outbox_record(
+        bytes: *const u8,
+        length: usize,
+        place: u64,
+        answer: *mut u64,
+        answers: usize,
+    ) -> u64;
+    fn pito_outbox_whole(bytes: *const u8, length: usize, answer: *mut u64, answers: usize) -> u64;
+}
+
+/// The library behind its C interface.
+pub struct Library;
+
+impl Implementation for Library {
+    fn name(&self) -> &str {
+        "library"
+    }
+
+    fn call(
+        &self,
+        operation: Operation,
+        numbers: &[u64],
+        inputs: &[Vec<u8>],
+        state: &mut [u64],
+        lent: &mut [u8],
+        answer: &mut [u64],
+    ) -> u64 {
+        let (row, rows) = (state.as_mut_ptr(), state.len());
+        let (bytes, size) = (lent.as_mut_ptr(), lent.len());
+        let (told, tells) = (answer.as_mut_ptr(), answer.len());
+        let input = |place: usize| (inputs[place].as_ptr(), inputs[place].len());
+        // Every pointer comes from a slice that outlives the call, with that slice's length.
+        unsafe {
+            match operation {
+                Operation::ExtractorStep => {
+                    pito_extractor_step(row, rows, bytes, size, numbers[0] as u8, told, tells)
+                }
+                Operation::ExtractorFeed => {
+                    let (given, length) = input(0);
+                    pito_extractor_feed(row, rows, bytes, size, given, length, told, tells)
+                }
+                Operation::FrameWrite => {
+                    let (payload, length) = input(0);
+                    pito_frame_write(numbers[0], payload, length, bytes, size, told, tells)
+                }
+                Operation::NextSequence => pito_next_sequence(numbers[0] as u8, told, tells),
+                Operation::PacketWrite => {
+                    let [room, stream, id, sequence, ack, place] = *numbers else {
+                        panic!("six numbers")
+                    };
+                    let (message, length) = input(0);
+                    pito_packet_write(
+                        room, stream, id, sequence, ack, message, length, place, bytes, size, told,
+                        tells,
+                    )
+                }
+                Operation::AckWrite => {
+                    let [stream, id, sequence, positive] = *numbers else {
+                        panic!("four numbers")
+                    };
+                    pito_ack_write(stream, id, sequence, positive, bytes, size, told, tells)
+                }
+                Operation::ReceiverAccept => {
+                    let (packet, length) = input(0);
+                    pito_receiver_accept(row, rows, bytes, size, packet, length, told, tells)
+                }
+                Operation::EnvelopeRead => {
+                    let (message, length) = input(0);
+                    pito_envelope_read(message, length, told, tells)
+                }
+                Operation::EnvelopeWrite => {
+                    let [command, payload, error_code, field] = *numbers else {
+                        panic!("four numbers")
+                    };
+                    let (member, length) = input(0);
+                    pito_envelope_write(
+                        command, payload, error_code, field, member, length, bytes, size, told,
+                        tells,
+                    )
+                }
+                Operation::ResponseRead => {
+                    let (message, length) = input(0);
+                    pito_response_read(message, length, told, tells)
+                }
+                Operation::ResponseWrite => {
+                    let (member, length) = input(0);
+                    pito_response_write(
+                        numbers[0], numbers[1], member, length, bytes, size, told, tells,
+                    )
+                }
+                Operation::InformationRead => {
+                    let (message, length) = input(0);
+                    pito_information_read(message, length, told, tells)
+                }
+                Operation::InformationWrite => {
+                    let (serial_number, serial_number_length) = input(0);
+                    let (name, name_length) = input(1);
+                    let (device_type, device_type_length) = input(2);
+                    pito_information_write(
+                        serial_number,
+                        serial_number_length,
+                        name,
+                        name_length,
+                        device_type,
+                        device_type_length,
+                        numbers.as_ptr(),
+                        numbers.len(),
+                        bytes,
+                        size,
+                        told,
+                        tells,
+                    )
+                }
+                Operation::FeaturesRead => {
+                    let (message, length) = input(0);
+                    pito_features_read(message, length, told, tells)
+                }
+                Operation::FeaturesWrite => {
+                    pito_features_write(numbers[0], numbers[1], bytes, size, told, tells)
+                }
+                Operation::OutboxNew => pito_outbox_new(bytes, size, told, tells),
+                Operation::OutboxAppend => {
+                    let (payload, length) = input(0);
+                    pito_outbox_append(
+                        bytes, size, numbers[0], numbers[1], payload, length, told, tells,
+                    )
+                }
+                Operation::OutboxRecord => {
+                    let (outbox, length) = input(0);
+                    pito_outbox_record(outbox, length, numbers[0], told, tells)
+                }
+                Operation::OutboxWhole => {
+                    let (outbox, length) = input(0);
+                    pito_outbox_whole(outbox, length, told, tells)
+                }
+            }
+        }
+    }
+}

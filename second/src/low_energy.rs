@@ -1,0 +1,419 @@
+//! "The packet of Low Energy (000)": packets read and written, ACK and NACK, and the receiver.
+
+use crate::refusal::{deliver, Refusal};
+
+/// The largest message.
+pub const MESSAGE: usize = 4_096;
+/// "It works over a lent buffer of exactly 12,288 bytes."
+pub const BUFFER: usize = 3 * MESSAGE;
+
+/// "stream in the upper four bits (0 control, 6 Alexa, 2 OTA)". The order is that of the lent
+/// buffer's thirds: "control has the first third, the middle third belongs to the OTA stream, the
+/// last to Alexa".
+#[derive(Clone, Copy, Debug, PartialEq, Eq)]
+pub enum Stream {
+    Control,
+    Ota,
+    Alexa,
+}
+
+impl Stream {
+    pub const ALL: [Stream; 3] = [Stream::Control, Stream::Ota, Stream::Alexa];
+
+    /// The number on the wire.
+    pub fn number(self) -> u8 {
+        match self {
+            Stream::Control => 0,
+            Stream::Ota => 2,
+            Stream::Alexa => 6,
+        }
+    }
+
+    /// The stream of a number, if it is 0, 2 or 6.
+    pub fn of(number: u64) -> Option<Stream> {
+        Stream::ALL
+            .into_iter()
+            .find(|stream| u64::from(stream.number()) == number)
+    }
+
+    /// Which slot and which third of the buffer is this stream's.
+    pub fn slot(self) -> usize {
+        self as usize
+    }
+}
+
+/// A packet that is right in itself; whether the receiver takes it depends on the slot.
+#[derive(Clone, Copy, Debug, PartialEq, Eq)]
+pub struct Packet<'a> {
+    pub stream: Stream,
+    pub id: u8,
+    pub sequence: u8,
+    pub flag: bool,
+    pub part: Part<'a>,
+}
+
+/// "Types: 0 first or only, 1 continuation, 2 last, 3 control."
+#[derive(Clone, Copy, Debug, PartialEq, Eq)]
+pub enum Part<'a> {
+    First {
+        total: usize,
+        piece: &'a [u8],
+    },
+    Continuation {
+        piece: &'a [u8],
+    },
+    Last {
+        piece: &'a [u8],
+    },
+    /// An ACK, or a NACK; the flag says which.
+    Acknowledgement,
+}
+
+/// What stands between byte 1 and the payload on types 0 to 2.
+struct Fields {
+    reserved: u8,
+    total: usize,
+    length: usize,
+}
+
+impl Fields {
+    /// "A type 0 packet then has a zero byte and a two-byte total. Then the payload length, one
+    /// byte, or two if the extender is 1". Nothing if the bytes end before the header does.
+    fn read(bytes: &mut std::slice::Iter<'_, u8>, first: bool, extended: bool) -> Option<Fields> {
+        let mut number = |count: usize| {
+            (0..count).try_fold(0usize, |sum, _| {
+                bytes.next().map(|&byte| sum << 8 | usize::from(byte))
+            })
+        };
+        let (reserved, total) = if first {
+            (number(1)? as u8, number(2)?)
+        } else {
+            (0, 0)
+        };
+        let length = number(if extended { 2 } else { 1 })?;
+        Some(Fields {
+            reserved,
+            total,
+            length,
+        })
+    }
+}
+
+impl<'a> Packet<'a> {
+    /// Reads one packet; the refusals are 2, 3, 12, 4, 5, 6, 7, 8 in the table's order.
+    pub fn read(packet: &'a [u8]) -> Result<Packet<'a>, Refusal> {
+        let mut bytes = packet.iter();
+        let (Some(&zeroth), Some(&first)) = (bytes.next(), bytes.next()) else {
+            return Err(Refusal::ShortPacket);
+        };
+        // "Byte 1, from the top: sequence 4 bits, type 2, ACK flag 1, extender 1."
+        let kind = first >> 2 & 3;
+        let flag = first & 2 != 0;
+        let extended = first & 1 != 0;
+        let fields = match kind {
+            3 => None,
+            _ => Some(Fields::read(&mut bytes, kind == 0, extended).ok_or(Refusal::ShortPacket)?),
+        };
+        let stream = Stream::of(u64::from(zeroth >> 4)).ok_or(Refusal::Stream)?;
+        let whole = |part| Packet {
+            stream,
+            id: zeroth & 15,
+            sequence: first >> 4,
+            flag,
+            part,
+        };
+        let Some(fields) = fields else {
+            // "Six bytes: stream and id of the request; any sequence, type 3, flag, extender 0;
+            // then 00 02 01 and a code. Flag 1 goes with code 00, flag 0 with 03."
+            let code = if flag { 0x00 } else { 0x03 };
+            return if !extended && bytes.eq(&[0x00, 0x02, 0x01, code]) {
+                Ok(whole(Part::Acknowledgement))
+            } else {
+                Err(Refusal::NoAcknowledgement)
+            };
+        };
+        let piece = bytes.as_slice();
+        if fields.reserved != 0 {
+            return Err(Refusal::Reserved);
+        }
+        if piece.len() != fields.length {
+            return Err(Refusal::PacketLength);
+        }
+        if fields.total > MESSAGE {
+            return Err(Refusal::Total);
+        }
+        if piece.is_empty() && !(kind == 0 && fields.total == 0) {
+            return Err(Refusal::EmptyPayload);
+        }
+        if kind == 0 && piece.len() > fields.total {
+            return Err(Refusal::AboveTotal);
+        }
+        Ok(whole(match kind {
+            0 => Part::First {
+                total: fields.total,
+                piece,
+            },
+            1 => Part::Continuation { piece },
+            _ => Part::Last { piece },
+        }))
+    }
+}
+
+/// An open transaction: "id, total, count held and last sequence".
+#[derive(Clone, Copy, Debug, PartialEq, Eq)]
+pub struct Open {
+    pub id: u8,
+    pub total: usize,
+    pub held: usize,
+    pub sequence: u8,
+}
+
+impl Open {
+    /// "A lawful state has id and sequence up to 15, total 1 to 4,096 and 1 <= held < total in
+    /// each open slot."
+    pub fn is_lawful(&self) -> bool {
+        self.id <= 15
+            && self.sequence <= 15
+            && (1..=MESSAGE).contains(&self.total)
+            && (1..self.total).contains(&self.held)
+    }
+}
+
+/// "The receiver's state has three slots, one for each stream, each idle or open".
+pub type Slots = [Option<Open>; 3];
+
+/// What an accepted packet came to.
+#[derive(Clone, Copy, Debug, PartialEq, Eq)]
+pub enum Accepted {
+    /// The piece is held; more has to come.
+    Held {
+        stream: Stream,
+        id: u8,
+        dropped: bool,
+    },
+    /// The transaction is whole: its third of the buffer begins with it.
+    Finished {
+        stream: Stream,
+        id: u8,
+        total: usize,
+        ack_wanted: bool,
+        dropped: bool,
+    },
+    /// Of the request with this stream and id; "any sequence" is the packet's own.
+    Acknowledgement {
+        stream: Stream,
+        id: u8,
+        sequence: u8,
+        positive: bool,
+    },
+}
+
+/// One packet given to the receiver.
+pub fn accept(
+    slots: Slots,
+    buffer: &mut [u8],
+    packet: &[u8],
+) -> (Slots, Result<Accepted, Refusal>) {
+    if buffer.len() != BUFFER || !slots.iter().flatten().all(Open::is_lawful) {
+        return (slots, Err(Refusal::Lent));
+    }
+    let packet = match Packet::read(packet) {
+        Ok(packet) => packet,
+        Err(refusal) => return (slots, Err(refusal)),
+    };
+    let index = packet.stream.slot();
+    let set = |slot: Option<Open>| {
+        let mut after = slots;
+        after[index] = slot;
+        after
+    };
+    let place = match packet.part {
+        // "ACK packets never touch a slot."
+        Part::Acknowledgement => {
+            let told = Accepted::Acknowledgement {
+                stream: packet.stream,
+                id: packet.id,
+                sequence: packet.sequence,
+                positive: packet.flag,
+            };
+            return (slots, Ok(told));
+        }
+        // "A first packet that is accepted always replaces an open transaction of its stream; its
+        // answer notes the drop."
+        Part::First { total, piece } => Ok((total, 0, piece, piece.len() == total)),
+        Part::Continuation { piece } | Part::Last { piece } => {
+            match slots[index].filter(|open| open.id == packet.id) {
+                None => return (slots, Err(Refusal::NotOpen)),
+                // "Here 0 follows 15. Within a transaction each packet's sequence is one more,
+                // modulo 16".
+                Some(open) if packet.sequence != (open.sequence + 1) % 16 => {
+                    Err(Refusal::OutOfOrder)
+                }
+                Some(open) => {
+                    let last = matches!(packet.part, Part::Last { .. });
+                    let after = open.held + piece.len();
+                    let fits = if last {
+                        after == open.total
+                    } else {
+                        after < open.total
+                    };
+                    if fits {
+                        Ok((open.total, open.held, piece, last))
+                    } else {
+                        Err(Refusal::MissesTotal)
+                    }
+                }
+            }
+        }
+    };
+    let (total, held, piece, finished) = match place {
+        Ok(place) => place,
+        // 10 and 11 leave "slot idle, bytes kept".
+        Err(refusal) => return (set(None), Err(refusal)),
+    };
+    // "An accepted piece is written in its third at the count held, and no other byte changes."
+    buffer
+        .chunks_exact_mut(MESSAGE)
+        .nth(index)
+        .expect("three thirds")[held..held + piece.len()]
+        .copy_from_slice(piece);
+    let dropped = matches!(packet.part, Part::First { .. }) && slots[index].is_some();
+    if finished {
+        // "Finishing makes the slot idle". "A finished transaction wants an ACK if its last packet
+        // has the flag."
+        let told = Accepted::Finished {
+            stream: packet.stream,
+            id: packet.id,
+            total,
+            ack_wanted: packet.flag,
+            dropped,
+        };
+        (set(None), Ok(told))
+    } else {
+        let open = Open {
+            id: packet.id,
+            total,
+            held: held + piece.len(),
+            sequence: packet.sequence,
+        };
+        let told = Accepted::Held {
+            stream: packet.stream,
+            id: packet.id,
+            dropped,
+        };
+        (set(Some(open)), Ok(told))
+    }
+}
+
+/// One piece of a message: the bytes from `place` on, `size` of them, in the packet `index`.
+#[derive(Clone, Copy, Debug, PartialEq, Eq)]
+pub struct Piece {
+    pub index: usize,
+    pub place: usize,
+    pub size: usize,
+    pub last: bool,
+}
+
+/// "So headers are 6 or 7 bytes on type 0 and 3 or 4 on types 1 and 2." "Our writer uses it only
+/// above 255."
+fn header_size(first: bool, size: usize) -> usize {
+    (if first { 6 } else { 3 }) + usize::from(size > 255)
+}
+
+/// The pieces of a message of `length` bytes at a room, in order. "Each piece is the largest that
+/// is no more than the rest and fits its header in the room."
+pub fn pieces(length: usize, room: usize) -> impl Iterator<Item = Piece> {
+    let piece = move |index: usize, place: usize| {
+        let rest = length - place;
+        let size = (0..=rest.min(room))
+            .rev()
+            .find(|&size| header_size(place == 0, size) + size <= room)
+            .expect("every room from 20 on fits a header");
+        Piece {
+            index,
+            place,
+            size,
+            last: size == rest,
+        }
+    };
+    std::iter::successors(Some(piece(0, 0)), move |before| {
+        (!before.last).then(|| piece(before.index + 1, before.place + before.size))
+    })
+}
+
+/// What all packets of one message share.
+#[derive(Clone, Copy, Debug, PartialEq, Eq)]
+pub struct Wish {
+    pub stream: Stream,
+    pub id: u8,
+    /// The first packet's sequence; "each packet's sequence is one more, modulo 16".
+    pub sequence: u8,
+    pub ack: bool,
+}
+
+/// One packet of a message, as bytes.
+pub fn packet(wish: Wish, message: &[u8], piece: Piece) -> Vec<u8> {
+    let first = piece.place == 0;
+    let kind = match (first, piece.last) {
+        (true, _) => 0,
+        (false, false) => 1,
+        (false, true) => 2,
+    };
+    let sequence = (usize::from(wish.sequence) + piece.index) % 16;
+    // "The ACK flag, if wanted, stands on the last packet only."
+    let flag = u8::from(wish.ack && piece.last);
+    let extended = piece.size > 255;
+    let mut made = vec![
+        wish.stream.number() << 4 | wish.id,
+        (sequence as u8) << 4 | kind << 2 | flag << 1 | u8::from(extended),
+    ];
+    if first {
+        made.push(0);
+        made.extend((message.len() as u16).to_be_bytes());
+    }
+    let length = (piece.size as u16).to_be_bytes();
+    made.extend(&length[usize::from(!extended)..]);
+    made.extend(&message[piece.place..piece.place + piece.size]);
+    made
+}
+
+/// The message packet writer: 13, 15, 14. "One packet is written at a time; a place in the message
+/// where no piece begins is 15." Gives the bytes written and the place after the piece.
+pub fn write_packet(
+    room: u64,
+    wish: Option<Wish>,
+    message: &[u8],
+    place: u64,
+    output: &mut [u8],
+) -> Result<(usize, usize), Refusal> {
+    if !(20..=512).contains(&room) {
+        return Err(Refusal::Room);
+    }
+    let room = room as usize;
+    let wish = wish.ok_or(Refusal::Argument)?;
+    if message.len() > MESSAGE {
+        return Err(Refusal::Argument);
+    }
+    let piece = pieces(message.len(), room)
+        .find(|piece| piece.place as u64 == place)
+        .ok_or(Refusal::Argument)?;
+    // 14 is an "output smaller than what is written; for message packets, than the room".
+    if output.len() < room {
+        return Err(Refusal::Output);
+    }
+    let written = deliver(&packet(wish, message, piece), output)?;
+    Ok((written, piece.place + piece.size))
+}
+
+/// The six bytes of an ACK or a NACK.
+pub fn acknowledgement(stream: Stream, id: u8, sequence: u8, positive: bool) -> [u8; 6] {
+    let (flag, code) = if positive { (2, 0x00) } else { (0, 0x03) };
+    [
+        stream.number() << 4 | id,
+        sequence << 4 | 3 << 2 | flag,
+        0x00,
+        0x02,
+        0x01,
+        code,
+    ]
+}

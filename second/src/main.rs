@@ -1,0 +1,195 @@
+//! The comparison: runs the worked cases, the captures and the generated calls through every
+//! implementation there is, and fails at the first difference.
+
+use second::classic;
+use second::comparison::{Compared, Comparison};
+use second::driver::{captures, listing, run_part, Plan, PARTS};
+use second::face::Model;
+use second::implementation::Implementation;
+use std::io::{Read, Write};
+use std::path::PathBuf;
+use std::process::ExitCode;
+use std::time::Instant;
+
+/// Takes about a minute of one core for the model and another implementation as fast as it.
+const SCALE: f64 = 5.0;
+
+const USAGE: &str = "\
+usage: second [--seed N] [--scale K] [--captures FOLDER] [--frames PROGRAM] [--only WORD] [--tally]
+       second frames < BYTES
+
+  --seed N           the generators' seed (default 1)
+  --scale K          how many cases they make; 1 is a million streams, a million packets and a
+                     million control messages; K may be a fraction (default 5)
+  --captures FOLDER  where the captures stand (default: the folder beside the program's sources)
+  --frames PROGRAM   also holds what this program lists of streams to `second frames`
+  --only WORD        only the parts whose name has this word
+  --tally            how often each call returned each number
+";
+
+/// What the command line asks for.
+struct Wanted {
+    plan: Plan,
+    captures: PathBuf,
+    frames: Option<PathBuf>,
+    only: String,
+    tally: bool,
+}
+
+fn wanted(mut words: impl Iterator<Item = String>) -> Result<Wanted, String> {
+    let mut wanted = Wanted {
+        plan: Plan {
+            seed: 1,
+            scale: SCALE,
+        },
+        captures: [env!("CARGO_MANIFEST_DIR"), "captures"].iter().collect(),
+        frames: None,
+        only: String::new(),
+        tally: false,
+    };
+    while let Some(word) = words.next() {
+        let mut next = || words.next().ok_or(format!("{word} needs a value"));
+        match word.as_str() {
+            "--seed" => {
+                wanted.plan.seed = next()?.parse().map_err(|_| "--seed needs a number")?;
+            }
+            "--scale" => {
+                let scale: f64 = next()?.parse().map_err(|_| "--scale needs a number")?;
+                if !(scale > 0.0 && scale <= 1e6) {
+                    return Err("--scale needs a number above 0".to_string());
+                }
+                wanted.plan.scale = scale;
+            }
+            "--captures" => wanted.captures = next()?.into(),
+            "--frames" => wanted.frames = Some(next()?.into()),
+            "--only" => wanted.only = next()?,
+            "--tally" => wanted.tally = true,
+            other => return Err(format!("unknown word {other}")),
+        }
+    }
+    Ok(wanted)
+}
+
+fn main() -> ExitCode {
+    let mut words = std::env::args().skip(1).peekable();
+    if words.peek().is_some_and(|word| word == "frames") {
+        return frames();
+    }
+    let wanted = match wanted(words) {
+        Ok(wanted) => wanted,
+        Err(problem) => {
+            eprint!("{problem}\n\n{USAGE}");
+            return ExitCode::from(2);
+        }
+    };
+    let captures = match captures::load(&wanted.captures) {
+        Ok(captures) => captures,
+        Err(problem) => {
+            eprintln!("{problem}");
+            return ExitCode::from(2);
+        }
+    };
+    if let Some(program) = &wanted.frames {
+        match listing::run(program, &captures, wanted.plan) {
+            Ok(count) => println!("frames: {count} streams listed, no difference"),
+            Err(problem) => {
+                eprintln!("{problem}\nFAILED, with --seed {}", wanted.plan.seed);
+                return ExitCode::FAILURE;
+            }
+        }
+    }
+    let implementations: Vec<&dyn Implementation> = vec![
+        &Model,
+        #[cfg(feature = "library")]
+        &second::library::Library,
+    ];
+    let mut comparison = Comparison::new(&implementations);
+    match run(&mut comparison, &wanted, &captures) {
+        Ok(()) => finish(&comparison, &wanted),
+        Err(difference) => {
+            let Plan { seed, scale } = wanted.plan;
+            eprint!("{}", difference.0);
+            eprintln!("FAILED, with --seed {seed} --scale {scale}");
+            ExitCode::FAILURE
+        }
+    }
+}
+
+fn run(
+    comparison: &mut Comparison<'_>,
+    wanted: &Wanted,
+    captures: &[captures::Capture],
+) -> Compared<()> {
+    let Plan { seed, scale } = wanted.plan;
+    println!(
+        "implementations: {}; seed {seed}, scale {scale}",
+        comparison.names().join(", ")
+    );
+    if "captures".contains(&wanted.only) {
+        timed("captures", comparison, |comparison| {
+            captures
+                .iter()
+                .try_for_each(|capture| captures::run(comparison, capture))
+        })?;
+    }
+    for part in PARTS.iter().filter(|part| part.name.contains(&wanted.only)) {
+        timed(part.name, comparison, |comparison| {
+            run_part(part, comparison, wanted.plan)
+        })?;
+    }
+    Ok(())
+}
+
+/// Runs a part and says how long it took.
+fn timed<'i>(
+    name: &str,
+    comparison: &mut Comparison<'i>,
+    work: impl FnOnce(&mut Comparison<'i>) -> Compared<()>,
+) -> Compared<()> {
+    let (start, before) = (Instant::now(), comparison.calls());
+    work(comparison)?;
+    let calls = comparison.calls() - before;
+    let seconds = start.elapsed().as_secs_f64();
+    println!("  {name}: {calls} calls, {seconds:.1} s");
+    Ok(())
+}
+
+/// What a run without a difference ends with.
+fn finish(comparison: &Comparison<'_>, wanted: &Wanted) -> ExitCode {
+    if wanted.tally {
+        print!("{}", comparison.tally());
+    }
+    let missing = comparison.never_met();
+    if wanted.only.is_empty() && !missing.is_empty() {
+        println!("never met: {}", missing.join("; "));
+        // A short run may miss some; a run of full size may not.
+        if wanted.plan.scale >= 0.1 {
+            return ExitCode::FAILURE;
+        }
+    }
+    let names = comparison.names();
+    let calls = comparison.calls();
+    match names.as_slice() {
+        [one] => println!("{calls} calls on {one} alone: nothing was compared"),
+        names => println!(
+            "{calls} calls compared, no difference: {}",
+            names.join(", ")
+        ),
+    }
+    ExitCode::SUCCESS
+}
+
+/// The listing of standard input.
+fn frames() -> ExitCode {
+    let mut stream = Vec::new();
+    let done = std::io::stdin()
+        .read_to_end(&mut stream)
+        .and_then(|_| std::io::stdout().write_all(classic::listing(&stream).as_bytes()));
+    match done {
+        Ok(()) => ExitCode::SUCCESS,
+        Err(error) => {
+            eprintln!("{error}");
+            ExitCode::FAILURE
+        }
+    }
+}
