@@ -6,7 +6,10 @@ pub mod value;
 pub mod varint;
 pub mod writer;
 
-// Why a message is refused; the numbers are in specs/Refusal.antt.
+ghost use mathlib.Core.Path.{_≡_};
+ghost use Rattle.field.specs.Refusal.{numberOf};
+
+// Why a message is refused.
 pub enum Refusal {
     // The message ends inside a field.
     Cut,
@@ -18,4 +21,19 @@ pub enum Refusal {
     WrongType,
     // A second member, or more entries than there may be.
     TooMany,
+}
+
+impl Refusal {
+    // The number of the paper's table.
+    pub fn number(self) -> u8
+        ensures { λ r. ⌜ r ≡ numberOf self ⌝ }
+    {
+        match self {
+            Refusal::Cut => 30,
+            Refusal::TooLong => 31,
+            Refusal::BadTag => 32,
+            Refusal::WrongType => 33,
+            Refusal::TooMany => 34,
+        }
+    }
 }

@@ -2,10 +2,7 @@ use native.Mathlib.Omega.{arith}
 use Prim.Native.Nat.{ℕ, _-_, _*_, _/_, _%_}
 use mathlib.Core.Path.{_≡_, ap, sym, _∙_}
 use mathlib.Core.Bool.{Bool}
-use denote.Ref.{now}
-use Rattle.wire.specs.Told.{given, refused}
-use Rattle.field.specs.Refusal.{numberOf}
-use Rattle.field.specs.Varint.{varintAt, toldVarint}
+use Rattle.field.specs.Varint.{toldVarint}
 use Rattle.field.specs.Tag.{badTag, tagAt}
 use borrow.Author.Needs.{needs}
 use Rattle.field.proofs.tag.read_tag.Statement.{statement}
@@ -19,13 +16,6 @@ enum-known-e c = search needs
 
 enum-known-value : tie.Need-enum-known-value
 enum-known-value c = search needs
-
--- what read_varint told
-read : (c : tie.After-value) → varintAt (now (c .before .before .before .before .args .message)) (c .before .before .before .before .args .at) ≡ given (c .value .given .0 .0, c .value .given .0 .1 .0)
-read c = sym (c .before .before .read-varint .ensures) ∙ ap toldVarint (c .value .given .1)
-
-refuses : (c : tie.After-e) → varintAt (now (c .before .before .before .before .args .message)) (c .before .before .before .before .args .at) ≡ refused (numberOf (c .e .given .0 .0))
-refuses c = sym (c .before .before .read-varint .ensures) ∙ ap toldVarint (c .e .given .1)
 
 -- the wire type, as the code takes it
 wire : (v : ℕ) → v - v / 8 * 8 ≡ v % 8
@@ -46,15 +36,20 @@ bad-tag-requires c κs = search needs
 
 returns : tie.Need-returns
 unfolding tagAt
-returns c = rw (read (c .before .before .before), bad (c .before) (c .if1 .taken))
+returns c = rw (sym (c .before .before .before .before .before .read-varint .ensures) ∙ ap toldVarint (c .before .before .before .value .given .1), bad (c .before) (c .if1 .taken))
 
 returns-2 : tie.Need-returns-2
 unfolding tagAt
-returns-2 c = rw (refuses (c .before))
+returns-2 c = rw (sym (c .before .before .before .read-varint .ensures) ∙ ap toldVarint (c .before .e .given .1))
 
 returns-3 : tie.Need-returns-3
 unfolding tagAt
-returns-3 c = rw (wire (c .before .before .before .value .given .0 .0), read (c .before .before .before), bad (c .before) (c .if1 .left))
+returns-3 c =
+    rw (
+      wire (c .before .before .before .value .given .0 .0),
+      sym (c .before .before .before .before .before .read-varint .ensures) ∙ ap toldVarint (c .before .before .before .value .given .1),
+      bad (c .before) (c .if1 .left),
+    )
 
 pub read-tag-spec : {M : Type 1} → statement M
 read-tag-spec =

@@ -32,7 +32,7 @@ sub-left : tie.Need-sub-left
 sub-left c = varint-next _ _ _ _ (read (c .before)) .1
 
 add-end : tie.Need-add-end
-add-end c = search needs
+add-end c = omega (arith, varint-next _ _ _ _ (read (c .before .before)))
 
 returns : tie.Need-returns
 returns c =
