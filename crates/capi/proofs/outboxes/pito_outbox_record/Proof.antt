@@ -1,0 +1,51 @@
+use borrow.Author.Tests.{eq-eqb, ne-eqb}
+use Rattle.capi.specs.Outboxes.{outboxRecordOf}
+use borrow.Author.Needs.{needs}
+use Rattle.capi.proofs.outboxes.pito_outbox_record.Statement.{statement}
+use Rattle.capi.proofs.outboxes.pito_outbox_record.Tie as tie
+
+returns : tie.Need-returns
+unfolding outboxRecordOf
+returns c = rw (ne-eqb _ _ (c .if1 .taken))
+
+read-requires : tie.Need-read-requires
+read-requires c κs = search needs
+
+record-number-requires : tie.Need-record-number-requires
+record-number-requires c κs = search needs
+
+record-row-requires : tie.Need-record-row-requires
+record-row-requires c κs = search needs
+
+slice-aggregate-put : tie.Need-slice-aggregate-put
+slice-aggregate-put c = search needs
+
+put-requires : tie.Need-put-requires
+put-requires c κs = search needs
+
+same-length : tie.Need-same-length
+same-length c = search needs
+
+returns-2 : tie.Need-returns-2
+unfolding outboxRecordOf
+returns-2 c =
+    rw (
+      eq-eqb _ _ (c .before .before .before .before .before .before .before .before .if1 .left),
+      ← (c .before .before .before .before .before .before .before .read .ensures),
+      c .before .before .put .ensures,
+      c .before .before .before .before .before .before .record-number .ensures,
+      c .before .before .before .before .before .record-row .ensures,
+    )
+
+pub pito-outbox-record-spec : {M : Type 1} → statement M
+pito-outbox-record-spec =
+    tie.close
+    (tie.spec
+    returns
+    read-requires
+    record-number-requires
+    record-row-requires
+    slice-aggregate-put
+    put-requires
+    same-length
+    returns-2)

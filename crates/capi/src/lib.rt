@@ -1,0 +1,6 @@
+// The library for C: every capability on numbers and slices only. include/pitokaenge.h describes each function for its callers.
+pub mod classic;
+pub mod messages;
+pub mod outboxes;
+pub mod receiving;
+pub mod sending;

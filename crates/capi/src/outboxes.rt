@@ -1,0 +1,87 @@
+// The outbox for C: a new one, a record appended, a record read at a place, and whether all is whole.
+use outbox::reader;
+use outbox::writer;
+use rows::outboxes::APPEND_ANSWER;
+use rows::outboxes::RECORD_ANSWER;
+use rows::outboxes::WHOLE_ANSWER;
+use rows::outboxes::append_number;
+use rows::outboxes::append_row;
+use rows::outboxes::created_count;
+use rows::outboxes::record_number;
+use rows::outboxes::record_row;
+use rows::outboxes::whole_number;
+use rows::outboxes::whole_row;
+use rows::row::COUNT_ANSWER;
+use rows::row::OUT_OF_RANGE;
+use rows::row::UNFIT;
+use rows::row::byte_or;
+use rows::row::put;
+use rows::row::tell;
+ghost use mathlib.Core.Path.{_≡_};
+ghost use mathlib.Core.List.{[]};
+ghost use Rattle.capi.specs.Called.{called};
+ghost use Rattle.capi.specs.Outboxes.{outboxNewOf, outboxAppendOf, outboxRecordOf, outboxWholeOf};
+
+// Begins a new outbox.
+#[no_mangle]
+pub extern "C" fn pito_outbox_new(output: &mut [u8], answer: &mut [u64]) -> u64
+    ensures { λ r. ⌜ called r [] (now (output .exit)) (now (answer .exit)) ≡ outboxNewOf 4096 (now (output .entry)) (now (answer .entry)) ⌝ }
+{
+    if answer.len() != COUNT_ANSWER {
+        return UNFIT;
+    }
+    let created = writer::create(output);
+    tell(answer, created_count(created))
+}
+
+// Appends a record after the used bytes.
+#[no_mangle]
+pub extern "C" fn pito_outbox_append(
+    buffer: &mut [u8],
+    used: u64,
+    stream: u64,
+    payload: &[u8],
+    answer: &mut [u64],
+) -> u64
+    ensures { λ r. ⌜ called r [] (now (buffer .exit)) (now (answer .exit)) ≡ outboxAppendOf 4096 (now (buffer .entry)) used stream (now (payload .entry)) (now (answer .entry)) ⌝ }
+{
+    if answer.len() != APPEND_ANSWER {
+        return UNFIT;
+    }
+    let known = byte_or(OUT_OF_RANGE, stream);
+    let appended = writer::append(buffer, used as usize, known, payload);
+    let number = append_number(appended);
+    let row = append_row(appended);
+    put(answer, number, &row);
+    number
+}
+
+// Reads the record at a place.
+#[no_mangle]
+pub extern "C" fn pito_outbox_record(bytes: &[u8], place: u64, answer: &mut [u64]) -> u64
+    ensures { λ r. ⌜ called r [] [] (now (answer .exit)) ≡ outboxRecordOf 4096 (now (bytes .entry)) place (now (answer .entry)) ⌝ }
+{
+    if answer.len() != RECORD_ANSWER {
+        return UNFIT;
+    }
+    let reading = reader::read(bytes, place as usize);
+    let number = record_number(reading);
+    let row = record_row(reading);
+    put(answer, number, &row);
+    number
+}
+
+// Whether an outbox is whole.
+#[no_mangle]
+pub extern "C" fn pito_outbox_whole(bytes: &[u8], answer: &mut [u64]) -> u64
+    ensures { λ r. ⌜ called r [] [] (now (answer .exit)) ≡ outboxWholeOf 4096 (now (bytes .entry)) (now (answer .entry)) ⌝ }
+{
+    if answer.len() != WHOLE_ANSWER {
+        return UNFIT;
+    }
+    let walked = reader::walk(bytes);
+    let number = whole_number(walked);
+    let row = whole_row(walked);
+    put(answer, number, &row);
+    number
+}

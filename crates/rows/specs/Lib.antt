@@ -1,0 +1,6 @@
+pub mod Row
+pub mod Classic
+pub mod Sending
+pub mod Receiving
+pub mod Messages
+pub mod Outboxes

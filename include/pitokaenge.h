@@ -1,0 +1,321 @@
+/*
+ * Pitokaenge: the link of the stoking box, for C and C++.
+ *
+ * Bluetooth Low Energy packets and ACKs, Classic frames, control messages and the outbox file, as functions on
+ * numbers and slices. Nothing is allocated, nothing is kept between calls: the caller lends every byte and every
+ * state. Each function always returns, on any bytes and any numbers, and is proved to do what its comment says.
+ *
+ * SLICES. A slice is passed as a pointer and a length, in elements. Pointers are valid and never null, also where
+ * the length is 0, and a slice that a call may write overlaps no other slice of that call. That is all that a
+ * caller owes.
+ *
+ * ROWS. A state and an answer are rows of uint64_t, of the length that is named beside each function
+ * (PITO_.._STATE, PITO_.._ANSWER). A state row goes in and out of the same array; the caller keeps it from one call
+ * to the next and need not look inside.
+ *
+ * NUMBERS. Each function returns 0, or the number of a refusal:
+ *
+ *    1  a row of another length, numbers that no state can have, a lent buffer of the wrong size, an unlawful
+ *       state, or used bytes beyond the buffer: NOTHING has changed, neither state, lent bytes nor answer
+ *    2  packet under 2 bytes, or under its header          20  F0 inside a frame
+ *    3  packet of an unknown stream                        21  F1 in the header, or under 2 bytes stored
+ *    4  reserved byte of a first packet not 0              22  packet id not 02, error id not 00, F2 in the header
+ *    5  packet length is not header plus payload           23  F1, or no escape code, after F2
+ *    6  total over 4,096                                   24  a 4,099th byte to store
+ *    7  empty payload                                      25  checksum differs
+ *    8  first payload above its total                      30  message ends inside a field
+ *    9  no open transaction of that id in the stream       31  varint whose tenth byte is above 01
+ *   10  sequence not the next                              32  field 0 or above 536,870,911; wire type 3, 4, 6, 7
+ *   11  total reached too early, passed, or missed         33  known field with another wire type
+ *   12  type 3 packet that is no ACK and no NACK           34  second payload member, or a ninth transport
+ *   13  room not 20 to 512                                 40  outbox empty, or version not 01
+ *   14  output too small                                   41  record cut short
+ *   15  an argument out of its range                       42  record length 0 or over 4,097
+ *                                                          43  record's stream not 0, 2, 6
+ *
+ * After every call that does not return 1 the whole answer row is written. After a refusal it is 0 throughout, but
+ * for what is said below (the number of bytes used by pito_extractor_feed, the place that goes with 41).
+ * A refusal leaves state and lent bytes as they were, except that 20 to 25 leave the extractor outside a frame (20:
+ * at the begin of the new one), and 10 and 11 leave the slot of the stream idle.
+ *
+ * Signed 32-bit numbers (command, error code, transports) stand in 64 bits in two's complement, sign-extended:
+ * (uint64_t)(int64_t)value on the way in, (int32_t)(int64_t)number on the way out.
+ *
+ * Streams: 0 control, 2 OTA, 6 Alexa.
+ */
+#ifndef PITOKAENGE_H
+#define PITOKAENGE_H
+
+#include <stddef.h>
+#include <stdint.h>
+
+#ifdef __cplusplus
+extern "C" {
+#endif
+
+/* The largest message in bytes, and what the lent buffers have exactly. */
+#define PITO_MESSAGE_LIMIT 4096
+#define PITO_EXTRACTOR_BUFFER 4098
+#define PITO_RECEIVER_BUFFER 12288
+
+/* Streams. */
+#define PITO_STREAM_CONTROL 0
+#define PITO_STREAM_OTA 2
+#define PITO_STREAM_ALEXA 6
+
+/* ------------------------------------------------------------------------------------------------------------
+ * Classic: the extractor
+ *
+ * State row: phase, sequence, held. All 0 is the empty state, outside a frame: begin with that. Phases: 0 outside,
+ * 1 before the packet id, 2 before the error id, 3 before the sequence byte, 4 in the body, 5 after F2.
+ * Buffer: exactly PITO_EXTRACTOR_BUFFER bytes, the same one from call to call. A frame's payload stands first in it
+ * when the call that tells the frame returns, and until the next call.
+ * Returns 0, 1, 20, 21, 22, 23, 24, 25.
+ */
+#define PITO_EXTRACTOR_STATE 3
+
+/* Outcomes. */
+#define PITO_SKIPPED 0  /* of a step: a byte outside a frame */
+#define PITO_TAKEN 1    /* of a step: a byte of a frame */
+#define PITO_FRAME 2    /* of a step or a feed: a whole frame */
+#define PITO_ALL_USED 0 /* of a feed: all bytes used, nothing decided */
+
+/*
+ * One byte.
+ * Answer: outcome, sequence, length. Sequence byte and payload length are a frame's, else 0.
+ */
+#define PITO_STEP_ANSWER 3
+uint64_t pito_extractor_step(uint64_t *state, size_t state_len, uint8_t *buffer, size_t buffer_len, uint8_t byte,
+                             uint64_t *answer, size_t answer_len);
+
+/*
+ * Many bytes, up to the first frame or refusal or to their end. Call again with the bytes not yet used.
+ * Answer: outcome, used, sequence, length. Used is the number of bytes used, also after a refusal of a byte, where
+ * the other three are 0.
+ */
+#define PITO_FEED_ANSWER 4
+uint64_t pito_extractor_feed(uint64_t *state, size_t state_len, uint8_t *buffer, size_t buffer_len,
+                             const uint8_t *bytes, size_t bytes_len, uint64_t *answer, size_t answer_len);
+
+/* ------------------------------------------------------------------------------------------------------------
+ * Classic: the frame writer
+ */
+
+/*
+ * Writes the frame of a payload, from the first byte of the output on. At most 2 * payload_len + 9 bytes.
+ * Answer: written.
+ * Returns 0, 1, 15 (a sequence that is F0, F1, F2 or no byte; a payload over 4,096), 14.
+ */
+#define PITO_FRAME_WRITE_ANSWER 1
+uint64_t pito_frame_write(uint64_t sequence, const uint8_t *payload, size_t payload_len, uint8_t *output,
+                          size_t output_len, uint64_t *answer, size_t answer_len);
+
+/*
+ * The sequence byte after a sequence byte.
+ * Answer: next.
+ * Returns 0, 1.
+ */
+#define PITO_NEXT_SEQUENCE_ANSWER 1
+uint64_t pito_next_sequence(uint8_t sequence, uint64_t *answer, size_t answer_len);
+
+/* ------------------------------------------------------------------------------------------------------------
+ * Low Energy: sending
+ */
+
+/*
+ * Writes one packet of a message: the one whose piece begins at the place, first in the output. Begin at place 0 and
+ * go on at the next place that each call tells, with all other arguments the same, until the next place is
+ * message_len (an empty message has one packet).
+ *   room      the largest whole packet in bytes, 20 to 512; the output has at least this size
+ *   stream    0, 2 or 6
+ *   id        the transaction's, 0 to 15
+ *   sequence  the first packet's, 0 to 15; each later packet has the next one by itself
+ *   ack       1 if an ACK is wanted, else 0
+ *   message   at most 4,096 bytes
+ * Answer: written, next place.
+ * Returns 0, 1, 13, 15 (stream, id, sequence, ack or message size out of range; a place where no piece begins), 14
+ * (an output smaller than the room), the first that holds in this order.
+ */
+#define PITO_PACKET_WRITE_ANSWER 2
+uint64_t pito_packet_write(uint64_t room, uint64_t stream, uint64_t id, uint64_t sequence, uint64_t ack,
+                           const uint8_t *message, size_t message_len, uint64_t place, uint8_t *output,
+                           size_t output_len, uint64_t *answer, size_t answer_len);
+
+/*
+ * Writes the ACK (positive 1) or NACK (positive 0) of a request: six bytes, first in the output. Stream and id are
+ * the request's; any sequence from 0 to 15.
+ * Answer: written.
+ * Returns 0, 1, 15 (stream, id, sequence or positive out of range), 14.
+ */
+#define PITO_ACK_WRITE_ANSWER 1
+uint64_t pito_ack_write(uint64_t stream, uint64_t id, uint64_t sequence, uint64_t positive, uint8_t *output,
+                        size_t output_len, uint64_t *answer, size_t answer_len);
+
+/* ------------------------------------------------------------------------------------------------------------
+ * Low Energy: receiving
+ *
+ * State row: five numbers for each stream's slot, in the order control, OTA, Alexa: open, id, total, held, sequence.
+ * All 0 is the state with no open transaction: begin with that.
+ * Buffer: exactly PITO_RECEIVER_BUFFER bytes, the same one from call to call: control has the first third, OTA the
+ * middle one, Alexa the last.
+ */
+#define PITO_RECEIVER_STATE 15
+
+/* Outcomes. */
+#define PITO_PIECE_TAKEN 0 /* a piece of a transaction, with more to come */
+#define PITO_FINISHED 1    /* the message is whole: it stands first in its stream's third, until its next packet */
+#define PITO_ACKED 2       /* an ACK */
+#define PITO_NACKED 3      /* a NACK */
+
+/*
+ * One packet.
+ * Answer: outcome, stream, id, sequence, total, ACK wanted, dropped.
+ *   sequence    an ACK's or NACK's own, else 0
+ *   total       the length of a finished message, else 0
+ *   ACK wanted  1 if a finished message wants an ACK, else 0
+ *   dropped     1 if a first packet replaced an open transaction of its stream, else 0
+ * Returns 0, or the first of 1, 2, 3, 12, 4, 5, 6, 7, 8, 9, 10, 11 that holds.
+ */
+#define PITO_RECEIVER_ANSWER 7
+uint64_t pito_receiver_accept(uint64_t *state, size_t state_len, uint8_t *buffer, size_t buffer_len,
+                              const uint8_t *packet, size_t packet_len, uint64_t *answer, size_t answer_len);
+
+/* ------------------------------------------------------------------------------------------------------------
+ * Control messages
+ *
+ * Readers tell parts as start and length within the message that was read. They return 0, 1, 31, 32, 33, 34 or 30;
+ * a message is judged field by field. Writers write from the first byte of the output on, in the shortest form, and
+ * return 0, 1, 15, 14.
+ */
+
+/* The payload of an envelope. */
+#define PITO_PAYLOAD_NONE 0
+#define PITO_PAYLOAD_RESPONSE 1
+#define PITO_PAYLOAD_MEMBER 2
+
+/*
+ * Reads a control envelope.
+ * Answer: command, payload, error_code, field, start, length.
+ *   error_code  a response's, else 0
+ *   field, start, length  another member's, or those of a response's payload; 0 where there is none
+ */
+#define PITO_ENVELOPE_READ_ANSWER 6
+uint64_t pito_envelope_read(const uint8_t *message, size_t message_len, uint64_t *answer, size_t answer_len);
+
+/*
+ * Writes a control envelope.
+ *   command     a signed 32-bit number
+ *   payload     0 none, 1 a response, 2 another member
+ *   error_code  a response's, a signed 32-bit number; not looked at otherwise
+ *   field       another member's number, 2 to 536,870,911 and not 9, or that of a response's payload, where 0 is no
+ *               payload; not looked at with payload 0
+ *   bytes       the member's, or those of the response's payload; not looked at where there is none
+ * Answer: written.
+ */
+#define PITO_ENVELOPE_WRITE_ANSWER 1
+uint64_t pito_envelope_write(uint64_t command, uint64_t payload, uint64_t error_code, uint64_t field,
+                             const uint8_t *bytes, size_t bytes_len, uint8_t *output, size_t output_len,
+                             uint64_t *answer, size_t answer_len);
+
+/*
+ * Reads a response.
+ * Answer: error_code, field, start, length; the last three are its payload's, 0 where there is none.
+ */
+#define PITO_RESPONSE_READ_ANSWER 4
+uint64_t pito_response_read(const uint8_t *message, size_t message_len, uint64_t *answer, size_t answer_len);
+
+/*
+ * Writes a response: an error code, a signed 32-bit number, and a payload as the member of a number from 2 to
+ * 536,870,911; field 0 is no payload, and the bytes are then not looked at.
+ * Answer: written.
+ */
+#define PITO_RESPONSE_WRITE_ANSWER 1
+uint64_t pito_response_write(uint64_t error_code, uint64_t field, const uint8_t *bytes, size_t bytes_len,
+                             uint8_t *output, size_t output_len, uint64_t *answer, size_t answer_len);
+
+/*
+ * Reads device information. Strings are handed on as bytes; an absent one is start 0, length 0.
+ * Answer: serial_number start, length, name start, length, device_type start, length, transports, and eight
+ * transports, 0 where there are fewer.
+ */
+#define PITO_MOST_TRANSPORTS 8
+#define PITO_INFORMATION_READ_ANSWER 15
+uint64_t pito_information_read(const uint8_t *message, size_t message_len, uint64_t *answer, size_t answer_len);
+
+/*
+ * Writes device information; transports are at most eight signed 32-bit numbers, each in 64 bits.
+ * Answer: written.
+ */
+#define PITO_INFORMATION_WRITE_ANSWER 1
+uint64_t pito_information_write(const uint8_t *serial_number, size_t serial_number_len, const uint8_t *name,
+                                size_t name_len, const uint8_t *device_type, size_t device_type_len,
+                                const uint64_t *transports, size_t transports_len, uint8_t *output,
+                                size_t output_len, uint64_t *answer, size_t answer_len);
+
+/*
+ * Reads device features.
+ * Answer: features, device_attributes.
+ */
+#define PITO_FEATURES_READ_ANSWER 2
+uint64_t pito_features_read(const uint8_t *message, size_t message_len, uint64_t *answer, size_t answer_len);
+
+/*
+ * Writes device features, any two numbers of 64 bits.
+ * Answer: written.
+ */
+#define PITO_FEATURES_WRITE_ANSWER 1
+uint64_t pito_features_write(uint64_t features, uint64_t device_attributes, uint8_t *output, size_t output_len,
+                             uint64_t *answer, size_t answer_len);
+
+/* ------------------------------------------------------------------------------------------------------------
+ * The outbox file: its bytes in a lent buffer, of which the first `used` are the file
+ */
+
+/*
+ * Begins a new outbox: one byte, first in the output.
+ * Answer: used.
+ * Returns 0, 1, 14.
+ */
+#define PITO_OUTBOX_NEW_ANSWER 1
+uint64_t pito_outbox_new(uint8_t *output, size_t output_len, uint64_t *answer, size_t answer_len);
+
+/*
+ * Appends a record right after the used bytes, which must be a whole outbox: 3 bytes and the payload.
+ *   stream   0, 2 or 6
+ *   payload  at most 4,096 bytes
+ * Answer: used, cut place. Used is the number of used bytes afterwards; the cut place goes with 41, and is where the
+ * record that is cut short begins: appending with used set to it drops what is left of that record.
+ * Returns 0, 1, 15 (stream or payload size), 14, or the used bytes' own refusal, 40, 42, 41, 43.
+ */
+#define PITO_OUTBOX_APPEND_ANSWER 2
+uint64_t pito_outbox_append(uint8_t *buffer, size_t buffer_len, uint64_t used, uint64_t stream,
+                            const uint8_t *payload, size_t payload_len, uint64_t *answer, size_t answer_len);
+
+/* Outcomes. */
+#define PITO_END 0
+#define PITO_RECORD 1
+
+/*
+ * Reads the record at a place of an outbox. Begin at place 1 and go on at the next place that each call tells, until
+ * the outcome is the end.
+ * Answer: outcome, stream, start, length, next, cut place. Start and length are the payload's, within the bytes; the
+ * cut place goes with 41, and is the place that was asked for.
+ * Returns 0, 1, 40, 15 (place 0, or beyond the bytes), 42, 41, 43.
+ */
+#define PITO_OUTBOX_RECORD_ANSWER 6
+uint64_t pito_outbox_record(const uint8_t *bytes, size_t bytes_len, uint64_t place, uint64_t *answer,
+                            size_t answer_len);
+
+/*
+ * Whether all of an outbox is whole: 0, or its first refusal.
+ * Answer: cut place, which goes with 41: up to there the outbox is whole.
+ * Returns 0, 1, 40, 42, 41, 43.
+ */
+#define PITO_OUTBOX_WHOLE_ANSWER 1
+uint64_t pito_outbox_whole(const uint8_t *bytes, size_t bytes_len, uint64_t *answer, size_t answer_len);
+
+#ifdef __cplusplus
+}
+#endif
+
+#endif
