@@ -36,7 +36,8 @@
  * After every call that does not return 1 the whole answer row is written. After a refusal it is 0 throughout, but
  * for what is said below (the number of bytes used by pito_extractor_feed, the place that goes with 41).
  * A refusal leaves state and lent bytes as they were, except that 20 to 25 leave the extractor outside a frame (20:
- * at the begin of the new one), and 10 and 11 leave the slot of the stream idle.
+ * at the begin of the new one), 10 and 11 leave the slot of the stream idle, and pito_extractor_feed has by then
+ * stored what came before the refused byte, in state and buffer as single steps would have.
  *
  * Signed 32-bit numbers (command, error code, transports) stand in 64 bits in two's complement, sign-extended:
  * (uint64_t)(int64_t)value on the way in, (int32_t)(int64_t)number on the way out.
