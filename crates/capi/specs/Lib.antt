@@ -4,3 +4,4 @@ pub mod Sending
 pub mod Receiving
 pub mod Messages
 pub mod Outboxes
+pub mod OneLeavesAll

@@ -1,0 +1,4 @@
+mod Rows
+mod Extracting
+mod Accepting
+mod OneLeavesAll

@@ -1,0 +1,7 @@
+// What holds of every call.
+ghost use Rattle.capi.specs.OneLeavesAll.{OneLeavesAll};
+
+// A call that returns 1 has changed nothing: neither state row, lent bytes nor answer row.
+pub fn one_leaves_all()
+    ensures { λ _. ⌜ OneLeavesAll ⌝ }
+{}
