@@ -18,6 +18,7 @@ WRONG = {
     "cut_as_whole": "the bytes of the length count as the record's own",
     "length_of_one_byte": "a length of one byte is judged as a length",
     "end_before_last": "a record that ends with the file is read as the end",
+    "read_in_place": "records are owed at one place and not one after another",
     "cut_place": "41 is told at the number of bytes kept",
     "all_usable": "the cut record is not dropped before the next append",
 }
@@ -93,7 +94,7 @@ class Outbox:
         told = []
         for stream, payload in entries:
             told.append((("found", stream, place + self.head, len(payload), place + self.head + len(payload)), payload))
-            place += self.head + len(payload)
+            place += self.head + len(payload) if self.wrong != "read_in_place" else 0
         return told + [(("end",), [])]
 
     def after(self, place, entries):
