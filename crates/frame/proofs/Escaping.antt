@@ -6,10 +6,10 @@ use mathlib.Core.Bool.{false}
 use native.Mathlib.Nat.{add-assoc}
 use native.Mathlib.Numerals.{add-one}
 use native.Mathlib.Omega.{arith}
-use lib.ListN.{length, take, drop, getD, set, length-append, take-append-drop, drop-of-length-le}
-use lib.Seq.{drop-cons, drop-drop, sets}
+use lib.ListN.{length, take, drop, getD, set, length-append, length-drop, take-append-drop, drop-of-length-le}
+use lib.Seq.{drop-cons, drop-drop, take-all, sets}
 use lib.Dec.{lit≤}
-use Rattle.wire.specs.Scan.{anyInRange, Clear}
+use Rattle.wire.specs.Scan.{anyInRange, Copied}
 use Rattle.wire.proofs.Runs.{any-first}
 use Rattle.wire.proofs.Stores.{sets-append}
 use Rattle.frame.specs.declared.mark.Kind.{Kind}
@@ -18,7 +18,7 @@ use Rattle.frame.specs.Mark.{startMark, endMark, escapeMark, kindOf}
 use Rattle.frame.specs.Frame.{escapedBy, escapedOf, headerOf, framed}
 use Rattle.frame.specs.Writer.{Left}
 use Rattle.frame.proofs.Marks.{clear-plain}
-use Rattle.frame.proofs.Onwards.{part-long, part-none, part-length, add-sub-same}
+use Rattle.frame.proofs.Onwards.{part-long, part-none, part-length, part-stored, add-sub-same}
 
 -- one byte as a frame has it
 abbrev pub unit : ℕ → List ℕ
@@ -53,6 +53,18 @@ escaped-most : (bs : List ℕ) → length (escapedOf bs) ≤ 2 * length bs
 unfolding escapedOf
 escaped-most [] = zero-le
 escaped-most (b ∷ bs) = rw length-append (omega (arith, unit-most (kindOf b) b, escaped-most bs))
+
+-- .. and one at least
+unit-least : (k : Kind) (b : ℕ) → 1 ≤ length (escapedBy k b)
+unit-least Start b = lit≤ tt
+unit-least End b = lit≤ tt
+unit-least Escape b = lit≤ tt
+unit-least Plain b = lit≤ tt
+
+escaped-least : (bs : List ℕ) → length bs ≤ length (escapedOf bs)
+unfolding escapedOf
+escaped-least [] = zero-le
+escaped-least (b ∷ bs) = rw length-append (omega (arith, unit-least (kindOf b) b, escaped-least bs))
 
 -- ---- a frame in its parts
 
@@ -107,27 +119,25 @@ left-byte bytes out at i h =
       stored = rw (rest-step bytes i h) (sym (sets-append out at (unit (getD bytes i 0)) (escapedOf (drop (i + 1) bytes))));
     }
 
-module _ (bytes : List ℕ) (i k : ℕ) (h : i ≤ length bytes) (clear : Clear startMark escapeMark (take (length bytes - i) (drop i bytes)) k) where
-  run-split : escapedOf (drop i bytes) ≡ take k (drop i bytes) ++ escapedOf (drop (i + k) bytes)
-  run-split = escaped-part bytes i k (part-none startMark escapeMark bytes i (length bytes) k h (omega arith) clear)
+module _ (bytes : List ℕ) (i : ℕ) (h : i ≤ length bytes) where
+  -- what is left is no longer than it is written
+  pub rest-short : length (take (length bytes - i) (drop i bytes)) ≤ length (escapedOf (drop i bytes))
+  rest-short = rw (take-all (length bytes - i) (drop i bytes) (rw (length-drop i bytes) (omega arith))) (escaped-least (drop i bytes))
 
-  run-length : length (take k (drop i bytes)) ≡ k
-  run-length = part-length startMark escapeMark bytes i (length bytes) k h (omega arith) clear
-
-  pub left-run : (out : List ℕ) (at : ℕ) → Left bytes out at i (sets out at (take (i + k - i) (drop i bytes))) (at + (i + k - i)) (i + k)
-  left-run out at =
+  pub left-run : {out now : List ℕ} {at k : ℕ} → Copied startMark escapeMark (take (length bytes - i) (drop i bytes)) at out k now
+      → Left bytes out at i now (at + (i + k - i)) (i + k)
+  left-run {out} {now} {at} {k} copied =
+      let clear = copied .clear in
+      let split = escaped-part bytes i k (part-none startMark escapeMark bytes i (length bytes) k h (omega arith) clear) in
+      let size = part-length startMark escapeMark bytes i (length bytes) k h (omega arith) clear in
       record {
         from = omega arith;
         within = omega (arith, part-long startMark escapeMark bytes i (length bytes) k h (omega arith) clear);
-        size = rw (add-sub-same i k, run-split, length-append, run-length, add-assoc);
+        size = rw (add-sub-same i k, split, length-append, size, add-assoc);
         stored =
-            rw (add-sub-same i k, run-split)
-            (sym (rw run-length at (sets-append out at (take k (drop i bytes)) (escapedOf (drop (i + k) bytes)))));
+            rw (part-stored startMark escapeMark bytes i (length bytes) k h (omega arith) clear copied, add-sub-same i k, split)
+            (sym (rw size at (sets-append out at (take k (drop i bytes)) (escapedOf (drop (i + k) bytes)))));
       }
-
-  -- the run is no longer than what is left to be written
-  pub run-short : k ≤ length (escapedOf (drop i bytes))
-  run-short = rw (run-split, length-append, run-length) (omega arith)
 
 pub left-end : {bytes o : List ℕ} {a : ℕ} {o′ : List ℕ} {a′ j : ℕ} → Left bytes o a 0 o′ a′ j → length bytes ≤ j
     → (a′ ≡ a + length (escapedOf bytes)) × (o′ ≡ sets o a (escapedOf bytes))

@@ -7,11 +7,11 @@ use native.Mathlib.Nat.{add-zero, add-suc, suc-add, add-assoc}
 use native.Mathlib.Numerals.{add-one}
 use native.Mathlib.Omega.{arith}
 use lib.ListN.{length, take, drop, getD, set, take-append-drop, length-drop, length-set}
-use lib.Seq.{drop-cons, take-take, drop-drop, sets, length-take-le, length-sets}
+use lib.Seq.{drop-cons, take-take, drop-drop, sets, length-take-le}
 use lib.Dec.{eqb, ltb, lit≤}
 use borrow.Author.Tests.{eqb-true, ltb-false, lt-ltb}
-use Rattle.wire.specs.Scan.{anyInRange, Clear}
-use Rattle.wire.proofs.Runs.{out-of-range, any-first}
+use Rattle.wire.specs.Scan.{anyInRange, Clear, Copied}
+use Rattle.wire.proofs.Runs.{out-of-range, any-first, copied-length}
 use Rattle.wire.proofs.Tests.{and-left, and-right, not-true}
 use Rattle.frame.specs.declared.extractor.Extractor.{Extractor}
 use Rattle.frame.specs.declared.extractor.Phase.{Phase}
@@ -56,6 +56,9 @@ module _ (first last : ℕ) (bytes : List ℕ) (i e k : ℕ) (h : i ≤ e) (w : 
 
   pub part-length : length (take k (drop i bytes)) ≡ k
   part-length = length-take-le k (drop i bytes) (rw (length-drop i bytes) (omega (arith, part-long)))
+
+  pub part-stored : {at : ℕ} {l after : List ℕ} → Copied first last (take (e - i) (drop i bytes)) at l k after → after ≡ sets l at (take k (drop i bytes))
+  part-stored copied = copied .stored ∙ rw (take-take k (e - i) (drop i bytes) part-long)
 
 -- ---- bytes outside of a frame
 
@@ -123,18 +126,19 @@ plain-run limit n q h l (x ∷ xs) ys e f =
     plain-one limit n q h l x (xs ++ ys) (clear-plain x (k .0)) (omega arith)
     ∙ plain-run limit (n + 1) q (h + 1) (set l h x) xs ys (k .1) (omega arith) ∙ simp (add-one, suc-add, add-suc)
 
-pub onward-plain : {limit : ℕ} {s : Extractor} {l : List ℕ} (bytes : List ℕ) (i e k : ℕ) → Ready limit s l → s .phase ≡ Body → i ≤ e → e ≤ length bytes
-    → s .held + (e - i) ≤ limit + 2 → Clear startMark escapeMark (take (e - i) (drop i bytes)) k
-    → Onward limit bytes s l i (body (s .sequence) (s .held + k)) (sets l (s .held) (take (i + k - i) (drop i bytes))) (i + k)
-onward-plain {limit} {s} {l} bytes i e k ready p h w room clear =
+pub onward-plain : {limit : ℕ} {s : Extractor} {l after : List ℕ} (bytes : List ℕ) (i e k : ℕ) → Ready limit s l → s .phase ≡ Body → i ≤ e → e ≤ length bytes
+    → s .held + (e - i) ≤ limit + 2 → Copied startMark escapeMark (take (e - i) (drop i bytes)) (s .held) l k after
+    → Onward limit bytes s l i (body (s .sequence) (s .held + k)) after (i + k)
+onward-plain {limit} {s} {l} bytes i e k ready p h w room copied =
+    let clear = copied .clear in
     let long = part-long startMark escapeMark bytes i e k h w clear in
     let size = part-length startMark escapeMark bytes i e k h w clear in
     record {
       from = omega arith;
       within = omega (arith, long);
-      ready = record { room = omega (arith, long); size = length-sets l (s .held) (take (i + k - i) (drop i bytes)) ∙ ready .size };
+      ready = record { room = omega (arith, long); size = copied-length copied ∙ ready .size };
       rest =
-          rw (add-sub-same i k, as-body s p)
+          rw (as-body s p, part-stored startMark escapeMark bytes i e k h w clear copied)
           (sym
           (rw (take-append-drop k (drop i bytes), size, drop-drop k i bytes)
           at (plain-run limit i (s .sequence) (s .held) l (take k (drop i bytes)) (drop k (drop i bytes)) (part-none startMark escapeMark bytes i e k h w clear)

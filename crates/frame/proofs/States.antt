@@ -2,7 +2,7 @@
 use Prim.Native.Nat.{ℕ, _+_, _<_, _≤_, zero-le}
 use mathlib.Core.Path.{_≡_, refl, _∙_}
 use mathlib.Core.List.{List, [], _∷_}
-use mathlib.Core.Bool.{Bool, true, false, cond, not}
+use mathlib.Core.Bool.{Bool, true, false, cond, not, false≢true}
 use native.Mathlib.Numerals.{add-one}
 use native.Mathlib.Omega.{arith}
 use lib.ListN.{length, drop, getD, drop-of-length-le}
@@ -11,11 +11,16 @@ use lib.Dec.{eqb, leb, ltb}
 use borrow.Author.Tests.{eqb-true, leb-true, ltb-true}
 use Rattle.wire.proofs.Tests.{and-left, and-right}
 use Rattle.frame.specs.declared.extractor.Extractor.{Extractor}
+use Rattle.frame.specs.declared.extractor.Phase.{Phase}
+use Rattle.frame.specs.declared.extractor.Phase.the-variants.{Outside, PacketId, ErrorId, Sequence, Body, Escaped}
+use Rattle.frame.specs.declared.mark.Kind.the-variants.{Start, End}
 use Rattle.frame.specs.declared.action.Action.{Action}
 use Rattle.frame.specs.declared.action.Action.the-variants.{Skip, Begin, Restart, Go, Number, Store, Finish, Refuse}
-use Rattle.frame.specs.Mark.{isMark}
-use Rattle.frame.specs.Action.{actionOf}
-use Rattle.frame.specs.Extractor.{Report, refused, allUsed, sequenceRead, lawfulBefore, lawfulAfter, lawful, ready, Step, storeOf, performOf, advanceOf, fed, decides, feedReport, feedFrom, feedOf, Ready}
+use Rattle.frame.specs.Mark.{startMark, endMark, isMark}
+use Rattle.frame.specs.Action.{actionBy, actionOf}
+use Rattle.frame.specs.Extractor.{Report, refused, allUsed, step, outside, begun, endOf, sequenceRead, lawfulBefore, lawfulAfter, lawful, ready, Step, storeOf, performOf, advanceOf, fed, decides, feedReport, feedFrom, feedOf, Ready}
+use Rattle.frame.specs.Glide.{startReport, isBody}
+use Rattle.frame.proofs.Marks.{start-kind, end-kind}
 
 held-within : (limit : ℕ) (t : Bool) (q h : ℕ) → cond t (lawfulAfter limit q h) (lawfulBefore q h) ≡ true → h ≤ limit + 2
 held-within limit true q h e = leb-true _ _ (and-right (not (isMark q)) (leb h (limit + 2)) e)
@@ -53,6 +58,31 @@ perform-held limit s l b (Refuse r) h = zero-le
 advance-held : (limit : ℕ) (s : Extractor) (l : List ℕ) (b : ℕ) → s .held ≤ limit + 2 → advanceOf limit s l b .next .held ≤ limit + 2
 unfolding advanceOf
 advance-held limit s l b h = perform-held limit s l b (actionOf (s .phase) b) h
+
+-- F0 in any phase, and F1 in the body
+pub start-advance : (limit : ℕ) (s : Extractor) (l : List ℕ) → step (startReport (s .phase)) begun l ≡ advanceOf limit s l startMark
+unfolding advanceOf
+start-advance limit s l = rw start-kind (go (s .phase))
+  where
+    go : (p : Phase) → step (startReport p) begun l ≡ performOf limit s l startMark (actionBy p Start startMark)
+    go Outside = refl
+    go PacketId = refl
+    go ErrorId = refl
+    go Sequence = refl
+    go Body = refl
+    go Escaped = refl
+
+pub end-advance : (limit : ℕ) (s : Extractor) (l : List ℕ) → isBody (s .phase) ≡ true → step (endOf s l) outside l ≡ advanceOf limit s l endMark
+unfolding advanceOf
+end-advance limit s l e = rw end-kind (go (s .phase) e)
+  where
+    go : (p : Phase) → isBody p ≡ true → step (endOf s l) outside l ≡ performOf limit s l endMark (actionBy p End endMark)
+    go Outside e = absurd (false≢true e)
+    go PacketId e = absurd (false≢true e)
+    go ErrorId e = absurd (false≢true e)
+    go Sequence e = absurd (false≢true e)
+    go Body e = refl
+    go Escaped e = absurd (false≢true e)
 
 -- at the loop's test what is left of the bytes gives what all of them give
 pub record Running (limit : ℕ) (bytes l₀ : List ℕ) (s₀ : Extractor) (l : List ℕ) (s : Extractor) (i : ℕ) : Type 0 where

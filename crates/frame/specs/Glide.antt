@@ -2,13 +2,15 @@
 use Prim.Native.Nat.{ℕ, _+_, _-_, _≤_}
 use mathlib.Core.Path.{_≡_}
 use mathlib.Core.List.{List}
-use mathlib.Core.Bool.{Bool, not, cond, false, _&&_}
+use mathlib.Core.Bool.{Bool, not, cond, true, false, _&&_}
 use lib.ListN.{length, drop, getD}
 use lib.Dec.{ltb, eqb}
+use Rattle.frame.specs.declared.extractor.Phase.{Phase}
+use Rattle.frame.specs.declared.extractor.Phase.the-variants.{Outside, PacketId, ErrorId, Sequence, Body, Escaped}
 use Rattle.frame.specs.declared.extractor.Extractor.{Extractor}
 use Rattle.frame.specs.Mark.{startMark, endMark, escapeMark, isMark}
 use Rattle.frame.specs.Frame.{packetId, errorId, startCode, endCode, escapeCode}
-use Rattle.frame.specs.Extractor.{Ready, feedFrom}
+use Rattle.frame.specs.Extractor.{Report, taken, refused, Ready, feedFrom}
 
 -- the mark that an escape mark and a code stand for; 0 for any other two bytes
 abbrev pub markOf : ℕ → ℕ → ℕ
@@ -20,6 +22,23 @@ markOf b code =
 -- the same of the two bytes at a place
 abbrev pub markAt : List ℕ → ℕ → ℕ
 markAt l i = cond (ltb (length l - i) 2) 0 (markOf (getD l i 0) (getD l (i + 1) 0))
+
+-- what F0 reports, whatever stands before it
+abbrev pub startReport : Phase → Report
+startReport Outside = taken
+startReport PacketId = refused 20
+startReport ErrorId = refused 20
+startReport Sequence = refused 20
+startReport Body = refused 20
+startReport Escaped = refused 20
+
+abbrev pub isBody : Phase → Bool
+isBody Outside = false
+isBody PacketId = false
+isBody ErrorId = false
+isBody Sequence = false
+isBody Body = true
+isBody Escaped = false
 
 -- four bytes that are a frame's header
 abbrev pub isHeader : ℕ → ℕ → ℕ → ℕ → Bool

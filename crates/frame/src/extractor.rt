@@ -11,6 +11,7 @@ ghost use Rattle.frame.specs.declared.extractor.Outcome.the-variants.{Re
 ghost use Prim.Native.Nat.{_+_, _≤_};
 ghost use lib.ListN.{length};
 ghost use Rattle.frame.specs.Extractor.{numberOf, told, toldFeed, step, outside, begun, sequenceRead, lawfulBefore, lawfulAfter, lawful, ready, storeOf, endOf, performOf, advanceOf, stepOf, fed, decides, feedReport, feedFrom, feedOf, Ready};
+ghost use Rattle.frame.specs.Glide.{startReport, isBody};
 
 // What the next byte is taken for.
 pub enum Phase {
@@ -238,6 +239,27 @@ impl Extractor {
         self.perform(buffer, b, action_for(phase, b))
     }
 
+    // The same among many. A start mark, and an end mark in the body, decide most calls and are taken here.
+    fn turn(self, buffer: &mut [u8], b: u8) -> Stepped
+        requires { ⌜ Ready 4096 self (now buffer) ⌝ }
+        ensures { λ r. ⌜ step (told (r .outcome)) (r .next) (now (buffer .exit)) ≡ advanceOf 4096 self (now (buffer .entry)) b ⌝ }
+    {
+        let phase = self.phase;
+        if b == Extractor::START {
+            return Stepped {
+                outcome: at_start(phase),
+                next: Extractor::begun(),
+            };
+        }
+        if both(b == Extractor::END, is_body(phase)) {
+            return Stepped {
+                outcome: self.end(buffer),
+                next: Extractor::outside(),
+            };
+        }
+        self.advance(buffer, b)
+    }
+
     // One byte.
     pub fn step(self, buffer: &mut [u8], b: u8) -> Stepped
         ensures { λ r. ⌜ step (told (r .outcome)) (r .next) (now (buffer .exit)) ≡ stepOf 4096 self (now (buffer .entry)) b ⌝ }
@@ -268,7 +290,7 @@ impl Extractor {
                     next: state,
                 };
             }
-            let done = state.advance(buffer, bytes[i]);
+            let done = state.turn(buffer, bytes[i]);
             i += 1;
             let then = done.next;
             state = then.anew();
@@ -305,6 +327,33 @@ fn refuse(why: Refusal, next: Extractor) -> Stepped
     Stepped {
         outcome: Outcome::Refused(why),
         next,
+    }
+}
+
+// What a start mark answers.
+fn at_start(phase: Phase) -> Outcome
+    ensures { λ r. ⌜ told r ≡ startReport phase ⌝ }
+{
+    match phase {
+        Phase::Outside => Outcome::Taken,
+        Phase::PacketId => Outcome::Refused(Refusal::StartInside),
+        Phase::ErrorId => Outcome::Refused(Refusal::StartInside),
+        Phase::Sequence => Outcome::Refused(Refusal::StartInside),
+        Phase::Body => Outcome::Refused(Refusal::StartInside),
+        Phase::Escaped => Outcome::Refused(Refusal::StartInside),
+    }
+}
+
+fn is_body(phase: Phase) -> bool
+    ensures { λ r. ⌜ r ≡ isBody phase ⌝ }
+{
+    match phase {
+        Phase::Outside => false,
+        Phase::PacketId => false,
+        Phase::ErrorId => false,
+        Phase::Sequence => false,
+        Phase::Body => true,
+        Phase::Escaped => false,
     }
 }
 

@@ -8,14 +8,17 @@ use crate::extractor::PACKET_ID;
 use crate::extractor::Phase;
 use crate::extractor::ROOM;
 use crate::mark::is_mark;
-use wire::bytes::copy;
+use wire::bytes::byte_at;
 use wire::bytes::smaller;
 use wire::logic::both;
 use wire::scan::clear_run;
+use wire::scan::copy_clear;
 ghost use mathlib.Core.Path.{_≡_};
 ghost use Prim.Native.Nat.{_≤_};
 ghost use lib.ListN.{length};
 ghost use Rattle.frame.specs.declared.extractor.Phase.the-variants.{Outside, Body};
+ghost use Rattle.wire.specs.Scan.{Clear};
+ghost use Rattle.frame.specs.Mark.{startMark};
 ghost use Rattle.frame.specs.Extractor.{Ready};
 ghost use Rattle.frame.specs.Glide.{markOf, markAt, isHeader, headerAt, Onward};
 
@@ -49,7 +52,7 @@ fn find_frame(state: Extractor, buffer: &mut [u8], bytes: &[u8], i: usize) -> Gl
     requires { ⌜ state .phase ≡ Outside ⌝ }
     ensures { λ r. ⌜ Onward 4096 (now (bytes .entry)) state (now (buffer .entry)) i (r .next) (now (buffer .exit)) (r .at) ⌝ }
 {
-    let at = i + clear_run(&bytes[i..], Extractor::START, Extractor::START);
+    let at = i + before_start(&bytes[i..]);
     if header_at(bytes, at) {
         let body = Extractor {
             phase: Phase::Body,
@@ -60,6 +63,16 @@ fn find_frame(state: Extractor, buffer: &mut [u8], bytes: &[u8], i: usize) -> Gl
     } else {
         Glided { next: state, at }
     }
+}
+
+// How many bytes stand before a start mark. Most frames follow the one before at once.
+fn before_start(run: &[u8]) -> usize
+    ensures { λ r. ⌜ Clear startMark startMark (now (run .entry)) r ⌝ }
+{
+    if byte_at(run, 0) == Extractor::START {
+        return 0;
+    }
+    clear_run(run, Extractor::START, Extractor::START)
 }
 
 // Stores the bytes of a body from i on, plain and escaped ones, up to what wants a step of its own.
@@ -93,16 +106,20 @@ fn take_plain(state: Extractor, buffer: &mut [u8], bytes: &[u8], i: usize) -> Gl
 {
     let held = state.held;
     let end = i + smaller(bytes.len() - i, ROOM - held);
-    let n = clear_run(&bytes[i..end], Extractor::START, Extractor::ESCAPE);
-    let at = i + n;
-    copy(buffer, held, &bytes[i..at]);
+    let n = copy_clear(
+        buffer,
+        held,
+        &bytes[i..end],
+        Extractor::START,
+        Extractor::ESCAPE,
+    );
     Glided {
         next: Extractor {
             phase: Phase::Body,
             sequence: state.sequence,
             held: held + n,
         },
-        at,
+        at: i + n,
     }
 }
 

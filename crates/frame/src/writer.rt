@@ -10,8 +10,7 @@ use crate::mark::Kind;
 use crate::mark::is_mark;
 use crate::mark::kind_of;
 use wire::MESSAGE_LIMIT;
-use wire::bytes::copy;
-use wire::scan::clear_run;
+use wire::scan::copy_clear;
 ghost use mathlib.Core.Path.{_≡_};
 ghost use mathlib.Core.List.{[], _∷_, _++_};
 ghost use Prim.Native.Nat.{_+_, _-_, _≤_, _<_};
@@ -118,9 +117,7 @@ fn put_plain(out: &mut [u8], place: usize, bytes: &[u8], i: usize) -> usize
     requires { ⌜ place + length (escapedOf (drop i (now bytes))) ≤ length (now out) ⌝ }
     ensures { λ r. ⌜ Left (now (bytes .entry)) (now (out .entry)) place i (now (out .exit)) (place + (r - i)) r ⌝ }
 {
-    let end = i + clear_run(&bytes[i..], Extractor::START, Extractor::ESCAPE);
-    copy(out, place, &bytes[i..end]);
-    end
+    i + copy_clear(out, place, &bytes[i..], Extractor::START, Extractor::ESCAPE)
 }
 
 // Writes a run, escaped, from a place, and returns the place after it.

@@ -1,7 +1,7 @@
 -- Laws of stores one after another.
 use Prim.Native.Nat.{ℕ, suc, _+_, _≤_, _<_}
 use mathlib.Core.Path.{_≡_, refl, sym, ap, _∙_}
-use mathlib.Core.List.{List, [], _∷_, _++_}
+use mathlib.Core.List.{List, [], _∷_, _++_, append-nil}
 use native.Mathlib.Nat.{add-zero, add-suc, suc-add, add-assoc}
 use native.Mathlib.Numerals.{add-one}
 use native.Mathlib.Omega.{arith}
@@ -25,3 +25,7 @@ sets-step l run at i h = rw (drop-cons run i 0 h, add-one, add-suc)
 -- .. and at its end
 pub sets-end : (l run : List ℕ) (at i : ℕ) → length run ≤ i → sets l at (drop i run) ≡ l
 sets-end l run at i h = rw (drop-of-length-le run h)
+
+-- a run stored over all of a list
+pub sets-all : (l run : List ℕ) {after : List ℕ} → after ≡ sets l 0 run → length run ≡ length l → after ≡ run
+sets-all l run q e = q ∙ sets-eq run l 0 (omega (arith, e)) ∙ rw (drop-of-length-le l {i = 0 + length run} (omega (arith, e))) (append-nil run)

@@ -7,17 +7,17 @@ use borrow.Author.Needs.{needs}
 use Rattle.frame.proofs.glide.find_frame.Statement.{statement}
 use Rattle.frame.proofs.glide.find_frame.Tie as tie
 
-sub-clear-run : tie.Need-sub-clear-run
-sub-clear-run c = search needs
+sub-before-start : tie.Need-sub-before-start
+sub-before-start c = search needs
 
-part-clear-run-start : tie.Need-part-clear-run-start
-part-clear-run-start c = search needs
+part-before-start-start : tie.Need-part-before-start-start
+part-before-start-start c = search needs
 
-part-clear-run-end : tie.Need-part-clear-run-end
-part-clear-run-end c = search needs
+part-before-start-end : tie.Need-part-before-start-end
+part-before-start-end c = search needs
 
-clear-run-requires : tie.Need-clear-run-requires
-clear-run-requires c κs = search needs
+before-start-requires : tie.Need-before-start-requires
+before-start-requires c κs = search needs
 
 add-at : tie.Need-add-at
 add-at c = search needs
@@ -32,8 +32,8 @@ shared-slice-read-t17 : tie.Need-shared-slice-read-t17
 shared-slice-read-t17 c =
     let q = c .before .before .before in
     let s = q .before .before .before .before in
-    let on = onward-outside (s .args .bytes .now) (s .args .i) (length (s .args .bytes .now)) (q .clear-run .result) (s .pre .0) (s .pre .1 .1) (search needs) (search needs) (q .clear-run .ensures) in
-    let far = onward-header (s .args .bytes .now) (s .args .i + q .clear-run .result) (s .pre .0) (s .pre .1 .1) (on .within) (sym (c .before .before .header-at .ensures) ∙ c .before .if1 .taken) in
+    let on = onward-outside (s .args .bytes .now) (s .args .i) (length (s .args .bytes .now)) (q .before-start .result) (s .pre .0) (s .pre .1 .1) (search needs) (search needs) (q .before-start .ensures) in
+    let far = onward-header (s .args .bytes .now) (s .args .i + q .before-start .result) (s .pre .0) (s .pre .1 .1) (on .within) (sym (c .before .before .header-at .ensures) ∙ c .before .if1 .taken) in
     omega (arith, far .within)
 
 add-take-body : tie.Need-add-take-body
@@ -43,8 +43,8 @@ take-body-requires : tie.Need-take-body-requires
 take-body-requires c κs =
     let q = c .before .before .before .before in
     let s = q .before .before .before .before in
-    let on = onward-outside (s .args .bytes .now) (s .args .i) (length (s .args .bytes .now)) (q .clear-run .result) (s .pre .0) (s .pre .1 .1) (search needs) (search needs) (q .clear-run .ensures) in
-    let far = onward-header (s .args .bytes .now) (s .args .i + q .clear-run .result) (s .pre .0) (s .pre .1 .1) (on .within) (sym (c .before .before .before .header-at .ensures) ∙ c .before .before .if1 .taken) in
+    let on = onward-outside (s .args .bytes .now) (s .args .i) (length (s .args .bytes .now)) (q .before-start .result) (s .pre .0) (s .pre .1 .1) (search needs) (search needs) (q .before-start .ensures) in
+    let far = onward-header (s .args .bytes .now) (s .args .i + q .before-start .result) (s .pre .0) (s .pre .1 .1) (on .within) (sym (c .before .before .before .header-at .ensures) ∙ c .before .before .if1 .taken) in
     (far .ready, (far .within, refl))
 
 same-length : tie.Need-same-length
@@ -54,25 +54,25 @@ returns : tie.Need-returns
 returns c =
     let q = c .before .before .before .before .before .before .before in
     let s = q .before .before .before .before in
-    let on = onward-outside (s .args .bytes .now) (s .args .i) (length (s .args .bytes .now)) (q .clear-run .result) (s .pre .0) (s .pre .1 .1) (search needs) (search needs) (q .clear-run .ensures) in
-    let far = onward-header (s .args .bytes .now) (s .args .i + q .clear-run .result) (s .pre .0) (s .pre .1 .1) (on .within) (sym (c .before .before .before .before .before .before .header-at .ensures) ∙ c .before .before .before .before .before .if1 .taken) in
+    let on = onward-outside (s .args .bytes .now) (s .args .i) (length (s .args .bytes .now)) (q .before-start .result) (s .pre .0) (s .pre .1 .1) (search needs) (search needs) (q .before-start .ensures) in
+    let far = onward-header (s .args .bytes .now) (s .args .i + q .before-start .result) (s .pre .0) (s .pre .1 .1) (on .within) (sym (c .before .before .before .before .before .before .header-at .ensures) ∙ c .before .before .before .before .before .if1 .taken) in
     onward-then (onward-then on far) (c .before .before .take-body .ensures)
 
 returns-2 : tie.Need-returns-2
 returns-2 c =
     let q = c .before .before in
     let s = q .before .before .before .before in
-    let on = onward-outside (s .args .bytes .now) (s .args .i) (length (s .args .bytes .now)) (q .clear-run .result) (s .pre .0) (s .pre .1 .1) (search needs) (search needs) (q .clear-run .ensures) in
+    let on = onward-outside (s .args .bytes .now) (s .args .i) (length (s .args .bytes .now)) (q .before-start .result) (s .pre .0) (s .pre .1 .1) (search needs) (search needs) (q .before-start .ensures) in
     on
 
 pub find-frame-spec : {M : Type 1} → statement M
 find-frame-spec =
     tie.close
     (tie.spec
-    sub-clear-run
-    part-clear-run-start
-    part-clear-run-end
-    clear-run-requires
+    sub-before-start
+    part-before-start-start
+    part-before-start-end
+    before-start-requires
     add-at
     header-at-requires
     add-t15

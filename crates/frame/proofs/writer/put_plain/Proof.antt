@@ -1,61 +1,43 @@
 use native.Mathlib.Omega.{arith}
-use Rattle.frame.proofs.Escaping.{left-run, run-short}
+use Rattle.frame.proofs.Escaping.{rest-short, left-run}
 use borrow.Author.Needs.{needs}
 use Rattle.frame.proofs.writer.put_plain.Statement.{statement}
 use Rattle.frame.proofs.writer.put_plain.Tie as tie
 
-sub-clear-run : tie.Need-sub-clear-run
-sub-clear-run c = search needs
+sub-copy-clear : tie.Need-sub-copy-clear
+sub-copy-clear c = search needs
 
-part-clear-run-start : tie.Need-part-clear-run-start
-part-clear-run-start c = search needs
+part-copy-clear-start : tie.Need-part-copy-clear-start
+part-copy-clear-start c = search needs
 
-part-clear-run-end : tie.Need-part-clear-run-end
-part-clear-run-end c = search needs
+part-copy-clear-end : tie.Need-part-copy-clear-end
+part-copy-clear-end c = search needs
 
-clear-run-requires : tie.Need-clear-run-requires
-clear-run-requires c κs = search needs
+copy-clear-requires : tie.Need-copy-clear-requires
+copy-clear-requires c κs =
+    let s = c .before .before .before .before in
+    omega (arith, rest-short (s .args .bytes .now) (s .args .i) (s .pre .0), s .pre .1)
 
-add-end : tie.Need-add-end
-add-end c = search needs
-
-sub-copy : tie.Need-sub-copy
-sub-copy c = search needs
-
-part-copy-start : tie.Need-part-copy-start
-part-copy-start c = search needs
-
-part-copy-end : tie.Need-part-copy-end
-part-copy-end c = search needs
-
-copy-requires : tie.Need-copy-requires
-copy-requires c κs =
-    let p = c .before .before in
-    let s = p .before .before .before .before in
-    omega (arith, c .copy-arg2 .given .1, s .pre .1, run-short (s .args .bytes .now) (s .args .i) (p .clear-run .result) (s .pre .0) (p .clear-run .ensures))
+add-result : tie.Need-add-result
+add-result c = search needs
 
 same-length : tie.Need-same-length
 same-length c = search needs
 
 returns : tie.Need-returns
 returns c =
-    let p = c .before .before .before .before .before in
-    let s = p .before .before .before .before in
-    rw (c .before .before .copy .ensures)
-    (left-run (s .args .bytes .now) (s .args .i) (p .clear-run .result) (s .pre .0) (p .clear-run .ensures) (s .args .out .now) (s .args .place))
+    let k = c .before .before in
+    let s = k .before .before .before .before .before in
+    left-run (s .args .bytes .now) (s .args .i) (s .pre .0) (k .copy-clear .ensures)
 
 pub put-plain-spec : {M : Type 1} → statement M
 put-plain-spec =
     tie.close
     (tie.spec
-    sub-clear-run
-    part-clear-run-start
-    part-clear-run-end
-    clear-run-requires
-    add-end
-    sub-copy
-    part-copy-start
-    part-copy-end
-    copy-requires
+    sub-copy-clear
+    part-copy-clear-start
+    part-copy-clear-end
+    copy-clear-requires
+    add-result
     same-length
     returns)

@@ -35,11 +35,11 @@ returns c =
     let on = running-on (g .before .before .loop .inv) (g .glide .ensures) (g .glide .kept .1 .0) (c .before .anew .ensures) in
     running-end on (search needs)
 
-shared-slice-read-advance : tie.Need-shared-slice-read-advance Inv-loop μ-loop
-shared-slice-read-advance c = search needs
+shared-slice-read-turn : tie.Need-shared-slice-read-turn Inv-loop μ-loop
+shared-slice-read-turn c = search needs
 
-advance-requires : tie.Need-advance-requires Inv-loop μ-loop
-advance-requires c κs =
+turn-requires : tie.Need-turn-requires Inv-loop μ-loop
+turn-requires c κs =
     let g = c .before .before .before .before .before .before .before in
     let on = running-on (g .before .before .loop .inv) (g .glide .ensures) (g .glide .kept .1 .0) (c .before .before .before .anew .ensures) in
     on .ready
@@ -63,14 +63,14 @@ same-length-2 : tie.Need-same-length-2 Inv-loop μ-loop
 same-length-2 c =
     let g = c .before .before .before .before .before .before .before .before .before .before .before .before .before .before .before in
     let on = running-on (g .before .before .loop .inv) (g .glide .ensures) (g .glide .kept .1 .0) (c .before .before .before .before .before .before .before .before .before .before .before .anew .ensures) in
-    c .before .before .before .before .before .before .before .advance .kept .1 .0 ∙ on .same
+    c .before .before .before .before .before .before .before .turn .kept .1 .0 ∙ on .same
 
 returns-2 : tie.Need-returns-2 Inv-loop μ-loop
 returns-2 c =
     let g = c .before .before .before .before .before .before .before .before .before .before .before .before .before .before .before in
     let on = running-on (g .before .before .loop .inv) (g .glide .ensures) (g .glide .kept .1 .0) (c .before .before .before .before .before .before .before .before .before .before .before .anew .ensures) in
     rw (c .feed-outcome .ensures)
-    (running-stop on (c .before .before .before .before .before .before .before .advance .ensures) (search needs) (c .before .before .before .anew2 .ensures) (sym (c .before .before .is-decided .ensures) ∙ c .before .if2 .taken))
+    (running-stop on (c .before .before .before .before .before .before .before .turn .ensures) (search needs) (c .before .before .before .anew2 .ensures) (sym (c .before .before .is-decided .ensures) ∙ c .before .if2 .taken))
 
 loop-less : tie.Need-loop-less Inv-loop μ-loop
 loop-less c = omega (arith, c .before .before .before .before .before .before .before .before .before .before .before .before .before .before .glide .ensures .from)
@@ -79,7 +79,7 @@ loop-again : tie.Need-loop-again Inv-loop μ-loop
 loop-again c =
     let g = c .before .before .before .before .before .before .before .before .before .before .before .before .before .before in
     let on = running-on (g .before .before .loop .inv) (g .glide .ensures) (g .glide .kept .1 .0) (c .before .before .before .before .before .before .before .before .before .before .anew .ensures) in
-    running-more on (c .before .before .before .before .before .before .advance .ensures) (search needs) (c .before .before .anew2 .ensures) (sym (c .before .is-decided .ensures) ∙ c .if2 .left) (c .before .before .before .before .before .before .advance .kept .1 .0)
+    running-more on (c .before .before .before .before .before .before .turn .ensures) (search needs) (c .before .before .anew2 .ensures) (sym (c .before .is-decided .ensures) ∙ c .if2 .left) (c .before .before .before .before .before .before .turn .kept .1 .0)
 
 pub run-spec : {M : Type 1} → statement M
 run-spec =
@@ -92,8 +92,8 @@ run-spec =
     anew-requires
     same-length
     returns
-    shared-slice-read-advance
-    advance-requires
+    shared-slice-read-turn
+    turn-requires
     add-i
     anew-requires-2
     is-decided-requires

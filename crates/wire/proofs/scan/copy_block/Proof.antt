@@ -1,0 +1,40 @@
+use mathlib.Core.Path.{ap, _∙_}
+use lib.ListN.{replicate}
+use lib.Seq.{sets}
+use Rattle.wire.proofs.Stores.{sets-all}
+use borrow.Author.Needs.{needs}
+use Rattle.wire.proofs.scan.copy_block.Statement.{statement}
+use Rattle.wire.proofs.scan.copy_block.Tie as tie
+
+slice-aggregate-copy : tie.Need-slice-aggregate-copy
+slice-aggregate-copy c = search needs
+
+copy-requires : tie.Need-copy-requires
+copy-requires c κs = search needs
+
+slice-aggregate-copy-2 : tie.Need-slice-aggregate-copy-2
+slice-aggregate-copy-2 c = search needs
+
+copy-requires-2 : tie.Need-copy-requires-2
+copy-requires-2 c κs = search needs
+
+same-length : tie.Need-same-length
+same-length c = search needs
+
+returns : tie.Need-returns
+returns c =
+    let p = c .before .before in
+    let k = p .before .before .before .before in
+    let s = k .before .before .before .before in
+    p .copy2 .ensures ∙ ap (sets (s .args .out .now) (s .args .at)) (sets-all (replicate 16 0) (s .args .run .now) (k .copy .ensures) (s .pre .0))
+
+pub copy-block-spec : {M : Type 1} → statement M
+copy-block-spec =
+    tie.close
+    (tie.spec
+    slice-aggregate-copy
+    copy-requires
+    slice-aggregate-copy-2
+    copy-requires-2
+    same-length
+    returns)
