@@ -1,0 +1,14 @@
+//! Links what `bench/run` has put together: the library's archive, the C subjects, and Debian's nanopb.
+
+use std::env;
+
+fn main() {
+    let folder = env::var("BENCH_ARCHIVES").expect("bench/run sets it");
+    println!("cargo:rerun-if-env-changed=BENCH_ARCHIVES");
+    println!("cargo:rustc-link-search=native={folder}");
+    for library in ["capi", "bench_c"] {
+        println!("cargo:rerun-if-changed={folder}/lib{library}.a");
+        println!("cargo:rustc-link-lib=static={library}");
+    }
+    println!("cargo:rustc-link-lib=protobuf-nanopb");
+}

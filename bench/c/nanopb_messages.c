@@ -1,0 +1,229 @@
+/*
+ * The four control messages by nanopb, with the rows of pitokaenge.h. The structs that are written are filled ahead,
+ * by the `prepare` functions, so that a `write` is pb_encode alone; it takes the prepared ones in turn. A part that is
+ * read is told as its place in the decoded struct, nanopb_decoded().
+ */
+#include "control.pb.h"
+
+#include <pb_decode.h>
+#include <pb_encode.h>
+#include <stddef.h>
+#include <string.h>
+
+enum { PREPARED = 64 };
+enum payload { NONE, RESPONSE, MEMBER };
+
+union message {
+    ControlEnvelope envelope;
+    Response response;
+    DeviceInformation information;
+    DeviceFeatures features;
+};
+
+static union message decoded;
+static union message prepared[PREPARED];
+static size_t prepared_count;
+static size_t turn;
+
+const uint8_t *nanopb_decoded(void)
+{
+    return (const uint8_t *)&decoded;
+}
+
+void nanopb_forget(void)
+{
+    prepared_count = 0;
+    turn = 0;
+}
+
+static bool decode(const pb_msgdesc_t *fields, const uint8_t *message, size_t message_len)
+{
+    pb_istream_t stream = pb_istream_from_buffer(message, message_len);
+
+    return pb_decode(&stream, fields, &decoded);
+}
+
+static uint64_t encode_next(const pb_msgdesc_t *fields, uint8_t *output, size_t output_len, uint64_t *answer)
+{
+    pb_ostream_t stream = pb_ostream_from_buffer(output, output_len);
+    bool written = pb_encode(&stream, fields, &prepared[turn]);
+
+    turn = turn + 1 == prepared_count ? 0 : turn + 1;
+    answer[0] = stream.bytes_written;
+    return written ? 0 : 14;
+}
+
+static union message *prepare(void)
+{
+    union message *message = &prepared[prepared_count++];
+
+    memset(message, 0, sizeof *message);
+    return message;
+}
+
+static uint64_t place(const void *part)
+{
+    return (uint64_t)((const uint8_t *)part - (const uint8_t *)&decoded);
+}
+
+/* `error_code, field, start, length` */
+static void tell_response(const Response *response, uint64_t *answer)
+{
+    const Response_bytes_t *bytes = &response->payload.bytes;
+    bool has = response->which_payload == Response_bytes_tag;
+
+    answer[0] = (uint64_t)(int64_t)response->error_code;
+    answer[1] = response->which_payload;
+    answer[2] = has ? place(bytes->bytes) : 0;
+    answer[3] = has ? bytes->size : 0;
+}
+
+uint64_t nanopb_envelope_read(const uint8_t *message, size_t message_len, uint64_t *answer, size_t answer_len)
+{
+    const ControlEnvelope *envelope = &decoded.envelope;
+    const ControlEnvelope_bytes_t *bytes = &envelope->payload.bytes;
+
+    (void)answer_len;
+    if (!decode(ControlEnvelope_fields, message, message_len))
+        return 30;
+    answer[0] = (uint64_t)(int64_t)envelope->command;
+    answer[1] = NONE;
+    memset(answer + 2, 0, 4 * sizeof *answer);
+    if (envelope->which_payload == ControlEnvelope_response_tag) {
+        answer[1] = RESPONSE;
+        tell_response(&envelope->payload.response, answer + 2);
+    } else if (envelope->which_payload != 0) {
+        answer[1] = MEMBER;
+        answer[3] = envelope->which_payload;
+        answer[4] = place(bytes->bytes);
+        answer[5] = bytes->size;
+    }
+    return 0;
+}
+
+uint64_t nanopb_response_read(const uint8_t *message, size_t message_len, uint64_t *answer, size_t answer_len)
+{
+    (void)answer_len;
+    if (!decode(Response_fields, message, message_len))
+        return 30;
+    tell_response(&decoded.response, answer);
+    return 0;
+}
+
+uint64_t nanopb_information_read(const uint8_t *message, size_t message_len, uint64_t *answer, size_t answer_len)
+{
+    const DeviceInformation *information = &decoded.information;
+
+    if (!decode(DeviceInformation_fields, message, message_len))
+        return 30;
+    answer[0] = place(information->serial_number.bytes);
+    answer[1] = information->serial_number.size;
+    answer[2] = place(information->name.bytes);
+    answer[3] = information->name.size;
+    answer[4] = place(information->device_type.bytes);
+    answer[5] = information->device_type.size;
+    answer[6] = information->supported_transports_count;
+    for (size_t i = 7; i < answer_len; i++)
+        answer[i] = i - 7 < answer[6] ? (uint64_t)(int64_t)information->supported_transports[i - 7] : 0;
+    return 0;
+}
+
+uint64_t nanopb_features_read(const uint8_t *message, size_t message_len, uint64_t *answer, size_t answer_len)
+{
+    (void)answer_len;
+    if (!decode(DeviceFeatures_fields, message, message_len))
+        return 30;
+    answer[0] = decoded.features.features;
+    answer[1] = decoded.features.device_attributes;
+    return 0;
+}
+
+static void fill_response(Response *response, uint64_t error_code, uint64_t field, const uint8_t *bytes,
+                          size_t bytes_len)
+{
+    response->error_code = (ErrorCode)error_code;
+    response->which_payload = (pb_size_t)field;
+    response->payload.bytes.size = (pb_size_t)bytes_len;
+    memcpy(response->payload.bytes.bytes, bytes, bytes_len);
+}
+
+void nanopb_envelope_prepare(uint64_t command, uint64_t payload, uint64_t error_code, uint64_t field,
+                             const uint8_t *bytes, size_t bytes_len)
+{
+    ControlEnvelope *envelope = &prepare()->envelope;
+
+    envelope->command = (Command)command;
+    if (payload == RESPONSE) {
+        envelope->which_payload = ControlEnvelope_response_tag;
+        fill_response(&envelope->payload.response, error_code, field, bytes, bytes_len);
+    } else if (payload == MEMBER) {
+        envelope->which_payload = (pb_size_t)field;
+        envelope->payload.bytes.size = (pb_size_t)bytes_len;
+        memcpy(envelope->payload.bytes.bytes, bytes, bytes_len);
+    }
+}
+
+uint64_t nanopb_envelope_write(uint64_t command, uint64_t payload, uint64_t error_code, uint64_t field,
+                               const uint8_t *bytes, size_t bytes_len, uint8_t *output, size_t output_len,
+                               uint64_t *answer, size_t answer_len)
+{
+    (void)command, (void)payload, (void)error_code, (void)field, (void)bytes, (void)bytes_len, (void)answer_len;
+    return encode_next(ControlEnvelope_fields, output, output_len, answer);
+}
+
+void nanopb_response_prepare(uint64_t error_code, uint64_t field, const uint8_t *bytes, size_t bytes_len)
+{
+    fill_response(&prepare()->response, error_code, field, bytes, bytes_len);
+}
+
+uint64_t nanopb_response_write(uint64_t error_code, uint64_t field, const uint8_t *bytes, size_t bytes_len,
+                               uint8_t *output, size_t output_len, uint64_t *answer, size_t answer_len)
+{
+    (void)error_code, (void)field, (void)bytes, (void)bytes_len, (void)answer_len;
+    return encode_next(Response_fields, output, output_len, answer);
+}
+
+#define FILL(field, from, length) \
+    do { \
+        (field).size = (pb_size_t)(length); \
+        memcpy((field).bytes, from, length); \
+    } while (0)
+
+void nanopb_information_prepare(const uint8_t *serial_number, size_t serial_number_len, const uint8_t *name,
+                                size_t name_len, const uint8_t *device_type, size_t device_type_len,
+                                const uint64_t *transports, size_t transports_len)
+{
+    DeviceInformation *information = &prepare()->information;
+
+    FILL(information->serial_number, serial_number, serial_number_len);
+    FILL(information->name, name, name_len);
+    FILL(information->device_type, device_type, device_type_len);
+    information->supported_transports_count = (pb_size_t)transports_len;
+    for (size_t i = 0; i < transports_len; i++)
+        information->supported_transports[i] = (Transport)transports[i];
+}
+
+uint64_t nanopb_information_write(const uint8_t *serial_number, size_t serial_number_len, const uint8_t *name,
+                                  size_t name_len, const uint8_t *device_type, size_t device_type_len,
+                                  const uint64_t *transports, size_t transports_len, uint8_t *output,
+                                  size_t output_len, uint64_t *answer, size_t answer_len)
+{
+    (void)serial_number, (void)serial_number_len, (void)name, (void)name_len, (void)device_type;
+    (void)device_type_len, (void)transports, (void)transports_len, (void)answer_len;
+    return encode_next(DeviceInformation_fields, output, output_len, answer);
+}
+
+void nanopb_features_prepare(uint64_t features, uint64_t device_attributes)
+{
+    DeviceFeatures *message = &prepare()->features;
+
+    message->features = features;
+    message->device_attributes = device_attributes;
+}
+
+uint64_t nanopb_features_write(uint64_t features, uint64_t device_attributes, uint8_t *output, size_t output_len,
+                               uint64_t *answer, size_t answer_len)
+{
+    (void)features, (void)device_attributes, (void)answer_len;
+    return encode_next(DeviceFeatures_fields, output, output_len, answer);
+}

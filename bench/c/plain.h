@@ -1,0 +1,18 @@
+/*
+ * Classic frames in plain C: the extractor as a step machine, byte by byte, and the frame writer in two passes. Rows,
+ * answers and refusals are those of pitokaenge.h.
+ */
+#ifndef PLAIN_H
+#define PLAIN_H
+
+#include <stddef.h>
+#include <stdint.h>
+
+uint64_t plain_extractor_step(uint64_t *state, size_t state_len, uint8_t *buffer, size_t buffer_len, uint8_t byte,
+                              uint64_t *answer, size_t answer_len);
+uint64_t plain_extractor_feed(uint64_t *state, size_t state_len, uint8_t *buffer, size_t buffer_len,
+                              const uint8_t *bytes, size_t bytes_len, uint64_t *answer, size_t answer_len);
+uint64_t plain_frame_write(uint64_t sequence, const uint8_t *payload, size_t payload_len, uint8_t *output,
+                           size_t output_len, uint64_t *answer, size_t answer_len);
+
+#endif

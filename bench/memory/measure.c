@@ -1,0 +1,270 @@
+/*
+ * Calls every function of the header some thousand times on a painted stack and prints how deep each went: whole
+ * frames, packets of every kind and all messages as the library writes them, the same with bytes changed, cut or
+ * put in, and arguments that are refused.
+ */
+#include <string.h>
+
+#include "paint.h"
+#include "pitokaenge.h"
+
+#define ROUNDS 4000
+#define LONGEST_FRAME (2 * PITO_MESSAGE_LIMIT + 9)
+#define MOST_BYTES (2 * LONGEST_FRAME)
+#define LONGEST_ROW 16
+#define LARGEST_ROOM 512
+
+static uint64_t answer[LONGEST_ROW];
+static uint8_t payload[PITO_MESSAGE_LIMIT + 8], bytes[MOST_BYTES];
+static const uint8_t streams[] = {PITO_STREAM_CONTROL, PITO_STREAM_OTA, PITO_STREAM_ALEXA};
+
+/* A length, now and then a wrong one. */
+static uint64_t length(uint64_t right)
+{
+    return once_in(60) ? right - 1 : right;
+}
+
+static uint64_t any_stream(void)
+{
+    return once_in(40) ? below(300) : streams[below(3)];
+}
+
+/* Any length up to the most, the short ones and the most itself often. */
+static size_t any_length(size_t most)
+{
+    switch (below(8)) {
+    case 0: return most;
+    case 1: return below(most + 1);
+    default: return below(most < 40 ? most + 1 : 40);
+    }
+}
+
+/* Bytes of one kind: any, small, or mostly marks. */
+static void fill(uint8_t *to, size_t count)
+{
+    uint64_t kind = below(3);
+    for (size_t i = 0; i < count; i++)
+        to[i] = (uint8_t)(kind == 0 ? below(256) : kind == 1 ? below(24) : 0xEF + below(4));
+}
+
+/* Changes, cuts or puts in some bytes, half of the time. */
+static size_t damage(uint8_t *to, size_t count)
+{
+    while (count > 0 && !once_in(2)) {
+        size_t place = below(once_in(2) && count > 8 ? 8 : count);
+        switch (below(5)) {
+        case 0: to[place] = (uint8_t)below(256); break;
+        case 1: to[place] = (uint8_t)(0xF0 + below(3)); break;
+        case 2: memmove(to + place, to + place + 1, count - place - 1); count--; break;
+        case 3: to[place] ^= (uint8_t)(1 << below(8)); break;
+        default: count -= below(count < 20 ? count : 20);
+        }
+    }
+    return count;
+}
+
+static size_t write_frame(void)
+{
+    size_t count = any_length(PITO_MESSAGE_LIMIT + (once_in(40) ? 8 : 0));
+    uint64_t sequence = once_in(20) ? below(300) : below(0xF0);
+    uint64_t room = once_in(20) ? below(LONGEST_FRAME) : LONGEST_FRAME;
+    fill(payload, count);
+    if (CALL(pito_frame_write, sequence, A(payload), count, A(bytes), room, A(answer),
+             length(PITO_FRAME_WRITE_ANSWER)) != 0)
+        return 0;
+    return answer[0];
+}
+
+/* A frame that never ends stores too much; the others are the writer's. */
+static size_t make_frame(void)
+{
+    size_t count = write_frame();
+    if (once_in(20)) {
+        count = PITO_EXTRACTOR_BUFFER + 400;
+        memset(bytes, 0x20, count);
+        memcpy(bytes, "\xF0\x02\x00\x05", 4);
+    }
+    return damage(bytes, count);
+}
+
+static void feed_frame(size_t count)
+{
+    static uint64_t state[PITO_EXTRACTOR_STATE];
+    static uint8_t buffer[PITO_EXTRACTOR_BUFFER];
+    size_t used = 0;
+    while (used < count) {
+        size_t part = 1 + any_length(count - used - 1);
+        uint64_t number = CALL(pito_extractor_feed, A(state), PITO_EXTRACTOR_STATE, A(buffer),
+                               length(PITO_EXTRACTOR_BUFFER), A(bytes + used), part, A(answer), PITO_FEED_ANSWER);
+        used += number == 1 ? 0 : answer[1];
+    }
+}
+
+static void step_frame(size_t count)
+{
+    static uint64_t state[PITO_EXTRACTOR_STATE];
+    static uint8_t buffer[PITO_EXTRACTOR_BUFFER];
+    for (size_t i = 0; i < count; i++)
+        CALL(pito_extractor_step, A(state), length(PITO_EXTRACTOR_STATE), A(buffer), PITO_EXTRACTOR_BUFFER, bytes[i],
+             A(answer), PITO_STEP_ANSWER);
+}
+
+static void classic(void)
+{
+    for (int round = 0; round < ROUNDS; round++) {
+        size_t count = make_frame();
+        feed_frame(count);
+        if (count < 100 || once_in(20))
+            step_frame(count);
+        CALL(pito_next_sequence, below(256), A(answer), length(PITO_NEXT_SEQUENCE_ANSWER));
+    }
+}
+
+static void accept(const uint8_t *packet, size_t count)
+{
+    static uint64_t state[PITO_RECEIVER_STATE];
+    static uint8_t buffer[PITO_RECEIVER_BUFFER];
+    CALL(pito_receiver_accept, A(state), PITO_RECEIVER_STATE, A(buffer), length(PITO_RECEIVER_BUFFER), A(packet),
+         count, A(answer), PITO_RECEIVER_ANSWER);
+}
+
+/* All packets of a message, some of them damaged or followed by any bytes. */
+static void send_message(void)
+{
+    uint64_t room = once_in(40) ? below(600) : 20 + below(LARGEST_ROOM - 19), stream = any_stream(), place = 0;
+    uint64_t id = below(once_in(40) ? 20 : 16), sequence = below(once_in(40) ? 20 : 16), ack = below(2);
+    size_t count = any_length(PITO_MESSAGE_LIMIT);
+    int clean = once_in(2);
+    fill(payload, count);
+    do {
+        uint64_t next, output = once_in(100) ? below(20) : LARGEST_ROOM;
+        if (CALL(pito_packet_write, room, stream, id, sequence, ack, A(payload), count, place, A(bytes), output,
+                 A(answer), length(PITO_PACKET_WRITE_ANSWER)) != 0)
+            return;
+        next = answer[1];
+        accept(bytes, clean ? answer[0] : damage(bytes, answer[0]));
+        if (!clean && once_in(4)) {
+            fill(bytes, 8);
+            accept(bytes, below(9));
+        }
+        place = once_in(100) ? place + 1 : next;
+    } while (place < count);
+}
+
+static void low_energy(void)
+{
+    for (int round = 0; round < ROUNDS; round++) {
+        send_message();
+        if (CALL(pito_ack_write, any_stream(), below(17), below(17), below(3), A(bytes), once_in(20) ? 5 : 6,
+                 A(answer), length(PITO_ACK_WRITE_ANSWER)) == 0)
+            accept(bytes, damage(bytes, 6));
+    }
+}
+
+/* A signed 32-bit number, now and then one of 64 bits. */
+static uint64_t any_signed(void)
+{
+    return once_in(20) ? any_number() : (uint64_t)(int64_t)(int32_t)any_number();
+}
+
+static uint64_t any_field(void)
+{
+    return once_in(20) ? any_number() : below(20);
+}
+
+static void read_all(size_t count)
+{
+    CALL(pito_envelope_read, A(bytes), count, A(answer), length(PITO_ENVELOPE_READ_ANSWER));
+    CALL(pito_response_read, A(bytes), count, A(answer), length(PITO_RESPONSE_READ_ANSWER));
+    CALL(pito_information_read, A(bytes), count, A(answer), length(PITO_INFORMATION_READ_ANSWER));
+    CALL(pito_features_read, A(bytes), count, A(answer), length(PITO_FEATURES_READ_ANSWER));
+}
+
+/* Damaged, or with itself behind it: what may stand once then stands twice. */
+static void read_written(uint64_t number)
+{
+    size_t count = number == 0 ? answer[0] : 0;
+    if (once_in(4)) {
+        memcpy(bytes + count, bytes, count);
+        count *= 2;
+    }
+    read_all(damage(bytes, count));
+}
+
+static uint64_t room_for_message(void)
+{
+    return once_in(20) ? below(40) : LONGEST_FRAME;
+}
+
+static void write_envelope(size_t count)
+{
+    read_written(CALL(pito_response_write, any_signed(), any_field(), A(payload), count, A(bytes), room_for_message(),
+                      A(answer), length(PITO_RESPONSE_WRITE_ANSWER)));
+    read_written(CALL(pito_envelope_write, any_signed(), below(once_in(20) ? 4 : 3), any_signed(), any_field(),
+                      A(payload), count, A(bytes), room_for_message(), A(answer),
+                      length(PITO_ENVELOPE_WRITE_ANSWER)));
+}
+
+static void write_information(size_t count)
+{
+    uint64_t transports[PITO_MOST_TRANSPORTS + 1], many = below(once_in(20) ? 10 : 9);
+    for (uint64_t i = 0; i < many; i++)
+        transports[i] = any_signed();
+    read_written(CALL(pito_information_write, A(payload), count, A(payload), below(count + 1), A(payload),
+                      below(count + 1), A(transports), many, A(bytes), room_for_message(), A(answer),
+                      length(PITO_INFORMATION_WRITE_ANSWER)));
+    read_written(CALL(pito_features_write, any_number(), any_number(), A(bytes), room_for_message(), A(answer),
+                      length(PITO_FEATURES_WRITE_ANSWER)));
+}
+
+static void messages(void)
+{
+    for (int round = 0; round < ROUNDS; round++) {
+        size_t count = any_length(1000);
+        fill(payload, count);
+        write_envelope(count);
+        write_information(count);
+        count = any_length(100);
+        fill(bytes, count);
+        read_all(count);
+    }
+}
+
+static void read_outbox(size_t used)
+{
+    uint64_t place = once_in(40) ? below(used + 3) : 1;
+    CALL(pito_outbox_whole, A(bytes), used, A(answer), length(PITO_OUTBOX_WHOLE_ANSWER));
+    while (CALL(pito_outbox_record, A(bytes), used, place, A(answer), length(PITO_OUTBOX_RECORD_ANSWER)) == 0 &&
+           answer[0] == PITO_RECORD)
+        place = answer[4];
+}
+
+static void outbox(void)
+{
+    uint64_t used = 0;
+    for (int round = 0; round < ROUNDS; round++) {
+        size_t count = any_length(PITO_MESSAGE_LIMIT + once_in(40));
+        if (used == 0 || once_in(10))
+            used = CALL(pito_outbox_new, A(bytes), !once_in(40), A(answer), length(PITO_OUTBOX_NEW_ANSWER)) == 0;
+        CALL(pito_outbox_new, A(payload), below(3), A(answer), length(PITO_OUTBOX_NEW_ANSWER));
+        fill(payload, count);
+        if (CALL(pito_outbox_append, A(bytes), MOST_BYTES, once_in(60) ? MOST_BYTES + 1 : used, any_stream(),
+                 A(payload), count, A(answer), length(PITO_OUTBOX_APPEND_ANSWER)) == 0)
+            used = answer[0];
+        read_outbox(used);
+        if (once_in(10))
+            used = damage(bytes, used);
+        if (once_in(40) && used > 3)
+            memset(bytes + 1, 0, 3);
+    }
+}
+
+int main(void)
+{
+    classic();
+    low_energy();
+    messages();
+    outbox();
+    print_depths();
+    return 0;
+}

@@ -1,0 +1,193 @@
+/*
+ * Prints the tables of rows, buffers and sums, from the header's own numbers.
+ *
+ *   sizes parts
+ *   sizes sum DEEPEST_STACK
+ *
+ * rows.inc has ROW(NAME) for each row that the header names; bench/memory/run makes it.
+ */
+#include <stdio.h>
+#include <stdlib.h>
+#include <string.h>
+
+#include "pitokaenge.h"
+
+#define ALL_A_BOX_HAS 32768
+
+/* Four bytes, then the payload and two bytes of checksum, each perhaps escaped, and the end mark. */
+#define LONGEST_FRAME (4 + 2 * PITO_MESSAGE_LIMIT + 2 * 2 + 1)
+/* The version byte, a length of two bytes, a stream byte, a payload. */
+#define OUTBOX_OF_ONE (1 + 2 + 1 + PITO_MESSAGE_LIMIT)
+#define LARGEST_ROOM 512
+#define SMALLEST_ROOM 20
+#define ACK 6
+#define SERIAL_INPUT 256
+#define SMALL_PIPE 64
+
+#define ROW(name) uint64_t name##_row[name];
+union any_row {
+#include "rows.inc"
+};
+#undef ROW
+
+/* In the order of the table; the rows come first, so that only the end has padding. */
+static struct box {
+    uint64_t extractor[PITO_EXTRACTOR_STATE];
+    uint64_t receiver[PITO_RECEIVER_STATE];
+    union any_row answer;
+    uint64_t transports[PITO_MOST_TRANSPORTS];
+    uint8_t extractor_buffer[PITO_EXTRACTOR_BUFFER];
+    uint8_t receiver_buffer[PITO_RECEIVER_BUFFER];
+    uint8_t frame[LONGEST_FRAME];
+    uint8_t outbox[OUTBOX_OF_ONE];
+    uint8_t packet_out[LARGEST_ROOM];
+    uint8_t ack[ACK];
+    uint8_t serial_in[SERIAL_INPUT];
+    uint8_t packet_in[LARGEST_ROOM];
+} box;
+
+static long together;
+
+/* A number with commas; up to four of them live at once. */
+static const char *commas(long number)
+{
+    static char texts[4][32];
+    static int turn;
+    char *text = texts[turn = (turn + 1) % 4];
+    const char *sign = number < 0 ? "-" : "";
+    number = labs(number);
+    if (number < 1000)
+        snprintf(text, sizeof texts[0], "%s%ld", sign, number);
+    else
+        snprintf(text, sizeof texts[0], "%s%ld,%03ld", sign, number / 1000, number % 1000);
+    return text;
+}
+
+static void print_rows(void)
+{
+    printf("| row | numbers | bytes |\n|---|--:|--:|\n");
+#define ROW(name) printf("| `" #name "` | %d | %zu |\n", name, sizeof((union any_row *)0)->name##_row);
+#include "rows.inc"
+#undef ROW
+    printf("\n");
+}
+
+static void buffer(const char *what, const char *why, size_t bytes)
+{
+    printf("| %s | %s | %s |\n", what, why, commas((long)bytes));
+}
+
+static void print_buffers(void)
+{
+    printf("| buffer | why this size | bytes |\n|---|---|--:|\n");
+    buffer("extractor's", "`PITO_EXTRACTOR_BUFFER`, exactly", sizeof box.extractor_buffer);
+    buffer("receiver's", "`PITO_RECEIVER_BUFFER`, exactly", sizeof box.receiver_buffer);
+    buffer("outgoing frame", "4 + 2 * 4,096 + 2 * 2 + 1, all escaped", sizeof box.frame);
+    buffer("outgoing packet", "the largest room; from 20 on", sizeof box.packet_out);
+    buffer("packet that came", "the largest room of the other side", sizeof box.packet_in);
+    buffer("ACK", "exactly", sizeof box.ack);
+    buffer("outbox of one record", "1 + 2 + 1 + 4,096, as in examples/c/box.c", sizeof box.outbox);
+    buffer("serial input", "any size from 1 on, here that of examples/c/box.c", sizeof box.serial_in);
+    printf("\n");
+}
+
+static void part(const char *what, size_t bytes)
+{
+    together += (long)bytes;
+    printf("| %s | %s | %s |\n", what, commas((long)bytes), commas(together));
+}
+
+/* What a sum leaves of all that a box has. */
+static const char *left_of(long sum)
+{
+    static char text[48];
+    snprintf(text, sizeof text, sum > ALL_A_BOX_HAS ? "does not fit: %s too many" : "%s left",
+             commas(labs(ALL_A_BOX_HAS - sum)));
+    return text;
+}
+
+static void subtotal(const char *what)
+{
+    printf("| **%s** | | **%s**, %s |\n", what, commas(together), left_of(together));
+}
+
+static void print_sum(size_t deepest)
+{
+    printf("| what a box holds at once | bytes | together |\n|---|--:|--:|\n");
+    part("extractor's state", sizeof box.extractor);
+    part("extractor's buffer", sizeof box.extractor_buffer);
+    part("receiver's state", sizeof box.receiver);
+    part("receiver's buffer", sizeof box.receiver_buffer);
+    part("one outgoing frame, the longest", sizeof box.frame);
+    part("one answer row, the longest", sizeof box.answer);
+    part("the deepest stack of one call", deepest);
+    subtotal("both links open, one outgoing frame");
+    part("outbox of one record", sizeof box.outbox);
+    part("one outgoing packet, the largest", sizeof box.packet_out);
+    part("an ACK", sizeof box.ack);
+    part("serial input", sizeof box.serial_in);
+    part("a packet that came, the largest", sizeof box.packet_in);
+    part("the transports of its device information", sizeof box.transports);
+    part("padding, all but the stack in one struct", deepest + sizeof box - (size_t)together);
+    subtotal("all that a box holds");
+    printf("\n");
+}
+
+static void instead(const char *what, long more)
+{
+    printf("| %s | %s%s | %s | %s |\n", what, more > 0 ? "+" : "", commas(more), commas(together + more),
+           left_of(together + more));
+}
+
+static void print_choices(void)
+{
+    const long message = PITO_MESSAGE_LIMIT, no_frame = SMALL_PIPE - (long)sizeof box.frame;
+    const long one_at_a_time = -(long)(sizeof box.packet_out + sizeof box.ack);
+    printf("| instead | bytes | together | of 32,768 |\n|---|--:|--:|--:|\n");
+    instead("as above", 0);
+    instead("a message buffer of its own besides", message);
+    instead("packet and ACK are made in the frame's bytes, one thing sent at a time", one_at_a_time);
+    instead("a room of 20, both ways", 2 * (SMALLEST_ROOM - LARGEST_ROOM));
+    instead("only payloads up to 2,048 bytes are sent as frames", 2 * (2048 - message));
+    instead("the same, and a message buffer of 2,048", 2 * (2048 - message) + 2048);
+    instead("frames written 64 bytes at a time (No. 4, not built; without its state)", no_frame);
+    instead("the same, and a message buffer of 4,096", no_frame + message);
+    printf("\n");
+}
+
+/* Payloads of marks alone, one for each sum that such payloads have. */
+static void print_longest_frame(void)
+{
+    static uint8_t payload[PITO_MESSAGE_LIMIT];
+    uint64_t written[PITO_FRAME_WRITE_ANSWER], longest = 0;
+    memset(payload, 0xF0, sizeof payload);
+    for (size_t turn = 0; turn <= 2 * sizeof payload; turn++) {
+        if (turn > 0)
+            payload[(turn - 1) % sizeof payload]++;
+        if (pito_frame_write(0, payload, sizeof payload, box.frame, sizeof box.frame, written,
+                             PITO_FRAME_WRITE_ANSWER) != 0)
+            exit(1);
+        longest = written[0] > longest ? written[0] : longest;
+    }
+    printf("Longest frame that `pito_frame_write` wrote of 4,096 marks, over every sum that marks have: %s bytes.\n",
+           commas((long)longest));
+    printf("\nLongest payload that fits behind its own frame in the frame's bytes (2n + 9 + n): %s bytes.\n",
+           commas(((long)sizeof box.frame - 9) / 3));
+}
+
+int main(int words, char **word)
+{
+    if (words == 2 && strcmp(word[1], "parts") == 0) {
+        print_rows();
+        print_buffers();
+        print_longest_frame();
+        return 0;
+    }
+    if (words == 3 && strcmp(word[1], "sum") == 0) {
+        print_sum(strtoul(word[2], NULL, 10));
+        print_choices();
+        return 0;
+    }
+    fprintf(stderr, "usage: sizes parts, or sizes sum DEEPEST_STACK\n");
+    return 2;
+}

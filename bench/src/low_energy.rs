@@ -1,0 +1,219 @@
+//! Loops over Low Energy packets.
+
+use crate::calls::{AckWrite, PacketWrite, ReceiverAccept};
+use crate::digest::Digest;
+use second::low_energy::{
+    accept as accept_packet, acknowledgement, write_packet, Accepted, Open, Slots, Stream, Wish,
+    MESSAGE,
+};
+use std::hint::black_box;
+
+const FINISHED: u64 = 1;
+/// What all packets of the bench share; the stream is Alexa's.
+pub const WISH: Wish = Wish {
+    stream: Stream::Alexa,
+    id: 5,
+    sequence: 3,
+    ack: true,
+};
+
+/// Every packet of every message, place after place.
+pub fn write<const WHOLE: bool>(write: PacketWrite, messages: &[Vec<u8>], room: usize) -> u64 {
+    let write = black_box(write);
+    let mut digest = Digest::<WHOLE>::new();
+    let (mut output, mut answer) = ([0; 512], [0; 2]);
+    for message in messages {
+        let mut place = 0;
+        loop {
+            let number = unsafe {
+                write(
+                    room as u64,
+                    u64::from(WISH.stream.number()),
+                    u64::from(WISH.id),
+                    u64::from(WISH.sequence),
+                    u64::from(WISH.ack),
+                    message.as_ptr(),
+                    message.len(),
+                    place,
+                    output.as_mut_ptr(),
+                    output.len(),
+                    answer.as_mut_ptr(),
+                    answer.len(),
+                )
+            };
+            digest.number(number);
+            digest.row(&answer);
+            digest.bytes(&output[..answer[0] as usize]);
+            place = answer[1];
+            if place == message.len() as u64 {
+                break;
+            }
+        }
+    }
+    digest.lent(&output);
+    digest.value()
+}
+
+pub fn write_own<const WHOLE: bool>(messages: &[Vec<u8>], room: usize) -> u64 {
+    let mut digest = Digest::<WHOLE>::new();
+    let mut output = [0; 512];
+    for message in messages {
+        let mut place = 0;
+        loop {
+            let told = write_packet(room as u64, Some(WISH), message, place, &mut output);
+            let (written, next) = told.expect("a lawful wish");
+            digest.row(&[0, written as u64, next as u64]);
+            digest.bytes(&output[..written]);
+            place = next as u64;
+            if next == message.len() {
+                break;
+            }
+        }
+    }
+    digest.lent(&output);
+    digest.value()
+}
+
+/// ACKs and NACKs by turns, of each id and sequence.
+pub fn write_acks<const WHOLE: bool>(write: AckWrite, count: usize) -> u64 {
+    let write = black_box(write);
+    let mut digest = Digest::<WHOLE>::new();
+    let (mut output, mut answer) = ([0; 6], [0]);
+    for turn in 0..count as u64 {
+        let number = unsafe {
+            write(
+                u64::from(WISH.stream.number()),
+                turn % 16,
+                turn / 16 % 16,
+                turn % 2,
+                output.as_mut_ptr(),
+                output.len(),
+                answer.as_mut_ptr(),
+                answer.len(),
+            )
+        };
+        digest.number(number);
+        digest.row(&answer);
+        digest.bytes(&output);
+    }
+    digest.value()
+}
+
+pub fn write_acks_own<const WHOLE: bool>(count: usize) -> u64 {
+    let mut digest = Digest::<WHOLE>::new();
+    for turn in 0..count {
+        let (id, sequence) = (turn % 16, turn / 16 % 16);
+        let made = acknowledgement(WISH.stream, id as u8, sequence as u8, turn % 2 == 1);
+        digest.row(&[0, made.len() as u64]);
+        digest.bytes(&black_box(made));
+    }
+    digest.value()
+}
+
+/// Every packet in order, from the state with no open transaction.
+pub fn accept<const WHOLE: bool>(
+    accept: ReceiverAccept,
+    packets: &[Vec<u8>],
+    buffer: &mut [u8],
+) -> u64 {
+    let accept = black_box(accept);
+    let mut digest = Digest::<WHOLE>::new();
+    let (mut state, mut answer) = ([0; 15], [0; 7]);
+    for packet in packets {
+        let number = unsafe {
+            accept(
+                state.as_mut_ptr(),
+                state.len(),
+                buffer.as_mut_ptr(),
+                buffer.len(),
+                packet.as_ptr(),
+                packet.len(),
+                answer.as_mut_ptr(),
+                answer.len(),
+            )
+        };
+        digest.number(number);
+        digest.row(&answer);
+        if answer[0] == FINISHED {
+            digest.bytes(third(buffer, answer[1], answer[4] as usize));
+        }
+    }
+    digest.row(&state);
+    digest.lent(buffer);
+    digest.value()
+}
+
+/// A finished message of a stream, in its third of the buffer.
+fn third(buffer: &[u8], stream: u64, total: usize) -> &[u8] {
+    let start = match stream {
+        0 => 0,
+        2 => MESSAGE,
+        _ => 2 * MESSAGE,
+    };
+    &buffer[start..start + total]
+}
+
+pub fn accept_own<const WHOLE: bool>(packets: &[Vec<u8>], buffer: &mut [u8]) -> u64 {
+    let mut digest = Digest::<WHOLE>::new();
+    let mut slots: Slots = [None; 3];
+    for packet in packets {
+        let (after, told) = accept_packet(slots, buffer, packet);
+        slots = after;
+        match told {
+            Err(refusal) => digest.row(&[refusal.number(), 0, 0, 0, 0, 0, 0, 0]),
+            Ok(accepted) => {
+                let row = accepted_row(accepted);
+                digest.number(0);
+                digest.row(&row);
+                if row[0] == FINISHED {
+                    digest.bytes(third(buffer, row[1], row[4] as usize));
+                }
+            }
+        }
+    }
+    slots.iter().for_each(|slot| digest.row(&slot_row(slot)));
+    digest.lent(buffer);
+    digest.value()
+}
+
+fn accepted_row(accepted: Accepted) -> [u64; 7] {
+    let of = |stream: Stream, id: u8| (u64::from(stream.number()), u64::from(id));
+    match accepted {
+        Accepted::Held {
+            stream,
+            id,
+            dropped,
+        } => {
+            let (stream, id) = of(stream, id);
+            [0, stream, id, 0, 0, 0, u64::from(dropped)]
+        }
+        Accepted::Finished {
+            stream,
+            id,
+            total,
+            ack_wanted,
+            dropped,
+        } => {
+            let (stream, id) = of(stream, id);
+            let (ack, dropped) = (u64::from(ack_wanted), u64::from(dropped));
+            [FINISHED, stream, id, 0, total as u64, ack, dropped]
+        }
+        Accepted::Acknowledgement {
+            stream,
+            id,
+            sequence,
+            positive,
+        } => {
+            let (stream, id) = of(stream, id);
+            let outcome = if positive { 2 } else { 3 };
+            [outcome, stream, id, u64::from(sequence), 0, 0, 0]
+        }
+    }
+}
+
+fn slot_row(slot: &Option<Open>) -> [u64; 5] {
+    slot.map_or([0; 5], |open| {
+        let (id, sequence) = (u64::from(open.id), u64::from(open.sequence));
+        [1, id, open.total as u64, open.held as u64, sequence]
+    })
+}

@@ -1,0 +1,126 @@
+//! Loops over outboxes.
+
+use crate::calls::{OutboxAppend, OutboxRecord, OutboxWhole};
+use crate::digest::Digest;
+use second::outbox;
+use std::hint::black_box;
+
+const ALEXA: u64 = 6;
+const END: u64 = 0;
+
+/// Each payload appended after the same used bytes, which are the first of `bytes`.
+pub fn append<const WHOLE: bool>(
+    append: OutboxAppend,
+    bytes: &mut [u8],
+    used: usize,
+    payloads: &[Vec<u8>],
+) -> u64 {
+    let append = black_box(append);
+    let mut digest = Digest::<WHOLE>::new();
+    let mut answer = [0; 2];
+    for payload in payloads {
+        let number = unsafe {
+            append(
+                bytes.as_mut_ptr(),
+                bytes.len(),
+                used as u64,
+                ALEXA,
+                payload.as_ptr(),
+                payload.len(),
+                answer.as_mut_ptr(),
+                answer.len(),
+            )
+        };
+        digest.number(number);
+        digest.row(&answer);
+        digest.bytes(&bytes[used..answer[0] as usize]);
+    }
+    digest.lent(bytes);
+    digest.value()
+}
+
+pub fn append_own<const WHOLE: bool>(bytes: &mut [u8], used: usize, payloads: &[Vec<u8>]) -> u64 {
+    let mut digest = Digest::<WHOLE>::new();
+    for payload in payloads {
+        let after = outbox::append(bytes, used as u64, ALEXA, payload).expect("a whole outbox");
+        digest.row(&[0, after as u64, 0]);
+        digest.bytes(&bytes[used..after]);
+    }
+    digest.lent(bytes);
+    digest.value()
+}
+
+/// Every record of an outbox, place after place, as often as is said.
+pub fn records<const WHOLE: bool>(record: OutboxRecord, bytes: &[u8], rounds: usize) -> u64 {
+    let record = black_box(record);
+    let mut digest = Digest::<WHOLE>::new();
+    let mut answer = [0; 6];
+    for _ in 0..rounds {
+        let mut place = 1;
+        loop {
+            let number = unsafe {
+                record(
+                    bytes.as_ptr(),
+                    bytes.len(),
+                    place,
+                    answer.as_mut_ptr(),
+                    answer.len(),
+                )
+            };
+            digest.number(number);
+            digest.row(&answer);
+            if answer[0] == END {
+                break;
+            }
+            digest.bytes(&bytes[answer[2] as usize..][..answer[3] as usize]);
+            place = answer[4];
+        }
+    }
+    digest.value()
+}
+
+pub fn records_own<const WHOLE: bool>(bytes: &[u8], rounds: usize) -> u64 {
+    let mut digest = Digest::<WHOLE>::new();
+    for _ in 0..rounds {
+        let mut place = 1;
+        while let Some(told) = outbox::record(bytes, place).expect("a whole outbox") {
+            let (start, length) = (told.start as u64, told.length as u64);
+            let stream = u64::from(told.stream.number());
+            digest.row(&[0, 1, stream, start, length, told.next as u64, 0]);
+            digest.bytes(&bytes[told.start..][..told.length]);
+            place = told.next as u64;
+        }
+        digest.row(&[0; 7]);
+    }
+    digest.value()
+}
+
+pub fn whole<const WHOLE: bool>(whole: OutboxWhole, bytes: &[u8], rounds: usize) -> u64 {
+    let whole = black_box(whole);
+    let mut digest = Digest::<WHOLE>::new();
+    let mut answer = [0];
+    for _ in 0..rounds {
+        let number = unsafe {
+            whole(
+                bytes.as_ptr(),
+                bytes.len(),
+                answer.as_mut_ptr(),
+                answer.len(),
+            )
+        };
+        digest.number(number);
+        digest.row(&answer);
+    }
+    digest.value()
+}
+
+pub fn whole_own<const WHOLE: bool>(bytes: &[u8], rounds: usize) -> u64 {
+    let mut digest = Digest::<WHOLE>::new();
+    for _ in 0..rounds {
+        match outbox::whole(bytes) {
+            Ok(_) => digest.row(&[0, 0]),
+            Err(broken) => digest.row(&[broken.refusal.number(), broken.place.unwrap_or(0) as u64]),
+        }
+    }
+    digest.value()
+}

@@ -1,0 +1,198 @@
+//! Lines about Classic frames.
+
+use crate::calls::*;
+use crate::classic::{Payload, OUTPUT};
+use crate::job::{share, with_copy, Job, Row, Subject};
+use crate::{classic, inputs, rust, work};
+use second::classic::BUFFER;
+
+const MEGABYTE: usize = 1 << 20;
+/// The input of the lines that are no goal's: enough for steady counts.
+const SHORT: usize = MEGABYTE / 4;
+const LARGE_CALL: usize = 65_536;
+
+/// Makes payloads of so many bytes together.
+type Payloads = fn(usize) -> Vec<Vec<u8>>;
+
+pub fn rows() -> Vec<Row> {
+    let mut rows = feed_rows();
+    rows.extend(call_size_rows());
+    rows.extend(writer_rows());
+    rows
+}
+
+/// The extractor over a stream, with every subject.
+pub fn feed_job(stream: Vec<u8>, size: usize) -> Job {
+    let bytes = stream.len();
+    let [a, b, c, d] = share(stream);
+    Job::of("byte", bytes)
+        .with(
+            Subject::Archive,
+            work!(classic::feed(pito_extractor_feed, &a, size; BUFFER)),
+        )
+        .with(
+            Subject::Rust,
+            work!(classic::feed(rust::extractor_feed, &b, size; BUFFER)),
+        )
+        .with(Subject::Own, work!(classic::feed_own(&c, size; BUFFER)))
+        .with(
+            Subject::Other,
+            work!(classic::feed(plain_extractor_feed, &d, size; BUFFER)),
+        )
+}
+
+fn step_job(stream: Vec<u8>) -> Job {
+    let bytes = stream.len();
+    let [a, b, c, d] = share(stream);
+    Job::of("byte", bytes)
+        .with(
+            Subject::Archive,
+            work!(classic::step(pito_extractor_step, &a; BUFFER)),
+        )
+        .with(
+            Subject::Rust,
+            work!(classic::step(rust::extractor_step, &b; BUFFER)),
+        )
+        .with(Subject::Own, work!(classic::step_own(&c; BUFFER)))
+        .with(
+            Subject::Other,
+            work!(classic::step(plain_extractor_step, &d; BUFFER)),
+        )
+}
+
+const FEED: &str = "feed, 65,536 bytes a call";
+
+fn feed_rows() -> Vec<Row> {
+    let framed: [(_, _, Payloads); 4] = [
+        (
+            "ordinary frames, 0 to 255 random bytes",
+            4 * MEGABYTE,
+            inputs::ordinary,
+        ),
+        (
+            "long clean frames, 4,096 bytes, no marks",
+            MEGABYTE,
+            inputs::long_clean,
+        ),
+        ("tiny frames, 0 to 7 bytes", SHORT, inputs::tiny),
+        ("frames of marks only, all escaped", SHORT, inputs::marks),
+    ];
+    let framed = framed.into_iter().map(|(name, total, payloads)| {
+        Row::new(FEED, name, move || {
+            let payloads = payloads(total);
+            with_copy(feed_job(inputs::frames(&payloads), LARGE_CALL), payloads)
+        })
+    });
+    framed.chain(stream_rows()).collect()
+}
+
+fn stream_rows() -> Vec<Row> {
+    let line =
+        |name, bytes: fn() -> Vec<u8>| Row::new(FEED, name, move || feed_job(bytes(), LARGE_CALL));
+    let mut rows = vec![
+        line("noise, random bytes", || inputs::rng().bytes(MEGABYTE)),
+        line("random bytes, no F0", || inputs::no_start(MEGABYTE)),
+        line("bodies of 4,099 bytes (24)", || {
+            inputs::repeated(&inputs::too_long(), SHORT)
+        }),
+        line("wrong checksums, 64 bytes (25)", || {
+            inputs::repeated(&inputs::wrong_sum(), SHORT)
+        }),
+    ];
+    rows.extend(inputs::PATTERNS.map(|(name, pattern)| {
+        Row::new(FEED, name, move || {
+            feed_job(inputs::repeated(pattern, SHORT), LARGE_CALL)
+        })
+    }));
+    rows
+}
+
+const CALLS: &str = "feed, ordinary frames by call size";
+
+fn call_size_rows() -> Vec<Row> {
+    let stream = || inputs::frames(&inputs::ordinary(SHORT));
+    let sizes = [
+        ("1 byte a call", 1),
+        ("16 bytes a call", 16),
+        ("64 bytes a call", 64),
+        ("65,536 bytes a call", LARGE_CALL),
+    ];
+    let row = |(name, size)| Row::new(CALLS, name, move || feed_job(stream(), size));
+    let mut rows: Vec<Row> = sizes.map(row).into();
+    rows.push(Row::new(CALLS, "step, 1 byte a call", move || {
+        step_job(stream())
+    }));
+    rows
+}
+
+/// The frame writer over payloads, into outputs of the frame's own size or of the largest one's.
+pub fn write_job(parts: Vec<Vec<u8>>, exact: bool) -> Job {
+    let bytes = parts.iter().map(Vec::len).sum();
+    let payloads: Vec<Payload> = parts
+        .iter()
+        .enumerate()
+        .map(|(index, part)| {
+            let sequence = inputs::sequence(index);
+            let room = match exact {
+                true => second::classic::frame(sequence, part).len(),
+                false => OUTPUT,
+            };
+            Payload {
+                sequence,
+                bytes: part.clone(),
+                room,
+            }
+        })
+        .collect();
+    let [a, b, c, d] = share(payloads);
+    let job = Job::of("byte", bytes)
+        .with(
+            Subject::Archive,
+            work!(classic::write(pito_frame_write, &a; OUTPUT)),
+        )
+        .with(
+            Subject::Rust,
+            work!(classic::write(rust::frame_write, &b; OUTPUT)),
+        )
+        .with(Subject::Own, work!(classic::write_own(&c; OUTPUT)))
+        .with(
+            Subject::Other,
+            work!(classic::write(plain_frame_write, &d; OUTPUT)),
+        );
+    with_copy(job, parts)
+}
+
+fn writer_rows() -> Vec<Row> {
+    let roomy: [(_, _, Payloads); 4] = [
+        ("ordinary", 4 * MEGABYTE, inputs::ordinary),
+        ("long clean", MEGABYTE, inputs::long_clean),
+        ("tiny", SHORT, inputs::tiny),
+        ("marks only", SHORT, inputs::marks),
+    ];
+    let exact: [(_, _, Payloads); 2] = [
+        ("ordinary", MEGABYTE, inputs::ordinary),
+        ("marks only", SHORT, inputs::marks),
+    ];
+    let row = |name, total, payloads: Payloads, exact| {
+        Row::new("frame writer", name, move || {
+            write_job(payloads(total), exact)
+        })
+    };
+    let roomy = roomy.into_iter().map(|(name, total, payloads)| {
+        row(
+            format!("{name}, output of 8,201 bytes"),
+            total,
+            payloads,
+            false,
+        )
+    });
+    let exact = exact.into_iter().map(|(name, total, payloads)| {
+        row(
+            format!("{name}, output of the frame's size"),
+            total,
+            payloads,
+            true,
+        )
+    });
+    roomy.chain(exact).collect()
+}

@@ -1,0 +1,105 @@
+//! Lines about Low Energy packets.
+
+use crate::calls::*;
+use crate::job::{share, with_copy, Job, Row, Subject};
+use crate::{inputs, low_energy, rust, work};
+use second::low_energy::BUFFER;
+
+/// Messages by their size in bytes.
+const SIZES: [(usize, &str); 2] = [(4_096, "4,096"), (100, "100")];
+const ROOMS: [usize; 3] = [20, 244, 512];
+const ACKS: usize = 8_192;
+
+pub fn rows() -> Vec<Row> {
+    let mut rows = Vec::new();
+    for (size, name) in SIZES {
+        for room in ROOMS {
+            rows.push(Row::new(
+                "packets written",
+                format!("{name} bytes, room {room}"),
+                move || write_packets_job(inputs::messages(16_384, size), room),
+            ));
+        }
+    }
+    rows.push(Row::new("packets written", "ACK and NACK", write_acks_job));
+    for (size, name) in SIZES {
+        for room in ROOMS {
+            rows.push(Row::new(
+                "packets accepted",
+                format!("{name} bytes, room {room}"),
+                move || {
+                    let messages = inputs::messages(65_536, size);
+                    let job = accept_job(inputs::packets(&messages, room));
+                    let bytes = messages.iter().map(Vec::len).sum();
+                    with_copy(job.and("byte", bytes), inputs::pieces(&messages, room))
+                },
+            ));
+        }
+    }
+    rows.push(Row::new("packets accepted", "ACK and NACK", || {
+        accept_job(inputs::acks(ACKS))
+    }));
+    rows.extend(refused_rows());
+    rows
+}
+
+/// Each refusal alone; 10 and 11 by turns with the first packet that they need.
+fn refused_rows() -> Vec<Row> {
+    inputs::refused()
+        .into_iter()
+        .map(|(name, packets)| {
+            Row::new("packets accepted", format!("refused: {name}"), move || {
+                accept_job(packets.iter().cloned().cycle().take(ACKS).collect())
+            })
+        })
+        .collect()
+}
+
+/// All packets of messages at a room, with every subject.
+pub fn write_packets_job(messages: Vec<Vec<u8>>, room: usize) -> Job {
+    let packets = inputs::packets(&messages, room).len();
+    let bytes = messages.iter().map(Vec::len).sum();
+    let pieces = inputs::pieces(&messages, room);
+    let [a, b, c] = share(messages);
+    let job = Job::of("packet", packets)
+        .and("byte", bytes)
+        .with(
+            Subject::Archive,
+            work!(low_energy::write(pito_packet_write, &a, room)),
+        )
+        .with(
+            Subject::Rust,
+            work!(low_energy::write(rust::packet_write, &b, room)),
+        )
+        .with(Subject::Own, work!(low_energy::write_own(&c, room)));
+    with_copy(job, pieces)
+}
+
+fn write_acks_job() -> Job {
+    Job::of("packet", ACKS)
+        .with(
+            Subject::Archive,
+            work!(low_energy::write_acks(pito_ack_write, ACKS)),
+        )
+        .with(
+            Subject::Rust,
+            work!(low_energy::write_acks(rust::ack_write, ACKS)),
+        )
+        .with(Subject::Own, work!(low_energy::write_acks_own(ACKS)))
+}
+
+/// The receiver over packets, with every subject.
+pub fn accept_job(packets: Vec<Vec<u8>>) -> Job {
+    let count = packets.len();
+    let [a, b, c] = share(packets);
+    Job::of("packet", count)
+        .with(
+            Subject::Archive,
+            work!(low_energy::accept(pito_receiver_accept, &a; BUFFER)),
+        )
+        .with(
+            Subject::Rust,
+            work!(low_energy::accept(rust::receiver_accept, &b; BUFFER)),
+        )
+        .with(Subject::Own, work!(low_energy::accept_own(&c; BUFFER)))
+}

@@ -1,0 +1,87 @@
+//! Lines about the outbox.
+
+use crate::calls::*;
+use crate::job::{share, with_copy, Job, Row, Subject};
+use crate::{inputs, outbox, rust, work};
+
+/// The payload of each record.
+const PAYLOAD: usize = 100;
+
+pub fn rows() -> Vec<Row> {
+    let line = |name, make: fn() -> Job| Row::new("outbox", name, make);
+    vec![
+        line("append 100 bytes to a new outbox", || {
+            append_job(inputs::outbox(0, PAYLOAD), PAYLOAD, 2_048)
+        }),
+        line("append 100 bytes after 100 records", || {
+            append_job(inputs::outbox(100, PAYLOAD), PAYLOAD, 64)
+        }),
+        line("read 1,000 records, place after place", || {
+            records_job(inputs::outbox(1_000, PAYLOAD), 4)
+        }),
+        line("whole, 1,000 records", || {
+            whole_job(inputs::outbox(1_000, PAYLOAD), 4)
+        }),
+        line("whole, 1,000 records cut in the last", || {
+            let mut bytes = inputs::outbox(1_000, PAYLOAD);
+            bytes.pop();
+            whole_job(bytes, 4)
+        }),
+    ]
+}
+
+/// A payload of one size appended to the same outbox, call after call.
+pub fn append_job(bytes: Vec<u8>, payload: usize, calls: usize) -> Job {
+    let used = bytes.len();
+    let room = || {
+        let mut buffer = bytes.clone();
+        buffer.resize(used + payload + 3, 0);
+        buffer
+    };
+    let payloads = inputs::messages(calls * payload, payload);
+    let [a, b, c] = share(payloads.clone());
+    let [mut x, mut y, mut z] = [room(), room(), room()];
+    let job = Job::of("call", calls)
+        .with(
+            Subject::Archive,
+            work!(outbox::append(pito_outbox_append, &mut x, used, &a)),
+        )
+        .with(
+            Subject::Rust,
+            work!(outbox::append(rust::outbox_append, &mut y, used, &b)),
+        )
+        .with(Subject::Own, work!(outbox::append_own(&mut z, used, &c)));
+    with_copy(job, payloads)
+}
+
+/// All records read, as often as is said.
+pub fn records_job(bytes: Vec<u8>, rounds: usize) -> Job {
+    let records = inputs::records(&bytes);
+    let [a, b, c] = share(bytes);
+    Job::of("record", records * rounds)
+        .with(
+            Subject::Archive,
+            work!(outbox::records(pito_outbox_record, &a, rounds)),
+        )
+        .with(
+            Subject::Rust,
+            work!(outbox::records(rust::outbox_record, &b, rounds)),
+        )
+        .with(Subject::Own, work!(outbox::records_own(&c, rounds)))
+}
+
+/// The whole outbox judged, as often as is said.
+pub fn whole_job(bytes: Vec<u8>, rounds: usize) -> Job {
+    let records = inputs::records(&bytes);
+    let [a, b, c] = share(bytes);
+    Job::of("record", records * rounds)
+        .with(
+            Subject::Archive,
+            work!(outbox::whole(pito_outbox_whole, &a, rounds)),
+        )
+        .with(
+            Subject::Rust,
+            work!(outbox::whole(rust::outbox_whole, &b, rounds)),
+        )
+        .with(Subject::Own, work!(outbox::whole_own(&c, rounds)))
+}

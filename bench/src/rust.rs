@@ -1,0 +1,59 @@
+//! The plain Rust of second/ behind the same C calls: each is its function of `face`, on the lent
+//! slices.
+
+use second::face;
+use std::slice;
+
+unsafe fn lent<'a, T>(start: *mut T, length: usize) -> &'a mut [T] {
+    slice::from_raw_parts_mut(start, length)
+}
+
+unsafe fn given<'a, T>(start: *const T, length: usize) -> &'a [T] {
+    slice::from_raw_parts(start, length)
+}
+
+macro_rules! shims {
+    ($($name:ident($($argument:ident: $kind:ty),*) $answer:ident $call:expr;)*) => {
+        $(pub unsafe extern "C" fn $name($($argument: $kind,)* answer: *mut u64, answers: usize) -> u64 {
+            let $answer = lent(answer, answers);
+            $call
+        })*
+    };
+}
+
+shims! {
+    extractor_step(state: *mut u64, states: usize, buffer: *mut u8, size: usize, byte: u8) told
+        face::extractor_step(lent(state, states), lent(buffer, size), byte, told);
+    extractor_feed(state: *mut u64, states: usize, buffer: *mut u8, size: usize, bytes: *const u8, length: usize) told
+        face::extractor_feed(lent(state, states), lent(buffer, size), given(bytes, length), told);
+    frame_write(sequence: u64, payload: *const u8, length: usize, output: *mut u8, size: usize) told
+        face::frame_write(sequence, given(payload, length), lent(output, size), told);
+    packet_write(room: u64, stream: u64, id: u64, sequence: u64, ack: u64, message: *const u8, length: usize,
+        place: u64, output: *mut u8, size: usize) told
+        face::packet_write(room, [stream, id, sequence, ack], given(message, length), place, lent(output, size), told);
+    ack_write(stream: u64, id: u64, sequence: u64, positive: u64, output: *mut u8, size: usize) told
+        face::ack_write([stream, id, sequence, positive], lent(output, size), told);
+    receiver_accept(state: *mut u64, states: usize, buffer: *mut u8, size: usize, packet: *const u8, length: usize) told
+        face::receiver_accept(lent(state, states), lent(buffer, size), given(packet, length), told);
+    envelope_read(message: *const u8, length: usize) told face::envelope_read(given(message, length), told);
+    response_read(message: *const u8, length: usize) told face::response_read(given(message, length), told);
+    information_read(message: *const u8, length: usize) told face::information_read(given(message, length), told);
+    features_read(message: *const u8, length: usize) told face::features_read(given(message, length), told);
+    envelope_write(command: u64, payload: u64, error_code: u64, field: u64, bytes: *const u8, length: usize,
+        output: *mut u8, size: usize) told
+        face::envelope_write([command, payload, error_code, field], given(bytes, length), lent(output, size), told);
+    response_write(error_code: u64, field: u64, bytes: *const u8, length: usize, output: *mut u8, size: usize) told
+        face::response_write(error_code, field, given(bytes, length), lent(output, size), told);
+    information_write(serial_number: *const u8, serial_number_length: usize, name: *const u8, name_length: usize,
+        device_type: *const u8, device_type_length: usize, transports: *const u64, transports_length: usize,
+        output: *mut u8, size: usize) told
+        face::information_write(given(serial_number, serial_number_length), given(name, name_length),
+            given(device_type, device_type_length), given(transports, transports_length), lent(output, size), told);
+    features_write(features: u64, device_attributes: u64, output: *mut u8, size: usize) told
+        face::features_write(features, device_attributes, lent(output, size), told);
+    outbox_append(buffer: *mut u8, size: usize, used: u64, stream: u64, payload: *const u8, length: usize) told
+        face::outbox_append(lent(buffer, size), used, stream, given(payload, length), told);
+    outbox_record(bytes: *const u8, length: usize, place: u64) told
+        face::outbox_record(given(bytes, length), place, told);
+    outbox_whole(bytes: *const u8, length: usize) told face::outbox_whole(given(bytes, length), told);
+}

@@ -1,0 +1,254 @@
+/*
+ * A box's main loop over the library's C interface: takes the frames of a Classic byte stream from standard input
+ * and keeps each payload as a record of an outbox file.
+ *
+ *   box OUTBOX_FILE < BYTES
+ *
+ * Standard output: `record PLACE LENGTH` for each record, the place of its length field in the file and the length
+ * of its payload. The line is written after the record's fsync has come back, so what is reported is kept.
+ * Standard error: `dropped PLACE` for a cut last record that was found at the start, `refused NUMBER` for each
+ * refused byte of the stream, and what ended the program.
+ * Ends with 0 at the end of the input; with 1 after the first failed call of the system, or if the file is there and
+ * is no outbox (it is then left as it was); with 2 on bad usage.
+ *
+ * There is no heap, and the file is never held in memory: it is written and read one record at a time, through a
+ * small outbox that has the version byte and room for one record.
+ */
+#define _XOPEN_SOURCE 700
+
+#include <errno.h>
+#include <fcntl.h>
+#include <inttypes.h>
+#include <libgen.h>
+#include <stdarg.h>
+#include <stdio.h>
+#include <stdlib.h>
+#include <string.h>
+#include <sys/types.h>
+#include <unistd.h>
+
+#include "pitokaenge.h"
+
+/* A frame tells no stream: what comes over this link is what the crew says to the speaker. */
+#define STREAM PITO_STREAM_ALEXA
+
+/* Where the first record of an outbox stands, after the version byte. */
+#define FIRST_PLACE 1
+
+/* A length of two bytes, a stream byte, a payload. */
+#define LONGEST_RECORD (2 + 1 + PITO_MESSAGE_LIMIT)
+
+/* Refusals that are not only handed on. */
+#define CALL_REFUSED 1
+#define RECORD_CUT 41
+
+#define LONGEST_LINE 128
+
+static uint8_t input[256];
+static uint64_t extractor[PITO_EXTRACTOR_STATE];
+static uint8_t frame[PITO_EXTRACTOR_BUFFER];
+
+/* The outbox of one record. Its first byte is the file's, from the start on. */
+static uint8_t outbox[FIRST_PLACE + LONGEST_RECORD];
+
+static int file;
+static off_t file_end;
+
+/* That a note cannot be written stops nothing. */
+static void note(const char *format, ...)
+{
+    char line[LONGEST_LINE];
+    va_list values;
+    ssize_t written;
+    va_start(values, format);
+    vsnprintf(line, sizeof line, format, values);
+    va_end(values);
+    written = write(STDERR_FILENO, line, strlen(line));
+    (void)written;
+}
+
+static void fail(const char *what)
+{
+    note("box: %s: %s\n", what, strerror(errno));
+    exit(1);
+}
+
+/* The library refused a call for which it has no reason: this program is wrong, or its memory is. */
+static void fail_refused(const char *call, uint64_t number)
+{
+    note("box: %s: refused %" PRIu64 "\n", call, number);
+    exit(1);
+}
+
+/* A file opened while one of them is closed would get its number, and the reports or notes would go into the file. */
+static void check_standard_streams(void)
+{
+    int stream;
+    for (stream = STDIN_FILENO; stream <= STDERR_FILENO; stream++)
+        if (fcntl(stream, F_GETFD) < 0)
+            fail("standard input, output and error");
+}
+
+static void write_all(int to, const void *bytes, size_t length, const char *what)
+{
+    const uint8_t *rest = bytes;
+    while (length > 0) {
+        ssize_t written = write(to, rest, length);
+        if (written < 0 && errno == EINTR)
+            continue;
+        if (written < 0)
+            fail(what);
+        rest += written;
+        length -= (size_t)written;
+    }
+}
+
+/* Answers how many bytes it has read, fewer than asked for only at the end of the file. */
+static size_t read_file(uint8_t *bytes, size_t length, off_t place)
+{
+    size_t held = 0;
+    while (held < length) {
+        ssize_t count = pread(file, bytes + held, length - held, place + (off_t)held);
+        if (count < 0 && errno == EINTR)
+            continue;
+        if (count < 0)
+            fail("read the outbox file");
+        if (count == 0)
+            break;
+        held += (size_t)count;
+    }
+    return held;
+}
+
+static void sync_to_disk(int what, const char *name)
+{
+    while (fsync(what) != 0)
+        if (errno != EINTR)
+            fail(name);
+}
+
+static void begin_outbox(void)
+{
+    uint64_t answer[PITO_OUTBOX_NEW_ANSWER];
+    uint64_t number = pito_outbox_new(outbox, sizeof outbox, answer, PITO_OUTBOX_NEW_ANSWER);
+    if (number != 0)
+        fail_refused("pito_outbox_new", number);
+    write_all(file, outbox, answer[0], "write the outbox file");
+    file_end = (off_t)answer[0];
+}
+
+static void drop_cut_record(void)
+{
+    while (ftruncate(file, file_end) != 0)
+        if (errno != EINTR)
+            fail("shorten the outbox file");
+    note("dropped %jd\n", (intmax_t)file_end);
+}
+
+/*
+ * Finds the end of the last whole record. The bytes from each record's place on are read behind the version byte, so
+ * that it is the first record of the small outbox. The largest fits, so only the end of the file can cut one.
+ */
+static void resume_outbox(void)
+{
+    uint64_t answer[PITO_OUTBOX_RECORD_ANSWER];
+    file_end = FIRST_PLACE;
+    for (;;) {
+        size_t held = read_file(outbox + FIRST_PLACE, LONGEST_RECORD, file_end);
+        uint64_t number = pito_outbox_record(outbox, FIRST_PLACE + held, FIRST_PLACE, answer,
+                                             PITO_OUTBOX_RECORD_ANSWER);
+        if (number == RECORD_CUT) {
+            drop_cut_record();
+            return;
+        }
+        if (number != 0) {
+            note("box: the file is no outbox: refused %" PRIu64 "\n", number);
+            exit(1);
+        }
+        if (answer[0] == PITO_END)
+            return;
+        file_end += (off_t)(answer[4] - FIRST_PLACE);
+    }
+}
+
+/*
+ * A start ends with all on disk that the file holds, and the file's name in its folder: the start before may have
+ * been killed at any point.
+ */
+static void open_outbox(char *path)
+{
+    int folder;
+    file = open(path, O_RDWR | O_CREAT | O_APPEND, 0644);
+    if (file < 0)
+        fail("open the outbox file");
+    if (read_file(outbox, FIRST_PLACE, 0) == 0)
+        begin_outbox();
+    else
+        resume_outbox();
+    sync_to_disk(file, "sync the outbox file");
+    folder = open(dirname(path), O_RDONLY);
+    if (folder < 0)
+        fail("open the outbox file's folder");
+    sync_to_disk(folder, "sync the outbox file's folder");
+    close(folder);
+}
+
+static void report(uint64_t length)
+{
+    char line[LONGEST_LINE];
+    snprintf(line, sizeof line, "record %jd %" PRIu64 "\n", (intmax_t)file_end, length);
+    write_all(STDOUT_FILENO, line, strlen(line), "report a record");
+}
+
+/* Keeps the payload that stands first in the extractor's buffer. */
+static void keep(uint64_t length)
+{
+    uint64_t answer[PITO_OUTBOX_APPEND_ANSWER];
+    uint64_t number = pito_outbox_append(outbox, sizeof outbox, FIRST_PLACE, STREAM, frame, length, answer,
+                                         PITO_OUTBOX_APPEND_ANSWER);
+    size_t record_length;
+    if (number != 0)
+        fail_refused("pito_outbox_append", number);
+    record_length = answer[0] - FIRST_PLACE;
+    write_all(file, outbox + FIRST_PLACE, record_length, "write the outbox file");
+    sync_to_disk(file, "sync the outbox file");
+    report(length);
+    file_end += (off_t)record_length;
+}
+
+static void take(const uint8_t *bytes, size_t length)
+{
+    uint64_t answer[PITO_FEED_ANSWER];
+    while (length > 0) {
+        uint64_t number = pito_extractor_feed(extractor, PITO_EXTRACTOR_STATE, frame, sizeof frame, bytes, length,
+                                              answer, PITO_FEED_ANSWER);
+        if (number == CALL_REFUSED)
+            fail_refused("pito_extractor_feed", number);
+        if (number != 0)
+            note("refused %" PRIu64 "\n", number);
+        else if (answer[0] == PITO_FRAME)
+            keep(answer[3]);
+        bytes += answer[1];
+        length -= answer[1];
+    }
+}
+
+int main(int words, char **word)
+{
+    if (words != 2) {
+        note("usage: box OUTBOX_FILE < BYTES\n");
+        return 2;
+    }
+    check_standard_streams();
+    open_outbox(word[1]);
+    for (;;) {
+        ssize_t count = read(STDIN_FILENO, input, sizeof input);
+        if (count < 0 && errno == EINTR)
+            continue;
+        if (count < 0)
+            fail("read the stream");
+        if (count == 0)
+            return 0;
+        take(input, (size_t)count);
+    }
+}
