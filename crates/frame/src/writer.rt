@@ -59,16 +59,23 @@ pub fn next_sequence(sequence: u8) -> u8
     if is_mark(next) { AFTER_MARKS } else { next }
 }
 
+// The bytes that one byte takes beside itself. A sum of 16 bits becomes vector sums.
+fn extra(b: u8) -> u16
+    ensures { λ r. ⌜ (r + 1 ≡ length (escapedBy (kindOf b) b)) × (r ≤ 1) ⌝ }
+{
+    match kind_of(b) {
+        Kind::Start => 1,
+        Kind::End => 1,
+        Kind::Escape => 1,
+        Kind::Plain => 0,
+    }
+}
+
 // The bytes that one byte takes.
 fn width(b: u8) -> usize
     ensures { λ r. ⌜ (r ≡ length (escapedBy (kindOf b) b)) × (r ≤ 2) ⌝ }
 {
-    match kind_of(b) {
-        Kind::Start => 2,
-        Kind::End => 2,
-        Kind::Escape => 2,
-        Kind::Plain => 1,
-    }
+    extra(b) as usize + 1
 }
 
 // The bytes that a run takes.
@@ -76,13 +83,13 @@ fn escaped_size(bytes: &[u8]) -> usize
     requires { ⌜ length (now bytes) ≤ 65535 ⌝ }
     ensures { λ r. ⌜ (r ≡ length (escapedOf (now (bytes .entry)))) × (r ≤ 131070) ⌝ }
 {
-    let mut n: usize = 0;
+    let mut marks: u16 = 0;
     let mut i = 0;
     while i < bytes.len() {
-        n += width(bytes[i]);
+        marks += extra(bytes[i]);
         i += 1;
     }
-    n
+    bytes.len() + marks as usize
 }
 
 // Writes a mark's escape, and returns the place after it.

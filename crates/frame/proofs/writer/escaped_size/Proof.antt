@@ -1,4 +1,4 @@
-use Prim.Native.Nat.{_+_, _-_, _*_, _≤_}
+use Prim.Native.Nat.{_+_, _-_, _≤_}
 use mathlib.Core.Path.{_≡_, ap}
 use lib.ListN.{length, drop, length-append}
 use native.Mathlib.Omega.{arith}
@@ -9,22 +9,22 @@ use Rattle.frame.proofs.writer.escaped_size.Statement.{statement}
 use Rattle.frame.proofs.writer.escaped_size.Tie as tie
 
 abbrev Inv-loop : tie.InvT-loop
-Inv-loop bytes n₀ i₀ n i = (i ≤ length bytes) × (n ≤ 2 * i) × (n + length (escapedOf (drop i bytes)) ≡ length (escapedOf bytes))
+Inv-loop bytes marks₀ i₀ marks i = (i ≤ length bytes) × (marks ≤ i) × (i + marks + length (escapedOf (drop i bytes)) ≡ length (escapedOf bytes))
 
 abbrev μ-loop : tie.MeasureT-loop
-μ-loop bytes n₀ i₀ n i = length bytes - i
+μ-loop bytes marks₀ i₀ marks i = length bytes - i
 
 loop-holds : tie.Need-loop-holds Inv-loop μ-loop
 loop-holds c = (search needs, search needs, search needs)
 
-shared-slice-read-width : tie.Need-shared-slice-read-width Inv-loop μ-loop
-shared-slice-read-width c = search needs
+shared-slice-read-extra : tie.Need-shared-slice-read-extra Inv-loop μ-loop
+shared-slice-read-extra c = search needs
 
-width-requires : tie.Need-width-requires Inv-loop μ-loop
-width-requires c κs = search needs
+extra-requires : tie.Need-extra-requires Inv-loop μ-loop
+extra-requires c κs = search needs
 
-add-n : tie.Need-add-n Inv-loop μ-loop
-add-n c = omega arith
+add-marks : tie.Need-add-marks Inv-loop μ-loop
+add-marks c = omega arith
 
 add-i : tie.Need-add-i Inv-loop μ-loop
 add-i c = search needs
@@ -38,6 +38,12 @@ loop-again c =
     let l = c .before .before .before .before .before .args .bytes .now in
     omega (arith, simp length-append at (ap length (rest-step l (k .i) (search needs))))
 
+cast-result : tie.Need-cast-result Inv-loop μ-loop
+cast-result c = search needs
+
+add-result : tie.Need-add-result Inv-loop μ-loop
+add-result c = search needs
+
 returns : tie.Need-returns Inv-loop μ-loop
 returns c =
     let k = c .before .loop in
@@ -50,10 +56,12 @@ escaped-size-spec =
     Inv-loop
     μ-loop
     loop-holds
-    shared-slice-read-width
-    width-requires
-    add-n
+    shared-slice-read-extra
+    extra-requires
+    add-marks
     add-i
     loop-less
     loop-again
+    cast-result
+    add-result
     returns)

@@ -1,6 +1,6 @@
 use borrow.Author.Needs.{needs}
-use Rattle.frame.proofs.writer.width.Statement.{statement}
-use Rattle.frame.proofs.writer.width.Tie as tie
+use Rattle.frame.proofs.writer.extra.Statement.{statement}
+use Rattle.frame.proofs.writer.extra.Tie as tie
 
 kind-of-requires : tie.Need-kind-of-requires
 kind-of-requires c κs = search needs
@@ -29,8 +29,8 @@ returns-3 c = rw (← (c .before .before .kind-of .ensures), c .enum-told3 .give
 returns-4 : tie.Need-returns-4
 returns-4 c = rw (← (c .before .before .kind-of .ensures), c .enum-told4 .given .1) (search needs)
 
-pub width-spec : {M : Type 1} → statement M
-width-spec =
+pub extra-spec : {M : Type 1} → statement M
+extra-spec =
     tie.close
     (tie.spec
     kind-of-requires
