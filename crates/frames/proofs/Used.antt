@@ -3,7 +3,7 @@ use Prim.Native.Nat.{ℕ, _-_, _≤_}
 use mathlib.Core.Path.{_≡_, ap}
 use mathlib.Core.List.{List}
 use native.Mathlib.Omega.{arith}
-use lib.ListN.{length, take, drop, length-take, length-drop}
+use lib.ListN.{length, take, drop, length-take}
 use Rattle.frame.specs.declared.extractor.Extractor.{Extractor}
 use Rattle.frame.specs.Extractor.{Report, Feed, fed, feedOf}
 use Rattle.frame.proofs.States.{feed-within}

@@ -5,7 +5,7 @@ use mathlib.Core.Bool.{Bool, true, false, cond, not}
 use mathlib.Core.List.{List, [], _∷_}
 use native.Mathlib.Numerals.{add-one}
 use lib.ListN.{length, length-set}
-use lib.Dec.{eqb, ltb, leb, leb·zero}
+use lib.Dec.{eqb, ltb, leb·zero}
 use borrow.Author.Tests.{eq-eqb, eqb-true}
 use Rattle.wire.proofs.Tests.{and-left, and-right}
 use Rattle.frame.specs.declared.mark.Kind.{Kind}

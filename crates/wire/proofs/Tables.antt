@@ -19,8 +19,3 @@ pub by-table : {A : Type 0} (P : A → Type 0) (rows : List Row) (refuse : ℕ �
 by-table P [] refuse rest p q = q tt
 by-table P (r ∷ rs) refuse rest p q =
     by-line P (r .holds) (refuse (r .number)) (table rs refuse rest) (p (r .number)) (λ e. by-table P rs refuse rest p (λ es. q (e, es)))
-
--- where no line holds, the rest is told
-pub none-holds : {A : Type 0} (rows : List Row) (refuse : ℕ → A) (rest : A) → NoneHolds rows → table rows refuse rest ≡ rest
-none-holds [] refuse rest h = refl
-none-holds (r ∷ rs) refuse rest (e, es) = rw e (none-holds rs refuse rest es)

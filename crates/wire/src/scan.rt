@@ -78,7 +78,7 @@ fn copy_block(out: &mut [u8], at: usize, run: &[u8])
     requires { ⌜ (length (now run) ≡ 16) × (at + length (now run) ≤ length (now out)) ⌝ }
     ensures { λ _. ⌜ now (out .exit) ≡ sets (now (out .entry)) at (now (run .entry)) ⌝ }
 {
-    let mut block: [u8; 16] = [0; 16];
+    let mut block: [u8; BLOCK] = [0; BLOCK];
     copy(&mut block, 0, run);
     copy(out, at, &block);
 }

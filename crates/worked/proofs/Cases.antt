@@ -1,6 +1,6 @@
 -- The table of worked cases holds: computed over the whole table, then turned into the rule at each row.
 use mathlib.Core.Path.{_≡_, refl, ap, sym, _∙_}
-use mathlib.Core.List.{List, [], _∷_, map, List·Memᴰ, List·Memᴰ·head, List·Memᴰ·tail}
+use mathlib.Core.List.{List, map, List·Memᴰ, List·Memᴰ·head, List·Memᴰ·tail}
 use Rattle.wire.specs.Stream.{isStream, streamOf}
 use Rattle.frame.specs.Mark.{kindOf}
 use Rattle.frame.specs.Frame.{escapedOf, total, framed}

@@ -1,7 +1,7 @@
 use Prim.Native.Nat.{_+_, _-_}
 use mathlib.Core.Path.{sym, _∙_}
-use lib.ListN.{length, length-take, length-drop}
-use lib.Seq.{length-take-le, length-sets}
+use lib.ListN.{length, length-take}
+use lib.Seq.{length-take-le}
 use native.Mathlib.Omega.{arith}
 use Rattle.wire.specs.Scan.{Copied}
 use Rattle.wire.proofs.Runs.{clear-block, clear-into, any-up-to, copied-none, copied-length, copied-more, copied-rest, copied-into, copied-out}
