@@ -59,6 +59,10 @@ extern "C" {
 #define PITO_EXTRACTOR_BUFFER 4098
 #define PITO_RECEIVER_BUFFER 12288
 
+/* Refusals that a caller acts upon by themselves: 1 before it reads an answer, 41 when it opens an outbox again. */
+#define PITO_REFUSED_UNFIT 1
+#define PITO_REFUSED_RECORD_CUT 41
+
 /* Streams. */
 #define PITO_STREAM_CONTROL 0
 #define PITO_STREAM_OTA 2
@@ -92,9 +96,13 @@ uint64_t pito_extractor_step(uint64_t *state, size_t state_len, uint8_t *buffer,
 /*
  * Many bytes, up to the first frame or refusal or to their end. Call again with the bytes not yet used.
  * Answer: outcome, used, sequence, length. Used is the number of bytes used, also after a refusal of a byte, where
- * the other three are 0.
+ * the other three are 0. Test for 1 first: it writes no answer, and a loop that went on by an old one would not end.
  */
 #define PITO_FEED_ANSWER 4
+#define PITO_FEED_OUTCOME 0
+#define PITO_FEED_USED 1
+#define PITO_FEED_SEQUENCE 2
+#define PITO_FEED_LENGTH 3
 uint64_t pito_extractor_feed(uint64_t *state, size_t state_len, uint8_t *buffer, size_t buffer_len,
                              const uint8_t *bytes, size_t bytes_len, uint64_t *answer, size_t answer_len);
 
@@ -270,7 +278,15 @@ uint64_t pito_features_write(uint64_t features, uint64_t device_attributes, uint
 
 /* ------------------------------------------------------------------------------------------------------------
  * The outbox file: its bytes in a lent buffer, of which the first `used` are the file
+ *
+ * A file that is larger than the memory needs no buffer of its size. A record appended to an outbox of the version
+ * byte alone stands behind that byte as it would at the end of any outbox; and the version byte with the bytes from a
+ * record's place on is an outbox whose first record it is. PITO_ONE_RECORD bytes are enough for both (examples/c).
  */
+
+/* Where the first record of an outbox stands, and the size of an outbox of the version byte and the longest record. */
+#define PITO_FIRST_PLACE 1
+#define PITO_ONE_RECORD 4100
 
 /*
  * Begins a new outbox: one byte, first in the output.
@@ -289,6 +305,8 @@ uint64_t pito_outbox_new(uint8_t *output, size_t output_len, uint64_t *answer, s
  * Returns 0, 1, 15 (stream or payload size), 14, or the used bytes' own refusal, 40, 42, 41, 43.
  */
 #define PITO_OUTBOX_APPEND_ANSWER 2
+#define PITO_APPEND_USED 0
+#define PITO_APPEND_CUT_PLACE 1
 uint64_t pito_outbox_append(uint8_t *buffer, size_t buffer_len, uint64_t used, uint64_t stream,
                             const uint8_t *payload, size_t payload_len, uint64_t *answer, size_t answer_len);
 
@@ -304,6 +322,12 @@ uint64_t pito_outbox_append(uint8_t *buffer, size_t buffer_len, uint64_t used, u
  * Returns 0, 1, 40, 15 (place 0, or beyond the bytes), 42, 41, 43.
  */
 #define PITO_OUTBOX_RECORD_ANSWER 6
+#define PITO_RECORD_OUTCOME 0
+#define PITO_RECORD_STREAM 1
+#define PITO_RECORD_START 2
+#define PITO_RECORD_LENGTH 3
+#define PITO_RECORD_NEXT 4
+#define PITO_RECORD_CUT_PLACE 5
 uint64_t pito_outbox_record(const uint8_t *bytes, size_t bytes_len, uint64_t place, uint64_t *answer,
                             size_t answer_len);
 

@@ -32,16 +32,6 @@
 /* A frame tells no stream: what comes over this link is what the crew says to the speaker. */
 #define STREAM PITO_STREAM_ALEXA
 
-/* Where the first record of an outbox stands, after the version byte. */
-#define FIRST_PLACE 1
-
-/* A length of two bytes, a stream byte, a payload. */
-#define LONGEST_RECORD (2 + 1 + PITO_MESSAGE_LIMIT)
-
-/* Refusals that are not only handed on. */
-#define CALL_REFUSED 1
-#define RECORD_CUT 41
-
 #define LONGEST_LINE 128
 
 static uint8_t input[256];
@@ -49,7 +39,7 @@ static uint64_t extractor[PITO_EXTRACTOR_STATE];
 static uint8_t frame[PITO_EXTRACTOR_BUFFER];
 
 /* The outbox of one record. Its first byte is the file's, from the start on. */
-static uint8_t outbox[FIRST_PLACE + LONGEST_RECORD];
+static uint8_t outbox[PITO_ONE_RECORD];
 
 static int file;
 static off_t file_end;
@@ -152,12 +142,12 @@ static void drop_cut_record(void)
 static void resume_outbox(void)
 {
     uint64_t answer[PITO_OUTBOX_RECORD_ANSWER];
-    file_end = FIRST_PLACE;
+    file_end = PITO_FIRST_PLACE;
     for (;;) {
-        size_t held = read_file(outbox + FIRST_PLACE, LONGEST_RECORD, file_end);
-        uint64_t number = pito_outbox_record(outbox, FIRST_PLACE + held, FIRST_PLACE, answer,
+        size_t held = read_file(outbox + PITO_FIRST_PLACE, sizeof outbox - PITO_FIRST_PLACE, file_end);
+        uint64_t number = pito_outbox_record(outbox, PITO_FIRST_PLACE + held, PITO_FIRST_PLACE, answer,
                                              PITO_OUTBOX_RECORD_ANSWER);
-        if (number == RECORD_CUT) {
+        if (number == PITO_REFUSED_RECORD_CUT) {
             drop_cut_record();
             return;
         }
@@ -165,9 +155,9 @@ static void resume_outbox(void)
             note("box: the file is no outbox: refused %" PRIu64 "\n", number);
             exit(1);
         }
-        if (answer[0] == PITO_END)
+        if (answer[PITO_RECORD_OUTCOME] == PITO_END)
             return;
-        file_end += (off_t)(answer[4] - FIRST_PLACE);
+        file_end += (off_t)(answer[PITO_RECORD_NEXT] - PITO_FIRST_PLACE);
     }
 }
 
@@ -181,7 +171,7 @@ static void open_outbox(char *path)
     file = open(path, O_RDWR | O_CREAT | O_APPEND, 0644);
     if (file < 0)
         fail("open the outbox file");
-    if (read_file(outbox, FIRST_PLACE, 0) == 0)
+    if (read_file(outbox, PITO_FIRST_PLACE, 0) == 0)
         begin_outbox();
     else
         resume_outbox();
@@ -204,13 +194,13 @@ static void report(uint64_t length)
 static void keep(uint64_t length)
 {
     uint64_t answer[PITO_OUTBOX_APPEND_ANSWER];
-    uint64_t number = pito_outbox_append(outbox, sizeof outbox, FIRST_PLACE, STREAM, frame, length, answer,
+    uint64_t number = pito_outbox_append(outbox, sizeof outbox, PITO_FIRST_PLACE, STREAM, frame, length, answer,
                                          PITO_OUTBOX_APPEND_ANSWER);
     size_t record_length;
     if (number != 0)
         fail_refused("pito_outbox_append", number);
-    record_length = answer[0] - FIRST_PLACE;
-    write_all(file, outbox + FIRST_PLACE, record_length, "write the outbox file");
+    record_length = answer[PITO_APPEND_USED] - PITO_FIRST_PLACE;
+    write_all(file, outbox + PITO_FIRST_PLACE, record_length, "write the outbox file");
     sync_to_disk(file, "sync the outbox file");
     report(length);
     file_end += (off_t)record_length;
@@ -222,14 +212,14 @@ static void take(const uint8_t *bytes, size_t length)
     while (length > 0) {
         uint64_t number = pito_extractor_feed(extractor, PITO_EXTRACTOR_STATE, frame, sizeof frame, bytes, length,
                                               answer, PITO_FEED_ANSWER);
-        if (number == CALL_REFUSED)
+        if (number == PITO_REFUSED_UNFIT)
             fail_refused("pito_extractor_feed", number);
         if (number != 0)
             note("refused %" PRIu64 "\n", number);
-        else if (answer[0] == PITO_FRAME)
-            keep(answer[3]);
-        bytes += answer[1];
-        length -= answer[1];
+        else if (answer[PITO_FEED_OUTCOME] == PITO_FRAME)
+            keep(answer[PITO_FEED_LENGTH]);
+        bytes += answer[PITO_FEED_USED];
+        length -= answer[PITO_FEED_USED];
     }
 }
 
