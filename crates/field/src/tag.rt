@@ -62,7 +62,7 @@ fn tag_of(value: u64, next: usize) -> Tag
     Tag::Tagged(Head { field, wire, next })
 }
 
-// The tag at a place. Most have one byte, and are read where they are wanted.
+// The tag at a place. Most have one byte, as in read_varint.
 pub fn read_tag(message: &[u8], at: usize) -> Tag
     ensures { λ r. ⌜ toldTag r ≡ tagAt (now (message .entry)) at ⌝ }
 {

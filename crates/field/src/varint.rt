@@ -22,7 +22,7 @@ pub enum Varint {
     Refused(Refusal),
 }
 
-// The varint at a place. Most have one byte, and are read where they are wanted.
+// The varint at a place. Most have one byte: those are read in the caller's own code, so small is this function.
 pub fn read_varint(message: &[u8], at: usize) -> Varint
     ensures { λ r. ⌜ toldVarint r ≡ varintAt (now (message .entry)) at ⌝ }
 {
@@ -36,7 +36,7 @@ pub fn read_varint(message: &[u8], at: usize) -> Varint
     read_long(message, at)
 }
 
-// The varint at a place, byte by byte.
+// The varint at a place, byte by byte. With two callers, read_varint and read_tag, the compiler keeps it out of line.
 pub(crate) fn read_long(message: &[u8], at: usize) -> Varint
     ensures { λ r. ⌜ toldVarint r ≡ varintAt (now (message .entry)) at ⌝ }
 {

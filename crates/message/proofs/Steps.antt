@@ -1,4 +1,4 @@
--- Laws of one step: an entry and a field end after their place, and what is gathered lies within the message.
+-- Laws of one step: an entry and a field end after their place, a field is what it adds to what was gathered, and that lies within the message.
 use Prim.Native.Nat.{ℕ, _+_, _≤_, _<_, zero-le}
 use mathlib.Core.Path.{_≡_, refl, ap, _∙_}
 use mathlib.Core.List.{List}

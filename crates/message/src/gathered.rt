@@ -49,7 +49,7 @@ impl Gathered {
         }
     }
 
-    // A scalar: the last one counts. A store at a place that is written out is one instruction.
+    // A scalar: the last one counts. The places are written out: a store at a computed one copies all that is gathered.
     pub(crate) fn with_scalar(self, slot: usize, value: u64) -> Gathered
         ensures { λ r. ⌜ r ≡ withScalar slot value self ⌝ }
     {
