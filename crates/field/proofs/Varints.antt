@@ -77,6 +77,11 @@ pub turn-short : (left i : ℕ) (s : List ℕ) → i < length s → (left ≡ 0 
 turn-short zero i s inside n h = absurd (n refl)
 turn-short (suc k) i s inside n h = rw (drop-here s i inside, lt-ltb (getD s i 0) 128 h)
 
+-- a varint of one byte
+pub varint-short : (s : List ℕ) (at : ℕ) → at < length s → getD s at 0 < 128 → varintAt s at ≡ given (getD s at 0, at + 1)
+unfolding varintAt
+varint-short s at inside h = turn-short 9 at s inside (λ z. omega arith) h
+
 turn-more : (left i : ℕ) (s : List ℕ) → i < length s → (left ≡ 0 → ⊥) → 128 ≤ getD s i 0
     → varintFrom left i (drop i s) ≡ more (getD s i 0) (varintFrom (left - 1) (i + 1) (drop (i + 1) s))
 turn-more zero i s inside n h = absurd (n refl)

@@ -1,9 +1,11 @@
 // A field's tag: its number and its wire type.
 ghost use mathlib.Core.Path.{_≡_};
-ghost use Rattle.field.specs.Tag.{badTag, tagAt, toldTag};
+ghost use Rattle.field.specs.Tag.{badTag, headOf, tagAt, toldTag};
 use crate::Refusal;
+use crate::varint::BASE;
 use crate::varint::Varint;
-use crate::varint::read_varint;
+use crate::varint::read_long;
+use wire::bytes::wide64;
 
 // The largest field number.
 pub const LAST_FIELD: u64 = 536870911;
@@ -48,19 +50,31 @@ fn bad_tag(field: u64, wire: u64) -> bool
     wire != FIXED32
 }
 
-// The tag at a place.
+// The tag of a varint's value, with the place after it.
+fn tag_of(value: u64, next: usize) -> Tag
+    ensures { λ r. ⌜ toldTag r ≡ headOf (value, next) ⌝ }
+{
+    let field = value >> WIRE_BITS;
+    let wire = value - field * WIRE_TYPES;
+    if bad_tag(field, wire) {
+        return Tag::Refused(Refusal::BadTag);
+    }
+    Tag::Tagged(Head { field, wire, next })
+}
+
+// The tag at a place. Most have one byte, as in read_varint.
 pub fn read_tag(message: &[u8], at: usize) -> Tag
     ensures { λ r. ⌜ toldTag r ≡ tagAt (now (message .entry)) at ⌝ }
 {
-    match read_varint(message, at) {
-        Varint::Refused(e) => Tag::Refused(e),
-        Varint::Value { value, next } => {
-            let field = value >> WIRE_BITS;
-            let wire = value - field * WIRE_TYPES;
-            if bad_tag(field, wire) {
-                return Tag::Refused(Refusal::BadTag);
-            }
-            Tag::Tagged(Head { field, wire, next })
+    if at < message.len() {
+        let value = wide64(message[at]);
+        if value < BASE {
+            let next = at + 1;
+            return tag_of(value, next);
         }
+    }
+    match read_long(message, at) {
+        Varint::Refused(e) => Tag::Refused(e),
+        Varint::Value { value, next } => tag_of(value, next),
     }
 }

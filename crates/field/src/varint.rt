@@ -12,7 +12,7 @@ const MORE_BYTES: usize = 9;
 // The largest tenth byte.
 const LAST_BYTE: u64 = 1;
 // The base of the digits, and what a byte adds to its digit to say that more follow.
-const BASE: u64 = 128;
+pub(crate) const BASE: u64 = 128;
 // The bits of a digit.
 const DIGIT_BITS: u64 = 7;
 
@@ -22,8 +22,22 @@ pub enum Varint {
     Refused(Refusal),
 }
 
-// The varint at a place.
+// The varint at a place. Most have one byte: those are read in the caller's own code, so small is this function.
 pub fn read_varint(message: &[u8], at: usize) -> Varint
+    ensures { λ r. ⌜ toldVarint r ≡ varintAt (now (message .entry)) at ⌝ }
+{
+    if at < message.len() {
+        let value = wide64(message[at]);
+        if value < BASE {
+            let next = at + 1;
+            return Varint::Value { value, next };
+        }
+    }
+    read_long(message, at)
+}
+
+// The varint at a place, byte by byte. With two callers, read_varint and read_tag, the compiler keeps it out of line.
+pub(crate) fn read_long(message: &[u8], at: usize) -> Varint
     ensures { λ r. ⌜ toldVarint r ≡ varintAt (now (message .entry)) at ⌝ }
 {
     let mut value: u64 = 0;

@@ -5,6 +5,7 @@ use mathlib.Core.List.{List, [], _∷_}
 use lib.ListN.{length, take}
 use lib.Dec.{leb, eqb}
 use Rattle.wire.specs.Told.{Told, given, refused, andThen, row, table}
+use Rattle.field.specs.Refusal.{numberOf}
 use Rattle.field.specs.Varint.{varintAt}
 use Rattle.field.specs.Tag.{tagAt}
 use Rattle.field.specs.Value.{valueAt}
@@ -16,6 +17,10 @@ use Rattle.message.specs.declared.schema.Role.{Role}
 use Rattle.message.specs.declared.schema.Role.the-variants.{Scalar, Text, Transports, Nested, Member, Unknown}
 use Rattle.message.specs.declared.gathered.Gathered.{Gathered}
 use Rattle.message.specs.declared.walk.Moved.{Moved}
+use Rattle.message.specs.declared.walk.Added.{Added}
+use Rattle.message.specs.declared.walk.Added.the-variants as Added
+use Rattle.message.specs.declared.walk.FieldRead.{FieldRead}
+use Rattle.message.specs.declared.walk.FieldRead.the-variants as FieldRead
 use Rattle.message.specs.Schema.{roleOf, fitsRole, isMember}
 use Rattle.message.specs.Gathered.{nothing, withScalar, withText, withMember, withTransport, judgedAs}
 
@@ -82,6 +87,55 @@ fieldAt schema s at g =
 unfoldable pub fieldsFrom : Schema → List ℕ → ℕ → Told Gathered
 fieldsFrom schema s at = walk (fieldAt schema) (length s) s at nothing
 
--- the answers of read_entry and read_field
+-- the answers of read_entry
 abbrev pub toldMoved : Moved → Told (Gathered × ℕ)
 toldMoved m = judgedAs (m .verdict) (m .gathered, m .next)
+
+-- ---- the same field in two steps: what it adds, and what was gathered with that
+
+-- what a number, a part of the message and a value add
+abbrev pub numberAdded : Role → ℕ → Added
+numberAdded (Scalar slot) v = Added.Scalar slot v
+numberAdded (Text slot) v = Added.Nothing
+numberAdded Transports v = Added.Transport v
+numberAdded Nested v = Added.Nothing
+numberAdded Member v = Added.Nothing
+numberAdded Unknown v = Added.Nothing
+
+abbrev pub partAdded : Role → ℕ → Part → Added
+partAdded (Scalar slot) field p = Added.Nothing
+partAdded (Text slot) field p = Added.Text slot p
+partAdded Transports field p = Added.Packed p
+partAdded Nested field p = Added.Member field p
+partAdded Member field p = Added.Member field p
+partAdded Unknown field p = Added.Nothing
+
+abbrev pub valueAdded : Role → ℕ → Value → Added
+valueAdded role field (Number v) = numberAdded role v
+valueAdded role field (Bytes p) = partAdded role field p
+valueAdded role field Skipped = Added.Nothing
+
+-- what was gathered with what a field adds
+abbrev pub withAdded : List ℕ → Added → Gathered → Told Gathered
+withAdded s Added.Nothing g = given g
+withAdded s (Added.Scalar slot v) g = given (withScalar slot v g)
+withAdded s (Added.Text slot p) g = given (withText slot p g)
+withAdded s (Added.Member field p) g = given (withMember field p g)
+withAdded s (Added.Transport v) g = withTransport v g
+withAdded s (Added.Packed p) g = packedFrom (take (p .start + p .len) s) (p .start) g
+
+-- what a field whose tag was judged adds, and the place after it
+unfoldable pub addedAt : List ℕ → ℕ → ℕ → Role → ℕ → Told (Added × ℕ)
+addedAt s at wire role field = andThen (valueAt s at wire) (λ v. given (valueAdded role field (v .0), v .1))
+
+-- what a field adds, and the place after it: its tag, its tag by its role, then its value
+unfoldable pub readAt : Schema → List ℕ → ℕ → ℕ → Told (Added × ℕ)
+readAt schema s at member =
+    andThen (tagAt s at) (λ h.
+    andThen (judged (roleOf schema (h .field)) (h .wire) member) (λ _.
+    addedAt s (h .next) (h .wire) (roleOf schema (h .field)) (h .field)))
+
+-- the answers of take_value and read_field
+abbrev pub toldField : FieldRead → Told (Added × ℕ)
+toldField (FieldRead.Read a n) = given (a, n)
+toldField (FieldRead.Refused e) = refused (numberOf e)

@@ -1,15 +1,15 @@
 // What is gathered of a message, field by field.
 ghost use mathlib.Core.Path.{_≡_};
 ghost use Rattle.message.specs.Gathered.{nothing, withScalar, withText, withMember, withTransport, toldKept};
+use crate::schema::FIRST;
+use crate::schema::SECOND;
 use field::Refusal;
 use field::signed::low_signed;
 use field::value::Part;
 
 // The most transports that are read and written.
 pub const MOST_TRANSPORTS: usize = 8;
-// The scalars and the strings that a message can have.
-const SCALARS: usize = 2;
-
+// The strings that a message can have.
 const TEXTS: usize = 3;
 
 pub struct Gathered {
@@ -49,13 +49,18 @@ impl Gathered {
         }
     }
 
-    // A scalar: the last one counts.
+    // A scalar: the last one counts. The places are written out: a store at a computed one copies all that is gathered.
     pub(crate) fn with_scalar(self, slot: usize, value: u64) -> Gathered
         ensures { λ r. ⌜ r ≡ withScalar slot value self ⌝ }
     {
         let mut next = self;
-        if slot < SCALARS {
-            next.scalars[slot] = value;
+        if slot == FIRST {
+            next.scalars[FIRST] = value;
+            return next;
+        }
+        if slot == SECOND {
+            next.scalars[SECOND] = value;
+            return next;
         }
         next
     }

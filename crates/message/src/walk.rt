@@ -1,10 +1,9 @@
 // The reader of fields, for every message.
 ghost use mathlib.Core.Path.{_≡_};
 ghost use Prim.Native.Nat.{_+_, _≤_};
-ghost use lib.ListN.{length};
-ghost use Rattle.field.specs.Value.{partEnd};
+ghost use lib.ListN.{length, take};
 ghost use Rattle.message.specs.Gathered.{toldKept, toldVerdict};
-ghost use Rattle.message.specs.Walk.{entryAt, packedFrom, judged, keptNumber, keptPart, kept, takenAt, fieldAt, fieldsFrom, toldMoved};
+ghost use Rattle.message.specs.Walk.{entryAt, packedFrom, judged, numberAdded, partAdded, valueAdded, addedAt, readAt, fieldsFrom, toldMoved, toldField};
 use crate::gathered::Gathered;
 use crate::gathered::Kept;
 use crate::gathered::Verdict;
@@ -28,6 +27,23 @@ pub struct Moved {
     pub verdict: Verdict,
     pub gathered: Gathered,
     pub next: usize,
+}
+
+// What a field adds to what is gathered.
+pub enum Added {
+    Nothing,
+    Scalar { slot: usize, value: u64 },
+    Text { slot: usize, part: Part },
+    Member { field: u64, part: Part },
+    Transport(u64),
+    // A packed list of transports.
+    Packed(Part),
+}
+
+// What a field adds and the place after it, or why there is none.
+pub enum FieldRead {
+    Read { added: Added, next: usize },
+    Refused(Refusal),
 }
 
 // Whether a field of this role and wire type may stand here; member is the member's field so far.
@@ -95,48 +111,81 @@ fn read_packed(message: &[u8], from: usize, gathered: Gathered) -> Kept
     }
 }
 
+// The packed list in a part of the message.
+fn keep_packed(message: &[u8], gathered: Gathered, part: Part) -> Kept
+    requires { ⌜ part .start + part .len ≤ length (now message) ⌝ }
+    ensures { λ r. ⌜ toldKept r ≡ packedFrom (take (part .start + part .len) (now (message .entry))) (part .start) gathered ⌝ }
+{
+    let start = part.start;
+    let end = start + part.len;
+    read_packed(&message[..end], start, gathered)
+}
+
 // What a number adds.
-fn keep_number(gathered: Gathered, role: Role, value: u64) -> Kept
-    ensures { λ r. ⌜ toldKept r ≡ keptNumber role value gathered ⌝ }
+fn number_added(role: Role, value: u64) -> Added
+    ensures { λ r. ⌜ r ≡ numberAdded role value ⌝ }
 {
     match role {
-        Role::Scalar(slot) => fine(gathered.with_scalar(slot, value)),
-        Role::Text(_) => fine(gathered),
-        Role::Transports => gathered.with_transport(value),
-        Role::Nested => fine(gathered),
-        Role::Member => fine(gathered),
-        Role::Unknown => fine(gathered),
+        Role::Scalar(slot) => Added::Scalar { slot, value },
+        Role::Text(_) => Added::Nothing,
+        Role::Transports => Added::Transport(value),
+        Role::Nested => Added::Nothing,
+        Role::Member => Added::Nothing,
+        Role::Unknown => Added::Nothing,
     }
 }
 
 // What a part of the message adds.
-fn keep_part(message: &[u8], gathered: Gathered, role: Role, field: u64, part: Part) -> Kept
-    requires { ⌜ part .start + part .len ≤ length (now message) ⌝ }
-    ensures { λ r. ⌜ toldKept r ≡ keptPart (now (message .entry)) role field part gathered ⌝ }
+fn part_added(role: Role, field: u64, part: Part) -> Added
+    ensures { λ r. ⌜ r ≡ partAdded role field part ⌝ }
 {
     match role {
-        Role::Scalar(_) => fine(gathered),
-        Role::Text(slot) => fine(gathered.with_text(slot, part)),
-        Role::Transports => {
-            let start = part.start;
-            let end = start + part.len;
-            read_packed(&message[..end], start, gathered)
-        }
-        Role::Nested => fine(gathered.with_member(field, part)),
-        Role::Member => fine(gathered.with_member(field, part)),
-        Role::Unknown => fine(gathered),
+        Role::Scalar(_) => Added::Nothing,
+        Role::Text(slot) => Added::Text { slot, part },
+        Role::Transports => Added::Packed(part),
+        Role::Nested => Added::Member { field, part },
+        Role::Member => Added::Member { field, part },
+        Role::Unknown => Added::Nothing,
     }
 }
 
 // What a value adds.
-fn keep(message: &[u8], gathered: Gathered, role: Role, field: u64, value: Value) -> Kept
-    requires { ⌜ partEnd value ≤ length (now message) ⌝ }
-    ensures { λ r. ⌜ toldKept r ≡ kept (now (message .entry)) role field value gathered ⌝ }
+fn value_added(role: Role, field: u64, value: Value) -> Added
+    ensures { λ r. ⌜ r ≡ valueAdded role field value ⌝ }
 {
     match value {
-        Value::Number(n) => keep_number(gathered, role, n),
-        Value::Bytes(part) => keep_part(message, gathered, role, field, part),
-        Value::Skipped => fine(gathered),
+        Value::Number(n) => number_added(role, n),
+        Value::Bytes(part) => part_added(role, field, part),
+        Value::Skipped => Added::Nothing,
+    }
+}
+
+// The value of a field whose tag was judged.
+fn take_value(message: &[u8], at: usize, wire: u64, role: Role, field: u64) -> FieldRead
+    ensures { λ r. ⌜ toldField r ≡ addedAt (now (message .entry)) at wire role field ⌝ }
+{
+    match read_value(message, at, wire) {
+        ValueRead::Refused(e) => FieldRead::Refused(e),
+        ValueRead::Read { value, next } => {
+            let added = value_added(role, field, value);
+            FieldRead::Read { added, next }
+        }
+    }
+}
+
+// One field: its tag is judged, then its value is read; member is the member's field so far.
+fn read_field(schema: Schema, message: &[u8], at: usize, member: u64) -> FieldRead
+    ensures { λ r. ⌜ toldField r ≡ readAt schema (now (message .entry)) at member ⌝ }
+{
+    match read_tag(message, at) {
+        Tag::Refused(e) => FieldRead::Refused(e),
+        Tag::Tagged(head) => {
+            let role = role_of(schema, head.field);
+            match judge(role, head.wire, member) {
+                Verdict::Refused(e) => FieldRead::Refused(e),
+                Verdict::Fine => take_value(message, head.next, head.wire, role, head.field),
+            }
+        }
     }
 }
 
@@ -149,85 +198,50 @@ fn fine(gathered: Gathered) -> Kept
     }
 }
 
-fn stop(e: Refusal, gathered: Gathered, at: usize) -> Moved
-    ensures { λ r. ⌜ r ≡ record { verdict = Verdict.Refused e; gathered = gathered; next = at } ⌝ }
+fn stop(e: Refusal, gathered: Gathered) -> Kept
+    ensures { λ r. ⌜ r ≡ record { verdict = Verdict.Refused e; gathered = gathered } ⌝ }
 {
-    Moved {
+    Kept {
         verdict: Verdict::Refused(e),
         gathered,
-        next: at,
     }
 }
 
-// The value of a field whose tag was judged, and what it adds.
-fn take_value(
-    message: &[u8],
-    at: usize,
-    wire: u64,
-    role: Role,
-    field: u64,
-    gathered: Gathered,
-) -> Moved
-    ensures { λ r. ⌜ toldMoved r ≡ takenAt (now (message .entry)) at wire role field gathered ⌝ }
-{
-    match read_value(message, at, wire) {
-        ValueRead::Refused(e) => stop(e, gathered, at),
-        ValueRead::Read { value, next } => {
-            let kept = keep(message, gathered, role, field, value);
-            let verdict = kept.verdict;
-            let grown = kept.gathered;
-            Moved {
-                verdict,
-                gathered: grown,
-                next,
-            }
-        }
-    }
-}
-
-// One field: its tag is judged, then its value is read and kept.
-fn read_field(schema: Schema, message: &[u8], at: usize, gathered: Gathered) -> Moved
-    ensures { λ r. ⌜ toldMoved r ≡ fieldAt schema (now (message .entry)) at gathered ⌝ }
-{
-    match read_tag(message, at) {
-        Tag::Refused(e) => stop(e, gathered, at),
-        Tag::Tagged(head) => {
-            let role = role_of(schema, head.field);
-            match judge(role, head.wire, gathered.field) {
-                Verdict::Refused(e) => stop(e, gathered, at),
-                Verdict::Fine => take_value(
-                    message,
-                    head.next,
-                    head.wire,
-                    role,
-                    head.field,
-                    gathered,
-                ),
-            }
-        }
-    }
-}
-
-// The fields from a place to the end.
+// The fields from a place to the end. What each one adds is kept here, so that what is gathered stays in its place.
 pub(crate) fn read_fields(schema: Schema, message: &[u8], from: usize) -> Kept
     ensures { λ r. ⌜ toldKept r ≡ fieldsFrom schema (now (message .entry)) from ⌝ }
 {
     let mut so_far = Gathered::nothing();
     let mut at = from;
     while at < message.len() {
-        let moved = read_field(schema, message, at, so_far);
-        let verdict = moved.verdict;
-        match verdict {
-            Verdict::Refused(e) => {
-                return Kept {
-                    verdict: Verdict::Refused(e),
-                    gathered: so_far,
-                };
-            }
-            Verdict::Fine => {
-                let grown = moved.gathered;
-                so_far = grown;
-                at = moved.next;
+        match read_field(schema, message, at, so_far.field) {
+            FieldRead::Refused(e) => return stop(e, so_far),
+            FieldRead::Read { added, next } => {
+                match added {
+                    Added::Nothing => {}
+                    Added::Scalar { slot, value } => so_far = so_far.with_scalar(slot, value),
+                    Added::Text { slot, part } => so_far = so_far.with_text(slot, part),
+                    Added::Member { field, part } => so_far = so_far.with_member(field, part),
+                    Added::Transport(value) => {
+                        let kept = so_far.with_transport(value);
+                        let verdict = kept.verdict;
+                        let grown = kept.gathered;
+                        so_far = grown;
+                        if let Verdict::Refused(e) = verdict {
+                            return stop(e, so_far);
+                        }
+                    }
+                    Added::Packed(part) => {
+                        let kept = keep_packed(message, so_far, part);
+                        let verdict = kept.verdict;
+                        let grown = kept.gathered;
+                        so_far = grown;
+                        if let Verdict::Refused(e) = verdict {
+                            return stop(e, so_far);
+                        }
+                    }
+                }
+                at = next;
             }
         }
     }

@@ -1,7 +1,7 @@
 use mathlib.Core.Path.{ap, sym, _∙_}
 use Rattle.field.specs.Tag.{toldTag}
 use Rattle.message.specs.Gathered.{toldVerdict}
-use Rattle.message.specs.Walk.{fieldAt, toldMoved}
+use Rattle.message.specs.Walk.{readAt}
 use borrow.Author.Needs.{needs}
 use Rattle.message.proofs.walk.read_field.Statement.{statement}
 use Rattle.message.proofs.walk.read_field.Tie as tie
@@ -11,9 +11,6 @@ read-tag-requires c κs = search needs
 
 enum-known-e : tie.Need-enum-known-e
 enum-known-e c = search needs
-
-stop-requires : tie.Need-stop-requires
-stop-requires c κs = search needs
 
 enum-known-head : tie.Need-enum-known-head
 enum-known-head c = search needs
@@ -27,9 +24,6 @@ judge-requires c κs = search needs
 enum-known-e-2 : tie.Need-enum-known-e-2
 enum-known-e-2 c = search needs
 
-stop-requires-2 : tie.Need-stop-requires-2
-stop-requires-2 c κs = search needs
-
 enum-told : tie.Need-enum-told
 enum-told c = search needs
 
@@ -37,20 +31,19 @@ take-value-requires : tie.Need-take-value-requires
 take-value-requires c κs = search needs
 
 returns : tie.Need-returns
-unfolding fieldAt
-returns c = rw (sym (c .before .before .before .before .read-tag .ensures) ∙ ap toldTag (c .before .before .e .given .1)) (ap toldMoved (c .stop .ensures))
+unfolding readAt
+returns c = rw (sym (c .before .before .before .read-tag .ensures) ∙ ap toldTag (c .before .e .given .1))
 
 returns-2 : tie.Need-returns-2
-unfolding fieldAt
+unfolding readAt
 returns-2 c =
     rw (
-      sym (c .before .before .before .before .before .before .before .before .before .read-tag .ensures) ∙ ap toldTag (c .before .before .before .before .before .before .before .head .given .1),
-      sym (rw (c .before .before .before .before .before .role-of .ensures) at (c .before .before .before .before .judge .ensures)) ∙ ap toldVerdict (c .before .before .e2 .given .1),
+      sym (c .before .before .before .before .before .before .before .before .read-tag .ensures) ∙ ap toldTag (c .before .before .before .before .before .before .head .given .1),
+      sym (rw (c .before .before .before .before .role-of .ensures) at (c .before .before .before .judge .ensures)) ∙ ap toldVerdict (c .before .e2 .given .1),
     )
-    (ap toldMoved (c .stop2 .ensures))
 
 returns-3 : tie.Need-returns-3
-unfolding fieldAt
+unfolding readAt
 returns-3 c =
     rw (
       sym (c .before .before .before .before .before .before .before .before .read-tag .ensures) ∙ ap toldTag (c .before .before .before .before .before .before .head .given .1),
@@ -64,12 +57,10 @@ read-field-spec =
     (tie.spec
     read-tag-requires
     enum-known-e
-    stop-requires
     enum-known-head
     role-of-requires
     judge-requires
     enum-known-e-2
-    stop-requires-2
     enum-told
     take-value-requires
     returns
