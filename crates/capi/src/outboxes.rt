@@ -7,8 +7,7 @@ use rows::outboxes::WHOLE_ANSWER;
 use rows::outboxes::append_number;
 use rows::outboxes::append_row;
 use rows::outboxes::created_count;
-use rows::outboxes::record_number;
-use rows::outboxes::record_row;
+use rows::outboxes::tell_record;
 use rows::outboxes::whole_number;
 use rows::outboxes::whole_row;
 use rows::row::COUNT_ANSWER;
@@ -65,10 +64,7 @@ pub extern "C" fn pito_outbox_record(bytes: &[u8], place: u64, answer: &mut [u64
         return UNFIT;
     }
     let reading = reader::read(bytes, place as usize);
-    let number = record_number(reading);
-    let row = record_row(reading);
-    put(answer, number, &row);
-    number
+    tell_record(answer, reading)
 }
 
 // Whether an outbox is whole.

@@ -35,6 +35,12 @@ pub data View (fmt : Format) (place : ℕ) (rest : List ℕ) : Answer Item → T
   whole : Stands fmt rest → View fmt place rest (given (found (front fmt place rest)))
   broken : (n : ℕ) → View fmt place rest (refusedAt n place)
 
+-- a length that passes its test is neither 0 nor too large
+pub range-passed : (n most : ℕ) → (eqb n 0 || ltb most n) ≡ false → (1 ≤ n) × (n ≤ most)
+range-passed n most e =
+    let both = or-eq-false-eq-eq-false-and-eq-false (eqb n 0) (ltb most n) .0 e in
+    (omega (arith, eqb-false n 0 (both .0)), ltb-false most n (both .1))
+
 module _ (fmt : Format) (rest : List ℕ) where
   right-length : Stands fmt rest → badLength fmt rest ≡ false
   unfolding badLength
@@ -58,19 +64,53 @@ module _ (fmt : Format) (rest : List ℕ) where
   stands-read place s = rw (right-length s, not-cut (s .inside), right-stream (s .known))
 
   -- what passes the three tests is a whole record
-  pub passed : badLength fmt rest ≡ false → cutShort fmt rest ≡ false → badStream fmt rest ≡ false → Stands fmt rest
+  passed : badLength fmt rest ≡ false → cutShort fmt rest ≡ false → badStream fmt rest ≡ false → Stands fmt rest
   unfolding badLength cutShort badStream
   passed length-passed cut-passed stream-passed =
       let inside : fmt .width + lengthIn fmt rest ≤ length rest = ltb-false _ _ cut-passed in
       let range : (eqb (lengthIn fmt rest) 0 || ltb (fmt .limit + 1) (lengthIn fmt rest)) ≡ false
       = rw (le-leb (fmt .width) (length rest) (omega arith)) at length-passed in
-      let both = or-eq-false-eq-eq-false-and-eq-false (eqb (lengthIn fmt rest) 0) (ltb (fmt .limit + 1) (lengthIn fmt rest)) .0 range in
+      let in-range = range-passed (lengthIn fmt rest) (fmt .limit + 1) range in
       record {
-        positive = omega (arith, eqb-false (lengthIn fmt rest) 0 (both .0));
-        short = ltb-false _ _ (both .1);
+        positive = in-range .0;
+        short = in-range .1;
         inside = inside;
         known = not-false _ stream-passed;
       }
+
+  -- a length of which not all bytes are there is cut short, and not wrong
+  field-cut : length rest < fmt .width → (badLength fmt rest ≡ false) × (cutShort fmt rest ≡ true)
+  unfolding badLength cutShort
+  field-cut h = (rw (lt-leb (fmt .width) (length rest) h), lt-ltb (length rest) (fmt .width + lengthIn fmt rest) (omega arith))
+
+  pub field-cut-read : (place : ℕ) → length rest < fmt .width → recordAt fmt place rest ≡ refusedAt 41 place
+  unfolding recordAt
+  field-cut-read place h = rw (field-cut h .0, field-cut h .1)
+
+  -- what is read by a length all of whose bytes are there
+  module _ (n : ℕ) (is : lengthIn fmt rest ≡ n) (field : fmt .width ≤ length rest) where
+    bad-is : badLength fmt rest ≡ (eqb n 0 || ltb (fmt .limit + 1) n)
+    unfolding badLength
+    bad-is = rw (le-leb (fmt .width) (length rest) field, is)
+
+    pub wrong-read : (place : ℕ) → (eqb n 0 || ltb (fmt .limit + 1) n) ≡ true → recordAt fmt place rest ≡ refusedAt 42 place
+    unfolding recordAt
+    wrong-read place e = rw (bad-is ∙ e)
+
+    module _ (right : (eqb n 0 || ltb (fmt .limit + 1) n) ≡ false) where
+      pub cut-read : (place : ℕ) → length rest - fmt .width < n → recordAt fmt place rest ≡ refusedAt 41 place
+      unfolding recordAt cutShort
+      cut-read place h = rw (bad-is ∙ right, lt-ltb (length rest) (fmt .width + lengthIn fmt rest) (omega arith))
+
+      module _ (inside : n ≤ length rest - fmt .width) where
+        pub strange-read : (place : ℕ) → isStream (getD rest (fmt .width) 0) ≡ false → recordAt fmt place rest ≡ refusedAt 43 place
+        unfolding recordAt badStream
+        strange-read place e = rw (bad-is ∙ right, not-cut (omega arith), e)
+
+        pub whole-read : (place : ℕ) → isStream (getD rest (fmt .width) 0) ≡ true
+            → recordAt fmt place rest ≡ given (found (foundAt fmt place (getD rest (fmt .width) 0) (n - 1)))
+        unfolding recordAt badStream
+        whole-read place e = rw (bad-is ∙ right, not-cut (omega arith), e, is)
 
   by-tests : (place : ℕ) (l c s : Bool) → badLength fmt rest ≡ l → cutShort fmt rest ≡ c → badStream fmt rest ≡ s
       → View fmt place rest (table (row 42 l ∷ row 41 c ∷ row 43 s ∷ []) (λ n. refusedAt n place) (given (found (front fmt place rest))))
@@ -155,7 +195,7 @@ module _ (fmt : Format) (rest more : List ℕ) where
             rw (le-leb (fmt .width) (length rest) w, ne-eqb (lengthIn fmt rest) 0 (omega arith), le-ltb (fmt .limit + 1) (lengthIn fmt rest) short),
             lt-ltb (length rest) (fmt .width + lengthIn fmt rest) cut,
           )
-      by-field (no w) = (rw (lt-leb (fmt .width) (length rest) (omega arith)), lt-ltb (length rest) (fmt .width + lengthIn fmt rest) (omega arith))
+      by-field (no w) = field-cut fmt rest (omega arith)
 
   module _ (place : ℕ) (f : Found) where
     -- bytes after a whole record do not change it

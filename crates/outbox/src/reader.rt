@@ -1,8 +1,8 @@
 // Reading an outbox: the record at a place, and whether all is whole.
 ghost use mathlib.Core.Path.{_≡_};
-ghost use Prim.Native.Nat.{ℕ, _<_};
+ghost use Prim.Native.Nat.{ℕ};
 ghost use Rattle.outbox.specs.Format.{versionOne};
-ghost use Rattle.outbox.specs.Reader.{otherVersion, badPlace, lengthIn, badLength, cutShort, badStream, recordAt, readOf, walkOf};
+ghost use Rattle.outbox.specs.Reader.{otherVersion, badPlace, recordAt, readOf, walkOf};
 ghost use Rattle.outbox.specs.Reader.{faultNumber, toldJudged, told, toldWalk};
 use crate::format::FIRST_PLACE;
 use crate::format::HEAD;
@@ -11,7 +11,6 @@ use crate::format::VERSION;
 use crate::format::WIDTH;
 use wire::bytes::byte_at;
 use wire::bytes::pair;
-use wire::logic::both;
 use wire::logic::either;
 use wire::stream::is_stream;
 
@@ -78,47 +77,27 @@ fn bad_place(file: &[u8], place: usize) -> bool
     either(place == 0, file.len() < place)
 }
 
-// The length of the record at the front of some bytes.
-fn length_in(rest: &[u8]) -> usize
-    ensures { λ r. ⌜ (r ≡ lengthIn (versionOne 4096) (now (rest .entry))) × (r < 65536) ⌝ }
-{
-    pair(byte_at(rest, 0), byte_at(rest, 1))
-}
-
-fn bad_length(rest: &[u8]) -> bool
-    ensures { λ r. ⌜ r ≡ badLength (versionOne 4096) (now (rest .entry)) ⌝ }
-{
-    let n = length_in(rest);
-    both(WIDTH <= rest.len(), either(n == 0, LONGEST < n))
-}
-
-fn cut_short(rest: &[u8]) -> bool
-    ensures { λ r. ⌜ r ≡ cutShort (versionOne 4096) (now (rest .entry)) ⌝ }
-{
-    rest.len() < WIDTH + length_in(rest)
-}
-
-fn bad_stream(rest: &[u8]) -> bool
-    ensures { λ r. ⌜ r ≡ badStream (versionOne 4096) (now (rest .entry)) ⌝ }
-{
-    !is_stream(byte_at(rest, WIDTH))
-}
-
+// The length is judged once all its bytes are there; before that the record is cut short.
 fn judge(rest: &[u8]) -> Judged
     ensures { λ r. ⌜ ((place : ℕ) → toldJudged (versionOne 4096) place r ≡ recordAt (versionOne 4096) place (now (rest .entry))) ⌝ }
 {
-    if bad_length(rest) {
-        return Judged::Broken(Fault::Length);
-    }
-    if cut_short(rest) {
+    if rest.len() < WIDTH {
         return Judged::Broken(Fault::Cut);
     }
-    if bad_stream(rest) {
-        return Judged::Broken(Fault::Stream);
+    let n = pair(rest[0], rest[1]);
+    if either(n == 0, LONGEST < n) {
+        return Judged::Broken(Fault::Length);
     }
-    let stream = byte_at(rest, WIDTH);
-    let size = length_in(rest) - 1;
-    Judged::Record { stream, size }
+    if rest.len() - WIDTH < n {
+        return Judged::Broken(Fault::Cut);
+    }
+    let stream = rest[WIDTH];
+    if is_stream(stream) {
+        let size = n - 1;
+        Judged::Record { stream, size }
+    } else {
+        Judged::Broken(Fault::Stream)
+    }
 }
 
 // Reads the record at a place of an outbox: 1, or a place told before.

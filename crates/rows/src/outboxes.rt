@@ -4,6 +4,7 @@ use crate::row::Count;
 use crate::row::DONE;
 use crate::row::NO_ROOM;
 use crate::row::UNFIT;
+use crate::row::put;
 use outbox::reader::Fault;
 use outbox::reader::Reading;
 use outbox::reader::Walked;
@@ -11,10 +12,12 @@ use outbox::writer::Appended;
 use outbox::writer::Created;
 use wire::bytes::wide64;
 ghost use mathlib.Core.Path.{_≡_};
+ghost use lib.ListN.{length};
 ghost use Rattle.outbox.specs.Reader.{faultNumber, toldWalk};
 ghost use Rattle.outbox.specs.Reader as readings;
 ghost use Rattle.outbox.specs.Writer.{toldNew};
 ghost use Rattle.outbox.specs.Writer as writings;
+ghost use Rattle.rows.specs.Row.{afterwards};
 ghost use Rattle.rows.specs.Outboxes.{cutPlace, numberIn, usedRow, createdCount, recordRow, wholeRow};
 
 // The numbers of the answer rows.
@@ -78,24 +81,10 @@ pub fn append_row(appended: Appended) -> [u64; 2]
     }
 }
 
-pub fn record_number(reading: Reading) -> u64
-    ensures { λ r. ⌜ r ≡ numberIn (readings.told reading) ⌝ }
-{
-    match reading {
-        Reading::Record {
-            stream: _,
-            start: _,
-            size: _,
-            next: _,
-        } => DONE,
-        Reading::End => DONE,
-        Reading::BadPlace => wide64(BAD_ARGUMENT),
-        Reading::Broken { fault, place: _ } => fault_number(fault),
-    }
-}
-
-pub fn record_row(reading: Reading) -> [u64; 6]
-    ensures { λ r. ⌜ r ≡ recordRow (readings.told reading) ⌝ }
+// Tells what was read in an answer row, and returns its number. Each arm writes its own row: to choose one first costs more.
+pub fn tell_record(answer: &mut [u64], reading: Reading) -> u64
+    requires { ⌜ length (now answer) ≡ 6 ⌝ }
+    ensures { λ r. ⌜ (r ≡ numberIn (readings.told reading)) × (now (answer .exit) ≡ afterwards (numberIn (readings.told reading)) (now (answer .entry)) (recordRow (readings.told reading))) ⌝ }
 {
     match reading {
         Reading::Record {
@@ -103,17 +92,29 @@ pub fn record_row(reading: Reading) -> [u64; 6]
             start,
             size,
             next,
-        } => [
-            RECORD,
-            wide64(stream),
-            start as u64,
-            size as u64,
-            next as u64,
-            0,
-        ],
-        Reading::End => [0u64; 6],
-        Reading::BadPlace => [0u64; 6],
-        Reading::Broken { fault, place } => [0, 0, 0, 0, 0, cut_place(fault, place)],
+        } => {
+            let wide = wide64(stream);
+            let row = [RECORD, wide, start as u64, size as u64, next as u64, 0];
+            put(answer, DONE, &row);
+            DONE
+        }
+        Reading::End => {
+            let row = [0u64; 6];
+            put(answer, DONE, &row);
+            DONE
+        }
+        Reading::BadPlace => {
+            let number = wide64(BAD_ARGUMENT);
+            let row = [0u64; 6];
+            put(answer, number, &row);
+            number
+        }
+        Reading::Broken { fault, place } => {
+            let number = fault_number(fault);
+            let row = [0, 0, 0, 0, 0, cut_place(fault, place)];
+            put(answer, number, &row);
+            number
+        }
     }
 }
 

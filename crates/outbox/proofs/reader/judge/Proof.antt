@@ -1,76 +1,109 @@
-use mathlib.Core.Path.{sym, _∙_}
+use Prim.Native.Nat.{_≤_}
+use mathlib.Core.Path.{_≡_, sym, _∙_}
+use native.Mathlib.Omega.{arith}
 use borrow.Author.Needs.{needs}
 use denote.Ref.{now}
 use Rattle.outbox.specs.Format.{versionOne}
-use Rattle.outbox.specs.Reader.{recordAt}
-use Rattle.outbox.proofs.Record.{Stands, passed, stands-read}
+use Rattle.outbox.specs.Reader.{lengthIn}
+use Rattle.outbox.proofs.Number.{number-pair}
+use Rattle.outbox.proofs.Record.{range-passed, field-cut-read, wrong-read, cut-read, strange-read, whole-read}
 use Rattle.outbox.proofs.reader.judge.Statement.{statement}
 use Rattle.outbox.proofs.reader.judge.Tie as tie
 
-bad-length-requires : tie.Need-bad-length-requires
-bad-length-requires c κs = search needs
-
 returns : tie.Need-returns
-unfolding recordAt
-returns c place = rw (sym (c .before .bad-length .ensures) ∙ c .if1 .taken)
+returns c place = sym (field-cut-read (versionOne 4096) (now (c .before .before .args .rest)) place (omega arith))
 
-cut-short-requires : tie.Need-cut-short-requires
-cut-short-requires c κs = search needs
+shared-slice-read-pair : tie.Need-shared-slice-read-pair
+shared-slice-read-pair c = search needs
+
+shared-slice-read-pair-2 : tie.Need-shared-slice-read-pair-2
+shared-slice-read-pair-2 c = search needs
+
+pair-requires : tie.Need-pair-requires
+pair-requires c κs = search needs
+
+either-requires : tie.Need-either-requires
+either-requires c κs = search needs
+
+-- the length that was read
+length-read : (c : tie.After-pair) → lengthIn (versionOne 4096) (now (c .before .before .before .before .before .args .rest)) ≡ c .pair .result
+length-read c = number-pair (now (c .before .before .before .before .before .args .rest)) ∙ sym (c .pair .ensures .0)
 
 returns-2 : tie.Need-returns-2
-unfolding recordAt
 returns-2 c place =
-    rw (sym (c .before .before .before .bad-length .ensures) ∙ c .before .before .if1 .left, sym (c .before .cut-short .ensures) ∙ c .if2 .taken)
+    let p = c .before .before in
+    sym (wrong-read (versionOne 4096) _ _ (length-read p) (p .before .before .before .if1 .left) place (sym (c .before .either .ensures) ∙ c .if2 .taken))
 
-bad-stream-requires : tie.Need-bad-stream-requires
-bad-stream-requires c κs = search needs
+sub-if3 : tie.Need-sub-if3
+sub-if3 c = search needs
 
 returns-3 : tie.Need-returns-3
-unfolding recordAt
 returns-3 c place =
-    let s = c .before .before in
-    rw (
-      sym (s .before .before .before .bad-length .ensures) ∙ s .before .before .if1 .left,
-      sym (s .before .cut-short .ensures) ∙ s .if2 .left,
-      sym (c .before .bad-stream .ensures) ∙ c .if3 .taken,
-    )
+    let d = c .before in
+    let p = d .before .before in
+    sym (cut-read (versionOne 4096) _ _ (length-read p) (p .before .before .before .if1 .left) (sym (d .before .either .ensures) ∙ d .if2 .left) place (omega arith))
 
-byte-at-requires : tie.Need-byte-at-requires
-byte-at-requires c κs = search needs
+-- past its test the length counts a stream byte
+positive : (c : tie.Else2) → 1 ≤ c .before .before .pair .result
+positive c = range-passed _ 4097 (sym (c .before .either .ensures) ∙ c .if2 .left) .0
 
-length-in-requires : tie.Need-length-in-requires
-length-in-requires c κs = search needs
+shared-slice-read-stream : tie.Need-shared-slice-read-stream
+shared-slice-read-stream c = omega (arith, positive (c .before .before))
 
--- past the three tests a whole record stands there
-stands : (c : tie.After-length-in) → Stands (versionOne 4096) (now (c .before .before .before .before .before .before .before .before .before .args .rest))
-stands c =
-    let d = c .before .before in
-    let e = d .before .before in
-    let f = e .before .before in
-    passed
-    (versionOne 4096)
-    (now (f .before .before .before .args .rest))
-    (sym (f .before .bad-length .ensures) ∙ f .if1 .left)
-    (sym (e .before .cut-short .ensures) ∙ e .if2 .left)
-    (sym (d .before .bad-stream .ensures) ∙ d .if3 .left)
+is-stream-requires : tie.Need-is-stream-requires
+is-stream-requires c κs = search needs
 
 sub-size : tie.Need-sub-size
-sub-size c = rw (c .length-in .ensures .0) (stands c .positive)
+sub-size c = positive (c .before .before .before .before)
 
 returns-4 : tie.Need-returns-4
-returns-4 c place = rw (c .before .byte-at .ensures, c .length-in .ensures .0) (sym (stands-read (versionOne 4096) _ place (stands c)))
+returns-4 c place =
+    let e = c .before .before .before in
+    let d = e .before in
+    let p = d .before .before in
+    sym
+    (whole-read
+    (versionOne 4096)
+    _
+    _
+    (length-read p)
+    (p .before .before .before .if1 .left)
+    (sym (d .before .either .ensures) ∙ d .if2 .left)
+    (e .if3 .left)
+    place
+    (sym (c .before .is-stream .ensures) ∙ c .if4 .taken))
+
+returns-5 : tie.Need-returns-5
+returns-5 c place =
+    let e = c .before .before .before in
+    let d = e .before in
+    let p = d .before .before in
+    sym
+    (strange-read
+    (versionOne 4096)
+    _
+    _
+    (length-read p)
+    (p .before .before .before .if1 .left)
+    (sym (d .before .either .ensures) ∙ d .if2 .left)
+    (e .if3 .left)
+    place
+    (sym (c .before .is-stream .ensures) ∙ c .if4 .left))
 
 pub judge-spec : {M : Type 1} → statement M
 judge-spec =
     tie.close
     (tie.spec
-    bad-length-requires
     returns
-    cut-short-requires
+    shared-slice-read-pair
+    shared-slice-read-pair-2
+    pair-requires
+    either-requires
     returns-2
-    bad-stream-requires
+    sub-if3
     returns-3
-    byte-at-requires
-    length-in-requires
+    shared-slice-read-stream
+    is-stream-requires
     sub-size
-    returns-4)
+    returns-4
+    returns-5)
