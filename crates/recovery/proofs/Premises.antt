@@ -1,7 +1,7 @@
 -- The claim of specs/Premises.antt.
 use Prim.Native.Nat.{ℕ, zero, suc, _+_, _≤_, _<_}
 use mathlib.Core.Path.{_≡_, refl}
-use mathlib.Core.Bool.{Bool, true, false, cond}
+use mathlib.Core.Bool.{true, false, cond}
 use mathlib.Core.List.{List, [], _∷_, map}
 use native.Mathlib.Omega.{arith}
 use lib.ListN.{length, take, drop, getD, length-drop}
@@ -12,7 +12,7 @@ use Rattle.frame.specs.declared.extractor.Phase.{Phase}
 use Rattle.frame.specs.declared.extractor.Phase.the-variants.{Outside, PacketId, ErrorId, Sequence, Body, Escaped}
 use Rattle.frame.specs.Mark.{kindOf, isMark}
 use Rattle.frame.specs.Extractor.{sequenceRead, lawfulBefore, lawfulAfter, lawful, ready, Feed, advanceOf, decides, feedFrom}
-use Rattle.recovery.specs.Run.{Call, one, many, callOf, runOf}
+use Rattle.recovery.specs.Run.{callOf, runOf}
 use Rattle.recovery.specs.Premises.{NoMark, LawfulIn, asking, SendableWhen, TurnedWhen, ClosingWhen, LawfulWhen, AllUsedWhen, FactsSuffice}
 use Rattle.recovery.proofs.Ready.{of-cond, is-ready, feed-ready}
 use Rattle.recovery.proofs.Cut.{feed-later, call-keeps}
