@@ -37,7 +37,7 @@ whole-cut fmt file zero whole = nothing-kept fmt file
 whole-cut fmt file (suc k) whole = some-kept fmt file k whole
 
 -- records that are owed are no refusals
-expected-passes : (fmt : Format) (place : ℕ) (es : List Entry) → firstRefusal (expected fmt place es) ≡ given tt
+pub expected-passes : (fmt : Format) (place : ℕ) (es : List Entry) → firstRefusal (expected fmt place es) ≡ given tt
 expected-passes fmt place [] = refl
 expected-passes fmt place (e ∷ es) = expected-passes fmt (after fmt place e) es
 

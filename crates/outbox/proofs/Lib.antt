@@ -13,3 +13,5 @@ pub mod AppendsAfterCut
 pub mod AppendsAsAlone
 pub mod Moved
 pub mod ReadsAsAlone
+pub mod VersionOne
+pub mod Instances

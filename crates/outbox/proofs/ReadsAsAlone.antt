@@ -21,7 +21,7 @@ use Rattle.outbox.proofs.RecordsReturn.{new-version}
 use Rattle.outbox.proofs.Moved.{record-moved, record-taken, rest-same, run-moved}
 
 -- the version, with any bytes after it
-own-version : (fmt : Format) (rest : List ℕ) → otherVersion fmt (newBytes fmt ++ rest) ≡ false
+pub own-version : (fmt : Format) (rest : List ℕ) → otherVersion fmt (newBytes fmt ++ rest) ≡ false
 own-version fmt rest = version-more fmt (newBytes fmt) rest (new-version fmt)
 
 -- the first record of bytes behind the version

@@ -1,5 +1,6 @@
 // What is appended is read back, also after a cut at any byte. Each claim holds for every format whose lengths fit their field.
 ghost use Rattle.outbox.specs.Format.{versionOne, Lawful};
+ghost use Rattle.outbox.specs.VersionOne.{HoldInVersionOne};
 ghost use Rattle.outbox.specs.Claims.{RecordsReturn, CutsAreFound, AppendsAfterCut, AppendsAsAlone, ReadsAsAlone};
 
 // The lengths of version 01 fit their field.
@@ -32,4 +33,9 @@ pub fn appends_as_alone()
 // record are enough for one reading.
 pub fn reads_as_alone()
     ensures { λ _. ⌜ ReadsAsAlone ⌝ }
+{}
+
+// Each claim for version 01, with its premises in document 01's words.
+pub fn hold_in_version_one()
+    ensures { λ _. ⌜ HoldInVersionOne ⌝ }
 {}
