@@ -34,6 +34,6 @@ appends-as-alone fmt file room whole (b ∷ own) e takes fits own-fits =
       taken = stored-told fmt file room whole e takes fits;
       taken-alone = stored-told fmt (newBytes fmt) own (new-whole fmt) e takes own-fits;
       same =
-        stored-used fmt file room whole e takes fits
-        ∙ ap (λ l. file ++ drop 1 l) (sym (stored-used fmt (newBytes fmt) own (new-whole fmt) e takes own-fits));
+          stored-used fmt file room whole e takes fits
+          ∙ ap (λ l. file ++ drop 1 l) (sym (stored-used fmt (newBytes fmt) own (new-whole fmt) e takes own-fits));
     })

@@ -14,7 +14,7 @@ use Rattle.outbox.specs.Format.{Format, headSize, newBytes, firstPlace}
 use Rattle.outbox.specs.Reader.{Answer, Item, Found, Handed, given, refusedAt, found, end, foundAt, handed, lengthIn, badLength, cutShort, badStream, recordAt}
 use Rattle.outbox.specs.Claims.{movedFound, movedAnswer, allMoved}
 use Rattle.outbox.proofs.Number.{number-append}
-use Rattle.outbox.proofs.Record.{found-starts, range-passed, wrong-read, strange-read, whole-read}
+use Rattle.outbox.proofs.Record.{clash, found-starts, range-passed, wrong-read, strange-read, whole-read}
 use Rattle.outbox.proofs.Place.{found-within}
 use Rattle.outbox.proofs.Run.{Run, ends, stops, goes}
 
@@ -71,6 +71,26 @@ module _ (fmt : Format) (rest more : List ℕ) (enough : headSize fmt + fmt .lim
       by-length : (b : Bool) → (eqb n 0 || ltb (fmt .limit + 1) n) ≡ b → recordAt fmt place (rest ++ more) ≡ recordAt fmt place rest
       by-length true wrong = wrong-read fmt (rest ++ more) n same (omega (arith, all)) place wrong ∙ sym (wrong-read fmt rest n refl (omega arith) place wrong)
       by-length false right = by-stream (isStream (getD rest (fmt .width) 0)) refl right
+
+-- .. and no record is cut short in them
+pub never-cut : (fmt : Format) (rest : List ℕ) (place : ℕ) → headSize fmt + fmt .limit ≤ length rest → recordAt fmt place rest ≡ refusedAt 41 place → ⊥
+never-cut fmt rest place enough cut = by-length (eqb n 0 || ltb (fmt .limit + 1) n) refl
+  where
+    n : ℕ
+    n = lengthIn fmt rest
+
+    by-stream : (b : Bool) → isStream (getD rest (fmt .width) 0) ≡ b → (eqb n 0 || ltb (fmt .limit + 1) n) ≡ false → ⊥
+    by-stream true s right =
+        let range = range-passed n (fmt .limit + 1) right in
+        clash (cc (whole-read fmt rest n refl (omega arith) right (omega arith) place s))
+    by-stream false s right =
+        let range = range-passed n (fmt .limit + 1) right in
+        let z : _≡_ {A = ℕ} 43 41 = cc (strange-read fmt rest n refl (omega arith) right (omega arith) place s) in
+        omega arith
+
+    by-length : (b : Bool) → (eqb n 0 || ltb (fmt .limit + 1) n) ≡ b → ⊥
+    by-length true wrong = let z : _≡_ {A = ℕ} 42 41 = cc (wrong-read fmt rest n refl (omega arith) place wrong) in omega arith
+    by-length false right = by-stream (isStream (getD rest (fmt .width) 0)) refl right
 
 -- .. so no more need be taken
 pub record-taken : (fmt : Format) (rest : List ℕ) (n : ℕ) → headSize fmt + fmt .limit ≤ n → (place : ℕ) → recordAt fmt place (take n rest) ≡ recordAt fmt place rest

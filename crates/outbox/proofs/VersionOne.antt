@@ -79,14 +79,14 @@ hold-in-version-one =
       records-return = returned;
       cuts-are-found = cut;
       appends-after-cut = λ buffer es fits kept some room e a h.
-        appends-after-cut v lawful (fileOf buffer es) kept some (made-whole buffer es fits) room e (takes e a) (omega arith);
+          appends-after-cut v lawful (fileOf buffer es) kept some (made-whole buffer es fits) room e (takes e a) (omega arith);
       appends-as-alone = λ buffer es fits room own e a h k.
-        appends-as-alone v (fileOf buffer es) room (made-whole buffer es fits) own e (takes e a) (omega arith) (omega arith);
+          appends-as-alone v (fileOf buffer es) room (made-whole buffer es fits) own e (takes e a) (omega arith) (omega arith);
       one-reads-as-alone = λ rest place first inside n enough. reads-as-alone v (1 ∷ rest) (own-version v rest) place first inside .one n (omega arith);
       record-reads-alone = λ e more a.
-        let bytes = recordBytes v (e .stream) (e .payload) ++ more in
-        reads-as-alone v (1 ∷ bytes) (own-version v bytes) 1 (omega arith) (omega arith) .stands lawful e (takes e a) more refl;
+          let bytes = recordBytes v (e .stream) (e .payload) ++ more in
+          reads-as-alone v (1 ∷ bytes) (own-version v bytes) 1 (omega arith) (omega arith) .stands lawful e (takes e a) more refl;
       rest-reads-as-alone = λ rest n some.
-        let within = stops-inside rest n some in
-        reads-as-alone v (1 ∷ rest) (own-version v rest) _ (within .0) (within .1) .rest n some refl;
+          let within = stops-inside rest n some in
+          reads-as-alone v (1 ∷ rest) (own-version v rest) _ (within .0) (within .1) .rest n some refl;
     }
