@@ -111,9 +111,9 @@ module _ (buffer : List ℕ) (place held : ℕ) (first : firstPlace ≤ place) (
           long = length-set now (firstPlace + i) (getD now (place + i) 0) ∙ m .long;
           kept = kept;
           left =
-            ap (λ b. sets (set now (firstPlace + i) b) (firstPlace + (i + 1)) (drop (i + 1) run)) (byte h)
-            ∙ sets-step now run firstPlace i (omega (arith, run-long))
-            ∙ m .left;
+              ap (λ b. sets (set now (firstPlace + i) b) (firstPlace + (i + 1)) (drop (i + 1) run)) (byte h)
+              ∙ sets-step now run firstPlace i (omega (arith, run-long))
+              ∙ m .left;
         }
       where
         next : (l : List ℕ) → drop (firstPlace + (i + 1)) l ≡ drop 1 (drop (firstPlace + i) l)

@@ -20,7 +20,7 @@ use Rattle.outbox.proofs.Contents.{entryBytes, contents-run}
 -- a record that the writer takes is not judged wrong
 takes-right : (fmt : Format) (e : Entry) → Takes fmt e → badRecord fmt (e .stream) (length (e .payload)) ≡ false
 unfolding badRecord
-takes-right fmt e t = rw (t .known, le-ltb (fmt .limit) (length (e .payload)) (t .short))
+takes-right fmt e t = rw (t .known, le-ltb (fmt .limit) (length (e .payload)) (omega (arith, t .short)))
 
 -- the bytes up to the end of what was stored
 stored-front : (buffer : List ℕ) (used : ℕ) (l : List ℕ) → used + length l ≤ length buffer → take (used + length l) (sets buffer used l) ≡ take used buffer ++ l

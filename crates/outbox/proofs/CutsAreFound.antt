@@ -47,7 +47,7 @@ cuts-are-found =
     record {
       whole = whole-cut;
       appended = λ fmt lawful buffer es taken fits kept.
-          let back = records-return fmt lawful buffer es taken fits in
+          let back = records-return fmt lawful buffer es taken (omega arith) in
           let file = take (afterAll fmt 1 es) (appendAll fmt (newOf fmt buffer) es .buffer) in
           whole-cut fmt file kept (walk-is fmt file ∙ ap firstRefusal (back .read) ∙ expected-passes fmt 1 es) ∙ ap (cutAt kept) (back .read);
     }

@@ -111,4 +111,4 @@ module _ (fmt : Format) (file : List ℕ) (v : otherVersion fmt file ≡ false) 
 pub reads-as-alone : ReadsAsAlone
 unfolding ReadsAsAlone
 reads-as-alone fmt file v place first inside =
-    record { one = one fmt file v place first inside; stands = stands fmt file v place first inside; rest = rest fmt file v place first inside }
+    record { one = λ n enough. one fmt file v place first inside n (omega arith); stands = stands fmt file v place first inside; rest = rest fmt file v place first inside }

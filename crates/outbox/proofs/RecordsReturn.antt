@@ -95,4 +95,4 @@ returned fmt lawful b room es taken fits =
 pub records-return : RecordsReturn
 unfolding RecordsReturn
 records-return fmt lawful [] es taken fits = absurd (omega (arith, after-all fmt 1 es))
-records-return fmt lawful (b ∷ room) es taken fits = returned fmt lawful b room es taken fits
+records-return fmt lawful (b ∷ room) es taken fits = returned fmt lawful b room es taken (omega arith)

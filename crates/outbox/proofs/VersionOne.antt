@@ -27,7 +27,7 @@ stream-byte ota = refl
 stream-byte alexa = refl
 
 takes : (e : Entry) → Allowed e → Takes (versionOne 4096) e
-takes e a = record { known = stream-byte (a .stream); short = a .short }
+takes e a = record { known = stream-byte (a .stream); short = omega (arith, a .short) }
 
 all-taken : (es : List Entry) → AllAllowed es → AllTaken (versionOne 4096) es
 all-taken [] all = tt
@@ -46,7 +46,7 @@ module _ (buffer : List ℕ) (es : List Entry) (fits : Fits buffer es) where
 
   pub returned : Returned (versionOne 4096) (appendAll (versionOne 4096) (newOf (versionOne 4096) buffer) es) es
   unfolding RecordsReturn
-  returned = records-return (versionOne 4096) lawful buffer es (all-taken es (fits .allowed)) room
+  returned = records-return (versionOne 4096) lawful buffer es (all-taken es (fits .allowed)) (omega (arith, room))
 
   -- what appends made is whole
   made-whole : walkOf (versionOne 4096) (fileOf buffer es) ≡ given tt
@@ -74,12 +74,12 @@ unfolding AppendsAfterCut AppendsAsAlone ReadsAsAlone
 hold-in-version-one =
     let v = versionOne 4096 in
     record {
-      lawful = λ fmt holds. holds (fmt .limit) (omega arith);
+      lawful = λ fmt holds. omega (arith, holds (fmt .limit) (omega arith));
       takes = takes;
       records-return = returned;
       cuts-are-found = cut;
       appends-after-cut = λ buffer es fits kept some room e a h.
-          appends-after-cut v lawful (fileOf buffer es) kept some (made-whole buffer es fits) room e (takes e a) (omega arith);
+          appends-after-cut v lawful (fileOf buffer es) kept (omega arith) (made-whole buffer es fits) room e (takes e a) (omega arith);
       appends-as-alone = λ buffer es fits room own e a h k.
           appends-as-alone v (fileOf buffer es) room (made-whole buffer es fits) own e (takes e a) (omega arith) (omega arith);
       one-reads-as-alone = λ rest place first inside n enough. reads-as-alone v (1 ∷ rest) (own-version v rest) place first inside .one n (omega arith);

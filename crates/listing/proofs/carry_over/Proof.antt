@@ -1,6 +1,4 @@
 use Prim.Native.Nat.{_-_}
-use mathlib.Core.Path.{sym}
-use native.Mathlib.Omega.{arith}
 use borrow.Author.Needs.{needs}
 use denote.Ref.{now}
 use Rattle.listing.proofs.Parts.{Moving, moving-begins, moving-goes, moving-ends}
