@@ -5,21 +5,21 @@ use lib.ListN.{length}
 use borrow.Author.Needs.{needs}
 use denote.Ref.{now}
 use Rattle.outbox.specs.Format.{versionOne}
-use Rattle.outbox.specs.Reader.{given, told}
+use Rattle.outbox.specs.Reader.{told}
 use Rattle.outbox.proofs.Place.{read-within, read-at-end}
 use Rattle.outbox.proofs.Walk.{Going, going-begins, read-decides, read-goes}
-use Rattle.listing.specs.Listing.{listedTo}
-use Rattle.listing.proofs.list_records.Statement.{statement}
-use Rattle.listing.proofs.list_records.Tie as tie
+use Rattle.listing.specs.Listing.{listed, listedOf}
+use Rattle.listing.proofs.list_part.Statement.{statement}
+use Rattle.listing.proofs.list_part.Tie as tie
 
 abbrev Inv-loop : tie.InvT-loop
-Inv-loop file place₀ place = Going (versionOne 4096) file place
+Inv-loop part gone last place₀ place = Going (versionOne 4096) part place
 
 abbrev μ-loop : tie.MeasureT-loop
-μ-loop file place₀ place = length file - place
+μ-loop part gone last place₀ place = length part - place
 
 loop-holds : tie.Need-loop-holds Inv-loop μ-loop
-loop-holds c = going-begins (versionOne 4096) (now (c .before .args .file))
+loop-holds c = going-begins (versionOne 4096) (now (c .before .args .part))
 
 read-requires : tie.Need-read-requires Inv-loop μ-loop
 read-requires c κs = search needs
@@ -46,16 +46,17 @@ loop-again c =
 enum-told : tie.Need-enum-told Inv-loop μ-loop
 enum-told c = search needs
 
-say-end-requires : tie.Need-say-end-requires Inv-loop μ-loop
-say-end-requires c κs = search needs
+list-end-requires : tie.Need-list-end-requires Inv-loop μ-loop
+list-end-requires c κs = search needs
 
 returns : tie.Need-returns Inv-loop μ-loop
-unfolding listedTo
+unfolding listedOf
 returns c =
     let m = c .before in
     let r = m .before .before in
     let e = sym (r .read .ensures) ∙ ap told (m .enum-told .given .1) in
-    rw (read-decides (versionOne 4096) _ (r .before .loop .inv) _ e) (read-at-end (versionOne 4096) _ (r .before .loop .place) e)
+    c .list-end .ensures
+    ∙ rw (read-decides (versionOne 4096) _ (r .before .loop .inv) _ e) (ap (listed _) (read-at-end (versionOne 4096) _ (r .before .loop .place) e))
 
 enum-told-2 : tie.Need-enum-told-2 Inv-loop μ-loop
 enum-told-2 c = search needs
@@ -64,7 +65,7 @@ say-refused-requires : tie.Need-say-refused-requires Inv-loop μ-loop
 say-refused-requires c κs = search needs
 
 returns-2 : tie.Need-returns-2 Inv-loop μ-loop
-unfolding listedTo
+unfolding listedOf
 returns-2 c =
     let m = c .before in
     let r = m .before .before in
@@ -73,21 +74,19 @@ returns-2 c =
 enum-known-fault : tie.Need-enum-known-fault Inv-loop μ-loop
 enum-known-fault c = search needs
 
-number-requires : tie.Need-number-requires Inv-loop μ-loop
-number-requires c κs = search needs
-
-say-refused-requires-2 : tie.Need-say-refused-requires-2 Inv-loop μ-loop
-say-refused-requires-2 c κs = search needs
+list-refusal-requires : tie.Need-list-refusal-requires Inv-loop μ-loop
+list-refusal-requires c κs = search needs
 
 returns-3 : tie.Need-returns-3 Inv-loop μ-loop
-unfolding listedTo
+unfolding listedOf
 returns-3 c =
-    let m = c .before .before .before in
+    let m = c .before .before in
     let r = m .before .before in
-    rw (read-decides (versionOne 4096) _ (r .before .loop .inv) _ (sym (r .read .ensures) ∙ ap told (m .fault .given .1)))
+    c .list-refusal .ensures
+    ∙ rw (read-decides (versionOne 4096) _ (r .before .loop .inv) _ (sym (r .read .ensures) ∙ ap told (m .fault .given .1)))
 
-pub list-records-spec : {M : Type 1} → statement M
-list-records-spec =
+pub list-part-spec : {M : Type 1} → statement M
+list-part-spec =
     tie.close
     (tie.spec
     Inv-loop
@@ -99,12 +98,11 @@ list-records-spec =
     loop-less
     loop-again
     enum-told
-    say-end-requires
+    list-end-requires
     returns
     enum-told-2
     say-refused-requires
     returns-2
     enum-known-fault
-    number-requires
-    say-refused-requires-2
+    list-refusal-requires
     returns-3)
