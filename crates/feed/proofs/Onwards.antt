@@ -93,6 +93,17 @@ onward-outside {limit} {s} {l} bytes i e k fits p h w clear =
 as-body : (s : Extractor) → s .phase ≡ Body → s ≡ body (s .sequence) (s .held)
 as-body s p = ap (λ (q : Phase). record { phase = q; sequence = s .sequence; held = s .held }) p
 
+-- nothing is passed, and the state made by its fields
+pub onward-body : {limit : ℕ} {s : Extractor} {l : List ℕ} (bytes : List ℕ) {i : ℕ} → Fits limit s l → s .phase ≡ Body → i ≤ length bytes
+    → Onward limit bytes s l i (body (s .sequence) (s .held)) l i
+onward-body {limit} {s} {l} bytes {i} fits p h =
+    record {
+      from = omega arith;
+      within = h;
+      fits = record { room = fits .room; size = fits .size };
+      rest = ap (λ (z : Extractor). feedFrom limit i z l (drop i bytes)) (sym (as-body s p));
+    }
+
 store-fits : (limit : ℕ) (s : Extractor) (l : List ℕ) (x : ℕ) → s .held < limit + 2
     → storeOf limit s l x ≡ step taken (body (s .sequence) (s .held + 1)) (set l (s .held) x)
 unfolding storeOf

@@ -94,7 +94,7 @@ fn take_body(state: Extractor, buffer: &mut [u8], bytes: &[u8], i: usize) -> Pas
     let mut here = state;
     let mut at = i;
     loop {
-        let run = take_plain(here, buffer, bytes, at);
+        let run = take_run(here, buffer, bytes, at);
         let end = run.at;
         let after = run.next;
         let pair = take_pair(after, buffer, bytes, end);
@@ -104,6 +104,28 @@ fn take_body(state: Extractor, buffer: &mut [u8], bytes: &[u8], i: usize) -> Pas
             return Passed { next: here, at };
         }
     }
+}
+
+// Stores the plain bytes from i on, of which there are none where another escape mark follows.
+fn take_run(state: Extractor, buffer: &mut [u8], bytes: &[u8], i: usize) -> Passed
+    requires { ⌜ Fits 4096 state (now buffer) ⌝ }
+    requires { ⌜ i ≤ length (now bytes) ⌝ }
+    requires { ⌜ state .phase ≡ Body ⌝ }
+    ensures { λ r. ⌜ (Onward 4096 (now (bytes .entry)) state (now (buffer .entry)) i
+        (r .next) (now (buffer .exit)) (r .at))
+        × (r .next .phase ≡ Body) ⌝ }
+{
+    if byte_at(bytes, i) == Mark::ESCAPE {
+        return Passed {
+            next: Extractor {
+                phase: Phase::Body,
+                sequence: state.sequence,
+                held: state.held,
+            },
+            at: i,
+        };
+    }
+    take_plain(state, buffer, bytes, i)
 }
 
 // Stores the plain bytes from i on for which there is room, in the body.
