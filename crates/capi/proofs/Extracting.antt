@@ -6,17 +6,20 @@ use mathlib.Core.List.{List, [], _∷_}
 use native.Mathlib.Omega.{arith}
 use lib.ListN.{set}
 use lib.Dec.{eqb, ltb}
-use Rattle.frame.specs.declared.mark.Kind.{Kind}
-use Rattle.frame.specs.declared.mark.Kind.the-variants.{Start, End, Escape, Plain}
-use Rattle.frame.specs.declared.extractor.Phase.{Phase}
-use Rattle.frame.specs.declared.extractor.Phase.the-variants.{Outside, PacketId, ErrorId, Sequence, Body, Escaped}
-use Rattle.frame.specs.declared.extractor.Extractor.{Extractor}
-use Rattle.frame.specs.declared.action.Action.{Action}
-use Rattle.frame.specs.declared.action.Action.the-variants.{Skip, Begin, Restart, Go, Number, Store, Finish, Refuse}
-use Rattle.frame.specs.Mark.{kindOf}
-use Rattle.frame.specs.Frame.{packetId, errorId, startCode, endCode, escapeCode}
-use Rattle.frame.specs.Action.{outsideBy, headerBy, sequenceBy, bodyBy, codeOf, codeBy, actionBy}
-use Rattle.frame.specs.Extractor.{Report, skipped, taken, allUsed, frame, refused, step, outside, body, advanceOf, performOf, storeOf, endOf, numberOf, decides, feedReport, feedFrom, fed, checked}
+use Rattle.framing.specs.declared.mark.Kind.{Kind}
+use Rattle.framing.specs.declared.mark.Kind.the-variants.{Start, End, Escape, Plain}
+use Rattle.framing.specs.Mark.{kindOf}
+use Rattle.framing.specs.Frame.{packetId, errorId, startCode, endCode, escapeCode, checked}
+use Rattle.extractor.specs.declared.state.Phase.{Phase}
+use Rattle.extractor.specs.declared.state.Phase.the-variants.{Outside, PacketId, ErrorId, Sequence, Body, Escaped}
+use Rattle.extractor.specs.declared.state.Extractor.{Extractor}
+use Rattle.extractor.specs.declared.action.Action.{Action}
+use Rattle.extractor.specs.declared.action.Action.the-variants.{Skip, Begin, Restart, Go, Number, Store, Finish, Refuse}
+use Rattle.extractor.specs.Action.{outsideBy, headerBy, sequenceBy, bodyBy, codeOf, codeBy, actionBy}
+use Rattle.extractor.specs.Outcome.{Report, skipped, taken, allUsed, frame, refused, numberOf}
+use Rattle.extractor.specs.State.{outside, body}
+use Rattle.extractor.specs.Step.{step, advanceOf, performOf, storeOf, endOf}
+use Rattle.feed.specs.Feed.{decides, feedReport, feedFrom, fed}
 use Rattle.rows.specs.Classic.{replyOf}
 
 -- a report that is no refusal by 1

@@ -12,11 +12,13 @@ use Rattle.wire.specs.Told.{refused, row, written}
 use Rattle.wire.proofs.Tables.{by-table}
 use Rattle.field.specs.Signed.{signedOf, extended}
 use Rattle.field.specs.Writer.{Field, messageBytes}
-use Rattle.frame.specs.Mark.{startMark, isMark}
-use Rattle.frame.specs.Frame.{frameOf}
-use Rattle.frame.specs.Extractor.{ready, advanceOf, feedFrom, step, fed}
-use Rattle.frame.specs.Extractor as extractor
-use Rattle.frame.specs.Writer.{writeOf}
+use Rattle.framing.specs.Mark.{startMark, isMark}
+use Rattle.framing.specs.Frame.{frameOf}
+use Rattle.extractor.specs.State.{ready}
+use Rattle.extractor.specs.Step.{advanceOf, step}
+use Rattle.extractor.specs.Outcome as extractor
+use Rattle.feed.specs.Feed.{feedFrom, fed}
+use Rattle.frame_writer.specs.Writer.{writeOf}
 use Rattle.packet.specs.Header.{inRange}
 use Rattle.packet.specs.Acknowledgement.{ackSize, ackBytes, ackOf}
 use Rattle.packet.specs.Reader.{readOf}

@@ -4,10 +4,11 @@ use mathlib.Core.Bool.{cond, _&&_}
 use mathlib.Core.List.{List, [], _∷_}
 use lib.ListN.{length, replicate}
 use lib.Dec.{eqb}
-use Rattle.frame.specs.Mark.{startMark}
-use Rattle.frame.specs.Frame.{nextSequence}
-use Rattle.frame.specs.Extractor.{Step, stepOf, Feed, feedOf}
-use Rattle.frame.specs.Writer.{writeOf}
+use Rattle.framing.specs.Mark.{startMark}
+use Rattle.framing.specs.Frame.{nextSequence}
+use Rattle.extractor.specs.Step.{Step, stepOf}
+use Rattle.feed.specs.Feed.{Feed, feedOf}
+use Rattle.frame_writer.specs.Writer.{writeOf}
 use Rattle.rows.specs.Row.{afterwards, byteOr}
 use Rattle.rows.specs.Classic.{isExtractor, extractorOf, extractorRow, replyOf, stepRow, feedRow}
 use Rattle.capi.specs.Called.{Called, called, ifFit, writerCall}

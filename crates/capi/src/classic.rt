@@ -1,7 +1,8 @@
 // Classic for C: the extractor and the frame writer.
-use frame::extractor::Extractor;
-use frame::writer::next_sequence;
-use frame::writer::write_frame;
+use feed::many::feed;
+use frame_writer::writer::write_frame;
+use framing::header::next_sequence;
+use framing::mark::Mark;
 use rows::classic::FEED_ANSWER;
 use rows::classic::STEP_ANSWER;
 use rows::classic::extractor_of;
@@ -70,7 +71,7 @@ pub extern "C" fn pito_extractor_feed(
         write_row(answer, &row);
         return UNFIT;
     }
-    let done = extractor_of(state).feed(buffer, bytes);
+    let done = feed(extractor_of(state), buffer, bytes);
     let outcome = done.outcome;
     let reply = feed_reply(outcome);
     let number = reply.number;
@@ -96,8 +97,8 @@ pub extern "C" fn pito_frame_write(
     if answer.len() != COUNT_ANSWER {
         return UNFIT;
     }
-    let sequence = byte_or(Extractor::START, sequence);
-    let outcome = write_frame(payload, sequence, output);
+    let sequence = byte_or(Mark::START, sequence);
+    let outcome = write_frame(sequence, payload, output);
     tell(answer, frame_count(outcome))
 }
 

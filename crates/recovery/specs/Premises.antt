@@ -5,11 +5,11 @@ use mathlib.Core.Logic.{_≢_}
 use mathlib.Core.Bool.{true}
 use mathlib.Core.List.{List, [], _∷_, map}
 use lib.ListN.{length, getD}
-use Rattle.frame.specs.declared.extractor.Extractor.{Extractor}
-use Rattle.frame.specs.declared.extractor.Phase.{Phase}
-use Rattle.frame.specs.declared.extractor.Phase.the-variants.{Outside, PacketId, ErrorId, Sequence, Body, Escaped}
-use Rattle.frame.specs.Frame.{frameOf}
-use Rattle.frame.specs.Extractor.{lawful}
+use Rattle.framing.specs.Frame.{frameOf}
+use Rattle.extractor.specs.declared.state.Extractor.{Extractor}
+use Rattle.extractor.specs.declared.state.Phase.{Phase}
+use Rattle.extractor.specs.declared.state.Phase.the-variants.{Outside, PacketId, ErrorId, Sequence, Body, Escaped}
+use Rattle.extractor.specs.State.{lawful}
 use Rattle.recovery.specs.Run.{Call, one, many, runOf}
 use Rattle.recovery.specs.Recovery.{Sending, Sendable, Turned, Item, whole, damaged, Closing}
 

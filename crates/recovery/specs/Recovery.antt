@@ -7,11 +7,12 @@ use mathlib.Core.List.{List, [], _∷_, _++_}
 use lib.ListN.{length, getD, set, take}
 use Rattle.wire.specs.Told.{Told, given, refused}
 use Rattle.wire.specs.Bytes.{AllBytes}
-use Rattle.frame.specs.declared.extractor.Extractor.{Extractor}
-use Rattle.frame.specs.Mark.{isMark}
-use Rattle.frame.specs.Frame.{frameOf}
-use Rattle.frame.specs.Extractor.{outside, lawful, feedOf}
-use Rattle.frame.specs.Writer.{writeOf}
+use Rattle.framing.specs.Mark.{isMark}
+use Rattle.framing.specs.Frame.{frameOf}
+use Rattle.extractor.specs.declared.state.Extractor.{Extractor}
+use Rattle.extractor.specs.State.{outside, lawful}
+use Rattle.feed.specs.Feed.{feedOf}
+use Rattle.frame_writer.specs.Writer.{writeOf}
 use Rattle.recovery.specs.Run.{Call, runOf, Given, handedBy, handedOut}
 
 -- ---- the frames of our writer

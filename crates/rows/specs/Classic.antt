@@ -4,10 +4,10 @@ use mathlib.Core.Bool.{Bool, cond, _&&_}
 use mathlib.Core.List.{List, [], _∷_}
 use lib.ListN.{length, getD}
 use lib.Dec.{ltb, eqb}
-use Rattle.frame.specs.declared.extractor.Phase.{Phase}
-use Rattle.frame.specs.declared.extractor.Phase.the-variants.{Outside, PacketId, ErrorId, Sequence, Body, Escaped}
-use Rattle.frame.specs.declared.extractor.Extractor.{Extractor}
-use Rattle.frame.specs.Extractor.{Report, skipped, taken, allUsed, frame, refused}
+use Rattle.extractor.specs.declared.state.Phase.{Phase}
+use Rattle.extractor.specs.declared.state.Phase.the-variants.{Outside, PacketId, ErrorId, Sequence, Body, Escaped}
+use Rattle.extractor.specs.declared.state.Extractor.{Extractor}
+use Rattle.extractor.specs.Outcome.{Report, skipped, taken, allUsed, frame, refused}
 use Rattle.rows.specs.declared.classic.Reply.{Reply}
 
 -- ---- the state row: phase, sequence, held

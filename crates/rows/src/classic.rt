@@ -3,17 +3,18 @@ use crate::row::BYTES;
 use crate::row::Count;
 use crate::row::DONE;
 use crate::row::number_at;
-use frame::extractor::Extractor;
-use frame::extractor::FeedOutcome;
-use frame::extractor::Outcome;
-use frame::extractor::Phase;
-use frame::writer::WriteOutcome;
+use extractor::outcome::StepOutcome;
+use extractor::state::Extractor;
+use extractor::state::Phase;
+use feed::many::FeedOutcome;
+use frame_writer::writer::WriteOutcome;
 use wire::bytes::wide64;
 use wire::logic::both;
 ghost use mathlib.Core.Path.{_≡_};
 ghost use mathlib.Core.Bool.{true};
-ghost use Rattle.frame.specs.Extractor.{told, toldFeed};
-ghost use Rattle.frame.specs.Writer as writer;
+ghost use Rattle.extractor.specs.Outcome.{told};
+ghost use Rattle.feed.specs.Feed.{toldFeed};
+ghost use Rattle.frame_writer.specs.Writer as writer;
 ghost use Rattle.rows.specs.Row.{countOf};
 ghost use Rattle.rows.specs.Classic.{phaseNumber, phaseOf, isExtractor, extractorOf, extractorRow, reply, replyOf};
 
@@ -124,14 +125,14 @@ impl Reply {
     }
 }
 
-pub fn step_reply(outcome: Outcome) -> Reply
+pub fn step_reply(outcome: StepOutcome) -> Reply
     ensures { λ r. ⌜ r ≡ replyOf (told outcome) ⌝ }
 {
     match outcome {
-        Outcome::Skipped => Reply::new(DONE, SKIPPED, 0, 0),
-        Outcome::Taken => Reply::new(DONE, TAKEN, 0, 0),
-        Outcome::Frame { sequence, len } => Reply::new(DONE, FRAME, sequence, len),
-        Outcome::Refused(why) => Reply::new(wide64(why.number()), NOTHING, 0, 0),
+        StepOutcome::Skipped => Reply::new(DONE, SKIPPED, 0, 0),
+        StepOutcome::Taken => Reply::new(DONE, TAKEN, 0, 0),
+        StepOutcome::Frame { sequence, len } => Reply::new(DONE, FRAME, sequence, len),
+        StepOutcome::Refused(why) => Reply::new(wide64(why.number()), NOTHING, 0, 0),
     }
 }
 

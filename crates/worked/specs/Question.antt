@@ -5,8 +5,8 @@ use mathlib.Core.List.{List, [], map}
 use lib.IntN.{ℤ}
 use lib.ListN.{getD, take, replicate}
 use Rattle.wire.specs.Told.{Told, given, andThen, Written}
-use Rattle.frame.specs.Frame.{nextSequence}
-use Rattle.frame.specs.Writer as frame
+use Rattle.framing.specs.Frame.{nextSequence}
+use Rattle.frame_writer.specs.Writer as frame
 use Rattle.packet.specs.Header.{extenderBit}
 use Rattle.packet.specs.Reader.{readOf, lenIn}
 use Rattle.packet.specs.Acknowledgement.{ackOf}

@@ -4,12 +4,12 @@ use crate::printing::bytes;
 use crate::printing::end;
 use crate::printing::refused;
 use crate::printing::text;
-use frame::writer::WriteOutcome;
-use frame::writer::next_sequence;
+use frame_writer::writer::WriteOutcome;
+use framing::header::next_sequence;
 
 fn write_frame(label: &[u8], sequence: u8, payload: &[u8]) {
     let mut out = [0u8; OUTPUT];
-    let outcome = frame::writer::write_frame(payload, sequence, &mut out);
+    let outcome = frame_writer::writer::write_frame(sequence, payload, &mut out);
     text(label);
     match outcome {
         WriteOutcome::Frame(n) => bytes(&out, n),
