@@ -1,18 +1,46 @@
 -- Laws of the loop over many bytes.
 use Prim.Native.Nat.{ℕ, _+_, _<_, _≤_, zero-le}
-use mathlib.Core.Path.{_≡_, _∙_}
+use mathlib.Core.Path.{_≡_, refl, _∙_}
 use mathlib.Core.List.{List, [], _∷_}
 use mathlib.Core.Bool.{Bool, true, false, cond, not}
 use native.Mathlib.Numerals.{add-one}
 use native.Mathlib.Omega.{arith}
 use lib.ListN.{length, drop, getD, drop-of-length-le}
 use lib.Seq.{drop-cons}
+use lib.Dec.{ltb}
+use borrow.Author.Tests.{ltb-true}
 use Rattle.extractor.specs.declared.state.Extractor.{Extractor}
+use Rattle.extractor.specs.declared.action.Action.{Action}
+use Rattle.extractor.specs.declared.action.Action.the-variants.{Skip, Begin, Restart, Go, Number, Store, Finish, Refuse}
+use Rattle.extractor.specs.Action.{actionOf}
 use Rattle.extractor.specs.Outcome.{Report, refused, allUsed}
 use Rattle.extractor.specs.State.{ready, Fits}
-use Rattle.extractor.specs.Step.{Step, advanceOf}
-use Rattle.extractor.proofs.States.{advance-held}
+use Rattle.extractor.specs.Step.{Step, storeOf, performOf, advanceOf}
 use Rattle.feed.specs.Feed.{fed, decides, feedReport, feedFrom, feedOf}
+
+store-held : (limit : ℕ) (s : Extractor) (l : List ℕ) (x : ℕ) → storeOf limit s l x .next .held ≤ limit + 2
+unfolding storeOf
+store-held limit s l x = go (ltb (s .held) (limit + 2)) refl
+  where
+    go : (t : Bool) → ltb (s .held) (limit + 2) ≡ t → storeOf limit s l x .next .held ≤ limit + 2
+    go true e = rw e (omega (arith, ltb-true (s .held) (limit + 2) e))
+    go false e = rw e zero-le
+
+perform-held : (limit : ℕ) (s : Extractor) (l : List ℕ) (b : ℕ) (a : Action) → s .held ≤ limit + 2
+    → performOf limit s l b a .next .held ≤ limit + 2
+perform-held limit s l b Skip h = h
+perform-held limit s l b Begin h = zero-le
+perform-held limit s l b Restart h = zero-le
+perform-held limit s l b (Go p) h = h
+perform-held limit s l b Number h = h
+perform-held limit s l b (Store x) h = store-held limit s l x
+perform-held limit s l b Finish h = zero-le
+perform-held limit s l b (Refuse r) h = zero-le
+
+-- a step keeps the count held within the buffer
+advance-held : (limit : ℕ) (s : Extractor) (l : List ℕ) (b : ℕ) → s .held ≤ limit + 2 → advanceOf limit s l b .next .held ≤ limit + 2
+unfolding advanceOf
+advance-held limit s l b h = perform-held limit s l b (actionOf (s .phase) b) h
 
 -- at the loop's test what is left of the bytes gives what all of them give
 pub record Running (limit : ℕ) (bytes l₀ : List ℕ) (s₀ : Extractor) (l : List ℕ) (s : Extractor) (i : ℕ) : Type 0 where
