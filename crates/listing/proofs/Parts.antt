@@ -11,14 +11,14 @@ use borrow.Author.Tests.{eqb-true}
 use Rattle.wire.proofs.Stores.{sets-step, sets-end}
 use Rattle.outbox.specs.Format.{Format, firstPlace}
 use Rattle.outbox.specs.Reader.{Handed, otherVersion, firstRefusal, walkOf}
-use Rattle.outbox.specs.Claims.{usable}
+use Rattle.outbox_claims.specs.Claims.{usable}
 use Rattle.outbox.proofs.Record.{clash}
 use Rattle.outbox.proofs.Walk.{other-version-walk}
 use Rattle.outbox.proofs.Place.{found-within}
-use Rattle.outbox.proofs.Run.{Run, ends, stops, goes, all-run, walk-is}
-use Rattle.outbox.proofs.Cut.{run-usable}
-use Rattle.outbox.proofs.Append.{bounds}
-use Rattle.outbox.proofs.Moved.{never-cut}
+use Rattle.outbox_claims.proofs.Run.{Run, ends, stops, goes, all-run, walk-is}
+use Rattle.outbox_claims.proofs.Cut.{run-usable}
+use Rattle.outbox_claims.proofs.Append.{bounds}
+use Rattle.outbox_claims.proofs.Moved.{never-cut}
 use Rattle.listing.specs.declared.Listed.{Listed}
 use Rattle.listing.specs.Listing.{isOver, listedOf, Carried, carried, carryOf, PartsGoOn}
 

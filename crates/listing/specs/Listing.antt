@@ -8,7 +8,7 @@ use lib.ListN.{length, take, drop}
 use lib.Seq.{sets}
 use Rattle.outbox.specs.Format.{Format, headSize, firstPlace}
 use Rattle.outbox.specs.Reader.{Answer, given, refused, refusedAt, walkOf}
-use Rattle.outbox.specs.Claims.{usable}
+use Rattle.outbox_claims.specs.Claims.{usable}
 use Rattle.listing.specs.declared.Listed.{Listed}
 
 -- the bytes of the buffer that a file passes through
