@@ -8,7 +8,7 @@ use lib.ListN.{length, take, drop, length-append, take-append-drop}
 use lib.Seq.{sets, sets-eq, take-at, take-append-le, length-take-le}
 use borrow.Author.Tests.{le-ltb}
 use Rattle.outbox.specs.Format.{Format}
-use Rattle.outbox.specs.Reader.{Handed, given, end, otherVersion, readAll, firstRefusal, walkOf}
+use Rattle.outbox.specs.Reader.{Handed, given, otherVersion, readAll, firstRefusal, walkOf}
 use Rattle.outbox.specs.Writer.{storedAt, badRecord, appendOf}
 use Rattle.outbox_claims.specs.Claims.{Lawful, Entry, Takes, after, expected, usable, recordsOf, Resumed}
 use Rattle.outbox.proofs.Place.{version-kept, version-more}

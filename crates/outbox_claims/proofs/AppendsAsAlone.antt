@@ -7,11 +7,11 @@ use lib.ListN.{length, take, drop}
 use lib.Seq.{take-at}
 use Rattle.outbox.specs.Format.{Format, newBytes}
 use Rattle.outbox.specs.Reader.{given, walkOf}
-use Rattle.outbox.specs.Writer.{newOf, appendOf}
-use Rattle.outbox_claims.specs.Claims.{Entry, Takes, after, appendAll, SameBytes, AppendsAsAlone}
+use Rattle.outbox.specs.Writer.{appendOf}
+use Rattle.outbox_claims.specs.Claims.{Entry, Takes, after, AppendsAsAlone}
 use Rattle.outbox_claims.proofs.Run.{whole-version}
 use Rattle.outbox_claims.proofs.Contents.{entryBytes, entry-ends}
-use Rattle.outbox_claims.proofs.RecordsReturn.{filled, append-one, new-version, new-whole, new-filled}
+use Rattle.outbox_claims.proofs.RecordsReturn.{filled, append-one, new-whole, new-filled}
 
 -- an append to a whole file: what is told, and the used bytes afterwards
 module _ (fmt : Format) (file room : List ℕ) (whole : walkOf fmt file ≡ given tt) (e : Entry) (takes : Takes fmt e) (fits : after fmt (length file) e ≤ length (file ++ room)) where

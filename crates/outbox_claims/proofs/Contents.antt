@@ -6,7 +6,7 @@ use native.Mathlib.Omega.{arith}
 use lib.ListN.{length, getD, take, drop, length-append}
 use lib.Seq.{getD-at, drop-at, take-at, drop-append-seam, drop-append-add, drop-append-le}
 use Rattle.outbox.specs.Format.{Format, headSize, bytesOf, recordBytes}
-use Rattle.outbox.specs.Reader.{given, found, end, foundAt, lengthIn, recordAt}
+use Rattle.outbox.specs.Reader.{given, found, foundAt, lengthIn, recordAt}
 use Rattle.outbox_claims.specs.Claims.{Lawful, Entry, Takes, AllTaken, after, expected}
 use Rattle.outbox.proofs.Number.{length-bytes, number-bytes}
 use Rattle.outbox.proofs.Record.{Stands, stands-read, record-more}

@@ -8,5 +8,6 @@ pub mod AppendsAfterCut
 pub mod AppendsAsAlone
 pub mod Moved
 pub mod ReadsAsAlone
+pub mod Stays
 pub mod VersionOne
 pub mod Instances

@@ -1,17 +1,17 @@
 -- Reading in an outbox of its own: the places told are those of the file less what goes before.
-use Prim.Native.Nat.{ℕ, _+_, _-_, _≤_, _<_}
+use Prim.Native.Nat.{ℕ, _+_, _-_, _≤_}
 use mathlib.Core.Path.{_≡_, refl, sym, ap, _∙_}
 use mathlib.Core.Bool.{Bool, true, false, _||_}
 use mathlib.Core.List.{List, [], _∷_, _++_}
 use native.Mathlib.Decide.{decLe}
 use native.Mathlib.Omega.{arith}
 use lib.Dec.{eqb, ltb}
-use lib.ListN.{length, getD, take, drop, length-append, length-drop, List·getD-append, take-append-drop}
+use lib.ListN.{length, getD, take, drop, length-append, List·getD-append, take-append-drop}
 use lib.Seq.{take-all, length-take-le, drop-append-add}
 use Rattle.wire.specs.Stream.{isStream}
 use Rattle.wire.specs.Told.{row, table}
-use Rattle.outbox.specs.Format.{Format, headSize, newBytes, firstPlace}
-use Rattle.outbox.specs.Reader.{Answer, Item, Found, Handed, given, refusedAt, found, end, foundAt, handed, lengthIn, badLength, cutShort, badStream, recordAt}
+use Rattle.outbox.specs.Format.{Format, headSize}
+use Rattle.outbox.specs.Reader.{Found, Handed, given, refusedAt, found, foundAt, lengthIn, badLength, cutShort, badStream, recordAt}
 use Rattle.outbox_claims.specs.Claims.{movedFound, movedAnswer, allMoved}
 use Rattle.outbox.proofs.Number.{number-append}
 use Rattle.outbox.proofs.Record.{clash, found-starts, range-passed, wrong-read, strange-read, whole-read}

@@ -2,13 +2,13 @@
 use Prim.Native.Nat.{ℕ, _+_, _-_, _≤_, _<_}
 use mathlib.Core.Path.{_≡_, refl, sym, ap, _∙_}
 use mathlib.Core.Bool.{false}
-use mathlib.Core.List.{List, [], _∷_, _++_, append-assoc}
+use mathlib.Core.List.{List, _++_}
 use native.Mathlib.Decide.{decLt}
 use native.Mathlib.Omega.{arith}
 use lib.ListN.{length, take, drop, length-append, length-drop, length-take, take-append-drop}
 use lib.Seq.{length-take-le, take-take}
 use Rattle.outbox.specs.Format.{Format, headSize, recordBytes, newBytes}
-use Rattle.outbox.specs.Reader.{Answer, Item, given, found, end, foundAt, handed, payloadIn, otherVersion, lengthIn, recordAt, readOf, readAll, walkOf}
+use Rattle.outbox.specs.Reader.{Answer, Item, given, found, foundAt, handed, payloadIn, otherVersion, lengthIn, recordAt, readOf, readAll, walkOf}
 use Rattle.outbox_claims.specs.Claims.{Lawful, Entry, Takes, usable, recordsOf, movedAnswer, moved, allMoved, readAt, fromPlace, ReadsAsAlone}
 use Rattle.outbox.proofs.Record.{View, whole, broken, view}
 use Rattle.outbox.proofs.Place.{right-place, read-inside, read-end, version-kept, version-more}

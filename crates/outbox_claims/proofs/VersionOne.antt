@@ -1,18 +1,18 @@
 -- The claims for version 01, from document 01's facts.
 use Prim.Native.Nat.{ℕ, _+_, _≤_}
-use mathlib.Core.Path.{_≡_, refl, sym, ap, _∙_}
-use mathlib.Core.Bool.{true, false}
+use mathlib.Core.Path.{_≡_, refl, ap, _∙_}
+use mathlib.Core.Bool.{true}
 use mathlib.Core.List.{List, [], _∷_, _++_}
 use native.Mathlib.Omega.{arith}
 use lib.ListN.{length, take, length-take}
 use Rattle.wire.specs.Stream.{isStream}
 use Rattle.outbox.specs.Format.{versionOne, recordBytes}
-use Rattle.outbox.specs.Reader.{given, otherVersion, readAll, firstRefusal, walkOf}
+use Rattle.outbox.specs.Reader.{given, readAll, firstRefusal, walkOf}
 use Rattle.outbox.specs.Writer.{newOf}
 use Rattle.outbox_claims.specs.Claims.{Lawful, Entry, Takes, AllTaken, after, afterAll, expected, appendAll, Returned, cutAt, usable, RecordsReturn, AppendsAfterCut, AppendsAsAlone, ReadsAsAlone}
 use Rattle.outbox_claims.specs.VersionOne.{StreamByte, control, ota, alexa, Allowed, AllAllowed, sizeOf, fileOf, Fits, HoldInVersionOne}
 use Rattle.outbox.proofs.Place.{version-kept}
-use Rattle.outbox_claims.proofs.Run.{walk-is, whole-version}
+use Rattle.outbox_claims.proofs.Run.{walk-is}
 use Rattle.outbox_claims.proofs.Append.{bounds}
 use Rattle.outbox_claims.proofs.RecordsReturn.{records-return}
 use Rattle.outbox_claims.proofs.CutsAreFound.{expected-passes, cuts-are-found}
