@@ -6,7 +6,7 @@ ghost use lib.Dec.{eqb};
 ghost use lib.ListN.{length, take};
 ghost use Rattle.outbox.specs.Format.{versionOne, firstPlace};
 ghost use Rattle.outbox.specs.Reader.{faultNumber};
-ghost use Rattle.listing.specs.Listing.{bufferSize, endsBy, listed, listedOf, carried, carryOf, PartsGoOn};
+ghost use Rattle.listing.specs.Listing.{bufferSize, endsBy, listed, listedOf, carried, carryOf, ListsAsWhole};
 use libc::STDIN_FILENO;
 use libc::STDOUT_FILENO;
 use outbox::format::FIRST_PLACE;
@@ -179,8 +179,8 @@ pub fn list(buffer: &mut [u8]) {
     }
 }
 
-// A part that has room for the longest record is listed beyond its first record, or the listing is over: so a file of any
-// size is listed to its end.
-pub fn parts_go_on()
-    ensures { λ _. ⌜ PartsGoOn ⌝ }
+// A file that is listed part by part gives what it gives as a whole, and a part with room for the longest record is listed
+// beyond its first record or to the end of the listing.
+pub fn lists_as_whole()
+    ensures { λ _. ⌜ ListsAsWhole ⌝ }
 {}
