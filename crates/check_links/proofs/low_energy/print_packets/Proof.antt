@@ -2,8 +2,8 @@ use mathlib.Core.Path.{_≡_, _∙_, refl}
 use lib.ListN.{length}
 use borrow.Author.Needs.{needs}
 use native.Mathlib.Omega.{arith}
-use Rattle.worked_cases.proofs.low_energy.print_packets.Statement.{statement}
-use Rattle.worked_cases.proofs.low_energy.print_packets.Tie as tie
+use Rattle.check_links.proofs.low_energy.print_packets.Statement.{statement}
+use Rattle.check_links.proofs.low_energy.print_packets.Tie as tie
 
 abbrev Inv-loop : tie.InvT-loop
 Inv-loop shown how message out₀ place₀ turns₀ out place turns = length out ≡ length out₀

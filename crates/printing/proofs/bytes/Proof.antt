@@ -1,8 +1,8 @@
 use Prim.Native.Nat.{_≤_, _-_}
 use borrow.Author.Needs.{needs}
 use native.Mathlib.Omega.{arith}
-use Rattle.worked_cases.proofs.printing.bytes.Statement.{statement}
-use Rattle.worked_cases.proofs.printing.bytes.Tie as tie
+use Rattle.printing.proofs.bytes.Statement.{statement}
+use Rattle.printing.proofs.bytes.Tie as tie
 
 abbrev Inv-loop : tie.InvT-loop
 Inv-loop all n i₀ i = i ≤ n

@@ -1,11 +1,6 @@
-// Words, numbers and bytes on standard output. Numbers and bytes have a blank before them.
-use field::signed::sign_extended;
+// Words, numbers and bytes on standard output, for the programs. Numbers and bytes have a blank before them.
 use libc::STDOUT_FILENO;
-use std::num::wrapping_sub_u64;
 use wire::bytes::byte_at;
-
-// The output lent to a writer: more than any case needs, but for packets of messages.
-pub const OUTPUT: usize = 32;
 
 pub fn text(words: &[u8]) {
     io::write_all(STDOUT_FILENO, words);
@@ -16,7 +11,7 @@ pub fn end() {
     text(b"\n");
 }
 
-fn digits(n: u64) {
+pub fn digits(n: u64) {
     io::print_decimal(STDOUT_FILENO, n);
 }
 
@@ -25,18 +20,7 @@ pub fn number(n: usize) {
     digits(n as u64);
 }
 
-pub fn signed(n: i32) {
-    let value = sign_extended(n);
-    if n < 0 {
-        text(b" -");
-        digits(wrapping_sub_u64(0, value));
-    } else {
-        text(b" ");
-        digits(value);
-    }
-}
-
-// A byte as document 01 prints it: two digits of base 16.
+// A byte as two digits of base 16.
 fn byte(b: u8) {
     let digits = b"0123456789ABCDEF";
     let pair = [

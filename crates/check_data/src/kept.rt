@@ -1,11 +1,11 @@
 // The cases of the outbox, P12.
-use crate::printing::end;
-use crate::printing::number;
-use crate::printing::refused;
-use crate::printing::text;
 use outbox::reader::Fault;
 use outbox::reader::Reading;
 use outbox::reader::read;
+use printing::end;
+use printing::number;
+use printing::refused;
+use printing::text;
 
 fn print_record(stream: u8, start: usize, size: usize, next: usize) {
     text(b" record of stream");

@@ -1,10 +1,6 @@
 // The cases of control messages, P10 and P11.
-use crate::printing::OUTPUT;
-use crate::printing::bytes;
-use crate::printing::end;
-use crate::printing::refused;
-use crate::printing::signed;
-use crate::printing::text;
+
+use field::signed::sign_extended;
 use message::envelope::Envelope;
 use message::envelope::EnvelopePayload;
 use message::envelope::EnvelopeRead;
@@ -12,6 +8,15 @@ use message::envelope::Payload;
 use message::envelope::write_envelope;
 use message::response::ResponsePayload;
 use message::writer::Wrote;
+use printing::bytes;
+use printing::digits;
+use printing::end;
+use printing::refused;
+use printing::text;
+use std::num::wrapping_sub_u64;
+
+// The output lent to a writer: more than any case needs.
+const OUTPUT: usize = 32;
 
 fn write_response(label: &[u8], command: i32, error_code: i32) {
     let mut out = [0u8; OUTPUT];
@@ -26,6 +31,17 @@ fn write_response(label: &[u8], command: i32, error_code: i32) {
         Wrote::Refused(why) => refused(why.number()),
     }
     end();
+}
+
+fn signed(n: i32) {
+    let value = sign_extended(n);
+    if n < 0 {
+        text(b" -");
+        digits(wrapping_sub_u64(0, value));
+    } else {
+        text(b" ");
+        digits(value);
+    }
 }
 
 fn print_payload(payload: Payload) {

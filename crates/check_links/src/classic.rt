@@ -1,11 +1,11 @@
 // The cases of Classic, P1 to P3.
-use crate::printing::OUTPUT;
-use crate::printing::bytes;
-use crate::printing::end;
-use crate::printing::refused;
-use crate::printing::text;
+use crate::OUTPUT;
 use frame_writer::writer::WriteOutcome;
 use framing::header::next_sequence;
+use printing::bytes;
+use printing::end;
+use printing::refused;
+use printing::text;
 
 fn write_frame(label: &[u8], sequence: u8, payload: &[u8]) {
     let mut out = [0u8; OUTPUT];

@@ -1,14 +1,14 @@
 // The cases of Low Energy, P4 to P9.
-use crate::printing::OUTPUT;
-use crate::printing::bytes;
-use crate::printing::end;
-use crate::printing::number;
-use crate::printing::refused;
-use crate::printing::text;
+use crate::OUTPUT;
 use packet::acknowledgement;
 use packet::header::extender_bit;
 use packet::reader;
 use packet::reader::Packet;
+use printing::bytes;
+use printing::end;
+use printing::number;
+use printing::refused;
+use printing::text;
 use receiver::BUFFER_SIZE;
 use receiver::Receiver;
 use receiver::answer::Accepted;
