@@ -18,7 +18,8 @@ use Rattle.frame.specs.Extractor.{ready, advanceOf, feedFrom, step, fed}
 use Rattle.frame.specs.Extractor as extractor
 use Rattle.frame.specs.Writer.{writeOf}
 use Rattle.packet.specs.Header.{inRange}
-use Rattle.packet.specs.Acknowledgement.{ackSize, ackBytes, ackOf}
+use Rattle.packet.specs.Control.{ackSize, ackBytes}
+use Rattle.acknowledgement.specs.Acknowledgement.{ackOf}
 use Rattle.packet.specs.Reader.{readOf}
 use Rattle.sender.specs.declared.writer.Sending.{Sending}
 use Rattle.sender.specs.Writer.{packetOf, foundAt, rows, sentOf, pieceOf, writtenOf}
