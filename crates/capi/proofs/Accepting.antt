@@ -10,9 +10,9 @@ use Rattle.wire.specs.Told.{Told, given, refused}
 use Rattle.wire.proofs.Tables.{by-table}
 use Rattle.packet.specs.declared.reader.Packet.{Packet}
 use Rattle.packet.specs.declared.reader.Packet.the-variants.{First, Next, Ack, Nack}
-use Rattle.receiver.specs.declared.slot.Slot.{Slot}
-use Rattle.receiver.specs.Slot.{idle}
-use Rattle.receiver.specs.Step.{Step, nothing, leave, finish, hold, firstStep, rows, leftBy, nextStep, slotStep}
+use Rattle.slot.specs.declared.Slot.{Slot}
+use Rattle.slot.specs.Slot.{idle}
+use Rattle.slot.specs.Step.{Step, nothing, leave, finish, hold, firstStep, rows, leftBy, nextStep, slotStep}
 use Rattle.receiver.specs.Receiver.{placeIn, acted}
 use Rattle.rows.specs.Row.{numberTold}
 

@@ -20,7 +20,8 @@ use Rattle.extractor.specs.Outcome as extractor
 use Rattle.feed.specs.Feed.{feedFrom, fed}
 use Rattle.frame_writer.specs.Writer.{writeOf}
 use Rattle.packet.specs.Header.{inRange}
-use Rattle.packet.specs.Acknowledgement.{ackSize, ackBytes, ackOf}
+use Rattle.packet.specs.Control.{ackSize, ackBytes}
+use Rattle.acknowledgement.specs.Acknowledgement.{ackOf}
 use Rattle.packet.specs.Reader.{readOf}
 use Rattle.sender.specs.declared.writer.Sending.{Sending}
 use Rattle.sender.specs.Writer.{packetOf, foundAt, rows, sentOf, pieceOf, writtenOf}

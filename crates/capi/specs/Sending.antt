@@ -4,7 +4,7 @@ use mathlib.Core.List.{List}
 use lib.ListN.{length}
 use lib.Dec.{eqb}
 use Rattle.wire.specs.Told.{Written}
-use Rattle.packet.specs.Acknowledgement.{ackOf}
+use Rattle.acknowledgement.specs.Acknowledgement.{ackOf}
 use Rattle.sender.specs.declared.writer.Sending.{Sending}
 use Rattle.sender.specs.Writer.{Sent, writtenOf}
 use Rattle.rows.specs.Row.{numberTold, byteOr, outOfRange}

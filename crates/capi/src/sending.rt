@@ -1,5 +1,4 @@
 // Sending over Low Energy for C: the packets of a message, ACK and NACK.
-use packet::acknowledgement;
 use rows::row::COUNT_ANSWER;
 use rows::row::OUT_OF_RANGE;
 use rows::row::UNFIT;

@@ -1,6 +1,5 @@
 // The cases of Low Energy, P4 to P9.
 use crate::OUTPUT;
-use packet::acknowledgement;
 use packet::header::extender_bit;
 use packet::reader;
 use packet::reader::Packet;
@@ -11,13 +10,13 @@ use printing::refused;
 use printing::text;
 use receiver::BUFFER_SIZE;
 use receiver::Receiver;
-use receiver::answer::Accepted;
-use receiver::answer::Answer;
-use receiver::slot::Slot;
 use sender::piece::LARGEST_ROOM;
 use sender::writer;
 use sender::writer::Sending;
 use sender::writer::write_packet;
+use slot::Slot;
+use slot::answer::Accepted;
+use slot::answer::Answer;
 use wire::bytes::byte_at;
 use wire::bytes::smaller;
 
@@ -115,14 +114,14 @@ fn print_accepted(accepted: Accepted) {
         Accepted::Taken {
             stream: _,
             id: _,
-            dropped: _,
+            replaced: _,
         } => text(b" taken"),
         Accepted::Finished {
             stream: _,
             id: _,
             total: _,
             ack: _,
-            dropped: _,
+            replaced: _,
         } => text(b" finished"),
         Accepted::Acked(_) => text(b" ACK"),
         Accepted::Nacked(_) => text(b" NACK"),

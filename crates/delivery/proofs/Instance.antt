@@ -9,13 +9,13 @@ use Rattle.wire.specs.declared.stream.Stream.the-variants.{Alexa}
 use Rattle.wire.specs.Stream.{isStream, streamOf}
 use Rattle.packet.specs.Header.{inRange}
 use Rattle.packet.specs.Reader.{fieldsOf, contentOf, rows, readOf}
+use Rattle.slot.specs.Slot.{lawfulSlot, lawful}
+use Rattle.slot.specs.Step.{leave, finish, hold, firstStep, nextStep}
+use Rattle.receiver.specs.Receiver.{ready, acceptOf}
 use Rattle.sender.specs.Piece.{sizeFor}
 use Rattle.sender.specs.Writer.{headerBytes, packetOf, roomFits, argumentsFit, writtenOf}
-use Rattle.sender.specs.Calls.{callsFrom, callsOf, Takes}
-use Rattle.sender.proofs.CallsGiveAll.{takes-all}
-use Rattle.receiver.specs.Slot.{lawfulSlot, lawful}
-use Rattle.receiver.specs.Step.{leave, finish, hold, firstStep, nextStep}
-use Rattle.receiver.specs.Receiver.{ready, acceptOf}
+use Rattle.delivery.specs.Calls.{callsFrom, callsOf, Takes}
+use Rattle.delivery.proofs.CallsGiveAll.{takes-all}
 use Rattle.delivery.specs.Delivery.{runOf, repliesTo, those, ours, givenTo}
 use Rattle.delivery.specs.Instance.{limit, how, message, output, slots, buffer, before, during, after, Arrives}
 

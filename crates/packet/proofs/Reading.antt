@@ -17,7 +17,8 @@ use Rattle.packet.specs.declared.reader.Head.{Head}
 use Rattle.packet.specs.declared.reader.Fields.{Fields}
 use Rattle.packet.specs.declared.reader.Packet.{Packet}
 use Rattle.packet.specs.declared.reader.Packet.the-variants.{First, Next, Ack, Nack}
-use Rattle.packet.specs.Header.{reservedByte, typeFirst, typeContinuation, typeLast, headerSize, firstByte, secondByte, streamBits}
+use Rattle.packet.specs.Header.{reservedByte, typeFirst, typeContinuation, typeLast, typeControl, headerSize, firstByte, secondByte, streamBits}
+use Rattle.packet.specs.Control.{ackBytes}
 use Rattle.packet.specs.Reader.{fieldsBy, fieldsOf, isFirst, isControl, headIn, contentOf, rows, judged, readOf}
 use Rattle.packet.proofs.Headers.{stream-back, id-back, sequence-back, type-back, ack-back, extender-back}
 
@@ -139,8 +140,13 @@ passes-next limit f false k known x h n =
       ne-eqb (f .len) 0 (λ e. omega arith),
     )
 
+passes-control : (limit : ℕ) (f : Fields) → f .kind ≡ typeControl → isStream (f .stream) ≡ true → f .exact ≡ true → 2 ≤ f .size
+    → judged limit f ≡ given (cond (f .ack) (Ack (f .head)) (Nack (f .head)))
+unfolding rows contentOf
+passes-control limit f k known s n = simp (k, known, s, le-ltb (f .size) 2 n)
+
 -- byte 0 and byte 1 say what was written there
-pub fields-back : (stream id sequence kind : ℕ) (ack extended : Bool) (rest : List ℕ) → id < 16 → sequence < 16 → kind < 4
+fields-back : (stream id sequence kind : ℕ) (ack extended : Bool) (rest : List ℕ) → id < 16 → sequence < 16 → kind < 4
     → fieldsOf (firstByte stream id ∷ secondByte sequence kind ack extended ∷ rest)
     ≡ fieldsBy (firstByte stream id ∷ secondByte sequence kind ack extended ∷ rest) stream id sequence kind ack extended
 unfolding fieldsOf
@@ -193,6 +199,16 @@ module _ (limit stream id sequence : ℕ) (ack : Bool) (payload : List ℕ) (kno
       ≡ given (Next head ack last (headerSize false extended) (length payload))
   next-read extended true n = next-by extended true typeLast refl (λ e. omega arith) (omega arith) n
   next-read extended false n = next-by extended false typeContinuation refl (λ e. omega arith) (omega arith) n
+
+-- an ACK or a NACK
+pub ack-read : (limit stream id sequence : ℕ) (positive : Bool) → isStream stream ≡ true → id < 16 → sequence < 16
+    → readOf limit (ackBytes stream id sequence positive)
+    ≡ given (cond positive (Ack (record { stream = streamOf stream; id = id; sequence = sequence })) (Nack (record { stream = streamOf stream; id = id; sequence = sequence })))
+unfolding readOf
+ack-read limit stream id sequence true known li ls =
+    rw (fields-back stream id sequence typeControl true false _ li ls (omega arith)) (passes-control limit _ refl known refl (omega arith))
+ack-read limit stream id sequence false known li ls =
+    rw (fields-back stream id sequence typeControl false false _ li ls (omega arith)) (passes-control limit _ refl known refl (omega arith))
 
 -- a packet without bytes
 pub empty-refused : (limit : ℕ) → readOf limit [] ≡ refused 2

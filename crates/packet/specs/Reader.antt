@@ -19,7 +19,7 @@ use Rattle.packet.specs.declared.reader.Verdict.the-variants.{Passed, St
 use Rattle.packet.specs.declared.reader.Answer.{Answer}
 use Rattle.packet.specs.declared.reader.Answer.the-variants.{Refused, Read}
 use Rattle.packet.specs.Header.{startSize, reservedByte, typeFirst, typeLast, typeControl, headerSize, lengthPlace, streamBits, idBits, sequenceBits, typeBits, ackBit, extenderBit}
-use Rattle.packet.specs.Acknowledgement.{ackTail}
+use Rattle.packet.specs.Control.{ackTail}
 
 -- two lists of bytes are the same
 abbrev pub sameBytes : List ℕ → List ℕ → Bool

@@ -1,5 +1,5 @@
 // Reads one packet: its fields first, then the table of refusals on the fields alone.
-use crate::acknowledgement;
+use crate::control;
 use crate::header;
 use wire::bytes::byte_at;
 use wire::bytes::pair;
@@ -154,14 +154,14 @@ fn length_at(packet: &[u8], at: usize, extended: bool) -> usize
 fn is_acknowledgement(packet: &[u8], ack: bool, extended: bool) -> bool
     ensures { λ r. ⌜ r ≡ isAcknowledgement (now (packet .entry)) ack extended ⌝ }
 {
-    let code = acknowledgement::ack_code(ack);
+    let code = control::ack_code(ack);
     let end = both(
-        byte_at(packet, 4) == acknowledgement::ACK_MARK,
+        byte_at(packet, 4) == control::ACK_MARK,
         byte_at(packet, 5) == code,
     );
-    let tail = both(byte_at(packet, 3) == acknowledgement::ACK_LENGTH, end);
-    let whole = both(byte_at(packet, 2) == acknowledgement::ACK_RESERVED, tail);
-    let exact = both(packet.len() == acknowledgement::ACK_SIZE, whole);
+    let tail = both(byte_at(packet, 3) == control::ACK_LENGTH, end);
+    let whole = both(byte_at(packet, 2) == control::ACK_RESERVED, tail);
+    let exact = both(packet.len() == control::ACK_SIZE, whole);
     both(!extended, exact)
 }
 

@@ -7,10 +7,10 @@ use lib.Dec.{eqb}
 use Rattle.wire.specs.Told.{Told, given, refused, row, table}
 use Rattle.packet.specs.declared.reader.Packet.{Packet}
 use Rattle.packet.specs.Reader.{headIn, readOf}
-use Rattle.receiver.specs.declared.slot.Slot.{Slot}
-use Rattle.receiver.specs.declared.answer.Accepted.{Accepted}
-use Rattle.receiver.specs.Slot.{idle, slotCount, lawful}
-use Rattle.receiver.specs.Step.{Step, slotStep}
+use Rattle.slot.specs.declared.Slot.{Slot}
+use Rattle.slot.specs.declared.answer.Accepted.{Accepted}
+use Rattle.slot.specs.Slot.{idle, slotCount, lawful}
+use Rattle.slot.specs.Step.{Step, slotStep}
 use Rattle.receiver.specs.Buffer.{placeOf, stored}
 
 pub record Result : Type 0 where

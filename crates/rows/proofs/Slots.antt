@@ -4,7 +4,7 @@ use mathlib.Core.Path.{_≡_, refl}
 use mathlib.Core.List.{List, _++_}
 use lib.ListN.{length}
 use lib.Seq.{sets}
-use Rattle.receiver.specs.declared.slot.Slot.{Slot}
+use Rattle.slot.specs.declared.Slot.{Slot}
 use Rattle.rows.specs.Receiving.{slotRow}
 use Rattle.rows.proofs.Wholes.{sets-three}
 

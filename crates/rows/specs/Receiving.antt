@@ -8,10 +8,10 @@ use Rattle.wire.specs.Told.{Told, given, refused}
 use Rattle.wire.specs.Stream.{streamNumber}
 use Rattle.packet.specs.Header.{bit}
 use Rattle.packet.specs.declared.reader.Head.{Head}
-use Rattle.receiver.specs.declared.slot.Slot.{Slot}
-use Rattle.receiver.specs.declared.answer.Accepted.{Accepted}
-use Rattle.receiver.specs.declared.answer.Accepted.the-variants.{Taken, Finished, Acked, Nacked}
-use Rattle.receiver.specs.Slot.{idle}
+use Rattle.slot.specs.declared.Slot.{Slot}
+use Rattle.slot.specs.declared.answer.Accepted.{Accepted}
+use Rattle.slot.specs.declared.answer.Accepted.the-variants.{Taken, Finished, Acked, Nacked}
+use Rattle.slot.specs.Slot.{idle}
 
 -- ---- the state row: five numbers for each slot, control, OTA, Alexa
 

@@ -7,9 +7,9 @@ use crate::row::number_at;
 use packet::header::bit;
 use packet::reader::Head;
 use receiver::Receiver;
-use receiver::answer::Accepted;
-use receiver::answer::Answer;
-use receiver::slot::Slot;
+use slot::Slot;
+use slot::answer::Accepted;
+use slot::answer::Answer;
 use wire::bytes::wide64;
 use wire::logic::both;
 use wire::stream::Stream;
@@ -19,7 +19,7 @@ ghost use Prim.Native.Nat.{_+_, _≤_};
 ghost use lib.ListN.{length};
 ghost use lib.Seq.{sets};
 ghost use Rattle.wire.specs.Stream.{streamNumber};
-ghost use Rattle.receiver.specs.Answer.{told};
+ghost use Rattle.slot.specs.Answer.{told};
 ghost use Rattle.rows.specs.Row.{afterwards, numberTold};
 ghost use Rattle.rows.specs.Receiving.{isSlot, slotOf, isReceiver, slotsOf, slotRow, slotsRow, headRow, acceptedRow, answerRow};
 
@@ -163,7 +163,7 @@ fn accepted_row(accepted: Accepted) -> [u64; 7]
         Accepted::Taken {
             stream,
             id,
-            dropped,
+            replaced,
         } => [
             TAKEN,
             stream_number(stream),
@@ -171,14 +171,14 @@ fn accepted_row(accepted: Accepted) -> [u64; 7]
             0,
             0,
             0,
-            wide64(bit(dropped)),
+            wide64(bit(replaced)),
         ],
         Accepted::Finished {
             stream,
             id,
             total,
             ack,
-            dropped,
+            replaced,
         } => [
             FINISHED,
             stream_number(stream),
@@ -186,7 +186,7 @@ fn accepted_row(accepted: Accepted) -> [u64; 7]
             0,
             total as u64,
             wide64(bit(ack)),
-            wide64(bit(dropped)),
+            wide64(bit(replaced)),
         ],
         Accepted::Acked(head) => head_row(ACKED, head),
         Accepted::Nacked(head) => head_row(NACKED, head),

@@ -6,12 +6,12 @@ use Rattle.framing.specs.Mark.{kindOf}
 use Rattle.framing.specs.Frame.{escapedOf, sumOf, framed}
 use Rattle.packet.specs.Header.{inRange}
 use Rattle.packet.specs.Reader.{fieldsOf, contentOf, rows, readOf}
-use Rattle.packet.specs.Acknowledgement.{ackOf}
+use Rattle.acknowledgement.specs.Acknowledgement.{ackOf}
 use Rattle.sender.specs.Piece.{sizeFor}
 use Rattle.sender.specs.Writer.{headerBytes, packetOf, roomFits, argumentsFit, writtenOf}
-use Rattle.sender.specs.Calls.{callsFrom}
-use Rattle.receiver.specs.Slot.{lawfulSlot, lawful}
-use Rattle.receiver.specs.Step.{leave, finish, hold, firstStep, nextStep}
+use Rattle.delivery.specs.Calls.{callsFrom}
+use Rattle.slot.specs.Slot.{lawfulSlot, lawful}
+use Rattle.slot.specs.Step.{leave, finish, hold, firstStep, nextStep}
 use Rattle.receiver.specs.Receiver.{ready, acceptOf}
 use Rattle.field.specs.Varint.{varintAt, varintBytes}
 use Rattle.field.specs.Tag.{badTag, tagAt}

@@ -8,9 +8,9 @@ use lib.ListN.{take, replicate}
 use Rattle.wire.specs.declared.stream.Stream.the-variants.{Control}
 use Rattle.wire.specs.Told.{given, refused}
 use Rattle.sender.specs.declared.writer.Sending.{Sending}
-use Rattle.receiver.specs.declared.slot.Slot.{Slot}
-use Rattle.receiver.specs.declared.answer.Accepted.the-variants.{Taken, Finished}
-use Rattle.receiver.specs.Slot.{idle, idles}
+use Rattle.slot.specs.declared.Slot.{Slot}
+use Rattle.slot.specs.declared.answer.Accepted.the-variants.{Taken, Finished}
+use Rattle.slot.specs.Slot.{idle, idles}
 use Rattle.message.specs.declared.envelope.Envelope.{Envelope}
 use Rattle.message.specs.declared.envelope.Payload.the-variants as Payload
 use Rattle.message.specs.declared.envelope.EnvelopePayload.the-variants.{Response}

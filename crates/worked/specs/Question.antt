@@ -9,12 +9,12 @@ use Rattle.framing.specs.Frame.{nextSequence}
 use Rattle.frame_writer.specs.Writer as frame
 use Rattle.packet.specs.Header.{extenderBit}
 use Rattle.packet.specs.Reader.{readOf, lenIn}
-use Rattle.packet.specs.Acknowledgement.{ackOf}
+use Rattle.acknowledgement.specs.Acknowledgement.{ackOf}
 use Rattle.sender.specs.declared.writer.Sending.{Sending}
-use Rattle.sender.specs.Calls.{callsOf}
-use Rattle.receiver.specs.declared.slot.Slot.{Slot}
-use Rattle.receiver.specs.declared.answer.Accepted.{Accepted}
-use Rattle.receiver.specs.Slot.{slotCount}
+use Rattle.delivery.specs.Calls.{callsOf}
+use Rattle.slot.specs.declared.Slot.{Slot}
+use Rattle.slot.specs.declared.answer.Accepted.{Accepted}
+use Rattle.slot.specs.Slot.{slotCount}
 use Rattle.receiver.specs.Receiver.{Result, acceptOf}
 use Rattle.message.specs.declared.envelope.Envelope.{Envelope}
 use Rattle.message.specs.declared.envelope.EnvelopePayload.{EnvelopePayload}

@@ -1,5 +1,5 @@
 use lib.ListN.{getD}
-use Rattle.receiver.specs.Slot.{idle}
+use Rattle.slot.specs.Slot.{idle}
 use Rattle.rows.proofs.Slots.{slots-written}
 use borrow.Author.Tests.{eq-eqb, ne-eqb}
 use borrow.Author.Needs.{needs}
