@@ -16,9 +16,9 @@ use Rattle.receiver.specs.declared.slot.Slot.{Slot}
 use Rattle.receiver.specs.declared.answer.Accepted.{Accepted}
 use Rattle.receiver.specs.Slot.{slotCount}
 use Rattle.receiver.specs.Receiver.{acceptOf}
-use Rattle.message.specs.declared.envelope.Envelope.{Envelope}
-use Rattle.message.specs.declared.envelope.EnvelopePayload.{EnvelopePayload}
-use Rattle.message.specs.Envelope.{envelopeOf, envelopeWritten}
+use Rattle.control.specs.declared.envelope.Envelope.{Envelope}
+use Rattle.control.specs.declared.envelope.EnvelopePayload.{EnvelopePayload}
+use Rattle.control.specs.Envelope.{envelopeOf, envelopeWritten}
 use Rattle.outbox.specs.Format.{versionOne}
 use Rattle.outbox.specs.Reader as outbox
 

@@ -5,13 +5,13 @@ use crate::printing::end;
 use crate::printing::refused;
 use crate::printing::signed;
 use crate::printing::text;
-use message::envelope::Envelope;
-use message::envelope::EnvelopePayload;
-use message::envelope::EnvelopeRead;
-use message::envelope::Payload;
-use message::envelope::write_envelope;
-use message::response::ResponsePayload;
-use message::writer::Wrote;
+use control::envelope::Envelope;
+use control::envelope::EnvelopePayload;
+use control::envelope::EnvelopeRead;
+use control::envelope::Payload;
+use control::envelope::write_envelope;
+use control::response::ResponsePayload;
+use field_writer::message::Wrote;
 
 fn write_response(label: &[u8], command: i32, error_code: i32) {
     let mut out = [0u8; OUTPUT];
@@ -48,7 +48,7 @@ fn print_envelope(envelope: Envelope) {
 
 fn read_envelope(label: &[u8], message: &[u8]) {
     text(label);
-    match message::envelope::read_envelope(message) {
+    match control::envelope::read_envelope(message) {
         EnvelopeRead::Read(envelope) => print_envelope(envelope),
         EnvelopeRead::Refused(_) => text(b" refused"),
     }
