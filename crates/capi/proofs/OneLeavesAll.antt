@@ -11,7 +11,7 @@ use lib.Dec.{eqb, ltb}
 use Rattle.wire.specs.Told.{refused, row, written}
 use Rattle.wire.proofs.Tables.{by-table}
 use Rattle.field.specs.Signed.{signedOf, extended}
-use Rattle.field.specs.Writer.{Field, messageBytes}
+use Rattle.field_writer.specs.Writer.{Field, messageBytes}
 use Rattle.framing.specs.Mark.{startMark, isMark}
 use Rattle.framing.specs.Frame.{frameOf}
 use Rattle.extractor.specs.State.{ready}
@@ -27,14 +27,14 @@ use Rattle.sender.specs.declared.writer.Sending.{Sending}
 use Rattle.sender.specs.Writer.{packetOf, foundAt, rows, sentOf, pieceOf, writtenOf}
 use Rattle.receiver.specs.Receiver.{result, acted, acceptOf}
 use Rattle.receiver.specs.Receiver as receiver
-use Rattle.message.specs.declared.envelope.EnvelopePayload.{EnvelopePayload}
-use Rattle.message.specs.declared.features.DeviceFeatures.{DeviceFeatures}
-use Rattle.message.specs.Gathered.{mostTransports}
-use Rattle.message.specs.Writer.{writesMessage}
-use Rattle.message.specs.Envelope.{badPayload, envelopeFields, envelopeWritten}
-use Rattle.message.specs.Response.{badResponsePayload, responseFields, responseWritten}
-use Rattle.message.specs.Information.{informationFields, informationWritten}
-use Rattle.message.specs.Features.{featuresFields, featuresWritten}
+use Rattle.control.specs.declared.envelope.EnvelopePayload.{EnvelopePayload}
+use Rattle.device.specs.declared.features.DeviceFeatures.{DeviceFeatures}
+use Rattle.walk.specs.Gathered.{mostTransports}
+use Rattle.field_writer.specs.Message.{writesMessage}
+use Rattle.control.specs.Envelope.{badPayload, envelopeFields, envelopeWritten}
+use Rattle.control.specs.Response.{badResponsePayload, responseFields, responseWritten}
+use Rattle.device.specs.Information.{informationFields, informationWritten}
+use Rattle.device.specs.Features.{featuresFields, featuresWritten}
 use Rattle.outbox.specs.Format.{versionOne, newBytes, recordBytes}
 use Rattle.outbox.specs.Reader.{Answer, walkOf}
 use Rattle.outbox.specs.Reader as outbox

@@ -4,11 +4,11 @@ use mathlib.Core.Bool.{cond}
 use mathlib.Core.List.{List, [], map}
 use Rattle.wire.specs.Told.{refused, written}
 use Rattle.field.specs.Signed.{signedOf}
-use Rattle.message.specs.declared.envelope.EnvelopePayload.{EnvelopePayload}
-use Rattle.message.specs.Envelope.{envelopeOf, envelopeWritten}
-use Rattle.message.specs.Response.{responseFrom, responseWritten}
-use Rattle.message.specs.Features.{featuresOf, featuresWritten}
-use Rattle.message.specs.Information.{informationOf, informationWritten}
+use Rattle.control.specs.declared.envelope.EnvelopePayload.{EnvelopePayload}
+use Rattle.control.specs.Envelope.{envelopeOf, envelopeWritten}
+use Rattle.control.specs.Response.{responseFrom, responseWritten}
+use Rattle.device.specs.Features.{featuresOf, featuresWritten}
+use Rattle.device.specs.Information.{informationOf, informationWritten}
 use Rattle.rows.specs.Row.{numberTold}
 use Rattle.rows.specs.Messages.{allSigned, envelopeRow, responseRow, featuresRow, informationRow, responsePayloadOf}
 use Rattle.capi.specs.Called.{Called, answers, writerCall}

@@ -4,7 +4,7 @@ use Prim.Native.Nat.{ℕ}
 use mathlib.Core.Path.{_≡_}
 use mathlib.Core.List.{List, []}
 use Rattle.sender.specs.declared.writer.Sending.{Sending}
-use Rattle.message.specs.declared.envelope.EnvelopePayload.{EnvelopePayload}
+use Rattle.control.specs.declared.envelope.EnvelopePayload.{EnvelopePayload}
 use Rattle.capi.specs.Called.{Called, called}
 use Rattle.capi.specs.Classic.{noneUsed, extractorStepOf, extractorFeedOf, frameWriteOf, nextSequenceOf}
 use Rattle.capi.specs.Sending.{packetWriteOf, ackWriteOf}

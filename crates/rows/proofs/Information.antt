@@ -7,11 +7,11 @@ use lib.ListN.{length, length-map}
 use borrow.Author.Tests.{lt-ltb}
 use Rattle.wire.specs.Told.{Told, given, refused, written}
 use Rattle.field.specs.Signed.{signedOf}
-use Rattle.message.specs.declared.gathered.Verdict.{Verdict}
-use Rattle.message.specs.declared.gathered.Verdict.the-variants.{Fine, Refused}
-use Rattle.message.specs.declared.information.DeviceInformation.{DeviceInformation}
-use Rattle.message.specs.Gathered.{judgedAs, toldVerdict}
-use Rattle.message.specs.Information.{withInformation, informationWritten}
+use Rattle.walk.specs.declared.gathered.Verdict.{Verdict}
+use Rattle.walk.specs.declared.gathered.Verdict.the-variants.{Fine, Refused}
+use Rattle.device.specs.declared.information.DeviceInformation.{DeviceInformation}
+use Rattle.walk.specs.Gathered.{judgedAs, toldVerdict}
+use Rattle.device.specs.Information.{withInformation, informationWritten}
 use Rattle.rows.specs.Row.{numberTold}
 use Rattle.rows.specs.Messages.{partsRow, transportsRow, informationRow}
 

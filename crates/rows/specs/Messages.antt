@@ -8,16 +8,16 @@ use lib.Dec.{eqb}
 use Rattle.wire.specs.Told.{Told, given, refused}
 use Rattle.field.specs.declared.value.Part.{Part}
 use Rattle.field.specs.Signed.{signedOf, extended}
-use Rattle.message.specs.declared.envelope.Envelope.{Envelope}
-use Rattle.message.specs.declared.envelope.Payload.{Payload}
-use Rattle.message.specs.declared.envelope.Payload.the-variants.{None, Response, Member}
-use Rattle.message.specs.declared.envelope.EnvelopePayload.{EnvelopePayload}
-use Rattle.message.specs.declared.envelope.EnvelopePayload.the-variants as envelope
-use Rattle.message.specs.declared.response.Response as response
-use Rattle.message.specs.declared.response.ResponsePayload.{ResponsePayload}
-use Rattle.message.specs.declared.response.ResponsePayload.the-variants as within
-use Rattle.message.specs.declared.features.DeviceFeatures.{DeviceFeatures}
-use Rattle.message.specs.declared.information.DeviceInformation.{DeviceInformation}
+use Rattle.control.specs.declared.envelope.Envelope.{Envelope}
+use Rattle.control.specs.declared.envelope.Payload.{Payload}
+use Rattle.control.specs.declared.envelope.Payload.the-variants.{None, Response, Member}
+use Rattle.control.specs.declared.envelope.EnvelopePayload.{EnvelopePayload}
+use Rattle.control.specs.declared.envelope.EnvelopePayload.the-variants as envelope
+use Rattle.control.specs.declared.response.Response as response
+use Rattle.control.specs.declared.response.ResponsePayload.{ResponsePayload}
+use Rattle.control.specs.declared.response.ResponsePayload.the-variants as within
+use Rattle.device.specs.declared.features.DeviceFeatures.{DeviceFeatures}
+use Rattle.device.specs.declared.information.DeviceInformation.{DeviceInformation}
 
 -- ---- signed numbers: two's complement, extended to 64 bits
 

@@ -1,6 +1,6 @@
 use borrow.Author.Tests.{eq-eqb, ne-eqb}
 use Rattle.capi.specs.Messages.{informationReadOf}
-use Rattle.message.specs.Information.{informationOf}
+use Rattle.device.specs.Information.{informationOf}
 use Rattle.rows.proofs.Information.{read-number, read-row}
 use borrow.Author.Needs.{needs}
 use Rattle.capi.proofs.messages.pito_information_read.Statement.{statement}
