@@ -2,3 +2,5 @@ mod Rows
 mod Extracting
 mod Accepting
 mod OneLeavesAll
+mod Sizes
+mod SizesSuffice
