@@ -18,23 +18,14 @@ pub fn place_of(stream: Stream) -> usize
     }
 }
 
-// Lends a part of the buffer on to the writer of its piece.
-fn write_part(buffer: &mut [u8], start: usize, at: usize, piece: &[u8])
-    requires { ⌜ (start + 4096 ≤ length (now buffer)) × (at + length (now piece) ≤ 4096) ⌝ }
-    ensures { λ _. ⌜ now (buffer .exit) ≡ sets (now (buffer .entry)) (start + at) (now (piece .entry)) ⌝ }
-{
-    let end = start + wire::MESSAGE_LIMIT;
-    copy(&mut buffer[start..end], at, piece);
-}
-
-// Writes a piece in the part of its stream.
+// Lends the part of a stream on to the writer of its piece.
 pub fn write_piece(buffer: &mut [u8], stream: Stream, at: usize, piece: &[u8])
     requires { ⌜ (length (now buffer) ≡ 12288) × (at + length (now piece) ≤ 4096) ⌝ }
     ensures { λ _. ⌜ now (buffer .exit) ≡ sets (now (buffer .entry)) (partStart 4096 (placeOf stream) + at) (now (piece .entry)) ⌝ }
 {
     match stream {
-        Stream::Control => write_part(buffer, 0, at, piece),
-        Stream::Ota => write_part(buffer, 4096, at, piece),
-        Stream::Alexa => write_part(buffer, 8192, at, piece),
+        Stream::Control => copy(&mut buffer[0..4096], at, piece),
+        Stream::Ota => copy(&mut buffer[4096..8192], at, piece),
+        Stream::Alexa => copy(&mut buffer[8192..12288], at, piece),
     }
 }
