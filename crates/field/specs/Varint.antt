@@ -1,5 +1,5 @@
--- Base 128 varints: what stands at a place of a message, and the bytes of the shortest one.
-use Prim.Native.Nat.{ℕ, zero, suc, _+_, _-_, _*_, _/_, _%_}
+-- Base 128 varints: what stands at a place of a message.
+use Prim.Native.Nat.{ℕ, zero, suc, _+_, _-_, _*_}
 use mathlib.Core.Bool.{cond}
 use mathlib.Core.List.{List, [], _∷_}
 use lib.ListN.{drop}
@@ -40,12 +40,3 @@ varintAt s at = varintFrom moreBytes at (drop at s)
 abbrev pub toldVarint : Varint → Told (ℕ × ℕ)
 toldVarint (Value v n) = given (v, n)
 toldVarint (Refused e) = refused (numberOf e)
-
--- the digits of v in the fewest bytes, of which at most k follow the first
-abbrev pub digitsOf : ℕ → ℕ → List ℕ
-digitsOf zero v = v ∷ []
-digitsOf (suc k) v = cond (ltb v base) (v ∷ []) ((v % base + base) ∷ digitsOf k (v / base))
-
--- the shortest varint of v
-unfoldable pub varintBytes : ℕ → List ℕ
-varintBytes v = digitsOf moreBytes v

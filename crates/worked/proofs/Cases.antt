@@ -13,14 +13,15 @@ use Rattle.delivery.specs.Calls.{callsFrom}
 use Rattle.slot.specs.Slot.{lawfulSlot, lawful}
 use Rattle.slot.specs.Step.{leave, finish, hold, firstStep, nextStep}
 use Rattle.receiver.specs.Receiver.{ready, acceptOf}
-use Rattle.field.specs.Varint.{varintAt, varintBytes}
+use Rattle.field.specs.Varint.{varintAt}
+use Rattle.field_writer.specs.Varint.{varintBytes}
 use Rattle.field.specs.Tag.{badTag, tagAt}
 use Rattle.field.specs.Value.{valueAt}
-use Rattle.field.specs.Writer.{tagBytes, headBytes, partBytes, fieldBytes}
-use Rattle.message.specs.Schema.{roleOf}
-use Rattle.message.specs.Walk.{judged, addedAt, readAt, fieldAt, fieldsFrom}
-use Rattle.message.specs.Response.{responseFrom}
-use Rattle.message.specs.Envelope.{payloadOf, envelopeOf, envelopeWritten}
+use Rattle.field_writer.specs.Writer.{tagBytes, headBytes, partBytes, fieldBytes}
+use Rattle.walk.specs.Schema.{roleOf}
+use Rattle.walk.specs.Walk.{judged, addedAt, readAt, fieldAt, fieldsFrom}
+use Rattle.control.specs.Response.{responseFrom}
+use Rattle.control.specs.Envelope.{payloadOf, envelopeOf, envelopeWritten}
 use Rattle.outbox.specs.Format.{numberOf}
 use Rattle.outbox.specs.Reader as outbox
 use Rattle.worked.specs.Question.{answerTo}

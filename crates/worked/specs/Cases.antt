@@ -11,11 +11,11 @@ use Rattle.sender.specs.declared.writer.Sending.{Sending}
 use Rattle.slot.specs.declared.Slot.{Slot}
 use Rattle.slot.specs.declared.answer.Accepted.the-variants.{Taken, Finished}
 use Rattle.slot.specs.Slot.{idle, idles}
-use Rattle.message.specs.declared.envelope.Envelope.{Envelope}
-use Rattle.message.specs.declared.envelope.Payload.the-variants as Payload
-use Rattle.message.specs.declared.envelope.EnvelopePayload.the-variants.{Response}
-use Rattle.message.specs.declared.response.ResponsePayload.the-variants.{None}
-use Rattle.message.specs.Gathered.{noPart}
+use Rattle.control.specs.declared.envelope.Envelope.{Envelope}
+use Rattle.control.specs.declared.envelope.Payload.the-variants as Payload
+use Rattle.control.specs.declared.envelope.EnvelopePayload.the-variants.{Response}
+use Rattle.control.specs.declared.response.ResponsePayload.the-variants.{None}
+use Rattle.walk.specs.Gathered.{noPart}
 use Rattle.outbox.specs.Reader as outbox
 use Rattle.worked.specs.Question.{Question, writeFrame, nextSequenceByte, writePackets, readPieces, acceptPacket, writeAcknowledgement, writeEnvelope, readEnvelope, readRecord}
 use Rattle.worked.specs.Question.{Answer, bytes, sequenceByte, packets, pieces, accepted, envelope, reading, plain, extended, zeros, answerTo}

@@ -16,9 +16,9 @@ use Rattle.slot.specs.declared.Slot.{Slot}
 use Rattle.slot.specs.declared.answer.Accepted.{Accepted}
 use Rattle.slot.specs.Slot.{slotCount}
 use Rattle.receiver.specs.Receiver.{Result, acceptOf}
-use Rattle.message.specs.declared.envelope.Envelope.{Envelope}
-use Rattle.message.specs.declared.envelope.EnvelopePayload.{EnvelopePayload}
-use Rattle.message.specs.Envelope.{envelopeOf, envelopeWritten}
+use Rattle.control.specs.declared.envelope.Envelope.{Envelope}
+use Rattle.control.specs.declared.envelope.EnvelopePayload.{EnvelopePayload}
+use Rattle.control.specs.Envelope.{envelopeOf, envelopeWritten}
 use Rattle.outbox.specs.Format.{versionOne}
 use Rattle.outbox.specs.Reader as outbox
 
