@@ -5,7 +5,7 @@ use mathlib.Core.Bool.{Bool, not}
 use lib.ListN.{length}
 use lib.Seq.{sets}
 use lib.Dec.{ltb}
-use Rattle.wire.specs.Told.{Told, given, refused, row, Written, writes}
+use Rattle.wire.specs.Told.{Told, given, refused, line, Written, writes}
 use Rattle.packet.specs.Header.{inRange}
 use Rattle.packet.specs.Control.{ackSize, ackBytes}
 use Rattle.acknowledgement.specs.declared.Refusal.{Refusal}
@@ -26,7 +26,7 @@ told (Wrote size) = given size
 unfoldable pub ackOf : ℕ → ℕ → ℕ → Bool → List ℕ → Written ℕ
 ackOf stream id sequence positive out =
     writes
-    (row 15 (not (inRange stream id sequence))
-    ∷ row 14 (ltb (length out) ackSize)
+    (line 15 (not (inRange stream id sequence))
+    ∷ line 14 (ltb (length out) ackSize)
     ∷ [])
     ackSize out (sets out 0 (ackBytes stream id sequence positive))

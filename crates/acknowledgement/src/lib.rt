@@ -15,7 +15,7 @@ pub enum Refusal {
 }
 
 impl Refusal {
-    // The number of the paper's table.
+    // The number in the table of refusals.
     pub fn number(self) -> u8
         ensures { λ r. ⌜ r ≡ numberOf self ⌝ }
     {

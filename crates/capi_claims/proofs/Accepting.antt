@@ -12,7 +12,7 @@ use Rattle.packet.specs.declared.reader.Packet.{Packet}
 use Rattle.packet.specs.declared.reader.Packet.the-variants.{First, Next, Ack, Nack}
 use Rattle.slot.specs.declared.Slot.{Slot}
 use Rattle.slot.specs.Slot.{idle}
-use Rattle.slot.specs.Step.{Step, nothing, leave, finish, hold, firstStep, rows, leftBy, nextStep, slotStep}
+use Rattle.slot.specs.Step.{Step, nothing, leave, finish, hold, firstStep, lines, leftBy, nextStep, slotStep}
 use Rattle.receiver.specs.Receiver.{placeIn, acted}
 use Rattle.rows.specs.Row.{numberTold}
 
@@ -31,7 +31,7 @@ step-none : (s : Slot) (x : Packet) → WritesNone (slotStep s x)
 unfolding firstStep nextStep leave finish hold
 step-none s (First head ack total start len) = either-none (eqb len total) _ _ never never
 step-none s (Next head ack last start len) =
-    by-table WritesNone (rows s head last len) (λ n. leave (refused n) (leftBy n s)) _ (λ n e. refl) (λ h. either-none last _ _ never never)
+    by-table WritesNone (lines s head last len) (λ n. leave (refused n) (leftBy n s)) _ (λ n e. refl) (λ h. either-none last _ _ never never)
 step-none s (Ack head) = λ e. refl
 step-none s (Nack head) = λ e. refl
 

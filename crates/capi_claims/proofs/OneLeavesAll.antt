@@ -8,7 +8,7 @@ use lib.IntN.{ℤ}
 use lib.ListN.{length, take, replicate}
 use lib.Seq.{sets}
 use lib.Dec.{eqb, ltb}
-use Rattle.wire.specs.Told.{refused, row, written}
+use Rattle.wire.specs.Told.{refused, line, written}
 use Rattle.wire.proofs.Tables.{by-table}
 use Rattle.field.specs.Signed.{signedOf, extended}
 use Rattle.field_writer.specs.Writer.{Field, messageBytes}
@@ -24,7 +24,7 @@ use Rattle.packet.specs.Control.{ackSize, ackBytes}
 use Rattle.acknowledgement.specs.Acknowledgement.{ackOf}
 use Rattle.packet.specs.Reader.{readOf}
 use Rattle.sender.specs.declared.writer.Sending.{Sending}
-use Rattle.sender.specs.Writer.{packetOf, foundAt, rows, sentOf, pieceOf, writtenOf}
+use Rattle.sender.specs.Writer.{packetOf, foundAt, lines, sentOf, pieceOf, writtenOf}
 use Rattle.receiver.specs.Receiver.{result, acted, acceptOf}
 use Rattle.receiver.specs.Receiver as receiver
 use Rattle.control.specs.declared.envelope.EnvelopePayload.{EnvelopePayload}
@@ -97,7 +97,7 @@ unfolding frameWriteOf
 frame-keeps limit sequence payload out answer =
     let s = byteOr startMark sequence in
     keeps-writer out answer (writeOf limit s payload out)
-    (writes-keeps (row 15 (isMark s || ltb limit (length payload)) ∷ row 14 (ltb (length out) (length (frameOf s payload))) ∷ []) (length (frameOf s payload)) out (sets out 0 (frameOf s payload)))
+    (writes-keeps (line 15 (isMark s || ltb limit (length payload)) ∷ line 14 (ltb (length out) (length (frameOf s payload))) ∷ []) (length (frameOf s payload)) out (sets out 0 (frameOf s payload)))
 
 packet-keeps : (limit : ℕ) (how : Sending) (place : ℕ) (message out answer : List ℕ) → Keeps [] out answer (packetWriteOf limit how message place out answer)
 unfolding packetWriteOf writtenOf
@@ -105,7 +105,7 @@ packet-keeps limit how place message out answer =
     let w = writtenOf limit how message place out in
     let found = foundAt how (length message) place in
     keeps-answers 2 (numberTold (w .told)) out answer (w .out) (packetRow (length message) (w .told))
-    (writes-keeps (rows limit how (length message) found (length out)) (sentOf how message (pieceOf found)) out (sets out 0 (packetOf how message (pieceOf found))))
+    (writes-keeps (lines limit how (length message) found (length out)) (sentOf how message (pieceOf found)) out (sets out 0 (packetOf how message (pieceOf found))))
 
 ack-keeps : (stream id sequence positive : ℕ) (out answer : List ℕ) → Keeps [] out answer (ackWriteOf stream id sequence positive out answer)
 unfolding ackWriteOf ackOf
@@ -114,12 +114,12 @@ ack-keeps stream id sequence positive out answer =
     let i = byteOr outOfRange id in
     let q = byteOr outOfRange sequence in
     keeps-writer out answer (ackOf s i q (eqb positive 1) out)
-    (writes-keeps (row 15 (not (inRange s i q)) ∷ row 14 (ltb (length out) ackSize) ∷ []) ackSize out (sets out 0 (ackBytes s i q (eqb positive 1))))
+    (writes-keeps (line 15 (not (inRange s i q)) ∷ line 14 (ltb (length out) ackSize) ∷ []) ackSize out (sets out 0 (ackBytes s i q (eqb positive 1))))
 
 -- writers of messages
 message-keeps : (bad : Bool) (fields : List Field) (out : List ℕ) → numberTold (writesMessage bad fields out .told) ≡ 1 → writesMessage bad fields out .out ≡ out
 message-keeps bad fields out =
-    writes-keeps (row 15 bad ∷ row 14 (ltb (length out) (length (messageBytes fields))) ∷ []) (length (messageBytes fields)) out (sets out 0 (messageBytes fields))
+    writes-keeps (line 15 bad ∷ line 14 (ltb (length out) (length (messageBytes fields))) ∷ []) (length (messageBytes fields)) out (sets out 0 (messageBytes fields))
 
 envelope-keeps : (command : ℕ) (payload : EnvelopePayload) (bytes out answer : List ℕ) → Keeps [] out answer (envelopeWriteOf command payload bytes out answer)
 unfolding envelopeWriteOf envelopeWritten
@@ -174,7 +174,7 @@ unfolding outboxNewOf newOf StoredKeeps
 new-keeps limit out answer =
     let s = newOf (versionOne limit) out in
     keeps-answers 1 (numberIn (s .told)) out answer (s .buffer) (usedIn (s .told) ∷ [])
-    (by-table (StoredKeeps out) (row 14 (ltb (length out) 1) ∷ []) (λ n. stored (outbox.refused n) out) (storedAt out 0 (newBytes (versionOne limit))) (λ n e. refl) (λ h. never))
+    (by-table (StoredKeeps out) (line 14 (ltb (length out) 1) ∷ []) (λ n. stored (outbox.refused n) out) (storedAt out 0 (newBytes (versionOne limit))) (λ n e. refl) (λ h. never))
 
 append-keeps : (limit used stream : ℕ) (payload buffer answer : List ℕ)
     → Keeps [] buffer answer (outboxAppendOf limit buffer used stream payload answer)
@@ -186,9 +186,9 @@ append-keeps limit used stream payload buffer answer =
     let after = storedAt buffer used (recordBytes fmt known payload) in
     keeps-answers 2 (numberIn (s .told)) buffer answer (s .buffer) (usedRow (s .told))
     (by-table (StoredKeeps buffer)
-    (row 1 (ltb (length buffer) used)
-    ∷ row 15 (badRecord fmt known (length payload))
-    ∷ row 14 (ltb (length buffer - used) (length (recordBytes fmt known payload)))
+    (line 1 (ltb (length buffer) used)
+    ∷ line 15 (badRecord fmt known (length payload))
+    ∷ line 14 (ltb (length buffer - used) (length (recordBytes fmt known payload)))
     ∷ [])
     (λ n. stored (outbox.refused n) buffer) (ifWhole (walkOf fmt (take used buffer)) buffer after) (λ n e. refl)
     (λ h. whole-keeps (walkOf fmt (take used buffer)) buffer (after .buffer) (used + length (recordBytes fmt known payload))))

@@ -6,7 +6,7 @@ use mathlib.Core.List.{List, [], _∷_}
 use native.Mathlib.Omega.{arith}
 use lib.ListN.{length}
 use lib.Dec.{eqb}
-use Rattle.wire.specs.Told.{given, refused, Row, Written, writes, written}
+use Rattle.wire.specs.Told.{given, refused, Line, Written, writes, written}
 use Rattle.wire.proofs.Tables.{by-table}
 use Rattle.rows.specs.Row.{afterwards, numberTold, sizeTold}
 use Rattle.rows.specs.Called.{Called, called, ifFit, answers, writerCall}
@@ -29,10 +29,10 @@ keeps-answers size number lent answer after row k =
     keeps-if (eqb (length answer) size) [] lent answer (called number [] after (afterwards number answer row)) (λ e. rw (e, k e))
 
 -- a writer's refusal leaves the output
-pub writes-keeps : {A : Type 0} (rows : List Row) (a : A) (before after : List ℕ)
-    → numberTold (writes rows a before after .told) ≡ 1 → writes rows a before after .out ≡ before
-writes-keeps rows a before after =
-    by-table (λ w. numberTold (w .told) ≡ 1 → w .out ≡ before) rows (λ n. written (refused n) before) (written (given a) after)
+pub writes-keeps : {A : Type 0} (lines : List Line) (a : A) (before after : List ℕ)
+    → numberTold (writes lines a before after .told) ≡ 1 → writes lines a before after .out ≡ before
+writes-keeps lines a before after =
+    by-table (λ w. numberTold (w .told) ≡ 1 → w .out ≡ before) lines (λ n. written (refused n) before) (written (given a) after)
     (λ n e. refl) (λ h e. absurd (never e))
   where
     never : _≡_ {A = ℕ} 0 1 → ⊥

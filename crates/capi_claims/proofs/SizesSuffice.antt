@@ -9,7 +9,7 @@ use lib.ListN.{length, length-append, length-map}
 use lib.Seq.{sets}
 use lib.Dec.{eqb, ltb, leb}
 use borrow.Author.Tests.{eq-eqb, lt-ltb, le-ltb, leb-true}
-use Rattle.wire.specs.Told.{Written, row, writes}
+use Rattle.wire.specs.Told.{Written, line, writes}
 use Rattle.wire.proofs.Tests.{and-right}
 use Rattle.field.specs.Signed.{signedOf, extended}
 use Rattle.field.specs.Tag.{varintType, lengthType}
@@ -55,7 +55,7 @@ fit-done size state lent answer done e k = rw (eq-eqb (length answer) size e) k
 
 -- the table of a writer with two lines: 15, and 14 where the output is smaller than what is written
 done-two : {A : Type 0} (bad : Bool) (need : ℕ) (out : List ℕ) (a : A) (after : List ℕ) → bad ≡ false → need ≤ length out
-    → numberTold (writes (row 15 bad ∷ row 14 (ltb (length out) need) ∷ []) a out after .told) ≡ 0
+    → numberTold (writes (line 15 bad ∷ line 14 (ltb (length out) need) ∷ []) a out after .told) ≡ 0
 done-two bad need out a after e h = rw (e, le-ltb (length out) need h)
 
 writer-done : (out answer : List ℕ) (w : Written ℕ) → length answer ≡ 1 → numberTold (w .told) ≡ 0 → Done (writerCall out answer w)

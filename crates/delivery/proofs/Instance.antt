@@ -8,7 +8,7 @@ use mathlib.Core.Bool.{true}
 use Rattle.wire.specs.declared.stream.Stream.the-variants.{Alexa}
 use Rattle.wire.specs.Stream.{isStream, streamOf}
 use Rattle.packet.specs.Header.{inRange}
-use Rattle.packet.specs.Reader.{fieldsOf, contentOf, rows, readOf}
+use Rattle.packet.specs.Reader.{fieldsOf, contentOf, lines, readOf}
 use Rattle.slot.specs.Slot.{lawfulSlot, lawful}
 use Rattle.slot.specs.Step.{leave, finish, hold, firstStep, nextStep}
 use Rattle.receiver.specs.Receiver.{ready, acceptOf}
@@ -32,7 +32,7 @@ sent = refl
 
 arrived : givenTo limit how (repliesTo limit slots buffer before during after)
     ≡ none ∷ none ∷ some (record { stream = Alexa; id = 1; total = 35; ack = true; payload = message }) ∷ []
-unfolding isStream streamOf fieldsOf contentOf rows readOf lawfulSlot lawful leave finish hold firstStep nextStep ready acceptOf runOf
+unfolding isStream streamOf fieldsOf contentOf lines readOf lawfulSlot lawful leave finish hold firstStep nextStep ready acceptOf runOf
 arrived = refl
 
 pub arrives : Arrives

@@ -22,7 +22,7 @@ pub record TakesAck (stream id sequence : ℕ) (out : List ℕ) : Type 0 where
   -- an output for all six bytes
   pub space : ackSize ≤ length out
 
--- Document 01's ranges, and nothing else: no premise of the claim asks for more.
+-- The ranges of docs/FORMATS.md, and nothing else: no premise of the claim asks for more.
 abbrev pub TakesEveryAck : Type 0
 TakesEveryAck =
     (stream id sequence : ℕ) (out : List ℕ)

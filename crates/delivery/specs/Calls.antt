@@ -34,7 +34,7 @@ pub record Takes (limit : ℕ) (w : Sending) (m out : List ℕ) : Type 0 where
   -- an output no smaller than the room
   pub space : w .room ≤ length out
 
--- Document 01's ranges, and nothing else: no premise of a claim about the writer's packets asks for more.
+-- The ranges of docs/FORMATS.md, and nothing else: no premise of a claim about the writer's packets asks for more.
 abbrev pub TakesAll : Type 0
 TakesAll =
     (limit : ℕ) (w : Sending) (m out : List ℕ)

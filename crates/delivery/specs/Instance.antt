@@ -1,4 +1,4 @@
--- P4 of document 01 as an instance of the claim that messages arrive, by computation.
+-- P4 of docs/FORMATS.md as an instance of the claim that messages arrive, by computation.
 use Prim.Native.Nat.{ℕ, zero, suc, _*_}
 use mathlib.Core.Path.{_≡_}
 use mathlib.Core.Option.{none, some}

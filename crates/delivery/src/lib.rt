@@ -4,12 +4,12 @@ ghost use Rattle.delivery.specs.Calls.{TakesAll, CallsGiveAll};
 ghost use Rattle.delivery.specs.Delivery.{MessagesArrive, RoundTrip, MessageAsked};
 ghost use Rattle.delivery.specs.Instance.{Arrives};
 
-// Each ACK and NACK of document 01's ranges is read as it was written.
+// Each ACK and NACK of the ranges of docs/FORMATS.md is read as it was written.
 pub fn acknowledgements_return()
     ensures { λ _. ⌜ TakesEveryAck × AcknowledgementsReturn ⌝ }
 {}
 
-// Calls of the writer, place after place, give all packets of a message of document 01's ranges.
+// Calls of the writer, place after place, give all packets of a message of the ranges of docs/FORMATS.md.
 pub fn calls_give_all()
     ensures { λ _. ⌜ TakesAll × CallsGiveAll ⌝ }
 {}
@@ -29,7 +29,7 @@ pub fn message_asked()
     ensures { λ _. ⌜ MessageAsked ⌝ }
 {}
 
-// P4 of document 01 as an instance, by computation.
+// P4 of docs/FORMATS.md as an instance, by computation.
 pub fn instance_arrives()
     ensures { λ _. ⌜ Arrives ⌝ }
 {}

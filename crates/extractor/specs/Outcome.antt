@@ -1,4 +1,4 @@
--- What a call reports, in document 01's words and numbers.
+-- What a call reports, in the words and numbers of docs/FORMATS.md.
 use Prim.Native.Nat.{ℕ}
 use Rattle.extractor.specs.declared.outcome.Refusal.{Refusal}
 use Rattle.extractor.specs.declared.outcome.Refusal.the-variants.{BadStateOrBuffer, StartInside, BadEscape, EarlyEnd, BadHeader, TooLong, BadChecksum}

@@ -10,7 +10,7 @@ use Rattle.extractor.specs.declared.state.Phase.{Phase}
 use Rattle.extractor.specs.declared.state.Phase.the-variants.{Outside, PacketId, ErrorId, Sequence, Body, Escaped}
 use Rattle.extractor.specs.declared.state.Extractor.{Extractor}
 
--- outside a frame (document 01's empty state), after F0, and in the body
+-- outside a frame (the empty state of docs/FORMATS.md), after F0, and in the body
 abbrev pub outside : Extractor
 outside = record { phase = Outside; sequence = 0; held = 0 }
 
@@ -37,7 +37,7 @@ lawfulBefore sequence held = eqb sequence 0 && eqb held 0
 abbrev pub lawfulAfter : ℕ → ℕ → ℕ → Bool
 lawfulAfter limit sequence held = not (isMark sequence) && leb held (limit + 2)
 
--- a lawful state (document 01)
+-- a lawful state (docs/FORMATS.md)
 unfoldable pub lawful : ℕ → Extractor → Bool
 lawful limit s = cond (sequenceRead (s .phase)) (lawfulAfter limit (s .sequence) (s .held)) (lawfulBefore (s .sequence) (s .held))
 

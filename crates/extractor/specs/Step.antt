@@ -4,7 +4,7 @@ use mathlib.Core.List.{List, [], _∷_}
 use mathlib.Core.Bool.{cond, not}
 use lib.ListN.{length, set}
 use lib.Dec.{ltb}
-use Rattle.wire.specs.Told.{row, table}
+use Rattle.wire.specs.Told.{line, table}
 use Rattle.framing.specs.Frame.{checked}
 use Rattle.extractor.specs.declared.state.Extractor.{Extractor}
 use Rattle.extractor.specs.declared.action.Action.{Action}
@@ -31,8 +31,8 @@ storeOf limit s l x =
 unfoldable pub endOf : Extractor → List ℕ → Report
 endOf s l =
     table
-    (row 21 (ltb (s .held) 2)
-    ∷ row 25 (not (checked l (s .held - 2)))
+    (line 21 (ltb (s .held) 2)
+    ∷ line 25 (not (checked l (s .held - 2)))
     ∷ [])
     refused (frame (s .sequence) (s .held - 2))
 
@@ -52,4 +52,4 @@ advanceOf limit s l b = performOf limit s l b (actionOf (s .phase) b)
 
 -- the step of one byte, on all inputs
 abbrev pub stepOf : ℕ → Extractor → List ℕ → ℕ → Step
-stepOf limit s l b = table (row 1 (not (ready limit s (length l))) ∷ []) (λ n. step (refused n) s l) (advanceOf limit s l b)
+stepOf limit s l b = table (line 1 (not (ready limit s (length l))) ∷ []) (λ n. step (refused n) s l) (advanceOf limit s l b)

@@ -3,7 +3,7 @@ use Prim.Native.Nat.{ℕ, _+_}
 use mathlib.Core.List.{List, [], _∷_}
 use mathlib.Core.Bool.{Bool, true, false, cond, not}
 use lib.ListN.{length}
-use Rattle.wire.specs.Told.{row, table}
+use Rattle.wire.specs.Told.{line, table}
 use Rattle.extractor.specs.declared.state.Extractor.{Extractor}
 use Rattle.extractor.specs.Outcome.{Report, skipped, taken, allUsed, frame, refused, numberOf}
 use Rattle.extractor.specs.State.{ready}
@@ -51,4 +51,4 @@ feedFrom limit n s l (b ∷ bs) =
 
 -- the call for many bytes, on all inputs
 abbrev pub feedOf : ℕ → Extractor → List ℕ → List ℕ → Feed
-feedOf limit s l bytes = table (row 1 (not (ready limit s (length l))) ∷ []) (λ n. fed (refused n) 0 s l) (feedFrom limit 0 s l bytes)
+feedOf limit s l bytes = table (line 1 (not (ready limit s (length l))) ∷ []) (λ n. fed (refused n) 0 s l) (feedFrom limit 0 s l bytes)

@@ -19,7 +19,7 @@ use Rattle.field_writer.specs.declared.message.Wrote.{Wrote}
 use Rattle.field_writer.specs.declared.message.Wrote.the-variants.{Done, Refused}
 use Rattle.field_writer.specs.Message.{writesMessage, badMember, toldWrote, wroteSize, lessRoom}
 
--- ---- the rows of the table, and what is written where none holds
+-- ---- the lines of the table, and what is written where none holds
 module _ (bad : Bool) (fields : List Field) (out : List ℕ) where
   pub wrote-bad : bad ≡ true → written {A = ℕ} (refused 15) out ≡ writesMessage bad fields out
   wrote-bad b = rw b

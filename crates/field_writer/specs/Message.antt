@@ -5,7 +5,7 @@ use mathlib.Core.List.{List, [], _∷_}
 use lib.ListN.{length}
 use lib.Seq.{sets}
 use lib.Dec.{ltb}
-use Rattle.wire.specs.Told.{Told, given, refused, row, Written, writes}
+use Rattle.wire.specs.Told.{Told, given, refused, line, Written, writes}
 use Rattle.field.specs.Tag.{lastField}
 use Rattle.field_writer.specs.Writer.{Field, messageBytes}
 use Rattle.field_writer.specs.declared.message.Room.{Room}
@@ -19,7 +19,7 @@ use Rattle.field_writer.specs.declared.message.Wrote.the-variants.{Done,
 abbrev pub writesMessage : Bool → List Field → List ℕ → Written ℕ
 writesMessage bad fields out =
     let bytes = messageBytes fields in
-    writes (row 15 bad ∷ row 14 (ltb (length out) (length bytes)) ∷ []) (length bytes) out (sets out 0 bytes)
+    writes (line 15 bad ∷ line 14 (ltb (length out) (length bytes)) ∷ []) (length bytes) out (sets out 0 bytes)
 
 -- a member's number out of its range
 abbrev pub badMember : ℕ → Bool

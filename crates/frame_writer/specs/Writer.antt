@@ -6,7 +6,7 @@ use mathlib.Core.Bool.{_||_}
 use lib.ListN.{length, drop}
 use lib.Seq.{sets}
 use lib.Dec.{ltb}
-use Rattle.wire.specs.Told.{Told, given, refused, row, Written, writes}
+use Rattle.wire.specs.Told.{Told, given, refused, line, Written, writes}
 use Rattle.framing.specs.Mark.{isMark}
 use Rattle.framing.specs.Frame.{escapedOf, frameOf}
 use Rattle.frame_writer.specs.declared.writer.Refusal.{Refusal}
@@ -27,8 +27,8 @@ told (Refused r) = refused (numberOf r)
 abbrev pub writeOf : ℕ → ℕ → List ℕ → List ℕ → Written ℕ
 writeOf limit sequence payload out =
     writes
-    (row 15 (isMark sequence || ltb limit (length payload))
-    ∷ row 14 (ltb (length out) (length (frameOf sequence payload)))
+    (line 15 (isMark sequence || ltb limit (length payload))
+    ∷ line 14 (ltb (length out) (length (frameOf sequence payload)))
     ∷ [])
     (length (frameOf sequence payload)) out (sets out 0 (frameOf sequence payload))
 

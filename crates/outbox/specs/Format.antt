@@ -1,4 +1,4 @@
--- The outbox file of document 01: a version byte, then records. A record is its length, a stream byte and a payload.
+-- The outbox file of docs/FORMATS.md: a version byte, then records. A record is its length, a stream byte and a payload.
 use Prim.Native.Nat.{ℕ, zero, suc, _+_, _*_, _/_, _%_, _^_}
 use mathlib.Core.List.{List, [], _∷_, _++_}
 use lib.ListN.{length}

@@ -23,7 +23,7 @@ pub enum Fault {
 }
 
 impl Fault {
-    // The refusal number of document 01.
+    // The refusal number of docs/FORMATS.md.
     pub fn number(self) -> u8
         ensures { λ r. ⌜ r ≡ faultNumber self ⌝ }
     {

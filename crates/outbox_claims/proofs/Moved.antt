@@ -9,7 +9,7 @@ use lib.Dec.{eqb, ltb}
 use lib.ListN.{length, getD, take, drop, length-append, List·getD-append, take-append-drop}
 use lib.Seq.{take-all, length-take-le, drop-append-add}
 use Rattle.wire.specs.Stream.{isStream}
-use Rattle.wire.specs.Told.{row, table}
+use Rattle.wire.specs.Told.{line, table}
 use Rattle.outbox.specs.Format.{Format, headSize}
 use Rattle.outbox.specs.Reader.{Found, Handed, given, refusedAt, found, foundAt, lengthIn, badLength, cutShort, badStream, recordAt}
 use Rattle.outbox_claims.specs.Claims.{movedFound, movedAnswer, allMoved}
@@ -30,8 +30,8 @@ record-moved fmt rest place d = by-tests (badLength fmt rest) (cutShort fmt rest
     there = foundAt fmt (place + d) (getD rest (fmt .width) 0) (lengthIn fmt rest - 1)
 
     by-tests : (l c s : Bool)
-        → table (row 42 l ∷ row 41 c ∷ row 43 s ∷ []) (λ n. refusedAt n (place + d)) (given (found there))
-        ≡ movedAnswer d (table (row 42 l ∷ row 41 c ∷ row 43 s ∷ []) (λ n. refusedAt n place) (given (found here)))
+        → table (line 42 l ∷ line 41 c ∷ line 43 s ∷ []) (λ n. refusedAt n (place + d)) (given (found there))
+        ≡ movedAnswer d (table (line 42 l ∷ line 41 c ∷ line 43 s ∷ []) (λ n. refusedAt n place) (given (found here)))
     by-tests true c s = refl
     by-tests false true s = refl
     by-tests false false true = refl

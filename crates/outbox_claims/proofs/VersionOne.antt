@@ -1,4 +1,4 @@
--- The claims for version 01, from document 01's facts.
+-- The claims for version 01, from the facts of docs/FORMATS.md.
 use Prim.Native.Nat.{ℕ, _+_, _≤_}
 use mathlib.Core.Path.{_≡_, refl, ap, _∙_}
 use mathlib.Core.Bool.{true}

@@ -19,7 +19,7 @@ pub record Entry : Type 0 where
   pub stream : ℕ
   pub payload : List ℕ
 
--- one that the writer owes to take: said by the paper and not by the writer's own test, so that one that refuses more breaks the claims
+-- one that the writer owes to take: said by the rules and not by the writer's own test, so that one that refuses more breaks the claims
 pub record Takes (fmt : Format) (e : Entry) : Type 0 where
   pub known : isStream (e .stream) ≡ true
   pub short : length (e .payload) ≤ fmt .limit

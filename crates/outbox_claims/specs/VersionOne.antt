@@ -1,4 +1,4 @@
--- The claims for version 01, with every premise written out in document 01's own words: one made stronger in Claims is not met here.
+-- The claims for version 01, with every premise written out in the words of docs/FORMATS.md: one made stronger in Claims is not met here.
 use Prim.Native.Nat.{ℕ, _+_, _-_, _^_, _≤_, _<_}
 use mathlib.Core.Path.{_≡_}
 use mathlib.Core.List.{List, [], _∷_, _++_}

@@ -35,7 +35,7 @@ pub fn reads_as_alone()
     ensures { λ _. ⌜ ReadsAsAlone ⌝ }
 {}
 
-// Each claim for version 01, with its premises in document 01's words.
+// Each claim for version 01, with its premises in the words of docs/FORMATS.md.
 pub fn hold_in_version_one()
     ensures { λ _. ⌜ HoldInVersionOne ⌝ }
 {}

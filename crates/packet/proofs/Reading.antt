@@ -19,7 +19,7 @@ use Rattle.packet.specs.declared.reader.Packet.{Packet}
 use Rattle.packet.specs.declared.reader.Packet.the-variants.{First, Next, Ack, Nack}
 use Rattle.packet.specs.Header.{reservedByte, typeFirst, typeContinuation, typeLast, typeControl, headerSize, firstByte, secondByte, streamBits}
 use Rattle.packet.specs.Control.{ackBytes}
-use Rattle.packet.specs.Reader.{fieldsBy, fieldsOf, isFirst, isControl, headIn, contentOf, rows, judged, readOf}
+use Rattle.packet.specs.Reader.{fieldsBy, fieldsOf, isFirst, isControl, headIn, contentOf, lines, judged, readOf}
 use Rattle.packet.proofs.Headers.{stream-back, id-back, sequence-back, type-back, ack-back, extender-back}
 
 -- ---- a packet that passes
@@ -77,9 +77,9 @@ content-head f false false ack ec ef ea = rw (ec, ef)
 
 judged-passes : (limit : ℕ) (f : Fields) → HeadLow (f .head) → f .head .stream ≡ streamOf (f .stream)
     → IfGiven (Passes limit (f .size) (f .stream)) (judged limit f)
-unfolding rows
+unfolding lines
 judged-passes limit f low named =
-    by-table (IfGiven (Passes limit (f .size) (f .stream))) (rows limit f) refused (given (contentOf f)) (λ n. tt) (λ h.
+    by-table (IfGiven (Passes limit (f .size) (f .stream))) (lines limit f) refused (given (contentOf f)) (λ n. tt) (λ h.
     let h3 = h .1 in
     let h5 = h3 .1 .1 .1 in
     let h6 = h5 .1 in
@@ -103,7 +103,7 @@ filled len total z false e = rw e
 passes-first : (limit : ℕ) (f : Fields) → f .kind ≡ typeFirst → isStream (f .stream) ≡ true → f .reserved ≡ 0 → f .size ≡ f .header + f .len → 2 ≤ f .header
     → f .total ≤ limit → (f .len ≡ 0 → f .total ≡ 0) → f .len ≤ f .total
     → judged limit f ≡ given (First (f .head) (f .ack) (f .total) (f .header) (f .len))
-unfolding rows contentOf
+unfolding lines contentOf
 passes-first limit f k known r x h t z n =
     simp (
       k,
@@ -120,7 +120,7 @@ passes-first limit f k known r x h t z n =
 passes-next : (limit : ℕ) (f : Fields) (last : Bool) → f .kind ≡ cond last typeLast typeContinuation → isStream (f .stream) ≡ true
     → f .size ≡ f .header + f .len → 2 ≤ f .header → 1 ≤ f .len
     → judged limit f ≡ given (Next (f .head) (f .ack) last (f .header) (f .len))
-unfolding rows contentOf
+unfolding lines contentOf
 passes-next limit f true k known x h n =
     simp (
       k,
@@ -142,7 +142,7 @@ passes-next limit f false k known x h n =
 
 passes-control : (limit : ℕ) (f : Fields) → f .kind ≡ typeControl → isStream (f .stream) ≡ true → f .exact ≡ true → 2 ≤ f .size
     → judged limit f ≡ given (cond (f .ack) (Ack (f .head)) (Nack (f .head)))
-unfolding rows contentOf
+unfolding lines contentOf
 passes-control limit f k known s n = simp (k, known, s, le-ltb (f .size) 2 n)
 
 -- byte 0 and byte 1 say what was written there
@@ -212,5 +212,5 @@ ack-read limit stream id sequence false known li ls =
 
 -- a packet without bytes
 pub empty-refused : (limit : ℕ) → readOf limit [] ≡ refused 2
-unfolding readOf fieldsOf rows
+unfolding readOf fieldsOf lines
 empty-refused limit = refl

@@ -13,7 +13,7 @@ ghost use mathlib.Core.Path.{_≡_};
 ghost use mathlib.Core.Bool.{cond};
 ghost use Prim.Native.Nat.{_<_};
 ghost use Rattle.wire.specs.Told.{refused, table};
-ghost use Rattle.packet.specs.Reader.{lengthAt, isAcknowledgement, fieldsOf, contentOf, headIn, rows, readOf, numberOf, told, ruled, Rules};
+ghost use Rattle.packet.specs.Reader.{lengthAt, isAcknowledgement, fieldsOf, contentOf, headIn, lines, readOf, numberOf, told, ruled, Rules};
 
 pub struct Head {
     pub stream: Stream,
@@ -92,7 +92,7 @@ pub enum Refusal {
 }
 
 impl Refusal {
-    // The number of the paper's table.
+    // The number in the table of refusals.
     pub fn number(self) -> u8
         ensures { λ r. ⌜ r ≡ numberOf self ⌝ }
     {
@@ -196,10 +196,10 @@ fn fields_of(packet: &[u8]) -> Fields
     }
 }
 
-// The table of refusals, in the paper's order.
+// The table of refusals, in its order.
 fn judge(f: Fields) -> Verdict
     requires { ⌜ (f .header < 8) × (f .len < 65536) ⌝ }
-    ensures { λ r. ⌜ Rules r (table (rows 4096 f) refused) ⌝ }
+    ensures { λ r. ⌜ Rules r (table (lines 4096 f) refused) ⌝ }
 {
     let first = f.kind == header::TYPE_FIRST;
     let control = f.kind == header::TYPE_CONTROL;

@@ -9,7 +9,7 @@ use lib.ListN.{length, getD, length-take, length-drop}
 use lib.Seq.{getD-set-other, length-sets}
 use lib.Dec.{eqb}
 use borrow.Author.Tests.{eq-eqb, eqb-true, eqb-false}
-use Rattle.wire.specs.Told.{Told, given, refused, row}
+use Rattle.wire.specs.Told.{Told, given, refused, line}
 use Rattle.wire.specs.declared.stream.Stream.{Stream}
 use Rattle.wire.specs.declared.stream.Stream.the-variants.{Control, Ota, Alexa}
 use Rattle.wire.specs.Stream.{isStream, streamOf}
@@ -61,7 +61,7 @@ by-guard : (P : Result → Type 0) (limit : ℕ) (slots : List Slot) (bytes p : 
     → P (acted limit slots bytes p (readOf limit p)) → P (acceptOf limit slots bytes p)
 unfolding acceptOf
 by-guard P limit slots bytes p a b =
-    by-table P (row 1 (not (ready limit slots bytes)) ∷ []) (λ n. result (refused n) slots bytes) (acted limit slots bytes p (readOf limit p)) a (λ h. b)
+    by-table P (line 1 (not (ready limit slots bytes)) ∷ []) (λ n. result (refused n) slots bytes) (acted limit slots bytes p (readOf limit p)) a (λ h. b)
 
 -- ---- the buffer keeps its length
 

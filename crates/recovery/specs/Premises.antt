@@ -1,4 +1,4 @@
--- The premises of the claims from the other side: each follows from document 01's facts, written out, so none of them asks for more.
+-- The premises of the claims from the other side: each follows from the facts of docs/FORMATS.md, written out, so none of them asks for more.
 use Prim.Native.Nat.{ℕ, zero, suc, _+_, _≤_, _<_}
 use mathlib.Core.Path.{_≡_}
 use mathlib.Core.Logic.{_≢_}

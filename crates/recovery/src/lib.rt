@@ -13,7 +13,7 @@ pub fn frame_returns()
     ensures { λ _. ⌜ FrameReturns ⌝ }
 {}
 
-// Document 01's facts are all that the two claims ask for.
+// The facts of docs/FORMATS.md are all that the two claims ask for.
 pub fn facts_suffice()
     ensures { λ _. ⌜ FactsSuffice ⌝ }
 {}

@@ -1,4 +1,4 @@
--- The premises of the round trips, built from document 01's facts; and the round trips that compute.
+-- The premises of the round trips, built from the facts of docs/FORMATS.md; and the round trips that compute.
 use mathlib.Core.Path.{refl}
 use mathlib.Core.List.{List, [], _∷_}
 use native.Mathlib.Omega.{arith}

@@ -1,4 +1,4 @@
--- The premises of the round trips from the other side: document 01's facts, in its own numbers, are enough for each of them. And each round trip once, by computation.
+-- The premises of the round trips from the other side: the facts of docs/FORMATS.md, in its own numbers, are enough for each of them. And each round trip once, by computation.
 use Prim.Native.Nat.{ℕ, _≤_}
 use mathlib.Core.Path.{_≡_}
 use mathlib.Core.List.{List, [], _∷_}

@@ -23,7 +23,7 @@ pub fn features()
     ensures { λ _. ⌜ FeaturesRoundTrip ⌝ }
 {}
 
-// Each claim speaks of all that document 01 has a writer take.
+// Each claim speaks of all that docs/FORMATS.md has a writer take.
 pub fn envelopes_taken()
     ensures { λ _. ⌜ EnvelopesTaken ⌝ }
 {}

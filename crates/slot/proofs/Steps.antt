@@ -18,7 +18,7 @@ use Rattle.slot.specs.declared.step.Piece.{Piece}
 use Rattle.slot.specs.declared.answer.Accepted.{Accepted}
 use Rattle.slot.specs.declared.answer.Accepted.the-variants.{Acked, Nacked}
 use Rattle.slot.specs.Slot.{lawfulSlot}
-use Rattle.slot.specs.Step.{Step, leave, finish, hold, firstStep, offTotal, rows, leftBy, nextStep, slotStep}
+use Rattle.slot.specs.Step.{Step, leave, finish, hold, firstStep, offTotal, lines, leftBy, nextStep, slotStep}
 use Rattle.slot.proofs.Slots.{OpenSlot, lawful-open, open-lawful, idle-lawful}
 
 -- a piece lies within a packet of k bytes, and where it is written within a part
@@ -82,7 +82,7 @@ module _ (limit k : ℕ) where
       → Within limit k (Next h ack last start len) → Sound limit k (nextStep s h ack last start len)
   unfolding nextStep
   next-sound s h ack last start len law w =
-      by-table (Sound limit k) (rows s h last len) (λ n. leave (refused n) (leftBy n s)) _
+      by-table (Sound limit k) (lines s h last len) (λ n. leave (refused n) (leftBy n s)) _
       (λ n. leave-sound (refused n) (leftBy n s) (left-lawful n s (eqb n 9) refl law)) (λ e.
       let o = lawful-open limit s law (and-left (s .opened) (eqb (s .id) (h .id)) (not-false _ (e .0))) in
       go-on-sound s h ack last start len o (w .1) (w .0) (e .1 .1 .0))

@@ -3,7 +3,7 @@ use Prim.Native.Nat.{ℕ, _+_}
 use mathlib.Core.List.{List, [], _∷_}
 use mathlib.Core.Bool.{Bool, true, false, not, cond, _&&_}
 use lib.Dec.{leb, eqb}
-use Rattle.wire.specs.Told.{Told, given, refused, Row, row, table}
+use Rattle.wire.specs.Told.{Told, given, refused, Line, line, table}
 use Rattle.packet.specs.declared.reader.Head.{Head}
 use Rattle.packet.specs.declared.reader.Packet.{Packet}
 use Rattle.packet.specs.declared.reader.Packet.the-variants.{First, Next, Ack, Nack}
@@ -58,11 +58,11 @@ abbrev pub offTotal : Bool → ℕ → ℕ → Bool
 offTotal last held total = cond last (not (eqb held total)) (leb total held)
 
 -- the lines of the table on a packet that follows
-abbrev pub rows : Slot → Head → Bool → ℕ → List Row
-rows s head last len =
-    row 9 (not (s .opened && eqb (s .id) (head .id)))
-    ∷ row 10 (not (eqb (head .sequence) (sequenceAfter (s .sequence) 1)))
-    ∷ row 11 (offTotal last (s .held + len) (s .total))
+abbrev pub lines : Slot → Head → Bool → ℕ → List Line
+lines s head last len =
+    line 9 (not (s .opened && eqb (s .id) (head .id)))
+    ∷ line 10 (not (eqb (head .sequence) (sequenceAfter (s .sequence) 1)))
+    ∷ line 11 (offTotal last (s .held + len) (s .total))
     ∷ []
 
 -- what each leaves: 9 all, 10 and 11 the slot idle
@@ -72,7 +72,7 @@ leftBy n s = cond (eqb n 9) s idle
 -- a packet that follows is written behind what is held
 unfoldable pub nextStep : Slot → Head → Bool → Bool → ℕ → ℕ → Step
 nextStep s head ack last start len =
-    table (rows s head last len) (λ n. leave (refused n) (leftBy n s))
+    table (lines s head last len) (λ n. leave (refused n) (leftBy n s))
     (cond last (finish head ack (s .total) false (record { at = s .held; start = start; len = len }))
     (hold head (s .total) false (record { at = s .held; start = start; len = len })))
 

@@ -4,7 +4,7 @@ use mathlib.Core.List.{List, [], _∷_}
 use lib.ListN.{set, replicate}
 use lib.IntN.{pos}
 use lib.Dec.{leb}
-use Rattle.wire.specs.Told.{Told, given, refused, row, table}
+use Rattle.wire.specs.Told.{Told, given, refused, line, table}
 use Rattle.field.specs.Refusal.{numberOf}
 use Rattle.field.specs.Signed.{signedOf}
 use Rattle.field.specs.declared.value.Part.{Part}
@@ -47,7 +47,7 @@ withMember field p g =
 -- one transport more: the ninth is 34
 unfoldable pub withTransport : ℕ → Gathered → Told Gathered
 withTransport v g =
-    table (row 34 (leb mostTransports (g .count)) ∷ []) refused
+    table (line 34 (leb mostTransports (g .count)) ∷ []) refused
     (given (record { scalars = g .scalars; texts = g .texts; field = g .field; part = g .part; transports = set (g .transports) (g .count) (signedOf v); count = g .count + 1 }))
 
 -- a verdict on a, by the numbers

@@ -1,4 +1,4 @@
--- What each message makes of a field: the table of known fields, from document 000.
+-- What each message makes of a field: the table of known fields, from Amazon's page on Low Energy.
 use Prim.Native.Nat.{ℕ}
 use mathlib.Core.Bool.{Bool, true, false, cond, _||_}
 use mathlib.Core.List.{List, [], _∷_}

@@ -4,7 +4,7 @@ use mathlib.Core.Bool.{cond, _&&_, not}
 use mathlib.Core.List.{List, [], _∷_}
 use lib.ListN.{length, take}
 use lib.Dec.{leb, eqb}
-use Rattle.wire.specs.Told.{Told, given, refused, andThen, row, table}
+use Rattle.wire.specs.Told.{Told, given, refused, andThen, line, table}
 use Rattle.field.specs.Refusal.{numberOf}
 use Rattle.field.specs.Varint.{varintAt}
 use Rattle.field.specs.Tag.{tagAt}
@@ -45,7 +45,7 @@ packedFrom s at g = walk entryAt (length s) s at g
 -- a tag by its role: 33 for a known field with another wire type, 34 for a second member
 unfoldable pub judged : Role → ℕ → ℕ → Told (Unit {0})
 judged role wire member =
-    table (row 33 (not (fitsRole role wire)) ∷ row 34 (isMember role wire && not (eqb member 0)) ∷ []) refused (given tt)
+    table (line 33 (not (fitsRole role wire)) ∷ line 34 (isMember role wire && not (eqb member 0)) ∷ []) refused (given tt)
 
 -- what a number, a part of the message and a value add
 abbrev pub numberAdded : Role → ℕ → Added

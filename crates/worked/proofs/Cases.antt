@@ -5,7 +5,7 @@ use Rattle.wire.specs.Stream.{isStream, streamOf}
 use Rattle.framing.specs.Mark.{kindOf}
 use Rattle.framing.specs.Frame.{escapedOf, sumOf, framed}
 use Rattle.packet.specs.Header.{inRange}
-use Rattle.packet.specs.Reader.{fieldsOf, contentOf, rows, readOf}
+use Rattle.packet.specs.Reader.{fieldsOf, contentOf, lines, readOf}
 use Rattle.acknowledgement.specs.Acknowledgement.{ackOf}
 use Rattle.sender.specs.Piece.{sizeFor}
 use Rattle.sender.specs.Writer.{headerBytes, packetOf, roomFits, argumentsFit, writtenOf}
@@ -34,7 +34,7 @@ agree f g same a (List·Memᴰ·tail {x = x} {xs = xs} there) = let t : map f xs
 
 -- the whole table, computed
 holds : map (λ (c : Case). answerTo (c .question)) cases ≡ map (λ (c : Case). c .expected) cases
-unfolding answerTo cases isStream streamOf kindOf escapedOf sumOf framed inRange fieldsOf contentOf rows readOf ackOf sizeFor headerBytes packetOf roomFits argumentsFit writtenOf callsFrom lawfulSlot lawful leave finish hold firstStep nextStep ready acceptOf varintAt varintBytes badTag tagAt valueAt tagBytes headBytes partBytes fieldBytes roleOf judged addedAt readAt fieldAt fieldsFrom responseFrom payloadOf envelopeOf envelopeWritten numberOf outbox.otherVersion outbox.badPlace outbox.badLength outbox.cutShort outbox.badStream outbox.recordAt outbox.readOf
+unfolding answerTo cases isStream streamOf kindOf escapedOf sumOf framed inRange fieldsOf contentOf lines readOf ackOf sizeFor headerBytes packetOf roomFits argumentsFit writtenOf callsFrom lawfulSlot lawful leave finish hold firstStep nextStep ready acceptOf varintAt varintBytes badTag tagAt valueAt tagBytes headBytes partBytes fieldBytes roleOf judged addedAt readAt fieldAt fieldsFrom responseFrom payloadOf envelopeOf envelopeWritten numberOf outbox.otherVersion outbox.badPlace outbox.badLength outbox.cutShort outbox.badStream outbox.recordAt outbox.readOf
 holds = refl
 
 pub worked-cases : WorkedCases

@@ -1,4 +1,4 @@
--- The worked cases of document 01, P1 to P12: one table, and the one statement that each of its rows holds.
+-- The worked cases of docs/FORMATS.md, P1 to P12: one table, and the one statement that each of its rows holds.
 use Prim.Native.Nat.{ℕ}
 use mathlib.Core.Path.{_≡_}
 use mathlib.Core.Bool.{Bool, true, false}
@@ -40,7 +40,7 @@ inRoom room = sending room 0 0 0 false
 abbrev pub holding : ℕ → ℕ → List Slot
 holding held sequence = record { opened = true; id = 0; total = 3; held = held; sequence = sequence } ∷ idle ∷ idle ∷ []
 
--- error codes of document 000
+-- error codes of Amazon's page
 abbrev pub success : ℤ
 success = pos 0
 

@@ -22,7 +22,7 @@ use Rattle.control.specs.Envelope.{envelopeOf, envelopeWritten}
 use Rattle.outbox.specs.Format.{versionOne}
 use Rattle.outbox.specs.Reader as outbox
 
--- the limit of document 01
+-- the limit of docs/FORMATS.md
 abbrev pub limit : ℕ
 limit = 4096
 
