@@ -102,7 +102,7 @@ impl Receiver {
         let ready = both(buffer.len() == BUFFER_SIZE, are_lawful(slots));
         if !ready {
             return Outcome {
-                answer: Answer::Refused(Refusal::Unlawful),
+                answer: Answer::Refused(Refusal::BadStateOrBuffer),
                 next: self,
             };
         }

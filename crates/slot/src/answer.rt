@@ -24,9 +24,9 @@ pub enum Accepted {
     Nacked(Head),
 }
 
-// Unlawful: the lent buffer has another size, or the state is unlawful.
+// BadStateOrBuffer: the lent buffer has another size, or the state is unlawful.
 pub enum Refusal {
-    Unlawful,
+    BadStateOrBuffer,
     OfPacket(reader::Refusal),
     NoTransaction,
     Sequence,
@@ -39,7 +39,7 @@ impl Refusal {
         ensures { λ r. ⌜ r ≡ numberOf self ⌝ }
     {
         match self {
-            Refusal::Unlawful => 1,
+            Refusal::BadStateOrBuffer => 1,
             Refusal::OfPacket(why) => why.number(),
             Refusal::NoTransaction => 9,
             Refusal::Sequence => 10,

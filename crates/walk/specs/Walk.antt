@@ -16,7 +16,7 @@ use Rattle.walk.specs.declared.schema.Schema.{Schema}
 use Rattle.walk.specs.declared.schema.Role.{Role}
 use Rattle.walk.specs.declared.schema.Role.the-variants.{Scalar, Text, Transports, Nested, Member, Unknown}
 use Rattle.walk.specs.declared.gathered.Gathered.{Gathered}
-use Rattle.walk.specs.declared.reader.Moved.{Moved}
+use Rattle.walk.specs.declared.reader.EntryRead.{EntryRead}
 use Rattle.walk.specs.declared.reader.Added.{Added}
 use Rattle.walk.specs.declared.reader.Added.the-variants as Added
 use Rattle.walk.specs.declared.reader.FieldRead.{FieldRead}
@@ -98,8 +98,8 @@ unfoldable pub fieldsFrom : Schema → List ℕ → ℕ → Told Gathered
 fieldsFrom schema s at = walk (fieldAt schema) (length s) s at nothing
 
 -- the answers of read_entry
-abbrev pub toldMoved : Moved → Told (Gathered × ℕ)
-toldMoved m = judgedAs (m .verdict) (m .gathered, m .next)
+abbrev pub toldEntry : EntryRead → Told (Gathered × ℕ)
+toldEntry r = judgedAs (r .verdict) (r .gathered, r .next)
 
 -- the answers of take_value and read_field
 abbrev pub toldField : FieldRead → Told (Added × ℕ)

@@ -20,10 +20,10 @@ ghost use mathlib.Core.Path.{_≡_};
 ghost use Prim.Native.Nat.{_+_, _≤_};
 ghost use lib.ListN.{length, take};
 ghost use Rattle.walk.specs.Gathered.{toldKept, toldVerdict};
-ghost use Rattle.walk.specs.Walk.{entryAt, packedFrom, judged, numberAdded, partAdded, valueAdded, addedAt, readAt, fieldsFrom, toldMoved, toldField};
+ghost use Rattle.walk.specs.Walk.{entryAt, packedFrom, judged, numberAdded, partAdded, valueAdded, addedAt, readAt, fieldsFrom, toldEntry, toldField};
 
 // What was gathered, and the place after what was read.
-pub struct Moved {
+pub struct EntryRead {
     pub verdict: Verdict,
     pub gathered: Gathered,
     pub next: usize,
@@ -60,11 +60,11 @@ fn judge(role: Role, wire: u64, member: u64) -> Verdict
 }
 
 // One entry of a packed list.
-fn read_entry(message: &[u8], at: usize, gathered: Gathered) -> Moved
-    ensures { λ r. ⌜ toldMoved r ≡ entryAt (now (message .entry)) at gathered ⌝ }
+fn read_entry(message: &[u8], at: usize, gathered: Gathered) -> EntryRead
+    ensures { λ r. ⌜ toldEntry r ≡ entryAt (now (message .entry)) at gathered ⌝ }
 {
     match read_varint(message, at) {
-        Varint::Refused(e) => Moved {
+        Varint::Refused(e) => EntryRead {
             verdict: Verdict::Refused(e),
             gathered,
             next: at,
@@ -73,7 +73,7 @@ fn read_entry(message: &[u8], at: usize, gathered: Gathered) -> Moved
             let kept = gathered.with_transport(value);
             let verdict = kept.verdict;
             let grown = kept.gathered;
-            Moved {
+            EntryRead {
                 verdict,
                 gathered: grown,
                 next,

@@ -37,7 +37,7 @@ loop-holds c =
 kept-told : (k : Kept) {r : Told Gathered} {v : Verdict} → toldKept k ≡ r → k .verdict ≡ v → r ≡ judgedAs v (k .gathered)
 kept-told k t e = sym t ∙ ap (λ j. judgedAs j (k .gathered)) e
 
--- where a field is refused, all is
+-- where a field is refused, all of them are
 halted : (c : tie.In-loop Inv-loop μ-loop) (n : ℕ) → let a = c .before .before .before .before .args in
     fieldAt (a .schema) (now (a .message)) (c .before .loop .at) (c .before .loop .so-far) ≡ refused n → fieldsFrom (a .schema) (now (a .message)) (a .from) ≡ refused n
 halted c n e =
