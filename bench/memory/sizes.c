@@ -144,7 +144,7 @@ static void print_choices(void)
     instead("a room of 20, both ways", 2 * (PITO_LEAST_ROOM - PITO_LARGEST_ROOM));
     instead("only payloads up to 2,048 bytes are sent as frames", 2 * (2048 - message));
     instead("the same, and a message buffer of 2,048", 2 * (2048 - message) + 2048);
-    instead("frames written 64 bytes at a time (No. 4, not built; without its state)", no_frame);
+    instead("frames written 64 bytes at a time (not built; without its state)", no_frame);
     instead("the same, and a message buffer of 4,096", no_frame + message);
     printf("\n");
 }
