@@ -1,4 +1,4 @@
--- Demand 2 for the outbox: what is appended is read back, also after a cut at any byte.
+-- The claims about the outbox: what is appended is read back, also after a cut at any byte.
 use Prim.Native.Nat.{ℕ, zero, suc, _+_, _-_, _^_, _≤_, _<_}
 use mathlib.Core.Path.{_≡_}
 use mathlib.Core.Bool.{true, false, cond}

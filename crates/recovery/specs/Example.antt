@@ -1,4 +1,4 @@
--- Demand 3 with every byte written out, at a limit of 8: other bytes, then a damaged frame between two whole ones, cut in three ways.
+-- That damage ends, with every byte written out, at a limit of 8: other bytes, then a damaged frame between two whole ones, cut in three ways.
 use Prim.Native.Nat.{ℕ, _+_}
 use mathlib.Core.Path.{_≡_}
 use mathlib.Core.Bool.{true}

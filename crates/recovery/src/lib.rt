@@ -1,4 +1,4 @@
-// Demands 2 and 3 for Classic, as contracts of functions that do nothing.
+// The claims for Classic, as contracts of functions that do nothing.
 ghost use Rattle.recovery.specs.Recovery.{DamageEnds, FrameReturns};
 ghost use Rattle.recovery.specs.Premises.{FactsSuffice};
 ghost use Rattle.recovery.specs.Example.{DamageExample};
