@@ -16,7 +16,8 @@
  * NUMBERS. Each function returns 0, or the number of a refusal:
  *
  *    1  a row of another length, numbers that no state can have, a lent buffer of the wrong size, an unlawful
- *       state, or used bytes beyond the buffer: NOTHING has changed, neither state, lent bytes nor answer
+ *       state, or used bytes beyond the buffer: NOTHING has changed, neither state, lent bytes nor answer; only the
+ *       answer of pito_extractor_feed, where it has its length, tells then that 0 bytes were used
  *    2  packet under 2 bytes, or under its header          20  F0 inside a frame
  *    3  packet of an unknown stream                        21  F1 in the header, or under 2 bytes stored
  *    4  reserved byte of a first packet not 0              22  packet id not 02, error id not 00, F2 in the header
@@ -95,8 +96,8 @@ uint64_t pito_extractor_step(uint64_t *state, size_t state_len, uint8_t *buffer,
 
 /*
  * Many bytes, up to the first frame or refusal or to their end. Call again with the bytes not yet used.
- * Answer: outcome, used, sequence, length. Used is the number of bytes used, also after a refusal of a byte, where
- * the other three are 0. Test for 1 first: it writes no answer, and a loop that went on by an old one would not end.
+ * Answer: outcome, used, sequence, length. Used is the number of bytes used, also after a refusal, where the other
+ * three are 0. Under 1 it is 0: a loop must end there, as no later call would use more.
  */
 #define PITO_FEED_ANSWER 4
 #define PITO_FEED_OUTCOME 0
@@ -216,8 +217,8 @@ uint64_t pito_envelope_read(const uint8_t *message, size_t message_len, uint64_t
  *   command     a signed 32-bit number
  *   payload     0 none, 1 a response, 2 another member
  *   error_code  a response's, a signed 32-bit number; not looked at otherwise
- *   field       another member's number, 2 to 536,870,911 and not 9, or that of a response's payload, where 0 is no
- *               payload; not looked at with payload 0
+ *   field       another member's number, 2 to 536,870,911 and not 9; or that of a response's payload, 2 to 536,870,911
+ *               (9 too), where 0 is no payload; not looked at with payload 0
  *   bytes       the member's, or those of the response's payload; not looked at where there is none
  * Answer: written.
  */
@@ -297,7 +298,8 @@ uint64_t pito_features_write(uint64_t features, uint64_t device_attributes, uint
 uint64_t pito_outbox_new(uint8_t *output, size_t output_len, uint64_t *answer, size_t answer_len);
 
 /*
- * Appends a record right after the used bytes, which must be a whole outbox: 3 bytes and the payload.
+ * Appends a record right after the used bytes, which must be a whole outbox: 3 bytes and the payload. Each call looks
+ * through all used bytes, record by record, so a large outbox makes it slow: see above for one record at a time.
  *   stream   0, 2 or 6
  *   payload  at most 4,096 bytes
  * Answer: used, cut place. Used is the number of used bytes afterwards; the cut place goes with 41, and is where the

@@ -1,32 +1,41 @@
 #!/usr/bin/env python3
-"""A second model of the writer's contract and of the claim of crate `delivery`, written from document 01.
+"""A second model of the writer's contract and of the claims of crate `delivery`, written from document 01.
 
 A must-fail edit shows only that a written proof no longer fits. This model shows that the statement itself is false under it:
-it tries the two statements on random instances. As they stand no counterexample may be found; with each edit one has to be
-found for the statements named beside it, and none for the other. Run it with no argument.
+it tries each statement on random instances, in the words of specs/Delivery.antt. As they stand no counterexample may be found;
+with each edit one has to be found for the statements named beside it, and none for the others. Run it with no argument.
 
   contract   the writer's answer and output are those of its definition, at any place (crate sender, `write_packet`): the
              largest pieces, one ACK flag, sequences modulo 16, 13, 15 and 14
-  delivery   the packets that the writer's calls give for a message, handed in in order, after any packets and among packets
-             of other streams, give the message at the last of them and nothing before (crate delivery, `messages_arrive`)
+  delivery   where the packets of one stream are those that the writer's calls give for a message, after any packets and
+             among packets of other streams, the replies to them are `atLast` of the message (`messages_arrive`)
+  returning  the same with nothing before or between (`round_trip`)
+  asked      `atLast` of a message has it once, whatever packets there are, none too (`message_asked`)
 
-The edits have the names of the must-fail edits of the two crates. A writer's edit that leaves `delivery` true (a smaller piece
-arrives just as well) is ruled out by the contract alone."""
+The edits have the names of the must-fail edits of the two crates; those in brackets have none: they show which statements a
+writer, receiver or reader that does nothing meets. A writer's edit that leaves `delivery` true (a smaller piece arrives just
+as well) is ruled out by the contract alone. With `atLast` as it was, asking for nothing where there are no packets, a writer
+that refuses all meets the claims: that is why `asked` is one."""
 import random
 import sys
 
 EDITS = {
-    "ack_on_the_first": ("contract delivery", "the ACK flag stands on the first packet"),
+    "ack_on_the_first": ("contract delivery returning", "the ACK flag stands on the first packet"),
     "last_piece_empty": ("contract", "a piece of no bytes begins where the message ends"),
-    "piece_one_short": ("contract", "a full piece is one byte less than fits"),
+    "piece_of_254": ("contract", "a full piece is one byte less than fits, where 255 would"),
     "sequence_not_modulo": ("contract", "the definition does not reduce the sequence modulo 16"),
     "extender_at_255": ("contract", "the extender is used at 255 too"),
     "last_not_told": ("contract", "the last packet is told with a next place"),
     "other_ids_between": ("delivery", "packets of the same stream with another id may come between"),
-    "another_ack_wish": ("delivery", "the message given always wants an ACK"),
-    "given_at_each": ("delivery", "each packet gives the message"),
-    "part_of_control": ("delivery", "the message stands in the first part, whatever its stream"),
-    "state_not_kept": ("delivery", "each packet meets the slots of the beginning"),
+    "another_ack_wish": ("delivery returning", "the message given always wants an ACK"),
+    "given_at_each": ("delivery returning asked", "each packet gives the message"),
+    "part_of_control": ("delivery returning", "the message stands in the first part, whatever its stream"),
+    "state_not_kept": ("delivery returning", "each packet meets the slots of the beginning"),
+    "nothing_asked": ("asked", "where there are no packets, nothing is asked for"),
+    "(refusing writer)": ("contract delivery returning", "the writer refuses all"),
+    "(refusing writer, nothing_asked)": ("contract asked", "both: the claims hold of it"),
+    "(idle receiver)": ("delivery returning", "the receiver takes every packet and does nothing"),
+    "(refusing reader)": ("delivery returning", "every packet that is read is refused"),
 }
 STREAMS = [0, 2, 6]
 edit = None
@@ -49,7 +58,7 @@ def pieces(room, length):
 
 def full_size(room, first):
     plain = room - (6 if first else 3)
-    return plain if plain <= 255 else plain - (2 if edit == "piece_one_short" else 1)
+    return plain if plain < (255 if edit == "piece_of_254" else 256) else plain - 1
 
 
 def piece_at(room, length, place):
@@ -78,6 +87,8 @@ def packet(w, m, piece, by_code):
 
 def write(limit, w, m, place, out, by_code=True):
     room, stream, ident, sequence, ack = w
+    if by_code and edit in ("(refusing writer)", "(refusing writer, nothing_asked)"):
+        return 15, out
     if not 20 <= room <= 512:
         return 13, out
     found = piece_at(room, len(m), place) if by_code else next((p for p in pieces(room, len(m)) if p[1] == place), None)
@@ -105,7 +116,7 @@ def calls(limit, w, m, out):
 
 # ---- the receiver
 def read(limit, p):
-    if len(p) < 2:
+    if len(p) < 2 or edit == "(refusing reader)":
         return 2
     kind, ack, ext = p[1] // 4 % 4, p[1] // 2 % 2 == 1, p[1] % 2
     header = (6 if kind == 0 else 3) + ext
@@ -132,6 +143,8 @@ def read(limit, p):
 
 
 def accept(limit, slots, buf, p):
+    if edit == "(idle receiver)":
+        return ("taken",), slots, buf
     t = read(limit, p)
     if isinstance(t, int) or t[0] == "ack":
         return t, slots, buf
@@ -159,7 +172,7 @@ def accept(limit, slots, buf, p):
     return ("taken",), slots, buf
 
 
-# ---- the two statements, on one random instance each
+# ---- the statements, on one random instance each
 def bytes_of(r, n):
     return [r.randrange(256) for _ in range(n)]
 
@@ -176,37 +189,70 @@ def contract(r):
     return write(limit, w, m, place, out) == write(limit, w, m, place, out, by_code=False)
 
 
-def other(r, limit, ours):
-    while True:
-        w = (20, r.choice(STREAMS), r.randrange(16), r.randrange(16), r.random() < .5)
-        kind = r.random()
-        p = [] if kind < .1 else bytes_of(r, r.randint(1, 9)) if kind < .4 else r.choice(calls(limit, w, bytes_of(r, r.randint(0, limit)), [0] * 20))
-        if not ours(p):
-            return p
+def given_by(limit, t, buf):
+    if isinstance(t, int) or t[0] != "finished":
+        return None
+    part = 0 if edit == "part_of_control" else STREAMS.index(t[1]) * limit
+    return t[1:] + (buf[part:part + limit][:t[3]],)
+
+
+def run(limit, slots, buf, packets):
+    replies = []
+    for p in packets:
+        t, left, buf = accept(limit, slots, buf, p)
+        slots = slots if edit == "state_not_kept" else left
+        replies.append((p, t, buf))
+    return replies
+
+
+def message_of(w, m):
+    room, stream, ident, sequence, ack = w
+    return stream, ident, len(m), True if edit == "another_ack_wish" else ack, m
+
+
+def at_last(message, packets):
+    if not packets:
+        return [] if edit in ("nothing_asked", "(refusing writer, nothing_asked)") else [message]
+    if not packets[1:]:
+        return [message]
+    return [message if edit == "given_at_each" else None] + at_last(message, packets[1:])
+
+
+def lawful_state(r, limit):
+    slots = [None if r.random() < .5 or limit < 2 else (r.randrange(16), limit, r.randint(1, limit - 1), r.randrange(16)) for _ in STREAMS]
+    return slots, bytes_of(r, 3 * limit)
+
+
+def any_packet(r, limit):
+    w = (20, r.choice(STREAMS), r.randrange(16), r.randrange(16), r.random() < .5)
+    m, kind = bytes_of(r, r.randint(0, limit)), r.random()
+    return [] if kind < .1 else bytes_of(r, r.randint(1, 9)) if kind < .4 else packet(w, m, r.choice(pieces(20, len(m))), by_code=True)
 
 
 def delivery(r):
     limit = r.choice([1, 20, 60, 300, 700])
-    slots = [None if r.random() < .5 or limit < 2 else (r.randrange(16), limit, r.randint(1, limit - 1), r.randrange(16)) for _ in STREAMS]
-    buf = bytes_of(r, 3 * limit)
+    slots, buf = lawful_state(r, limit)
     w, m = sending(r), bytes_of(r, r.randint(0, limit))
-    room, stream, ident, sequence, ack = w
-    ours = lambda p: bool(p) and p[0] // 16 == stream and (edit != "other_ids_between" or p[0] % 16 == ident)
-    sent = calls(limit, w, m, bytes_of(r, room))
-    for _ in range(r.randint(0, 4)):
-        _, slots, buf = accept(limit, slots, buf, other(r, limit, lambda p: False))
-    got = []
-    for p in sent:
-        for q in [other(r, limit, ours) for _ in range(r.choice([0, 0, 1, 2]))] + [p]:
-            t, left, buf = accept(limit, slots, buf, q)
-            slots = slots if edit == "state_not_kept" else left
-            if ours(q):
-                part = 0 if edit == "part_of_control" else STREAMS.index(stream) * limit
-                given = not isinstance(t, int) and t[0] == "finished"
-                got.append(t[1:] + (buf[part:part + limit][:t[3]],) if given else None)
-    message = (stream, ident, len(m), True if edit == "another_ack_wish" else ack, m)
-    want = [message if edit == "given_at_each" else None] * (len(sent) - 1) + [message]
-    return got == want
+    sent = calls(limit, w, m, bytes_of(r, w[0]))
+    ours = lambda p: bool(p) and p[0] // 16 == w[1] and (edit != "other_ids_between" or p[0] % 16 == w[2])
+    others = lambda n: [p for p in (any_packet(r, limit) for _ in range(n)) if not ours(p)]
+    before, after = ([any_packet(r, limit) for _ in range(r.randint(0, 4))] for _ in "ab")
+    during = [q for p in sent for q in others(r.choice([0, 0, 1, 2])) + [p]] + others(r.randint(0, 2))
+    replies = run(limit, slots, buf, before + during + after)[len(before):][:len(during)]
+    return [given_by(limit, t, b) for p, t, b in replies if ours(p)] == at_last(message_of(w, m), sent)
+
+
+def returning(r):
+    limit = r.choice([1, 20, 60, 300, 700])
+    slots, buf = lawful_state(r, limit)
+    w, m = sending(r), bytes_of(r, r.randint(0, limit))
+    sent = calls(limit, w, m, bytes_of(r, w[0]))
+    return [given_by(limit, t, b) for p, t, b in run(limit, slots, buf, sent)] == at_last(message_of(w, m), sent)
+
+
+def asked(r):
+    message, packets = message_of(sending(r), bytes_of(r, 9)), [bytes_of(r, 3) for _ in range(r.randint(0, 3))]
+    return [g for g in at_last(message, packets) if g is not None] == [message]
 
 
 def tries(claim, n):
@@ -217,7 +263,7 @@ def tries(claim, n):
 bad = False
 for edit in [None] + list(EDITS):
     expected, what = EDITS.get(edit, ("", "as it stands"))
-    found = {claim.__name__: tries(claim, 2000) for claim in (contract, delivery)}
+    found = {claim.__name__: tries(claim, 2000) for claim in (contract, delivery, returning, asked)}
     said = ", ".join("%s false after %d tries" % f for f in found.items() if f[1]) or "no counterexample"
     right = [name for name, k in found.items() if k] == expected.split()
     bad |= not right

@@ -1,5 +1,5 @@
 #!/usr/bin/env python3
-"""A second model of the two claims of crate `recovery`, written from document 01 and not from the specs.
+"""A second model of the claims of crate `recovery`, written from document 01 and not from the specs.
 
 It tries the claims on random instances: with the definitions as they are no counterexample may be found, and with each edit
 of a definition one has to be found for the claims named beside it, and none for the others. A proof that no longer fits after
@@ -35,8 +35,16 @@ class Link:
     def frame(self, sequence, payload):
         return [START, 2, 0, sequence] + self.escaped(payload + self.pair(payload)) + [END]
 
-    def sent(self, sequence, payload):
-        return [] if sequence in MARKS or len(payload) > self.limit else self.frame(sequence, payload)
+    def write(self, sequence, payload, out):
+        """The length told, None where it is refused, and the output afterwards."""
+        frame = self.frame(sequence, payload)
+        if sequence in MARKS or len(payload) > self.limit or len(out) < len(frame):
+            return None, out
+        return len(frame), frame + out[len(frame):]
+
+    def sent(self, sequence, payload, out):
+        told, out = self.write(sequence, payload, out)
+        return [] if told is None else out[:told]
 
     # ---- the extractor: each answers (report, next state, buffer)
 
@@ -119,6 +127,17 @@ class Link:
                 return i + 1, report, state, buffer
         return len(bytes), ("all used",), state, buffer
 
+    # ---- the premises of the claims
+
+    def sendable(self, sequence, payload, out):
+        return sequence not in MARKS and len(payload) <= self.limit and len(self.frame(sequence, payload)) <= len(out)
+
+    def turned(self, bytes, place, new):
+        return place < len(bytes) and bytes[place] not in MARKS and new not in MARKS and new < 256 and new != bytes[place]
+
+    def may_turn(self, bytes, place, new):
+        return place != 3 and self.turned(bytes, place, new)
+
     # ---- the claims
 
     def handed(self, report, buffer):
@@ -131,16 +150,13 @@ class Link:
         """What is handed out behind the first `before` bytes, and whether all bytes are used."""
         at, given = 0, []
         for n in calls:
-            if at >= len(bytes):
-                break
+            if n is None and at >= len(bytes):
+                continue
             used, report, state, buffer = self.step(state, buffer, bytes[at]) if n is None else self.feed(state, buffer, bytes[at:at + n])
             if self.counts(before, at + used):
                 given += self.handed(report, buffer)
             at += used
         return given, at >= len(bytes)
-
-    def may_turn(self, frame, place, new):
-        return place != 3 and frame[place] not in MARKS and new not in MARKS and new != frame[place]
 
     def undamaged(self, items):
         return [(q, len(p), p) for q, p, turned in items if turned is None]
@@ -148,22 +164,34 @@ class Link:
     def uses(self, used, bytes):
         return used == len(bytes)
 
-    def sizes(self):
-        return range(self.limit + 1)
+    def byte(self, rng):
+        return rng.choice([0, 2, 3, 5, 0xEE, START, END, ESCAPE, rng.randrange(256)])
+
+    def plain(self, rng):
+        return rng.choice([0, 2, 3, 1, 5, 0x80, 0xEE, 0xF3, 0xFF, rng.randrange(START)])
+
+    def sending(self, rng):
+        """A sequence, a payload and an output, in their ranges and a little beyond."""
+        q, p = self.plain(rng), [self.byte(rng) for _ in range(rng.randrange(self.limit + 2))]
+        return q, p, [rng.randrange(256) for _ in range(len(self.frame(q, p)) + rng.choice([0, 0, 1, 9, -1]))]
+
+    def lawful(self, rng):
+        """A lawful state, and a buffer of the right size."""
+        phase = rng.choice(["outside", "id", "error", "sequence", "body", "escaped"])
+        state = (phase, self.plain(rng), rng.randrange(self.limit + 3)) if phase in ("body", "escaped") else (phase, 0, 0)
+        return state, [rng.randrange(256) for _ in range(self.limit + 2)]
 
     def damage_ends(self, rng):
-        byte = lambda: rng.choice([0, 2, 3, 5, 0xEE, START, END, ESCAPE, rng.randrange(256)])
-        plain = lambda: rng.choice([0, 2, 3, 1, 5, 0x80, 0xEE, rng.randrange(START)])
-        phase = rng.choice(["outside", "id", "error", "sequence", "body", "escaped"])
-        state = (phase, plain(), rng.randrange(self.limit + 3)) if phase in ("body", "escaped") else (phase, 0, 0)
-        buffer = [rng.randrange(256) for _ in range(self.limit + 2)]
-        before = [byte() for _ in range(rng.randrange(8))] + rng.choice([[], self.frame(5, [])[:rng.randrange(8)]])
+        state, buffer = self.lawful(rng)
+        before = [self.byte(rng) for _ in range(rng.randrange(8))] + rng.choice([[], self.frame(5, [])[:rng.randrange(8)]])
         items, closing = [], []
         for _ in range(rng.randrange(4)):
-            q, p = plain(), [byte() for _ in range(rng.choice(self.sizes()))]
-            bytes, turned = self.sent(q, p), None
-            place, new = rng.randrange(max(len(bytes), 1)), byte()
-            if rng.random() < 0.6 and bytes and self.may_turn(bytes, place, new):
+            q, p, out = self.sending(rng)
+            if not self.sendable(q, p, out):
+                continue
+            bytes, turned = self.sent(q, p, out), None
+            place, new = rng.randrange(max(len(bytes), 1)), self.byte(rng)
+            if rng.random() < 0.6 and self.may_turn(bytes, place, new):
                 bytes, turned = bytes[:place] + [new] + bytes[place + 1:], place
             items.append((q, p, turned))
             closing += bytes
@@ -172,10 +200,25 @@ class Link:
         return not all_used or given == self.undamaged(items)
 
     def frame_returns(self, rng):
-        q, p = rng.randrange(START), [rng.choice([0, 5, 0xEE, ESCAPE, rng.randrange(256)]) for _ in range(rng.choice(self.sizes()))]
-        bytes = self.sent(q, p)
-        used, report, state, buffer = self.feed(OUTSIDE, [7] * (self.limit + 2), bytes)
+        q, p, out = self.sending(rng)
+        if not self.sendable(q, p, out):
+            return True
+        bytes = self.sent(q, p, out)
+        used, report, state, buffer = self.feed(OUTSIDE, [rng.randrange(256) for _ in range(self.limit + 2)], bytes)
         return self.handed(report, buffer) == [(q, len(p), p)] and self.uses(used, bytes)
+
+    def facts_suffice(self, rng):
+        """What document 01 says of a frame, of a byte that turned and of the calls is all that the premises ask for."""
+        q, p = self.plain(rng), [rng.randrange(256) for _ in range(rng.randrange(self.limit + 1))]
+        frame = self.frame(q, p)
+        place, new = rng.choice([i for i, b in enumerate(frame) if i != 3 and b not in MARKS]), self.plain(rng)
+        state, buffer = self.lawful(rng)
+        bytes = [self.byte(rng) for _ in range(rng.randrange(12))]
+        calls = [rng.choice([None, rng.randrange(1, 4), 99]) for _ in bytes]
+        return (self.sendable(q, p, [0] * len(frame))
+                and (new == frame[place] or self.may_turn(self.sent(q, p, [0] * len(frame)), place, new))
+                and self.ready(state, buffer)
+                and self.run(state, buffer, 0, bytes, calls)[1])
 
 
 def edit(**methods):
@@ -197,7 +240,7 @@ def start_ignored(phases, answer):
     return lambda link, state, buffer: answer(link, state, buffer) if state[0] in phases else Link.restart(link, state, buffer)
 
 
-D, F, NONE = {"damage_ends"}, {"frame_returns"}, set()
+D, F, S, NONE = {"damage_ends"}, {"frame_returns"}, {"facts_suffice"}, set()
 EDITS = [
     # ---- the definitions as they are
     ("as they are", NONE, Link),
@@ -207,12 +250,16 @@ EDITS = [
     ("F0 in the header is refused by 22", D, edit(restart=start_ignored(["id", "error", "sequence"], lambda k, s, l: k.refuse(22, s, l)))),
     ("a store one place off", D | F, edit(place=lambda k, held: held + 1)),
     ("room for one byte less", D | F, edit(room=lambda k: k.limit + 1)),
-    ("room for one byte more", D, edit(room=lambda k: k.limit + 3)),
+    ("room for one byte more", D | S, edit(room=lambda k: k.limit + 3)),
     ("the writer sums the escaped payload", D | F, edit(pair=lambda k, p: list(divmod(k.checksum(k.escaped(p)), 256)))),
     ("the writer leaves the checksum unescaped", D | F, edit(frame=lambda k, q, p: [START, 2, 0, q] + k.escaped(p) + k.pair(p) + [END])),
     ("the writer leaves the payload unescaped", D | F, edit(frame=lambda k, q, p: [START, 2, 0, q] + p + k.escaped(k.pair(p)) + [END])),
-    ("the writer refuses everything", D | F, edit(sent=lambda k, q, p: [])),
-    ("the writer tells one byte less", D | F, edit(sent=lambda k, q, p: Link.sent(k, q, p)[:-1])),
+    ("the writer refuses everything", D | F | S, edit(write=lambda k, q, p, out: (None, out))),
+    ("the writer tells one byte less", D | F, edit(sent=lambda k, q, p, out: Link.sent(k, q, p, out)[:-1])),
+    ("nothing is sent", D | F | S, edit(sent=lambda k, q, p, out: [])),
+    ("the extractor skips every byte", D | F, edit(advance=lambda k, s, l, b: (("skipped",), s, l))),
+    ("the extractor refuses every call by 1", D | F | S, edit(ready=lambda k, s, l: False)),
+    ("many bytes do nothing", F | S, edit(feed=lambda k, s, l, bytes: (0, ("all used",), s, l))),
     ("the checksum is not compared", D, edit(agrees=lambda k, p, high, low: True)),
     ("a checksum of seven bits", D, edit(checksum=lambda k, p: (2 + sum(p)) % 128)),
     ("any code stands for F1", D, edit(code=lambda k, b: Link.code(k, b) or END)),
@@ -221,22 +268,25 @@ EDITS = [
     ("one fixed sequence", D | F, edit(handed=lambda k, r, l: [(0, r[2], l[:r[2]])] if r[0] == "frame" else [])),
     ("many bytes go on past a frame", D | F, edit(stops=lambda k, r: r[0] == "refused")),
     ("many bytes tell one more where they stop", D | F, edit(feed=feed_by(1, lambda r: r[0] != "all used"))),
-    ("many bytes tell one less where they stop", F, edit(feed=feed_by(-1, lambda r: r[0] != "all used"))),
-    ("many bytes tell one less at their end", D, edit(feed=feed_by(-1, lambda r: r[0] == "all used"))),
+    ("many bytes tell one less where they stop", F | S, edit(feed=feed_by(-1, lambda r: r[0] != "all used"))),
+    ("many bytes tell one less at their end", D | S, edit(feed=feed_by(-1, lambda r: r[0] == "all used"))),
     # ---- edits of the claims: those of crates/recovery/must-fail, under their names
     ("payload_of_another", D, edit(undamaged=lambda k, items: Link.undamaged(k, items)[::-1])),
     ("payload_not_first", D | F, edit(handed=lambda k, r, l: [(r[1], r[2], l[1:r[2] + 1])] if r[0] == "frame" else [])),
     ("damaged_handed_out", D, edit(undamaged=lambda k, items: [(q, len(p), p) for q, p, turned in items])),
-    ("sequence_byte_turned", D, edit(may_turn=lambda k, f, i, v: i != 4 and f[i] not in MARKS and v not in MARKS and v != f[i])),
-    ("mark_turned", D, edit(may_turn=lambda k, f, i, v: i != 3 and v not in MARKS and v != f[i])),
-    ("turned_into_mark", D, edit(may_turn=lambda k, f, i, v: i != 3 and f[i] not in MARKS and v != f[i])),
-    ("turned_into_itself", D, edit(may_turn=lambda k, f, i, v: i != 3 and f[i] not in MARKS and v == f[i])),
+    ("sequence_byte_turned", D | S, edit(may_turn=lambda k, f, i, v: i != 4 and k.turned(f, i, v))),
+    ("mark_turned", D, edit(turned=lambda k, f, i, v: i < len(f) and v not in MARKS and v != f[i])),
+    ("turned_into_mark", D, edit(turned=lambda k, f, i, v: i < len(f) and f[i] not in MARKS and v != f[i])),
+    ("turned_into_itself", D, edit(turned=lambda k, f, i, v: i < len(f) and f[i] not in MARKS and v not in MARKS)),
     ("counted_early", D, edit(counts=lambda k, before, used: used >= before)),
     ("counted_late", D, edit(counts=lambda k, before, used: used > before + 7)),
     ("step_uses_two", D, edit(step=lambda k, s, l, b: (2,) + k.advance(s, l, b))),
-    ("over_the_limit", D | F, edit(sizes=lambda k: range(k.limit + 2))),
+    ("over_the_limit", D | F, edit(sendable=lambda k, q, p, out: q not in MARKS and len(p) <= k.limit + 1 and len(k.frame(q, p)) <= len(out))),
     ("used_one_less", F, edit(uses=lambda k, used, bytes: used + 1 == len(bytes))),
-    # ---- edits that neither claim rules out: the contracts of `step`, `feed` and the writer do, and the worked cases
+    ("payload_below_limit", S, edit(sendable=lambda k, q, p, out: len(p) < k.limit and Link.sendable(k, q, p, out))),
+    ("turned_below_marks", S, edit(turned=lambda k, f, i, v: v < START and Link.turned(k, f, i, v))),
+    ("header_not_turned", S, edit(may_turn=lambda k, f, i, v: i > 3 and k.turned(f, i, v))),
+    # ---- edits that no claim rules out: the contracts of `step`, `feed` and the writer do, and the worked cases
     ("after a frame the state stays as it was", NONE, edit(finish=lambda k, s, l: (Link.finish(k, s, l)[0], s, l))),
     ("both sum the escaped payload", NONE, edit(checksum=lambda k, p: (2 + sum(k.escaped(p))) % 65536)),
 ]
@@ -254,7 +304,7 @@ def main():
     wrong = 0
     for name, expected, link in EDITS:
         line = []
-        for claim in ("damage_ends", "frame_returns"):
+        for claim in ("damage_ends", "frame_returns", "facts_suffice"):
             found = tries(link, claim, 60000 if claim in expected else 20000 if link is Link else 4000)
             wrong += (found is not None) != (claim in expected)
             line.append("%s %s" % (claim, "holds" if found is None else "false at try %d" % found))

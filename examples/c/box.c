@@ -8,8 +8,9 @@
  * of its payload. The line is written after the record's fsync has come back, so what is reported is kept.
  * Standard error: `dropped PLACE` for a cut last record that was found at the start, `refused NUMBER` for each
  * refused byte of the stream, and what ended the program.
- * Ends with 0 at the end of the input; with 1 after the first failed call of the system, or if the file is there and
- * is no outbox (it is then left as it was); with 2 on bad usage.
+ * Ends with 0 at the end of the input; with 1 after the first failed call of the system, if the file is there and is
+ * no outbox, or if another box has it open (it is then left as it was); with 2 on bad usage. A reader of the notes that
+ * is gone stops nothing; where no report can be written any more the box ends with 1.
  *
  * There is no heap, and the file is never held in memory: it is written and read one record at a time, through a
  * small outbox that has the version byte and room for one record.
@@ -20,6 +21,8 @@
 #include <fcntl.h>
 #include <inttypes.h>
 #include <libgen.h>
+#include <limits.h>
+#include <signal.h>
 #include <stdarg.h>
 #include <stdio.h>
 #include <stdlib.h>
@@ -68,6 +71,13 @@ static void fail_refused(const char *call, uint64_t number)
 {
     note("box: %s: refused %" PRIu64 "\n", call, number);
     exit(1);
+}
+
+/* A write with no reader, or beyond the file size limit, then fails and does not kill. */
+static void ignore_write_signals(void)
+{
+    if (signal(SIGPIPE, SIG_IGN) == SIG_ERR || signal(SIGXFSZ, SIG_IGN) == SIG_ERR)
+        fail("ignore SIGPIPE and SIGXFSZ");
 }
 
 /* A file opened while one of them is closed would get its number, and the reports or notes would go into the file. */
@@ -161,26 +171,50 @@ static void resume_outbox(void)
     }
 }
 
+/* Two boxes on one file would report places that are not theirs. The lock ends with the program, however that ends. */
+static void lock_outbox(void)
+{
+    struct flock whole = {0};
+    whole.l_type = F_WRLCK;
+    whole.l_whence = SEEK_SET;
+    if (fcntl(file, F_SETLK, &whole) == 0)
+        return;
+    if (errno != EACCES && errno != EAGAIN)
+        fail("lock the outbox file");
+    note("box: another box has the outbox file\n");
+    exit(1);
+}
+
+/* The folder that has the file's name: with a symbolic link as the path, not the link's. */
+static void sync_folder(const char *path)
+{
+    char own_path[PATH_MAX];
+    int folder;
+    if (realpath(path, own_path) == NULL)
+        fail("find the outbox file's folder");
+    folder = open(dirname(own_path), O_RDONLY);
+    if (folder < 0)
+        fail("open the outbox file's folder");
+    sync_to_disk(folder, "sync the outbox file's folder");
+    close(folder);
+}
+
 /*
  * A start ends with all on disk that the file holds, and the file's name in its folder: the start before may have
  * been killed at any point.
  */
-static void open_outbox(char *path)
+static void open_outbox(const char *path)
 {
-    int folder;
     file = open(path, O_RDWR | O_CREAT | O_APPEND, 0644);
     if (file < 0)
         fail("open the outbox file");
+    lock_outbox();
     if (read_file(outbox, PITO_FIRST_PLACE, 0) == 0)
         begin_outbox();
     else
         resume_outbox();
     sync_to_disk(file, "sync the outbox file");
-    folder = open(dirname(path), O_RDONLY);
-    if (folder < 0)
-        fail("open the outbox file's folder");
-    sync_to_disk(folder, "sync the outbox file's folder");
-    close(folder);
+    sync_folder(path);
 }
 
 static void report(uint64_t length)
@@ -225,6 +259,7 @@ static void take(const uint8_t *bytes, size_t length)
 
 int main(int words, char **word)
 {
+    ignore_write_signals();
     if (words != 2) {
         note("usage: box OUTBOX_FILE < BYTES\n");
         return 2;

@@ -4,7 +4,8 @@
 //! outcomes, signed numbers in 64 bits, and what an answer row holds after a refusal.
 //!
 //! - A row of the wrong length, and numbers that no state can have, are refused by 1, and nothing
-//!   changes: neither state, lent bytes nor answer.
+//!   changes: neither state, lent bytes nor answer. Only `feed` tells then that 0 bytes were used,
+//!   where its answer row has the right length.
 //! - Every other call writes the whole answer row. After a refusal it is 0 throughout, but for what
 //!   the paper tells then: the number used by `feed`, and the place that goes with 41.
 //! - Signed 32-bit numbers stand in two's complement, extended to 64 bits. A number that is no such
@@ -108,7 +109,7 @@ fn ask<const N: usize>(
             answer.copy_from_slice(&row);
             0
         }
-        Err(Refused(Refusal::Lent, _)) => Refusal::Lent.number(),
+        Err(Refused(Refusal::Lent, None)) => Refusal::Lent.number(),
         Err(Refused(refusal, told)) => {
             answer.fill(0);
             if let Some((place, number)) = told {
@@ -197,7 +198,7 @@ pub fn extractor_step(state: &mut [u64], buffer: &mut [u8], byte: u8, answer: &m
 }
 
 /// State as for a step; answer `outcome, used, sequence, length` with outcome 0 all used, 2 frame.
-/// After a refusal of a byte it is `0, used, 0, 0`.
+/// After a refusal it is `0, used, 0, 0`, with 0 used under 1.
 pub fn extractor_feed(
     state: &mut [u64],
     buffer: &mut [u8],
@@ -206,7 +207,7 @@ pub fn extractor_feed(
 ) -> u64 {
     ask(answer, || {
         let (after, used, decided) = extractor_in(state)
-            .ok_or(Refusal::Lent)?
+            .ok_or(Refused(Refusal::Lent, Some((1, 0))))?
             .feed(buffer, bytes);
         state.copy_from_slice(&extractor_out(after));
         match decided {

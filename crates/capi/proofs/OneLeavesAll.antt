@@ -5,7 +5,7 @@ use mathlib.Core.Bool.{Bool, true, false, cond, not, _&&_, _||_}
 use mathlib.Core.List.{List, [], _∷_, map}
 use native.Mathlib.Omega.{arith}
 use lib.IntN.{ℤ}
-use lib.ListN.{length, take}
+use lib.ListN.{length, take, replicate}
 use lib.Seq.{sets}
 use lib.Dec.{eqb, ltb}
 use Rattle.wire.specs.Told.{refused, row, written}
@@ -42,7 +42,8 @@ use Rattle.rows.specs.Sending.{streamWith, packetRow}
 use Rattle.rows.specs.Receiving.{isReceiver, slotsOf}
 use Rattle.rows.specs.Messages.{allSigned, responsePayloadOf}
 use Rattle.rows.specs.Outboxes.{numberIn, usedIn, usedRow}
-use Rattle.capi.specs.Classic.{stepped, fedCall, extractorStepOf, extractorFeedOf, frameWriteOf, nextSequenceOf}
+use Rattle.capi.specs.Called.{ifFit}
+use Rattle.capi.specs.Classic.{stepped, fedCall, noneUsed, extractorStepOf, extractorFeedOf, frameWriteOf, nextSequenceOf}
 use Rattle.capi.specs.Sending.{packetWriteOf, ackWriteOf}
 use Rattle.capi.specs.Receiving.{accepted, receiverAcceptOf}
 use Rattle.capi.specs.Messages.{envelopeReadOf, envelopeWriteOf, responseReadOf, responseWriteOf, informationReadOf, informationWriteOf, featuresReadOf, featuresWriteOf}
@@ -62,14 +63,21 @@ step-keeps limit b state lent answer =
     go true = λ e. refl
     go false = λ e. absurd (advance-not-one limit (extractorOf state) lent b e)
 
-feed-keeps : (limit : ℕ) (bytes state lent answer : List ℕ) → Keeps state lent answer (extractorFeedOf limit state lent bytes answer)
-unfolding extractorFeedOf
+feed-keeps : (limit : ℕ) (bytes state lent answer : List ℕ) → Keeps state lent (noneUsed answer) (extractorFeedOf limit state lent bytes answer)
+unfolding extractorFeedOf noneUsed
 feed-keeps limit bytes state lent answer =
-    keeps-if (eqb (length answer) 4 && isExtractor state) state lent answer _ (go (not (ready limit (extractorOf state) (length lent))))
+    go (eqb (length answer) 4) (isExtractor state) (not (ready limit (extractorOf state) (length lent)))
   where
-    go : (t : Bool) → Keeps state lent answer (fedCall state answer (cond t (fed (extractor.refused 1) 0 (extractorOf state) lent) (feedFrom limit 0 (extractorOf state) lent bytes)))
-    go true = λ e. refl
-    go false = λ e. absurd (feed-not-one limit 0 (extractorOf state) lent bytes e)
+    told : Bool → List ℕ
+    told long = cond long (replicate 4 0) answer
+
+    go : (long fits t : Bool) → Keeps state lent (told long)
+        (ifFit (long && fits) state lent (told long)
+        (fedCall state (cond t (fed (extractor.refused 1) 0 (extractorOf state) lent) (feedFrom limit 0 (extractorOf state) lent bytes))))
+    go false fits t = λ e. refl
+    go true false t = λ e. refl
+    go true true true = λ e. refl
+    go true true false = λ e. absurd (feed-not-one limit 0 (extractorOf state) lent bytes e)
 
 accept-keeps : (limit : ℕ) (packet state lent answer : List ℕ) → Keeps state lent answer (receiverAcceptOf limit state lent packet answer)
 unfolding receiverAcceptOf acceptOf

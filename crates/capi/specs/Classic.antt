@@ -1,8 +1,8 @@
 -- Classic for C: the calls of the extractor and of the frame writer.
 use Prim.Native.Nat.{ℕ}
-use mathlib.Core.Bool.{_&&_}
+use mathlib.Core.Bool.{cond, _&&_}
 use mathlib.Core.List.{List, [], _∷_}
-use lib.ListN.{length}
+use lib.ListN.{length, replicate}
 use lib.Dec.{eqb}
 use Rattle.frame.specs.Mark.{startMark}
 use Rattle.frame.specs.Frame.{nextSequence}
@@ -22,14 +22,19 @@ unfoldable pub extractorStepOf : ℕ → List ℕ → List ℕ → ℕ → List 
 extractorStepOf limit state lent b answer =
     ifFit (eqb (length answer) 3 && isExtractor state) state lent answer (stepped state answer (stepOf limit (extractorOf state) lent b))
 
-abbrev pub fedCall : List ℕ → List ℕ → Feed → Called
-fedCall state answer f =
+-- rows and lent bytes after many bytes: the answer row is written under 1 too
+abbrev pub fedCall : List ℕ → Feed → Called
+fedCall state f =
     let r = replyOf (f .report) in
-    called (r .number) (afterwards (r .number) state (extractorRow (f .next))) (f .buffer) (afterwards (r .number) answer (feedRow (f .used) r))
+    called (r .number) (afterwards (r .number) state (extractorRow (f .next))) (f .buffer) (feedRow (f .used) r)
+
+-- the answer row of a feed that is refused by 1: 0 used, where it has its length
+unfoldable pub noneUsed : List ℕ → List ℕ
+noneUsed answer = cond (eqb (length answer) 4) (replicate 4 0) answer
 
 unfoldable pub extractorFeedOf : ℕ → List ℕ → List ℕ → List ℕ → List ℕ → Called
 extractorFeedOf limit state lent bytes answer =
-    ifFit (eqb (length answer) 4 && isExtractor state) state lent answer (fedCall state answer (feedOf limit (extractorOf state) lent bytes))
+    ifFit (eqb (length answer) 4 && isExtractor state) state lent (noneUsed answer) (fedCall state (feedOf limit (extractorOf state) lent bytes))
 
 -- a sequence that is no byte stands for a mark: 15
 unfoldable pub frameWriteOf : ℕ → ℕ → List ℕ → List ℕ → List ℕ → Called

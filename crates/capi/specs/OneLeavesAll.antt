@@ -1,11 +1,12 @@
--- The claim that refusal 1 changes nothing, whoever refuses: the rows' length, the numbers of a state, or the library.
+-- The claim that refusal 1 changes nothing, whoever refuses: the rows' length, the numbers of a state, or the library. One row
+-- alone is written under it: the answer of a feed, where it has its length, tells 0 used.
 use Prim.Native.Nat.{ℕ}
 use mathlib.Core.Path.{_≡_}
 use mathlib.Core.List.{List, []}
 use Rattle.sender.specs.declared.writer.Sending.{Sending}
 use Rattle.message.specs.declared.envelope.EnvelopePayload.{EnvelopePayload}
 use Rattle.capi.specs.Called.{Called, called}
-use Rattle.capi.specs.Classic.{extractorStepOf, extractorFeedOf, frameWriteOf, nextSequenceOf}
+use Rattle.capi.specs.Classic.{noneUsed, extractorStepOf, extractorFeedOf, frameWriteOf, nextSequenceOf}
 use Rattle.capi.specs.Sending.{packetWriteOf, ackWriteOf}
 use Rattle.capi.specs.Receiving.{receiverAcceptOf}
 use Rattle.capi.specs.Messages.{envelopeReadOf, envelopeWriteOf, responseReadOf, responseWriteOf, informationReadOf, informationWriteOf, featuresReadOf, featuresWriteOf}
@@ -17,7 +18,7 @@ Keeps state lent answer c = c .number ≡ 1 → c ≡ called 1 state lent answer
 
 pub record OneLeavesAll : Type 0 where
   pub extractor-step : (limit b : ℕ) (state lent answer : List ℕ) → Keeps state lent answer (extractorStepOf limit state lent b answer)
-  pub extractor-feed : (limit : ℕ) (bytes state lent answer : List ℕ) → Keeps state lent answer (extractorFeedOf limit state lent bytes answer)
+  pub extractor-feed : (limit : ℕ) (bytes state lent answer : List ℕ) → Keeps state lent (noneUsed answer) (extractorFeedOf limit state lent bytes answer)
   pub frame-write : (limit sequence : ℕ) (payload out answer : List ℕ) → Keeps [] out answer (frameWriteOf limit sequence payload out answer)
   pub next-sequence : (sequence : ℕ) (answer : List ℕ) → Keeps [] [] answer (nextSequenceOf sequence answer)
   pub packet-write : (limit : ℕ) (how : Sending) (place : ℕ) (message out answer : List ℕ)

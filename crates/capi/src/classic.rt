@@ -17,6 +17,7 @@ use rows::row::UNFIT;
 use rows::row::byte_or;
 use rows::row::put;
 use rows::row::tell;
+use rows::row::write_row;
 use wire::bytes::wide64;
 ghost use mathlib.Core.Path.{_≡_};
 ghost use mathlib.Core.List.{[]};
@@ -51,7 +52,7 @@ pub extern "C" fn pito_extractor_step(
     number
 }
 
-// Many bytes given to the extractor.
+// Many bytes given to the extractor. The answer row tells 0 used under 1, where it has its length.
 #[no_mangle]
 pub extern "C" fn pito_extractor_feed(
     state: &mut [u64],
@@ -65,6 +66,8 @@ pub extern "C" fn pito_extractor_feed(
         return UNFIT;
     }
     if !is_extractor(state) {
+        let row = [0u64; 4];
+        write_row(answer, &row);
         return UNFIT;
     }
     let done = extractor_of(state).feed(buffer, bytes);
@@ -76,7 +79,7 @@ pub extern "C" fn pito_extractor_feed(
     let used = done.used as u64;
     let row = [reply.outcome, used, reply.sequence, reply.length];
     put(state, number, &kept);
-    put(answer, number, &row);
+    write_row(answer, &row);
     number
 }
 

@@ -2,3 +2,4 @@ pub mod Reading
 pub mod Growing
 pub mod Steps
 pub mod MessagesArrive
+pub mod Instance

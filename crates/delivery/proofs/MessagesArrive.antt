@@ -19,8 +19,8 @@ use Rattle.sender.specs.Piece.{leastRoom, isFirst, sizeFor, piecesFrom, piecesO
 use Rattle.sender.specs.Writer.{headerBytes, packetOf, packetsOf}
 use Rattle.sender.proofs.Largest.{size-le, size-some}
 use Rattle.sender.proofs.Guard.{InRange, room-low, range-facts}
-use Rattle.sender.proofs.CallsGiveAll.{calls-give-all}
-use Rattle.delivery.specs.Delivery.{Reply, runOf, Message, those, ours, givenIn, givenTo, messageOf, atLast, MessagesArrive, RoundTrip}
+use Rattle.sender.proofs.CallsGiveAll.{calls-are}
+use Rattle.delivery.specs.Delivery.{Reply, runOf, Message, those, ours, givenIn, givenTo, messageOf, atLast, MessagesArrive, RoundTrip, MessageAsked}
 use Rattle.delivery.proofs.Steps.{gives, Awaits, start, within, awaits-kept, pieceFor, last-step, more-step}
 
 -- ---- one packet of a run
@@ -164,7 +164,7 @@ during-given limit during after w m replies room ok e l =
 
 pub messages-arrive : MessagesArrive
 messages-arrive limit slots bytes before during after w m out law size t e =
-    let s = calls-give-all limit w m out t in
+    let s = calls-are limit w m out t in
     rw (s, append-assoc)
     (during-given limit during after w m _ (room-low (w .room) (t .room)) (range-facts limit w (length m) (t .arguments)) (e ∙ s)
     (later-on limit slots bytes before (during ++ after) (record { law = law; size = size })))
@@ -186,9 +186,16 @@ replies-ours limit slots bytes w m (p ∷ ps) l =
 pub round-trip : RoundTrip
 round-trip limit slots bytes w m out law size t =
     let l = range-facts limit w (length m) (t .arguments) .id in
-    let s = calls-give-all limit w m out t in
+    let s = calls-are limit w m out t in
     let sent : List (List ℕ) = packetsOf w m in
     rw s
     (ap (givenIn limit) (sym (replies-ours limit slots bytes w m (piecesOf (w .room) (length m)) l))
     ∙ ap (givenTo limit w) (sym (run-cut limit slots bytes sent []))
     ∙ rw s at (messages-arrive limit slots bytes [] sent [] w m out law size t (all-ours w m (piecesOf (w .room) (length m)) l ∙ sym s)))
+
+-- ---- the message is asked for
+
+pub message-asked : MessageAsked
+message-asked message [] = refl
+message-asked message (p ∷ []) = refl
+message-asked message (p ∷ q ∷ ps) = message-asked message (q ∷ ps)

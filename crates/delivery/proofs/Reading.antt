@@ -8,8 +8,8 @@ use lib.ListN.{length, take, drop}
 use lib.Seq.{take-take, drop-at}
 use Rattle.wire.specs.Stream.{isStream, streamOf}
 use Rattle.wire.specs.Told.{given}
+use Rattle.wire.proofs.Parts.{length-part}
 use Rattle.packet.specs.declared.reader.Head.{Head}
-use Rattle.packet.specs.declared.reader.Packet.{Packet}
 use Rattle.packet.specs.declared.reader.Packet.the-variants.{First, Next}
 use Rattle.packet.specs.Header.{fourBits, headerSize, sequenceAfter}
 use Rattle.packet.specs.Reader.{readOf}
@@ -18,7 +18,7 @@ use Rattle.sender.specs.declared.piece.Piece.{Piece}
 use Rattle.sender.specs.declared.writer.Sending.{Sending}
 use Rattle.sender.specs.Piece.{extended, isFirst}
 use Rattle.sender.specs.Writer.{headerBytes, isLast, packetOf}
-use Rattle.sender.proofs.Packets.{header-length, payload-length}
+use Rattle.sender.proofs.Packets.{header-length}
 
 abbrev pub headFor : Sending → Piece → Head
 headFor w p = record { stream = streamOf (w .stream); id = w .id; sequence = sequenceAfter (w .sequence) (p .index) }
@@ -32,7 +32,7 @@ module _ (limit : ℕ) (w : Sending) (m : List ℕ) (p : Piece) (known : isStrea
   payload = take (p .size) (drop (p .place) m)
 
   size : length payload ≡ p .size
-  size = payload-length m p inside
+  size = length-part m (p .place) (p .size) inside
 
   pub first-read : isFirst (p .index) ≡ true → length m ≤ limit → (p .size ≡ 0 → length m ≡ 0)
       → readOf limit (packetOf w m p) ≡ given (First (headFor w p) ack (length m) (headerSize true (extended (p .size))) (p .size))

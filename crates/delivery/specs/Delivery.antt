@@ -73,15 +73,15 @@ givenIn limit replies = map (λ (r : Reply). givenBy limit (r .told) (r .bytes))
 abbrev pub givenTo : ℕ → Sending → List Reply → List (Option Message)
 givenTo limit w replies = givenIn limit (those (λ (r : Reply). ours w (r .packet)) replies)
 
--- ---- the claim
+-- ---- the claims
 
 -- the message as it was handed to the writer
 abbrev pub messageOf : Sending → List ℕ → Message
 messageOf w m = record { stream = streamOf (w .stream); id = w .id; total = length m; ack = w .ack; payload = m }
 
--- nothing at each of the packets but the last, and there the message
+-- nothing at each of the packets but the last, and there the message; it is asked for where there are no packets too
 abbrev pub atLast : Message → List (List ℕ) → List (Option Message)
-atLast message [] = []
+atLast message [] = some message ∷ []
 atLast message (p ∷ []) = some message ∷ []
 atLast message (p ∷ q ∷ ps) = none ∷ atLast message (q ∷ ps)
 
@@ -105,3 +105,13 @@ RoundTrip =
     → length bytes ≡ slotCount * limit
     → Takes limit w m out
     → givenIn limit (runOf limit slots bytes (callsOf limit w m out)) ≡ atLast (messageOf w m) (callsOf limit w m out)
+
+-- the messages that are given
+abbrev pub givenOnly : List (Option Message) → List Message
+givenOnly [] = []
+givenOnly (none ∷ os) = givenOnly os
+givenOnly (some message ∷ os) = message ∷ givenOnly os
+
+-- Whatever packets a writer's calls give, none at all too, both claims ask for the message, and once: no writer that refuses meets them.
+abbrev pub MessageAsked : Type 0
+MessageAsked = (message : Message) (packets : List (List ℕ)) → givenOnly (atLast message packets) ≡ message ∷ []

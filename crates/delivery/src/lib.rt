@@ -1,5 +1,6 @@
-// The claims of Low Energy, from the writer to the receiver. Their words are in specs/Delivery.antt; these functions do nothing.
-ghost use Rattle.delivery.specs.Delivery.{MessagesArrive, RoundTrip};
+// The claims of Low Energy, from the writer to the receiver. Their words are in specs/; these functions do nothing.
+ghost use Rattle.delivery.specs.Delivery.{MessagesArrive, RoundTrip, MessageAsked};
+ghost use Rattle.delivery.specs.Instance.{Arrives};
 
 // A message whose packets all come, in order, is given at the last of them, whatever comes before, after, and of other streams between.
 pub fn messages_arrive()
@@ -9,4 +10,14 @@ pub fn messages_arrive()
 // The same with nothing before or between: what was written returns.
 pub fn round_trip()
     ensures { λ _. ⌜ RoundTrip ⌝ }
+{}
+
+// Both ask for the message, whatever packets the writer gives.
+pub fn message_asked()
+    ensures { λ _. ⌜ MessageAsked ⌝ }
+{}
+
+// P4 of document 01 as an instance, by computation.
+pub fn instance_arrives()
+    ensures { λ _. ⌜ Arrives ⌝ }
 {}

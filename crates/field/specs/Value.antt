@@ -1,5 +1,5 @@
 -- A field's value, as its wire type says.
-use Prim.Native.Nat.{ℕ, _+_, _-_}
+use Prim.Native.Nat.{ℕ, _+_, _≤_}
 use mathlib.Core.Bool.{cond}
 use mathlib.Core.List.{List, [], _∷_}
 use lib.ListN.{length, take, drop}
@@ -40,8 +40,18 @@ toldValue (Refused e) = refused (numberOf e)
 abbrev pub bytesOf : List ℕ → Part → List ℕ
 bytesOf s p = take (p .len) (drop (p .start) s)
 
--- where the part of a value ends; 0 where it has none
-abbrev pub partEnd : Value → ℕ
-partEnd (Number v) = 0
-partEnd (Bytes p) = p .start + p .len
-partEnd Skipped = 0
+-- parts that lie within a message, each to its end
+abbrev pub Within : List ℕ → List Part → Type 0
+Within s [] = Unit {0}
+Within s (p ∷ ps) = (p .start + p .len ≤ length s) × Within s ps
+
+-- the parts of what is told, if anything is, lie within the message
+abbrev pub TellsWithin : {A : Type 0} → List ℕ → (A → List Part) → Told A → Type 0
+TellsWithin s parts (given a) = Within s (parts a)
+TellsWithin s parts (refused n) = Unit {0}
+
+-- the part of a value, if it has one
+abbrev pub valueParts : Value → List Part
+valueParts (Number v) = []
+valueParts (Bytes p) = p ∷ []
+valueParts Skipped = []

@@ -1,21 +1,51 @@
--- How far a listing of an outbox file goes.
-use Prim.Native.Nat.{ℕ}
-use mathlib.Core.Bool.{cond}
+-- Listing an outbox file part by part: a part is the version byte and the bytes from a place of the file on.
+use Prim.Native.Nat.{ℕ, _+_, _-_, _≤_, _<_}
+use mathlib.Core.Path.{_≡_}
+use mathlib.Core.Bool.{Bool, true, false, not, _&&_}
 use mathlib.Core.List.{List}
-use lib.Dec.{ltb}
-use lib.ListN.{length}
-use Rattle.outbox.specs.Format.{Format}
-use Rattle.outbox.specs.Reader.{walkOf}
+use lib.Dec.{eqb}
+use lib.ListN.{length, take, drop}
+use lib.Seq.{sets}
+use Rattle.outbox.specs.Format.{Format, headSize, firstPlace}
+use Rattle.outbox.specs.Reader.{Answer, given, refused, refusedAt, walkOf}
 use Rattle.outbox.specs.Claims.{usable}
+use Rattle.listing.specs.declared.Listed.{Listed}
 
--- the largest file that is listed: 1 MiB
-abbrev pub largestFile : ℕ
-largestFile = 1048576
+-- the bytes of the buffer that a file passes through
+abbrev pub bufferSize : ℕ
+bufferSize = 8192
 
--- the end of a whole outbox, or the place of its first refusal
-unfoldable pub listedTo : Format → List ℕ → ℕ
-listedTo fmt file = usable (walkOf fmt file) file
+-- a refusal ends the listing, but for a record that is cut short before the last part: it may go on in the next
+abbrev pub endsBy : Bool → ℕ → Bool
+endsBy last n = not (eqb n 41 && not last)
 
--- the same, and 0 for a file that is too large
-unfoldable pub listOf : Format → List ℕ → ℕ
-listOf fmt file = cond (ltb largestFile (length file)) 0 (listedTo fmt file)
+-- whether the listing is over after a part, by the part's walk
+abbrev pub isOver : Bool → Answer (Unit {0}) → Bool
+isOver last (given whole) = last
+isOver last (refused n) = true
+isOver last (refusedAt n place) = endsBy last n
+
+abbrev pub listed : Bool → ℕ → Listed
+listed over place = record { over = over; place = place }
+
+-- a part is listed to its end, or to the place of its first refusal
+unfoldable pub listedOf : Format → Bool → List ℕ → Listed
+listedOf fmt last part = listed (isOver last (walkOf fmt part)) (usable (walkOf fmt part) part)
+
+-- how many bytes a part has, and the buffer that it begins
+pub record Carried : Type 0 where
+  pub held : ℕ
+  pub buffer : List ℕ
+
+abbrev pub carried : ℕ → List ℕ → Carried
+carried held buffer = record { held = held; buffer = buffer }
+
+-- the bytes of a part from a place on go to where the first record stands
+unfoldable pub carryOf : List ℕ → ℕ → ℕ → Carried
+carryOf buffer place held = carried (firstPlace + (held - place)) (sets buffer firstPlace (drop place (take held buffer)))
+
+-- a part that is not the last and has room for the longest record is listed beyond its first record, or to a refusal
+unfoldable pub PartsGoOn : Type 0
+PartsGoOn =
+    (fmt : Format) (part : List ℕ) → firstPlace + (headSize fmt + fmt .limit) ≤ length part
+    → listedOf fmt false part .over ≡ false → firstPlace < listedOf fmt false part .place

@@ -1,26 +1,36 @@
-// Lists the records of an outbox file on standard output, for the crew: what a box kept.
+// Lists the records of an outbox file on standard output, for the crew: what a box kept. The file may be of any size: it
+// passes through one small buffer that holds the version byte and the bytes from a record's place on.
 ghost use mathlib.Core.Path.{_≡_};
-ghost use Prim.Native.Nat.{_+_};
-ghost use lib.ListN.{length};
-ghost use Rattle.outbox.specs.Format.{versionOne};
-ghost use Rattle.listing.specs.Listing.{largestFile, listedTo, listOf};
+ghost use Prim.Native.Nat.{_≤_};
+ghost use lib.Dec.{eqb};
+ghost use lib.ListN.{length, take};
+ghost use Rattle.outbox.specs.Format.{versionOne, firstPlace};
+ghost use Rattle.outbox.specs.Reader.{faultNumber};
+ghost use Rattle.listing.specs.Listing.{bufferSize, endsBy, listed, listedOf, carried, carryOf, PartsGoOn};
+use libc::STDIN_FILENO;
 use libc::STDOUT_FILENO;
 use outbox::format::FIRST_PLACE;
+use outbox::reader::Fault;
 use outbox::reader::Reading;
 use outbox::reader::read;
+use std::num::wrapping_add_u64;
+use wire::logic::both;
 
-// The largest file that is listed.
-const LARGEST: usize = 1048576;
-
-// The largest file and one byte more, by which a larger one is told.
-const ROOM: usize = LARGEST + 1;
+// The bytes of a part: the version byte and the longest record fit twice.
+const ROOM: usize = 8192;
 
 // The refusal number of a place out of range: none that a reading told is.
 const BAD_PLACE: u8 = 15;
 
-// Room for what is read. The `ensures` gives only the length, which lending the array as a slice needs.
+// How far the listing of a part of a file went, and whether the listing is over: it is at the end of the file or at a refusal.
+pub struct Listed {
+    over: bool,
+    place: usize,
+}
+
+// Room for a part. The `ensures` gives only the length, which lending the array as a slice needs.
 pub fn room() -> [u8; ROOM]
-    ensures { λ r. ⌜ largestFile + 1 ≡ length r ⌝ }
+    ensures { λ r. ⌜ bufferSize ≡ length r ⌝ }
 {
     [0; ROOM]
 }
@@ -29,73 +39,148 @@ fn say(text: &[u8]) {
     io::write_all(STDOUT_FILENO, text);
 }
 
-fn say_number(n: usize) {
-    io::print_decimal(STDOUT_FILENO, n as u64);
+fn say_number(n: u64) {
+    io::print_decimal(STDOUT_FILENO, n);
 }
 
-fn say_record(place: usize, stream: u8, size: usize) {
+// A place of the file, by how many bytes of it are gone from the part.
+fn say_place(gone: u64, place: usize) {
+    say_number(wrapping_add_u64(gone, place as u64));
+}
+
+fn say_record(gone: u64, place: usize, stream: u8, size: usize) {
     say(b"record ");
-    say_number(place);
+    say_place(gone, place);
     say(b" ");
-    say_number(stream as usize);
+    say_number(stream as u64);
     say(b" ");
-    say_number(size);
+    say_number(size as u64);
     say(b"\n");
 }
 
-fn say_end(place: usize) {
+fn say_end(gone: u64, place: usize) {
     say(b"end ");
-    say_number(place);
+    say_place(gone, place);
     say(b"\n");
 }
 
-fn say_refused(number: u8, place: usize) {
+fn say_refused(number: u8, gone: u64, place: usize) {
     say(b"refused ");
-    say_number(number as usize);
+    say_number(number as u64);
     say(b" at ");
-    say_number(place);
+    say_place(gone, place);
     say(b"\n");
 }
 
-// A line for each whole record, then one for the end or for the refusal. It answers the place where it ends.
-fn list_records(file: &[u8]) -> usize
-    ensures { λ r. ⌜ r ≡ listedTo (versionOne 4096) (now (file .entry)) ⌝ }
+fn is_cut(fault: Fault) -> bool
+    ensures { λ r. ⌜ r ≡ eqb (faultNumber fault) 41 ⌝ }
+{
+    match fault {
+        Fault::Version => false,
+        Fault::Length => false,
+        Fault::Cut => true,
+        Fault::Stream => false,
+    }
+}
+
+// The end of a part: of the file only where the part is its last.
+fn list_end(gone: u64, place: usize, last: bool) -> Listed
+    ensures { λ r. ⌜ r ≡ listed last place ⌝ }
+{
+    if last {
+        say_end(gone, place);
+    }
+    Listed { over: last, place }
+}
+
+// A refusal in a part: a record that is cut short may go on in the next part.
+fn list_refusal(fault: Fault, gone: u64, place: usize, last: bool) -> Listed
+    ensures { λ r. ⌜ r ≡ listed (endsBy last (faultNumber fault)) place ⌝ }
+{
+    if both(is_cut(fault), !last) {
+        return Listed { over: false, place };
+    }
+    say_refused(fault.number(), gone, place);
+    Listed { over: true, place }
+}
+
+// A line for each whole record of a part, and one for the end or the refusal where the listing is over.
+pub fn list_part(part: &[u8], gone: u64, last: bool) -> Listed
+    ensures { λ r. ⌜ r ≡ listedOf (versionOne 4096) last (now (part .entry)) ⌝ }
 {
     let mut place = FIRST_PLACE;
     loop {
-        match read(file, place) {
+        match read(part, place) {
             Reading::Record {
                 stream,
                 start: _,
                 size,
                 next,
             } => {
-                say_record(place, stream, size);
+                say_record(gone, place, stream, size);
                 place = next;
             }
             Reading::End => {
-                say_end(place);
-                return place;
+                return list_end(gone, place, last);
             }
             Reading::BadPlace => {
-                say_refused(BAD_PLACE, place);
-                return 0;
+                say_refused(BAD_PLACE, gone, place);
+                return Listed {
+                    over: true,
+                    place: 0,
+                };
             }
             Reading::Broken { fault, place: at } => {
-                say_refused(fault.number(), at);
-                return at;
+                return list_refusal(fault, gone, at, last);
             }
         }
     }
 }
 
-// Lists an outbox file and answers how far it got: to the end of a whole outbox, or to the place of its first refusal.
-pub fn list(file: &[u8]) -> usize
-    ensures { λ r. ⌜ r ≡ listOf (versionOne 4096) (now (file .entry)) ⌝ }
+// Moves the bytes of a part from a place on to where the first record stands, and tells how many bytes the part then has.
+fn carry_over(buffer: &mut [u8], place: usize, held: usize) -> usize
+    requires { ⌜ (firstPlace ≤ place) × (place ≤ held) × (held ≤ length (now buffer)) ⌝ }
+    ensures { λ r. ⌜ carried r (now (buffer .exit)) ≡ carryOf (now (buffer .entry)) place held ⌝ }
 {
-    if LARGEST < file.len() {
-        say(b"refused 1\n");
-        return 0;
+    let n = held - place;
+    let mut i = 0;
+    while i < n {
+        buffer[FIRST_PLACE + i] = buffer[place + i];
+        i += 1;
     }
-    list_records(file)
+    FIRST_PLACE + n
 }
+
+// Fills the buffer from standard input behind the bytes that it keeps, and tells how many bytes it then holds.
+fn refill(buffer: &mut [u8], kept: usize) -> usize
+    requires { ⌜ kept ≤ length (now buffer) ⌝ }
+    ensures { λ r. ⌜ (r ≤ length (now (buffer .exit))) × (take kept (now (buffer .exit)) ≡ take kept (now (buffer .entry))) ⌝ }
+{
+    let read = io::read_full(STDIN_FILENO, &mut buffer[kept..]);
+    kept + read
+}
+
+// Lists what standard input holds. Nothing says that it ends, so the loop counts down from a number that no run uses up.
+pub fn list(buffer: &mut [u8]) {
+    let mut gone = 0;
+    let mut held = refill(buffer, 0);
+    let mut turns = u64::MAX;
+    while turns > 0 {
+        turns -= 1;
+        let last = held < buffer.len();
+        let listed = list_part(&buffer[..held], gone, last);
+        if listed.over {
+            return;
+        }
+        let place = listed.place;
+        gone = wrapping_add_u64(gone, (place - FIRST_PLACE) as u64);
+        let kept = carry_over(buffer, place, held);
+        held = refill(buffer, kept);
+    }
+}
+
+// A part that has room for the longest record is listed beyond its first record, or the listing is over: so a file of any
+// size is listed to its end.
+pub fn parts_go_on()
+    ensures { λ _. ⌜ PartsGoOn ⌝ }
+{}

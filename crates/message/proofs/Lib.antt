@@ -3,3 +3,4 @@ pub mod Steps
 pub mod Written
 pub mod Trips
 pub mod RoundTrip
+pub mod Premises

@@ -9,7 +9,7 @@ use lib.IntN.{ℤ, pos}
 use lib.ListN.{length, replicate}
 use lib.Seq.{take-all}
 use lib.Dec.{eqb, ltb}
-use borrow.Author.Tests.{ne-eqb, ltb-false, eqb-false}
+use borrow.Author.Tests.{ne-eqb, le-ltb, eqb-false}
 use Rattle.wire.specs.Told.{Told, given, refused, andThen}
 use Rattle.field.specs.declared.value.Part.{Part}
 use Rattle.field.specs.Signed.{extended}
@@ -20,7 +20,6 @@ use Rattle.message.specs.declared.schema.Schema.{Schema}
 use Rattle.message.specs.declared.schema.Schema.the-variants as Schema
 use Rattle.message.specs.declared.schema.Role.{Role}
 use Rattle.message.specs.declared.schema.Role.the-variants as Role
-use Rattle.message.specs.declared.gathered.Gathered.{Gathered}
 use Rattle.message.specs.declared.features.DeviceFeatures.{DeviceFeatures}
 use Rattle.message.specs.declared.response.ResponsePayload.{ResponsePayload}
 use Rattle.message.specs.declared.response.ResponsePayload.the-variants as Inner
@@ -32,14 +31,14 @@ use Rattle.message.specs.declared.envelope.EnvelopePayload.{EnvelopePayl
 use Rattle.message.specs.declared.envelope.EnvelopePayload.the-variants as Sent
 use Rattle.message.specs.Schema.{roleOf, responseField, serialNumberField, nameField, transportsField, deviceTypeField, featuresField, deviceAttributesField}
 use Rattle.message.specs.Gathered.{nothing, withScalar, withText, withMember}
-use Rattle.message.specs.Walk.{judged, keptPart, fieldsFrom}
+use Rattle.message.specs.Walk.{judged, partAdded, withAdded, fieldsFrom}
 use Rattle.message.specs.Writer.{badMember}
 use Rattle.message.specs.Response.{responseFrom, responseFields, badResponsePayload, responseWritten}
 use Rattle.message.specs.Envelope.{payloadOf, envelopeOf, envelopeFields, badPayload, envelopeWritten}
 use Rattle.message.specs.Features.{featuresOf, featuresFields, featuresWritten}
 use Rattle.message.specs.Information.{informationOf, informationFields, informationWritten}
-use Rattle.message.specs.RoundTrip.{Signed32, AllSigned32, innerBytes, responseContents, payloadBytes, CodeSigned32, envelopeContents, informationContents, ResponseRoundTrip, EnvelopeRoundTrip, FeaturesRoundTrip, InformationRoundTrip}
-use Rattle.message.proofs.Written.{given-wrote, first-bytes, or-false, member-above, member-fits}
+use Rattle.message.specs.RoundTrip.{Signed32, AllSigned32, MemberNumber, Gives, NoneRefused, innerBytes, responseContents, responseAgain, InnerNumbered, payloadBytes, CodeSigned32, PayloadNumbered, envelopeContents, envelopeAgain, informationAgain, ResponseRoundTrip, EnvelopeRoundTrip, FeaturesRoundTrip, InformationRoundTrip}
+use Rattle.message.proofs.Written.{reads-back, first-bytes, or-false, member-above, member-fits}
 use Rattle.message.proofs.Trips.{reads-end, reads-scalar, reads-text, reads-packed, reads-member, partAt, part-there, textAt, withTransports, fields-read, text-back}
 
 -- a message of these fields is read up to its end
@@ -59,14 +58,14 @@ features-read f s h₁ h₂ a =
 
 pub features-round-trip : FeaturesRoundTrip
 unfolding FeaturesRoundTrip featuresWritten
-features-round-trip f out h₁ h₂ n e =
-    let w = given-wrote false (featuresFields f) out n e in
-    rw (w .left) (features-read f (messageBytes (featuresFields f)) h₁ h₂ (whole (messageBytes (featuresFields f))))
+features-round-trip f out t =
+    reads-back false (featuresFields f) out featuresOf f refl (omega (arith, t .room))
+    (features-read f (messageBytes (featuresFields f)) (omega (arith, t .first)) (omega (arith, t .second)) (whole (messageBytes (featuresFields f))))
 
 -- ---- device information
 information-read : (serial name : List ℕ) (ts : List ℤ) (kind s : List ℕ) → AllSigned32 ts → length ts ≤ 8 → length s < 2 ^ 64
     → At s 0 (messageBytes (informationFields serial name ts kind)) []
-    → andThen (informationOf s) (λ i. given (informationContents s i)) ≡ given (serial, name, ts, kind)
+    → informationAgain s ≡ given (serial, name, ts, kind)
 unfolding informationOf roleOf
 information-read serial name ts kind s fs h lent a =
     let b₁ = fieldBytes (text serialNumberField serial) in
@@ -100,11 +99,10 @@ information-read serial name ts kind s fs h lent a =
 
 pub information-round-trip : InformationRoundTrip
 unfolding InformationRoundTrip informationWritten
-information-round-trip serial name ts kind out fs lent n e =
+information-round-trip serial name ts kind out t =
     let fields = informationFields serial name ts kind in
-    let w = given-wrote (ltb 8 (length ts)) fields out n e in
-    rw (w .left)
-    (information-read serial name ts kind (messageBytes fields) fs (ltb-false 8 (length ts) (w .fine)) (omega (arith, w .fits)) (whole (messageBytes fields)))
+    reads-back (ltb 8 (length ts)) fields out informationAgain (serial, name, ts, kind) (le-ltb 8 (length ts) (omega (arith, t .most))) (omega (arith, t .room))
+    (information-read serial name ts kind (messageBytes fields) (t .signed) (omega (arith, t .most)) (omega (arith, t .room, t .lent)) (whole (messageBytes fields)))
 
 -- ---- a scalar in field 1, alone or before a member: the envelope and the response
 module _ (schema : Schema) (v : ℕ) (small : v < 2 ^ 64) (first : roleOf schema 1 ≡ Role.Scalar 0) {s : List ℕ} {at : ℕ} where
@@ -114,7 +112,7 @@ module _ (schema : Schema) (v : ℕ) (small : v < 2 ^ 64) (first : roleOf schema
       fields-read schema s at (reads-scalar schema nothing 1 (omega arith) (omega arith) 0 v first small refl (front b [] a) (reads-end (done b a)))
 
   scalar-then : (role : Role) (f : ℕ) (l : List ℕ) → 1 ≤ f → f ≤ lastField → length s < 2 ^ 64 → roleOf schema f ≡ role → judged role 2 0 ≡ given tt
-      → ((p : Part) → keptPart s role f p (withScalar 0 v nothing) ≡ given (withMember f p (withScalar 0 v nothing)))
+      → ((p : Part) → withAdded s (partAdded role f p) (withScalar 0 v nothing) ≡ given (withMember f p (withScalar 0 v nothing)))
       → At s at (messageBytes (scalar 1 v ∷ nested f l ∷ [])) []
       → fieldsFrom schema s at ≡ given (withMember f (partAt (at + length (fieldBytes (scalar 1 v))) f l) (withScalar 0 v nothing))
   scalar-then role f l low high lent e j k a =
@@ -148,12 +146,21 @@ response-read code (Inner.Member f) body s at fz b lent a =
       taken (member-there (extended code) f body a),
     )
 
+-- the numbers of members that are taken
+member-fine : (f : ℕ) → MemberNumber f → badMember f ≡ false
+member-fine f h = rw (le-ltb f 2 (omega arith), le-ltb lastField f (omega arith))
+
+inner-fine : (payload : ResponsePayload) → InnerNumbered payload → badResponsePayload payload ≡ false
+inner-fine Inner.None h = refl
+inner-fine (Inner.Member f) h = member-fine f h
+
 pub response-round-trip : ResponseRoundTrip
 unfolding ResponseRoundTrip responseWritten
-response-round-trip code payload body out fz lent n e =
+response-round-trip code payload body out t =
     let fields = responseFields (extended code) payload body in
-    let w = given-wrote (badResponsePayload payload) fields out n e in
-    rw (w .left) (response-read code payload body (messageBytes fields) 0 fz (w .fine) (omega (arith, w .fits)) (whole (messageBytes fields)))
+    let fine = inner-fine payload (t .numbered) in
+    reads-back (badResponsePayload payload) fields out responseAgain (code, payload, innerBytes payload body) fine (omega (arith, t .room))
+    (response-read code payload body (messageBytes fields) 0 (t .signed) fine (omega (arith, t .room, t .lent)) (whole (messageBytes fields)))
 
 -- ---- the envelope
 -- an envelope with this command
@@ -171,7 +178,7 @@ within-envelope z s (refused n) code payload l e = absurd (let o : _≡_ {A = �
 
 envelope-read : (z : ℤ) (payload : EnvelopePayload) (body s : List ℕ) → Signed32 z → CodeSigned32 payload → badPayload payload ≡ false → length s < 2 ^ 64
     → At s 0 (messageBytes (envelopeFields (extended z) payload body)) []
-    → andThen (envelopeOf s) (λ e. given (envelopeContents s e)) ≡ given (z, (payload, payloadBytes payload body))
+    → envelopeAgain s ≡ given (z, (payload, payloadBytes payload body))
 unfolding envelopeOf payloadOf roleOf judged
 envelope-read z Sent.None body s fz fc b lent a = rw (scalar-alone Schema.Envelope (extended z) (extended-fits z fz) refl a, signed-trip z fz)
 envelope-read z (Sent.Response code payload) body s fz fc b lent a =
@@ -200,9 +207,24 @@ envelope-read z (Sent.Member f) body s fz fc b lent a =
       taken (member-there v f body a),
     )
 
+payload-fine : (payload : EnvelopePayload) → PayloadNumbered payload → badPayload payload ≡ false
+payload-fine Sent.None h = refl
+payload-fine (Sent.Response code payload) h = inner-fine payload h
+payload-fine (Sent.Member f) h = rw (member-fine f (h .0), ne-eqb f responseField (h .1))
+
 pub envelope-round-trip : EnvelopeRoundTrip
 unfolding EnvelopeRoundTrip envelopeWritten
-envelope-round-trip z payload body out fz fc lent n e =
+envelope-round-trip z payload body out t =
     let fields = envelopeFields (extended z) payload body in
-    let w = given-wrote (badPayload payload) fields out n e in
-    rw (w .left) (envelope-read z payload body (messageBytes fields) fz fc (w .fine) (omega (arith, w .fits)) (whole (messageBytes fields)))
+    let fine = payload-fine payload (t .numbered) in
+    reads-back (badPayload payload) fields out envelopeAgain (z, (payload, payloadBytes payload body)) fine (omega (arith, t .room))
+    (envelope-read z payload body (messageBytes fields) (t .signed) (t .code) fine (omega (arith, t .room, t .lent)) (whole (messageBytes fields)))
+
+-- ---- what refuses reads nothing back
+pub none-refused : NoneRefused
+unfolding NoneRefused
+none-refused = (λ n out read a h. h, λ w n a h. by-told n a (w .told) h)
+  where
+    by-told : (n : ℕ) (a : List ℕ) (t : Told ℕ) → Gives t (λ k. _≡_ {A = Told (List ℕ)} (refused n) (given a)) → ⊥
+    by-told n a (given k) h = let z : _≡_ {A = ℕ} 0 1 = cc in omega arith
+    by-told n a (refused k) h = h

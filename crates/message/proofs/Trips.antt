@@ -30,7 +30,7 @@ use Rattle.message.specs.declared.schema.Role.the-variants.{Scalar, Text
 use Rattle.message.specs.declared.gathered.Gathered.{Gathered}
 use Rattle.message.specs.Schema.{roleOf}
 use Rattle.message.specs.Gathered.{nothing, noPart, withScalar, withText, withMember, withTransport}
-use Rattle.message.specs.Walk.{walk, entryAt, packedFrom, judged, keptPart, takenAt, fieldAt, fieldsFrom}
+use Rattle.message.specs.Walk.{walk, entryAt, packedFrom, judged, partAdded, addedAt, readAt, withAdded, fieldAt, fieldsFrom}
 use Rattle.message.specs.RoundTrip.{AllSigned32}
 use Rattle.message.proofs.Walks.{Forward, walk-end, walk-next}
 use Rattle.message.proofs.Steps.{entry-forward, field-forward}
@@ -73,7 +73,7 @@ part-count f l =
 module _ (schema : Schema) {s : List ℕ} {at : ℕ} {rest : List ℕ} (g : Gathered) (f : ℕ) (low : 1 ≤ f) (high : f ≤ lastField) where
   number-step : (i v : ℕ) → roleOf schema f ≡ Scalar i → v < 2 ^ 64 → At s at (tagBytes f 0 ++ varintBytes v) rest
       → fieldAt schema s at g ≡ given (withScalar i v g, at + length (tagBytes f 0 ++ varintBytes v))
-  unfolding fieldAt takenAt judged
+  unfolding fieldAt readAt addedAt judged
   number-step i v e h a =
       let place : at + length (tagBytes f 0) + length (varintBytes v) ≡ at + length (tagBytes f 0 ++ varintBytes v) = omega (arith, length-append (tagBytes f 0) (varintBytes v)) in
       rw (
@@ -84,9 +84,9 @@ module _ (schema : Schema) {s : List ℕ} {at : ℕ} {rest : List ℕ} (g : Gath
       )
 
   pub part-step : (role : Role) (l : List ℕ) (g′ : Gathered) → roleOf schema f ≡ role → judged role 2 (g .field) ≡ given tt
-      → keptPart s role f (partAt at f l) g ≡ given g′ → length l < 2 ^ 64 → At s at (partBytes f l) rest
+      → withAdded s (partAdded role f (partAt at f l)) g ≡ given g′ → length l < 2 ^ 64 → At s at (partBytes f l) rest
       → fieldAt schema s at g ≡ given (g′, at + length (partBytes f l))
-  unfolding fieldAt takenAt partBytes headBytes
+  unfolding fieldAt readAt addedAt partBytes headBytes
   part-step role l g′ e j k h a =
       let t = tagBytes f 2 in
       let n = varintBytes (length l) in
@@ -154,7 +154,7 @@ module _ (schema : Schema) {s : List ℕ} {at : ℕ} {rest : List ℕ} {r : Told
 
 module _ (schema : Schema) {s : List ℕ} (lent : length s < 2 ^ 64) {at : ℕ} {rest : List ℕ} {r : Told Gathered} (g : Gathered) (f : ℕ) (low : 1 ≤ f) (high : f ≤ lastField) where
   reads-part : (role : Role) (l : List ℕ) (g′ : Gathered) → roleOf schema f ≡ role → judged role 2 (g .field) ≡ given tt
-      → keptPart s role f (partAt at f l) g ≡ given g′ → At s at (partBytes f l) rest
+      → withAdded s (partAdded role f (partAt at f l)) g ≡ given g′ → At s at (partBytes f l) rest
       → Reads (fieldAt schema) s (at + length (partBytes f l)) g′ r → Reads (fieldAt schema) s at g r
   reads-part role l g′ e j k a R =
       let h : length l < 2 ^ 64 = omega (arith, inside a, joined-length (headBytes f (length l)) l (part-is f l)) in
@@ -199,7 +199,7 @@ module _ (schema : Schema) {s : List ℕ} (lent : length s < 2 ^ 64) {at : ℕ} 
 
   -- a member, of a role that is one
   pub reads-member : (role : Role) (l : List ℕ) → roleOf schema f ≡ role → judged role 2 (g .field) ≡ given tt
-      → keptPart s role f (partAt at f l) g ≡ given (withMember f (partAt at f l) g) → At s at (fieldBytes (nested f l)) rest
+      → withAdded s (partAdded role f (partAt at f l)) g ≡ given (withMember f (partAt at f l) g) → At s at (fieldBytes (nested f l)) rest
       → Reads (fieldAt schema) s (at + length (fieldBytes (nested f l))) (withMember f (partAt at f l) g) r → Reads (fieldAt schema) s at g r
   unfolding fieldBytes
   reads-member role l e j k a R = reads-part role l (withMember f (partAt at f l) g) e j k a R

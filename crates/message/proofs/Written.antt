@@ -1,16 +1,17 @@
 -- Laws of what the writers tell and leave.
-use Prim.Native.Nat.{ℕ, _+_, _-_, _≤_, _<_}
-use mathlib.Core.Path.{_≡_, refl, ap, _∙_}
+use Prim.Native.Nat.{ℕ, _+_, _-_, _≤_, _<_, zero-le}
+use mathlib.Core.Path.{_≡_, refl, ap, sym, subst, _∙_}
 use mathlib.Core.Bool.{Bool, true, false, _||_}
 use mathlib.Core.List.{List, [], _∷_, _++_, map}
+use native.Mathlib.Nat.{zero-add}
 use native.Mathlib.Omega.{arith}
 use native.Mathlib.Decide.{decLt}
 use lib.IntN.{ℤ}
 use lib.ListN.{length, take, drop}
-use lib.Seq.{sets, sets-eq, take-append-seam}
+use lib.Seq.{sets, sets-eq, length-sets, take-append-seam}
 use lib.Dec.{ltb}
 use borrow.Author.Tests.{lt-ltb, le-ltb, ltb-false}
-use Rattle.wire.specs.Told.{given, refused, written}
+use Rattle.wire.specs.Told.{Told, given, refused, Written, written}
 use Rattle.field.specs.Put.{Put}
 use Rattle.field.specs.Tag.{lastField}
 use Rattle.field.specs.Signed.{extended}
@@ -20,7 +21,10 @@ use Rattle.message.specs.declared.writer.Room.{Room}
 use Rattle.message.specs.declared.writer.Room.the-variants.{Left, Short}
 use Rattle.message.specs.Schema.{serialNumberField, nameField, transportsField, deviceTypeField}
 use Rattle.message.specs.Information.{informationFields}
-use Rattle.message.specs.Writer.{writesMessage, badMember, lessRoom}
+use Rattle.message.specs.declared.writer.Wrote.{Wrote}
+use Rattle.message.specs.declared.writer.Wrote.the-variants.{Done, Refused}
+use Rattle.message.specs.Writer.{writesMessage, badMember, toldWrote, wroteSize, lessRoom}
+use Rattle.message.specs.RoundTrip.{ReadsBack}
 
 -- ---- the rows of the table, and what is written where none holds
 module _ (bad : Bool) (fields : List Field) (out : List ℕ) where
@@ -42,26 +46,33 @@ first-bytes {A} out bytes h =
     let e : sets out 0 bytes ≡ bytes ++ drop (0 + length bytes) out = sets-eq bytes out 0 (omega arith) in
     ap (take (length bytes)) e ∙ take-append-seam bytes (drop (0 + length bytes) out)
 
--- where a writer gives a number, its arguments are in range, its message fits, and the first bytes hold it
-pub record Wrote (bad : Bool) (fields : List Field) (out : List ℕ) (n : ℕ) : Type 0 where
-  pub fine : bad ≡ false
-  pub fits : length (messageBytes fields) ≤ length out
-  pub left : take n (writesMessage bad fields out .out) ≡ messageBytes fields
+-- with arguments in range and room enough, a writer gives what a reader reads in its fields' bytes
+pub reads-back : {A : Type 0} (bad : Bool) (fields : List Field) (out : List ℕ) (read : List ℕ → Told A) (a : A) → bad ≡ false
+    → length (messageBytes fields) ≤ length out → read (messageBytes fields) ≡ given a → ReadsBack (writesMessage bad fields out) read a
+reads-back bad fields out read a b h e =
+    let bytes = messageBytes fields in
+    subst (λ (w : Written ℕ). ReadsBack w read a) (wrote bad fields out {n = length bytes} {l = sets out 0 bytes} b h (record { place = sym (zero-add (length bytes)); stored = refl }))
+    (ap read (first-bytes out bytes h) ∙ e)
 
-pub given-wrote : (bad : Bool) (fields : List Field) (out : List ℕ) (n : ℕ) → writesMessage bad fields out .told ≡ given n → Wrote bad fields out n
-given-wrote true fields out n e = absurd (let z : _≡_ {A = ℕ} 0 1 = cc in omega arith)
-given-wrote false fields out n e = by-room (decLt (length out) (length (messageBytes fields)))
+-- what was written lies within the output
+pub size-within : (w : Wrote) (bad : Bool) (fields : List Field) (out l : List ℕ) → written (toldWrote w) l ≡ writesMessage bad fields out → wroteSize w ≤ length l
+size-within (Refused r) bad fields out l e = zero-le
+size-within (Done n) true fields out l e = absurd (let t : given n ≡ refused 15 = ap (λ (w : Written ℕ). w .told) e in let z : _≡_ {A = ℕ} 0 1 = cc in omega arith)
+size-within (Done n) false fields out l e = by-room (decLt (length out) (length (messageBytes fields)))
   where
-    by-room : Dec (length out < length (messageBytes fields)) → Wrote false fields out n
-    by-room (yes l) =
-        let f : writesMessage false fields out .told ≡ refused 14 = rw (lt-ltb (length out) (length (messageBytes fields)) l) in
+    by-room : Dec (length out < length (messageBytes fields)) → n ≤ length l
+    by-room (yes h) =
+        let t : given n ≡ writesMessage false fields out .told = ap (λ (w : Written ℕ). w .told) e in
+        let f : writesMessage false fields out .told ≡ refused 14 = rw (lt-ltb (length out) (length (messageBytes fields)) h) in
         absurd (let z : _≡_ {A = ℕ} 0 1 = cc in omega arith)
     by-room (no h) =
-        let r : length (messageBytes fields) ≤ length out = omega arith in
-        let t : ltb (length out) (length (messageBytes fields)) ≡ false = le-ltb (length out) (length (messageBytes fields)) r in
-        let f : writesMessage false fields out .told ≡ given (length (messageBytes fields)) = rw t in
+        let t : ltb (length out) (length (messageBytes fields)) ≡ false = le-ltb (length out) (length (messageBytes fields)) (omega arith) in
+        let f : writesMessage false fields out ≡ written (given (length (messageBytes fields))) (sets out 0 (messageBytes fields)) = rw t in
+        let g = e ∙ f in
+        let t₁ : given n ≡ given (length (messageBytes fields)) = ap (λ (w : Written ℕ). w .told) g in
         let m : n ≡ length (messageBytes fields) = cc in
-        record { fine = refl; fits = r; left = rw (t, m) (first-bytes out (messageBytes fields) r) }
+        let k : l ≡ sets out 0 (messageBytes fields) = ap (λ (w : Written ℕ). w .out) g in
+        omega (arith, ap length k, length-sets out 0 (messageBytes fields))
 
 -- ---- members
 pub or-false : (a b : Bool) → (a || b) ≡ false → (a ≡ false) × (b ≡ false)

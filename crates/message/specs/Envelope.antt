@@ -9,6 +9,7 @@ use Rattle.wire.specs.Told.{Told, given, refused, andThen, Written}
 use Rattle.field.specs.Refusal.{numberOf}
 use Rattle.field.specs.Signed.{signedOf, extended}
 use Rattle.field.specs.Writer.{Field, scalar, nested, messageBytes}
+use Rattle.field.specs.declared.value.Part.{Part}
 use Rattle.message.specs.declared.gathered.Gathered.{Gathered}
 use Rattle.message.specs.declared.schema.Schema.the-variants as Schema
 use Rattle.message.specs.declared.envelope.Envelope.{Envelope}
@@ -23,7 +24,7 @@ use Rattle.message.specs.declared.envelope.EnvelopePayload.the-variants 
 use Rattle.message.specs.Schema.{commandField, responseField, first}
 use Rattle.message.specs.Walk.{fieldsFrom}
 use Rattle.message.specs.Writer.{writesMessage, badMember}
-use Rattle.message.specs.Response.{responseFrom, responseFields, badResponsePayload}
+use Rattle.message.specs.Response.{responseFrom, responseParts, responseFields, badResponsePayload}
 
 -- the payload by the member that was gathered: none, the response within its part, or another
 unfoldable pub payloadOf : List ℕ → Gathered → Told Payload
@@ -47,6 +48,15 @@ toldPayload (PayloadRead.Refused e) = refused (numberOf e)
 abbrev pub toldEnvelope : EnvelopeRead → Told Envelope
 toldEnvelope (EnvelopeRead.Read e) = given e
 toldEnvelope (EnvelopeRead.Refused e) = refused (numberOf e)
+
+-- the parts that a payload and an envelope tell
+abbrev pub payloadParts : Payload → List Part
+payloadParts Payload.None = []
+payloadParts (Payload.Response r) = responseParts r
+payloadParts (Payload.Member field p) = p ∷ []
+
+abbrev pub envelopeParts : Envelope → List Part
+envelopeParts e = payloadParts (e .payload)
 
 -- the fields of an envelope, by the varint's value of its command and its payload
 abbrev pub payloadFields : EnvelopePayload → List ℕ → List Field

@@ -1,6 +1,6 @@
 -- What is gathered of a message, field by field.
 use Prim.Native.Nat.{ℕ, _+_}
-use mathlib.Core.List.{[], _∷_}
+use mathlib.Core.List.{List, [], _∷_}
 use lib.ListN.{set, replicate}
 use lib.IntN.{pos}
 use lib.Dec.{leb}
@@ -25,6 +25,10 @@ noPart = record { start = 0; len = 0 }
 abbrev pub nothing : Gathered
 nothing =
     record { scalars = replicate 2 0; texts = replicate 3 noPart; field = 0; part = noPart; transports = replicate mostTransports (pos 0); count = 0 }
+
+-- all parts that were gathered
+abbrev pub partsGathered : Gathered → List Part
+partsGathered g = g .part ∷ g .texts
 
 -- a scalar, a string: the last one counts
 abbrev pub withScalar : ℕ → ℕ → Gathered → Gathered

@@ -7,6 +7,7 @@ use lib.Dec.{ltb}
 use Rattle.wire.specs.Told.{Told, given, refused, andThen, Written}
 use Rattle.field.specs.Signed.{extended}
 use Rattle.field.specs.Writer.{Field, text, packed}
+use Rattle.field.specs.declared.value.Part.{Part}
 use Rattle.message.specs.declared.gathered.Gathered.{Gathered}
 use Rattle.message.specs.declared.schema.Schema.the-variants as Schema
 use Rattle.message.specs.declared.information.DeviceInformation.{DeviceInformation}
@@ -41,6 +42,10 @@ toldInformation r = (judgedAs (r .verdict) (r .information), r .information)
 abbrev pub withInformation : Told DeviceInformation → Told DeviceInformation × DeviceInformation
 withInformation (given i) = (given i, i)
 withInformation (refused n) = (refused n, noInformation)
+
+-- the parts that it tells
+abbrev pub informationParts : DeviceInformation → List Part
+informationParts i = i .«serial_number» ∷ i .name ∷ i .«device_type» ∷ []
 
 -- the fields of device information
 abbrev pub informationFields : List ℕ → List ℕ → List ℤ → List ℕ → List Field

@@ -7,3 +7,4 @@ pub mod Envelope
 pub mod Information
 pub mod Features
 pub mod RoundTrip
+pub mod Premises

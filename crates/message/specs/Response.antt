@@ -8,6 +8,7 @@ use Rattle.wire.specs.Told.{Told, given, refused, andThen, Written}
 use Rattle.field.specs.Refusal.{numberOf}
 use Rattle.field.specs.Signed.{signedOf, extended}
 use Rattle.field.specs.Writer.{Field, scalar, nested}
+use Rattle.field.specs.declared.value.Part.{Part}
 use Rattle.message.specs.declared.gathered.Gathered.{Gathered}
 use Rattle.message.specs.declared.schema.Schema.the-variants as Schema
 use Rattle.message.specs.declared.response.Response.{Response}
@@ -31,6 +32,10 @@ responseFrom s at = andThen (fieldsFrom Schema.Response s at) (λ g. given (resp
 abbrev pub toldResponse : ResponseRead → Told Response
 toldResponse (Read r) = given r
 toldResponse (Refused e) = refused (numberOf e)
+
+-- the part that a response tells
+abbrev pub responseParts : Response → List Part
+responseParts r = r .part ∷ []
 
 -- the fields of a response, by the varint's value of its error code and its optional payload
 abbrev pub responsePayloadFields : ResponsePayload → List ℕ → List Field

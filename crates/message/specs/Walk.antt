@@ -47,52 +47,6 @@ unfoldable pub judged : Role → ℕ → ℕ → Told (Unit {0})
 judged role wire member =
     table (row 33 (not (fitsRole role wire)) ∷ row 34 (isMember role wire && not (eqb member 0)) ∷ []) refused (given tt)
 
--- what a number adds
-abbrev pub keptNumber : Role → ℕ → Gathered → Told Gathered
-keptNumber (Scalar slot) v g = given (withScalar slot v g)
-keptNumber (Text slot) v g = given g
-keptNumber Transports v g = withTransport v g
-keptNumber Nested v g = given g
-keptNumber Member v g = given g
-keptNumber Unknown v g = given g
-
--- what a part of the message adds: a packed list is read within its part
-abbrev pub keptPart : List ℕ → Role → ℕ → Part → Gathered → Told Gathered
-keptPart s (Scalar slot) field p g = given g
-keptPart s (Text slot) field p g = given (withText slot p g)
-keptPart s Transports field p g = packedFrom (take (p .start + p .len) s) (p .start) g
-keptPart s Nested field p g = given (withMember field p g)
-keptPart s Member field p g = given (withMember field p g)
-keptPart s Unknown field p g = given g
-
--- what a value adds
-abbrev pub kept : List ℕ → Role → ℕ → Value → Gathered → Told Gathered
-kept s role field (Number v) g = keptNumber role v g
-kept s role field (Bytes p) g = keptPart s role field p g
-kept s role field Skipped g = given g
-
--- the value of a field whose tag was judged, and what it adds
-unfoldable pub takenAt : List ℕ → ℕ → ℕ → Role → ℕ → Gathered → Told (Gathered × ℕ)
-takenAt s at wire role field g =
-    andThen (valueAt s at wire) (λ v. andThen (kept s role field (v .0) g) (placed (v .1)))
-
--- one field: its tag, its tag by its role, then its value
-unfoldable pub fieldAt : Schema → List ℕ → ℕ → Gathered → Told (Gathered × ℕ)
-fieldAt schema s at g =
-    andThen (tagAt s at) (λ h.
-    andThen (judged (roleOf schema (h .field)) (h .wire) (g .field)) (λ _.
-    takenAt s (h .next) (h .wire) (roleOf schema (h .field)) (h .field) g))
-
--- the fields of a message, from a place to the end
-unfoldable pub fieldsFrom : Schema → List ℕ → ℕ → Told Gathered
-fieldsFrom schema s at = walk (fieldAt schema) (length s) s at nothing
-
--- the answers of read_entry
-abbrev pub toldMoved : Moved → Told (Gathered × ℕ)
-toldMoved m = judgedAs (m .verdict) (m .gathered, m .next)
-
--- ---- the same field in two steps: what it adds, and what was gathered with that
-
 -- what a number, a part of the message and a value add
 abbrev pub numberAdded : Role → ℕ → Added
 numberAdded (Scalar slot) v = Added.Scalar slot v
@@ -115,15 +69,6 @@ valueAdded role field (Number v) = numberAdded role v
 valueAdded role field (Bytes p) = partAdded role field p
 valueAdded role field Skipped = Added.Nothing
 
--- what was gathered with what a field adds
-abbrev pub withAdded : List ℕ → Added → Gathered → Told Gathered
-withAdded s Added.Nothing g = given g
-withAdded s (Added.Scalar slot v) g = given (withScalar slot v g)
-withAdded s (Added.Text slot p) g = given (withText slot p g)
-withAdded s (Added.Member field p) g = given (withMember field p g)
-withAdded s (Added.Transport v) g = withTransport v g
-withAdded s (Added.Packed p) g = packedFrom (take (p .start + p .len) s) (p .start) g
-
 -- what a field whose tag was judged adds, and the place after it
 unfoldable pub addedAt : List ℕ → ℕ → ℕ → Role → ℕ → Told (Added × ℕ)
 addedAt s at wire role field = andThen (valueAt s at wire) (λ v. given (valueAdded role field (v .0), v .1))
@@ -134,6 +79,27 @@ readAt schema s at member =
     andThen (tagAt s at) (λ h.
     andThen (judged (roleOf schema (h .field)) (h .wire) member) (λ _.
     addedAt s (h .next) (h .wire) (roleOf schema (h .field)) (h .field)))
+
+-- what was gathered with what a field adds: a packed list is read within its part
+abbrev pub withAdded : List ℕ → Added → Gathered → Told Gathered
+withAdded s Added.Nothing g = given g
+withAdded s (Added.Scalar slot v) g = given (withScalar slot v g)
+withAdded s (Added.Text slot p) g = given (withText slot p g)
+withAdded s (Added.Member field p) g = given (withMember field p g)
+withAdded s (Added.Transport v) g = withTransport v g
+withAdded s (Added.Packed p) g = packedFrom (take (p .start + p .len) s) (p .start) g
+
+-- one field: what it adds, and what was gathered with that
+unfoldable pub fieldAt : Schema → List ℕ → ℕ → Gathered → Told (Gathered × ℕ)
+fieldAt schema s at g = andThen (readAt schema s at (g .field)) (λ a. andThen (withAdded s (a .0) g) (placed (a .1)))
+
+-- the fields of a message, from a place to the end
+unfoldable pub fieldsFrom : Schema → List ℕ → ℕ → Told Gathered
+fieldsFrom schema s at = walk (fieldAt schema) (length s) s at nothing
+
+-- the answers of read_entry
+abbrev pub toldMoved : Moved → Told (Gathered × ℕ)
+toldMoved m = judgedAs (m .verdict) (m .gathered, m .next)
 
 -- the answers of take_value and read_field
 abbrev pub toldField : FieldRead → Told (Added × ℕ)

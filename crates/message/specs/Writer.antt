@@ -10,8 +10,10 @@ use Rattle.field.specs.Tag.{lastField}
 use Rattle.field.specs.Writer.{Field, messageBytes}
 use Rattle.message.specs.declared.writer.Room.{Room}
 use Rattle.message.specs.declared.writer.Room.the-variants.{Left, Short}
+use Rattle.message.specs.declared.writer.WriteRefusal.{WriteRefusal}
+use Rattle.message.specs.declared.writer.WriteRefusal.the-variants.{BadArgument, NoRoom}
 use Rattle.message.specs.declared.writer.Wrote.{Wrote}
-use Rattle.message.specs.declared.writer.Wrote.the-variants.{Done, OutOfRange, NoRoom}
+use Rattle.message.specs.declared.writer.Wrote.the-variants.{Done, Refused}
 
 -- the message of these fields, from the first byte on: the number of its bytes, and the output afterwards
 abbrev pub writesMessage : Bool → List Field → List ℕ → Written ℕ
@@ -24,10 +26,18 @@ abbrev pub badMember : ℕ → Bool
 badMember field = ltb field 2 || ltb lastField field
 
 -- the answers of the writers
+abbrev pub numberOf : WriteRefusal → ℕ
+numberOf BadArgument = 15
+numberOf NoRoom = 14
+
 abbrev pub toldWrote : Wrote → Told ℕ
 toldWrote (Done n) = given n
-toldWrote OutOfRange = refused 15
-toldWrote NoRoom = refused 14
+toldWrote (Refused e) = refused (numberOf e)
+
+-- the number of bytes that were written
+abbrev pub wroteSize : Wrote → ℕ
+wroteSize (Done n) = n
+wroteSize (Refused e) = 0
 
 -- the room that n bytes leave
 abbrev pub lessRoom : ℕ → Room → Room

@@ -5,8 +5,9 @@ ghost use lib.ListN.{length};
 ghost use mathlib.Core.Bool.{false};
 ghost use Rattle.wire.specs.Told.{written};
 ghost use Rattle.field.specs.Put.{Put};
+ghost use Rattle.field.specs.Value.{TellsWithin};
 ghost use Rattle.field.specs.Writer.{messageBytes};
-ghost use Rattle.message.specs.Envelope.{payloadOf, toldPayload, envelopeOf, toldEnvelope, badPayload, payloadFields, envelopeWritten};
+ghost use Rattle.message.specs.Envelope.{payloadOf, toldPayload, envelopeOf, toldEnvelope, payloadParts, envelopeParts, badPayload, payloadFields, envelopeWritten};
 ghost use Rattle.message.specs.Writer.{toldWrote};
 use crate::gathered::Gathered;
 use crate::gathered::Verdict;
@@ -22,6 +23,7 @@ use crate::schema::FIRST;
 use crate::schema::RESPONSE;
 use crate::schema::Schema;
 use crate::walk::read_fields;
+use crate::writer::WriteRefusal;
 use crate::writer::Wrote;
 use crate::writer::bad_member;
 use field::Refusal;
@@ -73,6 +75,7 @@ pub enum EnvelopePayload {
 fn read_payload(message: &[u8], gathered: Gathered) -> PayloadRead
     requires { ⌜ gathered .part .start + gathered .part .len ≤ length (now message) ⌝ }
     ensures { λ r. ⌜ toldPayload r ≡ payloadOf (now (message .entry)) gathered ⌝ }
+    ensures { λ r. ⌜ TellsWithin (now (message .entry)) payloadParts (toldPayload r) ⌝ }
 {
     let field = gathered.field;
     let part = gathered.part;
@@ -93,6 +96,7 @@ fn read_payload(message: &[u8], gathered: Gathered) -> PayloadRead
 // A control envelope.
 pub fn read_envelope(message: &[u8]) -> EnvelopeRead
     ensures { λ r. ⌜ toldEnvelope r ≡ envelopeOf (now (message .entry)) ⌝ }
+    ensures { λ r. ⌜ TellsWithin (now (message .entry)) envelopeParts (toldEnvelope r) ⌝ }
 {
     let kept = read_fields(Schema::Envelope, message, 0);
     let verdict = kept.verdict;
@@ -166,12 +170,12 @@ pub fn write_envelope(out: &mut [u8], command: i32, payload: EnvelopePayload, bo
     ensures { λ r. ⌜ written (toldWrote r) (now (out .exit)) ≡ envelopeWritten command payload (now (body .entry)) (now (out .entry)) ⌝ }
 {
     if bad_payload(payload) {
-        return Wrote::OutOfRange;
+        return Wrote::Refused(WriteRefusal::BadArgument);
     }
     let value = sign_extended(command);
     let len = scalar_len(COMMAND, value) + payload_len(payload, body);
     if out.len() < len {
-        return Wrote::NoRoom;
+        return Wrote::Refused(WriteRefusal::NoRoom);
     }
     let next = put_scalar(out, 0, COMMAND, value);
     let end = put_payload(out, next, payload, body);

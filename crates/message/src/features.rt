@@ -10,6 +10,7 @@ use crate::schema::FIRST;
 use crate::schema::SECOND;
 use crate::schema::Schema;
 use crate::walk::read_fields;
+use crate::writer::WriteRefusal;
 use crate::writer::Wrote;
 use field::Refusal;
 use field::writer::put_scalar;
@@ -49,7 +50,7 @@ pub fn write_features(out: &mut [u8], features: DeviceFeatures) -> Wrote
     let second = features.device_attributes;
     let len = scalar_len(FEATURES, first) + scalar_len(DEVICE_ATTRIBUTES, second);
     if out.len() < len {
-        return Wrote::NoRoom;
+        return Wrote::Refused(WriteRefusal::NoRoom);
     }
     let next = put_scalar(out, 0, FEATURES, first);
     let end = put_scalar(out, next, DEVICE_ATTRIBUTES, second);

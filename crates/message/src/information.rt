@@ -4,9 +4,10 @@ ghost use Prim.Native.Nat.{_≤_};
 ghost use lib.ListN.{length};
 ghost use Rattle.wire.specs.Told.{written};
 ghost use Rattle.field.specs.Put.{Put};
+ghost use Rattle.field.specs.Value.{Within};
 ghost use Rattle.field.specs.Writer.{messageBytes};
 ghost use Rattle.message.specs.Gathered.{mostTransports};
-ghost use Rattle.message.specs.Information.{informationOf, toldInformation, withInformation, informationFields, informationWritten};
+ghost use Rattle.message.specs.Information.{informationOf, toldInformation, withInformation, informationParts, informationFields, informationWritten};
 ghost use Rattle.message.specs.Writer.{toldWrote, lessRoom};
 use crate::gathered::MOST_TRANSPORTS;
 use crate::gathered::Verdict;
@@ -20,6 +21,7 @@ use crate::schema::THIRD;
 use crate::schema::TRANSPORTS;
 use crate::walk::read_fields;
 use crate::writer::Room;
+use crate::writer::WriteRefusal;
 use crate::writer::Wrote;
 use field::value::Part;
 use field::writer::packed_len;
@@ -45,6 +47,8 @@ pub struct InformationRead {
 // Device information.
 pub fn read_information(message: &[u8]) -> InformationRead
     ensures { λ r. ⌜ toldInformation r ≡ withInformation (informationOf (now (message .entry))) ⌝ }
+    ensures { λ r. ⌜ Within (now (message .entry)) (informationParts (r .information)) ⌝ }
+    ensures { λ r. ⌜ r .information .count ≤ mostTransports ⌝ }
 {
     let kept = read_fields(Schema::Information, message, 0);
     let verdict = kept.verdict;
@@ -128,10 +132,10 @@ pub fn write_information(
     ensures { λ r. ⌜ written (toldWrote r) (now (out .exit)) ≡ informationWritten (now («serial_number» .entry)) (now (name .entry)) (now (transports .entry)) (now («device_type» .entry)) (now (out .entry)) ⌝ }
 {
     if MOST_TRANSPORTS < transports.len() {
-        return Wrote::OutOfRange;
+        return Wrote::Refused(WriteRefusal::BadArgument);
     }
     match information_room(out.len(), serial_number, name, transports, device_type) {
-        Room::Short => Wrote::NoRoom,
+        Room::Short => Wrote::Refused(WriteRefusal::NoRoom),
         Room::Left(_) => {
             let end = put_information(out, serial_number, name, transports, device_type);
             Wrote::Done(end)

@@ -5,14 +5,16 @@ ghost use lib.ListN.{length};
 ghost use mathlib.Core.Bool.{false};
 ghost use Rattle.wire.specs.Told.{written};
 ghost use Rattle.field.specs.Put.{Put};
+ghost use Rattle.field.specs.Value.{TellsWithin};
 ghost use Rattle.field.specs.Writer.{messageBytes};
-ghost use Rattle.message.specs.Response.{responseFrom, toldResponse, badResponsePayload, responsePayloadFields, responseFields, responseWritten};
+ghost use Rattle.message.specs.Response.{responseFrom, toldResponse, responseParts, badResponsePayload, responsePayloadFields, responseFields, responseWritten};
 ghost use Rattle.message.specs.Writer.{toldWrote};
 use crate::gathered::Verdict;
 use crate::schema::ERROR_CODE;
 use crate::schema::FIRST;
 use crate::schema::Schema;
 use crate::walk::read_fields;
+use crate::writer::WriteRefusal;
 use crate::writer::Wrote;
 use crate::writer::bad_member;
 use field::Refusal;
@@ -45,6 +47,7 @@ pub enum ResponsePayload {
 // The response from a place to the end.
 pub(crate) fn response_from(message: &[u8], at: usize) -> ResponseRead
     ensures { λ r. ⌜ toldResponse r ≡ responseFrom (now (message .entry)) at ⌝ }
+    ensures { λ r. ⌜ TellsWithin (now (message .entry)) responseParts (toldResponse r) ⌝ }
 {
     let kept = read_fields(Schema::Response, message, at);
     let verdict = kept.verdict;
@@ -65,6 +68,7 @@ pub(crate) fn response_from(message: &[u8], at: usize) -> ResponseRead
 // A response by itself.
 pub fn read_response(message: &[u8]) -> ResponseRead
     ensures { λ r. ⌜ toldResponse r ≡ responseFrom (now (message .entry)) 0 ⌝ }
+    ensures { λ r. ⌜ TellsWithin (now (message .entry)) responseParts (toldResponse r) ⌝ }
 {
     response_from(message, 0)
 }
@@ -134,12 +138,12 @@ pub fn write_response(
     ensures { λ r. ⌜ written (toldWrote r) (now (out .exit)) ≡ responseWritten «error_code» payload (now (body .entry)) (now (out .entry)) ⌝ }
 {
     if bad_response_payload(payload) {
-        return Wrote::OutOfRange;
+        return Wrote::Refused(WriteRefusal::BadArgument);
     }
     let code = sign_extended(error_code);
     let len = response_len(code, payload, body);
     if out.len() < len {
-        return Wrote::NoRoom;
+        return Wrote::Refused(WriteRefusal::NoRoom);
     }
     let end = put_response(out, 0, code, payload, body);
     Wrote::Done(end)

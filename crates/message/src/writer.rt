@@ -1,18 +1,32 @@
 // What every message writer answers, and the room that it counts.
 ghost use mathlib.Core.Path.{_≡_};
-ghost use Rattle.message.specs.Writer.{badMember, lessRoom};
+ghost use Rattle.message.specs.Writer.{numberOf, badMember, lessRoom};
 use field::tag::LAST_FIELD;
 
 // The smallest number of a member that is written.
 const FIRST_MEMBER: u64 = 2;
 
-pub enum Wrote {
-    // The number of bytes written.
-    Done(usize),
-    // An argument is out of its range.
-    OutOfRange,
-    // The output is smaller than the message.
+// Why no message is written: an argument is out of its range, or the output is smaller than the message.
+pub enum WriteRefusal {
+    BadArgument,
     NoRoom,
+}
+
+impl WriteRefusal {
+    pub fn number(self) -> u8
+        ensures { λ r. ⌜ r ≡ numberOf self ⌝ }
+    {
+        match self {
+            WriteRefusal::BadArgument => 15,
+            WriteRefusal::NoRoom => 14,
+        }
+    }
+}
+
+// The number of bytes written, or why there are none.
+pub enum Wrote {
+    Done(usize),
+    Refused(WriteRefusal),
 }
 
 // Whether a member's number is out of its range.

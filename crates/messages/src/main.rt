@@ -1,7 +1,9 @@
 // Reads a message and writes it again: for comparison with other makers' tools (tools/compare_protoc).
 // Standard input is a letter for the message's kind and the message. Standard output is one byte, 0 or the number of the refusal,
-// and after 0 the message as our writers write it.
-use field::Refusal;
+// and after 0 the message as our writers write it. 1 is for any other letter, 2 for an input that is too long.
+ghost use Prim.Native.Nat.{_+_, _≤_};
+ghost use lib.ListN.{length};
+ghost use Rattle.message.specs.Writer.{wroteSize};
 use field::value::Part;
 use libc::STDIN_FILENO;
 use libc::STDOUT_FILENO;
@@ -13,7 +15,6 @@ use message::envelope::write_envelope;
 use message::features::FeaturesRead;
 use message::features::read_features;
 use message::features::write_features;
-use message::gathered::MOST_TRANSPORTS;
 use message::gathered::Verdict;
 use message::information::read_information;
 use message::information::write_information;
@@ -22,7 +23,6 @@ use message::response::ResponseRead;
 use message::response::read_response;
 use message::response::write_response;
 use message::writer::Wrote;
-use wire::bytes::smaller;
 
 const ENVELOPE: u8 = b'E';
 
@@ -31,38 +31,37 @@ const RESPONSE: u8 = b'R';
 const INFORMATION: u8 = b'I';
 
 const FEATURES: u8 = b'F';
-// The answer for any other letter.
+// The answers for any other letter, and for an input that is too long.
 const NO_KIND: u8 = 1;
 
-// What was written, or the number of the refusal.
-enum Rewritten {
-    Done(usize),
-    Refused(u8),
+const TOO_LONG: u8 = 2;
+// A letter, a message of at most 8,192 bytes, and one byte that is too many.
+const INPUT: usize = 8194;
+
+fn refuse(number: u8) {
+    io::write_all(STDOUT_FILENO, &[number]);
 }
 
-fn refused(e: Refusal) -> Rewritten {
-    Rewritten::Refused(e.number())
-}
-
-fn answer(w: Wrote) -> Rewritten {
-    match w {
-        Wrote::Done(n) => Rewritten::Done(n),
-        Wrote::OutOfRange => Rewritten::Refused(15),
-        Wrote::NoRoom => Rewritten::Refused(14),
+// What was written.
+fn show(wrote: Wrote, out: &[u8])
+    requires { ⌜ wroteSize wrote ≤ length (now out) ⌝ }
+{
+    match wrote {
+        Wrote::Refused(why) => refuse(why.number()),
+        Wrote::Done(n) => {
+            io::write_all(STDOUT_FILENO, &[0u8]);
+            io::write_all(STDOUT_FILENO, &out[..n]);
+        }
     }
 }
 
 // The bytes of a part.
-fn bytes_of(message: &[u8], part: Part) -> &[u8] {
+fn bytes_of(message: &[u8], part: Part) -> &[u8]
+    requires { ⌜ part .start + part .len ≤ length (now message) ⌝ }
+{
     let start = part.start;
-    let len = part.len;
-    if start <= message.len() {
-        if len <= message.len() - start {
-            let end = start + len;
-            return &message[start..end];
-        }
-    }
-    &message[..0]
+    let end = start + part.len;
+    &message[start..end]
 }
 
 fn inner(field: u64) -> ResponsePayload {
@@ -72,79 +71,82 @@ fn inner(field: u64) -> ResponsePayload {
     ResponsePayload::Member(field)
 }
 
-fn envelope_again(message: &[u8], out: &mut [u8]) -> Rewritten {
+fn envelope_again(message: &[u8], out: &mut [u8]) {
     match read_envelope(message) {
-        EnvelopeRead::Refused(e) => refused(e),
+        EnvelopeRead::Refused(e) => refuse(e.number()),
         EnvelopeRead::Read(e) => {
             let command = e.command;
             let payload = e.payload;
             match payload {
-                Payload::None => answer(write_envelope(
-                    out,
-                    command,
-                    EnvelopePayload::None,
-                    message,
-                )),
+                Payload::None => {
+                    let wrote = write_envelope(out, command, EnvelopePayload::None, message);
+                    show(wrote, out);
+                }
                 Payload::Response(r) => {
                     let part = r.part;
                     let carried = EnvelopePayload::Response {
                         error_code: r.error_code,
                         payload: inner(r.field),
                     };
-                    answer(write_envelope(out, command, carried, bytes_of(message, part)))
+                    let wrote = write_envelope(out, command, carried, bytes_of(message, part));
+                    show(wrote, out);
                 }
-                Payload::Member { field, part } => answer(write_envelope(
-                    out,
-                    command,
-                    EnvelopePayload::Member(field),
-                    bytes_of(message, part),
-                )),
+                Payload::Member { field, part } => {
+                    let carried = EnvelopePayload::Member(field);
+                    let wrote = write_envelope(out, command, carried, bytes_of(message, part));
+                    show(wrote, out);
+                }
             }
         }
     }
 }
 
-fn response_again(message: &[u8], out: &mut [u8]) -> Rewritten {
+fn response_again(message: &[u8], out: &mut [u8]) {
     match read_response(message) {
-        ResponseRead::Refused(e) => refused(e),
+        ResponseRead::Refused(e) => refuse(e.number()),
         ResponseRead::Read(r) => {
             let part = r.part;
-            answer(write_response(out, r.error_code, inner(r.field), bytes_of(message, part)))
+            let wrote = write_response(out, r.error_code, inner(r.field), bytes_of(message, part));
+            show(wrote, out);
         }
     }
 }
 
-fn information_again(message: &[u8], out: &mut [u8]) -> Rewritten {
+fn information_again(message: &[u8], out: &mut [u8]) {
     let read = read_information(message);
     let verdict = read.verdict;
     match verdict {
-        Verdict::Refused(e) => refused(e),
+        Verdict::Refused(e) => refuse(e.number()),
         Verdict::Fine => {
             let i = read.information;
             let serial_number = i.serial_number;
             let name = i.name;
             let device_type = i.device_type;
             let transports = i.transports;
-            let count = smaller(i.count, MOST_TRANSPORTS);
-            answer(write_information(
+            let count = i.count;
+            let wrote = write_information(
                 out,
                 bytes_of(message, serial_number),
                 bytes_of(message, name),
                 &transports[..count],
                 bytes_of(message, device_type),
-            ))
+            );
+            show(wrote, out);
         }
     }
 }
 
-fn features_again(message: &[u8], out: &mut [u8]) -> Rewritten {
+fn features_again(message: &[u8], out: &mut [u8]) {
     match read_features(message) {
-        FeaturesRead::Refused(e) => refused(e),
-        FeaturesRead::Read(f) => answer(write_features(out, f)),
+        FeaturesRead::Refused(e) => refuse(e.number()),
+        FeaturesRead::Read(f) => {
+            let wrote = write_features(out, f);
+            show(wrote, out);
+        }
     }
 }
 
-fn again(kind: u8, message: &[u8], out: &mut [u8]) -> Rewritten {
+fn again(kind: u8, message: &[u8], out: &mut [u8]) {
     if kind == ENVELOPE {
         return envelope_again(message, out);
     }
@@ -157,33 +159,18 @@ fn again(kind: u8, message: &[u8], out: &mut [u8]) -> Rewritten {
     if kind == FEATURES {
         return features_again(message, out);
     }
-    Rewritten::Refused(NO_KIND)
-}
-
-fn show(done: Rewritten, out: &[u8]) {
-    match done {
-        Rewritten::Refused(n) => {
-            io::write_all(STDOUT_FILENO, &[n]);
-        }
-        Rewritten::Done(n) => {
-            if n <= out.len() {
-                io::write_all(STDOUT_FILENO, &[0u8]);
-                io::write_all(STDOUT_FILENO, &out[..n]);
-            }
-        }
-    }
+    refuse(NO_KIND)
 }
 
 fn main() {
-    let mut input = [0u8; 8192];
-    let got = libc::read(STDIN_FILENO, &mut input);
-    if got < 1 {
-        return;
+    let mut input = [0u8; 8194];
+    let n = io::read_full(STDIN_FILENO, &mut input);
+    if n == 0 {
+        return refuse(NO_KIND);
     }
-    let n = io::count(got, &input);
+    if n == INPUT {
+        return refuse(TOO_LONG);
+    }
     let mut out = [0u8; 8192];
-    if 0 < n {
-        let done = again(input[0], &input[1..n], &mut out);
-        show(done, &out);
-    }
+    again(input[0], &input[1..n], &mut out);
 }

@@ -9,7 +9,7 @@ use lib.Seq.{sets, sets-eq, take-at, take-append-le, length-take-le}
 use borrow.Author.Tests.{le-ltb}
 use Rattle.outbox.specs.Format.{Format, Lawful}
 use Rattle.outbox.specs.Reader.{Handed, given, end, otherVersion, readAll, firstRefusal, walkOf}
-use Rattle.outbox.specs.Writer.{Stored, storedAt, badRecord, appendOf}
+use Rattle.outbox.specs.Writer.{storedAt, badRecord, appendOf}
 use Rattle.outbox.specs.Claims.{Entry, Takes, after, expected, usable, recordsOf, Resumed}
 use Rattle.outbox.proofs.Place.{version-kept, version-more}
 use Rattle.outbox.proofs.Run.{Run, ends, all-run, run-all, walk-is}
@@ -20,7 +20,7 @@ use Rattle.outbox.proofs.Contents.{entryBytes, contents-run}
 -- a record that the writer takes is not judged wrong
 takes-right : (fmt : Format) (e : Entry) → Takes fmt e → badRecord fmt (e .stream) (length (e .payload)) ≡ false
 unfolding badRecord
-takes-right fmt e t = rw (t .known, le-ltb (fmt .limit) (length (e .payload)) (t .short))
+takes-right fmt e t = rw (t .known, le-ltb (fmt .limit) (length (e .payload)) (omega (arith, t .short)))
 
 -- the bytes up to the end of what was stored
 stored-front : (buffer : List ℕ) (used : ℕ) (l : List ℕ) → used + length l ≤ length buffer → take (used + length l) (sets buffer used l) ≡ take used buffer ++ l
@@ -31,7 +31,7 @@ module _ (fmt : Format) (left : List ℕ) (v : otherVersion fmt left ≡ false) 
   stop : usable (firstRefusal (readAll fmt left)) left ≡ used
   stop = rw walk-is at is
 
-  bounds : (1 ≤ used) × (used ≤ length left)
+  pub bounds : (1 ≤ used) × (used ≤ length left)
   bounds = rw stop at (run-usable fmt left (all-run fmt left v))
 
   version : otherVersion fmt (take used left) ≡ false
@@ -41,7 +41,7 @@ module _ (fmt : Format) (left : List ℕ) (v : otherVersion fmt left ≡ false) 
   long = length-take-le used left (bounds .1)
 
   -- other bytes after what is usable
-  onward : (other : List ℕ) {later : List Handed} → Run fmt (take used left ++ other) used later
+  pub onward : (other : List ℕ) {later : List Handed} → Run fmt (take used left ++ other) used later
       → Run fmt (take used left ++ other) 1 (recordsOf (readAll fmt left) ++ later)
   onward other {later} r =
       let split : Run fmt (take used left ++ drop used left) 1 (readAll fmt left) = rw take-append-drop (all-run fmt left v) in
@@ -55,6 +55,12 @@ module _ (fmt : Format) (left : List ℕ) (v : otherVersion fmt left ≡ false) 
       let run = onward [] (ends used (rw (append-nil, long))) in
       rw (walk-is, run-all fmt (take used left) version (rw append-nil at run)) (records-pass (readAll fmt left) _)
 
+  module _ (e : Entry) (t : Takes fmt e) (room : List ℕ) (h : after fmt used e ≤ length (left ++ room)) where
+    pub append-stored : appendOf fmt (left ++ room) used (e .stream) (e .payload) ≡ storedAt (left ++ room) used (entryBytes fmt e)
+    append-stored =
+        append-judged fmt (e .stream) (e .payload) (left ++ room) used (omega arith) (takes-right fmt e t) (omega arith)
+        ∙ rw (take-append-le used left room (bounds .1), usable-whole)
+
   module _ (lawful : Lawful fmt) (e : Entry) (t : Takes fmt e) where
     -- .. and so it is with a record after it
     grown-read : readAll fmt (take used left ++ entryBytes fmt e) ≡ recordsOf (readAll fmt left) ++ expected fmt used (e ∷ [])
@@ -66,21 +72,16 @@ module _ (fmt : Format) (left : List ℕ) (v : otherVersion fmt left ≡ false) 
     pub grown-whole : walkOf fmt (take used left ++ entryBytes fmt e) ≡ given tt
     grown-whole = rw (walk-is, grown-read) (records-pass (readAll fmt left) (expected fmt used (e ∷ [])))
 
-    module _ (room : List ℕ) (h : after fmt used e ≤ length (left ++ room)) where
-      pub append-stored : appendOf fmt (left ++ room) used (e .stream) (e .payload) ≡ storedAt (left ++ room) used (entryBytes fmt e)
-      append-stored =
-          append-judged fmt (e .stream) (e .payload) (left ++ room) used (omega arith) (takes-right fmt e t) (omega arith)
-          ∙ rw (take-append-le used left room (bounds .1), usable-whole)
+    pub append-resumes : (room : List ℕ) → after fmt used e ≤ length (left ++ room)
+        → Resumed fmt (readAll fmt left) used e (appendOf fmt (left ++ room) used (e .stream) (e .payload))
+    append-resumes room h = record { taken = rw (append-stored e t room h, size); whole = rw grown (grown-whole); read = rw grown (grown-read) }
+      where
+        size : used + length (entryBytes fmt e) ≡ after fmt used e
+        size = rw length-record (omega arith)
 
-      pub append-resumes : Resumed fmt (readAll fmt left) used e (appendOf fmt (left ++ room) used (e .stream) (e .payload))
-      append-resumes = record { taken = rw (append-stored, size); whole = rw grown (grown-whole); read = rw grown (grown-read) }
-        where
-          size : used + length (entryBytes fmt e) ≡ after fmt used e
-          size = rw length-record (omega arith)
-
-          grown : take (after fmt used e) (appendOf fmt (left ++ room) used (e .stream) (e .payload) .buffer) ≡ take used left ++ entryBytes fmt e
-          grown =
-              rw append-stored
-              (ap (λ n. take n (sets (left ++ room) used (entryBytes fmt e))) (sym size)
-              ∙ stored-front (left ++ room) used (entryBytes fmt e) (rw size h)
-              ∙ ap (λ l. l ++ entryBytes fmt e) (take-append-le used left room (bounds .1)))
+        grown : take (after fmt used e) (appendOf fmt (left ++ room) used (e .stream) (e .payload) .buffer) ≡ take used left ++ entryBytes fmt e
+        grown =
+            rw (append-stored e t room h)
+            (ap (λ n. take n (sets (left ++ room) used (entryBytes fmt e))) (sym size)
+            ∙ stored-front (left ++ room) used (entryBytes fmt e) (rw size h)
+            ∙ ap (λ l. l ++ entryBytes fmt e) (take-append-le used left room (bounds .1)))

@@ -1,5 +1,6 @@
 -- Claim (c): appending after a cut.
 use mathlib.Core.Path.{refl}
+use native.Mathlib.Omega.{arith}
 use lib.ListN.{take}
 use Rattle.outbox.specs.Reader.{walkOf}
 use Rattle.outbox.specs.Claims.{usable, AppendsAfterCut}
@@ -11,4 +12,4 @@ pub appends-after-cut : AppendsAfterCut
 unfolding AppendsAfterCut
 appends-after-cut fmt lawful file kept some whole room e takes fits =
     let left = take kept file in
-    append-resumes fmt left (version-kept fmt file kept some (whole-version fmt file whole)) (usable (walkOf fmt left) left) refl lawful e takes room fits
+    append-resumes fmt left (version-kept fmt file kept (omega arith) (whole-version fmt file whole)) (usable (walkOf fmt left) left) refl lawful e takes room fits

@@ -60,28 +60,32 @@ module _ (fmt : Format) (e : Entry) where
         known = rw stream-written (t .known);
       }
 
+  -- .. whatever stands before and after it, and so is its payload
+  module _ (file more : List ℕ) where
+    pub entry-read : Lawful fmt → Takes fmt e
+        → recordAt fmt (length file) (drop (length file) (file ++ (entryBytes fmt e ++ more)))
+        ≡ given (found (foundAt fmt (length file) (e .stream) (length (e .payload))))
+    entry-read lawful t =
+        rw (drop-append-seam file (entryBytes fmt e ++ more))
+        (record-more fmt (entryBytes fmt e) more (length file) _ (record-written lawful t (length file)))
+
+    pub entry-payload : e .payload ≡ take (length (e .payload)) (drop (length file + headSize fmt) (file ++ (entryBytes fmt e ++ more)))
+    entry-payload =
+        sym
+        (rw (
+          drop-append-add file (entryBytes fmt e ++ more) (headSize fmt),
+          drop-append-le (headSize fmt) (entryBytes fmt e) more (rw length-record (omega arith)),
+          payload-written,
+        )
+        (take-at (e .payload) more (length (e .payload)) refl))
+
 -- records that were written are read, one after another, to the end
 pub contents-run : (fmt : Format) → Lawful fmt → (es : List Entry) → AllTaken fmt es → (file : List ℕ)
     → Run fmt (file ++ contents fmt es) (length file) (expected fmt (length file) es)
 contents-run fmt lawful [] all file = ends (length file) (rw append-nil)
 contents-run fmt lawful (e ∷ es) all file =
-    goes (length file) (omega (arith, long)) stands payload (rw (append-assoc, entry-ends fmt e file) at (contents-run fmt lawful es (all .1) (file ++ entryBytes fmt e)))
+    goes (length file) (omega (arith, long)) (entry-read fmt e file (contents fmt es) lawful (all .0)) (entry-payload fmt e file (contents fmt es))
+    (rw (append-assoc, entry-ends fmt e file) at (contents-run fmt lawful es (all .1) (file ++ entryBytes fmt e)))
   where
     long : length (file ++ (entryBytes fmt e ++ contents fmt es)) ≡ length file + (headSize fmt + length (e .payload) + length (contents fmt es))
     long = simp (length-append, length-record)
-
-    stands : recordAt fmt (length file) (drop (length file) (file ++ (entryBytes fmt e ++ contents fmt es)))
-        ≡ given (found (foundAt fmt (length file) (e .stream) (length (e .payload))))
-    stands =
-        rw (drop-append-seam file (entryBytes fmt e ++ contents fmt es))
-        (record-more fmt (entryBytes fmt e) (contents fmt es) (length file) _ (record-written fmt e lawful (all .0) (length file)))
-
-    payload : e .payload ≡ take (length (e .payload)) (drop (length file + headSize fmt) (file ++ (entryBytes fmt e ++ contents fmt es)))
-    payload =
-        sym
-        (rw (
-          drop-append-add file (entryBytes fmt e ++ contents fmt es) (headSize fmt),
-          drop-append-le (headSize fmt) (entryBytes fmt e) (contents fmt es) (rw length-record (omega arith)),
-          payload-written fmt e,
-        )
-        (take-at (e .payload) (contents fmt es) (length (e .payload)) refl))

@@ -16,7 +16,7 @@ use Rattle.outbox.proofs.Place.{found-within}
 use Rattle.outbox.proofs.Run.{Run, ends, stops, goes}
 
 -- a part of the first bytes
-part-same : (first more : List ℕ) (start size : ℕ) → start + size ≤ length first → take size (drop start (first ++ more)) ≡ take size (drop start first)
+pub part-same : (first more : List ℕ) (start size : ℕ) → start + size ≤ length first → take size (drop start (first ++ more)) ≡ take size (drop start first)
 part-same first more start size h =
     rw (drop-append-le start first more (omega arith)) (take-append-le size (drop start first) more (simp length-drop (omega arith)))
 

@@ -5,11 +5,13 @@ use mathlib.Core.List.{List, [], _∷_, _++_}
 use native.Mathlib.Omega.{arith}
 use lib.ListN.{length, take, drop, length-append, length-take, take-append-drop}
 use Rattle.outbox.specs.Format.{Format}
-use Rattle.outbox.specs.Reader.{given, refusedAt, handed, otherVersion, readOf, readings, readAll, walkOf}
-use Rattle.outbox.specs.Claims.{cutFrom, CutsAreFound}
+use Rattle.outbox.specs.Reader.{given, refusedAt, handed, otherVersion, readOf, readings, readAll, firstRefusal, walkOf}
+use Rattle.outbox.specs.Writer.{newOf}
+use Rattle.outbox.specs.Claims.{Entry, after, expected, afterAll, appendAll, RecordsReturn, cutFrom, cutAt, CutsAreFound}
 use Rattle.outbox.proofs.Place.{version-kept}
 use Rattle.outbox.proofs.Run.{Run, all-run, run-all, walk-is, whole-version}
 use Rattle.outbox.proofs.Cut.{cut-run}
+use Rattle.outbox.proofs.RecordsReturn.{records-return}
 
 nothing-kept : (fmt : Format) (file : List ℕ) → readAll fmt (take 0 file) ≡ handed (refusedAt 40 0) [] ∷ []
 unfolding readAll readings readOf otherVersion
@@ -30,7 +32,22 @@ some-kept fmt file k whole =
     (cut-run fmt (take (suc k) file) (drop (suc k) file) (suc k) (kept-length (suc k) file)
     run (sym (walk-is fmt file) ∙ whole) (omega arith))
 
+whole-cut : (fmt : Format) (file : List ℕ) (kept : ℕ) → walkOf fmt file ≡ given tt → readAll fmt (take kept file) ≡ cutAt kept (readAll fmt file)
+whole-cut fmt file zero whole = nothing-kept fmt file
+whole-cut fmt file (suc k) whole = some-kept fmt file k whole
+
+-- records that are owed are no refusals
+pub expected-passes : (fmt : Format) (place : ℕ) (es : List Entry) → firstRefusal (expected fmt place es) ≡ given tt
+expected-passes fmt place [] = refl
+expected-passes fmt place (e ∷ es) = expected-passes fmt (after fmt place e) es
+
 pub cuts-are-found : CutsAreFound
-unfolding CutsAreFound
-cuts-are-found fmt file zero whole = nothing-kept fmt file
-cuts-are-found fmt file (suc k) whole = some-kept fmt file k whole
+unfolding RecordsReturn
+cuts-are-found =
+    record {
+      whole = whole-cut;
+      appended = λ fmt lawful buffer es taken fits kept.
+          let back = records-return fmt lawful buffer es taken (omega arith) in
+          let file = take (afterAll fmt 1 es) (appendAll fmt (newOf fmt buffer) es .buffer) in
+          whole-cut fmt file kept (walk-is fmt file ∙ ap firstRefusal (back .read) ∙ expected-passes fmt 1 es) ∙ ap (cutAt kept) (back .read);
+    }

@@ -5,8 +5,13 @@ pub mod Walk
 pub mod Stored
 pub mod Run
 pub mod Cut
-pub mod CutsAreFound
 pub mod Contents
 pub mod Append
 pub mod RecordsReturn
+pub mod CutsAreFound
 pub mod AppendsAfterCut
+pub mod AppendsAsAlone
+pub mod Moved
+pub mod ReadsAsAlone
+pub mod VersionOne
+pub mod Instances

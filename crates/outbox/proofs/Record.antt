@@ -143,6 +143,10 @@ found-ends fmt place rest f e =
 pub found-spans : (fmt : Format) (place : ℕ) (rest : List ℕ) (f : Found) → recordAt fmt place rest ≡ given (found f) → f .start + f .size ≡ f .next
 found-spans fmt place rest f e = rw (found-stands fmt place rest f e .1)
 
+-- .. which starts after its place
+pub found-starts : (fmt : Format) (place : ℕ) (rest : List ℕ) (f : Found) → recordAt fmt place rest ≡ given (found f) → place < f .start
+found-starts fmt place rest f e = rw (found-stands fmt place rest f e .1) (omega arith)
+
 -- a record's place is never the end
 pub never-end : (fmt : Format) (place : ℕ) (rest : List ℕ) → recordAt fmt place rest ≡ given end → ⊥
 never-end fmt place rest e = by-view (recordAt fmt place rest) (view fmt rest place) e

@@ -23,15 +23,15 @@ after-all fmt place [] = omega arith
 after-all fmt place (e ∷ es) = after-all fmt (after fmt place e) es ∙ rw (length-append, length-record) (omega arith)
 
 -- a buffer that a file's bytes begin, and room behind them
-abbrev filled : List ℕ → List ℕ → Stored
+abbrev pub filled : List ℕ → List ℕ → Stored
 filled file room = stored (given (length file)) (file ++ room)
 
 -- one append to a whole file
-append-one : (fmt : Format) → Lawful fmt → (file room : List ℕ) (e : Entry) → Takes fmt e → otherVersion fmt file ≡ false → walkOf fmt file ≡ given tt
+pub append-one : (fmt : Format) (file room : List ℕ) (e : Entry) → Takes fmt e → otherVersion fmt file ≡ false → walkOf fmt file ≡ given tt
     → after fmt (length file) e ≤ length (file ++ room)
     → appendOf fmt (file ++ room) (length file) (e .stream) (e .payload) ≡ filled (file ++ entryBytes fmt e) (drop (length (entryBytes fmt e)) room)
-append-one fmt lawful file room e takes v whole fits =
-    append-stored fmt file v (length file) (ap (λ w. usable w file) whole) lawful e takes room fits
+append-one fmt file room e takes v whole fits =
+    append-stored fmt file v (length file) (ap (λ w. usable w file) whole) e takes room fits
     ∙ rw (
       sets-eq (entryBytes fmt e) (file ++ room) (length file) (rw length-record (omega arith)),
       take-append-seam file room,
@@ -53,7 +53,7 @@ append-all fmt lawful (e ∷ es) taken file room v whole fits =
     = rw take-length at (grown-whole fmt file v (length file) (ap (λ w. usable w file) whole) lawful e (taken .0)) in
     let left : length ((file ++ entryBytes fmt e) ++ drop (length (entryBytes fmt e)) room) ≡ length file + length room
     = rw (length-append, next, length-drop) (omega (arith, size)) in
-    rw (append-one fmt lawful file room e (taken .0) v whole (omega arith))
+    rw (append-one fmt file room e (taken .0) v whole (omega arith))
     (append-all
     fmt
     lawful
@@ -67,14 +67,14 @@ append-all fmt lawful (e ∷ es) taken file room v whole fits =
     ∙ rw (append-assoc file (entryBytes fmt e) (contents fmt es), drop-drop, length-append (entryBytes fmt e) (contents fmt es)))
 
 module _ (fmt : Format) where
-  new-version : otherVersion fmt (newBytes fmt) ≡ false
+  pub new-version : otherVersion fmt (newBytes fmt) ≡ false
   unfolding otherVersion
   new-version = rw (eq-eqb (fmt .version) (fmt .version) refl)
 
-  new-whole : walkOf fmt (newBytes fmt) ≡ given tt
+  pub new-whole : walkOf fmt (newBytes fmt) ≡ given tt
   new-whole = rw (walk-is, run-all fmt (newBytes fmt) new-version (ends 1 refl))
 
-  new-filled : (b : ℕ) (room : List ℕ) → newOf fmt (b ∷ room) ≡ filled (newBytes fmt) room
+  pub new-filled : (b : ℕ) (room : List ℕ) → newOf fmt (b ∷ room) ≡ filled (newBytes fmt) room
   unfolding newOf
   new-filled b room = rw (le-ltb (length (b ∷ room)) 1 (omega arith))
 
@@ -95,4 +95,4 @@ returned fmt lawful b room es taken fits =
 pub records-return : RecordsReturn
 unfolding RecordsReturn
 records-return fmt lawful [] es taken fits = absurd (omega (arith, after-all fmt 1 es))
-records-return fmt lawful (b ∷ room) es taken fits = returned fmt lawful b room es taken fits
+records-return fmt lawful (b ∷ room) es taken fits = returned fmt lawful b room es taken (omega arith)

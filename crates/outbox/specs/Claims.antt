@@ -1,13 +1,13 @@
 -- Demand 2 for the outbox: what is appended is read back, also after a cut at any byte.
-use Prim.Native.Nat.{ℕ, zero, suc, _+_, _≤_}
+use Prim.Native.Nat.{ℕ, zero, suc, _+_, _-_, _≤_}
 use mathlib.Core.Path.{_≡_}
-use mathlib.Core.Bool.{true, cond}
+use mathlib.Core.Bool.{true, false, cond}
 use mathlib.Core.List.{List, [], _∷_, _++_}
 use lib.Dec.{eqb, leb}
-use lib.ListN.{length, take}
+use lib.ListN.{length, take, drop}
 use Rattle.wire.specs.Stream.{isStream}
-use Rattle.outbox.specs.Format.{Format, Lawful, headSize, firstPlace}
-use Rattle.outbox.specs.Reader.{Answer, given, refused, refusedAt, Item, found, end, foundAt, Handed, handed, readAll, walkOf}
+use Rattle.outbox.specs.Format.{Format, Lawful, headSize, recordBytes, newBytes, firstPlace}
+use Rattle.outbox.specs.Reader.{Answer, given, refused, refusedAt, Item, Found, found, end, foundAt, otherVersion, Handed, handed, payloadIn, readOf, readAll, walkOf}
 use Rattle.outbox.specs.Writer.{Stored, stored, newOf, appendOf}
 
 -- a record as its sender has it
@@ -88,10 +88,13 @@ abbrev pub cutAt : ℕ → List Handed → List Handed
 cutAt zero hs = handed (refusedAt 40 0) [] ∷ []
 cutAt (suc k) hs = cutFrom (suc k) firstPlace hs
 
--- cut at any byte, a whole outbox still gives every record that lies whole in what is kept, and then the end, or 41 at the record that was cut
-unfoldable pub CutsAreFound : Type 0
-CutsAreFound =
-    (fmt : Format) (file : List ℕ) (kept : ℕ) → walkOf fmt file ≡ given tt → readAll fmt (take kept file) ≡ cutAt kept (readAll fmt file)
+-- cut at any byte, a whole outbox still gives every record that lies whole in what is kept, and then the end, or 41 at the record that was
+-- cut; and so does one that was made by appends
+pub record CutsAreFound : Type 0 where
+  pub whole : (fmt : Format) (file : List ℕ) (kept : ℕ) → walkOf fmt file ≡ given tt → readAll fmt (take kept file) ≡ cutAt kept (readAll fmt file)
+  pub appended : (fmt : Format) → Lawful fmt → (buffer : List ℕ) (es : List Entry) → AllTaken fmt es → afterAll fmt firstPlace es ≤ length buffer
+      → (kept : ℕ)
+      → readAll fmt (take kept (take (afterAll fmt firstPlace es) (appendAll fmt (newOf fmt buffer) es .buffer))) ≡ cutAt kept (expected fmt firstPlace es)
 
 -- ---- (c) appending after a cut
 
@@ -128,3 +131,61 @@ AppendsAfterCut =
     let used = usable (walkOf fmt left) left in
     after fmt used e ≤ length (left ++ room)
     → Resumed fmt (readAll fmt left) used e (appendOf fmt (left ++ room) used (e .stream) (e .payload))
+
+-- ---- (d) a record in an outbox of its own
+
+-- a record appended to a file and to a new outbox: both take it, and behind the file stands what stands behind the version byte
+pub record SameBytes (fmt : Format) (file : List ℕ) (e : Entry) (here alone : Stored) : Type 0 where
+  pub taken : here .told ≡ given (after fmt (length file) e)
+  pub taken-alone : alone .told ≡ given (after fmt firstPlace e)
+  pub same : take (after fmt (length file) e) (here .buffer) ≡ file ++ drop firstPlace (take (after fmt firstPlace e) (alone .buffer))
+
+-- what is appended to a whole outbox is what is appended to a new one
+unfoldable pub AppendsAsAlone : Type 0
+AppendsAsAlone =
+    (fmt : Format) (file room : List ℕ) → walkOf fmt file ≡ given tt → (own : List ℕ) (e : Entry) → Takes fmt e
+    → after fmt (length file) e ≤ length (file ++ room) → after fmt firstPlace e ≤ length own
+    → SameBytes fmt file e (appendOf fmt (file ++ room) (length file) (e .stream) (e .payload)) (appendAll fmt (newOf fmt own) (e ∷ []))
+
+-- ---- (e) the bytes from a place on in an outbox of their own
+
+-- places told, so many bytes further on
+abbrev pub movedFound : ℕ → Found → Found
+movedFound d f = record { stream = f .stream; start = f .start + d; size = f .size; next = f .next + d }
+
+abbrev pub movedAnswer : ℕ → Answer Item → Answer Item
+movedAnswer d (given (found f)) = given (found (movedFound d f))
+movedAnswer d (given end) = given end
+movedAnswer d (refused n) = refused n
+movedAnswer d (refusedAt n place) = refusedAt n (place + d)
+
+abbrev pub moved : ℕ → Handed → Handed
+moved d h = handed (movedAnswer d (h .answer)) (h .payload)
+
+abbrev pub allMoved : ℕ → List Handed → List Handed
+allMoved d [] = []
+allMoved d (h ∷ hs) = moved d h ∷ allMoved d hs
+
+-- one reading: its answer, and the bytes that it points to
+unfoldable pub readAt : Format → List ℕ → ℕ → Handed
+readAt fmt file place = handed (readOf fmt file place) (payloadIn file (readOf fmt file place))
+
+-- the version byte, and after it the bytes from a place on
+abbrev pub fromPlace : Format → List ℕ → ℕ → List ℕ
+fromPlace fmt file place = newBytes fmt ++ drop place file
+
+-- what is read at a place is read in an outbox of its own: the longest record's bytes are enough for it; where a record stands it is that one;
+-- and where the first bytes of the file, any number of them, are whole up to the place, the records in them and then all that
+-- the outbox of its own gives are all that the file gives
+pub record ReadAlone (fmt : Format) (file : List ℕ) (place : ℕ) : Type 0 where
+  pub one : (n : ℕ) → headSize fmt + fmt .limit ≤ n
+      → readAt fmt file place ≡ moved (place - firstPlace) (readAt fmt (newBytes fmt ++ take n (drop place file)) firstPlace)
+  pub stands : Lawful fmt → (e : Entry) → Takes fmt e → (more : List ℕ) → drop place file ≡ recordBytes fmt (e .stream) (e .payload) ++ more
+      → readAt fmt (fromPlace fmt file place) firstPlace ≡ handed (given (found (foundAt fmt firstPlace (e .stream) (length (e .payload))))) (e .payload)
+  pub rest : (n : ℕ) → 1 ≤ n → usable (walkOf fmt (take n file)) (take n file) ≡ place
+      → readAll fmt file ≡ recordsOf (readAll fmt (take n file)) ++ allMoved (place - firstPlace) (readAll fmt (fromPlace fmt file place))
+
+unfoldable pub ReadsAsAlone : Type 0
+ReadsAsAlone =
+    (fmt : Format) (file : List ℕ) → otherVersion fmt file ≡ false → (place : ℕ) → firstPlace ≤ place → place ≤ length file
+    → ReadAlone fmt file place

@@ -1,6 +1,7 @@
 // What is appended is read back, also after a cut at any byte. Each claim holds for every format whose lengths fit their field.
 ghost use Rattle.outbox.specs.Format.{versionOne, Lawful};
-ghost use Rattle.outbox.specs.Claims.{RecordsReturn, CutsAreFound, AppendsAfterCut};
+ghost use Rattle.outbox.specs.VersionOne.{HoldInVersionOne};
+ghost use Rattle.outbox.specs.Claims.{RecordsReturn, CutsAreFound, AppendsAfterCut, AppendsAsAlone, ReadsAsAlone};
 
 // The lengths of version 01 fit their field.
 pub fn version_one_is_lawful()
@@ -21,4 +22,20 @@ pub fn cuts_are_found()
 // After a cut, an append after the last whole record gives a whole outbox again, with those records and the new one.
 pub fn appends_after_cut()
     ensures { λ _. ⌜ AppendsAfterCut ⌝ }
+{}
+
+// What is appended to a whole outbox is, byte for byte, what is appended to a new outbox of its own.
+pub fn appends_as_alone()
+    ensures { λ _. ⌜ AppendsAsAlone ⌝ }
+{}
+
+// The version byte with the bytes from a place on reads as the outbox does from that place on; the bytes of the longest
+// record are enough for one reading.
+pub fn reads_as_alone()
+    ensures { λ _. ⌜ ReadsAsAlone ⌝ }
+{}
+
+// Each claim for version 01, with its premises in document 01's words.
+pub fn hold_in_version_one()
+    ensures { λ _. ⌜ HoldInVersionOne ⌝ }
 {}

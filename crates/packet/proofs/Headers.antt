@@ -1,13 +1,14 @@
 -- Laws of the header's bytes.
-use Prim.Native.Nat.{ℕ, _/_, _%_, _<_}
+use Prim.Native.Nat.{ℕ, _/_, _%_, _≤_, _<_}
 use native.Mathlib.Omega.{arith}
 use mathlib.Core.Path.{_≡_, refl}
+use mathlib.Core.Logic.{_⊎_}
 use mathlib.Core.Bool.{Bool, true, false}
 use lib.Dec.{ltb, eqb}
-use borrow.Author.Tests.{ltb-true}
+use borrow.Author.Tests.{lt-ltb, ltb-true}
 use Rattle.wire.specs.Stream.{isStream}
 use Rattle.wire.proofs.Tests.{and-left, and-right}
-use Rattle.wire.proofs.Streams.{stream-low}
+use Rattle.wire.proofs.Streams.{known-stream, stream-low}
 use Rattle.packet.specs.Header.{inRange, bit, firstByte, secondByte, streamBits, idBits, sequenceBits, typeBits, ackBit, extenderBit}
 
 -- numbers in their ranges fit their bits
@@ -19,6 +20,11 @@ in-range-low stream id sequence e =
       ltb-true id 16 (and-left (ltb id 16) _ low),
       ltb-true sequence 16 (and-right (ltb id 16) _ low),
     )
+
+-- document 01's ranges are in range
+pub in-range : (stream id sequence : ℕ) → (stream ≡ 0) ⊎ (stream ≡ 2) ⊎ (stream ≡ 6) → id ≤ 15 → sequence ≤ 15 → inRange stream id sequence ≡ true
+unfolding inRange
+in-range stream id sequence s i q = rw (known-stream stream s, lt-ltb id 16 (omega arith), lt-ltb sequence 16 (omega arith))
 
 -- ---- byte 0, read back
 

@@ -6,7 +6,7 @@ ghost use lib.ListN.{length};
 ghost use lib.Seq.{sets};
 ghost use Rattle.wire.specs.Told.{written};
 ghost use Rattle.packet.specs.Acknowledgement.{ackCode, ackBytes, ackOf, numberOf, told};
-ghost use Rattle.packet.specs.AcknowledgementsReturn.{AcknowledgementsReturn};
+ghost use Rattle.packet.specs.AcknowledgementsReturn.{TakesEveryAck, AcknowledgementsReturn};
 
 pub const ACK_SIZE: usize = 6;
 
@@ -76,7 +76,7 @@ pub fn write(stream: u8, id: u8, sequence: u8, positive: bool, out: &mut [u8]) -
     Answer::Written(ACK_SIZE)
 }
 
-// The claim: each ACK and NACK is read as it was written.
+// The claim: each ACK and NACK of document 01's ranges is read as it was written.
 pub fn acknowledgements_return()
-    ensures { λ _. ⌜ AcknowledgementsReturn ⌝ }
+    ensures { λ _. ⌜ TakesEveryAck × AcknowledgementsReturn ⌝ }
 {}

@@ -3,6 +3,6 @@ fn main() {
     let mut room = listing::room();
     let n = io::read_full(libc::STDIN_FILENO, &mut room);
     for kept in 0..=n {
-        listing::list(&room[..kept]);
+        listing::list_part(&room[..kept], 0, true);
     }
 }

@@ -37,12 +37,20 @@ cond-later n false f g = refl
 
 module _ (limit : ℕ) where
   -- the number used from n on is n more than the number used from 0 on
-  feed-later : (bytes : List ℕ) (n : ℕ) (s : Extractor) (l : List ℕ) → feedFrom limit n s l bytes ≡ later n (feedFrom limit 0 s l bytes)
+  pub feed-later : (bytes : List ℕ) (n : ℕ) (s : Extractor) (l : List ℕ) → feedFrom limit n s l bytes ≡ later n (feedFrom limit 0 s l bytes)
   unfolding feedFrom
   feed-later [] n s l = rw add-zero
   feed-later (b ∷ bs) n s l =
       let r = advanceOf limit s l b in
       rw (feed-later bs (n + 1) (r .next) (r .buffer), feed-later bs 1 (r .next) (r .buffer), add-assoc) (cond-later n (decides (r .report)) _ _)
+
+  -- a call leaves a lawful state and a buffer of the right size
+  pub call-keeps : (c : Call) (s : Extractor) (l bytes : List ℕ) → ready limit s (length l) ≡ true
+      → (let f = callOf limit c s l bytes in ready limit (f .next) (length (f .buffer)) ≡ true)
+  unfolding callOf
+  call-keeps one s l [] h = h
+  call-keeps one s l (b ∷ bs) h = rw (step-ready limit s l b h) (advance-ready limit s l b h)
+  call-keeps (many k) s l bytes h = rw (feed-ready limit s l (take k bytes) h) (feed-keeps limit (take k bytes) 0 s l h)
 
   module _ (from : ℕ) where
     -- what a call hands out that finds n bytes used, and then the bytes that it left
@@ -83,13 +91,6 @@ module _ (limit : ℕ) where
     call-cut one n s l [] h = feed-none n s l []
     call-cut one n s l (b ∷ bs) h = rw (step-ready limit s l b h)
     call-cut (many k) n s l bytes h = rw (feed-ready limit s l (take k bytes) h) (feed-cut k bytes n s l)
-
-    call-keeps : (c : Call) (s : Extractor) (l bytes : List ℕ) → ready limit s (length l) ≡ true
-        → (let f = callOf limit c s l bytes in ready limit (f .next) (length (f .buffer)) ≡ true)
-    unfolding callOf
-    call-keeps one s l [] h = h
-    call-keeps one s l (b ∷ bs) h = rw (step-ready limit s l b h) (advance-ready limit s l b h)
-    call-keeps (many k) s l bytes h = rw (feed-ready limit s l (take k bytes) h) (feed-keeps limit (take k bytes) 0 s l h)
 
     -- calls that use all bytes
     pub calls-cut : (cs : List Call) (n : ℕ) (s : Extractor) (l bytes : List ℕ) → ready limit s (length l) ≡ true

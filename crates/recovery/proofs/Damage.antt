@@ -105,7 +105,7 @@ module _ (limit : ℕ) where
         → Hit h (x ∷ xs) l (framesOf limit (body q h) l (set (us ++ spelled xs) j v ++ rest))
     unfolding advanceOf kindOf framesOf
     unit-hit {x} xs l h zero v (itself e) r t next =
-        hit-first h x v xs l r (t .byte) (t .other)
+        hit-first h x v xs l r (omega arith) (t .other)
         (takes-frames limit (store-plain limit q h l (omega arith) v (turned-plain t)) (spelled xs ++ rest))
     unit-hit {x} xs l h (suc j) v (itself e) r t next =
         hit-more h x xs l (takes-frames limit (store-plain limit q h l (omega arith) x e) (set (spelled xs) j v ++ rest)) (next j (turned-tail t))

@@ -6,3 +6,5 @@ pub mod Takes
 pub mod Checksum
 pub mod Damage
 pub mod Recovery
+pub mod Premises
+pub mod Example

@@ -23,7 +23,7 @@ use Rattle.frame.specs.Extractor.{sequenceRead, lawfulAfter, lawful, ready, Ste
 -- ---- tests
 
 -- what holds of both cases holds of the one that a test picks
-of-cond : {A : Type 0} (P : A → Type 0) (t : Bool) {x y : A} → P x → P y → P (cond t x y)
+pub of-cond : {A : Type 0} (P : A → Type 0) (t : Bool) {x y : A} → P x → P y → P (cond t x y)
 of-cond P true p q = p
 of-cond P false p q = q
 

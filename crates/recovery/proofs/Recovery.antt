@@ -27,13 +27,13 @@ use Rattle.recovery.proofs.Checksum.{handed-first, whole-report, spoilt
 use Rattle.recovery.proofs.Damage.{spelled, header-lost, turned-plain, turned-tail, outside-plain, rest-skipped, Hit, lost, changed, body-hit}
 
 -- what our writer writes is the frame
-sent-frame : (limit : ℕ) (m : Sending) → Sendable limit m → sent limit m ≡ frameOf (m .sequence) (m .payload)
+pub sent-frame : (limit : ℕ) (m : Sending) → Sendable limit m → sent limit m ≡ frameOf (m .sequence) (m .payload)
 sent-frame limit m w =
     let f = frameOf (m .sequence) (m .payload) in
     rw (
       w .unmarked,
-      le-ltb limit (length (m .payload)) (w .fits),
-      le-ltb (length (m .out)) (length f) (w .room),
+      le-ltb limit (length (m .payload)) (omega arith),
+      le-ltb (length (m .out)) (length f) (omega arith),
       sets-eq f (m .out) 0 (omega arith),
       take-append-seam,
     )
@@ -134,7 +134,7 @@ closing-ends limit (whole m ∷ is) s l n c =
     let e = whole-ends limit m (c .0) l n (bytesOf limit is) s in
     rw (sent-frame limit m (c .0)) (e .same ∙ ap (λ (gs : List Given). givenOf m ∷ gs) (closing-ends limit is outside (e .after) (e .size) (c .1)))
 closing-ends limit (damaged m k v ∷ is) s l n c =
-    let e = damaged-ends limit m (c .0) l n (bytesOf limit is) s k v (c .1) (rw (sent-frame limit m (c .0)) at (c .2)) in
+    let e = damaged-ends limit m (c .0) l n (bytesOf limit is) s k v (omega arith) (rw (sent-frame limit m (c .0)) at (c .2)) in
     rw (sent-frame limit m (c .0)) (e .same ∙ closing-ends limit is outside (e .after) (e .size) (c .3))
 
 pub damage-ends : DamageEnds

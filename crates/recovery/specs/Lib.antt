@@ -1,2 +1,4 @@
 pub mod Run
 pub mod Recovery
+pub mod Premises
+pub mod Example

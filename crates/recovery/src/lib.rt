@@ -1,5 +1,7 @@
 // Demands 2 and 3 for Classic, as contracts of functions that do nothing.
 ghost use Rattle.recovery.specs.Recovery.{DamageEnds, FrameReturns};
+ghost use Rattle.recovery.specs.Premises.{FactsSuffice};
+ghost use Rattle.recovery.specs.Example.{DamageExample};
 
 // What is decided in the closing frames is what is undamaged of them, from every lawful state, after any bytes and however the calls cut them.
 pub fn damage_ends()
@@ -9,4 +11,14 @@ pub fn damage_ends()
 // A frame of our writer comes back from the extractor.
 pub fn frame_returns()
     ensures { λ _. ⌜ FrameReturns ⌝ }
+{}
+
+// Document 01's facts are all that the two claims ask for.
+pub fn facts_suffice()
+    ensures { λ _. ⌜ FactsSuffice ⌝ }
+{}
+
+// The first claim on bytes that are written out.
+pub fn damage_example()
+    ensures { λ _. ⌜ DamageExample ⌝ }
 {}

@@ -1,8 +1,6 @@
 // Control messages: what was read as rows, and what the writers are given by numbers.
-use crate::row::BAD_ARGUMENT;
 use crate::row::Count;
 use crate::row::DONE;
-use crate::row::NO_ROOM;
 use field::Refusal;
 use field::signed::low_signed;
 use field::signed::sign_extended;
@@ -52,13 +50,7 @@ const NO_FIELD: u64 = 0;
 fn refusal_number(why: Refusal) -> u64
     ensures { λ r. ⌜ r ≡ numberOf why ⌝ }
 {
-    match why {
-        Refusal::Cut => 30,
-        Refusal::TooLong => 31,
-        Refusal::BadTag => 32,
-        Refusal::WrongType => 33,
-        Refusal::TooMany => 34,
-    }
+    why.number() as u64
 }
 
 // Whether a number is a signed one of 32 bits, extended to 64.
@@ -73,8 +65,7 @@ pub fn count_of(wrote: Wrote) -> Count
 {
     match wrote {
         Wrote::Done(n) => Count::of(n),
-        Wrote::OutOfRange => Count::none(BAD_ARGUMENT),
-        Wrote::NoRoom => Count::none(NO_ROOM),
+        Wrote::Refused(why) => Count::none(why.number()),
     }
 }
 

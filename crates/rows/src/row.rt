@@ -71,13 +71,21 @@ pub fn fill(row: &mut [u64], at: usize, numbers: &[u64])
     }
 }
 
+// Writes a whole row.
+pub fn write_row(row: &mut [u64], numbers: &[u64])
+    requires { ⌜ length (now row) ≡ length (now numbers) ⌝ }
+    ensures { λ _. ⌜ now (row .exit) ≡ now (numbers .entry) ⌝ }
+{
+    fill(row, 0, numbers);
+}
+
 // Writes a whole row, unless the call is refused by 1.
 pub fn put(row: &mut [u64], number: u64, numbers: &[u64])
     requires { ⌜ length (now row) ≡ length (now numbers) ⌝ }
     ensures { λ _. ⌜ now (row .exit) ≡ afterwards number (now (row .entry)) (now (numbers .entry)) ⌝ }
 {
     if number != UNFIT {
-        fill(row, 0, numbers);
+        write_row(row, numbers);
     }
 }
 

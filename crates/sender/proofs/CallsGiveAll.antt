@@ -6,23 +6,20 @@ use mathlib.Core.List.{List, [], _∷_, map}
 use mathlib.Core.Bool.{Bool, true, false, cond}
 use mathlib.Core.Option.{some}
 use lib.ListN.{length, take}
-use lib.Seq.{sets, sets-eq, length-sets, take-at}
+use lib.Seq.{sets, length-sets}
 use lib.Dec.{eqb}
-use borrow.Author.Tests.{eq-eqb, ne-eqb, eqb-true, eqb-false, le-ltb}
+use borrow.Author.Tests.{eq-eqb, ne-eqb, eqb-true, eqb-false, le-ltb, le-leb}
 use Rattle.wire.specs.Told.{given}
+use Rattle.wire.proofs.Stores.{first-bytes}
+use Rattle.packet.proofs.Headers.{in-range}
 use Rattle.sender.specs.declared.piece.Piece.{Piece}
 use Rattle.sender.specs.declared.writer.Sending.{Sending}
-use Rattle.sender.specs.Piece.{leastRoom, isFirst, sizeFor, piecesFrom, pieceAt}
-use Rattle.sender.specs.Writer.{packetOf, isLast, roomFits, argumentsFit, foundAt, sentFor, writtenOf}
-use Rattle.sender.specs.Calls.{packetsBy, callsFrom, CallsGiveAll}
+use Rattle.sender.specs.Piece.{leastRoom, largestRoom, isFirst, sizeFor, piecesFrom, pieceAt}
+use Rattle.sender.specs.Writer.{packetOf, packetsOf, isLast, roomFits, argumentsFit, foundAt, sentFor, writtenOf}
+use Rattle.sender.specs.Calls.{packetsBy, callsFrom, callsOf, Takes, TakesAll, CallsGiveAll}
 use Rattle.sender.proofs.Largest.{size-le, size-some, size-fits}
 use Rattle.sender.proofs.Packets.{packet-length}
 use Rattle.sender.proofs.Guard.{room-low, done}
-
--- the output begins with what was stored there
-stored-first : (out s : List ℕ) → length s ≤ length out → take (length s) (sets out 0 s) ≡ s
-stored-first out s h =
-    let z : 0 + length s ≤ length out = omega arith in ap (take (length s)) (sets-eq s out 0 z) ∙ take-at s _ (length s) refl
 
 told-by : (out : List ℕ) (later : ℕ → List (List ℕ)) (b : Bool) (n next : ℕ)
     → packetsBy out later (given (sentFor b n next)) ≡ take n out ∷ cond b [] (later next)
@@ -65,7 +62,7 @@ module _ (limit : ℕ) (w : Sending) (m : List ℕ) (fits : roomFits (w .room) �
       let f = size-fits (w .room) (isFirst index) low rest in
       rw (call out place p o e)
       (told-by (sets out 0 (packetOf w m p)) (callsFrom calls limit w m (sets out 0 (packetOf w m p))) (isLast (length m) p) _ _
-      ∙ rw (stored-first out (packetOf w m p) (omega arith), last-by place (size index rest) rest (length m) (eqb (size index rest) rest) refl t))
+      ∙ rw (first-bytes out (packetOf w m p) (omega arith), last-by place (size index rest) rest (length m) (eqb (size index rest) rest) refl t))
 
   -- from a place on, the pieces are found in what is left of the list
   abbrev Finds : ℕ → List Piece → Type 0
@@ -95,6 +92,18 @@ module _ (limit : ℕ) (w : Sending) (m : List ℕ) (fits : roomFits (w .room) �
       (tail-by n rest (eqb n rest) _ _ refl s
       (λ l. calls-from fuel (suc index) (place + n) (rest - n) _ (omega arith) (simp length-sets o) (finds-next fuel index place rest l f)))
 
+pub calls-are : (limit : ℕ) (w : Sending) (m out : List ℕ) → Takes limit w m out → callsOf limit w m out ≡ packetsOf w m
+calls-are limit w m out t =
+    calls-from limit w m (t .room) (t .arguments) (suc (length m)) 0 0 (length m) out (omega arith) (omega arith) (λ q h. refl)
+
 pub calls-give-all : CallsGiveAll
-calls-give-all limit w m out t =
-    calls-from limit w m (t .room) (t .arguments) (suc (length m)) 0 0 (length m) out (omega arith) (t .space) (λ q h. refl)
+calls-give-all limit w m out t = let e = calls-are limit w m out t in (e, rw e (omega arith))
+
+pub takes-all : TakesAll
+unfolding roomFits argumentsFit
+takes-all limit w m out low high s i q l o =
+    record {
+      room = rw (le-leb leastRoom (w .room) low, le-leb (w .room) largestRoom high);
+      arguments = rw (in-range (w .stream) (w .id) (w .sequence) s i q, le-leb (length m) limit l);
+      space = omega arith;
+    }

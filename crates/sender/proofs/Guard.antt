@@ -1,8 +1,8 @@
 -- What the table of refusals leaves: a piece that can be written.
 use Prim.Native.Nat.{ℕ, zero, suc, _+_, _-_, _≤_, _<_}
 use native.Mathlib.Omega.{arith}
-use mathlib.Core.Path.{_≡_, refl}
-use mathlib.Core.List.{List, [], _∷_}
+use mathlib.Core.Path.{_≡_}
+use mathlib.Core.List.{List, []}
 use mathlib.Core.Bool.{Bool, true, false, cond}
 use mathlib.Core.Option.{Option, none, some}
 use lib.Dec.{leb, eqb}
@@ -10,8 +10,9 @@ use lib.ListN.{length}
 use lib.Seq.{sets}
 use borrow.Author.Tests.{leb-true}
 use Rattle.wire.specs.Stream.{isStream}
-use Rattle.wire.specs.Told.{Told, given, refused, Row, table, Written, written}
+use Rattle.wire.specs.Told.{Told, given, refused, Written, written}
 use Rattle.wire.proofs.Tests.{and-left, and-right}
+use Rattle.wire.proofs.Tables.{table-through}
 use Rattle.packet.specs.Header.{fourBits, inRange}
 use Rattle.packet.proofs.Headers.{in-range-low}
 use Rattle.sender.specs.declared.piece.Piece.{Piece}
@@ -87,14 +88,6 @@ module _ (limit : ℕ) (w : Sending) (length space : ℕ) (small : limit < 65536
   found-writes place p e = rw e at (pieces-write (suc length) 0 0 length place (omega arith))
 
 -- ---- the table decides, and then one thing is done
-
-table-by : {A B : Type 0} (f : Told A → B) (b : Bool) (n : ℕ) (x : B) (t : Told A) → x ≡ f t → cond b (f (refused n)) x ≡ f (cond b (refused n) t)
-table-by f true n x t e = refl
-table-by f false n x t e = e
-
-table-through : {A B : Type 0} (f : Told A → B) (rs : List Row) (a : A) → table rs (λ n. f (refused n)) (f (given a)) ≡ f (table rs refused (given a))
-table-through f [] a = refl
-table-through f (r ∷ rs) a = table-by f (r .holds) (r .number) _ _ (table-through f rs a)
 
 -- a refusal leaves the output; the packet of a piece stands first in it
 abbrev pub done : Sending → List ℕ → List ℕ → Told Piece → Written Sent

@@ -4,10 +4,11 @@ use native.Mathlib.Omega.{arith}
 use mathlib.Core.Path.{_≡_, refl, sym, ap, _∙_}
 use mathlib.Core.List.{List, _++_}
 use mathlib.Core.Bool.{Bool, true, false}
-use lib.ListN.{length, take, drop, length-append, length-take, length-drop}
+use lib.ListN.{length, take, drop, length-append}
 use lib.Seq.{sets}
 use Rattle.wire.specs.Told.{Written, given, written}
 use Rattle.wire.proofs.Stores.{sets-then}
+use Rattle.wire.proofs.Parts.{length-part}
 use Rattle.packet.specs.Header.{startSize, lengthPlace, headerSize}
 use Rattle.sender.specs.declared.piece.Piece.{Piece}
 use Rattle.sender.specs.declared.writer.Sending.{Sending}
@@ -48,9 +49,6 @@ module _ (w : Sending) (total : ℕ) (p : Piece) (last : Bool) where
       rw (sets-then out 0 startSize start middle refl)
       (sets-then out 0 (lengthPlace first) (start ++ middle) (lengthBytes (p .size)) (simp length-append (omega arith)))
 
-pub payload-length : (m : List ℕ) (p : Piece) → p .place + p .size ≤ length m → length (take (p .size) (drop (p .place) m)) ≡ p .size
-payload-length m p h = simp (length-take, length-drop) (omega arith)
-
 module _ (w : Sending) (m : List ℕ) (p : Piece) (inside : p .place + p .size ≤ length m) where
   abbrev header : List ℕ
   header = headerBytes w (length m) p (isLast (length m) p)
@@ -59,7 +57,7 @@ module _ (w : Sending) (m : List ℕ) (p : Piece) (inside : p .place + p .size �
   unfolding packetOf
   packet-length =
       let h = header-length w (length m) p (isLast (length m) p) in
-      let l = payload-length m p inside in
+      let l = length-part m (p .place) (p .size) inside in
       simp length-append (omega arith)
 
   -- the payload copied behind the header, and what is told

@@ -8,7 +8,6 @@ use mathlib.Core.Bool.{Bool, true, false, cond}
 use mathlib.Core.Option.{none, some}
 use lib.Dec.{ltb, eqb}
 use borrow.Author.Tests.{eq-eqb, ne-eqb, ltb-true, ltb-false, eqb-false}
-use Rattle.sender.specs.declared.piece.Piece.{Piece}
 use Rattle.sender.specs.Piece.{leastRoom, sizeFor, fullSize, isFirst, piecesFrom, piecesOf, pieceAt}
 use Rattle.sender.proofs.Largest.{full-some, size-is}
 

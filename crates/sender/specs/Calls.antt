@@ -1,6 +1,7 @@
 -- The packets that calls of the writer give for a message, place after place, over one reused output.
 use Prim.Native.Nat.{ℕ, zero, suc, _≤_}
 use mathlib.Core.Path.{_≡_}
+use mathlib.Core.Logic.{_⊎_}
 use mathlib.Core.List.{List, [], _∷_}
 use mathlib.Core.Bool.{true}
 use lib.ListN.{length, take}
@@ -24,12 +25,30 @@ callsFrom (suc calls) limit w m out place =
 abbrev pub callsOf : ℕ → Sending → List ℕ → List ℕ → List (List ℕ)
 callsOf limit w m out = callsFrom (suc (length m)) limit w m out 0
 
--- what the writer takes: a room of 20 to 512, an output no smaller, and stream, id, sequence and message in range
+-- what the writer takes
 pub record Takes (limit : ℕ) (w : Sending) (m out : List ℕ) : Type 0 where
+  -- a room of 20 to 512
   pub room : roomFits (w .room) ≡ true
+  -- stream, id, sequence and message in their ranges
   pub arguments : argumentsFit limit w (length m) ≡ true
+  -- an output no smaller than the room
   pub space : w .room ≤ length out
 
--- the calls give all packets of the message, in order, whatever the output held
+-- Document 01's ranges, and nothing else: no premise of a claim about the writer's packets asks for more.
+abbrev pub TakesAll : Type 0
+TakesAll =
+    (limit : ℕ) (w : Sending) (m out : List ℕ)
+    → 20 ≤ w .room
+    → w .room ≤ 512
+    → (w .stream ≡ 0) ⊎ (w .stream ≡ 2) ⊎ (w .stream ≡ 6)
+    → w .id ≤ 15
+    → w .sequence ≤ 15
+    → length m ≤ limit
+    → w .room ≤ length out
+    → Takes limit w m out
+
+-- the calls give all packets of the message, in order, whatever the output held; there is at least one
 abbrev pub CallsGiveAll : Type 0
-CallsGiveAll = (limit : ℕ) (w : Sending) (m out : List ℕ) → Takes limit w m out → callsOf limit w m out ≡ packetsOf w m
+CallsGiveAll =
+    (limit : ℕ) (w : Sending) (m out : List ℕ) → Takes limit w m out
+    → (callsOf limit w m out ≡ packetsOf w m) × (1 ≤ length (callsOf limit w m out))

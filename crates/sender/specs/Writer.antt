@@ -7,7 +7,7 @@ use lib.ListN.{length, take, drop}
 use lib.Seq.{sets}
 use lib.Dec.{ltb, leb, eqb}
 use Rattle.wire.specs.Bytes.{pairBytes}
-use Rattle.wire.specs.Told.{Told, given, refused, Row, row, table, Written, written, writes}
+use Rattle.wire.specs.Told.{Told, given, refused, Row, row, table, Written, writes}
 use Rattle.packet.specs.Header.{fourBits, inRange, reservedByte, typeFirst, typeContinuation, typeLast, headerSize, firstByte, secondByte, sequenceAfter}
 use Rattle.sender.specs.declared.piece.Piece.{Piece}
 use Rattle.sender.specs.declared.writer.Sending.{Sending}

@@ -2,13 +2,20 @@
 use Prim.Native.Nat.{ℕ, _<_}
 use native.Mathlib.Omega.{arith}
 use mathlib.Core.Path.{_≡_, refl, sym, ap, _∙_}
-use mathlib.Core.Logic.{_≢_}
+use mathlib.Core.Logic.{_≢_, _⊎_, inl, inr}
 use mathlib.Core.Bool.{Bool, true, false}
 use lib.Dec.{eqb}
 use borrow.Author.Tests.{eqb-true}
 use Rattle.wire.specs.declared.stream.Stream.{Stream}
 use Rattle.wire.specs.declared.stream.Stream.the-variants.{Control, Ota, Alexa}
 use Rattle.wire.specs.Stream.{streamNumber, isStream, streamOf}
+
+-- 0, 2 and 6 are streams' numbers
+pub known-stream : (n : ℕ) → (n ≡ 0) ⊎ (n ≡ 2) ⊎ (n ≡ 6) → isStream n ≡ true
+unfolding isStream
+known-stream n (inl e) = rw e
+known-stream n (inr (inl e)) = rw e
+known-stream n (inr (inr e)) = rw e
 
 number-by : (n : ℕ) (a b : Bool) → eqb n 0 ≡ a → eqb n 2 ≡ b → isStream n ≡ true → streamNumber (streamOf n) ≡ n
 unfolding isStream streamOf

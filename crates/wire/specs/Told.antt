@@ -1,6 +1,6 @@
 -- What a call tells, and the table of refusals of document 01.
 use Prim.Native.Nat.{ℕ}
-use mathlib.Core.Bool.{Bool, true, false, cond}
+use mathlib.Core.Bool.{Bool, cond}
 use mathlib.Core.List.{List, [], _∷_}
 
 -- what was asked for, or the number of the refusal

@@ -18,7 +18,7 @@ use Rattle.field.specs.Tag.{badTag, tagAt}
 use Rattle.field.specs.Value.{valueAt}
 use Rattle.field.specs.Writer.{tagBytes, headBytes, partBytes, fieldBytes}
 use Rattle.message.specs.Schema.{roleOf}
-use Rattle.message.specs.Walk.{judged, takenAt, fieldAt, fieldsFrom}
+use Rattle.message.specs.Walk.{judged, addedAt, readAt, fieldAt, fieldsFrom}
 use Rattle.message.specs.Response.{responseFrom}
 use Rattle.message.specs.Envelope.{payloadOf, envelopeOf, envelopeWritten}
 use Rattle.outbox.specs.Format.{numberOf}
@@ -33,7 +33,7 @@ agree f g same a (List·Memᴰ·tail {x = x} {xs = xs} there) = let t : map f xs
 
 -- the whole table, computed
 holds : map (λ (c : Case). answerTo (c .question)) cases ≡ map (λ (c : Case). c .expected) cases
-unfolding answerTo cases isStream streamOf kindOf escapedOf total framed inRange fieldsOf contentOf rows readOf ackOf sizeFor headerBytes packetOf roomFits argumentsFit writtenOf callsFrom lawfulSlot lawful leave finish hold firstStep nextStep ready acceptOf varintAt varintBytes badTag tagAt valueAt tagBytes headBytes partBytes fieldBytes roleOf judged takenAt fieldAt fieldsFrom responseFrom payloadOf envelopeOf envelopeWritten numberOf outbox.otherVersion outbox.badPlace outbox.badLength outbox.cutShort outbox.badStream outbox.recordAt outbox.readOf
+unfolding answerTo cases isStream streamOf kindOf escapedOf total framed inRange fieldsOf contentOf rows readOf ackOf sizeFor headerBytes packetOf roomFits argumentsFit writtenOf callsFrom lawfulSlot lawful leave finish hold firstStep nextStep ready acceptOf varintAt varintBytes badTag tagAt valueAt tagBytes headBytes partBytes fieldBytes roleOf judged addedAt readAt fieldAt fieldsFrom responseFrom payloadOf envelopeOf envelopeWritten numberOf outbox.otherVersion outbox.badPlace outbox.badLength outbox.cutShort outbox.badStream outbox.recordAt outbox.readOf
 holds = refl
 
 pub worked-cases : WorkedCases

@@ -18,7 +18,7 @@ use Rattle.message.specs.declared.response.ResponsePayload.the-variants.{None}
 use Rattle.message.specs.Gathered.{noPart}
 use Rattle.outbox.specs.Reader as outbox
 use Rattle.worked.specs.Question.{Question, writeFrame, nextSequenceByte, writePackets, readPieces, acceptPacket, writeAcknowledgement, writeEnvelope, readEnvelope, readRecord}
-use Rattle.worked.specs.Question.{Answer, bytes, sequenceByte, packets, pieces, accepted, envelope, reading, Piece, plain, extended, zeros, answerTo}
+use Rattle.worked.specs.Question.{Answer, bytes, sequenceByte, packets, pieces, accepted, envelope, reading, plain, extended, zeros, answerTo}
 
 -- a row: what is asked, and what comes back
 pub record Case : Type 0 where
@@ -36,9 +36,9 @@ sending room stream id sequence ack = record { room = room; stream = stream; id 
 abbrev pub inRoom : ℕ → Sending
 inRoom room = sending room 0 0 0 false
 
--- a control transaction of three bytes, id 0, of which one is held; the last packet had this sequence
-abbrev pub openAfter : ℕ → List Slot
-openAfter sequence = record { opened = true; id = 0; total = 3; held = 1; sequence = sequence } ∷ idle ∷ idle ∷ []
+-- a control transaction of three bytes, id 0, of which so many are held; the last packet had this sequence
+abbrev pub holding : ℕ → ℕ → List Slot
+holding held sequence = record { opened = true; id = 0; total = 3; held = held; sequence = sequence } ∷ idle ∷ idle ∷ []
 
 -- error codes of document 000
 abbrev pub success : ℤ
@@ -73,15 +73,15 @@ cases =
     -- P6 300 bytes, rooms 262 and 263
     ∷ case (readPieces (inRoom 262) (zeros 300)) (pieces (given (plain 255) ∷ given (plain 45) ∷ []))
     ∷ case (readPieces (inRoom 263) (zeros 300)) (pieces (given (extended 256) ∷ given (plain 44) ∷ []))
-    -- P7 after sequence 15: a continuation of one byte with sequence 0, and one with sequence 10
-    ∷ case (acceptPacket (openAfter 15) (0x00 ∷ 0x04 ∷ 0x01 ∷ 0x00 ∷ [])) (accepted (given (Taken Control 0 false)))
-    ∷ case (acceptPacket (openAfter 15) (0x00 ∷ 0xA4 ∷ 0x01 ∷ 0x00 ∷ [])) (accepted (refused 10))
+    -- P7 after sequence 15: a continuation of one byte with sequence 0, which is held, and one with sequence 10, which leaves the slot idle
+    ∷ case (acceptPacket (holding 1 15) (0x00 ∷ 0x04 ∷ 0x01 ∷ 0x00 ∷ [])) (accepted (given (Taken Control 0 false)) (holding 2 0))
+    ∷ case (acceptPacket (holding 1 15) (0x00 ∷ 0xA4 ∷ 0x01 ∷ 0x00 ∷ [])) (accepted (refused 10) idles)
     -- P8 ACK and NACK for P4, sequence 0
     ∷ case (writeAcknowledgement 6 1 0 true) (bytes (given (0x61 ∷ 0x0E ∷ 0x00 ∷ 0x02 ∷ 0x01 ∷ 0x00 ∷ [])))
     ∷ case (writeAcknowledgement 6 1 0 false) (bytes (given (0x61 ∷ 0x0C ∷ 0x00 ∷ 0x02 ∷ 0x01 ∷ 0x03 ∷ [])))
-    -- P9 empty transaction, stream, id, sequence 0; and a receiver finishes it at once
+    -- P9 empty transaction, stream, id, sequence 0; and a receiver finishes it at once, its slot idle
     ∷ case (writePackets (sending 20 0 0 0 false) []) (packets (zeros 6 ∷ []))
-    ∷ case (acceptPacket idles (zeros 6)) (accepted (given (Finished Control 0 0 false false)))
+    ∷ case (acceptPacket idles (zeros 6)) (accepted (given (Finished Control 0 0 false false)) idles)
     -- P10 command 94 with success, 20 with unsupported; and each read back
     ∷ case (writeEnvelope (pos 94) (Response success None)) (bytes (given (0x08 ∷ 0x5E ∷ 0x4A ∷ 0x00 ∷ [])))
     ∷ case (readEnvelope (0x08 ∷ 0x5E ∷ 0x4A ∷ 0x00 ∷ [])) (envelope (given (responseRead 94 success)))

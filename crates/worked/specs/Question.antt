@@ -1,10 +1,10 @@
 -- What the worked cases ask of the library, and the answers by the definitions that its contracts cite.
 use Prim.Native.Nat.{ℕ, _*_}
 use mathlib.Core.Bool.{Bool, cond}
-use mathlib.Core.List.{List, [], _∷_, map}
+use mathlib.Core.List.{List, [], map}
 use lib.IntN.{ℤ}
 use lib.ListN.{getD, take, replicate}
-use Rattle.wire.specs.Told.{Told, given, refused, andThen, Written}
+use Rattle.wire.specs.Told.{Told, given, andThen, Written}
 use Rattle.frame.specs.Frame.{nextSequence}
 use Rattle.frame.specs.Writer as frame
 use Rattle.packet.specs.Header.{extenderBit}
@@ -15,7 +15,7 @@ use Rattle.sender.specs.Calls.{callsOf}
 use Rattle.receiver.specs.declared.slot.Slot.{Slot}
 use Rattle.receiver.specs.declared.answer.Accepted.{Accepted}
 use Rattle.receiver.specs.Slot.{slotCount}
-use Rattle.receiver.specs.Receiver.{acceptOf}
+use Rattle.receiver.specs.Receiver.{Result, acceptOf}
 use Rattle.message.specs.declared.envelope.Envelope.{Envelope}
 use Rattle.message.specs.declared.envelope.EnvelopePayload.{EnvelopePayload}
 use Rattle.message.specs.Envelope.{envelopeOf, envelopeWritten}
@@ -60,7 +60,8 @@ pub data Answer : Type 0 where
   sequenceByte : ℕ → Answer
   packets : List (List ℕ) → Answer
   pieces : List (Told Piece) → Answer
-  accepted : Told Accepted → Answer
+  -- what is told of a packet, and the slots afterwards
+  accepted : Told Accepted → List Slot → Answer
   envelope : Told Envelope → Answer
   reading : outbox.Answer outbox.Item → Answer
 
@@ -71,6 +72,10 @@ bytesOf w = andThen (w .told) (λ n. given (take n (w .out)))
 -- what a packet carries, as it is read; the extender stands in its byte 1
 abbrev pub pieceOf : List ℕ → Told Piece
 pieceOf p = andThen (readOf limit p) (λ x. given (cond (extenderBit (getD p 1 0)) (extended (lenIn x)) (plain (lenIn x))))
+
+-- what a receiver answers, and the slots afterwards
+abbrev pub acceptedBy : Result → Answer
+acceptedBy r = accepted (r .told) (r .slots)
 
 -- the output lent to a writer: more than any case needs
 abbrev output : List ℕ
@@ -85,7 +90,7 @@ answerTo (writeFrame sequence payload) = bytes (bytesOf (frame.writeOf limit seq
 answerTo (nextSequenceByte sequence) = sequenceByte (nextSequence sequence)
 answerTo (writePackets w m) = packets (packetsOf w m)
 answerTo (readPieces w m) = pieces (map pieceOf (packetsOf w m))
-answerTo (acceptPacket slots p) = accepted (acceptOf limit slots (zeros (slotCount * limit)) p .told)
+answerTo (acceptPacket slots p) = acceptedBy (acceptOf limit slots (zeros (slotCount * limit)) p)
 answerTo (writeAcknowledgement stream id sequence positive) = bytes (bytesOf (ackOf stream id sequence positive output))
 answerTo (writeEnvelope command payload) = bytes (bytesOf (envelopeWritten command payload [] output))
 answerTo (readEnvelope m) = envelope (envelopeOf m)

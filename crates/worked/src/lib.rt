@@ -1,7 +1,13 @@
-// The worked cases of document 01, as the contract of a function that does nothing.
+// The worked cases of document 01, as contracts of functions that do nothing.
 ghost use Rattle.worked.specs.Cases.{WorkedCases};
+ghost use Rattle.worked.specs.ExtractorCases.{ExtractorCases};
 
 // Every row of the table of worked cases holds.
 pub fn worked_cases()
     ensures { λ _. ⌜ WorkedCases ⌝ }
+{}
+
+// Every row of the extractor's table holds.
+pub fn extractor_cases()
+    ensures { λ _. ⌜ ExtractorCases ⌝ }
 {}

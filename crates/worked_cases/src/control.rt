@@ -23,8 +23,7 @@ fn write_response(label: &[u8], command: i32, error_code: i32) {
     text(label);
     match wrote {
         Wrote::Done(n) => bytes(&out, n),
-        Wrote::OutOfRange => refused(15),
-        Wrote::NoRoom => refused(14),
+        Wrote::Refused(why) => refused(why.number()),
     }
     end();
 }

@@ -2,6 +2,7 @@ use mathlib.Core.Path.{_≡_, sym}
 use native.Mathlib.Omega.{arith}
 use lib.ListN.{length}
 use lib.Seq.{length-take-le}
+use Rattle.messages.proofs.Sizes.{information-size}
 use borrow.Author.Needs.{needs}
 use Rattle.messages.proofs.information_again.Statement.{statement}
 use Rattle.messages.proofs.information_again.Tie as tie
@@ -12,14 +13,14 @@ read-information-requires c κs = search needs
 enum-known-verdict : tie.Need-enum-known-verdict
 enum-known-verdict c = search needs
 
-refused-requires : tie.Need-refused-requires
-refused-requires c κs = search needs
+number-requires : tie.Need-number-requires
+number-requires c κs = search needs
+
+refuse-requires : tie.Need-refuse-requires
+refuse-requires c κs = search needs
 
 enum-told : tie.Need-enum-told
 enum-told c = search needs
-
-smaller-requires : tie.Need-smaller-requires
-smaller-requires c κs = search needs
 
 bytes-of-requires : tie.Need-bytes-of-requires
 bytes-of-requires c κs = search needs
@@ -29,14 +30,15 @@ bytes-of-requires-2 c κs = search needs
 
 array-share-prefix-transports : tie.Need-array-share-prefix-transports
 array-share-prefix-transports c =
-    let long : length (c .before .before .before .before .before .before .before .before .before .before .before .read-information .result .information .transports) ≡ 8 = search needs in
-    omega (arith, c .before .before .before .smaller .ensures .2)
+    let r = c .before .before .before .before .before .before .before .before .before .before .read-information in
+    let long : length (r .result .information .transports) ≡ 8 = search needs in
+    omega (arith, r .ensures .1 .1)
 
 slice-aggregate-write-information : tie.Need-slice-aggregate-write-information
 slice-aggregate-write-information c =
-    let list = c .before .before .before .before .before .before .before .before .before .before .before .before .read-information .result .information .transports in
-    let long : length list ≡ 8 = search needs in
-    sym (length-take-le _ list (omega (arith, c .before .before .before .before .smaller .ensures .2)))
+    let r = c .before .before .before .before .before .before .before .before .before .before .before .read-information in
+    let long : length (r .result .information .transports) ≡ 8 = search needs in
+    sym (length-take-le _ (r .result .information .transports) (omega (arith, r .ensures .1 .1)))
 
 bytes-of-requires-3 : tie.Need-bytes-of-requires-3
 bytes-of-requires-3 c κs = search needs
@@ -44,8 +46,8 @@ bytes-of-requires-3 c κs = search needs
 write-information-requires : tie.Need-write-information-requires
 write-information-requires c κs = search needs
 
-answer-requires : tie.Need-answer-requires
-answer-requires c κs = search needs
+show-requires : tie.Need-show-requires
+show-requires c κs = information-size (c .before .before .before .write-information .result) _ _ _ _ _ _ (c .before .before .before .write-information .ensures)
 
 returns : tie.Need-returns
 returns c = search needs
@@ -62,16 +64,16 @@ information-again-spec =
     (tie.spec
     read-information-requires
     enum-known-verdict
-    refused-requires
+    number-requires
+    refuse-requires
     enum-told
-    smaller-requires
     bytes-of-requires
     bytes-of-requires-2
     array-share-prefix-transports
     slice-aggregate-write-information
     bytes-of-requires-3
     write-information-requires
-    answer-requires
+    show-requires
     returns
     same-length
     returns-2)

@@ -26,11 +26,11 @@ loop-holds c = search needs
 array-share-prefix-room : tie.Need-array-share-prefix-room Inv-loop μ-loop
 array-share-prefix-room c = search needs
 
-slice-aggregate-list : tie.Need-slice-aggregate-list Inv-loop μ-loop
-slice-aggregate-list c = sym (length-take-le _ _ (search needs))
+slice-aggregate-list-part : tie.Need-slice-aggregate-list-part Inv-loop μ-loop
+slice-aggregate-list-part c = sym (length-take-le _ _ (search needs))
 
-list-requires : tie.Need-list-requires Inv-loop μ-loop
-list-requires c κs = search needs
+list-part-requires : tie.Need-list-part-requires Inv-loop μ-loop
+list-part-requires c κs = search needs
 
 add-kept : tie.Need-add-kept Inv-loop μ-loop
 add-kept c = search needs
@@ -58,8 +58,8 @@ main-spec =
     read-full-requires
     loop-holds
     array-share-prefix-room
-    slice-aggregate-list
-    list-requires
+    slice-aggregate-list-part
+    list-part-requires
     add-kept
     loop-less
     loop-again

@@ -1,28 +1,39 @@
 use mathlib.Core.Path.{sym, _∙_}
 use borrow.Author.Tests.{eq-eqb, ne-eqb, not-true, not-false}
-use Rattle.capi.specs.Classic.{extractorFeedOf}
+use Rattle.capi.specs.Classic.{noneUsed, extractorFeedOf}
 use Rattle.rows.proofs.States.{state-long}
 use borrow.Author.Needs.{needs}
 use Rattle.capi.proofs.classic.pito_extractor_feed.Statement.{statement}
 use Rattle.capi.proofs.classic.pito_extractor_feed.Tie as tie
 
 returns : tie.Need-returns
-unfolding extractorFeedOf
+unfolding extractorFeedOf noneUsed
 returns c = rw (ne-eqb _ _ (c .if1 .taken))
 
 is-extractor-requires : tie.Need-is-extractor-requires
 is-extractor-requires c κs = search needs
 
+slice-aggregate-write-row : tie.Need-slice-aggregate-write-row
+slice-aggregate-write-row c = search needs
+
+write-row-requires : tie.Need-write-row-requires
+write-row-requires c κs = search needs
+
 same-length : tie.Need-same-length
 same-length c = search needs
 
+same-length-2 : tie.Need-same-length-2
+same-length-2 c = search needs
+
 returns-2 : tie.Need-returns-2
-unfolding extractorFeedOf
+unfolding extractorFeedOf noneUsed
 returns-2 c =
+    let unfit = c .before .before .before .before .before in
     rw (
-      eq-eqb _ _ (c .before .before .before .if1 .left),
-      ← (c .before .is-extractor .ensures),
-      not-true (c .before .is-extractor .result) (c .if2 .taken),
+      eq-eqb _ _ (unfit .before .before .before .if1 .left),
+      ← (unfit .before .is-extractor .ensures),
+      not-true (unfit .before .is-extractor .result) (unfit .if2 .taken),
+      c .before .before .write-row .ensures,
     )
 
 extractor-of-requires : tie.Need-extractor-of-requires
@@ -48,20 +59,20 @@ put-requires c κs =
     rw (c .before .before .extractor-row .ensures)
     (state-long _ (sym (fit .before .is-extractor .ensures) ∙ not-false (fit .before .is-extractor .result) (fit .if2 .left)))
 
-slice-aggregate-put-2 : tie.Need-slice-aggregate-put-2
-slice-aggregate-put-2 c = search needs
+slice-aggregate-write-row-2 : tie.Need-slice-aggregate-write-row-2
+slice-aggregate-write-row-2 c = search needs
 
-put-requires-2 : tie.Need-put-requires-2
-put-requires-2 c κs = search needs
-
-same-length-2 : tie.Need-same-length-2
-same-length-2 c = search needs
+write-row-requires-2 : tie.Need-write-row-requires-2
+write-row-requires-2 c κs = search needs
 
 same-length-3 : tie.Need-same-length-3
 same-length-3 c = search needs
 
 same-length-4 : tie.Need-same-length-4
 same-length-4 c = search needs
+
+same-length-5 : tie.Need-same-length-5
+same-length-5 c = search needs
 
 returns-3 : tie.Need-returns-3
 unfolding extractorFeedOf
@@ -76,7 +87,7 @@ returns-3 c =
       not-false (fit .before .is-extractor .result) (fit .if2 .left),
       ← (done .before .before .extractor-of .ensures),
       ← (done .feed .ensures),
-      c .before .before .put2 .ensures,
+      c .before .before .write-row2 .ensures,
       kept .put .ensures,
       kept .before .before .before .extractor-row .ensures,
       told .feed-reply .ensures,
@@ -88,7 +99,10 @@ pito-extractor-feed-spec =
     (tie.spec
     returns
     is-extractor-requires
+    slice-aggregate-write-row
+    write-row-requires
     same-length
+    same-length-2
     returns-2
     extractor-of-requires
     feed-requires
@@ -96,9 +110,9 @@ pito-extractor-feed-spec =
     extractor-row-requires
     slice-aggregate-put
     put-requires
-    slice-aggregate-put-2
-    put-requires-2
-    same-length-2
+    slice-aggregate-write-row-2
+    write-row-requires-2
     same-length-3
     same-length-4
+    same-length-5
     returns-3)

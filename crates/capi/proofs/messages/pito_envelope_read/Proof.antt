@@ -31,7 +31,7 @@ unfolding envelopeReadOf
 returns-2 c =
     rw (
       eq-eqb _ _ (c .before .before .before .before .before .before .before .before .if1 .left),
-      ← (c .before .before .before .before .before .before .before .read-envelope .ensures),
+      ← (c .before .before .before .before .before .before .before .read-envelope .ensures .0),
       c .before .before .put .ensures,
       c .before .before .before .before .before .before .envelope-number .ensures,
       c .before .before .before .before .before .envelope-row .ensures,

@@ -45,8 +45,8 @@ returns-2 c =
     let read = s .read-information .result in
     rw (
       eq-eqb _ _ (s .before .if1 .left),
-      ← (read-number (read .verdict) (read .information) told (s .read-information .ensures)),
-      ← (read-row (read .verdict) (read .information) told (s .read-information .ensures)),
+      ← (read-number (read .verdict) (read .information) told (s .read-information .ensures .0)),
+      ← (read-row (read .verdict) (read .information) told (s .read-information .ensures .0)),
       c .before .before .put-both .ensures,
       c .before .before .before .before .before .before .before .before .before .before .verdict-number .ensures,
       c .before .before .before .before .before .before .before .before .before .parts-row .ensures,

@@ -31,7 +31,7 @@ unfolding responseReadOf
 returns-2 c =
     rw (
       eq-eqb _ _ (c .before .before .before .before .before .before .before .before .if1 .left),
-      ← (c .before .before .before .before .before .before .before .read-response .ensures),
+      ← (c .before .before .before .before .before .before .before .read-response .ensures .0),
       c .before .before .put .ensures,
       c .before .before .before .before .before .before .response-number .ensures,
       c .before .before .before .before .before .response-row .ensures,

@@ -42,7 +42,7 @@ abbrev commanded : Payload → ℤ → Told Envelope
 commanded p z = given (record { command = z; payload = p })
 
 read-payload-requires : tie.Need-read-payload-requires
-read-payload-requires c κs = fields-within Schema.Envelope _ 0 _ (read c)
+read-payload-requires c κs = fields-within Schema.Envelope _ 0 _ (read c) .0 .0
 
 enum-known-e : tie.Need-enum-known-e
 enum-known-e c = search needs
@@ -58,18 +58,20 @@ low-signed-requires c κs = search needs
 
 returns : tie.Need-returns
 unfolding envelopeOf
-returns c = rw (refuses (c .before))
+returns c = (rw (refuses (c .before)), tt)
 
 returns-2 : tie.Need-returns-2
 unfolding envelopeOf
-returns-2 c = rw (read (c .before .before .before .before), sym (c .before .before .before .read-payload .ensures) ∙ ap toldPayload (c .before .e .given .1))
+returns-2 c = (rw (read (c .before .before .before .before), sym (c .before .before .before .read-payload .ensures .0) ∙ ap toldPayload (c .before .e .given .1)), tt)
 
 returns-3 : tie.Need-returns-3
 unfolding envelopeOf
 returns-3 c =
-    let g = c .before .before .before .before .before .before .before .before .before .read-fields .result .gathered in
-    rw (read (c .before .before .before .before .before .before), sym (c .before .before .before .before .before .read-payload .ensures) ∙ ap toldPayload (c .before .before .before .payload .given .1))
-    (ap (commanded (c .before .before .before .payload .given .0 .0)) (signed-kept _ (getD (g .scalars) first 0) (c .low-signed .ensures)))
+    let g = c .before .before .before .before .before .before .before .before .before .read-fields .result .gathered in (
+      rw (read (c .before .before .before .before .before .before), sym (c .before .before .before .before .before .read-payload .ensures .0) ∙ ap toldPayload (c .before .before .before .payload .given .1))
+          (ap (commanded (c .before .before .before .payload .given .0 .0)) (signed-kept _ (getD (g .scalars) first 0) (c .low-signed .ensures))),
+      rw (c .before .before .before .payload .given .1) at (c .before .before .before .before .before .read-payload .ensures .1),
+    )
 
 pub read-envelope-spec : {M : Type 1} → statement M
 read-envelope-spec =

@@ -1,11 +1,15 @@
+use Prim.Native.Nat.{zero-le}
 use mathlib.Core.Path.{_≡_, ap, sym, _∙_}
 use denote.Ref.{now}
 use Rattle.wire.specs.Told.{given, refused}
 use Rattle.field.specs.Refusal.{numberOf}
 use Rattle.message.specs.declared.schema.Schema.the-variants as Schema
-use Rattle.message.specs.Gathered.{judgedAs}
+use Rattle.field.proofs.Places.{within-get}
+use Rattle.message.specs.Schema.{first, second, third}
+use Rattle.message.specs.Gathered.{noPart, judgedAs}
 use Rattle.message.specs.Walk.{fieldsFrom}
 use Rattle.message.specs.Information.{informationOf}
+use Rattle.message.proofs.Steps.{fields-within}
 use borrow.Author.Needs.{needs}
 use Rattle.message.proofs.information.read_information.Statement.{statement}
 use Rattle.message.proofs.information.read_information.Tie as tie
@@ -41,11 +45,17 @@ element-copy-out-device-type c = search needs
 
 returns : tie.Need-returns
 unfolding informationOf
-returns c = rw (refuses (c .before))
+returns c = (rw (refuses (c .before)), ((zero-le, (zero-le, (zero-le, tt))), zero-le))
 
 returns-2 : tie.Need-returns-2
 unfolding informationOf
-returns-2 c = rw (read (c .before .before .before .before .before))
+returns-2 c =
+    let texts = c .before .before .before .before .before .before .before .read-fields .result .gathered .texts in
+    let inside = fields-within Schema.Information _ 0 _ (read (c .before .before .before .before .before)) in
+    let each = inside .0 .1 in (
+      rw (read (c .before .before .before .before .before)),
+      ((within-get _ texts first noPart zero-le each, (within-get _ texts second noPart zero-le each, (within-get _ texts third noPart zero-le each, tt))), inside .1),
+    )
 
 pub read-information-spec : {M : Type 1} → statement M
 read-information-spec =

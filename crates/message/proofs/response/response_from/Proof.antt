@@ -12,6 +12,7 @@ use Rattle.message.specs.declared.gathered.Gathered.{Gathered}
 use Rattle.message.specs.declared.response.Response.{Response}
 use Rattle.message.specs.Schema.{first}
 use Rattle.message.specs.Response.{responseFrom}
+use Rattle.message.proofs.Steps.{fields-within}
 use borrow.Author.Needs.{needs}
 use Rattle.message.proofs.response.response_from.Statement.{statement}
 use Rattle.message.proofs.response.response_from.Tie as tie
@@ -48,13 +49,15 @@ low-signed-requires c κs = search needs
 
 returns : tie.Need-returns
 unfolding responseFrom
-returns c = rw (refuses (c .before))
+returns c = (rw (refuses (c .before)), tt)
 
 returns-2 : tie.Need-returns-2
 unfolding responseFrom
 returns-2 c =
-    let g = c .before .before .before .before .before .before .read-fields .result .gathered in
-    rw (read (c .before .before .before)) (ap (coded g) (signed-kept _ (getD (g .scalars) first 0) (c .low-signed .ensures)))
+    let g = c .before .before .before .before .before .before .read-fields .result .gathered in (
+      rw (read (c .before .before .before)) (ap (coded g) (signed-kept _ (getD (g .scalars) first 0) (c .low-signed .ensures))),
+      (fields-within Schema.Response _ _ g (read (c .before .before .before)) .0 .0, tt),
+    )
 
 pub response-from-spec : {M : Type 1} → statement M
 response-from-spec =

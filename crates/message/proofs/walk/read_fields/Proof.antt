@@ -14,7 +14,7 @@ use Rattle.message.specs.declared.walk.Added.{Added}
 use Rattle.message.specs.Gathered.{judgedAs, toldKept}
 use Rattle.message.specs.Walk.{walk, placed, fieldAt, fieldsFrom, withAdded, readAt, toldField}
 use Rattle.message.proofs.Walks.{Walks, walk-end, walk-stop, walks-next}
-use Rattle.message.proofs.Steps.{field-forward, field-in-two, read-held}
+use Rattle.message.proofs.Steps.{field-by, field-forward, packed-within}
 use Rattle.message.proofs.walk.read_fields.Statement.{statement}
 use Rattle.message.proofs.walk.read_fields.Tie as tie
 
@@ -58,7 +58,7 @@ returns c =
     let a = c .before .before .before .before .before .before .before .before .before .args in
     let l = c .before .before .before .before .before .before .loop in
     ap toldKept (c .stop .ensures)
-    ∙ sym (halted (c .before .before .before .before .before) _ (field-in-two (a .schema) _ (l .at) (l .so-far) (sym (c .before .before .before .before .read-field .ensures) ∙ ap toldField (c .before .before .e .given .1))))
+    ∙ sym (halted (c .before .before .before .before .before) _ (field-by (a .schema) _ (l .at) (l .so-far) (sym (c .before .before .before .before .read-field .ensures) ∙ ap toldField (c .before .before .e .given .1))))
 
 enum-known-added : tie.Need-enum-known-added Inv-loop μ-loop
 enum-known-added c = search needs
@@ -87,7 +87,7 @@ module _ (c : tie.After-known-told2 Inv-loop μ-loop) where
   read e = sym (c .before .before .before .read-field .ensures) ∙ ap toldField (c .before .added .given .1) ∙ ap (λ a. given (a, next)) e
 
   went : {a : Added} → added ≡ a → {r : Told Gathered} → withAdded message a so-far ≡ r → fieldAt schema message at so-far ≡ andThen r (placed next)
-  went e w = field-in-two schema message at so-far (read e) ∙ ap (λ r. andThen r (placed next)) w
+  went e w = field-by schema message at so-far (read e) ∙ ap (λ r. andThen r (placed next)) w
 
   -- the turn, where the field leaves g
   turn : {a : Added} → added ≡ a → (g : Gathered) → withAdded message a so-far ≡ given g
@@ -145,7 +145,7 @@ keep-packed-requires : tie.Need-keep-packed-requires Inv-loop μ-loop
 keep-packed-requires c κs =
     let a = c .before .before .before .before .before .before .before .before .before .before .before .args in
     let l = c .before .before .before .before .before .before .before .before .loop in
-    read-held (a .schema) _ (l .at) (l .so-far .field) _ _ (read (c .before .before .before) (c .before .added6 .given .1))
+    packed-within (a .schema) _ (l .at) (l .so-far .field) _ _ (read (c .before .before .before) (c .before .added6 .given .1))
 
 enum-known-verdict-2 : tie.Need-enum-known-verdict-2 Inv-loop μ-loop
 enum-known-verdict-2 c = search needs

@@ -1,0 +1,47 @@
+-- P4 as an instance of the claim: all of it computed, and the message by the claim itself.
+use native.Mathlib.Omega.{arith}
+use mathlib.Core.Path.{_≡_, refl}
+use mathlib.Core.Logic.{inr}
+use mathlib.Core.Option.{none, some}
+use mathlib.Core.List.{[], _∷_}
+use mathlib.Core.Bool.{true}
+use Rattle.wire.specs.declared.stream.Stream.the-variants.{Alexa}
+use Rattle.wire.specs.Stream.{isStream, streamOf}
+use Rattle.packet.specs.Header.{inRange}
+use Rattle.packet.specs.Reader.{fieldsOf, contentOf, rows, readOf}
+use Rattle.sender.specs.Piece.{sizeFor}
+use Rattle.sender.specs.Writer.{headerBytes, packetOf, roomFits, argumentsFit, writtenOf}
+use Rattle.sender.specs.Calls.{callsFrom, callsOf, Takes}
+use Rattle.sender.proofs.CallsGiveAll.{takes-all}
+use Rattle.receiver.specs.Slot.{lawfulSlot, lawful}
+use Rattle.receiver.specs.Step.{leave, finish, hold, firstStep, nextStep}
+use Rattle.receiver.specs.Receiver.{ready, acceptOf}
+use Rattle.delivery.specs.Delivery.{runOf, repliesTo, those, ours, givenTo}
+use Rattle.delivery.specs.Instance.{limit, how, message, output, slots, buffer, before, during, after, Arrives}
+
+law : lawful limit slots ≡ true
+unfolding lawfulSlot lawful
+law = refl
+
+takes : Takes limit how message output
+takes = takes-all limit how message output (omega arith) (omega arith) (inr (inr refl)) (omega arith) (omega arith) (omega arith) (omega arith)
+
+sent : those (ours how) during ≡ callsOf limit how message output
+unfolding isStream inRange sizeFor headerBytes packetOf roomFits argumentsFit writtenOf callsFrom
+sent = refl
+
+arrived : givenTo limit how (repliesTo limit slots buffer before during after)
+    ≡ none ∷ none ∷ some (record { stream = Alexa; id = 1; total = 35; ack = true; payload = message }) ∷ []
+unfolding isStream streamOf fieldsOf contentOf rows readOf lawfulSlot lawful leave finish hold firstStep nextStep ready acceptOf runOf
+arrived = refl
+
+pub arrives : Arrives
+arrives =
+    record {
+      law = law;
+      size = refl;
+      takes = takes;
+      sent = sent;
+      arrived = arrived;
+      claimed = λ claim. claim limit slots buffer before during after how message output law refl takes sent;
+    }

@@ -1,0 +1,108 @@
+use Prim.Native.Nat.{_-_}
+use mathlib.Core.Path.{sym, ap, _∙_}
+use native.Mathlib.Omega.{arith}
+use lib.ListN.{length}
+use borrow.Author.Needs.{needs}
+use denote.Ref.{now}
+use Rattle.outbox.specs.Format.{versionOne}
+use Rattle.outbox.specs.Reader.{told}
+use Rattle.outbox.proofs.Place.{read-within, read-at-end}
+use Rattle.outbox.proofs.Walk.{Going, going-begins, read-decides, read-goes}
+use Rattle.listing.specs.Listing.{listed, listedOf}
+use Rattle.listing.proofs.list_part.Statement.{statement}
+use Rattle.listing.proofs.list_part.Tie as tie
+
+abbrev Inv-loop : tie.InvT-loop
+Inv-loop part gone last place₀ place = Going (versionOne 4096) part place
+
+abbrev μ-loop : tie.MeasureT-loop
+μ-loop part gone last place₀ place = length part - place
+
+loop-holds : tie.Need-loop-holds Inv-loop μ-loop
+loop-holds c = going-begins (versionOne 4096) (now (c .before .args .part))
+
+read-requires : tie.Need-read-requires Inv-loop μ-loop
+read-requires c κs = search needs
+
+enum-known-stream : tie.Need-enum-known-stream Inv-loop μ-loop
+enum-known-stream c = search needs
+
+say-record-requires : tie.Need-say-record-requires Inv-loop μ-loop
+say-record-requires c κs = search needs
+
+loop-less : tie.Need-loop-less Inv-loop μ-loop
+loop-less c =
+    let m = c .before .before in
+    let r = m .before .before in
+    let ends = read-within (versionOne 4096) _ (r .before .loop .place) _ (sym (r .read .ensures) ∙ ap told (m .stream .given .1)) in
+    omega (arith, ends .0, ends .1)
+
+loop-again : tie.Need-loop-again Inv-loop μ-loop
+loop-again c =
+    let m = c .before .before in
+    let r = m .before .before in
+    read-goes (versionOne 4096) _ (r .before .loop .inv) _ (sym (r .read .ensures) ∙ ap told (m .stream .given .1))
+
+enum-told : tie.Need-enum-told Inv-loop μ-loop
+enum-told c = search needs
+
+list-end-requires : tie.Need-list-end-requires Inv-loop μ-loop
+list-end-requires c κs = search needs
+
+returns : tie.Need-returns Inv-loop μ-loop
+unfolding listedOf
+returns c =
+    let m = c .before in
+    let r = m .before .before in
+    let e = sym (r .read .ensures) ∙ ap told (m .enum-told .given .1) in
+    c .list-end .ensures
+    ∙ rw (read-decides (versionOne 4096) _ (r .before .loop .inv) _ e) (ap (listed _) (read-at-end (versionOne 4096) _ (r .before .loop .place) e))
+
+enum-told-2 : tie.Need-enum-told-2 Inv-loop μ-loop
+enum-told-2 c = search needs
+
+say-refused-requires : tie.Need-say-refused-requires Inv-loop μ-loop
+say-refused-requires c κs = search needs
+
+returns-2 : tie.Need-returns-2 Inv-loop μ-loop
+unfolding listedOf
+returns-2 c =
+    let m = c .before in
+    let r = m .before .before in
+    rw (read-decides (versionOne 4096) _ (r .before .loop .inv) _ (sym (r .read .ensures) ∙ ap told (m .enum-told2 .given .1)))
+
+enum-known-fault : tie.Need-enum-known-fault Inv-loop μ-loop
+enum-known-fault c = search needs
+
+list-refusal-requires : tie.Need-list-refusal-requires Inv-loop μ-loop
+list-refusal-requires c κs = search needs
+
+returns-3 : tie.Need-returns-3 Inv-loop μ-loop
+unfolding listedOf
+returns-3 c =
+    let m = c .before .before in
+    let r = m .before .before in
+    c .list-refusal .ensures
+    ∙ rw (read-decides (versionOne 4096) _ (r .before .loop .inv) _ (sym (r .read .ensures) ∙ ap told (m .fault .given .1)))
+
+pub list-part-spec : {M : Type 1} → statement M
+list-part-spec =
+    tie.close
+    (tie.spec
+    Inv-loop
+    μ-loop
+    loop-holds
+    read-requires
+    enum-known-stream
+    say-record-requires
+    loop-less
+    loop-again
+    enum-told
+    list-end-requires
+    returns
+    enum-told-2
+    say-refused-requires
+    returns-2
+    enum-known-fault
+    list-refusal-requires
+    returns-3)

@@ -1,0 +1,33 @@
+-- The claim of specs/Example.antt, computed.
+use mathlib.Core.Path.{refl}
+use native.Mathlib.Omega.{arith}
+use lib.Dec.{lit<, lit≤}
+use Rattle.frame.specs.Mark.{kindOf}
+use Rattle.frame.specs.Frame.{escapedOf, total, framed}
+use Rattle.frame.specs.Action.{codeOf}
+use Rattle.frame.specs.Extractor.{lawful, ready, storeOf, checked, endOf, advanceOf, feedFrom}
+use Rattle.recovery.specs.Run.{callOf, runOf, handedOut}
+use Rattle.recovery.specs.Recovery.{bytesOf, undamaged}
+use Rattle.recovery.specs.Example.{DamageExample}
+
+pub damage-example : DamageExample
+unfolding kindOf escapedOf total framed codeOf lawful ready storeOf checked endOf advanceOf feedFrom callOf runOf handedOut bytesOf undamaged
+damage-example =
+    record {
+      lawful = refl;
+      size = refl;
+      premises = (
+        record { unmarked = refl; fits = lit≤ tt; bytes = (lit< tt, (lit< tt, tt)); room = lit≤ tt },
+        (
+          record { unmarked = refl; fits = lit≤ tt; bytes = (lit< tt, (lit< tt, tt)); room = lit≤ tt },
+          omega arith,
+          record { inside = lit< tt; wasPlain = refl; isPlain = refl; byte = lit< tt; other = omega arith },
+          (record { unmarked = refl; fits = lit≤ tt; bytes = tt; room = lit≤ tt }, tt),
+        ),
+      );
+      written = refl;
+      undamaged = refl;
+      steps = record { used = refl; handed = refl };
+      calls = record { used = refl; handed = refl };
+      mixed = record { used = refl; handed = refl };
+    }

@@ -1,0 +1,103 @@
+-- The claim of specs/Premises.antt.
+use Prim.Native.Nat.{ℕ, zero, suc, _+_, _≤_, _<_}
+use mathlib.Core.Path.{_≡_, refl}
+use mathlib.Core.Bool.{true, false, cond}
+use mathlib.Core.List.{List, [], _∷_, map}
+use native.Mathlib.Omega.{arith}
+use lib.ListN.{length, take, drop, getD, length-drop}
+use borrow.Author.Tests.{eq-eqb, ne-eqb, le-leb}
+use Rattle.wire.specs.Bytes.{AllBytes}
+use Rattle.frame.specs.declared.extractor.Extractor.{Extractor}
+use Rattle.frame.specs.declared.extractor.Phase.{Phase}
+use Rattle.frame.specs.declared.extractor.Phase.the-variants.{Outside, PacketId, ErrorId, Sequence, Body, Escaped}
+use Rattle.frame.specs.Mark.{kindOf, isMark}
+use Rattle.frame.specs.Extractor.{sequenceRead, lawfulBefore, lawfulAfter, lawful, ready, Feed, advanceOf, decides, feedFrom}
+use Rattle.recovery.specs.Run.{callOf, runOf}
+use Rattle.recovery.specs.Premises.{NoMark, LawfulIn, asking, SendableWhen, TurnedWhen, ClosingWhen, LawfulWhen, AllUsedWhen, FactsSuffice}
+use Rattle.recovery.proofs.Ready.{of-cond, is-ready, feed-ready}
+use Rattle.recovery.proofs.Cut.{feed-later, call-keeps}
+use Rattle.recovery.proofs.Recovery.{sent-frame}
+
+no-mark : (b : ℕ) → NoMark b → isMark b ≡ false
+unfolding kindOf
+no-mark b h = rw (ne-eqb b 0xF0 (h .0), ne-eqb b 0xF1 (h .1), ne-eqb b 0xF2 (h .2))
+
+all-bytes : (l : List ℕ) → ((i : ℕ) → i < length l → getD l i 0 < 256) → AllBytes l
+all-bytes [] h = tt
+all-bytes (x ∷ xs) h = (h 0 (omega arith), all-bytes xs (λ i k. h (suc i) (omega arith)))
+
+sendable-when : SendableWhen
+sendable-when limit m byte plain fits bytes room =
+    record { unmarked = no-mark (m .sequence) plain; fits = fits; bytes = all-bytes (m .payload) bytes; room = room }
+
+turned-when : TurnedWhen
+turned-when bytes place new inside was byte is other =
+    record { inside = inside; wasPlain = no-mark (getD bytes place 0) was; isPlain = no-mark new is; byte = byte; other = other }
+
+closing-when : ClosingWhen
+closing-when =
+    record {
+      none = λ limit. tt;
+      whole-first = λ limit m is w c. (w, c);
+      damaged-first = λ limit m place new is w o t c. (w, o, rw (sent-frame limit m w) t, c);
+    }
+
+-- ---- lawful states
+
+lawful-before : (sequence held : ℕ) → (sequence ≡ 0) × (held ≡ 0) → lawfulBefore sequence held ≡ true
+lawful-before sequence held h = rw (eq-eqb sequence 0 (h .0), eq-eqb held 0 (h .1))
+
+lawful-after : (limit sequence held : ℕ) → NoMark sequence × (held ≤ limit + 2) → lawfulAfter limit sequence held ≡ true
+lawful-after limit sequence held h = rw (no-mark sequence (h .0), le-leb held (limit + 2) (h .1))
+
+lawful-in : (p : Phase) (limit sequence held : ℕ) → LawfulIn p limit sequence held
+    → cond (sequenceRead p) (lawfulAfter limit sequence held) (lawfulBefore sequence held) ≡ true
+lawful-in Outside limit sequence held h = lawful-before sequence held h
+lawful-in PacketId limit sequence held h = lawful-before sequence held h
+lawful-in ErrorId limit sequence held h = lawful-before sequence held h
+lawful-in Sequence limit sequence held h = lawful-before sequence held h
+lawful-in Body limit sequence held h = lawful-after limit sequence held h
+lawful-in Escaped limit sequence held h = lawful-after limit sequence held h
+
+lawful-when : LawfulWhen
+unfolding lawful
+lawful-when limit s byte h = lawful-in (s .phase) limit (s .sequence) (s .held) h
+
+-- ---- calls that use all bytes
+
+module _ (limit : ℕ) where
+  feed-uses : (s : Extractor) (l : List ℕ) (b : ℕ) (bs : List ℕ) → 1 ≤ feedFrom limit 0 s l (b ∷ bs) .used
+  unfolding feedFrom
+  feed-uses s l b bs =
+      let r = advanceOf limit s l b in
+      of-cond (λ (f : Feed). 1 ≤ f .used) (decides (r .report)) (omega arith) (rw (feed-later limit bs 1 (r .next) (r .buffer)) (omega arith))
+
+  -- a call that asks for a byte uses one, if there is one
+  call-uses : (n : ℕ) (s : Extractor) (l : List ℕ) (b : ℕ) (bs : List ℕ) → ready limit s (length l) ≡ true
+      → 1 ≤ callOf limit (asking n) s l (b ∷ bs) .used
+  unfolding callOf
+  call-uses zero s l b bs h = omega arith
+  call-uses (suc n) s l b bs h = rw (feed-ready limit s l (b ∷ take n bs) h) (feed-uses s l b (take n bs))
+
+  left : (n k : ℕ) (s : Extractor) (l bytes : List ℕ) → ready limit s (length l) ≡ true → length bytes ≤ suc k
+      → length (drop (callOf limit (asking n) s l bytes .used) bytes) ≤ k
+  left n k s l [] h m = simp length-drop (omega arith)
+  left n k s l (b ∷ bs) h m = simp length-drop (omega (arith, call-uses n s l b bs h))
+
+  none-left : (bytes : List ℕ) → length bytes ≤ 0 → bytes ≡ []
+  none-left [] h = refl
+  none-left (b ∷ bs) h = absurd (omega arith)
+
+  calls-use : (sizes : List ℕ) (n : ℕ) (s : Extractor) (l bytes : List ℕ) → ready limit s (length l) ≡ true → length bytes ≤ length sizes
+      → runOf limit (map asking sizes) n s l bytes .unused ≡ []
+  unfolding runOf
+  calls-use [] n s l bytes h k = none-left bytes k
+  calls-use (z ∷ zs) n s l bytes h k =
+      let f = callOf limit (asking z) s l bytes in
+      calls-use zs (n + f .used) (f .next) (f .buffer) (drop (f .used) bytes) (call-keeps limit (asking z) s l bytes h) (left z (length zs) s l bytes h k)
+
+all-used-when : AllUsedWhen
+all-used-when limit s l bytes sizes h n k = calls-use limit sizes 0 s l bytes (is-ready limit s l h n) k
+
+pub facts-suffice : FactsSuffice
+facts-suffice = record { sendable = sendable-when; turned = turned-when; closing = closing-when; lawful = lawful-when; used = all-used-when }

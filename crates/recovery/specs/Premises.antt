@@ -1,0 +1,85 @@
+-- The premises of the claims from the other side: each follows from document 01's facts, written out, so none of them asks for more.
+use Prim.Native.Nat.{ℕ, zero, suc, _+_, _≤_, _<_}
+use mathlib.Core.Path.{_≡_}
+use mathlib.Core.Logic.{_≢_}
+use mathlib.Core.Bool.{true}
+use mathlib.Core.List.{List, [], _∷_, map}
+use lib.ListN.{length, getD}
+use Rattle.frame.specs.declared.extractor.Extractor.{Extractor}
+use Rattle.frame.specs.declared.extractor.Phase.{Phase}
+use Rattle.frame.specs.declared.extractor.Phase.the-variants.{Outside, PacketId, ErrorId, Sequence, Body, Escaped}
+use Rattle.frame.specs.Frame.{frameOf}
+use Rattle.frame.specs.Extractor.{lawful}
+use Rattle.recovery.specs.Run.{Call, one, many, runOf}
+use Rattle.recovery.specs.Recovery.{Sending, Sendable, Turned, Item, whole, damaged, Closing}
+
+abbrev pub NoMark : ℕ → Type 0
+NoMark b = (b ≢ 0xF0) × (b ≢ 0xF1) × (b ≢ 0xF2)
+
+-- a sequence byte that is no mark, a payload of 0 to limit bytes, and an output that is at least as long as their frame
+abbrev pub SendableWhen : Type 0
+SendableWhen =
+    (limit : ℕ) (m : Sending)
+    → m .sequence < 256
+    → NoMark (m .sequence)
+    → length (m .payload) ≤ limit
+    → ((i : ℕ) → i < length (m .payload) → getD (m .payload) i 0 < 256)
+    → length (frameOf (m .sequence) (m .payload)) ≤ length (m .out)
+    → Sendable limit m
+
+-- a byte that is no mark, and another one that is none
+abbrev pub TurnedWhen : Type 0
+TurnedWhen =
+    (bytes : List ℕ) (place new : ℕ)
+    → place < length bytes
+    → NoMark (getD bytes place 0)
+    → new < 256
+    → NoMark new
+    → new ≢ getD bytes place 0
+    → Turned bytes place new
+
+-- any number of frames in any order, whole or with one byte turned, which may be each but the fourth
+pub record ClosingWhen : Type 0 where
+  pub none : (limit : ℕ) → Closing limit []
+  pub whole-first : (limit : ℕ) (m : Sending) (is : List Item) → Sendable limit m → Closing limit is → Closing limit (whole m ∷ is)
+  pub damaged-first : (limit : ℕ) (m : Sending) (place new : ℕ) (is : List Item)
+      → Sendable limit m
+      → place ≢ 3
+      → Turned (frameOf (m .sequence) (m .payload)) place new
+      → Closing limit is
+      → Closing limit (damaged m place new ∷ is)
+
+-- before the sequence byte is read, a sequence of 0 and nothing held; behind it, a sequence that is no mark and up to limit + 2 bytes held
+abbrev pub LawfulIn : Phase → ℕ → ℕ → ℕ → Type 0
+LawfulIn Outside limit sequence held = (sequence ≡ 0) × (held ≡ 0)
+LawfulIn PacketId limit sequence held = (sequence ≡ 0) × (held ≡ 0)
+LawfulIn ErrorId limit sequence held = (sequence ≡ 0) × (held ≡ 0)
+LawfulIn Sequence limit sequence held = (sequence ≡ 0) × (held ≡ 0)
+LawfulIn Body limit sequence held = NoMark sequence × (held ≤ limit + 2)
+LawfulIn Escaped limit sequence held = NoMark sequence × (held ≤ limit + 2)
+
+abbrev pub LawfulWhen : Type 0
+LawfulWhen = (limit : ℕ) (s : Extractor) → s .sequence < 256 → LawfulIn (s .phase) limit (s .sequence) (s .held) → lawful limit s ≡ true
+
+-- a call that asks for a byte: a step for 0, and a call for n bytes for any other n
+abbrev pub asking : ℕ → Call
+asking zero = one
+asking (suc n) = many (suc n)
+
+-- as many such calls as there are bytes use them all
+abbrev pub AllUsedWhen : Type 0
+AllUsedWhen =
+    (limit : ℕ) (s : Extractor) (buffer bytes sizes : List ℕ)
+    → lawful limit s ≡ true
+    → length buffer ≡ limit + 2
+    → length bytes ≤ length sizes
+    → runOf limit (map asking sizes) 0 s buffer bytes .unused ≡ []
+
+-- ---- the claim
+
+pub record FactsSuffice : Type 0 where
+  pub sendable : SendableWhen
+  pub turned : TurnedWhen
+  pub closing : ClosingWhen
+  pub lawful : LawfulWhen
+  pub used : AllUsedWhen
