@@ -7,9 +7,10 @@ use mathlib.Core.List.{List, [], _∷_, _++_, append-assoc}
 use native.Mathlib.Omega.{arith}
 use native.Mathlib.Nat.{zero-add}
 use lib.ListN.{length, set, length-append}
-use lib.Seq.{sets, sets-eq, length-sets, take-append-seam}
+use lib.Seq.{sets, length-sets}
 use borrow.Author.Tests.{le-ltb}
 use Rattle.wire.specs.Bytes.{pairBytes}
+use Rattle.wire.proofs.Stores.{first-bytes}
 use Rattle.framing.specs.declared.mark.Kind.the-variants.{Plain}
 use Rattle.framing.specs.Mark.{endMark, kindOf}
 use Rattle.framing.specs.Frame.{packetId, errorId, escapedOf, checksumOf, contentOf, headerOf, framed, frameOf}
@@ -37,8 +38,7 @@ sent-frame limit m w =
       w .unmarked,
       le-ltb limit (length (m .payload)) (omega arith),
       le-ltb (length (m .out)) (length f) (omega arith),
-      sets-eq f (m .out) 0 (omega arith),
-      take-append-seam,
+      first-bytes (m .out) f (omega arith),
     )
 
 -- a frame hands out `given`, and what comes behind it finds the extractor outside, with a buffer of the same size

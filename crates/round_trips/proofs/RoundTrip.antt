@@ -11,6 +11,7 @@ use lib.Seq.{sets, take-all}
 use lib.Dec.{eqb, ltb}
 use borrow.Author.Tests.{ne-eqb, le-ltb, eqb-false}
 use Rattle.wire.specs.Told.{Told, given, refused, andThen, Written}
+use Rattle.wire.proofs.Stores.{first-bytes}
 use Rattle.field.specs.declared.value.Part.{Part}
 use Rattle.field.specs.Signed.{extended}
 use Rattle.field.specs.Tag.{lastField}
@@ -38,7 +39,7 @@ use Rattle.control.specs.Envelope.{payloadOf, envelopeOf, envelopeFields, badPa
 use Rattle.device.specs.Features.{featuresOf, featuresFields, featuresWritten}
 use Rattle.device.specs.Information.{informationOf, informationFields, informationWritten}
 use Rattle.round_trips.specs.RoundTrip.{Signed32, AllSigned32, MemberNumber, Gives, ReadsBack, NoneRefused, innerBytes, responseContents, responseAgain, InnerNumbered, payloadBytes, CodeSigned32, PayloadNumbered, envelopeContents, envelopeAgain, informationAgain, ResponseRoundTrip, EnvelopeRoundTrip, FeaturesRoundTrip, InformationRoundTrip}
-use Rattle.round_trips.proofs.Values.{first-bytes, At, whole, front, behind, last, taken, signed-trip, extended-fits}
+use Rattle.round_trips.proofs.Values.{At, whole, front, behind, last, taken, signed-trip, extended-fits}
 use Rattle.round_trips.proofs.Fields.{reads-end, reads-scalar, reads-text, reads-packed, reads-member, partAt, part-there, textAt, withTransports, fields-read, text-back}
 
 -- with arguments in range and room enough, a writer gives what a reader reads in its fields' bytes

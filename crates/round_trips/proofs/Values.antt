@@ -6,7 +6,7 @@ use native.Mathlib.Omega.{arith}
 use native.Mathlib.Decide.{decLt}
 use lib.IntN.{ℤ, pos, negsuc}
 use lib.ListN.{length, drop, take, length-append, length-drop}
-use lib.Seq.{sets, sets-eq, drop-drop, drop-append-seam, take-append-seam, take-add, drop-at, length-take-le}
+use lib.Seq.{drop-drop, drop-append-seam, take-append-seam, take-add, drop-at, length-take-le}
 use borrow.Author.Tests.{lt-ltb, le-ltb, le-leb, ne-eqb}
 use mir.Syntax.{w32}
 use mir.Val.{SFits, toZ}
@@ -56,12 +56,6 @@ cut {s} {at} {l} {rest} h a =
           ap (drop at) (take-add at (length l) s) ∙ drop-at (take at s) (take (length l) (drop at s)) at (length-take-le at s h)
           ∙ taken a ∙ sym (append-nil l);
     }
-
--- what was written from the first byte on is what the first bytes hold
-pub first-bytes : {A : Type 0} (out bytes : List A) → length bytes ≤ length out → take (length bytes) (sets out 0 bytes) ≡ bytes
-first-bytes {A} out bytes h =
-    let e : sets out 0 bytes ≡ bytes ++ drop (0 + length bytes) out = sets-eq bytes out 0 (omega arith) in
-    ap (take (length bytes)) e ∙ take-append-seam bytes (drop (0 + length bytes) out)
 
 -- ---- varints
 digits-trip : (k v at : ℕ) (rest : List ℕ) → v < top k → varintFrom k at (digitsOf k v ++ rest) ≡ given (v, at + length (digitsOf k v))
