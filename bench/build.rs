@@ -1,4 +1,5 @@
-//! Links what `bench/run` has put together: the library's archive, the C subjects, and Debian's nanopb.
+//! Links what `bench/run` has put together: the library's archive, the C subjects, and Debian's nanopb
+//! and protobuf-c.
 
 use std::env;
 
@@ -8,7 +9,8 @@ fn main() {
     println!("cargo:rustc-link-search=native={folder}");
     for library in ["capi", "bench_c"] {
         println!("cargo:rerun-if-changed={folder}/lib{library}.a");
-        println!("cargo:rustc-link-lib=static={library}");
     }
+    println!("cargo:rustc-link-lib=static=bench_c");
     println!("cargo:rustc-link-lib=protobuf-nanopb");
+    println!("cargo:rustc-link-lib=protobuf-c");
 }

@@ -6,44 +6,24 @@
  * state. Each function always returns, on any bytes and any numbers, and is proved to do what its comment says.
  *
  * SLICES. A slice is passed as a pointer and a length, in elements. Pointers are valid and never null, also where
- * the length is 0, and a slice that a call may write overlaps no other slice of that call. That is all that a
- * caller owes.
+ * the length is 0 (the toolchain promises nothing of a null pointer; any array's address serves), and a slice that a
+ * call may write overlaps no other slice of that call. That is all that a caller owes.
  *
- * ROWS. A state and an answer are rows of uint64_t, of the length that is named beside each function
- * (PITO_.._STATE, PITO_.._ANSWER). A state row goes in and out of the same array; the caller keeps it from one call
- * to the next and need not look inside.
+ * ROWS. A state and an answer are rows of uint64_t. Each row has an enum: the places of its numbers in their order,
+ * and last, as PITO_.._STATE or PITO_.._ANSWER, how many there are, which is the length to pass. A state row goes in
+ * and out of the same array; the caller keeps it from one call to the next and need not look inside.
  *
- * NUMBERS. Each function returns 0, or the number of a refusal:
- *
- *    1  a row of another length, numbers that no state can have, a lent buffer of the wrong size, an unlawful
- *       state, or used bytes beyond the buffer: NOTHING has changed, neither state, lent bytes nor answer; only the
- *       answer of pito_extractor_feed, where it has its length, tells then that 0 bytes were used
- *    2  packet under 2 bytes, or under its header          20  F0 inside a frame
- *    3  packet of an unknown stream                        21  F1 in the header, or under 2 bytes stored
- *    4  reserved byte of a first packet not 0              22  packet id not 02, error id not 00, F2 in the header
- *    5  packet length is not header plus payload           23  F1, or no escape code, after F2
- *    6  total over 4,096                                   24  a 4,099th byte to store
- *    7  empty payload                                      25  checksum differs
- *    8  first payload above its total                      30  message ends inside a field
- *    9  no open transaction of that id in the stream       31  varint whose tenth byte is above 01
- *   10  sequence not the next                              32  field 0 or above 536,870,911; wire type 3, 4, 6, 7
- *   11  total reached too early, passed, or missed         33  known field with another wire type
- *   12  type 3 packet that is no ACK and no NACK           34  second payload member, or a ninth transport
- *   13  room not 20 to 512                                 40  outbox empty, or version not 01
- *   14  output too small                                   41  record cut short
- *   15  an argument out of its range                       42  record length 0 or over 4,097
- *                                                          43  record's stream not 0, 2, 6
- *
+ * NUMBERS. Each function returns 0 or the number of a refusal, PITO_REFUSED_.. below.
  * After every call that does not return 1 the whole answer row is written. After a refusal it is 0 throughout, but
  * for what is said below (the number of bytes used by pito_extractor_feed, the place that goes with 41).
  * A refusal leaves state and lent bytes as they were, except that 20 to 25 leave the extractor outside a frame (20:
  * at the begin of the new one), 10 and 11 leave the slot of the stream idle, and pito_extractor_feed has by then
  * stored what came before the refused byte, in state and buffer as single steps would have.
+ * Under 1 NOTHING has changed, neither state, lent bytes nor answer; only the answer of pito_extractor_feed, where it
+ * has its length, tells then that 0 bytes were used.
  *
  * Signed 32-bit numbers (command, error code, transports) stand in 64 bits in two's complement, sign-extended:
  * (uint64_t)(int64_t)value on the way in, (int32_t)(int64_t)number on the way out.
- *
- * Streams: 0 control, 2 OTA, 6 Alexa.
  */
 #ifndef PITOKAENGE_H
 #define PITOKAENGE_H
@@ -55,30 +35,86 @@
 extern "C" {
 #endif
 
+/* The version of this interface: one more with each change that a caller has to follow. */
+#define PITO_VERSION 1
+
+/* The library is for 64-bit machines: a length is a number of 64 bits. */
+typedef char pito_size_t_has_64_bits[sizeof(size_t) == 8 ? 1 : -1];
+
+/* What a call returns is to be looked at, and no pointer is null. */
+#if defined(__GNUC__)
+#define PITO_CALL __attribute__((warn_unused_result, nonnull))
+#else
+#define PITO_CALL
+#endif
+
 /* The largest message in bytes, and what the lent buffers have exactly. */
 #define PITO_MESSAGE_LIMIT 4096
 #define PITO_EXTRACTOR_BUFFER 4098
 #define PITO_RECEIVER_BUFFER 12288
-
-/* Refusals that a caller acts upon by themselves: 1 before it reads an answer, 41 when it opens an outbox again. */
-#define PITO_REFUSED_UNFIT 1
-#define PITO_REFUSED_RECORD_CUT 41
 
 /* Streams. */
 #define PITO_STREAM_CONTROL 0
 #define PITO_STREAM_OTA 2
 #define PITO_STREAM_ALEXA 6
 
+/* What a call returns. */
+enum {
+    PITO_DONE = 0,
+    /* A row of another length, numbers that no state can have, a lent buffer of the wrong size, an unlawful state, or
+     * used bytes beyond the buffer. */
+    PITO_REFUSED_UNFIT = 1,
+
+    /* Packets read. */
+    PITO_REFUSED_PACKET_SHORT = 2,    /* packet under 2 bytes, or under its header */
+    PITO_REFUSED_STREAM = 3,          /* packet of an unknown stream */
+    PITO_REFUSED_RESERVED_BYTE = 4,   /* reserved byte of a first packet not 0 */
+    PITO_REFUSED_PACKET_LENGTH = 5,   /* packet length is not header plus payload */
+    PITO_REFUSED_TOTAL = 6,           /* total over 4,096 */
+    PITO_REFUSED_EMPTY_PAYLOAD = 7,   /* empty payload, but for a first packet with total 0 */
+    PITO_REFUSED_ABOVE_TOTAL = 8,     /* first payload above its total */
+    PITO_REFUSED_NO_TRANSACTION = 9,  /* no open transaction of that id in the stream */
+    PITO_REFUSED_SEQUENCE = 10,       /* sequence not the next */
+    PITO_REFUSED_MISSES_TOTAL = 11,   /* total reached too early, passed, or missed */
+    PITO_REFUSED_CONTROL_PACKET = 12, /* type 3 packet that is no ACK and no NACK */
+
+    /* Writers. */
+    PITO_REFUSED_ROOM = 13,     /* room not 20 to 512 */
+    PITO_REFUSED_OUTPUT = 14,   /* output too small */
+    PITO_REFUSED_ARGUMENT = 15, /* an argument out of its range */
+
+    /* Frames. */
+    PITO_REFUSED_START_INSIDE = 20, /* F0 inside a frame */
+    PITO_REFUSED_FRAME_SHORT = 21,  /* F1 in the header, or under 2 bytes stored */
+    PITO_REFUSED_HEADER = 22,       /* packet id not 02, error id not 00, F2 in the header */
+    PITO_REFUSED_ESCAPE = 23,       /* F1, or no escape code, after F2 */
+    PITO_REFUSED_FRAME_LONG = 24,   /* a 4,099th byte to store */
+    PITO_REFUSED_CHECKSUM = 25,     /* checksum differs */
+
+    /* Messages. */
+    PITO_REFUSED_MESSAGE_CUT = 30, /* message ends inside a field */
+    PITO_REFUSED_VARINT = 31,      /* varint whose tenth byte is above 01 */
+    PITO_REFUSED_TAG = 32,         /* field 0 or above 536,870,911; wire type 3, 4, 6, 7 */
+    PITO_REFUSED_WIRE_TYPE = 33,   /* known field with another wire type */
+    PITO_REFUSED_TOO_MANY = 34,    /* second payload member, or a ninth transport */
+
+    /* The outbox. */
+    PITO_REFUSED_VERSION = 40,       /* outbox empty, or version not 01 */
+    PITO_REFUSED_RECORD_CUT = 41,    /* record cut short */
+    PITO_REFUSED_RECORD_LENGTH = 42, /* record length 0 or over 4,097 */
+    PITO_REFUSED_RECORD_STREAM = 43  /* record's stream not 0, 2, 6 */
+};
+
 /* ------------------------------------------------------------------------------------------------------------
  * Classic: the extractor
  *
- * State row: phase, sequence, held. All 0 is the empty state, outside a frame: begin with that. Phases: 0 outside,
- * 1 before the packet id, 2 before the error id, 3 before the sequence byte, 4 in the body, 5 after F2.
+ * State row: all 0 is the empty state, outside a frame: begin with that. Phases: 0 outside, 1 before the packet id, 2
+ * before the error id, 3 before the sequence byte, 4 in the body, 5 after F2.
  * Buffer: exactly PITO_EXTRACTOR_BUFFER bytes, the same one from call to call. A frame's payload stands first in it
  * when the call that tells the frame returns, and until the next call.
  * Returns 0, 1, 20, 21, 22, 23, 24, 25.
  */
-#define PITO_EXTRACTOR_STATE 3
+enum { PITO_EXTRACTOR_PHASE, PITO_EXTRACTOR_SEQUENCE, PITO_EXTRACTOR_HELD, PITO_EXTRACTOR_STATE };
 
 /* Outcomes. */
 #define PITO_SKIPPED 0  /* of a step: a byte outside a frame */
@@ -88,45 +124,40 @@ extern "C" {
 
 /*
  * One byte.
- * Answer: outcome, sequence, length. Sequence byte and payload length are a frame's, else 0.
+ * Answer: sequence byte and payload length are a frame's, else 0.
  */
-#define PITO_STEP_ANSWER 3
-uint64_t pito_extractor_step(uint64_t *state, size_t state_len, uint8_t *buffer, size_t buffer_len, uint8_t byte,
-                             uint64_t *answer, size_t answer_len);
+enum { PITO_STEP_OUTCOME, PITO_STEP_SEQUENCE, PITO_STEP_LENGTH, PITO_STEP_ANSWER };
+PITO_CALL uint64_t pito_extractor_step(uint64_t *state, size_t state_len, uint8_t *buffer, size_t buffer_len,
+                                       uint8_t byte, uint64_t *answer, size_t answer_len);
 
 /*
  * Many bytes, up to the first frame or refusal or to their end. Call again with the bytes not yet used.
- * Answer: outcome, used, sequence, length. Used is the number of bytes used, also after a refusal, where the other
- * three are 0. Under 1 it is 0: a loop must end there, as no later call would use more.
+ * Answer: used is the number of bytes used, also after a refusal, where the other three are 0. Under 1 it is 0: a loop
+ * must end there, as no later call would use more.
  */
-#define PITO_FEED_ANSWER 4
-#define PITO_FEED_OUTCOME 0
-#define PITO_FEED_USED 1
-#define PITO_FEED_SEQUENCE 2
-#define PITO_FEED_LENGTH 3
-uint64_t pito_extractor_feed(uint64_t *state, size_t state_len, uint8_t *buffer, size_t buffer_len,
-                             const uint8_t *bytes, size_t bytes_len, uint64_t *answer, size_t answer_len);
+enum { PITO_FEED_OUTCOME, PITO_FEED_USED, PITO_FEED_SEQUENCE, PITO_FEED_LENGTH, PITO_FEED_ANSWER };
+PITO_CALL uint64_t pito_extractor_feed(uint64_t *state, size_t state_len, uint8_t *buffer, size_t buffer_len,
+                                       const uint8_t *bytes, size_t bytes_len, uint64_t *answer, size_t answer_len);
 
 /* ------------------------------------------------------------------------------------------------------------
  * Classic: the frame writer
  */
 
 /*
- * Writes the frame of a payload, from the first byte of the output on. At most 2 * payload_len + 9 bytes.
- * Answer: written.
+ * Writes the frame of a payload, from the first byte of the output on. PITO_FRAME_SIZE(payload_len) bytes are enough.
  * Returns 0, 1, 15 (a sequence that is F0, F1, F2 or no byte; a payload over 4,096), 14.
  */
-#define PITO_FRAME_WRITE_ANSWER 1
-uint64_t pito_frame_write(uint64_t sequence, const uint8_t *payload, size_t payload_len, uint8_t *output,
-                          size_t output_len, uint64_t *answer, size_t answer_len);
+#define PITO_FRAME_SIZE(payload_len) (2 * (payload_len) + 9)
+enum { PITO_FRAME_WRITE_WRITTEN, PITO_FRAME_WRITE_ANSWER };
+PITO_CALL uint64_t pito_frame_write(uint64_t sequence, const uint8_t *payload, size_t payload_len, uint8_t *output,
+                                    size_t output_len, uint64_t *answer, size_t answer_len);
 
 /*
  * The sequence byte after a sequence byte.
- * Answer: next.
  * Returns 0, 1.
  */
-#define PITO_NEXT_SEQUENCE_ANSWER 1
-uint64_t pito_next_sequence(uint8_t sequence, uint64_t *answer, size_t answer_len);
+enum { PITO_NEXT_SEQUENCE_NEXT, PITO_NEXT_SEQUENCE_ANSWER };
+PITO_CALL uint64_t pito_next_sequence(uint8_t sequence, uint64_t *answer, size_t answer_len);
 
 /* ------------------------------------------------------------------------------------------------------------
  * Low Energy: sending
@@ -136,66 +167,83 @@ uint64_t pito_next_sequence(uint8_t sequence, uint64_t *answer, size_t answer_le
  * Writes one packet of a message: the one whose piece begins at the place, first in the output. Begin at place 0 and
  * go on at the next place that each call tells, with all other arguments the same, until the next place is
  * message_len (an empty message has one packet).
- *   room      the largest whole packet in bytes, 20 to 512; the output has at least this size
+ *   room      the largest whole packet in bytes, 20 to 512: the link's ATT_MTU less 3, which ATT itself takes; the
+ *             output has at least this size
  *   stream    0, 2 or 6
  *   id        the transaction's, 0 to 15
  *   sequence  the first packet's, 0 to 15; each later packet has the next one by itself
  *   ack       1 if an ACK is wanted, else 0
  *   message   at most 4,096 bytes
- * Answer: written, next place.
  * Returns 0, 1, 13, 15 (stream, id, sequence, ack or message size out of range; a place where no piece begins), 14
  * (an output smaller than the room), the first that holds in this order.
  */
-#define PITO_PACKET_WRITE_ANSWER 2
-uint64_t pito_packet_write(uint64_t room, uint64_t stream, uint64_t id, uint64_t sequence, uint64_t ack,
-                           const uint8_t *message, size_t message_len, uint64_t place, uint8_t *output,
-                           size_t output_len, uint64_t *answer, size_t answer_len);
+#define PITO_LEAST_ROOM 20
+#define PITO_LARGEST_ROOM 512
+enum { PITO_PACKET_WRITE_WRITTEN, PITO_PACKET_WRITE_NEXT_PLACE, PITO_PACKET_WRITE_ANSWER };
+PITO_CALL uint64_t pito_packet_write(uint64_t room, uint64_t stream, uint64_t id, uint64_t sequence, uint64_t ack,
+                                     const uint8_t *message, size_t message_len, uint64_t place, uint8_t *output,
+                                     size_t output_len, uint64_t *answer, size_t answer_len);
 
 /*
  * Writes the ACK (positive 1) or NACK (positive 0) of a request: six bytes, first in the output. Stream and id are
  * the request's; any sequence from 0 to 15.
- * Answer: written.
  * Returns 0, 1, 15 (stream, id, sequence or positive out of range), 14.
  */
-#define PITO_ACK_WRITE_ANSWER 1
-uint64_t pito_ack_write(uint64_t stream, uint64_t id, uint64_t sequence, uint64_t positive, uint8_t *output,
-                        size_t output_len, uint64_t *answer, size_t answer_len);
+#define PITO_ACK_SIZE 6
+enum { PITO_ACK_WRITE_WRITTEN, PITO_ACK_WRITE_ANSWER };
+PITO_CALL uint64_t pito_ack_write(uint64_t stream, uint64_t id, uint64_t sequence, uint64_t positive, uint8_t *output,
+                                  size_t output_len, uint64_t *answer, size_t answer_len);
 
 /* ------------------------------------------------------------------------------------------------------------
  * Low Energy: receiving
  *
- * State row: five numbers for each stream's slot, in the order control, OTA, Alexa: open, id, total, held, sequence.
- * All 0 is the state with no open transaction: begin with that.
- * Buffer: exactly PITO_RECEIVER_BUFFER bytes, the same one from call to call: control has the first third, OTA the
- * middle one, Alexa the last.
+ * State row: the numbers of a slot for each stream, from PITO_RECEIVER_SLOT(stream) on. All 0 is the state with no open
+ * transaction: begin with that.
+ * Buffer: exactly PITO_RECEIVER_BUFFER bytes, the same one from call to call. A stream's part of it, a third, begins at
+ * PITO_RECEIVER_PART(stream): control has the first, OTA the middle one, Alexa the last.
  */
-#define PITO_RECEIVER_STATE 15
+enum { PITO_SLOT_OPEN, PITO_SLOT_ID, PITO_SLOT_TOTAL, PITO_SLOT_HELD, PITO_SLOT_SEQUENCE, PITO_SLOT_STATE };
+#define PITO_RECEIVER_STATE (3 * PITO_SLOT_STATE)
+
+/* Of one of the three streams: its slot's place in the state row, its part's place in the buffer. */
+#define PITO_RECEIVER_OF(stream) ((stream) == PITO_STREAM_CONTROL ? 0 : (stream) == PITO_STREAM_OTA ? 1 : 2)
+#define PITO_RECEIVER_SLOT(stream) (PITO_RECEIVER_OF(stream) * PITO_SLOT_STATE)
+#define PITO_RECEIVER_PART(stream) (PITO_RECEIVER_OF(stream) * PITO_MESSAGE_LIMIT)
 
 /* Outcomes. */
 #define PITO_PIECE_TAKEN 0 /* a piece of a transaction, with more to come */
-#define PITO_FINISHED 1    /* the message is whole: it stands first in its stream's third, until its next packet */
+#define PITO_FINISHED 1    /* the message is whole: it stands first in its stream's part, until its next packet */
 #define PITO_ACKED 2       /* an ACK */
 #define PITO_NACKED 3      /* a NACK */
 
 /*
  * One packet.
- * Answer: outcome, stream, id, sequence, total, ACK wanted, dropped.
+ * Answer:
  *   sequence    an ACK's or NACK's own, else 0
  *   total       the length of a finished message, else 0
  *   ACK wanted  1 if a finished message wants an ACK, else 0
- *   dropped     1 if a first packet replaced an open transaction of its stream, else 0
+ *   replaced    1 if a first packet replaced an open transaction of its stream, else 0
  * Returns 0, or the first of 1, 2, 3, 12, 4, 5, 6, 7, 8, 9, 10, 11 that holds.
  */
-#define PITO_RECEIVER_ANSWER 7
-uint64_t pito_receiver_accept(uint64_t *state, size_t state_len, uint8_t *buffer, size_t buffer_len,
-                              const uint8_t *packet, size_t packet_len, uint64_t *answer, size_t answer_len);
+enum {
+    PITO_ACCEPT_OUTCOME,
+    PITO_ACCEPT_STREAM,
+    PITO_ACCEPT_ID,
+    PITO_ACCEPT_SEQUENCE,
+    PITO_ACCEPT_TOTAL,
+    PITO_ACCEPT_ACK_WANTED,
+    PITO_ACCEPT_REPLACED,
+    PITO_ACCEPT_ANSWER
+};
+PITO_CALL uint64_t pito_receiver_accept(uint64_t *state, size_t state_len, uint8_t *buffer, size_t buffer_len,
+                                        const uint8_t *packet, size_t packet_len, uint64_t *answer, size_t answer_len);
 
 /* ------------------------------------------------------------------------------------------------------------
  * Control messages
  *
  * Readers tell parts as start and length within the message that was read. They return 0, 1, 31, 32, 33, 34 or 30;
  * a message is judged field by field. Writers write from the first byte of the output on, in the shortest form, and
- * return 0, 1, 15, 14.
+ * return 0, 1, 15, 14; PITO_.._SIZE is enough output for any arguments of these lengths.
  */
 
 /* The payload of an envelope. */
@@ -205,12 +253,20 @@ uint64_t pito_receiver_accept(uint64_t *state, size_t state_len, uint8_t *buffer
 
 /*
  * Reads a control envelope.
- * Answer: command, payload, error_code, field, start, length.
+ * Answer:
  *   error_code  a response's, else 0
  *   field, start, length  another member's, or those of a response's payload; 0 where there is none
  */
-#define PITO_ENVELOPE_READ_ANSWER 6
-uint64_t pito_envelope_read(const uint8_t *message, size_t message_len, uint64_t *answer, size_t answer_len);
+enum {
+    PITO_ENVELOPE_READ_COMMAND,
+    PITO_ENVELOPE_READ_PAYLOAD,
+    PITO_ENVELOPE_READ_ERROR_CODE,
+    PITO_ENVELOPE_READ_FIELD,
+    PITO_ENVELOPE_READ_START,
+    PITO_ENVELOPE_READ_LENGTH,
+    PITO_ENVELOPE_READ_ANSWER
+};
+PITO_CALL uint64_t pito_envelope_read(const uint8_t *message, size_t message_len, uint64_t *answer, size_t answer_len);
 
 /*
  * Writes a control envelope.
@@ -220,62 +276,79 @@ uint64_t pito_envelope_read(const uint8_t *message, size_t message_len, uint64_t
  *   field       another member's number, 2 to 536,870,911 and not 9; or that of a response's payload, 2 to 536,870,911
  *               (9 too), where 0 is no payload; not looked at with payload 0
  *   bytes       the member's, or those of the response's payload; not looked at where there is none
- * Answer: written.
  */
-#define PITO_ENVELOPE_WRITE_ANSWER 1
-uint64_t pito_envelope_write(uint64_t command, uint64_t payload, uint64_t error_code, uint64_t field,
-                             const uint8_t *bytes, size_t bytes_len, uint8_t *output, size_t output_len,
-                             uint64_t *answer, size_t answer_len);
+#define PITO_ENVELOPE_SIZE(bytes_len) ((bytes_len) + 53)
+enum { PITO_ENVELOPE_WRITE_WRITTEN, PITO_ENVELOPE_WRITE_ANSWER };
+PITO_CALL uint64_t pito_envelope_write(uint64_t command, uint64_t payload, uint64_t error_code, uint64_t field,
+                                       const uint8_t *bytes, size_t bytes_len, uint8_t *output, size_t output_len,
+                                       uint64_t *answer, size_t answer_len);
 
 /*
  * Reads a response.
- * Answer: error_code, field, start, length; the last three are its payload's, 0 where there is none.
+ * Answer: field, start and length are its payload's, 0 where there is none.
  */
-#define PITO_RESPONSE_READ_ANSWER 4
-uint64_t pito_response_read(const uint8_t *message, size_t message_len, uint64_t *answer, size_t answer_len);
+enum {
+    PITO_RESPONSE_READ_ERROR_CODE,
+    PITO_RESPONSE_READ_FIELD,
+    PITO_RESPONSE_READ_START,
+    PITO_RESPONSE_READ_LENGTH,
+    PITO_RESPONSE_READ_ANSWER
+};
+PITO_CALL uint64_t pito_response_read(const uint8_t *message, size_t message_len, uint64_t *answer, size_t answer_len);
 
 /*
  * Writes a response: an error code, a signed 32-bit number, and a payload as the member of a number from 2 to
  * 536,870,911; field 0 is no payload, and the bytes are then not looked at.
- * Answer: written.
  */
-#define PITO_RESPONSE_WRITE_ANSWER 1
-uint64_t pito_response_write(uint64_t error_code, uint64_t field, const uint8_t *bytes, size_t bytes_len,
-                             uint8_t *output, size_t output_len, uint64_t *answer, size_t answer_len);
+#define PITO_RESPONSE_SIZE(bytes_len) ((bytes_len) + 31)
+enum { PITO_RESPONSE_WRITE_WRITTEN, PITO_RESPONSE_WRITE_ANSWER };
+PITO_CALL uint64_t pito_response_write(uint64_t error_code, uint64_t field, const uint8_t *bytes, size_t bytes_len,
+                                       uint8_t *output, size_t output_len, uint64_t *answer, size_t answer_len);
 
 /*
  * Reads device information. Strings are handed on as bytes; an absent one is start 0, length 0.
- * Answer: serial_number start, length, name start, length, device_type start, length, transports, and eight
- * transports, 0 where there are fewer.
+ * Answer: how many transports there are, and from PITO_INFORMATION_READ_TRANSPORT on eight of them, 0 where there are
+ * fewer.
  */
 #define PITO_MOST_TRANSPORTS 8
-#define PITO_INFORMATION_READ_ANSWER 15
-uint64_t pito_information_read(const uint8_t *message, size_t message_len, uint64_t *answer, size_t answer_len);
+enum {
+    PITO_INFORMATION_READ_SERIAL_NUMBER_START,
+    PITO_INFORMATION_READ_SERIAL_NUMBER_LENGTH,
+    PITO_INFORMATION_READ_NAME_START,
+    PITO_INFORMATION_READ_NAME_LENGTH,
+    PITO_INFORMATION_READ_DEVICE_TYPE_START,
+    PITO_INFORMATION_READ_DEVICE_TYPE_LENGTH,
+    PITO_INFORMATION_READ_TRANSPORTS,
+    PITO_INFORMATION_READ_TRANSPORT,
+    PITO_INFORMATION_READ_ANSWER = PITO_INFORMATION_READ_TRANSPORT + PITO_MOST_TRANSPORTS
+};
+PITO_CALL uint64_t pito_information_read(const uint8_t *message, size_t message_len, uint64_t *answer,
+                                         size_t answer_len);
 
 /*
  * Writes device information; transports are at most eight signed 32-bit numbers, each in 64 bits.
- * Answer: written.
  */
-#define PITO_INFORMATION_WRITE_ANSWER 1
-uint64_t pito_information_write(const uint8_t *serial_number, size_t serial_number_len, const uint8_t *name,
-                                size_t name_len, const uint8_t *device_type, size_t device_type_len,
-                                const uint64_t *transports, size_t transports_len, uint8_t *output,
-                                size_t output_len, uint64_t *answer, size_t answer_len);
+#define PITO_INFORMATION_SIZE(serial_number_len, name_len, device_type_len)                                            \
+    ((serial_number_len) + (name_len) + (device_type_len) + 124)
+enum { PITO_INFORMATION_WRITE_WRITTEN, PITO_INFORMATION_WRITE_ANSWER };
+PITO_CALL uint64_t pito_information_write(const uint8_t *serial_number, size_t serial_number_len, const uint8_t *name,
+                                          size_t name_len, const uint8_t *device_type, size_t device_type_len,
+                                          const uint64_t *transports, size_t transports_len, uint8_t *output,
+                                          size_t output_len, uint64_t *answer, size_t answer_len);
 
 /*
  * Reads device features.
- * Answer: features, device_attributes.
  */
-#define PITO_FEATURES_READ_ANSWER 2
-uint64_t pito_features_read(const uint8_t *message, size_t message_len, uint64_t *answer, size_t answer_len);
+enum { PITO_FEATURES_READ_FEATURES, PITO_FEATURES_READ_DEVICE_ATTRIBUTES, PITO_FEATURES_READ_ANSWER };
+PITO_CALL uint64_t pito_features_read(const uint8_t *message, size_t message_len, uint64_t *answer, size_t answer_len);
 
 /*
  * Writes device features, any two numbers of 64 bits.
- * Answer: written.
  */
-#define PITO_FEATURES_WRITE_ANSWER 1
-uint64_t pito_features_write(uint64_t features, uint64_t device_attributes, uint8_t *output, size_t output_len,
-                             uint64_t *answer, size_t answer_len);
+#define PITO_FEATURES_SIZE 22
+enum { PITO_FEATURES_WRITE_WRITTEN, PITO_FEATURES_WRITE_ANSWER };
+PITO_CALL uint64_t pito_features_write(uint64_t features, uint64_t device_attributes, uint8_t *output,
+                                       size_t output_len, uint64_t *answer, size_t answer_len);
 
 /* ------------------------------------------------------------------------------------------------------------
  * The outbox file: its bytes in a lent buffer, of which the first `used` are the file
@@ -285,32 +358,30 @@ uint64_t pito_features_write(uint64_t features, uint64_t device_attributes, uint
  * record's place on is an outbox whose first record it is. PITO_ONE_RECORD bytes are enough for both (examples/c).
  */
 
-/* Where the first record of an outbox stands, and the size of an outbox of the version byte and the longest record. */
+/* Where the first record stands, a record's size, and that of an outbox of the version byte and the longest record. */
 #define PITO_FIRST_PLACE 1
-#define PITO_ONE_RECORD 4100
+#define PITO_RECORD_SIZE(payload_len) ((payload_len) + 3)
+#define PITO_ONE_RECORD (PITO_FIRST_PLACE + PITO_RECORD_SIZE(PITO_MESSAGE_LIMIT))
 
 /*
  * Begins a new outbox: one byte, first in the output.
- * Answer: used.
  * Returns 0, 1, 14.
  */
-#define PITO_OUTBOX_NEW_ANSWER 1
-uint64_t pito_outbox_new(uint8_t *output, size_t output_len, uint64_t *answer, size_t answer_len);
+enum { PITO_OUTBOX_NEW_USED, PITO_OUTBOX_NEW_ANSWER };
+PITO_CALL uint64_t pito_outbox_new(uint8_t *output, size_t output_len, uint64_t *answer, size_t answer_len);
 
 /*
  * Appends a record right after the used bytes, which must be a whole outbox: 3 bytes and the payload. Each call looks
  * through all used bytes, record by record, so a large outbox makes it slow: see above for one record at a time.
  *   stream   0, 2 or 6
  *   payload  at most 4,096 bytes
- * Answer: used, cut place. Used is the number of used bytes afterwards; the cut place goes with 41, and is where the
- * record that is cut short begins: appending with used set to it drops what is left of that record.
+ * Answer: used is the number of used bytes afterwards; the cut place goes with 41, and is where the record that is cut
+ * short begins: appending with used set to it drops what is left of that record.
  * Returns 0, 1, 15 (stream or payload size), 14, or the used bytes' own refusal, 40, 42, 41, 43.
  */
-#define PITO_OUTBOX_APPEND_ANSWER 2
-#define PITO_APPEND_USED 0
-#define PITO_APPEND_CUT_PLACE 1
-uint64_t pito_outbox_append(uint8_t *buffer, size_t buffer_len, uint64_t used, uint64_t stream,
-                            const uint8_t *payload, size_t payload_len, uint64_t *answer, size_t answer_len);
+enum { PITO_OUTBOX_APPEND_USED, PITO_OUTBOX_APPEND_CUT_PLACE, PITO_OUTBOX_APPEND_ANSWER };
+PITO_CALL uint64_t pito_outbox_append(uint8_t *buffer, size_t buffer_len, uint64_t used, uint64_t stream,
+                                      const uint8_t *payload, size_t payload_len, uint64_t *answer, size_t answer_len);
 
 /* Outcomes. */
 #define PITO_END 0
@@ -319,27 +390,29 @@ uint64_t pito_outbox_append(uint8_t *buffer, size_t buffer_len, uint64_t used, u
 /*
  * Reads the record at a place of an outbox. Begin at place 1 and go on at the next place that each call tells, until
  * the outcome is the end.
- * Answer: outcome, stream, start, length, next, cut place. Start and length are the payload's, within the bytes; the
- * cut place goes with 41, and is the place that was asked for.
+ * Answer: start and length are the payload's, within the bytes; the cut place goes with 41, and is the place that was
+ * asked for.
  * Returns 0, 1, 40, 15 (place 0, or beyond the bytes), 42, 41, 43.
  */
-#define PITO_OUTBOX_RECORD_ANSWER 6
-#define PITO_RECORD_OUTCOME 0
-#define PITO_RECORD_STREAM 1
-#define PITO_RECORD_START 2
-#define PITO_RECORD_LENGTH 3
-#define PITO_RECORD_NEXT 4
-#define PITO_RECORD_CUT_PLACE 5
-uint64_t pito_outbox_record(const uint8_t *bytes, size_t bytes_len, uint64_t place, uint64_t *answer,
-                            size_t answer_len);
+enum {
+    PITO_OUTBOX_RECORD_OUTCOME,
+    PITO_OUTBOX_RECORD_STREAM,
+    PITO_OUTBOX_RECORD_START,
+    PITO_OUTBOX_RECORD_LENGTH,
+    PITO_OUTBOX_RECORD_NEXT,
+    PITO_OUTBOX_RECORD_CUT_PLACE,
+    PITO_OUTBOX_RECORD_ANSWER
+};
+PITO_CALL uint64_t pito_outbox_record(const uint8_t *bytes, size_t bytes_len, uint64_t place, uint64_t *answer,
+                                      size_t answer_len);
 
 /*
  * Whether all of an outbox is whole: 0, or its first refusal.
- * Answer: cut place, which goes with 41: up to there the outbox is whole.
+ * Answer: the cut place goes with 41: up to there the outbox is whole.
  * Returns 0, 1, 40, 42, 41, 43.
  */
-#define PITO_OUTBOX_WHOLE_ANSWER 1
-uint64_t pito_outbox_whole(const uint8_t *bytes, size_t bytes_len, uint64_t *answer, size_t answer_len);
+enum { PITO_OUTBOX_WHOLE_CUT_PLACE, PITO_OUTBOX_WHOLE_ANSWER };
+PITO_CALL uint64_t pito_outbox_whole(const uint8_t *bytes, size_t bytes_len, uint64_t *answer, size_t answer_len);
 
 #ifdef __cplusplus
 }

@@ -1,5 +1,5 @@
 #!/usr/bin/env python3
-"""A second model of the writer's contract and of the claims of crate `delivery`, written from document 01.
+"""A second model of the writer's contract and of the claims of crate `delivery`, written from docs/FORMATS.md.
 
 A must-fail edit shows only that a written proof no longer fits. This model shows that the statement itself is false under it:
 it tries each statement on random instances, in the words of specs/Delivery.antt. As they stand no counterexample may be found;
@@ -12,8 +12,7 @@ with each edit one has to be found for the statements named beside it, and none 
   returning  the same with nothing before or between (`round_trip`)
   asked      `atLast` of a message has it once, whatever packets there are, none too (`message_asked`)
 
-The edits have the names of the must-fail edits of the two crates; those in brackets have none: they show which statements a
-writer, receiver or reader that does nothing meets. A writer's edit that leaves `delivery` true (a smaller piece arrives just
+An edit that stands in must-fail of the two crates has its name here; those in brackets show which statements a writer, receiver or reader that does nothing meets. A writer's edit that leaves `delivery` true (a smaller piece arrives just
 as well) is ruled out by the contract alone. With `atLast` as it was, asking for nothing where there are no packets, a writer
 that refuses all meets the claims: that is why `asked` is one."""
 import random

@@ -1,5 +1,5 @@
 #!/usr/bin/env python3
-"""A second model of the claims of crate `recovery`, written from document 01 and not from the specs.
+"""A second model of the claims of crate `recovery`, written from docs/FORMATS.md and not from the specs.
 
 It tries the claims on random instances: with the definitions as they are no counterexample may be found, and with each edit
 of a definition one has to be found for the claims named beside it, and none for the others. A proof that no longer fits after
@@ -13,7 +13,7 @@ OUTSIDE, BEGUN = ("outside", 0, 0), ("id", 0, 0)
 
 
 class Link:
-    """Frames, extractor and claims as document 01 has them. A state is (phase, sequence, held)."""
+    """Frames, extractor and claims as docs/FORMATS.md has them. A state is (phase, sequence, held)."""
 
     def __init__(self, limit):
         self.limit = limit
@@ -208,7 +208,7 @@ class Link:
         return self.handed(report, buffer) == [(q, len(p), p)] and self.uses(used, bytes)
 
     def facts_suffice(self, rng):
-        """What document 01 says of a frame, of a byte that turned and of the calls is all that the premises ask for."""
+        """What docs/FORMATS.md says of a frame, of a byte that turned and of the calls is all that the premises ask for."""
         q, p = self.plain(rng), [rng.randrange(256) for _ in range(rng.randrange(self.limit + 1))]
         frame = self.frame(q, p)
         place, new = rng.choice([i for i, b in enumerate(frame) if i != 3 and b not in MARKS]), self.plain(rng)

@@ -1,6 +1,7 @@
 #include "plain.h"
 
 #include <stdbool.h>
+#include <string.h>
 
 enum { START = 0xF0, END = 0xF1, ESCAPE = 0xF2 };
 enum { PAYLOAD = 4096, BUFFER = PAYLOAD + 2 };
@@ -160,8 +161,12 @@ uint64_t plain_extractor_feed(uint64_t *state, size_t state_len, uint8_t *buffer
     uint64_t number = 0;
     size_t used = 0;
 
-    if (answer_len != 4 || !load(&x, state, state_len, buffer_len))
+    if (answer_len != 4)
         return 1;
+    if (!load(&x, state, state_len, buffer_len)) {
+        memset(answer, 0, 4 * sizeof *answer);
+        return 1;
+    }
     while (used < bytes_len && number == 0 && outcome != FRAME)
         number = step(&x, buffer, bytes[used++], told, &outcome);
     save(&x, state);
@@ -210,4 +215,117 @@ uint64_t plain_frame_write(uint64_t sequence, const uint8_t *payload, size_t pay
     *output = END;
     answer[0] = size;
     return 0;
+}
+
+enum { OPEN, ID, TOTAL, HELD, LAST_SEQUENCE, SLOT };
+enum { SLOTS = 3, PART = 4096 };
+enum type { FIRST, CONTINUATION, LAST, CONTROL };
+enum accepted { PIECE, FINISHED, ACKED, NACKED };
+
+static bool is_lawful(const uint64_t *slot)
+{
+    if (slot[OPEN] == 0)
+        return (slot[ID] | slot[TOTAL] | slot[HELD] | slot[LAST_SEQUENCE]) == 0;
+    return slot[OPEN] == 1 && slot[ID] <= 15 && slot[TOTAL] <= PART && slot[HELD] >= 1 && slot[HELD] < slot[TOTAL]
+           && slot[LAST_SEQUENCE] <= 15;
+}
+
+static void set_slot(uint64_t *slot, uint64_t open, uint64_t id, uint64_t total, uint64_t held, uint64_t sequence)
+{
+    slot[OPEN] = open;
+    slot[ID] = id;
+    slot[TOTAL] = total;
+    slot[HELD] = held;
+    slot[LAST_SEQUENCE] = sequence;
+}
+
+static uint64_t tell(uint64_t *answer, enum accepted outcome, uint64_t stream, uint64_t id, uint64_t sequence,
+                     uint64_t total, bool ack, bool replaced)
+{
+    answer[0] = outcome;
+    answer[1] = stream;
+    answer[2] = id;
+    answer[3] = sequence;
+    answer[4] = total;
+    answer[5] = ack;
+    answer[6] = replaced;
+    return 0;
+}
+
+static uint64_t refuse_packet(uint64_t *answer, uint64_t number)
+{
+    memset(answer, 0, 7 * sizeof *answer);
+    return number;
+}
+
+uint64_t plain_receiver_accept(uint64_t *state, size_t state_len, uint8_t *buffer, size_t buffer_len,
+                               const uint8_t *packet, size_t packet_len, uint64_t *answer, size_t answer_len)
+{
+    if (answer_len != 7 || state_len != SLOTS * SLOT || buffer_len != SLOTS * PART)
+        return 1;
+    for (size_t i = 0; i < SLOTS; i++)
+        if (!is_lawful(state + i * SLOT))
+            return 1;
+    if (packet_len < 2)
+        return refuse_packet(answer, 2);
+
+    unsigned stream = packet[0] >> 4, id = packet[0] & 15, sequence = packet[1] >> 4;
+    enum type type = (enum type)(packet[1] >> 2 & 3);
+    bool flag = packet[1] & 2, extended = packet[1] & 1;
+    size_t header = (type == FIRST ? 6u : 3u) + extended;
+
+    if (type != CONTROL && packet_len < header)
+        return refuse_packet(answer, 2);
+    if (stream != 0 && stream != 2 && stream != 6)
+        return refuse_packet(answer, 3);
+    if (type == CONTROL) {
+        if (packet_len != 6 || extended || packet[2] != 0 || packet[3] != 2 || packet[4] != 1
+            || packet[5] != (flag ? 0 : 3))
+            return refuse_packet(answer, 12);
+        return tell(answer, flag ? ACKED : NACKED, stream, id, sequence, 0, false, false);
+    }
+
+    size_t index = stream == 0 ? 0 : stream == 2 ? 1 : 2;
+    uint64_t *slot = state + index * SLOT;
+    size_t length = extended ? (size_t)packet[header - 2] << 8 | packet[header - 1] : packet[header - 1];
+    size_t total, held;
+    bool replaced = false;
+
+    if (type == FIRST && packet[2] != 0)
+        return refuse_packet(answer, 4);
+    if (packet_len != header + length)
+        return refuse_packet(answer, 5);
+    if (type == FIRST) {
+        total = (size_t)packet[3] << 8 | packet[4];
+        held = 0;
+        replaced = slot[OPEN] != 0;
+        if (total > PART)
+            return refuse_packet(answer, 6);
+        if (length == 0 && total != 0)
+            return refuse_packet(answer, 7);
+        if (length > total)
+            return refuse_packet(answer, 8);
+    } else {
+        total = slot[TOTAL];
+        held = slot[HELD];
+        if (length == 0)
+            return refuse_packet(answer, 7);
+        if (slot[OPEN] == 0 || slot[ID] != id)
+            return refuse_packet(answer, 9);
+        if (sequence != ((slot[LAST_SEQUENCE] + 1) & 15)) {
+            set_slot(slot, 0, 0, 0, 0, 0);
+            return refuse_packet(answer, 10);
+        }
+        if (type == LAST ? held + length != total : held + length >= total) {
+            set_slot(slot, 0, 0, 0, 0, 0);
+            return refuse_packet(answer, 11);
+        }
+    }
+    memcpy(buffer + index * PART + held, packet + header, length);
+    if (held + length == total) {
+        set_slot(slot, 0, 0, 0, 0, 0);
+        return tell(answer, FINISHED, stream, id, 0, total, flag, replaced);
+    }
+    set_slot(slot, 1, id, total, held + length, sequence);
+    return tell(answer, PIECE, stream, id, 0, 0, false, replaced);
 }

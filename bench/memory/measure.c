@@ -125,7 +125,7 @@ static void accept(const uint8_t *packet, size_t count)
     static uint64_t state[PITO_RECEIVER_STATE];
     static uint8_t buffer[PITO_RECEIVER_BUFFER];
     CALL(pito_receiver_accept, A(state), PITO_RECEIVER_STATE, A(buffer), length(PITO_RECEIVER_BUFFER), A(packet),
-         count, A(answer), PITO_RECEIVER_ANSWER);
+         count, A(answer), PITO_ACCEPT_ANSWER);
 }
 
 /* All packets of a message, some of them damaged or followed by any bytes. */

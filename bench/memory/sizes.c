@@ -14,13 +14,7 @@
 
 #define ALL_A_BOX_HAS 32768
 
-/* Four bytes, then the payload and two bytes of checksum, each perhaps escaped, and the end mark. */
-#define LONGEST_FRAME (4 + 2 * PITO_MESSAGE_LIMIT + 2 * 2 + 1)
-/* The version byte, a length of two bytes, a stream byte, a payload. */
-#define OUTBOX_OF_ONE (1 + 2 + 1 + PITO_MESSAGE_LIMIT)
-#define LARGEST_ROOM 512
-#define SMALLEST_ROOM 20
-#define ACK 6
+#define LONGEST_FRAME PITO_FRAME_SIZE(PITO_MESSAGE_LIMIT)
 #define SERIAL_INPUT 256
 #define SMALL_PIPE 64
 
@@ -39,11 +33,11 @@ static struct box {
     uint8_t extractor_buffer[PITO_EXTRACTOR_BUFFER];
     uint8_t receiver_buffer[PITO_RECEIVER_BUFFER];
     uint8_t frame[LONGEST_FRAME];
-    uint8_t outbox[OUTBOX_OF_ONE];
-    uint8_t packet_out[LARGEST_ROOM];
-    uint8_t ack[ACK];
+    uint8_t outbox[PITO_ONE_RECORD];
+    uint8_t packet_out[PITO_LARGEST_ROOM];
+    uint8_t ack[PITO_ACK_SIZE];
     uint8_t serial_in[SERIAL_INPUT];
-    uint8_t packet_in[LARGEST_ROOM];
+    uint8_t packet_in[PITO_LARGEST_ROOM];
 } box;
 
 static long together;
@@ -147,10 +141,10 @@ static void print_choices(void)
     instead("as above", 0);
     instead("a message buffer of its own besides", message);
     instead("packet and ACK are made in the frame's bytes, one thing sent at a time", one_at_a_time);
-    instead("a room of 20, both ways", 2 * (SMALLEST_ROOM - LARGEST_ROOM));
+    instead("a room of 20, both ways", 2 * (PITO_LEAST_ROOM - PITO_LARGEST_ROOM));
     instead("only payloads up to 2,048 bytes are sent as frames", 2 * (2048 - message));
     instead("the same, and a message buffer of 2,048", 2 * (2048 - message) + 2048);
-    instead("frames written 64 bytes at a time (No. 4, not built; without its state)", no_frame);
+    instead("frames written 64 bytes at a time (not built; without its state)", no_frame);
     instead("the same, and a message buffer of 4,096", no_frame + message);
     printf("\n");
 }

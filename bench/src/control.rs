@@ -28,8 +28,8 @@ impl Reader {
         }
     }
 
-    pub fn in_struct(read: MessageRead) -> Reader {
-        let decoded = Some(unsafe { nanopb_decoded() });
+    pub fn in_struct(read: MessageRead, decoded: unsafe extern "C" fn() -> *const u8) -> Reader {
+        let decoded = Some(unsafe { decoded() });
         Reader { read, decoded }
     }
 }
@@ -51,7 +51,7 @@ pub fn read<const WHOLE: bool, const CELLS: usize>(
         for &cell in starts {
             let start = std::mem::take(&mut answer[cell]) as usize;
             let length = answer[cell + 1] as usize;
-            digest.bytes(unsafe { std::slice::from_raw_parts(base.add(start), length) });
+            digest.bytes(unsafe { std::slice::from_raw_parts(base.wrapping_add(start), length) });
         }
         digest.row(&answer);
     }

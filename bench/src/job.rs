@@ -11,18 +11,21 @@ pub enum Subject {
     Rust,
     /// The same plain Rust called directly, on its own types.
     Own,
-    /// Plain C for frames, nanopb for messages.
+    /// Plain C for frames and packets, nanopb for messages.
     Other,
+    /// protobuf-c for messages.
+    ProtobufC,
     /// A copy of the same payload bytes.
     Memcpy,
 }
 
 impl Subject {
-    pub const ALL: [Subject; 5] = [
+    pub const ALL: [Subject; 6] = [
         Subject::Archive,
         Subject::Rust,
         Subject::Own,
         Subject::Other,
+        Subject::ProtobufC,
         Subject::Memcpy,
     ];
 

@@ -182,21 +182,21 @@ fn accepted_row(accepted: Accepted) -> [u64; 7] {
         Accepted::Held {
             stream,
             id,
-            dropped,
+            replaced,
         } => {
             let (stream, id) = of(stream, id);
-            [0, stream, id, 0, 0, 0, u64::from(dropped)]
+            [0, stream, id, 0, 0, 0, u64::from(replaced)]
         }
         Accepted::Finished {
             stream,
             id,
             total,
             ack_wanted,
-            dropped,
+            replaced,
         } => {
             let (stream, id) = of(stream, id);
-            let (ack, dropped) = (u64::from(ack_wanted), u64::from(dropped));
-            [FINISHED, stream, id, 0, total as u64, ack, dropped]
+            let (ack, replaced) = (u64::from(ack_wanted), u64::from(replaced));
+            [FINISHED, stream, id, 0, total as u64, ack, replaced]
         }
         Accepted::Acknowledgement {
             stream,

@@ -99,20 +99,22 @@ fn bytes<T>(messages: &[T], write: impl Fn(&T, &mut [u8]) -> usize) -> Vec<Vec<u
 }
 
 macro_rules! read_job {
-    ($messages:expr, $read:ident, $own:ident, $archive:ident, $rust:ident, $nanopb:ident) => {{
+    ($messages:expr, $read:ident, $own:ident, $archive:ident, $rust:ident, $nanopb:ident, $pbc:ident) => {{
         let messages = $messages;
         let count = messages.len();
-        let [a, b, c, d] = share(messages);
-        let [x, y, z] = [
+        let [a, b, c, d, e] = share(messages);
+        let [x, y, z, w] = [
             Reader::in_message($archive),
             Reader::in_message(rust::$rust),
-            Reader::in_struct($nanopb),
+            Reader::in_struct($nanopb, nanopb_decoded),
+            Reader::in_struct($pbc, pbc_decoded),
         ];
         Job::of("message", count)
             .with(Subject::Archive, work!(control::$read(x, &a)))
             .with(Subject::Rust, work!(control::$read(y, &b)))
             .with(Subject::Own, work!(control::$own(&c)))
             .with(Subject::Other, work!(control::$read(z, &d)))
+            .with(Subject::ProtobufC, work!(control::$read(w, &e)))
     }};
 }
 
@@ -142,7 +144,8 @@ fn read_envelope_job(envelopes: Vec<EnvelopeGiven>) -> Job {
         read_envelope_own,
         pito_envelope_read,
         envelope_read,
-        nanopb_envelope_read
+        nanopb_envelope_read,
+        pbc_envelope_read
     )
 }
 
@@ -157,7 +160,8 @@ fn read_response_job() -> Job {
         read_response_own,
         pito_response_read,
         response_read,
-        nanopb_response_read
+        nanopb_response_read,
+        pbc_response_read
     )
 }
 
@@ -172,7 +176,8 @@ fn read_information_job() -> Job {
         read_information_own,
         pito_information_read,
         information_read,
-        nanopb_information_read
+        nanopb_information_read,
+        pbc_information_read
     )
 }
 
@@ -191,7 +196,8 @@ fn read_features_job() -> Job {
         read_features_own,
         pito_features_read,
         features_read,
-        nanopb_features_read
+        nanopb_features_read,
+        pbc_features_read
     )
 }
 
@@ -205,8 +211,8 @@ fn narrow(information: &InformationGiven) -> Vec<i32> {
 }
 
 macro_rules! write_job {
-    ($messages:expr, $own_messages:expr, $write:ident, $own:ident, $archive:ident, $rust:ident, $nanopb:ident) => {{
-        let [a, b, d] = share($messages);
+    ($messages:expr, $own_messages:expr, $write:ident, $own:ident, $archive:ident, $rust:ident, $nanopb:ident, $pbc:ident) => {{
+        let [a, b, d, e] = share($messages);
         let c = $own_messages;
         Job::of("message", MESSAGES * ROUNDS)
             .with(
@@ -219,23 +225,34 @@ macro_rules! write_job {
             )
             .with(Subject::Own, work!(control::$own(&c, ROUNDS)))
             .with(Subject::Other, work!(control::$write($nanopb, &d, ROUNDS)))
+            .with(Subject::ProtobufC, work!(control::$write($pbc, &e, ROUNDS)))
     }};
 }
 
+/// Before the messages of a line are filled ahead.
+fn forget() {
+    unsafe {
+        nanopb_forget();
+        pbc_forget();
+    }
+}
+
 fn write_envelope_job(payload: u64) -> Job {
-    unsafe { nanopb_forget() };
+    forget();
     for one in &envelopes(payload) {
         let (bytes, length) = (one.bytes.as_ptr(), one.bytes.len());
-        unsafe {
-            nanopb_envelope_prepare(
-                one.command,
-                one.payload,
-                one.error_code,
-                one.field,
-                bytes,
-                length,
-            )
-        };
+        for prepare in [nanopb_envelope_prepare, pbc_envelope_prepare] {
+            unsafe {
+                prepare(
+                    one.command,
+                    one.payload,
+                    one.error_code,
+                    one.field,
+                    bytes,
+                    length,
+                )
+            };
+        }
     }
     let [messages, own] = [envelopes(payload), envelopes(payload)];
     write_job!(
@@ -245,21 +262,18 @@ fn write_envelope_job(payload: u64) -> Job {
         envelope_write_own,
         pito_envelope_write,
         envelope_write,
-        nanopb_envelope_write
+        nanopb_envelope_write,
+        pbc_envelope_write
     )
 }
 
 fn write_response_job() -> Job {
-    unsafe { nanopb_forget() };
+    forget();
     for one in &responses() {
-        unsafe {
-            nanopb_response_prepare(
-                one.error_code,
-                one.field,
-                one.bytes.as_ptr(),
-                one.bytes.len(),
-            )
-        };
+        let (bytes, length) = (one.bytes.as_ptr(), one.bytes.len());
+        for prepare in [nanopb_response_prepare, pbc_response_prepare] {
+            unsafe { prepare(one.error_code, one.field, bytes, length) };
+        }
     }
     write_job!(
         responses(),
@@ -268,19 +282,22 @@ fn write_response_job() -> Job {
         response_write_own,
         pito_response_write,
         response_write,
-        nanopb_response_write
+        nanopb_response_write,
+        pbc_response_write
     )
 }
 
 fn write_information_job() -> Job {
-    unsafe { nanopb_forget() };
+    forget();
     for one in &informations() {
         let [a, b, c] = one
             .strings
             .each_ref()
             .map(|string| (string.as_ptr(), string.len()));
         let (transports, count) = (one.transports.as_ptr(), one.transports.len());
-        unsafe { nanopb_information_prepare(a.0, a.1, b.0, b.1, c.0, c.1, transports, count) };
+        for prepare in [nanopb_information_prepare, pbc_information_prepare] {
+            unsafe { prepare(a.0, a.1, b.0, b.1, c.0, c.1, transports, count) };
+        }
     }
     let own: Vec<_> = informations()
         .into_iter()
@@ -296,14 +313,17 @@ fn write_information_job() -> Job {
         information_write_own,
         pito_information_write,
         information_write,
-        nanopb_information_write
+        nanopb_information_write,
+        pbc_information_write
     )
 }
 
 fn write_features_job() -> Job {
-    unsafe { nanopb_forget() };
+    forget();
     for one in &features() {
-        unsafe { nanopb_features_prepare(one.features, one.device_attributes) };
+        for prepare in [nanopb_features_prepare, pbc_features_prepare] {
+            unsafe { prepare(one.features, one.device_attributes) };
+        }
     }
     write_job!(
         features(),
@@ -312,6 +332,7 @@ fn write_features_job() -> Job {
         features_write_own,
         pito_features_write,
         features_write,
-        nanopb_features_write
+        nanopb_features_write,
+        pbc_features_write
     )
 }

@@ -91,7 +91,7 @@ fn write_acks_job() -> Job {
 /// The receiver over packets, with every subject.
 pub fn accept_job(packets: Vec<Vec<u8>>) -> Job {
     let count = packets.len();
-    let [a, b, c] = share(packets);
+    let [a, b, c, d] = share(packets);
     Job::of("packet", count)
         .with(
             Subject::Archive,
@@ -102,4 +102,8 @@ pub fn accept_job(packets: Vec<Vec<u8>>) -> Job {
             work!(low_energy::accept(rust::receiver_accept, &b; BUFFER)),
         )
         .with(Subject::Own, work!(low_energy::accept_own(&c; BUFFER)))
+        .with(
+            Subject::Other,
+            work!(low_energy::accept(plain_receiver_accept, &d; BUFFER)),
+        )
 }

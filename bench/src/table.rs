@@ -6,13 +6,14 @@ use crate::measure::Counted;
 /// Twice, to two decimals: the end of an input can cost less than the rest of it.
 const TWICE: f64 = 2.005;
 
-const HEAD: [&str; 11] = [
+const HEAD: [&str; 12] = [
     "input",
     "instructions a",
     "archive",
     "plain Rust",
     "Rust, own types",
     "C or nanopb",
+    "protobuf-c",
     "memcpy",
     "archive / Rust",
     "archive / C or nanopb",

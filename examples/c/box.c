@@ -131,10 +131,10 @@ static void begin_outbox(void)
 {
     uint64_t answer[PITO_OUTBOX_NEW_ANSWER];
     uint64_t number = pito_outbox_new(outbox, sizeof outbox, answer, PITO_OUTBOX_NEW_ANSWER);
-    if (number != 0)
+    if (number != PITO_DONE)
         fail_refused("pito_outbox_new", number);
-    write_all(file, outbox, answer[0], "write the outbox file");
-    file_end = (off_t)answer[0];
+    write_all(file, outbox, answer[PITO_OUTBOX_NEW_USED], "write the outbox file");
+    file_end = (off_t)answer[PITO_OUTBOX_NEW_USED];
 }
 
 static void drop_cut_record(void)
@@ -161,13 +161,13 @@ static void resume_outbox(void)
             drop_cut_record();
             return;
         }
-        if (number != 0) {
+        if (number != PITO_DONE) {
             note("box: the file is no outbox: refused %" PRIu64 "\n", number);
             exit(1);
         }
-        if (answer[PITO_RECORD_OUTCOME] == PITO_END)
+        if (answer[PITO_OUTBOX_RECORD_OUTCOME] == PITO_END)
             return;
-        file_end += (off_t)(answer[PITO_RECORD_NEXT] - PITO_FIRST_PLACE);
+        file_end += (off_t)(answer[PITO_OUTBOX_RECORD_NEXT] - PITO_FIRST_PLACE);
     }
 }
 
@@ -231,9 +231,9 @@ static void keep(uint64_t length)
     uint64_t number = pito_outbox_append(outbox, sizeof outbox, PITO_FIRST_PLACE, STREAM, frame, length, answer,
                                          PITO_OUTBOX_APPEND_ANSWER);
     size_t record_length;
-    if (number != 0)
+    if (number != PITO_DONE)
         fail_refused("pito_outbox_append", number);
-    record_length = answer[PITO_APPEND_USED] - PITO_FIRST_PLACE;
+    record_length = answer[PITO_OUTBOX_APPEND_USED] - PITO_FIRST_PLACE;
     write_all(file, outbox + PITO_FIRST_PLACE, record_length, "write the outbox file");
     sync_to_disk(file, "sync the outbox file");
     report(length);
@@ -248,7 +248,7 @@ static void take(const uint8_t *bytes, size_t length)
                                               answer, PITO_FEED_ANSWER);
         if (number == PITO_REFUSED_UNFIT)
             fail_refused("pito_extractor_feed", number);
-        if (number != 0)
+        if (number != PITO_DONE)
             note("refused %" PRIu64 "\n", number);
         else if (answer[PITO_FEED_OUTCOME] == PITO_FRAME)
             keep(answer[PITO_FEED_LENGTH]);

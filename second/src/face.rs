@@ -307,9 +307,9 @@ fn slots_out(slots: &Slots) -> Vec<u64> {
         .collect()
 }
 
-/// Answer `outcome, stream, id, sequence, total, ack wanted, dropped` with outcome 0 a piece held and
+/// Answer `outcome, stream, id, sequence, total, ack wanted, replaced` with outcome 0 a piece held and
 /// more to come, 1 finished, 2 ACK, 3 NACK. The sequence is the packet's own and told with 2 and 3
-/// only, total and ACK wanted with 1 only, dropped with 0 and 1 only; else they are 0.
+/// only, total and ACK wanted with 1 only, replaced with 0 and 1 only; else they are 0.
 pub fn receiver_accept(
     state: &mut [u64],
     buffer: &mut [u8],
@@ -325,14 +325,14 @@ pub fn receiver_accept(
             Accepted::Held {
                 stream,
                 id,
-                dropped,
-            } => [0, of(stream), u64::from(id), 0, 0, 0, u64::from(dropped)],
+                replaced,
+            } => [0, of(stream), u64::from(id), 0, 0, 0, u64::from(replaced)],
             Accepted::Finished {
                 stream,
                 id,
                 total,
                 ack_wanted,
-                dropped,
+                replaced,
             } => [
                 1,
                 of(stream),
@@ -340,7 +340,7 @@ pub fn receiver_accept(
                 0,
                 wide(total),
                 u64::from(ack_wanted),
-                u64::from(dropped),
+                u64::from(replaced),
             ],
             Accepted::Acknowledgement {
                 stream,

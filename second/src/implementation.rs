@@ -176,7 +176,7 @@ impl Operation {
                     "sequence",
                     "total",
                     "ack wanted",
-                    "dropped",
+                    "replaced",
                 ],
                 lent: "buffer",
                 returns: &[0, 1, 2, 3, 4, 5, 6, 7, 8, 9, 10, 11, 12],

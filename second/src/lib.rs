@@ -1,4 +1,4 @@
-//! An independent second implementation of document 01, written from the paper alone, and the
+//! An independent second implementation of the project's scope paper, written from the paper alone, and the
 //! comparison that runs every implementation on the same calls.
 
 pub mod classic;

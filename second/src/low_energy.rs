@@ -189,7 +189,7 @@ pub enum Accepted {
     Held {
         stream: Stream,
         id: u8,
-        dropped: bool,
+        replaced: bool,
     },
     /// The transaction is whole: its third of the buffer begins with it.
     Finished {
@@ -197,7 +197,7 @@ pub enum Accepted {
         id: u8,
         total: usize,
         ack_wanted: bool,
-        dropped: bool,
+        replaced: bool,
     },
     /// Of the request with this stream and id; "any sequence" is the packet's own.
     Acknowledgement {
@@ -277,7 +277,7 @@ pub fn accept(
         .nth(index)
         .expect("three thirds")[held..held + piece.len()]
         .copy_from_slice(piece);
-    let dropped = matches!(packet.part, Part::First { .. }) && slots[index].is_some();
+    let replaced = matches!(packet.part, Part::First { .. }) && slots[index].is_some();
     if finished {
         // "Finishing makes the slot idle". "A finished transaction wants an ACK if its last packet
         // has the flag."
@@ -286,7 +286,7 @@ pub fn accept(
             id: packet.id,
             total,
             ack_wanted: packet.flag,
-            dropped,
+            replaced,
         };
         (set(None), Ok(told))
     } else {
@@ -299,7 +299,7 @@ pub fn accept(
         let told = Accepted::Held {
             stream: packet.stream,
             id: packet.id,
-            dropped,
+            replaced,
         };
         (set(Some(open)), Ok(told))
     }

@@ -151,13 +151,16 @@ fn a_first_packet_replaces_and_notes_the_drop() {
     let mut buffer = vec![0; low_energy::BUFFER];
     let first = bytes("07 90 00 00 03 01 AA");
     let (after, told) = accept(control_open(10, 3), &mut buffer, &first);
-    assert!(matches!(told, Ok(Accepted::Held { dropped: true, .. })));
+    assert!(matches!(told, Ok(Accepted::Held { replaced: true, .. })));
     let replaced = after[0].unwrap();
     assert_eq!((replaced.id, replaced.sequence, replaced.held), (7, 9, 1));
     // Also one that finishes at once, empty or not.
     for only in ["07 90 00 00 01 01 AA", "07 90 00 00 00 00"] {
         let (after, told) = accept(control_open(10, 3), &mut buffer, &bytes(only));
-        assert!(matches!(told, Ok(Accepted::Finished { dropped: true, .. })));
+        assert!(matches!(
+            told,
+            Ok(Accepted::Finished { replaced: true, .. })
+        ));
         assert_eq!(after, IDLE);
     }
     // One that is refused replaces nothing.
@@ -165,10 +168,16 @@ fn a_first_packet_replaces_and_notes_the_drop() {
         packet_refusal(control_open(10, 3), &bytes("07 90 00 00 01 00")),
         7
     );
-    // Another stream's slot is not dropped.
+    // Another stream's slot is not replaced.
     let other = bytes("67 90 00 00 03 01 AA");
     let (after, told) = accept(control_open(10, 3), &mut buffer, &other);
-    assert!(matches!(told, Ok(Accepted::Held { dropped: false, .. })));
+    assert!(matches!(
+        told,
+        Ok(Accepted::Held {
+            replaced: false,
+            ..
+        })
+    ));
     assert_eq!(after[0], control_open(10, 3)[0]);
 }
 
@@ -183,7 +192,7 @@ fn the_flag_counts_on_the_last_packet_only() {
             id: 2,
             total: 2,
             ack_wanted,
-            dropped: false,
+            replaced: false,
         })
     };
     assert_eq!(told, finished(false));

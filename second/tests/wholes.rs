@@ -163,7 +163,7 @@ fn interleaved_messages_are_given() {
                     id: wish.id,
                     total: message.len(),
                     ack_wanted: wish.ack,
-                    dropped: false,
+                    replaced: false,
                 };
                 assert_eq!(told, expected);
                 let third = &buffer[turn * 4_096..(turn + 1) * 4_096];

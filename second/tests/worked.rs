@@ -150,7 +150,7 @@ fn p9_empty_transaction() {
         id: 0,
         total: 0,
         ack_wanted: false,
-        dropped: false,
+        replaced: false,
     };
     assert_eq!(told, Ok(expected));
     assert!(buffer.iter().all(|&byte| byte == 0xEE));

@@ -8,14 +8,14 @@ use mathlib.Core.Bool.{true}
 use Rattle.wire.specs.declared.stream.Stream.the-variants.{Alexa}
 use Rattle.wire.specs.Stream.{isStream, streamOf}
 use Rattle.packet.specs.Header.{inRange}
-use Rattle.packet.specs.Reader.{fieldsOf, contentOf, rows, readOf}
+use Rattle.packet.specs.Reader.{fieldsOf, contentOf, lines, readOf}
+use Rattle.slot.specs.Slot.{lawfulSlot, lawful}
+use Rattle.slot.specs.Step.{leave, finish, hold, firstStep, nextStep}
+use Rattle.receiver.specs.Receiver.{ready, acceptOf}
 use Rattle.sender.specs.Piece.{sizeFor}
 use Rattle.sender.specs.Writer.{headerBytes, packetOf, roomFits, argumentsFit, writtenOf}
-use Rattle.sender.specs.Calls.{callsFrom, callsOf, Takes}
-use Rattle.sender.proofs.CallsGiveAll.{takes-all}
-use Rattle.receiver.specs.Slot.{lawfulSlot, lawful}
-use Rattle.receiver.specs.Step.{leave, finish, hold, firstStep, nextStep}
-use Rattle.receiver.specs.Receiver.{ready, acceptOf}
+use Rattle.delivery.specs.Calls.{callsFrom, callsOf, Takes}
+use Rattle.delivery.proofs.CallsGiveAll.{takes-all}
 use Rattle.delivery.specs.Delivery.{runOf, repliesTo, those, ours, givenTo}
 use Rattle.delivery.specs.Instance.{limit, how, message, output, slots, buffer, before, during, after, Arrives}
 
@@ -32,7 +32,7 @@ sent = refl
 
 arrived : givenTo limit how (repliesTo limit slots buffer before during after)
     ≡ none ∷ none ∷ some (record { stream = Alexa; id = 1; total = 35; ack = true; payload = message }) ∷ []
-unfolding isStream streamOf fieldsOf contentOf rows readOf lawfulSlot lawful leave finish hold firstStep nextStep ready acceptOf runOf
+unfolding isStream streamOf fieldsOf contentOf lines readOf lawfulSlot lawful leave finish hold firstStep nextStep ready acceptOf runOf
 arrived = refl
 
 pub arrives : Arrives

@@ -1,3 +1,5 @@
+pub mod AcknowledgementsReturn
+pub mod CallsGiveAll
 pub mod Reading
 pub mod Growing
 pub mod Steps

@@ -10,16 +10,16 @@ use lib.Dec.{eqb}
 use borrow.Author.Tests.{eqb-true, eqb-false, eq-eqb}
 use Rattle.packet.specs.Header.{fourBits}
 use Rattle.packet.proofs.Headers.{stream-back}
-use Rattle.receiver.specs.declared.slot.Slot.{Slot}
+use Rattle.slot.specs.declared.Slot.{Slot}
 use Rattle.receiver.specs.Receiver.{Result, acceptOf}
-use Rattle.receiver.proofs.Accepting.{Ready, ready-next}
+use Rattle.receiver.proofs.Accepting.{Fits, ready-next}
 use Rattle.sender.specs.declared.piece.Piece.{Piece}
 use Rattle.sender.specs.declared.writer.Sending.{Sending}
 use Rattle.sender.specs.Piece.{leastRoom, isFirst, sizeFor, piecesFrom, piecesOf}
 use Rattle.sender.specs.Writer.{headerBytes, packetOf, packetsOf}
 use Rattle.sender.proofs.Largest.{size-le, size-some}
 use Rattle.sender.proofs.Guard.{InRange, room-low, range-facts}
-use Rattle.sender.proofs.CallsGiveAll.{calls-are}
+use Rattle.delivery.proofs.CallsGiveAll.{calls-are}
 use Rattle.delivery.specs.Delivery.{Reply, runOf, Message, those, ours, givenIn, givenTo, messageOf, atLast, MessagesArrive, RoundTrip, MessageAsked}
 use Rattle.delivery.proofs.Steps.{gives, Awaits, start, within, awaits-kept, pieceFor, last-step, more-step}
 
@@ -138,10 +138,10 @@ module _ (limit : ℕ) (w : Sending) (m : List ℕ) (room : leastRoom ≤ w .roo
 record Later (limit : ℕ) (replies : List Reply) (rest : List (List ℕ)) : Type 0 where
   pub slots : List Slot
   pub bytes : List ℕ
-  pub is-ready : Ready limit slots bytes
+  pub is-ready : Fits limit slots bytes
   pub same : replies ≡ runOf limit slots bytes rest
 
-later-on : (limit : ℕ) (slots : List Slot) (bytes : List ℕ) (before rest : List (List ℕ)) → Ready limit slots bytes
+later-on : (limit : ℕ) (slots : List Slot) (bytes : List ℕ) (before rest : List (List ℕ)) → Fits limit slots bytes
     → Later limit (drop (length before) (runOf limit slots bytes (before ++ rest))) rest
 unfolding runOf
 later-on limit slots bytes [] rest o = record { slots = slots; bytes = bytes; is-ready = o; same = refl }

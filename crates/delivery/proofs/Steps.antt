@@ -17,14 +17,14 @@ use Rattle.packet.specs.declared.reader.Head.{Head}
 use Rattle.packet.specs.declared.reader.Packet.{Packet}
 use Rattle.packet.specs.Header.{headerSize, sequenceAfter}
 use Rattle.packet.specs.Reader.{readOf}
-use Rattle.receiver.specs.declared.slot.Slot.{Slot}
-use Rattle.receiver.specs.declared.step.Piece as part
-use Rattle.receiver.specs.Slot.{idle, slotCount}
-use Rattle.receiver.specs.Step.{finish, hold, firstStep, offTotal, nextStep, slotStep}
+use Rattle.slot.specs.declared.Slot.{Slot}
+use Rattle.slot.specs.declared.step.Piece as part
+use Rattle.slot.specs.Slot.{idle, slotCount}
+use Rattle.slot.specs.Step.{finish, hold, firstStep, offTotal, nextStep, slotStep}
+use Rattle.slot.proofs.Slots.{lawful-count}
 use Rattle.receiver.specs.Buffer.{placeOf, partStart, partOf, stored}
 use Rattle.receiver.specs.Receiver.{Result, applied, placeIn, acceptOf}
-use Rattle.receiver.proofs.Slots.{lawful-count}
-use Rattle.receiver.proofs.Accepting.{Ready, accept-ready, ready-next, accept-other}
+use Rattle.receiver.proofs.Accepting.{Fits, accept-ready, ready-next, accept-other}
 use Rattle.sender.specs.declared.piece.Piece.{Piece}
 use Rattle.sender.specs.declared.writer.Sending.{Sending}
 use Rattle.sender.specs.Piece.{extended, isFirst}
@@ -42,7 +42,7 @@ place-low Ota = omega arith
 place-low Alexa = omega arith
 
 -- it does what was read
-accept-read : (limit : ℕ) (slots : List Slot) (bytes p : List ℕ) (x : Packet) → Ready limit slots bytes → readOf limit p ≡ given x
+accept-read : (limit : ℕ) (slots : List Slot) (bytes p : List ℕ) (x : Packet) → Fits limit slots bytes → readOf limit p ≡ given x
     → acceptOf limit slots bytes p ≡ applied limit slots bytes p (placeIn x) (slotStep (getD slots (placeIn x) idle) x)
 accept-read limit slots bytes p x o e = accept-ready limit slots bytes p o ∙ rw e
 
@@ -61,7 +61,7 @@ openSlot w m index place =
 
 -- The packets up to the one with this index have come, and none of the stream since: `place` bytes are held, and the part begins with them.
 pub record Holding (limit : ℕ) (w : Sending) (m : List ℕ) (index place : ℕ) (slots : List Slot) (bytes : List ℕ) : Type 0 where
-  pub is-ready : Ready limit slots bytes
+  pub is-ready : Fits limit slots bytes
   pub slot : getD slots (placeFor w) idle ≡ openSlot w m index place
   pub held : take place (partOf limit (placeFor w) bytes) ≡ take place m
 
@@ -79,26 +79,26 @@ pieceFor index place n = record { index = index; place = place; size = n }
 abbrev pieceIn : Piece → part.Piece
 pieceIn p = record { at = p .place; start = headerSize (isFirst (p .index)) (extended (p .size)); len = p .size }
 
-module _ (limit : ℕ) (w : Sending) (m : List ℕ) (ok : InRange limit w (length m)) (slots : List Slot) (bytes : List ℕ) (o : Ready limit slots bytes) where
+module _ (limit : ℕ) (w : Sending) (m : List ℕ) (ok : InRange limit w (length m)) (slots : List Slot) (bytes : List ℕ) (o : Fits limit slots bytes) where
   inside : partStart limit (placeFor w) + limit ≤ length bytes
   inside =
       let u : suc (placeFor w) * limit ≤ slotCount * limit = mul-le-mul-right limit (place-low (streamOf (w .stream))) in
       omega (arith, suc-mul (placeFor w) limit, o .size)
 
-  module _ (p : Piece) (within : p .place + p .size ≤ length m) (before : take (p .place) (partOf limit (placeFor w) bytes) ≡ take (p .place) m) (dropped : Bool) (r : Result) where
+  module _ (p : Piece) (within : p .place + p .size ≤ length m) (before : take (p .place) (partOf limit (placeFor w) bytes) ≡ take (p .place) m) (replaced : Bool) (r : Result) where
     -- the piece stands behind what was held
     stores : take (p .place + p .size) (partOf limit (placeFor w) (stored limit (placeFor w) bytes (packetOf w m p) (pieceIn p))) ≡ take (p .place + p .size) m
     stores = rw (payload-read w m p) (part-grows limit (placeFor w) (p .place) (p .size) bytes m inside within (ok .within) before)
 
     last-gives : p .place + p .size ≡ length m
-        → r ≡ applied limit slots bytes (packetOf w m p) (placeFor w) (finish (headFor w p) (isLast (length m) p && w .ack) (length m) dropped (pieceIn p))
+        → r ≡ applied limit slots bytes (packetOf w m p) (placeFor w) (finish (headFor w p) (isLast (length m) p && w .ack) (length m) replaced (pieceIn p))
         → gives limit r ≡ some (messageOf w m)
     unfolding finish
     last-gives e f =
         let all : take (length m) (partOf limit (placeFor w) (stored limit (placeFor w) bytes (packetOf w m p) (pieceIn p))) ≡ m = rw e at stores ∙ take-length m in
         rw (f, eq-eqb (p .place + p .size) (length m) e, all)
 
-    more-holds : Ready limit (r .slots) (r .bytes) → r ≡ applied limit slots bytes (packetOf w m p) (placeFor w) (hold (headFor w p) (length m) dropped (pieceIn p))
+    more-holds : Fits limit (r .slots) (r .bytes) → r ≡ applied limit slots bytes (packetOf w m p) (placeFor w) (hold (headFor w p) (length m) replaced (pieceIn p))
         → More limit w m (p .index) (p .place + p .size) r
     unfolding hold
     more-holds ready f =
@@ -114,7 +114,7 @@ module _ (limit : ℕ) (w : Sending) (m : List ℕ) (ok : InRange limit w (lengt
 
 -- ---- the first packet
 
-module _ (limit : ℕ) (w : Sending) (m : List ℕ) (ok : InRange limit w (length m)) (slots : List Slot) (bytes : List ℕ) (o : Ready limit slots bytes)
+module _ (limit : ℕ) (w : Sending) (m : List ℕ) (ok : InRange limit w (length m)) (slots : List Slot) (bytes : List ℕ) (o : Fits limit slots bytes)
     (n : ℕ) (small : n ≤ length m) (filled : n ≡ 0 → length m ≡ 0) where
   abbrev piece : Piece
   piece = pieceFor 0 0 n
@@ -183,7 +183,7 @@ module _ (limit : ℕ) (w : Sending) (m : List ℕ) (ok : InRange limit w (lengt
 -- The next packet of the message is the one with this index, and its piece begins at this place: nothing is known but that the receiver
 -- is ready, or it holds what came before.
 pub data Awaits (limit : ℕ) (w : Sending) (m : List ℕ) (slots : List Slot) (bytes : List ℕ) : ℕ → ℕ → Type 0 where
-  start : Ready limit slots bytes → Awaits limit w m slots bytes 0 0
+  start : Fits limit slots bytes → Awaits limit w m slots bytes 0 0
   within : {index place : ℕ} → Holding limit w m index place slots bytes → place < length m → Awaits limit w m slots bytes (suc index) place
 
 -- packets of other streams change nothing of it

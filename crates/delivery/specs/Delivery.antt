@@ -9,14 +9,14 @@ use Rattle.wire.specs.Told.{Told, given, refused}
 use Rattle.wire.specs.declared.stream.Stream.{Stream}
 use Rattle.wire.specs.Stream.{streamOf}
 use Rattle.packet.specs.Header.{isOf}
-use Rattle.sender.specs.declared.writer.Sending.{Sending}
-use Rattle.sender.specs.Calls.{callsOf, Takes}
-use Rattle.receiver.specs.declared.slot.Slot.{Slot}
-use Rattle.receiver.specs.declared.answer.Accepted.{Accepted}
-use Rattle.receiver.specs.declared.answer.Accepted.the-variants.{Taken, Finished, Acked, Nacked}
-use Rattle.receiver.specs.Slot.{slotCount, lawful}
+use Rattle.slot.specs.declared.Slot.{Slot}
+use Rattle.slot.specs.declared.answer.Accepted.{Accepted}
+use Rattle.slot.specs.declared.answer.Accepted.the-variants.{Taken, Finished, Acked, Nacked}
+use Rattle.slot.specs.Slot.{slotCount, lawful}
 use Rattle.receiver.specs.Buffer.{placeOf, partOf}
 use Rattle.receiver.specs.Receiver.{acceptOf}
+use Rattle.sender.specs.declared.writer.Sending.{Sending}
+use Rattle.delivery.specs.Calls.{callsOf, Takes}
 
 -- ---- a run of the receiver
 
@@ -49,9 +49,9 @@ pub record Message : Type 0 where
 
 -- a message is given when the answer is finished: what it tells, and the first bytes of the stream's part of the buffer
 abbrev pub givenBy : ℕ → Told Accepted → List ℕ → Option Message
-givenBy limit (given (Finished stream id total ack dropped)) bytes =
+givenBy limit (given (Finished stream id total ack replaced)) bytes =
     some (record { stream = stream; id = id; total = total; ack = ack; payload = take total (partOf limit (placeOf stream) bytes) })
-givenBy limit (given (Taken stream id dropped)) bytes = none
+givenBy limit (given (Taken stream id replaced)) bytes = none
 givenBy limit (given (Acked head)) bytes = none
 givenBy limit (given (Nacked head)) bytes = none
 givenBy limit (refused n) bytes = none

@@ -1,4 +1,4 @@
--- P4 of document 01 as an instance of the claim that messages arrive, by computation.
+-- P4 of docs/FORMATS.md as an instance of the claim that messages arrive, by computation.
 use Prim.Native.Nat.{ℕ, zero, suc, _*_}
 use mathlib.Core.Path.{_≡_}
 use mathlib.Core.Option.{none, some}
@@ -6,10 +6,10 @@ use mathlib.Core.List.{List, [], _∷_}
 use mathlib.Core.Bool.{true}
 use lib.ListN.{length, replicate}
 use Rattle.wire.specs.declared.stream.Stream.the-variants.{Alexa}
+use Rattle.slot.specs.declared.Slot.{Slot}
+use Rattle.slot.specs.Slot.{idle, slotCount, lawful}
 use Rattle.sender.specs.declared.writer.Sending.{Sending}
-use Rattle.sender.specs.Calls.{callsOf, Takes}
-use Rattle.receiver.specs.declared.slot.Slot.{Slot}
-use Rattle.receiver.specs.Slot.{idle, slotCount, lawful}
+use Rattle.delivery.specs.Calls.{callsOf, Takes}
 use Rattle.delivery.specs.Delivery.{repliesTo, those, ours, givenTo, messageOf, atLast, MessagesArrive}
 
 -- small, so that the buffer is

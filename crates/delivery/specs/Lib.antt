@@ -1,2 +1,4 @@
+pub mod AcknowledgementsReturn
+pub mod Calls
 pub mod Delivery
 pub mod Instance

@@ -1,8 +1,7 @@
--- Laws of varints: the turns of the loops that read, count and write one, and where one ends.
-use Prim.Native.Nat.{ℕ, zero, suc, _+_, _-_, _*_, _/_, _%_, _≤_, _<_, _^_}
+-- Laws of varints: the turns of the loop that reads one, and where one ends.
+use Prim.Native.Nat.{ℕ, zero, suc, _+_, _-_, _*_, _≤_, _<_, _^_}
 use mathlib.Core.Path.{_≡_, refl, ap, _∙_}
 use mathlib.Core.List.{List, [], _∷_}
-use mathlib.Core.Bool.{Bool, true, false, cond}
 use native.Mathlib.Nat.{mul-le-mul-left, mul-add, mul-assoc, mul-comm}
 use native.Mathlib.Numerals.{add-one}
 use native.Mathlib.Omega.{arith}
@@ -12,7 +11,7 @@ use lib.Seq.{drop-cons}
 use lib.Dec.{ltb}
 use borrow.Author.Tests.{lt-ltb, le-ltb}
 use Rattle.wire.specs.Told.{Told, given, refused}
-use Rattle.field.specs.Varint.{more, varintFrom, varintAt, digitsOf, varintBytes}
+use Rattle.field.specs.Varint.{more, varintFrom, varintAt}
 use Rattle.field.proofs.Told.{Sat, sat-cond, sat-given}
 
 -- values of which k bytes follow the first are below top k
@@ -42,7 +41,7 @@ top-pos (suc k) = omega (arith, top-pos k)
 pub digits : {value weight d : ℕ} → value < weight → d < 128 → value + weight * d < weight * 128
 digits {value} {weight} {d} h l = omega (arith, mul-le-mul-left {m = d} {n = 127} weight (omega arith))
 
-less-one : (k : ℕ) → suc k - 1 ≡ k
+pub less-one : (k : ℕ) → suc k - 1 ≡ k
 less-one k = omega arith
 
 pub room-more : (weight left : ℕ) → weight * top left ≡ 2 ^ 64 → (left ≡ 0 → ⊥) → weight * 128 ≤ 2 ^ 63
@@ -93,33 +92,6 @@ pub turn-grown : (value weight left i : ℕ) (s : List ℕ) → i < length s →
 turn-grown value weight left i s inside n h =
     ap (grown value weight) (turn-more left i s inside n h)
     ∙ grown-more value weight (getD s i 0) (varintFrom (left - 1) (i + 1) (drop (i + 1) s))
-
--- ---- the digits of a value, for counting and writing
-pub digits-short : (k v : ℕ) → v < 128 → digitsOf k v ≡ v ∷ []
-digits-short zero v h = refl
-digits-short (suc k) v h = rw (lt-ltb v 128 h)
-
-pub digits-long : (k v : ℕ) → v < top k → 128 ≤ v → digitsOf k v ≡ (v % 128 + 128) ∷ digitsOf (k - 1) (v / 128)
-digits-long zero v t h = absurd (let z : 2 ≤ 0 = omega arith in omega arith)
-digits-long (suc k) v t h = rw (le-ltb v 128 h, less-one k)
-
-pub top-next : (k v : ℕ) → v < top k → 128 ≤ v → v / 128 < top (k - 1)
-top-next zero v t h = absurd (let z : 2 ≤ 0 = omega arith in omega arith)
-top-next (suc k) v t h = rw (less-one k) (omega arith)
-
-pub digits-count : (k v : ℕ) → (1 ≤ length (digitsOf k v)) × (length (digitsOf k v) ≤ k + 1)
-digits-count zero v = omega arith
-digits-count (suc k) v = counted (ltb v 128) (digits-count k (v / 128))
-  where
-    counted : (b : Bool) → (1 ≤ length (digitsOf k (v / 128))) × (length (digitsOf k (v / 128)) ≤ k + 1)
-        → (1 ≤ length (cond b (v ∷ []) ((v % 128 + 128) ∷ digitsOf k (v / 128)))) × (length (cond b (v ∷ []) ((v % 128 + 128) ∷ digitsOf k (v / 128))) ≤ suc k + 1)
-    counted true h = omega arith
-    counted false h = omega arith
-
--- a varint has one to ten bytes
-pub varint-count : (v : ℕ) → (1 ≤ length (varintBytes v)) × (length (varintBytes v) ≤ 10)
-unfolding varintBytes
-varint-count v = digits-count 9 v
 
 -- ---- what was read ends after its place, within the message, and is a number of 64 bits
 abbrev pub Ends : ℕ → ℕ → ℕ × ℕ → Type 0

@@ -3,7 +3,7 @@ use Prim.Native.Nat.{ℕ, _/_, _%_}
 use mathlib.Core.Bool.{Bool, _||_, not}
 use mathlib.Core.List.{List, [], _∷_}
 use lib.Dec.{ltb, leb, eqb}
-use Rattle.wire.specs.Told.{Told, given, refused, andThen, row, table}
+use Rattle.wire.specs.Told.{Told, given, refused, andThen, line, table}
 use Rattle.field.specs.declared.tag.Head.{Head}
 use Rattle.field.specs.declared.tag.Tag.{Tag}
 use Rattle.field.specs.declared.tag.Tag.the-variants.{Tagged, Refused}
@@ -38,7 +38,7 @@ badTag field wire = eqb field 0 || ltb lastField field || not (leb wire lengthTy
 -- the tag of a varint's value, with the place after it
 abbrev pub headOf : ℕ × ℕ → Told Head
 headOf p =
-    table (row 32 (badTag (p .0 / wireTypes) (p .0 % wireTypes)) ∷ []) refused
+    table (line 32 (badTag (p .0 / wireTypes) (p .0 % wireTypes)) ∷ []) refused
     (given (record { field = p .0 / wireTypes; wire = p .0 % wireTypes; next = p .1 }))
 
 -- the tag at a place of a message

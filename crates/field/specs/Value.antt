@@ -4,7 +4,7 @@ use mathlib.Core.Bool.{cond}
 use mathlib.Core.List.{List, [], _∷_}
 use lib.ListN.{length, take, drop}
 use lib.Dec.{ltb, eqb}
-use Rattle.wire.specs.Told.{Told, given, refused, andThen, row, table}
+use Rattle.wire.specs.Told.{Told, given, refused, andThen, line, table}
 use Rattle.field.specs.declared.value.Part.{Part}
 use Rattle.field.specs.declared.value.Value.{Value}
 use Rattle.field.specs.declared.value.Value.the-variants.{Number, Bytes, Skipped}
@@ -16,12 +16,12 @@ use Rattle.field.specs.Tag.{varintType, fixed64Type, lengthType, fixed32
 
 -- n bytes that are passed over
 abbrev pub skippedAt : List ℕ → ℕ → ℕ → Told (Value × ℕ)
-skippedAt s at n = table (row 30 (ltb (length s) (at + n)) ∷ []) refused (given (Skipped, at + n))
+skippedAt s at n = table (line 30 (ltb (length s) (at + n)) ∷ []) refused (given (Skipped, at + n))
 
 -- the part of a length and the place after the length
 abbrev pub partOf : List ℕ → ℕ × ℕ → Told (Value × ℕ)
 partOf s p =
-    table (row 30 (ltb (length s) (p .1 + p .0)) ∷ []) refused (given (Bytes (record { start = p .1; len = p .0 }), p .1 + p .0))
+    table (line 30 (ltb (length s) (p .1 + p .0)) ∷ []) refused (given (Bytes (record { start = p .1; len = p .0 }), p .1 + p .0))
 
 -- the value of a wire type at a place of a message, and the place after it
 unfoldable pub valueAt : List ℕ → ℕ → ℕ → Told (Value × ℕ)

@@ -1,10 +1,10 @@
--- Base 128 varints: what stands at a place of a message, and the bytes of the shortest one.
-use Prim.Native.Nat.{ℕ, zero, suc, _+_, _-_, _*_, _/_, _%_}
+-- Base 128 varints: what stands at a place of a message.
+use Prim.Native.Nat.{ℕ, zero, suc, _+_, _-_, _*_}
 use mathlib.Core.Bool.{cond}
 use mathlib.Core.List.{List, [], _∷_}
 use lib.ListN.{drop}
 use lib.Dec.{ltb}
-use Rattle.wire.specs.Told.{Told, given, refused, row, table}
+use Rattle.wire.specs.Told.{Told, given, refused, line, table}
 use Rattle.field.specs.declared.varint.Varint.{Varint}
 use Rattle.field.specs.declared.varint.Varint.the-variants.{Value, Refused}
 use Rattle.field.specs.Refusal.{numberOf}
@@ -29,7 +29,7 @@ more b (refused e) = refused e
 -- the varint at the head of the bytes from place at on, of which at most k follow its first: its value and the place after it
 abbrev pub varintFrom : ℕ → ℕ → List ℕ → Told (ℕ × ℕ)
 varintFrom k at [] = refused 30
-varintFrom zero at (b ∷ s) = table (row 31 (ltb lastByte b) ∷ []) refused (given (b, at + 1))
+varintFrom zero at (b ∷ s) = table (line 31 (ltb lastByte b) ∷ []) refused (given (b, at + 1))
 varintFrom (suc k) at (b ∷ s) = cond (ltb b base) (given (b, at + 1)) (more b (varintFrom k (at + 1) s))
 
 -- the varint at a place of a message: its value and the place after it
@@ -40,12 +40,3 @@ varintAt s at = varintFrom moreBytes at (drop at s)
 abbrev pub toldVarint : Varint → Told (ℕ × ℕ)
 toldVarint (Value v n) = given (v, n)
 toldVarint (Refused e) = refused (numberOf e)
-
--- the digits of v in the fewest bytes, of which at most k follow the first
-abbrev pub digitsOf : ℕ → ℕ → List ℕ
-digitsOf zero v = v ∷ []
-digitsOf (suc k) v = cond (ltb v base) (v ∷ []) ((v % base + base) ∷ digitsOf k (v / base))
-
--- the shortest varint of v
-unfoldable pub varintBytes : ℕ → List ℕ
-varintBytes v = digitsOf moreBytes v

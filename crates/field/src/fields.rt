@@ -1,12 +1,12 @@
 // A reader that walks the fields of a message: the lent message and the place in it, in one record.
-ghost use mathlib.Core.Path.{_≡_};
-ghost use Rattle.field.specs.Fields.{foundAt, toldFound};
 use crate::Refusal;
 use crate::tag::Tag;
 use crate::tag::read_tag;
 use crate::value::Value;
 use crate::value::ValueRead;
 use crate::value::read_value;
+ghost use mathlib.Core.Path.{_≡_};
+ghost use Rattle.field.specs.Fields.{foundAt, toldFound};
 
 pub struct Fields<'a> {
     pub message: &'a [u8],

@@ -1,10 +1,9 @@
-// Fields of Protocol Buffers messages: varints, signed numbers, tags and values, read and written.
+// Fields of Protocol Buffers messages: varints, signed numbers, tags and values, read.
 pub mod fields;
 pub mod signed;
 pub mod tag;
 pub mod value;
 pub mod varint;
-pub mod writer;
 
 ghost use mathlib.Core.Path.{_≡_};
 ghost use Rattle.field.specs.Refusal.{numberOf};
@@ -24,7 +23,7 @@ pub enum Refusal {
 }
 
 impl Refusal {
-    // The number of the paper's table.
+    // The number in the table of refusals.
     pub fn number(self) -> u8
         ensures { λ r. ⌜ r ≡ numberOf self ⌝ }
     {

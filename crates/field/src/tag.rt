@@ -1,11 +1,11 @@
 // A field's tag: its number and its wire type.
-ghost use mathlib.Core.Path.{_≡_};
-ghost use Rattle.field.specs.Tag.{badTag, headOf, tagAt, toldTag};
 use crate::Refusal;
 use crate::varint::BASE;
 use crate::varint::Varint;
 use crate::varint::read_long;
 use wire::bytes::wide64;
+ghost use mathlib.Core.Path.{_≡_};
+ghost use Rattle.field.specs.Tag.{badTag, headOf, tagAt, toldTag};
 
 // The largest field number.
 pub const LAST_FIELD: u64 = 536870911;

@@ -1,8 +1,4 @@
 // A field's value, as its wire type says.
-ghost use mathlib.Core.Path.{_≡_};
-ghost use Rattle.wire.specs.Told.{andThen};
-ghost use Rattle.field.specs.Varint.{varintAt};
-ghost use Rattle.field.specs.Value.{skippedAt, partOf, valueAt, toldValue};
 use crate::Refusal;
 use crate::tag::FIXED32;
 use crate::tag::FIXED64;
@@ -10,6 +6,10 @@ use crate::tag::LENGTH;
 use crate::tag::VARINT;
 use crate::varint::Varint;
 use crate::varint::read_varint;
+ghost use mathlib.Core.Path.{_≡_};
+ghost use Rattle.wire.specs.Told.{andThen};
+ghost use Rattle.field.specs.Varint.{varintAt};
+ghost use Rattle.field.specs.Value.{skippedAt, partOf, valueAt, toldValue};
 
 // A part of the lent message.
 pub struct Part {

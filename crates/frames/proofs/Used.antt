@@ -4,9 +4,10 @@ use mathlib.Core.Path.{_≡_, ap}
 use mathlib.Core.List.{List}
 use native.Mathlib.Omega.{arith}
 use lib.ListN.{length, take, drop, length-take}
-use Rattle.frame.specs.declared.extractor.Extractor.{Extractor}
-use Rattle.frame.specs.Extractor.{Report, Feed, fed, feedOf}
-use Rattle.frame.proofs.States.{feed-within}
+use Rattle.extractor.specs.declared.state.Extractor.{Extractor}
+use Rattle.extractor.specs.Outcome.{Report}
+use Rattle.feed.specs.Feed.{Feed, fed, feedOf}
+use Rattle.feed.proofs.Loop.{feed-within}
 
 pub used-fits : {r : Report} {n : ℕ} {s′ : Extractor} {l′ : List ℕ} (s : Extractor) (l bytes : List ℕ) (at : ℕ) → at ≤ length bytes
     → fed r n s′ l′ ≡ feedOf 4096 s l (take (length bytes - at) (drop at bytes)) → n ≤ length bytes - at

@@ -1,10 +1,12 @@
 // Lists the frames of a Classic byte stream from standard input.
-use frame::extractor::Extractor;
-use frame::extractor::Fed;
-use frame::extractor::FeedOutcome;
-use frame::extractor::Phase;
-use frame::extractor::ROOM;
-use frame::extractor::Refusal;
+use extractor::outcome::Refusal;
+use extractor::state::Extractor;
+use extractor::state::Phase;
+use extractor::state::ROOM;
+use feed::many::Fed;
+use feed::many::FeedOutcome;
+use feed::many::feed;
+use framing::mark::Mark;
 use libc::STDIN_FILENO;
 use libc::STDOUT_FILENO;
 use std::num::wrapping_add_u64;
@@ -86,7 +88,7 @@ fn skipped_in(state: Extractor, bytes: &[u8]) -> usize {
     }
     let mut i = 0;
     while i < bytes.len() {
-        if bytes[i] == Extractor::START {
+        if bytes[i] == Mark::START {
             return i;
         }
         i += 1;
@@ -115,7 +117,7 @@ fn list_block(listing: Listing, buffer: &mut [u8], bytes: &[u8]) -> Listing {
     let mut at = 0;
     while at < bytes.len() {
         let state = now.state;
-        let fed = state.feed(buffer, &bytes[at..]);
+        let fed = feed(state, buffer, &bytes[at..]);
         let used = fed.used;
         if used == 0 {
             return now;

@@ -2,30 +2,42 @@
 use Prim.Native.Nat.{ℕ, _+_, _-_, _≤_, _<_}
 use mathlib.Core.Path.{_≡_, refl, sym, ap, _∙_}
 use mathlib.Core.Bool.{Bool, true, false, not, _&&_}
-use mathlib.Core.List.{List}
+use mathlib.Core.List.{List, _++_}
 use native.Mathlib.Omega.{arith}
-use lib.ListN.{length, getD, set, take, drop, length-drop, length-set}
-use lib.Seq.{sets, length-take-le, getD-drop, getD-take, drop-set-lt, drop-drop}
+use lib.ListN.{length, getD, set, take, drop, length-append, length-drop, length-set}
+use lib.Seq.{sets, length-take-le, take-append-seam, getD-drop, getD-take, drop-set-lt, drop-drop}
 use lib.Dec.{eqb}
 use borrow.Author.Tests.{eqb-true}
 use Rattle.wire.proofs.Stores.{sets-step, sets-end}
-use Rattle.outbox.specs.Format.{Format, firstPlace}
-use Rattle.outbox.specs.Reader.{Handed, otherVersion, firstRefusal, walkOf}
-use Rattle.outbox.specs.Claims.{usable}
+use Rattle.outbox.specs.Format.{Format, headSize, firstPlace}
+use Rattle.outbox.specs.Reader.{Answer, Handed, given, refused, refusedAt, otherVersion, readAll, firstRefusal, walkOf}
+use Rattle.outbox_claims.specs.Claims.{usable, recordsOf, allMoved, fromPlace, ReadsAsAlone}
 use Rattle.outbox.proofs.Record.{clash}
 use Rattle.outbox.proofs.Walk.{other-version-walk}
-use Rattle.outbox.proofs.Place.{found-within}
-use Rattle.outbox.proofs.Run.{Run, ends, stops, goes, all-run, walk-is}
-use Rattle.outbox.proofs.Cut.{run-usable}
-use Rattle.outbox.proofs.Append.{bounds}
-use Rattle.outbox.proofs.Moved.{never-cut}
+use Rattle.outbox.proofs.Place.{found-within, version-more}
+use Rattle.outbox_claims.proofs.Run.{Run, ends, stops, goes, all-run, run-all, walk-is}
+use Rattle.outbox_claims.proofs.Cut.{run-usable}
+use Rattle.outbox_claims.proofs.Append.{bounds}
+use Rattle.outbox_claims.proofs.Moved.{never-cut}
+use Rattle.outbox_claims.proofs.ReadsAsAlone.{reads-as-alone}
+use Rattle.outbox_claims.proofs.Stays.{run-stays, other-version-all, other-version-stays}
 use Rattle.listing.specs.declared.Listed.{Listed}
-use Rattle.listing.specs.Listing.{isOver, listedOf, Carried, carried, carryOf, PartsGoOn}
+use Rattle.listing.specs.Listing.{isOver, listedOf, Carried, carried, carryOf, ListsAsWhole}
 
 -- a refusal that does not end the listing is that of a cut
 not-over : (b : Bool) → not (b && not false) ≡ false → b ≡ true
 not-over true e = refl
 not-over false e = absurd (clash (cc))
+
+ends-uncut : (b : Bool) → not (b && not false) ≡ true → b ≡ false
+ends-uncut true e = absurd (clash (cc))
+ends-uncut false e = refl
+
+-- what is refused in reading place after place has its place
+run-never-refused : (fmt : Format) (file : List ℕ) {place : ℕ} {hs : List Handed} → Run fmt file place hs → (n : ℕ) → firstRefusal hs ≡ refused n → ⊥
+run-never-refused fmt file (ends place e) n r = clash (cc)
+run-never-refused fmt file (stops place inside e) n r = clash (cc)
+run-never-refused fmt file (goes place inside e p later) n r = run-never-refused fmt file later n r
 
 -- a listing that is not over has met the version
 module _ (fmt : Format) (last : Bool) (part : List ℕ) (more : listedOf fmt last part .over ≡ false) where
@@ -55,22 +67,57 @@ pub carried-within : {r : ℕ} {after : List ℕ} (buffer : List ℕ) (place hel
 unfolding carryOf
 carried-within {r} buffer place held e first within = omega (arith, ap (λ (c : Carried). c .held) e)
 
+-- a listing that is over before the last part ends at a refusal that stays
+over : (fmt : Format) (part more : List ℕ) → 1 ≤ length part → listedOf fmt false part .over ≡ true → readAll fmt (part ++ more) ≡ readAll fmt part
+unfolding listedOf
+over fmt part more some ended = by-version (otherVersion fmt part) refl
+  where
+    by-walk : (w : Answer (Unit {0})) → walkOf fmt part ≡ w → isOver false w ≡ true → otherVersion fmt part ≡ false → readAll fmt (part ++ more) ≡ readAll fmt part
+    by-walk (given whole) e o v = absurd (clash (cc))
+    by-walk (refused n) e o v = absurd (run-never-refused fmt part (all-run fmt part v) n (sym (walk-is fmt part) ∙ e))
+    by-walk (refusedAt n p) e o v =
+        run-all fmt (part ++ more) (version-more fmt part more v)
+        (run-stays fmt part more n p (ends-uncut (eqb n 41) o) (all-run fmt part v) (sym (walk-is fmt part) ∙ e))
+
+    by-version : (b : Bool) → otherVersion fmt part ≡ b → readAll fmt (part ++ more) ≡ readAll fmt part
+    by-version true v =
+        other-version-all fmt (part ++ more) (other-version-stays fmt part more some ∙ v) ∙ sym (other-version-all fmt part v)
+    by-version false v = by-walk (walkOf fmt part) refl ended v
+
+-- one that is not goes on at the place that it told
+goes-on : (fmt : Format) (part more : List ℕ) → listedOf fmt false part .over ≡ false
+    → let place = listedOf fmt false part .place in
+    readAll fmt (part ++ more) ≡ recordsOf (readAll fmt part) ++ allMoved (place - firstPlace) (readAll fmt (fromPlace fmt (part ++ more) place))
+unfolding ReadsAsAlone listedOf
+goes-on fmt part more unfinished =
+    let place = usable (walkOf fmt part) part in
+    let version = more-version fmt false part unfinished in
+    let within = bounds fmt part version place refl in
+    let all = length-append part more in
+    let looked : take (length part) (part ++ more) ≡ part = take-append-seam part more in
+    rw looked at
+    (reads-as-alone fmt (part ++ more) (version-more fmt part more version) place (within .0) (omega arith) .rest (length part) (omega arith) (rw looked))
+
 -- where the longest record fits, the first one is passed
-pub parts-go-on : PartsGoOn
-unfolding PartsGoOn listedOf
-parts-go-on fmt part enough more = by-run (all-run fmt part version) (walk-is fmt part)
+further : (fmt : Format) (part : List ℕ) → firstPlace + (headSize fmt + fmt .limit) ≤ length part → listedOf fmt false part .over ≡ false
+    → firstPlace < listedOf fmt false part .place
+unfolding listedOf
+further fmt part enough unfinished = by-run (all-run fmt part version) (walk-is fmt part)
   where
     version : otherVersion fmt part ≡ false
-    version = more-version fmt false part more
+    version = more-version fmt false part unfinished
 
     by-run : {hs : List Handed} → Run fmt part 1 hs → walkOf fmt part ≡ firstRefusal hs → 1 < usable (walkOf fmt part) part
     by-run (ends place e) walked = absurd (omega arith)
     by-run (stops place {n = n} inside e) walked =
-        let cut : n ≡ 41 = eqb-true n 41 (not-over (eqb n 41) (rw walked at more)) in
+        let cut : n ≡ 41 = eqb-true n 41 (not-over (eqb n 41) (rw walked at unfinished)) in
         absurd (never-cut fmt (drop 1 part) 1 (simp length-drop (omega arith)) (rw cut at e))
     by-run (goes place {f = f} inside e p r) walked =
         let after = found-within fmt part 1 f (omega arith) e .0 in
         rw walked (omega (arith, run-usable fmt part r .0))
+
+pub lists-as-whole : ListsAsWhole
+lists-as-whole = record { over = over; goes-on = goes-on; further = further }
 
 -- moving the bytes of a part, byte by byte: what is left to store, and that it is not stored over
 pub record Moving (buffer : List ℕ) (place held : ℕ) (now : List ℕ) (i : ℕ) : Type 0 where

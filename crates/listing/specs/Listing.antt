@@ -2,13 +2,13 @@
 use Prim.Native.Nat.{ℕ, _+_, _-_, _≤_, _<_}
 use mathlib.Core.Path.{_≡_}
 use mathlib.Core.Bool.{Bool, true, false, not, _&&_}
-use mathlib.Core.List.{List}
+use mathlib.Core.List.{List, _++_}
 use lib.Dec.{eqb}
 use lib.ListN.{length, take, drop}
 use lib.Seq.{sets}
 use Rattle.outbox.specs.Format.{Format, headSize, firstPlace}
-use Rattle.outbox.specs.Reader.{Answer, given, refused, refusedAt, walkOf}
-use Rattle.outbox.specs.Claims.{usable}
+use Rattle.outbox.specs.Reader.{Answer, given, refused, refusedAt, readAll, walkOf}
+use Rattle.outbox_claims.specs.Claims.{usable, recordsOf, allMoved, fromPlace}
 use Rattle.listing.specs.declared.Listed.{Listed}
 
 -- the bytes of the buffer that a file passes through
@@ -44,8 +44,14 @@ carried held buffer = record { held = held; buffer = buffer }
 unfoldable pub carryOf : List ℕ → ℕ → ℕ → Carried
 carryOf buffer place held = carried (firstPlace + (held - place)) (sets buffer firstPlace (drop place (take held buffer)))
 
--- a part that is not the last and has room for the longest record is listed beyond its first record, or to a refusal
-unfoldable pub PartsGoOn : Type 0
-PartsGoOn =
-    (fmt : Format) (part : List ℕ) → firstPlace + (headSize fmt + fmt .limit) ≤ length part
-    → listedOf fmt false part .over ≡ false → firstPlace < listedOf fmt false part .place
+-- listing part by part gives what the whole file gives
+pub record ListsAsWhole : Type 0 where
+  -- where the listing is over before the last part, what follows makes no difference
+  pub over : (fmt : Format) (part more : List ℕ) → 1 ≤ length part → listedOf fmt false part .over ≡ true → readAll fmt (part ++ more) ≡ readAll fmt part
+  -- where it is not, what follows the part's records is what the next part gives, from the place on
+  pub goes-on : (fmt : Format) (part more : List ℕ) → listedOf fmt false part .over ≡ false
+      → let place = listedOf fmt false part .place in
+      readAll fmt (part ++ more) ≡ recordsOf (readAll fmt part) ++ allMoved (place - firstPlace) (readAll fmt (fromPlace fmt (part ++ more) place))
+  -- .. and with room for the longest record that place is beyond the first record's
+  pub further : (fmt : Format) (part : List ℕ) → firstPlace + (headSize fmt + fmt .limit) ≤ length part → listedOf fmt false part .over ≡ false
+      → firstPlace < listedOf fmt false part .place

@@ -1,12 +1,5 @@
 // Lists the records of an outbox file on standard output, for the crew: what a box kept. The file may be of any size: it
 // passes through one small buffer that holds the version byte and the bytes from a record's place on.
-ghost use mathlib.Core.Path.{_≡_};
-ghost use Prim.Native.Nat.{_≤_};
-ghost use lib.Dec.{eqb};
-ghost use lib.ListN.{length, take};
-ghost use Rattle.outbox.specs.Format.{versionOne, firstPlace};
-ghost use Rattle.outbox.specs.Reader.{faultNumber};
-ghost use Rattle.listing.specs.Listing.{bufferSize, endsBy, listed, listedOf, carried, carryOf, PartsGoOn};
 use libc::STDIN_FILENO;
 use libc::STDOUT_FILENO;
 use outbox::format::FIRST_PLACE;
@@ -15,6 +8,13 @@ use outbox::reader::Reading;
 use outbox::reader::read;
 use std::num::wrapping_add_u64;
 use wire::logic::both;
+ghost use mathlib.Core.Path.{_≡_};
+ghost use Prim.Native.Nat.{_≤_};
+ghost use lib.Dec.{eqb};
+ghost use lib.ListN.{length, take};
+ghost use Rattle.outbox.specs.Format.{versionOne, firstPlace};
+ghost use Rattle.outbox.specs.Reader.{faultNumber};
+ghost use Rattle.listing.specs.Listing.{bufferSize, endsBy, listed, listedOf, carried, carryOf, ListsAsWhole};
 
 // The bytes of a part: the version byte and the longest record fit twice.
 const ROOM: usize = 8192;
@@ -179,8 +179,8 @@ pub fn list(buffer: &mut [u8]) {
     }
 }
 
-// A part that has room for the longest record is listed beyond its first record, or the listing is over: so a file of any
-// size is listed to its end.
-pub fn parts_go_on()
-    ensures { λ _. ⌜ PartsGoOn ⌝ }
+// A file that is listed part by part gives what it gives as a whole, and a part with room for the longest record is listed
+// beyond its first record or to the end of the listing.
+pub fn lists_as_whole()
+    ensures { λ _. ⌜ ListsAsWhole ⌝ }
 {}

@@ -3,15 +3,3 @@ pub mod Record
 pub mod Place
 pub mod Walk
 pub mod Stored
-pub mod Run
-pub mod Cut
-pub mod Contents
-pub mod Append
-pub mod RecordsReturn
-pub mod CutsAreFound
-pub mod AppendsAfterCut
-pub mod AppendsAsAlone
-pub mod Moved
-pub mod ReadsAsAlone
-pub mod VersionOne
-pub mod Instances

@@ -9,7 +9,7 @@ use lib.Dec.{eqb, ltb}
 use lib.ListN.{length, getD, take, drop, length-drop}
 use lib.Seq.{take-all}
 use borrow.Author.Tests.{ltb-false, eqb-true, eqb-false, ne-eqb, eq-eqb, le-ltb}
-use Rattle.wire.specs.Told.{row, table}
+use Rattle.wire.specs.Told.{line, table}
 use Rattle.outbox.specs.Format.{Format}
 use Rattle.outbox.specs.Reader.{Answer, Item, Found, given, refused, refusedAt, found, end, otherVersion, badPlace, recordAt, readOf}
 use Rattle.outbox.proofs.Record.{clash, found-ends, never-end}
@@ -80,7 +80,7 @@ module _ (fmt : Format) (file : List ℕ) (place : ℕ) where
   read-cases P other bad at-end inside = by-tests (otherVersion fmt file) (badPlace file place) (eqb place (length file)) refl refl
     where
       by-tests : (v p l : Bool) → badPlace file place ≡ p → eqb place (length file) ≡ l
-          → P (table (row 40 v ∷ []) (λ n. refusedAt n 0) (table (row 15 p ∷ []) refused (cond l (given end) (recordAt fmt place (drop place file)))))
+          → P (table (line 40 v ∷ []) (λ n. refusedAt n 0) (table (line 15 p ∷ []) refused (cond l (given end) (recordAt fmt place (drop place file)))))
       by-tests true p l e t = other
       by-tests false true l e t = bad
       by-tests false false true e t = at-end (eqb-true place (length file) t)

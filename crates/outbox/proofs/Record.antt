@@ -1,7 +1,7 @@
 -- Laws of the record at the front of some bytes.
 use Prim.Native.Nat.{ℕ, _+_, _-_, _≤_, _<_}
 use mathlib.Core.Path.{_≡_, refl, _∙_}
-use mathlib.Core.Bool.{Bool, true, false, not, _&&_, _||_}
+use mathlib.Core.Bool.{Bool, true, false, _&&_, _||_}
 use mathlib.Core.List.{List, [], _∷_, _++_}
 use mathlib.Mathlib.Data.Bool.Basic.{or-eq-false-eq-eq-false-and-eq-false}
 use native.Mathlib.Decide.{decLe}
@@ -10,7 +10,7 @@ use lib.Dec.{eqb, leb, ltb}
 use lib.ListN.{length, getD, length-append, List·getD-append}
 use borrow.Author.Tests.{ltb-false, eqb-false, le-leb, lt-leb, le-ltb, lt-ltb, ne-eqb, not-false}
 use Rattle.wire.specs.Stream.{isStream}
-use Rattle.wire.specs.Told.{row, table}
+use Rattle.wire.specs.Told.{line, table}
 use Rattle.outbox.specs.Format.{Format}
 use Rattle.outbox.specs.Reader.{Answer, Item, Found, given, refusedAt, found, end, foundAt, lengthIn, badLength, cutShort, badStream, recordAt}
 use Rattle.outbox.proofs.Number.{number-append}
@@ -113,7 +113,7 @@ module _ (fmt : Format) (rest : List ℕ) where
         whole-read place e = rw (bad-is ∙ right, not-cut (omega arith), e, is)
 
   by-tests : (place : ℕ) (l c s : Bool) → badLength fmt rest ≡ l → cutShort fmt rest ≡ c → badStream fmt rest ≡ s
-      → View fmt place rest (table (row 42 l ∷ row 41 c ∷ row 43 s ∷ []) (λ n. refusedAt n place) (given (found (front fmt place rest))))
+      → View fmt place rest (table (line 42 l ∷ line 41 c ∷ line 43 s ∷ []) (λ n. refusedAt n place) (given (found (front fmt place rest))))
   by-tests place true c s e f g = broken 42
   by-tests place false true s e f g = broken 41
   by-tests place false false true e f g = broken 43

@@ -1,5 +1,5 @@
--- The outbox file of document 01: a version byte, then records. A record is its length, a stream byte and a payload.
-use Prim.Native.Nat.{ℕ, zero, suc, _+_, _*_, _/_, _%_, _^_, _<_}
+-- The outbox file of docs/FORMATS.md: a version byte, then records. A record is its length, a stream byte and a payload.
+use Prim.Native.Nat.{ℕ, zero, suc, _+_, _*_, _/_, _%_, _^_}
 use mathlib.Core.List.{List, [], _∷_, _++_}
 use lib.ListN.{length}
 
@@ -12,10 +12,6 @@ pub record Format : Type 0 where
 -- version 01: lengths of two bytes
 abbrev pub versionOne : ℕ → Format
 versionOne limit = record { version = 1; width = 2; limit = limit }
-
--- every record's length fits its field
-abbrev pub Lawful : Format → Type 0
-Lawful fmt = fmt .limit + 1 < 256 ^ fmt .width
 
 -- the number of the first `width` bytes, big-endian; a byte that is not there counts as 0
 unfoldable pub numberOf : ℕ → List ℕ → ℕ

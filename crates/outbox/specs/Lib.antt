@@ -1,5 +1,3 @@
 pub mod Format
 pub mod Reader
 pub mod Writer
-pub mod Claims
-pub mod VersionOne

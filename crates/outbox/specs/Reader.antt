@@ -4,7 +4,7 @@ use mathlib.Core.Bool.{Bool, cond, not, _&&_, _||_}
 use mathlib.Core.List.{List, [], _∷_}
 use lib.Dec.{eqb, leb, ltb}
 use lib.ListN.{length, getD, take, drop}
-use Rattle.wire.specs.Told.{row, table}
+use Rattle.wire.specs.Told.{line, table}
 use Rattle.wire.specs.Stream.{isStream}
 use Rattle.outbox.specs.Format.{Format, numberOf, headSize, firstPlace}
 use Rattle.outbox.specs.declared.reader.Fault.{Fault}
@@ -68,7 +68,7 @@ badStream fmt rest = not (isStream (getD rest (fmt .width) 0))
 unfoldable pub recordAt : Format → ℕ → List ℕ → Answer Item
 recordAt fmt place rest =
     table
-    (row 42 (badLength fmt rest) ∷ row 41 (cutShort fmt rest) ∷ row 43 (badStream fmt rest) ∷ [])
+    (line 42 (badLength fmt rest) ∷ line 41 (cutShort fmt rest) ∷ line 43 (badStream fmt rest) ∷ [])
     (λ n. refusedAt n place)
     (given (found (foundAt fmt place (getD rest (fmt .width) 0) (lengthIn fmt rest - 1))))
 
@@ -76,10 +76,10 @@ recordAt fmt place rest =
 unfoldable pub readOf : Format → List ℕ → ℕ → Answer Item
 readOf fmt file place =
     table
-    (row 40 (otherVersion fmt file) ∷ [])
+    (line 40 (otherVersion fmt file) ∷ [])
     (λ n. refusedAt n 0)
     (table
-    (row 15 (badPlace file place) ∷ [])
+    (line 15 (badPlace file place) ∷ [])
     refused
     (cond (eqb place (length file)) (given end) (recordAt fmt place (drop place file))))
 
@@ -131,7 +131,7 @@ firstRefusal (h ∷ hs) = refusalOr (h .answer) (firstRefusal hs)
 unfoldable pub walkOf : Format → List ℕ → Answer (Unit {0})
 walkOf fmt file = firstRefusal (readAll fmt file)
 
--- ---- what the code's answers tell, in the paper's numbers
+-- ---- what the code's answers tell, in the numbers of docs/FORMATS.md
 
 abbrev pub faultNumber : Fault → ℕ
 faultNumber Version = 40

@@ -5,7 +5,7 @@ use mathlib.Core.List.{List, [], _∷_}
 use lib.Dec.{ltb}
 use lib.ListN.{length, take}
 use lib.Seq.{sets}
-use Rattle.wire.specs.Told.{row, table}
+use Rattle.wire.specs.Told.{line, table}
 use Rattle.wire.specs.Stream.{isStream}
 use Rattle.outbox.specs.Format.{Format, recordBytes, newBytes}
 use Rattle.outbox.specs.Reader.{Answer, given, refused, refusedAt, faultNumber, walkOf}
@@ -28,7 +28,7 @@ storedAt buffer place bytes = stored (given (place + length bytes)) (sets buffer
 unfoldable pub newOf : Format → List ℕ → Stored
 newOf fmt buffer =
     table
-    (row 14 (ltb (length buffer) (length (newBytes fmt))) ∷ [])
+    (line 14 (ltb (length buffer) (length (newBytes fmt))) ∷ [])
     (λ n. stored (refused n) buffer)
     (storedAt buffer 0 (newBytes fmt))
 
@@ -46,14 +46,14 @@ ifWhole (refusedAt n place) buffer after = stored (refusedAt n place) buffer
 unfoldable pub appendOf : Format → List ℕ → ℕ → ℕ → List ℕ → Stored
 appendOf fmt buffer used stream payload =
     table
-    (row 1 (ltb (length buffer) used)
-    ∷ row 15 (badRecord fmt stream (length payload))
-    ∷ row 14 (ltb (length buffer - used) (length (recordBytes fmt stream payload)))
+    (line 1 (ltb (length buffer) used)
+    ∷ line 15 (badRecord fmt stream (length payload))
+    ∷ line 14 (ltb (length buffer - used) (length (recordBytes fmt stream payload)))
     ∷ [])
     (λ n. stored (refused n) buffer)
     (ifWhole (walkOf fmt (take used buffer)) buffer (storedAt buffer used (recordBytes fmt stream payload)))
 
--- ---- what the code's answers tell, in the paper's numbers
+-- ---- what the code's answers tell, in the numbers of docs/FORMATS.md
 
 abbrev pub toldNew : Created → Answer ℕ
 toldNew (Created.Used n) = given n

@@ -1,5 +1,4 @@
 // The outbox: a file of messages that a box keeps until a kiln is in reach. This crate reads and writes its bytes.
-pub mod claims;
 pub mod format;
 pub mod reader;
 pub mod writer;

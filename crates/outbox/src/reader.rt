@@ -1,9 +1,4 @@
 // Reading an outbox: the record at a place, and whether all is whole.
-ghost use mathlib.Core.Path.{_≡_};
-ghost use Prim.Native.Nat.{ℕ};
-ghost use Rattle.outbox.specs.Format.{versionOne};
-ghost use Rattle.outbox.specs.Reader.{otherVersion, badPlace, recordAt, readOf, walkOf};
-ghost use Rattle.outbox.specs.Reader.{faultNumber, toldJudged, told, toldWalk};
 use crate::format::FIRST_PLACE;
 use crate::format::HEAD;
 use crate::format::LONGEST;
@@ -13,6 +8,11 @@ use wire::bytes::byte_at;
 use wire::bytes::pair;
 use wire::logic::either;
 use wire::stream::is_stream;
+ghost use mathlib.Core.Path.{_≡_};
+ghost use Prim.Native.Nat.{ℕ};
+ghost use Rattle.outbox.specs.Format.{versionOne};
+ghost use Rattle.outbox.specs.Reader.{otherVersion, badPlace, recordAt, readOf, walkOf};
+ghost use Rattle.outbox.specs.Reader.{faultNumber, toldJudged, told, toldWalk};
 
 // What is wrong with an outbox's bytes.
 pub enum Fault {
@@ -23,7 +23,7 @@ pub enum Fault {
 }
 
 impl Fault {
-    // The refusal number of document 01.
+    // The refusal number of docs/FORMATS.md.
     pub fn number(self) -> u8
         ensures { λ r. ⌜ r ≡ faultNumber self ⌝ }
     {

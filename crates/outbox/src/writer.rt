@@ -1,10 +1,4 @@
 // Writing an outbox into a lent buffer: a new one, and a record after the used bytes.
-ghost use mathlib.Core.Path.{_≡_};
-ghost use Prim.Native.Nat.{_+_, _≤_};
-ghost use lib.ListN.{length};
-ghost use lib.Seq.{sets};
-ghost use Rattle.outbox.specs.Format.{versionOne, headSize, recordBytes};
-ghost use Rattle.outbox.specs.Writer.{stored, newOf, badRecord, appendOf, toldNew, told};
 use crate::format::FIRST_PLACE;
 use crate::format::HEAD;
 use crate::format::VERSION;
@@ -16,6 +10,12 @@ use wire::bytes::copy;
 use wire::bytes::put_pair;
 use wire::logic::either;
 use wire::stream::is_stream;
+ghost use mathlib.Core.Path.{_≡_};
+ghost use Prim.Native.Nat.{_+_, _≤_};
+ghost use lib.ListN.{length};
+ghost use lib.Seq.{sets};
+ghost use Rattle.outbox.specs.Format.{versionOne, headSize, recordBytes};
+ghost use Rattle.outbox.specs.Writer.{stored, newOf, badRecord, appendOf, toldNew, told};
 
 // The used bytes of a new outbox, or no room for it.
 pub enum Created {

@@ -21,7 +21,7 @@ in-range-low stream id sequence e =
       ltb-true sequence 16 (and-right (ltb id 16) _ low),
     )
 
--- document 01's ranges are in range
+-- the ranges of docs/FORMATS.md are in range
 pub in-range : (stream id sequence : ℕ) → (stream ≡ 0) ⊎ (stream ≡ 2) ⊎ (stream ≡ 6) → id ≤ 15 → sequence ≤ 15 → inRange stream id sequence ≡ true
 unfolding inRange
 in-range stream id sequence s i q = rw (known-stream stream s, lt-ltb id 16 (omega arith), lt-ltb sequence 16 (omega arith))

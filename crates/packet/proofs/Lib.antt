@@ -1,4 +1,3 @@
 pub mod Headers
-pub mod Acknowledgements
+pub mod Controls
 pub mod Reading
-pub mod AcknowledgementsReturn

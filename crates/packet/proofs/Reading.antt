@@ -17,8 +17,9 @@ use Rattle.packet.specs.declared.reader.Head.{Head}
 use Rattle.packet.specs.declared.reader.Fields.{Fields}
 use Rattle.packet.specs.declared.reader.Packet.{Packet}
 use Rattle.packet.specs.declared.reader.Packet.the-variants.{First, Next, Ack, Nack}
-use Rattle.packet.specs.Header.{reservedByte, typeFirst, typeContinuation, typeLast, headerSize, firstByte, secondByte, streamBits}
-use Rattle.packet.specs.Reader.{fieldsBy, fieldsOf, isFirst, isControl, headIn, contentOf, rows, judged, readOf}
+use Rattle.packet.specs.Header.{reservedByte, typeFirst, typeContinuation, typeLast, typeControl, headerSize, firstByte, secondByte, streamBits}
+use Rattle.packet.specs.Control.{ackBytes}
+use Rattle.packet.specs.Reader.{fieldsBy, fieldsOf, isFirst, isControl, headIn, contentOf, lines, judged, readOf}
 use Rattle.packet.proofs.Headers.{stream-back, id-back, sequence-back, type-back, ack-back, extender-back}
 
 -- ---- a packet that passes
@@ -76,9 +77,9 @@ content-head f false false ack ec ef ea = rw (ec, ef)
 
 judged-passes : (limit : ℕ) (f : Fields) → HeadLow (f .head) → f .head .stream ≡ streamOf (f .stream)
     → IfGiven (Passes limit (f .size) (f .stream)) (judged limit f)
-unfolding rows
+unfolding lines
 judged-passes limit f low named =
-    by-table (IfGiven (Passes limit (f .size) (f .stream))) (rows limit f) refused (given (contentOf f)) (λ n. tt) (λ h.
+    by-table (IfGiven (Passes limit (f .size) (f .stream))) (lines limit f) refused (given (contentOf f)) (λ n. tt) (λ h.
     let h3 = h .1 in
     let h5 = h3 .1 .1 .1 in
     let h6 = h5 .1 in
@@ -102,7 +103,7 @@ filled len total z false e = rw e
 passes-first : (limit : ℕ) (f : Fields) → f .kind ≡ typeFirst → isStream (f .stream) ≡ true → f .reserved ≡ 0 → f .size ≡ f .header + f .len → 2 ≤ f .header
     → f .total ≤ limit → (f .len ≡ 0 → f .total ≡ 0) → f .len ≤ f .total
     → judged limit f ≡ given (First (f .head) (f .ack) (f .total) (f .header) (f .len))
-unfolding rows contentOf
+unfolding lines contentOf
 passes-first limit f k known r x h t z n =
     simp (
       k,
@@ -119,7 +120,7 @@ passes-first limit f k known r x h t z n =
 passes-next : (limit : ℕ) (f : Fields) (last : Bool) → f .kind ≡ cond last typeLast typeContinuation → isStream (f .stream) ≡ true
     → f .size ≡ f .header + f .len → 2 ≤ f .header → 1 ≤ f .len
     → judged limit f ≡ given (Next (f .head) (f .ack) last (f .header) (f .len))
-unfolding rows contentOf
+unfolding lines contentOf
 passes-next limit f true k known x h n =
     simp (
       k,
@@ -139,8 +140,13 @@ passes-next limit f false k known x h n =
       ne-eqb (f .len) 0 (λ e. omega arith),
     )
 
+passes-control : (limit : ℕ) (f : Fields) → f .kind ≡ typeControl → isStream (f .stream) ≡ true → f .exact ≡ true → 2 ≤ f .size
+    → judged limit f ≡ given (cond (f .ack) (Ack (f .head)) (Nack (f .head)))
+unfolding lines contentOf
+passes-control limit f k known s n = simp (k, known, s, le-ltb (f .size) 2 n)
+
 -- byte 0 and byte 1 say what was written there
-pub fields-back : (stream id sequence kind : ℕ) (ack extended : Bool) (rest : List ℕ) → id < 16 → sequence < 16 → kind < 4
+fields-back : (stream id sequence kind : ℕ) (ack extended : Bool) (rest : List ℕ) → id < 16 → sequence < 16 → kind < 4
     → fieldsOf (firstByte stream id ∷ secondByte sequence kind ack extended ∷ rest)
     ≡ fieldsBy (firstByte stream id ∷ secondByte sequence kind ack extended ∷ rest) stream id sequence kind ack extended
 unfolding fieldsOf
@@ -194,7 +200,17 @@ module _ (limit stream id sequence : ℕ) (ack : Bool) (payload : List ℕ) (kno
   next-read extended true n = next-by extended true typeLast refl (λ e. omega arith) (omega arith) n
   next-read extended false n = next-by extended false typeContinuation refl (λ e. omega arith) (omega arith) n
 
+-- an ACK or a NACK
+pub ack-read : (limit stream id sequence : ℕ) (positive : Bool) → isStream stream ≡ true → id < 16 → sequence < 16
+    → readOf limit (ackBytes stream id sequence positive)
+    ≡ given (cond positive (Ack (record { stream = streamOf stream; id = id; sequence = sequence })) (Nack (record { stream = streamOf stream; id = id; sequence = sequence })))
+unfolding readOf
+ack-read limit stream id sequence true known li ls =
+    rw (fields-back stream id sequence typeControl true false _ li ls (omega arith)) (passes-control limit _ refl known refl (omega arith))
+ack-read limit stream id sequence false known li ls =
+    rw (fields-back stream id sequence typeControl false false _ li ls (omega arith)) (passes-control limit _ refl known refl (omega arith))
+
 -- a packet without bytes
 pub empty-refused : (limit : ℕ) → readOf limit [] ≡ refused 2
-unfolding readOf fieldsOf rows
+unfolding readOf fieldsOf lines
 empty-refused limit = refl

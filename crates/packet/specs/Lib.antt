@@ -1,4 +1,3 @@
 pub mod Header
-pub mod Acknowledgement
+pub mod Control
 pub mod Reader
-pub mod AcknowledgementsReturn

@@ -5,7 +5,7 @@ use mathlib.Core.List.{List, [], _∷_}
 use mathlib.Core.Bool.{Bool, true, false, not, cond, _&&_, _||_}
 use lib.ListN.{length, getD, drop}
 use lib.Dec.{ltb, eqb}
-use Rattle.wire.specs.Told.{Told, given, refused, Row, row, table}
+use Rattle.wire.specs.Told.{Told, given, refused, Line, line, table}
 use Rattle.wire.specs.Bytes.{pairOf}
 use Rattle.wire.specs.Stream.{isStream, streamOf}
 use Rattle.packet.specs.declared.reader.Head.{Head}
@@ -19,7 +19,7 @@ use Rattle.packet.specs.declared.reader.Verdict.the-variants.{Passed, St
 use Rattle.packet.specs.declared.reader.Answer.{Answer}
 use Rattle.packet.specs.declared.reader.Answer.the-variants.{Refused, Read}
 use Rattle.packet.specs.Header.{startSize, reservedByte, typeFirst, typeLast, typeControl, headerSize, lengthPlace, streamBits, idBits, sequenceBits, typeBits, ackBit, extenderBit}
-use Rattle.packet.specs.Acknowledgement.{ackTail}
+use Rattle.packet.specs.Control.{ackTail}
 
 -- two lists of bytes are the same
 abbrev pub sameBytes : List ℕ → List ℕ → Bool
@@ -84,22 +84,22 @@ lenIn (Next head ack last start len) = len
 lenIn (Ack head) = 0
 lenIn (Nack head) = 0
 
--- the table of document 01 for a packet by itself; limit is the largest total
-unfoldable pub rows : ℕ → Fields → List Row
-rows limit f =
-    row 2 (ltb (f .size) startSize || (not (isControl f) && ltb (f .size) (f .header)))
-    ∷ row 3 (not (isStream (f .stream)))
-    ∷ row 12 (isControl f && not (f .exact))
-    ∷ row 4 (isFirst f && not (eqb (f .reserved) reservedByte))
-    ∷ row 5 (not (isControl f) && not (eqb (f .size) (f .header + f .len)))
-    ∷ row 6 (isFirst f && ltb limit (f .total))
-    ∷ row 7 (not (isControl f) && (eqb (f .len) 0 && not (isFirst f && eqb (f .total) 0)))
-    ∷ row 8 (isFirst f && ltb (f .total) (f .len))
+-- the table of docs/FORMATS.md for a packet by itself; limit is the largest total
+unfoldable pub lines : ℕ → Fields → List Line
+lines limit f =
+    line 2 (ltb (f .size) startSize || (not (isControl f) && ltb (f .size) (f .header)))
+    ∷ line 3 (not (isStream (f .stream)))
+    ∷ line 12 (isControl f && not (f .exact))
+    ∷ line 4 (isFirst f && not (eqb (f .reserved) reservedByte))
+    ∷ line 5 (not (isControl f) && not (eqb (f .size) (f .header + f .len)))
+    ∷ line 6 (isFirst f && ltb limit (f .total))
+    ∷ line 7 (not (isControl f) && (eqb (f .len) 0 && not (isFirst f && eqb (f .total) 0)))
+    ∷ line 8 (isFirst f && ltb (f .total) (f .len))
     ∷ []
 
 -- what is told of the fields of a packet
 abbrev pub judged : ℕ → Fields → Told Packet
-judged limit f = table (rows limit f) refused (given (contentOf f))
+judged limit f = table (lines limit f) refused (given (contentOf f))
 
 -- what is told of a packet
 unfoldable pub readOf : ℕ → List ℕ → Told Packet

@@ -1,4 +1,4 @@
 // Low Energy packets: one packet read, an ACK or NACK written.
-pub mod acknowledgement;
+pub mod control;
 pub mod header;
 pub mod reader;

@@ -1,5 +1,5 @@
 // Reads one packet: its fields first, then the table of refusals on the fields alone.
-use crate::acknowledgement;
+use crate::control;
 use crate::header;
 use wire::bytes::byte_at;
 use wire::bytes::pair;
@@ -13,7 +13,7 @@ ghost use mathlib.Core.Path.{_≡_};
 ghost use mathlib.Core.Bool.{cond};
 ghost use Prim.Native.Nat.{_<_};
 ghost use Rattle.wire.specs.Told.{refused, table};
-ghost use Rattle.packet.specs.Reader.{lengthAt, isAcknowledgement, fieldsOf, contentOf, headIn, rows, readOf, numberOf, told, ruled, Rules};
+ghost use Rattle.packet.specs.Reader.{lengthAt, isAcknowledgement, fieldsOf, contentOf, headIn, lines, readOf, numberOf, told, ruled, Rules};
 
 pub struct Head {
     pub stream: Stream,
@@ -92,7 +92,7 @@ pub enum Refusal {
 }
 
 impl Refusal {
-    // The number of the paper's table.
+    // The number in the table of refusals.
     pub fn number(self) -> u8
         ensures { λ r. ⌜ r ≡ numberOf self ⌝ }
     {
@@ -154,14 +154,14 @@ fn length_at(packet: &[u8], at: usize, extended: bool) -> usize
 fn is_acknowledgement(packet: &[u8], ack: bool, extended: bool) -> bool
     ensures { λ r. ⌜ r ≡ isAcknowledgement (now (packet .entry)) ack extended ⌝ }
 {
-    let code = acknowledgement::ack_code(ack);
+    let code = control::ack_code(ack);
     let end = both(
-        byte_at(packet, 4) == acknowledgement::ACK_MARK,
+        byte_at(packet, 4) == control::ACK_MARK,
         byte_at(packet, 5) == code,
     );
-    let tail = both(byte_at(packet, 3) == acknowledgement::ACK_LENGTH, end);
-    let whole = both(byte_at(packet, 2) == acknowledgement::ACK_RESERVED, tail);
-    let exact = both(packet.len() == acknowledgement::ACK_SIZE, whole);
+    let tail = both(byte_at(packet, 3) == control::ACK_LENGTH, end);
+    let whole = both(byte_at(packet, 2) == control::ACK_RESERVED, tail);
+    let exact = both(packet.len() == control::ACK_SIZE, whole);
     both(!extended, exact)
 }
 
@@ -196,10 +196,10 @@ fn fields_of(packet: &[u8]) -> Fields
     }
 }
 
-// The table of refusals, in the paper's order.
+// The table of refusals, in its order.
 fn judge(f: Fields) -> Verdict
     requires { ⌜ (f .header < 8) × (f .len < 65536) ⌝ }
-    ensures { λ r. ⌜ Rules r (table (rows 4096 f) refused) ⌝ }
+    ensures { λ r. ⌜ Rules r (table (lines 4096 f) refused) ⌝ }
 {
     let first = f.kind == header::TYPE_FIRST;
     let control = f.kind == header::TYPE_CONTROL;

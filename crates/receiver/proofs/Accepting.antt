@@ -9,7 +9,7 @@ use lib.ListN.{length, getD, length-take, length-drop}
 use lib.Seq.{getD-set-other, length-sets}
 use lib.Dec.{eqb}
 use borrow.Author.Tests.{eq-eqb, eqb-true, eqb-false}
-use Rattle.wire.specs.Told.{Told, given, refused, row}
+use Rattle.wire.specs.Told.{Told, given, refused, line}
 use Rattle.wire.specs.declared.stream.Stream.{Stream}
 use Rattle.wire.specs.declared.stream.Stream.the-variants.{Control, Ota, Alexa}
 use Rattle.wire.specs.Stream.{isStream, streamOf}
@@ -20,25 +20,25 @@ use Rattle.packet.specs.declared.reader.Packet.{Packet}
 use Rattle.packet.specs.Header.{streamBits, isOf}
 use Rattle.packet.specs.Reader.{headIn, readOf}
 use Rattle.packet.proofs.Reading.{Passes, IfGiven, read-passes, empty-refused}
-use Rattle.receiver.specs.declared.slot.Slot.{Slot}
-use Rattle.receiver.specs.declared.step.Piece.{Piece}
-use Rattle.receiver.specs.Slot.{idle, slotCount, lawful}
-use Rattle.receiver.specs.Step.{Step, slotStep}
+use Rattle.slot.specs.declared.Slot.{Slot}
+use Rattle.slot.specs.declared.step.Piece.{Piece}
+use Rattle.slot.specs.Slot.{idle, slotCount, lawful}
+use Rattle.slot.specs.Step.{Step, slotStep}
+use Rattle.slot.proofs.Slots.{lawful-at, lawful-set}
+use Rattle.slot.proofs.Steps.{Inside, Sound, step-sound}
 use Rattle.receiver.specs.Buffer.{placeOf, partOf, pieceBytes}
 use Rattle.receiver.specs.Receiver.{Result, result, applied, placeIn, acted, ready, acceptOf}
-use Rattle.receiver.proofs.Slots.{lawful-at, lawful-set}
-use Rattle.receiver.proofs.Steps.{Inside, Sound, step-sound}
 use Rattle.receiver.proofs.Parts.{part-elsewhere}
 
 -- ---- ready for a packet
 
 -- a lawful state over a buffer of the right size
-pub record Ready (limit : ℕ) (slots : List Slot) (bytes : List ℕ) : Type 0 where
+pub record Fits (limit : ℕ) (slots : List Slot) (bytes : List ℕ) : Type 0 where
   pub law : lawful limit slots ≡ true
   pub size : length bytes ≡ slotCount * limit
 
 -- the test says so, both ways
-pub ready-says : (limit : ℕ) (slots : List Slot) (bytes : List ℕ) → ready limit slots bytes ≡ true → Ready limit slots bytes
+pub ready-says : (limit : ℕ) (slots : List Slot) (bytes : List ℕ) → ready limit slots bytes ≡ true → Fits limit slots bytes
 unfolding ready
 ready-says limit slots bytes e =
     record {
@@ -46,12 +46,12 @@ ready-says limit slots bytes e =
       size = eqb-true (length bytes) (slotCount * limit) (and-left (eqb (length bytes) (slotCount * limit)) _ e);
     }
 
-pub ready-holds : (limit : ℕ) (slots : List Slot) (bytes : List ℕ) → Ready limit slots bytes → ready limit slots bytes ≡ true
+pub ready-holds : (limit : ℕ) (slots : List Slot) (bytes : List ℕ) → Fits limit slots bytes → ready limit slots bytes ≡ true
 unfolding ready
 ready-holds limit slots bytes r = rw (eq-eqb (length bytes) (slotCount * limit) (r .size)) (r .law)
 
 -- what was read is acted on
-pub accept-ready : (limit : ℕ) (slots : List Slot) (bytes p : List ℕ) → Ready limit slots bytes
+pub accept-ready : (limit : ℕ) (slots : List Slot) (bytes p : List ℕ) → Fits limit slots bytes
     → acceptOf limit slots bytes p ≡ acted limit slots bytes p (readOf limit p)
 unfolding acceptOf
 accept-ready limit slots bytes p r = rw (ready-holds limit slots bytes r)
@@ -61,7 +61,7 @@ by-guard : (P : Result → Type 0) (limit : ℕ) (slots : List Slot) (bytes p : 
     → P (acted limit slots bytes p (readOf limit p)) → P (acceptOf limit slots bytes p)
 unfolding acceptOf
 by-guard P limit slots bytes p a b =
-    by-table P (row 1 (not (ready limit slots bytes)) ∷ []) (λ n. result (refused n) slots bytes) (acted limit slots bytes p (readOf limit p)) a (λ h. b)
+    by-table P (line 1 (not (ready limit slots bytes)) ∷ []) (λ n. result (refused n) slots bytes) (acted limit slots bytes p (readOf limit p)) a (λ h. b)
 
 -- ---- the buffer keeps its length
 
@@ -94,8 +94,8 @@ accept-lawful limit slots bytes p law =
     (acted-lawful limit (streamBits (getD p 0 0)) slots bytes p (readOf limit p) law (read-passes limit p))
 
 -- what is ready for a packet is ready for the next
-pub ready-next : (limit : ℕ) (slots : List Slot) (bytes p : List ℕ) → Ready limit slots bytes
-    → Ready limit (acceptOf limit slots bytes p .slots) (acceptOf limit slots bytes p .bytes)
+pub ready-next : (limit : ℕ) (slots : List Slot) (bytes p : List ℕ) → Fits limit slots bytes
+    → Fits limit (acceptOf limit slots bytes p .slots) (acceptOf limit slots bytes p .bytes)
 ready-next limit slots bytes p r =
     record { law = accept-lawful limit slots bytes p (r .law); size = accept-length limit slots bytes p ∙ r .size }
 
@@ -143,7 +143,7 @@ acted-other limit s n slots bytes p (given x) law known d o =
     (acted-sound limit (length p) n slots x law o .inside)
 
 -- a packet of another stream changes neither the slot of a stream nor its part of the buffer
-pub accept-other : (limit s : ℕ) (slots : List Slot) (bytes p : List ℕ) → Ready limit slots bytes → isStream s ≡ true → isOf s p ≡ false
+pub accept-other : (limit s : ℕ) (slots : List Slot) (bytes p : List ℕ) → Fits limit slots bytes → isStream s ≡ true → isOf s p ≡ false
     → Kept limit (placeOf (streamOf s)) slots bytes (acceptOf limit slots bytes p)
 accept-other limit s slots bytes [] r known o =
     rw (accept-ready limit slots bytes [] r, empty-refused limit) (record { same-slot = refl; same-part = refl })

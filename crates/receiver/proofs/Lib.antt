@@ -1,4 +1,2 @@
-pub mod Slots
-pub mod Steps
 pub mod Parts
 pub mod Accepting

@@ -5,7 +5,7 @@ use lib.ListN.{take, drop}
 use lib.Seq.{sets}
 use Rattle.wire.specs.declared.stream.Stream.{Stream}
 use Rattle.wire.specs.declared.stream.Stream.the-variants.{Control, Ota, Alexa}
-use Rattle.receiver.specs.declared.step.Piece.{Piece}
+use Rattle.slot.specs.declared.step.Piece.{Piece}
 
 -- control has the first part, OTA the middle one, Alexa the last
 abbrev pub placeOf : Stream → ℕ

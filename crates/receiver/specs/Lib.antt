@@ -1,5 +1,2 @@
-pub mod Answer
-pub mod Slot
-pub mod Step
 pub mod Buffer
 pub mod Receiver

@@ -4,13 +4,13 @@ use mathlib.Core.List.{List, [], _∷_}
 use mathlib.Core.Bool.{Bool, not, _&&_}
 use lib.ListN.{length, getD, set}
 use lib.Dec.{eqb}
-use Rattle.wire.specs.Told.{Told, given, refused, row, table}
+use Rattle.wire.specs.Told.{Told, given, refused, line, table}
 use Rattle.packet.specs.declared.reader.Packet.{Packet}
 use Rattle.packet.specs.Reader.{headIn, readOf}
-use Rattle.receiver.specs.declared.slot.Slot.{Slot}
-use Rattle.receiver.specs.declared.answer.Accepted.{Accepted}
-use Rattle.receiver.specs.Slot.{idle, slotCount, lawful}
-use Rattle.receiver.specs.Step.{Step, slotStep}
+use Rattle.slot.specs.declared.Slot.{Slot}
+use Rattle.slot.specs.declared.answer.Accepted.{Accepted}
+use Rattle.slot.specs.Slot.{idle, slotCount, lawful}
+use Rattle.slot.specs.Step.{Step, slotStep}
 use Rattle.receiver.specs.Buffer.{placeOf, stored}
 
 pub record Result : Type 0 where
@@ -42,5 +42,5 @@ ready limit slots bytes = eqb (length bytes) (slotCount * limit) && lawful limit
 -- a packet given to the receiver
 unfoldable pub acceptOf : ℕ → List Slot → List ℕ → List ℕ → Result
 acceptOf limit slots bytes packet =
-    table (row 1 (not (ready limit slots bytes)) ∷ []) (λ n. result (refused n) slots bytes)
+    table (line 1 (not (ready limit slots bytes)) ∷ []) (λ n. result (refused n) slots bytes)
     (acted limit slots bytes packet (readOf limit packet))

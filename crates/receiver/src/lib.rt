@@ -1,14 +1,13 @@
 // Puts the messages of the three streams together from Low Energy packets.
-pub mod answer;
 mod buffer;
-pub mod slot;
-mod step;
 
-use answer::Answer;
-use answer::Refusal;
 use packet::reader;
 use packet::reader::Packet;
 use slot::Slot;
+use slot::answer::Answer;
+use slot::answer::Refusal;
+use slot::are_lawful;
+use slot::step::slot_step;
 use wire::logic::both;
 ghost use mathlib.Core.Path.{_≡_};
 ghost use mathlib.Core.Bool.{true};
@@ -16,8 +15,8 @@ ghost use Prim.Native.Nat.{_<_};
 ghost use lib.ListN.{getD, set};
 ghost use Rattle.wire.specs.Told.{given};
 ghost use Rattle.packet.specs.Reader.{readOf};
-ghost use Rattle.receiver.specs.Slot.{idle, idles};
-ghost use Rattle.receiver.specs.Answer.{told};
+ghost use Rattle.slot.specs.Slot.{idle, idles};
+ghost use Rattle.slot.specs.Answer.{told};
 ghost use Rattle.receiver.specs.Receiver.{result, acted, ready, acceptOf};
 
 // A slot for each stream: control, OTA, Alexa.
@@ -68,7 +67,7 @@ impl Receiver {
         let stream = head.stream;
         let place = buffer::place_of(stream);
         let slot = self.slot(place);
-        let step = step::slot_step(slot, read);
+        let step = slot_step(slot, read);
         let piece = step.piece;
         let at = piece.at;
         let start = piece.start;
@@ -100,10 +99,10 @@ impl Receiver {
         ensures { λ r. ⌜ result (told (r .answer)) (r .next .slots) (now (buffer .exit)) ≡ acceptOf 4096 (self .slots) (now (buffer .entry)) (now (packet .entry)) ⌝ }
     {
         let slots = self.slots;
-        let ready = both(buffer.len() == BUFFER_SIZE, slot::are_lawful(slots));
+        let ready = both(buffer.len() == BUFFER_SIZE, are_lawful(slots));
         if !ready {
             return Outcome {
-                answer: Answer::Refused(Refusal::Unlawful),
+                answer: Answer::Refused(Refusal::BadStateOrBuffer),
                 next: self,
             };
         }

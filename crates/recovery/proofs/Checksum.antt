@@ -10,8 +10,10 @@ use lib.Seq.{sets, sets-eq, take-append-seam, getD-append-seam, getD-append-add}
 use lib.Dec.{eqb}
 use borrow.Author.Tests.{eq-eqb, ne-eqb, le-ltb}
 use Rattle.wire.specs.Bytes.{pairOf, AllBytes}
-use Rattle.frame.specs.Frame.{total, checksumOf, contentOf}
-use Rattle.frame.specs.Extractor.{frame, refused, body, checked, endOf}
+use Rattle.framing.specs.Frame.{sumOf, checksumOf, contentOf, checked}
+use Rattle.extractor.specs.Outcome.{frame, refused}
+use Rattle.extractor.specs.State.{body}
+use Rattle.extractor.specs.Step.{endOf}
 use Rattle.recovery.specs.Run.{handedBy}
 
 -- ---- what F1 reports
@@ -58,10 +60,10 @@ record Spoilt (base : ℕ) (p : List ℕ) (high low i x : ℕ) : Type 0 where
   pub low′ : ℕ
   pub same : set (p ++ (high ∷ low ∷ [])) i x ≡ payload ++ (high′ ∷ low′ ∷ [])
   pub size : length payload ≡ length p
-  pub differs : (base + total payload) % 65536 ≢ pairOf high′ low′
+  pub differs : (base + sumOf payload) % 65536 ≢ pairOf high′ low′
 
 spoilt-more : (base y : ℕ) (ys : List ℕ) (high low i x : ℕ) → Spoilt (base + y) ys high low i x → Spoilt base (y ∷ ys) high low (suc i) x
-unfolding total
+unfolding sumOf
 spoilt-more base y ys high low i x r =
     record {
       payload = y ∷ r .payload;
@@ -72,9 +74,9 @@ spoilt-more base y ys high low i x r =
       differs = omega (arith, r .differs);
     }
 
-spoilt : (p : List ℕ) (base high low i x : ℕ) → AllBytes p → (base + total p) % 65536 ≡ pairOf high low
+spoilt : (p : List ℕ) (base high low i x : ℕ) → AllBytes p → (base + sumOf p) % 65536 ≡ pairOf high low
     → i < length (p ++ (high ∷ low ∷ [])) → x < 256 → x ≢ getD (p ++ (high ∷ low ∷ [])) i 0 → Spoilt base p high low i x
-unfolding total
+unfolding sumOf
 spoilt [] base high low zero x b e h small other =
     record { payload = []; high′ = x; low′ = low; same = refl; size = refl; differs = omega arith }
 spoilt [] base high low (suc zero) x b e h small other =

@@ -7,8 +7,11 @@ use native.Mathlib.Nat.{add-zero, add-assoc}
 use native.Mathlib.Numerals.{one-add}
 use lib.ListN.{length, take, drop}
 use lib.Dec.{ltb}
-use Rattle.frame.specs.declared.extractor.Extractor.{Extractor}
-use Rattle.frame.specs.Extractor.{Report, skipped, taken, allUsed, frame, refused, Feed, fed, ready, advanceOf, decides, feedReport, feedFrom}
+use Rattle.extractor.specs.declared.state.Extractor.{Extractor}
+use Rattle.extractor.specs.Outcome.{Report, skipped, taken, allUsed, frame, refused}
+use Rattle.extractor.specs.State.{ready}
+use Rattle.extractor.specs.Step.{advanceOf}
+use Rattle.feed.specs.Feed.{Feed, fed, decides, feedReport, feedFrom}
 use Rattle.recovery.specs.Run.{Call, one, many, callOf, runOf, Given, handedBy, handedOut}
 use Rattle.recovery.proofs.Ready.{advance-ready, step-ready, feed-ready, feed-keeps}
 

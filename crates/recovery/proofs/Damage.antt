@@ -9,19 +9,20 @@ use native.Mathlib.Nat.{add-suc, suc-add}
 use lib.ListN.{length, set, getD, length-set}
 use lib.Seq.{sets}
 use borrow.Author.Tests.{ne-eqb}
-use Rattle.frame.specs.declared.mark.Kind.the-variants.{Plain}
-use Rattle.frame.specs.declared.extractor.Extractor.{Extractor}
-use Rattle.frame.specs.declared.extractor.Phase.{Phase}
-use Rattle.frame.specs.declared.action.Action.the-variants.{Refuse}
-use Rattle.frame.specs.declared.extractor.Refusal.the-variants.{BadEscape}
-use Rattle.frame.specs.Mark.{endMark, kindOf}
-use Rattle.frame.specs.Frame.{escapedOf}
-use Rattle.frame.specs.Action.{headerBy, codeOf}
-use Rattle.frame.specs.Extractor.{outside, body, performOf, advanceOf}
+use Rattle.framing.specs.declared.mark.Kind.the-variants.{Plain}
+use Rattle.framing.specs.Mark.{endMark, kindOf}
+use Rattle.framing.specs.Frame.{escapedOf}
+use Rattle.extractor.specs.declared.state.Extractor.{Extractor}
+use Rattle.extractor.specs.declared.state.Phase.{Phase}
+use Rattle.extractor.specs.declared.action.Action.the-variants.{Refuse}
+use Rattle.extractor.specs.declared.outcome.Refusal.the-variants.{BadEscape}
+use Rattle.extractor.specs.Action.{headerBy, codeOf}
+use Rattle.extractor.specs.State.{outside, body}
+use Rattle.extractor.specs.Step.{performOf, advanceOf}
 use Rattle.recovery.specs.Run.{Given, handedBy}
 use Rattle.recovery.specs.Recovery.{Turned}
 use Rattle.recovery.proofs.Frames.{framesOf}
-use Rattle.frame.proofs.Marks.{unmarked-plain}
+use Rattle.framing.proofs.Marks.{unmarked-plain}
 use Rattle.recovery.proofs.Spelling.{Code, Spelt, itself, coded, spelt, Meaning, stands-for, unknown, meaning}
 use Rattle.recovery.proofs.Takes.{escaping, takes-frames, store-plain, store-code, store-all}
 

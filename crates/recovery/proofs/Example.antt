@@ -2,16 +2,18 @@
 use mathlib.Core.Path.{refl}
 use native.Mathlib.Omega.{arith}
 use lib.Dec.{lit<, lit≤}
-use Rattle.frame.specs.Mark.{kindOf}
-use Rattle.frame.specs.Frame.{escapedOf, total, framed}
-use Rattle.frame.specs.Action.{codeOf}
-use Rattle.frame.specs.Extractor.{lawful, ready, storeOf, checked, endOf, advanceOf, feedFrom}
+use Rattle.framing.specs.Mark.{kindOf}
+use Rattle.framing.specs.Frame.{escapedOf, sumOf, framed, checked}
+use Rattle.extractor.specs.Action.{codeOf}
+use Rattle.extractor.specs.State.{lawful, ready}
+use Rattle.extractor.specs.Step.{storeOf, endOf, advanceOf}
+use Rattle.feed.specs.Feed.{feedFrom}
 use Rattle.recovery.specs.Run.{callOf, runOf, handedOut}
 use Rattle.recovery.specs.Recovery.{bytesOf, undamaged}
 use Rattle.recovery.specs.Example.{DamageExample}
 
 pub damage-example : DamageExample
-unfolding kindOf escapedOf total framed codeOf lawful ready storeOf checked endOf advanceOf feedFrom callOf runOf handedOut bytesOf undamaged
+unfolding kindOf escapedOf sumOf framed codeOf lawful ready storeOf checked endOf advanceOf feedFrom callOf runOf handedOut bytesOf undamaged
 damage-example =
     record {
       lawful = refl;

@@ -6,13 +6,14 @@ use mathlib.Core.List.{List, [], _∷_, _++_}
 use native.Mathlib.Omega.{arith}
 use lib.ListN.{length}
 use borrow.Author.Tests.{lt-ltb, le-ltb}
-use Rattle.frame.specs.declared.mark.Kind.the-variants.{Start}
-use Rattle.frame.specs.declared.extractor.Extractor.{Extractor}
-use Rattle.frame.specs.declared.extractor.Phase.{Phase}
-use Rattle.frame.specs.declared.extractor.Phase.the-variants.{Outside, PacketId, ErrorId, Sequence, Body, Escaped}
-use Rattle.frame.specs.Mark.{startMark, endMark, kindOf}
-use Rattle.frame.specs.Action.{actionBy}
-use Rattle.frame.specs.Extractor.{outside, begun, body, ready, endOf, performOf, advanceOf}
+use Rattle.framing.specs.declared.mark.Kind.the-variants.{Start}
+use Rattle.framing.specs.Mark.{startMark, endMark, kindOf}
+use Rattle.extractor.specs.declared.state.Extractor.{Extractor}
+use Rattle.extractor.specs.declared.state.Phase.{Phase}
+use Rattle.extractor.specs.declared.state.Phase.the-variants.{Outside, PacketId, ErrorId, Sequence, Body, Escaped}
+use Rattle.extractor.specs.Action.{actionBy}
+use Rattle.extractor.specs.State.{outside, begun, body, ready}
+use Rattle.extractor.specs.Step.{endOf, performOf, advanceOf}
 use Rattle.recovery.specs.Run.{Given, handedBy}
 use Rattle.recovery.proofs.Ready.{advance-ready}
 use Rattle.recovery.proofs.Cut.{since}

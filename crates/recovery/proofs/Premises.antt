@@ -7,11 +7,13 @@ use native.Mathlib.Omega.{arith}
 use lib.ListN.{length, take, drop, getD, length-drop}
 use borrow.Author.Tests.{eq-eqb, ne-eqb, le-leb}
 use Rattle.wire.specs.Bytes.{AllBytes}
-use Rattle.frame.specs.declared.extractor.Extractor.{Extractor}
-use Rattle.frame.specs.declared.extractor.Phase.{Phase}
-use Rattle.frame.specs.declared.extractor.Phase.the-variants.{Outside, PacketId, ErrorId, Sequence, Body, Escaped}
-use Rattle.frame.specs.Mark.{kindOf, isMark}
-use Rattle.frame.specs.Extractor.{sequenceRead, lawfulBefore, lawfulAfter, lawful, ready, Feed, advanceOf, decides, feedFrom}
+use Rattle.framing.specs.Mark.{kindOf, isMark}
+use Rattle.extractor.specs.declared.state.Extractor.{Extractor}
+use Rattle.extractor.specs.declared.state.Phase.{Phase}
+use Rattle.extractor.specs.declared.state.Phase.the-variants.{Outside, PacketId, ErrorId, Sequence, Body, Escaped}
+use Rattle.extractor.specs.State.{sequenceRead, lawfulBefore, lawfulAfter, lawful, ready}
+use Rattle.extractor.specs.Step.{advanceOf}
+use Rattle.feed.specs.Feed.{Feed, decides, feedFrom}
 use Rattle.recovery.specs.Run.{callOf, runOf}
 use Rattle.recovery.specs.Premises.{NoMark, LawfulIn, asking, SendableWhen, TurnedWhen, ClosingWhen, LawfulWhen, AllUsedWhen, FactsSuffice}
 use Rattle.recovery.proofs.Ready.{of-cond, is-ready, feed-ready}

@@ -8,17 +8,19 @@ use lib.ListN.{length, length-set}
 use lib.Dec.{eqb, ltb, leb·zero}
 use borrow.Author.Tests.{eq-eqb, eqb-true}
 use Rattle.wire.proofs.Tests.{and-left, and-right}
-use Rattle.frame.specs.declared.mark.Kind.{Kind}
-use Rattle.frame.specs.declared.mark.Kind.the-variants.{Start, End, Escape, Plain}
-use Rattle.frame.specs.declared.extractor.Extractor.{Extractor}
-use Rattle.frame.specs.declared.extractor.Phase.{Phase}
-use Rattle.frame.specs.declared.extractor.Phase.the-variants.{Outside, PacketId, ErrorId, Sequence, Body, Escaped}
-use Rattle.frame.specs.declared.action.Action.{Action}
-use Rattle.frame.specs.declared.action.Action.the-variants.{Skip, Begin, Restart, Go, Number, Store, Finish, Refuse}
-use Rattle.frame.specs.Mark.{kindOf, isMark}
-use Rattle.frame.specs.Frame.{packetId, errorId, startCode, endCode, escapeCode}
-use Rattle.frame.specs.Action.{codeOf, actionBy, actionOf}
-use Rattle.frame.specs.Extractor.{sequenceRead, lawfulAfter, lawful, ready, Step, storeOf, performOf, advanceOf, stepOf, Feed, decides, feedFrom, feedOf}
+use Rattle.framing.specs.declared.mark.Kind.{Kind}
+use Rattle.framing.specs.declared.mark.Kind.the-variants.{Start, End, Escape, Plain}
+use Rattle.framing.specs.Mark.{kindOf, isMark}
+use Rattle.framing.specs.Frame.{packetId, errorId, startCode, endCode, escapeCode}
+use Rattle.extractor.specs.declared.state.Extractor.{Extractor}
+use Rattle.extractor.specs.declared.state.Phase.{Phase}
+use Rattle.extractor.specs.declared.state.Phase.the-variants.{Outside, PacketId, ErrorId, Sequence, Body, Escaped}
+use Rattle.extractor.specs.declared.action.Action.{Action}
+use Rattle.extractor.specs.declared.action.Action.the-variants.{Skip, Begin, Restart, Go, Number, Store, Finish, Refuse}
+use Rattle.extractor.specs.Action.{codeOf, actionBy, actionOf}
+use Rattle.extractor.specs.State.{sequenceRead, lawfulAfter, lawful, ready}
+use Rattle.extractor.specs.Step.{Step, storeOf, performOf, advanceOf, stepOf}
+use Rattle.feed.specs.Feed.{Feed, decides, feedFrom, feedOf}
 
 -- ---- tests
 

@@ -7,21 +7,25 @@ use mathlib.Core.List.{List, [], _∷_, _++_, append-assoc}
 use native.Mathlib.Omega.{arith}
 use native.Mathlib.Nat.{zero-add}
 use lib.ListN.{length, set, length-append}
-use lib.Seq.{sets, sets-eq, length-sets, take-append-seam}
+use lib.Seq.{sets, length-sets}
 use borrow.Author.Tests.{le-ltb}
 use Rattle.wire.specs.Bytes.{pairBytes}
-use Rattle.frame.specs.declared.mark.Kind.the-variants.{Plain}
-use Rattle.frame.specs.declared.extractor.Extractor.{Extractor}
-use Rattle.frame.specs.declared.extractor.Phase.the-variants.{ErrorId, Sequence}
-use Rattle.frame.specs.Mark.{endMark, kindOf}
-use Rattle.frame.specs.Frame.{packetId, errorId, escapedOf, checksumOf, contentOf, headerOf, framed, frameOf}
-use Rattle.frame.specs.Extractor.{frame, fed, outside, begun, body, lawful, advanceOf, feedFrom}
+use Rattle.wire.proofs.Stores.{first-bytes}
+use Rattle.framing.specs.declared.mark.Kind.the-variants.{Plain}
+use Rattle.framing.specs.Mark.{endMark, kindOf}
+use Rattle.framing.specs.Frame.{packetId, errorId, escapedOf, checksumOf, contentOf, headerOf, framed, frameOf}
+use Rattle.extractor.specs.declared.state.Extractor.{Extractor}
+use Rattle.extractor.specs.declared.state.Phase.the-variants.{ErrorId, Sequence}
+use Rattle.extractor.specs.Outcome.{frame}
+use Rattle.extractor.specs.State.{outside, begun, body, lawful}
+use Rattle.extractor.specs.Step.{advanceOf}
+use Rattle.feed.specs.Feed.{fed, feedFrom}
 use Rattle.recovery.specs.Run.{Given}
 use Rattle.recovery.specs.Recovery.{Sending, Sendable, sent, givenOf, sequencePlace, Turned, Item, whole, damaged, bytesOf, undamaged, Closing, DamageEnds, FrameReturns}
 use Rattle.recovery.proofs.Ready.{is-ready, ready-size, feed-ready}
 use Rattle.recovery.proofs.Cut.{calls-cut}
 use Rattle.recovery.proofs.Frames.{framesOf, frame-begins, frame-ends, since-later}
-use Rattle.frame.proofs.Marks.{unmarked-plain}
+use Rattle.framing.proofs.Marks.{unmarked-plain}
 use Rattle.recovery.proofs.Takes.{fresh, header, Takes, more, takes-then, takes-frames, takes-feed, header-taken, store-all}
 use Rattle.recovery.proofs.Checksum.{handed-first, whole-report, spoilt-report}
 use Rattle.recovery.proofs.Damage.{spelled, header-lost, turned-plain, turned-tail, outside-plain, rest-skipped, Hit, lost, changed, body-hit}
@@ -34,8 +38,7 @@ sent-frame limit m w =
       w .unmarked,
       le-ltb limit (length (m .payload)) (omega arith),
       le-ltb (length (m .out)) (length f) (omega arith),
-      sets-eq f (m .out) 0 (omega arith),
-      take-append-seam,
+      first-bytes (m .out) f (omega arith),
     )
 
 -- a frame hands out `given`, and what comes behind it finds the extractor outside, with a buffer of the same size

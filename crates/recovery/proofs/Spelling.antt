@@ -5,13 +5,13 @@ use mathlib.Core.Bool.{Bool, true, false, cond}
 use mathlib.Core.List.{List, [], _∷_}
 use lib.Dec.{eqb, lit<}
 use borrow.Author.Tests.{eqb-true}
-use Rattle.frame.specs.declared.mark.Kind.{Kind}
-use Rattle.frame.specs.declared.mark.Kind.the-variants.{Start, End, Escape, Plain}
-use Rattle.frame.specs.declared.action.Action.the-variants.{Store, Refuse}
-use Rattle.frame.specs.declared.extractor.Refusal.the-variants.{BadEscape}
-use Rattle.frame.specs.Mark.{startMark, endMark, escapeMark, kindOf}
-use Rattle.frame.specs.Frame.{startCode, endCode, escapeCode, escapedBy}
-use Rattle.frame.specs.Action.{codeOf}
+use Rattle.framing.specs.declared.mark.Kind.{Kind}
+use Rattle.framing.specs.declared.mark.Kind.the-variants.{Start, End, Escape, Plain}
+use Rattle.framing.specs.Mark.{startMark, endMark, escapeMark, kindOf}
+use Rattle.framing.specs.Frame.{startCode, endCode, escapeCode, escapedBy}
+use Rattle.extractor.specs.declared.action.Action.the-variants.{Store, Refuse}
+use Rattle.extractor.specs.declared.outcome.Refusal.the-variants.{BadEscape}
+use Rattle.extractor.specs.Action.{codeOf}
 
 -- the byte that a kind stands for
 abbrev byteBy : Kind → ℕ → ℕ

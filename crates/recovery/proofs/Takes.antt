@@ -8,13 +8,16 @@ use native.Mathlib.Numerals.{add-one}
 use lib.ListN.{length, set}
 use lib.Seq.{sets}
 use borrow.Author.Tests.{lt-ltb}
-use Rattle.frame.specs.declared.mark.Kind.the-variants.{Plain}
-use Rattle.frame.specs.declared.extractor.Extractor.{Extractor}
-use Rattle.frame.specs.declared.extractor.Phase.{Phase}
-use Rattle.frame.specs.declared.extractor.Phase.the-variants.{Sequence, Escaped}
-use Rattle.frame.specs.Mark.{kindOf}
-use Rattle.frame.specs.Frame.{packetId, errorId, escapedOf, headerOf}
-use Rattle.frame.specs.Extractor.{taken, step, begun, body, storeOf, advanceOf, feedFrom}
+use Rattle.framing.specs.declared.mark.Kind.the-variants.{Plain}
+use Rattle.framing.specs.Mark.{kindOf}
+use Rattle.framing.specs.Frame.{packetId, errorId, escapedOf, headerOf}
+use Rattle.extractor.specs.declared.state.Extractor.{Extractor}
+use Rattle.extractor.specs.declared.state.Phase.{Phase}
+use Rattle.extractor.specs.declared.state.Phase.the-variants.{Sequence, Escaped}
+use Rattle.extractor.specs.Outcome.{taken}
+use Rattle.extractor.specs.State.{begun, body}
+use Rattle.extractor.specs.Step.{step, storeOf, advanceOf}
+use Rattle.feed.specs.Feed.{feedFrom}
 use Rattle.recovery.proofs.Frames.{framesOf, frame-begins}
 use Rattle.recovery.proofs.Spelling.{Code, Spelt, itself, coded, spelt}
 

@@ -1,12 +1,12 @@
--- Demand 3 with every byte written out, at a limit of 8: other bytes, then a damaged frame between two whole ones, cut in three ways.
+-- That damage ends, with every byte written out, at a limit of 8: other bytes, then a damaged frame between two whole ones, cut in three ways.
 use Prim.Native.Nat.{ℕ, _+_}
 use mathlib.Core.Path.{_≡_}
 use mathlib.Core.Bool.{true}
 use mathlib.Core.List.{List, [], _∷_, _++_}
 use lib.ListN.{length, replicate}
-use Rattle.frame.specs.declared.extractor.Extractor.{Extractor}
-use Rattle.frame.specs.declared.extractor.Phase.the-variants.{Escaped}
-use Rattle.frame.specs.Extractor.{lawful}
+use Rattle.extractor.specs.declared.state.Extractor.{Extractor}
+use Rattle.extractor.specs.declared.state.Phase.the-variants.{Escaped}
+use Rattle.extractor.specs.State.{lawful}
 use Rattle.recovery.specs.Run.{Call, one, many, Run, runOf, Given, handedOut}
 use Rattle.recovery.specs.Recovery.{Sending, Item, whole, damaged, bytesOf, undamaged, Closing}
 

@@ -1,15 +1,15 @@
--- The premises of the claims from the other side: each follows from document 01's facts, written out, so none of them asks for more.
+-- The premises of the claims from the other side: each follows from the facts of docs/FORMATS.md, written out, so none of them asks for more.
 use Prim.Native.Nat.{ℕ, zero, suc, _+_, _≤_, _<_}
 use mathlib.Core.Path.{_≡_}
 use mathlib.Core.Logic.{_≢_}
 use mathlib.Core.Bool.{true}
 use mathlib.Core.List.{List, [], _∷_, map}
 use lib.ListN.{length, getD}
-use Rattle.frame.specs.declared.extractor.Extractor.{Extractor}
-use Rattle.frame.specs.declared.extractor.Phase.{Phase}
-use Rattle.frame.specs.declared.extractor.Phase.the-variants.{Outside, PacketId, ErrorId, Sequence, Body, Escaped}
-use Rattle.frame.specs.Frame.{frameOf}
-use Rattle.frame.specs.Extractor.{lawful}
+use Rattle.framing.specs.Frame.{frameOf}
+use Rattle.extractor.specs.declared.state.Extractor.{Extractor}
+use Rattle.extractor.specs.declared.state.Phase.{Phase}
+use Rattle.extractor.specs.declared.state.Phase.the-variants.{Outside, PacketId, ErrorId, Sequence, Body, Escaped}
+use Rattle.extractor.specs.State.{lawful}
 use Rattle.recovery.specs.Run.{Call, one, many, runOf}
 use Rattle.recovery.specs.Recovery.{Sending, Sendable, Turned, Item, whole, damaged, Closing}
 

@@ -1,4 +1,4 @@
--- Demands 2 and 3 for Classic: the frames of our writer come back, and damage ends at the next F0.
+-- The claims for Classic: the frames of our writer come back, and damage ends at the next F0.
 use Prim.Native.Nat.{ℕ, _+_, _≤_, _<_}
 use mathlib.Core.Path.{_≡_}
 use mathlib.Core.Logic.{_≢_}
@@ -7,11 +7,12 @@ use mathlib.Core.List.{List, [], _∷_, _++_}
 use lib.ListN.{length, getD, set, take}
 use Rattle.wire.specs.Told.{Told, given, refused}
 use Rattle.wire.specs.Bytes.{AllBytes}
-use Rattle.frame.specs.declared.extractor.Extractor.{Extractor}
-use Rattle.frame.specs.Mark.{isMark}
-use Rattle.frame.specs.Frame.{frameOf}
-use Rattle.frame.specs.Extractor.{outside, lawful, feedOf}
-use Rattle.frame.specs.Writer.{writeOf}
+use Rattle.framing.specs.Mark.{isMark}
+use Rattle.framing.specs.Frame.{frameOf}
+use Rattle.extractor.specs.declared.state.Extractor.{Extractor}
+use Rattle.extractor.specs.State.{outside, lawful}
+use Rattle.feed.specs.Feed.{feedOf}
+use Rattle.frame_writer.specs.Writer.{writeOf}
 use Rattle.recovery.specs.Run.{Call, runOf, Given, handedBy, handedOut}
 
 -- ---- the frames of our writer
@@ -81,7 +82,7 @@ Closing limit (damaged m place new ∷ is) = Sendable limit m × (place ≢ sequ
 
 -- ---- the claims
 
--- Demand 3: from every lawful state, whatever bytes come before and wherever calls that use all bytes cut them, the frames decided in the
+-- Damage ends: from every lawful state, whatever bytes come before and wherever calls that use all bytes cut them, the frames decided in the
 -- closing part are the undamaged ones of it, one each, in order
 abbrev pub DamageEnds : Type 0
 DamageEnds =
@@ -92,7 +93,7 @@ DamageEnds =
     → (let run = runOf limit calls 0 s buffer (before ++ bytesOf limit closing) in
     run .unused ≡ [] → handedOut (length before) (run .events) ≡ undamaged closing)
 
--- Demand 2: a frame of our writer, given at once to an extractor that is outside, is handed out, and all its bytes are used
+-- A frame returns: one of our writer, given at once to an extractor that is outside, is handed out, and all its bytes are used
 abbrev pub FrameReturns : Type 0
 FrameReturns =
     (limit : ℕ) (m : Sending) (buffer : List ℕ)

@@ -4,8 +4,10 @@ use mathlib.Core.List.{List, [], _∷_, _++_}
 use mathlib.Core.Bool.{cond}
 use lib.ListN.{take, drop}
 use lib.Dec.{ltb}
-use Rattle.frame.specs.declared.extractor.Extractor.{Extractor}
-use Rattle.frame.specs.Extractor.{Report, skipped, taken, allUsed, frame, refused, Feed, fed, stepOf, feedOf}
+use Rattle.extractor.specs.declared.state.Extractor.{Extractor}
+use Rattle.extractor.specs.Outcome.{Report, skipped, taken, allUsed, frame, refused}
+use Rattle.extractor.specs.Step.{stepOf}
+use Rattle.feed.specs.Feed.{Feed, fed, feedOf}
 
 -- a step with the next byte, or a call with the next n bytes, or with as many as are left
 pub data Call : Type 0 where

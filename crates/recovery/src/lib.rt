@@ -1,4 +1,4 @@
-// Demands 2 and 3 for Classic, as contracts of functions that do nothing.
+// The claims for Classic, as contracts of functions that do nothing.
 ghost use Rattle.recovery.specs.Recovery.{DamageEnds, FrameReturns};
 ghost use Rattle.recovery.specs.Premises.{FactsSuffice};
 ghost use Rattle.recovery.specs.Example.{DamageExample};
@@ -13,7 +13,7 @@ pub fn frame_returns()
     ensures { λ _. ⌜ FrameReturns ⌝ }
 {}
 
-// Document 01's facts are all that the two claims ask for.
+// The facts of docs/FORMATS.md are all that the two claims ask for.
 pub fn facts_suffice()
     ensures { λ _. ⌜ FactsSuffice ⌝ }
 {}

@@ -1,6 +1,2 @@
 pub mod Row
-pub mod Classic
-pub mod Sending
-pub mod Receiving
-pub mod Messages
-pub mod Outboxes
+pub mod Called

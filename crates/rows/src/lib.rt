@@ -1,7 +1,2 @@
-// States, answers and arguments as rows of numbers: what the C interface hands to the library and back.
-pub mod classic;
-pub mod messages;
-pub mod outboxes;
-pub mod receiving;
+// A row of numbers read and written, and what a call from C leaves: what all calls of the C interface share.
 pub mod row;
-pub mod sending;

@@ -18,7 +18,7 @@ use Rattle.packet.proofs.Headers.{in-range-low}
 use Rattle.sender.specs.declared.piece.Piece.{Piece}
 use Rattle.sender.specs.declared.writer.Sending.{Sending}
 use Rattle.sender.specs.Piece.{leastRoom, isFirst, sizeFor, piecesFrom, pieceAt}
-use Rattle.sender.specs.Writer.{packetOf, roomFits, argumentsFit, foundAt, rows, Sent, sentOf, pieceOf, writtenOf, decided, Writes}
+use Rattle.sender.specs.Writer.{packetOf, roomFits, argumentsFit, foundAt, lines, Sent, sentOf, pieceOf, writtenOf, decided, Writes}
 use Rattle.sender.proofs.Largest.{size-le, size-fits}
 
 -- ---- the tests as facts
@@ -99,4 +99,4 @@ pub written-done : (limit : ℕ) (w : Sending) (m : List ℕ) (place : ℕ) (out
 unfolding writtenOf decided
 written-done limit w m place out =
     let found : Option Piece = foundAt w (length m) place in
-    table-through (done w m out) (rows limit w (length m) found (length out)) (pieceOf found)
+    table-through (done w m out) (lines limit w (length m) found (length out)) (pieceOf found)

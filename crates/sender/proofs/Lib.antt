@@ -2,4 +2,3 @@ pub mod Largest
 pub mod Pieces
 pub mod Packets
 pub mod Guard
-pub mod CallsGiveAll

@@ -1,3 +1,2 @@
 pub mod Piece
 pub mod Writer
-pub mod Calls

@@ -7,7 +7,7 @@ use lib.ListN.{length, take, drop}
 use lib.Seq.{sets}
 use lib.Dec.{ltb, leb, eqb}
 use Rattle.wire.specs.Bytes.{pairBytes}
-use Rattle.wire.specs.Told.{Told, given, refused, Row, row, table, Written, writes}
+use Rattle.wire.specs.Told.{Told, given, refused, Line, line, table, Written, writes}
 use Rattle.packet.specs.Header.{fourBits, inRange, reservedByte, typeFirst, typeContinuation, typeLast, headerSize, firstByte, secondByte, sequenceAfter}
 use Rattle.sender.specs.declared.piece.Piece.{Piece}
 use Rattle.sender.specs.declared.writer.Sending.{Sending}
@@ -82,11 +82,11 @@ abbrev pub foundAt : Sending → ℕ → ℕ → Option Piece
 foundAt w length place = pieceAt place (piecesOf (w .room) length)
 
 -- the table; a place where no piece begins is an argument out of range
-abbrev pub rows : ℕ → Sending → ℕ → Option Piece → ℕ → List Row
-rows limit w length found space =
-    row 13 (not (roomFits (w .room)))
-    ∷ row 15 (not (argumentsFit limit w length && begins found))
-    ∷ row 14 (ltb space (w .room))
+abbrev pub lines : ℕ → Sending → ℕ → Option Piece → ℕ → List Line
+lines limit w length found space =
+    line 13 (not (roomFits (w .room)))
+    ∷ line 15 (not (argumentsFit limit w length && begins found))
+    ∷ line 14 (ltb space (w .room))
     ∷ []
 
 -- ---- what is told, and the output afterwards
@@ -117,7 +117,7 @@ pieceOf found = Option·getD found (record { index = 0; place = 0; size = 0 })
 -- the packet of the piece that begins at the place stands first in the output, and nothing else changes
 unfoldable pub writtenOf : ℕ → Sending → List ℕ → ℕ → List ℕ → Written Sent
 writtenOf limit w m place out =
-    writes (rows limit w (length m) (foundAt w (length m) place) (length out))
+    writes (lines limit w (length m) (foundAt w (length m) place) (length out))
     (sentOf w m (pieceOf (foundAt w (length m) place)))
     out
     (sets out 0 (packetOf w m (pieceOf (foundAt w (length m) place))))
@@ -132,7 +132,7 @@ decisionOf (Write p) = given p
 -- the first line of the table that holds, or the piece that begins at the place
 unfoldable pub decided : ℕ → Sending → ℕ → ℕ → ℕ → Told Piece
 decided limit w length place space =
-    table (rows limit w length (foundAt w length place) space) refused (given (pieceOf (foundAt w length place)))
+    table (lines limit w length (foundAt w length place) space) refused (given (pieceOf (foundAt w length place)))
 
 -- the packet of a piece of a message of that length can be written in so much output
 pub record Writes (w : Sending) (length : ℕ) (space : ℕ) (p : Piece) : Type 0 where

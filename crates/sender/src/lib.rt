@@ -1,4 +1,3 @@
-// A message sent as Low Energy packets: its pieces, the packet of a piece, the calls for a message.
-pub mod calls;
+// A message sent as Low Energy packets: its pieces, and the packet of a piece.
 pub mod piece;
 pub mod writer;

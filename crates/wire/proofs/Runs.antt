@@ -149,6 +149,21 @@ module _ {first last : ℕ} {run : List ℕ} {e n : ℕ} (h : n ≤ e) where
           stored = k .stored ∙ rw (take-take n e run h);
         }
 
+-- ---- a part of the bytes, from i to e, of which the first k are clear
+
+module _ (first last : ℕ) (bytes : List ℕ) (i e k : ℕ) (h : i ≤ e) (w : e ≤ length bytes) (clear : Clear first last (take (e - i) (drop i bytes)) k) where
+  pub part-long : k ≤ e - i
+  part-long = rw (length-take-le (e - i) (drop i bytes) (rw (length-drop i bytes) (omega arith))) at (clear .within)
+
+  pub part-none : anyInRange first last (take k (drop i bytes)) ≡ false
+  part-none = rw (take-take k (e - i) (drop i bytes) part-long) at (clear .none)
+
+  pub part-length : length (take k (drop i bytes)) ≡ k
+  part-length = length-take-le k (drop i bytes) (rw (length-drop i bytes) (omega (arith, part-long)))
+
+  pub part-stored : {at : ℕ} {l after : List ℕ} → Copied first last (take (e - i) (drop i bytes)) at l k after → after ≡ sets l at (take k (drop i bytes))
+  part-stored copied = copied .stored ∙ rw (take-take k (e - i) (drop i bytes) part-long)
+
 -- ---- the loop that tests a whole run
 
 -- what is found, or is in the rest, is in the run

@@ -3,10 +3,10 @@ use Prim.Native.Nat.{ℕ}
 use mathlib.Core.Path.{_≡_, refl}
 use mathlib.Core.Bool.{Bool, true, false, cond}
 use mathlib.Core.List.{List, [], _∷_}
-use Rattle.wire.specs.Told.{Told, given, refused, Row, table}
+use Rattle.wire.specs.Told.{Told, given, refused, Line, table}
 
 -- no line of the table holds
-abbrev pub NoneHolds : List Row → Type 0
+abbrev pub NoneHolds : List Line → Type 0
 NoneHolds [] = Unit {0}
 NoneHolds (r ∷ rs) = (r .holds ≡ false) × NoneHolds rs
 
@@ -15,8 +15,8 @@ by-line P true x y p q = p
 by-line P false x y p q = q refl
 
 -- a law holds of each refusal, and of the rest where no line holds
-pub by-table : {A : Type 0} (P : A → Type 0) (rows : List Row) (refuse : ℕ → A) (rest : A)
-    → ((n : ℕ) → P (refuse n)) → (NoneHolds rows → P rest) → P (table rows refuse rest)
+pub by-table : {A : Type 0} (P : A → Type 0) (lines : List Line) (refuse : ℕ → A) (rest : A)
+    → ((n : ℕ) → P (refuse n)) → (NoneHolds lines → P rest) → P (table lines refuse rest)
 by-table P [] refuse rest p q = q tt
 by-table P (r ∷ rs) refuse rest p q =
     by-line P (r .holds) (refuse (r .number)) (table rs refuse rest) (p (r .number)) (λ e. by-table P rs refuse rest p (λ es. q (e, es)))
@@ -26,6 +26,6 @@ through-line f true n x t e = refl
 through-line f false n x t e = e
 
 -- what is done by a table is done by what the table tells
-pub table-through : {A B : Type 0} (f : Told A → B) (rs : List Row) (a : A) → table rs (λ n. f (refused n)) (f (given a)) ≡ f (table rs refused (given a))
+pub table-through : {A B : Type 0} (f : Told A → B) (rs : List Line) (a : A) → table rs (λ n. f (refused n)) (f (given a)) ≡ f (table rs refused (given a))
 table-through f [] a = refl
 table-through f (r ∷ rs) a = through-line f (r .holds) (r .number) _ _ (table-through f rs a)

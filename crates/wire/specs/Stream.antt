@@ -1,4 +1,4 @@
--- The three streams of document 01: control 0, OTA 2, Alexa 6.
+-- The three streams of docs/FORMATS.md: control 0, OTA 2, Alexa 6.
 use Prim.Native.Nat.{ℕ}
 use mathlib.Core.Bool.{Bool, cond, _||_}
 use lib.Dec.{eqb}

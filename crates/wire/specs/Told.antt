@@ -1,4 +1,4 @@
--- What a call tells, and the table of refusals of document 01.
+-- What a call tells, and the table of refusals of docs/FORMATS.md.
 use Prim.Native.Nat.{ℕ}
 use mathlib.Core.Bool.{Bool, cond}
 use mathlib.Core.List.{List, [], _∷_}
@@ -14,15 +14,15 @@ andThen (given a) f = f a
 andThen (refused n) f = refused n
 
 -- a line of the table: its number, and whether what it says holds
-pub record Row : Type 0 where
+pub record Line : Type 0 where
   pub number : ℕ
   pub holds : Bool
 
-abbrev pub row : ℕ → Bool → Row
-row n b = record { number = n; holds = b }
+abbrev pub line : ℕ → Bool → Line
+line n b = record { number = n; holds = b }
 
 -- the first line that holds refuses by its number; where none does, the rest
-abbrev pub table : {A : Type 0} → List Row → (ℕ → A) → A → A
+abbrev pub table : {A : Type 0} → List Line → (ℕ → A) → A → A
 table [] refuse rest = rest
 table (r ∷ rs) refuse rest = cond (r .holds) (refuse (r .number)) (table rs refuse rest)
 
@@ -35,5 +35,5 @@ abbrev pub written : {A : Type 0} → Told A → List ℕ → Written A
 written t l = record { told = t; out = l }
 
 -- a writer with its table: a refusal leaves the output as it was
-abbrev pub writes : {A : Type 0} → List Row → A → List ℕ → List ℕ → Written A
-writes rows a before after = table rows (λ n. written (refused n) before) (written (given a) after)
+abbrev pub writes : {A : Type 0} → List Line → A → List ℕ → List ℕ → Written A
+writes lines a before after = table lines (λ n. written (refused n) before) (written (given a) after)

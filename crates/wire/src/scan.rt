@@ -11,8 +11,8 @@ ghost use Rattle.wire.specs.Scan.{inRange, anyInRange, Clear, Copied};
 // Bytes that are tested and copied at once.
 const BLOCK: usize = 16;
 
-// What is left of a run goes block by block while it has this many bytes. A chip without vector instructions is faster
-// byte by byte: with a number here that no run reaches, as 4294967295.
+// What is left of a run goes block by block while it has this many bytes. Blocks pay on chips without vector instructions
+// too: Cortex-M code takes fewer instructions a byte with them than byte by byte.
 const SHORTEST: usize = 16;
 
 fn in_range(b: u8, first: u8, last: u8) -> bool

@@ -2,25 +2,26 @@
 use mathlib.Core.Path.{_≡_, refl, ap, sym, _∙_}
 use mathlib.Core.List.{List, map, List·Memᴰ, List·Memᴰ·head, List·Memᴰ·tail}
 use Rattle.wire.specs.Stream.{isStream, streamOf}
-use Rattle.frame.specs.Mark.{kindOf}
-use Rattle.frame.specs.Frame.{escapedOf, total, framed}
+use Rattle.framing.specs.Mark.{kindOf}
+use Rattle.framing.specs.Frame.{escapedOf, sumOf, framed}
 use Rattle.packet.specs.Header.{inRange}
-use Rattle.packet.specs.Reader.{fieldsOf, contentOf, rows, readOf}
-use Rattle.packet.specs.Acknowledgement.{ackOf}
+use Rattle.packet.specs.Reader.{fieldsOf, contentOf, lines, readOf}
+use Rattle.acknowledgement.specs.Acknowledgement.{ackOf}
 use Rattle.sender.specs.Piece.{sizeFor}
 use Rattle.sender.specs.Writer.{headerBytes, packetOf, roomFits, argumentsFit, writtenOf}
-use Rattle.sender.specs.Calls.{callsFrom}
-use Rattle.receiver.specs.Slot.{lawfulSlot, lawful}
-use Rattle.receiver.specs.Step.{leave, finish, hold, firstStep, nextStep}
+use Rattle.delivery.specs.Calls.{callsFrom}
+use Rattle.slot.specs.Slot.{lawfulSlot, lawful}
+use Rattle.slot.specs.Step.{leave, finish, hold, firstStep, nextStep}
 use Rattle.receiver.specs.Receiver.{ready, acceptOf}
-use Rattle.field.specs.Varint.{varintAt, varintBytes}
+use Rattle.field.specs.Varint.{varintAt}
+use Rattle.field_writer.specs.Varint.{varintBytes}
 use Rattle.field.specs.Tag.{badTag, tagAt}
 use Rattle.field.specs.Value.{valueAt}
-use Rattle.field.specs.Writer.{tagBytes, headBytes, partBytes, fieldBytes}
-use Rattle.message.specs.Schema.{roleOf}
-use Rattle.message.specs.Walk.{judged, addedAt, readAt, fieldAt, fieldsFrom}
-use Rattle.message.specs.Response.{responseFrom}
-use Rattle.message.specs.Envelope.{payloadOf, envelopeOf, envelopeWritten}
+use Rattle.field_writer.specs.Writer.{tagBytes, headBytes, partBytes, fieldBytes}
+use Rattle.walk.specs.Schema.{roleOf}
+use Rattle.walk.specs.Walk.{judged, addedAt, readAt, fieldAt, fieldsFrom}
+use Rattle.control.specs.Response.{responseFrom}
+use Rattle.control.specs.Envelope.{payloadOf, envelopeOf, envelopeWritten}
 use Rattle.outbox.specs.Format.{numberOf}
 use Rattle.outbox.specs.Reader as outbox
 use Rattle.worked.specs.Question.{answerTo}
@@ -33,7 +34,7 @@ agree f g same a (List·Memᴰ·tail {x = x} {xs = xs} there) = let t : map f xs
 
 -- the whole table, computed
 holds : map (λ (c : Case). answerTo (c .question)) cases ≡ map (λ (c : Case). c .expected) cases
-unfolding answerTo cases isStream streamOf kindOf escapedOf total framed inRange fieldsOf contentOf rows readOf ackOf sizeFor headerBytes packetOf roomFits argumentsFit writtenOf callsFrom lawfulSlot lawful leave finish hold firstStep nextStep ready acceptOf varintAt varintBytes badTag tagAt valueAt tagBytes headBytes partBytes fieldBytes roleOf judged addedAt readAt fieldAt fieldsFrom responseFrom payloadOf envelopeOf envelopeWritten numberOf outbox.otherVersion outbox.badPlace outbox.badLength outbox.cutShort outbox.badStream outbox.recordAt outbox.readOf
+unfolding answerTo cases isStream streamOf kindOf escapedOf sumOf framed inRange fieldsOf contentOf lines readOf ackOf sizeFor headerBytes packetOf roomFits argumentsFit writtenOf callsFrom lawfulSlot lawful leave finish hold firstStep nextStep ready acceptOf varintAt varintBytes badTag tagAt valueAt tagBytes headBytes partBytes fieldBytes roleOf judged addedAt readAt fieldAt fieldsFrom responseFrom payloadOf envelopeOf envelopeWritten numberOf outbox.otherVersion outbox.badPlace outbox.badLength outbox.cutShort outbox.badStream outbox.recordAt outbox.readOf
 holds = refl
 
 pub worked-cases : WorkedCases

@@ -1,4 +1,4 @@
--- The worked cases of document 01, P1 to P12: one table, and the one statement that each of its rows holds.
+-- The worked cases of docs/FORMATS.md, P1 to P12: one table, and the one statement that each of its rows holds.
 use Prim.Native.Nat.{ℕ}
 use mathlib.Core.Path.{_≡_}
 use mathlib.Core.Bool.{Bool, true, false}
@@ -8,14 +8,14 @@ use lib.ListN.{take, replicate}
 use Rattle.wire.specs.declared.stream.Stream.the-variants.{Control}
 use Rattle.wire.specs.Told.{given, refused}
 use Rattle.sender.specs.declared.writer.Sending.{Sending}
-use Rattle.receiver.specs.declared.slot.Slot.{Slot}
-use Rattle.receiver.specs.declared.answer.Accepted.the-variants.{Taken, Finished}
-use Rattle.receiver.specs.Slot.{idle, idles}
-use Rattle.message.specs.declared.envelope.Envelope.{Envelope}
-use Rattle.message.specs.declared.envelope.Payload.the-variants as Payload
-use Rattle.message.specs.declared.envelope.EnvelopePayload.the-variants.{Response}
-use Rattle.message.specs.declared.response.ResponsePayload.the-variants.{None}
-use Rattle.message.specs.Gathered.{noPart}
+use Rattle.slot.specs.declared.Slot.{Slot}
+use Rattle.slot.specs.declared.answer.Accepted.the-variants.{Taken, Finished}
+use Rattle.slot.specs.Slot.{idle, idles}
+use Rattle.control.specs.declared.envelope.Envelope.{Envelope}
+use Rattle.control.specs.declared.envelope.Payload.the-variants as Payload
+use Rattle.control.specs.declared.envelope.EnvelopePayload.the-variants.{Response}
+use Rattle.control.specs.declared.response.ResponsePayload.the-variants.{None}
+use Rattle.walk.specs.Gathered.{noPart}
 use Rattle.outbox.specs.Reader as outbox
 use Rattle.worked.specs.Question.{Question, writeFrame, nextSequenceByte, writePackets, readPieces, acceptPacket, writeAcknowledgement, writeEnvelope, readEnvelope, readRecord}
 use Rattle.worked.specs.Question.{Answer, bytes, sequenceByte, packets, pieces, accepted, envelope, reading, plain, extended, zeros, answerTo}
@@ -40,7 +40,7 @@ inRoom room = sending room 0 0 0 false
 abbrev pub holding : ℕ → ℕ → List Slot
 holding held sequence = record { opened = true; id = 0; total = 3; held = held; sequence = sequence } ∷ idle ∷ idle ∷ []
 
--- error codes of document 000
+-- error codes of Amazon's page
 abbrev pub success : ℤ
 success = pos 0
 

@@ -3,10 +3,13 @@ use Prim.Native.Nat.{ℕ, zero, suc}
 use mathlib.Core.Path.{_≡_}
 use mathlib.Core.List.{List, [], _∷_, List·Memᴰ}
 use lib.ListN.{drop}
-use Rattle.frame.specs.declared.extractor.Extractor.{Extractor}
-use Rattle.frame.specs.declared.extractor.Phase.{Phase}
-use Rattle.frame.specs.declared.extractor.Phase.the-variants.{Outside, ErrorId, Sequence, Escaped}
-use Rattle.frame.specs.Extractor.{Report, skipped, taken, allUsed, frame, refused, Step, step, outside, begun, body, stepOf, Feed, fed, feedOf}
+use Rattle.extractor.specs.declared.state.Extractor.{Extractor}
+use Rattle.extractor.specs.declared.state.Phase.{Phase}
+use Rattle.extractor.specs.declared.state.Phase.the-variants.{Outside, ErrorId, Sequence, Escaped}
+use Rattle.extractor.specs.Outcome.{Report, skipped, taken, allUsed, frame, refused}
+use Rattle.extractor.specs.State.{outside, begun, body}
+use Rattle.extractor.specs.Step.{Step, step, stepOf}
+use Rattle.feed.specs.Feed.{Feed, fed, feedOf}
 
 -- the lent buffer has 4 bytes
 abbrev limit : ℕ
@@ -78,7 +81,7 @@ lent = four 0xEE 0xEE 0xEE 0xEE
 abbrev full : List ℕ
 full = four 0x01 0x02 0x00 0x05
 
--- the bytes of document 01
+-- the bytes of docs/FORMATS.md
 abbrev twenty : List ℕ
 twenty =
     0x00 ∷ 0xF0 ∷ 0x02 ∷ 0x00 ∷ 0x05 ∷ 0xF2 ∷ 0x02 ∷ 0x00 ∷ 0xF2 ∷ 0x00 ∷ 0xF1

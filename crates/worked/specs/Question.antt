@@ -5,24 +5,24 @@ use mathlib.Core.List.{List, [], map}
 use lib.IntN.{ℤ}
 use lib.ListN.{getD, take, replicate}
 use Rattle.wire.specs.Told.{Told, given, andThen, Written}
-use Rattle.frame.specs.Frame.{nextSequence}
-use Rattle.frame.specs.Writer as frame
+use Rattle.framing.specs.Frame.{nextSequence}
+use Rattle.frame_writer.specs.Writer as frame
 use Rattle.packet.specs.Header.{extenderBit}
 use Rattle.packet.specs.Reader.{readOf, lenIn}
-use Rattle.packet.specs.Acknowledgement.{ackOf}
+use Rattle.acknowledgement.specs.Acknowledgement.{ackOf}
 use Rattle.sender.specs.declared.writer.Sending.{Sending}
-use Rattle.sender.specs.Calls.{callsOf}
-use Rattle.receiver.specs.declared.slot.Slot.{Slot}
-use Rattle.receiver.specs.declared.answer.Accepted.{Accepted}
-use Rattle.receiver.specs.Slot.{slotCount}
+use Rattle.delivery.specs.Calls.{callsOf}
+use Rattle.slot.specs.declared.Slot.{Slot}
+use Rattle.slot.specs.declared.answer.Accepted.{Accepted}
+use Rattle.slot.specs.Slot.{slotCount}
 use Rattle.receiver.specs.Receiver.{Result, acceptOf}
-use Rattle.message.specs.declared.envelope.Envelope.{Envelope}
-use Rattle.message.specs.declared.envelope.EnvelopePayload.{EnvelopePayload}
-use Rattle.message.specs.Envelope.{envelopeOf, envelopeWritten}
+use Rattle.control.specs.declared.envelope.Envelope.{Envelope}
+use Rattle.control.specs.declared.envelope.EnvelopePayload.{EnvelopePayload}
+use Rattle.control.specs.Envelope.{envelopeOf, envelopeWritten}
 use Rattle.outbox.specs.Format.{versionOne}
 use Rattle.outbox.specs.Reader as outbox
 
--- the limit of document 01
+-- the limit of docs/FORMATS.md
 abbrev pub limit : ℕ
 limit = 4096
 

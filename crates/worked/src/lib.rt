@@ -1,4 +1,4 @@
-// The worked cases of document 01, as contracts of functions that do nothing.
+// The worked cases of docs/FORMATS.md, as contracts of functions that do nothing.
 ghost use Rattle.worked.specs.Cases.{WorkedCases};
 ghost use Rattle.worked.specs.ExtractorCases.{ExtractorCases};
 

@@ -8,7 +8,7 @@
 //! Low Energy, after each packet:
 //! `held: stream S, id I, H of T bytes` (H and T as the state has them), `finished: stream S, id I, T
 //! bytes, ACK wanted` (or `no ACK wanted`) and then `message: HEX`, `ACK: stream S, id I, sequence Q`,
-//! `NACK: stream S, id I, sequence Q`, or `refused: N`; a drop adds `, one dropped`.
+//! `NACK: stream S, id I, sequence Q`, or `refused: N`; a replaced transaction adds `, one replaced`.
 //!
 //! Classic, in each flush: `frame: ends at P, sequence Q, payload HEX` and `refused: N at P`, with
 //! places counted over all flushes, and after the flush `flushed: inside` or `flushed: outside`.
@@ -154,18 +154,18 @@ fn low_energy(c: &mut Comparison<'_>, capture: &Capture, script: &mut Script<'_>
             script.next(&format!("refused: {returned}"))?;
             continue;
         }
-        let [outcome, number, id, sequence, total, ack, dropped] = call.answer[..] else {
+        let [outcome, number, id, sequence, total, ack, replaced] = call.answer[..] else {
             panic!("seven numbers")
         };
         let slot = Stream::of(number).expect("a known stream").slot();
-        let drop = if dropped == 1 { ", one dropped" } else { "" };
+        let noted = if replaced == 1 { ", one replaced" } else { "" };
         let who = format!("stream {number}, id {id}");
         match outcome {
             0 => {
                 let [_, _, total, held, _] = call.state[5 * slot..][..5] else {
                     panic!("five numbers")
                 };
-                script.next(&format!("held: {who}, {held} of {total} bytes{drop}"))?;
+                script.next(&format!("held: {who}, {held} of {total} bytes{noted}"))?;
             }
             1 => {
                 let wish = if ack == 1 {
@@ -173,7 +173,7 @@ fn low_energy(c: &mut Comparison<'_>, capture: &Capture, script: &mut Script<'_>
                 } else {
                     "no ACK wanted"
                 };
-                script.next(&format!("finished: {who}, {total} bytes, {wish}{drop}"))?;
+                script.next(&format!("finished: {who}, {total} bytes, {wish}{noted}"))?;
                 let start = slot * low_energy::MESSAGE;
                 let message = call.lent[start..start + total as usize].to_vec();
                 script.next(format!("message: {}", hex(&message)).trim_end())?;

@@ -1,5 +1,5 @@
-use Rattle.packet.proofs.Acknowledgements.{tail-bytes}
-use Rattle.packet.specs.Acknowledgement.{ackCode}
+use Rattle.packet.proofs.Controls.{tail-bytes}
+use Rattle.packet.specs.Control.{ackCode}
 use denote.Ref.{now}
 use borrow.Author.Needs.{needs}
 use Rattle.packet.proofs.reader.is_acknowledgement.Statement.{statement}

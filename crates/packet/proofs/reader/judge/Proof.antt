@@ -1,4 +1,4 @@
-use Rattle.packet.specs.Reader.{rows}
+use Rattle.packet.specs.Reader.{lines}
 use borrow.Author.Needs.{needs}
 use Rattle.packet.proofs.reader.judge.Statement.{statement}
 use Rattle.packet.proofs.reader.judge.Tie as tie
@@ -64,7 +64,7 @@ line-requires-8 : tie.Need-line-requires-8
 line-requires-8 c κs = search needs
 
 returns : tie.Need-returns
-unfolding rows
+unfolding lines
 returns c below =
     simp (
       c .line8 .ensures,

@@ -1,8 +1,8 @@
-use Rattle.receiver.proofs.Steps.{Sound, step-sound, len-low}
-use Rattle.receiver.proofs.Slots.{lawful-at, held-low}
+use Rattle.slot.proofs.Steps.{Sound, step-sound, len-low}
+use Rattle.slot.proofs.Slots.{lawful-at, held-low}
 use Rattle.receiver.proofs.Accepting.{ready-says}
-use Rattle.receiver.specs.Step.{stepOf}
-use Rattle.receiver.specs.Slot.{lawfulSlot}
+use Rattle.slot.specs.Step.{stepOf}
+use Rattle.slot.specs.Slot.{lawfulSlot}
 use Rattle.packet.proofs.Reading.{Within, read-passes}
 use denote.Ref.{now}
 use lib.ListN.{length, length-take, length-drop}

@@ -1,0 +1,70 @@
+use Rattle.calls_classic.proofs.States.{state-long}
+use borrow.Author.Needs.{needs}
+use Rattle.calls_classic.proofs.calls.feed_fitting.Statement.{statement}
+use Rattle.calls_classic.proofs.calls.feed_fitting.Tie as tie
+
+extractor-of-requires : tie.Need-extractor-of-requires
+extractor-of-requires c κs = search needs
+
+feed-requires : tie.Need-feed-requires
+feed-requires c κs = search needs
+
+feed-reply-requires : tie.Need-feed-reply-requires
+feed-reply-requires c κs = search needs
+
+extractor-row-requires : tie.Need-extractor-row-requires
+extractor-row-requires c κs = search needs
+
+slice-aggregate-put : tie.Need-slice-aggregate-put
+slice-aggregate-put c = search needs
+
+put-requires : tie.Need-put-requires
+put-requires c κs =
+    let start = c .before .before .before .before .before .before .before .before .before .before .before .before .before .before .before in
+    rw (c .before .before .extractor-row .ensures) (state-long _ (start .pre .0))
+
+slice-aggregate-write-row : tie.Need-slice-aggregate-write-row
+slice-aggregate-write-row c = search needs
+
+write-row-requires : tie.Need-write-row-requires
+write-row-requires c κs = search needs
+
+same-length : tie.Need-same-length
+same-length c = search needs
+
+same-length-2 : tie.Need-same-length-2
+same-length-2 c = search needs
+
+same-length-3 : tie.Need-same-length-3
+same-length-3 c = search needs
+
+returns : tie.Need-returns
+returns c =
+    let kept = c .before .before .before .before .before .before .before in
+    let told = kept .before .before .before .before .before in
+    let done = told .before .before .before in
+    rw (
+      ← (done .before .before .extractor-of .ensures),
+      ← (done .feed .ensures),
+      c .before .before .write-row .ensures,
+      kept .put .ensures,
+      kept .before .before .before .extractor-row .ensures,
+      told .feed-reply .ensures,
+    )
+
+pub feed-fitting-spec : {M : Type 1} → statement M
+feed-fitting-spec =
+    tie.close
+    (tie.spec
+    extractor-of-requires
+    feed-requires
+    feed-reply-requires
+    extractor-row-requires
+    slice-aggregate-put
+    put-requires
+    slice-aggregate-write-row
+    write-row-requires
+    same-length
+    same-length-2
+    same-length-3
+    returns)

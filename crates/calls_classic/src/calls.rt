@@ -1,0 +1,117 @@
+// Classic for C: the extractor and the frame writer.
+use crate::convert::FEED_ANSWER;
+use crate::convert::STEP_ANSWER;
+use crate::convert::extractor_of;
+use crate::convert::extractor_row;
+use crate::convert::feed_reply;
+use crate::convert::frame_count;
+use crate::convert::is_extractor;
+use crate::convert::step_reply;
+use feed::many::feed;
+use frame_writer::writer::write_frame;
+use framing::header;
+use framing::mark::Mark;
+use rows::row::COUNT_ANSWER;
+use rows::row::Count;
+use rows::row::DONE;
+use rows::row::UNFIT;
+use rows::row::byte_or;
+use rows::row::put;
+use rows::row::tell;
+use rows::row::write_row;
+use wire::bytes::wide64;
+ghost use mathlib.Core.Path.{_≡_};
+ghost use mathlib.Core.Bool.{true};
+ghost use mathlib.Core.List.{[]};
+ghost use lib.ListN.{length};
+ghost use Rattle.extractor.specs.Step.{stepOf};
+ghost use Rattle.feed.specs.Feed.{feedOf};
+ghost use Rattle.rows.specs.Called.{called};
+ghost use Rattle.calls_classic.specs.Convert.{isExtractor, extractorOf};
+ghost use Rattle.calls_classic.specs.Calls.{stepped, extractorStepOf, fedCall, extractorFeedOf, frameWriteOf, nextSequenceOf};
+
+// One byte given to the extractor.
+pub fn extractor_step(state: &mut [u64], buffer: &mut [u8], byte: u8, answer: &mut [u64]) -> u64
+    ensures { λ r. ⌜ called r (now (state .exit)) (now (buffer .exit)) (now (answer .exit)) ≡ extractorStepOf 4096 (now (state .entry)) (now (buffer .entry)) byte (now (answer .entry)) ⌝ }
+{
+    if answer.len() != STEP_ANSWER {
+        return UNFIT;
+    }
+    if !is_extractor(state) {
+        return UNFIT;
+    }
+    step_fitting(state, buffer, byte, answer)
+}
+
+// The same with rows that fit.
+fn step_fitting(state: &mut [u64], buffer: &mut [u8], byte: u8, answer: &mut [u64]) -> u64
+    requires { ⌜ (isExtractor (now state) ≡ true) × (length (now answer) ≡ 3) ⌝ }
+    ensures { λ r. ⌜ called r (now (state .exit)) (now (buffer .exit)) (now (answer .exit)) ≡ stepped (now (state .entry)) (now (answer .entry)) (stepOf 4096 (extractorOf (now (state .entry))) (now (buffer .entry)) byte) ⌝ }
+{
+    let done = extractor_of(state).step(buffer, byte);
+    let outcome = done.outcome;
+    let reply = step_reply(outcome);
+    let number = reply.number;
+    let next = done.next;
+    let kept = extractor_row(next);
+    let row = [reply.outcome, reply.sequence, reply.length];
+    put(state, number, &kept);
+    put(answer, number, &row);
+    number
+}
+
+// Many bytes given to the extractor. The answer row tells 0 used under 1, where it has its length.
+pub fn extractor_feed(state: &mut [u64], buffer: &mut [u8], bytes: &[u8], answer: &mut [u64]) -> u64
+    ensures { λ r. ⌜ called r (now (state .exit)) (now (buffer .exit)) (now (answer .exit)) ≡ extractorFeedOf 4096 (now (state .entry)) (now (buffer .entry)) (now (bytes .entry)) (now (answer .entry)) ⌝ }
+{
+    if answer.len() != FEED_ANSWER {
+        return UNFIT;
+    }
+    if !is_extractor(state) {
+        let row = [0u64; 4];
+        write_row(answer, &row);
+        return UNFIT;
+    }
+    feed_fitting(state, buffer, bytes, answer)
+}
+
+// The same with rows that fit.
+fn feed_fitting(state: &mut [u64], buffer: &mut [u8], bytes: &[u8], answer: &mut [u64]) -> u64
+    requires { ⌜ (isExtractor (now state) ≡ true) × (length (now answer) ≡ 4) ⌝ }
+    ensures { λ r. ⌜ called r (now (state .exit)) (now (buffer .exit)) (now (answer .exit)) ≡ fedCall (now (state .entry)) (feedOf 4096 (extractorOf (now (state .entry))) (now (buffer .entry)) (now (bytes .entry))) ⌝ }
+{
+    let done = feed(extractor_of(state), buffer, bytes);
+    let outcome = done.outcome;
+    let reply = feed_reply(outcome);
+    let number = reply.number;
+    let next = done.next;
+    let kept = extractor_row(next);
+    let used = done.used as u64;
+    let row = [reply.outcome, used, reply.sequence, reply.length];
+    put(state, number, &kept);
+    write_row(answer, &row);
+    number
+}
+
+// Writes the frame of a payload.
+pub fn frame_write(sequence: u64, payload: &[u8], output: &mut [u8], answer: &mut [u64]) -> u64
+    ensures { λ r. ⌜ called r [] (now (output .exit)) (now (answer .exit)) ≡ frameWriteOf 4096 sequence (now (payload .entry)) (now (output .entry)) (now (answer .entry)) ⌝ }
+{
+    if answer.len() != COUNT_ANSWER {
+        return UNFIT;
+    }
+    let sequence = byte_or(Mark::START, sequence);
+    let outcome = write_frame(sequence, payload, output);
+    tell(answer, frame_count(outcome))
+}
+
+// The sequence byte after a sequence byte.
+pub fn next_sequence(sequence: u8, answer: &mut [u64]) -> u64
+    ensures { λ r. ⌜ called r [] [] (now (answer .exit)) ≡ nextSequenceOf sequence (now (answer .entry)) ⌝ }
+{
+    if answer.len() != COUNT_ANSWER {
+        return UNFIT;
+    }
+    let size = wide64(header::next_sequence(sequence));
+    tell(answer, Count { number: DONE, size })
+}

@@ -1,0 +1,156 @@
+// Classic: the extractor's state and what its calls answer as rows, and what the frame writer answers.
+use extractor::outcome::StepOutcome;
+use extractor::state::Extractor;
+use extractor::state::Phase;
+use feed::many::FeedOutcome;
+use frame_writer::writer::WriteOutcome;
+use rows::row::BYTES;
+use rows::row::Count;
+use rows::row::DONE;
+use rows::row::number_at;
+use wire::bytes::wide64;
+use wire::logic::both;
+ghost use mathlib.Core.Path.{_≡_};
+ghost use mathlib.Core.Bool.{true};
+ghost use Rattle.extractor.specs.Outcome.{told};
+ghost use Rattle.feed.specs.Feed.{toldFeed};
+ghost use Rattle.frame_writer.specs.Writer as writer;
+ghost use Rattle.rows.specs.Row.{countOf};
+ghost use Rattle.calls_classic.specs.Convert.{phaseNumber, phaseOf, isExtractor, extractorOf, extractorRow, reply, replyOf};
+
+// The numbers of a state row, and how many phases there are.
+const STATE: usize = 3;
+
+const PHASES: u64 = 6;
+
+// The numbers of the answer rows of a step and of a feed.
+pub const STEP_ANSWER: usize = 3;
+
+pub const FEED_ANSWER: usize = 4;
+
+// The outcomes of a step and of a feed; a refusal has none.
+const SKIPPED: u64 = 0;
+
+const TAKEN: u64 = 1;
+
+const FRAME: u64 = 2;
+
+const ALL_USED: u64 = 0;
+
+const NOTHING: u64 = 0;
+
+// What a call answers: the number that it returns, and what the row tells.
+pub struct Reply {
+    pub number: u64,
+    pub outcome: u64,
+    pub sequence: u64,
+    pub length: u64,
+}
+
+fn phase_number(phase: Phase) -> u64
+    ensures { λ r. ⌜ r ≡ phaseNumber phase ⌝ }
+{
+    match phase {
+        Phase::Outside => 0,
+        Phase::PacketId => 1,
+        Phase::ErrorId => 2,
+        Phase::Sequence => 3,
+        Phase::Body => 4,
+        Phase::Escaped => 5,
+    }
+}
+
+fn phase_of(n: u64) -> Phase
+    ensures { λ r. ⌜ r ≡ phaseOf n ⌝ }
+{
+    if n == 0 {
+        return Phase::Outside;
+    }
+    if n == 1 {
+        return Phase::PacketId;
+    }
+    if n == 2 {
+        return Phase::ErrorId;
+    }
+    if n == 3 {
+        return Phase::Sequence;
+    }
+    if n == 4 {
+        return Phase::Body;
+    }
+    Phase::Escaped
+}
+
+// Whether a row has numbers that a state can have.
+pub fn is_extractor(row: &[u64]) -> bool
+    ensures { λ r. ⌜ r ≡ isExtractor (now (row .entry)) ⌝ }
+{
+    let numbers = both(number_at(row, 0) < PHASES, number_at(row, 1) < BYTES);
+    both(row.len() == STATE, numbers)
+}
+
+pub fn extractor_of(row: &[u64]) -> Extractor
+    requires { ⌜ isExtractor (now row) ≡ true ⌝ }
+    ensures { λ r. ⌜ r ≡ extractorOf (now (row .entry)) ⌝ }
+{
+    let phase = phase_of(row[0]);
+    Extractor {
+        phase,
+        sequence: row[1] as u8,
+        held: row[2] as usize,
+    }
+}
+
+pub fn extractor_row(state: Extractor) -> [u64; 3]
+    ensures { λ r. ⌜ r ≡ extractorRow state ⌝ }
+{
+    let phase = state.phase;
+    [
+        phase_number(phase),
+        wide64(state.sequence),
+        state.held as u64,
+    ]
+}
+
+impl Reply {
+    fn new(number: u64, outcome: u64, sequence: u8, len: usize) -> Self
+        ensures { λ r. ⌜ r ≡ reply number outcome sequence len ⌝ }
+    {
+        Reply {
+            number,
+            outcome,
+            sequence: sequence as u64,
+            length: len as u64,
+        }
+    }
+}
+
+pub fn step_reply(outcome: StepOutcome) -> Reply
+    ensures { λ r. ⌜ r ≡ replyOf (told outcome) ⌝ }
+{
+    match outcome {
+        StepOutcome::Skipped => Reply::new(DONE, SKIPPED, 0, 0),
+        StepOutcome::Taken => Reply::new(DONE, TAKEN, 0, 0),
+        StepOutcome::Frame { sequence, len } => Reply::new(DONE, FRAME, sequence, len),
+        StepOutcome::Refused(why) => Reply::new(wide64(why.number()), NOTHING, 0, 0),
+    }
+}
+
+pub fn feed_reply(outcome: FeedOutcome) -> Reply
+    ensures { λ r. ⌜ r ≡ replyOf (toldFeed outcome) ⌝ }
+{
+    match outcome {
+        FeedOutcome::AllUsed => Reply::new(DONE, ALL_USED, 0, 0),
+        FeedOutcome::Frame { sequence, len } => Reply::new(DONE, FRAME, sequence, len),
+        FeedOutcome::Refused(why) => Reply::new(wide64(why.number()), NOTHING, 0, 0),
+    }
+}
+
+pub fn frame_count(outcome: WriteOutcome) -> Count
+    ensures { λ r. ⌜ r ≡ countOf (writer.told outcome) ⌝ }
+{
+    match outcome {
+        WriteOutcome::Frame(n) => Count::of(n),
+        WriteOutcome::Refused(why) => Count::none(why.number()),
+    }
+}

@@ -1,0 +1,186 @@
+// Control messages for C: the envelope, the response, device information and device features, read and written.
+use control::envelope::read_envelope;
+use control::envelope::write_envelope;
+use control::response::read_response;
+use control::response::write_response;
+use device::features::DeviceFeatures;
+use device::features::read_features;
+use device::features::write_features;
+use device::information::read_information;
+use device::information::write_information;
+use field::signed::low_signed;
+use rows::row::BAD_ARGUMENT;
+use rows::row::COUNT_ANSWER;
+use rows::row::Count;
+use rows::row::UNFIT;
+use rows::row::put;
+use rows::row::put_both;
+use rows::row::tell;
+use rows_messages::convert::ENVELOPE_ANSWER;
+use rows_messages::convert::FEATURES_ANSWER;
+use rows_messages::convert::INFORMATION_ANSWER;
+use rows_messages::convert::RESPONSE_ANSWER;
+use rows_messages::convert::all_signed;
+use rows_messages::convert::count_of;
+use rows_messages::convert::envelope_number;
+use rows_messages::convert::envelope_row;
+use rows_messages::convert::features_number;
+use rows_messages::convert::features_row;
+use rows_messages::convert::parts_row;
+use rows_messages::convert::payload_for;
+use rows_messages::convert::response_number;
+use rows_messages::convert::response_payload;
+use rows_messages::convert::response_row;
+use rows_messages::convert::signed_list;
+use rows_messages::convert::transports_row;
+use rows_messages::convert::verdict_number;
+use walk::gathered::MOST_TRANSPORTS;
+ghost use mathlib.Core.Path.{_≡_};
+ghost use mathlib.Core.List.{[]};
+ghost use Rattle.rows_messages.specs.Convert.{payloadFor};
+ghost use Rattle.rows.specs.Called.{called};
+ghost use Rattle.calls_messages.specs.Calls.{envelopeReadOf, envelopeWriteOf, responseReadOf, responseWriteOf, informationReadOf, informationWriteOf, featuresReadOf, featuresWriteOf};
+
+// Reads a control envelope.
+pub fn envelope_read(message: &[u8], answer: &mut [u64]) -> u64
+    ensures { λ r. ⌜ called r [] [] (now (answer .exit)) ≡ envelopeReadOf (now (message .entry)) (now (answer .entry)) ⌝ }
+{
+    if answer.len() != ENVELOPE_ANSWER {
+        return UNFIT;
+    }
+    let read = read_envelope(message);
+    let number = envelope_number(read);
+    let row = envelope_row(read);
+    put(answer, number, &row);
+    number
+}
+
+// Writes a control envelope.
+pub fn envelope_write(
+    command: u64,
+    payload: u64,
+    error_code: u64,
+    field: u64,
+    bytes: &[u8],
+    output: &mut [u8],
+    answer: &mut [u64],
+) -> u64
+    ensures { λ r. ⌜ called r [] (now (output .exit)) (now (answer .exit)) ≡ envelopeWriteOf command (payloadFor command payload «error_code» field) (now (bytes .entry)) (now (output .entry)) (now (answer .entry)) ⌝ }
+{
+    if answer.len() != COUNT_ANSWER {
+        return UNFIT;
+    }
+    let wanted = payload_for(command, payload, error_code, field);
+    let wrote = write_envelope(output, low_signed(command), wanted, bytes);
+    tell(answer, count_of(wrote))
+}
+
+// Reads a response.
+pub fn response_read(message: &[u8], answer: &mut [u64]) -> u64
+    ensures { λ r. ⌜ called r [] [] (now (answer .exit)) ≡ responseReadOf (now (message .entry)) (now (answer .entry)) ⌝ }
+{
+    if answer.len() != RESPONSE_ANSWER {
+        return UNFIT;
+    }
+    let read = read_response(message);
+    let number = response_number(read);
+    let row = response_row(read);
+    put(answer, number, &row);
+    number
+}
+
+// Writes a response.
+pub fn response_write(
+    error_code: u64,
+    field: u64,
+    bytes: &[u8],
+    output: &mut [u8],
+    answer: &mut [u64],
+) -> u64
+    ensures { λ r. ⌜ called r [] (now (output .exit)) (now (answer .exit)) ≡ responseWriteOf «error_code» field (now (bytes .entry)) (now (output .entry)) (now (answer .entry)) ⌝ }
+{
+    if answer.len() != COUNT_ANSWER {
+        return UNFIT;
+    }
+    let wanted = response_payload(error_code, field);
+    let wrote = write_response(output, low_signed(error_code), wanted, bytes);
+    tell(answer, count_of(wrote))
+}
+
+// Reads device features.
+pub fn features_read(message: &[u8], answer: &mut [u64]) -> u64
+    ensures { λ r. ⌜ called r [] [] (now (answer .exit)) ≡ featuresReadOf (now (message .entry)) (now (answer .entry)) ⌝ }
+{
+    if answer.len() != FEATURES_ANSWER {
+        return UNFIT;
+    }
+    let read = read_features(message);
+    let number = features_number(read);
+    let row = features_row(read);
+    put(answer, number, &row);
+    number
+}
+
+// Writes device features.
+pub fn features_write(
+    features: u64,
+    device_attributes: u64,
+    output: &mut [u8],
+    answer: &mut [u64],
+) -> u64
+    ensures { λ r. ⌜ called r [] (now (output .exit)) (now (answer .exit)) ≡ featuresWriteOf features «device_attributes» (now (output .entry)) (now (answer .entry)) ⌝ }
+{
+    if answer.len() != COUNT_ANSWER {
+        return UNFIT;
+    }
+    let wanted = DeviceFeatures {
+        features,
+        device_attributes,
+    };
+    let wrote = write_features(output, wanted);
+    tell(answer, count_of(wrote))
+}
+
+// Reads device information.
+pub fn information_read(message: &[u8], answer: &mut [u64]) -> u64
+    ensures { λ r. ⌜ called r [] [] (now (answer .exit)) ≡ informationReadOf (now (message .entry)) (now (answer .entry)) ⌝ }
+{
+    if answer.len() != INFORMATION_ANSWER {
+        return UNFIT;
+    }
+    let read = read_information(message);
+    let verdict = read.verdict;
+    let information = read.information;
+    let number = verdict_number(verdict);
+    let parts = parts_row(information);
+    let listed = information.transports;
+    let transports = transports_row(&listed);
+    put_both(answer, number, &parts, &transports);
+    number
+}
+
+// Writes device information.
+pub fn information_write(
+    serial_number: &[u8],
+    name: &[u8],
+    device_type: &[u8],
+    transports: &[u64],
+    output: &mut [u8],
+    answer: &mut [u64],
+) -> u64
+    ensures { λ r. ⌜ called r [] (now (output .exit)) (now (answer .exit)) ≡ informationWriteOf (now («serial_number» .entry)) (now (name .entry)) (now («device_type» .entry)) (now (transports .entry)) (now (output .entry)) (now (answer .entry)) ⌝ }
+{
+    if answer.len() != COUNT_ANSWER {
+        return UNFIT;
+    }
+    if MOST_TRANSPORTS < transports.len() {
+        return tell(answer, Count::none(BAD_ARGUMENT));
+    }
+    if !all_signed(transports) {
+        return tell(answer, Count::none(BAD_ARGUMENT));
+    }
+    let list = signed_list(transports);
+    let count = transports.len();
+    let wrote = write_information(output, serial_number, name, &list[..count], device_type);
+    tell(answer, count_of(wrote))
+}

@@ -1,0 +1,60 @@
+use borrow.Author.Tests.{eq-eqb, ne-eqb}
+use Rattle.calls_outbox.specs.Calls.{outboxAppendOf}
+use borrow.Author.Needs.{needs}
+use Rattle.calls_outbox.proofs.calls.outbox_append.Statement.{statement}
+use Rattle.calls_outbox.proofs.calls.outbox_append.Tie as tie
+
+returns : tie.Need-returns
+unfolding outboxAppendOf
+returns c = rw (ne-eqb _ _ (c .if1 .taken))
+
+byte-or-requires : tie.Need-byte-or-requires
+byte-or-requires c κs = search needs
+
+append-requires : tie.Need-append-requires
+append-requires c κs = search needs
+
+append-number-requires : tie.Need-append-number-requires
+append-number-requires c κs = search needs
+
+append-row-requires : tie.Need-append-row-requires
+append-row-requires c κs = search needs
+
+slice-aggregate-put : tie.Need-slice-aggregate-put
+slice-aggregate-put c = search needs
+
+put-requires : tie.Need-put-requires
+put-requires c κs = search needs
+
+same-length : tie.Need-same-length
+same-length c = search needs
+
+same-length-2 : tie.Need-same-length-2
+same-length-2 c = search needs
+
+returns-2 : tie.Need-returns-2
+unfolding outboxAppendOf
+returns-2 c =
+    rw (
+      eq-eqb _ _ (c .before .before .before .before .before .before .before .before .before .before .before .before .if1 .left),
+      ← (c .before .before .before .before .before .before .before .before .before .before .before .byte-or .ensures),
+      ← (c .before .before .before .before .before .before .before .before .before .append .ensures),
+      c .before .before .put .ensures,
+      c .before .before .before .before .before .before .append-number .ensures,
+      c .before .before .before .before .before .append-row .ensures,
+    )
+
+pub outbox-append-spec : {M : Type 1} → statement M
+outbox-append-spec =
+    tie.close
+    (tie.spec
+    returns
+    byte-or-requires
+    append-requires
+    append-number-requires
+    append-row-requires
+    slice-aggregate-put
+    put-requires
+    same-length
+    same-length-2
+    returns-2)

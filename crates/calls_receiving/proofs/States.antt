@@ -1,0 +1,39 @@
+-- What a state row that fits tells.
+use Prim.Native.Nat.{ℕ, _+_, _<_}
+use mathlib.Core.Path.{_≡_}
+use mathlib.Core.Bool.{true, _&&_}
+use mathlib.Core.List.{List}
+use lib.ListN.{length, getD}
+use lib.Dec.{eqb, ltb}
+use borrow.Author.Tests.{eqb-true, ltb-true}
+use Rattle.wire.proofs.Tests.{and-left, and-right}
+use Rattle.calls_receiving.specs.Convert.{isSlot, isReceiver}
+
+module _ (row : List ℕ) (at : ℕ) (e : isSlot row at ≡ true) where
+  bytes : (ltb (getD row (at + 1) 0) 256 && ltb (getD row (at + 4) 0) 256) ≡ true
+  unfolding isSlot
+  bytes = and-right (ltb (getD row at 0) 2) _ e
+
+  pub slot-id : getD row (at + 1) 0 < 256
+  slot-id = ltb-true (getD row (at + 1) 0) 256 (and-left _ _ bytes)
+
+  pub slot-sequence : getD row (at + 4) 0 < 256
+  slot-sequence = ltb-true (getD row (at + 4) 0) 256 (and-right (ltb (getD row (at + 1) 0) 256) _ bytes)
+
+module _ (row : List ℕ) (e : isReceiver row ≡ true) where
+  pub slots-long : length row ≡ 15
+  unfolding isReceiver
+  slots-long = eqb-true (length row) 15 (and-left _ _ e)
+
+  slots : (isSlot row 0 && (isSlot row 5 && isSlot row 10)) ≡ true
+  unfolding isReceiver
+  slots = and-right (eqb (length row) 15) _ e
+
+  pub control-fits : isSlot row 0 ≡ true
+  control-fits = and-left _ _ slots
+
+  pub ota-fits : isSlot row 5 ≡ true
+  ota-fits = and-left _ _ (and-right (isSlot row 0) _ slots)
+
+  pub alexa-fits : isSlot row 10 ≡ true
+  alexa-fits = and-right (isSlot row 5) _ (and-right (isSlot row 0) _ slots)

@@ -1,0 +1,56 @@
+use lib.ListN.{getD}
+use Rattle.slot.specs.Slot.{idle}
+use Rattle.calls_receiving.proofs.Slots.{slots-written}
+use borrow.Author.Tests.{eq-eqb, ne-eqb}
+use borrow.Author.Needs.{needs}
+use Rattle.calls_receiving.proofs.convert.put_slots.Statement.{statement}
+use Rattle.calls_receiving.proofs.convert.put_slots.Tie as tie
+
+array-copy-out-put-slot : tie.Need-array-copy-out-put-slot
+array-copy-out-put-slot c = search needs
+
+put-slot-requires : tie.Need-put-slot-requires
+put-slot-requires c κs = search needs
+
+array-copy-out-put-slot-2 : tie.Need-array-copy-out-put-slot-2
+array-copy-out-put-slot-2 c = search needs
+
+put-slot-requires-2 : tie.Need-put-slot-requires-2
+put-slot-requires-2 c κs = search needs
+
+array-copy-out-put-slot-3 : tie.Need-array-copy-out-put-slot-3
+array-copy-out-put-slot-3 c = search needs
+
+put-slot-requires-3 : tie.Need-put-slot-requires-3
+put-slot-requires-3 c κs = search needs
+
+same-length : tie.Need-same-length
+same-length c = search needs
+
+returns : tie.Need-returns
+returns c =
+    let a = c .before .before .before .before .before .before .before .before .before .before .before .before .before .before .before .before .before .args in
+    rw (
+      ne-eqb _ _ (c .before .before .before .before .before .before .before .before .before .before .before .before .before .before .before .if1 .taken),
+      c .before .before .put-slot3 .ensures,
+      c .before .before .before .before .before .before .before .put-slot2 .ensures,
+      c .before .before .before .before .before .before .before .before .before .before .before .before .put-slot .ensures,
+    )
+    (slots-written (a .row .now) (getD (a .t3) 0 idle) (getD (a .t3) 1 idle) (getD (a .t3) 2 idle) (c .before .before .before .before .before .before .before .before .before .before .before .before .before .before .before .before .before .pre))
+
+returns-2 : tie.Need-returns-2
+returns-2 c = rw (eq-eqb _ _ (c .if1 .left))
+
+pub put-slots-spec : {M : Type 1} → statement M
+put-slots-spec =
+    tie.close
+    (tie.spec
+    array-copy-out-put-slot
+    put-slot-requires
+    array-copy-out-put-slot-2
+    put-slot-requires-2
+    array-copy-out-put-slot-3
+    put-slot-requires-3
+    same-length
+    returns
+    returns-2)

@@ -1,0 +1,61 @@
+-- Receiving over Low Energy: the receiver's state and answers as rows.
+use Prim.Native.Nat.{ℕ, _+_}
+use mathlib.Core.Bool.{Bool, _&&_}
+use mathlib.Core.List.{List, [], _∷_, _++_}
+use lib.ListN.{length, getD, replicate}
+use lib.Dec.{ltb, eqb}
+use Rattle.wire.specs.Told.{Told, given, refused}
+use Rattle.wire.specs.Stream.{streamNumber}
+use Rattle.packet.specs.Header.{bit}
+use Rattle.packet.specs.declared.reader.Head.{Head}
+use Rattle.slot.specs.declared.Slot.{Slot}
+use Rattle.slot.specs.declared.answer.Accepted.{Accepted}
+use Rattle.slot.specs.declared.answer.Accepted.the-variants.{Taken, Finished, Acked, Nacked}
+use Rattle.slot.specs.Slot.{idle}
+
+-- ---- the state row: five numbers for each slot, control, OTA, Alexa
+
+-- open, id, total, held, sequence
+unfoldable pub slotRow : Slot → List ℕ
+slotRow s = bit (s .opened) ∷ s .id ∷ s .total ∷ s .held ∷ s .sequence ∷ []
+
+abbrev pub slotsRow : List Slot → List ℕ
+slotsRow slots = slotRow (getD slots 0 idle) ++ (slotRow (getD slots 1 idle) ++ slotRow (getD slots 2 idle))
+
+-- numbers from a place on that a slot can have: open or not, and an id and a sequence of one byte each
+unfoldable pub isSlot : List ℕ → ℕ → Bool
+isSlot row at = ltb (getD row at 0) 2 && (ltb (getD row (at + 1) 0) 256 && ltb (getD row (at + 4) 0) 256)
+
+abbrev pub slotOf : List ℕ → ℕ → Slot
+slotOf row at =
+    record {
+      opened = eqb (getD row at 0) 1;
+      id = getD row (at + 1) 0;
+      total = getD row (at + 2) 0;
+      held = getD row (at + 3) 0;
+      sequence = getD row (at + 4) 0;
+    }
+
+-- numbers that a state can have
+unfoldable pub isReceiver : List ℕ → Bool
+isReceiver row = eqb (length row) 15 && (isSlot row 0 && (isSlot row 5 && isSlot row 10))
+
+abbrev pub slotsOf : List ℕ → List Slot
+slotsOf row = slotOf row 0 ∷ slotOf row 5 ∷ slotOf row 10 ∷ []
+
+-- ---- the answer row: outcome, stream, id, sequence, total, ACK wanted, replaced; 0 where a case has no such value
+
+-- an ACK or a NACK
+abbrev pub headRow : ℕ → Head → List ℕ
+headRow outcome head = outcome ∷ streamNumber (head .stream) ∷ head .id ∷ head .sequence ∷ 0 ∷ 0 ∷ 0 ∷ []
+
+-- outcomes: 0 taken with more to come, 1 finished, 2 an ACK, 3 a NACK
+abbrev pub acceptedRow : Accepted → List ℕ
+acceptedRow (Taken stream id replaced) = 0 ∷ streamNumber stream ∷ id ∷ 0 ∷ 0 ∷ 0 ∷ bit replaced ∷ []
+acceptedRow (Finished stream id total ack replaced) = 1 ∷ streamNumber stream ∷ id ∷ 0 ∷ total ∷ bit ack ∷ bit replaced ∷ []
+acceptedRow (Acked head) = headRow 2 head
+acceptedRow (Nacked head) = headRow 3 head
+
+abbrev pub answerRow : Told Accepted → List ℕ
+answerRow (given accepted) = acceptedRow accepted
+answerRow (refused n) = replicate 7 0

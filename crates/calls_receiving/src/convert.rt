@@ -1,0 +1,203 @@
+// Receiving over Low Energy: the receiver's state and answers as rows.
+use packet::header::bit;
+use packet::reader::Head;
+use receiver::Receiver;
+use rows::row::BYTES;
+use rows::row::DONE;
+use rows::row::UNFIT;
+use rows::row::fill;
+use rows::row::number_at;
+use slot::Slot;
+use slot::answer::Accepted;
+use slot::answer::Answer;
+use wire::bytes::wide64;
+use wire::logic::both;
+use wire::stream::Stream;
+ghost use mathlib.Core.Path.{_≡_};
+ghost use mathlib.Core.Bool.{true};
+ghost use Prim.Native.Nat.{_+_, _≤_};
+ghost use lib.ListN.{length};
+ghost use lib.Seq.{sets};
+ghost use Rattle.wire.specs.Stream.{streamNumber};
+ghost use Rattle.slot.specs.Answer.{told};
+ghost use Rattle.rows.specs.Row.{afterwards, numberTold};
+ghost use Rattle.calls_receiving.specs.Convert.{isSlot, slotOf, isReceiver, slotsOf, slotRow, slotsRow, headRow, acceptedRow, answerRow};
+
+// The numbers of the state row, and where those of the later slots begin.
+const STATE: usize = 15;
+
+const OTA: usize = 5;
+
+const ALEXA: usize = 10;
+
+// The numbers of the answer row.
+pub const ANSWER: usize = 7;
+
+// What a flag can be, and the flag that is set.
+const FLAGS: u64 = 2;
+
+const SET: u64 = 1;
+
+// The outcomes.
+const TAKEN: u64 = 0;
+
+const FINISHED: u64 = 1;
+
+const ACKED: u64 = 2;
+
+const NACKED: u64 = 3;
+
+// Whether the numbers from a place on are ones that a slot can have.
+fn is_slot(row: &[u64], at: usize) -> bool
+    requires { ⌜ at ≤ 10 ⌝ }
+    ensures { λ r. ⌜ r ≡ isSlot (now (row .entry)) at ⌝ }
+{
+    let bytes = both(
+        number_at(row, at + 1) < BYTES,
+        number_at(row, at + 4) < BYTES,
+    );
+    both(number_at(row, at) < FLAGS, bytes)
+}
+
+fn slot_of(row: &[u64], at: usize) -> Slot
+    requires { ⌜ (at + 5 ≤ length (now row)) × (isSlot (now row) at ≡ true) ⌝ }
+    ensures { λ r. ⌜ r ≡ slotOf (now (row .entry)) at ⌝ }
+{
+    Slot {
+        opened: row[at] == SET,
+        id: row[at + 1] as u8,
+        total: row[at + 2] as usize,
+        held: row[at + 3] as usize,
+        sequence: row[at + 4] as u8,
+    }
+}
+
+// Whether a row has numbers that a state can have.
+pub fn is_receiver(row: &[u64]) -> bool
+    ensures { λ r. ⌜ r ≡ isReceiver (now (row .entry)) ⌝ }
+{
+    let later = both(is_slot(row, OTA), is_slot(row, ALEXA));
+    both(row.len() == STATE, both(is_slot(row, 0), later))
+}
+
+pub fn receiver_of(row: &[u64]) -> Receiver
+    requires { ⌜ isReceiver (now row) ≡ true ⌝ }
+    ensures { λ r. ⌜ r .slots ≡ slotsOf (now (row .entry)) ⌝ }
+{
+    let control = slot_of(row, 0);
+    let ota = slot_of(row, OTA);
+    let alexa = slot_of(row, ALEXA);
+    Receiver {
+        slots: [control, ota, alexa],
+    }
+}
+
+fn slot_row(slot: Slot) -> [u64; 5]
+    ensures { λ r. ⌜ r ≡ slotRow slot ⌝ }
+{
+    [
+        wide64(bit(slot.opened)),
+        wide64(slot.id),
+        slot.total as u64,
+        slot.held as u64,
+        wide64(slot.sequence),
+    ]
+}
+
+// Writes a slot's numbers from a place of the state row on.
+fn put_slot(row: &mut [u64], at: usize, slot: Slot)
+    requires { ⌜ at + 5 ≤ length (now row) ⌝ }
+    ensures { λ _. ⌜ now (row .exit) ≡ sets (now (row .entry)) at (slotRow slot) ⌝ }
+{
+    let numbers = slot_row(slot);
+    fill(row, at, &numbers);
+}
+
+// Writes the state row, unless the call is refused by 1.
+pub fn put_slots(row: &mut [u64], number: u64, slots: [Slot; 3])
+    requires { ⌜ length (now row) ≡ 15 ⌝ }
+    ensures { λ _. ⌜ now (row .exit) ≡ afterwards number (now (row .entry)) (slotsRow slots) ⌝ }
+{
+    if number != UNFIT {
+        put_slot(row, 0, slots[0]);
+        put_slot(row, OTA, slots[1]);
+        put_slot(row, ALEXA, slots[2]);
+    }
+}
+
+pub fn answer_number(answer: Answer) -> u64
+    ensures { λ r. ⌜ r ≡ numberTold (told answer) ⌝ }
+{
+    match answer {
+        Answer::Refused(why) => wide64(why.number()),
+        Answer::Given(_) => DONE,
+    }
+}
+
+fn stream_number(stream: Stream) -> u64
+    ensures { λ r. ⌜ r ≡ streamNumber stream ⌝ }
+{
+    wide64(stream.number())
+}
+
+// The row of an ACK or a NACK.
+fn head_row(outcome: u64, head: Head) -> [u64; 7]
+    ensures { λ r. ⌜ r ≡ headRow outcome head ⌝ }
+{
+    let stream = head.stream;
+    [
+        outcome,
+        stream_number(stream),
+        wide64(head.id),
+        wide64(head.sequence),
+        0,
+        0,
+        0,
+    ]
+}
+
+fn accepted_row(accepted: Accepted) -> [u64; 7]
+    ensures { λ r. ⌜ r ≡ acceptedRow accepted ⌝ }
+{
+    match accepted {
+        Accepted::Taken {
+            stream,
+            id,
+            replaced,
+        } => [
+            TAKEN,
+            stream_number(stream),
+            wide64(id),
+            0,
+            0,
+            0,
+            wide64(bit(replaced)),
+        ],
+        Accepted::Finished {
+            stream,
+            id,
+            total,
+            ack,
+            replaced,
+        } => [
+            FINISHED,
+            stream_number(stream),
+            wide64(id),
+            0,
+            total as u64,
+            wide64(bit(ack)),
+            wide64(bit(replaced)),
+        ],
+        Accepted::Acked(head) => head_row(ACKED, head),
+        Accepted::Nacked(head) => head_row(NACKED, head),
+    }
+}
+
+pub fn answer_row(answer: Answer) -> [u64; 7]
+    ensures { λ r. ⌜ r ≡ answerRow (told answer) ⌝ }
+{
+    match answer {
+        Answer::Refused(_) => [0u64; 7],
+        Answer::Given(accepted) => accepted_row(accepted),
+    }
+}

@@ -1,4 +1,0 @@
-mod Rows
-mod Extracting
-mod Accepting
-mod OneLeavesAll

@@ -1,0 +1,6 @@
+mod Rows
+mod Extracting
+mod Accepting
+mod OneLeavesAll
+mod Sizes
+mod SizesSuffice

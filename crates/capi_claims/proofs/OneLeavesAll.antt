@@ -1,0 +1,218 @@
+-- Refusal 1 changes nothing.
+use Prim.Native.Nat.{ℕ, _+_, _-_}
+use mathlib.Core.Path.{_≡_, refl}
+use mathlib.Core.Bool.{Bool, true, false, cond, not, _&&_, _||_}
+use mathlib.Core.List.{List, [], _∷_, map}
+use native.Mathlib.Omega.{arith}
+use lib.IntN.{ℤ}
+use lib.ListN.{length, take, replicate}
+use lib.Seq.{sets}
+use lib.Dec.{eqb, ltb}
+use Rattle.wire.specs.Told.{refused, line, written}
+use Rattle.wire.proofs.Tables.{by-table}
+use Rattle.field.specs.Signed.{signedOf, extended}
+use Rattle.field_writer.specs.Writer.{Field, messageBytes}
+use Rattle.framing.specs.Mark.{startMark, isMark}
+use Rattle.framing.specs.Frame.{frameOf}
+use Rattle.extractor.specs.State.{ready}
+use Rattle.extractor.specs.Step.{advanceOf, step}
+use Rattle.extractor.specs.Outcome as extractor
+use Rattle.feed.specs.Feed.{feedFrom, fed}
+use Rattle.frame_writer.specs.Writer.{writeOf}
+use Rattle.packet.specs.Header.{inRange}
+use Rattle.packet.specs.Control.{ackSize, ackBytes}
+use Rattle.acknowledgement.specs.Acknowledgement.{ackOf}
+use Rattle.packet.specs.Reader.{readOf}
+use Rattle.sender.specs.declared.writer.Sending.{Sending}
+use Rattle.sender.specs.Writer.{packetOf, foundAt, lines, sentOf, pieceOf, writtenOf}
+use Rattle.receiver.specs.Receiver.{result, acted, acceptOf}
+use Rattle.receiver.specs.Receiver as receiver
+use Rattle.control.specs.declared.envelope.EnvelopePayload.{EnvelopePayload}
+use Rattle.device.specs.declared.features.DeviceFeatures.{DeviceFeatures}
+use Rattle.walk.specs.Gathered.{mostTransports}
+use Rattle.field_writer.specs.Message.{writesMessage}
+use Rattle.control.specs.Envelope.{badPayload, envelopeFields, envelopeWritten}
+use Rattle.control.specs.Response.{badResponsePayload, responseFields, responseWritten}
+use Rattle.device.specs.Information.{informationFields, informationWritten}
+use Rattle.device.specs.Features.{featuresFields, featuresWritten}
+use Rattle.outbox.specs.Format.{versionOne, newBytes, recordBytes}
+use Rattle.outbox.specs.Reader.{Answer, walkOf}
+use Rattle.outbox.specs.Reader as outbox
+use Rattle.outbox.specs.Writer.{Stored, stored, storedAt, newOf, badRecord, appendOf, ifWhole}
+use Rattle.rows.specs.Row.{numberTold, byteOr, outOfRange}
+use Rattle.calls_classic.specs.Convert.{isExtractor, extractorOf}
+use Rattle.calls_sending.specs.Convert.{streamWith, packetRow}
+use Rattle.calls_receiving.specs.Convert.{isReceiver, slotsOf}
+use Rattle.rows_messages.specs.Convert.{allSigned, responsePayloadOf}
+use Rattle.calls_outbox.specs.Convert.{numberIn, usedIn, usedRow}
+use Rattle.rows.specs.Called.{ifFit}
+use Rattle.calls_classic.specs.Calls.{stepped, fedCall, noneUsed, extractorStepOf, extractorFeedOf, frameWriteOf, nextSequenceOf}
+use Rattle.calls_sending.specs.Calls.{packetWriteOf, ackWriteOf}
+use Rattle.calls_receiving.specs.Calls.{accepted, receiverAcceptOf}
+use Rattle.calls_messages.specs.Calls.{envelopeReadOf, envelopeWriteOf, responseReadOf, responseWriteOf, informationReadOf, informationWriteOf, featuresReadOf, featuresWriteOf}
+use Rattle.calls_outbox.specs.Calls.{outboxNewOf, outboxAppendOf, outboxRecordOf, outboxWholeOf}
+use Rattle.capi_claims.specs.OneLeavesAll.{Keeps, OneLeavesAll}
+use Rattle.capi_claims.proofs.Rows.{keeps-if, keeps-rows, keeps-answers, writes-keeps, keeps-writer}
+use Rattle.capi_claims.proofs.Extracting.{advance-not-one, feed-not-one}
+use Rattle.capi_claims.proofs.Accepting.{acted-keeps}
+
+-- the extractor's step and feed: guarded, then never 1
+step-keeps : (limit b : ℕ) (state lent answer : List ℕ) → Keeps state lent answer (extractorStepOf limit state lent b answer)
+unfolding extractorStepOf
+step-keeps limit b state lent answer =
+    keeps-if (eqb (length answer) 3 && isExtractor state) state lent answer _ (go (not (ready limit (extractorOf state) (length lent))))
+  where
+    go : (t : Bool) → Keeps state lent answer (stepped state answer (cond t (step (extractor.refused 1) (extractorOf state) lent) (advanceOf limit (extractorOf state) lent b)))
+    go true = λ e. refl
+    go false = λ e. absurd (advance-not-one limit (extractorOf state) lent b e)
+
+feed-keeps : (limit : ℕ) (bytes state lent answer : List ℕ) → Keeps state lent (noneUsed answer) (extractorFeedOf limit state lent bytes answer)
+unfolding extractorFeedOf noneUsed
+feed-keeps limit bytes state lent answer =
+    go (eqb (length answer) 4) (isExtractor state) (not (ready limit (extractorOf state) (length lent)))
+  where
+    told : Bool → List ℕ
+    told long = cond long (replicate 4 0) answer
+
+    go : (long fits t : Bool) → Keeps state lent (told long)
+        (ifFit (long && fits) state lent (told long)
+        (fedCall state (cond t (fed (extractor.refused 1) 0 (extractorOf state) lent) (feedFrom limit 0 (extractorOf state) lent bytes))))
+    go false fits t = λ e. refl
+    go true false t = λ e. refl
+    go true true true = λ e. refl
+    go true true false = λ e. absurd (feed-not-one limit 0 (extractorOf state) lent bytes e)
+
+accept-keeps : (limit : ℕ) (packet state lent answer : List ℕ) → Keeps state lent answer (receiverAcceptOf limit state lent packet answer)
+unfolding receiverAcceptOf acceptOf
+accept-keeps limit packet state lent answer =
+    keeps-if (eqb (length answer) 7 && isReceiver state) state lent answer _ (go (not (receiver.ready limit (slotsOf state) lent)))
+  where
+    go : (t : Bool) → Keeps state lent answer (accepted state answer (cond t (result (refused 1) (slotsOf state) lent) (acted limit (slotsOf state) lent packet (readOf limit packet))))
+    go true = λ e. refl
+    go false = keeps-rows _ state lent answer _ _ _ (acted-keeps limit (slotsOf state) lent packet (readOf limit packet))
+
+-- writers, each by its table
+frame-keeps : (limit sequence : ℕ) (payload out answer : List ℕ) → Keeps [] out answer (frameWriteOf limit sequence payload out answer)
+unfolding frameWriteOf
+frame-keeps limit sequence payload out answer =
+    let s = byteOr startMark sequence in
+    keeps-writer out answer (writeOf limit s payload out)
+    (writes-keeps (line 15 (isMark s || ltb limit (length payload)) ∷ line 14 (ltb (length out) (length (frameOf s payload))) ∷ []) (length (frameOf s payload)) out (sets out 0 (frameOf s payload)))
+
+packet-keeps : (limit : ℕ) (how : Sending) (place : ℕ) (message out answer : List ℕ) → Keeps [] out answer (packetWriteOf limit how message place out answer)
+unfolding packetWriteOf writtenOf
+packet-keeps limit how place message out answer =
+    let w = writtenOf limit how message place out in
+    let found = foundAt how (length message) place in
+    keeps-answers 2 (numberTold (w .told)) out answer (w .out) (packetRow (length message) (w .told))
+    (writes-keeps (lines limit how (length message) found (length out)) (sentOf how message (pieceOf found)) out (sets out 0 (packetOf how message (pieceOf found))))
+
+ack-keeps : (stream id sequence positive : ℕ) (out answer : List ℕ) → Keeps [] out answer (ackWriteOf stream id sequence positive out answer)
+unfolding ackWriteOf ackOf
+ack-keeps stream id sequence positive out answer =
+    let s = streamWith positive stream in
+    let i = byteOr outOfRange id in
+    let q = byteOr outOfRange sequence in
+    keeps-writer out answer (ackOf s i q (eqb positive 1) out)
+    (writes-keeps (line 15 (not (inRange s i q)) ∷ line 14 (ltb (length out) ackSize) ∷ []) ackSize out (sets out 0 (ackBytes s i q (eqb positive 1))))
+
+-- writers of messages
+message-keeps : (bad : Bool) (fields : List Field) (out : List ℕ) → numberTold (writesMessage bad fields out .told) ≡ 1 → writesMessage bad fields out .out ≡ out
+message-keeps bad fields out =
+    writes-keeps (line 15 bad ∷ line 14 (ltb (length out) (length (messageBytes fields))) ∷ []) (length (messageBytes fields)) out (sets out 0 (messageBytes fields))
+
+envelope-keeps : (command : ℕ) (payload : EnvelopePayload) (bytes out answer : List ℕ) → Keeps [] out answer (envelopeWriteOf command payload bytes out answer)
+unfolding envelopeWriteOf envelopeWritten
+envelope-keeps command payload bytes out answer =
+    keeps-writer out answer (envelopeWritten (signedOf command) payload bytes out)
+    (message-keeps (badPayload payload) (envelopeFields (extended (signedOf command)) payload bytes) out)
+
+response-keeps : (code field : ℕ) (bytes out answer : List ℕ) → Keeps [] out answer (responseWriteOf code field bytes out answer)
+unfolding responseWriteOf responseWritten
+response-keeps code field bytes out answer =
+    let payload = responsePayloadOf code field in
+    keeps-writer out answer (responseWritten (signedOf code) payload bytes out)
+    (message-keeps (badResponsePayload payload) (responseFields (extended (signedOf code)) payload bytes) out)
+
+features-keeps : (features attributes : ℕ) (out answer : List ℕ) → Keeps [] out answer (featuresWriteOf features attributes out answer)
+unfolding featuresWriteOf featuresWritten
+features-keeps features attributes out answer =
+    let f : DeviceFeatures = record { features = features; «device_attributes» = attributes } in
+    keeps-writer out answer (featuresWritten f out) (message-keeps false (featuresFields f) out)
+
+transports-keep : (signed : Bool) (serialNumber name : List ℕ) (transports : List ℤ) (deviceType out : List ℕ)
+    → let w = cond signed (informationWritten serialNumber name transports deviceType out) (written (refused 15) out) in
+    numberTold (w .told) ≡ 1 → w .out ≡ out
+unfolding informationWritten
+transports-keep true serialNumber name transports deviceType out =
+    message-keeps (ltb mostTransports (length transports)) (informationFields serialNumber name transports deviceType) out
+transports-keep false serialNumber name transports deviceType out = λ e. refl
+
+information-keeps : (serialNumber name deviceType transports out answer : List ℕ)
+    → Keeps [] out answer (informationWriteOf serialNumber name deviceType transports out answer)
+unfolding informationWriteOf
+information-keeps serialNumber name deviceType transports out answer =
+    keeps-writer out answer
+    (cond (allSigned transports) (informationWritten serialNumber name (map signedOf transports) deviceType out) (written (refused 15) out))
+    (transports-keep (allSigned transports) serialNumber name (map signedOf transports) deviceType out)
+
+-- the outbox: a refusal leaves the buffer
+StoredKeeps : List ℕ → Stored → Type 0
+StoredKeeps buffer s = numberIn (s .told) ≡ 1 → s .buffer ≡ buffer
+
+never : {A : Type 0} → _≡_ {A = ℕ} 0 1 → A
+never e = absurd (omega arith)
+
+whole-keeps : (a : Answer (Unit {0})) (buffer bytes : List ℕ) (n : ℕ) → StoredKeeps buffer (ifWhole a buffer (stored (outbox.given n) bytes))
+unfolding StoredKeeps
+whole-keeps (outbox.given whole) buffer bytes n = never
+whole-keeps (outbox.refused k) buffer bytes n = λ e. refl
+whole-keeps (outbox.refusedAt k place) buffer bytes n = λ e. refl
+
+new-keeps : (limit : ℕ) (out answer : List ℕ) → Keeps [] out answer (outboxNewOf limit out answer)
+unfolding outboxNewOf newOf StoredKeeps
+new-keeps limit out answer =
+    let s = newOf (versionOne limit) out in
+    keeps-answers 1 (numberIn (s .told)) out answer (s .buffer) (usedIn (s .told) ∷ [])
+    (by-table (StoredKeeps out) (line 14 (ltb (length out) 1) ∷ []) (λ n. stored (outbox.refused n) out) (storedAt out 0 (newBytes (versionOne limit))) (λ n e. refl) (λ h. never))
+
+append-keeps : (limit used stream : ℕ) (payload buffer answer : List ℕ)
+    → Keeps [] buffer answer (outboxAppendOf limit buffer used stream payload answer)
+unfolding outboxAppendOf appendOf StoredKeeps
+append-keeps limit used stream payload buffer answer =
+    let fmt = versionOne limit in
+    let known = byteOr outOfRange stream in
+    let s = appendOf fmt buffer used known payload in
+    let after = storedAt buffer used (recordBytes fmt known payload) in
+    keeps-answers 2 (numberIn (s .told)) buffer answer (s .buffer) (usedRow (s .told))
+    (by-table (StoredKeeps buffer)
+    (line 1 (ltb (length buffer) used)
+    ∷ line 15 (badRecord fmt known (length payload))
+    ∷ line 14 (ltb (length buffer - used) (length (recordBytes fmt known payload)))
+    ∷ [])
+    (λ n. stored (outbox.refused n) buffer) (ifWhole (walkOf fmt (take used buffer)) buffer after) (λ n e. refl)
+    (λ h. whole-keeps (walkOf fmt (take used buffer)) buffer (after .buffer) (used + length (recordBytes fmt known payload))))
+
+pub one-leaves-all : OneLeavesAll
+unfolding nextSequenceOf envelopeReadOf responseReadOf informationReadOf featuresReadOf outboxRecordOf outboxWholeOf
+one-leaves-all = record {
+  extractor-step = step-keeps;
+  extractor-feed = feed-keeps;
+  frame-write = frame-keeps;
+  next-sequence = λ sequence answer. keeps-if (eqb (length answer) 1) [] [] answer _ never;
+  packet-write = packet-keeps;
+  ack-write = ack-keeps;
+  receiver-accept = accept-keeps;
+  envelope-read = λ message answer. keeps-answers 6 _ [] answer _ _ (λ e. refl);
+  envelope-write = envelope-keeps;
+  response-read = λ message answer. keeps-answers 4 _ [] answer _ _ (λ e. refl);
+  response-write = response-keeps;
+  information-read = λ message answer. keeps-answers 15 _ [] answer _ _ (λ e. refl);
+  information-write = information-keeps;
+  features-read = λ message answer. keeps-answers 2 _ [] answer _ _ (λ e. refl);
+  features-write = features-keeps;
+  outbox-new = new-keeps;
+  outbox-append = append-keeps;
+  outbox-record = λ limit place file answer. keeps-answers 6 _ [] answer _ _ (λ e. refl);
+  outbox-whole = λ limit file answer. keeps-answers 1 _ [] answer _ _ (λ e. refl);
+}

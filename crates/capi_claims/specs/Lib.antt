@@ -1,0 +1,2 @@
+pub mod OneLeavesAll
+pub mod SizesSuffice

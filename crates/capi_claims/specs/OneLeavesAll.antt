@@ -1,0 +1,43 @@
+-- The claim that refusal 1 changes nothing, whoever refuses: the rows' length, the numbers of a state, or the library. One row
+-- alone is written under it: the answer of a feed, where it has its length, tells 0 used.
+use Prim.Native.Nat.{ℕ}
+use mathlib.Core.Path.{_≡_}
+use mathlib.Core.List.{List, []}
+use Rattle.sender.specs.declared.writer.Sending.{Sending}
+use Rattle.control.specs.declared.envelope.EnvelopePayload.{EnvelopePayload}
+use Rattle.rows.specs.Called.{Called, called}
+use Rattle.calls_classic.specs.Calls.{noneUsed, extractorStepOf, extractorFeedOf, frameWriteOf, nextSequenceOf}
+use Rattle.calls_sending.specs.Calls.{packetWriteOf, ackWriteOf}
+use Rattle.calls_receiving.specs.Calls.{receiverAcceptOf}
+use Rattle.calls_messages.specs.Calls.{envelopeReadOf, envelopeWriteOf, responseReadOf, responseWriteOf, informationReadOf, informationWriteOf, featuresReadOf, featuresWriteOf}
+use Rattle.calls_outbox.specs.Calls.{outboxNewOf, outboxAppendOf, outboxRecordOf, outboxWholeOf}
+
+-- if it returns 1, state row, lent bytes and answer row are what they were
+abbrev pub Keeps : List ℕ → List ℕ → List ℕ → Called → Type 0
+Keeps state lent answer c = c .number ≡ 1 → c ≡ called 1 state lent answer
+
+pub record OneLeavesAll : Type 0 where
+  pub extractor-step : (limit b : ℕ) (state lent answer : List ℕ) → Keeps state lent answer (extractorStepOf limit state lent b answer)
+  pub extractor-feed : (limit : ℕ) (bytes state lent answer : List ℕ) → Keeps state lent (noneUsed answer) (extractorFeedOf limit state lent bytes answer)
+  pub frame-write : (limit sequence : ℕ) (payload out answer : List ℕ) → Keeps [] out answer (frameWriteOf limit sequence payload out answer)
+  pub next-sequence : (sequence : ℕ) (answer : List ℕ) → Keeps [] [] answer (nextSequenceOf sequence answer)
+  pub packet-write : (limit : ℕ) (how : Sending) (place : ℕ) (message out answer : List ℕ)
+      → Keeps [] out answer (packetWriteOf limit how message place out answer)
+  pub ack-write : (stream id sequence positive : ℕ) (out answer : List ℕ) → Keeps [] out answer (ackWriteOf stream id sequence positive out answer)
+  pub receiver-accept : (limit : ℕ) (packet state lent answer : List ℕ)
+      → Keeps state lent answer (receiverAcceptOf limit state lent packet answer)
+  pub envelope-read : (message answer : List ℕ) → Keeps [] [] answer (envelopeReadOf message answer)
+  pub envelope-write : (command : ℕ) (payload : EnvelopePayload) (bytes out answer : List ℕ)
+      → Keeps [] out answer (envelopeWriteOf command payload bytes out answer)
+  pub response-read : (message answer : List ℕ) → Keeps [] [] answer (responseReadOf message answer)
+  pub response-write : (code field : ℕ) (bytes out answer : List ℕ) → Keeps [] out answer (responseWriteOf code field bytes out answer)
+  pub information-read : (message answer : List ℕ) → Keeps [] [] answer (informationReadOf message answer)
+  pub information-write : (serialNumber name deviceType transports out answer : List ℕ)
+      → Keeps [] out answer (informationWriteOf serialNumber name deviceType transports out answer)
+  pub features-read : (message answer : List ℕ) → Keeps [] [] answer (featuresReadOf message answer)
+  pub features-write : (features attributes : ℕ) (out answer : List ℕ) → Keeps [] out answer (featuresWriteOf features attributes out answer)
+  pub outbox-new : (limit : ℕ) (out answer : List ℕ) → Keeps [] out answer (outboxNewOf limit out answer)
+  pub outbox-append : (limit used stream : ℕ) (payload buffer answer : List ℕ)
+      → Keeps [] buffer answer (outboxAppendOf limit buffer used stream payload answer)
+  pub outbox-record : (limit place : ℕ) (file answer : List ℕ) → Keeps [] [] answer (outboxRecordOf limit file place answer)
+  pub outbox-whole : (limit : ℕ) (file answer : List ℕ) → Keeps [] [] answer (outboxWholeOf limit file answer)

@@ -1,0 +1,14 @@
+// What holds of every call.
+ghost use Rattle.capi_claims.specs.OneLeavesAll.{OneLeavesAll};
+ghost use Rattle.capi_claims.specs.SizesSuffice.{SizesSuffice};
+
+// A call that returns 1 has changed nothing: neither state row, lent bytes nor answer row. Only a feed tells then that it
+// used 0 bytes.
+pub fn one_leaves_all()
+    ensures { λ _. ⌜ OneLeavesAll ⌝ }
+{}
+
+// With the sizes that the C header names every writer takes what is in its range.
+pub fn sizes_suffice()
+    ensures { λ _. ⌜ SizesSuffice ⌝ }
+{}

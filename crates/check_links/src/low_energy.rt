@@ -1,0 +1,203 @@
+// The cases of Low Energy, P4 to P9.
+use crate::OUTPUT;
+use packet::header::extender_bit;
+use packet::reader;
+use packet::reader::Packet;
+use printing::bytes;
+use printing::end;
+use printing::number;
+use printing::refused;
+use printing::text;
+use receiver::BUFFER_SIZE;
+use receiver::Receiver;
+use sender::piece::LARGEST_ROOM;
+use sender::writer;
+use sender::writer::Sending;
+use sender::writer::write_packet;
+use slot::Slot;
+use slot::answer::Accepted;
+use slot::answer::Answer;
+use wire::bytes::byte_at;
+use wire::bytes::smaller;
+
+// More packets than any case has.
+const MOST_PACKETS: usize = 8;
+
+// What is printed of each packet of a message: its header, or the length of its piece.
+enum Shown {
+    Headers,
+    Pieces,
+}
+
+fn print_packet(shown: Shown, packet: &[u8], start: usize, len: usize) {
+    match shown {
+        Shown::Headers => bytes(packet, start),
+        Shown::Pieces => {
+            number(len);
+            if extender_bit(byte_at(packet, 1)) {
+                text(b" (extended)");
+            }
+        }
+    }
+}
+
+fn print_read(shown: Shown, packet: &[u8], read: Packet) {
+    match read {
+        Packet::First {
+            head: _,
+            ack: _,
+            total: _,
+            start,
+            len,
+        } => print_packet(shown, packet, start, len),
+        Packet::Next {
+            head: _,
+            ack: _,
+            last: _,
+            start,
+            len,
+        } => print_packet(shown, packet, start, len),
+        Packet::Ack(_) => text(b" ACK"),
+        Packet::Nack(_) => text(b" NACK"),
+    }
+}
+
+// Prints the packet that stands first in the output, as it is read back.
+fn read_packet(shown: Shown, out: &[u8], length: usize) {
+    let n = smaller(length, out.len());
+    match reader::read(&out[0..n]) {
+        reader::Answer::Read(read) => print_read(shown, out, read),
+        reader::Answer::Refused(why) => refused(why.number()),
+    }
+}
+
+// Prints the packet of a message at a place, and answers the next place, or 0 after the last.
+fn next_packet(shown: Shown, how: Sending, message: &[u8], place: usize, out: &mut [u8]) -> usize {
+    match write_packet(how, message, place, out) {
+        writer::Answer::More { length, next } => {
+            read_packet(shown, out, length);
+            text(b",");
+            next
+        }
+        writer::Answer::Last { length } => {
+            read_packet(shown, out, length);
+            0
+        }
+        writer::Answer::Refused(why) => {
+            refused(why.number());
+            0
+        }
+    }
+}
+
+fn print_packets(shown: Shown, how: Sending, message: &[u8], out: &mut [u8]) {
+    let mut place = 0;
+    let mut turns = MOST_PACKETS;
+    while turns > 0 {
+        turns -= 1;
+        place = next_packet(shown, how, message, place, out);
+        if place == 0 {
+            return;
+        }
+    }
+}
+
+fn write_packets(label: &[u8], shown: Shown, how: Sending, message: &[u8]) {
+    let mut out = [0u8; LARGEST_ROOM];
+    text(label);
+    print_packets(shown, how, message, &mut out);
+    end();
+}
+
+fn print_accepted(accepted: Accepted) {
+    match accepted {
+        Accepted::Taken {
+            stream: _,
+            id: _,
+            replaced: _,
+        } => text(b" taken"),
+        Accepted::Finished {
+            stream: _,
+            id: _,
+            total: _,
+            ack: _,
+            replaced: _,
+        } => text(b" finished"),
+        Accepted::Acked(_) => text(b" ACK"),
+        Accepted::Nacked(_) => text(b" NACK"),
+    }
+}
+
+// A packet given to a receiver with this control slot, the others idle.
+fn accept_packet(label: &[u8], control: Slot, packet: &[u8]) {
+    let mut buffer = [0u8; BUFFER_SIZE];
+    let none = Slot::idle();
+    let state = Receiver {
+        slots: [control, none, none],
+    };
+    let outcome = state.accept(&mut buffer, packet);
+    let answer = outcome.answer;
+    text(label);
+    match answer {
+        Answer::Given(accepted) => print_accepted(accepted),
+        Answer::Refused(why) => refused(why.number()),
+    }
+    end();
+}
+
+fn write_acknowledgement(label: &[u8], stream: u8, id: u8, sequence: u8, positive: bool) {
+    let mut out = [0u8; OUTPUT];
+    let answer = acknowledgement::write(stream, id, sequence, positive, &mut out);
+    text(label);
+    match answer {
+        acknowledgement::Answer::Written(n) => bytes(&out, n),
+        acknowledgement::Answer::Refused(why) => refused(why.number()),
+    }
+    end();
+}
+
+// How a message is sent of which only the room is said.
+fn in_room(room: usize) -> Sending {
+    Sending {
+        room,
+        stream: 0,
+        id: 0,
+        sequence: 0,
+        ack: false,
+    }
+}
+
+// A transaction of three bytes, of which one is held; the last packet had this sequence.
+fn open_after(sequence: u8) -> Slot {
+    Slot {
+        opened: true,
+        id: 0,
+        total: 3,
+        held: 1,
+        sequence,
+    }
+}
+
+fn sent() {
+    let fourth = Sending {
+        room: 20,
+        stream: 6,
+        id: 1,
+        sequence: 0,
+        ack: true,
+    };
+    write_packets(b"P4", Shown::Headers, fourth, &[0u8; 35]);
+    write_packets(b"P5", Shown::Pieces, in_room(244), &[0u8; 490]);
+    write_packets(b"P6", Shown::Pieces, in_room(262), &[0u8; 300]);
+    write_packets(b"P6", Shown::Pieces, in_room(263), &[0u8; 300]);
+}
+
+pub fn cases() {
+    sent();
+    accept_packet(b"P7", open_after(15), b"\x00\x04\x01\x00");
+    accept_packet(b"P7", open_after(15), b"\x00\xA4\x01\x00");
+    write_acknowledgement(b"P8", 6, 1, 0, true);
+    write_acknowledgement(b"P8", 6, 1, 0, false);
+    write_packets(b"P9", Shown::Headers, in_room(20), b"");
+    accept_packet(b"P9", Slot::idle(), b"\x00\x00\x00\x00\x00\x00");
+}

@@ -1,0 +1,11 @@
+// Runs the worked cases of the two links through the library: a line for each row of P1 to P9 of the table in crate `worked`, in its order.
+mod classic;
+mod low_energy;
+
+// The output lent to a writer: more than any case needs, but for packets of messages.
+pub const OUTPUT: usize = 32;
+
+fn main() {
+    classic::cases();
+    low_energy::cases();
+}

@@ -1,0 +1,38 @@
+-- What each writer tells of its size lies within the output.
+use Prim.Native.Nat.{ℕ, _≤_}
+use mathlib.Core.Path.{_≡_}
+use mathlib.Core.Bool.{false}
+use mathlib.Core.List.{List}
+use lib.IntN.{ℤ}
+use lib.ListN.{length}
+use lib.Dec.{ltb}
+use Rattle.wire.specs.Told.{written}
+use Rattle.field.specs.Signed.{extended}
+use Rattle.control.specs.declared.response.ResponsePayload.{ResponsePayload}
+use Rattle.control.specs.declared.envelope.EnvelopePayload.{EnvelopePayload}
+use Rattle.device.specs.declared.features.DeviceFeatures.{DeviceFeatures}
+use Rattle.field_writer.specs.declared.message.Wrote.{Wrote}
+use Rattle.walk.specs.Gathered.{mostTransports}
+use Rattle.field_writer.specs.Message.{toldWrote, wroteSize}
+use Rattle.control.specs.Response.{badResponsePayload, responseFields, responseWritten}
+use Rattle.control.specs.Envelope.{badPayload, envelopeFields, envelopeWritten}
+use Rattle.device.specs.Information.{informationFields, informationWritten}
+use Rattle.device.specs.Features.{featuresFields, featuresWritten}
+use Rattle.field_writer.proofs.Messages.{size-within}
+
+module _ (w : Wrote) (out l : List ℕ) where
+  pub envelope-size : (z : ℤ) (payload : EnvelopePayload) (body : List ℕ) → written (toldWrote w) l ≡ envelopeWritten z payload body out → wroteSize w ≤ length l
+  unfolding envelopeWritten
+  envelope-size z payload body e = size-within w (badPayload payload) (envelopeFields (extended z) payload body) out l e
+
+  pub response-size : (z : ℤ) (payload : ResponsePayload) (body : List ℕ) → written (toldWrote w) l ≡ responseWritten z payload body out → wroteSize w ≤ length l
+  unfolding responseWritten
+  response-size z payload body e = size-within w (badResponsePayload payload) (responseFields (extended z) payload body) out l e
+
+  pub information-size : (serial name : List ℕ) (ts : List ℤ) (kind : List ℕ) → written (toldWrote w) l ≡ informationWritten serial name ts kind out → wroteSize w ≤ length l
+  unfolding informationWritten
+  information-size serial name ts kind e = size-within w (ltb mostTransports (length ts)) (informationFields serial name ts kind) out l e
+
+  pub features-size : (f : DeviceFeatures) → written (toldWrote w) l ≡ featuresWritten f out → wroteSize w ≤ length l
+  unfolding featuresWritten
+  features-size f e = size-within w false (featuresFields f) out l e

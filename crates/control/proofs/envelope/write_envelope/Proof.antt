@@ -1,0 +1,96 @@
+use native.Mathlib.Omega.{arith}
+use mathlib.Core.Path.{_≡_, ap, sym, _∙_}
+use mathlib.Core.Bool.{false}
+use Prim.Native.Nat.{_+_}
+use lib.ListN.{length}
+use mir.Facts.{toZ-ofZ}
+use denote.Ref.{now}
+use Rattle.field.specs.Signed.{extended}
+use Rattle.field_writer.specs.Writer.{scalar, messageBytes}
+use Rattle.field_writer.proofs.Runs.{put-field, message-length}
+use Rattle.walk.specs.Schema.{commandField}
+use Rattle.control.specs.Envelope.{badPayload, payloadFields, envelopeFields, envelopeWritten}
+use Rattle.field_writer.proofs.Messages.{wrote-bad, wrote-short, wrote}
+use borrow.Author.Needs.{needs}
+use Rattle.control.proofs.envelope.write_envelope.Statement.{statement}
+use Rattle.control.proofs.envelope.write_envelope.Tie as tie
+
+bad-payload-requires : tie.Need-bad-payload-requires
+bad-payload-requires c κs = search needs
+
+returns : tie.Need-returns
+unfolding envelopeWritten
+returns c =
+    let a = c .before .before .before .before .args in
+    wrote-bad _ (envelopeFields (extended (a .command)) (a .payload) (now (a .body))) (now (a .out)) (sym (c .before .bad-payload .ensures) ∙ c .if1 .taken)
+
+-- the payload is one that is written
+fine : (c : tie.Else1) → badPayload (c .before .before .before .before .args .payload) ≡ false
+fine c = sym (c .before .bad-payload .ensures) ∙ c .if1 .left
+
+value : (c : tie.After-sign-extended) → c .sign-extended .result ≡ extended (c .before .before .before .before .before .args .command)
+value c = c .sign-extended .ensures ∙ ap extended (toZ-ofZ (c .before .before .before .before .before .fits .command))
+
+counted : (c : tie.After-payload-len)
+    → c .before .scalar-len .result + c .payload-len .result ≡ length (messageBytes (envelopeFields (extended (c .before .before .before .before .before .before .before .args .command)) (c .before .before .before .before .before .before .before .args .payload) (now (c .before .before .before .before .before .before .before .args .body))))
+counted c =
+    let a = c .before .before .before .before .before .before .before .args in
+    omega (
+      arith,
+      rw (value (c .before .before)) at (c .before .scalar-len .ensures .0),
+      c .payload-len .ensures .0,
+      message-length (scalar commandField (extended (a .command))) (payloadFields (a .payload) (now (a .body))),
+    )
+
+sign-extended-requires : tie.Need-sign-extended-requires
+sign-extended-requires c κs = search needs
+
+scalar-len-requires : tie.Need-scalar-len-requires
+scalar-len-requires c κs = search needs
+
+payload-len-requires : tie.Need-payload-len-requires
+payload-len-requires c κs = search needs
+
+add-len : tie.Need-add-len
+add-len c = search needs
+
+returns-2 : tie.Need-returns-2
+unfolding envelopeWritten
+returns-2 c =
+    let a = c .before .before .before .before .before .before .before .before .args in
+    wrote-short _ (envelopeFields (extended (a .command)) (a .payload) (now (a .body))) (now (a .out)) (fine (c .before .before .before .before)) (omega (arith, counted (c .before), c .if2 .taken))
+
+put-scalar-requires : tie.Need-put-scalar-requires
+put-scalar-requires c κs = (search needs, omega (arith, c .before .if2 .left, c .before .before .before .scalar-len .ensures .0))
+
+put-payload-requires : tie.Need-put-payload-requires
+put-payload-requires c κs =
+    let p = c .before .before .before .put-scalar in
+    (fine (c .before .before .before .before .before .before .before .before .before), omega (arith, c .before .before .before .before .before .if2 .left, c .before .before .before .before .before .before .before .scalar-len .ensures .0, c .before .before .before .before .before .before .payload-len .ensures .0, p .ensures .place, p .kept .0))
+
+same-length : tie.Need-same-length
+same-length c = search needs
+
+returns-3 : tie.Need-returns-3
+unfolding envelopeWritten
+returns-3 c =
+    let a = c .before .before .before .before .before .before .before .before .before .before .before .before .before .before .before .before .args in
+    let fs = payloadFields (a .payload) (now (a .body)) in
+    wrote _ (envelopeFields (extended (a .command)) (a .payload) (now (a .body))) (now (a .out)) (fine (c .before .before .before .before .before .before .before .before .before .before .before .before)) (omega (arith, counted (c .before .before .before .before .before .before .before .before .before), c .before .before .before .before .before .before .before .before .if2 .left))
+    (put-field (scalar commandField (extended (a .command))) fs (rw (value (c .before .before .before .before .before .before .before .before .before .before .before)) at (c .before .before .before .before .before .before .put-scalar .ensures)) (c .before .before .put-payload .ensures))
+
+pub write-envelope-spec : {M : Type 1} → statement M
+write-envelope-spec =
+    tie.close
+    (tie.spec
+    bad-payload-requires
+    returns
+    sign-extended-requires
+    scalar-len-requires
+    payload-len-requires
+    add-len
+    returns-2
+    put-scalar-requires
+    put-payload-requires
+    same-length
+    returns-3)

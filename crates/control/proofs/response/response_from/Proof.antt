@@ -1,0 +1,72 @@
+use mathlib.Core.Path.{_≡_, ap, sym, _∙_}
+use denote.Ref.{now}
+use Rattle.wire.specs.Told.{Told, given, refused}
+use Rattle.field.specs.Refusal.{numberOf}
+use Rattle.walk.specs.declared.schema.Schema.the-variants as Schema
+use Rattle.walk.specs.Gathered.{judgedAs}
+use Rattle.walk.specs.Walk.{fieldsFrom}
+use lib.IntN.{ℤ}
+use lib.ListN.{getD}
+use Rattle.field.proofs.SignedNumbers.{signed-kept}
+use Rattle.walk.specs.declared.gathered.Gathered.{Gathered}
+use Rattle.control.specs.declared.response.Response.{Response}
+use Rattle.walk.specs.Schema.{first}
+use Rattle.control.specs.Response.{responseFrom}
+use Rattle.walk.proofs.Steps.{fields-within}
+use borrow.Author.Needs.{needs}
+use Rattle.control.proofs.response.response_from.Statement.{statement}
+use Rattle.control.proofs.response.response_from.Tie as tie
+
+read-fields-requires : tie.Need-read-fields-requires
+read-fields-requires c κs = search needs
+
+enum-known-verdict : tie.Need-enum-known-verdict
+enum-known-verdict c = search needs
+
+enum-told : tie.Need-enum-told
+enum-told c = search needs
+
+-- what read_fields told
+read : (c : tie.After-enum-told) → fieldsFrom Schema.Response (now (c .before .before .before .before .before .args .message)) (c .before .before .before .before .before .args .at) ≡ given (c .before .before .before .read-fields .result .gathered)
+read c =
+    let k = c .before .before .before .read-fields in
+    sym (k .ensures) ∙ ap (λ v. judgedAs v (k .result .gathered)) (c .enum-told .given .1)
+
+refuses : (c : tie.After-verdict) → fieldsFrom Schema.Response (now (c .before .before .before .before .before .args .message)) (c .before .before .before .before .before .args .at) ≡ refused (numberOf (c .verdict .given .0 .0))
+refuses c =
+    let k = c .before .before .before .read-fields in
+    sym (k .ensures) ∙ ap (λ v. judgedAs v (k .result .gathered)) (c .verdict .given .1)
+
+-- a response with an error code
+abbrev coded : Gathered → ℤ → Told Response
+coded g z = given (record { «error_code» = z; field = g .field; part = g .part })
+
+element-copy-out-low-signed : tie.Need-element-copy-out-low-signed
+element-copy-out-low-signed c = search needs
+
+low-signed-requires : tie.Need-low-signed-requires
+low-signed-requires c κs = search needs
+
+returns : tie.Need-returns
+unfolding responseFrom
+returns c = (rw (refuses (c .before)), tt)
+
+returns-2 : tie.Need-returns-2
+unfolding responseFrom
+returns-2 c =
+    let g = c .before .before .before .before .before .before .read-fields .result .gathered in (
+      rw (read (c .before .before .before)) (ap (coded g) (signed-kept _ (getD (g .scalars) first 0) (c .low-signed .ensures))),
+      (fields-within Schema.Response _ _ g (read (c .before .before .before)) .0 .0, tt),
+    )
+
+pub response-from-spec : {M : Type 1} → statement M
+response-from-spec =
+    tie.close
+    (tie.spec
+    read-fields-requires
+    enum-known-verdict
+    enum-told
+    element-copy-out-low-signed
+    low-signed-requires
+    returns
+    returns-2)

@@ -1,0 +1,70 @@
+use native.Mathlib.Omega.{arith}
+use mathlib.Core.Path.{_≡_, ap, sym, _∙_}
+use mathlib.Core.Bool.{false}
+use lib.ListN.{length}
+use mir.Facts.{toZ-ofZ}
+use denote.Ref.{now}
+use Rattle.field.specs.Signed.{extended}
+use Rattle.field_writer.specs.Writer.{messageBytes}
+use Rattle.control.specs.Response.{badResponsePayload, responseFields, responseWritten}
+use Rattle.field_writer.proofs.Messages.{wrote-bad, wrote-short, wrote}
+use borrow.Author.Needs.{needs}
+use Rattle.control.proofs.response.write_response.Statement.{statement}
+use Rattle.control.proofs.response.write_response.Tie as tie
+
+bad-response-payload-requires : tie.Need-bad-response-payload-requires
+bad-response-payload-requires c κs = search needs
+
+returns : tie.Need-returns
+unfolding responseWritten
+returns c =
+    let a = c .before .before .before .before .args in
+    wrote-bad _ (responseFields (extended (a .error-code)) (a .payload) (now (a .body))) (now (a .out)) (sym (c .before .bad-response-payload .ensures) ∙ c .if1 .taken)
+
+-- the payload is one that is written
+fine : (c : tie.Else1) → badResponsePayload (c .before .before .before .before .args .payload) ≡ false
+fine c = sym (c .before .bad-response-payload .ensures) ∙ c .if1 .left
+
+value : (c : tie.After-sign-extended) → c .sign-extended .result ≡ extended (c .before .before .before .before .before .args .error-code)
+value c = c .sign-extended .ensures ∙ ap extended (toZ-ofZ (c .before .before .before .before .before .fits .error-code))
+
+counted : (c : tie.After-response-len) → c .response-len .result ≡ length (messageBytes (responseFields (extended (c .before .before .before .before .before .before .args .error-code)) (c .before .before .before .before .before .before .args .payload) (now (c .before .before .before .before .before .before .args .body))))
+counted c = rw (value (c .before)) at (c .response-len .ensures .0)
+
+sign-extended-requires : tie.Need-sign-extended-requires
+sign-extended-requires c κs = search needs
+
+response-len-requires : tie.Need-response-len-requires
+response-len-requires c κs = search needs
+
+returns-2 : tie.Need-returns-2
+unfolding responseWritten
+returns-2 c =
+    let a = c .before .before .before .before .before .before .before .args in
+    wrote-short _ (responseFields (extended (a .error-code)) (a .payload) (now (a .body))) (now (a .out)) (fine (c .before .before .before)) (omega (arith, counted (c .before), c .if2 .taken))
+
+put-response-requires : tie.Need-put-response-requires
+put-response-requires c κs = search needs
+
+same-length : tie.Need-same-length
+same-length c = search needs
+
+returns-3 : tie.Need-returns-3
+unfolding responseWritten
+returns-3 c =
+    let a = c .before .before .before .before .before .before .before .before .before .before .before .args in
+    wrote _ (responseFields (extended (a .error-code)) (a .payload) (now (a .body))) (now (a .out)) (fine (c .before .before .before .before .before .before .before)) (omega (arith, counted (c .before .before .before .before .before), c .before .before .before .before .if2 .left))
+    (rw (value (c .before .before .before .before .before .before)) at (c .before .before .put-response .ensures))
+
+pub write-response-spec : {M : Type 1} → statement M
+write-response-spec =
+    tie.close
+    (tie.spec
+    bad-response-payload-requires
+    returns
+    sign-extended-requires
+    response-len-requires
+    returns-2
+    put-response-requires
+    same-length
+    returns-3)

@@ -1,0 +1,3 @@
+// The control envelope and its response, read and written.
+pub mod envelope;
+pub mod response;

@@ -1,0 +1,71 @@
+use Prim.Native.Nat.{zero-le}
+use mathlib.Core.Path.{_≡_, ap, sym, _∙_}
+use denote.Ref.{now}
+use Rattle.wire.specs.Told.{given, refused}
+use Rattle.field.specs.Refusal.{numberOf}
+use Rattle.walk.specs.declared.schema.Schema.the-variants as Schema
+use Rattle.field.proofs.Places.{within-get}
+use Rattle.walk.specs.Schema.{first, second, third}
+use Rattle.walk.specs.Gathered.{noPart, judgedAs}
+use Rattle.walk.specs.Walk.{fieldsFrom}
+use Rattle.device.specs.Information.{informationOf}
+use Rattle.walk.proofs.Steps.{fields-within}
+use borrow.Author.Needs.{needs}
+use Rattle.device.proofs.information.read_information.Statement.{statement}
+use Rattle.device.proofs.information.read_information.Tie as tie
+
+read-fields-requires : tie.Need-read-fields-requires
+read-fields-requires c κs = search needs
+
+enum-known-verdict : tie.Need-enum-known-verdict
+enum-known-verdict c = search needs
+
+enum-told : tie.Need-enum-told
+enum-told c = search needs
+
+-- what read_fields told
+read : (c : tie.After-enum-told) → fieldsFrom Schema.Information (now (c .before .before .before .before .args .message)) 0 ≡ given (c .before .before .read-fields .result .gathered)
+read c =
+    let k = c .before .before .read-fields in
+    sym (k .ensures) ∙ ap (λ v. judgedAs v (k .result .gathered)) (c .enum-told .given .1)
+
+refuses : (c : tie.After-verdict) → fieldsFrom Schema.Information (now (c .before .before .before .before .args .message)) 0 ≡ refused (numberOf (c .verdict .given .0 .0))
+refuses c =
+    let k = c .before .before .read-fields in
+    sym (k .ensures) ∙ ap (λ v. judgedAs v (k .result .gathered)) (c .verdict .given .1)
+
+element-copy-out-serial-number : tie.Need-element-copy-out-serial-number
+element-copy-out-serial-number c = search needs
+
+element-copy-out-name : tie.Need-element-copy-out-name
+element-copy-out-name c = search needs
+
+element-copy-out-device-type : tie.Need-element-copy-out-device-type
+element-copy-out-device-type c = search needs
+
+returns : tie.Need-returns
+unfolding informationOf
+returns c = (rw (refuses (c .before)), ((zero-le, (zero-le, (zero-le, tt))), zero-le))
+
+returns-2 : tie.Need-returns-2
+unfolding informationOf
+returns-2 c =
+    let texts = c .before .before .before .before .before .before .before .read-fields .result .gathered .texts in
+    let inside = fields-within Schema.Information _ 0 _ (read (c .before .before .before .before .before)) in
+    let each = inside .0 .1 in (
+      rw (read (c .before .before .before .before .before)),
+      ((within-get _ texts first noPart zero-le each, (within-get _ texts second noPart zero-le each, (within-get _ texts third noPart zero-le each, tt))), inside .1),
+    )
+
+pub read-information-spec : {M : Type 1} → statement M
+read-information-spec =
+    tie.close
+    (tie.spec
+    read-fields-requires
+    enum-known-verdict
+    enum-told
+    element-copy-out-serial-number
+    element-copy-out-name
+    element-copy-out-device-type
+    returns
+    returns-2)

@@ -1,0 +1,36 @@
+-- Device features: two numbers of 64 bits.
+use Prim.Native.Nat.{ℕ}
+use mathlib.Core.Bool.{false}
+use mathlib.Core.List.{List, [], _∷_}
+use lib.ListN.{getD}
+use Rattle.wire.specs.Told.{Told, given, refused, andThen, Written}
+use Rattle.field.specs.Refusal.{numberOf}
+use Rattle.field_writer.specs.Writer.{Field, scalar}
+use Rattle.walk.specs.declared.gathered.Gathered.{Gathered}
+use Rattle.walk.specs.declared.schema.Schema.the-variants as Schema
+use Rattle.device.specs.declared.features.DeviceFeatures.{DeviceFeatures}
+use Rattle.device.specs.declared.features.FeaturesRead.{FeaturesRead}
+use Rattle.device.specs.declared.features.FeaturesRead.the-variants.{Read, Refused}
+use Rattle.walk.specs.Schema.{featuresField, deviceAttributesField, first, second}
+use Rattle.walk.specs.Walk.{fieldsFrom}
+use Rattle.field_writer.specs.Message.{writesMessage}
+
+-- the features that were gathered
+abbrev pub featuresMade : Gathered → DeviceFeatures
+featuresMade g = record { features = getD (g .scalars) first 0; «device_attributes» = getD (g .scalars) second 0 }
+
+unfoldable pub featuresOf : List ℕ → Told DeviceFeatures
+featuresOf s = andThen (fieldsFrom Schema.Features s 0) (λ g. given (featuresMade g))
+
+-- the answers of read_features
+abbrev pub toldFeatures : FeaturesRead → Told DeviceFeatures
+toldFeatures (Read f) = given f
+toldFeatures (Refused e) = refused (numberOf e)
+
+-- the fields of device features
+abbrev pub featuresFields : DeviceFeatures → List Field
+featuresFields f = scalar featuresField (f .features) ∷ scalar deviceAttributesField (f .«device_attributes») ∷ []
+
+-- device features written
+unfoldable pub featuresWritten : DeviceFeatures → List ℕ → Written ℕ
+featuresWritten f out = writesMessage false (featuresFields f) out

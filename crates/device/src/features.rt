@@ -1,0 +1,58 @@
+// Device features.
+use field::Refusal;
+use field_writer::fields::put_scalar;
+use field_writer::fields::scalar_len;
+use field_writer::message::WriteRefusal;
+use field_writer::message::Wrote;
+use walk::gathered::Verdict;
+use walk::reader::read_fields;
+use walk::schema::DEVICE_ATTRIBUTES;
+use walk::schema::FEATURES;
+use walk::schema::FIRST;
+use walk::schema::SECOND;
+use walk::schema::Schema;
+ghost use mathlib.Core.Path.{_≡_};
+ghost use Rattle.wire.specs.Told.{written};
+ghost use Rattle.device.specs.Features.{featuresOf, toldFeatures, featuresWritten};
+ghost use Rattle.field_writer.specs.Message.{toldWrote};
+
+pub struct DeviceFeatures {
+    pub features: u64,
+    pub device_attributes: u64,
+}
+
+pub enum FeaturesRead {
+    Read(DeviceFeatures),
+    Refused(Refusal),
+}
+
+// Device features.
+pub fn read_features(message: &[u8]) -> FeaturesRead
+    ensures { λ r. ⌜ toldFeatures r ≡ featuresOf (now (message .entry)) ⌝ }
+{
+    let kept = read_fields(Schema::Features, message, 0);
+    let verdict = kept.verdict;
+    let gathered = kept.gathered;
+    match verdict {
+        Verdict::Refused(e) => FeaturesRead::Refused(e),
+        Verdict::Fine => FeaturesRead::Read(DeviceFeatures {
+            features: gathered.scalars[FIRST],
+            device_attributes: gathered.scalars[SECOND],
+        }),
+    }
+}
+
+// Writes device features.
+pub fn write_features(out: &mut [u8], features: DeviceFeatures) -> Wrote
+    ensures { λ r. ⌜ written (toldWrote r) (now (out .exit)) ≡ featuresWritten features (now (out .entry)) ⌝ }
+{
+    let first = features.features;
+    let second = features.device_attributes;
+    let len = scalar_len(FEATURES, first) + scalar_len(DEVICE_ATTRIBUTES, second);
+    if out.len() < len {
+        return Wrote::Refused(WriteRefusal::NoRoom);
+    }
+    let next = put_scalar(out, 0, FEATURES, first);
+    let end = put_scalar(out, next, DEVICE_ATTRIBUTES, second);
+    Wrote::Done(end)
+}

@@ -1,0 +1,144 @@
+// Device information.
+use field::value::Part;
+use field_writer::fields::packed_len;
+use field_writer::fields::put_packed;
+use field_writer::fields::put_text;
+use field_writer::fields::text_len;
+use field_writer::message::Room;
+use field_writer::message::WriteRefusal;
+use field_writer::message::Wrote;
+use walk::gathered::MOST_TRANSPORTS;
+use walk::gathered::Verdict;
+use walk::reader::read_fields;
+use walk::schema::DEVICE_TYPE;
+use walk::schema::FIRST;
+use walk::schema::NAME;
+use walk::schema::SECOND;
+use walk::schema::SERIAL_NUMBER;
+use walk::schema::Schema;
+use walk::schema::THIRD;
+use walk::schema::TRANSPORTS;
+ghost use mathlib.Core.Path.{_≡_};
+ghost use Prim.Native.Nat.{_≤_};
+ghost use lib.ListN.{length};
+ghost use Rattle.wire.specs.Told.{written};
+ghost use Rattle.field_writer.specs.Put.{Put};
+ghost use Rattle.field.specs.Value.{Within};
+ghost use Rattle.field_writer.specs.Writer.{messageBytes};
+ghost use Rattle.walk.specs.Gathered.{mostTransports};
+ghost use Rattle.device.specs.Information.{informationOf, toldInformation, withInformation, informationParts, informationFields, informationWritten};
+ghost use Rattle.field_writer.specs.Message.{toldWrote, lessRoom};
+
+// Strings are parts of the lent message; of the transports the first count are there.
+pub struct DeviceInformation {
+    pub serial_number: Part,
+    pub name: Part,
+    pub transports: [i32; 8],
+    pub count: usize,
+    pub device_type: Part,
+}
+
+// The information stands beside the verdict: an enum cannot hold an array.
+pub struct InformationRead {
+    pub verdict: Verdict,
+    pub information: DeviceInformation,
+}
+
+// Device information.
+pub fn read_information(message: &[u8]) -> InformationRead
+    ensures { λ r. ⌜ toldInformation r ≡ withInformation (informationOf (now (message .entry))) ⌝ }
+    ensures { λ r. ⌜ Within (now (message .entry)) (informationParts (r .information)) ⌝ }
+    ensures { λ r. ⌜ r .information .count ≤ mostTransports ⌝ }
+{
+    let kept = read_fields(Schema::Information, message, 0);
+    let verdict = kept.verdict;
+    match verdict {
+        Verdict::Refused(e) => {
+            let none = Part { start: 0, len: 0 };
+            InformationRead {
+                verdict: Verdict::Refused(e),
+                information: DeviceInformation {
+                    serial_number: none,
+                    name: none,
+                    transports: [0i32; 8],
+                    count: 0,
+                    device_type: none,
+                },
+            }
+        }
+        Verdict::Fine => {
+            let gathered = kept.gathered;
+            let serial_number = gathered.texts[FIRST];
+            let name = gathered.texts[SECOND];
+            let transports = gathered.transports;
+            let device_type = gathered.texts[THIRD];
+            InformationRead {
+                verdict: Verdict::Fine,
+                information: DeviceInformation {
+                    serial_number,
+                    name,
+                    transports,
+                    count: gathered.count,
+                    device_type,
+                },
+            }
+        }
+    }
+}
+
+// The room that device information leaves in an output of this length.
+fn information_room(
+    len: usize,
+    serial_number: &[u8],
+    name: &[u8],
+    transports: &[i32],
+    device_type: &[u8],
+) -> Room
+    requires { ⌜ length (now transports) ≤ mostTransports ⌝ }
+    ensures { λ r. ⌜ r ≡ lessRoom (length (messageBytes (informationFields (now («serial_number» .entry)) (now (name .entry)) (now (transports .entry)) (now («device_type» .entry))))) (Room.Left len) ⌝ }
+{
+    Room::Left(len)
+        .less(text_len(SERIAL_NUMBER, serial_number))
+        .less(text_len(NAME, name))
+        .less(packed_len(TRANSPORTS, transports))
+        .less(text_len(DEVICE_TYPE, device_type))
+}
+
+// Device information, written from the first byte on; the answer is the place after it.
+fn put_information(
+    out: &mut [u8],
+    serial_number: &[u8],
+    name: &[u8],
+    transports: &[i32],
+    device_type: &[u8],
+) -> usize
+    requires { ⌜ (length (now transports) ≤ mostTransports) × (length (messageBytes (informationFields (now «serial_number») (now name) (now transports) (now «device_type»))) ≤ length (now out)) ⌝ }
+    ensures { λ r. ⌜ Put (now (out .entry)) 0 (messageBytes (informationFields (now («serial_number» .entry)) (now (name .entry)) (now (transports .entry)) (now («device_type» .entry)))) r (now (out .exit)) ⌝ }
+{
+    let second = put_text(out, 0, SERIAL_NUMBER, serial_number);
+    let third = put_text(out, second, NAME, name);
+    let fourth = put_packed(out, third, TRANSPORTS, transports);
+    put_text(out, fourth, DEVICE_TYPE, device_type)
+}
+
+// Writes device information.
+pub fn write_information(
+    out: &mut [u8],
+    serial_number: &[u8],
+    name: &[u8],
+    transports: &[i32],
+    device_type: &[u8],
+) -> Wrote
+    ensures { λ r. ⌜ written (toldWrote r) (now (out .exit)) ≡ informationWritten (now («serial_number» .entry)) (now (name .entry)) (now (transports .entry)) (now («device_type» .entry)) (now (out .entry)) ⌝ }
+{
+    if MOST_TRANSPORTS < transports.len() {
+        return Wrote::Refused(WriteRefusal::BadArgument);
+    }
+    match information_room(out.len(), serial_number, name, transports, device_type) {
+        Room::Short => Wrote::Refused(WriteRefusal::NoRoom),
+        Room::Left(_) => {
+            let end = put_information(out, serial_number, name, transports, device_type);
+            Wrote::Done(end)
+        }
+    }
+}

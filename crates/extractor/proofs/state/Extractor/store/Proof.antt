@@ -1,0 +1,29 @@
+use borrow.Author.Tests.{lt-ltb, le-ltb}
+use Rattle.extractor.specs.Step.{storeOf}
+use borrow.Author.Needs.{needs}
+use Rattle.extractor.proofs.state.Extractor.store.Statement.{statement}
+use Rattle.extractor.proofs.state.Extractor.store.Tie as tie
+
+slice-write-buffer : tie.Need-slice-write-buffer
+slice-write-buffer c = search needs
+
+add-t10 : tie.Need-add-t10
+add-t10 c = search needs
+
+outside-requires : tie.Need-outside-requires
+outside-requires c κs = search needs
+
+same-length : tie.Need-same-length
+same-length c = search needs
+
+returns : tie.Need-returns
+unfolding storeOf
+returns c = simp (lt-ltb _ _ (c .if1 .taken))
+
+returns-2 : tie.Need-returns-2
+unfolding storeOf
+returns-2 c = simp (le-ltb _ _ (c .before .if1 .left), c .outside .ensures)
+
+pub store-spec : {M : Type 1} → statement M
+store-spec =
+    tie.close (tie.spec slice-write-buffer add-t10 outside-requires same-length returns returns-2)

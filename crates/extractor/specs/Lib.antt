@@ -1,0 +1,4 @@
+pub mod Outcome
+pub mod State
+pub mod Action
+pub mod Step

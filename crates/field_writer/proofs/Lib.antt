@@ -1,0 +1,3 @@
+pub mod Varints
+pub mod Runs
+pub mod Messages

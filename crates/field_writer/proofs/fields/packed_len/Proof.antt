@@ -1,0 +1,39 @@
+use native.Mathlib.Omega.{arith}
+use mathlib.Core.Path.{ap, sym, _∙_}
+use mathlib.Core.List.{map}
+use lib.ListN.{length}
+use denote.Ref.{now}
+use Rattle.field.specs.Signed.{extended}
+use Rattle.field_writer.specs.Writer.{headBytes, varintsBytes}
+use Rattle.field_writer.proofs.Runs.{joined-length, packed-none, packed-some}
+use borrow.Author.Needs.{needs}
+use Rattle.field_writer.proofs.fields.packed_len.Statement.{statement}
+use Rattle.field_writer.proofs.fields.packed_len.Tie as tie
+
+returns : tie.Need-returns
+returns c = sym (ap length (packed-none (c .before .args .field) (now (c .before .args .list)) (c .if1 .taken)))
+
+varints-len-requires : tie.Need-varints-len-requires
+varints-len-requires c κs = search needs
+
+head-len-requires : tie.Need-head-len-requires
+head-len-requires c κs = search needs
+
+add-result : tie.Need-add-result
+add-result c = search needs
+
+returns-2 : tie.Need-returns-2
+returns-2 c =
+    let a = c .before .before .before .args in
+    let b = varintsBytes (map extended (now (a .list))) in
+    let n = c .before .varints-len in
+    omega (
+      arith,
+      c .head-len .ensures .0 ∙ ap (λ k. length (headBytes (a .field) k)) (n .ensures .0),
+      n .ensures .0,
+      joined-length (headBytes (a .field) (length b)) b (packed-some (a .field) (now (a .list)) (c .before .before .if1 .left)),
+    )
+
+pub packed-len-spec : {M : Type 1} → statement M
+packed-len-spec =
+    tie.close (tie.spec returns varints-len-requires head-len-requires add-result returns-2)

@@ -1,0 +1,4 @@
+pub mod Put
+pub mod Varint
+pub mod Writer
+pub mod Message

@@ -1,5 +1,0 @@
-pub mod Marks
-pub mod Sums
-pub mod States
-pub mod Onwards
-pub mod Escaping

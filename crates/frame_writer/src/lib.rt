@@ -1,0 +1,2 @@
+// The writer of Classic frames.
+pub mod writer;

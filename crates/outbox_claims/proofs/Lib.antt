@@ -1,0 +1,13 @@
+pub mod Run
+pub mod Cut
+pub mod Contents
+pub mod Append
+pub mod RecordsReturn
+pub mod CutsAreFound
+pub mod AppendsAfterCut
+pub mod AppendsAsAlone
+pub mod Moved
+pub mod ReadsAsAlone
+pub mod Stays
+pub mod VersionOne
+pub mod Instances

@@ -1,0 +1,4 @@
+pub mod Values
+pub mod Fields
+pub mod RoundTrip
+pub mod Premises

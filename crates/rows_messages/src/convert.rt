@@ -1,0 +1,278 @@
+// Control messages: what was read as rows, and what the writers are given by numbers.
+use control::envelope::EnvelopePayload;
+use control::envelope::EnvelopeRead;
+use control::envelope::Payload;
+use control::response::ResponsePayload;
+use control::response::ResponseRead;
+use device::features::FeaturesRead;
+use device::information::DeviceInformation;
+use field::Refusal;
+use field::signed::low_signed;
+use field::signed::sign_extended;
+use field_writer::message::Wrote;
+use rows::row::Count;
+use rows::row::DONE;
+use walk::gathered::MOST_TRANSPORTS;
+use walk::gathered::Verdict;
+ghost use mathlib.Core.Path.{_≡_};
+ghost use mathlib.Core.List.{map};
+ghost use Prim.Native.Nat.{_≤_};
+ghost use lib.ListN.{length, take};
+ghost use Rattle.field.specs.Refusal.{numberOf};
+ghost use Rattle.field.specs.Signed.{signedOf};
+ghost use Rattle.walk.specs.Gathered.{toldVerdict};
+ghost use Rattle.control.specs.Envelope.{toldEnvelope};
+ghost use Rattle.control.specs.Response.{toldResponse};
+ghost use Rattle.device.specs.Features.{toldFeatures};
+ghost use Rattle.field_writer.specs.Message.{toldWrote};
+ghost use Rattle.rows.specs.Row.{numberTold, countOf};
+ghost use Rattle.rows_messages.specs.Convert.{isSigned, allSigned, payloadRow, envelopeRow, responsePayloadOf, payloadFor, responseRow, partsRow, transportsRow, featuresRow};
+
+// The numbers of the answer rows.
+pub const ENVELOPE_ANSWER: usize = 6;
+
+pub const RESPONSE_ANSWER: usize = 4;
+
+pub const INFORMATION_ANSWER: usize = 15;
+
+pub const FEATURES_ANSWER: usize = 2;
+
+// The payloads of an envelope.
+const NONE: u64 = 0;
+
+const RESPONSE: u64 = 1;
+
+const MEMBER: u64 = 2;
+
+// No field has this number: of a response it says that there is no payload, and as a member's it is out of range.
+const NO_FIELD: u64 = 0;
+
+fn refusal_number(why: Refusal) -> u64
+    ensures { λ r. ⌜ r ≡ numberOf why ⌝ }
+{
+    why.number() as u64
+}
+
+// Whether a number is a signed one of 32 bits, extended to 64.
+fn is_signed(n: u64) -> bool
+    ensures { λ r. ⌜ r ≡ isSigned n ⌝ }
+{
+    sign_extended(low_signed(n)) == n
+}
+
+pub fn count_of(wrote: Wrote) -> Count
+    ensures { λ r. ⌜ r ≡ countOf (toldWrote wrote) ⌝ }
+{
+    match wrote {
+        Wrote::Done(n) => Count::of(n),
+        Wrote::Refused(why) => Count::none(why.number()),
+    }
+}
+
+// ---- the envelope
+
+pub fn envelope_number(read: EnvelopeRead) -> u64
+    ensures { λ r. ⌜ r ≡ numberTold (toldEnvelope read) ⌝ }
+{
+    match read {
+        EnvelopeRead::Read(_) => DONE,
+        EnvelopeRead::Refused(why) => refusal_number(why),
+    }
+}
+
+// What the row tells of a payload, after the command.
+fn payload_row(command: u64, payload: Payload) -> [u64; 6]
+    ensures { λ r. ⌜ r ≡ payloadRow command payload ⌝ }
+{
+    match payload {
+        Payload::None => [command, NONE, 0, 0, 0, 0],
+        Payload::Response(response) => {
+            let part = response.part;
+            [
+                command,
+                RESPONSE,
+                sign_extended(response.error_code),
+                response.field,
+                part.start as u64,
+                part.len as u64,
+            ]
+        }
+        Payload::Member { field, part } => [
+            command,
+            MEMBER,
+            0,
+            field,
+            part.start as u64,
+            part.len as u64,
+        ],
+    }
+}
+
+pub fn envelope_row(read: EnvelopeRead) -> [u64; 6]
+    ensures { λ r. ⌜ r ≡ envelopeRow (toldEnvelope read) ⌝ }
+{
+    match read {
+        EnvelopeRead::Refused(_) => [0u64; 6],
+        EnvelopeRead::Read(envelope) => {
+            let payload = envelope.payload;
+            payload_row(sign_extended(envelope.command), payload)
+        }
+    }
+}
+
+// The payload of a response: none where the field is 0, and out of range where its error code is no signed number.
+pub fn response_payload(error_code: u64, field: u64) -> ResponsePayload
+    ensures { λ r. ⌜ r ≡ responsePayloadOf «error_code» field ⌝ }
+{
+    if !is_signed(error_code) {
+        return ResponsePayload::Member(NO_FIELD);
+    }
+    if field == NO_FIELD {
+        return ResponsePayload::None;
+    }
+    ResponsePayload::Member(field)
+}
+
+// The payload of an envelope: one that is none of the three, or beside a command that is no signed number, is out of range.
+pub fn payload_for(command: u64, payload: u64, error_code: u64, field: u64) -> EnvelopePayload
+    ensures { λ r. ⌜ r ≡ payloadFor command payload «error_code» field ⌝ }
+{
+    if !is_signed(command) {
+        return EnvelopePayload::Member(NO_FIELD);
+    }
+    if payload == NONE {
+        return EnvelopePayload::None;
+    }
+    if payload == RESPONSE {
+        let within = response_payload(error_code, field);
+        return EnvelopePayload::Response {
+            error_code: low_signed(error_code),
+            payload: within,
+        };
+    }
+    if payload == MEMBER {
+        return EnvelopePayload::Member(field);
+    }
+    EnvelopePayload::Member(NO_FIELD)
+}
+
+// ---- the response
+
+pub fn response_number(read: ResponseRead) -> u64
+    ensures { λ r. ⌜ r ≡ numberTold (toldResponse read) ⌝ }
+{
+    match read {
+        ResponseRead::Read(_) => DONE,
+        ResponseRead::Refused(why) => refusal_number(why),
+    }
+}
+
+pub fn response_row(read: ResponseRead) -> [u64; 4]
+    ensures { λ r. ⌜ r ≡ responseRow (toldResponse read) ⌝ }
+{
+    match read {
+        ResponseRead::Refused(_) => [0u64; 4],
+        ResponseRead::Read(response) => {
+            let part = response.part;
+            [
+                sign_extended(response.error_code),
+                response.field,
+                part.start as u64,
+                part.len as u64,
+            ]
+        }
+    }
+}
+
+// ---- device features
+
+pub fn features_number(read: FeaturesRead) -> u64
+    ensures { λ r. ⌜ r ≡ numberTold (toldFeatures read) ⌝ }
+{
+    match read {
+        FeaturesRead::Read(_) => DONE,
+        FeaturesRead::Refused(why) => refusal_number(why),
+    }
+}
+
+pub fn features_row(read: FeaturesRead) -> [u64; 2]
+    ensures { λ r. ⌜ r ≡ featuresRow (toldFeatures read) ⌝ }
+{
+    match read {
+        FeaturesRead::Refused(_) => [0u64; 2],
+        FeaturesRead::Read(features) => [features.features, features.device_attributes],
+    }
+}
+
+// ---- device information
+
+pub fn verdict_number(verdict: Verdict) -> u64
+    ensures { λ r. ⌜ r ≡ numberTold (toldVerdict verdict) ⌝ }
+{
+    match verdict {
+        Verdict::Fine => DONE,
+        Verdict::Refused(why) => refusal_number(why),
+    }
+}
+
+// The three strings, and how many transports there are.
+pub fn parts_row(information: DeviceInformation) -> [u64; 7]
+    ensures { λ r. ⌜ r ≡ partsRow information ⌝ }
+{
+    let serial_number = information.serial_number;
+    let name = information.name;
+    let device_type = information.device_type;
+    [
+        serial_number.start as u64,
+        serial_number.len as u64,
+        name.start as u64,
+        name.len as u64,
+        device_type.start as u64,
+        device_type.len as u64,
+        information.count as u64,
+    ]
+}
+
+// The transports; 0 where there are fewer.
+pub fn transports_row(list: &[i32]) -> [u64; 8]
+    requires { ⌜ length (now list) ≡ 8 ⌝ }
+    ensures { λ r. ⌜ r ≡ transportsRow (now (list .entry)) ⌝ }
+{
+    let mut row = [0u64; 8];
+    let mut i = 0;
+    while i < MOST_TRANSPORTS {
+        let value = sign_extended(list[i]);
+        row[i] = value;
+        i += 1;
+    }
+    row
+}
+
+// Whether all numbers of a row are signed ones of 32 bits, extended to 64.
+pub fn all_signed(row: &[u64]) -> bool
+    ensures { λ r. ⌜ r ≡ allSigned (now (row .entry)) ⌝ }
+{
+    let mut i = 0;
+    while i < row.len() {
+        if !is_signed(row[i]) {
+            return false;
+        }
+        i += 1;
+    }
+    true
+}
+
+// The signed numbers of a row of at most eight.
+pub fn signed_list(row: &[u64]) -> [i32; 8]
+    requires { ⌜ length (now row) ≤ 8 ⌝ }
+    ensures { λ r. ⌜ take (length (now (row .entry))) r ≡ map signedOf (now (row .entry)) ⌝ }
+{
+    let mut list = [0i32; 8];
+    let mut i = 0;
+    while i < row.len() {
+        let value = low_signed(row[i]);
+        list[i] = value;
+        i += 1;
+    }
+    list
+}

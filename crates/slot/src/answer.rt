@@ -1,0 +1,54 @@
+// What is told of a packet that was given to the receiver.
+use packet::reader;
+use packet::reader::Head;
+use wire::stream::Stream;
+ghost use mathlib.Core.Path.{_≡_};
+ghost use Rattle.slot.specs.Answer.{numberOf};
+
+// A packet that is not refused: a piece of a transaction with more to come, its last piece, an ACK or a NACK.
+// Replaced: an open transaction of the stream was replaced.
+pub enum Accepted {
+    Taken {
+        stream: Stream,
+        id: u8,
+        replaced: bool,
+    },
+    Finished {
+        stream: Stream,
+        id: u8,
+        total: usize,
+        ack: bool,
+        replaced: bool,
+    },
+    Acked(Head),
+    Nacked(Head),
+}
+
+// BadStateOrBuffer: the lent buffer has another size, or the state is unlawful.
+pub enum Refusal {
+    BadStateOrBuffer,
+    OfPacket(reader::Refusal),
+    NoTransaction,
+    Sequence,
+    Amount,
+}
+
+impl Refusal {
+    // The number in the table of refusals.
+    pub fn number(self) -> u8
+        ensures { λ r. ⌜ r ≡ numberOf self ⌝ }
+    {
+        match self {
+            Refusal::BadStateOrBuffer => 1,
+            Refusal::OfPacket(why) => why.number(),
+            Refusal::NoTransaction => 9,
+            Refusal::Sequence => 10,
+            Refusal::Amount => 11,
+        }
+    }
+}
+
+pub enum Answer {
+    Refused(Refusal),
+    Given(Accepted),
+}

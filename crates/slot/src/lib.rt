@@ -1,0 +1,66 @@
+// The slot of a stream: idle, or open with id, total, count held and last sequence.
+pub mod answer;
+pub mod step;
+
+use packet::header;
+use wire::logic::both;
+ghost use mathlib.Core.Path.{_≡_};
+ghost use Rattle.slot.specs.Slot.{idle, openLaw, idleLaw, lawfulSlot, lawful};
+
+pub struct Slot {
+    pub opened: bool,
+    pub id: u8,
+    pub total: usize,
+    pub held: usize,
+    pub sequence: u8,
+}
+
+impl Slot {
+    pub fn idle() -> Self
+        ensures { λ r. ⌜ r ≡ idle ⌝ }
+    {
+        Slot {
+            opened: false,
+            id: 0,
+            total: 0,
+            held: 0,
+            sequence: 0,
+        }
+    }
+
+    fn open_law(self) -> bool
+        ensures { λ r. ⌜ r ≡ openLaw 4096 self ⌝ }
+    {
+        let begun = both(1 <= self.held, self.held < self.total);
+        let counts = both(self.total <= wire::MESSAGE_LIMIT, begun);
+        let low = both(self.sequence < header::FOUR_BITS, counts);
+        both(self.id < header::FOUR_BITS, low)
+    }
+
+    fn idle_law(self) -> bool
+        ensures { λ r. ⌜ r ≡ idleLaw self ⌝ }
+    {
+        let counts = both(self.total == 0, self.held == 0);
+        both(self.id == 0, both(self.sequence == 0, counts))
+    }
+
+    pub fn is_lawful(self) -> bool
+        ensures { λ r. ⌜ r ≡ lawfulSlot 4096 self ⌝ }
+    {
+        if self.opened {
+            self.open_law()
+        } else {
+            self.idle_law()
+        }
+    }
+}
+
+// Whether a state is lawful: each of its slots is.
+pub fn are_lawful(slots: [Slot; 3]) -> bool
+    ensures { λ r. ⌜ r ≡ lawful 4096 slots ⌝ }
+{
+    let control = slots[0].is_lawful();
+    let ota = slots[1].is_lawful();
+    let alexa = slots[2].is_lawful();
+    both(control, both(ota, alexa))
+}

@@ -1,0 +1,30 @@
+use Prim.Native.Nat.{ℕ}
+use mathlib.Core.Path.{_≡_, sym, _∙_}
+use mathlib.Core.List.{List, map}
+use native.Mathlib.Omega.{arith}
+use lib.ListN.{length, length-map}
+use lib.Seq.{set-out}
+use borrow.Author.Needs.{needs}
+use Rattle.walk.proofs.gathered.Gathered.with_text.Statement.{statement}
+use Rattle.walk.proofs.gathered.Gathered.with_text.Tie as tie
+
+-- an array of structs that is a field has its length at the structs' tuples
+length-mapped : {A B : Type 0} (f : A → B) (l : List A) (n : ℕ) → length (map f l) ≡ n → length l ≡ n
+length-mapped f l n e = sym (length-map l f) ∙ e
+
+mul-part : tie.Need-mul-part
+mul-part c = search needs
+
+element-set-from-part : tie.Need-element-set-from-part
+element-set-from-part c = search needs
+
+returns : tie.Need-returns
+returns c = search needs
+
+returns-2 : tie.Need-returns-2
+returns-2 c =
+    let long : length (c .before .args .self .texts) ≡ 3 = search (needs, length-mapped) in
+    rw (set-out (c .before .args .self .texts) (c .before .args .slot) (c .before .args .part) (omega arith))
+
+pub with-text-spec : {M : Type 1} → statement M
+with-text-spec = tie.close (tie.spec mul-part element-set-from-part returns returns-2)

@@ -1,0 +1,50 @@
+use mathlib.Core.Path.{ap}
+use lib.IntN.{ℤ}
+use lib.ListN.{set}
+use Prim.Native.Nat.{_+_}
+use borrow.Author.Tests.{lt-leb, le-leb}
+use Rattle.wire.specs.Told.{Told, given}
+use Rattle.field.proofs.SignedNumbers.{signed-kept}
+use Rattle.walk.specs.declared.gathered.Gathered.{Gathered}
+use Rattle.walk.specs.Gathered.{withTransport}
+use borrow.Author.Needs.{needs}
+use Rattle.walk.proofs.gathered.Gathered.with_transport.Statement.{statement}
+use Rattle.walk.proofs.gathered.Gathered.with_transport.Tie as tie
+
+low-signed-requires : tie.Need-low-signed-requires
+low-signed-requires c κs = search needs
+
+mul-transport : tie.Need-mul-transport
+mul-transport c = search needs
+
+element-set-from-transport : tie.Need-element-set-from-transport
+element-set-from-transport c = search needs
+
+add-next : tie.Need-add-next
+add-next c = search needs
+
+-- one transport more, as a number
+abbrev grown : Gathered → ℤ → Told Gathered
+grown g z =
+    given (record { scalars = g .scalars; texts = g .texts; field = g .field; part = g .part; transports = set (g .transports) (g .count) z; count = g .count + 1 })
+
+returns : tie.Need-returns
+unfolding withTransport
+returns c =
+    let a = c .before .before .args in
+    rw (lt-leb _ _ (c .before .if1 .taken)) (ap (grown (a .self)) (signed-kept _ (a .value) (c .low-signed .ensures)))
+
+returns-2 : tie.Need-returns-2
+unfolding withTransport
+returns-2 c = rw (le-leb _ _ (c .if1 .left))
+
+pub with-transport-spec : {M : Type 1} → statement M
+with-transport-spec =
+    tie.close
+    (tie.spec
+    low-signed-requires
+    mul-transport
+    element-set-from-transport
+    add-next
+    returns
+    returns-2)

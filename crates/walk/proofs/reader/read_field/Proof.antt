@@ -1,0 +1,68 @@
+use mathlib.Core.Path.{ap, sym, _∙_}
+use Rattle.field.specs.Tag.{toldTag}
+use Rattle.walk.specs.Gathered.{toldVerdict}
+use Rattle.walk.specs.Walk.{readAt}
+use borrow.Author.Needs.{needs}
+use Rattle.walk.proofs.reader.read_field.Statement.{statement}
+use Rattle.walk.proofs.reader.read_field.Tie as tie
+
+read-tag-requires : tie.Need-read-tag-requires
+read-tag-requires c κs = search needs
+
+enum-known-e : tie.Need-enum-known-e
+enum-known-e c = search needs
+
+enum-known-head : tie.Need-enum-known-head
+enum-known-head c = search needs
+
+role-of-requires : tie.Need-role-of-requires
+role-of-requires c κs = search needs
+
+judge-requires : tie.Need-judge-requires
+judge-requires c κs = search needs
+
+enum-known-e-2 : tie.Need-enum-known-e-2
+enum-known-e-2 c = search needs
+
+enum-told : tie.Need-enum-told
+enum-told c = search needs
+
+take-value-requires : tie.Need-take-value-requires
+take-value-requires c κs = search needs
+
+returns : tie.Need-returns
+unfolding readAt
+returns c = rw (sym (c .before .before .before .read-tag .ensures) ∙ ap toldTag (c .before .e .given .1))
+
+returns-2 : tie.Need-returns-2
+unfolding readAt
+returns-2 c =
+    rw (
+      sym (c .before .before .before .before .before .before .before .before .read-tag .ensures) ∙ ap toldTag (c .before .before .before .before .before .before .head .given .1),
+      sym (rw (c .before .before .before .before .role-of .ensures) at (c .before .before .before .judge .ensures)) ∙ ap toldVerdict (c .before .e2 .given .1),
+    )
+
+returns-3 : tie.Need-returns-3
+unfolding readAt
+returns-3 c =
+    rw (
+      sym (c .before .before .before .before .before .before .before .before .read-tag .ensures) ∙ ap toldTag (c .before .before .before .before .before .before .head .given .1),
+      sym (rw (c .before .before .before .before .role-of .ensures) at (c .before .before .before .judge .ensures)) ∙ ap toldVerdict (c .before .enum-told .given .1),
+    )
+    (rw (c .before .before .before .before .role-of .ensures) at (c .take-value .ensures))
+
+pub read-field-spec : {M : Type 1} → statement M
+read-field-spec =
+    tie.close
+    (tie.spec
+    read-tag-requires
+    enum-known-e
+    enum-known-head
+    role-of-requires
+    judge-requires
+    enum-known-e-2
+    enum-told
+    take-value-requires
+    returns
+    returns-2
+    returns-3)

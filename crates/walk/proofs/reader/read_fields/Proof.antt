@@ -1,0 +1,253 @@
+use Prim.Native.Nat.{ℕ, _-_, _<_}
+use mathlib.Core.Path.{_≡_, refl, ap, sym, _∙_}
+use mathlib.Core.List.{List}
+use native.Mathlib.Omega.{arith}
+use borrow.Author.Needs.{needs}
+use lib.ListN.{length}
+use denote.Ref.{now}
+use Rattle.wire.specs.Told.{Told, given, refused, andThen}
+use Rattle.walk.specs.declared.gathered.Gathered.{Gathered}
+use Rattle.walk.specs.declared.gathered.Kept.{Kept}
+use Rattle.walk.specs.declared.gathered.Verdict.{Verdict}
+use Rattle.walk.specs.declared.schema.Schema.{Schema}
+use Rattle.walk.specs.declared.reader.Added.{Added}
+use Rattle.walk.specs.Gathered.{judgedAs, toldKept}
+use Rattle.walk.specs.Walk.{walk, placed, fieldAt, fieldsFrom, withAdded, readAt, toldField}
+use Rattle.walk.proofs.Walks.{Walks, walk-end, walk-stop, walks-next}
+use Rattle.walk.proofs.Steps.{field-by, field-forward, packed-within}
+use Rattle.walk.proofs.reader.read_fields.Statement.{statement}
+use Rattle.walk.proofs.reader.read_fields.Tie as tie
+
+abbrev Inv-loop : tie.InvT-loop
+Inv-loop schema message from so-far₀ at₀ so-far at = Walks (fieldAt schema) message (fieldsFrom schema message from) at so-far
+
+abbrev μ-loop : tie.MeasureT-loop
+μ-loop schema message from so-far₀ at₀ so-far at = length message - at
+
+nothing-requires : tie.Need-nothing-requires Inv-loop μ-loop
+nothing-requires c κs = search needs
+
+loop-holds : tie.Need-loop-holds Inv-loop μ-loop
+unfolding fieldsFrom
+loop-holds c =
+    let a = c .before .before .args in
+    record { fuel = length (a .message .now); enough = omega arith; same = ap (walk (fieldAt (a .schema)) (length (a .message .now)) (a .message .now) (a .from)) (sym (c .nothing .ensures)) }
+
+-- what a call kept, by its verdict
+kept-told : (k : Kept) {r : Told Gathered} {v : Verdict} → toldKept k ≡ r → k .verdict ≡ v → r ≡ judgedAs v (k .gathered)
+kept-told k t e = sym t ∙ ap (λ j. judgedAs j (k .gathered)) e
+
+-- where a field is refused, all of them are
+halted : (c : tie.In-loop Inv-loop μ-loop) (n : ℕ) → let a = c .before .before .before .before .args in
+    fieldAt (a .schema) (now (a .message)) (c .before .loop .at) (c .before .loop .so-far) ≡ refused n → fieldsFrom (a .schema) (now (a .message)) (a .from) ≡ refused n
+halted c n e =
+    let l = c .before .loop in
+    l .inv .same ∙ walk-stop (fieldAt (c .before .before .before .before .args .schema)) _ (l .at) (l .so-far) (c .loop-test .taken) (l .inv .fuel) (l .inv .enough) n e
+
+read-field-requires : tie.Need-read-field-requires Inv-loop μ-loop
+read-field-requires c κs = search needs
+
+enum-known-e : tie.Need-enum-known-e Inv-loop μ-loop
+enum-known-e c = search needs
+
+stop-requires : tie.Need-stop-requires Inv-loop μ-loop
+stop-requires c κs = search needs
+
+returns : tie.Need-returns Inv-loop μ-loop
+returns c =
+    let a = c .before .before .before .before .before .before .before .before .before .args in
+    let l = c .before .before .before .before .before .before .loop in
+    ap toldKept (c .stop .ensures)
+    ∙ sym (halted (c .before .before .before .before .before) _ (field-by (a .schema) _ (l .at) (l .so-far) (sym (c .before .before .before .before .read-field .ensures) ∙ ap toldField (c .before .before .e .given .1))))
+
+enum-known-added : tie.Need-enum-known-added Inv-loop μ-loop
+enum-known-added c = search needs
+
+-- the field of a turn: where it stands, what was gathered before it, what it adds, and where it ends
+module _ (c : tie.After-known-told2 Inv-loop μ-loop) where
+  abbrev schema : Schema
+  schema = c .before .before .before .before .before .before .before .before .args .schema
+
+  abbrev message : List ℕ
+  message = now (c .before .before .before .before .before .before .before .before .args .message)
+
+  abbrev at : ℕ
+  at = c .before .before .before .before .before .loop .at
+
+  abbrev so-far : Gathered
+  so-far = c .before .before .before .before .before .loop .so-far
+
+  abbrev added : Added
+  added = c .before .added .given .0 .0
+
+  abbrev next : ℕ
+  next = c .before .added .given .0 .1 .0
+
+  read : {a : Added} → added ≡ a → readAt schema message at (so-far .field) ≡ given (a, next)
+  read e = sym (c .before .before .before .read-field .ensures) ∙ ap toldField (c .before .added .given .1) ∙ ap (λ a. given (a, next)) e
+
+  went : {a : Added} → added ≡ a → {r : Told Gathered} → withAdded message a so-far ≡ r → fieldAt schema message at so-far ≡ andThen r (placed next)
+  went e w = field-by schema message at so-far (read e) ∙ ap (λ r. andThen r (placed next)) w
+
+  -- the turn, where the field leaves g
+  turn : {a : Added} → added ≡ a → (g : Gathered) → withAdded message a so-far ≡ given g
+      → Walks (fieldAt schema) message (fieldsFrom schema message (c .before .before .before .before .before .before .before .before .args .from)) next g × (length message - next < length message - at)
+  turn e g w =
+      let inside = c .before .before .before .before .loop-test .taken in
+      let w = went e w in
+      (walks-next (fieldAt schema) (field-forward schema) (g, next) (c .before .before .before .before .before .loop .inv) inside w, omega (arith, inside, field-forward schema message at so-far (g, next) w))
+
+enum-told : tie.Need-enum-told Inv-loop μ-loop
+enum-told c = search needs
+
+enum-known-added-2 : tie.Need-enum-known-added-2 Inv-loop μ-loop
+enum-known-added-2 c = search needs
+
+with-scalar-requires : tie.Need-with-scalar-requires Inv-loop μ-loop
+with-scalar-requires c κs = search needs
+
+enum-known-added-3 : tie.Need-enum-known-added-3 Inv-loop μ-loop
+enum-known-added-3 c = search needs
+
+with-text-requires : tie.Need-with-text-requires Inv-loop μ-loop
+with-text-requires c κs = search needs
+
+enum-known-added-4 : tie.Need-enum-known-added-4 Inv-loop μ-loop
+enum-known-added-4 c = search needs
+
+with-member-requires : tie.Need-with-member-requires Inv-loop μ-loop
+with-member-requires c κs = search needs
+
+enum-known-added-5 : tie.Need-enum-known-added-5 Inv-loop μ-loop
+enum-known-added-5 c = search needs
+
+with-transport-requires : tie.Need-with-transport-requires Inv-loop μ-loop
+with-transport-requires c κs = search needs
+
+enum-known-verdict : tie.Need-enum-known-verdict Inv-loop μ-loop
+enum-known-verdict c = search needs
+
+stop-requires-2 : tie.Need-stop-requires-2 Inv-loop μ-loop
+stop-requires-2 c κs = search needs
+
+returns-2 : tie.Need-returns-2 Inv-loop μ-loop
+returns-2 c =
+    ap toldKept (c .stop2 .ensures)
+    ∙ sym (halted (c .before .before .before .before .before .before .before .before .before .before .before .before .before) _ (went (c .before .before .before .before .before .before .before .before .before) (c .before .before .before .before .before .before .before .added5 .given .1) (kept-told (c .before .before .before .before .before .with-transport .result) (c .before .before .before .before .before .with-transport .ensures) (c .before .before .verdict .given .1))))
+
+enum-told-2 : tie.Need-enum-told-2 Inv-loop μ-loop
+enum-told-2 c = search needs
+
+enum-known-added-6 : tie.Need-enum-known-added-6 Inv-loop μ-loop
+enum-known-added-6 c = search needs
+
+keep-packed-requires : tie.Need-keep-packed-requires Inv-loop μ-loop
+keep-packed-requires c κs =
+    let a = c .before .before .before .before .before .before .before .before .before .before .before .args in
+    let l = c .before .before .before .before .before .before .before .before .loop in
+    packed-within (a .schema) _ (l .at) (l .so-far .field) _ _ (read (c .before .before .before) (c .before .added6 .given .1))
+
+enum-known-verdict-2 : tie.Need-enum-known-verdict-2 Inv-loop μ-loop
+enum-known-verdict-2 c = search needs
+
+stop-requires-3 : tie.Need-stop-requires-3 Inv-loop μ-loop
+stop-requires-3 c κs = search needs
+
+returns-3 : tie.Need-returns-3 Inv-loop μ-loop
+returns-3 c =
+    ap toldKept (c .stop3 .ensures)
+    ∙ sym (halted (c .before .before .before .before .before .before .before .before .before .before .before .before .before) _ (went (c .before .before .before .before .before .before .before .before .before) (c .before .before .before .before .before .before .before .added6 .given .1) (kept-told (c .before .before .before .before .before .keep-packed .result) (c .before .before .before .before .before .keep-packed .ensures) (c .before .before .verdict2 .given .1))))
+
+enum-told-3 : tie.Need-enum-told-3 Inv-loop μ-loop
+enum-told-3 c = search needs
+
+loop-less : tie.Need-loop-less Inv-loop μ-loop
+loop-less c = turn (c .before .before) (c .enum-told .given .1) _ refl .1
+
+loop-again : tie.Need-loop-again Inv-loop μ-loop
+loop-again c = turn (c .before .before) (c .enum-told .given .1) _ refl .0
+
+loop-less-2 : tie.Need-loop-less-2 Inv-loop μ-loop
+loop-less-2 c = turn (c .before .before .before .before) (c .before .before .added2 .given .1) _ (ap given (sym (c .with-scalar .ensures))) .1
+
+loop-again-2 : tie.Need-loop-again-2 Inv-loop μ-loop
+loop-again-2 c = turn (c .before .before .before .before) (c .before .before .added2 .given .1) _ (ap given (sym (c .with-scalar .ensures))) .0
+
+loop-less-3 : tie.Need-loop-less-3 Inv-loop μ-loop
+loop-less-3 c = turn (c .before .before .before .before) (c .before .before .added3 .given .1) _ (ap given (sym (c .with-text .ensures))) .1
+
+loop-again-3 : tie.Need-loop-again-3 Inv-loop μ-loop
+loop-again-3 c = turn (c .before .before .before .before) (c .before .before .added3 .given .1) _ (ap given (sym (c .with-text .ensures))) .0
+
+loop-less-4 : tie.Need-loop-less-4 Inv-loop μ-loop
+loop-less-4 c = turn (c .before .before .before .before) (c .before .before .added4 .given .1) _ (ap given (sym (c .with-member .ensures))) .1
+
+loop-again-4 : tie.Need-loop-again-4 Inv-loop μ-loop
+loop-again-4 c = turn (c .before .before .before .before) (c .before .before .added4 .given .1) _ (ap given (sym (c .with-member .ensures))) .0
+
+loop-less-5 : tie.Need-loop-less-5 Inv-loop μ-loop
+loop-less-5 c = turn (c .before .before .before .before .before .before .before) (c .before .before .before .before .before .added5 .given .1) _ (kept-told (c .before .before .before .with-transport .result) (c .before .before .before .with-transport .ensures) (c .enum-told2 .given .1)) .1
+
+loop-again-5 : tie.Need-loop-again-5 Inv-loop μ-loop
+loop-again-5 c = turn (c .before .before .before .before .before .before .before) (c .before .before .before .before .before .added5 .given .1) _ (kept-told (c .before .before .before .with-transport .result) (c .before .before .before .with-transport .ensures) (c .enum-told2 .given .1)) .0
+
+loop-less-6 : tie.Need-loop-less-6 Inv-loop μ-loop
+loop-less-6 c = turn (c .before .before .before .before .before .before .before) (c .before .before .before .before .before .added6 .given .1) _ (kept-told (c .before .before .before .keep-packed .result) (c .before .before .before .keep-packed .ensures) (c .enum-told3 .given .1)) .1
+
+loop-again-6 : tie.Need-loop-again-6 Inv-loop μ-loop
+loop-again-6 c = turn (c .before .before .before .before .before .before .before) (c .before .before .before .before .before .added6 .given .1) _ (kept-told (c .before .before .before .keep-packed .result) (c .before .before .before .keep-packed .ensures) (c .enum-told3 .given .1)) .0
+
+fine-requires : tie.Need-fine-requires Inv-loop μ-loop
+fine-requires c κs = search needs
+
+returns-4 : tie.Need-returns-4 Inv-loop μ-loop
+returns-4 c =
+    let l = c .before .before .loop in
+    ap toldKept (c .fine .ensures) ∙ sym (l .inv .same ∙ walk-end (fieldAt (c .before .before .before .before .before .args .schema)) (l .inv .fuel) _ (l .at) (l .so-far) (c .before .loop-test .left))
+
+pub read-fields-spec : {M : Type 1} → statement M
+read-fields-spec =
+    tie.close
+    (tie.spec
+    Inv-loop
+    μ-loop
+    nothing-requires
+    loop-holds
+    read-field-requires
+    enum-known-e
+    stop-requires
+    returns
+    enum-known-added
+    enum-told
+    enum-known-added-2
+    with-scalar-requires
+    enum-known-added-3
+    with-text-requires
+    enum-known-added-4
+    with-member-requires
+    enum-known-added-5
+    with-transport-requires
+    enum-known-verdict
+    stop-requires-2
+    returns-2
+    enum-told-2
+    enum-known-added-6
+    keep-packed-requires
+    enum-known-verdict-2
+    stop-requires-3
+    returns-3
+    enum-told-3
+    loop-less
+    loop-again
+    loop-less-2
+    loop-again-2
+    loop-less-3
+    loop-again-3
+    loop-less-4
+    loop-again-4
+    loop-less-5
+    loop-again-5
+    loop-less-6
+    loop-again-6
+    fine-requires
+    returns-4)

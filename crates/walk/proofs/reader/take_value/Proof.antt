@@ -1,0 +1,40 @@
+use mathlib.Core.Path.{ap, sym, _∙_}
+use Rattle.wire.specs.Told.{given}
+use Rattle.field.specs.Value.{toldValue}
+use Rattle.walk.specs.Walk.{addedAt}
+use borrow.Author.Needs.{needs}
+use Rattle.walk.proofs.reader.take_value.Statement.{statement}
+use Rattle.walk.proofs.reader.take_value.Tie as tie
+
+read-value-requires : tie.Need-read-value-requires
+read-value-requires c κs = search needs
+
+enum-known-e : tie.Need-enum-known-e
+enum-known-e c = search needs
+
+enum-known-value : tie.Need-enum-known-value
+enum-known-value c = search needs
+
+value-added-requires : tie.Need-value-added-requires
+value-added-requires c κs = search needs
+
+returns : tie.Need-returns
+unfolding addedAt
+returns c = rw (sym (c .before .before .before .read-value .ensures) ∙ ap toldValue (c .before .e .given .1))
+
+returns-2 : tie.Need-returns-2
+unfolding addedAt
+returns-2 c =
+    rw (sym (c .before .before .before .before .read-value .ensures) ∙ ap toldValue (c .before .before .value .given .1))
+    (ap (λ a. given (a, c .before .before .value .given .0 .1 .0)) (c .value-added .ensures))
+
+pub take-value-spec : {M : Type 1} → statement M
+take-value-spec =
+    tie.close
+    (tie.spec
+    read-value-requires
+    enum-known-e
+    enum-known-value
+    value-added-requires
+    returns
+    returns-2)

@@ -1,0 +1,56 @@
+use borrow.Author.Needs.{needs}
+use Rattle.walk.proofs.schema.role_of.Statement.{statement}
+use Rattle.walk.proofs.schema.role_of.Tie as tie
+
+enum-told : tie.Need-enum-told
+enum-told c = search needs
+
+envelope-role-requires : tie.Need-envelope-role-requires
+envelope-role-requires c κs = search needs
+
+enum-told-2 : tie.Need-enum-told-2
+enum-told-2 c = search needs
+
+response-role-requires : tie.Need-response-role-requires
+response-role-requires c κs = search needs
+
+enum-told-3 : tie.Need-enum-told-3
+enum-told-3 c = search needs
+
+information-role-requires : tie.Need-information-role-requires
+information-role-requires c κs = search needs
+
+enum-told-4 : tie.Need-enum-told-4
+enum-told-4 c = search needs
+
+features-role-requires : tie.Need-features-role-requires
+features-role-requires c κs = search needs
+
+returns : tie.Need-returns
+returns c = rw (c .before .enum-told .given .1) (c .envelope-role .ensures)
+
+returns-2 : tie.Need-returns-2
+returns-2 c = rw (c .before .enum-told2 .given .1) (c .response-role .ensures)
+
+returns-3 : tie.Need-returns-3
+returns-3 c = rw (c .before .enum-told3 .given .1) (c .information-role .ensures)
+
+returns-4 : tie.Need-returns-4
+returns-4 c = rw (c .before .enum-told4 .given .1) (c .features-role .ensures)
+
+pub role-of-spec : {M : Type 1} → statement M
+role-of-spec =
+    tie.close
+    (tie.spec
+    enum-told
+    envelope-role-requires
+    enum-told-2
+    response-role-requires
+    enum-told-3
+    information-role-requires
+    enum-told-4
+    features-role-requires
+    returns
+    returns-2
+    returns-3
+    returns-4)

@@ -1,0 +1,62 @@
+-- What is gathered of a message, field by field.
+use Prim.Native.Nat.{ℕ, _+_}
+use mathlib.Core.List.{List, [], _∷_}
+use lib.ListN.{set, replicate}
+use lib.IntN.{pos}
+use lib.Dec.{leb}
+use Rattle.wire.specs.Told.{Told, given, refused, line, table}
+use Rattle.field.specs.Refusal.{numberOf}
+use Rattle.field.specs.Signed.{signedOf}
+use Rattle.field.specs.declared.value.Part.{Part}
+use Rattle.walk.specs.declared.gathered.Gathered.{Gathered}
+use Rattle.walk.specs.declared.gathered.Verdict.{Verdict}
+use Rattle.walk.specs.declared.gathered.Verdict.the-variants.{Fine, Refused}
+use Rattle.walk.specs.declared.gathered.Kept.{Kept}
+
+-- the most transports
+abbrev pub mostTransports : ℕ
+mostTransports = 8
+
+-- an absent part
+abbrev pub noPart : Part
+noPart = record { start = 0; len = 0 }
+
+-- nothing gathered yet: absent scalars are 0, absent strings empty, and field 0 is no member
+abbrev pub nothing : Gathered
+nothing =
+    record { scalars = replicate 2 0; texts = replicate 3 noPart; field = 0; part = noPart; transports = replicate mostTransports (pos 0); count = 0 }
+
+-- all parts that were gathered
+abbrev pub partsGathered : Gathered → List Part
+partsGathered g = g .part ∷ g .texts
+
+-- a scalar, a string: the last one counts
+abbrev pub withScalar : ℕ → ℕ → Gathered → Gathered
+withScalar slot v g =
+    record { scalars = set (g .scalars) slot v; texts = g .texts; field = g .field; part = g .part; transports = g .transports; count = g .count }
+
+abbrev pub withText : ℕ → Part → Gathered → Gathered
+withText slot p g =
+    record { scalars = g .scalars; texts = set (g .texts) slot p; field = g .field; part = g .part; transports = g .transports; count = g .count }
+
+-- the member
+abbrev pub withMember : ℕ → Part → Gathered → Gathered
+withMember field p g =
+    record { scalars = g .scalars; texts = g .texts; field = field; part = p; transports = g .transports; count = g .count }
+
+-- one transport more: the ninth is 34
+unfoldable pub withTransport : ℕ → Gathered → Told Gathered
+withTransport v g =
+    table (line 34 (leb mostTransports (g .count)) ∷ []) refused
+    (given (record { scalars = g .scalars; texts = g .texts; field = g .field; part = g .part; transports = set (g .transports) (g .count) (signedOf v); count = g .count + 1 }))
+
+-- a verdict on a, by the numbers
+abbrev pub judgedAs : {A : Type 0} → Verdict → A → Told A
+judgedAs Fine a = given a
+judgedAs (Refused e) a = refused (numberOf e)
+
+abbrev pub toldVerdict : Verdict → Told (Unit {0})
+toldVerdict v = judgedAs v tt
+
+abbrev pub toldKept : Kept → Told Gathered
+toldKept k = judgedAs (k .verdict) (k .gathered)

@@ -1,0 +1,3 @@
+pub mod Schema
+pub mod Gathered
+pub mod Walk

@@ -1,0 +1,107 @@
+-- The walk over the fields of a message, whichever it is.
+use Prim.Native.Nat.{ℕ, zero, suc, _+_}
+use mathlib.Core.Bool.{cond, _&&_, not}
+use mathlib.Core.List.{List, [], _∷_}
+use lib.ListN.{length, take}
+use lib.Dec.{leb, eqb}
+use Rattle.wire.specs.Told.{Told, given, refused, andThen, line, table}
+use Rattle.field.specs.Refusal.{numberOf}
+use Rattle.field.specs.Varint.{varintAt}
+use Rattle.field.specs.Tag.{tagAt}
+use Rattle.field.specs.Value.{valueAt}
+use Rattle.field.specs.declared.value.Part.{Part}
+use Rattle.field.specs.declared.value.Value.{Value}
+use Rattle.field.specs.declared.value.Value.the-variants.{Number, Bytes, Skipped}
+use Rattle.walk.specs.declared.schema.Schema.{Schema}
+use Rattle.walk.specs.declared.schema.Role.{Role}
+use Rattle.walk.specs.declared.schema.Role.the-variants.{Scalar, Text, Transports, Nested, Member, Unknown}
+use Rattle.walk.specs.declared.gathered.Gathered.{Gathered}
+use Rattle.walk.specs.declared.reader.EntryRead.{EntryRead}
+use Rattle.walk.specs.declared.reader.Added.{Added}
+use Rattle.walk.specs.declared.reader.Added.the-variants as Added
+use Rattle.walk.specs.declared.reader.FieldRead.{FieldRead}
+use Rattle.walk.specs.declared.reader.FieldRead.the-variants as FieldRead
+use Rattle.walk.specs.Schema.{roleOf, fitsRole, isMember}
+use Rattle.walk.specs.Gathered.{nothing, withScalar, withText, withMember, withTransport, judgedAs}
+
+-- steps from a place to the end of the bytes, each one with the place after it; fuel bounds their number, and as many as there are bytes is enough
+abbrev pub walk : (List ℕ → ℕ → Gathered → Told (Gathered × ℕ)) → ℕ → List ℕ → ℕ → Gathered → Told Gathered
+walk step zero s at g = given g
+walk step (suc fuel) s at g =
+    cond (leb (length s) at) (given g) (andThen (step s at g) (λ q. walk step fuel s (q .1) (q .0)))
+
+-- what was gathered, with the place after it
+abbrev pub placed : ℕ → Gathered → Told (Gathered × ℕ)
+placed n g = given (g, n)
+
+-- one entry of a packed list
+unfoldable pub entryAt : List ℕ → ℕ → Gathered → Told (Gathered × ℕ)
+entryAt s at g = andThen (varintAt s at) (λ p. andThen (withTransport (p .0) g) (placed (p .1)))
+
+-- the entries of a packed list, from a place to the end
+unfoldable pub packedFrom : List ℕ → ℕ → Gathered → Told Gathered
+packedFrom s at g = walk entryAt (length s) s at g
+
+-- a tag by its role: 33 for a known field with another wire type, 34 for a second member
+unfoldable pub judged : Role → ℕ → ℕ → Told (Unit {0})
+judged role wire member =
+    table (line 33 (not (fitsRole role wire)) ∷ line 34 (isMember role wire && not (eqb member 0)) ∷ []) refused (given tt)
+
+-- what a number, a part of the message and a value add
+abbrev pub numberAdded : Role → ℕ → Added
+numberAdded (Scalar slot) v = Added.Scalar slot v
+numberAdded (Text slot) v = Added.Nothing
+numberAdded Transports v = Added.Transport v
+numberAdded Nested v = Added.Nothing
+numberAdded Member v = Added.Nothing
+numberAdded Unknown v = Added.Nothing
+
+abbrev pub partAdded : Role → ℕ → Part → Added
+partAdded (Scalar slot) field p = Added.Nothing
+partAdded (Text slot) field p = Added.Text slot p
+partAdded Transports field p = Added.Packed p
+partAdded Nested field p = Added.Member field p
+partAdded Member field p = Added.Member field p
+partAdded Unknown field p = Added.Nothing
+
+abbrev pub valueAdded : Role → ℕ → Value → Added
+valueAdded role field (Number v) = numberAdded role v
+valueAdded role field (Bytes p) = partAdded role field p
+valueAdded role field Skipped = Added.Nothing
+
+-- what a field whose tag was judged adds, and the place after it
+unfoldable pub addedAt : List ℕ → ℕ → ℕ → Role → ℕ → Told (Added × ℕ)
+addedAt s at wire role field = andThen (valueAt s at wire) (λ v. given (valueAdded role field (v .0), v .1))
+
+-- what a field adds, and the place after it: its tag, its tag by its role, then its value
+unfoldable pub readAt : Schema → List ℕ → ℕ → ℕ → Told (Added × ℕ)
+readAt schema s at member =
+    andThen (tagAt s at) (λ h.
+    andThen (judged (roleOf schema (h .field)) (h .wire) member) (λ _.
+    addedAt s (h .next) (h .wire) (roleOf schema (h .field)) (h .field)))
+
+-- what was gathered with what a field adds: a packed list is read within its part
+abbrev pub withAdded : List ℕ → Added → Gathered → Told Gathered
+withAdded s Added.Nothing g = given g
+withAdded s (Added.Scalar slot v) g = given (withScalar slot v g)
+withAdded s (Added.Text slot p) g = given (withText slot p g)
+withAdded s (Added.Member field p) g = given (withMember field p g)
+withAdded s (Added.Transport v) g = withTransport v g
+withAdded s (Added.Packed p) g = packedFrom (take (p .start + p .len) s) (p .start) g
+
+-- one field: what it adds, and what was gathered with that
+unfoldable pub fieldAt : Schema → List ℕ → ℕ → Gathered → Told (Gathered × ℕ)
+fieldAt schema s at g = andThen (readAt schema s at (g .field)) (λ a. andThen (withAdded s (a .0) g) (placed (a .1)))
+
+-- the fields of a message, from a place to the end
+unfoldable pub fieldsFrom : Schema → List ℕ → ℕ → Told Gathered
+fieldsFrom schema s at = walk (fieldAt schema) (length s) s at nothing
+
+-- the answers of read_entry
+abbrev pub toldEntry : EntryRead → Told (Gathered × ℕ)
+toldEntry r = judgedAs (r .verdict) (r .gathered, r .next)
+
+-- the answers of take_value and read_field
+abbrev pub toldField : FieldRead → Told (Added × ℕ)
+toldField (FieldRead.Read a n) = given (a, n)
+toldField (FieldRead.Refused e) = refused (numberOf e)

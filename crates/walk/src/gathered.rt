@@ -1,0 +1,109 @@
+// What is gathered of a message, field by field.
+use crate::schema::FIRST;
+use crate::schema::SECOND;
+use field::Refusal;
+use field::signed::low_signed;
+use field::value::Part;
+ghost use mathlib.Core.Path.{_≡_};
+ghost use Rattle.walk.specs.Gathered.{nothing, withScalar, withText, withMember, withTransport, toldKept};
+
+// The most transports that are read and written.
+pub const MOST_TRANSPORTS: usize = 8;
+// The strings that a message can have.
+const TEXTS: usize = 3;
+
+pub struct Gathered {
+    pub scalars: [u64; 2],
+    pub texts: [Part; 3],
+    // The member's field and part. Field 0 is no member.
+    pub field: u64,
+    pub part: Part,
+    pub transports: [i32; 8],
+    pub count: usize,
+}
+
+pub enum Verdict {
+    Fine,
+    Refused(Refusal),
+}
+
+// What was gathered stands beside the verdict: an enum cannot hold an array.
+pub struct Kept {
+    pub verdict: Verdict,
+    pub gathered: Gathered,
+}
+
+impl Gathered {
+    // Nothing yet: scalars are 0, and parts are empty.
+    pub(crate) fn nothing() -> Gathered
+        ensures { λ r. ⌜ r ≡ nothing ⌝ }
+    {
+        let none = Part { start: 0, len: 0 };
+        Gathered {
+            scalars: [0u64; 2],
+            texts: [none; 3],
+            field: 0,
+            part: none,
+            transports: [0i32; 8],
+            count: 0,
+        }
+    }
+
+    // A scalar: the last one counts. The places are written out: a store at a computed one copies all that is gathered.
+    pub(crate) fn with_scalar(self, slot: usize, value: u64) -> Gathered
+        ensures { λ r. ⌜ r ≡ withScalar slot value self ⌝ }
+    {
+        let mut next = self;
+        if slot == FIRST {
+            next.scalars[FIRST] = value;
+            return next;
+        }
+        if slot == SECOND {
+            next.scalars[SECOND] = value;
+            return next;
+        }
+        next
+    }
+
+    // A string: the last one counts.
+    pub(crate) fn with_text(self, slot: usize, part: Part) -> Gathered
+        ensures { λ r. ⌜ r ≡ withText slot part self ⌝ }
+    {
+        let mut next = self;
+        if slot < TEXTS {
+            next.texts[slot] = part;
+        }
+        next
+    }
+
+    // The member.
+    pub(crate) fn with_member(self, field: u64, part: Part) -> Gathered
+        ensures { λ r. ⌜ r ≡ withMember field part self ⌝ }
+    {
+        let mut next = self;
+        next.field = field;
+        next.part = part;
+        next
+    }
+
+    // One transport more, unless there are too many.
+    pub(crate) fn with_transport(self, value: u64) -> Kept
+        ensures { λ r. ⌜ toldKept r ≡ withTransport value self ⌝ }
+    {
+        let n = self.count;
+        if n < MOST_TRANSPORTS {
+            let transport = low_signed(value);
+            let mut next = self;
+            next.transports[n] = transport;
+            next.count = n + 1;
+            return Kept {
+                verdict: Verdict::Fine,
+                gathered: next,
+            };
+        }
+        Kept {
+            verdict: Verdict::Refused(Refusal::TooMany),
+            gathered: self,
+        }
+    }
+}

@@ -1,0 +1,249 @@
+// The reader of fields, for every message.
+use crate::gathered::Gathered;
+use crate::gathered::Kept;
+use crate::gathered::Verdict;
+use crate::schema::Role;
+use crate::schema::Schema;
+use crate::schema::fits_role;
+use crate::schema::is_member;
+use crate::schema::role_of;
+use field::Refusal;
+use field::tag::Tag;
+use field::tag::read_tag;
+use field::value::Part;
+use field::value::Value;
+use field::value::ValueRead;
+use field::value::read_value;
+use field::varint::Varint;
+use field::varint::read_varint;
+ghost use mathlib.Core.Path.{_≡_};
+ghost use Prim.Native.Nat.{_+_, _≤_};
+ghost use lib.ListN.{length, take};
+ghost use Rattle.walk.specs.Gathered.{toldKept, toldVerdict};
+ghost use Rattle.walk.specs.Walk.{entryAt, packedFrom, judged, numberAdded, partAdded, valueAdded, addedAt, readAt, fieldsFrom, toldEntry, toldField};
+
+// What was gathered, and the place after what was read.
+pub struct EntryRead {
+    pub verdict: Verdict,
+    pub gathered: Gathered,
+    pub next: usize,
+}
+
+// What a field adds to what is gathered.
+pub enum Added {
+    Nothing,
+    Scalar { slot: usize, value: u64 },
+    Text { slot: usize, part: Part },
+    Member { field: u64, part: Part },
+    Transport(u64),
+    // A packed list of transports.
+    Packed(Part),
+}
+
+// What a field adds and the place after it, or why there is none.
+pub enum FieldRead {
+    Read { added: Added, next: usize },
+    Refused(Refusal),
+}
+
+// Whether a field of this role and wire type may stand here; member is the member's field so far.
+fn judge(role: Role, wire: u64, member: u64) -> Verdict
+    ensures { λ r. ⌜ toldVerdict r ≡ judged role wire member ⌝ }
+{
+    if !fits_role(role, wire) {
+        return Verdict::Refused(Refusal::WrongType);
+    }
+    if wire::logic::both(is_member(role, wire), member != 0) {
+        return Verdict::Refused(Refusal::TooMany);
+    }
+    Verdict::Fine
+}
+
+// One entry of a packed list.
+fn read_entry(message: &[u8], at: usize, gathered: Gathered) -> EntryRead
+    ensures { λ r. ⌜ toldEntry r ≡ entryAt (now (message .entry)) at gathered ⌝ }
+{
+    match read_varint(message, at) {
+        Varint::Refused(e) => EntryRead {
+            verdict: Verdict::Refused(e),
+            gathered,
+            next: at,
+        },
+        Varint::Value { value, next } => {
+            let kept = gathered.with_transport(value);
+            let verdict = kept.verdict;
+            let grown = kept.gathered;
+            EntryRead {
+                verdict,
+                gathered: grown,
+                next,
+            }
+        }
+    }
+}
+
+// The entries of a packed list, from a place to the end.
+fn read_packed(message: &[u8], from: usize, gathered: Gathered) -> Kept
+    ensures { λ r. ⌜ toldKept r ≡ packedFrom (now (message .entry)) from gathered ⌝ }
+{
+    let mut so_far = gathered;
+    let mut at = from;
+    while at < message.len() {
+        let moved = read_entry(message, at, so_far);
+        let verdict = moved.verdict;
+        match verdict {
+            Verdict::Refused(e) => {
+                return Kept {
+                    verdict: Verdict::Refused(e),
+                    gathered: so_far,
+                };
+            }
+            Verdict::Fine => {
+                let grown = moved.gathered;
+                so_far = grown;
+                at = moved.next;
+            }
+        }
+    }
+    Kept {
+        verdict: Verdict::Fine,
+        gathered: so_far,
+    }
+}
+
+// The packed list in a part of the message.
+fn keep_packed(message: &[u8], gathered: Gathered, part: Part) -> Kept
+    requires { ⌜ part .start + part .len ≤ length (now message) ⌝ }
+    ensures { λ r. ⌜ toldKept r ≡ packedFrom (take (part .start + part .len) (now (message .entry))) (part .start) gathered ⌝ }
+{
+    let start = part.start;
+    let end = start + part.len;
+    read_packed(&message[..end], start, gathered)
+}
+
+// What a number adds.
+fn number_added(role: Role, value: u64) -> Added
+    ensures { λ r. ⌜ r ≡ numberAdded role value ⌝ }
+{
+    match role {
+        Role::Scalar(slot) => Added::Scalar { slot, value },
+        Role::Text(_) => Added::Nothing,
+        Role::Transports => Added::Transport(value),
+        Role::Nested => Added::Nothing,
+        Role::Member => Added::Nothing,
+        Role::Unknown => Added::Nothing,
+    }
+}
+
+// What a part of the message adds.
+fn part_added(role: Role, field: u64, part: Part) -> Added
+    ensures { λ r. ⌜ r ≡ partAdded role field part ⌝ }
+{
+    match role {
+        Role::Scalar(_) => Added::Nothing,
+        Role::Text(slot) => Added::Text { slot, part },
+        Role::Transports => Added::Packed(part),
+        Role::Nested => Added::Member { field, part },
+        Role::Member => Added::Member { field, part },
+        Role::Unknown => Added::Nothing,
+    }
+}
+
+// What a value adds.
+fn value_added(role: Role, field: u64, value: Value) -> Added
+    ensures { λ r. ⌜ r ≡ valueAdded role field value ⌝ }
+{
+    match value {
+        Value::Number(n) => number_added(role, n),
+        Value::Bytes(part) => part_added(role, field, part),
+        Value::Skipped => Added::Nothing,
+    }
+}
+
+// The value of a field whose tag was judged.
+fn take_value(message: &[u8], at: usize, wire: u64, role: Role, field: u64) -> FieldRead
+    ensures { λ r. ⌜ toldField r ≡ addedAt (now (message .entry)) at wire role field ⌝ }
+{
+    match read_value(message, at, wire) {
+        ValueRead::Refused(e) => FieldRead::Refused(e),
+        ValueRead::Read { value, next } => {
+            let added = value_added(role, field, value);
+            FieldRead::Read { added, next }
+        }
+    }
+}
+
+// One field: its tag is judged, then its value is read; member is the member's field so far.
+fn read_field(schema: Schema, message: &[u8], at: usize, member: u64) -> FieldRead
+    ensures { λ r. ⌜ toldField r ≡ readAt schema (now (message .entry)) at member ⌝ }
+{
+    match read_tag(message, at) {
+        Tag::Refused(e) => FieldRead::Refused(e),
+        Tag::Tagged(head) => {
+            let role = role_of(schema, head.field);
+            match judge(role, head.wire, member) {
+                Verdict::Refused(e) => FieldRead::Refused(e),
+                Verdict::Fine => take_value(message, head.next, head.wire, role, head.field),
+            }
+        }
+    }
+}
+
+fn fine(gathered: Gathered) -> Kept
+    ensures { λ r. ⌜ r ≡ record { verdict = Verdict.Fine; gathered = gathered } ⌝ }
+{
+    Kept {
+        verdict: Verdict::Fine,
+        gathered,
+    }
+}
+
+fn stop(e: Refusal, gathered: Gathered) -> Kept
+    ensures { λ r. ⌜ r ≡ record { verdict = Verdict.Refused e; gathered = gathered } ⌝ }
+{
+    Kept {
+        verdict: Verdict::Refused(e),
+        gathered,
+    }
+}
+
+// The fields from a place to the end. What each one adds is kept here, so that what is gathered stays in its place.
+pub fn read_fields(schema: Schema, message: &[u8], from: usize) -> Kept
+    ensures { λ r. ⌜ toldKept r ≡ fieldsFrom schema (now (message .entry)) from ⌝ }
+{
+    let mut so_far = Gathered::nothing();
+    let mut at = from;
+    while at < message.len() {
+        match read_field(schema, message, at, so_far.field) {
+            FieldRead::Refused(e) => return stop(e, so_far),
+            FieldRead::Read { added, next } => {
+                match added {
+                    Added::Nothing => {}
+                    Added::Scalar { slot, value } => so_far = so_far.with_scalar(slot, value),
+                    Added::Text { slot, part } => so_far = so_far.with_text(slot, part),
+                    Added::Member { field, part } => so_far = so_far.with_member(field, part),
+                    Added::Transport(value) => {
+                        let kept = so_far.with_transport(value);
+                        let verdict = kept.verdict;
+                        let grown = kept.gathered;
+                        so_far = grown;
+                        if let Verdict::Refused(e) = verdict {
+                            return stop(e, so_far);
+                        }
+                    }
+                    Added::Packed(part) => {
+                        let kept = keep_packed(message, so_far, part);
+                        let verdict = kept.verdict;
+                        let grown = kept.gathered;
+                        so_far = grown;
+                        if let Verdict::Refused(e) = verdict {
+                            return stop(e, so_far);
+                        }
+                    }
+                }
+                at = next;
+            }
+        }
+    }
+    fine(so_far)
+}

@@ -1,0 +1,166 @@
+//! The functions of pitokaenge.h for Rust: the archive that `rt staticlib capi` writes. A slice passes as a pointer and
+//! then a length. tools/check_interface holds this file to the header and to the library's sources.
+
+#[link(name = "capi", kind = "static")]
+extern "C" {
+    pub fn pito_extractor_step(
+        state: *mut u64,
+        state_len: usize,
+        buffer: *mut u8,
+        buffer_len: usize,
+        byte: u8,
+        answer: *mut u64,
+        answer_len: usize,
+    ) -> u64;
+    pub fn pito_extractor_feed(
+        state: *mut u64,
+        state_len: usize,
+        buffer: *mut u8,
+        buffer_len: usize,
+        bytes: *const u8,
+        bytes_len: usize,
+        answer: *mut u64,
+        answer_len: usize,
+    ) -> u64;
+    pub fn pito_frame_write(
+        sequence: u64,
+        payload: *const u8,
+        payload_len: usize,
+        output: *mut u8,
+        output_len: usize,
+        answer: *mut u64,
+        answer_len: usize,
+    ) -> u64;
+    pub fn pito_next_sequence(sequence: u8, answer: *mut u64, answer_len: usize) -> u64;
+    pub fn pito_packet_write(
+        room: u64,
+        stream: u64,
+        id: u64,
+        sequence: u64,
+        ack: u64,
+        message: *const u8,
+        message_len: usize,
+        place: u64,
+        output: *mut u8,
+        output_len: usize,
+        answer: *mut u64,
+        answer_len: usize,
+    ) -> u64;
+    pub fn pito_ack_write(
+        stream: u64,
+        id: u64,
+        sequence: u64,
+        positive: u64,
+        output: *mut u8,
+        output_len: usize,
+        answer: *mut u64,
+        answer_len: usize,
+    ) -> u64;
+    pub fn pito_receiver_accept(
+        state: *mut u64,
+        state_len: usize,
+        buffer: *mut u8,
+        buffer_len: usize,
+        packet: *const u8,
+        packet_len: usize,
+        answer: *mut u64,
+        answer_len: usize,
+    ) -> u64;
+    pub fn pito_envelope_read(
+        message: *const u8,
+        message_len: usize,
+        answer: *mut u64,
+        answer_len: usize,
+    ) -> u64;
+    pub fn pito_envelope_write(
+        command: u64,
+        payload: u64,
+        error_code: u64,
+        field: u64,
+        bytes: *const u8,
+        bytes_len: usize,
+        output: *mut u8,
+        output_len: usize,
+        answer: *mut u64,
+        answer_len: usize,
+    ) -> u64;
+    pub fn pito_response_read(
+        message: *const u8,
+        message_len: usize,
+        answer: *mut u64,
+        answer_len: usize,
+    ) -> u64;
+    pub fn pito_response_write(
+        error_code: u64,
+        field: u64,
+        bytes: *const u8,
+        bytes_len: usize,
+        output: *mut u8,
+        output_len: usize,
+        answer: *mut u64,
+        answer_len: usize,
+    ) -> u64;
+    pub fn pito_information_read(
+        message: *const u8,
+        message_len: usize,
+        answer: *mut u64,
+        answer_len: usize,
+    ) -> u64;
+    pub fn pito_information_write(
+        serial_number: *const u8,
+        serial_number_len: usize,
+        name: *const u8,
+        name_len: usize,
+        device_type: *const u8,
+        device_type_len: usize,
+        transports: *const u64,
+        transports_len: usize,
+        output: *mut u8,
+        output_len: usize,
+        answer: *mut u64,
+        answer_len: usize,
+    ) -> u64;
+    pub fn pito_features_read(
+        message: *const u8,
+        message_len: usize,
+        answer: *mut u64,
+        answer_len: usize,
+    ) -> u64;
+    pub fn pito_features_write(
+        features: u64,
+        device_attributes: u64,
+        output: *mut u8,
+        output_len: usize,
+        answer: *mut u64,
+        answer_len: usize,
+    ) -> u64;
+    pub fn pito_outbox_new(
+        output: *mut u8,
+        output_len: usize,
+        answer: *mut u64,
+        answer_len: usize,
+    ) -> u64;
+    pub fn pito_outbox_append(
+        buffer: *mut u8,
+        buffer_len: usize,
+        used: u64,
+        stream: u64,
+        payload: *const u8,
+        payload_len: usize,
+        answer: *mut u64,
+        answer_len: usize,
+    ) -> u64;
+    pub fn pito_outbox_record(
+        bytes: *const u8,
+        bytes_len: usize,
+        place: u64,
+        answer: *mut u64,
+        answer_len: usize,
+    ) -> u64;
+    pub fn pito_outbox_whole(
+        bytes: *const u8,
+        bytes_len: usize,
+        answer: *mut u64,
+        answer_len: usize,
+    ) -> u64;
+}
