@@ -167,8 +167,8 @@ PITO_CALL uint64_t pito_next_sequence(uint8_t sequence, uint64_t *answer, size_t
  * Writes one packet of a message: the one whose piece begins at the place, first in the output. Begin at place 0 and
  * go on at the next place that each call tells, with all other arguments the same, until the next place is
  * message_len (an empty message has one packet).
- *   room      the largest whole packet in bytes, 20 to 512: the link's ATT_MTU less 3, which ATT itself takes; the
- *             output has at least this size
+ *   room      the largest whole packet in bytes, 20 to 512: the link's ATT_MTU less 3, which ATT itself takes, but at
+ *             most 512; the output has at least this size
  *   stream    0, 2 or 6
  *   id        the transaction's, 0 to 15
  *   sequence  the first packet's, 0 to 15; each later packet has the next one by itself

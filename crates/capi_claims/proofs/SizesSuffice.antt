@@ -1,18 +1,19 @@
 -- With the sizes that the header names every writer takes what is in its range.
-use Prim.Native.Nat.{ℕ, _/_, _%_, _≤_, _<_}
-use mathlib.Core.Path.{_≡_, refl}
+use Prim.Native.Nat.{ℕ, _+_, _-_, _/_, _%_, _≤_, _<_}
+use mathlib.Core.Path.{_≡_, refl, ap}
+use mathlib.Core.Logic.{inl, inr}
 use mathlib.Core.Bool.{Bool, true, false, not, _||_}
 use mathlib.Core.List.{List, [], _∷_, map}
 use native.Mathlib.Omega.{arith}
 use lib.IntN.{ℤ}
-use lib.ListN.{length, length-append, length-map}
+use lib.ListN.{length, take, length-append, length-map}
 use lib.Seq.{sets}
-use lib.Dec.{eqb, ltb, leb}
-use borrow.Author.Tests.{eq-eqb, lt-ltb, le-ltb, leb-true}
+use lib.Dec.{eqb, ltb}
+use borrow.Author.Tests.{eq-eqb, ne-eqb, lt-ltb, le-ltb, le-leb}
 use Rattle.wire.specs.Told.{Written, line, writes}
-use Rattle.wire.proofs.Tests.{and-right}
+use Rattle.wire.proofs.Streams.{known-stream}
 use Rattle.field.specs.Signed.{signedOf, extended}
-use Rattle.field.specs.Tag.{varintType, lengthType}
+use Rattle.field.specs.Tag.{varintType, lengthType, lastField}
 use Rattle.field_writer.specs.Writer.{Field, messageBytes}
 use Rattle.framing.specs.Mark.{startMark, isMark}
 use Rattle.framing.specs.Frame.{frameOf, checksumOf}
@@ -20,8 +21,8 @@ use Rattle.frame_writer.specs.Writer.{writeOf}
 use Rattle.frame_writer.proofs.Escaping.{frame-most}
 use Rattle.packet.specs.Header.{inRange}
 use Rattle.packet.specs.Control.{ackSize, ackBytes}
+use Rattle.packet.proofs.Headers.{in-range}
 use Rattle.acknowledgement.specs.Acknowledgement.{ackOf}
-use Rattle.sender.specs.declared.writer.Sending.{Sending}
 use Rattle.sender.specs.Piece.{leastRoom, largestRoom}
 use Rattle.sender.specs.Writer.{foundAt, begins, argumentsFit, writtenOf, roomFits}
 use Rattle.control.specs.declared.envelope.EnvelopePayload.{EnvelopePayload}
@@ -31,21 +32,28 @@ use Rattle.control.specs.declared.response.ResponsePayload.the-variants as with
 use Rattle.device.specs.declared.features.DeviceFeatures.{DeviceFeatures}
 use Rattle.walk.specs.Gathered.{mostTransports}
 use Rattle.walk.specs.Schema.{commandField, responseField, errorCodeField, serialNumberField, nameField, transportsField, deviceTypeField, featuresField, deviceAttributesField}
-use Rattle.field_writer.specs.Message.{writesMessage}
+use Rattle.field_writer.specs.Message.{writesMessage, badMember}
 use Rattle.control.specs.Envelope.{badPayload, envelopeFields, envelopeWritten}
 use Rattle.control.specs.Response.{badResponsePayload, responseFields, responseWritten}
 use Rattle.device.specs.Information.{informationFields, informationWritten}
 use Rattle.device.specs.Features.{featuresFields, featuresWritten}
-use Rattle.outbox.specs.Writer.{newOf}
+use Rattle.outbox.specs.Format.{versionOne, recordBytes}
+use Rattle.outbox.specs.Reader as outbox
+use Rattle.outbox.specs.Reader.{walkOf}
+use Rattle.outbox.specs.Writer.{newOf, badRecord, appendOf}
+use Rattle.outbox.proofs.Stored.{length-record}
+use Rattle.round_trips.specs.Premises.{Number32, Numbers32}
+use Rattle.round_trips.proofs.Premises.{signed}
+use Rattle.round_trips.proofs.Values.{signed-trip}
 use Rattle.rows.specs.Row.{numberTold, byteOr, outOfRange}
 use Rattle.rows.specs.Called.{Called, ifFit, writerCall}
 use Rattle.calls_classic.specs.Calls.{frameWriteOf}
-use Rattle.calls_sending.specs.Convert.{streamWith}
+use Rattle.calls_sending.specs.Convert.{streamWith, sendingOf}
 use Rattle.calls_sending.specs.Calls.{packetWriteOf, ackWriteOf}
-use Rattle.rows_messages.specs.Convert.{allSigned, responsePayloadOf}
+use Rattle.rows_messages.specs.Convert.{isSigned, allSigned, responsePayloadOf, payloadFor}
 use Rattle.calls_messages.specs.Calls.{envelopeWriteOf, responseWriteOf, informationWriteOf, featuresWriteOf}
-use Rattle.calls_outbox.specs.Calls.{outboxNewOf}
-use Rattle.capi_claims.specs.SizesSuffice.{Done, SizesSuffice, frameSize, envelopeSize, responseSize, informationSize, featuresSize}
+use Rattle.calls_outbox.specs.Calls.{outboxNewOf, outboxAppendOf}
+use Rattle.capi_claims.specs.SizesSuffice.{Done, StreamNumber, MemberNumber, PayloadField, SizesSuffice, frameSize, envelopeSize, responseSize, informationSize, featuresSize, recordSize}
 use Rattle.capi_claims.proofs.Sizes.{scalar-most, text-most, nested-most, packed-most, tag-most, tag-small}
 
 -- an answer row of the right length
@@ -85,29 +93,48 @@ frame-done limit sequence payload out answer l b m n h =
     (rw (m, le-ltb limit (length payload) n))
     (omega (arith, frame-most sequence payload (checksumOf payload / 256) (checksumOf payload % 256)))))
 
-room-most : (room : ℕ) → roomFits room ≡ true → room ≤ largestRoom
-unfolding roomFits
-room-most room e = leb-true room largestRoom (and-right (leb leastRoom room) _ e)
+stream-byte : (n : ℕ) → StreamNumber n → n < 256
+stream-byte n (inl e) = omega arith
+stream-byte n (inr (inl e)) = omega arith
+stream-byte n (inr (inr e)) = omega arith
 
-packet-done : (limit : ℕ) (how : Sending) (place : ℕ) (message out answer : List ℕ) → length answer ≡ 2
-    → roomFits (how .room) ≡ true → argumentsFit limit how (length message) ≡ true → begins (foundAt how (length message) place) ≡ true
-    → largestRoom ≤ length out
-    → Done (packetWriteOf limit how message place out answer)
-unfolding packetWriteOf writtenOf
-packet-done limit how place message out answer l r a b h =
-    let small : how .room ≤ length out = omega (arith, room-most (how .room) r) in
-    fit-done 2 [] out answer _ l (rw (r, a, b, le-ltb (length out) (how .room) small))
+-- a wish of 0 or 1 leaves the stream as it is
+stream-with : (wish stream : ℕ) → wish ≤ 1 → StreamNumber stream → streamWith wish stream ≡ stream
+unfolding streamWith
+stream-with wish stream w s = rw (lt-ltb wish 2 (omega arith)) (byte-is outOfRange stream (stream-byte stream s))
+
+args-fit : (stream id sequence ack : ℕ) → StreamNumber stream → id ≤ 15 → sequence ≤ 15 → ack ≤ 1
+    → inRange (streamWith ack stream) (byteOr outOfRange id) (byteOr outOfRange sequence) ≡ true
+args-fit stream id sequence ack s i q a =
+    rw (stream-with ack stream a s, byte-is outOfRange id (omega arith), byte-is outOfRange sequence (omega arith))
+    (in-range stream id sequence s i q)
+
+packet-done : (limit room stream id sequence ack place : ℕ) (message out answer : List ℕ) → length answer ≡ 2
+    → 20 ≤ room → room ≤ 512 → StreamNumber stream → id ≤ 15 → sequence ≤ 15 → ack ≤ 1 → length message ≤ limit
+    → begins (foundAt (sendingOf room stream id sequence ack) (length message) place) ≡ true → largestRoom ≤ length out
+    → Done (packetWriteOf limit (sendingOf room stream id sequence ack) message place out answer)
+unfolding packetWriteOf writtenOf sendingOf roomFits argumentsFit
+packet-done limit room stream id sequence ack place message out answer l low high s i q a m b h =
+    fit-done 2 [] out answer _ l
+    (rw (
+      le-leb leastRoom room (omega arith),
+      le-leb room largestRoom (omega arith),
+      args-fit stream id sequence ack s i q a,
+      le-leb (length message) limit m,
+      b,
+      le-ltb (length out) room (omega arith),
+    ))
 
 ack-done : (stream id sequence positive : ℕ) (out answer : List ℕ) → length answer ≡ 1
-    → inRange (streamWith positive stream) (byteOr outOfRange id) (byteOr outOfRange sequence) ≡ true → ackSize ≤ length out
+    → StreamNumber stream → id ≤ 15 → sequence ≤ 15 → positive ≤ 1 → ackSize ≤ length out
     → Done (ackWriteOf stream id sequence positive out answer)
 unfolding ackWriteOf ackOf
-ack-done stream id sequence positive out answer l r h =
-    let s = streamWith positive stream in
-    let i = byteOr outOfRange id in
-    let q = byteOr outOfRange sequence in
-    writer-done out answer (ackOf s i q (eqb positive 1) out) l
-    (done-two (not (inRange s i q)) ackSize out ackSize (sets out 0 (ackBytes s i q (eqb positive 1))) (rw r) h)
+ack-done stream id sequence positive out answer l s i q p h =
+    let known = streamWith positive stream in
+    let low = byteOr outOfRange id in
+    let next = byteOr outOfRange sequence in
+    writer-done out answer (ackOf known low next (eqb positive 1) out) l
+    (done-two (not (inRange known low next)) ackSize out ackSize (sets out 0 (ackBytes known low next (eqb positive 1))) (rw (args-fit stream id sequence positive s i q p)) h)
 
 -- ---- messages
 
@@ -131,22 +158,71 @@ envelope-most command (envelope.Member field) bytes =
     rw (length-append, length-append)
     (omega (arith, scalar-most commandField command, tag-small commandField varintType refl, nested-most field bytes, tag-most field lengthType))
 
-envelope-done : (command : ℕ) (payload : EnvelopePayload) (bytes out answer : List ℕ) → length answer ≡ 1
+is-signed : (z : ℤ) → Number32 z → isSigned (extended z) ≡ true
+unfolding isSigned
+is-signed z h = eq-eqb _ _ (ap extended (signed-trip z (signed z h)))
+
+all-are-signed : (zs : List ℤ) → Numbers32 zs → allSigned (map extended zs) ≡ true
+unfolding allSigned
+all-are-signed [] h = refl
+all-are-signed (z ∷ zs) h = rw (is-signed z (h .0), all-are-signed zs (h .1))
+
+member-fine : (field : ℕ) → MemberNumber field → badMember field ≡ false
+member-fine field h = rw (le-ltb field 2 (h .0), le-ltb lastField field (h .1))
+
+payload-fine : (code : ℤ) (field : ℕ) → Number32 code → PayloadField field → badResponsePayload (responsePayloadOf (extended code) field) ≡ false
+unfolding responsePayloadOf
+payload-fine code field h (inl e) = rw (is-signed code h, e)
+payload-fine code field h (inr m) = rw (is-signed code h, ne-eqb field 0 (λ e. absurd (omega (arith, m .0, e)))) (member-fine field m)
+
+envelope-by : (command : ℕ) (payload : EnvelopePayload) (bytes out answer : List ℕ) → length answer ≡ 1
     → badPayload payload ≡ false → envelopeSize (length bytes) ≤ length out
     → Done (envelopeWriteOf command payload bytes out answer)
 unfolding envelopeWriteOf envelopeWritten
-envelope-done command payload bytes out answer l b h =
+envelope-by command payload bytes out answer l b h =
     message-done (badPayload payload) (envelopeFields (extended (signedOf command)) payload bytes) out answer l b
     (omega (arith, envelope-most (extended (signedOf command)) payload bytes))
 
-response-done : (code field : ℕ) (bytes out answer : List ℕ) → length answer ≡ 1
-    → badResponsePayload (responsePayloadOf code field) ≡ false → responseSize (length bytes) ≤ length out
-    → Done (responseWriteOf code field bytes out answer)
+none-fine : (command : ℤ) (code field : ℕ) → Number32 command → badPayload (payloadFor (extended command) 0 code field) ≡ false
+unfolding payloadFor
+none-fine command code field c = rw (is-signed command c)
+
+envelope-none : (command : ℤ) (code field : ℕ) (bytes out answer : List ℕ) → length answer ≡ 1
+    → Number32 command → envelopeSize (length bytes) ≤ length out
+    → Done (envelopeWriteOf (extended command) (payloadFor (extended command) 0 code field) bytes out answer)
+envelope-none command code field bytes out answer l c h =
+    envelope-by (extended command) _ bytes out answer l (none-fine command code field c) h
+
+response-fine : (command code : ℤ) (field : ℕ) → Number32 command → Number32 code → PayloadField field
+    → badPayload (payloadFor (extended command) 1 (extended code) field) ≡ false
+unfolding payloadFor
+response-fine command code field c k f = rw (is-signed command c) (payload-fine code field k f)
+
+envelope-response : (command code : ℤ) (field : ℕ) (bytes out answer : List ℕ) → length answer ≡ 1
+    → Number32 command → Number32 code → PayloadField field → envelopeSize (length bytes) ≤ length out
+    → Done (envelopeWriteOf (extended command) (payloadFor (extended command) 1 (extended code) field) bytes out answer)
+envelope-response command code field bytes out answer l c k f h =
+    envelope-by (extended command) _ bytes out answer l (response-fine command code field c k f) h
+
+other-fine : (command : ℤ) (code field : ℕ) → Number32 command → MemberNumber field → (field ≡ 9 → ⊥)
+    → badPayload (payloadFor (extended command) 2 code field) ≡ false
+unfolding payloadFor
+other-fine command code field c m other = rw (is-signed command c, member-fine field m, ne-eqb field responseField other)
+
+envelope-member : (command : ℤ) (code field : ℕ) (bytes out answer : List ℕ) → length answer ≡ 1
+    → Number32 command → MemberNumber field → (field ≡ 9 → ⊥) → envelopeSize (length bytes) ≤ length out
+    → Done (envelopeWriteOf (extended command) (payloadFor (extended command) 2 code field) bytes out answer)
+envelope-member command code field bytes out answer l c m other h =
+    envelope-by (extended command) _ bytes out answer l (other-fine command code field c m other) h
+
+response-done : (code : ℤ) (field : ℕ) (bytes out answer : List ℕ) → length answer ≡ 1
+    → Number32 code → PayloadField field → responseSize (length bytes) ≤ length out
+    → Done (responseWriteOf (extended code) field bytes out answer)
 unfolding responseWriteOf responseWritten
-response-done code field bytes out answer l b h =
-    let payload = responsePayloadOf code field in
-    message-done (badResponsePayload payload) (responseFields (extended (signedOf code)) payload bytes) out answer l b
-    (omega (arith, response-most (extended (signedOf code)) payload bytes))
+response-done code field bytes out answer l c f h =
+    let payload = responsePayloadOf (extended code) field in
+    message-done (badResponsePayload payload) (responseFields (extended (signedOf (extended code))) payload bytes) out answer l (payload-fine code field c f)
+    (omega (arith, response-most (extended (signedOf (extended code))) payload bytes))
 
 features-most : (f : DeviceFeatures) → length (messageBytes (featuresFields f)) ≤ featuresSize
 features-most f =
@@ -183,15 +259,15 @@ information-most serialNumber name transports deviceType h =
       tag-small deviceTypeField lengthType refl,
     ))
 
-information-done : (serialNumber name deviceType transports out answer : List ℕ) → length answer ≡ 1
-    → allSigned transports ≡ true → length transports ≤ mostTransports
+information-done : (serialNumber name deviceType : List ℕ) (transports : List ℤ) (out answer : List ℕ) → length answer ≡ 1
+    → Numbers32 transports → length transports ≤ 8
     → informationSize (length serialNumber) (length name) (length deviceType) ≤ length out
-    → Done (informationWriteOf serialNumber name deviceType transports out answer)
+    → Done (informationWriteOf serialNumber name deviceType (map extended transports) out answer)
 unfolding informationWriteOf informationWritten
 information-done serialNumber name deviceType transports out answer l e few h =
-    let listed = map signedOf transports in
-    let most : length listed ≤ mostTransports = rw (length-map transports signedOf) few in
-    rw e
+    let listed = map signedOf (map extended transports) in
+    let most : length listed ≤ mostTransports = rw (length-map (map extended transports) signedOf, length-map transports extended) few in
+    rw (all-are-signed transports e)
     (message-done (ltb mostTransports (length listed)) (informationFields serialNumber name listed deviceType) out answer l
     (le-ltb mostTransports (length listed) most) (omega (arith, information-most serialNumber name listed deviceType most)))
 
@@ -199,14 +275,34 @@ new-done : (limit : ℕ) (out answer : List ℕ) → length answer ≡ 1 → 1 �
 unfolding outboxNewOf newOf
 new-done limit out answer l h = fit-done 1 [] out answer _ l (rw (le-ltb (length out) 1 h))
 
+append-done : (limit used stream : ℕ) (buffer payload answer : List ℕ) → length answer ≡ 2
+    → walkOf (versionOne limit) (take used buffer) ≡ outbox.given tt
+    → StreamNumber stream → length payload ≤ limit → used + recordSize (length payload) ≤ length buffer
+    → Done (outboxAppendOf limit buffer used stream payload answer)
+unfolding outboxAppendOf appendOf badRecord
+append-done limit used stream buffer payload answer l whole s short room =
+    let fmt = versionOne limit in
+    fit-done 2 [] buffer answer _ l
+    (rw (
+      byte-is outOfRange stream (stream-byte stream s),
+      le-ltb (length buffer) used (omega arith),
+      known-stream stream s,
+      le-ltb limit (length payload) short,
+      le-ltb (length buffer - used) (length (recordBytes fmt stream payload)) (rw length-record (omega arith)),
+      whole,
+    ))
+
 pub sizes-suffice : SizesSuffice
 sizes-suffice = record {
   frame-write = frame-done;
   packet-write = packet-done;
   ack-write = ack-done;
-  envelope-write = envelope-done;
+  envelope-none = envelope-none;
+  envelope-response = envelope-response;
+  envelope-member = envelope-member;
   response-write = response-done;
   information-write = information-done;
   features-write = features-done;
   outbox-new = new-done;
+  outbox-append = append-done;
 }

@@ -9,7 +9,7 @@ use lib.Seq.{sets, length-take-le, take-append-seam, getD-drop, getD-take, drop-
 use lib.Dec.{eqb}
 use borrow.Author.Tests.{eqb-true}
 use Rattle.wire.proofs.Stores.{sets-step, sets-end}
-use Rattle.outbox.specs.Format.{Format, headSize, firstPlace}
+use Rattle.outbox.specs.Format.{Format, versionOne, headSize, firstPlace}
 use Rattle.outbox.specs.Reader.{Answer, Handed, given, refused, refusedAt, otherVersion, readAll, firstRefusal, walkOf}
 use Rattle.outbox_claims.specs.Claims.{usable, recordsOf, allMoved, fromPlace, ReadsAsAlone}
 use Rattle.outbox.proofs.Record.{clash}
@@ -116,8 +116,29 @@ further fmt part enough unfinished = by-run (all-run fmt part version) (walk-is 
         let after = found-within fmt part 1 f (omega arith) e .0 in
         rw walked (omega (arith, run-usable fmt part r .0))
 
+-- at the last part a cut record ends it too
+ends-last : (b : Bool) → not (b && not true) ≡ true
+ends-last true = refl
+ends-last false = refl
+
+last : (fmt : Format) (part : List ℕ) → listedOf fmt true part .over ≡ true
+unfolding listedOf
+last fmt part = by-walk (walkOf fmt part)
+  where
+    by-walk : (w : Answer (Unit {0})) → isOver true w ≡ true
+    by-walk (given whole) = refl
+    by-walk (refused n) = refl
+    by-walk (refusedAt n p) = ends-last (eqb n 41)
+
 pub lists-as-whole : ListsAsWhole
-lists-as-whole = record { over = over; goes-on = goes-on; further = further }
+lists-as-whole =
+    record {
+      over = over;
+      goes-on = goes-on;
+      further = further;
+      full = λ part size unfinished. further (versionOne 4096) part (omega (arith, size)) unfinished;
+      last = last;
+    }
 
 -- moving the bytes of a part, byte by byte: what is left to store, and that it is not stored over
 pub record Moving (buffer : List ℕ) (place held : ℕ) (now : List ℕ) (i : ℕ) : Type 0 where

@@ -6,7 +6,7 @@ use mathlib.Core.List.{List, _++_}
 use lib.Dec.{eqb}
 use lib.ListN.{length, take, drop}
 use lib.Seq.{sets}
-use Rattle.outbox.specs.Format.{Format, headSize, firstPlace}
+use Rattle.outbox.specs.Format.{Format, versionOne, headSize, firstPlace}
 use Rattle.outbox.specs.Reader.{Answer, given, refused, refusedAt, readAll, walkOf}
 use Rattle.outbox_claims.specs.Claims.{usable, recordsOf, allMoved, fromPlace}
 use Rattle.listing.specs.declared.Listed.{Listed}
@@ -55,3 +55,8 @@ pub record ListsAsWhole : Type 0 where
   -- .. and with room for the longest record that place is beyond the first record's
   pub further : (fmt : Format) (part : List ℕ) → firstPlace + (headSize fmt + fmt .limit) ≤ length part → listedOf fmt false part .over ≡ false
       → firstPlace < listedOf fmt false part .place
+  -- a full buffer has that room
+  pub full : (part : List ℕ) → length part ≡ bufferSize → listedOf (versionOne 4096) false part .over ≡ false
+      → firstPlace < listedOf (versionOne 4096) false part .place
+  -- the last part ends the listing
+  pub last : (fmt : Format) (part : List ℕ) → listedOf fmt true part .over ≡ true

@@ -20,7 +20,7 @@ use Rattle.device.specs.Features.{featuresOf, featuresWritten}
 use Rattle.round_trips.specs.RoundTrip.{AllSigned32}
 use Rattle.round_trips.specs.Premises.{Number32, Numbers32, ResponsesTaken, EnvelopesTaken, InformationTaken, FeaturesTaken, OneOfEach}
 
-signed : (z : ℤ) → Number32 z → SFits w32 z
+pub signed : (z : ℤ) → Number32 z → SFits w32 z
 signed (pos n) h = record { sfits = omega arith }
 signed (negsuc n) h = record { sfits = omega arith }
 
