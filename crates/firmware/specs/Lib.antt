@@ -1,0 +1,5 @@
+pub mod Segment
+pub mod Component
+pub mod Information
+pub mod Apply
+pub mod Worked

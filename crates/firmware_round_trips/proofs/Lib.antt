@@ -1,0 +1,5 @@
+pub mod Segments
+pub mod Components
+pub mod Applies
+pub mod Told
+pub mod Premises
