@@ -1,9 +1,9 @@
 // Firmware messages for C, read and written, and the reader of any field.
 use field::unsigned::low_unsigned;
 use firmware::apply::read_apply;
-use firmware::apply::write_apply;
 use firmware::segment::read_segment;
-use firmware::segment::write_segment;
+use firmware_writer::apply::write_apply;
+use firmware_writer::segment::write_segment;
 use rows::row::BAD_ARGUMENT;
 use rows::row::COUNT_ANSWER;
 use rows::row::Count;

@@ -37,9 +37,10 @@ use Rattle.device.specs.Information.{informationFields, informationWritten}
 use Rattle.device.specs.Features.{featuresFields, featuresWritten}
 use Rattle.field.specs.Unsigned.{unsignedOf}
 use Rattle.firmware.specs.declared.apply.ApplyFirmware.{ApplyFirmware}
-use Rattle.firmware.specs.Segment.{brokenField, segmentFields, segmentWritten}
-use Rattle.firmware.specs.Information.{badFirmware}
-use Rattle.firmware.specs.Apply.{applyFields, applyWritten}
+use Rattle.firmware.specs.Segment.{brokenField}
+use Rattle.firmware_writer.specs.Segment.{segmentFields, segmentWritten}
+use Rattle.firmware_writer.specs.Information.{badFirmware}
+use Rattle.firmware_writer.specs.Apply.{applyFields, applyWritten}
 use Rattle.outbox.specs.Format.{versionOne, newBytes, recordBytes}
 use Rattle.outbox.specs.Reader.{Answer, walkOf}
 use Rattle.outbox.specs.Reader as outbox

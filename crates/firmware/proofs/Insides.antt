@@ -1,4 +1,4 @@
--- Laws of what is told of ApplyFirmware: what each step of reading gives, that all parts lie within the message, and that there are at most eight components.
+-- Laws of what is told of ApplyFirmware: all parts lie within the message, and there are at most eight components.
 use Prim.Native.Nat.{ℕ, zero, suc, _+_, _≤_, zero-le}
 use mathlib.Core.Path.{_≡_, refl, ap}
 use mathlib.Core.List.{List, [], _∷_}
@@ -23,8 +23,9 @@ use Rattle.firmware.specs.declared.information.FirmwareInformation.{Firm
 use Rattle.firmware.specs.declared.apply.ApplyFirmware.{ApplyFirmware}
 use Rattle.firmware.specs.declared.apply.ApplyRead.{ApplyRead}
 use Rattle.firmware.specs.Component.{noComponent, componentFrom, componentParts}
-use Rattle.firmware.specs.Information.{partsFrom, componentIn, componentsIn, componentsFrom, firmwareMade, firmwareFrom, withFirmware, ownParts, Each}
-use Rattle.firmware.specs.Apply.{isTrue, firmwareIn, applyOf, toldApply, withApply, Inside}
+use Rattle.firmware.specs.Information.{partsFrom, componentIn, componentsIn, componentsFrom, firmwareFrom, ownParts, Each}
+use Rattle.firmware.proofs.Steps.{component-cut}
+use Rattle.firmware.specs.Apply.{firmwareIn, applyOf, toldApply, withApply, Inside}
 
 -- ---- what was gathered
 pub record Gathers (s : List ℕ) (g : Gathered) : Type 0 where
@@ -57,11 +58,11 @@ component-within s at =
     (λ g w. (text-within s g first w, (text-within s g second w, tt)))
 
 component-in-within : (s : List ℕ) (p : Part) → Sat (λ (c : FirmwareComponent). Within s (componentParts c)) (componentIn s p)
-unfolding componentIn
 component-in-within s p =
     let t = take (p .start + p .len) s in
-    sat-weaken (λ (c : FirmwareComponent). Within t (componentParts c)) (λ (c : FirmwareComponent). Within s (componentParts c)) (componentFrom t (p .start)) (component-within t (p .start))
-    (λ c h. within-longer t s (componentParts c) (take-shorter (p .start + p .len) s) h)
+    rw (component-cut s p)
+    (sat-weaken (λ (c : FirmwareComponent). Within t (componentParts c)) (λ (c : FirmwareComponent). Within s (componentParts c)) (componentFrom t (p .start)) (component-within t (p .start))
+    (λ c h. within-longer t s (componentParts c) (take-shorter (p .start + p .len) s) h))
 
 -- ---- what holds of each component that is read holds of all eight places, if it holds of the empty one
 module _ (P : FirmwareComponent → Type 0) where
@@ -123,41 +124,7 @@ firmware-in-within s p =
     sat-weaken (Firm t) (Firm s) (firmwareFrom t (p .start)) (firmware-within t (p .start))
     (λ f h. (within-longer t s (ownParts f) l (h .0), longer t s l (f .components) (h .1), h .2))
 
--- what is told of firmware information, without what stands beside it
-pub firmware-told : (t : Told FirmwareInformation) → withFirmware t .0 ≡ t
-firmware-told (given f) = refl
-firmware-told (refused n) = refl
-
-module _ (s : List ℕ) (at : ℕ) where
-  pub firmware-stops : (n : ℕ) → fieldsFrom Schema.Firmware s at ≡ refused n → firmwareFrom s at ≡ refused n
-  unfolding firmwareFrom
-  firmware-stops n e = rw e
-
-  pub firmware-halts : (g : Gathered) (n : ℕ) → fieldsFrom Schema.Firmware s at ≡ given g → componentsFrom s at ≡ refused n → firmwareFrom s at ≡ refused n
-  unfolding firmwareFrom
-  firmware-halts g n e k = rw (e, k)
-
-  pub firmware-tells : (g : Gathered) (cs : List FirmwareComponent) → fieldsFrom Schema.Firmware s at ≡ given g → componentsFrom s at ≡ given cs
-      → firmwareFrom s at ≡ given (firmwareMade g cs)
-  unfolding firmwareFrom
-  firmware-tells g cs e k = rw (e, k)
-
--- ---- the message
-module _ (s : List ℕ) where
-  pub apply-stops : (n : ℕ) → fieldsFrom Schema.Apply s 0 ≡ refused n → applyOf s ≡ refused n
-  unfolding applyOf
-  apply-stops n e = rw e
-
-  pub apply-halts : (g : Gathered) (n : ℕ) → fieldsFrom Schema.Apply s 0 ≡ given g → firmwareIn s (g .part) ≡ refused n → applyOf s ≡ refused n
-  unfolding applyOf
-  apply-halts g n e k = rw (e, k)
-
-  pub apply-tells : (g : Gathered) (f : FirmwareInformation) → fieldsFrom Schema.Apply s 0 ≡ given g → firmwareIn s (g .part) ≡ given f
-      → applyOf s ≡ given (record { «firmware_information» = f; «restart_required» = isTrue (getD (g .scalars) first 0) })
-  unfolding applyOf
-  apply-tells g f e k = rw (e, k)
-
-apply-within : (s : List ℕ) → Sat (Inside s) (applyOf s)
+pub apply-within : (s : List ℕ) → Sat (Inside s) (applyOf s)
 unfolding applyOf
 apply-within s =
     sat-then (Gathers s) (Inside s) (fieldsFrom Schema.Apply s 0) _ (gathers Schema.Apply s 0)

@@ -1,8 +1,6 @@
-pub mod Fields
+pub mod Steps
 pub mod Texts
-pub mod Listed
 pub mod Parts
 pub mod Components
 pub mod Segments
 pub mod Insides
-pub mod Worked

@@ -1,31 +1,25 @@
 -- ApplyFirmware: firmware information, and a bool.
 use Prim.Native.Nat.{ℕ, _+_, _≤_}
-use mathlib.Core.Bool.{Bool, false, cond, not}
-use mathlib.Core.List.{List, [], _∷_}
+use mathlib.Core.Bool.{Bool, false, not}
+use mathlib.Core.List.{List}
 use lib.ListN.{getD, take}
 use lib.Dec.{eqb}
-use Rattle.wire.specs.Told.{Told, given, refused, andThen, Written}
+use Rattle.wire.specs.Told.{Told, given, refused, andThen}
 use Rattle.field.specs.declared.value.Part.{Part}
 use Rattle.field.specs.Value.{Within}
-use Rattle.field_writer.specs.Writer.{Field, scalar, nested, messageBytes}
 use Rattle.walk.specs.declared.schema.Schema.the-variants as Schema
-use Rattle.walk.specs.Schema.{firmwareInformationField, restartRequiredField, first}
+use Rattle.walk.specs.Schema.{first}
 use Rattle.walk.specs.Gathered.{mostRepeated, judgedAs}
 use Rattle.walk.specs.Walk.{fieldsFrom}
-use Rattle.field_writer.specs.Message.{writesMessage}
 use Rattle.firmware.specs.declared.information.FirmwareInformation.{FirmwareInformation}
 use Rattle.firmware.specs.declared.apply.ApplyFirmware.{ApplyFirmware}
 use Rattle.firmware.specs.declared.apply.ApplyRead.{ApplyRead}
 use Rattle.firmware.specs.Component.{componentParts}
-use Rattle.firmware.specs.Information.{noFirmware, firmwareFrom, ownParts, Each, badFirmware, firmwareFields}
+use Rattle.firmware.specs.Information.{noFirmware, firmwareFrom, ownParts, Each}
 
 -- a bool is true where its varint's value is not 0, all 64 bits of it
 abbrev pub isTrue : ℕ → Bool
 isTrue v = not (eqb v 0)
-
--- the varint's value of a bool
-abbrev pub boolValue : Bool → ℕ
-boolValue b = cond b 1 0
 
 -- the firmware information within its part; an absent one has no bytes
 unfoldable pub firmwareIn : List ℕ → Part → Told FirmwareInformation
@@ -53,13 +47,3 @@ pub record Inside (s : List ℕ) (a : ApplyFirmware) : Type 0 where
   pub own : Within s (ownParts (a .«firmware_information»))
   pub each : Each (λ c. Within s (componentParts c)) (a .«firmware_information» .components)
   pub most : a .«firmware_information» .count ≤ mostRepeated
-
--- the fields, of parts of the lent texts: firmware information is written also where it is empty
-abbrev pub applyFields : List ℕ → ApplyFirmware → List Field
-applyFields texts a =
-    nested firmwareInformationField (messageBytes (firmwareFields texts (a .«firmware_information»)))
-    ∷ scalar restartRequiredField (boolValue (a .«restart_required»)) ∷ []
-
--- the message written
-unfoldable pub applyWritten : ApplyFirmware → List ℕ → List ℕ → Written ℕ
-applyWritten a texts out = writesMessage (badFirmware texts (a .«firmware_information»)) (applyFields texts a) out

@@ -1,18 +1,14 @@
 -- FirmwareComponent: two strings and two numbers of 32 bits.
-use Prim.Native.Nat.{ℕ, _+_}
-use mathlib.Core.Bool.{Bool, _||_}
+use Prim.Native.Nat.{ℕ}
 use mathlib.Core.List.{List, [], _∷_}
-use lib.ListN.{length, getD}
-use lib.Dec.{ltb}
+use lib.ListN.{getD}
 use Rattle.wire.specs.Told.{Told, given, refused, andThen}
 use Rattle.field.specs.declared.value.Part.{Part}
 use Rattle.field.specs.Refusal.{numberOf}
 use Rattle.field.specs.Unsigned.{unsignedOf}
-use Rattle.field.specs.Value.{bytesOf}
-use Rattle.field_writer.specs.Writer.{Field, scalar, text, nested, messageBytes}
 use Rattle.walk.specs.declared.gathered.Gathered.{Gathered}
 use Rattle.walk.specs.declared.schema.Schema.the-variants as Schema
-use Rattle.walk.specs.Schema.{componentsField, firmwareComponentVersionField, firmwareComponentNameField, firmwareComponentSizeField, firmwareComponentSignatureField, first, second}
+use Rattle.walk.specs.Schema.{first, second}
 use Rattle.walk.specs.Gathered.{noPart}
 use Rattle.walk.specs.Walk.{fieldsFrom}
 use Rattle.firmware.specs.declared.component.FirmwareComponent.{FirmwareComponent}
@@ -45,20 +41,3 @@ toldComponent (ComponentRead.Refused e) = refused (numberOf e)
 -- the parts that a component tells
 abbrev pub componentParts : FirmwareComponent → List Part
 componentParts c = c .name ∷ c .signature ∷ []
-
--- ---- writing, of parts of a lent text
--- a part that does not lie within the texts
-unfoldable pub outside : List ℕ → Part → Bool
-outside texts p = ltb (length texts) (p .start + p .len)
-
-unfoldable pub badComponent : List ℕ → FirmwareComponent → Bool
-badComponent texts c = outside texts (c .name) || outside texts (c .signature)
-
-abbrev pub componentFields : List ℕ → FirmwareComponent → List Field
-componentFields texts c =
-    scalar firmwareComponentVersionField (c .version) ∷ text firmwareComponentNameField (bytesOf texts (c .name))
-    ∷ scalar firmwareComponentSizeField (c .size) ∷ text firmwareComponentSignatureField (bytesOf texts (c .signature)) ∷ []
-
--- a component as a field of firmware information: it is written also where it is empty
-abbrev pub componentField : List ℕ → FirmwareComponent → Field
-componentField texts c = nested componentsField (messageBytes (componentFields texts c))

@@ -1,20 +1,19 @@
 -- FirmwareInformation: a number of 32 bits, three strings and at most eight components.
 use Prim.Native.Nat.{ℕ, zero, suc, _+_, _≤_, _<_}
-use mathlib.Core.Bool.{Bool, false, cond, _||_}
-use mathlib.Core.List.{List, [], _∷_, _++_, map}
+use mathlib.Core.Bool.{cond}
+use mathlib.Core.List.{List, [], _∷_, _++_}
 use lib.ListN.{length, getD, take, replicate}
 use lib.Seq.{sets}
-use lib.Dec.{ltb, eqb}
+use lib.Dec.{eqb}
 use Rattle.wire.specs.Told.{Told, given, refused, andThen}
 use Rattle.field.specs.declared.value.Part.{Part}
 use Rattle.field.specs.declared.value.Value.{Value}
 use Rattle.field.specs.Fields.{Standing, field, end, foundAt}
 use Rattle.field.specs.Unsigned.{unsignedOf}
-use Rattle.field.specs.Value.{bytesOf, valueParts}
-use Rattle.field_writer.specs.Writer.{Field, scalar, text}
+use Rattle.field.specs.Value.{valueParts}
 use Rattle.walk.specs.declared.gathered.Gathered.{Gathered}
 use Rattle.walk.specs.declared.schema.Schema.the-variants as Schema
-use Rattle.walk.specs.Schema.{firmwareVersionField, firmwareNameField, componentsField, localeField, versionNameField, first, second, third}
+use Rattle.walk.specs.Schema.{componentsField, first, second, third}
 use Rattle.walk.specs.Gathered.{mostRepeated, noPart, judgedAs}
 use Rattle.walk.specs.Walk.{fieldsFrom}
 use Rattle.firmware.specs.declared.component.FirmwareComponent.{FirmwareComponent}
@@ -25,7 +24,7 @@ use Rattle.firmware.specs.declared.information.NextComponent.{NextCompon
 use Rattle.firmware.specs.declared.information.NextComponent.the-variants as NextComponent
 use Rattle.firmware.specs.declared.information.ComponentsRead.{ComponentsRead}
 use Rattle.firmware.specs.declared.information.FirmwareRead.{FirmwareRead}
-use Rattle.firmware.specs.Component.{noComponent, componentFrom, outside, badComponent, componentField}
+use Rattle.firmware.specs.Component.{noComponent, componentFrom}
 
 -- ---- the components: where they stand, and what each one holds
 -- the part of a field that is a component
@@ -115,23 +114,3 @@ ownParts f = f .name ∷ f .locale ∷ f .«version_name» ∷ []
 abbrev pub Each : (FirmwareComponent → Type 0) → List FirmwareComponent → Type 0
 Each P [] = Unit {0}
 Each P (c ∷ cs) = P c × Each P cs
-
--- ---- writing
--- the components that are there
-abbrev pub present : FirmwareInformation → List FirmwareComponent
-present f = take (f .count) (f .components)
-
-abbrev pub badComponents : List ℕ → List FirmwareComponent → Bool
-badComponents texts [] = false
-badComponents texts (c ∷ cs) = badComponent texts c || badComponents texts cs
-
--- more components than there may be, or a part that does not lie within the texts
-unfoldable pub badFirmware : List ℕ → FirmwareInformation → Bool
-badFirmware texts f =
-    ltb mostRepeated (f .count) || (outside texts (f .name) || (badComponents texts (present f) || (outside texts (f .locale) || outside texts (f .«version_name»))))
-
-abbrev pub firmwareFields : List ℕ → FirmwareInformation → List Field
-firmwareFields texts f =
-    scalar firmwareVersionField (f .version) ∷ text firmwareNameField (bytesOf texts (f .name))
-    ∷ (map (componentField texts) (present f)
-    ++ (text localeField (bytesOf texts (f .locale)) ∷ text versionNameField (bytesOf texts (f .«version_name»)) ∷ []))

@@ -2,4 +2,3 @@ pub mod Segment
 pub mod Component
 pub mod Information
 pub mod Apply
-pub mod Worked

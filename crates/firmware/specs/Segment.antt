@@ -3,24 +3,20 @@ use Prim.Native.Nat.{ℕ}
 use mathlib.Core.Bool.{Bool, true, cond, _&&_, _||_, not}
 use mathlib.Core.List.{List, [], _∷_}
 use lib.ListN.{length, getD}
-use lib.Seq.{sets}
-use lib.Dec.{leb, ltb, eqb}
-use Rattle.wire.specs.Told.{ToldMore, alone, given, refused, andThen, line, table, WrittenOf, written}
+use lib.Dec.{leb, eqb}
+use Rattle.wire.specs.Told.{ToldMore, alone, given, refused, andThen}
 use Rattle.field.specs.declared.value.Part.{Part}
 use Rattle.field.specs.Refusal.{numberOf}
 use Rattle.field.specs.Unsigned.{unsignedOf}
 use Rattle.field.specs.Value.{bytesOf}
-use Rattle.field_writer.specs.Writer.{Field, scalar, text, messageBytes}
 use Rattle.walk.specs.declared.gathered.Gathered.{Gathered}
 use Rattle.walk.specs.declared.schema.Schema.the-variants as Schema
-use Rattle.walk.specs.Schema.{componentNameField, componentOffsetField, segmentSizeField, segmentSignatureField, first, second}
+use Rattle.walk.specs.Schema.{componentOffsetField, segmentSignatureField, first, second}
 use Rattle.walk.specs.Gathered.{noPart}
 use Rattle.walk.specs.Walk.{fieldsFrom}
 use Rattle.firmware.specs.declared.segment.UpdateComponentSegment.{UpdateComponentSegment}
 use Rattle.firmware.specs.declared.segment.SegmentRead.{SegmentRead}
 use Rattle.firmware.specs.declared.segment.SegmentRead.the-variants as SegmentRead
-use Rattle.firmware.specs.declared.segment.SegmentWrote.{SegmentWrote}
-use Rattle.firmware.specs.declared.segment.SegmentWrote.the-variants as SegmentWrote
 
 -- ---- the profile
 -- a SHA-256 hash in base 16
@@ -76,21 +72,3 @@ toldSegment (SegmentRead.Profile field) = refused (50, field ∷ [])
 -- the parts that it tells
 abbrev pub segmentParts : UpdateComponentSegment → List Part
 segmentParts m = m .«component_name» ∷ m .«segment_signature» ∷ []
-
--- ---- writing
-abbrev pub segmentFields : List ℕ → ℕ → ℕ → List ℕ → List Field
-segmentFields name offset size signature =
-    text componentNameField name ∷ scalar componentOffsetField offset ∷ scalar segmentSizeField size ∷ text segmentSignatureField signature ∷ []
-
--- a segment written: the profile, then the room
-unfoldable pub segmentWritten : List ℕ → ℕ → ℕ → List ℕ → List ℕ → WrittenOf (ℕ × List ℕ) ℕ
-segmentWritten name offset size signature out =
-    let bytes = messageBytes (segmentFields name offset size signature) in
-    profiled (brokenField offset signature) (λ n. written (refused n) out)
-    (table (line 14 (ltb (length out) (length bytes)) ∷ []) (λ n. written (refused (n, [])) out) (written (given (length bytes)) (sets out 0 bytes)))
-
--- the answers of write_segment
-abbrev pub toldSegmentWrote : SegmentWrote → ToldMore ℕ
-toldSegmentWrote (SegmentWrote.Done n) = given n
-toldSegmentWrote (SegmentWrote.Profile field) = refused (50, field ∷ [])
-toldSegmentWrote SegmentWrote.NoRoom = refused (14, [])

@@ -1,32 +1,18 @@
 // ApplyFirmware: the firmware that is to be used, and whether to restart.
 use crate::information::FirmwareInformation;
 use crate::information::FirmwareRead;
-use crate::information::bad_firmware;
 use crate::information::firmware_from;
-use crate::information::firmware_room;
-use crate::information::put_firmware;
 use field::Refusal;
 use field::value::Part;
-use field_writer::fields::head_len;
-use field_writer::fields::put_head;
-use field_writer::fields::put_scalar;
-use field_writer::fields::scalar_len;
-use field_writer::message::Room;
-use field_writer::message::WriteRefusal;
-use field_writer::message::Wrote;
 use walk::gathered::Verdict;
 use walk::reader::read_fields;
-use walk::schema::FIRMWARE_INFORMATION;
 use walk::schema::FIRST;
-use walk::schema::RESTART_REQUIRED;
 use walk::schema::Schema;
 ghost use mathlib.Core.Path.{_≡_};
 ghost use Prim.Native.Nat.{_+_, _≤_};
 ghost use lib.ListN.{length};
-ghost use Rattle.wire.specs.Told.{written};
-ghost use Rattle.field_writer.specs.Message.{toldWrote};
 ghost use Rattle.firmware.specs.Information.{toldFirmware, withFirmware};
-ghost use Rattle.firmware.specs.Apply.{boolValue, firmwareIn, applyOf, noApply, toldApply, withApply, Inside, applyWritten};
+ghost use Rattle.firmware.specs.Apply.{firmwareIn, applyOf, noApply, toldApply, withApply, Inside};
 
 pub struct ApplyFirmware {
     pub firmware_information: FirmwareInformation,
@@ -91,39 +77,5 @@ fn refused_apply(e: Refusal) -> ApplyRead
             firmware_information,
             restart_required: false,
         },
-    }
-}
-
-// The varint's value of a bool.
-fn bool_value(b: bool) -> u64
-    ensures { λ r. ⌜ r ≡ boolValue b ⌝ }
-{
-    if b { 1 } else { 0 }
-}
-
-// Writes ApplyFirmware. Its strings are parts of the lent texts.
-pub fn write_apply(out: &mut [u8], apply: ApplyFirmware, texts: &[u8]) -> Wrote
-    ensures { λ r. ⌜ written (toldWrote r) (now (out .exit)) ≡ applyWritten apply (now (texts .entry)) (now (out .entry)) ⌝ }
-{
-    let information = apply.firmware_information;
-    if bad_firmware(texts, information) {
-        return Wrote::Refused(WriteRefusal::BadArgument);
-    }
-    let restart = bool_value(apply.restart_required);
-    let room = out.len();
-    match firmware_room(room, texts, information) {
-        Room::Short => Wrote::Refused(WriteRefusal::NoRoom),
-        Room::Left(rest) => {
-            let len = room - rest;
-            let around = head_len(FIRMWARE_INFORMATION, len)
-                + scalar_len(RESTART_REQUIRED, restart);
-            if rest < around {
-                return Wrote::Refused(WriteRefusal::NoRoom);
-            }
-            let start = put_head(out, 0, FIRMWARE_INFORMATION, len);
-            let next = put_firmware(out, start, texts, information);
-            let end = put_scalar(out, next, RESTART_REQUIRED, restart);
-            Wrote::Done(end)
-        }
     }
 }

@@ -1,4 +1,4 @@
-// Firmware messages: UpdateComponentSegment, and ApplyFirmware with its nested messages, read and written.
+// Firmware messages: UpdateComponentSegment, and ApplyFirmware with its nested messages, read.
 pub mod apply;
 pub mod component;
 pub mod information;

@@ -2,37 +2,26 @@
 use field::Refusal;
 use field::unsigned::low_unsigned;
 use field::value::Part;
-use field_writer::fields::put_scalar;
-use field_writer::fields::put_text;
-use field_writer::fields::scalar_len;
-use field_writer::fields::text_len;
-use field_writer::message::Room;
 use walk::gathered::Gathered;
 use walk::gathered::Verdict;
 use walk::reader::read_fields;
-use walk::schema::COMPONENT_NAME;
 use walk::schema::COMPONENT_OFFSET;
 use walk::schema::FIRST;
 use walk::schema::SECOND;
 use walk::schema::SEGMENT_SIGNATURE;
-use walk::schema::SEGMENT_SIZE;
 use walk::schema::Schema;
 use wire::logic::both;
 use wire::logic::either;
 ghost use mathlib.Core.Path.{_≡_};
 ghost use Prim.Native.Nat.{_+_, _≤_};
 ghost use lib.ListN.{length};
-ghost use Rattle.wire.specs.Told.{written};
-ghost use Rattle.field_writer.specs.Put.{Put};
 ghost use Rattle.field.specs.Value.{TellsWithin};
-ghost use Rattle.field_writer.specs.Writer.{messageBytes};
-ghost use Rattle.field_writer.specs.Message.{lessRoom};
-ghost use Rattle.firmware.specs.Segment.{isDigit, allDigits, isSignature, brokenField, segmentMade, segmentJudged, segmentOf, toldSegment, segmentParts, segmentFields, segmentWritten, toldSegmentWrote};
+ghost use Rattle.firmware.specs.Segment.{isDigit, allDigits, isSignature, brokenField, segmentMade, segmentJudged, segmentOf, toldSegment, segmentParts};
 
 // The hexadecimal digits of a signature.
 const SIGNATURE_DIGITS: usize = 64;
 // No field has this number.
-const NO_FIELD: u64 = 0;
+pub const NO_FIELD: u64 = 0;
 
 // Strings are parts of the lent message.
 pub struct UpdateComponentSegment {
@@ -47,15 +36,6 @@ pub enum SegmentRead {
     Refused(Refusal),
     // A rule of the profile is broken, in this field.
     Profile(u64),
-}
-
-pub enum SegmentWrote {
-    // The number of bytes written.
-    Done(usize),
-    // A rule of the profile is broken, in this field.
-    Profile(u64),
-    // The output is smaller than the message.
-    NoRoom,
 }
 
 // Whether a byte is a hexadecimal digit.
@@ -92,7 +72,7 @@ fn is_signature(bytes: &[u8]) -> bool
 }
 
 // The lowest field of which the profile's rule is broken, or none.
-fn broken_field(offset: u32, signature: &[u8]) -> u64
+pub fn broken_field(offset: u32, signature: &[u8]) -> u64
     ensures { λ r. ⌜ r ≡ brokenField offset (now (signature .entry)) ⌝ }
 {
     if offset != 0 {
@@ -146,59 +126,6 @@ pub fn read_segment(message: &[u8]) -> SegmentRead
         Verdict::Fine => {
             let segment = segment_made(gathered);
             judge_segment(message, segment)
-        }
-    }
-}
-
-// The room that a segment leaves in an output of this length. Its offset is 0, which is left out.
-fn segment_room(
-    len: usize,
-    component_name: &[u8],
-    segment_size: u32,
-    segment_signature: &[u8],
-) -> Room
-    ensures { λ r. ⌜ r ≡ lessRoom (length (messageBytes (segmentFields (now («component_name» .entry)) 0 «segment_size» (now («segment_signature» .entry))))) (Room.Left len) ⌝ }
-{
-    Room::Left(len)
-        .less(text_len(COMPONENT_NAME, component_name))
-        .less(scalar_len(SEGMENT_SIZE, segment_size as u64))
-        .less(text_len(SEGMENT_SIGNATURE, segment_signature))
-}
-
-// A segment, written from the first byte on; the answer is the place after it.
-fn put_segment(
-    out: &mut [u8],
-    component_name: &[u8],
-    segment_size: u32,
-    segment_signature: &[u8],
-) -> usize
-    requires { ⌜ length (messageBytes (segmentFields (now «component_name») 0 «segment_size» (now «segment_signature»))) ≤ length (now out) ⌝ }
-    ensures { λ r. ⌜ Put (now (out .entry)) 0 (messageBytes (segmentFields (now («component_name» .entry)) 0 «segment_size» (now («segment_signature» .entry)))) r (now (out .exit)) ⌝ }
-{
-    let second = put_text(out, 0, COMPONENT_NAME, component_name);
-    let third = put_scalar(out, second, SEGMENT_SIZE, segment_size as u64);
-    put_text(out, third, SEGMENT_SIGNATURE, segment_signature)
-}
-
-// Writes a segment.
-pub fn write_segment(
-    out: &mut [u8],
-    component_name: &[u8],
-    component_offset: u32,
-    segment_size: u32,
-    segment_signature: &[u8],
-) -> SegmentWrote
-    ensures { λ r. ⌜ written (toldSegmentWrote r) (now (out .exit)) ≡ segmentWritten (now («component_name» .entry)) «component_offset» «segment_size» (now («segment_signature» .entry)) (now (out .entry)) ⌝ }
-{
-    let broken = broken_field(component_offset, segment_signature);
-    if broken != NO_FIELD {
-        return SegmentWrote::Profile(broken);
-    }
-    match segment_room(out.len(), component_name, segment_size, segment_signature) {
-        Room::Short => SegmentWrote::NoRoom,
-        Room::Left(_) => {
-            let end = put_segment(out, component_name, segment_size, segment_signature);
-            SegmentWrote::Done(end)
         }
     }
 }

@@ -21,10 +21,13 @@ use Rattle.walk.specs.Walk.{judged, fieldsFrom}
 use Rattle.firmware.specs.declared.component.FirmwareComponent.{FirmwareComponent}
 use Rattle.firmware.specs.declared.information.FirmwareInformation.{FirmwareInformation}
 use Rattle.firmware.specs.declared.apply.ApplyFirmware.{ApplyFirmware}
-use Rattle.firmware.specs.Component.{noComponent, outside, badComponent, componentField}
-use Rattle.firmware.specs.Information.{partsFrom, placed, componentsFrom, firmwareFrom, present, badComponents, badFirmware, firmwareFields}
-use Rattle.firmware.specs.Apply.{boolValue, isTrue, firmwareIn, applyOf, applyFields, applyWritten}
-use Rattle.firmware.proofs.Fields.{message-append}
+use Rattle.firmware.specs.Component.{noComponent}
+use Rattle.firmware_writer.specs.Component.{outside, badComponent, componentField}
+use Rattle.firmware.specs.Information.{partsFrom, placed, componentsFrom, firmwareFrom}
+use Rattle.firmware_writer.specs.Information.{present, badComponents, badFirmware, firmwareFields}
+use Rattle.firmware.specs.Apply.{isTrue, firmwareIn, applyOf}
+use Rattle.firmware_writer.specs.Apply.{boolValue, applyFields, applyWritten}
+use Rattle.firmware_writer.proofs.Fields.{message-append}
 use Rattle.firmware.proofs.Parts.{parts-end}
 use Rattle.round_trips.proofs.Values.{At, whole, front, behind}
 use Rattle.round_trips.proofs.Fields.{reads-end, reads-scalar, reads-text, reads-member, partAt, part-there, part-cut, textAt, fields-read, text-back}

@@ -3,3 +3,4 @@ pub mod Components
 pub mod Applies
 pub mod Told
 pub mod Premises
+pub mod ByHand

@@ -15,10 +15,14 @@ use Rattle.field_writer.specs.Writer.{tagBytes, headBytes, partBytes, fieldByte
 use Rattle.walk.specs.Schema.{roleOf}
 use Rattle.walk.specs.Walk.{judged, addedAt, readAt, fieldAt, fieldsFrom}
 use Rattle.firmware.specs.declared.component.FirmwareComponent.{FirmwareComponent}
-use Rattle.firmware.specs.Segment.{isDigit, allDigits, isSignature, brokenField, segmentOf, segmentWritten}
-use Rattle.firmware.specs.Component.{componentFrom, outside, badComponent}
-use Rattle.firmware.specs.Information.{partsFrom, componentIn, componentsFrom, firmwareFrom, present, badFirmware}
-use Rattle.firmware.specs.Apply.{firmwareIn, applyOf, applyWritten}
+use Rattle.firmware.specs.Segment.{isDigit, allDigits, isSignature, brokenField, segmentOf}
+use Rattle.firmware_writer.specs.Segment.{segmentWritten}
+use Rattle.firmware.specs.Component.{componentFrom}
+use Rattle.firmware_writer.specs.Component.{outside, badComponent}
+use Rattle.firmware.specs.Information.{partsFrom, componentIn, componentsFrom, firmwareFrom}
+use Rattle.firmware_writer.specs.Information.{present, badFirmware}
+use Rattle.firmware.specs.Apply.{firmwareIn, applyOf}
+use Rattle.firmware_writer.specs.Apply.{applyWritten}
 use Rattle.firmware_round_trips.specs.RoundTrip.{ComponentsTake}
 use Rattle.firmware_round_trips.specs.Premises.{Digit, decimal, upper, lower, Digits, SegmentsTaken, InRange, AppliesTaken, OneOfEach}
 

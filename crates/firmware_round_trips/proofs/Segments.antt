@@ -14,7 +14,8 @@ use Rattle.walk.specs.declared.schema.Schema.the-variants as Schema
 use Rattle.walk.specs.Schema.{roleOf, componentNameField, componentOffsetField, segmentSizeField, segmentSignatureField}
 use Rattle.walk.specs.Gathered.{nothing, withScalar, withText}
 use Rattle.walk.specs.Walk.{fieldsFrom}
-use Rattle.firmware.specs.Segment.{isSignature, brokenField, segmentOf, segmentFields, segmentWritten}
+use Rattle.firmware.specs.Segment.{isSignature, brokenField, segmentOf}
+use Rattle.firmware_writer.specs.Segment.{segmentFields, segmentWritten}
 use Rattle.round_trips.specs.RoundTrip.{Gives}
 use Rattle.round_trips.proofs.Values.{At, whole, front, behind}
 use Rattle.round_trips.proofs.Fields.{reads-end, reads-scalar, reads-text, textAt, fields-read, text-back}

@@ -25,9 +25,11 @@ use Rattle.walk.proofs.Steps.{fields-within}
 use Rattle.firmware.specs.declared.segment.UpdateComponentSegment.{UpdateComponentSegment}
 use Rattle.firmware.specs.declared.component.FirmwareComponent.{FirmwareComponent}
 use Rattle.firmware.specs.declared.apply.ApplyFirmware.{ApplyFirmware}
-use Rattle.firmware.specs.Segment.{isSignature, brokenField, segmentMade, segmentJudged, segmentOf, segmentFields, segmentWritten}
+use Rattle.firmware.specs.Segment.{isSignature, brokenField, segmentMade, segmentJudged, segmentOf}
+use Rattle.firmware_writer.specs.Segment.{segmentFields, segmentWritten}
 use Rattle.firmware.specs.Component.{noComponent, componentFrom, componentParts}
-use Rattle.firmware.specs.Information.{partsFrom, componentIn, componentsIn, componentsFrom, firmwareFrom, present}
+use Rattle.firmware.specs.Information.{partsFrom, componentIn, componentsIn, componentsFrom, firmwareFrom}
+use Rattle.firmware_writer.specs.Information.{present}
 use Rattle.firmware.specs.Apply.{firmwareIn, applyOf}
 use Rattle.round_trips.specs.RoundTrip.{ReadsBack}
 use Rattle.firmware_round_trips.specs.RoundTrip.{Unsigned32, segmentAgain, SegmentRoundTrip, SegmentsToldTaken, ComponentTakes, ComponentsTake, FirmwareTakes, ApplyRoundTrip, AppliesToldTaken}

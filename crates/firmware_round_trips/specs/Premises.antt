@@ -11,10 +11,10 @@ use Rattle.walk.specs.Gathered.{noPart}
 use Rattle.firmware.specs.declared.component.FirmwareComponent.{FirmwareComponent}
 use Rattle.firmware.specs.declared.information.FirmwareInformation.{FirmwareInformation}
 use Rattle.firmware.specs.declared.apply.ApplyFirmware.{ApplyFirmware}
-use Rattle.firmware.specs.Segment.{segmentFields, segmentWritten}
+use Rattle.firmware_writer.specs.Segment.{segmentFields, segmentWritten}
 use Rattle.firmware.specs.Component.{noComponent}
-use Rattle.firmware.specs.Information.{present}
-use Rattle.firmware.specs.Apply.{applyFields, applyWritten}
+use Rattle.firmware_writer.specs.Information.{present}
+use Rattle.firmware_writer.specs.Apply.{applyFields, applyWritten}
 use Rattle.round_trips.specs.RoundTrip.{ReadsBack}
 use Rattle.round_trips.specs.Premises.{Lendable}
 use Rattle.firmware_round_trips.specs.RoundTrip.{SegmentTakes, segmentAgain, ApplyTakes, applyAgain}

@@ -12,10 +12,12 @@ use Rattle.firmware.specs.declared.segment.UpdateComponentSegment.{UpdateCompon
 use Rattle.firmware.specs.declared.component.FirmwareComponent.{FirmwareComponent}
 use Rattle.firmware.specs.declared.information.FirmwareInformation.{FirmwareInformation}
 use Rattle.firmware.specs.declared.apply.ApplyFirmware.{ApplyFirmware}
-use Rattle.firmware.specs.Segment.{isSignature, segmentOf, segmentFields, segmentWritten}
+use Rattle.firmware.specs.Segment.{isSignature, segmentOf}
+use Rattle.firmware_writer.specs.Segment.{segmentFields, segmentWritten}
 use Rattle.firmware.specs.Component.{componentParts}
-use Rattle.firmware.specs.Information.{present}
-use Rattle.firmware.specs.Apply.{applyOf, applyFields, applyWritten}
+use Rattle.firmware_writer.specs.Information.{present}
+use Rattle.firmware.specs.Apply.{applyOf}
+use Rattle.firmware_writer.specs.Apply.{applyFields, applyWritten}
 use Rattle.round_trips.specs.RoundTrip.{Lent, ReadsBack}
 
 -- a refusal with its numbers

@@ -10,7 +10,7 @@ use Rattle.field.specs.Unsigned.{unsignedOf}
 use Rattle.walk.specs.Gathered.{mostRepeated}
 use Rattle.firmware.specs.declared.apply.ApplyFirmware.{ApplyFirmware}
 use Rattle.firmware.specs.declared.component.FirmwareComponent.{FirmwareComponent}
-use Rattle.firmware.specs.Apply.{boolValue}
+use Rattle.firmware_writer.specs.Apply.{boolValue}
 use Rattle.rows_messages.specs.Convert.{partRow}
 use Rattle.rows_firmware.specs.More.{isWide}
 

@@ -15,7 +15,7 @@ ghost use Prim.Native.Nat.{_+_, _≤_};
 ghost use lib.ListN.{length};
 ghost use lib.Seq.{sets};
 ghost use Rattle.walk.specs.Gathered.{mostRepeated};
-ghost use Rattle.firmware.specs.Apply.{boolValue};
+ghost use Rattle.firmware_writer.specs.Apply.{boolValue};
 ghost use Rattle.rows.specs.Row.{afterwards};
 ghost use Rattle.rows_firmware.specs.Apply.{rowSize, firstComponent, componentRow, componentRows, headRow, wholeRow, partAt, componentAt, componentsAt, applyAt, wideAt, anyWide, badRow};
 

@@ -1,11 +1,12 @@
 // UpdateComponentSegment: what its reader and its writer tell, as rows.
 use firmware::segment::SegmentRead;
-use firmware::segment::SegmentWrote;
+use firmware_writer::segment::SegmentWrote;
 use rows::row::DONE;
 use rows::row::NO_ROOM;
 use wire::bytes::wide64;
 ghost use mathlib.Core.Path.{_≡_};
-ghost use Rattle.firmware.specs.Segment.{toldSegment, toldSegmentWrote};
+ghost use Rattle.firmware.specs.Segment.{toldSegment};
+ghost use Rattle.firmware_writer.specs.Segment.{toldSegmentWrote};
 ghost use Rattle.rows_firmware.specs.More.{numberMore, isWide};
 ghost use Rattle.rows_firmware.specs.Segment.{segmentRow, wroteRow};
 

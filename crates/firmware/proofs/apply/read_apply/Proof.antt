@@ -10,7 +10,8 @@ use Rattle.walk.specs.Schema.{first}
 use Rattle.firmware.specs.Apply.{isTrue, toldApply, withApply}
 use Rattle.firmware.specs.declared.apply.ApplyFirmware.{ApplyFirmware}
 use Rattle.walk.specs.declared.gathered.Verdict.the-variants.{Fine}
-use Rattle.firmware.proofs.Insides.{firmware-told, apply-stops, apply-halts, apply-tells, told-inside, part-inside}
+use Rattle.firmware.proofs.Steps.{firmware-told, apply-stops, apply-halts, apply-tells}
+use Rattle.firmware.proofs.Insides.{told-inside, part-inside}
 use borrow.Author.Needs.{needs}
 use Rattle.firmware.proofs.apply.read_apply.Statement.{statement}
 use Rattle.firmware.proofs.apply.read_apply.Tie as tie

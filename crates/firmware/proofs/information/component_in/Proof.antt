@@ -1,6 +1,6 @@
-use mathlib.Core.Path.{sym}
+use mathlib.Core.Path.{sym, _∙_}
 use lib.Seq.{length-take-le}
-use Rattle.firmware.specs.Information.{componentIn}
+use Rattle.firmware.proofs.Steps.{component-cut}
 use borrow.Author.Needs.{needs}
 use Rattle.firmware.proofs.information.component_in.Statement.{statement}
 use Rattle.firmware.proofs.information.component_in.Tie as tie
@@ -15,8 +15,7 @@ component-from-requires : tie.Need-component-from-requires
 component-from-requires c κs = search needs
 
 returns : tie.Need-returns
-unfolding componentIn
-returns c = c .component-from .ensures
+returns c = c .component-from .ensures ∙ sym (component-cut _ (c .before .before .before .before .args .part))
 
 pub component-in-spec : {M : Type 1} → statement M
 component-in-spec =

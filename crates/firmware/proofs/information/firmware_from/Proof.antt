@@ -7,7 +7,7 @@ use Rattle.walk.specs.Gathered.{judgedAs}
 use Rattle.walk.specs.Walk.{fieldsFrom}
 use Rattle.firmware.specs.Information.{firmwareMade, toldFirmware, withFirmware}
 use Rattle.firmware.proofs.Parts.{parts-most}
-use Rattle.firmware.proofs.Insides.{firmware-stops, firmware-halts, firmware-tells}
+use Rattle.firmware.proofs.Steps.{firmware-stops, firmware-halts, firmware-tells}
 use borrow.Author.Needs.{needs}
 use Rattle.firmware.proofs.information.firmware_from.Statement.{statement}
 use Rattle.firmware.proofs.information.firmware_from.Tie as tie

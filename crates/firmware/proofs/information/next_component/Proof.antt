@@ -5,7 +5,6 @@ use native.Mathlib.Omega.{arith}
 use denote.Ref.{now}
 use lib.ListN.{length}
 use Rattle.wire.specs.Told.{given}
-use Rattle.field.specs.declared.value.Value.{Value}
 use Rattle.field.specs.Fields.{field, foundAt, toldFound}
 use Rattle.firmware.specs.Information.{partTold, partsFrom}
 use Rattle.firmware.proofs.Parts.{found-field, parts-turn, parts-end, within-one}
