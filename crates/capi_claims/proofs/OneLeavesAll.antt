@@ -36,7 +36,7 @@ use Rattle.control.specs.Response.{badResponsePayload, responseFields, response
 use Rattle.device.specs.Information.{informationFields, informationWritten}
 use Rattle.device.specs.Features.{featuresFields, featuresWritten}
 use Rattle.outbox.specs.Format.{versionOne, newBytes, recordBytes}
-use Rattle.outbox.specs.Reader.{Answer, walkOf}
+use Rattle.outbox.specs.Reader.{Answer, walkOf, numberIn}
 use Rattle.outbox.specs.Reader as outbox
 use Rattle.outbox.specs.Writer.{Stored, stored, storedAt, newOf, badRecord, appendOf, ifWhole}
 use Rattle.rows.specs.Row.{numberTold, byteOr, outOfRange}
@@ -44,7 +44,7 @@ use Rattle.calls_classic.specs.Convert.{isExtractor, extractorOf}
 use Rattle.calls_sending.specs.Convert.{streamWith, packetRow}
 use Rattle.calls_receiving.specs.Convert.{isReceiver, slotsOf}
 use Rattle.rows_messages.specs.Convert.{allSigned, responsePayloadOf}
-use Rattle.calls_outbox.specs.Convert.{numberIn, usedIn, usedRow}
+use Rattle.calls_outbox.specs.Convert.{usedIn, usedRow}
 use Rattle.rows.specs.Called.{ifFit}
 use Rattle.calls_classic.specs.Calls.{stepped, fedCall, noneUsed, extractorStepOf, extractorFeedOf, frameWriteOf, nextSequenceOf}
 use Rattle.calls_sending.specs.Calls.{packetWriteOf, ackWriteOf}

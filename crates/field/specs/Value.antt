@@ -55,3 +55,7 @@ abbrev pub valueParts : Value → List Part
 valueParts (Number v) = []
 valueParts (Bytes p) = p ∷ []
 valueParts Skipped = []
+
+-- .. of a value with the place after it
+abbrev pub readParts : Value × ℕ → List Part
+readParts q = valueParts (q .0)

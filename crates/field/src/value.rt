@@ -9,7 +9,7 @@ use crate::varint::read_varint;
 ghost use mathlib.Core.Path.{_≡_};
 ghost use Rattle.wire.specs.Told.{andThen};
 ghost use Rattle.field.specs.Varint.{varintAt};
-ghost use Rattle.field.specs.Value.{skippedAt, partOf, valueAt, toldValue};
+ghost use Rattle.field.specs.Value.{skippedAt, partOf, valueAt, toldValue, TellsWithin, readParts};
 
 // A part of the lent message.
 pub struct Part {
@@ -72,6 +72,7 @@ fn read_part(message: &[u8], at: usize) -> ValueRead
 // The value of a wire type at a place.
 pub fn read_value(message: &[u8], at: usize, wire: u64) -> ValueRead
     ensures { λ r. ⌜ toldValue r ≡ valueAt (now (message .entry)) at wire ⌝ }
+    ensures { λ r. ⌜ TellsWithin (now (message .entry)) readParts (toldValue r) ⌝ }
 {
     if wire == VARINT {
         return match read_varint(message, at) {

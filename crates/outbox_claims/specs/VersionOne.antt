@@ -6,7 +6,7 @@ use lib.ListN.{length, take, drop}
 use Rattle.outbox.specs.Format.{Format, versionOne, recordBytes}
 use Rattle.outbox.specs.Reader.{given, found, foundAt, handed, readAll, walkOf}
 use Rattle.outbox.specs.Writer.{newOf, appendOf}
-use Rattle.outbox_claims.specs.Claims.{Lawful, Entry, Takes, expected, appendAll, Returned, cutAt, usable, recordsOf, Resumed, SameBytes, moved, allMoved, readAt}
+use Rattle.outbox_claims.specs.Claims.{Lawful, Entry, EntryTaken, expected, appendAll, Returned, cutAt, usable, recordsOf, Resumed, SameBytes, moved, allMoved, readAt}
 
 -- the streams
 pub data StreamByte : ℕ → Type 0 where
@@ -40,7 +40,7 @@ pub record Fits (buffer : List ℕ) (es : List Entry) : Type 0 where
 pub record HoldInVersionOne : Type 0 where
   -- a format is lawful where its field holds every length
   pub lawful : (fmt : Format) → ((n : ℕ) → n ≤ fmt .limit → n + 1 < 256 ^ fmt .width) → Lawful fmt
-  pub takes : (e : Entry) → Allowed e → Takes (versionOne 4096) e
+  pub takes : (e : Entry) → Allowed e → EntryTaken (versionOne 4096) e
   pub records-return : (buffer : List ℕ) (es : List Entry) → Fits buffer es
       → Returned (versionOne 4096) (appendAll (versionOne 4096) (newOf (versionOne 4096) buffer) es) es
   pub cuts-are-found : (buffer : List ℕ) (es : List Entry) → Fits buffer es → (kept : ℕ)

@@ -31,27 +31,27 @@ escaping q h = record { phase = Escaped; sequence = q; held = h }
 
 module _ (limit : ℕ) where
   -- bytes that are all taken lead from a state and a buffer to others
-  pub data Takes : Extractor → List ℕ → List ℕ → Extractor → List ℕ → Type 0 where
-    none : {s : Extractor} {l : List ℕ} → Takes s l [] s l
+  pub data TakesBytes : Extractor → List ℕ → List ℕ → Extractor → List ℕ → Type 0 where
+    none : {s : Extractor} {l : List ℕ} → TakesBytes s l [] s l
     more : {s s₁ s₂ : Extractor} {l l₁ l₂ : List ℕ} {b : ℕ} {bs : List ℕ}
-        → advanceOf limit s l b ≡ step taken s₁ l₁ → Takes s₁ l₁ bs s₂ l₂ → Takes s l (b ∷ bs) s₂ l₂
+        → advanceOf limit s l b ≡ step taken s₁ l₁ → TakesBytes s₁ l₁ bs s₂ l₂ → TakesBytes s l (b ∷ bs) s₂ l₂
 
-  single : {s s₁ : Extractor} {l l₁ : List ℕ} {b : ℕ} → advanceOf limit s l b ≡ step taken s₁ l₁ → Takes s l (b ∷ []) s₁ l₁
+  single : {s s₁ : Extractor} {l l₁ : List ℕ} {b : ℕ} → advanceOf limit s l b ≡ step taken s₁ l₁ → TakesBytes s l (b ∷ []) s₁ l₁
   single e = more e none
 
-  pub takes-then : {s s₁ s₂ : Extractor} {l l₁ l₂ xs ys : List ℕ} → Takes s l xs s₁ l₁ → Takes s₁ l₁ ys s₂ l₂ → Takes s l (xs ++ ys) s₂ l₂
+  pub takes-then : {s s₁ s₂ : Extractor} {l l₁ l₂ xs ys : List ℕ} → TakesBytes s l xs s₁ l₁ → TakesBytes s₁ l₁ ys s₂ l₂ → TakesBytes s l (xs ++ ys) s₂ l₂
   takes-then none k = k
   takes-then (more e j) k = more e (takes-then j k)
 
   -- they hand out nothing
-  pub takes-frames : {s s₁ : Extractor} {l l₁ xs : List ℕ} → Takes s l xs s₁ l₁ → (ys : List ℕ)
+  pub takes-frames : {s s₁ : Extractor} {l l₁ xs : List ℕ} → TakesBytes s l xs s₁ l₁ → (ys : List ℕ)
       → framesOf limit s l (xs ++ ys) ≡ framesOf limit s₁ l₁ ys
   unfolding framesOf
   takes-frames none ys = refl
   takes-frames (more e k) ys = rw e (takes-frames k ys)
 
   -- a call for many bytes goes on behind them
-  pub takes-feed : {s s₁ : Extractor} {l l₁ xs : List ℕ} → Takes s l xs s₁ l₁ → (n : ℕ) (ys : List ℕ)
+  pub takes-feed : {s s₁ : Extractor} {l l₁ xs : List ℕ} → TakesBytes s l xs s₁ l₁ → (n : ℕ) (ys : List ℕ)
       → feedFrom limit n s l (xs ++ ys) ≡ feedFrom limit (n + length xs) s₁ l₁ ys
   unfolding feedFrom
   takes-feed none n ys = rw add-zero
@@ -59,12 +59,12 @@ module _ (limit : ℕ) where
 
   -- ---- the header
 
-  sequence-taken : (l : List ℕ) (q : ℕ) → kindOf q ≡ Plain → Takes (fresh Sequence) l (q ∷ []) (body q 0) l
+  sequence-taken : (l : List ℕ) (q : ℕ) → kindOf q ≡ Plain → TakesBytes (fresh Sequence) l (q ∷ []) (body q 0) l
   unfolding advanceOf
   sequence-taken l q e = single (rw e)
 
   -- 02, 00 and the sequence byte
-  pub header-taken : (l : List ℕ) (q : ℕ) → kindOf q ≡ Plain → Takes begun l (packetId ∷ errorId ∷ q ∷ []) (body q 0) l
+  pub header-taken : (l : List ℕ) (q : ℕ) → kindOf q ≡ Plain → TakesBytes begun l (packetId ∷ errorId ∷ q ∷ []) (body q 0) l
   unfolding advanceOf kindOf
   header-taken l q e = more refl (more refl (sequence-taken l q e))
 
@@ -76,21 +76,21 @@ module _ (limit : ℕ) where
   -- ---- the bytes to store
 
   module _ (q h : ℕ) (l : List ℕ) (room : h < limit + 2) where
-    pub store-plain : (b : ℕ) → kindOf b ≡ Plain → Takes (body q h) l (b ∷ []) (body q (suc h)) (set l h b)
+    pub store-plain : (b : ℕ) → kindOf b ≡ Plain → TakesBytes (body q h) l (b ∷ []) (body q (suc h)) (set l h b)
     unfolding advanceOf storeOf
     store-plain b e = single (rw (e, lt-ltb h (limit + 2) room, add-one))
 
-    pub store-code : (c x : ℕ) → kindOf c ≡ Plain → Code c x → Takes (escaping q h) l (c ∷ []) (body q (suc h)) (set l h x)
+    pub store-code : (c x : ℕ) → kindOf c ≡ Plain → Code c x → TakesBytes (escaping q h) l (c ∷ []) (body q (suc h)) (set l h x)
     unfolding advanceOf storeOf
     store-code c x e k = single (rw (e, k .stands, lt-ltb h (limit + 2) room, add-one))
 
-    store-unit : {x : ℕ} {us : List ℕ} → Spelt x us → Takes (body q h) l us (body q (suc h)) (set l h x)
+    store-unit : {x : ℕ} {us : List ℕ} → Spelt x us → TakesBytes (body q h) l us (body q (suc h)) (set l h x)
     unfolding advanceOf kindOf
     store-unit {x} (itself e) = store-plain x e
     store-unit {x} (coded c e k) = more refl (store-code c x e k)
 
   pub store-all : (xs : List ℕ) (q h : ℕ) (l : List ℕ) → h + length xs ≤ limit + 2
-      → Takes (body q h) l (escapedOf xs) (body q (h + length xs)) (sets l h xs)
+      → TakesBytes (body q h) l (escapedOf xs) (body q (h + length xs)) (sets l h xs)
   unfolding escapedOf
   store-all [] q h l r = rw add-zero none
   store-all (x ∷ xs) q h l r =
