@@ -33,6 +33,7 @@ calls! {
         answer: *mut u64, answers: usize) plain_receiver_accept;
     MessageRead(message: *const u8, length: usize, answer: *mut u64, answers: usize)
         nanopb_envelope_read nanopb_response_read nanopb_information_read nanopb_features_read
+        nanopb_segment_read nanopb_apply_read
         pbc_envelope_read pbc_response_read pbc_information_read pbc_features_read;
     EnvelopeWrite(command: u64, payload: u64, error_code: u64, field: u64, bytes: *const u8, length: usize,
         output: *mut u8, size: usize, answer: *mut u64, answers: usize) nanopb_envelope_write
@@ -45,6 +46,11 @@ calls! {
         pbc_information_write;
     FeaturesWrite(features: u64, device_attributes: u64, output: *mut u8, size: usize, answer: *mut u64,
         answers: usize) nanopb_features_write pbc_features_write;
+    SegmentWrite(name: *const u8, name_length: usize, offset: u64, segment_size: u64, signature: *const u8,
+        signature_length: usize, output: *mut u8, size: usize, answer: *mut u64, answers: usize)
+        nanopb_segment_write;
+    ApplyWrite(row: *const u64, rows: usize, texts: *const u8, length: usize, output: *mut u8, size: usize,
+        answer: *mut u64, answers: usize) nanopb_apply_write;
     OutboxAppend(buffer: *mut u8, size: usize, used: u64, stream: u64, payload: *const u8, length: usize,
         answer: *mut u64, answers: usize);
     OutboxRecord(bytes: *const u8, length: usize, place: u64, answer: *mut u64, answers: usize);
@@ -71,4 +77,16 @@ prepares! {
     nanopb_decoded nanopb_forget nanopb_envelope_prepare nanopb_response_prepare nanopb_information_prepare
         nanopb_features_prepare;
     pbc_decoded pbc_forget pbc_envelope_prepare pbc_response_prepare pbc_information_prepare pbc_features_prepare;
+}
+
+extern "C" {
+    pub fn nanopb_segment_prepare(
+        name: *const u8,
+        name_length: usize,
+        offset: u64,
+        segment_size: u64,
+        signature: *const u8,
+        signature_length: usize,
+    );
+    pub fn nanopb_apply_prepare(row: *const u64, rows: usize, texts: *const u8, length: usize);
 }

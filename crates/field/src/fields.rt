@@ -47,11 +47,11 @@ pub fn field_at(message: &[u8], at: usize) -> Found
     }
 }
 
-// At the start of a message.
-pub fn new<'a>(message: &'a [u8]) -> Fields<'a>
-    ensures { λ r. ⌜ (r .message ≡ message .entry) × (r .at ≡ 0) ⌝ }
+// At a place of a message.
+pub fn new<'a>(message: &'a [u8], at: usize) -> Fields<'a>
+    ensures { λ r. ⌜ (r .message ≡ message .entry) × (r .at ≡ at) ⌝ }
 {
-    Fields { message, at: 0 }
+    Fields { message, at }
 }
 
 // The field at the reader's place.
@@ -61,19 +61,9 @@ pub fn next<'a>(r: Fields<'a>) -> Found
     field_at(r.message, r.at)
 }
 
-// The reader at another place.
-pub fn moved<'a>(r: Fields<'a>, at: usize) -> Fields<'a>
-    ensures { λ q. ⌜ (q .message ≡ r .entry .message) × (q .at ≡ at) ⌝ }
+// The field at a place, by the record. Its parameters are a plain slice and a place, so its callers need no walk by hand.
+pub fn found_at(message: &[u8], at: usize) -> Found
+    ensures { λ r. ⌜ toldFound r ≡ foundAt (now (message .entry)) at ⌝ }
 {
-    Fields {
-        message: r.message,
-        at,
-    }
-}
-
-// The first field of a message. Its parameter is a plain slice, so its callers need no walk by hand.
-pub fn first(message: &[u8]) -> Found
-    ensures { λ r. ⌜ toldFound r ≡ foundAt (now (message .entry)) 0 ⌝ }
-{
-    next(new(message))
+    next(new(message, at))
 }
