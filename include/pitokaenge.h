@@ -358,7 +358,7 @@ PITO_CALL uint64_t pito_features_write(uint64_t features, uint64_t device_attrib
  * Firmware messages
  *
  * As control messages: parts are start and length within the message that was read, in the messages within it too; an
- * absent string is start 0, length 0. Numbers are of 32 bits.
+ * absent string is start 0, length 0. Offset, sizes and versions are numbers of 32 bits.
  */
 
 /*
@@ -380,18 +380,22 @@ enum {
 PITO_CALL uint64_t pito_segment_read(const uint8_t *message, size_t message_len, uint64_t *answer, size_t answer_len);
 
 /*
- * Writes an UpdateComponentSegment.
+ * Writes an UpdateComponentSegment. PITO_SEGMENT_SIZE(name_len) bytes are enough.
  * Answer: the field goes with 50, as in reading.
  * Returns 0, 1, 15 (an offset or size above 32 bits), 50, 14.
  */
+#define PITO_SEGMENT_SIZE(name_len) ((name_len) + 97)
 enum { PITO_SEGMENT_WRITE_WRITTEN, PITO_SEGMENT_WRITE_FIELD, PITO_SEGMENT_WRITE_ANSWER };
 PITO_CALL uint64_t pito_segment_write(const uint8_t *name, size_t name_len, uint64_t offset, uint64_t size,
                                       const uint8_t *signature, size_t signature_len, uint8_t *output,
                                       size_t output_len, uint64_t *answer, size_t answer_len);
 
 /*
- * The row of an ApplyFirmware: restart_required is 0 or 1, components tells how many there are, and from
- * PITO_APPLY_COMPONENT on stand the numbers of eight components, each from PITO_APPLY_COMPONENT_AT(0 to 7) on.
+ * Reads an ApplyFirmware, with the firmware information and the components within. An absent firmware information is
+ * told as an empty one.
+ * Answer: restart_required is 0 or 1, components tells how many there are, and from PITO_APPLY_READ_COMPONENT on stand
+ * the numbers of eight components, each from PITO_APPLY_READ_COMPONENT_AT(0 to 7) on, 0 where there are fewer.
+ * Returns 0, 1, 31, 32, 33, 34, 30: of the whole message, then of its firmware information, then of each component.
  */
 #define PITO_MOST_COMPONENTS 8
 enum {
@@ -401,38 +405,33 @@ enum {
     PITO_COMPONENT_SIZE,
     PITO_COMPONENT_SIGNATURE_START,
     PITO_COMPONENT_SIGNATURE_LENGTH,
-    PITO_COMPONENT_ROW
+    PITO_COMPONENT_ANSWER
 };
 enum {
-    PITO_APPLY_RESTART_REQUIRED,
-    PITO_APPLY_VERSION,
-    PITO_APPLY_NAME_START,
-    PITO_APPLY_NAME_LENGTH,
-    PITO_APPLY_LOCALE_START,
-    PITO_APPLY_LOCALE_LENGTH,
-    PITO_APPLY_VERSION_NAME_START,
-    PITO_APPLY_VERSION_NAME_LENGTH,
-    PITO_APPLY_COMPONENTS,
-    PITO_APPLY_COMPONENT,
-    PITO_APPLY_ROW = PITO_APPLY_COMPONENT + PITO_MOST_COMPONENTS * PITO_COMPONENT_ROW
+    PITO_APPLY_READ_RESTART_REQUIRED,
+    PITO_APPLY_READ_VERSION,
+    PITO_APPLY_READ_NAME_START,
+    PITO_APPLY_READ_NAME_LENGTH,
+    PITO_APPLY_READ_LOCALE_START,
+    PITO_APPLY_READ_LOCALE_LENGTH,
+    PITO_APPLY_READ_VERSION_NAME_START,
+    PITO_APPLY_READ_VERSION_NAME_LENGTH,
+    PITO_APPLY_READ_COMPONENTS,
+    PITO_APPLY_READ_COMPONENT,
+    PITO_APPLY_READ_ANSWER = PITO_APPLY_READ_COMPONENT + PITO_MOST_COMPONENTS * PITO_COMPONENT_ANSWER
 };
-#define PITO_APPLY_COMPONENT_AT(index) (PITO_APPLY_COMPONENT + (index) * PITO_COMPONENT_ROW)
-
-/*
- * Reads an ApplyFirmware, with the firmware information and the components within.
- * Answer: the row, in which the components from the told number on are 0. An absent firmware information is told as an
- * empty one.
- * Returns 0, 1, 31, 32, 33, 34, 30: of the whole message, then of its firmware information, then of each component.
- */
-#define PITO_APPLY_READ_ANSWER PITO_APPLY_ROW
+#define PITO_APPLY_READ_COMPONENT_AT(index) (PITO_APPLY_READ_COMPONENT + (index) * PITO_COMPONENT_ANSWER)
 PITO_CALL uint64_t pito_apply_read(const uint8_t *message, size_t message_len, uint64_t *answer, size_t answer_len);
 
 /*
- * Writes an ApplyFirmware. Its strings are parts of the texts: what pito_apply_read told is a row, and the message that
- * it read the texts of it. Components from the row's number on are not looked at.
- * Returns 0, 1 (also for a row that has not PITO_APPLY_ROW numbers), 15 (restart_required neither 0 nor 1, a version or
- * size above 32 bits, more than eight components, a part that does not lie within the texts), 14.
+ * Writes an ApplyFirmware, of a row with the places of pito_apply_read's answer. Its strings are parts of the texts:
+ * what pito_apply_read told is such a row, and the message that it read the texts of it. Components from the row's
+ * number on are not looked at. PITO_APPLY_SIZE(components, strings_len) bytes are enough, where strings_len is the sum
+ * of the lengths of all strings, those of the components too.
+ * Returns 0, 1 (also for a row that has not PITO_APPLY_READ_ANSWER numbers), 15 (restart_required neither 0 nor 1, a
+ * version or size above 32 bits, more than eight components, a part that does not lie within the texts), 14.
  */
+#define PITO_APPLY_SIZE(components, strings_len) (55 * (components) + (strings_len) + 66)
 enum { PITO_APPLY_WRITE_WRITTEN, PITO_APPLY_WRITE_ANSWER };
 PITO_CALL uint64_t pito_apply_write(const uint64_t *row, size_t row_len, const uint8_t *texts, size_t texts_len,
                                     uint8_t *output, size_t output_len, uint64_t *answer, size_t answer_len);

@@ -11,7 +11,7 @@
 #define ROUNDS 4000
 #define LONGEST_FRAME (2 * PITO_MESSAGE_LIMIT + 9)
 #define MOST_BYTES (2 * LONGEST_FRAME)
-#define LONGEST_ROW PITO_APPLY_ROW
+#define LONGEST_ROW PITO_APPLY_READ_ANSWER
 #define LARGEST_ROOM 512
 
 static uint64_t answer[LONGEST_ROW];
@@ -255,21 +255,21 @@ static void any_part(uint64_t *part, size_t count)
 
 static void write_apply(size_t count)
 {
-    static uint64_t row[PITO_APPLY_ROW];
-    row[PITO_APPLY_RESTART_REQUIRED] = below(once_in(40) ? 3 : 2);
-    row[PITO_APPLY_VERSION] = any_unsigned();
-    any_part(row + PITO_APPLY_NAME_START, count);
-    any_part(row + PITO_APPLY_LOCALE_START, count);
-    any_part(row + PITO_APPLY_VERSION_NAME_START, count);
-    row[PITO_APPLY_COMPONENTS] = below(once_in(40) ? 10 : 9);
+    static uint64_t row[PITO_APPLY_READ_ANSWER];
+    row[PITO_APPLY_READ_RESTART_REQUIRED] = below(once_in(40) ? 3 : 2);
+    row[PITO_APPLY_READ_VERSION] = any_unsigned();
+    any_part(row + PITO_APPLY_READ_NAME_START, count);
+    any_part(row + PITO_APPLY_READ_LOCALE_START, count);
+    any_part(row + PITO_APPLY_READ_VERSION_NAME_START, count);
+    row[PITO_APPLY_READ_COMPONENTS] = below(once_in(40) ? 10 : 9);
     for (size_t i = 0; i < PITO_MOST_COMPONENTS; i++) {
-        uint64_t *component = row + PITO_APPLY_COMPONENT_AT(i);
+        uint64_t *component = row + PITO_APPLY_READ_COMPONENT_AT(i);
         component[PITO_COMPONENT_VERSION] = any_unsigned();
         any_part(component + PITO_COMPONENT_NAME_START, count);
         component[PITO_COMPONENT_SIZE] = any_unsigned();
         any_part(component + PITO_COMPONENT_SIGNATURE_START, count);
     }
-    read_written(CALL(pito_apply_write, A(row), length(PITO_APPLY_ROW), A(payload), count, A(bytes),
+    read_written(CALL(pito_apply_write, A(row), length(PITO_APPLY_READ_ANSWER), A(payload), count, A(bytes),
                       room_for_message(), A(answer), length(PITO_APPLY_WRITE_ANSWER)));
 }
 

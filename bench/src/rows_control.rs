@@ -100,24 +100,22 @@ pub fn bytes<T>(messages: &[T], write: impl Fn(&T, &mut [u8]) -> usize) -> Vec<V
 
 /// A job of reading: the messages, and the loops `$loops::$read` and `$loops::$own`.
 macro_rules! read_job {
-    ($loops:ident, $messages:expr, $read:ident, $own:ident, $archive:ident, $rust:ident, $nanopb:ident $(, $pbc:ident)?) => {{
+    ($loops:ident, $messages:expr, $read:ident, $own:ident, $archive:ident, $rust:ident, $nanopb:ident, $pbc:ident) => {{
         let messages = $messages;
         let count = messages.len();
-        let [a, b, c, d, _e] = share(messages);
-        let [x, y, z] = [
+        let [a, b, c, d, e] = share(messages);
+        let [x, y, z, w] = [
             Reader::in_message($archive),
             Reader::in_message(rust::$rust),
             Reader::in_struct($nanopb, nanopb_decoded),
+            Reader::in_struct($pbc, pbc_decoded),
         ];
         Job::of("message", count)
             .with(Subject::Archive, work!($loops::$read(x, &a)))
             .with(Subject::Rust, work!($loops::$read(y, &b)))
             .with(Subject::Own, work!($loops::$own(&c)))
             .with(Subject::Other, work!($loops::$read(z, &d)))
-            $(.with(Subject::ProtobufC, {
-                let reader = Reader::in_struct($pbc, pbc_decoded);
-                work!($loops::$read(reader, &_e))
-            }))?
+            .with(Subject::ProtobufC, work!($loops::$read(w, &e)))
     }};
 }
 
@@ -219,8 +217,8 @@ fn narrow(information: &InformationGiven) -> Vec<i32> {
 
 /// A job of writing, with the loops `$loops::$write` and `$loops::$own`.
 macro_rules! write_job {
-    ($loops:ident, $messages:expr, $own_messages:expr, $write:ident, $own:ident, $archive:ident, $rust:ident, $nanopb:ident $(, $pbc:ident)?) => {{
-        let [a, b, d, _e] = share($messages);
+    ($loops:ident, $messages:expr, $own_messages:expr, $write:ident, $own:ident, $archive:ident, $rust:ident, $nanopb:ident, $pbc:ident) => {{
+        let [a, b, d, e] = share($messages);
         let c = $own_messages;
         Job::of("message", MESSAGES * ROUNDS)
             .with(
@@ -233,7 +231,7 @@ macro_rules! write_job {
             )
             .with(Subject::Own, work!($loops::$own(&c, ROUNDS)))
             .with(Subject::Other, work!($loops::$write($nanopb, &d, ROUNDS)))
-            $(.with(Subject::ProtobufC, work!($loops::$write($pbc, &_e, ROUNDS))))?
+            .with(Subject::ProtobufC, work!($loops::$write($pbc, &e, ROUNDS)))
     }};
 }
 

@@ -97,7 +97,8 @@ fn read_segment_job() -> Job {
         read_segment_own,
         pito_segment_read,
         segment_read,
-        nanopb_segment_read
+        nanopb_segment_read,
+        pbc_segment_read
     )
 }
 
@@ -112,7 +113,8 @@ fn read_apply_job(components: usize) -> Job {
         read_apply_own,
         pito_apply_read,
         apply_read,
-        nanopb_apply_read
+        nanopb_apply_read,
+        pbc_apply_read
     )
 }
 
@@ -120,16 +122,18 @@ fn write_segment_job() -> Job {
     forget();
     for one in &segments() {
         let (name, signature) = (&one.name, &one.signature);
-        unsafe {
-            nanopb_segment_prepare(
-                name.as_ptr(),
-                name.len(),
-                0,
-                one.size,
-                signature.as_ptr(),
-                signature.len(),
-            )
-        };
+        for prepare in [nanopb_segment_prepare, pbc_segment_prepare] {
+            unsafe {
+                prepare(
+                    name.as_ptr(),
+                    name.len(),
+                    0,
+                    one.size,
+                    signature.as_ptr(),
+                    signature.len(),
+                )
+            };
+        }
     }
     write_job!(
         firmware,
@@ -139,7 +143,8 @@ fn write_segment_job() -> Job {
         segment_write_own,
         pito_segment_write,
         segment_write,
-        nanopb_segment_write
+        nanopb_segment_write,
+        pbc_segment_write
     )
 }
 
@@ -147,7 +152,9 @@ fn write_apply_job(components: usize) -> Job {
     forget();
     for one in &given(applies(components)) {
         let (row, texts) = (&one.row, &one.texts);
-        unsafe { nanopb_apply_prepare(row.as_ptr(), row.len(), texts.as_ptr(), texts.len()) };
+        for prepare in [nanopb_apply_prepare, pbc_apply_prepare] {
+            unsafe { prepare(row.as_ptr(), row.len(), texts.as_ptr(), texts.len()) };
+        }
     }
     write_job!(
         firmware,
@@ -157,6 +164,7 @@ fn write_apply_job(components: usize) -> Job {
         apply_write_own,
         pito_apply_write,
         apply_write,
-        nanopb_apply_write
+        nanopb_apply_write,
+        pbc_apply_write
     )
 }

@@ -10,7 +10,7 @@ use rows::row::Count;
 use rows::row::UNFIT;
 use rows::row::put;
 use rows::row::tell;
-use rows_firmware::apply::APPLY_ROW;
+use rows_firmware::apply::APPLY_ANSWER;
 use rows_firmware::apply::apply_at;
 use rows_firmware::apply::bad_row;
 use rows_firmware::apply::put_apply;
@@ -83,7 +83,7 @@ pub fn segment_write(
 pub fn apply_read(message: &[u8], answer: &mut [u64]) -> u64
     ensures { λ r. ⌜ called r [] [] (now (answer .exit)) ≡ applyReadOf (now (message .entry)) (now (answer .entry)) ⌝ }
 {
-    if answer.len() != APPLY_ROW {
+    if answer.len() != APPLY_ANSWER {
         return UNFIT;
     }
     let read = read_apply(message);
@@ -98,7 +98,7 @@ pub fn apply_read(message: &[u8], answer: &mut [u64]) -> u64
 pub fn apply_write(row: &[u64], texts: &[u8], output: &mut [u8], answer: &mut [u64]) -> u64
     ensures { λ r. ⌜ called r [] (now (output .exit)) (now (answer .exit)) ≡ applyWriteOf (now (row .entry)) (now (texts .entry)) (now (output .entry)) (now (answer .entry)) ⌝ }
 {
-    if row.len() != APPLY_ROW {
+    if row.len() != APPLY_ANSWER {
         return UNFIT;
     }
     if answer.len() != COUNT_ANSWER {

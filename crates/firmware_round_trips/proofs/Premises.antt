@@ -36,7 +36,7 @@ digits : (l : List ℕ) → Digits l → allDigits l ≡ true
 digits [] d = refl
 digits (b ∷ l) d = rw (digit b (d .0), digits l (d .1))
 
-signature : (l : List ℕ) → length l ≡ 64 → Digits l → isSignature l ≡ true
+pub signature : (l : List ℕ) → length l ≡ 64 → Digits l → isSignature l ≡ true
 unfolding isSignature
 signature l n d = rw (eq-eqb (length l) 64 n, digits l d)
 

@@ -76,6 +76,8 @@ segmentCases =
     ∷ segmentCase [] (refused (50, 4 ∷ []))
     -- an offset of 1, and the message ends inside a field
     ∷ segmentCase (0x10 ∷ 0x01 ∷ 0x22 ∷ []) (refused (30, []))
+    -- an offset of 1, and a name of another wire type
+    ∷ segmentCase (0x10 ∷ 0x01 ∷ 0x08 ∷ 0x00 ∷ []) (refused (33, []))
     -- the last offset is 2 ^ 32
     ∷ segmentCase (0x10 ∷ 0x01 ∷ 0x10 ∷ 0x80 ∷ 0x80 ∷ 0x80 ∷ 0x80 ∷ 0x10 ∷ 0x22 ∷ 0x40 ∷ digits) (segment noPart 0 (part 10 64))
     -- 63 digits; a byte before 0, after 9, before A, after F, before a, after f
@@ -101,11 +103,29 @@ applyCases =
     ∷ applyCase (0x0A ∷ 0x00 ∷ 0x08 ∷ []) (refused 33)
     -- a ninth component, whose length is missing
     ∷ applyCase (0x0A ∷ 0x11 ∷ 0x1A ∷ 0x00 ∷ 0x1A ∷ 0x00 ∷ 0x1A ∷ 0x00 ∷ 0x1A ∷ 0x00 ∷ 0x1A ∷ 0x00 ∷ 0x1A ∷ 0x00 ∷ 0x1A ∷ 0x00 ∷ 0x1A ∷ 0x00 ∷ 0x1A ∷ []) (refused 34)
+    -- a ninth with another wire type
+    ∷ applyCase (0x0A ∷ 0x11 ∷ 0x1A ∷ 0x00 ∷ 0x1A ∷ 0x00 ∷ 0x1A ∷ 0x00 ∷ 0x1A ∷ 0x00 ∷ 0x1A ∷ 0x00 ∷ 0x1A ∷ 0x00 ∷ 0x1A ∷ 0x00 ∷ 0x1A ∷ 0x00 ∷ 0x18 ∷ []) (refused 33)
     -- eight
     ∷ applyCase (0x0A ∷ 0x10 ∷ 0x1A ∷ 0x00 ∷ 0x1A ∷ 0x00 ∷ 0x1A ∷ 0x00 ∷ 0x1A ∷ 0x00 ∷ 0x1A ∷ 0x00 ∷ 0x1A ∷ 0x00 ∷ 0x1A ∷ 0x00 ∷ 0x1A ∷ 0x00 ∷ []) (given (record { «firmware_information» = listing [] 8; «restart_required» = false }))
     -- the outer message goes first
     ∷ applyCase (0x0A ∷ 0x02 ∷ 0x1A ∷ 0x05 ∷ 0x0B ∷ []) (refused 32)
     ∷ applyCase (0x0A ∷ 0x02 ∷ 0x1A ∷ 0x05 ∷ []) (refused 30)
+    ∷ applyCase (0x0A ∷ 0x01 ∷ 0x08 ∷ 0x0A ∷ []) (refused 34)
+    -- two components that are broken: the first is told
+    ∷ applyCase (0x0A ∷ 0x06 ∷ 0x1A ∷ 0x01 ∷ 0x08 ∷ 0x1A ∷ 0x01 ∷ 0x0B ∷ []) (refused 30)
+    -- a name of no bytes has its own place
+    ∷ applyCase (0x0A ∷ 0x02 ∷ 0x12 ∷ 0x00 ∷ [])
+    (given (record {
+      «firmware_information» = record { version = 0; name = part 4 0; components = replicate 8 noComponent; count = 0; locale = noPart; «version_name» = noPart };
+      «restart_required» = false;
+    }))
+    -- versions 2 ^ 32 + 6 and, of a component, 2 ^ 32 + 5, and its size 2 ^ 32 + 7
+    ∷ applyCase (0x0A ∷ 0x14 ∷ 0x08 ∷ 0x86 ∷ 0x80 ∷ 0x80 ∷ 0x80 ∷ 0x10 ∷ 0x1A ∷ 0x0C ∷ 0x08 ∷ 0x85 ∷ 0x80 ∷ 0x80 ∷ 0x80 ∷ 0x10 ∷ 0x18 ∷ 0x87 ∷ 0x80 ∷ 0x80 ∷ 0x80 ∷ 0x10 ∷ [])
+    (given (record {
+      «firmware_information» =
+          record { version = 6; name = noPart; components = sets (replicate 8 noComponent) 0 (record { version = 5; name = noPart; size = 7; signature = noPart } ∷ []); count = 1; locale = noPart; «version_name» = noPart };
+      «restart_required» = false;
+    }))
     -- restart_required 2 ^ 32
     ∷ applyCase (0x10 ∷ 0x80 ∷ 0x80 ∷ 0x80 ∷ 0x80 ∷ 0x10 ∷ []) (given (record { «firmware_information» = noFirmware; «restart_required» = true }))
     -- a component that is broken, and a locale of another wire type after it

@@ -30,3 +30,9 @@ abbrev pub toldSegmentWrote : SegmentWrote → ToldMore ℕ
 toldSegmentWrote (SegmentWrote.Done n) = given n
 toldSegmentWrote (SegmentWrote.Profile field) = refused (50, field ∷ [])
 toldSegmentWrote SegmentWrote.NoRoom = refused (14, [])
+
+-- the number of bytes that were written
+abbrev pub segmentWroteSize : SegmentWrote → ℕ
+segmentWroteSize (SegmentWrote.Done n) = n
+segmentWroteSize (SegmentWrote.Profile field) = 0
+segmentWroteSize SegmentWrote.NoRoom = 0

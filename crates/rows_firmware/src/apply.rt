@@ -20,7 +20,7 @@ ghost use Rattle.rows.specs.Row.{afterwards};
 ghost use Rattle.rows_firmware.specs.Apply.{rowSize, firstComponent, componentRow, componentRows, headRow, wholeRow, partAt, componentAt, componentsAt, applyAt, wideAt, anyWide, badRow};
 
 // The numbers of the row, the place of its first component, and the numbers of each.
-pub const APPLY_ROW: usize = 57;
+pub const APPLY_ANSWER: usize = 57;
 
 const FIRST_COMPONENT: usize = 9;
 
