@@ -101,6 +101,7 @@ fn a_segment_by_hand() {
     assert_eq!(segment_refusal("10 01"), (50, Some(2)));
     assert_eq!(segment_refusal(""), (50, Some(4)));
     assert_eq!(segment_refusal("10 01 22"), (30, None));
+    assert_eq!(segment_refusal("10 01 08 00"), (33, None));
 }
 
 #[test]
@@ -347,6 +348,9 @@ fn outer_messages_are_read_through_first() {
     // The components one after another: the first is cut, the second has a field of another type.
     assert_eq!(apply_refusal(&informed("1A 01 08 1A 01 0A")), 30);
     assert_eq!(apply_refusal(&informed("1A 01 0A 1A 01 08")), 33);
+    assert_eq!(apply_refusal(&informed("1A 01 08 1A 01 0B")), 30);
+    // A second firmware_information, behind one that is cut.
+    assert_eq!(apply_refusal("0A 01 08 0A"), 34);
 }
 
 #[test]

@@ -65,8 +65,7 @@ module _ (texts row : List ℕ) where
           none-wide (getD row 8 0) 9 (h .components),
         )
 
-    there : present (applyAt row .«firmware_information») ≡ componentsAt (getD row 8 0) row 9
-    unfolding applyAt
+    there : take (getD row 8 0) (componentsAt 8 row 9) ≡ componentsAt (getD row 8 0) row 9
     there = first-of (getD row 8 0) 8 9 (h .most)
 
     pub firmware-fine : badFirmware texts (applyAt row .«firmware_information») ≡ false

@@ -12,6 +12,7 @@ use Rattle.wire.specs.Told.{Told, given, refused, andThen}
 use Rattle.field.specs.declared.tag.Head.{Head}
 use Rattle.field.specs.declared.value.Value.{Value}
 use Rattle.field.specs.declared.value.Value.the-variants.{Number, Bytes, Skipped}
+use Rattle.field.specs.Unsigned.{unsignedOf}
 use Rattle.field.specs.Varint.{varintAt}
 use Rattle.field.specs.Tag.{tagAt}
 use Rattle.field.specs.Value.{skippedAt, partOf, valueAt}
@@ -59,11 +60,19 @@ module _ (pre row : List ℕ) where
       let e : length pre + k + 6 ≡ length pre + (k + 6) = omega arith in
       rw (getD-append-add pre row k 0, number-behind k 3, e, wide-behind n (k + 6))
 
-components-again : (cs : List FirmwareComponent) → NumbersFit cs → componentsAt (length cs) (componentRows cs) 0 ≡ cs
+component-again : (c : FirmwareComponent) (rest : List ℕ) → Unsigned32 (c .version) → Unsigned32 (c .size) → componentAt (componentRow c ++ rest) 0 ≡ c
 unfolding componentAt
+component-again c rest version size =
+    ap (λ (v : ℕ). made v (unsignedOf (c .size))) (low-same (c .version) version) ∙ ap (λ (z : ℕ). made (c .version) z) (low-same (c .size) size)
+  where
+    made : ℕ → ℕ → FirmwareComponent
+    made v z = record { version = v; name = c .name; size = z; signature = c .signature }
+
+components-again : (cs : List FirmwareComponent) → NumbersFit cs → componentsAt (length cs) (componentRows cs) 0 ≡ cs
 components-again [] h = refl
 components-again (c ∷ cs) h =
-    rw (components-behind (componentRow c) (componentRows cs) (length cs) 0, components-again cs (h .1), low-same (c .version) (h .0 .0), low-same (c .size) (h .0 .1))
+    ap (λ (x : FirmwareComponent). x ∷ componentsAt (length cs) (componentRow c ++ componentRows cs) 6) (component-again c (componentRows cs) (h .0 .0) (h .0 .1))
+    ∙ ap (λ (l : List FirmwareComponent). c ∷ l) (components-behind (componentRow c) (componentRows cs) (length cs) 0 ∙ components-again cs (h .1))
 
 none-wide : (n : ℕ) (cs : List FirmwareComponent) → n ≤ length cs → NumbersFit cs → anyWide n (componentRows cs) 0 ≡ false
 unfolding wideAt
@@ -94,7 +103,19 @@ module _ (a : ApplyFirmware) (version : Unsigned32 (a .«firmware_information» 
 
   row-again : applyAt (wholeRow a) ≡ a
   unfolding applyAt
-  row-again = rw (low-same (a .«firmware_information» .version) version, listed, bool-again (a .«restart_required»))
+  row-again =
+      let f = a .«firmware_information» in
+      ap (λ (v : ℕ). made v (componentsAt 8 (wholeRow a) 9) (eqb (boolValue (a .«restart_required»)) 1)) (low-same (f .version) version)
+      ∙ ap (λ (cs : List FirmwareComponent). made (f .version) cs (eqb (boolValue (a .«restart_required»)) 1)) listed
+      ∙ ap (λ (b : Bool). made (f .version) (f .components) b) (bool-again (a .«restart_required»))
+    where
+      made : ℕ → List FirmwareComponent → Bool → ApplyFirmware
+      made v cs b =
+          let f = a .«firmware_information» in
+          record {
+            «firmware_information» = record { version = v; name = f .name; components = cs; count = f .count; locale = f .locale; «version_name» = f .«version_name» };
+            «restart_required» = b;
+          }
 
   row-fine : badRow (wholeRow a) ≡ false
   unfolding badRow

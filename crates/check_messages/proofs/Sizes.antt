@@ -58,7 +58,7 @@ module _ (out l name : List ℕ) (offset size : ℕ) (signature : List ℕ) wher
   bytes = messageBytes (segmentFields name offset size signature)
 
   done : (n : ℕ) (whole short : Bool) → ltb (length out) (length bytes) ≡ short
-      → written (given n) l
+      → written {N = ℕ × List ℕ} (given n) l
       ≡ cond whole (cond short (written (refused (14, [])) out) (written (given (length bytes)) (sets out 0 bytes))) (written (refused (50, brokenField offset signature ∷ [])) out)
       → n ≤ length l
   done n true false s e =
