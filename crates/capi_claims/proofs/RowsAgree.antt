@@ -176,6 +176,12 @@ module _ (s : List ℕ) (h : Head) where
       go false false false true = skipped-agrees 4
       go false false false false = refl
 
+  -- a row of the field tells its kind
+  kind-told : (t : Told (Value × ℕ)) → let rows = andThen t (λ v. given (fieldRow h (v .0) (v .1))) in
+      andThen rows (λ row. given (rowStanding row)) ≡ andThen rows (λ row. given (told (eqb (h .wire) 0) (eqb (h .wire) 2) row))
+  kind-told (given v) = refl
+  kind-told (refused n) = refl
+
 field-agrees : (s : List ℕ) (at : ℕ) → andThen (fieldAt s at) (λ row. given (rowStanding row)) ≡ foundAt s at
 unfolding fieldAt foundAt
 field-agrees s at = go (leb (length s) at) (tagAt s at)
@@ -184,7 +190,7 @@ field-agrees s at = go (leb (length s) at) (tagAt s at)
         → andThen (cond over (given (replicate 7 0)) (andThen t (λ h. andThen (valueAt s (h .next) (h .wire)) (λ v. given (fieldRow h (v .0) (v .1)))))) (λ row. given (rowStanding row))
         ≡ cond over (given end) (andThen t (λ h. andThen (valueAt s (h .next) (h .wire)) (λ v. given (field (h .field) (v .0) (v .1)))))
     go true t = refl
-    go false (given h) = value-agrees s h
+    go false (given h) = kind-told s h (valueAt s (h .next) (h .wire)) ∙ value-agrees s h
     go false (refused n) = refl
 
 pub rows-agree : RowsAgree
