@@ -6,13 +6,13 @@ use lib.ListN.{length}
 use lib.Dec.{eqb}
 use Rattle.wire.specs.Told.{refused, written, Written, WrittenOf}
 use Rattle.field.specs.Unsigned.{unsignedOf}
-use Rattle.firmware.specs.Segment.{segmentOf}
+use Rattle.firmware.specs.Segment.{segmentOf, numberMore}
 use Rattle.firmware_writer.specs.Segment.{segmentWritten}
 use Rattle.firmware.specs.Apply.{applyOf}
 use Rattle.firmware_writer.specs.Apply.{applyWritten}
 use Rattle.rows.specs.Row.{numberTold}
 use Rattle.rows.specs.Called.{Called, ifFit, answers, writerCall}
-use Rattle.rows_firmware.specs.More.{numberMore, isWide}
+use Rattle.rows_firmware.specs.More.{isWide}
 use Rattle.rows_firmware.specs.Segment.{segmentRow, wroteRow}
 use Rattle.rows_firmware.specs.Apply.{rowSize, applyRow, badRow, applyAt}
 use Rattle.rows_firmware.specs.FieldRow.{fieldAt, rowTold}

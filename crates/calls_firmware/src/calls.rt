@@ -1,10 +1,10 @@
 // Firmware messages for C, read and written, and the reader of any field.
 use field::unsigned::low_unsigned;
+use field_writer::message::WriteRefusal;
 use firmware::apply::read_apply;
 use firmware::segment::read_segment;
 use firmware_writer::apply::write_apply;
 use firmware_writer::segment::write_segment;
-use rows::row::BAD_ARGUMENT;
 use rows::row::COUNT_ANSWER;
 use rows::row::Count;
 use rows::row::UNFIT;
@@ -61,7 +61,7 @@ pub fn segment_write(
         return UNFIT;
     }
     if either(is_wide(offset), is_wide(size)) {
-        let number = wide64(BAD_ARGUMENT);
+        let number = wide64(WriteRefusal::BadArgument.number());
         let row = [0u64; 2];
         put(answer, number, &row);
         return number;
@@ -105,7 +105,7 @@ pub fn apply_write(row: &[u64], texts: &[u8], output: &mut [u8], answer: &mut [u
         return UNFIT;
     }
     if bad_row(row) {
-        return tell(answer, Count::none(BAD_ARGUMENT));
+        return tell(answer, Count::none(WriteRefusal::BadArgument.number()));
     }
     let apply = apply_at(row);
     let wrote = write_apply(output, apply, texts);

@@ -37,7 +37,7 @@ use Rattle.device.specs.Information.{informationFields, informationWritten}
 use Rattle.device.specs.Features.{featuresFields, featuresWritten}
 use Rattle.field.specs.Unsigned.{unsignedOf}
 use Rattle.firmware.specs.declared.apply.ApplyFirmware.{ApplyFirmware}
-use Rattle.firmware.specs.Segment.{brokenField}
+use Rattle.firmware.specs.Segment.{brokenField, numberMore}
 use Rattle.firmware_writer.specs.Segment.{segmentFields, segmentWritten}
 use Rattle.firmware_writer.specs.Information.{badFirmware}
 use Rattle.firmware_writer.specs.Apply.{applyFields, applyWritten}
@@ -50,7 +50,7 @@ use Rattle.calls_classic.specs.Convert.{isExtractor, extractorOf}
 use Rattle.calls_sending.specs.Convert.{streamWith, packetRow}
 use Rattle.calls_receiving.specs.Convert.{isReceiver, slotsOf}
 use Rattle.rows_messages.specs.Convert.{allSigned, responsePayloadOf}
-use Rattle.rows_firmware.specs.More.{numberMore, isWide}
+use Rattle.rows_firmware.specs.More.{isWide}
 use Rattle.rows_firmware.specs.Segment.{wroteRow}
 use Rattle.rows_firmware.specs.Apply.{rowSize, badRow, applyAt}
 use Rattle.calls_outbox.specs.Convert.{usedIn, usedRow}

@@ -46,10 +46,6 @@ const APPLY: u8 = b'A';
 const NO_KIND: u8 = 1;
 
 const TOO_LONG: u8 = 2;
-// The refusals of a writer of a segment.
-const NO_ROOM: u8 = 14;
-
-const PROFILE: u8 = 50;
 // A letter, a message of at most 8,192 bytes, and one byte that is too many.
 const INPUT: usize = 8194;
 
@@ -75,8 +71,8 @@ fn show_segment(wrote: SegmentWrote, out: &[u8])
     requires { ⌜ segmentWroteSize wrote ≤ length (now out) ⌝ }
 {
     match wrote {
-        SegmentWrote::Profile(_) => refuse(PROFILE),
-        SegmentWrote::NoRoom => refuse(NO_ROOM),
+        SegmentWrote::Profile(_) => refuse(wrote.number()),
+        SegmentWrote::NoRoom => refuse(wrote.number()),
         SegmentWrote::Done(n) => show(Wrote::Done(n), out),
     }
 }
@@ -173,9 +169,10 @@ fn features_again(message: &[u8], out: &mut [u8]) {
 }
 
 fn segment_again(message: &[u8], out: &mut [u8]) {
-    match read_segment(message) {
+    let read = read_segment(message);
+    match read {
         SegmentRead::Refused(e) => refuse(e.number()),
-        SegmentRead::Profile(_) => refuse(PROFILE),
+        SegmentRead::Profile(_) => refuse(read.number()),
         SegmentRead::Read(s) => {
             let name = s.component_name;
             let signature = s.segment_signature;

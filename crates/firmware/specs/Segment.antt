@@ -69,6 +69,11 @@ toldSegment (SegmentRead.Read m) = given m
 toldSegment (SegmentRead.Refused e) = refused (numberOf e, [])
 toldSegment (SegmentRead.Profile field) = refused (50, field ∷ [])
 
+-- 0, or the number of the refusal
+abbrev pub numberMore : {A : Type 0} → ToldMore A → ℕ
+numberMore (given a) = 0
+numberMore (refused n) = n .0
+
 -- the parts that it tells
 abbrev pub segmentParts : UpdateComponentSegment → List Part
 segmentParts m = m .«component_name» ∷ m .«segment_signature» ∷ []

@@ -16,7 +16,7 @@ ghost use mathlib.Core.Path.{_≡_};
 ghost use Prim.Native.Nat.{_+_, _≤_};
 ghost use lib.ListN.{length};
 ghost use Rattle.field.specs.Value.{TellsWithin};
-ghost use Rattle.firmware.specs.Segment.{isDigit, allDigits, isSignature, brokenField, segmentMade, segmentJudged, segmentOf, toldSegment, segmentParts};
+ghost use Rattle.firmware.specs.Segment.{isDigit, allDigits, isSignature, brokenField, segmentMade, segmentJudged, segmentOf, toldSegment, numberMore, segmentParts};
 
 // The hexadecimal digits of a signature.
 const SIGNATURE_DIGITS: usize = 64;
@@ -36,6 +36,19 @@ pub enum SegmentRead {
     Refused(Refusal),
     // A rule of the profile is broken, in this field.
     Profile(u64),
+}
+
+impl SegmentRead {
+    // 0 where the segment is read.
+    pub fn number(self) -> u8
+        ensures { λ r. ⌜ r ≡ numberMore (toldSegment self) ⌝ }
+    {
+        match self {
+            SegmentRead::Read(_) => 0,
+            SegmentRead::Refused(why) => why.number(),
+            SegmentRead::Profile(_) => 50,
+        }
+    }
 }
 
 // Whether a byte is a hexadecimal digit.

@@ -16,6 +16,7 @@ ghost use Rattle.wire.specs.Told.{written};
 ghost use Rattle.field_writer.specs.Put.{Put};
 ghost use Rattle.field_writer.specs.Writer.{messageBytes};
 ghost use Rattle.field_writer.specs.Message.{lessRoom};
+ghost use Rattle.firmware.specs.Segment.{numberMore};
 ghost use Rattle.firmware_writer.specs.Segment.{segmentFields, segmentWritten, toldSegmentWrote};
 
 pub enum SegmentWrote {
@@ -25,6 +26,19 @@ pub enum SegmentWrote {
     Profile(u64),
     // The output is smaller than the message.
     NoRoom,
+}
+
+impl SegmentWrote {
+    // 0 where the segment is written.
+    pub fn number(self) -> u8
+        ensures { λ r. ⌜ r ≡ numberMore (toldSegmentWrote self) ⌝ }
+    {
+        match self {
+            SegmentWrote::Done(_) => 0,
+            SegmentWrote::Profile(_) => 50,
+            SegmentWrote::NoRoom => 14,
+        }
+    }
 }
 
 // The room that a segment leaves in an output of this length. Its offset is 0, which is left out.

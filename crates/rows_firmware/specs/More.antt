@@ -5,11 +5,6 @@ use lib.ListN.{getD}
 use lib.Dec.{ltb}
 use Rattle.wire.specs.Told.{ToldMore, given, refused}
 
--- 0, or the number of the refusal
-abbrev pub numberMore : {A : Type 0} → ToldMore A → ℕ
-numberMore (given a) = 0
-numberMore (refused n) = n .0
-
 -- the field that goes with the refusal; 0 where none does
 abbrev pub fieldMore : {A : Type 0} → ToldMore A → ℕ
 fieldMore (given a) = 0

@@ -1,22 +1,17 @@
 // UpdateComponentSegment: what its reader and its writer tell, as rows.
 use firmware::segment::SegmentRead;
 use firmware_writer::segment::SegmentWrote;
-use rows::row::DONE;
-use rows::row::NO_ROOM;
 use wire::bytes::wide64;
 ghost use mathlib.Core.Path.{_≡_};
-ghost use Rattle.firmware.specs.Segment.{toldSegment};
+ghost use Rattle.firmware.specs.Segment.{toldSegment, numberMore};
 ghost use Rattle.firmware_writer.specs.Segment.{toldSegmentWrote};
-ghost use Rattle.rows_firmware.specs.More.{numberMore, isWide};
+ghost use Rattle.rows_firmware.specs.More.{isWide};
 ghost use Rattle.rows_firmware.specs.Segment.{segmentRow, wroteRow};
 
 // The numbers of the answer rows.
 pub const SEGMENT_ANSWER: usize = 7;
 
 pub const SEGMENT_WROTE_ANSWER: usize = 2;
-
-// The refusal of a rule of the profile.
-const PROFILE: u64 = 50;
 
 // How many numbers have 32 bits.
 const COUNT_32: u64 = 4294967296;
@@ -31,11 +26,7 @@ pub fn is_wide(n: u64) -> bool
 pub fn segment_number(read: SegmentRead) -> u64
     ensures { λ r. ⌜ r ≡ numberMore (toldSegment read) ⌝ }
 {
-    match read {
-        SegmentRead::Read(_) => DONE,
-        SegmentRead::Refused(why) => wide64(why.number()),
-        SegmentRead::Profile(_) => PROFILE,
-    }
+    wide64(read.number())
 }
 
 pub fn segment_row(read: SegmentRead) -> [u64; 7]
@@ -63,11 +54,7 @@ pub fn segment_row(read: SegmentRead) -> [u64; 7]
 pub fn wrote_number(wrote: SegmentWrote) -> u64
     ensures { λ r. ⌜ r ≡ numberMore (toldSegmentWrote wrote) ⌝ }
 {
-    match wrote {
-        SegmentWrote::Done(_) => DONE,
-        SegmentWrote::Profile(_) => PROFILE,
-        SegmentWrote::NoRoom => wide64(NO_ROOM),
-    }
+    wide64(wrote.number())
 }
 
 pub fn wrote_row(wrote: SegmentWrote) -> [u64; 2]

@@ -15,6 +15,9 @@ returns-2 c = rw (eq-eqb _ _ (c .before .if1 .left), ne-eqb _ _ (c .if2 .taken))
 bad-row-requires : tie.Need-bad-row-requires
 bad-row-requires c κs = search needs
 
+number-requires : tie.Need-number-requires
+number-requires c κs = search needs
+
 none-requires : tie.Need-none-requires
 none-requires c κs = search needs
 
@@ -26,7 +29,7 @@ same-length c = search needs
 
 returns-3 : tie.Need-returns-3
 unfolding applyWriteOf applyStored
-returns-3 c = rw (eq-eqb _ _ (c .before .before .before .before .before .before .before .before .if1 .left), eq-eqb _ _ (c .before .before .before .before .before .before .before .if2 .left), ← (c .before .before .before .before .before .before .bad-row .ensures), c .before .before .before .before .before .if3 .taken, c .before .before .tell .ensures .0, c .before .before .tell .ensures .1, c .before .before .before .none .ensures)
+returns-3 c = rw (eq-eqb _ _ (c .before .before .before .before .before .before .before .before .before .if1 .left), eq-eqb _ _ (c .before .before .before .before .before .before .before .before .if2 .left), ← (c .before .before .before .before .before .before .before .bad-row .ensures), c .before .before .before .before .before .before .if3 .taken, c .before .before .tell .ensures .0, c .before .before .tell .ensures .1, c .before .before .before .none .ensures, c .before .before .before .before .number .ensures)
 
 apply-at-requires : tie.Need-apply-at-requires
 apply-at-requires c κs = search needs
@@ -57,6 +60,7 @@ apply-write-spec =
     returns
     returns-2
     bad-row-requires
+    number-requires
     none-requires
     tell-requires
     same-length

@@ -17,6 +17,9 @@ is-wide-requires-2 c κs = search needs
 either-requires : tie.Need-either-requires
 either-requires c κs = search needs
 
+number-requires : tie.Need-number-requires
+number-requires c κs = search needs
+
 wide64-requires : tie.Need-wide64-requires
 wide64-requires c κs = search needs
 
@@ -31,7 +34,7 @@ same-length c = search needs
 
 returns-2 : tie.Need-returns-2
 unfolding segmentWriteOf segmentStored
-returns-2 c = rw (eq-eqb _ _ (c .before .before .before .before .before .before .before .before .before .before .if1 .left), ← (c .before .before .before .before .before .before .before .before .before .is-wide .ensures), ← (c .before .before .before .before .before .before .before .before .is-wide2 .ensures), ← (c .before .before .before .before .before .before .before .either .ensures), c .before .before .before .before .before .before .if2 .taken, c .before .before .put .ensures, c .before .before .before .before .before .wide64 .ensures .0)
+returns-2 c = rw (eq-eqb _ _ (c .before .before .before .before .before .before .before .before .before .before .before .if1 .left), ← (c .before .before .before .before .before .before .before .before .before .before .is-wide .ensures), ← (c .before .before .before .before .before .before .before .before .before .is-wide2 .ensures), ← (c .before .before .before .before .before .before .before .before .either .ensures), c .before .before .before .before .before .before .before .if2 .taken, c .before .before .put .ensures, c .before .before .before .before .before .wide64 .ensures .0, c .before .before .before .before .before .before .number .ensures)
 
 low-unsigned-requires : tie.Need-low-unsigned-requires
 low-unsigned-requires c κs = search needs
@@ -72,6 +75,7 @@ segment-write-spec =
     is-wide-requires
     is-wide-requires-2
     either-requires
+    number-requires
     wide64-requires
     slice-aggregate-put
     put-requires

@@ -44,11 +44,11 @@ returns-2 c = rw (lt-leb _ _ (c .before .before .before .before .before .if1 .le
 
 returns-3 : tie.Need-returns-3
 unfolding fieldAt
-returns-3 c = rw (lt-leb _ _ (c .before .before .before .before .before .before .before .before .before .if1 .left), sym (c .before .before .before .before .before .before .before .before .read-tag .ensures) ∙ ap toldTag (c .before .before .before .before .before .before .head .given .1), sym (c .before .before .before .before .read-value .ensures) ∙ ap toldValue (c .before .before .why2 .given .1), c .refused-field2 .ensures)
+returns-3 c = rw (lt-leb _ _ (c .before .before .before .before .before .before .before .before .before .if1 .left), sym (c .before .before .before .before .before .before .before .before .read-tag .ensures) ∙ ap toldTag (c .before .before .before .before .before .before .head .given .1), sym (c .before .before .before .before .read-value .ensures .0) ∙ ap toldValue (c .before .before .why2 .given .1), c .refused-field2 .ensures)
 
 returns-4 : tie.Need-returns-4
 unfolding fieldAt
-returns-4 c = rw (lt-leb _ _ (c .before .before .before .before .before .before .before .before .before .if1 .left), sym (c .before .before .before .before .before .before .before .before .read-tag .ensures) ∙ ap toldTag (c .before .before .before .before .before .before .head .given .1), sym (c .before .before .before .before .read-value .ensures) ∙ ap toldValue (c .before .before .value .given .1), c .field-row .ensures)
+returns-4 c = rw (lt-leb _ _ (c .before .before .before .before .before .before .before .before .before .if1 .left), sym (c .before .before .before .before .before .before .before .before .read-tag .ensures) ∙ ap toldTag (c .before .before .before .before .before .before .head .given .1), sym (c .before .before .before .before .read-value .ensures .0) ∙ ap toldValue (c .before .before .value .given .1), c .field-row .ensures)
 
 pub told-field-spec : {M : Type 1} → statement M
 told-field-spec =
