@@ -6,8 +6,8 @@ use Rattle.check_messages.proofs.segment_again.Tie as tie
 read-segment-requires : tie.Need-read-segment-requires
 read-segment-requires c κs = search needs
 
-enum-known-e : tie.Need-enum-known-e
-enum-known-e c = search needs
+enum-known-read : tie.Need-enum-known-read
+enum-known-read c = search needs
 
 number-requires : tie.Need-number-requires
 number-requires c κs = search needs
@@ -18,17 +18,20 @@ refuse-requires c κs = search needs
 enum-told : tie.Need-enum-told
 enum-told c = search needs
 
+number-requires-2 : tie.Need-number-requires-2
+number-requires-2 c κs = search needs
+
 refuse-requires-2 : tie.Need-refuse-requires-2
 refuse-requires-2 c κs = search needs
 
-enum-known-s : tie.Need-enum-known-s
-enum-known-s c = search needs
+enum-known-read-2 : tie.Need-enum-known-read-2
+enum-known-read-2 c = search needs
 
 bytes-of-requires : tie.Need-bytes-of-requires
-bytes-of-requires c κs = (rw (c .before .before .before .before .s .given .1) at (c .before .before .before .before .before .before .read-segment .ensures .1)) .0
+bytes-of-requires c κs = (rw (c .before .before .before .before .read2 .given .1) at (c .before .before .before .before .before .before .read-segment .ensures .1)) .0
 
 bytes-of-requires-2 : tie.Need-bytes-of-requires-2
-bytes-of-requires-2 c κs = (rw (c .before .before .before .before .before .s .given .1) at (c .before .before .before .before .before .before .before .read-segment .ensures .1)) .1 .0
+bytes-of-requires-2 c κs = (rw (c .before .before .before .before .before .read2 .given .1) at (c .before .before .before .before .before .before .before .read-segment .ensures .1)) .1 .0
 
 write-segment-requires : tie.Need-write-segment-requires
 write-segment-requires c κs = search needs
@@ -53,12 +56,13 @@ segment-again-spec =
     tie.close
     (tie.spec
     read-segment-requires
-    enum-known-e
+    enum-known-read
     number-requires
     refuse-requires
     enum-told
+    number-requires-2
     refuse-requires-2
-    enum-known-s
+    enum-known-read-2
     bytes-of-requires
     bytes-of-requires-2
     write-segment-requires

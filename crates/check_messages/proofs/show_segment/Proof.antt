@@ -5,11 +5,17 @@ use Rattle.check_messages.proofs.show_segment.Tie as tie
 enum-told : tie.Need-enum-told
 enum-told c = search needs
 
+number-requires : tie.Need-number-requires
+number-requires c κs = search needs
+
 refuse-requires : tie.Need-refuse-requires
 refuse-requires c κs = search needs
 
 enum-told-2 : tie.Need-enum-told-2
 enum-told-2 c = search needs
+
+number-requires-2 : tie.Need-number-requires-2
+number-requires-2 c κs = search needs
 
 refuse-requires-2 : tie.Need-refuse-requires-2
 refuse-requires-2 c κs = search needs
@@ -34,8 +40,10 @@ show-segment-spec =
     tie.close
     (tie.spec
     enum-told
+    number-requires
     refuse-requires
     enum-told-2
+    number-requires-2
     refuse-requires-2
     enum-known-wrote
     show-requires
