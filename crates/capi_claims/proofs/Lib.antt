@@ -3,4 +3,6 @@ mod Extracting
 mod Accepting
 mod OneLeavesAll
 mod Sizes
+mod Applies
 mod SizesSuffice
+mod RowsAgree
