@@ -37,7 +37,7 @@ extern "C" {
 #endif
 
 /* The version of this interface: one more with each change that a caller has to follow. */
-#define PITO_VERSION 1
+#define PITO_VERSION 2
 
 /* The library is for 64-bit machines: a length is a number of 64 bits. */
 typedef char pito_size_t_has_64_bits[sizeof(size_t) == 8 ? 1 : -1];
@@ -202,11 +202,19 @@ PITO_CALL uint64_t pito_ack_write(uint64_t stream, uint64_t id, uint64_t sequenc
  * Low Energy: receiving
  *
  * State row: the numbers of a slot for each stream, from PITO_RECEIVER_SLOT(stream) on. All 0 is the state with no open
- * transaction: begin with that.
+ * transaction: begin with that. An open slot has PITO_SLOT_WANTED 1 if a packet of its transaction asked for an ACK.
  * Buffer: exactly PITO_RECEIVER_BUFFER bytes, the same one from call to call. A stream's part of it, a third, begins at
  * PITO_RECEIVER_PART(stream): control has the first, OTA the middle one, Alexa the last.
  */
-enum { PITO_SLOT_OPEN, PITO_SLOT_ID, PITO_SLOT_TOTAL, PITO_SLOT_HELD, PITO_SLOT_SEQUENCE, PITO_SLOT_STATE };
+enum {
+    PITO_SLOT_OPEN,
+    PITO_SLOT_ID,
+    PITO_SLOT_TOTAL,
+    PITO_SLOT_HELD,
+    PITO_SLOT_SEQUENCE,
+    PITO_SLOT_WANTED,
+    PITO_SLOT_STATE
+};
 #define PITO_RECEIVER_STATE (3 * PITO_SLOT_STATE)
 
 /* Of one of the three streams: its slot's place in the state row, its part's place in the buffer. */
@@ -225,7 +233,7 @@ enum { PITO_SLOT_OPEN, PITO_SLOT_ID, PITO_SLOT_TOTAL, PITO_SLOT_HELD, PITO_SLOT_
  * Answer:
  *   sequence    an ACK's or NACK's own, else 0
  *   total       the length of a finished message, else 0
- *   ACK wanted  1 if a finished message wants an ACK, else 0
+ *   ACK wanted  1 if a message is finished and any packet of its transaction asked for an ACK, else 0
  *   replaced    1 if a first packet replaced an open transaction of its stream, else 0
  * Returns 0, or the first of 1, 2, 3, 12, 4, 5, 6, 7, 8, 9, 10, 11 that holds.
  */

@@ -20,7 +20,7 @@ import random
 import sys
 
 EDITS = {
-    "ack_on_the_first": ("contract delivery returning", "the ACK flag stands on the first packet"),
+    "ack_on_the_first": ("contract", "the ACK flag stands on the first packet"),
     "last_piece_empty": ("contract", "a piece of no bytes begins where the message ends"),
     "piece_of_254": ("contract", "a full piece is one byte less than fits, where 255 would"),
     "sequence_not_modulo": ("contract", "the definition does not reduce the sequence modulo 16"),
@@ -36,6 +36,8 @@ EDITS = {
     "(refusing writer, nothing_asked)": ("contract asked", "both: the claims hold of it"),
     "(idle receiver)": ("delivery returning", "the receiver takes every packet and does nothing"),
     "(refusing reader)": ("delivery returning", "every packet that is read is refused"),
+    "(replaced wish kept)": ("delivery returning", "a first packet adds its flag to the wish of what it replaces"),
+    "(last flag alone)": ("", "the last packet's flag alone says whether an ACK is wanted"),
 }
 STREAMS = [0, 2, 6]
 edit = None
@@ -154,6 +156,7 @@ def accept(limit, slots, buf, p):
     slots[i] = None
     if t[0] == "first":
         total, at, last = t[3], 0, len(bytes_) == t[3]
+        wanted = ack or edit == "(replaced wish kept)" and slot is not None and slot[4]
     else:
         if slot is None or slot[0] != ident:
             slots[i] = slot
@@ -164,11 +167,12 @@ def accept(limit, slots, buf, p):
         end = at + len(bytes_)
         if end != total if last else end >= total:
             return 11, slots, buf
+        wanted = ack or slot[4] and edit != "(last flag alone)"
     start = i * limit + at
     buf = buf[:start] + bytes_ + buf[start + len(bytes_):]
     if last:
-        return ("finished", stream, ident, total, ack), slots, buf
-    slots[i] = (ident, total, at + len(bytes_), sequence)
+        return ("finished", stream, ident, total, wanted), slots, buf
+    slots[i] = (ident, total, at + len(bytes_), sequence, wanted)
     return ("taken",), slots, buf
 
 
@@ -217,7 +221,7 @@ def at_last(message, later):
 
 
 def lawful_state(r, limit):
-    slots = [None if r.random() < .5 or limit < 2 else (r.randrange(16), limit, r.randint(1, limit - 1), r.randrange(16)) for _ in STREAMS]
+    slots = [None if r.random() < .5 or limit < 2 else (r.randrange(16), limit, r.randint(1, limit - 1), r.randrange(16), r.random() < .5) for _ in STREAMS]
     return slots, bytes_of(r, 3 * limit)
 
 

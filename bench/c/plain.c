@@ -217,7 +217,7 @@ uint64_t plain_frame_write(uint64_t sequence, const uint8_t *payload, size_t pay
     return 0;
 }
 
-enum { OPEN, ID, TOTAL, HELD, LAST_SEQUENCE, SLOT };
+enum { OPEN, ID, TOTAL, HELD, LAST_SEQUENCE, WANTED, SLOT };
 enum { SLOTS = 3, PART = 4096 };
 enum type { FIRST, CONTINUATION, LAST, CONTROL };
 enum accepted { PIECE, FINISHED, ACKED, NACKED };
@@ -225,18 +225,20 @@ enum accepted { PIECE, FINISHED, ACKED, NACKED };
 static bool is_lawful(const uint64_t *slot)
 {
     if (slot[OPEN] == 0)
-        return (slot[ID] | slot[TOTAL] | slot[HELD] | slot[LAST_SEQUENCE]) == 0;
+        return (slot[ID] | slot[TOTAL] | slot[HELD] | slot[LAST_SEQUENCE] | slot[WANTED]) == 0;
     return slot[OPEN] == 1 && slot[ID] <= 15 && slot[TOTAL] <= PART && slot[HELD] >= 1 && slot[HELD] < slot[TOTAL]
-           && slot[LAST_SEQUENCE] <= 15;
+           && slot[LAST_SEQUENCE] <= 15 && slot[WANTED] <= 1;
 }
 
-static void set_slot(uint64_t *slot, uint64_t open, uint64_t id, uint64_t total, uint64_t held, uint64_t sequence)
+static void set_slot(uint64_t *slot, uint64_t open, uint64_t id, uint64_t total, uint64_t held, uint64_t sequence,
+                     bool wanted)
 {
     slot[OPEN] = open;
     slot[ID] = id;
     slot[TOTAL] = total;
     slot[HELD] = held;
     slot[LAST_SEQUENCE] = sequence;
+    slot[WANTED] = wanted;
 }
 
 static uint64_t tell(uint64_t *answer, enum accepted outcome, uint64_t stream, uint64_t id, uint64_t sequence,
@@ -289,7 +291,7 @@ uint64_t plain_receiver_accept(uint64_t *state, size_t state_len, uint8_t *buffe
     uint64_t *slot = state + index * SLOT;
     size_t length = extended ? (size_t)packet[header - 2] << 8 | packet[header - 1] : packet[header - 1];
     size_t total, held;
-    bool replaced = false;
+    bool replaced = false, wanted = flag;
 
     if (type == FIRST && packet[2] != 0)
         return refuse_packet(answer, 4);
@@ -313,19 +315,20 @@ uint64_t plain_receiver_accept(uint64_t *state, size_t state_len, uint8_t *buffe
         if (slot[OPEN] == 0 || slot[ID] != id)
             return refuse_packet(answer, 9);
         if (sequence != ((slot[LAST_SEQUENCE] + 1) & 15)) {
-            set_slot(slot, 0, 0, 0, 0, 0);
+            set_slot(slot, 0, 0, 0, 0, 0, false);
             return refuse_packet(answer, 10);
         }
         if (type == LAST ? held + length != total : held + length >= total) {
-            set_slot(slot, 0, 0, 0, 0, 0);
+            set_slot(slot, 0, 0, 0, 0, 0, false);
             return refuse_packet(answer, 11);
         }
+        wanted = wanted || slot[WANTED] != 0;
     }
     memcpy(buffer + index * PART + held, packet + header, length);
     if (held + length == total) {
-        set_slot(slot, 0, 0, 0, 0, 0);
-        return tell(answer, FINISHED, stream, id, 0, total, flag, replaced);
+        set_slot(slot, 0, 0, 0, 0, 0, false);
+        return tell(answer, FINISHED, stream, id, 0, total, wanted, replaced);
     }
-    set_slot(slot, 1, id, total, held + length, sequence);
+    set_slot(slot, 1, id, total, held + length, sequence, wanted);
     return tell(answer, PIECE, stream, id, 0, 0, false, replaced);
 }

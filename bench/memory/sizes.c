@@ -4,7 +4,7 @@
  *   sizes parts
  *   sizes sum DEEPEST_STACK
  *
- * rows.inc has ROW(NAME) for each row that the header names; bench/memory/run makes it.
+ * rows.inc has ROW(NAME) for each row that the header names, answers.inc for each answer row; bench/memory/run makes them.
  */
 #include <stdio.h>
 #include <stdlib.h>
@@ -22,13 +22,16 @@
 union any_row {
 #include "rows.inc"
 };
+union any_answer {
+#include "answers.inc"
+};
 #undef ROW
 
 /* In the order of the table; the rows come first, so that only the end has padding. */
 static struct box {
     uint64_t extractor[PITO_EXTRACTOR_STATE];
     uint64_t receiver[PITO_RECEIVER_STATE];
-    union any_row answer;
+    union any_answer answer;
     uint64_t transports[PITO_MOST_TRANSPORTS];
     uint8_t extractor_buffer[PITO_EXTRACTOR_BUFFER];
     uint8_t receiver_buffer[PITO_RECEIVER_BUFFER];

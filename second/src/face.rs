@@ -285,23 +285,24 @@ pub fn ack_write(wish: [u64; 4], output: &mut [u8], answer: &mut [u64]) -> u64 {
     })
 }
 
-/// Five numbers for each slot, control, OTA, Alexa: `open, id, total, held, sequence`; "a lawful
-/// idle slot's numbers are all 0".
+/// Six numbers for each slot, control, OTA, Alexa: `open, id, total, held, sequence, wanted`; "a
+/// lawful idle slot's numbers are all 0", and open and wanted are 0 or 1.
 fn slots_in(row: &[u64]) -> Option<Slots> {
     let slot = |row: &[u64]| match *row {
-        [0, 0, 0, 0, 0] => Some(None),
-        [1, id, total, held, sequence] => {
+        [0, 0, 0, 0, 0, 0] => Some(None),
+        [1, id, total, held, sequence, wanted @ 0..=1] => {
             let open = Open {
                 id: id.try_into().ok()?,
                 total: total.try_into().ok()?,
                 held: held.try_into().ok()?,
                 sequence: sequence.try_into().ok()?,
+                wanted: wanted == 1,
             };
             open.is_lawful().then_some(Some(open))
         }
         _ => None,
     };
-    let slots: Vec<Option<Open>> = row.chunks(5).map(slot).collect::<Option<_>>()?;
+    let slots: Vec<Option<Open>> = row.chunks(6).map(slot).collect::<Option<_>>()?;
     slots.try_into().ok()
 }
 
@@ -309,13 +310,14 @@ fn slots_out(slots: &Slots) -> Vec<u64> {
     slots
         .iter()
         .flat_map(|slot| match *slot {
-            None => [0; 5],
+            None => [0; 6],
             Some(open) => [
                 1,
                 u64::from(open.id),
                 wide(open.total),
                 wide(open.held),
                 u64::from(open.sequence),
+                u64::from(open.wanted),
             ],
         })
         .collect()

@@ -5,7 +5,7 @@ use native.Mathlib.Nat.{suc-mul, mul-le-mul-right}
 use mathlib.Core.Path.{_≡_, refl, sym, ap, _∙_}
 use mathlib.Core.Option.{Option, none, some}
 use mathlib.Core.List.{List, [], _∷_}
-use mathlib.Core.Bool.{Bool, true, false, cond, _&&_, false≢true}
+use mathlib.Core.Bool.{Bool, true, false, cond, _&&_, _||_, false≢true}
 use lib.ListN.{length, getD, set, take}
 use lib.Seq.{getD-set-same, take-length}
 use borrow.Author.Tests.{eq-eqb, ne-eqb, lt-leb}
@@ -56,7 +56,7 @@ placeFor w = laneStart (streamFor w) + 0
 
 abbrev openSlot : Sending → List ℕ → ℕ → ℕ → Slot
 openSlot w m index place =
-    record { opened = true; id = w .id; total = length m; held = place; sequence = sequenceAfter (w .sequence) index }
+    record { opened = true; id = w .id; total = length m; held = place; sequence = sequenceAfter (w .sequence) index; wanted = false }
 
 -- The packets up to the one with this index have come, and none of the stream since: `place` bytes are held, and the part begins with them.
 pub record Holding (limit : ℕ) (w : Sending) (m : List ℕ) (index place : ℕ) (slots : List Slot) (bytes : List ℕ) : Type 0 where
@@ -96,7 +96,7 @@ module _ (limit : ℕ) (w : Sending) (m : List ℕ) (ok : InRange limit w (lengt
     stores = rw (payload-read w m p) (part-grows limit (placeFor w) (p .place) (p .size) bytes m inside within (ok .within) before)
 
     last-gives : p .place + p .size ≡ length m
-        → r ≡ applied limit slots bytes (packetOf w m p) (laneStart (streamFor w)) (step 0 (finish (headFor w p) (isLast (length m) p && w .ack) (length m) replaced (pieceIn p)))
+        → r ≡ applied limit slots bytes (packetOf w m p) (laneStart (streamFor w)) (step 0 (finish (headFor w p) (w .ack) (length m) replaced (pieceIn p)))
         → gives limit r ≡ some (messageOf w m)
     unfolding finish
     last-gives e f =
@@ -104,10 +104,10 @@ module _ (limit : ℕ) (w : Sending) (m : List ℕ) (ok : InRange limit w (lengt
         let left : List ℕ = stored limit (placeFor w) bytes (packetOf w m p) (pieceIn p) in
         let all : take (length m) (partOf limit (laneStart (streamFor w)) left) ≡ m
         = ap (λ (i : ℕ). take (length m) (partOf limit i left)) same ∙ rw e at stores ∙ take-length m in
-        rw (f, eq-eqb (p .place + p .size) (length m) e, all)
+        rw (f, all)
 
     more-holds : Fits limit (r .slots) (r .bytes)
-        → r ≡ applied limit slots bytes (packetOf w m p) (laneStart (streamFor w)) (step 0 (hold (headFor w p) (length m) replaced (pieceIn p)))
+        → r ≡ applied limit slots bytes (packetOf w m p) (laneStart (streamFor w)) (step 0 (hold (headFor w p) false (length m) replaced (pieceIn p)))
         → More limit w m (p .index) (p .place + p .size) r
     unfolding hold
     more-holds ready f =
@@ -142,13 +142,13 @@ module _ (limit : ℕ) (w : Sending) (m : List ℕ) (ok : InRange limit w (lengt
   unfolding firstStep
   first-last e =
       last-gives limit w m ok slots bytes o piece (omega arith) refl (was .opened) _ (omega arith)
-      (first-is ∙ rw (eq-eqb n (length m) e))
+      (first-is ∙ rw (eq-eqb n (length m) e, eq-eqb (0 + n) (length m) (omega arith)))
 
   first-more : n < length m → More limit w m 0 (0 + n) (acceptOf limit slots bytes (packetOf w m piece))
   unfolding firstStep
   first-more l =
       more-holds limit w m ok slots bytes o piece (omega arith) refl (was .opened) _
-      (ready-next limit slots bytes (packetOf w m piece) o) (first-is ∙ rw (ne-eqb n (length m) (λ e. omega arith)))
+      (ready-next limit slots bytes (packetOf w m piece) o) (first-is ∙ rw (ne-eqb n (length m) (λ e. omega arith), ne-eqb (0 + n) (length m) (λ e. omega arith)))
 
 -- ---- the packets after the first
 
@@ -156,7 +156,8 @@ module _ (limit : ℕ) (w : Sending) (m : List ℕ) (ok : InRange limit w (lengt
 next-passes : (s : Slot) (h : Head) (ack last : Bool) (start n : ℕ) → h .sequence ≡ sequenceAfter (s .sequence) 1
     → offTotal last (s .held + n) (s .total) ≡ false
     → nextStep s h ack last start n
-    ≡ cond last (finish h ack (s .total) false (record { at = s .held; start = start; len = n })) (hold h (s .total) false (record { at = s .held; start = start; len = n }))
+    ≡ cond last (finish h (s .wanted || ack) (s .total) false (record { at = s .held; start = start; len = n }))
+    (hold h (s .wanted || ack) (s .total) false (record { at = s .held; start = start; len = n }))
 unfolding nextStep
 next-passes s h ack last start n q t = simp (eq-eqb (h .sequence) (sequenceAfter (s .sequence) 1) q, t)
 
@@ -180,8 +181,8 @@ module _ (limit : ℕ) (w : Sending) (m : List ℕ) (ok : InRange limit w (lengt
   next-is : (last : Bool) → isLast (length m) following ≡ last → offTotal last (place + n) (length m) ≡ false
       → acceptOf limit slots bytes (packetOf w m following)
       ≡ applied limit slots bytes (packetOf w m following) (laneStart (streamFor w))
-      (step 0 (cond last (finish (headFor w following) (isLast (length m) following && w .ack) (length m) false (pieceIn following))
-      (hold (headFor w following) (length m) false (pieceIn following))))
+      (step 0 (cond last (finish (headFor w following) (last && w .ack) (length m) false (pieceIn following))
+      (hold (headFor w following) (last && w .ack) (length m) false (pieceIn following))))
   next-is last e t =
       accept-read limit slots bytes (packetOf w m following) _ (h .is-ready)
       (next-read limit w m following (ok .known) (ok .id) small not-first some-left)

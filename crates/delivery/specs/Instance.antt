@@ -32,9 +32,9 @@ message = from 1 35
 abbrev pub output : List ℕ
 output = replicate 20 0
 
--- an OTA transaction is open, of which two bytes are held
+-- an OTA transaction is open, of which two bytes are held, and which wants an ACK
 abbrev pub slots : List Slot
-slots = idle ∷ record { opened = true; id = 3; total = 6; held = 2; sequence = 15 } ∷ idle ∷ []
+slots = idle ∷ record { opened = true; id = 3; total = 6; held = 2; sequence = 15; wanted = true } ∷ idle ∷ []
 
 abbrev pub buffer : List ℕ
 buffer = replicate (slotCount * limit) 0

@@ -59,7 +59,7 @@ held-by : (limit : ℕ) (s : Slot) (b : Bool) → cond b (openLaw limit s) (idle
 held-by limit s true e = let o = open-numbers limit s e in omega arith
 held-by limit s false e =
     let e2 = and-right (eqb (s .sequence) 0) _ (and-right (eqb (s .id) 0) _ e) in
-    let h : s .held ≡ 0 = eqb-true (s .held) 0 (and-right (eqb (s .total) 0) _ e2) in
+    let h : s .held ≡ 0 = eqb-true (s .held) 0 (and-left (eqb (s .held) 0) _ (and-right (eqb (s .total) 0) _ e2)) in
     omega arith
 
 -- open or idle, no more is held than the limit

@@ -4,7 +4,7 @@ use native.Mathlib.Omega.{arith}
 use mathlib.Core.Path.{_≡_, refl, sym, ap, _∙_}
 use mathlib.Core.Option.{Option, none, some}
 use mathlib.Core.List.{List, [], _∷_}
-use mathlib.Core.Bool.{Bool, true, false, cond, false≢true}
+use mathlib.Core.Bool.{Bool, true, false, cond, _||_, false≢true}
 use lib.ListN.{length, getD}
 use lib.Dec.{eqb}
 use borrow.Author.Tests.{eqb-true, eqb-false, leb-false, not-false}
@@ -60,15 +60,15 @@ module _ (limit k place : ℕ) (low : place < slotsEach) where
   unfolding dropBy
   drop-fits n = record { within = low; inside = (omega arith, omega arith); left = idle-lawful limit }
 
-  finish-fits : (h : Head) (ack : Bool) (total : ℕ) (replaced : Bool) (piece : Piece) → Inside limit k piece
-      → Fit limit k place (finish h ack total replaced piece)
+  finish-fits : (h : Head) (wanted : Bool) (total : ℕ) (replaced : Bool) (piece : Piece) → Inside limit k piece
+      → Fit limit k place (finish h wanted total replaced piece)
   unfolding finish
-  finish-fits h ack total replaced piece i = record { within = low; inside = i; left = idle-lawful limit }
+  finish-fits h wanted total replaced piece i = record { within = low; inside = i; left = idle-lawful limit }
 
-  hold-fits : (h : Head) (total : ℕ) (replaced : Bool) (piece : Piece) → Inside limit k piece → HeadLow h → total ≤ limit
-      → 1 ≤ piece .at + piece .len → piece .at + piece .len < total → Fit limit k place (hold h total replaced piece)
+  hold-fits : (h : Head) (wanted : Bool) (total : ℕ) (replaced : Bool) (piece : Piece) → Inside limit k piece → HeadLow h → total ≤ limit
+      → 1 ≤ piece .at + piece .len → piece .at + piece .len < total → Fit limit k place (hold h wanted total replaced piece)
   unfolding hold
-  hold-fits h total replaced piece i head t sent below =
+  hold-fits h wanted total replaced piece i head t sent below =
       record {
         within = low;
         inside = i;
@@ -86,26 +86,26 @@ module _ (limit k place : ℕ) (low : place < slotsEach) where
   first-fits s h ack total start len false e w =
       let sent = some-sent len total (w .3) (eqb-false len total e) in
       let d : (len ≡ total → ⊥) = eqb-false len total e in
-      rw e (hold-fits h total (s .opened) _ (omega arith, omega arith) (w .4) (w .2) (omega arith) (omega arith))
+      rw e (hold-fits h ack total (s .opened) _ (omega arith, omega arith) (w .4) (w .2) (omega arith) (omega arith))
 
-  go-on-fits : (s : Slot) (h : Head) (ack last : Bool) (start len : ℕ) → OpenSlot limit s → HeadLow h → start + len ≤ k
+  go-on-fits : (s : Slot) (h : Head) (wanted last : Bool) (start len : ℕ) → OpenSlot limit s → HeadLow h → start + len ≤ k
       → offTotal last (s .held + len) (s .total) ≡ false
       → Fit limit k place
-      (cond last (finish h ack (s .total) false (record { at = s .held; start = start; len = len }))
-      (hold h (s .total) false (record { at = s .held; start = start; len = len })))
-  go-on-fits s h ack true start len o head w t =
+      (cond last (finish h wanted (s .total) false (record { at = s .held; start = start; len = len }))
+      (hold h wanted (s .total) false (record { at = s .held; start = start; len = len })))
+  go-on-fits s h wanted true start len o head w t =
       let e : s .held + len ≡ s .total = eqb-true (s .held + len) (s .total) (not-false _ t) in
-      finish-fits h ack (s .total) false _ (w, omega arith)
-  go-on-fits s h ack false start len o head w t =
+      finish-fits h wanted (s .total) false _ (w, omega arith)
+  go-on-fits s h wanted false start len o head w t =
       let e : s .held + len < s .total = leb-false (s .total) (s .held + len) t in
-      hold-fits h (s .total) false _ (w, omega arith) head (o .total-low) (omega arith) e
+      hold-fits h wanted (s .total) false _ (w, omega arith) head (o .total-low) (omega arith) e
 
   next-fits : (s : Slot) (h : Head) (ack last : Bool) (start len : ℕ) → lawfulSlot limit s ≡ true → isOpen (h .id) s ≡ true
       → Within limit k (Next h ack last start len) → Fit limit k place (nextStep s h ack last start len)
   unfolding nextStep
   next-fits s h ack last start len law known w =
       by-table (Fit limit k place) (lines s h last len) dropBy _ drop-fits (λ e.
-      go-on-fits s h ack last start len (lawful-open limit s law (and-left (s .opened) _ known)) (w .1) (w .0) (e .1 .0))
+      go-on-fits s h (s .wanted || ack) last start len (lawful-open limit s law (and-left (s .opened) _ known)) (w .1) (w .0) (e .1 .0))
 
 -- ---- what a packet does fits
 

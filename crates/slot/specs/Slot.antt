@@ -1,7 +1,8 @@
--- The slot of a stream: idle, or open with id, total, count held and last sequence; and where a stream's slots stand among all.
+-- The slot of a stream: idle, or open with id, total, count held, last sequence and whether an ACK is wanted; and where a stream's
+-- slots stand among all.
 use Prim.Native.Nat.{ℕ, _*_}
 use mathlib.Core.List.{List, [], _∷_}
-use mathlib.Core.Bool.{Bool, true, false, cond, _&&_}
+use mathlib.Core.Bool.{Bool, true, false, not, cond, _&&_}
 use lib.ListN.{length, take, drop}
 use lib.Dec.{leb, ltb, eqb}
 use Rattle.wire.specs.declared.stream.Stream.{Stream}
@@ -9,17 +10,17 @@ use Rattle.wire.specs.declared.stream.Stream.the-variants.{Control, Ota, Alexa}
 use Rattle.packet.specs.Header.{fourBits}
 use Rattle.slot.specs.declared.Slot.{Slot}
 
--- all its numbers are 0
+-- all its numbers are 0, and it remembers no wish
 abbrev pub idle : Slot
-idle = record { opened = false; id = 0; total = 0; held = 0; sequence = 0 }
+idle = record { opened = false; id = 0; total = 0; held = 0; sequence = 0; wanted = false }
 
--- id and sequence up to 15, total up to the limit, 1 <= held < total
+-- id and sequence up to 15, total up to the limit, 1 <= held < total; an ACK is wanted or not
 abbrev pub openLaw : ℕ → Slot → Bool
 openLaw limit s =
     ltb (s .id) fourBits && (ltb (s .sequence) fourBits && (leb (s .total) limit && (leb 1 (s .held) && ltb (s .held) (s .total))))
 
 abbrev pub idleLaw : Slot → Bool
-idleLaw s = eqb (s .id) 0 && (eqb (s .sequence) 0 && (eqb (s .total) 0 && eqb (s .held) 0))
+idleLaw s = eqb (s .id) 0 && (eqb (s .sequence) 0 && (eqb (s .total) 0 && (eqb (s .held) 0 && not (s .wanted))))
 
 unfoldable pub lawfulSlot : ℕ → Slot → Bool
 lawfulSlot limit s = cond (s .opened) (openLaw limit s) (idleLaw s)

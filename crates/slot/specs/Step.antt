@@ -2,7 +2,7 @@
 use Prim.Native.Nat.{ℕ, suc, _+_}
 use mathlib.Core.List.{List, [], _∷_}
 use mathlib.Core.Option.{Option, none, some}
-use mathlib.Core.Bool.{Bool, true, false, not, cond}
+use mathlib.Core.Bool.{Bool, true, false, not, cond, _||_}
 use lib.ListN.{getD}
 use lib.Dec.{leb, eqb}
 use Rattle.wire.specs.Told.{Told, given, refused, Line, line, table}
@@ -37,29 +37,29 @@ pub data Act : Type 0 where
 abbrev pub nothing : Piece
 nothing = record { at = 0; start = 0; len = 0 }
 
--- the transaction is finished, and its slot idle
+-- the transaction is finished: its wish for an ACK is told, and its slot idle
 unfoldable pub finish : Head → Bool → ℕ → Bool → Piece → Step
-finish head ack total replaced piece =
-    record { told = given (Finished (head .stream) (head .id) total ack replaced); slot = idle; piece = piece }
+finish head wanted total replaced piece =
+    record { told = given (Finished (head .stream) (head .id) total wanted replaced); slot = idle; piece = piece }
 
--- more is to come: the slot holds all up to the piece's end
-unfoldable pub hold : Head → ℕ → Bool → Piece → Step
-hold head total replaced piece =
+-- more is to come: the slot holds all up to the piece's end, and remembers the wish
+unfoldable pub hold : Head → Bool → ℕ → Bool → Piece → Step
+hold head wanted total replaced piece =
     record {
       told = given (Taken (head .stream) (head .id) replaced);
-      slot = record { opened = true; id = head .id; total = total; held = piece .at + piece .len; sequence = head .sequence };
+      slot = record { opened = true; id = head .id; total = total; held = piece .at + piece .len; sequence = head .sequence; wanted = wanted };
       piece = piece;
     }
 
--- the transaction is dropped: its slot is idle, and nothing is written
+-- the transaction is dropped: its slot is idle, its wish forgotten, and nothing is written
 unfoldable pub dropBy : ℕ → Step
 dropBy n = record { told = refused n; slot = idle; piece = nothing }
 
--- a first packet replaces what is open; one whose payload equals its total finishes at once
+-- a first packet replaces what is open, its wish too; one whose payload equals its total finishes at once
 unfoldable pub firstStep : Slot → Head → Bool → ℕ → ℕ → ℕ → Step
 firstStep s head ack total start len =
     cond (eqb len total) (finish head ack total (s .opened) (record { at = 0; start = start; len = len }))
-    (hold head total (s .opened) (record { at = 0; start = start; len = len }))
+    (hold head ack total (s .opened) (record { at = 0; start = start; len = len }))
 
 -- type 1 reaches or passes the total, or type 2 misses it
 abbrev pub offTotal : Bool → ℕ → ℕ → Bool
@@ -72,12 +72,12 @@ lines s head last len =
     ∷ line 11 (offTotal last (s .held + len) (s .total))
     ∷ []
 
--- it is written behind what is held; 10 and 11 drop the transaction
+-- it is written behind what is held, and adds its flag to the wish; 10 and 11 drop the transaction
 unfoldable pub nextStep : Slot → Head → Bool → Bool → ℕ → ℕ → Step
 nextStep s head ack last start len =
     table (lines s head last len) dropBy
-    (cond last (finish head ack (s .total) false (record { at = s .held; start = start; len = len }))
-    (hold head (s .total) false (record { at = s .held; start = start; len = len })))
+    (cond last (finish head (s .wanted || ack) (s .total) false (record { at = s .held; start = start; len = len }))
+    (hold head (s .wanted || ack) (s .total) false (record { at = s .held; start = start; len = len })))
 
 -- ---- the slots of a stream
 

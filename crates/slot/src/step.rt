@@ -6,6 +6,7 @@ use crate::answer::Refusal;
 use packet::header;
 use packet::reader::Head;
 use packet::reader::Packet;
+use wire::logic::either;
 ghost use mathlib.Core.Path.{_≡_};
 ghost use Prim.Native.Nat.{_^_, _<_};
 ghost use mathlib.Core.List.{[], _∷_};
@@ -34,9 +35,9 @@ pub enum Act {
     Step(Step),
 }
 
-// The transaction is finished, and its slot idle.
-fn finish(head: Head, ack: bool, total: usize, replaced: bool, piece: Piece) -> Step
-    ensures { λ r. ⌜ stepOf r ≡ finish head ack total replaced piece ⌝ }
+// The transaction is finished: its wish for an ACK is told, and its slot idle.
+fn finish(head: Head, wanted: bool, total: usize, replaced: bool, piece: Piece) -> Step
+    ensures { λ r. ⌜ stepOf r ≡ finish head wanted total replaced piece ⌝ }
 {
     let stream = head.stream;
     let slot = Slot::idle();
@@ -45,7 +46,7 @@ fn finish(head: Head, ack: bool, total: usize, replaced: bool, piece: Piece) -> 
             stream,
             id: head.id,
             total,
-            ack,
+            ack: wanted,
             replaced,
         }),
         slot,
@@ -53,12 +54,13 @@ fn finish(head: Head, ack: bool, total: usize, replaced: bool, piece: Piece) -> 
     }
 }
 
-// More is to come: the slot holds all up to the piece's end.
-fn hold(head: Head, total: usize, replaced: bool, piece: Piece) -> Step
+// More is to come: the slot holds all up to the piece's end, and remembers the wish.
+fn hold(head: Head, wanted: bool, total: usize, replaced: bool, piece: Piece) -> Step
     requires { ⌜ (piece .at < 2 ^ 63) × (piece .len < 2 ^ 63) ⌝ }
-    ensures { λ r. ⌜ stepOf r ≡ hold head total replaced piece ⌝ }
+    ensures { λ r. ⌜ stepOf r ≡ hold head wanted total replaced piece ⌝ }
 {
     let stream = head.stream;
+    let held = piece.at + piece.len;
     Step {
         answer: Answer::Given(Accepted::Taken {
             stream,
@@ -69,8 +71,9 @@ fn hold(head: Head, total: usize, replaced: bool, piece: Piece) -> Step
             opened: true,
             id: head.id,
             total,
-            held: piece.at + piece.len,
+            held,
             sequence: head.sequence,
+            wanted,
         },
         piece,
     }
@@ -92,7 +95,7 @@ fn drop_by(why: Refusal) -> Step
     }
 }
 
-// A first packet replaces what is open; one whose payload equals its total finishes at once.
+// A first packet replaces what is open, its wish too; one whose payload equals its total finishes at once.
 fn on_first(slot: Slot, head: Head, ack: bool, total: usize, start: usize, len: usize) -> Step
     requires { ⌜ len < 2 ^ 63 ⌝ }
     ensures { λ r. ⌜ stepOf r ≡ firstStep slot head ack total start len ⌝ }
@@ -102,7 +105,7 @@ fn on_first(slot: Slot, head: Head, ack: bool, total: usize, start: usize, len: 
     if len == total {
         return finish(head, ack, total, replaced, piece);
     }
-    hold(head, total, replaced, piece)
+    hold(head, ack, total, replaced, piece)
 }
 
 // Whether type 1 reaches or passes the total, or type 2 misses it.
@@ -112,7 +115,7 @@ fn off_total(last: bool, held: usize, total: usize) -> bool
     if last { held != total } else { total <= held }
 }
 
-// A packet that follows in an open transaction is written behind what is held.
+// A packet that follows in an open transaction is written behind what is held, and adds its flag to the wish.
 fn on_next(slot: Slot, head: Head, ack: bool, last: bool, start: usize, len: usize) -> Step
     requires { ⌜ (slot .held < 2 ^ 63) × (len < 2 ^ 63) ⌝ }
     ensures { λ r. ⌜ stepOf r ≡ nextStep slot head ack last start len ⌝ }
@@ -126,11 +129,12 @@ fn on_next(slot: Slot, head: Head, ack: bool, last: bool, start: usize, len: usi
     if off_total(last, at + len, total) {
         return drop_by(Refusal::Amount);
     }
+    let wanted = either(slot.wanted, ack);
     let piece = Piece { at, start, len };
     if last {
-        return finish(head, ack, total, false, piece);
+        return finish(head, wanted, total, false, piece);
     }
-    hold(head, total, false, piece)
+    hold(head, wanted, total, false, piece)
 }
 
 // A packet that follows: what it does where its transaction is open.

@@ -215,8 +215,10 @@ fn each_edge(c: &mut Comparison<'_>, rng: &mut Rng) -> Compared<()> {
         (
             Operation::ReceiverAccept,
             &[
-                &[0; 15],
-                &[1, 3, 9, 2, 7, 1, 0, 2, 1, 0, 1, 15, 4_096, 4_095, 15],
+                &[0; 18],
+                &[
+                    1, 3, 9, 2, 7, 0, 1, 0, 2, 1, 0, 1, 1, 15, 4_096, 4_095, 15, 1,
+                ],
             ],
         ),
     ];
@@ -288,9 +290,10 @@ fn every_byte(c: &mut Comparison<'_>, rng: &mut Rng) -> Compared<()> {
     Ok(())
 }
 
-/// Every byte 0 and byte 1 of a packet, over a state with two open slots, at several lengths.
+/// Every byte 0 and byte 1 of a packet, over a state with two open slots, one that wants an ACK, at
+/// several lengths.
 fn every_pair(c: &mut Comparison<'_>, rng: &mut Rng) -> Compared<()> {
-    let state = [1, 3, 9, 2, 7, 0, 0, 0, 0, 0, 1, 12, 5, 4, 15];
+    let state = [1, 3, 9, 2, 7, 1, 0, 0, 0, 0, 0, 0, 1, 12, 5, 4, 15, 0];
     let mut call = Call::new(Operation::ReceiverAccept).lent(rng.bytes(low_energy::BUFFER));
     for zeroth in 0..=255u8 {
         for first in 0..=255u8 {

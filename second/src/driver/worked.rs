@@ -1,4 +1,4 @@
-//! "Worked by hand": P1 to P12, and the slips that the paper names.
+//! "Worked by hand": P1 to P12, the slips that the paper names, and the cases of the change requests.
 
 use super::Plan;
 use crate::classic;
@@ -31,7 +31,8 @@ pub fn run(c: &mut Comparison<'_>, _: &mut Rng, _: Plan) -> Compared<()> {
     packets(c)?;
     messages(c)?;
     outbox(c)?;
-    slips(c)
+    slips(c)?;
+    requests(c)
 }
 
 /// Feeds a stream whole, call after call, and holds it to what each call has to tell: the number
@@ -113,7 +114,7 @@ fn receiver(state: &[u64]) -> Call {
         .lent(blank(low_energy::BUFFER))
 }
 
-const IDLE: [u64; 15] = [0; 15];
+const IDLE: [u64; 18] = [0; 18];
 
 fn packets(c: &mut Comparison<'_>) -> Compared<()> {
     c.at = "P4".to_string();
@@ -130,14 +131,14 @@ fn packets(c: &mut Comparison<'_>) -> Compared<()> {
     let mut call = receiver(&IDLE);
     c.hold(made == expected, "the three packets", &call)?;
     let answers = [
-        ([0, 6, 1, 0, 0, 0, 0], [1, 1, 35, 14, 0]),
-        ([0, 6, 1, 0, 0, 0, 0], [1, 1, 35, 31, 1]),
-        ([1, 6, 1, 0, 35, 1, 0], [0; 5]),
+        ([0, 6, 1, 0, 0, 0, 0], [1, 1, 35, 14, 0, 0]),
+        ([0, 6, 1, 0, 0, 0, 0], [1, 1, 35, 31, 1, 0]),
+        ([1, 6, 1, 0, 35, 1, 0], [0; 6]),
     ];
     for (packet, (answer, slot)) in made.iter().zip(answers) {
         call.inputs[0] = packet.clone();
         c.expect(&mut call, 0, |call| {
-            call.answer == answer && call.state[10..] == slot
+            call.answer == answer && call.state[12..] == slot
         })?;
     }
     let kept = call.lent[8_192..8_227] == message
@@ -172,11 +173,11 @@ fn packets(c: &mut Comparison<'_>) -> Compared<()> {
 
     c.at = "P7".to_string();
     // OTA is open with id 4, total 9, one byte held, last sequence 15.
-    let open = [0, 0, 0, 0, 0, 1, 4, 9, 1, 15, 0, 0, 0, 0, 0];
+    let open = [0, 0, 0, 0, 0, 0, 1, 4, 9, 1, 15, 0, 0, 0, 0, 0, 0, 0];
     let mut call = receiver(&open).inputs(&[&bytes("24 04 02 AA BB")]);
     c.expect(&mut call, 0, |call| {
         call.answer == [0, 2, 4, 0, 0, 0, 0]
-            && call.state == [0, 0, 0, 0, 0, 1, 4, 9, 3, 0, 0, 0, 0, 0, 0]
+            && call.state == [0, 0, 0, 0, 0, 0, 1, 4, 9, 3, 0, 0, 0, 0, 0, 0, 0, 0]
             && call.lent[4_096..4_100] == [0xCC, 0xAA, 0xBB, 0xCC]
     })?;
     let mut call = receiver(&open).inputs(&[&bytes("24 A4 02 AA BB")]);
@@ -300,12 +301,12 @@ fn slips(c: &mut Comparison<'_>) -> Compared<()> {
     c.expect(&mut call, 0, |call| {
         call.answer == [1, 6, 5, 0, 200, 0, 0] && call.lent[8_192..8_392] == piece
     })?;
-    let open = [0, 0, 0, 0, 0, 0, 0, 0, 0, 0, 1, 5, 300, 7, 3];
+    let open = [0, 0, 0, 0, 0, 0, 0, 0, 0, 0, 0, 0, 1, 5, 300, 7, 3, 0];
     let packet = [bytes("65 45 00 C8"), piece.clone()].concat();
     let mut call = receiver(&open).inputs(&[&packet]);
     c.expect(&mut call, 0, |call| {
         call.answer == [0, 6, 5, 0, 0, 0, 0]
-            && call.state[10..] == [1, 5, 300, 207, 4]
+            && call.state[12..] == [1, 5, 300, 207, 4, 0]
             && call.lent[8_199..8_399] == piece
     })?;
 
@@ -313,6 +314,34 @@ fn slips(c: &mut Comparison<'_>) -> Compared<()> {
     let packet = [bytes("61 02 00 00 23 0E"), counting(14)].concat();
     let mut call = receiver(&IDLE).inputs(&[&packet]);
     c.expect(&mut call, 0, |call| {
-        call.answer == [0, 6, 1, 0, 0, 0, 0] && call.state[10..] == [1, 1, 35, 14, 0]
+        call.answer == [0, 6, 1, 0, 0, 0, 0] && call.state[12..] == [1, 1, 35, 14, 0, 1]
     })
+}
+
+/// No. 2: "An ACK is wanted if at least one accepted packet of the transaction carried the flag."
+fn requests(c: &mut Comparison<'_>) -> Compared<()> {
+    c.at = "No. 2: the flag on the first packet only".to_string();
+    let mut call = receiver(&IDLE).inputs(&[&bytes("61 02 00 00 02 01 AA")]);
+    c.expect(&mut call, 0, |call| {
+        call.answer == [0, 6, 1, 0, 0, 0, 0] && call.state[12..] == [1, 1, 2, 1, 0, 1]
+    })?;
+    call.inputs[0] = bytes("61 18 01 BB");
+    c.expect(&mut call, 0, |call| {
+        call.answer == [1, 6, 1, 0, 2, 1, 0] && call.state == IDLE
+    })?;
+
+    c.at = "No. 2: what a slot remembers is 0 or 1, and 0 in an idle one".to_string();
+    for slot in 0..3 {
+        for (open, wanted, returned) in [(0, 1, 1), (0, 2, 1), (1, 0, 2), (1, 1, 2), (1, 2, 1)] {
+            let mut state = IDLE;
+            if open == 1 {
+                state[6 * slot..][..5].copy_from_slice(&[1, 3, 9, 2, 7]);
+            }
+            state[6 * slot + 5] = wanted;
+            // One byte: 2, unless the state is unlawful.
+            let mut call = receiver(&state).inputs(&[&[0]]);
+            c.expect(&mut call, returned, |call| call.state == state)?;
+        }
+    }
+    Ok(())
 }

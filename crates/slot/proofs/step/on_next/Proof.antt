@@ -7,16 +7,16 @@ use Rattle.slot.proofs.step.on_next.Statement.{statement}
 use Rattle.slot.proofs.step.on_next.Tie as tie
 
 -- where no line of the table holds
-went-on : (c : tie.Else2)
-    → (let a = c .before .before .before .before .before .args in
+went-on : (c : tie.After-either)
+    → (let a = c .before .before .before .before .before .before .args in
     nextStep (a .slot) (a .head) (a .ack) (a .last) (a .start) (a .len)
-    ≡ cond (a .last) (finish (a .head) (a .ack) (a .slot .total) false (record { at = a .slot .held; start = a .start; len = a .len }))
-    (hold (a .head) (a .slot .total) false (record { at = a .slot .held; start = a .start; len = a .len })))
+    ≡ cond (a .last) (finish (a .head) (c .either .result) (a .slot .total) false (record { at = a .slot .held; start = a .start; len = a .len }))
+    (hold (a .head) (c .either .result) (a .slot .total) false (record { at = a .slot .held; start = a .start; len = a .len })))
 unfolding nextStep
 went-on c =
-    let t = c .before in
+    let t = c .before .before in
     let s = t .before .before .before in
-    rw (← s .sequence-after .ensures .0, eq-eqb _ _ (t .before .if1 .left), ← t .off-total .ensures, c .if2 .left)
+    rw (← s .sequence-after .ensures .0, eq-eqb _ _ (t .before .if1 .left), ← t .off-total .ensures, c .before .if2 .left, ← c .either .ensures)
 
 sequence-after-requires : tie.Need-sequence-after-requires
 sequence-after-requires c κs = search needs
@@ -47,6 +47,9 @@ returns-2 c =
     rw (← s .sequence-after .ensures .0, eq-eqb _ _ (t .before .if1 .left), ← t .off-total .ensures, c .before .if2 .taken)
     (c .drop-by2 .ensures)
 
+either-requires : tie.Need-either-requires
+either-requires c κs = search needs
+
 finish-requires : tie.Need-finish-requires
 finish-requires c κs = search needs
 
@@ -70,6 +73,7 @@ on-next-spec =
     off-total-requires
     drop-by-requires-2
     returns-2
+    either-requires
     finish-requires
     returns-3
     hold-requires
