@@ -8,8 +8,8 @@ use native.Mathlib.Numerals.{add-one}
 use native.Mathlib.Omega.{arith}
 use lib.ListN.{length, take, drop, getD, set, length-append, length-set, take-append-drop, drop-of-length-le}
 use lib.Seq.{sets, length-sets, drop-cons, drop-drop}
-use lib.Dec.{ltb}
-use borrow.Author.Tests.{lt-ltb, ltb-true, ltb-false}
+use lib.Dec.{ltb, leb}
+use borrow.Author.Tests.{lt-ltb, ltb-true, leb-true}
 use Rattle.wire.specs.Scan.{anyInRange, Copied}
 use Rattle.wire.proofs.Runs.{any-first, copied-length, part-long, part-none, part-length, part-stored}
 use Rattle.wire.proofs.Stores.{sets-append}
@@ -69,6 +69,14 @@ mark-inside [] i e = absurd (false≢true e)
 mark-inside (x ∷ xs) zero e = omega arith
 mark-inside (x ∷ xs) (suc i) e = omega (arith, mark-inside xs i e)
 
+-- what the test of a pair tells
+pub pair-facts : {m f r : Bool} (b taken total room : ℕ) → m ≡ isMark b → f ≡ (ltb taken total && leb 2 room) → r ≡ (m && f) → r ≡ true
+    → (isMark b ≡ true) × (taken < total) × (2 ≤ room)
+pair-facts {m} {f} b taken total room mark fits all e =
+    let yes = sym all ∙ e in
+    let free = sym fits ∙ and-right m f yes in
+    (sym mark ∙ and-left m f yes, ltb-true taken total (and-left (ltb taken total) (leb 2 room) free), leb-true 2 room (and-right (ltb taken total) (leb 2 room) free))
+
 abbrev prefixed : List ℕ → ℕ → Filled → Filled
 prefixed xs n f = record { bytes = xs ++ f .bytes; taken = n + f .taken; next = f .next }
 
@@ -89,7 +97,7 @@ module _ (q t : ℕ) where
   run-plain [] l room h c b e w = rw (zero-add room, add-zero, add-zero, mod-eq-of-lt b, zero-add)
   run-plain (x ∷ xs) l room h c b e w =
       let k = any-first startMark escapeMark x xs e in
-      let sum : ((c + x) % 65536 + sumOf xs) % 65536 ≡ (c + (x + sumOf xs)) % 65536 = mod-add-mod (c + x) (sumOf xs) 65536 ∙ ap (λ (n : ℕ). n % 65536) (add-assoc c x (sumOf xs)) in
+      let sum : ((c + x) % 65536 + sumOf xs) % 65536 ≡ (c + (x + sumOf xs)) % 65536 = mod-add-mod (c + x) 65536 (sumOf xs) ∙ ap (λ (n : ℕ). n % 65536) (add-assoc c x (sumOf xs)) in
       let next : h + length (x ∷ xs) ≡ suc h + length xs = omega arith in
       let f = fillOf room (body q t (suc h + length xs) ((c + (x + sumOf xs)) % 65536)) l in
       let size : 1 + (length xs + f .taken) ≡ length (x ∷ xs) + f .taken = omega arith in
@@ -100,31 +108,33 @@ module _ (q t : ℕ) where
   pair-by : (k : Kind) (x : ℕ) (l : List ℕ) (room h c : ℕ) → kindOf x ≡ k → isMarkKind k ≡ true → h < t
       → fillOf (suc (suc room)) (body q t h c) (x ∷ l) ≡ prefixed (escapeMark ∷ codeBy k ∷ []) 1 (fillOf room (body q t (h + 1) ((c + x) % 65536)) l)
   unfolding fillOf byteOf bodyByte
-  pair-by Start x l room h c k m e = rw (lt-ltb h t e, k)
-  pair-by End x l room h c k m e = rw (lt-ltb h t e, k)
-  pair-by Escape x l room h c k m e = rw (lt-ltb h t e, k)
+  pair-by Start x l room h c k m e = rw (lt-ltb h t e, k, zero-add)
+  pair-by End x l room h c k m e = rw (lt-ltb h t e, k, zero-add)
+  pair-by Escape x l room h c k m e = rw (lt-ltb h t e, k, zero-add)
   pair-by Plain x l room h c k m e = absurd (false≢true m)
 
 -- ---- the fast path, by what it stored
 
 module _ (payload : List ℕ) (s : PartWriter) (out : List ℕ) (taken i : ℕ) (here : taken ≤ length payload) (room : i ≤ length out) (in-payload : inPayload s ≡ true) where
-  -- the bytes xs are written, and n of the payload's are taken
-  onward-by : (xs : List ℕ) (n : ℕ) (s′ : PartWriter) (out′ : List ℕ) → out′ ≡ sets out i xs → n ≤ length payload - taken → length xs ≤ length out - i
-      → fillOf (length xs + (length out - (i + length xs))) (body (s .sequence) (s .total) (s .taken) (s .sum)) (drop taken payload)
-      ≡ prefixed xs n (fillOf (length out - (i + length xs)) s′ (drop (taken + n) payload))
-      → Onward payload s out taken i s′ out′ (taken + n) (i + length xs)
-  onward-by xs n s′ out′ stored most fits e =
-      let rest = length out - (i + length xs) in
-      let left : length out - i ≡ length xs + rest = omega arith in
+  -- w bytes are written, and n of the payload's are taken
+  onward-by : (xs : List ℕ) (w n : ℕ) (s′ : PartWriter) (out′ : List ℕ) → length xs ≡ w → out′ ≡ sets out i xs → n ≤ length payload - taken → w ≤ length out - i
+      → fillOf (w + (length out - (i + w))) (body (s .sequence) (s .total) (s .taken) (s .sum)) (drop taken payload)
+      ≡ prefixed xs n (fillOf (length out - (i + w)) s′ (drop (taken + n) payload))
+      → Onward payload s out taken i s′ out′ (taken + n) (i + w)
+  onward-by xs w n s′ out′ size stored most fits e =
+      let rest = length out - (i + w) in
+      let left : length out - i ≡ w + rest = omega arith in
       let f = fillOf rest s′ (drop (taken + n) payload) in
       let all : fillOf (length out - i) s (drop taken payload) ≡ prefixed xs n f
-      = ap (λ (k : ℕ). fillOf k s (drop taken payload)) left ∙ ap (λ (x : PartWriter). fillOf (length xs + rest) x (drop taken payload)) (body-state s in-payload) ∙ e in
+      = ap (λ (k : ℕ). fillOf k s (drop taken payload)) left ∙ ap (λ (x : PartWriter). fillOf (w + rest) x (drop taken payload)) (body-state s in-payload) ∙ e in
+      let here-on : resumed (sets out i xs) (taken + n) (i + w) f ≡ resumed out taken i (prefixed xs n f)
+      = ap (λ (k : ℕ). resumed (sets out i xs) (taken + n) (i + k) f) (sym size) ∙ resumed-run out xs n taken i f in
       record {
         from = omega arith;
         within = omega arith;
         offered = omega arith;
         same = rw stored (length-sets out i xs);
-        rest = ap (λ (l : List ℕ). resumed l (taken + n) (i + length xs) f) stored ∙ resumed-run out xs n taken i f ∙ ap (λ (g : Filled). resumed out taken i g) (sym all);
+        rest = ap (λ (l : List ℕ). resumed l (taken + n) (i + w) f) stored ∙ here-on ∙ ap (λ (g : Filled). resumed out taken i g) (sym all);
       }
 
   -- plain bytes up to e, by what copying promises
@@ -134,24 +144,29 @@ module _ (payload : List ℕ) (s : PartWriter) (out : List ℕ) (taken i : ℕ) 
   onward-plain e from most fits lacks small {n} {out′} copied =
       let clear = copied .clear in
       let run = take n (drop taken payload) in
+      let rest = length out - (i + n) in
+      let more = drop (taken + n) payload in
+      let before = body (s .sequence) (s .total) (s .taken) (s .sum) in
+      let sum = (s .sum + sumOf run) % 65536 in
       let long = part-long startMark escapeMark payload taken e n from most clear in
       let size : length run ≡ n = part-length startMark escapeMark payload taken e n from most clear in
-      let split : drop taken payload ≡ run ++ drop (taken + n) payload = sym (take-append-drop n (drop taken payload)) ∙ rw (drop-drop n taken payload) in
+      let split : drop taken payload ≡ run ++ more = sym (take-append-drop n (drop taken payload)) ∙ rw (drop-drop n taken payload) in
       let none = part-none startMark escapeMark payload taken e n from most clear in
-      let stored = part-stored startMark escapeMark payload taken e n from most clear copied in
-      let rest = length out - (i + length run) in
-      let whole = run-plain (s .sequence) (s .total) run (drop (taken + n) payload) rest (s .taken) (s .sum) small none (omega (arith, long, size)) in
-      let s′ = body (s .sequence) (s .total) (s .taken + n) ((s .sum + sumOf run) % 65536) in
-      let filled = ap (λ (l : List ℕ). fillOf (length run + rest) (body (s .sequence) (s .total) (s .taken) (s .sum)) l) split ∙ rw size at whole in
-      rw size at (onward-by run n s′ out′ stored (omega (arith, long)) (omega (arith, long, size)) filled)
+      let whole : fillOf (n + rest) before (run ++ more) ≡ prefixed run n (fillOf rest (body (s .sequence) (s .total) (s .taken + n) sum) more)
+      = rw size at (run-plain (s .sequence) (s .total) run more rest (s .taken) (s .sum) small none (omega (arith, long, size))) in
+      onward-by run n n (body (s .sequence) (s .total) (s .taken + n) sum) out′ size (part-stored startMark escapeMark payload taken e n from most clear copied)
+      (omega (arith, long)) (omega (arith, long)) (ap (λ (l : List ℕ). fillOf (n + rest) before l) split ∙ whole)
 
   -- a mark, with its code
   pub onward-pair : (b : ℕ) → b ≡ getD payload taken 0 → isMark b ≡ true → s .taken < s .total → 2 ≤ length out - i
       → Onward payload s out taken i (body (s .sequence) (s .total) (s .taken + 1) ((s .sum + b) % 65536)) (set (set out i escapeMark) (i + 1) (codeBy (kindOf b))) (taken + 1) (i + 2)
   onward-pair b at mark lacks fits =
+      let rest = length out - (i + 2) in
+      let before = body (s .sequence) (s .total) (s .taken) (s .sum) in
       let inside = mark-inside payload taken (rw at at mark) in
       let split : drop taken payload ≡ b ∷ drop (taken + 1) payload = drop-cons payload taken 0 inside ∙ rw (← at, add-one) in
-      let whole = pair-by (s .sequence) (s .total) (kindOf b) b (drop (taken + 1) payload) (length out - (i + 2)) (s .taken) (s .sum) refl mark lacks in
-      onward-by (escapeMark ∷ codeBy (kindOf b) ∷ []) 1 (body (s .sequence) (s .total) (s .taken + 1) ((s .sum + b) % 65536)) (set (set out i escapeMark) (i + 1) (codeBy (kindOf b)))
-      (rw add-one) (omega arith) (omega arith)
-      (ap (λ (l : List ℕ). fillOf (suc (suc (length out - (i + 2)))) (body (s .sequence) (s .total) (s .taken) (s .sum)) l) split ∙ whole)
+      let two : 2 + rest ≡ suc (suc rest) = omega arith in
+      let whole = pair-by (s .sequence) (s .total) (kindOf b) b (drop (taken + 1) payload) rest (s .taken) (s .sum) refl mark lacks in
+      onward-by (escapeMark ∷ codeBy (kindOf b) ∷ []) 2 1 (body (s .sequence) (s .total) (s .taken + 1) ((s .sum + b) % 65536)) (set (set out i escapeMark) (i + 1) (codeBy (kindOf b)))
+      refl (rw add-one) (omega (arith, inside)) (omega arith)
+      (ap (λ (k : ℕ). fillOf k before (drop taken payload)) two ∙ ap (λ (l : List ℕ). fillOf (suc (suc rest)) before l) split ∙ whole)

@@ -16,7 +16,7 @@ use wire::logic::both;
 use wire::scan::copy_clear;
 ghost use mathlib.Core.Path.{_≡_};
 ghost use mathlib.Core.Bool.{true};
-ghost use Prim.Native.Nat.{_+_, _≤_};
+ghost use Prim.Native.Nat.{_+_, _≤_, _<_};
 ghost use lib.ListN.{length};
 ghost use Rattle.framing.specs.Mark.{kindOf};
 ghost use Rattle.parts.specs.State.{missing, inPayload};
@@ -45,7 +45,7 @@ impl PartWriter {
     // The state in the payload with n more bytes taken.
     fn advanced(self, n: usize, sum: u16) -> Self
         requires { ⌜ n ≤ missing self ⌝ }
-        ensures { λ r. ⌜ r ≡ body (self .sequence) (self .total) (self .taken + n) sum ⌝ }
+        ensures { λ r. ⌜ (r ≡ body (self .sequence) (self .total) (self .taken + n) sum) × (self .sum < 65536) ⌝ }
     {
         PartWriter {
             sequence: self.sequence,
