@@ -1,5 +1,5 @@
 -- What is left of a frame in each state, and one byte of it.
-use Prim.Native.Nat.{ℕ, zero, suc, _+_, _/_, _%_, _<_, _≤_}
+use Prim.Native.Nat.{ℕ, zero, suc, _+_, _/_, _%_, _<_, zero-le}
 use mathlib.Core.Path.{_≡_, refl, sym, ap, _∙_}
 use mathlib.Core.Bool.{Bool, true, false, cond, not, _&&_, false≢true}
 use mathlib.Core.List.{List, [], _∷_, _++_, append-assoc, append-nil}
@@ -8,7 +8,7 @@ use native.Mathlib.Numerals.{one-add}
 use native.Mathlib.Omega.{arith}
 use lib.ListN.{length, take, length-append}
 use lib.Dec.{ltb}
-use borrow.Author.Tests.{ltb-true, ltb-false}
+use borrow.Author.Tests.{lt-ltb, le-ltb, ltb-true, ltb-false}
 use Rattle.framing.specs.declared.mark.Kind.{Kind}
 use Rattle.framing.specs.declared.mark.Kind.the-variants.{Start, End, Escape, Plain}
 use Rattle.framing.specs.Mark.{startMark, endMark, kindOf, isMarkKind}
@@ -37,10 +37,10 @@ split-unit Escape b = refl
 split-unit Plain b = refl
 
 -- the low byte of a checksum and the end mark, and both bytes of it
-unfoldable lowOf : ℕ → List ℕ
+unfoldable pub lowOf : ℕ → List ℕ
 lowOf c = escapedBy (kindOf (c % 256)) (c % 256) ++ (endMark ∷ [])
 
-unfoldable highOf : ℕ → List ℕ
+unfoldable pub highOf : ℕ → List ℕ
 highOf c = escapedBy (kindOf (c / 256)) (c / 256) ++ lowOf c
 
 -- the payload that is left, and the checksum after it: `sum` is that of the bytes taken
@@ -78,16 +78,32 @@ lead stage.Done = 0
 unfoldable pub firstsIn : ℕ → PartWriter → List ℕ → ℕ
 firstsIn n s p = firstsAmong n (length (codes (s .pending)) + lead (s .stage)) p
 
+ltb-suc : (m n : ℕ) → ltb (suc m) (suc n) ≡ ltb m n
+ltb-suc m n = go (ltb m n) refl
+  where
+    go : (b : Bool) → ltb m n ≡ b → ltb (suc m) (suc n) ≡ ltb m n
+    go true e = lt-ltb (suc m) (suc n) (omega (arith, ltb-true m n e)) ∙ sym e
+    go false e = le-ltb (suc m) (suc n) (omega (arith, ltb-false m n e)) ∙ sym e
+
 -- one byte further
 among-shift : (n place : ℕ) (p : List ℕ) → firstsAmong (suc n) (suc place) p ≡ firstsAmong n place p
 unfolding firstsAmong
 among-shift n place [] = refl
-among-shift n place (b ∷ bs) = rw (suc-add place (length (escapedBy (kindOf b) b)), among-shift n (place + length (escapedBy (kindOf b) b)) bs)
+among-shift n place (b ∷ bs) = rw (ltb-suc place n, suc-add place (length (escapedBy (kindOf b) b)), among-shift n (place + length (escapedBy (kindOf b) b)) bs)
 
 among-none : (place : ℕ) (p : List ℕ) → firstsAmong 0 place p ≡ 0
 unfolding firstsAmong
 among-none place [] = refl
-among-none place (b ∷ bs) = rw (among-none (place + length (escapedBy (kindOf b) b)) bs)
+among-none place (b ∷ bs) = rw (le-ltb place 0 zero-le, among-none (place + length (escapedBy (kindOf b) b)) bs)
+
+-- the first of a payload byte
+among-taken : (m x : ℕ) (xs : List ℕ) → firstsAmong (suc m) 0 (x ∷ xs) ≡ suc (firstsAmong m (length (codes (kindOf x)) + 0) xs)
+unfolding firstsAmong
+among-taken m x xs =
+    let n = length (codes (kindOf x)) in
+    let size : 0 + length (escapedBy (kindOf x) x) ≡ suc (n + 0) = rw (split-unit (kindOf x) x) (omega arith) in
+    let up : 1 + firstsAmong m (n + 0) xs ≡ suc (firstsAmong m (n + 0) xs) = omega arith in
+    rw (lt-ltb 0 (suc m) (omega arith), size, among-shift m (n + 0) xs) up
 
 pub firsts-none : (s : PartWriter) (p : List ℕ) → firstsIn 0 s p ≡ 0
 unfolding firstsIn
@@ -129,13 +145,9 @@ abbrev state : Stage → Kind → ℕ → ℕ → ℕ → ℕ → PartWriter
 state at k sequence total taken sum = record { sequence = sequence; total = total; taken = taken; sum = sum; stage = at; pending = k }
 
 sum-step : (c x rest : ℕ) → (c + (x + rest)) % 65536 ≡ ((c + x) % 65536 + rest) % 65536
-sum-step c x rest = sym (mod-add-mod (c + x) rest 65536 ∙ ap (λ (n : ℕ). n % 65536) (add-assoc c x rest))
+sum-step c x rest = sym (mod-add-mod (c + x) 65536 rest ∙ ap (λ (n : ℕ). n % 65536) (add-assoc c x rest))
 
 module _ (q t h c : ℕ) where
-  -- one byte less before the payload
-  nearer : (m n : ℕ) (p : List ℕ) → firstsAmong (suc m) (suc n) p ≡ firstsAmong m n p
-  nearer m n p = among-shift m n p
-
   code-view : (to : Stage) (k : Kind) (p : List ℕ) (n b : ℕ) → codes k ≡ b ∷ [] → Fits (state to k q t h c) p
       → Emits (state to k q t h c) p n (byte b (state to Plain q t h c) 0)
   unfolding leftOf firstsIn
@@ -146,13 +158,13 @@ module _ (q t h c : ℕ) where
   -- a payload byte is taken
   takes-view : (x : ℕ) (xs : List ℕ) (n : ℕ) → Fits (state stage.Payload Plain q t h c) (x ∷ xs)
       → Emits (state stage.Payload Plain q t h c) (x ∷ xs) (suc n) (byte (firstBy (kindOf x) x) (took (state stage.Payload Plain q t h c) x) 1)
-  unfolding leftOf escapedOf sumOf firstsIn firstsAmong
+  unfolding leftOf escapedOf sumOf firstsIn
   takes-view x xs n f =
       takes (firstBy (kindOf x) x) x xs (took (state stage.Payload Plain q t h c) x)
       (rw (split-unit (kindOf x) x, append-assoc, sum-step c x (sumOf xs)))
       (record { told = omega (arith, f .told); small = omega arith; closed = tt })
       (refl, refl)
-      (λ m. rw (split-unit (kindOf x) x, zero-add, add-zero) (ap suc (among-shift m (length (codes (kindOf x))) xs)))
+      (λ m. among-taken m x xs)
 
   -- the high byte of the checksum
   high-view : (n : ℕ) → Fits (state stage.Payload Plain q t h c) []

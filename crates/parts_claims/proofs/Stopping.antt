@@ -64,11 +64,11 @@ module _ (s : PartWriter) where
 abbrev counted : Filled → Count
 counted f = count (f .taken) (length (f .bytes)) (ended (f .next))
 
-later-stops : {out : List ℕ} {l : List ℕ} {f : Filled} (v b k : ℕ) → k ≤ length l → Stops (drop k l) out (counted f) (f .next)
+later-stops : {out l : List ℕ} (f : Filled) (v k : ℕ) → k ≤ length l → Stops (drop k l) out (counted f) (f .next)
     → Stops l (v ∷ out) (count (k + f .taken) (suc (length (f .bytes))) (ended (f .next))) (f .next)
-later-stops v b k h (full e) = full (ap suc e)
-later-stops v b k h (over e) = over e
-later-stops {out} {l} v b k h (wants e i q) = wants (omega (arith, e, length-drop k l)) i q
+later-stops f v k h (full e) = full (ap suc e)
+later-stops f v k h (over e) = over e
+later-stops {out} {l} f v k h (wants e i q) = wants (omega (arith, e, length-drop k l)) i q
 
 stops : (out : List ℕ) (s : PartWriter) (l : List ℕ) → (let f = fillOf (length out) s l in Stops l out (counted f) (f .next))
 unfolding fillOf
@@ -83,7 +83,7 @@ stops (v ∷ out) s l = go (byteOf s l) refl (λ next k. stops out next (drop k 
         → ((next : PartWriter) (k : ℕ) → (let f = fillOf (length out) next (drop k l) in Stops (drop k l) out (counted f) (f .next)))
         → (let f = andOn s x (λ next k. fillOf (length out) next (drop k l)) in Stops l (v ∷ out) (counted f) (f .next))
     go nothing e later = stop (why s l e)
-    go (byte b next k) e later = later-stops v b k (byte-takes s l e) (later next k)
+    go (byte b next k) e later = later-stops (fillOf (length out) next (drop k l)) v k (byte-takes s l e) (later next k)
 
 -- ---- the claim
 
