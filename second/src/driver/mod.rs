@@ -5,6 +5,7 @@ pub mod control;
 pub mod listing;
 pub mod outboxes;
 pub mod packets;
+pub mod parts;
 pub mod rooms;
 pub mod sizes;
 pub mod streams;
@@ -51,6 +52,10 @@ pub const PARTS: &[Part] = &[
     Part {
         name: "extractor streams",
         run: streams::run,
+    },
+    Part {
+        name: "frames by parts",
+        run: parts::run,
     },
     Part {
         name: "packets in interleaved lists",
