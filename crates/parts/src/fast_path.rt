@@ -72,13 +72,7 @@ impl PartWriter {
         ensures { λ r. ⌜ (Onward (now (payload .entry)) self (now (out .entry)) taken at (r .next) (now (out .exit)) (r .taken) (r .at)) × (inPayload (r .next) ≡ true) ⌝ }
     {
         let end = taken + self.run_limit(payload.len() - taken, out.len() - at);
-        let n = copy_clear(
-            out,
-            at,
-            &payload[taken..end],
-            Mark::START,
-            Mark::ESCAPE,
-        );
+        let n = copy_clear(out, at, &payload[taken..end], Mark::START, Mark::ESCAPE);
         let after = taken + n;
         let sum = add_all(self.sum, &payload[taken..after]);
         let next = self.advanced(n, sum);

@@ -52,10 +52,12 @@ returns : tie.Need-returns
 returns c =
     let k = c .before .before .before in
     let h = pair-facts (k .before .before .before .before .before .byte-at .result) (k .before .before .before .before .before .before .before .before .args .self .taken) (k .before .before .before .before .before .before .before .before .args .self .total) (length (k .before .before .before .before .before .before .before .before .args .out .now) - k .before .before .before .before .before .before .before .before .args .at) (k .before .before .is-mark .ensures) (k .before .before .before .both .ensures) (k .before .both2 .ensures) (k .if1 .taken) in
-    let s = k .before .before .before .before .before .before .before .before in
-    (rw (c .advanced .ensures .0, c .before .add-byte .ensures, c .before .before .code .ensures)
-    (onward-pair (s .args .payload .now) (s .args .self) (s .args .out .now) (s .args .taken) (s .args .at) (s .pre .0) (s .pre .1 .0) (s .pre .1 .1)
-    (k .before .before .before .before .before .byte-at .result) (k .before .before .before .before .before .byte-at .ensures) (h .0) (h .1) (h .2)), rw (c .advanced .ensures .0))
+    let s = k .before .before .before .before .before .before .before .before in (
+      rw (c .advanced .ensures .0, c .before .add-byte .ensures, c .before .before .code .ensures)
+          (onward-pair (s .args .payload .now) (s .args .self) (s .args .out .now) (s .args .taken) (s .args .at) (s .pre .0) (s .pre .1 .0) (s .pre .1 .1)
+          (k .before .before .before .before .before .byte-at .result) (k .before .before .before .before .before .byte-at .ensures) (h .0) (h .1) (h .2)),
+      rw (c .advanced .ensures .0),
+    )
 
 returns-2 : tie.Need-returns-2
 returns-2 c = search needs
