@@ -229,13 +229,18 @@ pub fn parts<const WHOLE: bool>(
 pub fn parts_own<const WHOLE: bool>(payloads: &[Payload], output: &mut [u8]) -> u64 {
     let mut digest = Digest::<WHOLE>::new();
     for payload in payloads {
-        let mut state = Parts::begin(payload.sequence, payload.bytes.len() as u64).expect("in range");
+        let mut state =
+            Parts::begin(payload.sequence, payload.bytes.len() as u64).expect("in range");
         let mut rest = &payload.bytes[..];
         loop {
             let (next, told) = state.write(rest, &mut output[..payload.room]);
             let told = told.expect("in range");
             state = next;
-            digest.row(&[told.taken as u64, told.written as u64, u64::from(told.ended)]);
+            digest.row(&[
+                told.taken as u64,
+                told.written as u64,
+                u64::from(told.ended),
+            ]);
             digest.bytes(&output[..told.written]);
             rest = &rest[told.taken..];
             if told.ended {

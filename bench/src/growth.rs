@@ -120,12 +120,14 @@ fn writers() -> Vec<Growth> {
         line("frame writer by parts: outputs of 1 byte", |n| {
             parts_job(vec![vec![0x41; n]], 1)
         }),
-        line("frame writer by parts: marks only, outputs of 1 byte", |n| {
-            parts_job(marks(n), 1)
-        }),
-        line("frame writer by parts: marks only, outputs of 64 bytes", |n| {
-            parts_job(marks(n), 64)
-        }),
+        line(
+            "frame writer by parts: marks only, outputs of 1 byte",
+            |n| parts_job(marks(n), 1),
+        ),
+        line(
+            "frame writer by parts: marks only, outputs of 64 bytes",
+            |n| parts_job(marks(n), 64),
+        ),
         line("packet writer: all packets of a message, room 20", |n| {
             write_packets_job(vec![vec![0x41; n]], 20)
         }),

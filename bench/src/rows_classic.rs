@@ -234,12 +234,27 @@ pub fn parts_job(parts: Vec<Vec<u8>>, room: usize) -> Job {
 
 fn part_rows() -> Vec<Row> {
     let lines: [(_, _, Payloads, _); 6] = [
-        ("ordinary, outputs of 64 bytes", MEGABYTE, inputs::ordinary, 64),
-        ("long clean, outputs of 64 bytes", MEGABYTE, inputs::long_clean, 64),
+        (
+            "ordinary, outputs of 64 bytes",
+            MEGABYTE,
+            inputs::ordinary,
+            64,
+        ),
+        (
+            "long clean, outputs of 64 bytes",
+            MEGABYTE,
+            inputs::long_clean,
+            64,
+        ),
         ("marks only, outputs of 64 bytes", SHORT, inputs::marks, 64),
         ("ordinary, outputs of 1 byte", SHORT, inputs::ordinary, 1),
         ("marks only, outputs of 1 byte", SHORT, inputs::marks, 1),
-        ("ordinary, output of 8,201 bytes", SHORT, inputs::ordinary, OUTPUT),
+        (
+            "ordinary, output of 8,201 bytes",
+            SHORT,
+            inputs::ordinary,
+            OUTPUT,
+        ),
     ];
     lines
         .into_iter()

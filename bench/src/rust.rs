@@ -12,7 +12,12 @@ unsafe fn given<'a, T>(start: *const T, length: usize) -> &'a [T] {
     slice::from_raw_parts(start, length)
 }
 
-pub unsafe extern "C" fn frame_begin(sequence: u64, total: u64, state: *mut u64, states: usize) -> u64 {
+pub unsafe extern "C" fn frame_begin(
+    sequence: u64,
+    total: u64,
+    state: *mut u64,
+    states: usize,
+) -> u64 {
     face::frame_begin(sequence, total, lent(state, states))
 }
 

@@ -361,11 +361,7 @@ impl Parts {
 
     /// "1 a state with either, or with more taken than told, then 26 more payload offered than is
     /// still missing, then 14 an output of length 0." Each leaves state and output.
-    pub fn write(
-        self,
-        part: &[u8],
-        output: &mut [u8],
-    ) -> (Parts, Result<PartWritten, Refusal>) {
+    pub fn write(self, part: &[u8], output: &mut [u8]) -> (Parts, Result<PartWritten, Refusal>) {
         if !self.is_lawful() {
             return (self, Err(Refusal::Lent));
         }

@@ -300,12 +300,7 @@ pub fn frame_begin(sequence: u64, total: u64, state: &mut [u64]) -> u64 {
 }
 
 /// Answer `taken, written, ended`.
-pub fn frame_part(
-    state: &mut [u64],
-    payload: &[u8],
-    output: &mut [u8],
-    answer: &mut [u64],
-) -> u64 {
+pub fn frame_part(state: &mut [u64], payload: &[u8], output: &mut [u8], answer: &mut [u64]) -> u64 {
     ask(answer, || {
         let (after, told) = parts_in(state).ok_or(Refusal::Lent)?.write(payload, output);
         let told = told?;

@@ -410,7 +410,13 @@ fn frames_written_by_parts() {
     let told = told.unwrap();
     assert_eq!((told.taken, told.written, told.ended), (0, 1, true));
     assert_eq!(output, [0x03, 0xEE, 0xEE]);
-    assert_eq!(after, Parts { split: None, ..owed });
+    assert_eq!(
+        after,
+        Parts {
+            split: None,
+            ..owed
+        }
+    );
 }
 
 #[test]

@@ -55,12 +55,7 @@ fn begun(payload: &[u8], written: usize) -> usize {
 }
 
 /// A frame, cut in one way. Calls that are refused stand among the others, and calls after its end.
-fn frame(
-    c: &mut Comparison<'_>,
-    rng: &mut Rng,
-    call: &mut Call,
-    payload: &[u8],
-) -> Compared<()> {
+fn frame(c: &mut Comparison<'_>, rng: &mut Rng, call: &mut Call, payload: &[u8]) -> Compared<()> {
     let sequence = sequence(rng);
     let whole = classic::frame(sequence, payload);
     let mut begin =
