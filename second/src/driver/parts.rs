@@ -40,18 +40,16 @@ pub fn run(c: &mut Comparison<'_>, rng: &mut Rng, plan: Plan) -> Compared<()> {
     Ok(())
 }
 
-/// "A payload byte is taken when its first output byte is written": how many payload bytes have
-/// theirs among the first `written` of the frame.
-fn begun(payload: &[u8], written: usize) -> usize {
+/// "A payload byte is taken when its first output byte is written": where the first output byte of
+/// each payload byte stands in the frame.
+fn firsts(payload: &[u8]) -> Vec<usize> {
     let mut place = 4;
-    payload
-        .iter()
-        .take_while(|&&byte| {
-            let first = place;
-            place += escaped(&[byte]).len();
-            first < written
-        })
-        .count()
+    let first = |&byte: &u8| {
+        let first = place;
+        place += escaped(&[byte]).len();
+        first
+    };
+    payload.iter().map(first).collect()
 }
 
 /// A frame, cut in one way. Calls that are refused stand among the others, and calls after its end.
@@ -64,7 +62,9 @@ fn frame(c: &mut Comparison<'_>, rng: &mut Rng, call: &mut Call, payload: &[u8])
     call.state.clone_from(&begin.state);
     let most_offered = *rng.pick(&[0, 1, 2, 7, 64, payload.len()]);
     let most_lent = *rng.pick(&[1, 2, 3, 9, 64, whole.len()]);
-    let mut joined = Vec::new();
+    let firsts = firsts(payload);
+    let begun = |written: usize| firsts.partition_point(|&first| first < written);
+    let mut joined = 0;
     let mut taken = 0;
     let mut after = 0;
     while after < 2 {
@@ -97,17 +97,16 @@ fn frame(c: &mut Comparison<'_>, rng: &mut Rng, call: &mut Call, payload: &[u8])
             continue;
         }
         let written = call.answer[1] as usize;
-        taken += call.answer[0] as usize;
-        joined.extend_from_slice(&call.lent[..written]);
         let ended = call.answer[2] == 1;
-        let beginning = whole.starts_with(&joined) && ended == (joined.len() == whole.len());
+        let on = whole[joined..].starts_with(&call.lent[..written]);
+        joined += written;
+        taken += call.answer[0] as usize;
+        let beginning = on && ended == (joined == whole.len());
         c.hold(beginning, "the outputs begin the frame", call)?;
-        c.hold(taken == begun(payload, joined.len()), "taken", call)?;
+        c.hold(taken == begun(joined), "taken", call)?;
         // Why it stopped short: the end, or the first byte of a payload byte that was not offered.
         let full = written == lent;
-        let wants = call.answer[0] as usize == offered
-            && taken < payload.len()
-            && begun(payload, joined.len() + 1) > taken;
+        let wants = call.answer[0] as usize == offered && begun(joined + 1) > taken;
         c.hold(full || ended || wants, "the output is filled", call)?;
         after += u64::from(ended);
     }
