@@ -3,6 +3,7 @@
 pub mod captures;
 pub mod control;
 pub mod listing;
+pub mod orders;
 pub mod outboxes;
 pub mod packets;
 pub mod rooms;
@@ -55,6 +56,10 @@ pub const PARTS: &[Part] = &[
     Part {
         name: "packets in interleaved lists",
         run: packets::run,
+    },
+    Part {
+        name: "packets of two streams in either order",
+        run: orders::run,
     },
     Part {
         name: "control messages",
