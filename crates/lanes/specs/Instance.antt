@@ -113,7 +113,7 @@ pub record Computed : Type 0 where
 abbrev pub other : List ℕ
 other = 0x02 ∷ 0x00 ∷ 0x00 ∷ 0x00 ∷ 0x03 ∷ 0x01 ∷ 0xEE ∷ []
 
--- The claim with less asked for: not the stream fields differ, but the first bytes.
+-- The claim with less asked for: that the first bytes differ, not the stream fields.
 abbrev pub ByFirstBytes : Type 0
 ByFirstBytes =
     (limit : ℕ) (slots : List Slot) (bytes p q : List ℕ)
