@@ -91,6 +91,7 @@ enum {
     PITO_REFUSED_ESCAPE = 23,       /* F1, or no escape code, after F2 */
     PITO_REFUSED_FRAME_LONG = 24,   /* a 4,099th byte to store */
     PITO_REFUSED_CHECKSUM = 25,     /* checksum differs */
+    PITO_REFUSED_TOO_MUCH = 26,     /* more payload offered than is still missing */
 
     /* Messages. */
     PITO_REFUSED_MESSAGE_CUT = 30, /* message ends inside a field */
@@ -155,6 +156,47 @@ PITO_CALL uint64_t pito_extractor_feed(uint64_t *state, size_t state_len, uint8_
 enum { PITO_FRAME_WRITE_WRITTEN, PITO_FRAME_WRITE_ANSWER };
 PITO_CALL uint64_t pito_frame_write(uint64_t sequence, const uint8_t *payload, size_t payload_len, uint8_t *output,
                                     size_t output_len, uint64_t *answer, size_t answer_len);
+
+/*
+ * The same frame by parts, for a box that has no room for all of it: the payload is taken part by part, and the frame
+ * goes into one output after another, of 1 byte or more each. Joined, the outputs are what pito_frame_write writes.
+ *
+ * State row: pito_frame_begin fills it; keep it from call to call. It has the frame's sequence byte, its payload's
+ * length, the payload bytes taken and their checksum, the stage and what is pending. The stage is what is written next:
+ * 0 F0, 1 packet id, 2 error id, 3 sequence byte, 4 payload and, after it, the checksum's upper byte, 5 its lower byte,
+ * 6 F1, 7 nothing, the frame has ended. Pending is the code that is still owed after F2, before that: 0 none, 1 of F0,
+ * 2 of F1, 3 of F2. A state is lawful with a sequence that is no mark, a total up to 4,096 and no more taken than that.
+ */
+enum {
+    PITO_PARTS_SEQUENCE,
+    PITO_PARTS_TOTAL,
+    PITO_PARTS_TAKEN,
+    PITO_PARTS_SUM,
+    PITO_PARTS_STAGE,
+    PITO_PARTS_PENDING,
+    PITO_PARTS_STATE
+};
+
+/*
+ * Begins a frame whose payload will have `total` bytes.
+ * Returns 0, 1, 15 (a sequence that is F0, F1, F2 or no byte; a total over 4,096).
+ */
+PITO_CALL uint64_t pito_frame_begin(uint64_t sequence, uint64_t total, uint64_t *state, size_t state_len);
+
+/*
+ * Writes the frame on, from the first byte of the output. `payload` is any part of the payload that begins at its first
+ * byte not yet taken, of 0 bytes too. The output is filled unless the frame ends or needs a payload byte that is not
+ * offered: call again, with the payload after the bytes taken, until the answer tells that the frame has ended. After
+ * that a call with no payload writes nothing.
+ * Answer:
+ *   taken    the payload bytes taken: those whose first output byte is written
+ *   written  the output bytes written
+ *   ended    1 if the whole frame is written, else 0
+ * Returns 0, 1, 26 (more payload than is missing), 14 (an output of length 0), the first that holds in this order.
+ */
+enum { PITO_FRAME_PART_TAKEN, PITO_FRAME_PART_WRITTEN, PITO_FRAME_PART_ENDED, PITO_FRAME_PART_ANSWER };
+PITO_CALL uint64_t pito_frame_part(uint64_t *state, size_t state_len, const uint8_t *payload, size_t payload_len,
+                                   uint8_t *output, size_t output_len, uint64_t *answer, size_t answer_len);
 
 /*
  * The sequence byte after a sequence byte.

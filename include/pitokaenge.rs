@@ -31,6 +31,17 @@ extern "C" {
         answer: *mut u64,
         answer_len: usize,
     ) -> u64;
+    pub fn pito_frame_begin(sequence: u64, total: u64, state: *mut u64, state_len: usize) -> u64;
+    pub fn pito_frame_part(
+        state: *mut u64,
+        state_len: usize,
+        payload: *const u8,
+        payload_len: usize,
+        output: *mut u8,
+        output_len: usize,
+        answer: *mut u64,
+        answer_len: usize,
+    ) -> u64;
     pub fn pito_next_sequence(sequence: u8, answer: *mut u64, answer_len: usize) -> u64;
     pub fn pito_packet_write(
         room: u64,

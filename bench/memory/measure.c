@@ -75,6 +75,30 @@ static size_t write_frame(void)
     return answer[0];
 }
 
+/* The same payload's frame by parts, with all that is left of it offered, or some of it, or too much. */
+static void write_parts(size_t count)
+{
+    static uint64_t state[PITO_PARTS_STATE];
+    uint64_t sequence = once_in(20) ? below(300) : below(0xF0);
+    size_t taken = 0;
+    int ended = 0;
+    if (CALL(pito_frame_begin, sequence, once_in(20) ? any_number() : count, A(state), length(PITO_PARTS_STATE)) != 0)
+        return;
+    while (!ended) {
+        size_t left = count - taken, part = once_in(4) ? any_length(left) : left + (once_in(40) ? 1 : 0);
+        uint64_t room = once_in(40) ? 0 : 1 + any_length(64);
+        uint64_t number = CALL(pito_frame_part, A(state), length(PITO_PARTS_STATE), A(payload + taken), part, A(bytes),
+                               room, A(answer), PITO_FRAME_PART_ANSWER);
+        if (number == 0) {
+            taken += answer[PITO_FRAME_PART_TAKEN];
+            ended = answer[PITO_FRAME_PART_ENDED] == 1;
+        }
+        /* A total that is not the payload's never ends. */
+        if (state[PITO_PARTS_TOTAL] != count)
+            return;
+    }
+}
+
 /* A frame that never ends stores too much; the others are the writer's. */
 static size_t make_frame(void)
 {
@@ -116,6 +140,9 @@ static void classic(void)
         feed_frame(count);
         if (count < 100 || once_in(20))
             step_frame(count);
+        count = any_length(PITO_MESSAGE_LIMIT);
+        fill(payload, count);
+        write_parts(count);
         CALL(pito_next_sequence, below(256), A(answer), length(PITO_NEXT_SEQUENCE_ANSWER));
     }
 }

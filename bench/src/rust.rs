@@ -12,6 +12,15 @@ unsafe fn given<'a, T>(start: *const T, length: usize) -> &'a [T] {
     slice::from_raw_parts(start, length)
 }
 
+pub unsafe extern "C" fn frame_begin(
+    sequence: u64,
+    total: u64,
+    state: *mut u64,
+    states: usize,
+) -> u64 {
+    face::frame_begin(sequence, total, lent(state, states))
+}
+
 macro_rules! shims {
     ($($name:ident($($argument:ident: $kind:ty),*) $answer:ident $call:expr;)*) => {
         $(pub unsafe extern "C" fn $name($($argument: $kind,)* answer: *mut u64, answers: usize) -> u64 {
@@ -28,6 +37,8 @@ shims! {
         face::extractor_feed(lent(state, states), lent(buffer, size), given(bytes, length), told);
     frame_write(sequence: u64, payload: *const u8, length: usize, output: *mut u8, size: usize) told
         face::frame_write(sequence, given(payload, length), lent(output, size), told);
+    frame_part(state: *mut u64, states: usize, payload: *const u8, length: usize, output: *mut u8, size: usize) told
+        face::frame_part(lent(state, states), given(payload, length), lent(output, size), told);
     packet_write(room: u64, stream: u64, id: u64, sequence: u64, ack: u64, message: *const u8, length: usize,
         place: u64, output: *mut u8, size: usize) told
         face::packet_write(room, [stream, id, sequence, ack], given(message, length), place, lent(output, size), told);

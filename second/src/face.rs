@@ -13,7 +13,7 @@
 //!   one is out of a writer's range, 15; so is an unsigned one above 32 bits, and a wish other than 0
 //!   or 1.
 
-use crate::classic::{self, Decided, Extractor, Outcome};
+use crate::classic::{self, Decided, Extractor, Next, Outcome, Parts};
 use crate::control::{self, Envelope, Features, Given, Information, Member, Payload, Response};
 use crate::implementation::{Implementation, Operation};
 use crate::low_energy::{self, Accepted, Open, Slots, Stream, Wish};
@@ -44,6 +44,8 @@ impl Implementation for Model {
             Operation::ExtractorStep => extractor_step(state, lent, numbers[0] as u8, answer),
             Operation::ExtractorFeed => extractor_feed(state, lent, &inputs[0], answer),
             Operation::FrameWrite => frame_write(numbers[0], &inputs[0], lent, answer),
+            Operation::FrameBegin => frame_begin(numbers[0], numbers[1], state),
+            Operation::FramePart => frame_part(state, &inputs[0], lent, answer),
             Operation::NextSequence => next_sequence(numbers[0] as u8, answer),
             Operation::PacketWrite => {
                 let [room, stream, id, sequence, ack, place] = numbers else {
@@ -240,6 +242,84 @@ pub fn frame_write(sequence: u64, payload: &[u8], output: &mut [u8], answer: &mu
         let sequence = u8::try_from(sequence).map_err(|_| Refusal::Argument)?;
         let written = classic::write_frame(sequence, payload, output)?;
         Ok([wide(written)])
+    })
+}
+
+/// `sequence, total, taken, sum, stage, pending`: stages 0 to 3 are the four bytes before the
+/// payload, 4 the payload with the checksum's first byte after it, 5 its second byte, 6 the end
+/// mark, 7 nothing; pending is 0 for none, 1 to 3 for the second byte of F0, F1, F2.
+fn parts_in(row: &[u64]) -> Option<Parts> {
+    let [sequence, total, taken, sum, stage, pending] = *row else {
+        return None;
+    };
+    Some(Parts {
+        sequence: sequence.try_into().ok()?,
+        total,
+        taken,
+        sum: sum.try_into().ok()?,
+        next: match stage {
+            0..=3 => Next::Header(stage as u8),
+            4 => Next::Payload,
+            5 => Next::LastSum,
+            6 => Next::End,
+            7 => Next::Nothing,
+            _ => return None,
+        },
+        split: match pending {
+            0 => None,
+            1 => Some(classic::START),
+            2 => Some(classic::END),
+            3 => Some(classic::ESCAPE),
+            _ => return None,
+        },
+    })
+}
+
+fn parts_out(parts: Parts) -> [u64; 6] {
+    let stage = match parts.next {
+        Next::Header(place) => u64::from(place),
+        Next::Payload => 4,
+        Next::LastSum => 5,
+        Next::End => 6,
+        Next::Nothing => 7,
+    };
+    let pending = parts
+        .split
+        .map_or(0, |mark| u64::from(mark - classic::START) + 1);
+    [
+        u64::from(parts.sequence),
+        parts.total,
+        parts.taken,
+        u64::from(parts.sum),
+        stage,
+        pending,
+    ]
+}
+
+/// No answer; the state goes out only. 15 leaves it.
+pub fn frame_begin(sequence: u64, total: u64, state: &mut [u64]) -> u64 {
+    if state.len() != 6 {
+        return Refusal::Lent.number();
+    }
+    let begun = u8::try_from(sequence)
+        .map_err(|_| Refusal::Argument)
+        .and_then(|sequence| Parts::begin(sequence, total));
+    match begun {
+        Ok(parts) => {
+            state.copy_from_slice(&parts_out(parts));
+            0
+        }
+        Err(refusal) => refusal.number(),
+    }
+}
+
+/// Answer `taken, written, ended`.
+pub fn frame_part(state: &mut [u64], payload: &[u8], output: &mut [u8], answer: &mut [u64]) -> u64 {
+    ask(answer, || {
+        let (after, told) = parts_in(state).ok_or(Refusal::Lent)?.write(payload, output);
+        let told = told?;
+        state.copy_from_slice(&parts_out(after));
+        Ok([wide(told.taken), wide(told.written), u64::from(told.ended)])
     })
 }
 

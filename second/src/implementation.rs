@@ -8,6 +8,8 @@ pub enum Operation {
     ExtractorStep,
     ExtractorFeed,
     FrameWrite,
+    FrameBegin,
+    FramePart,
     NextSequence,
     PacketWrite,
     AckWrite,
@@ -49,6 +51,7 @@ pub struct Shape {
 }
 
 const EXTRACTOR: &[&str] = &["phase", "sequence", "held"];
+const PARTS: &[&str] = &["sequence", "total", "taken", "sum", "stage", "pending"];
 const RECEIVER: &[&str] = &[
     "control.open",
     "control.id",
@@ -149,10 +152,12 @@ const APPLY: &[&str] = &[
 const MESSAGE_READ: &[u64] = &[0, 1, 30, 31, 32, 33, 34];
 
 impl Operation {
-    pub const ALL: [Operation; 24] = [
+    pub const ALL: [Operation; 26] = [
         Operation::ExtractorStep,
         Operation::ExtractorFeed,
         Operation::FrameWrite,
+        Operation::FrameBegin,
+        Operation::FramePart,
         Operation::NextSequence,
         Operation::PacketWrite,
         Operation::AckWrite,
@@ -212,6 +217,22 @@ impl Operation {
                 answer: &["written"],
                 lent: "output",
                 returns: &[0, 1, 14, 15],
+                ..empty
+            },
+            Operation::FrameBegin => Shape {
+                name: "frame begin",
+                numbers: &["sequence", "total"],
+                state: PARTS,
+                returns: &[0, 1, 15],
+                ..empty
+            },
+            Operation::FramePart => Shape {
+                name: "frame part",
+                inputs: &["payload"],
+                state: PARTS,
+                answer: &["taken", "written", "ended"],
+                lent: "output",
+                returns: &[0, 1, 14, 26],
                 ..empty
             },
             Operation::NextSequence => Shape {

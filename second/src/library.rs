@@ -43,6 +43,11 @@ impl Implementation for Library {
                     let (payload, length) = input(0);
                     pito_frame_write(numbers[0], payload, length, bytes, size, told, tells)
                 }
+                Operation::FrameBegin => pito_frame_begin(numbers[0], numbers[1], row, rows),
+                Operation::FramePart => {
+                    let (payload, length) = input(0);
+                    pito_frame_part(row, rows, payload, length, bytes, size, told, tells)
+                }
                 Operation::NextSequence => pito_next_sequence(numbers[0] as u8, told, tells),
                 Operation::PacketWrite => {
                     let [room, stream, id, sequence, ack, place] = *numbers else {

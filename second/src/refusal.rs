@@ -48,6 +48,8 @@ pub enum Refusal {
     Full = 24,
     /// "checksum differs"
     Checksum = 25,
+    /// "more payload offered than is still missing"
+    TooMuch = 26,
     /// "message ends inside a field"
     EndsInside = 30,
     /// "varint whose tenth byte is above 01"

@@ -106,13 +106,15 @@ fn a_wrong_number_of_any_operation_is_found() {
     for operation in Operation::ALL {
         let returned = Wrong(operation, |returned, _, _, _| *returned ^= 1);
         assert!(found(&returned).is_some());
-        let answer = Wrong(operation, |_, _, _, answer| {
-            if let Some(last) = answer.last_mut() {
-                *last ^= 1;
-            }
-        });
-        assert!(found(&answer).is_some());
         let shape = operation.shape();
+        if !shape.answer.is_empty() {
+            let answer = Wrong(operation, |_, _, _, answer| {
+                if let Some(last) = answer.last_mut() {
+                    *last ^= 1;
+                }
+            });
+            assert!(found(&answer).is_some());
+        }
         if !shape.state.is_empty() {
             let state = Wrong(operation, |_, state, _, _| {
                 if let Some(last) = state.last_mut() {

@@ -1,7 +1,7 @@
 //! "Each is given exactly when its line holds and none above it in its group does": each line of
 //! the table, and the orders that the paper and its readings fix.
 
-use second::classic::{self, Extractor, Outcome};
+use second::classic::{self, Extractor, Next, Outcome, Parts};
 use second::control::{self, Envelope, Features, Given, Information, Payload, Response};
 use second::driver::worked::bytes;
 use second::low_energy::{self, accept, write_packet, Accepted, Open, Slots, Stream, Wish};
@@ -460,6 +460,57 @@ fn frames_written() {
     assert_eq!(refusal(0, &[], 6), 14);
     assert_eq!(refusal(5, &[0xF0], 9), 14);
     assert!(output.iter().all(|&byte| byte == 0xEE));
+}
+
+#[test]
+fn frames_written_by_parts() {
+    assert_eq!(Parts::begin(0xF0, 1).unwrap_err().number(), 15);
+    assert_eq!(Parts::begin(5, 4_097).unwrap_err().number(), 15);
+    let begun = Parts::begin(5, 2).unwrap();
+    let marked = Parts {
+        sequence: 0xF2,
+        ..begun
+    };
+    let above = Parts {
+        total: 4_097,
+        ..begun
+    };
+    let passed = Parts { taken: 3, ..begun };
+    // 1 before 26 before 14; each leaves state and output.
+    let cases: &[(Parts, usize, usize, u64)] = &[
+        (marked, 3, 0, 1),
+        (above, 0, 1, 1),
+        (passed, 3, 0, 1),
+        (begun, 3, 0, 26),
+        (begun, 3, 9, 26),
+        (begun, 2, 0, 14),
+        (begun, 0, 0, 14),
+    ];
+    for &(state, offered, lent, number) in cases {
+        let mut output = vec![0xEE; lent];
+        let (after, told) = state.write(&vec![0x41; offered], &mut output);
+        assert_eq!(told.unwrap_err().number(), number);
+        assert_eq!(after, state);
+        assert!(output.iter().all(|&byte| byte == 0xEE));
+    }
+    // Any other state has a meaning: a second byte that is owed comes before the end is told.
+    let owed = Parts {
+        next: Next::Nothing,
+        split: Some(classic::END),
+        ..begun
+    };
+    let mut output = [0xEE; 3];
+    let (after, told) = owed.write(&[0x41], &mut output);
+    let told = told.unwrap();
+    assert_eq!((told.taken, told.written, told.ended), (0, 1, true));
+    assert_eq!(output, [0x03, 0xEE, 0xEE]);
+    assert_eq!(
+        after,
+        Parts {
+            split: None,
+            ..owed
+        }
+    );
 }
 
 #[test]

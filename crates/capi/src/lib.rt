@@ -21,6 +21,8 @@ use calls_outbox::calls::outbox_append;
 use calls_outbox::calls::outbox_new;
 use calls_outbox::calls::outbox_record;
 use calls_outbox::calls::outbox_whole;
+use calls_parts::calls::frame_begin;
+use calls_parts::calls::frame_part;
 use calls_receiving::calls::receiver_accept;
 use calls_sending::calls::ack_write;
 use calls_sending::calls::packet_write;
@@ -28,6 +30,7 @@ ghost use mathlib.Core.Path.{_≡_};
 ghost use mathlib.Core.List.{[]};
 ghost use Rattle.rows.specs.Called.{called};
 ghost use Rattle.calls_classic.specs.Calls.{extractorStepOf, extractorFeedOf, frameWriteOf, nextSequenceOf};
+ghost use Rattle.calls_parts.specs.Calls.{frameBeginOf, framePartOf};
 ghost use Rattle.calls_sending.specs.Calls.{packetWriteOf, ackWriteOf};
 ghost use Rattle.calls_sending.specs.Convert.{sendingOf};
 ghost use Rattle.calls_receiving.specs.Calls.{receiverAcceptOf};
@@ -36,7 +39,7 @@ ghost use Rattle.rows_messages.specs.Convert.{payloadFor};
 ghost use Rattle.calls_firmware.specs.Calls.{segmentReadOf, segmentWriteOf, applyReadOf, applyWriteOf, fieldReadOf};
 ghost use Rattle.calls_outbox.specs.Calls.{outboxNewOf, outboxAppendOf, outboxRecordOf, outboxWholeOf};
 
-// ---- Classic: the extractor and the frame writer
+// ---- Classic: the extractor and the frame writer, whole and by parts
 
 // One byte given to the extractor.
 #[no_mangle]
@@ -75,6 +78,27 @@ pub extern "C" fn pito_frame_write(
     ensures { λ r. ⌜ called r [] (now (output .exit)) (now (answer .exit)) ≡ frameWriteOf 4096 sequence (now (payload .entry)) (now (output .entry)) (now (answer .entry)) ⌝ }
 {
     frame_write(sequence, payload, output, answer)
+}
+
+// Begins a frame that is written by parts.
+#[no_mangle]
+pub extern "C" fn pito_frame_begin(sequence: u64, total: u64, state: &mut [u64]) -> u64
+    ensures { λ r. ⌜ called r (now (state .exit)) [] [] ≡ frameBeginOf 4096 sequence total (now (state .entry)) ⌝ }
+{
+    frame_begin(sequence, total, state)
+}
+
+// Takes payload and writes the frame on into an output.
+#[no_mangle]
+pub extern "C" fn pito_frame_part(
+    state: &mut [u64],
+    payload: &[u8],
+    output: &mut [u8],
+    answer: &mut [u64],
+) -> u64
+    ensures { λ r. ⌜ called r (now (state .exit)) (now (output .exit)) (now (answer .exit)) ≡ framePartOf 4096 (now (state .entry)) (now (payload .entry)) (now (output .entry)) (now (answer .entry)) ⌝ }
+{
+    frame_part(state, payload, output, answer)
 }
 
 // The sequence byte after a sequence byte.

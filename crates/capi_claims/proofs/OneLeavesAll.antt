@@ -19,6 +19,9 @@ use Rattle.extractor.specs.Step.{advanceOf, step}
 use Rattle.extractor.specs.Outcome as extractor
 use Rattle.feed.specs.Feed.{feedFrom, fed}
 use Rattle.frame_writer.specs.Writer.{writeOf}
+use Rattle.parts.specs.State.{startOf, badStart, lawful, missing}
+use Rattle.parts.specs.Fill.{fillOf}
+use Rattle.parts.specs.Writer.{wrote, filled, partOf}
 use Rattle.packet.specs.Header.{inRange}
 use Rattle.packet.specs.Control.{ackSize, ackBytes}
 use Rattle.acknowledgement.specs.Acknowledgement.{ackOf}
@@ -56,6 +59,8 @@ use Rattle.rows_firmware.specs.Apply.{rowSize, badRow, applyAt}
 use Rattle.calls_outbox.specs.Convert.{usedIn, usedRow}
 use Rattle.rows.specs.Called.{ifFit}
 use Rattle.calls_classic.specs.Calls.{stepped, fedCall, noneUsed, extractorStepOf, extractorFeedOf, frameWriteOf, nextSequenceOf}
+use Rattle.calls_parts.specs.Convert.{isState, stateOf}
+use Rattle.calls_parts.specs.Calls.{begun, parted, frameBeginOf, framePartOf}
 use Rattle.calls_sending.specs.Calls.{packetWriteOf, ackWriteOf}
 use Rattle.calls_receiving.specs.Calls.{accepted, receiverAcceptOf}
 use Rattle.calls_messages.specs.Calls.{envelopeReadOf, envelopeWriteOf, responseReadOf, responseWriteOf, informationReadOf, informationWriteOf, featuresReadOf, featuresWriteOf}
@@ -108,6 +113,29 @@ frame-keeps limit sequence payload out answer =
     let s = byteOr startMark sequence in
     keeps-writer out answer (writeOf limit s payload out)
     (writes-keeps (line 15 (isMark s || ltb limit (length payload)) ∷ line 14 (ltb (length out) (length (frameOf s payload))) ∷ []) (length (frameOf s payload)) out (sets out 0 (frameOf s payload)))
+
+begin-keeps : (limit sequence total : ℕ) (state : List ℕ) → Keeps state [] [] (frameBeginOf limit sequence total state)
+unfolding frameBeginOf
+begin-keeps limit sequence total state =
+    keeps-if (eqb (length state) 6) state [] [] _ (go (badStart limit (byteOr startMark sequence) total))
+  where
+    go : (t : Bool) → Keeps state [] [] (begun state (cond t (refused 15) (given (startOf (byteOr startMark sequence) total))))
+    go true = λ e. absurd (omega (arith, e))
+    go false = λ e. absurd (omega (arith, e))
+
+part-keeps : (limit : ℕ) (payload state out answer : List ℕ) → Keeps state out answer (framePartOf limit state payload out answer)
+unfolding framePartOf
+part-keeps limit payload state out answer =
+    let s = stateOf state in
+    keeps-if (eqb (length answer) 3 && isState state) state out answer _
+    (go (not (lawful limit s)) (ltb (missing s) (length payload)) (eqb (length out) 0))
+  where
+    go : (a b c : Bool) → (let s = stateOf state in
+        Keeps state out answer (parted state answer (cond a (wrote (refused 1) s out) (cond b (wrote (refused 26) s out) (cond c (wrote (refused 14) s out) (filled out (fillOf (length out) s payload)))))))
+    go true b c = λ e. refl
+    go false true c = λ e. absurd (omega (arith, e))
+    go false false true = λ e. absurd (omega (arith, e))
+    go false false false = λ e. absurd (omega (arith, e))
 
 packet-keeps : (limit : ℕ) (how : Sending) (place : ℕ) (message out answer : List ℕ) → Keeps [] out answer (packetWriteOf limit how message place out answer)
 unfolding packetWriteOf writtenOf
@@ -243,6 +271,8 @@ one-leaves-all = record {
   extractor-step = step-keeps;
   extractor-feed = feed-keeps;
   frame-write = frame-keeps;
+  frame-begin = begin-keeps;
+  frame-part = part-keeps;
   next-sequence = λ sequence answer. keeps-if (eqb (length answer) 1) [] [] answer _ never;
   packet-write = packet-keeps;
   ack-write = ack-keeps;

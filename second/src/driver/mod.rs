@@ -6,6 +6,7 @@ pub mod firmware;
 pub mod listing;
 pub mod outboxes;
 pub mod packets;
+pub mod parts;
 pub mod rooms;
 pub mod sizes;
 pub mod streams;
@@ -52,6 +53,10 @@ pub const PARTS: &[Part] = &[
     Part {
         name: "extractor streams",
         run: streams::run,
+    },
+    Part {
+        name: "frames by parts",
+        run: parts::run,
     },
     Part {
         name: "packets in interleaved lists",

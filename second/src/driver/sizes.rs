@@ -29,6 +29,7 @@ pub fn run(c: &mut Comparison<'_>, rng: &mut Rng, plan: Plan) -> Compared<()> {
             .inputs(&[&[byte as u8]])
             .lent(vec![0; 16]);
         c.run(&mut call)?;
+        c.run(&mut Call::new(Operation::FrameBegin).numbers(&[byte, 1]))?;
     }
     c.at = "every byte in every state of the extractor".to_string();
     every_byte(c, rng)?;
@@ -51,6 +52,13 @@ fn ordinary(rng: &mut Rng, operation: Operation) -> Call {
             .numbers(&[rng.below(240)])
             .inputs(&[&text])
             .lent(rng.bytes(80)),
+        Operation::FrameBegin => call.numbers(&[rng.below(240), rng.below(4_097)]),
+        Operation::FramePart => {
+            let total = size as u64 + rng.below(4);
+            call.state(&[rng.below(240), total, 0, 2, rng.below(8), rng.below(4)])
+                .inputs(&[&text])
+                .lent(rng.bytes(80))
+        }
         Operation::NextSequence => call.numbers(&[rng.below(256)]),
         Operation::PacketWrite => {
             let room = rng.between(20, 512);
@@ -118,7 +126,12 @@ fn ordinary(rng: &mut Rng, operation: Operation) -> Call {
 fn rows(c: &mut Comparison<'_>, rng: &mut Rng, operation: Operation) -> Compared<()> {
     let shape = operation.shape();
     for _ in 0..8 {
-        for length in 0..=shape.answer.len() + 3 {
+        // A call that tells no numbers has no answer row.
+        let lengths = match shape.answer.len() {
+            0 => 0..=0,
+            most => 0..=most + 3,
+        };
+        for length in lengths {
             let mut call = ordinary(rng, operation);
             call.answer.resize(length, 0);
             let expected = length != shape.answer.len();
@@ -187,7 +200,7 @@ fn disturb(rng: &mut Rng, call: &mut Call) {
                 let length = rng.between(55, 59);
                 call.numbers.resize(length, 0);
             }
-            7 if rng.once_in(10) => {
+            7 if rng.once_in(10) && !call.answer.is_empty() => {
                 let length = rng.index(call.answer.len() + 2);
                 call.answer.resize(length, 0);
             }
@@ -203,7 +216,7 @@ fn disturb(rng: &mut Rng, call: &mut Call) {
 /// Each number of each row, alone, at each edge: of the states, lawful otherwise, and of what is
 /// given, in range otherwise.
 fn each_edge(c: &mut Comparison<'_>, rng: &mut Rng) -> Compared<()> {
-    let states: [(Operation, &[&[u64]]); 3] = [
+    let states: [(Operation, &[&[u64]]); 4] = [
         (
             Operation::ExtractorStep,
             &[&[0, 0, 0], &[3, 0, 0], &[4, 7, 3], &[5, 7, 4_098]],
@@ -211,6 +224,14 @@ fn each_edge(c: &mut Comparison<'_>, rng: &mut Rng) -> Compared<()> {
         (
             Operation::ExtractorFeed,
             &[&[0, 0, 0], &[3, 0, 0], &[4, 7, 3], &[5, 7, 4_098]],
+        ),
+        (
+            Operation::FramePart,
+            &[
+                &[7, 30, 0, 2, 0, 0],
+                &[7, 4_096, 4_000, 0xF0F1, 4, 3],
+                &[7, 30, 0, 2, 7, 0],
+            ],
         ),
         (
             Operation::ReceiverAccept,

@@ -28,6 +28,7 @@ pub(super) fn wrote(call: &Call, made: &[u8]) -> bool {
 
 pub fn run(c: &mut Comparison<'_>, _: &mut Rng, _: Plan) -> Compared<()> {
     frames(c)?;
+    parts(c)?;
     packets(c)?;
     messages(c)?;
     outbox(c)?;
@@ -76,6 +77,41 @@ fn frames(c: &mut Comparison<'_>) -> Compared<()> {
     let stream = bytes("00 F0 02 00 05 F2 02 00 F2 00 F1 F0 02 F0 02 00 06 00 02 F1");
     let told = [(0, [2, 11, 5, 1]), (20, [0, 3, 0, 0]), (0, [2, 6, 6, 0])];
     feeds(c, &stream, &told)?;
+    Ok(())
+}
+
+/// A frame of one byte F0 by parts: what is offered, the output's size, then the number returned, the
+/// bytes taken and what was written.
+fn parts(c: &mut Comparison<'_>) -> Compared<()> {
+    c.at = "a frame by parts".to_string();
+    let mut begin = Call::new(Operation::FrameBegin).numbers(&[5, 1]);
+    c.expect(&mut begin, 0, |call| call.state == [5, 1, 0, 2, 0, 0])?;
+    let calls: [(&str, usize, u64, u64, &str); 10] = [
+        ("", 3, 0, 0, "F0 02 00"),
+        ("", 9, 0, 0, "05"),
+        ("F0", 1, 0, 1, "F2"),
+        ("", 1, 0, 0, "02"),
+        ("00", 1, 26, 0, ""),
+        ("", 0, 14, 0, ""),
+        ("", 9, 0, 0, "00 F2 00 F1"),
+        ("", 9, 0, 0, ""),
+        ("00", 0, 26, 0, ""),
+        ("", 0, 14, 0, ""),
+    ];
+    let mut call = Call::new(Operation::FramePart).state(&begin.state);
+    for (place, (offered, size, returned, taken, made)) in calls.into_iter().enumerate() {
+        let made = bytes(made);
+        call.inputs[0] = bytes(offered);
+        call.lent = blank(size);
+        let before = call.state.clone();
+        let ended = u64::from(returned == 0 && place >= 6);
+        c.expect(&mut call, returned, |call| {
+            call.answer == [taken, made.len() as u64, ended]
+                && call.lent.starts_with(&made)
+                && call.lent[made.len()..].iter().all(|&byte| byte == 0xCC)
+                && (call.state == before) == made.is_empty()
+        })?;
+    }
     Ok(())
 }
 
