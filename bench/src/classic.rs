@@ -228,26 +228,33 @@ pub fn parts<const WHOLE: bool>(
 /// The same by the types of second/.
 pub fn parts_own<const WHOLE: bool>(payloads: &[Payload], output: &mut [u8]) -> u64 {
     let mut digest = Digest::<WHOLE>::new();
+    let mut last = [0; 6];
     for payload in payloads {
-        let mut state =
-            Parts::begin(payload.sequence, payload.bytes.len() as u64).expect("in range");
+        let total = payload.bytes.len() as u64;
+        let mut state = Parts::begin(payload.sequence, total).expect("in range");
+        digest.number(0);
         let mut rest = &payload.bytes[..];
         loop {
             let (next, told) = state.write(rest, &mut output[..payload.room]);
             let told = told.expect("in range");
+            let (taken, written) = (told.taken as u64, told.written as u64);
             state = next;
-            digest.row(&[
-                told.taken as u64,
-                told.written as u64,
-                u64::from(told.ended),
-            ]);
+            digest.row(&[0, taken, written, u64::from(told.ended)]);
             digest.bytes(&output[..told.written]);
             rest = &rest[told.taken..];
             if told.ended {
                 break;
             }
         }
+        last = ended_row(state);
     }
+    digest.row(&last);
     digest.lent(output);
     digest.value()
+}
+
+/// The row of a frame that has ended.
+fn ended_row(state: Parts) -> [u64; 6] {
+    let (sequence, sum) = (u64::from(state.sequence), u64::from(state.sum));
+    [sequence, state.total, state.taken, sum, 7, 0]
 }
