@@ -4,6 +4,7 @@ pub mod captures;
 pub mod control;
 pub mod firmware;
 pub mod listing;
+pub mod orders;
 pub mod outboxes;
 pub mod packets;
 pub mod parts;
@@ -61,6 +62,10 @@ pub const PARTS: &[Part] = &[
     Part {
         name: "packets in interleaved lists",
         run: packets::run,
+    },
+    Part {
+        name: "packets of two streams in either order",
+        run: orders::run,
     },
     Part {
         name: "control messages",

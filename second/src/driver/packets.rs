@@ -55,7 +55,7 @@ fn open_slot(rng: &mut Rng) -> [u64; 6] {
 }
 
 /// A lawful state, each slot idle or open.
-fn lawful(rng: &mut Rng) -> Vec<u64> {
+pub(super) fn lawful(rng: &mut Rng) -> Vec<u64> {
     (0..3)
         .flat_map(|_| {
             if rng.once_in(3) {
@@ -161,7 +161,7 @@ fn any_byte(rng: &mut Rng) -> u8 {
 }
 
 /// An ACK or NACK, or something like one.
-fn acknowledgement(rng: &mut Rng) -> Vec<u8> {
+pub(super) fn acknowledgement(rng: &mut Rng) -> Vec<u8> {
     let stream = *rng.pick(&Stream::ALL);
     let (id, sequence) = (rng.below(16) as u8, rng.below(16) as u8);
     let made = low_energy::acknowledgement(stream, id, sequence, rng.once_in(2));
@@ -174,7 +174,7 @@ fn acknowledgement(rng: &mut Rng) -> Vec<u8> {
 
 /// A packet made for the state at hand: each field is the right one mostly, and one off or any
 /// otherwise.
-fn directed(rng: &mut Rng, state: &[u64]) -> Vec<u8> {
+pub(super) fn directed(rng: &mut Rng, state: &[u64]) -> Vec<u8> {
     let stream = *rng.pick(&Stream::ALL);
     let slot = &state[stream.slot() * 6..stream.slot() * 6 + 6];
     let [open, id, total, held, sequence, _] = slot else {
