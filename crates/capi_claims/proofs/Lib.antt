@@ -4,3 +4,4 @@ mod Accepting
 mod OneLeavesAll
 mod Sizes
 mod SizesSuffice
+mod Instances

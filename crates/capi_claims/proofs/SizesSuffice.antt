@@ -306,7 +306,7 @@ sizes-suffice = record {
   frame-write = frame-done;
   packet-write = packet-done;
   packet-first = λ limit room stream id sequence ack message out answer l low high s i q a m h.
-      packet-done limit room stream id sequence ack 0 message out answer l low high s i q a m refl h;
+      packet-done limit room stream id sequence ack 0 message out answer l low high s i q a m refl (omega arith);
   ack-write = ack-done;
   envelope-none = envelope-none;
   envelope-response = envelope-response;
