@@ -9,8 +9,8 @@ use lib.ListN.{replicate}
 use Rattle.field.specs.Signed.{extended}
 use Rattle.wire.specs.Stream.{isStream}
 use Rattle.sender.specs.Piece.{sizeFor}
-use Rattle.outbox.specs.Format.{bytesOf, recordBytes}
-use Rattle.outbox.specs.Reader.{otherVersion, badPlace, readOf, readings, readAll, walkOf}
+use Rattle.outbox.specs.Format.{numberOf, bytesOf, recordBytes}
+use Rattle.outbox.specs.Reader.{otherVersion, badPlace, badLength, cutShort, badStream, recordAt, readOf, readings, readAll, walkOf}
 use Rattle.outbox.specs.Writer.{badRecord, appendOf}
 use Rattle.rows.specs.Row.{byteOr}
 use Rattle.rows.specs.Called.{called}
@@ -83,6 +83,11 @@ new = sizes-suffice .outbox-new 4096 (bytes 1) (7 ∷ []) refl (omega arith)
 
 append : Done (outboxAppendOf 1 (1 ∷ 9 ∷ 9 ∷ 9 ∷ 9 ∷ []) 1 6 (65 ∷ []) (7 ∷ 7 ∷ []))
 append = sizes-suffice .outbox-append-first 1 6 (9 ∷ 9 ∷ 9 ∷ 9 ∷ []) (65 ∷ []) (7 ∷ 7 ∷ []) refl (inr (inr refl)) (omega arith) (omega arith)
+
+behind : Done (outboxAppendOf 1 (1 ∷ 0 ∷ 2 ∷ 6 ∷ 65 ∷ 9 ∷ 9 ∷ 9 ∷ []) 5 2 [] (7 ∷ 7 ∷ []))
+unfolding isStream walkOf readAll readings readOf otherVersion badPlace recordAt badLength cutShort badStream numberOf
+behind =
+    sizes-suffice .outbox-append 1 5 2 (1 ∷ 0 ∷ 2 ∷ 6 ∷ 65 ∷ 9 ∷ 9 ∷ 9 ∷ []) [] (7 ∷ 7 ∷ []) refl refl (inr (inl refl)) (omega arith) (omega arith)
 
 appended : outboxAppendOf 1 (1 ∷ 9 ∷ 9 ∷ 9 ∷ 9 ∷ []) 1 6 (65 ∷ []) (7 ∷ 7 ∷ []) ≡ called 0 [] (1 ∷ 0 ∷ 2 ∷ 6 ∷ 65 ∷ []) (5 ∷ 0 ∷ [])
 unfolding outboxAppendOf appendOf badRecord isStream walkOf readAll readings readOf otherVersion badPlace bytesOf recordBytes byteOr
