@@ -134,6 +134,47 @@ extern "C" {
         answer: *mut u64,
         answer_len: usize,
     ) -> u64;
+    pub fn pito_segment_read(
+        message: *const u8,
+        message_len: usize,
+        answer: *mut u64,
+        answer_len: usize,
+    ) -> u64;
+    pub fn pito_segment_write(
+        name: *const u8,
+        name_len: usize,
+        offset: u64,
+        size: u64,
+        signature: *const u8,
+        signature_len: usize,
+        output: *mut u8,
+        output_len: usize,
+        answer: *mut u64,
+        answer_len: usize,
+    ) -> u64;
+    pub fn pito_apply_read(
+        message: *const u8,
+        message_len: usize,
+        answer: *mut u64,
+        answer_len: usize,
+    ) -> u64;
+    pub fn pito_apply_write(
+        row: *const u64,
+        row_len: usize,
+        texts: *const u8,
+        texts_len: usize,
+        output: *mut u8,
+        output_len: usize,
+        answer: *mut u64,
+        answer_len: usize,
+    ) -> u64;
+    pub fn pito_field_read(
+        message: *const u8,
+        message_len: usize,
+        place: u64,
+        answer: *mut u64,
+        answer_len: usize,
+    ) -> u64;
     pub fn pito_outbox_new(
         output: *mut u8,
         output_len: usize,

@@ -11,7 +11,7 @@
 #define ROUNDS 4000
 #define LONGEST_FRAME (2 * PITO_MESSAGE_LIMIT + 9)
 #define MOST_BYTES (2 * LONGEST_FRAME)
-#define LONGEST_ROW 16
+#define LONGEST_ROW PITO_APPLY_READ_ANSWER
 #define LARGEST_ROOM 512
 
 static uint64_t answer[LONGEST_ROW];
@@ -172,12 +172,29 @@ static uint64_t any_field(void)
     return once_in(20) ? any_number() : below(20);
 }
 
+/* An unsigned 32-bit number, now and then one of 64 bits. */
+static uint64_t any_unsigned(void)
+{
+    return once_in(60) ? any_number() : (uint32_t)any_number();
+}
+
+static void read_fields(size_t count)
+{
+    uint64_t place = once_in(40) ? below(count + 3) : 0;
+    while (CALL(pito_field_read, A(bytes), count, place, A(answer), length(PITO_FIELD_READ_ANSWER)) == 0 &&
+           answer[PITO_FIELD_READ_OUTCOME] == PITO_FIELD)
+        place = answer[PITO_FIELD_READ_NEXT];
+}
+
 static void read_all(size_t count)
 {
     CALL(pito_envelope_read, A(bytes), count, A(answer), length(PITO_ENVELOPE_READ_ANSWER));
     CALL(pito_response_read, A(bytes), count, A(answer), length(PITO_RESPONSE_READ_ANSWER));
     CALL(pito_information_read, A(bytes), count, A(answer), length(PITO_INFORMATION_READ_ANSWER));
     CALL(pito_features_read, A(bytes), count, A(answer), length(PITO_FEATURES_READ_ANSWER));
+    CALL(pito_segment_read, A(bytes), count, A(answer), length(PITO_SEGMENT_READ_ANSWER));
+    CALL(pito_apply_read, A(bytes), count, A(answer), length(PITO_APPLY_READ_ANSWER));
+    read_fields(count);
 }
 
 /* Damaged, or with itself behind it: what may stand once then stands twice. */
@@ -217,6 +234,45 @@ static void write_information(size_t count)
                       length(PITO_FEATURES_WRITE_ANSWER)));
 }
 
+static void write_segment(size_t count)
+{
+    uint8_t signature[64];
+    for (size_t i = 0; i < sizeof signature; i++)
+        signature[i] = (uint8_t)"0123456789abcdefABCDEF"[below(22)];
+    if (once_in(20))
+        signature[below(sizeof signature)] = 'g';
+    read_written(CALL(pito_segment_write, A(payload), count, once_in(20) ? any_unsigned() : 0, any_unsigned(),
+                      A(signature), sizeof signature, A(bytes), room_for_message(), A(answer),
+                      length(PITO_SEGMENT_WRITE_ANSWER)));
+}
+
+/* A part of the payload, now and then one that passes its end. */
+static void any_part(uint64_t *part, size_t count)
+{
+    part[0] = below(count + 1);
+    part[1] = below(count + 1 - part[0]) + once_in(200);
+}
+
+static void write_apply(size_t count)
+{
+    static uint64_t row[PITO_APPLY_READ_ANSWER];
+    row[PITO_APPLY_READ_RESTART_REQUIRED] = below(once_in(40) ? 3 : 2);
+    row[PITO_APPLY_READ_VERSION] = any_unsigned();
+    any_part(row + PITO_APPLY_READ_NAME_START, count);
+    any_part(row + PITO_APPLY_READ_LOCALE_START, count);
+    any_part(row + PITO_APPLY_READ_VERSION_NAME_START, count);
+    row[PITO_APPLY_READ_COMPONENTS] = below(once_in(40) ? 10 : 9);
+    for (size_t i = 0; i < PITO_MOST_COMPONENTS; i++) {
+        uint64_t *component = row + PITO_APPLY_READ_COMPONENT_AT(i);
+        component[PITO_COMPONENT_VERSION] = any_unsigned();
+        any_part(component + PITO_COMPONENT_NAME_START, count);
+        component[PITO_COMPONENT_SIZE] = any_unsigned();
+        any_part(component + PITO_COMPONENT_SIGNATURE_START, count);
+    }
+    read_written(CALL(pito_apply_write, A(row), length(PITO_APPLY_READ_ANSWER), A(payload), count, A(bytes),
+                      room_for_message(), A(answer), length(PITO_APPLY_WRITE_ANSWER)));
+}
+
 static void messages(void)
 {
     for (int round = 0; round < ROUNDS; round++) {
@@ -224,6 +280,8 @@ static void messages(void)
         fill(payload, count);
         write_envelope(count);
         write_information(count);
+        write_segment(count);
+        write_apply(count);
         count = any_length(100);
         fill(bytes, count);
         read_all(count);

@@ -48,6 +48,7 @@ fn kinds(operation: Operation) -> Option<(usize, &'static [&'static str])> {
         Operation::ExtractorFeed => Some((0, &["all used", "", "frame"])),
         Operation::ReceiverAccept => Some((0, &["held", "finished", "ACK", "NACK"])),
         Operation::EnvelopeRead => Some((1, &["no payload", "response", "other member"])),
+        Operation::FieldRead => Some((0, &["end", "field"])),
         Operation::OutboxRecord => Some((0, &["end", "record"])),
         _ => None,
     }

@@ -7,9 +7,11 @@
 //!   changes: neither state, lent bytes nor answer. Only `feed` tells then that 0 bytes were used,
 //!   where its answer row has the right length.
 //! - Every other call writes the whole answer row. After a refusal it is 0 throughout, but for what
-//!   the paper tells then: the number used by `feed`, and the place that goes with 41.
+//!   the paper tells then: the number used by `feed`, the place that goes with 41, and the field that
+//!   goes with 50.
 //! - Signed 32-bit numbers stand in two's complement, extended to 64 bits. A number that is no such
-//!   one is out of a writer's range, 15; so is a wish other than 0 or 1.
+//!   one is out of a writer's range, 15; so is an unsigned one above 32 bits, and a wish other than 0
+//!   or 1.
 
 use crate::classic::{self, Decided, Extractor, Outcome};
 use crate::control::{self, Envelope, Features, Given, Information, Member, Payload, Response};
@@ -18,6 +20,8 @@ use crate::low_energy::{self, Accepted, Open, Slots, Stream, Wish};
 use crate::outbox::{self, Broken, Record};
 use crate::refusal::Refusal;
 use std::ops::Range;
+
+pub mod firmware;
 
 /// The model behind its face.
 pub struct Model;
@@ -76,6 +80,16 @@ impl Implementation for Model {
             }
             Operation::FeaturesRead => features_read(&inputs[0], answer),
             Operation::FeaturesWrite => features_write(numbers[0], numbers[1], lent, answer),
+            Operation::SegmentRead => firmware::segment_read(&inputs[0], answer),
+            Operation::SegmentWrite => {
+                let ([name, signature], [offset, size]) = (inputs, numbers) else {
+                    panic!("two inputs, two numbers")
+                };
+                firmware::segment_write(name, *offset, *size, signature, lent, answer)
+            }
+            Operation::ApplyRead => firmware::apply_read(&inputs[0], answer),
+            Operation::ApplyWrite => firmware::apply_write(numbers, &inputs[0], lent, answer),
+            Operation::FieldRead => firmware::field_read(&inputs[0], numbers[0], answer),
             Operation::OutboxNew => outbox_new(lent, answer),
             Operation::OutboxAppend => {
                 outbox_append(lent, numbers[0], numbers[1], &inputs[0], answer)

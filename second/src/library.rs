@@ -4,6 +4,7 @@
 use crate::implementation::{Implementation, Operation};
 use pitokaenge::*;
 
+mod firmware;
 #[path = "../../include/pitokaenge.rs"]
 mod pitokaenge;
 
@@ -117,6 +118,11 @@ impl Implementation for Library {
                 Operation::FeaturesWrite => {
                     pito_features_write(numbers[0], numbers[1], bytes, size, told, tells)
                 }
+                Operation::SegmentRead
+                | Operation::SegmentWrite
+                | Operation::ApplyRead
+                | Operation::ApplyWrite
+                | Operation::FieldRead => firmware::call(operation, numbers, inputs, lent, answer),
                 Operation::OutboxNew => pito_outbox_new(bytes, size, told, tells),
                 Operation::OutboxAppend => {
                     let (payload, length) = input(0);

@@ -10,6 +10,7 @@ use Rattle.calls_classic.specs.Calls.{noneUsed, extractorStepOf, extractorFeedO
 use Rattle.calls_sending.specs.Calls.{packetWriteOf, ackWriteOf}
 use Rattle.calls_receiving.specs.Calls.{receiverAcceptOf}
 use Rattle.calls_messages.specs.Calls.{envelopeReadOf, envelopeWriteOf, responseReadOf, responseWriteOf, informationReadOf, informationWriteOf, featuresReadOf, featuresWriteOf}
+use Rattle.calls_firmware.specs.Calls.{segmentReadOf, segmentWriteOf, applyReadOf, applyWriteOf, fieldReadOf}
 use Rattle.calls_outbox.specs.Calls.{outboxNewOf, outboxAppendOf, outboxRecordOf, outboxWholeOf}
 
 -- if it returns 1, state row, lent bytes and answer row are what they were
@@ -36,6 +37,12 @@ pub record OneLeavesAll : Type 0 where
       → Keeps [] out answer (informationWriteOf serialNumber name deviceType transports out answer)
   pub features-read : (message answer : List ℕ) → Keeps [] [] answer (featuresReadOf message answer)
   pub features-write : (features attributes : ℕ) (out answer : List ℕ) → Keeps [] out answer (featuresWriteOf features attributes out answer)
+  pub segment-read : (message answer : List ℕ) → Keeps [] [] answer (segmentReadOf message answer)
+  pub segment-write : (offset size : ℕ) (name signature out answer : List ℕ)
+      → Keeps [] out answer (segmentWriteOf name offset size signature out answer)
+  pub apply-read : (message answer : List ℕ) → Keeps [] [] answer (applyReadOf message answer)
+  pub apply-write : (row texts out answer : List ℕ) → Keeps [] out answer (applyWriteOf row texts out answer)
+  pub field-read : (place : ℕ) (message answer : List ℕ) → Keeps [] [] answer (fieldReadOf message place answer)
   pub outbox-new : (limit : ℕ) (out answer : List ℕ) → Keeps [] out answer (outboxNewOf limit out answer)
   pub outbox-append : (limit used stream : ℕ) (payload buffer answer : List ℕ)
       → Keeps [] buffer answer (outboxAppendOf limit buffer used stream payload answer)

@@ -5,7 +5,7 @@ pub mod step;
 use packet::header;
 use wire::logic::both;
 ghost use mathlib.Core.Path.{_≡_};
-ghost use Rattle.slot.specs.Slot.{idle, openLaw, idleLaw, lawfulSlot, lawful};
+ghost use Rattle.slot.specs.Slot.{idle, openLaw, idleLaw, isOpen, lawfulSlot, lawful};
 
 pub struct Slot {
     pub opened: bool,
@@ -42,6 +42,13 @@ impl Slot {
     {
         let counts = both(self.total == 0, self.held == 0);
         both(self.id == 0, both(self.sequence == 0, counts))
+    }
+
+    // Whether a transaction of that id is open.
+    fn is_open(self, id: u8) -> bool
+        ensures { λ r. ⌜ r ≡ isOpen id self ⌝ }
+    {
+        both(self.opened, self.id == id)
     }
 
     pub fn is_lawful(self) -> bool

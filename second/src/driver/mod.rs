@@ -2,6 +2,7 @@
 
 pub mod captures;
 pub mod control;
+pub mod firmware;
 pub mod listing;
 pub mod outboxes;
 pub mod packets;
@@ -59,6 +60,10 @@ pub const PARTS: &[Part] = &[
     Part {
         name: "control messages",
         run: control::run,
+    },
+    Part {
+        name: "firmware messages",
+        run: firmware::run,
     },
     Part {
         name: "outboxes",

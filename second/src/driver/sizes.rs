@@ -2,7 +2,7 @@
 //! and too long, each argument at and past its edges, alone and several at once, so that the order
 //! of the refusals shows.
 
-use super::{edge, Plan, EDGES};
+use super::{edge, firmware, Plan, EDGES};
 use crate::classic;
 use crate::comparison::{Compared, Comparison};
 use crate::implementation::{Call, Operation};
@@ -89,6 +89,20 @@ fn ordinary(rng: &mut Rng, operation: Operation) -> Call {
                 .lent(rng.bytes(160))
         }
         Operation::FeaturesWrite => call.numbers(&[rng.draw(), rng.draw()]).lent(rng.bytes(22)),
+        Operation::SegmentRead => {
+            let message = [&[0x18, 0x07, 0x22, 0x40][..], &firmware::digits(rng)].concat();
+            call.inputs(&[&message])
+        }
+        Operation::SegmentWrite => call
+            .numbers(&[0, rng.draw() >> 32])
+            .inputs(&[&text, &firmware::digits(rng)])
+            .lent(rng.bytes(110)),
+        Operation::ApplyRead => call.inputs(&[&[0x0A, 0x04, 0x1A, 0x00, 0x1A, 0x00, 0x10, 0x01]]),
+        Operation::ApplyWrite => {
+            let row = firmware::row(rng, text.len());
+            call.numbers(&row).inputs(&[&text]).lent(rng.bytes(700))
+        }
+        Operation::FieldRead => call.numbers(&[0]).inputs(&[&[0x12, 0x02, 0x05, 0x06]]),
         Operation::OutboxNew => call.lent(rng.bytes(4)),
         Operation::OutboxAppend => {
             let mut lent = rng.bytes(60);
@@ -168,6 +182,10 @@ fn disturb(rng: &mut Rng, call: &mut Call) {
             7 if call.operation == Operation::InformationWrite => {
                 let count = rng.index(12);
                 call.numbers.resize(count, 1);
+            }
+            7 if call.operation == Operation::ApplyWrite && rng.once_in(4) => {
+                let length = rng.between(55, 59);
+                call.numbers.resize(length, 0);
             }
             7 if rng.once_in(10) => {
                 let length = rng.index(call.answer.len() + 2);

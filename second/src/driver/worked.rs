@@ -15,12 +15,12 @@ pub fn bytes(text: &str) -> Vec<u8> {
 }
 
 /// A buffer filled with a byte that no result here has.
-fn blank(size: usize) -> Vec<u8> {
+pub(super) fn blank(size: usize) -> Vec<u8> {
     vec![0xCC; size]
 }
 
 /// Whether a writer left exactly these bytes at the front and nothing else.
-fn wrote(call: &Call, made: &[u8]) -> bool {
+pub(super) fn wrote(call: &Call, made: &[u8]) -> bool {
     call.answer[0] == made.len() as u64
         && call.lent.starts_with(made)
         && call.lent[made.len()..].iter().all(|&byte| byte == 0xCC)
