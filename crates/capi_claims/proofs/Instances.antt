@@ -1,5 +1,5 @@
 -- An instance of each field of SizesSuffice: the ends of its ranges, and just the output that the header names. The append also by computation.
-use Prim.Native.Nat.{ℕ}
+use Prim.Native.Nat.{ℕ, zero, suc}
 use mathlib.Core.Path.{_≡_, refl}
 use mathlib.Core.Logic.{inl, inr}
 use mathlib.Core.List.{List, [], _∷_, map}
@@ -12,6 +12,7 @@ use Rattle.sender.specs.Piece.{sizeFor}
 use Rattle.outbox.specs.Format.{numberOf, bytesOf, recordBytes}
 use Rattle.outbox.specs.Reader.{otherVersion, badPlace, badLength, cutShort, badStream, recordAt, readOf, readings, readAll, walkOf}
 use Rattle.outbox.specs.Writer.{badRecord, appendOf}
+use Rattle.firmware_round_trips.specs.Premises.{Digits, lower}
 use Rattle.rows.specs.Row.{byteOr}
 use Rattle.rows.specs.Called.{called}
 use Rattle.calls_classic.specs.Calls.{frameWriteOf}
@@ -19,6 +20,7 @@ use Rattle.calls_sending.specs.Convert.{sendingOf}
 use Rattle.calls_sending.specs.Calls.{packetWriteOf, ackWriteOf}
 use Rattle.rows_messages.specs.Convert.{payloadFor}
 use Rattle.calls_messages.specs.Calls.{envelopeWriteOf, responseWriteOf, informationWriteOf, featuresWriteOf}
+use Rattle.calls_firmware.specs.Calls.{segmentWriteOf}
 use Rattle.calls_outbox.specs.Calls.{outboxNewOf, outboxAppendOf}
 use Rattle.capi_claims.specs.SizesSuffice.{Done}
 use Rattle.capi_claims.proofs.SizesSuffice.{sizes-suffice}
@@ -77,6 +79,13 @@ information =
 
 features : Done (featuresWriteOf 18446744073709551615 18446744073709551615 (bytes 22) (7 ∷ []))
 features = sizes-suffice .features-write 18446744073709551615 18446744073709551615 (bytes 22) (7 ∷ []) refl (omega arith)
+
+digits : (n : ℕ) → Digits (replicate n 102)
+digits zero = tt
+digits (suc n) = (lower (omega arith) (omega arith), digits n)
+
+segment : Done (segmentWriteOf (65 ∷ []) 0 4294967295 (replicate 64 102) (bytes 98) (7 ∷ 7 ∷ []))
+segment = sizes-suffice .segment-write (65 ∷ []) 4294967295 (replicate 64 102) (bytes 98) (7 ∷ 7 ∷ []) refl (omega arith) refl (digits 64) (omega arith)
 
 new : Done (outboxNewOf 4096 (bytes 1) (7 ∷ []))
 new = sizes-suffice .outbox-new 4096 (bytes 1) (7 ∷ []) refl (omega arith)
