@@ -6,3 +6,4 @@ mod Sizes
 mod Applies
 mod SizesSuffice
 mod RowsAgree
+mod Instances

@@ -15,7 +15,7 @@ use Rattle.wire.proofs.Streams.{known-stream}
 use Rattle.field.specs.Signed.{signedOf, extended}
 use Rattle.field.specs.Tag.{varintType, lengthType, lastField}
 use Rattle.field_writer.specs.Writer.{Field, messageBytes}
-use Rattle.framing.specs.Mark.{startMark, isMark}
+use Rattle.framing.specs.Mark.{startMark, endMark, escapeMark, kindOf, isMark}
 use Rattle.framing.specs.Frame.{frameOf, checksumOf}
 use Rattle.frame_writer.specs.Writer.{writeOf}
 use Rattle.frame_writer.proofs.Escaping.{frame-most}
@@ -62,7 +62,7 @@ use Rattle.calls_messages.specs.Calls.{envelopeWriteOf, responseWriteOf, inform
 use Rattle.rows_firmware.specs.Apply.{applyAt}
 use Rattle.calls_firmware.specs.Calls.{segmentStored, segmentWriteOf, applyStored, applyWriteOf}
 use Rattle.calls_outbox.specs.Calls.{outboxNewOf, outboxAppendOf}
-use Rattle.capi_claims.specs.SizesSuffice.{Done, StreamNumber, MemberNumber, PayloadField, Unsigned32, RowFits, stringsOf, SizesSuffice, frameSize, envelopeSize, responseSize, informationSize, featuresSize, segmentSize, applySize, recordSize}
+use Rattle.capi_claims.specs.SizesSuffice.{Done, StreamNumber, NoMark, MemberNumber, PayloadField, Unsigned32, RowFits, stringsOf, SizesSuffice, frameSize, envelopeSize, responseSize, informationSize, featuresSize, segmentSize, applySize, recordSize}
 use Rattle.capi_claims.proofs.Sizes.{scalar-most, text-most, nested-most, packed-most, tag-most, tag-small}
 use Rattle.capi_claims.proofs.Applies.{not-wide, low-same, row-fine, firmware-fine, apply-most}
 
@@ -91,8 +91,12 @@ byte-is : (other n : ℕ) → n < 256 → byteOr other n ≡ n
 unfolding byteOr
 byte-is other n h = rw (lt-ltb n 256 h)
 
+unmarked : (b : ℕ) → NoMark b → isMark b ≡ false
+unfolding kindOf
+unmarked b none = rw (ne-eqb b startMark (none .0), ne-eqb b endMark (none .1), ne-eqb b escapeMark (none .2))
+
 frame-done : (limit sequence : ℕ) (payload out answer : List ℕ) → length answer ≡ 1
-    → sequence < 256 → isMark sequence ≡ false → length payload ≤ limit → frameSize (length payload) ≤ length out
+    → sequence < 256 → NoMark sequence → length payload ≤ limit → frameSize (length payload) ≤ length out
     → Done (frameWriteOf limit sequence payload out answer)
 unfolding frameWriteOf
 frame-done limit sequence payload out answer l b m n h =
@@ -100,7 +104,7 @@ frame-done limit sequence payload out answer l b m n h =
     (writer-done out answer (writeOf limit sequence payload out) l
     (done-two (isMark sequence || ltb limit (length payload)) (length (frameOf sequence payload)) out
     (length (frameOf sequence payload)) (sets out 0 (frameOf sequence payload))
-    (rw (m, le-ltb limit (length payload) n))
+    (rw (unmarked sequence m, le-ltb limit (length payload) n))
     (omega (arith, frame-most sequence payload (checksumOf payload / 256) (checksumOf payload % 256)))))
 
 stream-byte : (n : ℕ) → StreamNumber n → n < 256
@@ -121,7 +125,7 @@ args-fit stream id sequence ack s i q a =
 
 packet-done : (limit room stream id sequence ack place : ℕ) (message out answer : List ℕ) → length answer ≡ 2
     → 20 ≤ room → room ≤ 512 → StreamNumber stream → id ≤ 15 → sequence ≤ 15 → ack ≤ 1 → length message ≤ limit
-    → begins (foundAt (sendingOf room stream id sequence ack) (length message) place) ≡ true → largestRoom ≤ length out
+    → begins (foundAt (sendingOf room stream id sequence ack) (length message) place) ≡ true → room ≤ length out
     → Done (packetWriteOf limit (sendingOf room stream id sequence ack) message place out answer)
 unfolding packetWriteOf writtenOf sendingOf roomFits argumentsFit
 packet-done limit room stream id sequence ack place message out answer l low high s i q a m b h =
@@ -341,10 +345,17 @@ append-done limit used stream buffer payload answer l whole s short room =
       whole,
     ))
 
+-- the version byte alone is a whole outbox
+new-whole : (limit : ℕ) (rest : List ℕ) → walkOf (versionOne limit) (take 1 (1 ∷ rest)) ≡ outbox.given tt
+unfolding walkOf outbox.readAll outbox.readings outbox.readOf outbox.otherVersion outbox.badPlace
+new-whole limit rest = refl
+
 pub sizes-suffice : SizesSuffice
 sizes-suffice = record {
   frame-write = frame-done;
   packet-write = packet-done;
+  packet-first = λ limit room stream id sequence ack message out answer l low high s i q a m h.
+      packet-done limit room stream id sequence ack 0 message out answer l low high s i q a m refl (omega arith);
   ack-write = ack-done;
   envelope-none = envelope-none;
   envelope-response = envelope-response;
@@ -356,4 +367,6 @@ sizes-suffice = record {
   apply-write = apply-done;
   outbox-new = new-done;
   outbox-append = append-done;
+  outbox-append-first = λ limit stream rest payload answer l s short room.
+      append-done limit 1 stream (1 ∷ rest) payload answer l (new-whole limit rest) s short room;
 }

@@ -4,12 +4,10 @@ use Prim.Native.Nat.{ℕ, zero, suc, _+_, _*_, _≤_, _<_}
 use mathlib.Core.Path.{_≡_}
 use mathlib.Core.Logic.{_⊎_}
 use mathlib.Core.Bool.{true, false}
-use mathlib.Core.List.{List, map}
+use mathlib.Core.List.{List, _∷_, map}
 use lib.IntN.{ℤ}
 use lib.ListN.{length, take, getD}
-use Rattle.framing.specs.Mark.{isMark}
 use Rattle.packet.specs.Control.{ackSize}
-use Rattle.sender.specs.Piece.{largestRoom}
 use Rattle.sender.specs.Writer.{begins, foundAt}
 use Rattle.field.specs.Signed.{extended}
 use Rattle.outbox.specs.Format.{versionOne}
@@ -64,6 +62,10 @@ Done c = c .number ≡ 0
 abbrev pub StreamNumber : ℕ → Type 0
 StreamNumber n = (n ≡ 0) ⊎ (n ≡ 2) ⊎ (n ≡ 6)
 
+-- none of F0, F1 and F2
+abbrev pub NoMark : ℕ → Type 0
+NoMark n = (n ≡ 240 → ⊥) × (n ≡ 241 → ⊥) × (n ≡ 242 → ⊥)
+
 -- a member's number, and 0 or one for a response's payload
 abbrev pub MemberNumber : ℕ → Type 0
 MemberNumber n = (2 ≤ n) × (n ≤ 536870911)
@@ -105,13 +107,17 @@ stringsOf row = getD row 3 0 + getD row 5 0 + getD row 7 0 + stringsFrom (getD r
 
 pub record SizesSuffice : Type 0 where
   pub frame-write : (limit sequence : ℕ) (payload out answer : List ℕ) → length answer ≡ 1
-      → sequence < 256 → isMark sequence ≡ false → length payload ≤ limit → frameSize (length payload) ≤ length out
+      → sequence < 256 → NoMark sequence → length payload ≤ limit → frameSize (length payload) ≤ length out
       → Done (frameWriteOf limit sequence payload out answer)
   -- at each place where a piece begins
   pub packet-write : (limit room stream id sequence ack place : ℕ) (message out answer : List ℕ) → length answer ≡ 2
       → 20 ≤ room → room ≤ 512 → StreamNumber stream → id ≤ 15 → sequence ≤ 15 → ack ≤ 1 → length message ≤ limit
-      → begins (foundAt (sendingOf room stream id sequence ack) (length message) place) ≡ true → largestRoom ≤ length out
+      → begins (foundAt (sendingOf room stream id sequence ack) (length message) place) ≡ true → room ≤ length out
       → Done (packetWriteOf limit (sendingOf room stream id sequence ack) message place out answer)
+  -- .. the first of them at 0
+  pub packet-first : (limit room stream id sequence ack : ℕ) (message out answer : List ℕ) → length answer ≡ 2
+      → 20 ≤ room → room ≤ 512 → StreamNumber stream → id ≤ 15 → sequence ≤ 15 → ack ≤ 1 → length message ≤ limit → room ≤ length out
+      → Done (packetWriteOf limit (sendingOf room stream id sequence ack) message 0 out answer)
   pub ack-write : (stream id sequence positive : ℕ) (out answer : List ℕ) → length answer ≡ 1
       → StreamNumber stream → id ≤ 15 → sequence ≤ 15 → positive ≤ 1 → ackSize ≤ length out
       → Done (ackWriteOf stream id sequence positive out answer)
@@ -147,3 +153,7 @@ pub record SizesSuffice : Type 0 where
       → walkOf (versionOne limit) (take used buffer) ≡ given tt
       → StreamNumber stream → length payload ≤ limit → used + recordSize (length payload) ≤ length buffer
       → Done (outboxAppendOf limit buffer used stream payload answer)
+  -- .. as the version byte alone is
+  pub outbox-append-first : (limit stream : ℕ) (rest payload answer : List ℕ) → length answer ≡ 2
+      → StreamNumber stream → length payload ≤ limit → 1 + recordSize (length payload) ≤ length (1 ∷ rest)
+      → Done (outboxAppendOf limit (1 ∷ rest) 1 stream payload answer)

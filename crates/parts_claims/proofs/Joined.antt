@@ -100,7 +100,7 @@ ends-in limit (c ∷ cs) s p f m t h =
 whole-frame : (limit : ℕ) (m : Sending) → Sendable limit m → wholeOf limit m ≡ frameOf (m .sequence) (m .payload)
 whole-frame limit m k =
     let f = frameOf (m .sequence) (m .payload) in
-    rw (k .unmarked, le-ltb limit (length (m .payload)) (k .fits), le-ltb (length (m .out)) (length f) (k .room))
+    rw (k .unmarked, le-ltb limit (length (m .payload)) (omega (arith, k .fits)), le-ltb (length (m .out)) (length f) (k .room))
     (first-bytes (m .out) f (k .room))
 
 joins-frame : (limit : ℕ) (m : Sending) (calls : List Call) → Sendable limit m
@@ -120,9 +120,9 @@ joins-frame limit m calls k =
       taken =
           sym (sym (start-firsts (length (run .bytes)) q (length p) p) ∙ ap (λ (n : ℕ). firstsIn n s p) (sym (add-zero (length (run .bytes)))) ∙ r .firsts 0
           ∙ ap (λ (n : ℕ). run .taken + n) (firsts-none (run .next) (r .left)) ∙ add-zero (run .taken));
-      ends = λ h. ends-in limit calls s p (start-fits q p) (k .unmarked) (k .fits) (rw (start-left q (length p) p) h);
+      ends = λ h. ends-in limit calls s p (start-fits q p) (k .unmarked) (omega (arith, k .fits)) (rw (start-left q (length p) p) h);
     }
 
 pub parts-join : PartsJoin
 parts-join limit m calls k =
-    (rw (k .unmarked, le-ltb limit (length (m .payload)) (k .fits)), rw (whole-frame limit m k) (joins-frame limit m calls k))
+    (rw (k .unmarked, le-ltb limit (length (m .payload)) (omega (arith, k .fits))), rw (whole-frame limit m k) (joins-frame limit m calls k))

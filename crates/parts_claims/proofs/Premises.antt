@@ -16,11 +16,11 @@ unfolding kindOf
 no-mark b h = rw (ne-eqb b 0xF0 (h .0), ne-eqb b 0xF1 (h .1), ne-eqb b 0xF2 (h .2))
 
 sendable-when : SendableWhen
-sendable-when limit m byte plain fits room = record { unmarked = no-mark (m .sequence) plain; fits = fits; room = room }
+sendable-when limit m byte plain fits room = record { unmarked = no-mark (m .sequence) plain; fits = omega arith; room = room }
 
 offering-when : OfferingWhen
 offering-when limit s offered out byte plain fits missing lends =
-    record { unmarked = no-mark (s .sequence) plain; fits = fits; missing = missing; lends = lends }
+    record { unmarked = no-mark (s .sequence) plain; fits = fits; missing = missing; lends = omega arith }
 
 fruitful-when : FruitfulWhen
 unfolding fruitful
