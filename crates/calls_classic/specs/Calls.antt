@@ -6,7 +6,7 @@ use lib.ListN.{length, replicate}
 use lib.Dec.{eqb}
 use Rattle.framing.specs.Mark.{startMark}
 use Rattle.framing.specs.Frame.{nextSequence}
-use Rattle.extractor.specs.Step.{Step, stepOf}
+use Rattle.extractor.specs.Step.{Step, byteStepOf}
 use Rattle.feed.specs.Feed.{Feed, feedOf}
 use Rattle.frame_writer.specs.Writer.{writeOf}
 use Rattle.rows.specs.Row.{afterwards, byteOr}
@@ -21,7 +21,7 @@ stepped state answer s =
 
 unfoldable pub extractorStepOf : ℕ → List ℕ → List ℕ → ℕ → List ℕ → Called
 extractorStepOf limit state lent b answer =
-    ifFit (eqb (length answer) 3 && isExtractor state) state lent answer (stepped state answer (stepOf limit (extractorOf state) lent b))
+    ifFit (eqb (length answer) 3 && isExtractor state) state lent answer (stepped state answer (byteStepOf limit (extractorOf state) lent b))
 
 -- rows and lent bytes after many bytes: the answer row is written under 1 too
 abbrev pub fedCall : List ℕ → Feed → Called

@@ -24,7 +24,7 @@ ghost use mathlib.Core.Path.{_≡_};
 ghost use mathlib.Core.Bool.{true};
 ghost use mathlib.Core.List.{[]};
 ghost use lib.ListN.{length};
-ghost use Rattle.extractor.specs.Step.{stepOf};
+ghost use Rattle.extractor.specs.Step.{byteStepOf};
 ghost use Rattle.feed.specs.Feed.{feedOf};
 ghost use Rattle.rows.specs.Called.{called};
 ghost use Rattle.calls_classic.specs.Convert.{isExtractor, extractorOf};
@@ -46,7 +46,7 @@ pub fn extractor_step(state: &mut [u64], buffer: &mut [u8], byte: u8, answer: &m
 // The same with rows that fit.
 fn step_fitting(state: &mut [u64], buffer: &mut [u8], byte: u8, answer: &mut [u64]) -> u64
     requires { ⌜ (isExtractor (now state) ≡ true) × (length (now answer) ≡ 3) ⌝ }
-    ensures { λ r. ⌜ called r (now (state .exit)) (now (buffer .exit)) (now (answer .exit)) ≡ stepped (now (state .entry)) (now (answer .entry)) (stepOf 4096 (extractorOf (now (state .entry))) (now (buffer .entry)) byte) ⌝ }
+    ensures { λ r. ⌜ called r (now (state .exit)) (now (buffer .exit)) (now (answer .exit)) ≡ stepped (now (state .entry)) (now (answer .entry)) (byteStepOf 4096 (extractorOf (now (state .entry))) (now (buffer .entry)) byte) ⌝ }
 {
     let done = extractor_of(state).step(buffer, byte);
     let outcome = done.outcome;

@@ -9,7 +9,7 @@ use device::features::write_features;
 use device::information::read_information;
 use device::information::write_information;
 use field::signed::low_signed;
-use rows::row::BAD_ARGUMENT;
+use field_writer::message::WriteRefusal;
 use rows::row::COUNT_ANSWER;
 use rows::row::Count;
 use rows::row::UNFIT;
@@ -174,10 +174,10 @@ pub fn information_write(
         return UNFIT;
     }
     if MOST_TRANSPORTS < transports.len() {
-        return tell(answer, Count::none(BAD_ARGUMENT));
+        return tell(answer, Count::none(WriteRefusal::BadArgument.number()));
     }
     if !all_signed(transports) {
-        return tell(answer, Count::none(BAD_ARGUMENT));
+        return tell(answer, Count::none(WriteRefusal::BadArgument.number()));
     }
     let list = signed_list(transports);
     let count = transports.len();

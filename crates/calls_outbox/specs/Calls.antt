@@ -2,10 +2,10 @@
 use Prim.Native.Nat.{ℕ}
 use mathlib.Core.List.{List, [], _∷_}
 use Rattle.outbox.specs.Format.{versionOne}
-use Rattle.outbox.specs.Reader.{readOf, walkOf}
+use Rattle.outbox.specs.Reader.{readOf, walkOf, numberIn}
 use Rattle.outbox.specs.Writer.{newOf, appendOf}
 use Rattle.rows.specs.Row.{byteOr, outOfRange}
-use Rattle.calls_outbox.specs.Convert.{numberIn, usedIn, usedRow, recordRow, wholeRow}
+use Rattle.calls_outbox.specs.Convert.{usedIn, usedRow, recordRow, wholeRow}
 use Rattle.rows.specs.Called.{Called, answers}
 
 unfoldable pub outboxNewOf : ℕ → List ℕ → List ℕ → Called

@@ -4,14 +4,8 @@ use mathlib.Core.Bool.{cond}
 use mathlib.Core.List.{List, [], _∷_}
 use lib.ListN.{replicate}
 use lib.Dec.{eqb}
-use Rattle.outbox.specs.Reader.{Answer, given, refused, refusedAt, Item, found, end}
+use Rattle.outbox.specs.Reader.{Answer, given, refused, refusedAt, Item, found, end, numberIn}
 use Rattle.rows.specs.declared.row.Count.{Count}
-
--- 0, or the number of the refusal
-abbrev pub numberIn : {A : Type 0} → Answer A → ℕ
-numberIn (given a) = 0
-numberIn (refused n) = n
-numberIn (refusedAt n place) = n
 
 -- the place that goes with 41; 0 with any other number
 unfoldable pub cutPlace : ℕ → ℕ → ℕ

@@ -2,11 +2,9 @@
 use crate::convert::APPEND_ANSWER;
 use crate::convert::RECORD_ANSWER;
 use crate::convert::WHOLE_ANSWER;
-use crate::convert::append_number;
 use crate::convert::append_row;
 use crate::convert::created_count;
 use crate::convert::tell_record;
-use crate::convert::whole_number;
 use crate::convert::whole_row;
 use outbox::reader;
 use outbox::writer;
@@ -16,6 +14,7 @@ use rows::row::UNFIT;
 use rows::row::byte_or;
 use rows::row::put;
 use rows::row::tell;
+use wire::bytes::wide64;
 ghost use mathlib.Core.Path.{_≡_};
 ghost use mathlib.Core.List.{[]};
 ghost use Rattle.rows.specs.Called.{called};
@@ -47,7 +46,7 @@ pub fn outbox_append(
     }
     let known = byte_or(OUT_OF_RANGE, stream);
     let appended = writer::append(buffer, used as usize, known, payload);
-    let number = append_number(appended);
+    let number = wide64(appended.number());
     let row = append_row(appended);
     put(answer, number, &row);
     number
@@ -72,7 +71,7 @@ pub fn outbox_whole(bytes: &[u8], answer: &mut [u64]) -> u64
         return UNFIT;
     }
     let walked = reader::walk(bytes);
-    let number = whole_number(walked);
+    let number = wide64(walked.number());
     let row = whole_row(walked);
     put(answer, number, &row);
     number

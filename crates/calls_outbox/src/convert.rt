@@ -4,21 +4,18 @@ use outbox::reader::Reading;
 use outbox::reader::Walked;
 use outbox::writer::Appended;
 use outbox::writer::Created;
-use rows::row::BAD_ARGUMENT;
 use rows::row::Count;
 use rows::row::DONE;
-use rows::row::NO_ROOM;
-use rows::row::UNFIT;
 use rows::row::put;
 use wire::bytes::wide64;
 ghost use mathlib.Core.Path.{_≡_};
 ghost use lib.ListN.{length};
-ghost use Rattle.outbox.specs.Reader.{faultNumber, toldWalk};
+ghost use Rattle.outbox.specs.Reader.{faultNumber, numberIn, toldWalk};
 ghost use Rattle.outbox.specs.Reader as readings;
 ghost use Rattle.outbox.specs.Writer.{toldNew};
 ghost use Rattle.outbox.specs.Writer as writings;
 ghost use Rattle.rows.specs.Row.{afterwards};
-ghost use Rattle.calls_outbox.specs.Convert.{cutPlace, numberIn, usedRow, createdCount, recordRow, wholeRow};
+ghost use Rattle.calls_outbox.specs.Convert.{cutPlace, usedRow, createdCount, recordRow, wholeRow};
 
 // The numbers of the answer rows.
 pub const APPEND_ANSWER: usize = 2;
@@ -42,30 +39,12 @@ fn cut_place(fault: Fault, place: usize) -> u64
     }
 }
 
-fn fault_number(fault: Fault) -> u64
-    ensures { λ r. ⌜ r ≡ faultNumber fault ⌝ }
-{
-    wide64(fault.number())
-}
-
 pub fn created_count(created: Created) -> Count
     ensures { λ r. ⌜ r ≡ createdCount (toldNew created) ⌝ }
 {
     match created {
         Created::Used(n) => Count::of(n),
-        Created::NoRoom => Count::none(NO_ROOM),
-    }
-}
-
-pub fn append_number(appended: Appended) -> u64
-    ensures { λ r. ⌜ r ≡ numberIn (writings.told appended) ⌝ }
-{
-    match appended {
-        Appended::Used(_) => DONE,
-        Appended::BeyondBuffer => UNFIT,
-        Appended::BadRecord => wide64(BAD_ARGUMENT),
-        Appended::NoRoom => wide64(NO_ROOM),
-        Appended::Broken { fault, place: _ } => fault_number(fault),
+        Created::NoRoom => Count::none(created.number()),
     }
 }
 
@@ -104,26 +83,17 @@ pub fn tell_record(answer: &mut [u64], reading: Reading) -> u64
             DONE
         }
         Reading::BadPlace => {
-            let number = wide64(BAD_ARGUMENT);
+            let number = wide64(reading.number());
             let row = [0u64; 6];
             put(answer, number, &row);
             number
         }
         Reading::Broken { fault, place } => {
-            let number = fault_number(fault);
+            let number = wide64(reading.number());
             let row = [0, 0, 0, 0, 0, cut_place(fault, place)];
             put(answer, number, &row);
             number
         }
-    }
-}
-
-pub fn whole_number(walked: Walked) -> u64
-    ensures { λ r. ⌜ r ≡ numberIn (toldWalk walked) ⌝ }
-{
-    match walked {
-        Walked::Whole => DONE,
-        Walked::Broken { fault, place: _ } => fault_number(fault),
     }
 }
 

@@ -4,6 +4,11 @@ use calls_classic::calls::extractor_feed;
 use calls_classic::calls::extractor_step;
 use calls_classic::calls::frame_write;
 use calls_classic::calls::next_sequence;
+use calls_firmware::calls::apply_read;
+use calls_firmware::calls::apply_write;
+use calls_firmware::calls::field_read;
+use calls_firmware::calls::segment_read;
+use calls_firmware::calls::segment_write;
 use calls_messages::calls::envelope_read;
 use calls_messages::calls::envelope_write;
 use calls_messages::calls::features_read;
@@ -16,6 +21,8 @@ use calls_outbox::calls::outbox_append;
 use calls_outbox::calls::outbox_new;
 use calls_outbox::calls::outbox_record;
 use calls_outbox::calls::outbox_whole;
+use calls_parts::calls::frame_begin;
+use calls_parts::calls::frame_part;
 use calls_receiving::calls::receiver_accept;
 use calls_sending::calls::ack_write;
 use calls_sending::calls::packet_write;
@@ -23,14 +30,16 @@ ghost use mathlib.Core.Path.{_≡_};
 ghost use mathlib.Core.List.{[]};
 ghost use Rattle.rows.specs.Called.{called};
 ghost use Rattle.calls_classic.specs.Calls.{extractorStepOf, extractorFeedOf, frameWriteOf, nextSequenceOf};
+ghost use Rattle.calls_parts.specs.Calls.{frameBeginOf, framePartOf};
 ghost use Rattle.calls_sending.specs.Calls.{packetWriteOf, ackWriteOf};
 ghost use Rattle.calls_sending.specs.Convert.{sendingOf};
 ghost use Rattle.calls_receiving.specs.Calls.{receiverAcceptOf};
 ghost use Rattle.calls_messages.specs.Calls.{envelopeReadOf, envelopeWriteOf, responseReadOf, responseWriteOf, informationReadOf, informationWriteOf, featuresReadOf, featuresWriteOf};
 ghost use Rattle.rows_messages.specs.Convert.{payloadFor};
+ghost use Rattle.calls_firmware.specs.Calls.{segmentReadOf, segmentWriteOf, applyReadOf, applyWriteOf, fieldReadOf};
 ghost use Rattle.calls_outbox.specs.Calls.{outboxNewOf, outboxAppendOf, outboxRecordOf, outboxWholeOf};
 
-// ---- Classic: the extractor and the frame writer
+// ---- Classic: the extractor and the frame writer, whole and by parts
 
 // One byte given to the extractor.
 #[no_mangle]
@@ -69,6 +78,27 @@ pub extern "C" fn pito_frame_write(
     ensures { λ r. ⌜ called r [] (now (output .exit)) (now (answer .exit)) ≡ frameWriteOf 4096 sequence (now (payload .entry)) (now (output .entry)) (now (answer .entry)) ⌝ }
 {
     frame_write(sequence, payload, output, answer)
+}
+
+// Begins a frame that is written by parts.
+#[no_mangle]
+pub extern "C" fn pito_frame_begin(sequence: u64, total: u64, state: &mut [u64]) -> u64
+    ensures { λ r. ⌜ called r (now (state .exit)) [] [] ≡ frameBeginOf 4096 sequence total (now (state .entry)) ⌝ }
+{
+    frame_begin(sequence, total, state)
+}
+
+// Takes payload and writes the frame on into an output.
+#[no_mangle]
+pub extern "C" fn pito_frame_part(
+    state: &mut [u64],
+    payload: &[u8],
+    output: &mut [u8],
+    answer: &mut [u64],
+) -> u64
+    ensures { λ r. ⌜ called r (now (state .exit)) (now (output .exit)) (now (answer .exit)) ≡ framePartOf 4096 (now (state .entry)) (now (payload .entry)) (now (output .entry)) (now (answer .entry)) ⌝ }
+{
+    frame_part(state, payload, output, answer)
 }
 
 // The sequence byte after a sequence byte.
@@ -229,6 +259,62 @@ pub extern "C" fn pito_features_write(
     ensures { λ r. ⌜ called r [] (now (output .exit)) (now (answer .exit)) ≡ featuresWriteOf features «device_attributes» (now (output .entry)) (now (answer .entry)) ⌝ }
 {
     features_write(features, device_attributes, output, answer)
+}
+
+// ---- firmware messages
+
+// Reads an UpdateComponentSegment.
+#[no_mangle]
+pub extern "C" fn pito_segment_read(message: &[u8], answer: &mut [u64]) -> u64
+    ensures { λ r. ⌜ called r [] [] (now (answer .exit)) ≡ segmentReadOf (now (message .entry)) (now (answer .entry)) ⌝ }
+{
+    segment_read(message, answer)
+}
+
+// Writes an UpdateComponentSegment.
+#[no_mangle]
+pub extern "C" fn pito_segment_write(
+    name: &[u8],
+    offset: u64,
+    size: u64,
+    signature: &[u8],
+    output: &mut [u8],
+    answer: &mut [u64],
+) -> u64
+    ensures { λ r. ⌜ called r [] (now (output .exit)) (now (answer .exit)) ≡ segmentWriteOf (now (name .entry)) offset size (now (signature .entry)) (now (output .entry)) (now (answer .entry)) ⌝ }
+{
+    segment_write(name, offset, size, signature, output, answer)
+}
+
+// Reads an ApplyFirmware.
+#[no_mangle]
+pub extern "C" fn pito_apply_read(message: &[u8], answer: &mut [u64]) -> u64
+    ensures { λ r. ⌜ called r [] [] (now (answer .exit)) ≡ applyReadOf (now (message .entry)) (now (answer .entry)) ⌝ }
+{
+    apply_read(message, answer)
+}
+
+// Writes an ApplyFirmware.
+#[no_mangle]
+pub extern "C" fn pito_apply_write(
+    row: &[u64],
+    texts: &[u8],
+    output: &mut [u8],
+    answer: &mut [u64],
+) -> u64
+    ensures { λ r. ⌜ called r [] (now (output .exit)) (now (answer .exit)) ≡ applyWriteOf (now (row .entry)) (now (texts .entry)) (now (output .entry)) (now (answer .entry)) ⌝ }
+{
+    apply_write(row, texts, output, answer)
+}
+
+// ---- any message, field by field
+
+// Reads the field at a place.
+#[no_mangle]
+pub extern "C" fn pito_field_read(message: &[u8], place: u64, answer: &mut [u64]) -> u64
+    ensures { λ r. ⌜ called r [] [] (now (answer .exit)) ≡ fieldReadOf (now (message .entry)) place (now (answer .entry)) ⌝ }
+{
+    field_read(message, place, answer)
 }
 
 // ---- the outbox

@@ -26,7 +26,8 @@ fn print_broken(fault: Fault, place: usize) {
 
 fn read_record(label: &[u8], file: &[u8], place: usize) {
     text(label);
-    match read(file, place) {
+    let reading = read(file, place);
+    match reading {
         Reading::Record {
             stream,
             start,
@@ -34,7 +35,7 @@ fn read_record(label: &[u8], file: &[u8], place: usize) {
             next,
         } => print_record(stream, start, size, next),
         Reading::End => text(b" end"),
-        Reading::BadPlace => refused(15),
+        Reading::BadPlace => refused(reading.number()),
         Reading::Broken { fault, place: at } => print_broken(fault, at),
     }
     end();

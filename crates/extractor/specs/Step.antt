@@ -51,5 +51,5 @@ unfoldable pub advanceOf : ℕ → Extractor → List ℕ → ℕ → Step
 advanceOf limit s l b = performOf limit s l b (actionOf (s .phase) b)
 
 -- the step of one byte, on all inputs
-abbrev pub stepOf : ℕ → Extractor → List ℕ → ℕ → Step
-stepOf limit s l b = table (line 1 (not (ready limit s (length l))) ∷ []) (λ n. step (refused n) s l) (advanceOf limit s l b)
+abbrev pub byteStepOf : ℕ → Extractor → List ℕ → ℕ → Step
+byteStepOf limit s l b = table (line 1 (not (ready limit s (length l))) ∷ []) (λ n. step (refused n) s l) (advanceOf limit s l b)

@@ -13,7 +13,7 @@ ghost use lib.ListN.{length};
 ghost use Rattle.extractor.specs.declared.outcome.StepOutcome.the-variants.{Refused};
 ghost use Rattle.extractor.specs.Outcome.{told};
 ghost use Rattle.extractor.specs.State.{Fits};
-ghost use Rattle.extractor.specs.Step.{step, storeOf, endOf, performOf, advanceOf, stepOf};
+ghost use Rattle.extractor.specs.Step.{step, storeOf, endOf, performOf, advanceOf, byteStepOf};
 
 pub struct Stepped {
     pub outcome: StepOutcome,
@@ -120,7 +120,7 @@ impl Extractor {
     // One byte.
     pub fn step(self, buffer: &mut [u8], b: u8) -> Stepped
         ensures { λ r. ⌜ step (told (r .outcome)) (r .next) (now (buffer .exit))
-            ≡ stepOf 4096 self (now (buffer .entry)) b ⌝ }
+            ≡ byteStepOf 4096 self (now (buffer .entry)) b ⌝ }
     {
         if self.is_ready(buffer.len()) {
             self.advance(buffer, b)

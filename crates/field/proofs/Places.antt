@@ -1,18 +1,21 @@
 -- Laws of the places that reading gives: a tag and a value end after their place, and parts lie within the message.
 use Prim.Native.Nat.{ℕ, zero, suc, _+_, _-_, _/_, _%_, _≤_, _<_}
+use mathlib.Core.Path.{_≡_, sym, subst}
 use mathlib.Core.List.{List, [], _∷_}
 use native.Mathlib.Omega.{arith}
 use lib.ListN.{length, getD, set}
 use lib.Dec.{ltb, eqb}
 use borrow.Author.Tests.{ltb-false}
-use Rattle.wire.specs.Told.{given, refused}
+use Rattle.wire.specs.Told.{Told, given, refused}
+use Rattle.field.specs.declared.fields.Found.{Found}
 use Rattle.field.specs.declared.tag.Head.{Head}
 use Rattle.field.specs.declared.value.Part.{Part}
 use Rattle.field.specs.declared.value.Value.{Value}
 use Rattle.field.specs.declared.value.Value.the-variants.{Number, Skipped}
 use Rattle.field.specs.Varint.{varintAt}
 use Rattle.field.specs.Tag.{badTag, headOf, tagAt}
-use Rattle.field.specs.Value.{skippedAt, partOf, valueAt, Within, valueParts}
+use Rattle.field.specs.Value.{skippedAt, partOf, valueAt, Within, TellsWithin, valueParts, readParts}
+use Rattle.field.specs.Fields.{foundAt, toldFound, standingParts}
 use Rattle.field.proofs.Told.{Sat, sat-cond, sat-then}
 use Rattle.field.proofs.Varints.{Ends, varint-ends}
 
@@ -43,6 +46,19 @@ value-held s at wire =
     (λ _. sat-cond P (eqb wire 2) _ _ (λ _. sat-then (Ends at (length s)) P (varintAt s at) (partOf s) (varint-ends s at) (part-held s at))
     (λ _. sat-cond P (eqb wire 1) _ _ (λ _. skipped-held s at 8)
     (λ _. sat-cond P (eqb wire 5) _ _ (λ _. skipped-held s at 4) (λ _. tt))))
+
+-- whatever is told of a value is told with its part within the message
+pub value-told : (s : List ℕ) (at wire : ℕ) (t : Told (Value × ℕ)) → t ≡ valueAt s at wire
+    → (t ≡ valueAt s at wire) × TellsWithin s readParts t
+value-told s at wire t e = (e, go t (subst (Sat (Held s at)) (sym e) (value-held s at wire)))
+  where
+    go : (r : Told (Value × ℕ)) → Sat (Held s at) r → TellsWithin s readParts r
+    go (given q) h = h .1
+    go (refused n) h = tt
+
+-- what is told of a place: what stands there, and its part lies within the message
+abbrev pub TellsField : List ℕ → ℕ → Found → Type 0
+TellsField s at r = (toldFound r ≡ foundAt s at) × TellsWithin s standingParts (toldFound r)
 
 -- ---- parts within a message: in a longer one, with one of them replaced, and each by itself
 pub within-longer : (s t : List ℕ) (ps : List Part) → length s ≤ length t → Within s ps → Within t ps

@@ -1,16 +1,17 @@
 -- The fields of a message, one after another, whatever message it is.
 use Prim.Native.Nat.{ℕ}
 use mathlib.Core.Bool.{cond}
-use mathlib.Core.List.{List}
+use mathlib.Core.List.{List, []}
 use lib.ListN.{length}
 use lib.Dec.{leb}
 use Rattle.wire.specs.Told.{Told, given, refused, andThen}
+use Rattle.field.specs.declared.value.Part.{Part}
 use Rattle.field.specs.declared.value.Value.{Value}
 use Rattle.field.specs.declared.fields.Found.{Found}
 use Rattle.field.specs.declared.fields.Found.the-variants.{Field, End, Refused}
 use Rattle.field.specs.Refusal.{numberOf}
 use Rattle.field.specs.Tag.{tagAt}
-use Rattle.field.specs.Value.{valueAt}
+use Rattle.field.specs.Value.{valueAt, valueParts}
 
 -- a field's number, its value and the place after it; or the end of the message
 pub data Standing : Type 0 where
@@ -28,3 +29,8 @@ abbrev pub toldFound : Found → Told Standing
 toldFound (Field number value next) = given (field number value next)
 toldFound End = given end
 toldFound (Refused e) = refused (numberOf e)
+
+-- the part of what stands at a place, if it has one
+abbrev pub standingParts : Standing → List Part
+standingParts (field number value next) = valueParts value
+standingParts end = []

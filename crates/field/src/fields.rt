@@ -6,7 +6,8 @@ use crate::value::Value;
 use crate::value::ValueRead;
 use crate::value::read_value;
 ghost use mathlib.Core.Path.{_≡_};
-ghost use Rattle.field.specs.Fields.{foundAt, toldFound};
+ghost use Rattle.field.specs.Value.{TellsWithin};
+ghost use Rattle.field.specs.Fields.{foundAt, toldFound, standingParts};
 
 pub struct Fields<'a> {
     pub message: &'a [u8],
@@ -26,7 +27,8 @@ pub enum Found {
 
 // The field at a place of a message.
 pub fn field_at(message: &[u8], at: usize) -> Found
-    ensures { λ r. ⌜ toldFound r ≡ foundAt (now (message .entry)) at ⌝ }
+    ensures { λ r. ⌜ (toldFound r ≡ foundAt (now (message .entry)) at)
+        × TellsWithin (now (message .entry)) standingParts (toldFound r) ⌝ }
 {
     if message.len() <= at {
         return Found::End;
@@ -47,33 +49,25 @@ pub fn field_at(message: &[u8], at: usize) -> Found
     }
 }
 
-// At the start of a message.
-pub fn new<'a>(message: &'a [u8]) -> Fields<'a>
-    ensures { λ r. ⌜ (r .message ≡ message .entry) × (r .at ≡ 0) ⌝ }
+// At a place of a message.
+pub fn new<'a>(message: &'a [u8], at: usize) -> Fields<'a>
+    ensures { λ r. ⌜ (r .message ≡ message .entry) × (r .at ≡ at) ⌝ }
 {
-    Fields { message, at: 0 }
+    Fields { message, at }
 }
 
 // The field at the reader's place.
 pub fn next<'a>(r: Fields<'a>) -> Found
-    ensures { λ s. ⌜ toldFound s ≡ foundAt (now (r .entry .message)) (r .entry .at) ⌝ }
+    ensures { λ s. ⌜ (toldFound s ≡ foundAt (now (r .entry .message)) (r .entry .at))
+        × TellsWithin (now (r .entry .message)) standingParts (toldFound s) ⌝ }
 {
     field_at(r.message, r.at)
 }
 
-// The reader at another place.
-pub fn moved<'a>(r: Fields<'a>, at: usize) -> Fields<'a>
-    ensures { λ q. ⌜ (q .message ≡ r .entry .message) × (q .at ≡ at) ⌝ }
+// The field at a place, by the record. Its parameters are a plain slice and a place, so its callers need no walk by hand.
+pub fn found_at(message: &[u8], at: usize) -> Found
+    ensures { λ r. ⌜ (toldFound r ≡ foundAt (now (message .entry)) at)
+        × TellsWithin (now (message .entry)) standingParts (toldFound r) ⌝ }
 {
-    Fields {
-        message: r.message,
-        at,
-    }
-}
-
-// The first field of a message. Its parameter is a plain slice, so its callers need no walk by hand.
-pub fn first(message: &[u8]) -> Found
-    ensures { λ r. ⌜ toldFound r ≡ foundAt (now (message .entry)) 0 ⌝ }
-{
-    next(new(message))
+    next(new(message, at))
 }

@@ -162,7 +162,7 @@ fn put_frame(out: &mut [u8], sequence: u8, payload: &[u8], high: u8, low: u8) ->
 }
 
 // Whether a frame fits: at once where there is room for it with each byte escaped, else by its size.
-fn has_room(room: usize, sequence: u8, payload: &[u8], high: u8, low: u8) -> bool
+fn has_room(sequence: u8, payload: &[u8], high: u8, low: u8, room: usize) -> bool
     requires { ⌜ length (now payload) ≤ 65535 ⌝ }
     ensures { λ r. ⌜ r ≡ leb (length (framed sequence (now (payload .entry) ++ (high ∷ low ∷ [])))) room ⌝ }
 {
@@ -186,7 +186,7 @@ pub fn write_frame(sequence: u8, payload: &[u8], out: &mut [u8]) -> WriteOutcome
     let sum = checksum(payload);
     let high = (sum / 256) as u8;
     let low = (sum % 256) as u8;
-    if has_room(out.len(), sequence, payload, high, low) {
+    if has_room(sequence, payload, high, low, out.len()) {
         WriteOutcome::Frame(put_frame(out, sequence, payload, high, low))
     } else {
         WriteOutcome::Refused(Refusal::NoRoom)

@@ -19,9 +19,6 @@ ghost use Rattle.listing.specs.Listing.{bufferSize, endsBy, listed, list
 // The bytes of a part: the version byte and the longest record fit twice.
 const ROOM: usize = 8192;
 
-// The refusal number of a place out of range: none that a reading told is.
-const BAD_PLACE: u8 = 15;
-
 // How far the listing of a part of a file went, and whether the listing is over: it is at the end of the file or at a refusal.
 pub struct Listed {
     over: bool,
@@ -110,7 +107,8 @@ pub fn list_part(part: &[u8], gone: u64, last: bool) -> Listed
 {
     let mut place = FIRST_PLACE;
     loop {
-        match read(part, place) {
+        let reading = read(part, place);
+        match reading {
             Reading::Record {
                 stream,
                 start: _,
@@ -124,7 +122,7 @@ pub fn list_part(part: &[u8], gone: u64, last: bool) -> Listed
                 return list_end(gone, place, last);
             }
             Reading::BadPlace => {
-                say_refused(BAD_PLACE, gone, place);
+                say_refused(reading.number(), gone, place);
                 return Listed {
                     over: true,
                     place: 0,

@@ -40,6 +40,12 @@ pub data Answer (A : Type 0) : Type 0 where
   refused : ℕ → Answer A
   refusedAt : ℕ → ℕ → Answer A
 
+-- 0, or the number of the refusal
+abbrev pub numberIn : {A : Type 0} → Answer A → ℕ
+numberIn (given a) = 0
+numberIn (refused n) = n
+numberIn (refusedAt n place) = n
+
 -- 40: the outbox is empty, or its version is another
 unfoldable pub otherVersion : Format → List ℕ → Bool
 otherVersion fmt file = eqb (length file) 0 || not (eqb (getD file 0 0) (fmt .version))

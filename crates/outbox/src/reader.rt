@@ -12,7 +12,7 @@ ghost use mathlib.Core.Path.{_≡_};
 ghost use Prim.Native.Nat.{ℕ};
 ghost use Rattle.outbox.specs.Format.{versionOne};
 ghost use Rattle.outbox.specs.Reader.{otherVersion, badPlace, recordAt, readOf, walkOf};
-ghost use Rattle.outbox.specs.Reader.{faultNumber, toldJudged, told, toldWalk};
+ghost use Rattle.outbox.specs.Reader.{faultNumber, numberIn, toldJudged, told, toldWalk};
 
 // What is wrong with an outbox's bytes.
 pub enum Fault {
@@ -53,10 +53,41 @@ pub enum Reading {
     },
 }
 
+impl Reading {
+    // The refusal number, or 0 where nothing is refused.
+    pub fn number(self) -> u8
+        ensures { λ r. ⌜ r ≡ numberIn (told self) ⌝ }
+    {
+        match self {
+            Reading::Record {
+                stream: _,
+                start: _,
+                size: _,
+                next: _,
+            } => 0,
+            Reading::End => 0,
+            Reading::BadPlace => 15,
+            Reading::Broken { fault, place: _ } => fault.number(),
+        }
+    }
+}
+
 // Whether all of an outbox is whole, or what is wrong first and where.
 pub enum Walked {
     Whole,
     Broken { fault: Fault, place: usize },
+}
+
+impl Walked {
+    // The refusal number, or 0 where nothing is refused.
+    pub fn number(self) -> u8
+        ensures { λ r. ⌜ r ≡ numberIn (toldWalk self) ⌝ }
+    {
+        match self {
+            Walked::Whole => 0,
+            Walked::Broken { fault, place: _ } => fault.number(),
+        }
+    }
 }
 
 // The record at the front of some bytes.

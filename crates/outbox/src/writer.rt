@@ -15,12 +15,25 @@ ghost use Prim.Native.Nat.{_+_, _≤_};
 ghost use lib.ListN.{length};
 ghost use lib.Seq.{sets};
 ghost use Rattle.outbox.specs.Format.{versionOne, headSize, recordBytes};
+ghost use Rattle.outbox.specs.Reader.{numberIn};
 ghost use Rattle.outbox.specs.Writer.{stored, newOf, badRecord, appendOf, toldNew, told};
 
 // The used bytes of a new outbox, or no room for it.
 pub enum Created {
     Used(usize),
     NoRoom,
+}
+
+impl Created {
+    // The refusal number, or 0 where nothing is refused.
+    pub fn number(self) -> u8
+        ensures { λ r. ⌜ r ≡ numberIn (toldNew self) ⌝ }
+    {
+        match self {
+            Created::Used(_) => 0,
+            Created::NoRoom => 14,
+        }
+    }
 }
 
 // The used bytes after an append, or why nothing was written.
@@ -30,6 +43,21 @@ pub enum Appended {
     BadRecord,
     NoRoom,
     Broken { fault: Fault, place: usize },
+}
+
+impl Appended {
+    // The refusal number, or 0 where nothing is refused.
+    pub fn number(self) -> u8
+        ensures { λ r. ⌜ r ≡ numberIn (told self) ⌝ }
+    {
+        match self {
+            Appended::Used(_) => 0,
+            Appended::BeyondBuffer => 1,
+            Appended::BadRecord => 15,
+            Appended::NoRoom => 14,
+            Appended::Broken { fault, place: _ } => fault.number(),
+        }
+    }
 }
 
 // Begins a new outbox in a lent buffer.

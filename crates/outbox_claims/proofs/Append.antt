@@ -10,7 +10,7 @@ use borrow.Author.Tests.{le-ltb}
 use Rattle.outbox.specs.Format.{Format}
 use Rattle.outbox.specs.Reader.{Handed, given, otherVersion, readAll, firstRefusal, walkOf}
 use Rattle.outbox.specs.Writer.{storedAt, badRecord, appendOf}
-use Rattle.outbox_claims.specs.Claims.{Lawful, Entry, Takes, after, expected, usable, recordsOf, Resumed}
+use Rattle.outbox_claims.specs.Claims.{Lawful, Entry, EntryTaken, after, expected, usable, recordsOf, Resumed}
 use Rattle.outbox.proofs.Place.{version-kept, version-more}
 use Rattle.outbox_claims.proofs.Run.{Run, ends, all-run, run-all, walk-is}
 use Rattle.outbox_claims.proofs.Cut.{run-usable, run-onward, records-pass}
@@ -18,7 +18,7 @@ use Rattle.outbox.proofs.Stored.{length-record, append-judged}
 use Rattle.outbox_claims.proofs.Contents.{entryBytes, contents-run}
 
 -- a record that the writer takes is not judged wrong
-takes-right : (fmt : Format) (e : Entry) → Takes fmt e → badRecord fmt (e .stream) (length (e .payload)) ≡ false
+takes-right : (fmt : Format) (e : Entry) → EntryTaken fmt e → badRecord fmt (e .stream) (length (e .payload)) ≡ false
 unfolding badRecord
 takes-right fmt e t = rw (t .known, le-ltb (fmt .limit) (length (e .payload)) (omega (arith, t .short)))
 
@@ -55,13 +55,13 @@ module _ (fmt : Format) (left : List ℕ) (v : otherVersion fmt left ≡ false) 
       let run = onward [] (ends used (rw (append-nil, long))) in
       rw (walk-is, run-all fmt (take used left) version (rw append-nil at run)) (records-pass (readAll fmt left) _)
 
-  module _ (e : Entry) (t : Takes fmt e) (room : List ℕ) (h : after fmt used e ≤ length (left ++ room)) where
+  module _ (e : Entry) (t : EntryTaken fmt e) (room : List ℕ) (h : after fmt used e ≤ length (left ++ room)) where
     pub append-stored : appendOf fmt (left ++ room) used (e .stream) (e .payload) ≡ storedAt (left ++ room) used (entryBytes fmt e)
     append-stored =
         append-judged fmt (e .stream) (e .payload) (left ++ room) used (omega arith) (takes-right fmt e t) (omega arith)
         ∙ rw (take-append-le used left room (bounds .1), usable-whole)
 
-  module _ (lawful : Lawful fmt) (e : Entry) (t : Takes fmt e) where
+  module _ (lawful : Lawful fmt) (e : Entry) (t : EntryTaken fmt e) where
     -- .. and so it is with a record after it
     grown-read : readAll fmt (take used left ++ entryBytes fmt e) ≡ recordsOf (readAll fmt left) ++ expected fmt used (e ∷ [])
     grown-read =

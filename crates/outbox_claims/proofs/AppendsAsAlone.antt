@@ -8,13 +8,13 @@ use lib.Seq.{take-at}
 use Rattle.outbox.specs.Format.{Format, newBytes}
 use Rattle.outbox.specs.Reader.{given, walkOf}
 use Rattle.outbox.specs.Writer.{appendOf}
-use Rattle.outbox_claims.specs.Claims.{Entry, Takes, after, AppendsAsAlone}
+use Rattle.outbox_claims.specs.Claims.{Entry, EntryTaken, after, AppendsAsAlone}
 use Rattle.outbox_claims.proofs.Run.{whole-version}
 use Rattle.outbox_claims.proofs.Contents.{entryBytes, entry-ends}
 use Rattle.outbox_claims.proofs.RecordsReturn.{filled, append-one, new-whole, new-filled}
 
 -- an append to a whole file: what is told, and the used bytes afterwards
-module _ (fmt : Format) (file room : List ℕ) (whole : walkOf fmt file ≡ given tt) (e : Entry) (takes : Takes fmt e) (fits : after fmt (length file) e ≤ length (file ++ room)) where
+module _ (fmt : Format) (file room : List ℕ) (whole : walkOf fmt file ≡ given tt) (e : Entry) (takes : EntryTaken fmt e) (fits : after fmt (length file) e ≤ length (file ++ room)) where
   stored-whole : appendOf fmt (file ++ room) (length file) (e .stream) (e .payload)
       ≡ filled (file ++ entryBytes fmt e) (drop (length (entryBytes fmt e)) room)
   stored-whole = append-one fmt file room e takes (whole-version fmt file whole) whole fits

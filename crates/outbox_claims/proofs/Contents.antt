@@ -7,7 +7,7 @@ use lib.ListN.{length, getD, take, drop, length-append}
 use lib.Seq.{getD-at, drop-at, take-at, drop-append-seam, drop-append-add, drop-append-le}
 use Rattle.outbox.specs.Format.{Format, headSize, bytesOf, recordBytes}
 use Rattle.outbox.specs.Reader.{given, found, foundAt, lengthIn, recordAt}
-use Rattle.outbox_claims.specs.Claims.{Lawful, Entry, Takes, AllTaken, after, expected}
+use Rattle.outbox_claims.specs.Claims.{Lawful, Entry, EntryTaken, AllTaken, after, expected}
 use Rattle.outbox.proofs.Number.{length-bytes, number-bytes}
 use Rattle.outbox.proofs.Record.{Stands, stands-read, record-more}
 use Rattle.outbox.proofs.Stored.{length-record}
@@ -22,7 +22,7 @@ contents fmt [] = []
 contents fmt (e ∷ es) = entryBytes fmt e ++ contents fmt es
 
 module _ (fmt : Format) (e : Entry) where
-  length-written : Lawful fmt → Takes fmt e → lengthIn fmt (entryBytes fmt e) ≡ length (e .payload) + 1
+  length-written : Lawful fmt → EntryTaken fmt e → lengthIn fmt (entryBytes fmt e) ≡ length (e .payload) + 1
   unfolding recordBytes
   length-written lawful t = number-bytes (fmt .width) (length (e .payload) + 1) (e .stream ∷ e .payload) (omega (arith, t .short))
 
@@ -42,7 +42,7 @@ module _ (fmt : Format) (e : Entry) where
   entry-ends file = length-append file (entryBytes fmt e) ∙ rw length-record (omega arith)
 
   -- what was written is read
-  record-written : Lawful fmt → Takes fmt e → (place : ℕ)
+  record-written : Lawful fmt → EntryTaken fmt e → (place : ℕ)
       → recordAt fmt place (entryBytes fmt e) ≡ given (found (foundAt fmt place (e .stream) (length (e .payload))))
   record-written lawful t place = stands-read fmt (entryBytes fmt e) place stands ∙ rw (n, stream-written, less)
     where
@@ -62,7 +62,7 @@ module _ (fmt : Format) (e : Entry) where
 
   -- .. whatever stands before and after it, and so is its payload
   module _ (file more : List ℕ) where
-    pub entry-read : Lawful fmt → Takes fmt e
+    pub entry-read : Lawful fmt → EntryTaken fmt e
         → recordAt fmt (length file) (drop (length file) (file ++ (entryBytes fmt e ++ more)))
         ≡ given (found (foundAt fmt (length file) (e .stream) (length (e .payload))))
     entry-read lawful t =

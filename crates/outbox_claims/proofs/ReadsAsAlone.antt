@@ -9,7 +9,7 @@ use lib.ListN.{length, take, drop, length-append, length-drop, length-take, take
 use lib.Seq.{length-take-le, take-take}
 use Rattle.outbox.specs.Format.{Format, headSize, recordBytes, newBytes}
 use Rattle.outbox.specs.Reader.{Answer, Item, given, found, foundAt, handed, payloadIn, otherVersion, lengthIn, recordAt, readOf, readAll, walkOf}
-use Rattle.outbox_claims.specs.Claims.{Lawful, Entry, Takes, usable, recordsOf, movedAnswer, moved, allMoved, readAt, fromPlace, ReadsAsAlone}
+use Rattle.outbox_claims.specs.Claims.{Lawful, Entry, EntryTaken, usable, recordsOf, movedAnswer, moved, allMoved, readAt, fromPlace, ReadsAsAlone}
 use Rattle.outbox.proofs.Record.{View, whole, broken, view}
 use Rattle.outbox.proofs.Place.{right-place, read-inside, read-end, version-kept, version-more}
 use Rattle.outbox_claims.proofs.Run.{Run, all-run, run-all}
@@ -79,7 +79,7 @@ module _ (fmt : Format) (file : List ℕ) (v : otherVersion fmt file ≡ false) 
           let none : 1 ≡ length (newBytes fmt ++ some) = simp length-take (omega (arith, left)) in
           rw (read-end fmt file place v first (omega arith), read-end fmt (newBytes fmt ++ some) 1 (own-version fmt some) (omega arith) none)
 
-  stands : Lawful fmt → (e : Entry) → Takes fmt e → (more : List ℕ) → drop place file ≡ recordBytes fmt (e .stream) (e .payload) ++ more
+  stands : Lawful fmt → (e : Entry) → EntryTaken fmt e → (more : List ℕ) → drop place file ≡ recordBytes fmt (e .stream) (e .payload) ++ more
       → readAt fmt (fromPlace fmt file place) 1 ≡ handed (given (found (foundAt fmt 1 (e .stream) (length (e .payload))))) (e .payload)
   unfolding readAt
   stands lawful e takes more there =

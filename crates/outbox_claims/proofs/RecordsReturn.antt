@@ -10,7 +10,7 @@ use borrow.Author.Tests.{le-ltb, eq-eqb}
 use Rattle.outbox.specs.Format.{Format, newBytes}
 use Rattle.outbox.specs.Reader.{given, otherVersion, readAll, walkOf}
 use Rattle.outbox.specs.Writer.{Stored, stored, newOf, appendOf}
-use Rattle.outbox_claims.specs.Claims.{Lawful, Entry, Takes, AllTaken, after, afterAll, expected, usable, appendAll, Returned, RecordsReturn}
+use Rattle.outbox_claims.specs.Claims.{Lawful, Entry, EntryTaken, AllTaken, after, afterAll, expected, usable, appendAll, Returned, RecordsReturn}
 use Rattle.outbox.proofs.Place.{version-more}
 use Rattle.outbox_claims.proofs.Run.{ends, run-all, walk-is}
 use Rattle.outbox.proofs.Stored.{length-record}
@@ -27,7 +27,7 @@ abbrev pub filled : List ℕ → List ℕ → Stored
 filled file room = stored (given (length file)) (file ++ room)
 
 -- one append to a whole file
-pub append-one : (fmt : Format) (file room : List ℕ) (e : Entry) → Takes fmt e → otherVersion fmt file ≡ false → walkOf fmt file ≡ given tt
+pub append-one : (fmt : Format) (file room : List ℕ) (e : Entry) → EntryTaken fmt e → otherVersion fmt file ≡ false → walkOf fmt file ≡ given tt
     → after fmt (length file) e ≤ length (file ++ room)
     → appendOf fmt (file ++ room) (length file) (e .stream) (e .payload) ≡ filled (file ++ entryBytes fmt e) (drop (length (entryBytes fmt e)) room)
 append-one fmt file room e takes v whole fits =

@@ -9,7 +9,7 @@ use Rattle.wire.specs.Stream.{isStream}
 use Rattle.outbox.specs.Format.{versionOne, recordBytes}
 use Rattle.outbox.specs.Reader.{given, readAll, firstRefusal, walkOf}
 use Rattle.outbox.specs.Writer.{newOf}
-use Rattle.outbox_claims.specs.Claims.{Lawful, Entry, Takes, AllTaken, after, afterAll, expected, appendAll, Returned, cutAt, usable, RecordsReturn, AppendsAfterCut, AppendsAsAlone, ReadsAsAlone}
+use Rattle.outbox_claims.specs.Claims.{Lawful, Entry, EntryTaken, AllTaken, after, afterAll, expected, appendAll, Returned, cutAt, usable, RecordsReturn, AppendsAfterCut, AppendsAsAlone, ReadsAsAlone}
 use Rattle.outbox_claims.specs.VersionOne.{StreamByte, control, ota, alexa, Allowed, AllAllowed, sizeOf, fileOf, Fits, HoldInVersionOne}
 use Rattle.outbox.proofs.Place.{version-kept}
 use Rattle.outbox_claims.proofs.Run.{walk-is}
@@ -26,7 +26,7 @@ stream-byte control = refl
 stream-byte ota = refl
 stream-byte alexa = refl
 
-takes : (e : Entry) → Allowed e → Takes (versionOne 4096) e
+takes : (e : Entry) → Allowed e → EntryTaken (versionOne 4096) e
 takes e a = record { known = stream-byte (a .stream); short = omega (arith, a .short) }
 
 all-taken : (es : List Entry) → AllAllowed es → AllTaken (versionOne 4096) es
@@ -78,6 +78,7 @@ hold-in-version-one =
       takes = takes;
       records-return = returned;
       cuts-are-found = cut;
+      whole-files-cut = λ fmt file whole kept. cuts-are-found .whole fmt file kept whole;
       appends-after-cut = λ buffer es fits kept some room e a h.
           appends-after-cut v lawful (fileOf buffer es) kept (omega arith) (made-whole buffer es fits) room e (takes e a) (omega arith);
       appends-as-alone = λ buffer es fits room own e a h k.

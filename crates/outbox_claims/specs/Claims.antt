@@ -20,7 +20,7 @@ pub record Entry : Type 0 where
   pub payload : List ℕ
 
 -- one that the writer owes to take: said by the rules and not by the writer's own test, so that one that refuses more breaks the claims
-pub record Takes (fmt : Format) (e : Entry) : Type 0 where
+pub record EntryTaken (fmt : Format) (e : Entry) : Type 0 where
   pub known : isStream (e .stream) ≡ true
   pub short : length (e .payload) ≤ fmt .limit
 
@@ -45,7 +45,7 @@ afterAll fmt place (e ∷ es) = afterAll fmt (after fmt place e) es
 -- each of them is one that the writer owes to take
 abbrev pub AllTaken : Format → List Entry → Type 0
 AllTaken fmt [] = Unit {0}
-AllTaken fmt (e ∷ es) = Takes fmt e × AllTaken fmt es
+AllTaken fmt (e ∷ es) = EntryTaken fmt e × AllTaken fmt es
 
 -- an append after the used bytes that the call before it told
 abbrev pub appendNext : Format → Answer ℕ → List ℕ → Entry → Stored
@@ -130,7 +130,7 @@ pub record Resumed (fmt : Format) (before : List Handed) (used : ℕ) (e : Entry
 unfoldable pub AppendsAfterCut : Type 0
 AppendsAfterCut =
     (fmt : Format) → Lawful fmt → (file : List ℕ) (kept : ℕ) → 1 ≤ kept → walkOf fmt file ≡ given tt
-    → (room : List ℕ) (e : Entry) → Takes fmt e
+    → (room : List ℕ) (e : Entry) → EntryTaken fmt e
     → let left = take kept file in
     let used = usable (walkOf fmt left) left in
     after fmt used e ≤ length (left ++ room)
@@ -147,7 +147,7 @@ pub record SameBytes (fmt : Format) (file : List ℕ) (e : Entry) (here alone : 
 -- what is appended to a whole outbox is what is appended to a new one
 unfoldable pub AppendsAsAlone : Type 0
 AppendsAsAlone =
-    (fmt : Format) (file room : List ℕ) → walkOf fmt file ≡ given tt → (own : List ℕ) (e : Entry) → Takes fmt e
+    (fmt : Format) (file room : List ℕ) → walkOf fmt file ≡ given tt → (own : List ℕ) (e : Entry) → EntryTaken fmt e
     → after fmt (length file) e ≤ length (file ++ room) → after fmt firstPlace e ≤ length own
     → SameBytes fmt file e (appendOf fmt (file ++ room) (length file) (e .stream) (e .payload)) (appendAll fmt (newOf fmt own) (e ∷ []))
 
@@ -184,7 +184,7 @@ fromPlace fmt file place = newBytes fmt ++ drop place file
 pub record ReadAlone (fmt : Format) (file : List ℕ) (place : ℕ) : Type 0 where
   pub one : (n : ℕ) → headSize fmt + fmt .limit ≤ n
       → readAt fmt file place ≡ moved (place - firstPlace) (readAt fmt (newBytes fmt ++ take n (drop place file)) firstPlace)
-  pub stands : Lawful fmt → (e : Entry) → Takes fmt e → (more : List ℕ) → drop place file ≡ recordBytes fmt (e .stream) (e .payload) ++ more
+  pub stands : Lawful fmt → (e : Entry) → EntryTaken fmt e → (more : List ℕ) → drop place file ≡ recordBytes fmt (e .stream) (e .payload) ++ more
       → readAt fmt (fromPlace fmt file place) firstPlace ≡ handed (given (found (foundAt fmt firstPlace (e .stream) (length (e .payload))))) (e .payload)
   pub rest : (n : ℕ) → 1 ≤ n → usable (walkOf fmt (take n file)) (take n file) ≡ place
       → readAll fmt file ≡ recordsOf (readAll fmt (take n file)) ++ allMoved (place - firstPlace) (readAll fmt (fromPlace fmt file place))

@@ -6,7 +6,7 @@ use lib.ListN.{length, take, drop}
 use Rattle.outbox.specs.Format.{Format, versionOne, recordBytes}
 use Rattle.outbox.specs.Reader.{given, found, foundAt, handed, readAll, walkOf}
 use Rattle.outbox.specs.Writer.{newOf, appendOf}
-use Rattle.outbox_claims.specs.Claims.{Lawful, Entry, Takes, expected, appendAll, Returned, cutAt, usable, recordsOf, Resumed, SameBytes, moved, allMoved, readAt}
+use Rattle.outbox_claims.specs.Claims.{Lawful, Entry, EntryTaken, expected, appendAll, Returned, cutAt, usable, recordsOf, Resumed, SameBytes, moved, allMoved, readAt}
 
 -- the streams
 pub data StreamByte : ℕ → Type 0 where
@@ -40,11 +40,14 @@ pub record Fits (buffer : List ℕ) (es : List Entry) : Type 0 where
 pub record HoldInVersionOne : Type 0 where
   -- a format is lawful where its field holds every length
   pub lawful : (fmt : Format) → ((n : ℕ) → n ≤ fmt .limit → n + 1 < 256 ^ fmt .width) → Lawful fmt
-  pub takes : (e : Entry) → Allowed e → Takes (versionOne 4096) e
+  pub takes : (e : Entry) → Allowed e → EntryTaken (versionOne 4096) e
   pub records-return : (buffer : List ℕ) (es : List Entry) → Fits buffer es
       → Returned (versionOne 4096) (appendAll (versionOne 4096) (newOf (versionOne 4096) buffer) es) es
   pub cuts-are-found : (buffer : List ℕ) (es : List Entry) → Fits buffer es → (kept : ℕ)
       → readAll (versionOne 4096) (take kept (fileOf buffer es)) ≡ cutAt kept (expected (versionOne 4096) 1 es)
+  -- a whole file of any format, also where nothing is kept, or where a length in its range could not be written
+  pub whole-files-cut : (fmt : Format) (file : List ℕ) → walkOf fmt file ≡ given tt → (kept : ℕ)
+      → readAll fmt (take kept file) ≡ cutAt kept (readAll fmt file)
   pub appends-after-cut : (buffer : List ℕ) (es : List Entry) → Fits buffer es → (kept : ℕ) → 1 ≤ kept → (room : List ℕ) (e : Entry) → Allowed e
       → let left = take kept (fileOf buffer es) in
       let used = usable (walkOf (versionOne 4096) left) left in

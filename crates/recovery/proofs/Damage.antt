@@ -24,7 +24,7 @@ use Rattle.recovery.specs.Recovery.{Turned}
 use Rattle.recovery.proofs.Frames.{framesOf}
 use Rattle.framing.proofs.Marks.{unmarked-plain}
 use Rattle.recovery.proofs.Spelling.{Code, Spelt, itself, coded, spelt, Meaning, stands-for, unknown, meaning}
-use Rattle.recovery.proofs.Takes.{escaping, takes-frames, store-plain, store-code, store-all}
+use Rattle.recovery.proofs.TakesBytes.{escaping, takes-frames, store-plain, store-code, store-all}
 
 -- what stands in a frame behind its header
 abbrev pub spelled : List ℕ → List ℕ

@@ -2,7 +2,7 @@ pub mod Ready
 pub mod Cut
 pub mod Frames
 pub mod Spelling
-pub mod Takes
+pub mod TakesBytes
 pub mod Checksum
 pub mod Damage
 pub mod Recovery

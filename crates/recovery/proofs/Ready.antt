@@ -19,7 +19,7 @@ use Rattle.extractor.specs.declared.action.Action.{Action}
 use Rattle.extractor.specs.declared.action.Action.the-variants.{Skip, Begin, Restart, Go, Number, Store, Finish, Refuse}
 use Rattle.extractor.specs.Action.{codeOf, actionBy, actionOf}
 use Rattle.extractor.specs.State.{sequenceRead, lawfulAfter, lawful, ready}
-use Rattle.extractor.specs.Step.{Step, storeOf, performOf, advanceOf, stepOf}
+use Rattle.extractor.specs.Step.{Step, storeOf, performOf, advanceOf, byteStepOf}
 use Rattle.feed.specs.Feed.{Feed, decides, feedFrom, feedOf}
 
 -- ---- tests
@@ -109,7 +109,7 @@ module _ (limit : ℕ) where
         let k = perform-keeps b (actionOf (s .phase) b) (apt-by b (s .phase) (kindOf b) refl) (and-right (eqb (length l) (limit + 2)) _ h) in
         rw (k .size, and-left (eqb (length l) (limit + 2)) _ h, k .state)
 
-    pub step-ready : (b : ℕ) → ready limit s (length l) ≡ true → stepOf limit s l b ≡ advanceOf limit s l b
+    pub step-ready : (b : ℕ) → ready limit s (length l) ≡ true → byteStepOf limit s l b ≡ advanceOf limit s l b
     step-ready b h = rw h
 
     pub feed-ready : (bytes : List ℕ) → ready limit s (length l) ≡ true → feedOf limit s l bytes ≡ feedFrom limit 0 s l bytes

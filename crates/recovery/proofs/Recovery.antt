@@ -21,17 +21,17 @@ use Rattle.extractor.specs.State.{outside, begun, body, lawful}
 use Rattle.extractor.specs.Step.{advanceOf}
 use Rattle.feed.specs.Feed.{fed, feedFrom}
 use Rattle.recovery.specs.Run.{Given}
-use Rattle.recovery.specs.Recovery.{Sending, Sendable, sent, givenOf, sequencePlace, Turned, Item, whole, damaged, bytesOf, undamaged, Closing, DamageEnds, FrameReturns}
+use Rattle.recovery.specs.Recovery.{FrameToSend, Sendable, sent, givenOf, sequencePlace, Turned, ClosingFrame, whole, damaged, bytesOf, undamaged, Closing, DamageEnds, FrameReturns}
 use Rattle.recovery.proofs.Ready.{is-ready, ready-size, feed-ready}
 use Rattle.recovery.proofs.Cut.{calls-cut}
 use Rattle.recovery.proofs.Frames.{framesOf, frame-begins, frame-ends, since-later}
 use Rattle.framing.proofs.Marks.{unmarked-plain}
-use Rattle.recovery.proofs.Takes.{fresh, header, Takes, more, takes-then, takes-frames, takes-feed, header-taken, store-all}
+use Rattle.recovery.proofs.TakesBytes.{fresh, header, TakesBytes, more, takes-then, takes-frames, takes-feed, header-taken, store-all}
 use Rattle.recovery.proofs.Checksum.{handed-first, whole-report, spoilt-report}
 use Rattle.recovery.proofs.Damage.{spelled, header-lost, turned-plain, turned-tail, outside-plain, rest-skipped, Hit, lost, changed, body-hit}
 
 -- what our writer writes is the frame
-pub sent-frame : (limit : ℕ) (m : Sending) → Sendable limit m → sent limit m ≡ frameOf (m .sequence) (m .payload)
+pub sent-frame : (limit : ℕ) (m : FrameToSend) → Sendable limit m → sent limit m ≡ frameOf (m .sequence) (m .payload)
 sent-frame limit m w =
     let f = frameOf (m .sequence) (m .payload) in
     rw (
@@ -47,7 +47,7 @@ record Ends (limit : ℕ) (rest : List ℕ) (gs given : List Given) : Type 0 whe
   pub size : length after ≡ limit + 2
   pub same : gs ≡ given ++ framesOf limit outside after rest
 
-module _ (limit : ℕ) (m : Sending) (w : Sendable limit m) (l : List ℕ) (n : length l ≡ limit + 2) where
+module _ (limit : ℕ) (m : FrameToSend) (w : Sendable limit m) (l : List ℕ) (n : length l ≡ limit + 2) where
   abbrev q : ℕ
   q = m .sequence
 
@@ -60,7 +60,7 @@ module _ (limit : ℕ) (m : Sending) (w : Sendable limit m) (l : List ℕ) (n : 
   size : length (contentOf p) ≡ length p + 2
   size = length-append p (pairBytes (checksumOf p))
 
-  content-taken : Takes limit (body q 0) l (escapedOf (contentOf p)) (body q (length (contentOf p))) (sets l 0 (contentOf p))
+  content-taken : TakesBytes limit (body q 0) l (escapedOf (contentOf p)) (body q (length (contentOf p))) (sets l 0 (contentOf p))
   content-taken = rw zero-add at (store-all limit (contentOf p) q 0 l (omega (arith, size)))
 
   module _ (rest : List ℕ) where
@@ -117,7 +117,7 @@ module _ (limit : ℕ) (m : Sending) (w : Sendable limit m) (l : List ℕ) (n : 
         (hit-ends (body-hit limit q rest (contentOf p) l 0 j v (omega (arith, size)) (turned-tail (turned-tail (turned-tail (turned-tail t))))))
 
   -- a whole frame in one call for many bytes
-  frame-taken : Takes limit outside l (headerOf q ++ escapedOf (contentOf p)) (body q (length (contentOf p))) (sets l 0 (contentOf p))
+  frame-taken : TakesBytes limit outside l (headerOf q ++ escapedOf (contentOf p)) (body q (length (contentOf p))) (sets l 0 (contentOf p))
   unfolding advanceOf kindOf
   frame-taken = more refl (takes-then limit (header-taken limit l q plain) content-taken)
 
@@ -129,7 +129,7 @@ module _ (limit : ℕ) (m : Sending) (w : Sendable limit m) (l : List ℕ) (n : 
 
 -- ---- the claims
 
-closing-ends : (limit : ℕ) (is : List Item) (s : Extractor) (l : List ℕ) → length l ≡ limit + 2 → Closing limit is
+closing-ends : (limit : ℕ) (is : List ClosingFrame) (s : Extractor) (l : List ℕ) → length l ≡ limit + 2 → Closing limit is
     → framesOf limit s l (bytesOf limit is) ≡ undamaged is
 unfolding bytesOf undamaged framesOf
 closing-ends limit [] s l n c = refl

@@ -8,7 +8,7 @@ use Rattle.extractor.specs.declared.state.Extractor.{Extractor}
 use Rattle.extractor.specs.declared.state.Phase.the-variants.{Escaped}
 use Rattle.extractor.specs.State.{lawful}
 use Rattle.recovery.specs.Run.{Call, one, many, Run, runOf, Given, handedOut}
-use Rattle.recovery.specs.Recovery.{Sending, Item, whole, damaged, bytesOf, undamaged, Closing}
+use Rattle.recovery.specs.Recovery.{FrameToSend, ClosingFrame, whole, damaged, bytesOf, undamaged, Closing}
 
 abbrev limit : ℕ
 limit = 8
@@ -24,12 +24,12 @@ buffer = replicate 10 0xEE
 abbrev before : List ℕ
 before = 0x41 ∷ 0xF1 ∷ 0xF0 ∷ 0x02 ∷ 0x00 ∷ 0x09 ∷ 0x07 ∷ 0xF2 ∷ []
 
-abbrev sending : ℕ → List ℕ → Sending
-sending sequence payload = record { sequence = sequence; payload = payload; out = replicate 20 0xEE }
+abbrev toSend : ℕ → List ℕ → FrameToSend
+toSend sequence payload = record { sequence = sequence; payload = payload; out = replicate 20 0xEE }
 
 -- in the second frame 02 turns into 03
-abbrev closing : List Item
-closing = whole (sending 5 (0xF0 ∷ 0x41 ∷ [])) ∷ damaged (sending 6 (0x01 ∷ 0x02 ∷ [])) 5 0x03 ∷ whole (sending 0xF3 []) ∷ []
+abbrev closing : List ClosingFrame
+closing = whole (toSend 5 (0xF0 ∷ 0x41 ∷ [])) ∷ damaged (toSend 6 (0x01 ∷ 0x02 ∷ [])) 5 0x03 ∷ whole (toSend 0xF3 []) ∷ []
 
 -- its bytes
 abbrev bytes : List ℕ

@@ -11,7 +11,7 @@ use Rattle.extractor.specs.declared.state.Phase.{Phase}
 use Rattle.extractor.specs.declared.state.Phase.the-variants.{Outside, PacketId, ErrorId, Sequence, Body, Escaped}
 use Rattle.extractor.specs.State.{lawful}
 use Rattle.recovery.specs.Run.{Call, one, many, runOf}
-use Rattle.recovery.specs.Recovery.{Sending, Sendable, Turned, Item, whole, damaged, Closing}
+use Rattle.recovery.specs.Recovery.{FrameToSend, Sendable, Turned, ClosingFrame, whole, damaged, Closing}
 
 abbrev pub NoMark : ℕ → Type 0
 NoMark b = (b ≢ 0xF0) × (b ≢ 0xF1) × (b ≢ 0xF2)
@@ -19,7 +19,7 @@ NoMark b = (b ≢ 0xF0) × (b ≢ 0xF1) × (b ≢ 0xF2)
 -- a sequence byte that is no mark, a payload of 0 to limit bytes, and an output that is at least as long as their frame
 abbrev pub SendableWhen : Type 0
 SendableWhen =
-    (limit : ℕ) (m : Sending)
+    (limit : ℕ) (m : FrameToSend)
     → m .sequence < 256
     → NoMark (m .sequence)
     → length (m .payload) ≤ limit
@@ -41,8 +41,8 @@ TurnedWhen =
 -- any number of frames in any order, whole or with one byte turned, which may be each but the fourth
 pub record ClosingWhen : Type 0 where
   pub none : (limit : ℕ) → Closing limit []
-  pub whole-first : (limit : ℕ) (m : Sending) (is : List Item) → Sendable limit m → Closing limit is → Closing limit (whole m ∷ is)
-  pub damaged-first : (limit : ℕ) (m : Sending) (place new : ℕ) (is : List Item)
+  pub whole-first : (limit : ℕ) (m : FrameToSend) (is : List ClosingFrame) → Sendable limit m → Closing limit is → Closing limit (whole m ∷ is)
+  pub damaged-first : (limit : ℕ) (m : FrameToSend) (place new : ℕ) (is : List ClosingFrame)
       → Sendable limit m
       → place ≢ 3
       → Turned (frameOf (m .sequence) (m .payload)) place new

@@ -18,13 +18,13 @@ use Rattle.recovery.specs.Run.{Call, runOf, Given, handedBy, handedOut}
 -- ---- the frames of our writer
 
 -- a call of the frame writer: its sequence and payload, and the output that is lent to it
-pub record Sending : Type 0 where
+pub record FrameToSend : Type 0 where
   pub sequence : ℕ
   pub payload : List ℕ
   pub out : List ℕ
 
 -- what the writer has to take: a sequence that is no mark, and bytes up to the limit, with room for their frame
-pub record Sendable (limit : ℕ) (m : Sending) : Type 0 where
+pub record Sendable (limit : ℕ) (m : FrameToSend) : Type 0 where
   pub unmarked : isMark (m .sequence) ≡ false
   pub fits : length (m .payload) ≤ limit
   pub bytes : AllBytes (m .payload)
@@ -36,11 +36,11 @@ toldBytes (given n) out = take n out
 toldBytes (refused n) out = []
 
 -- the bytes that our writer writes
-abbrev pub sent : ℕ → Sending → List ℕ
+abbrev pub sent : ℕ → FrameToSend → List ℕ
 sent limit m = let w = writeOf limit (m .sequence) (m .payload) (m .out) in toldBytes (w .told) (w .out)
 
 -- what an extractor has to hand out of a frame
-abbrev pub givenOf : Sending → Given
+abbrev pub givenOf : FrameToSend → Given
 givenOf m = record { sequence = m .sequence; size = length (m .payload); payload = m .payload }
 
 -- ---- the closing part
@@ -58,24 +58,24 @@ pub record Turned (bytes : List ℕ) (place new : ℕ) : Type 0 where
   pub other : new ≢ getD bytes place 0
 
 -- a frame of our writer, whole or with the byte at a place turned into another
-pub data Item : Type 0 where
-  whole : Sending → Item
-  damaged : Sending → ℕ → ℕ → Item
+pub data ClosingFrame : Type 0 where
+  whole : FrameToSend → ClosingFrame
+  damaged : FrameToSend → ℕ → ℕ → ClosingFrame
 
 -- the bytes of the closing part
-unfoldable pub bytesOf : ℕ → List Item → List ℕ
+unfoldable pub bytesOf : ℕ → List ClosingFrame → List ℕ
 bytesOf limit [] = []
 bytesOf limit (whole m ∷ is) = sent limit m ++ bytesOf limit is
 bytesOf limit (damaged m place new ∷ is) = set (sent limit m) place new ++ bytesOf limit is
 
 -- what has to be handed out of it: each whole frame, in order
-unfoldable pub undamaged : List Item → List Given
+unfoldable pub undamaged : List ClosingFrame → List Given
 undamaged [] = []
 undamaged (whole m ∷ is) = givenOf m ∷ undamaged is
 undamaged (damaged m place new ∷ is) = undamaged is
 
 -- each frame is one that the writer has to take, and the byte that turned is not the sequence byte
-abbrev pub Closing : ℕ → List Item → Type 0
+abbrev pub Closing : ℕ → List ClosingFrame → Type 0
 Closing limit [] = Unit {0}
 Closing limit (whole m ∷ is) = Sendable limit m × Closing limit is
 Closing limit (damaged m place new ∷ is) = Sendable limit m × (place ≢ sequencePlace) × Turned (sent limit m) place new × Closing limit is
@@ -86,7 +86,7 @@ Closing limit (damaged m place new ∷ is) = Sendable limit m × (place ≢ sequ
 -- closing part are the undamaged ones of it, one each, in order
 abbrev pub DamageEnds : Type 0
 DamageEnds =
-    (limit : ℕ) (s : Extractor) (buffer before : List ℕ) (closing : List Item) (calls : List Call)
+    (limit : ℕ) (s : Extractor) (buffer before : List ℕ) (closing : List ClosingFrame) (calls : List Call)
     → lawful limit s ≡ true
     → length buffer ≡ limit + 2
     → Closing limit closing
@@ -96,7 +96,7 @@ DamageEnds =
 -- A frame returns: one of our writer, given at once to an extractor that is outside, is handed out, and all its bytes are used
 abbrev pub FrameReturns : Type 0
 FrameReturns =
-    (limit : ℕ) (m : Sending) (buffer : List ℕ)
+    (limit : ℕ) (m : FrameToSend) (buffer : List ℕ)
     → Sendable limit m
     → length buffer ≡ limit + 2
     → (let r = feedOf limit outside buffer (sent limit m) in

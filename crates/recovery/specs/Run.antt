@@ -6,7 +6,7 @@ use lib.ListN.{take, drop}
 use lib.Dec.{ltb}
 use Rattle.extractor.specs.declared.state.Extractor.{Extractor}
 use Rattle.extractor.specs.Outcome.{Report, skipped, taken, allUsed, frame, refused}
-use Rattle.extractor.specs.Step.{stepOf}
+use Rattle.extractor.specs.Step.{byteStepOf}
 use Rattle.feed.specs.Feed.{Feed, fed, feedOf}
 
 -- a step with the next byte, or a call with the next n bytes, or with as many as are left
@@ -17,7 +17,7 @@ pub data Call : Type 0 where
 -- what a call leaves; a step wants a byte: where none is left nothing is called, and nothing is decided
 unfoldable pub callOf : ℕ → Call → Extractor → List ℕ → List ℕ → Feed
 callOf limit one s l [] = fed allUsed 0 s l
-callOf limit one s l (b ∷ bs) = let r = stepOf limit s l b in fed (r .report) 1 (r .next) (r .buffer)
+callOf limit one s l (b ∷ bs) = let r = byteStepOf limit s l b in fed (r .report) 1 (r .next) (r .buffer)
 callOf limit (many n) s l bytes = feedOf limit s l (take n bytes)
 
 -- as a call returns: its report, the number of bytes used so far (the last of them decided, if one did) and the lent buffer

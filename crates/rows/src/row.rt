@@ -13,11 +13,6 @@ pub const DONE: u64 = 0;
 // The refusal of a row of another length, and of numbers that no state has.
 pub const UNFIT: u64 = 1;
 
-// The refusals of an argument out of its range, and of an output that is too small.
-pub const BAD_ARGUMENT: u8 = 15;
-
-pub const NO_ROOM: u8 = 14;
-
 // How many numbers a byte can be, and a byte that is no stream, id or sequence of a packet.
 pub const BYTES: u64 = 256;
 

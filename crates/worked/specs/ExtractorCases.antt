@@ -8,7 +8,7 @@ use Rattle.extractor.specs.declared.state.Phase.{Phase}
 use Rattle.extractor.specs.declared.state.Phase.the-variants.{Outside, ErrorId, Sequence, Escaped}
 use Rattle.extractor.specs.Outcome.{Report, skipped, taken, allUsed, frame, refused}
 use Rattle.extractor.specs.State.{outside, begun, body}
-use Rattle.extractor.specs.Step.{Step, step, stepOf}
+use Rattle.extractor.specs.Step.{Step, step, byteStepOf}
 use Rattle.feed.specs.Feed.{Feed, fed, feedOf}
 
 -- the lent buffer has 4 bytes
@@ -33,14 +33,14 @@ pub data Answer : Type 0 where
 
 unfoldable pub stepsOf : Extractor → List ℕ → List ℕ → List Step
 stepsOf s l [] = []
-stepsOf s l (b ∷ bs) = let r = stepOf limit s l b in r ∷ stepsOf (r .next) (r .buffer) bs
+stepsOf s l (b ∷ bs) = let r = byteStepOf limit s l b in r ∷ stepsOf (r .next) (r .buffer) bs
 
 unfoldable pub feedsOf : ℕ → Extractor → List ℕ → List ℕ → List Feed
 feedsOf zero s l bytes = []
 feedsOf (suc n) s l bytes = let r = feedOf limit s l bytes in r ∷ feedsOf n (r .next) (r .buffer) (drop (r .used) bytes)
 
 unfoldable pub answerTo : Question → Answer
-answerTo (stepWith s l b) = stepped (stepOf limit s l b ∷ [])
+answerTo (stepWith s l b) = stepped (byteStepOf limit s l b ∷ [])
 answerTo (stepEach s l bytes) = stepped (stepsOf s l bytes)
 answerTo (feedWith s l bytes) = called (feedOf limit s l bytes ∷ [])
 answerTo (feedEach n s l bytes) = called (feedsOf n s l bytes)

@@ -51,15 +51,15 @@ pub data Question : Type 0 where
   readRecord : List ℕ → ℕ → Question
 
 -- what a packet carries: so many bytes, their number in one byte or extended
-pub data Piece : Type 0 where
-  plain extended : ℕ → Piece
+pub data PieceLength : Type 0 where
+  plain extended : ℕ → PieceLength
 
 pub data Answer : Type 0 where
   -- what was written
   bytes : Told (List ℕ) → Answer
   sequenceByte : ℕ → Answer
   packets : List (List ℕ) → Answer
-  pieces : List (Told Piece) → Answer
+  pieces : List (Told PieceLength) → Answer
   -- what is told of a packet, and the slots afterwards
   accepted : Told Accepted → List Slot → Answer
   envelope : Told Envelope → Answer
@@ -70,8 +70,8 @@ abbrev pub bytesOf : Written ℕ → Told (List ℕ)
 bytesOf w = andThen (w .told) (λ n. given (take n (w .out)))
 
 -- what a packet carries, as it is read; the extender stands in its byte 1
-abbrev pub pieceOf : List ℕ → Told Piece
-pieceOf p = andThen (readOf limit p) (λ x. given (cond (extenderBit (getD p 1 0)) (extended (lenIn x)) (plain (lenIn x))))
+abbrev pub pieceLengthOf : List ℕ → Told PieceLength
+pieceLengthOf p = andThen (readOf limit p) (λ x. given (cond (extenderBit (getD p 1 0)) (extended (lenIn x)) (plain (lenIn x))))
 
 -- what a receiver answers, and the slots afterwards
 abbrev pub acceptedBy : Result → Answer
@@ -89,7 +89,7 @@ unfoldable pub answerTo : Question → Answer
 answerTo (writeFrame sequence payload) = bytes (bytesOf (frame.writeOf limit sequence payload output))
 answerTo (nextSequenceByte sequence) = sequenceByte (nextSequence sequence)
 answerTo (writePackets w m) = packets (packetsOf w m)
-answerTo (readPieces w m) = pieces (map pieceOf (packetsOf w m))
+answerTo (readPieces w m) = pieces (map pieceLengthOf (packetsOf w m))
 answerTo (acceptPacket slots p) = acceptedBy (acceptOf limit slots (zeros (slotCount * limit)) p)
 answerTo (writeAcknowledgement stream id sequence positive) = bytes (bytesOf (ackOf stream id sequence positive output))
 answerTo (writeEnvelope command payload) = bytes (bytesOf (envelopeWritten command payload [] output))

@@ -24,8 +24,8 @@ loop-holds c = going-begins (versionOne 4096) (now (c .before .args .part))
 read-requires : tie.Need-read-requires Inv-loop μ-loop
 read-requires c κs = search needs
 
-enum-known-stream : tie.Need-enum-known-stream Inv-loop μ-loop
-enum-known-stream c = search needs
+enum-known-reading : tie.Need-enum-known-reading Inv-loop μ-loop
+enum-known-reading c = search needs
 
 say-record-requires : tie.Need-say-record-requires Inv-loop μ-loop
 say-record-requires c κs = search needs
@@ -34,14 +34,14 @@ loop-less : tie.Need-loop-less Inv-loop μ-loop
 loop-less c =
     let m = c .before .before in
     let r = m .before .before in
-    let ends = read-within (versionOne 4096) _ (r .before .loop .place) _ (sym (r .read .ensures) ∙ ap told (m .stream .given .1)) in
+    let ends = read-within (versionOne 4096) _ (r .before .loop .place) _ (sym (r .read .ensures) ∙ ap told (m .reading .given .1)) in
     omega (arith, ends .0, ends .1)
 
 loop-again : tie.Need-loop-again Inv-loop μ-loop
 loop-again c =
     let m = c .before .before in
     let r = m .before .before in
-    read-goes (versionOne 4096) _ (r .before .loop .inv) _ (sym (r .read .ensures) ∙ ap told (m .stream .given .1))
+    read-goes (versionOne 4096) _ (r .before .loop .inv) _ (sym (r .read .ensures) ∙ ap told (m .reading .given .1))
 
 enum-told : tie.Need-enum-told Inv-loop μ-loop
 enum-told c = search needs
@@ -61,18 +61,21 @@ returns c =
 enum-told-2 : tie.Need-enum-told-2 Inv-loop μ-loop
 enum-told-2 c = search needs
 
+number-requires : tie.Need-number-requires Inv-loop μ-loop
+number-requires c κs = search needs
+
 say-refused-requires : tie.Need-say-refused-requires Inv-loop μ-loop
 say-refused-requires c κs = search needs
 
 returns-2 : tie.Need-returns-2 Inv-loop μ-loop
 unfolding listedOf
 returns-2 c =
-    let m = c .before in
+    let m = c .before .before in
     let r = m .before .before in
     rw (read-decides (versionOne 4096) _ (r .before .loop .inv) _ (sym (r .read .ensures) ∙ ap told (m .enum-told2 .given .1)))
 
-enum-known-fault : tie.Need-enum-known-fault Inv-loop μ-loop
-enum-known-fault c = search needs
+enum-known-reading-2 : tie.Need-enum-known-reading-2 Inv-loop μ-loop
+enum-known-reading-2 c = search needs
 
 list-refusal-requires : tie.Need-list-refusal-requires Inv-loop μ-loop
 list-refusal-requires c κs = search needs
@@ -83,7 +86,7 @@ returns-3 c =
     let m = c .before .before in
     let r = m .before .before in
     c .list-refusal .ensures
-    ∙ rw (read-decides (versionOne 4096) _ (r .before .loop .inv) _ (sym (r .read .ensures) ∙ ap told (m .fault .given .1)))
+    ∙ rw (read-decides (versionOne 4096) _ (r .before .loop .inv) _ (sym (r .read .ensures) ∙ ap told (m .reading2 .given .1)))
 
 pub list-part-spec : {M : Type 1} → statement M
 list-part-spec =
@@ -93,7 +96,7 @@ list-part-spec =
     μ-loop
     loop-holds
     read-requires
-    enum-known-stream
+    enum-known-reading
     say-record-requires
     loop-less
     loop-again
@@ -101,8 +104,9 @@ list-part-spec =
     list-end-requires
     returns
     enum-told-2
+    number-requires
     say-refused-requires
     returns-2
-    enum-known-fault
+    enum-known-reading-2
     list-refusal-requires
     returns-3)

@@ -11,6 +11,9 @@ returns : tie.Need-returns
 unfolding informationWriteOf
 returns c = rw (ne-eqb _ _ (c .if1 .taken))
 
+number-requires : tie.Need-number-requires
+number-requires c κs = search needs
+
 none-requires : tie.Need-none-requires
 none-requires c κs = search needs
 
@@ -23,17 +26,21 @@ same-length c = search needs
 returns-2 : tie.Need-returns-2
 unfolding informationWriteOf
 returns-2 c =
-    let a = c .before .before .before .before .before .before .before .before .before .before .before .before .before .args in
+    let a = c .before .before .before .before .before .before .before .before .before .before .before .before .before .before .args in
     rw (
-      eq-eqb _ _ (c .before .before .before .before .before .before .if1 .left),
-      too-many (a .serial-number .now) (a .name .now) (a .device-type .now) (a .transports .now) (a .output .now) (allSigned (a .transports .now)) (c .before .before .before .before .before .if2 .taken),
+      eq-eqb _ _ (c .before .before .before .before .before .before .before .if1 .left),
+      too-many (a .serial-number .now) (a .name .now) (a .device-type .now) (a .transports .now) (a .output .now) (allSigned (a .transports .now)) (c .before .before .before .before .before .before .if2 .taken),
       c .before .before .tell .ensures .0,
       c .before .before .tell .ensures .1,
       c .before .before .before .none .ensures,
+      c .before .before .before .before .number .ensures,
     )
 
 all-signed-requires : tie.Need-all-signed-requires
 all-signed-requires c κs = search needs
+
+number-requires-2 : tie.Need-number-requires-2
+number-requires-2 c κs = search needs
 
 none-requires-2 : tie.Need-none-requires-2
 none-requires-2 c κs = search needs
@@ -48,12 +55,13 @@ returns-3 : tie.Need-returns-3
 unfolding informationWriteOf
 returns-3 c =
     rw (
-      eq-eqb _ _ (c .before .before .before .before .before .before .before .before .if1 .left),
-      ← (c .before .before .before .before .before .before .all-signed .ensures),
-      not-true (c .before .before .before .before .before .before .all-signed .result) (c .before .before .before .before .before .if3 .taken),
+      eq-eqb _ _ (c .before .before .before .before .before .before .before .before .before .if1 .left),
+      ← (c .before .before .before .before .before .before .before .all-signed .ensures),
+      not-true (c .before .before .before .before .before .before .before .all-signed .result) (c .before .before .before .before .before .before .if3 .taken),
       c .before .before .tell2 .ensures .0,
       c .before .before .tell2 .ensures .1,
       c .before .before .before .none2 .ensures,
+      c .before .before .before .before .number2 .ensures,
     )
 
 signed-list-requires : tie.Need-signed-list-requires
@@ -99,11 +107,13 @@ information-write-spec =
     tie.close
     (tie.spec
     returns
+    number-requires
     none-requires
     tell-requires
     same-length
     returns-2
     all-signed-requires
+    number-requires-2
     none-requires-2
     tell-requires-2
     same-length-2

@@ -14,8 +14,11 @@ byte-or-requires c κs = search needs
 append-requires : tie.Need-append-requires
 append-requires c κs = search needs
 
-append-number-requires : tie.Need-append-number-requires
-append-number-requires c κs = search needs
+number-requires : tie.Need-number-requires
+number-requires c κs = search needs
+
+wide64-requires : tie.Need-wide64-requires
+wide64-requires c κs = search needs
 
 append-row-requires : tie.Need-append-row-requires
 append-row-requires c κs = search needs
@@ -36,11 +39,12 @@ returns-2 : tie.Need-returns-2
 unfolding outboxAppendOf
 returns-2 c =
     rw (
-      eq-eqb _ _ (c .before .before .before .before .before .before .before .before .before .before .before .before .if1 .left),
-      ← (c .before .before .before .before .before .before .before .before .before .before .before .byte-or .ensures),
-      ← (c .before .before .before .before .before .before .before .before .before .append .ensures),
+      eq-eqb _ _ (c .before .before .before .before .before .before .before .before .before .before .before .before .before .if1 .left),
+      ← (c .before .before .before .before .before .before .before .before .before .before .before .before .byte-or .ensures),
+      ← (c .before .before .before .before .before .before .before .before .before .before .append .ensures),
       c .before .before .put .ensures,
-      c .before .before .before .before .before .before .append-number .ensures,
+      c .before .before .before .before .before .before .wide64 .ensures .0,
+      c .before .before .before .before .before .before .before .number .ensures,
       c .before .before .before .before .before .append-row .ensures,
     )
 
@@ -51,7 +55,8 @@ outbox-append-spec =
     returns
     byte-or-requires
     append-requires
-    append-number-requires
+    number-requires
+    wide64-requires
     append-row-requires
     slice-aggregate-put
     put-requires

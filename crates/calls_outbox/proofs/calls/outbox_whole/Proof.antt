@@ -11,8 +11,11 @@ returns c = rw (ne-eqb _ _ (c .if1 .taken))
 walk-requires : tie.Need-walk-requires
 walk-requires c κs = search needs
 
-whole-number-requires : tie.Need-whole-number-requires
-whole-number-requires c κs = search needs
+number-requires : tie.Need-number-requires
+number-requires c κs = search needs
+
+wide64-requires : tie.Need-wide64-requires
+wide64-requires c κs = search needs
 
 whole-row-requires : tie.Need-whole-row-requires
 whole-row-requires c κs = search needs
@@ -30,10 +33,11 @@ returns-2 : tie.Need-returns-2
 unfolding outboxWholeOf
 returns-2 c =
     rw (
-      eq-eqb _ _ (c .before .before .before .before .before .before .before .before .if1 .left),
-      ← (c .before .before .before .before .before .before .before .walk .ensures),
+      eq-eqb _ _ (c .before .before .before .before .before .before .before .before .before .if1 .left),
+      ← (c .before .before .before .before .before .before .before .before .walk .ensures),
       c .before .before .put .ensures,
-      c .before .before .before .before .before .before .whole-number .ensures,
+      c .before .before .before .before .before .before .wide64 .ensures .0,
+      c .before .before .before .before .before .before .before .number .ensures,
       c .before .before .before .before .before .whole-row .ensures,
     )
 
@@ -43,7 +47,8 @@ outbox-whole-spec =
     (tie.spec
     returns
     walk-requires
-    whole-number-requires
+    number-requires
+    wide64-requires
     whole-row-requires
     slice-aggregate-put
     put-requires

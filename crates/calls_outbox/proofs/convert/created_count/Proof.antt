@@ -11,6 +11,9 @@ of-requires c κs = search needs
 enum-told : tie.Need-enum-told
 enum-told c = search needs
 
+number-requires : tie.Need-number-requires
+number-requires c κs = search needs
+
 none-requires : tie.Need-none-requires
 none-requires c κs = search needs
 
@@ -18,8 +21,8 @@ returns : tie.Need-returns
 returns c = rw (c .before .before .created .given .1) (c .of .ensures)
 
 returns-2 : tie.Need-returns-2
-returns-2 c = rw (c .before .enum-told .given .1) (c .none .ensures)
+returns-2 c = rw (← (c .before .number .ensures), c .before .before .enum-told .given .1) (c .none .ensures)
 
 pub created-count-spec : {M : Type 1} → statement M
 created-count-spec =
-    tie.close (tie.spec enum-known-created of-requires enum-told none-requires returns returns-2)
+    tie.close (tie.spec enum-known-created of-requires enum-told number-requires none-requires returns returns-2)

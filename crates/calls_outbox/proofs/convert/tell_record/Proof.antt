@@ -27,6 +27,9 @@ put-requires-2 c κs = search needs
 enum-told-2 : tie.Need-enum-told-2
 enum-told-2 c = search needs
 
+number-requires : tie.Need-number-requires
+number-requires c κs = search needs
+
 wide64-requires-2 : tie.Need-wide64-requires-2
 wide64-requires-2 c κs = search needs
 
@@ -39,8 +42,11 @@ put-requires-3 c κs = search needs
 enum-known-reading-2 : tie.Need-enum-known-reading-2
 enum-known-reading-2 c = search needs
 
-fault-number-requires : tie.Need-fault-number-requires
-fault-number-requires c κs = search needs
+number-requires-2 : tie.Need-number-requires-2
+number-requires-2 c κs = search needs
+
+wide64-requires-3 : tie.Need-wide64-requires-3
+wide64-requires-3 c κs = search needs
 
 cut-place-requires : tie.Need-cut-place-requires
 cut-place-requires c κs = search needs
@@ -69,7 +75,7 @@ same-length-3 c = search needs
 
 returns-3 : tie.Need-returns-3
 returns-3 c =
-    rw (c .before .before .before .before .before .before .enum-told2 .given .1, c .before .before .put3 .ensures, c .before .before .before .before .before .wide642 .ensures .0) (refl, refl)
+    rw (c .before .before .put3 .ensures, c .before .before .before .before .before .wide642 .ensures .0, c .before .before .before .before .before .before .number .ensures, c .before .before .before .before .before .before .before .enum-told2 .given .1) (refl, refl)
 
 same-length-4 : tie.Need-same-length-4
 same-length-4 c = search needs
@@ -77,10 +83,11 @@ same-length-4 c = search needs
 returns-4 : tie.Need-returns-4
 returns-4 c =
     rw (
-      c .before .before .before .before .before .before .before .before .reading2 .given .1,
       c .before .before .put4 .ensures,
-      c .before .before .before .before .before .before .fault-number .ensures,
+      c .before .before .before .before .before .before .wide643 .ensures .0,
+      c .before .before .before .before .before .before .before .number2 .ensures,
       c .before .before .before .before .before .cut-place .ensures,
+      c .before .before .before .before .before .before .before .before .before .reading2 .given .1,
     )
     (refl, refl)
 
@@ -96,11 +103,13 @@ tell-record-spec =
     slice-aggregate-put-2
     put-requires-2
     enum-told-2
+    number-requires
     wide64-requires-2
     slice-aggregate-put-3
     put-requires-3
     enum-known-reading-2
-    fault-number-requires
+    number-requires-2
+    wide64-requires-3
     cut-place-requires
     slice-aggregate-put-4
     put-requires-4

@@ -20,12 +20,12 @@ value-added-requires c κs = search needs
 
 returns : tie.Need-returns
 unfolding addedAt
-returns c = rw (sym (c .before .before .before .read-value .ensures) ∙ ap toldValue (c .before .e .given .1))
+returns c = rw (sym (c .before .before .before .read-value .ensures .0) ∙ ap toldValue (c .before .e .given .1))
 
 returns-2 : tie.Need-returns-2
 unfolding addedAt
 returns-2 c =
-    rw (sym (c .before .before .before .before .read-value .ensures) ∙ ap toldValue (c .before .before .value .given .1))
+    rw (sym (c .before .before .before .before .read-value .ensures .0) ∙ ap toldValue (c .before .before .value .given .1))
     (ap (λ a. given (a, c .before .before .value .given .0 .1 .0)) (c .value-added .ensures))
 
 pub take-value-spec : {M : Type 1} → statement M
