@@ -27,7 +27,8 @@ fn bool_value(b: bool) -> u64
 
 // Writes ApplyFirmware. Its strings are parts of the lent texts.
 pub fn write_apply(out: &mut [u8], apply: ApplyFirmware, texts: &[u8]) -> Wrote
-    ensures { λ r. ⌜ written (toldWrote r) (now (out .exit)) ≡ applyWritten apply (now (texts .entry)) (now (out .entry)) ⌝ }
+    ensures { λ r. ⌜ written (toldWrote r) (now (out .exit))
+        ≡ applyWritten apply (now (texts .entry)) (now (out .entry)) ⌝ }
 {
     let information = apply.firmware_information;
     if bad_firmware(texts, information) {
