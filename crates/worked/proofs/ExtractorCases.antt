@@ -4,6 +4,7 @@ use mathlib.Core.List.{map}
 use Rattle.framing.specs.Mark.{kindOf}
 use Rattle.framing.specs.Frame.{sumOf, checked}
 use Rattle.extractor.specs.Action.{codeOf}
+use Rattle.wire.specs.Limit.{limitFits}
 use Rattle.extractor.specs.State.{lawful, ready}
 use Rattle.extractor.specs.Step.{storeOf, endOf, advanceOf}
 use Rattle.feed.specs.Feed.{feedFrom}
@@ -11,7 +12,7 @@ use Rattle.worked.specs.ExtractorCases.{stepsOf, feedsOf, answerTo, Case
 use Rattle.worked.proofs.Cases.{agree}
 
 holds : map (λ (c : Case). answerTo (c .question)) cases ≡ map (λ (c : Case). c .expected) cases
-unfolding answerTo cases stepsOf feedsOf kindOf sumOf codeOf lawful ready storeOf checked endOf advanceOf feedFrom
+unfolding answerTo cases stepsOf feedsOf kindOf sumOf codeOf limitFits lawful ready storeOf checked endOf advanceOf feedFrom
 holds = refl
 
 pub extractor-cases : ExtractorCases

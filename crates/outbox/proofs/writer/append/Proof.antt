@@ -1,13 +1,13 @@
-use mathlib.Core.Path.{_≡_, sym, _∙_}
-use native.Mathlib.Omega.{arith}
+use mathlib.Core.Path.{_≡_, sym, ap, _∙_}
+use lib.ListN.{take}
 use lib.Seq.{length-take-le}
 use borrow.Author.Needs.{needs}
-use borrow.Author.Tests.{lt-ltb, le-ltb}
+use borrow.Author.Tests.{lt-ltb}
 use denote.Ref.{now}
-use Rattle.outbox.specs.Format.{versionOne, recordBytes}
-use Rattle.outbox.specs.Reader.{toldWalk}
-use Rattle.outbox.specs.Writer.{storedAt, ifWhole, appendOf}
-use Rattle.outbox.proofs.Stored.{length-record, within-limit, append-no-room, append-judged}
+use Rattle.outbox.specs.Format.{formatOf}
+use Rattle.outbox.specs.Writer.{appendOf}
+use Rattle.outbox.proofs.Versions.{known-is}
+use Rattle.outbox.proofs.Stored.{append-other}
 use Rattle.outbox.proofs.writer.append.Statement.{statement}
 use Rattle.outbox.proofs.writer.append.Tie as tie
 
@@ -15,121 +15,81 @@ returns : tie.Need-returns
 unfolding appendOf
 returns c = rw (lt-ltb _ _ (c .if1 .taken))
 
-bad-record-requires : tie.Need-bad-record-requires
-bad-record-requires c κs = search needs
+slice-reshare-prefix-format-of : tie.Need-slice-reshare-prefix-format-of
+slice-reshare-prefix-format-of c = search needs
 
-returns-2 : tie.Need-returns-2
-unfolding appendOf
-returns-2 c = rw (le-ltb _ _ (c .before .before .if1 .left), sym (c .before .bad-record .ensures) ∙ c .if2 .taken)
+slice-aggregate-format-of : tie.Need-slice-aggregate-format-of
+slice-aggregate-format-of c = sym (length-take-le _ _ (c .before .if1 .left))
 
-add-size : tie.Need-add-size
-add-size c = search needs
+format-of-requires : tie.Need-format-of-requires
+format-of-requires c κs = search needs
 
-sub-if3 : tie.Need-sub-if3
-sub-if3 c = search needs
+slice-reshare-prefix-other-version : tie.Need-slice-reshare-prefix-other-version
+slice-reshare-prefix-other-version c = search needs
 
-returns-3 : tie.Need-returns-3
-returns-3 c =
-    let d = c .before in
-    sym
-    (append-no-room
-    (versionOne 4096)
-    _
-    _
-    _
-    _
-    (d .before .before .if1 .left)
-    (sym (d .before .bad-record .ensures) ∙ d .if2 .left)
-    (c .if3 .taken))
+slice-aggregate-other-version : tie.Need-slice-aggregate-other-version
+slice-aggregate-other-version c = sym (length-take-le _ _ (c .before .before .before .if1 .left))
 
-slice-reshare-prefix-walk : tie.Need-slice-reshare-prefix-walk
-slice-reshare-prefix-walk c = search needs
+other-version-requires : tie.Need-other-version-requires
+other-version-requires c κs = search needs
 
-slice-aggregate-walk : tie.Need-slice-aggregate-walk
-slice-aggregate-walk c = sym (length-take-le _ _ (c .before .before .before .before .if1 .left))
-
-walk-requires : tie.Need-walk-requires
-walk-requires c κs = search needs
-
-enum-told : tie.Need-enum-told
-enum-told c = search needs
-
--- past the three tests the used bytes decide
-decided : (c : tie.After-walk)
-    → appendOf
-    (versionOne 4096)
-    (now (c .before .before .before .before .before .before .before .before .args .buffer))
-    (c .before .before .before .before .before .before .before .before .args .used)
-    (c .before .before .before .before .before .before .before .before .args .stream)
-    (now (c .before .before .before .before .before .before .before .before .args .payload))
-    ≡ ifWhole
-    (toldWalk (c .walk .result))
-    (now (c .before .before .before .before .before .before .before .before .args .buffer))
-    (storedAt
-    (now (c .before .before .before .before .before .before .before .before .args .buffer))
-    (c .before .before .before .before .before .before .before .before .args .used)
-    (recordBytes (versionOne 4096) (c .before .before .before .before .before .before .before .before .args .stream) (now (c .before .before .before .before .before .before .before .before .args .payload))))
-decided c =
-    let e = c .before .before in
-    let d = e .before in
-    rw (c .walk .ensures)
-    (append-judged
-    (versionOne 4096)
-    _
-    _
-    _
-    _
-    (d .before .before .if1 .left)
-    (sym (d .before .bad-record .ensures) ∙ d .if2 .left)
-    (omega arith))
-
-put-record-requires : tie.Need-put-record-requires
-put-record-requires c κs =
-    let d = c .before .before .before .before .before .before in
-    (omega arith, within-limit (versionOne 4096) (d .before .before .before .before .before .args .stream) (now (d .before .before .before .before .before .args .payload)) (sym (d .before .bad-record .ensures) ∙ d .if2 .left))
-
-add-end : tie.Need-add-end
-add-end c = search needs
-
-enum-known-fault : tie.Need-enum-known-fault
-enum-known-fault c = search needs
+-- the version that was found is the used bytes'
+version : (c : tie.After-format-of)
+    → let s = c .before .before .before .before .before in
+    c .format-of .result ≡ formatOf (take (s .args .used) (now (s .args .buffer)))
+version c = c .format-of .ensures
 
 same-length : tie.Need-same-length
 same-length c = search needs
 
-returns-4 : tie.Need-returns-4
-returns-4 c =
-    let e = c .before .before .before .before in
-    let w = e .before .before in
-    let s = w .before .before .before .before .before .before .before .before in
+returns-2 : tie.Need-returns-2
+returns-2 c =
+    let f = c .before .before .before in
+    let s = f .before .before .before .before .before in
     sym
-    (decided w
-    ∙ rw (e .enum-told .given .1, length-record (versionOne 4096) (s .args .stream) (now (s .args .payload)), sym (c .before .before .put-record .ensures)))
+    (append-other
+    (f .format-of .result)
+    (s .args .stream)
+    (now (s .args .payload))
+    (now (s .args .buffer))
+    (s .args .used)
+    (f .before .before .if1 .left)
+    (sym (c .before .other-version .ensures) ∙ c .if2 .taken))
+    ∙ ap (λ fmt. appendOf fmt (now (s .args .buffer)) (s .args .used) (s .args .stream) (now (s .args .payload))) (version f)
+
+append-by-requires : tie.Need-append-by-requires
+append-by-requires c κs =
+    let d = c .before in
+    let f = d .before .before .before in
+    let s = f .before .before .before .before .before in (
+      known-is (take (s .args .used) (now (s .args .buffer))) (f .format-of .result) (version f),
+      f .before .before .if1 .left,
+      sym (d .before .other-version .ensures) ∙ d .if2 .left,
+    )
 
 same-length-2 : tie.Need-same-length-2
 same-length-2 c = search needs
 
-returns-5 : tie.Need-returns-5
-returns-5 c = sym (decided (c .before .before .before) ∙ rw (c .before .fault .given .1))
+returns-3 : tie.Need-returns-3
+returns-3 c =
+    let f = c .before .before .before .before .before .before .before in
+    let s = f .before .before .before .before .before in
+    c .before .before .append-by .ensures
+    ∙ ap (λ fmt. appendOf fmt (now (s .args .buffer)) (s .args .used) (s .args .stream) (now (s .args .payload))) (version f)
 
 pub append-spec : {M : Type 1} → statement M
 append-spec =
     tie.close
     (tie.spec
     returns
-    bad-record-requires
-    returns-2
-    add-size
-    sub-if3
-    returns-3
-    slice-reshare-prefix-walk
-    slice-aggregate-walk
-    walk-requires
-    enum-told
-    put-record-requires
-    add-end
-    enum-known-fault
+    slice-reshare-prefix-format-of
+    slice-aggregate-format-of
+    format-of-requires
+    slice-reshare-prefix-other-version
+    slice-aggregate-other-version
+    other-version-requires
     same-length
-    returns-4
+    returns-2
+    append-by-requires
     same-length-2
-    returns-5)
+    returns-3)

@@ -1,0 +1,36 @@
+-- Laws of the two versions.
+use Prim.Native.Nat.{ℕ, _+_, _≤_, _<_}
+use mathlib.Core.Path.{_≡_}
+use mathlib.Core.Bool.{Bool, true, false, cond}
+use mathlib.Core.List.{List}
+use native.Mathlib.Omega.{arith}
+use lib.Dec.{eqb}
+use lib.ListN.{getD}
+use Rattle.outbox.specs.Format.{Format, versionOne, versionTwo, Known, one, two, formatOf}
+
+-- what code over any of them needs: a length has 2 to 4 bytes, and no sum runs over
+pub known-small : (fmt : Format) → Known fmt → (2 ≤ fmt .width) × (fmt .width ≤ 4) × (fmt .limit ≤ 65535)
+known-small fmt one = (omega arith, omega arith, omega arith)
+known-small fmt two = (omega arith, omega arith, omega arith)
+
+-- a field of two bytes holds the longest length
+pub known-pair : (fmt : Format) → Known fmt → fmt .width ≡ 2 → fmt .limit + 1 < 65536
+known-pair fmt one e = omega arith
+known-pair fmt two e = absurd (omega arith)
+
+-- a field that has not two bytes has four
+pub known-four : (fmt : Format) → Known fmt → (fmt .width ≡ 2 → ⊥) → fmt .width ≡ 4
+known-four fmt one n = absurd (n (omega arith))
+known-four fmt two n = omega arith
+
+-- a file is judged by one of them
+pub format-known : (file : List ℕ) → Known (formatOf file)
+unfolding formatOf
+format-known file = by-first (eqb (getD file 0 0) 1)
+  where
+    by-first : (b : Bool) → Known (cond b versionOne versionTwo)
+    by-first true = one
+    by-first false = two
+
+pub known-is : (file : List ℕ) (fmt : Format) → fmt ≡ formatOf file → Known fmt
+known-is file fmt e = rw e (format-known file)
