@@ -10,7 +10,6 @@ GROUPS = {
     "Classic": ("extractor", "frame", "next"),
     "Low Energy": ("receiver", "packet", "ack"),
     "control messages": ("envelope", "response", "information", "features"),
-    "firmware messages and fields": ("segment", "apply", "field"),
     "outbox": ("outbox",),
 }
 

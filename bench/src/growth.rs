@@ -4,10 +4,11 @@ use crate::calls::*;
 use crate::control::Reader;
 use crate::inputs::repeated;
 use crate::job::{Growth, Job, Subject};
-use crate::rows_classic::{feed_job, parts_job, write_job};
+use crate::rows_classic::{feed_job, write_job};
 use crate::rows_low_energy::{accept_job, write_packets_job};
 use crate::rows_outbox::{append_job, records_job, whole_job};
 use crate::{control, inputs, work};
+use second::outbox::TWO;
 
 /// All of a stream in one call.
 const ONE_CALL: usize = usize::MAX;
@@ -116,17 +117,6 @@ fn writers() -> Vec<Growth> {
         line(
             "frame writer: marks only, output of the frame's size",
             |n| write_job(marks(n), true),
-        ),
-        line("frame writer by parts: outputs of 1 byte", |n| {
-            parts_job(vec![vec![0x41; n]], 1)
-        }),
-        line(
-            "frame writer by parts: marks only, outputs of 1 byte",
-            |n| parts_job(marks(n), 1),
-        ),
-        line(
-            "frame writer by parts: marks only, outputs of 64 bytes",
-            |n| parts_job(marks(n), 64),
         ),
         line("packet writer: all packets of a message, room 20", |n| {
             write_packets_job(vec![vec![0x41; n]], 20)
@@ -271,16 +261,16 @@ fn outbox() -> Vec<Growth> {
     let line = |name, make: fn(usize) -> Job| doubling(name, "records", 1_024, make);
     vec![
         line("outbox: records of 1 byte, place after place", |n| {
-            records_job(inputs::outbox(n, 1), 1)
+            records_job(inputs::outbox(TWO, n, 1), 1)
         }),
         line("outbox: whole, records of 1 byte", |n| {
-            whole_job(inputs::outbox(n, 1), 1)
+            whole_job(inputs::outbox(TWO, n, 1), 1)
         }),
         line("outbox: whole, records with no payload", |n| {
-            whole_job(inputs::outbox(n, 0), 1)
+            whole_job(inputs::outbox(TWO, n, 0), 1)
         }),
         line("outbox: append after records of 1 byte", |n| {
-            append_job(inputs::outbox(n, 1), 1, 1)
+            append_job(inputs::outbox(TWO, n, 1), 1, 1)
         }),
     ]
 }

@@ -3,7 +3,4 @@ mod Extracting
 mod Accepting
 mod OneLeavesAll
 mod Sizes
-mod Applies
 mod SizesSuffice
-mod RowsAgree
-mod Instances

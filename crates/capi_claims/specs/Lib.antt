@@ -1,3 +1,2 @@
 pub mod OneLeavesAll
 pub mod SizesSuffice
-pub mod RowsAgree

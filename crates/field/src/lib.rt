@@ -1,8 +1,7 @@
-// Fields of Protocol Buffers messages: varints, 32-bit numbers, tags and values, read.
+// Fields of Protocol Buffers messages: varints, signed numbers, tags and values, read.
 pub mod fields;
 pub mod signed;
 pub mod tag;
-pub mod unsigned;
 pub mod value;
 pub mod varint;
 

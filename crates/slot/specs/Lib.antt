@@ -1,4 +1,3 @@
 pub mod Answer
 pub mod Slot
 pub mod Step
-pub mod Fit

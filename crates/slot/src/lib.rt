@@ -1,11 +1,11 @@
-// The slot of a stream: idle, or open with id, total, count held, last sequence and whether an ACK is wanted.
+// The slot of a stream: idle, or open with id, total, count held and last sequence.
 pub mod answer;
 pub mod step;
 
 use packet::header;
 use wire::logic::both;
 ghost use mathlib.Core.Path.{_≡_};
-ghost use Rattle.slot.specs.Slot.{idle, openLaw, idleLaw, isOpen, lawfulSlot, lawful};
+ghost use Rattle.slot.specs.Slot.{idle, openLaw, idleLaw, lawfulSlot, lawful};
 
 pub struct Slot {
     pub opened: bool,
@@ -13,7 +13,6 @@ pub struct Slot {
     pub total: usize,
     pub held: usize,
     pub sequence: u8,
-    pub wanted: bool,
 }
 
 impl Slot {
@@ -26,7 +25,6 @@ impl Slot {
             total: 0,
             held: 0,
             sequence: 0,
-            wanted: false,
         }
     }
 
@@ -42,16 +40,8 @@ impl Slot {
     fn idle_law(self) -> bool
         ensures { λ r. ⌜ r ≡ idleLaw self ⌝ }
     {
-        let none = both(self.held == 0, !self.wanted);
-        let counts = both(self.total == 0, none);
+        let counts = both(self.total == 0, self.held == 0);
         both(self.id == 0, both(self.sequence == 0, counts))
-    }
-
-    // Whether a transaction of that id is open.
-    fn is_open(self, id: u8) -> bool
-        ensures { λ r. ⌜ r ≡ isOpen id self ⌝ }
-    {
-        both(self.opened, self.id == id)
     }
 
     pub fn is_lawful(self) -> bool

@@ -1,4 +1,0 @@
-pub mod Segment
-pub mod Component
-pub mod Information
-pub mod Apply

@@ -1,4 +1,0 @@
-pub mod More
-pub mod Segment
-pub mod Apply
-pub mod FieldRow

@@ -1,0 +1,56 @@
+use borrow.Author.Needs.{needs}
+use Rattle.slot.proofs.step.slot_step.Statement.{statement}
+use Rattle.slot.proofs.step.slot_step.Tie as tie
+
+enum-known-packet : tie.Need-enum-known-packet
+enum-known-packet c = search needs
+
+on-first-requires : tie.Need-on-first-requires
+on-first-requires c κs = rw (c .before .packet .given .1) at (c .before .before .before .pre .1)
+
+enum-known-packet-2 : tie.Need-enum-known-packet-2
+enum-known-packet-2 c = search needs
+
+on-next-requires : tie.Need-on-next-requires
+on-next-requires c κs = (c .before .before .before .pre .0, rw (c .before .packet2 .given .1) at (c .before .before .before .pre .1))
+
+enum-known-packet-3 : tie.Need-enum-known-packet-3
+enum-known-packet-3 c = search needs
+
+leave-requires : tie.Need-leave-requires
+leave-requires c κs = search needs
+
+enum-known-packet-4 : tie.Need-enum-known-packet-4
+enum-known-packet-4 c = search needs
+
+leave-requires-2 : tie.Need-leave-requires-2
+leave-requires-2 c κs = search needs
+
+returns : tie.Need-returns
+returns c = rw (c .before .before .packet .given .1) (c .on-first .ensures)
+
+returns-2 : tie.Need-returns-2
+returns-2 c = rw (c .before .before .packet2 .given .1) (c .on-next .ensures)
+
+returns-3 : tie.Need-returns-3
+returns-3 c = rw (c .before .before .packet3 .given .1) (c .leave .ensures)
+
+returns-4 : tie.Need-returns-4
+returns-4 c = rw (c .before .before .packet4 .given .1) (c .leave2 .ensures)
+
+pub slot-step-spec : {M : Type 1} → statement M
+slot-step-spec =
+    tie.close
+    (tie.spec
+    enum-known-packet
+    on-first-requires
+    enum-known-packet-2
+    on-next-requires
+    enum-known-packet-3
+    leave-requires
+    enum-known-packet-4
+    leave-requires-2
+    returns
+    returns-2
+    returns-3
+    returns-4)
