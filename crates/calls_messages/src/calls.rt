@@ -11,29 +11,29 @@ use device::information::write_information;
 use field::signed::low_signed;
 use field_writer::message::WriteRefusal;
 use rows::row::COUNT_ANSWER;
-use rows::row::Count;
 use rows::row::UNFIT;
 use rows::row::put;
-use rows::row::put_both;
 use rows::row::tell;
 use rows_messages::convert::ENVELOPE_ANSWER;
 use rows_messages::convert::FEATURES_ANSWER;
 use rows_messages::convert::INFORMATION_ANSWER;
 use rows_messages::convert::RESPONSE_ANSWER;
+use rows_messages::convert::WROTE_ANSWER;
 use rows_messages::convert::all_signed;
 use rows_messages::convert::count_of;
 use rows_messages::convert::envelope_number;
 use rows_messages::convert::envelope_row;
 use rows_messages::convert::features_number;
 use rows_messages::convert::features_row;
-use rows_messages::convert::parts_row;
 use rows_messages::convert::payload_for;
+use rows_messages::convert::put_information;
 use rows_messages::convert::response_number;
 use rows_messages::convert::response_payload;
 use rows_messages::convert::response_row;
 use rows_messages::convert::signed_list;
-use rows_messages::convert::transports_row;
+use rows_messages::convert::tell_wrote;
 use rows_messages::convert::verdict_number;
+use text_writer::TextWrote;
 use walk::gathered::MOST_TRANSPORTS;
 ghost use mathlib.Core.Path.{_≡_};
 ghost use mathlib.Core.List.{[]};
@@ -43,8 +43,7 @@ ghost use Rattle.calls_messages.specs.Calls.{envelopeReadOf, envelopeWri
 
 // Reads a control envelope.
 pub fn envelope_read(message: &[u8], answer: &mut [u64]) -> u64
-    ensures { λ r. ⌜ called r [] [] (now (answer .exit))
-        ≡ envelopeReadOf (now (message .entry)) (now (answer .entry)) ⌝ }
+    ensures { λ r. ⌜ called r [] [] (now (answer .exit)) ≡ envelopeReadOf (now (message .entry)) (now (answer .entry)) ⌝ }
 {
     if answer.len() != ENVELOPE_ANSWER {
         return UNFIT;
@@ -66,9 +65,7 @@ pub fn envelope_write(
     output: &mut [u8],
     answer: &mut [u64],
 ) -> u64
-    ensures { λ r. ⌜ called r [] (now (output .exit)) (now (answer .exit))
-        ≡ envelopeWriteOf command (payloadFor command payload «error_code» field) (now (bytes .entry))
-        (now (output .entry)) (now (answer .entry)) ⌝ }
+    ensures { λ r. ⌜ called r [] (now (output .exit)) (now (answer .exit)) ≡ envelopeWriteOf command (payloadFor command payload «error_code» field) (now (bytes .entry)) (now (output .entry)) (now (answer .entry)) ⌝ }
 {
     if answer.len() != COUNT_ANSWER {
         return UNFIT;
@@ -80,8 +77,7 @@ pub fn envelope_write(
 
 // Reads a response.
 pub fn response_read(message: &[u8], answer: &mut [u64]) -> u64
-    ensures { λ r. ⌜ called r [] [] (now (answer .exit))
-        ≡ responseReadOf (now (message .entry)) (now (answer .entry)) ⌝ }
+    ensures { λ r. ⌜ called r [] [] (now (answer .exit)) ≡ responseReadOf (now (message .entry)) (now (answer .entry)) ⌝ }
 {
     if answer.len() != RESPONSE_ANSWER {
         return UNFIT;
@@ -101,8 +97,7 @@ pub fn response_write(
     output: &mut [u8],
     answer: &mut [u64],
 ) -> u64
-    ensures { λ r. ⌜ called r [] (now (output .exit)) (now (answer .exit))
-        ≡ responseWriteOf «error_code» field (now (bytes .entry)) (now (output .entry)) (now (answer .entry)) ⌝ }
+    ensures { λ r. ⌜ called r [] (now (output .exit)) (now (answer .exit)) ≡ responseWriteOf «error_code» field (now (bytes .entry)) (now (output .entry)) (now (answer .entry)) ⌝ }
 {
     if answer.len() != COUNT_ANSWER {
         return UNFIT;
@@ -114,8 +109,7 @@ pub fn response_write(
 
 // Reads device features.
 pub fn features_read(message: &[u8], answer: &mut [u64]) -> u64
-    ensures { λ r. ⌜ called r [] [] (now (answer .exit))
-        ≡ featuresReadOf (now (message .entry)) (now (answer .entry)) ⌝ }
+    ensures { λ r. ⌜ called r [] [] (now (answer .exit)) ≡ featuresReadOf (now (message .entry)) (now (answer .entry)) ⌝ }
 {
     if answer.len() != FEATURES_ANSWER {
         return UNFIT;
@@ -134,8 +128,7 @@ pub fn features_write(
     output: &mut [u8],
     answer: &mut [u64],
 ) -> u64
-    ensures { λ r. ⌜ called r [] (now (output .exit)) (now (answer .exit))
-        ≡ featuresWriteOf features «device_attributes» (now (output .entry)) (now (answer .entry)) ⌝ }
+    ensures { λ r. ⌜ called r [] (now (output .exit)) (now (answer .exit)) ≡ featuresWriteOf features «device_attributes» (now (output .entry)) (now (answer .entry)) ⌝ }
 {
     if answer.len() != COUNT_ANSWER {
         return UNFIT;
@@ -150,8 +143,7 @@ pub fn features_write(
 
 // Reads device information.
 pub fn information_read(message: &[u8], answer: &mut [u64]) -> u64
-    ensures { λ r. ⌜ called r [] [] (now (answer .exit))
-        ≡ informationReadOf (now (message .entry)) (now (answer .entry)) ⌝ }
+    ensures { λ r. ⌜ called r [] [] (now (answer .exit)) ≡ informationReadOf (now (message .entry)) (now (answer .entry)) ⌝ }
 {
     if answer.len() != INFORMATION_ANSWER {
         return UNFIT;
@@ -160,10 +152,7 @@ pub fn information_read(message: &[u8], answer: &mut [u64]) -> u64
     let verdict = read.verdict;
     let information = read.information;
     let number = verdict_number(verdict);
-    let parts = parts_row(information);
-    let listed = information.transports;
-    let transports = transports_row(&listed);
-    put_both(answer, number, &parts, &transports);
+    put_information(answer, number, verdict, information);
     number
 }
 
@@ -176,21 +165,19 @@ pub fn information_write(
     output: &mut [u8],
     answer: &mut [u64],
 ) -> u64
-    ensures { λ r. ⌜ called r [] (now (output .exit)) (now (answer .exit))
-        ≡ informationWriteOf (now («serial_number» .entry)) (now (name .entry)) (now («device_type» .entry))
-        (now (transports .entry)) (now (output .entry)) (now (answer .entry)) ⌝ }
+    ensures { λ r. ⌜ called r [] (now (output .exit)) (now (answer .exit)) ≡ informationWriteOf (now («serial_number» .entry)) (now (name .entry)) (now («device_type» .entry)) (now (transports .entry)) (now (output .entry)) (now (answer .entry)) ⌝ }
 {
-    if answer.len() != COUNT_ANSWER {
+    if answer.len() != WROTE_ANSWER {
         return UNFIT;
     }
     if MOST_TRANSPORTS < transports.len() {
-        return tell(answer, Count::none(WriteRefusal::BadArgument.number()));
+        return tell_wrote(answer, TextWrote::Refused(WriteRefusal::BadArgument));
     }
     if !all_signed(transports) {
-        return tell(answer, Count::none(WriteRefusal::BadArgument.number()));
+        return tell_wrote(answer, TextWrote::Refused(WriteRefusal::BadArgument));
     }
     let list = signed_list(transports);
     let count = transports.len();
     let wrote = write_information(output, serial_number, name, &list[..count], device_type);
-    tell(answer, count_of(wrote))
+    tell_wrote(answer, wrote)
 }

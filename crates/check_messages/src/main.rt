@@ -25,10 +25,12 @@ use firmware_writer::segment::SegmentWrote;
 use firmware_writer::segment::write_segment;
 use libc::STDIN_FILENO;
 use libc::STDOUT_FILENO;
-use walk::gathered::Verdict;
+use text_writer::TextWrote;
+use walk::refusal::Verdict;
 ghost use Prim.Native.Nat.{_+_, _≤_};
 ghost use lib.ListN.{length};
 ghost use Rattle.field_writer.specs.Message.{wroteSize};
+ghost use Rattle.text_writer.specs.Texts.{textWroteSize};
 ghost use Rattle.firmware_writer.specs.Segment.{segmentWroteSize};
 
 const ENVELOPE: u8 = b'E';
@@ -46,6 +48,9 @@ const APPLY: u8 = b'A';
 const NO_KIND: u8 = 1;
 
 const TOO_LONG: u8 = 2;
+
+// The refusal of a string that is not well formed.
+const BAD_TEXT: u8 = 36;
 // A letter, a message of at most 8,192 bytes, and one byte that is too many.
 const INPUT: usize = 8194;
 
@@ -66,11 +71,23 @@ fn show(wrote: Wrote, out: &[u8])
     }
 }
 
+// What was written of a message with strings.
+fn show_text(wrote: TextWrote, out: &[u8])
+    requires { ⌜ textWroteSize wrote ≤ length (now out) ⌝ }
+{
+    match wrote {
+        TextWrote::Refused(why) => refuse(why.number()),
+        TextWrote::BadText { field: _, place: _ } => refuse(BAD_TEXT),
+        TextWrote::Done(n) => show(Wrote::Done(n), out),
+    }
+}
+
 // What was written of a segment.
 fn show_segment(wrote: SegmentWrote, out: &[u8])
     requires { ⌜ segmentWroteSize wrote ≤ length (now out) ⌝ }
 {
     match wrote {
+        SegmentWrote::BadText { field: _, place: _ } => refuse(wrote.number()),
         SegmentWrote::Profile(_) => refuse(wrote.number()),
         SegmentWrote::NoRoom => refuse(wrote.number()),
         SegmentWrote::Done(n) => show(Wrote::Done(n), out),
@@ -153,7 +170,7 @@ fn information_again(message: &[u8], out: &mut [u8]) {
                 &transports[..count],
                 bytes_of(message, device_type),
             );
-            show(wrote, out);
+            show_text(wrote, out);
         }
     }
 }
@@ -196,7 +213,7 @@ fn apply_again(message: &[u8], out: &mut [u8]) {
         Verdict::Fine => {
             let apply = read.apply;
             let wrote = write_apply(out, apply, message);
-            show(wrote, out);
+            show_text(wrote, out);
         }
     }
 }

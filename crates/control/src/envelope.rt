@@ -6,7 +6,6 @@ use crate::response::bad_response_payload;
 use crate::response::put_response;
 use crate::response::response_from;
 use crate::response::response_len;
-use field::Refusal;
 use field::signed::low_signed;
 use field::signed::sign_extended;
 use field::value::Part;
@@ -20,8 +19,9 @@ use field_writer::message::WriteRefusal;
 use field_writer::message::Wrote;
 use field_writer::message::bad_member;
 use walk::gathered::Gathered;
-use walk::gathered::Verdict;
 use walk::reader::read_fields;
+use walk::refusal::MessageRefusal;
+use walk::refusal::Verdict;
 use walk::schema::COMMAND;
 use walk::schema::FIRST;
 use walk::schema::RESPONSE;
@@ -53,12 +53,12 @@ pub struct Envelope {
 
 pub enum PayloadRead {
     Read(Payload),
-    Refused(Refusal),
+    Refused(MessageRefusal),
 }
 
 pub enum EnvelopeRead {
     Read(Envelope),
-    Refused(Refusal),
+    Refused(MessageRefusal),
 }
 
 // The payload of an envelope that is written. The lent bytes are those of the member, also of the response's.
@@ -130,8 +130,7 @@ fn bad_payload(payload: EnvelopePayload) -> bool
 // The number of bytes of an envelope's payload.
 fn payload_len(payload: EnvelopePayload, body: &[u8]) -> usize
     requires { ⌜ badPayload payload ≡ false ⌝ }
-    ensures { λ r. ⌜ (r ≡ length (messageBytes (payloadFields payload (now (body .entry)))))
-        × (r ≤ 60 + length (now (body .entry))) ⌝ }
+    ensures { λ r. ⌜ (r ≡ length (messageBytes (payloadFields payload (now (body .entry))))) × (r ≤ 60 + length (now (body .entry))) ⌝ }
 {
     match payload {
         EnvelopePayload::None => 0,
@@ -148,10 +147,8 @@ fn payload_len(payload: EnvelopePayload, body: &[u8]) -> usize
 
 // An envelope's payload, written at a place; the answer is the place after it.
 fn put_payload(out: &mut [u8], at: usize, payload: EnvelopePayload, body: &[u8]) -> usize
-    requires { ⌜ (badPayload payload ≡ false)
-        × (at + length (messageBytes (payloadFields payload (now body))) ≤ length (now out)) ⌝ }
-    ensures { λ r. ⌜ Put (now (out .entry)) at (messageBytes (payloadFields payload (now (body .entry)))) r
-        (now (out .exit)) ⌝ }
+    requires { ⌜ (badPayload payload ≡ false) × (at + length (messageBytes (payloadFields payload (now body))) ≤ length (now out)) ⌝ }
+    ensures { λ r. ⌜ Put (now (out .entry)) at (messageBytes (payloadFields payload (now (body .entry)))) r (now (out .exit)) ⌝ }
 {
     match payload {
         EnvelopePayload::None => at,
@@ -170,8 +167,7 @@ fn put_payload(out: &mut [u8], at: usize, payload: EnvelopePayload, body: &[u8])
 
 // Writes a control envelope.
 pub fn write_envelope(out: &mut [u8], command: i32, payload: EnvelopePayload, body: &[u8]) -> Wrote
-    ensures { λ r. ⌜ written (toldWrote r) (now (out .exit))
-        ≡ envelopeWritten command payload (now (body .entry)) (now (out .entry)) ⌝ }
+    ensures { λ r. ⌜ written (toldWrote r) (now (out .exit)) ≡ envelopeWritten command payload (now (body .entry)) (now (out .entry)) ⌝ }
 {
     if bad_payload(payload) {
         return Wrote::Refused(WriteRefusal::BadArgument);

@@ -8,6 +8,7 @@ use field_writer::fields::scalar_len;
 use field_writer::fields::text_len;
 use field_writer::message::Room;
 use firmware::component::FirmwareComponent;
+use text_writer::Fault;
 use walk::schema::COMPONENTS;
 use walk::schema::FIRMWARE_COMPONENT_NAME;
 use walk::schema::FIRMWARE_COMPONENT_SIGNATURE;
@@ -22,7 +23,8 @@ ghost use Rattle.field.specs.Tag.{lastField};
 ghost use Rattle.field.specs.Value.{bytesOf};
 ghost use Rattle.field_writer.specs.Writer.{text, fieldBytes, messageBytes};
 ghost use Rattle.field_writer.specs.Message.{lessRoom};
-ghost use Rattle.firmware_writer.specs.Component.{outside, badComponent, componentFields, componentField};
+ghost use Rattle.firmware_writer.specs.Component.{outside, badComponent, componentStrings, componentFields, componentField};
+ghost use Rattle.text_writer.specs.Texts.{orText, faultFrom};
 
 // Whether a part does not lie within the texts.
 pub(crate) fn is_outside(texts: &[u8], part: Part) -> bool
@@ -62,22 +64,39 @@ pub(crate) fn put_text_part(
     field: u64,
     part: Part,
 ) -> usize
-    requires { ⌜ (field ≤ lastField)
-        × (outside (now texts) part ≡ false)
-        × (at + length (fieldBytes (text field (bytesOf (now texts) part))) ≤ length (now out)) ⌝ }
-    ensures { λ r. ⌜ Put (now (out .entry)) at (fieldBytes (text field (bytesOf (now (texts .entry)) part))) r
-        (now (out .exit)) ⌝ }
+    requires { ⌜ (field ≤ lastField) × (outside (now texts) part ≡ false) × (at + length (fieldBytes (text field (bytesOf (now texts) part))) ≤ length (now out)) ⌝ }
+    ensures { λ r. ⌜ Put (now (out .entry)) at (fieldBytes (text field (bytesOf (now (texts .entry)) part))) r (now (out .exit)) ⌝ }
 {
     let start = part.start;
     let end = start + part.len;
     put_text(out, at, field, &texts[start..end])
 }
 
+// A string that is a part of the texts is judged, unless a fault was found before.
+pub(crate) fn text_part_fault(fault: Fault, texts: &[u8], field: u64, part: Part) -> Fault
+    requires { ⌜ outside (now texts) part ≡ false ⌝ }
+    ensures { λ r. ⌜ r ≡ orText field (bytesOf (now (texts .entry)) part) fault ⌝ }
+{
+    let start = part.start;
+    let end = start + part.len;
+    fault.or_text(field, &texts[start..end])
+}
+
+// A component's strings are judged, unless a fault was found before.
+pub(crate) fn component_fault(fault: Fault, texts: &[u8], component: FirmwareComponent) -> Fault
+    requires { ⌜ badComponent (now texts) component ≡ false ⌝ }
+    ensures { λ r. ⌜ r ≡ faultFrom fault (componentStrings (now (texts .entry)) component) ⌝ }
+{
+    let name = component.name;
+    let signature = component.signature;
+    let first = text_part_fault(fault, texts, FIRMWARE_COMPONENT_NAME, name);
+    text_part_fault(first, texts, FIRMWARE_COMPONENT_SIGNATURE, signature)
+}
+
 // The room that a component's fields leave.
 fn component_room(len: usize, texts: &[u8], component: FirmwareComponent) -> Room
     requires { ⌜ badComponent (now texts) component ≡ false ⌝ }
-    ensures { λ r. ⌜ r
-        ≡ lessRoom (length (messageBytes (componentFields (now (texts .entry)) component))) (Room.Left len) ⌝ }
+    ensures { λ r. ⌜ r ≡ lessRoom (length (messageBytes (componentFields (now (texts .entry)) component))) (Room.Left len) ⌝ }
 {
     let name = component.name;
     let signature = component.signature;
@@ -107,8 +126,7 @@ pub(crate) fn component_field_room(room: Room, texts: &[u8], component: Firmware
 
 // The number of bytes of a component's fields.
 fn component_len(texts: &[u8], component: FirmwareComponent) -> usize
-    requires { ⌜ (badComponent (now texts) component ≡ false)
-        × (length (messageBytes (componentFields (now texts) component)) < 2 ^ 64) ⌝ }
+    requires { ⌜ (badComponent (now texts) component ≡ false) × (length (messageBytes (componentFields (now texts) component)) < 2 ^ 64) ⌝ }
     ensures { λ r. ⌜ r ≡ length (messageBytes (componentFields (now (texts .entry)) component)) ⌝ }
 {
     let name = component.name;
@@ -127,10 +145,8 @@ fn put_component_fields(
     texts: &[u8],
     component: FirmwareComponent,
 ) -> usize
-    requires { ⌜ (badComponent (now texts) component ≡ false)
-        × (at + length (messageBytes (componentFields (now texts) component)) ≤ length (now out)) ⌝ }
-    ensures { λ r. ⌜ Put (now (out .entry)) at (messageBytes (componentFields (now (texts .entry)) component)) r
-        (now (out .exit)) ⌝ }
+    requires { ⌜ (badComponent (now texts) component ≡ false) × (at + length (messageBytes (componentFields (now texts) component)) ≤ length (now out)) ⌝ }
+    ensures { λ r. ⌜ Put (now (out .entry)) at (messageBytes (componentFields (now (texts .entry)) component)) r (now (out .exit)) ⌝ }
 {
     let name = component.name;
     let signature = component.signature;
@@ -152,10 +168,8 @@ pub(crate) fn put_component(
     texts: &[u8],
     component: FirmwareComponent,
 ) -> usize
-    requires { ⌜ (badComponent (now texts) component ≡ false)
-        × (at + length (fieldBytes (componentField (now texts) component)) ≤ length (now out)) ⌝ }
-    ensures { λ r. ⌜ Put (now (out .entry)) at (fieldBytes (componentField (now (texts .entry)) component)) r
-        (now (out .exit)) ⌝ }
+    requires { ⌜ (badComponent (now texts) component ≡ false) × (at + length (fieldBytes (componentField (now texts) component)) ≤ length (now out)) ⌝ }
+    ensures { λ r. ⌜ Put (now (out .entry)) at (fieldBytes (componentField (now (texts .entry)) component)) r (now (out .exit)) ⌝ }
 {
     let len = component_len(texts, component);
     let start = put_head(out, at, COMPONENTS, len);

@@ -1,15 +1,18 @@
 // FirmwareInformation written.
 use crate::component::bad_component;
+use crate::component::component_fault;
 use crate::component::component_field_room;
 use crate::component::is_outside;
 use crate::component::put_component;
 use crate::component::put_text_part;
+use crate::component::text_part_fault;
 use crate::component::text_part_len;
 use field_writer::fields::put_scalar;
 use field_writer::fields::scalar_len;
 use field_writer::message::Room;
 use firmware::component::FirmwareComponent;
 use firmware::information::FirmwareInformation;
+use text_writer::Fault;
 use walk::gathered::MOST_REPEATED;
 use walk::schema::FIRMWARE_NAME;
 use walk::schema::FIRMWARE_VERSION;
@@ -25,7 +28,8 @@ ghost use Rattle.field_writer.specs.Writer.{messageBytes};
 ghost use Rattle.walk.specs.Gathered.{mostRepeated};
 ghost use Rattle.field_writer.specs.Message.{lessRoom};
 ghost use Rattle.firmware_writer.specs.Component.{componentField};
-ghost use Rattle.firmware_writer.specs.Information.{badComponents, badFirmware, firmwareFields};
+ghost use Rattle.firmware_writer.specs.Information.{badComponents, badFirmware, componentsStrings, firmwareStrings, firmwareFields};
+ghost use Rattle.text_writer.specs.Texts.{faultFrom, firstFault};
 
 // Whether a part of the first components does not lie within the texts.
 fn bad_components(texts: &[u8], components: [FirmwareComponent; 8], count: usize) -> bool
@@ -67,6 +71,41 @@ pub(crate) fn bad_firmware(texts: &[u8], information: FirmwareInformation) -> bo
     is_outside(texts, version_name)
 }
 
+// The strings of the first components are judged, unless a fault was found before.
+fn components_fault(
+    fault: Fault,
+    texts: &[u8],
+    components: [FirmwareComponent; 8],
+    count: usize,
+) -> Fault
+    requires { ⌜ (count ≤ mostRepeated) × (badComponents (now texts) (take count components) ≡ false) ⌝ }
+    ensures { λ r. ⌜ r ≡ faultFrom fault (componentsStrings (now (texts .entry)) (take count components)) ⌝ }
+{
+    let mut found = fault;
+    let mut i = 0;
+    while i < count {
+        let component = components[i];
+        found = component_fault(found, texts, component);
+        i += 1;
+    }
+    found
+}
+
+// The first string of firmware information, in writing order, that is not well formed.
+pub(crate) fn firmware_fault(texts: &[u8], information: FirmwareInformation) -> Fault
+    requires { ⌜ badFirmware (now texts) information ≡ false ⌝ }
+    ensures { λ r. ⌜ r ≡ firstFault (firmwareStrings (now (texts .entry)) information) ⌝ }
+{
+    let name = information.name;
+    let components = information.components;
+    let locale = information.locale;
+    let version_name = information.version_name;
+    let first = text_part_fault(Fault::None, texts, FIRMWARE_NAME, name);
+    let second = components_fault(first, texts, components, information.count);
+    let third = text_part_fault(second, texts, LOCALE, locale);
+    text_part_fault(third, texts, VERSION_NAME, version_name)
+}
+
 // The room that the first components leave.
 fn components_room(
     room: Room,
@@ -75,8 +114,7 @@ fn components_room(
     count: usize,
 ) -> Room
     requires { ⌜ (count ≤ mostRepeated) × (badComponents (now texts) (take count components) ≡ false) ⌝ }
-    ensures { λ r. ⌜ r
-        ≡ lessRoom (length (messageBytes (map (componentField (now (texts .entry))) (take count components)))) room ⌝ }
+    ensures { λ r. ⌜ r ≡ lessRoom (length (messageBytes (map (componentField (now (texts .entry))) (take count components)))) room ⌝ }
 {
     let mut left = room;
     let mut i = 0;
@@ -91,8 +129,7 @@ fn components_room(
 // The room that the fields of firmware information leave in an output of this length.
 pub(crate) fn firmware_room(len: usize, texts: &[u8], information: FirmwareInformation) -> Room
     requires { ⌜ badFirmware (now texts) information ≡ false ⌝ }
-    ensures { λ r. ⌜ r
-        ≡ lessRoom (length (messageBytes (firmwareFields (now (texts .entry)) information))) (Room.Left len) ⌝ }
+    ensures { λ r. ⌜ r ≡ lessRoom (length (messageBytes (firmwareFields (now (texts .entry)) information))) (Room.Left len) ⌝ }
 {
     let name = information.name;
     let components = information.components;
@@ -114,11 +151,8 @@ fn put_components(
     components: [FirmwareComponent; 8],
     count: usize,
 ) -> usize
-    requires { ⌜ (count ≤ mostRepeated)
-        × (badComponents (now texts) (take count components) ≡ false)
-        × (from + length (messageBytes (map (componentField (now texts)) (take count components))) ≤ length (now out)) ⌝ }
-    ensures { λ r. ⌜ Put (now (out .entry)) from
-        (messageBytes (map (componentField (now (texts .entry))) (take count components))) r (now (out .exit)) ⌝ }
+    requires { ⌜ (count ≤ mostRepeated) × (badComponents (now texts) (take count components) ≡ false) × (from + length (messageBytes (map (componentField (now texts)) (take count components))) ≤ length (now out)) ⌝ }
+    ensures { λ r. ⌜ Put (now (out .entry)) from (messageBytes (map (componentField (now (texts .entry))) (take count components))) r (now (out .exit)) ⌝ }
 {
     let mut at = from;
     let mut i = 0;
@@ -137,10 +171,8 @@ pub(crate) fn put_firmware(
     texts: &[u8],
     information: FirmwareInformation,
 ) -> usize
-    requires { ⌜ (badFirmware (now texts) information ≡ false)
-        × (at + length (messageBytes (firmwareFields (now texts) information)) ≤ length (now out)) ⌝ }
-    ensures { λ r. ⌜ Put (now (out .entry)) at (messageBytes (firmwareFields (now (texts .entry)) information)) r
-        (now (out .exit)) ⌝ }
+    requires { ⌜ (badFirmware (now texts) information ≡ false) × (at + length (messageBytes (firmwareFields (now texts) information)) ≤ length (now out)) ⌝ }
+    ensures { λ r. ⌜ Put (now (out .entry)) at (messageBytes (firmwareFields (now (texts .entry)) information)) r (now (out .exit)) ⌝ }
 {
     let name = information.name;
     let components = information.components;

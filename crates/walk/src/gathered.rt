@@ -6,7 +6,7 @@ use field::signed::low_signed;
 use field::value::Part;
 ghost use mathlib.Core.Path.{_≡_};
 ghost use Prim.Native.Nat.{_<_};
-ghost use Rattle.walk.specs.Gathered.{mostRepeated, nothing, withScalar, withText, withMember, withRepeated, withTransport, toldKept};
+ghost use Rattle.walk.specs.Gathered.{mostRepeated, nothing, withScalar, withText, withMember, withRepeated, withTransport, toldGrown};
 
 // The most transports that are read and written.
 pub const MOST_TRANSPORTS: usize = 8;
@@ -26,14 +26,14 @@ pub struct Gathered {
     pub count: usize,
 }
 
-pub enum Verdict {
+pub enum FieldVerdict {
     Fine,
     Refused(Refusal),
 }
 
 // What was gathered stands beside the verdict: an enum cannot hold an array.
-pub struct Kept {
-    pub verdict: Verdict,
+pub struct Grown {
+    pub verdict: FieldVerdict,
     pub gathered: Gathered,
 }
 
@@ -101,8 +101,8 @@ impl Gathered {
     }
 
     // One transport more, unless there are too many.
-    pub(crate) fn with_transport(self, value: u64) -> Kept
-        ensures { λ r. ⌜ toldKept r ≡ withTransport value self ⌝ }
+    pub(crate) fn with_transport(self, value: u64) -> Grown
+        ensures { λ r. ⌜ toldGrown r ≡ withTransport value self ⌝ }
     {
         let n = self.count;
         if n < MOST_TRANSPORTS {
@@ -110,13 +110,13 @@ impl Gathered {
             let mut next = self;
             next.transports[n] = transport;
             next.count = n + 1;
-            return Kept {
-                verdict: Verdict::Fine,
+            return Grown {
+                verdict: FieldVerdict::Fine,
                 gathered: next,
             };
         }
-        Kept {
-            verdict: Verdict::Refused(Refusal::TooMany),
+        Grown {
+            verdict: FieldVerdict::Refused(Refusal::TooMany),
             gathered: self,
         }
     }

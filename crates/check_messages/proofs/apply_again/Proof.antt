@@ -21,8 +21,8 @@ enum-told c = search needs
 write-apply-requires : tie.Need-write-apply-requires
 write-apply-requires c κs = search needs
 
-show-requires : tie.Need-show-requires
-show-requires c κs = apply-size (c .before .before .before .write-apply .result) _ _ _ _ (c .before .before .before .write-apply .ensures)
+show-text-requires : tie.Need-show-text-requires
+show-text-requires c κs = apply-size (c .before .before .before .write-apply .result) _ _ _ _ (c .before .before .before .write-apply .ensures)
 
 returns : tie.Need-returns
 returns c = search needs
@@ -43,7 +43,7 @@ apply-again-spec =
     refuse-requires
     enum-told
     write-apply-requires
-    show-requires
+    show-text-requires
     returns
     same-length
     returns-2)

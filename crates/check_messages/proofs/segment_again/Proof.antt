@@ -28,10 +28,10 @@ enum-known-read-2 : tie.Need-enum-known-read-2
 enum-known-read-2 c = search needs
 
 bytes-of-requires : tie.Need-bytes-of-requires
-bytes-of-requires c κs = (rw (c .before .before .before .before .read2 .given .1) at (c .before .before .before .before .before .before .read-segment .ensures .1)) .0
+bytes-of-requires c κs = (rw (c .before .before .before .before .read2 .given .1) at (c .before .before .before .before .before .before .read-segment .ensures .1)) .0 .0
 
 bytes-of-requires-2 : tie.Need-bytes-of-requires-2
-bytes-of-requires-2 c κs = (rw (c .before .before .before .before .before .read2 .given .1) at (c .before .before .before .before .before .before .before .read-segment .ensures .1)) .1 .0
+bytes-of-requires-2 c κs = (rw (c .before .before .before .before .before .read2 .given .1) at (c .before .before .before .before .before .before .before .read-segment .ensures .1)) .0 .1 .0
 
 write-segment-requires : tie.Need-write-segment-requires
 write-segment-requires c κs = search needs

@@ -20,6 +20,15 @@ number-requires-2 c κs = search needs
 refuse-requires-2 : tie.Need-refuse-requires-2
 refuse-requires-2 c κs = search needs
 
+enum-told-3 : tie.Need-enum-told-3
+enum-told-3 c = search needs
+
+number-requires-3 : tie.Need-number-requires-3
+number-requires-3 c κs = search needs
+
+refuse-requires-3 : tie.Need-refuse-requires-3
+refuse-requires-3 c κs = search needs
+
 enum-known-wrote : tie.Need-enum-known-wrote
 enum-known-wrote c = search needs
 
@@ -35,6 +44,9 @@ returns-2 c = search needs
 returns-3 : tie.Need-returns-3
 returns-3 c = search needs
 
+returns-4 : tie.Need-returns-4
+returns-4 c = search needs
+
 pub show-segment-spec : {M : Type 1} → statement M
 show-segment-spec =
     tie.close
@@ -45,8 +57,12 @@ show-segment-spec =
     enum-told-2
     number-requires-2
     refuse-requires-2
+    enum-told-3
+    number-requires-3
+    refuse-requires-3
     enum-known-wrote
     show-requires
     returns
     returns-2
-    returns-3)
+    returns-3
+    returns-4)
