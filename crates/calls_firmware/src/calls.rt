@@ -33,7 +33,8 @@ ghost use Rattle.calls_firmware.specs.Calls.{segmentReadOf, segmentWrite
 
 // Reads an UpdateComponentSegment.
 pub fn segment_read(message: &[u8], answer: &mut [u64]) -> u64
-    ensures { λ r. ⌜ called r [] [] (now (answer .exit)) ≡ segmentReadOf (now (message .entry)) (now (answer .entry)) ⌝ }
+    ensures { λ r. ⌜ called r [] [] (now (answer .exit))
+        ≡ segmentReadOf (now (message .entry)) (now (answer .entry)) ⌝ }
 {
     if answer.len() != SEGMENT_ANSWER {
         return UNFIT;
@@ -54,7 +55,9 @@ pub fn segment_write(
     output: &mut [u8],
     answer: &mut [u64],
 ) -> u64
-    ensures { λ r. ⌜ called r [] (now (output .exit)) (now (answer .exit)) ≡ segmentWriteOf (now (name .entry)) offset size (now (signature .entry)) (now (output .entry)) (now (answer .entry)) ⌝ }
+    ensures { λ r. ⌜ called r [] (now (output .exit)) (now (answer .exit))
+        ≡ segmentWriteOf (now (name .entry)) offset size (now (signature .entry)) (now (output .entry))
+        (now (answer .entry)) ⌝ }
 {
     if answer.len() != WROTE_ANSWER {
         return UNFIT;
@@ -95,7 +98,8 @@ pub fn apply_read(message: &[u8], answer: &mut [u64]) -> u64
 
 // Writes an ApplyFirmware, of a row whose parts are places in the texts.
 pub fn apply_write(row: &[u64], texts: &[u8], output: &mut [u8], answer: &mut [u64]) -> u64
-    ensures { λ r. ⌜ called r [] (now (output .exit)) (now (answer .exit)) ≡ applyWriteOf (now (row .entry)) (now (texts .entry)) (now (output .entry)) (now (answer .entry)) ⌝ }
+    ensures { λ r. ⌜ called r [] (now (output .exit)) (now (answer .exit))
+        ≡ applyWriteOf (now (row .entry)) (now (texts .entry)) (now (output .entry)) (now (answer .entry)) ⌝ }
 {
     if row.len() != APPLY_ROW {
         return UNFIT;
@@ -113,7 +117,8 @@ pub fn apply_write(row: &[u64], texts: &[u8], output: &mut [u8], answer: &mut [u
 
 // Reads the field at a place of any message.
 pub fn field_read(message: &[u8], place: u64, answer: &mut [u64]) -> u64
-    ensures { λ r. ⌜ called r [] [] (now (answer .exit)) ≡ fieldReadOf (now (message .entry)) place (now (answer .entry)) ⌝ }
+    ensures { λ r. ⌜ called r [] [] (now (answer .exit))
+        ≡ fieldReadOf (now (message .entry)) place (now (answer .entry)) ⌝ }
 {
     if answer.len() != FIELD_ANSWER {
         return UNFIT;

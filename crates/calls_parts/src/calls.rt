@@ -54,7 +54,8 @@ pub fn frame_begin(sequence: u64, total: u64, state: &mut [u64]) -> u64
 
 // Takes payload and writes the frame on into an output.
 pub fn frame_part(state: &mut [u64], payload: &[u8], output: &mut [u8], answer: &mut [u64]) -> u64
-    ensures { λ r. ⌜ called r (now (state .exit)) (now (output .exit)) (now (answer .exit)) ≡ framePartOf 4096 (now (state .entry)) (now (payload .entry)) (now (output .entry)) (now (answer .entry)) ⌝ }
+    ensures { λ r. ⌜ called r (now (state .exit)) (now (output .exit)) (now (answer .exit))
+        ≡ framePartOf 4096 (now (state .entry)) (now (payload .entry)) (now (output .entry)) (now (answer .entry)) ⌝ }
 {
     if answer.len() != PART_ANSWER {
         return UNFIT;
@@ -68,7 +69,9 @@ pub fn frame_part(state: &mut [u64], payload: &[u8], output: &mut [u8], answer: 
 // The same with rows that fit.
 fn part_fitting(state: &mut [u64], payload: &[u8], output: &mut [u8], answer: &mut [u64]) -> u64
     requires { ⌜ (isState (now state) ≡ true) × (length (now answer) ≡ 3) ⌝ }
-    ensures { λ r. ⌜ called r (now (state .exit)) (now (output .exit)) (now (answer .exit)) ≡ parted (now (state .entry)) (now (answer .entry)) (partOf 4096 (stateOf (now (state .entry))) (now (payload .entry)) (now (output .entry))) ⌝ }
+    ensures { λ r. ⌜ called r (now (state .exit)) (now (output .exit)) (now (answer .exit))
+        ≡ parted (now (state .entry)) (now (answer .entry))
+        (partOf 4096 (stateOf (now (state .entry))) (now (payload .entry)) (now (output .entry))) ⌝ }
 {
     let done = state_of(state).write(payload, output);
     let outcome = done.outcome;

@@ -49,7 +49,8 @@ pub extern "C" fn pito_extractor_step(
     byte: u8,
     answer: &mut [u64],
 ) -> u64
-    ensures { λ r. ⌜ called r (now (state .exit)) (now (buffer .exit)) (now (answer .exit)) ≡ extractorStepOf 4096 (now (state .entry)) (now (buffer .entry)) byte (now (answer .entry)) ⌝ }
+    ensures { λ r. ⌜ called r (now (state .exit)) (now (buffer .exit)) (now (answer .exit))
+        ≡ extractorStepOf 4096 (now (state .entry)) (now (buffer .entry)) byte (now (answer .entry)) ⌝ }
 {
     extractor_step(state, buffer, byte, answer)
 }
@@ -62,7 +63,8 @@ pub extern "C" fn pito_extractor_feed(
     bytes: &[u8],
     answer: &mut [u64],
 ) -> u64
-    ensures { λ r. ⌜ called r (now (state .exit)) (now (buffer .exit)) (now (answer .exit)) ≡ extractorFeedOf 4096 (now (state .entry)) (now (buffer .entry)) (now (bytes .entry)) (now (answer .entry)) ⌝ }
+    ensures { λ r. ⌜ called r (now (state .exit)) (now (buffer .exit)) (now (answer .exit))
+        ≡ extractorFeedOf 4096 (now (state .entry)) (now (buffer .entry)) (now (bytes .entry)) (now (answer .entry)) ⌝ }
 {
     extractor_feed(state, buffer, bytes, answer)
 }
@@ -75,7 +77,8 @@ pub extern "C" fn pito_frame_write(
     output: &mut [u8],
     answer: &mut [u64],
 ) -> u64
-    ensures { λ r. ⌜ called r [] (now (output .exit)) (now (answer .exit)) ≡ frameWriteOf 4096 sequence (now (payload .entry)) (now (output .entry)) (now (answer .entry)) ⌝ }
+    ensures { λ r. ⌜ called r [] (now (output .exit)) (now (answer .exit))
+        ≡ frameWriteOf 4096 sequence (now (payload .entry)) (now (output .entry)) (now (answer .entry)) ⌝ }
 {
     frame_write(sequence, payload, output, answer)
 }
@@ -96,7 +99,8 @@ pub extern "C" fn pito_frame_part(
     output: &mut [u8],
     answer: &mut [u64],
 ) -> u64
-    ensures { λ r. ⌜ called r (now (state .exit)) (now (output .exit)) (now (answer .exit)) ≡ framePartOf 4096 (now (state .entry)) (now (payload .entry)) (now (output .entry)) (now (answer .entry)) ⌝ }
+    ensures { λ r. ⌜ called r (now (state .exit)) (now (output .exit)) (now (answer .exit))
+        ≡ framePartOf 4096 (now (state .entry)) (now (payload .entry)) (now (output .entry)) (now (answer .entry)) ⌝ }
 {
     frame_part(state, payload, output, answer)
 }
@@ -124,7 +128,9 @@ pub extern "C" fn pito_packet_write(
     output: &mut [u8],
     answer: &mut [u64],
 ) -> u64
-    ensures { λ r. ⌜ called r [] (now (output .exit)) (now (answer .exit)) ≡ packetWriteOf 4096 (sendingOf room stream id sequence ack) (now (message .entry)) place (now (output .entry)) (now (answer .entry)) ⌝ }
+    ensures { λ r. ⌜ called r [] (now (output .exit)) (now (answer .exit))
+        ≡ packetWriteOf 4096 (sendingOf room stream id sequence ack) (now (message .entry)) place (now (output .entry))
+        (now (answer .entry)) ⌝ }
 {
     packet_write(
         room,
@@ -149,7 +155,8 @@ pub extern "C" fn pito_ack_write(
     output: &mut [u8],
     answer: &mut [u64],
 ) -> u64
-    ensures { λ r. ⌜ called r [] (now (output .exit)) (now (answer .exit)) ≡ ackWriteOf stream id sequence positive (now (output .entry)) (now (answer .entry)) ⌝ }
+    ensures { λ r. ⌜ called r [] (now (output .exit)) (now (answer .exit))
+        ≡ ackWriteOf stream id sequence positive (now (output .entry)) (now (answer .entry)) ⌝ }
 {
     ack_write(stream, id, sequence, positive, output, answer)
 }
@@ -164,7 +171,8 @@ pub extern "C" fn pito_receiver_accept(
     packet: &[u8],
     answer: &mut [u64],
 ) -> u64
-    ensures { λ r. ⌜ called r (now (state .exit)) (now (buffer .exit)) (now (answer .exit)) ≡ receiverAcceptOf 4096 (now (state .entry)) (now (buffer .entry)) (now (packet .entry)) (now (answer .entry)) ⌝ }
+    ensures { λ r. ⌜ called r (now (state .exit)) (now (buffer .exit)) (now (answer .exit))
+        ≡ receiverAcceptOf 4096 (now (state .entry)) (now (buffer .entry)) (now (packet .entry)) (now (answer .entry)) ⌝ }
 {
     receiver_accept(state, buffer, packet, answer)
 }
@@ -174,7 +182,8 @@ pub extern "C" fn pito_receiver_accept(
 // Reads a control envelope.
 #[no_mangle]
 pub extern "C" fn pito_envelope_read(message: &[u8], answer: &mut [u64]) -> u64
-    ensures { λ r. ⌜ called r [] [] (now (answer .exit)) ≡ envelopeReadOf (now (message .entry)) (now (answer .entry)) ⌝ }
+    ensures { λ r. ⌜ called r [] [] (now (answer .exit))
+        ≡ envelopeReadOf (now (message .entry)) (now (answer .entry)) ⌝ }
 {
     envelope_read(message, answer)
 }
@@ -190,7 +199,9 @@ pub extern "C" fn pito_envelope_write(
     output: &mut [u8],
     answer: &mut [u64],
 ) -> u64
-    ensures { λ r. ⌜ called r [] (now (output .exit)) (now (answer .exit)) ≡ envelopeWriteOf command (payloadFor command payload «error_code» field) (now (bytes .entry)) (now (output .entry)) (now (answer .entry)) ⌝ }
+    ensures { λ r. ⌜ called r [] (now (output .exit)) (now (answer .exit))
+        ≡ envelopeWriteOf command (payloadFor command payload «error_code» field) (now (bytes .entry))
+        (now (output .entry)) (now (answer .entry)) ⌝ }
 {
     envelope_write(command, payload, error_code, field, bytes, output, answer)
 }
@@ -198,7 +209,8 @@ pub extern "C" fn pito_envelope_write(
 // Reads a response.
 #[no_mangle]
 pub extern "C" fn pito_response_read(message: &[u8], answer: &mut [u64]) -> u64
-    ensures { λ r. ⌜ called r [] [] (now (answer .exit)) ≡ responseReadOf (now (message .entry)) (now (answer .entry)) ⌝ }
+    ensures { λ r. ⌜ called r [] [] (now (answer .exit))
+        ≡ responseReadOf (now (message .entry)) (now (answer .entry)) ⌝ }
 {
     response_read(message, answer)
 }
@@ -212,7 +224,8 @@ pub extern "C" fn pito_response_write(
     output: &mut [u8],
     answer: &mut [u64],
 ) -> u64
-    ensures { λ r. ⌜ called r [] (now (output .exit)) (now (answer .exit)) ≡ responseWriteOf «error_code» field (now (bytes .entry)) (now (output .entry)) (now (answer .entry)) ⌝ }
+    ensures { λ r. ⌜ called r [] (now (output .exit)) (now (answer .exit))
+        ≡ responseWriteOf «error_code» field (now (bytes .entry)) (now (output .entry)) (now (answer .entry)) ⌝ }
 {
     response_write(error_code, field, bytes, output, answer)
 }
@@ -220,7 +233,8 @@ pub extern "C" fn pito_response_write(
 // Reads device information.
 #[no_mangle]
 pub extern "C" fn pito_information_read(message: &[u8], answer: &mut [u64]) -> u64
-    ensures { λ r. ⌜ called r [] [] (now (answer .exit)) ≡ informationReadOf (now (message .entry)) (now (answer .entry)) ⌝ }
+    ensures { λ r. ⌜ called r [] [] (now (answer .exit))
+        ≡ informationReadOf (now (message .entry)) (now (answer .entry)) ⌝ }
 {
     information_read(message, answer)
 }
@@ -235,7 +249,9 @@ pub extern "C" fn pito_information_write(
     output: &mut [u8],
     answer: &mut [u64],
 ) -> u64
-    ensures { λ r. ⌜ called r [] (now (output .exit)) (now (answer .exit)) ≡ informationWriteOf (now («serial_number» .entry)) (now (name .entry)) (now («device_type» .entry)) (now (transports .entry)) (now (output .entry)) (now (answer .entry)) ⌝ }
+    ensures { λ r. ⌜ called r [] (now (output .exit)) (now (answer .exit))
+        ≡ informationWriteOf (now («serial_number» .entry)) (now (name .entry)) (now («device_type» .entry))
+        (now (transports .entry)) (now (output .entry)) (now (answer .entry)) ⌝ }
 {
     information_write(serial_number, name, device_type, transports, output, answer)
 }
@@ -243,7 +259,8 @@ pub extern "C" fn pito_information_write(
 // Reads device features.
 #[no_mangle]
 pub extern "C" fn pito_features_read(message: &[u8], answer: &mut [u64]) -> u64
-    ensures { λ r. ⌜ called r [] [] (now (answer .exit)) ≡ featuresReadOf (now (message .entry)) (now (answer .entry)) ⌝ }
+    ensures { λ r. ⌜ called r [] [] (now (answer .exit))
+        ≡ featuresReadOf (now (message .entry)) (now (answer .entry)) ⌝ }
 {
     features_read(message, answer)
 }
@@ -256,7 +273,8 @@ pub extern "C" fn pito_features_write(
     output: &mut [u8],
     answer: &mut [u64],
 ) -> u64
-    ensures { λ r. ⌜ called r [] (now (output .exit)) (now (answer .exit)) ≡ featuresWriteOf features «device_attributes» (now (output .entry)) (now (answer .entry)) ⌝ }
+    ensures { λ r. ⌜ called r [] (now (output .exit)) (now (answer .exit))
+        ≡ featuresWriteOf features «device_attributes» (now (output .entry)) (now (answer .entry)) ⌝ }
 {
     features_write(features, device_attributes, output, answer)
 }
@@ -266,7 +284,8 @@ pub extern "C" fn pito_features_write(
 // Reads an UpdateComponentSegment.
 #[no_mangle]
 pub extern "C" fn pito_segment_read(message: &[u8], answer: &mut [u64]) -> u64
-    ensures { λ r. ⌜ called r [] [] (now (answer .exit)) ≡ segmentReadOf (now (message .entry)) (now (answer .entry)) ⌝ }
+    ensures { λ r. ⌜ called r [] [] (now (answer .exit))
+        ≡ segmentReadOf (now (message .entry)) (now (answer .entry)) ⌝ }
 {
     segment_read(message, answer)
 }
@@ -281,7 +300,9 @@ pub extern "C" fn pito_segment_write(
     output: &mut [u8],
     answer: &mut [u64],
 ) -> u64
-    ensures { λ r. ⌜ called r [] (now (output .exit)) (now (answer .exit)) ≡ segmentWriteOf (now (name .entry)) offset size (now (signature .entry)) (now (output .entry)) (now (answer .entry)) ⌝ }
+    ensures { λ r. ⌜ called r [] (now (output .exit)) (now (answer .exit))
+        ≡ segmentWriteOf (now (name .entry)) offset size (now (signature .entry)) (now (output .entry))
+        (now (answer .entry)) ⌝ }
 {
     segment_write(name, offset, size, signature, output, answer)
 }
@@ -302,7 +323,8 @@ pub extern "C" fn pito_apply_write(
     output: &mut [u8],
     answer: &mut [u64],
 ) -> u64
-    ensures { λ r. ⌜ called r [] (now (output .exit)) (now (answer .exit)) ≡ applyWriteOf (now (row .entry)) (now (texts .entry)) (now (output .entry)) (now (answer .entry)) ⌝ }
+    ensures { λ r. ⌜ called r [] (now (output .exit)) (now (answer .exit))
+        ≡ applyWriteOf (now (row .entry)) (now (texts .entry)) (now (output .entry)) (now (answer .entry)) ⌝ }
 {
     apply_write(row, texts, output, answer)
 }
@@ -312,7 +334,8 @@ pub extern "C" fn pito_apply_write(
 // Reads the field at a place.
 #[no_mangle]
 pub extern "C" fn pito_field_read(message: &[u8], place: u64, answer: &mut [u64]) -> u64
-    ensures { λ r. ⌜ called r [] [] (now (answer .exit)) ≡ fieldReadOf (now (message .entry)) place (now (answer .entry)) ⌝ }
+    ensures { λ r. ⌜ called r [] [] (now (answer .exit))
+        ≡ fieldReadOf (now (message .entry)) place (now (answer .entry)) ⌝ }
 {
     field_read(message, place, answer)
 }
@@ -322,7 +345,8 @@ pub extern "C" fn pito_field_read(message: &[u8], place: u64, answer: &mut [u64]
 // Begins a new outbox.
 #[no_mangle]
 pub extern "C" fn pito_outbox_new(output: &mut [u8], answer: &mut [u64]) -> u64
-    ensures { λ r. ⌜ called r [] (now (output .exit)) (now (answer .exit)) ≡ outboxNewOf 4096 (now (output .entry)) (now (answer .entry)) ⌝ }
+    ensures { λ r. ⌜ called r [] (now (output .exit)) (now (answer .exit))
+        ≡ outboxNewOf 4096 (now (output .entry)) (now (answer .entry)) ⌝ }
 {
     outbox_new(output, answer)
 }
@@ -336,7 +360,8 @@ pub extern "C" fn pito_outbox_append(
     payload: &[u8],
     answer: &mut [u64],
 ) -> u64
-    ensures { λ r. ⌜ called r [] (now (buffer .exit)) (now (answer .exit)) ≡ outboxAppendOf 4096 (now (buffer .entry)) used stream (now (payload .entry)) (now (answer .entry)) ⌝ }
+    ensures { λ r. ⌜ called r [] (now (buffer .exit)) (now (answer .exit))
+        ≡ outboxAppendOf 4096 (now (buffer .entry)) used stream (now (payload .entry)) (now (answer .entry)) ⌝ }
 {
     outbox_append(buffer, used, stream, payload, answer)
 }
@@ -344,7 +369,8 @@ pub extern "C" fn pito_outbox_append(
 // Reads the record at a place.
 #[no_mangle]
 pub extern "C" fn pito_outbox_record(bytes: &[u8], place: u64, answer: &mut [u64]) -> u64
-    ensures { λ r. ⌜ called r [] [] (now (answer .exit)) ≡ outboxRecordOf 4096 (now (bytes .entry)) place (now (answer .entry)) ⌝ }
+    ensures { λ r. ⌜ called r [] [] (now (answer .exit))
+        ≡ outboxRecordOf 4096 (now (bytes .entry)) place (now (answer .entry)) ⌝ }
 {
     outbox_record(bytes, place, answer)
 }
@@ -352,7 +378,8 @@ pub extern "C" fn pito_outbox_record(bytes: &[u8], place: u64, answer: &mut [u64
 // Whether an outbox is whole.
 #[no_mangle]
 pub extern "C" fn pito_outbox_whole(bytes: &[u8], answer: &mut [u64]) -> u64
-    ensures { λ r. ⌜ called r [] [] (now (answer .exit)) ≡ outboxWholeOf 4096 (now (bytes .entry)) (now (answer .entry)) ⌝ }
+    ensures { λ r. ⌜ called r [] [] (now (answer .exit))
+        ≡ outboxWholeOf 4096 (now (bytes .entry)) (now (answer .entry)) ⌝ }
 {
     outbox_whole(bytes, answer)
 }

@@ -99,7 +99,12 @@ fn information_room(
     device_type: &[u8],
 ) -> Room
     requires { ⌜ length (now transports) ≤ mostTransports ⌝ }
-    ensures { λ r. ⌜ r ≡ lessRoom (length (messageBytes (informationFields (now («serial_number» .entry)) (now (name .entry)) (now (transports .entry)) (now («device_type» .entry))))) (Room.Left len) ⌝ }
+    ensures { λ r. ⌜ r
+        ≡ lessRoom
+        (length
+        (messageBytes
+        (informationFields (now («serial_number» .entry)) (now (name .entry)) (now (transports .entry))
+        (now («device_type» .entry))))) (Room.Left len) ⌝ }
 {
     Room::Left(len)
         .less(text_len(SERIAL_NUMBER, serial_number))
@@ -116,8 +121,14 @@ fn put_information(
     transports: &[i32],
     device_type: &[u8],
 ) -> usize
-    requires { ⌜ (length (now transports) ≤ mostTransports) × (length (messageBytes (informationFields (now «serial_number») (now name) (now transports) (now «device_type»))) ≤ length (now out)) ⌝ }
-    ensures { λ r. ⌜ Put (now (out .entry)) 0 (messageBytes (informationFields (now («serial_number» .entry)) (now (name .entry)) (now (transports .entry)) (now («device_type» .entry)))) r (now (out .exit)) ⌝ }
+    requires { ⌜ (length (now transports) ≤ mostTransports)
+        × (length
+        (messageBytes (informationFields (now «serial_number») (now name) (now transports) (now «device_type»)))
+        ≤ length (now out)) ⌝ }
+    ensures { λ r. ⌜ Put (now (out .entry)) 0
+        (messageBytes
+        (informationFields (now («serial_number» .entry)) (now (name .entry)) (now (transports .entry))
+        (now («device_type» .entry)))) r (now (out .exit)) ⌝ }
 {
     let second = put_text(out, 0, SERIAL_NUMBER, serial_number);
     let third = put_text(out, second, NAME, name);
@@ -133,7 +144,10 @@ fn fill_information(
     transports: &[i32],
     device_type: &[u8],
 ) -> Wrote
-    ensures { λ r. ⌜ written (toldWrote r) (now (out .exit)) ≡ writesMessage (ltb mostTransports (length (now (transports .entry)))) (informationFields (now («serial_number» .entry)) (now (name .entry)) (now (transports .entry)) (now («device_type» .entry))) (now (out .entry)) ⌝ }
+    ensures { λ r. ⌜ written (toldWrote r) (now (out .exit))
+        ≡ writesMessage (ltb mostTransports (length (now (transports .entry))))
+        (informationFields (now («serial_number» .entry)) (now (name .entry)) (now (transports .entry)) (now («device_type» .entry)))
+        (now (out .entry)) ⌝ }
 {
     if MOST_TRANSPORTS < transports.len() {
         return Wrote::Refused(WriteRefusal::BadArgument);

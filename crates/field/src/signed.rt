@@ -1,7 +1,7 @@
 // Signed 32-bit numbers in varints.
+use crate::unsigned::low_bits;
 ghost use mathlib.Core.Path.{_≡_};
 ghost use Rattle.field.specs.Signed.{signedOf, extended};
-use crate::unsigned::low_bits;
 
 // The largest number of 32 bits and of 64 bits.
 const MAX_32: u64 = 4294967295;

@@ -32,7 +32,9 @@ fn bool_value(b: bool) -> u64
 
 // ApplyFirmware whatever its strings are.
 fn fill_apply(out: &mut [u8], apply: ApplyFirmware, texts: &[u8]) -> Wrote
-    ensures { λ r. ⌜ written (toldWrote r) (now (out .exit)) ≡ writesMessage (badFirmware (now (texts .entry)) (apply .«firmware_information»)) (applyFields (now (texts .entry)) apply) (now (out .entry)) ⌝ }
+    ensures { λ r. ⌜ written (toldWrote r) (now (out .exit))
+        ≡ writesMessage (badFirmware (now (texts .entry)) (apply .«firmware_information»))
+        (applyFields (now (texts .entry)) apply) (now (out .entry)) ⌝ }
 {
     let information = apply.firmware_information;
     if bad_firmware(texts, information) {

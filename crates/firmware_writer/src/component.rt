@@ -64,8 +64,11 @@ pub(crate) fn put_text_part(
     field: u64,
     part: Part,
 ) -> usize
-    requires { ⌜ (field ≤ lastField) × (outside (now texts) part ≡ false) × (at + length (fieldBytes (text field (bytesOf (now texts) part))) ≤ length (now out)) ⌝ }
-    ensures { λ r. ⌜ Put (now (out .entry)) at (fieldBytes (text field (bytesOf (now (texts .entry)) part))) r (now (out .exit)) ⌝ }
+    requires { ⌜ (field ≤ lastField)
+        × (outside (now texts) part ≡ false)
+        × (at + length (fieldBytes (text field (bytesOf (now texts) part))) ≤ length (now out)) ⌝ }
+    ensures { λ r. ⌜ Put (now (out .entry)) at (fieldBytes (text field (bytesOf (now (texts .entry)) part))) r
+        (now (out .exit)) ⌝ }
 {
     let start = part.start;
     let end = start + part.len;
@@ -96,7 +99,8 @@ pub(crate) fn component_fault(fault: Fault, texts: &[u8], component: FirmwareCom
 // The room that a component's fields leave.
 fn component_room(len: usize, texts: &[u8], component: FirmwareComponent) -> Room
     requires { ⌜ badComponent (now texts) component ≡ false ⌝ }
-    ensures { λ r. ⌜ r ≡ lessRoom (length (messageBytes (componentFields (now (texts .entry)) component))) (Room.Left len) ⌝ }
+    ensures { λ r. ⌜ r
+        ≡ lessRoom (length (messageBytes (componentFields (now (texts .entry)) component))) (Room.Left len) ⌝ }
 {
     let name = component.name;
     let signature = component.signature;
@@ -126,7 +130,8 @@ pub(crate) fn component_field_room(room: Room, texts: &[u8], component: Firmware
 
 // The number of bytes of a component's fields.
 fn component_len(texts: &[u8], component: FirmwareComponent) -> usize
-    requires { ⌜ (badComponent (now texts) component ≡ false) × (length (messageBytes (componentFields (now texts) component)) < 2 ^ 64) ⌝ }
+    requires { ⌜ (badComponent (now texts) component ≡ false)
+        × (length (messageBytes (componentFields (now texts) component)) < 2 ^ 64) ⌝ }
     ensures { λ r. ⌜ r ≡ length (messageBytes (componentFields (now (texts .entry)) component)) ⌝ }
 {
     let name = component.name;
@@ -145,8 +150,10 @@ fn put_component_fields(
     texts: &[u8],
     component: FirmwareComponent,
 ) -> usize
-    requires { ⌜ (badComponent (now texts) component ≡ false) × (at + length (messageBytes (componentFields (now texts) component)) ≤ length (now out)) ⌝ }
-    ensures { λ r. ⌜ Put (now (out .entry)) at (messageBytes (componentFields (now (texts .entry)) component)) r (now (out .exit)) ⌝ }
+    requires { ⌜ (badComponent (now texts) component ≡ false)
+        × (at + length (messageBytes (componentFields (now texts) component)) ≤ length (now out)) ⌝ }
+    ensures { λ r. ⌜ Put (now (out .entry)) at (messageBytes (componentFields (now (texts .entry)) component)) r
+        (now (out .exit)) ⌝ }
 {
     let name = component.name;
     let signature = component.signature;
@@ -168,8 +175,10 @@ pub(crate) fn put_component(
     texts: &[u8],
     component: FirmwareComponent,
 ) -> usize
-    requires { ⌜ (badComponent (now texts) component ≡ false) × (at + length (fieldBytes (componentField (now texts) component)) ≤ length (now out)) ⌝ }
-    ensures { λ r. ⌜ Put (now (out .entry)) at (fieldBytes (componentField (now (texts .entry)) component)) r (now (out .exit)) ⌝ }
+    requires { ⌜ (badComponent (now texts) component ≡ false)
+        × (at + length (fieldBytes (componentField (now texts) component)) ≤ length (now out)) ⌝ }
+    ensures { λ r. ⌜ Put (now (out .entry)) at (fieldBytes (componentField (now (texts .entry)) component)) r
+        (now (out .exit)) ⌝ }
 {
     let len = component_len(texts, component);
     let start = put_head(out, at, COMPONENTS, len);

@@ -114,7 +114,8 @@ fn components_room(
     count: usize,
 ) -> Room
     requires { ⌜ (count ≤ mostRepeated) × (badComponents (now texts) (take count components) ≡ false) ⌝ }
-    ensures { λ r. ⌜ r ≡ lessRoom (length (messageBytes (map (componentField (now (texts .entry))) (take count components)))) room ⌝ }
+    ensures { λ r. ⌜ r
+        ≡ lessRoom (length (messageBytes (map (componentField (now (texts .entry))) (take count components)))) room ⌝ }
 {
     let mut left = room;
     let mut i = 0;
@@ -129,7 +130,8 @@ fn components_room(
 // The room that the fields of firmware information leave in an output of this length.
 pub(crate) fn firmware_room(len: usize, texts: &[u8], information: FirmwareInformation) -> Room
     requires { ⌜ badFirmware (now texts) information ≡ false ⌝ }
-    ensures { λ r. ⌜ r ≡ lessRoom (length (messageBytes (firmwareFields (now (texts .entry)) information))) (Room.Left len) ⌝ }
+    ensures { λ r. ⌜ r
+        ≡ lessRoom (length (messageBytes (firmwareFields (now (texts .entry)) information))) (Room.Left len) ⌝ }
 {
     let name = information.name;
     let components = information.components;
@@ -151,8 +153,11 @@ fn put_components(
     components: [FirmwareComponent; 8],
     count: usize,
 ) -> usize
-    requires { ⌜ (count ≤ mostRepeated) × (badComponents (now texts) (take count components) ≡ false) × (from + length (messageBytes (map (componentField (now texts)) (take count components))) ≤ length (now out)) ⌝ }
-    ensures { λ r. ⌜ Put (now (out .entry)) from (messageBytes (map (componentField (now (texts .entry))) (take count components))) r (now (out .exit)) ⌝ }
+    requires { ⌜ (count ≤ mostRepeated)
+        × (badComponents (now texts) (take count components) ≡ false)
+        × (from + length (messageBytes (map (componentField (now texts)) (take count components))) ≤ length (now out)) ⌝ }
+    ensures { λ r. ⌜ Put (now (out .entry)) from
+        (messageBytes (map (componentField (now (texts .entry))) (take count components))) r (now (out .exit)) ⌝ }
 {
     let mut at = from;
     let mut i = 0;
@@ -171,8 +176,10 @@ pub(crate) fn put_firmware(
     texts: &[u8],
     information: FirmwareInformation,
 ) -> usize
-    requires { ⌜ (badFirmware (now texts) information ≡ false) × (at + length (messageBytes (firmwareFields (now texts) information)) ≤ length (now out)) ⌝ }
-    ensures { λ r. ⌜ Put (now (out .entry)) at (messageBytes (firmwareFields (now (texts .entry)) information)) r (now (out .exit)) ⌝ }
+    requires { ⌜ (badFirmware (now texts) information ≡ false)
+        × (at + length (messageBytes (firmwareFields (now texts) information)) ≤ length (now out)) ⌝ }
+    ensures { λ r. ⌜ Put (now (out .entry)) at (messageBytes (firmwareFields (now (texts .entry)) information)) r
+        (now (out .exit)) ⌝ }
 {
     let name = information.name;
     let components = information.components;

@@ -53,7 +53,12 @@ fn segment_room(
     segment_size: u32,
     segment_signature: &[u8],
 ) -> Room
-    ensures { λ r. ⌜ r ≡ lessRoom (length (messageBytes (segmentFields (now («component_name» .entry)) 0 «segment_size» (now («segment_signature» .entry))))) (Room.Left len) ⌝ }
+    ensures { λ r. ⌜ r
+        ≡ lessRoom
+        (length
+        (messageBytes
+        (segmentFields (now («component_name» .entry)) 0 «segment_size» (now («segment_signature» .entry)))))
+        (Room.Left len) ⌝ }
 {
     Room::Left(len)
         .less(text_len(COMPONENT_NAME, component_name))
@@ -68,8 +73,12 @@ fn put_segment(
     segment_size: u32,
     segment_signature: &[u8],
 ) -> usize
-    requires { ⌜ length (messageBytes (segmentFields (now «component_name») 0 «segment_size» (now «segment_signature»))) ≤ length (now out) ⌝ }
-    ensures { λ r. ⌜ Put (now (out .entry)) 0 (messageBytes (segmentFields (now («component_name» .entry)) 0 «segment_size» (now («segment_signature» .entry)))) r (now (out .exit)) ⌝ }
+    requires { ⌜ length (messageBytes (segmentFields (now «component_name») 0 «segment_size» (now «segment_signature»)))
+        ≤ length (now out) ⌝ }
+    ensures { λ r. ⌜ Put (now (out .entry)) 0
+        (messageBytes
+        (segmentFields (now («component_name» .entry)) 0 «segment_size» (now («segment_signature» .entry)))) r
+        (now (out .exit)) ⌝ }
 {
     let second = put_text(out, 0, COMPONENT_NAME, component_name);
     let third = put_scalar(out, second, SEGMENT_SIZE, segment_size as u64);
@@ -84,7 +93,9 @@ fn fill_segment(
     segment_size: u32,
     segment_signature: &[u8],
 ) -> SegmentWrote
-    ensures { λ r. ⌜ written (toldSegmentWrote r) (now (out .exit)) ≡ segmentFilled (now («component_name» .entry)) «component_offset» «segment_size» (now («segment_signature» .entry)) (now (out .entry)) ⌝ }
+    ensures { λ r. ⌜ written (toldSegmentWrote r) (now (out .exit))
+        ≡ segmentFilled (now («component_name» .entry)) «component_offset» «segment_size»
+        (now («segment_signature» .entry)) (now (out .entry)) ⌝ }
 {
     let broken = broken_field(component_offset, segment_signature);
     if broken != NO_FIELD {

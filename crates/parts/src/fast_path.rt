@@ -69,7 +69,9 @@ impl PartWriter {
         requires { ⌜ taken ≤ length (now payload) ⌝ }
         requires { ⌜ at ≤ length (now out) ⌝ }
         requires { ⌜ inPayload self ≡ true ⌝ }
-        ensures { λ r. ⌜ (Onward (now (payload .entry)) self (now (out .entry)) taken at (r .next) (now (out .exit)) (r .taken) (r .at)) × (inPayload (r .next) ≡ true) ⌝ }
+        ensures { λ r. ⌜ (Onward (now (payload .entry)) self (now (out .entry)) taken at (r .next) (now (out .exit))
+            (r .taken) (r .at))
+            × (inPayload (r .next) ≡ true) ⌝ }
     {
         let end = taken + self.run_limit(payload.len() - taken, out.len() - at);
         let n = copy_clear(out, at, &payload[taken..end], Mark::START, Mark::ESCAPE);
@@ -88,7 +90,9 @@ impl PartWriter {
         requires { ⌜ taken ≤ length (now payload) ⌝ }
         requires { ⌜ at ≤ length (now out) ⌝ }
         requires { ⌜ inPayload self ≡ true ⌝ }
-        ensures { λ r. ⌜ (Onward (now (payload .entry)) self (now (out .entry)) taken at (r .next) (now (out .exit)) (r .taken) (r .at)) × (inPayload (r .next) ≡ true) ⌝ }
+        ensures { λ r. ⌜ (Onward (now (payload .entry)) self (now (out .entry)) taken at (r .next) (now (out .exit))
+            (r .taken) (r .at))
+            × (inPayload (r .next) ≡ true) ⌝ }
     {
         if is_mark(byte_at(payload, taken)) {
             return Passed {
@@ -105,7 +109,9 @@ impl PartWriter {
         requires { ⌜ taken ≤ length (now payload) ⌝ }
         requires { ⌜ at ≤ length (now out) ⌝ }
         requires { ⌜ inPayload self ≡ true ⌝ }
-        ensures { λ r. ⌜ (Onward (now (payload .entry)) self (now (out .entry)) taken at (r .next) (now (out .exit)) (r .taken) (r .at)) × (inPayload (r .next) ≡ true) ⌝ }
+        ensures { λ r. ⌜ (Onward (now (payload .entry)) self (now (out .entry)) taken at (r .next) (now (out .exit))
+            (r .taken) (r .at))
+            × (inPayload (r .next) ≡ true) ⌝ }
     {
         let b = byte_at(payload, taken);
         let fits = both(self.taken < self.total, 2 <= out.len() - at);
@@ -132,7 +138,8 @@ impl PartWriter {
         requires { ⌜ taken ≤ length (now payload) ⌝ }
         requires { ⌜ at ≤ length (now out) ⌝ }
         requires { ⌜ inPayload self ≡ true ⌝ }
-        ensures { λ r. ⌜ Onward (now (payload .entry)) self (now (out .entry)) taken at (r .next) (now (out .exit)) (r .taken) (r .at) ⌝ }
+        ensures { λ r. ⌜ Onward (now (payload .entry)) self (now (out .entry)) taken at (r .next) (now (out .exit))
+            (r .taken) (r .at) ⌝ }
     {
         let mut here = self;
         let mut got = taken;
@@ -159,7 +166,8 @@ impl PartWriter {
     pub fn pass(self, payload: &[u8], taken: usize, out: &mut [u8], at: usize) -> Passed
         requires { ⌜ taken ≤ length (now payload) ⌝ }
         requires { ⌜ at ≤ length (now out) ⌝ }
-        ensures { λ r. ⌜ Onward (now (payload .entry)) self (now (out .entry)) taken at (r .next) (now (out .exit)) (r .taken) (r .at) ⌝ }
+        ensures { λ r. ⌜ Onward (now (payload .entry)) self (now (out .entry)) taken at (r .next) (now (out .exit))
+            (r .taken) (r .at) ⌝ }
     {
         if self.is_in_payload() {
             self.take_body(payload, taken, out, at)

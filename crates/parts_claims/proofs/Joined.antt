@@ -125,4 +125,4 @@ joins-frame limit m calls k =
 
 pub parts-join : PartsJoin
 parts-join limit m calls k =
-    (rw (k .unmarked, le-ltb limit (length (m .payload)) (omega (arith, k .fits))), rw (whole-frame limit m k) (joins-frame limit m calls k))
+    (rw (k .unmarked, le-ltb limit (length (m .payload)) (omega (arith, k .fits))), whole-frame limit m k, rw (whole-frame limit m k) (joins-frame limit m calls k))

@@ -91,4 +91,4 @@ pub parts-stop : PartsStop
 parts-stop limit s offered out k =
     let f = fillOf (length out) s offered in
     let w = call-filled limit s offered out (k .unmarked) (k .fits) (k .missing) (omega (arith, k .lends)) in
-    record { count = counted f; told = rw w; why = rw w (stops out s offered) }
+    record { count = counted f; told = rw w; honest = rw w; why = rw w (stops out s offered) }

@@ -62,4 +62,6 @@ PartsJoin =
     (limit : ℕ) (m : Sending) (calls : List Call)
     → Sendable limit m
     → (let s = startOf (m .sequence) (length (m .payload)) in
-    (beginOf limit (m .sequence) (length (m .payload)) ≡ given s) × Joins (wholeOf limit m) m calls (runOf limit calls s (m .payload)))
+    (beginOf limit (m .sequence) (length (m .payload)) ≡ given s)
+    × (wholeOf limit m ≡ frameOf (m .sequence) (m .payload))
+    × Joins (wholeOf limit m) m calls (runOf limit calls s (m .payload)))

@@ -7,7 +7,7 @@ use lib.ListN.{length}
 use Rattle.wire.specs.Told.{given}
 use Rattle.framing.specs.Mark.{isMark}
 use Rattle.parts.specs.declared.state.PartWriter.{PartWriter}
-use Rattle.parts.specs.State.{inPayload}
+use Rattle.parts.specs.State.{inPayload, ended}
 use Rattle.parts.specs.Writer.{Count, partOf}
 
 -- what a call has to take: a lawful state, no more payload than is missing, and an output of one byte or more
@@ -26,6 +26,8 @@ pub data Stops (offered out : List ℕ) (c : Count) (next : PartWriter) : Type 0
 pub record Stopped (limit : ℕ) (s : PartWriter) (offered out : List ℕ) : Type 0 where
   pub count : Count
   pub told : partOf limit s offered out .told ≡ given count
+  -- the end is told exactly where it is reached
+  pub honest : count .ended ≡ ended (partOf limit s offered out .next)
   pub why : Stops offered out count (partOf limit s offered out .next)
 
 -- Parts stop: a call fills its output unless the frame ends or it needs a payload byte that is not offered

@@ -22,7 +22,8 @@ pub fn place_of(stream: Stream) -> usize
 // Lends the part of a stream on to the writer of its piece.
 pub fn write_piece(buffer: &mut [u8], stream: Stream, at: usize, piece: &[u8])
     requires { ⌜ (length (now buffer) ≡ 12288) × (at + length (now piece) ≤ 4096) ⌝ }
-    ensures { λ _. ⌜ now (buffer .exit) ≡ sets (now (buffer .entry)) (partStart 4096 (laneStart stream) + at) (now (piece .entry)) ⌝ }
+    ensures { λ _. ⌜ now (buffer .exit)
+        ≡ sets (now (buffer .entry)) (partStart 4096 (laneStart stream) + at) (now (piece .entry)) ⌝ }
 {
     match stream {
         Stream::Control => copy(&mut buffer[0..4096], at, piece),

@@ -67,7 +67,9 @@ impl Receiver {
     // A step of a stream's slot: its piece is written, and the slot replaced.
     fn store(self, buffer: &mut [u8], packet: &[u8], stream: Stream, step: Step) -> Outcome
         requires { ⌜ (length (now buffer) ≡ 12288) × Fit 4096 (length (now packet)) 0 (stepOf step) ⌝ }
-        ensures { λ r. ⌜ result (told (r .answer)) (r .next .slots) (now (buffer .exit)) ≡ applied 4096 (self .slots) (now (buffer .entry)) (now (packet .entry)) (laneStart stream) (actBy (Stepped step)) ⌝ }
+        ensures { λ r. ⌜ result (told (r .answer)) (r .next .slots) (now (buffer .exit))
+            ≡ applied 4096 (self .slots) (now (buffer .entry)) (now (packet .entry)) (laneStart stream)
+            (actBy (Stepped step)) ⌝ }
     {
         let place = buffer::place_of(stream);
         let piece = step.piece;
@@ -84,7 +86,8 @@ impl Receiver {
     // What is done to a stream's slot and its part of the buffer.
     fn apply(self, buffer: &mut [u8], packet: &[u8], stream: Stream, act: Act) -> Outcome
         requires { ⌜ (length (now buffer) ≡ 12288) × ActFits 4096 (length (now packet)) (actBy act) ⌝ }
-        ensures { λ r. ⌜ result (told (r .answer)) (r .next .slots) (now (buffer .exit)) ≡ applied 4096 (self .slots) (now (buffer .entry)) (now (packet .entry)) (laneStart stream) (actBy act) ⌝ }
+        ensures { λ r. ⌜ result (told (r .answer)) (r .next .slots) (now (buffer .exit))
+            ≡ applied 4096 (self .slots) (now (buffer .entry)) (now (packet .entry)) (laneStart stream) (actBy act) ⌝ }
     {
         match act {
             Act::Still(answer) => Outcome { answer, next: self },
@@ -95,7 +98,8 @@ impl Receiver {
     // A packet that was read.
     fn accept_read(self, buffer: &mut [u8], packet: &[u8], read: Packet) -> Outcome
         requires { ⌜ (ready 4096 (self .slots) (now buffer) ≡ true) × (readOf 4096 (now packet) ≡ given read) ⌝ }
-        ensures { λ r. ⌜ result (told (r .answer)) (r .next .slots) (now (buffer .exit)) ≡ acted 4096 (self .slots) (now (buffer .entry)) (now (packet .entry)) (given read) ⌝ }
+        ensures { λ r. ⌜ result (told (r .answer)) (r .next .slots) (now (buffer .exit))
+            ≡ acted 4096 (self .slots) (now (buffer .entry)) (now (packet .entry)) (given read) ⌝ }
     {
         let head = read.head();
         let stream = head.stream;
@@ -108,7 +112,8 @@ impl Receiver {
     // A packet under a lawful state and a buffer of the right size.
     fn process(self, buffer: &mut [u8], packet: &[u8]) -> Outcome
         requires { ⌜ ready 4096 (self .slots) (now buffer) ≡ true ⌝ }
-        ensures { λ r. ⌜ result (told (r .answer)) (r .next .slots) (now (buffer .exit)) ≡ acted 4096 (self .slots) (now (buffer .entry)) (now (packet .entry)) (readOf 4096 (now (packet .entry))) ⌝ }
+        ensures { λ r. ⌜ result (told (r .answer)) (r .next .slots) (now (buffer .exit))
+            ≡ acted 4096 (self .slots) (now (buffer .entry)) (now (packet .entry)) (readOf 4096 (now (packet .entry))) ⌝ }
     {
         let answer = reader::read(packet);
         match answer {
@@ -122,7 +127,8 @@ impl Receiver {
 
     // The answer to one packet; a finished message stands first in its stream's part of the buffer.
     pub fn accept(self, buffer: &mut [u8], packet: &[u8]) -> Outcome
-        ensures { λ r. ⌜ result (told (r .answer)) (r .next .slots) (now (buffer .exit)) ≡ acceptOf 4096 (self .slots) (now (buffer .entry)) (now (packet .entry)) ⌝ }
+        ensures { λ r. ⌜ result (told (r .answer)) (r .next .slots) (now (buffer .exit))
+            ≡ acceptOf 4096 (self .slots) (now (buffer .entry)) (now (packet .entry)) ⌝ }
     {
         let slots = self.slots;
         let ready = both(buffer.len() == BUFFER_SIZE, are_lawful(slots));

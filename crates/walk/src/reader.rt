@@ -128,7 +128,8 @@ fn read_packed(message: &[u8], from: usize, gathered: Gathered) -> Grown
 // The packed list in a part of the message.
 fn keep_packed(message: &[u8], gathered: Gathered, part: Part) -> Grown
     requires { ⌜ part .start + part .len ≤ length (now message) ⌝ }
-    ensures { λ r. ⌜ toldGrown r ≡ packedFrom (take (part .start + part .len) (now (message .entry))) (part .start) gathered ⌝ }
+    ensures { λ r. ⌜ toldGrown r
+        ≡ packedFrom (take (part .start + part .len) (now (message .entry))) (part .start) gathered ⌝ }
 {
     let start = part.start;
     let end = start + part.len;
