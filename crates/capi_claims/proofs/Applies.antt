@@ -1,6 +1,6 @@
 -- The row of an ApplyFirmware: the message that it stands for, and the longest that this can be.
-use Prim.Native.Nat.{ℕ, zero, suc, _+_, _*_, _≤_, _<_, _^_, zero-le}
-use mathlib.Core.Path.{_≡_, refl, ap, _∙_}
+use Prim.Native.Nat.{ℕ, zero, suc, _+_, _*_, _≤_, _^_, zero-le}
+use mathlib.Core.Path.{_≡_, refl, ap}
 use mathlib.Core.Bool.{false}
 use mathlib.Core.List.{List, [], _∷_, _++_, map}
 use native.Mathlib.Omega.{arith}
@@ -20,9 +20,10 @@ use Rattle.firmware_writer.specs.Component.{outside, badComponent, componentFie
 use Rattle.firmware_writer.specs.Information.{badComponents, badFirmware, present, componentsStrings, firmwareStrings, firmwareFields}
 use Rattle.firmware_writer.specs.Apply.{boolValue, applyFields}
 use Rattle.firmware_writer.proofs.Texts.{component-length, firmware-length}
+use Rattle.firmware_round_trips.specs.RoundTrip.{Unsigned32}
 use Rattle.rows_firmware.specs.More.{isWide}
 use Rattle.rows_firmware.specs.Apply.{componentAt, componentsAt, applyAt, wideAt, anyWide, badRow}
-use Rattle.capi_claims.specs.SizesSuffice.{Unsigned32, LiesAt, ComponentsFit, stringsFrom, RowFits, stringsOf, applySize}
+use Rattle.capi_claims.specs.SizesSuffice.{LiesAt, ComponentsFit, stringsFrom, RowFits, stringsOf, applySize}
 use Rattle.capi_claims.proofs.Sizes.{scalar-most, text-most, nested-most, tag-small}
 
 -- ---- numbers of 32 bits

@@ -21,7 +21,7 @@ use Rattle.feed.specs.Feed.{feedFrom, fed}
 use Rattle.frame_writer.specs.Writer.{writeOf}
 use Rattle.parts.specs.State.{startOf, badStart, lawful, missing}
 use Rattle.parts.specs.Fill.{fillOf}
-use Rattle.parts.specs.Writer.{wrote, filled, partOf}
+use Rattle.parts.specs.Writer.{wrote, filled}
 use Rattle.packet.specs.Header.{inRange}
 use Rattle.packet.specs.Control.{ackSize, ackBytes}
 use Rattle.acknowledgement.specs.Acknowledgement.{ackOf}

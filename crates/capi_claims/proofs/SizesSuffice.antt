@@ -47,6 +47,7 @@ use Rattle.firmware_writer.specs.Segment.{segmentStrings, segmentFields, segmen
 use Rattle.firmware_writer.specs.Information.{badFirmware, firmwareStrings}
 use Rattle.firmware_writer.specs.Apply.{applyFields, applyWritten}
 use Rattle.firmware_writer.proofs.Segments.{segment-length, segment-clean}
+use Rattle.firmware_round_trips.specs.RoundTrip.{Unsigned32}
 use Rattle.firmware_round_trips.specs.Premises.{Digits}
 use Rattle.firmware_round_trips.proofs.Premises.{signature, digits-well}
 use Rattle.outbox.specs.Format.{versionOne, recordBytes}
@@ -67,7 +68,7 @@ use Rattle.calls_messages.specs.Calls.{envelopeWriteOf, responseWriteOf, inform
 use Rattle.rows_firmware.specs.Apply.{applyAt}
 use Rattle.calls_firmware.specs.Calls.{segmentStored, segmentWriteOf, applyStored, applyWriteOf}
 use Rattle.calls_outbox.specs.Calls.{outboxNewOf, outboxAppendOf}
-use Rattle.capi_claims.specs.SizesSuffice.{Done, StreamNumber, NoMark, MemberNumber, PayloadField, Unsigned32, RowFits, stringsOf, SizesSuffice, frameSize, envelopeSize, responseSize, informationSize, featuresSize, segmentSize, applySize, recordSize}
+use Rattle.capi_claims.specs.SizesSuffice.{Done, StreamNumber, NoMark, MemberNumber, PayloadField, RowFits, stringsOf, SizesSuffice, frameSize, envelopeSize, responseSize, informationSize, featuresSize, segmentSize, applySize, recordSize}
 use Rattle.capi_claims.proofs.Sizes.{scalar-most, text-most, nested-most, packed-most, tag-most, tag-small}
 use Rattle.capi_claims.proofs.Applies.{not-wide, low-same, row-fine, firmware-fine, strings-fine, apply-most}
 

@@ -13,11 +13,11 @@ use Rattle.field.specs.Fields.{Standing, field, end, foundAt}
 use Rattle.firmware.specs.declared.component.FirmwareComponent.{FirmwareComponent}
 use Rattle.firmware.specs.declared.apply.ApplyFirmware.{ApplyFirmware}
 use Rattle.firmware_writer.specs.Apply.{applyWritten}
+use Rattle.firmware_round_trips.specs.RoundTrip.{Unsigned32}
 use Rattle.rows_messages.specs.Convert.{textCall}
 use Rattle.rows_firmware.specs.Apply.{wholeRow}
 use Rattle.rows_firmware.specs.FieldRow.{fieldAt}
 use Rattle.calls_firmware.specs.Calls.{applyWriteOf}
-use Rattle.capi_claims.specs.SizesSuffice.{Unsigned32}
 
 abbrev pub NumbersFit : List FirmwareComponent → Type 0
 NumbersFit [] = Unit {0}

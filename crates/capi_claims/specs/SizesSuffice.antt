@@ -3,7 +3,7 @@
 use Prim.Native.Nat.{ℕ, zero, suc, _+_, _*_, _≤_, _<_}
 use mathlib.Core.Path.{_≡_}
 use mathlib.Core.Logic.{_⊎_}
-use mathlib.Core.Bool.{true, false}
+use mathlib.Core.Bool.{true}
 use mathlib.Core.List.{List, _∷_, map}
 use lib.IntN.{ℤ}
 use lib.ListN.{length, take, getD}
@@ -15,6 +15,7 @@ use Rattle.text.specs.WellFormed.{WellFormed}
 use Rattle.outbox.specs.Format.{versionOne}
 use Rattle.outbox.specs.Reader.{given, walkOf}
 use Rattle.round_trips.specs.Premises.{Number32, Numbers32}
+use Rattle.firmware_round_trips.specs.RoundTrip.{Unsigned32}
 use Rattle.firmware_round_trips.specs.Premises.{Digits}
 use Rattle.rows.specs.Called.{Called}
 use Rattle.calls_classic.specs.Calls.{frameWriteOf}
@@ -74,10 +75,6 @@ MemberNumber n = (2 ≤ n) × (n ≤ 536870911)
 
 abbrev pub PayloadField : ℕ → Type 0
 PayloadField n = (n ≡ 0) ⊎ MemberNumber n
-
--- a number from 0 to 4,294,967,295
-abbrev pub Unsigned32 : ℕ → Type 0
-Unsigned32 n = n ≤ 4294967295
 
 -- the row of an ApplyFirmware, by its places: a part whose start stands at a place lies within the texts and is well formed
 abbrev pub LiesAt : List ℕ → List ℕ → ℕ → Type 0

@@ -3,7 +3,6 @@ use Prim.Native.Nat.{ℕ, zero, suc, _+_}
 use mathlib.Core.Path.{_≡_}
 use mathlib.Core.List.{List}
 use lib.ListN.{getD}
-use Rattle.rows.specs.Called.{Called}
 use Rattle.calls_messages.specs.Calls.{informationReadOf}
 use Rattle.calls_firmware.specs.Calls.{segmentReadOf, applyReadOf}
 use Rattle.capi_claims.specs.SizesSuffice.{LiesAt}

@@ -179,7 +179,9 @@ pub fn write_information(
     transports: &[i32],
     device_type: &[u8],
 ) -> TextWrote
-    ensures { λ r. ⌜ written (toldTextWrote r) (now (out .exit)) ≡ informationWritten (now («serial_number» .entry)) (now (name .entry)) (now (transports .entry)) (now («device_type» .entry)) (now (out .entry)) ⌝ }
+    ensures { λ r. ⌜ written (toldTextWrote r) (now (out .exit))
+        ≡ informationWritten (now («serial_number» .entry)) (now (name .entry)) (now (transports .entry))
+        (now («device_type» .entry)) (now (out .entry)) ⌝ }
 {
     if MOST_TRANSPORTS < transports.len() {
         return TextWrote::Refused(WriteRefusal::BadArgument);

@@ -69,30 +69,13 @@ parts-turn s at e = parts-any s (length s) (suc (length s)) at (omega arith) (om
 pub parts-end : (s : List ℕ) (at : ℕ) → length s ≤ at → partsFrom s at ≡ []
 parts-end s at h = parts-turn s at (found-end s at h)
 
--- ---- the parts lie within the message
-within-append : (s : List ℕ) (ps qs : List Part) → Within s ps → Within s qs → Within s (ps ++ qs)
-within-append s [] qs h k = k
-within-append s (p ∷ ps) qs h k = (h .0, within-append s ps qs (h .1) k)
-
+-- ---- the part of a component lies within the message
 pub within-one : (s : List ℕ) (number : ℕ) (value : Value) → Within s (valueParts value) → Within s (partOfComponent number value)
 within-one s number value h = by-test (eqb number 3)
   where
     by-test : (b : Bool) → Within s (cond b (valueParts value) [])
     by-test true = h
     by-test false = tt
-
-walked-within : (s : List ℕ) (fuel at : ℕ) → Within s (partsWalked fuel s at)
-walked-within s zero at = tt
-walked-within s (suc fuel) at = by-found (walked-within s fuel) (foundAt s at) (found-stands s at)
-  where
-    by-found : ((next : ℕ) → Within s (partsWalked fuel s next)) → (r : Told Standing) → Sat (Stands s at) r → Within s (partsOnward (partsWalked fuel s) r)
-    by-found w (given (field number value next)) l = within-append s (partOfComponent number value) (partsWalked fuel s next) (within-one s number value (l .1)) (w next)
-    by-found w (given end) l = tt
-    by-found w (refused n) l = tt
-
-pub parts-within : (s : List ℕ) (at : ℕ) → Within s (partsFrom s at)
-unfolding partsFrom
-parts-within s at = walked-within s (length s) at
 
 -- ---- the walk of firmware information counts them
 -- roles that count nothing

@@ -5,7 +5,7 @@ use mathlib.Core.Bool.{true, false}
 use mathlib.Core.List.{List, [], _∷_, _++_, map}
 use lib.ListN.{length, replicate}
 use lib.Seq.{sets}
-use Rattle.wire.specs.Told.{ToldMore, ToldOf, given, refused, WrittenOf, written}
+use Rattle.wire.specs.Told.{ToldMore, given, refused}
 use Rattle.field.specs.declared.value.Part.{Part}
 use Rattle.walk.specs.declared.gathered.Gathered.{Gathered}
 use Rattle.walk.specs.declared.schema.Schema.the-variants as Schema
@@ -21,9 +21,7 @@ use Rattle.firmware.specs.Component.{noComponent}
 use Rattle.firmware.specs.Information.{noFirmware, partsFrom}
 use Rattle.firmware.specs.Apply.{applyOf, noApply}
 use Rattle.firmware_writer.specs.Apply.{applyWritten}
-
-abbrev pub part : ℕ → ℕ → Part
-part start len = record { start = start; len = len }
+use Rattle.round_trips.specs.Worked.{part, WriteCase, writeCase}
 
 -- 64 hexadecimal digits: 0, 9, A, F, a, f, and more
 abbrev pub digits : List ℕ
@@ -164,14 +162,6 @@ applyCases =
     ∷ []
 
 -- ---- writing
--- what a writer tells, and the output afterwards
-pub record WriteCase (N : Type 0) : Type 0 where
-  pub done : WrittenOf N ℕ
-  pub expected : WrittenOf N ℕ
-
-abbrev pub writeCase : {N : Type 0} → WrittenOf N ℕ → ToldOf N ℕ → List ℕ → WriteCase N
-writeCase w t out = record { done = w; expected = written t out }
-
 unfoldable pub segmentWrites : List (WriteCase (ℕ × List ℕ))
 segmentWrites =
     -- no name, offset 0, size 7, 64 digits

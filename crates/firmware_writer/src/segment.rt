@@ -127,7 +127,9 @@ pub fn write_segment(
     segment_size: u32,
     segment_signature: &[u8],
 ) -> SegmentWrote
-    ensures { λ r. ⌜ written (toldSegmentWrote r) (now (out .exit)) ≡ segmentWritten (now («component_name» .entry)) «component_offset» «segment_size» (now («segment_signature» .entry)) (now (out .entry)) ⌝ }
+    ensures { λ r. ⌜ written (toldSegmentWrote r) (now (out .exit))
+        ≡ segmentWritten (now («component_name» .entry)) «component_offset» «segment_size»
+        (now («segment_signature» .entry)) (now (out .entry)) ⌝ }
 {
     match segment_fault(component_name, segment_signature) {
         Fault::At { field, place } => SegmentWrote::BadText { field, place },

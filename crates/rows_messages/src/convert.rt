@@ -109,7 +109,9 @@ fn text_row(wrote: TextWrote) -> [u64; 3]
 // Tells what such a writer wrote in an answer row, and returns its number.
 pub fn tell_wrote(answer: &mut [u64], wrote: TextWrote) -> u64
     requires { ⌜ length (now answer) ≡ 3 ⌝ }
-    ensures { λ r. ⌜ (r ≡ numberMore (toldTextWrote wrote)) × (now (answer .exit) ≡ afterwards (numberMore (toldTextWrote wrote)) (now (answer .entry)) (wroteRow (toldTextWrote wrote))) ⌝ }
+    ensures { λ r. ⌜ (r ≡ numberMore (toldTextWrote wrote))
+        × (now (answer .exit)
+        ≡ afterwards (numberMore (toldTextWrote wrote)) (now (answer .entry)) (wroteRow (toldTextWrote wrote))) ⌝ }
 {
     let number = text_number(wrote);
     let row = text_row(wrote);
@@ -323,7 +325,9 @@ pub fn put_information(
     information: DeviceInformation,
 )
     requires { ⌜ length (now row) ≡ 17 ⌝ }
-    ensures { λ _. ⌜ now (row .exit) ≡ afterwards number (now (row .entry)) (partsRow information ++ (transportsRow (information .transports) ++ faultRow (toldVerdict verdict))) ⌝ }
+    ensures { λ _. ⌜ now (row .exit)
+        ≡ afterwards number (now (row .entry))
+        (partsRow information ++ (transportsRow (information .transports) ++ faultRow (toldVerdict verdict))) ⌝ }
 {
     if number != UNFIT {
         let parts = parts_row(information);

@@ -1,6 +1,5 @@
 use denote.Ref.{now}
 use Rattle.firmware_writer.proofs.Texts.{component-fine}
-use borrow.Author.Needs.{needs}
 use Rattle.firmware_writer.proofs.component.component_fault.Statement.{statement}
 use Rattle.firmware_writer.proofs.component.component_fault.Tie as tie
 

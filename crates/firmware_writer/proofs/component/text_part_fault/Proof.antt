@@ -2,7 +2,7 @@ use mathlib.Core.Path.{ap, _∙_}
 use native.Mathlib.Omega.{arith}
 use denote.Ref.{now}
 use Rattle.text_writer.specs.Texts.{orText}
-use Rattle.firmware.proofs.Texts.{part-view}
+use Rattle.walk.proofs.Strings.{part-taken}
 use Rattle.firmware_writer.proofs.Texts.{lies-inside}
 use borrow.Author.Needs.{needs}
 use Rattle.firmware_writer.proofs.component.text_part_fault.Statement.{statement}
@@ -26,7 +26,7 @@ or-text-requires c κs = search needs
 returns : tie.Need-returns
 returns c =
     let a = c .before .before .before .before .args in
-    c .or-text .ensures ∙ ap (λ l. orText (a .field) l (a .fault)) (part-view (now (a .texts)) (a .part))
+    c .or-text .ensures ∙ ap (λ l. orText (a .field) l (a .fault)) (part-taken (now (a .texts)) (a .part))
 
 pub text-part-fault-spec : {M : Type 1} → statement M
 text-part-fault-spec =

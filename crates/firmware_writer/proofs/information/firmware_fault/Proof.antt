@@ -7,7 +7,6 @@ use Rattle.text_writer.specs.declared.Fault.the-variants.{None}
 use Rattle.text_writer.specs.Texts.{orText}
 use Rattle.firmware_writer.specs.Information.{present, componentsStrings}
 use Rattle.firmware_writer.proofs.Texts.{firmware-fine, fault-append}
-use borrow.Author.Needs.{needs}
 use Rattle.firmware_writer.proofs.information.firmware_fault.Statement.{statement}
 use Rattle.firmware_writer.proofs.information.firmware_fault.Tie as tie
 
