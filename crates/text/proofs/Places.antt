@@ -139,11 +139,16 @@ bytes-take zero s h = tt
 bytes-take (suc n) [] h = tt
 bytes-take (suc n) (b ∷ s) h = (h .0, bytes-take n s (h .1))
 
+-- .. by a count of bytes
+place-clear : (s : List ℕ) (n : ℕ) → AllBytes s → Clear 128 255 s n → badPlace s ≡ n + badPlace (drop n s)
+place-clear s n bytes k =
+    let run : badPlace s ≡ length (take n s) + badPlace (drop n s) = ap badPlace (sym (take-append-drop n s)) ∙ place-run (take n s) (drop n s) (bytes-take n s bytes) (k .none) in
+    omega (arith, run, length-take-le n s (k .within))
+
 -- a byte of ASCII, and the run of it that follows
 passes-ascii : (b : ℕ) (s : List ℕ) (n : ℕ) → AllBytes s → b < 128 → Clear 128 255 s n → Passes (b ∷ s) (suc n)
 passes-ascii b s n bytes h k =
-    let run : badPlace s ≡ length (take n s) + badPlace (drop n s) = ap badPlace (sym (take-append-drop n s)) ∙ place-run (take n s) (drop n s) (bytes-take n s bytes) (k .none) in
-    record { inside = omega (arith, k .within); none = λ z. absurd (omega arith); rest = omega (arith, place-ascii b s h, run, length-take-le n s (k .within)) }
+    record { inside = omega (arith, k .within); none = λ z. absurd (omega arith); rest = omega (arith, place-ascii b s h, place-clear s n bytes k) }
 
 -- the bytes of a slice from a place on
 pub all-bytes : (l : List ℕ) → ((i : ℕ) → getD l i 0 < 256) → AllBytes l
@@ -170,8 +175,8 @@ module _ (s : List ℕ) (at n : ℕ) where
 
 -- ---- the loop over a string
 module _ (s : List ℕ) where
-  pub place-start : badPlace s ≡ 0 + badPlace (drop 0 s)
-  place-start = omega arith
+  pub place-start : (n : ℕ) → ((i : ℕ) → getD s i 0 < 256) → Clear 128 255 s n → (n ≤ length s) × (badPlace s ≡ n + badPlace (drop n s))
+  place-start n bytes k = (k .within, place-clear s n (all-bytes s bytes) k)
 
   module _ (at : ℕ) where
     pub place-bad : badPlace (drop at s) ≡ 0 → at + badPlace (drop at s) ≡ at

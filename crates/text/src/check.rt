@@ -60,7 +60,7 @@ fn passed(string: &[u8], at: usize) -> usize
 pub fn bad_place(string: &[u8]) -> usize
     ensures { λ r. ⌜ r ≡ badPlace (now (string .entry)) ⌝ }
 {
-    let mut at = 0;
+    let mut at = clear_run(string, FIRST_ABOVE, LAST_ABOVE);
     while at < string.len() {
         let n = passed(string, at);
         if n == 0 {

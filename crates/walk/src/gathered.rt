@@ -1,6 +1,7 @@
 // What is gathered of a message, field by field.
 use crate::schema::FIRST;
 use crate::schema::SECOND;
+use crate::schema::THIRD;
 use field::Refusal;
 use field::signed::low_signed;
 use field::value::Part;
@@ -12,8 +13,6 @@ ghost use Rattle.walk.specs.Gathered.{mostRepeated, nothing, withScalar,
 pub const MOST_TRANSPORTS: usize = 8;
 // The most messages of a repeated field that are read and written.
 pub const MOST_REPEATED: usize = 8;
-// The strings that a message can have.
-const TEXTS: usize = 3;
 
 pub struct Gathered {
     pub scalars: [u64; 2],
@@ -53,7 +52,7 @@ impl Gathered {
         }
     }
 
-    // A scalar: the last one counts. The places are written out: a store at a computed one copies all that is gathered.
+    // A scalar: the last one counts. The places are written out, here and below: a store at a computed one copies all that is gathered.
     pub(crate) fn with_scalar(self, slot: usize, value: u64) -> Gathered
         ensures { λ r. ⌜ r ≡ withScalar slot value self ⌝ }
     {
@@ -74,8 +73,17 @@ impl Gathered {
         ensures { λ r. ⌜ r ≡ withText slot part self ⌝ }
     {
         let mut next = self;
-        if slot < TEXTS {
-            next.texts[slot] = part;
+        if slot == FIRST {
+            next.texts[FIRST] = part;
+            return next;
+        }
+        if slot == SECOND {
+            next.texts[SECOND] = part;
+            return next;
+        }
+        if slot == THIRD {
+            next.texts[THIRD] = part;
+            return next;
         }
         next
     }

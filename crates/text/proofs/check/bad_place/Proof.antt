@@ -15,8 +15,13 @@ Inv-loop string at₀ at = (at ≤ length string) × (badPlace string ≡ at + b
 abbrev μ-loop : tie.MeasureT-loop
 μ-loop string at₀ at = length string - at
 
+clear-run-requires : tie.Need-clear-run-requires Inv-loop μ-loop
+clear-run-requires c κs = search needs
+
 loop-holds : tie.Need-loop-holds Inv-loop μ-loop
-loop-holds c = (search needs, place-start (now (c .before .args .string)))
+loop-holds c =
+    let b = c .before in
+    place-start (now (b .before .args .string)) (c .clear-run .result) (λ i. b .shared-slice-known .given i .fits) (c .clear-run .ensures)
 
 passed-requires : tie.Need-passed-requires Inv-loop μ-loop
 passed-requires c κs = search needs
@@ -29,7 +34,7 @@ returns c =
 add-at : tie.Need-add-at Inv-loop μ-loop
 add-at c =
     let l = c .before .before .before .loop in
-    omega (arith, c .before .passed .ensures .inside, length-drop (l .at) (now (c .before .before .before .before .before .args .string)))
+    omega (arith, c .before .passed .ensures .inside, length-drop (l .at) (now (c .before .before .before .before .before .before .args .string)))
 
 loop-less : tie.Need-loop-less Inv-loop μ-loop
 loop-less c = omega arith
@@ -37,7 +42,7 @@ loop-less c = omega arith
 loop-again : tie.Need-loop-again Inv-loop μ-loop
 loop-again c =
     let l = c .before .before .before .loop in
-    let s = now (c .before .before .before .before .before .args .string) in
+    let s = now (c .before .before .before .before .before .before .args .string) in
     let p = c .before .passed .ensures in
     (omega (arith, p .inside, length-drop (l .at) s), l .inv .1 ∙ place-passed s (l .at) (c .before .passed .result) p)
 
@@ -52,6 +57,7 @@ bad-place-spec =
     (tie.spec
     Inv-loop
     μ-loop
+    clear-run-requires
     loop-holds
     passed-requires
     returns
