@@ -11,6 +11,7 @@ pub mod parts;
 pub mod rooms;
 pub mod sizes;
 pub mod streams;
+pub mod strings;
 pub mod worked;
 
 use crate::comparison::{Compared, Comparison};
@@ -66,6 +67,10 @@ pub const PARTS: &[Part] = &[
     Part {
         name: "packets of two streams in either order",
         run: orders::run,
+    },
+    Part {
+        name: "strings",
+        run: strings::run,
     },
     Part {
         name: "control messages",
