@@ -1,7 +1,7 @@
-use Rattle.check_messages.proofs.Sizes.{apply-size}
+use Rattle.check_firmware.proofs.Sizes.{apply-size}
 use borrow.Author.Needs.{needs}
-use Rattle.check_messages.proofs.apply_again.Statement.{statement}
-use Rattle.check_messages.proofs.apply_again.Tie as tie
+use Rattle.check_firmware.proofs.apply_again.Statement.{statement}
+use Rattle.check_firmware.proofs.apply_again.Tie as tie
 
 read-apply-requires : tie.Need-read-apply-requires
 read-apply-requires c κs = search needs

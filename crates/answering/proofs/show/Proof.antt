@@ -1,8 +1,8 @@
 use mathlib.Core.Path.{sym}
 use lib.Seq.{length-take-le}
 use borrow.Author.Needs.{needs}
-use Rattle.check_messages.proofs.show.Statement.{statement}
-use Rattle.check_messages.proofs.show.Tie as tie
+use Rattle.answering.proofs.show.Statement.{statement}
+use Rattle.answering.proofs.show.Tie as tie
 
 enum-known-wrote : tie.Need-enum-known-wrote
 enum-known-wrote c = search needs

@@ -1,6 +1,6 @@
 use borrow.Author.Needs.{needs}
-use Rattle.check_messages.proofs.show_segment.Statement.{statement}
-use Rattle.check_messages.proofs.show_segment.Tie as tie
+use Rattle.check_firmware.proofs.show_segment.Statement.{statement}
+use Rattle.check_firmware.proofs.show_segment.Tie as tie
 
 enum-told : tie.Need-enum-told
 enum-told c = search needs

@@ -1,7 +1,7 @@
-use Rattle.check_messages.proofs.Sizes.{segment-size}
+use Rattle.check_firmware.proofs.Sizes.{segment-size}
 use borrow.Author.Needs.{needs}
-use Rattle.check_messages.proofs.segment_again.Statement.{statement}
-use Rattle.check_messages.proofs.segment_again.Tie as tie
+use Rattle.check_firmware.proofs.segment_again.Statement.{statement}
+use Rattle.check_firmware.proofs.segment_again.Tie as tie
 
 read-segment-requires : tie.Need-read-segment-requires
 read-segment-requires c κs = search needs

@@ -1,6 +1,6 @@
 use borrow.Author.Needs.{needs}
-use Rattle.check_messages.proofs.show_text.Statement.{statement}
-use Rattle.check_messages.proofs.show_text.Tie as tie
+use Rattle.answering.proofs.show_text.Statement.{statement}
+use Rattle.answering.proofs.show_text.Tie as tie
 
 enum-known-wrote : tie.Need-enum-known-wrote
 enum-known-wrote c = search needs
