@@ -16,6 +16,7 @@ use text_writer::TextWrote;
 use walk::schema::FIRMWARE_INFORMATION;
 use walk::schema::RESTART_REQUIRED;
 ghost use mathlib.Core.Path.{_≡_};
+ghost use mathlib.Core.Bool.{false};
 ghost use Prim.Native.Nat.{_+_};
 ghost use Rattle.wire.specs.Told.{written};
 ghost use Rattle.field_writer.specs.Message.{writesMessage, toldWrote};
@@ -30,16 +31,14 @@ fn bool_value(b: bool) -> u64
     if b { 1 } else { 0 }
 }
 
-// ApplyFirmware whatever its strings are.
+// ApplyFirmware whatever its strings are. That its parts lie within the texts was judged before.
 fn fill_apply(out: &mut [u8], apply: ApplyFirmware, texts: &[u8]) -> Wrote
+    requires { ⌜ badFirmware (now texts) (apply .«firmware_information») ≡ false ⌝ }
     ensures { λ r. ⌜ written (toldWrote r) (now (out .exit))
         ≡ writesMessage (badFirmware (now (texts .entry)) (apply .«firmware_information»))
         (applyFields (now (texts .entry)) apply) (now (out .entry)) ⌝ }
 {
     let information = apply.firmware_information;
-    if bad_firmware(texts, information) {
-        return Wrote::Refused(WriteRefusal::BadArgument);
-    }
     let restart = bool_value(apply.restart_required);
     let room = out.len();
     match firmware_room(room, texts, information) {

@@ -26,7 +26,7 @@ enum-told : tie.Need-enum-told
 enum-told c = search needs
 
 fill-apply-requires : tie.Need-fill-apply-requires
-fill-apply-requires c κs = search needs
+fill-apply-requires c κs = sym (c .before .before .before .before .before .bad-firmware .ensures) ∙ c .before .before .before .before .if1 .left
 
 of-requires : tie.Need-of-requires
 of-requires c κs = search needs
