@@ -15,8 +15,8 @@
  *
  * NUMBERS. Each function returns 0 or the number of a refusal, PITO_REFUSED_.. below.
  * After every call that does not return 1 the whole answer row is written. After a refusal it is 0 throughout, but
- * for what is said below (the number of bytes used by pito_extractor_feed, the place that goes with 41, the field that
- * goes with 50).
+ * for what is said below (the number of bytes used by pito_extractor_feed, the place that goes with 41, the field and
+ * the place that go with 36, the field that goes with 50).
  * A refusal leaves state and lent bytes as they were, except that 20 to 25 leave the extractor outside a frame (20:
  * at the begin of the new one), 10 and 11 leave the slot of the stream idle, and pito_extractor_feed has by then
  * stored what came before the refused byte, in state and buffer as single steps would have.
@@ -296,9 +296,9 @@ PITO_CALL uint64_t pito_receiver_accept(uint64_t *state, size_t state_len, uint8
 /* ------------------------------------------------------------------------------------------------------------
  * Control messages
  *
- * Readers tell parts as start and length within the message that was read. They return 0, 1, 31, 32, 33, 34 or 30;
- * a message is judged field by field. Writers write from the first byte of the output on, in the shortest form, and
- * return 0, 1, 15, 14; PITO_.._SIZE is enough output for any arguments of these lengths.
+ * Readers tell parts as start and length within the message that was read. They return 0, 1, 31, 32, 33, 34 or 30,
+ * pito_information_read 36 too; a message is judged field by field. Writers write from the first byte of the output
+ * on, in the shortest form, and return 0, 1, 15, 14; PITO_.._SIZE is enough output for any arguments of these lengths.
  */
 
 /* The payload of an envelope. */

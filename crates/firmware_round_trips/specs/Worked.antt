@@ -61,6 +61,18 @@ misnamed count =
       «version_name» = noPart;
     }
 
+-- a name, a component with a signature, and a version_name, each of one byte of the texts
+abbrev pub ending : Part → Part → Part → FirmwareInformation
+ending name signature version =
+    record {
+      version = 0;
+      name = name;
+      components = sets (replicate 8 noComponent) 0 (record { version = 0; name = noPart; size = 0; signature = signature } ∷ []);
+      count = 1;
+      locale = noPart;
+      «version_name» = version;
+    }
+
 -- a segment read: its bytes, and what is told
 pub record SegmentCase : Type 0 where
   pub bytes : List ℕ
@@ -156,6 +168,8 @@ applyCases =
     -- a locale and, before it, a component's name that are not well formed: the outer message goes first; the name alone
     ∷ applyCase (0x0A ∷ 0x09 ∷ 0x1A ∷ 0x04 ∷ 0x12 ∷ 0x02 ∷ 0x41 ∷ 0x80 ∷ 0x22 ∷ 0x01 ∷ 0xC3 ∷ []) (refused (36, 4 ∷ 0 ∷ []))
     ∷ applyCase (0x0A ∷ 0x06 ∷ 0x1A ∷ 0x04 ∷ 0x12 ∷ 0x02 ∷ 0x41 ∷ 0x80 ∷ []) (refused (36, 2 ∷ 1 ∷ []))
+    -- version_name
+    ∷ applyCase (0x0A ∷ 0x03 ∷ 0x2A ∷ 0x01 ∷ 0xC3 ∷ []) (refused (36, 5 ∷ 0 ∷ []))
     -- a component's signature; a name that an empty one replaces
     ∷ applyCase (0x0A ∷ 0x05 ∷ 0x1A ∷ 0x03 ∷ 0x22 ∷ 0x01 ∷ 0xFF ∷ []) (refused (36, 4 ∷ 0 ∷ []))
     ∷ applyCase (0x0A ∷ 0x05 ∷ 0x12 ∷ 0x01 ∷ 0xFF ∷ 0x12 ∷ 0x00 ∷ []) (refused (36, 2 ∷ 0 ∷ []))
@@ -197,6 +211,10 @@ applyWrites =
     ∷ writeCase (applyWritten (record { «firmware_information» = misnamed 1; «restart_required» = false }) (0x41 ∷ 0x80 ∷ 0xC3 ∷ []) (9 ∷ [])) (refused (36, 2 ∷ 1 ∷ [])) (9 ∷ [])
     ∷ writeCase (applyWritten (record { «firmware_information» = misnamed 9; «restart_required» = false }) (0x41 ∷ 0x80 ∷ 0xC3 ∷ []) (9 ∷ [])) (refused (15, [])) (9 ∷ [])
     ∷ writeCase (applyWritten (record { «firmware_information» = misnamed 0; «restart_required» = false }) (0x41 ∷ 0x80 ∷ 0xC3 ∷ []) (9 ∷ [])) (refused (36, 4 ∷ 0 ∷ [])) (9 ∷ [])
+    -- name, signature and version_name are C3: the name first; the other two; version_name alone
+    ∷ writeCase (applyWritten (record { «firmware_information» = ending (part 0 1) (part 0 1) (part 0 1); «restart_required» = false }) (0xC3 ∷ []) []) (refused (36, 2 ∷ 0 ∷ [])) []
+    ∷ writeCase (applyWritten (record { «firmware_information» = ending noPart (part 0 1) (part 0 1); «restart_required» = false }) (0xC3 ∷ []) []) (refused (36, 4 ∷ 0 ∷ [])) []
+    ∷ writeCase (applyWritten (record { «firmware_information» = ending noPart noPart (part 0 1); «restart_required» = false }) (0xC3 ∷ []) []) (refused (36, 5 ∷ 0 ∷ [])) []
     ∷ []
 
 -- every line of the tables holds

@@ -57,6 +57,8 @@ informationWrites =
     writeCase (informationWritten [] (0xFF ∷ []) (replicate 9 (pos 0)) [] (9 ∷ [])) (refused (15, [])) (9 ∷ [])
     ∷ writeCase (informationWritten [] (0x41 ∷ 0xFF ∷ []) (replicate 8 (pos 0)) (0x80 ∷ []) (9 ∷ [])) (refused (36, 2 ∷ 1 ∷ [])) (9 ∷ [])
     ∷ writeCase (informationWritten [] (0x41 ∷ []) [] (0x80 ∷ []) (9 ∷ [])) (refused (36, 4 ∷ 0 ∷ [])) (9 ∷ [])
+    -- the serial number, before the name
+    ∷ writeCase (informationWritten (0x41 ∷ 0xC3 ∷ []) (0xFF ∷ []) [] [] (9 ∷ [])) (refused (36, 1 ∷ 1 ∷ [])) (9 ∷ [])
     -- an output of one byte too few; of one more
     ∷ writeCase (informationWritten [] (0x41 ∷ []) [] [] (9 ∷ 9 ∷ [])) (refused (14, [])) (9 ∷ 9 ∷ [])
     ∷ writeCase (informationWritten [] (0x41 ∷ []) [] [] (9 ∷ 9 ∷ 9 ∷ 9 ∷ [])) (given 3) (0x12 ∷ 0x01 ∷ 0x41 ∷ 9 ∷ [])
