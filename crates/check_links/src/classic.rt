@@ -7,9 +7,12 @@ use printing::end;
 use printing::refused;
 use printing::text;
 
+// The limit of the worked cases.
+const LIMIT: usize = 4096;
+
 fn write_frame(label: &[u8], sequence: u8, payload: &[u8]) {
     let mut out = [0u8; OUTPUT];
-    let outcome = frame_writer::writer::write_frame(sequence, payload, &mut out);
+    let outcome = frame_writer::writer::write_frame(sequence, LIMIT, payload, &mut out);
     text(label);
     match outcome {
         WriteOutcome::Frame(n) => bytes(&out, n),

@@ -10,11 +10,12 @@ use lib.ListN.{length, set, length-append}
 use lib.Seq.{sets, length-sets}
 use borrow.Author.Tests.{le-ltb}
 use Rattle.wire.specs.Bytes.{pairBytes}
+use Rattle.wire.specs.Limit.{limitFits}
 use Rattle.wire.proofs.Stores.{first-bytes}
 use Rattle.framing.specs.declared.mark.Kind.the-variants.{Plain}
 use Rattle.framing.specs.Mark.{endMark, kindOf}
 use Rattle.framing.specs.Frame.{packetId, errorId, escapedOf, checksumOf, contentOf, headerOf, framed, frameOf}
-use Rattle.extractor.specs.declared.state.Extractor.{Extractor}
+use Rattle.extractor.specs.declared.state.Progress.{Progress}
 use Rattle.extractor.specs.declared.state.Phase.the-variants.{ErrorId, Sequence}
 use Rattle.extractor.specs.Outcome.{frame}
 use Rattle.extractor.specs.State.{outside, begun, body, lawful}
@@ -31,10 +32,11 @@ use Rattle.recovery.proofs.Checksum.{handed-first, whole-report, spoilt
 use Rattle.recovery.proofs.Damage.{spelled, header-lost, turned-plain, turned-tail, outside-plain, rest-skipped, Hit, lost, changed, body-hit}
 
 -- what our writer writes is the frame
-pub sent-frame : (limit : ℕ) (m : FrameToSend) → Sendable limit m → sent limit m ≡ frameOf (m .sequence) (m .payload)
-sent-frame limit m w =
+pub sent-frame : (limit : ℕ) (m : FrameToSend) → limitFits limit ≡ true → Sendable limit m → sent limit m ≡ frameOf (m .sequence) (m .payload)
+sent-frame limit m range w =
     let f = frameOf (m .sequence) (m .payload) in
     rw (
+      range,
       w .unmarked,
       le-ltb limit (length (m .payload)) (omega arith),
       le-ltb (length (m .out)) (length f) (omega arith),
@@ -64,7 +66,7 @@ module _ (limit : ℕ) (m : FrameToSend) (w : Sendable limit m) (l : List ℕ) (
   content-taken = rw zero-add at (store-all limit (contentOf p) q 0 l (omega (arith, size)))
 
   module _ (rest : List ℕ) where
-    whole-ends : (s : Extractor) → Ends limit rest (framesOf limit s l (frameOf q p ++ rest)) (givenOf m ∷ [])
+    whole-ends : (s : Progress) → Ends limit rest (framesOf limit s l (frameOf q p ++ rest)) (givenOf m ∷ [])
     unfolding framed
     whole-ends s =
         let after = sets l 0 (contentOf p) in
@@ -101,7 +103,7 @@ module _ (limit : ℕ) (m : FrameToSend) (w : Sendable limit m) (l : List ℕ) (
           same = e ∙ outside-plain limit l q (spelled (contentOf p) ++ rest) plain ∙ rest-skipped limit (contentOf p) l rest;
         }
 
-    damaged-ends : (s : Extractor) (k v : ℕ) → k ≢ sequencePlace → Turned (frameOf q p) k v
+    damaged-ends : (s : Progress) (k v : ℕ) → k ≢ sequencePlace → Turned (frameOf q p) k v
         → Ends limit rest (framesOf limit s l (set (frameOf q p) k v ++ rest)) []
     unfolding framed kindOf advanceOf framesOf
     damaged-ends s zero v o t = absurd (true≢false (t .wasPlain))
@@ -129,27 +131,27 @@ module _ (limit : ℕ) (m : FrameToSend) (w : Sendable limit m) (l : List ℕ) (
 
 -- ---- the claims
 
-closing-ends : (limit : ℕ) (is : List ClosingFrame) (s : Extractor) (l : List ℕ) → length l ≡ limit + 2 → Closing limit is
+closing-ends : (limit : ℕ) → limitFits limit ≡ true → (is : List ClosingFrame) (s : Progress) (l : List ℕ) → length l ≡ limit + 2 → Closing limit is
     → framesOf limit s l (bytesOf limit is) ≡ undamaged is
 unfolding bytesOf undamaged framesOf
-closing-ends limit [] s l n c = refl
-closing-ends limit (whole m ∷ is) s l n c =
+closing-ends limit f [] s l n c = refl
+closing-ends limit f (whole m ∷ is) s l n c =
     let e = whole-ends limit m (c .0) l n (bytesOf limit is) s in
-    rw (sent-frame limit m (c .0)) (e .same ∙ ap (λ (gs : List Given). givenOf m ∷ gs) (closing-ends limit is outside (e .after) (e .size) (c .1)))
-closing-ends limit (damaged m k v ∷ is) s l n c =
-    let e = damaged-ends limit m (c .0) l n (bytesOf limit is) s k v (omega arith) (rw (sent-frame limit m (c .0)) at (c .2)) in
-    rw (sent-frame limit m (c .0)) (e .same ∙ closing-ends limit is outside (e .after) (e .size) (c .3))
+    rw (sent-frame limit m f (c .0)) (e .same ∙ ap (λ (gs : List Given). givenOf m ∷ gs) (closing-ends limit f is outside (e .after) (e .size) (c .1)))
+closing-ends limit f (damaged m k v ∷ is) s l n c =
+    let e = damaged-ends limit m (c .0) l n (bytesOf limit is) s k v (omega arith) (rw (sent-frame limit m f (c .0)) at (c .2)) in
+    rw (sent-frame limit m f (c .0)) (e .same ∙ closing-ends limit f is outside (e .after) (e .size) (c .3))
 
 pub damage-ends : DamageEnds
-damage-ends limit s l before closing calls h n c e =
-    let r = is-ready limit s l h n in
+damage-ends limit s l before closing calls f h n c e =
+    let r = is-ready limit s l f h n in
     let k = since-later limit (length before) before (bytesOf limit closing) 0 s l r (zero-add (length before)) in
     calls-cut limit (length before) calls 0 s l (before ++ bytesOf limit closing) r e
     ∙ k .same
-    ∙ closing-ends limit closing (k .state) (k .buffer) (ready-size limit (k .state) (k .buffer) (k .lawful)) c
+    ∙ closing-ends limit f closing (k .state) (k .buffer) (ready-size limit (k .state) (k .buffer) (k .lawful)) c
 
 pub frame-returns : FrameReturns
 unfolding lawful
-frame-returns limit m l w n =
-    rw (sent-frame limit m w, feed-ready limit outside l (frameOf (m .sequence) (m .payload)) (is-ready limit outside l refl n), frame-fed limit m w l n)
+frame-returns limit m l f w n =
+    rw (sent-frame limit m f w, feed-ready limit outside l (frameOf (m .sequence) (m .payload)) (is-ready limit outside l f refl n), frame-fed limit m w l n)
     (handed-first (m .payload) l (omega arith) (m .sequence), refl)

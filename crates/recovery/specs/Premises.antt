@@ -5,13 +5,18 @@ use mathlib.Core.Logic.{_≢_}
 use mathlib.Core.Bool.{true}
 use mathlib.Core.List.{List, [], _∷_, map}
 use lib.ListN.{length, getD}
+use Rattle.wire.specs.Limit.{limitFits}
 use Rattle.framing.specs.Frame.{frameOf}
-use Rattle.extractor.specs.declared.state.Extractor.{Extractor}
+use Rattle.extractor.specs.declared.state.Progress.{Progress}
 use Rattle.extractor.specs.declared.state.Phase.{Phase}
 use Rattle.extractor.specs.declared.state.Phase.the-variants.{Outside, PacketId, ErrorId, Sequence, Body, Escaped}
 use Rattle.extractor.specs.State.{lawful}
 use Rattle.recovery.specs.Run.{Call, one, many, runOf}
 use Rattle.recovery.specs.Recovery.{FrameToSend, Sendable, Turned, ClosingFrame, whole, damaged, Closing}
+
+-- a limit of 1 to 65,535
+abbrev pub RangeWhen : Type 0
+RangeWhen = (limit : ℕ) → 1 ≤ limit → limit ≤ 65535 → limitFits limit ≡ true
 
 abbrev pub NoMark : ℕ → Type 0
 NoMark b = (b ≢ 0xF0) × (b ≢ 0xF1) × (b ≢ 0xF2)
@@ -43,6 +48,7 @@ pub record ClosingWhen : Type 0 where
   pub none : (limit : ℕ) → Closing limit []
   pub whole-first : (limit : ℕ) (m : FrameToSend) (is : List ClosingFrame) → Sendable limit m → Closing limit is → Closing limit (whole m ∷ is)
   pub damaged-first : (limit : ℕ) (m : FrameToSend) (place new : ℕ) (is : List ClosingFrame)
+      → limitFits limit ≡ true
       → Sendable limit m
       → place ≢ 3
       → Turned (frameOf (m .sequence) (m .payload)) place new
@@ -59,7 +65,7 @@ LawfulIn Body limit sequence held = NoMark sequence × (held ≤ limit + 2)
 LawfulIn Escaped limit sequence held = NoMark sequence × (held ≤ limit + 2)
 
 abbrev pub LawfulWhen : Type 0
-LawfulWhen = (limit : ℕ) (s : Extractor) → s .sequence < 256 → LawfulIn (s .phase) limit (s .sequence) (s .held) → lawful limit s ≡ true
+LawfulWhen = (limit : ℕ) (s : Progress) → s .sequence < 256 → LawfulIn (s .phase) limit (s .sequence) (s .held) → lawful limit s ≡ true
 
 -- a call that asks for a byte: a step for 0, and a call for n bytes for any other n
 abbrev pub asking : ℕ → Call
@@ -69,7 +75,8 @@ asking (suc n) = many (suc n)
 -- as many such calls as there are bytes use them all
 abbrev pub AllUsedWhen : Type 0
 AllUsedWhen =
-    (limit : ℕ) (s : Extractor) (buffer bytes sizes : List ℕ)
+    (limit : ℕ) (s : Progress) (buffer bytes sizes : List ℕ)
+    → limitFits limit ≡ true
     → lawful limit s ≡ true
     → length buffer ≡ limit + 2
     → length bytes ≤ length sizes
@@ -78,6 +85,7 @@ AllUsedWhen =
 -- ---- the claim
 
 pub record FactsSuffice : Type 0 where
+  pub range : RangeWhen
   pub sendable : SendableWhen
   pub turned : TurnedWhen
   pub closing : ClosingWhen

@@ -7,9 +7,10 @@ use mathlib.Core.List.{List, [], _∷_, _++_}
 use lib.ListN.{length, getD, set, take}
 use Rattle.wire.specs.Told.{Told, given, refused}
 use Rattle.wire.specs.Bytes.{AllBytes}
+use Rattle.wire.specs.Limit.{limitFits}
 use Rattle.framing.specs.Mark.{isMark}
 use Rattle.framing.specs.Frame.{frameOf}
-use Rattle.extractor.specs.declared.state.Extractor.{Extractor}
+use Rattle.extractor.specs.declared.state.Progress.{Progress}
 use Rattle.extractor.specs.State.{outside, lawful}
 use Rattle.feed.specs.Feed.{feedOf}
 use Rattle.frame_writer.specs.Writer.{writeOf}
@@ -86,7 +87,8 @@ Closing limit (damaged m place new ∷ is) = Sendable limit m × (place ≢ sequ
 -- closing part are the undamaged ones of it, one each, in order
 abbrev pub DamageEnds : Type 0
 DamageEnds =
-    (limit : ℕ) (s : Extractor) (buffer before : List ℕ) (closing : List ClosingFrame) (calls : List Call)
+    (limit : ℕ) (s : Progress) (buffer before : List ℕ) (closing : List ClosingFrame) (calls : List Call)
+    → limitFits limit ≡ true
     → lawful limit s ≡ true
     → length buffer ≡ limit + 2
     → Closing limit closing
@@ -97,6 +99,7 @@ DamageEnds =
 abbrev pub FrameReturns : Type 0
 FrameReturns =
     (limit : ℕ) (m : FrameToSend) (buffer : List ℕ)
+    → limitFits limit ≡ true
     → Sendable limit m
     → length buffer ≡ limit + 2
     → (let r = feedOf limit outside buffer (sent limit m) in

@@ -9,10 +9,10 @@ use Rattle.feed.proofs.fast_path.take_body.Statement.{statement}
 use Rattle.feed.proofs.fast_path.take_body.Tie as tie
 
 abbrev Inv-loop : tie.InvT-loop
-Inv-loop buffer₀ bytes i here₀ at₀ buffer here at = (length buffer ≡ length buffer₀) × (Onward 4096 bytes here₀ buffer₀ i here buffer at) × (here .phase ≡ Body)
+Inv-loop limit buffer₀ bytes i here₀ at₀ buffer here at = (length buffer ≡ length buffer₀) × (Onward limit bytes here₀ buffer₀ i here buffer at) × (here .phase ≡ Body)
 
 abbrev μ-loop : tie.MeasureT-loop
-μ-loop buffer₀ bytes i here₀ at₀ buffer here at = length bytes - at
+μ-loop limit buffer₀ bytes i here₀ at₀ buffer here at = length bytes - at
 
 loop-holds : tie.Need-loop-holds Inv-loop μ-loop
 loop-holds c =

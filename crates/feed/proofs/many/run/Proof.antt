@@ -9,10 +9,10 @@ use Rattle.feed.proofs.many.run.Statement.{statement}
 use Rattle.feed.proofs.many.run.Tie as tie
 
 abbrev Inv-loop : tie.InvT-loop
-Inv-loop buffer₀ bytes state₀ i₀ buffer state i = Running 4096 bytes buffer₀ state₀ buffer state i
+Inv-loop limit buffer₀ bytes state₀ i₀ buffer state i = Running limit bytes buffer₀ state₀ buffer state i
 
 abbrev μ-loop : tie.MeasureT-loop
-μ-loop buffer₀ bytes state₀ i₀ buffer state i = length bytes - i
+μ-loop limit buffer₀ bytes state₀ i₀ buffer state i = length bytes - i
 
 loop-holds : tie.Need-loop-holds Inv-loop μ-loop
 loop-holds c = record { within = search needs; fits = c .before .before .pre; same = refl; rest = refl }

@@ -1,6 +1,6 @@
 use borrow.Author.Needs.{needs}
-use Rattle.extractor.proofs.state.Extractor.perform.Statement.{statement}
-use Rattle.extractor.proofs.state.Extractor.perform.Tie as tie
+use Rattle.extractor.proofs.state.Progress.perform.Statement.{statement}
+use Rattle.extractor.proofs.state.Progress.perform.Tie as tie
 
 enum-told : tie.Need-enum-told
 enum-told c = search needs

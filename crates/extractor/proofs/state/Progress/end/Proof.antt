@@ -2,8 +2,8 @@ use mathlib.Core.Path.{sym, _∙_}
 use borrow.Author.Tests.{lt-ltb, le-ltb}
 use Rattle.extractor.specs.Step.{endOf}
 use borrow.Author.Needs.{needs}
-use Rattle.extractor.proofs.state.Extractor.end.Statement.{statement}
-use Rattle.extractor.proofs.state.Extractor.end.Tie as tie
+use Rattle.extractor.proofs.state.Progress.end.Statement.{statement}
+use Rattle.extractor.proofs.state.Progress.end.Tie as tie
 
 returns : tie.Need-returns
 unfolding endOf

@@ -1,8 +1,8 @@
 use mathlib.Core.Path.{sym, _∙_}
 use Rattle.extractor.specs.State.{lawful}
 use borrow.Author.Needs.{needs}
-use Rattle.extractor.proofs.state.Extractor.is_lawful.Statement.{statement}
-use Rattle.extractor.proofs.state.Extractor.is_lawful.Tie as tie
+use Rattle.extractor.proofs.state.Progress.is_lawful.Statement.{statement}
+use Rattle.extractor.proofs.state.Progress.is_lawful.Tie as tie
 
 sequence-read-requires : tie.Need-sequence-read-requires
 sequence-read-requires c κs = search needs

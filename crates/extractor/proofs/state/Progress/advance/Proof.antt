@@ -1,7 +1,7 @@
 use Rattle.extractor.specs.Step.{advanceOf}
 use borrow.Author.Needs.{needs}
-use Rattle.extractor.proofs.state.Extractor.advance.Statement.{statement}
-use Rattle.extractor.proofs.state.Extractor.advance.Tie as tie
+use Rattle.extractor.proofs.state.Progress.advance.Statement.{statement}
+use Rattle.extractor.proofs.state.Progress.advance.Tie as tie
 
 action-for-requires : tie.Need-action-for-requires
 action-for-requires c κs = search needs
