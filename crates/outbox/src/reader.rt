@@ -110,7 +110,8 @@ fn bad_place(file: &[u8], place: usize) -> bool
 
 // The length is judged once all its bytes are there; before that the record is cut short.
 fn judge(rest: &[u8]) -> Judged
-    ensures { λ r. ⌜ ((place : ℕ) → toldJudged (versionOne 4096) place r ≡ recordAt (versionOne 4096) place (now (rest .entry))) ⌝ }
+    ensures { λ r. ⌜ ((place : ℕ) → toldJudged (versionOne 4096) place r
+        ≡ recordAt (versionOne 4096) place (now (rest .entry))) ⌝ }
 {
     if rest.len() < WIDTH {
         return Judged::Broken(Fault::Cut);

@@ -79,8 +79,10 @@ fn bad_record(stream: u8, size: usize) -> bool
 
 // Writes a record at a place.
 fn put_record(buffer: &mut [u8], at: usize, stream: u8, payload: &[u8])
-    requires { ⌜ (at + (headSize (versionOne 4096) + length (now payload)) ≤ length (now buffer)) × (length (now payload) ≤ 4096) ⌝ }
-    ensures { λ _. ⌜ now (buffer .exit) ≡ sets (now (buffer .entry)) at (recordBytes (versionOne 4096) stream (now (payload .entry))) ⌝ }
+    requires { ⌜ (at + (headSize (versionOne 4096) + length (now payload)) ≤ length (now buffer))
+        × (length (now payload) ≤ 4096) ⌝ }
+    ensures { λ _. ⌜ now (buffer .exit)
+        ≡ sets (now (buffer .entry)) at (recordBytes (versionOne 4096) stream (now (payload .entry))) ⌝ }
 {
     put_pair(buffer, at, payload.len() + 1);
     buffer[at + WIDTH] = stream;
@@ -89,7 +91,8 @@ fn put_record(buffer: &mut [u8], at: usize, stream: u8, payload: &[u8])
 
 // Appends a record right after the used bytes of a lent buffer, which must be a whole outbox.
 pub fn append(buffer: &mut [u8], used: usize, stream: u8, payload: &[u8]) -> Appended
-    ensures { λ r. ⌜ stored (told r) (now (buffer .exit)) ≡ appendOf (versionOne 4096) (now (buffer .entry)) used stream (now (payload .entry)) ⌝ }
+    ensures { λ r. ⌜ stored (told r) (now (buffer .exit))
+        ≡ appendOf (versionOne 4096) (now (buffer .entry)) used stream (now (payload .entry)) ⌝ }
 {
     if buffer.len() < used {
         return Appended::BeyondBuffer;

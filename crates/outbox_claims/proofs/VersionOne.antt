@@ -78,6 +78,7 @@ hold-in-version-one =
       takes = takes;
       records-return = returned;
       cuts-are-found = cut;
+      whole-files-cut = λ fmt file whole kept. cuts-are-found .whole fmt file kept whole;
       appends-after-cut = λ buffer es fits kept some room e a h.
           appends-after-cut v lawful (fileOf buffer es) kept (omega arith) (made-whole buffer es fits) room e (takes e a) (omega arith);
       appends-as-alone = λ buffer es fits room own e a h k.

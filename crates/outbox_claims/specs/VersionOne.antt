@@ -45,6 +45,9 @@ pub record HoldInVersionOne : Type 0 where
       → Returned (versionOne 4096) (appendAll (versionOne 4096) (newOf (versionOne 4096) buffer) es) es
   pub cuts-are-found : (buffer : List ℕ) (es : List Entry) → Fits buffer es → (kept : ℕ)
       → readAll (versionOne 4096) (take kept (fileOf buffer es)) ≡ cutAt kept (expected (versionOne 4096) 1 es)
+  -- a whole file of any format, also where nothing is kept, or where a length in its range could not be written
+  pub whole-files-cut : (fmt : Format) (file : List ℕ) → walkOf fmt file ≡ given tt → (kept : ℕ)
+      → readAll fmt (take kept file) ≡ cutAt kept (readAll fmt file)
   pub appends-after-cut : (buffer : List ℕ) (es : List Entry) → Fits buffer es → (kept : ℕ) → 1 ≤ kept → (room : List ℕ) (e : Entry) → Allowed e
       → let left = take kept (fileOf buffer es) in
       let used = usable (walkOf (versionOne 4096) left) left in
