@@ -23,9 +23,9 @@ use Rattle.slot.specs.Step.{Act, still, step}
 use Rattle.slot.specs.Fit.{ActFits}
 use Rattle.slot.proofs.Slots.{open-lawful, idle-lawful, lawful-three}
 use Rattle.slot.proofs.Lanes.{place-other, act-other}
-use Rattle.receiver.specs.Buffer.{partStart, pieceBytes}
+use Rattle.receiver.specs.Buffer.{partStart, payloadBytes}
 use Rattle.receiver.specs.Receiver.{Result, actIn, acted, acceptOf}
-use Rattle.receiver.proofs.Accepting.{Fits, accept-ready, ready-next, in-fits, piece-length}
+use Rattle.receiver.proofs.Accepting.{Fits, accept-ready, ready-next, in-fits, payload-length}
 use Rattle.lanes.specs.Lanes.{Both, bothOf, turned, streamField, Handed, EitherOrder, InRules, HandedAll, PartsApart}
 
 -- ---- runs that lie apart
@@ -91,9 +91,9 @@ module _ (limit : ℕ) (slots : List Slot) (bytes p q : List ℕ) (x y : Packet)
         act-other a b slots i (s .slot) y other (fx .within) ∙ ey,
         act-other b a slots j (t .slot) x (λ e. other (sym e)) (fy .within) ∙ ex,
         set-comm slots (laneStart a + i) (laneStart b + j) (s .slot) (t .slot) apart,
-        parts-apart limit (laneStart a + i) (laneStart b + j) (s .piece .at) (t .piece .at) bytes (pieceBytes p (s .piece)) (pieceBytes q (t .piece)) apart
-            (piece-length limit (length p) p (s .piece) (fx .inside))
-            (piece-length limit (length q) q (t .piece) (fy .inside)),
+        parts-apart limit (laneStart a + i) (laneStart b + j) (s .payload .at) (t .payload .at) bytes (payloadBytes p (s .payload)) (payloadBytes q (t .payload)) apart
+            (payload-length limit (length p) p (s .payload) (fx .inside))
+            (payload-length limit (length q) q (t .payload) (fy .inside)),
       )
 
 turned-read : (limit m n : ℕ) (slots : List Slot) (bytes p q : List ℕ) (t u : Told Packet) → Fits limit slots bytes → m ≢ n

@@ -20,7 +20,7 @@ use Rattle.packet.specs.Header.{streamBits, isOf}
 use Rattle.packet.specs.Reader.{headIn, readOf}
 use Rattle.packet.proofs.Reading.{Passes, IfGiven, read-passes, empty-refused}
 use Rattle.slot.specs.declared.Slot.{Slot}
-use Rattle.slot.specs.declared.step.Piece.{Piece}
+use Rattle.slot.specs.declared.step.Payload.{Payload}
 use Rattle.slot.specs.declared.answer.Accepted.{Accepted}
 use Rattle.slot.specs.Slot.{slotsEach, slotCount, laneStart, laneOf, lawful}
 use Rattle.slot.specs.Step.{Act, still, step}
@@ -28,7 +28,7 @@ use Rattle.slot.specs.Fit.{Inside, Fit, ActFits}
 use Rattle.slot.proofs.Slots.{lawful-lane, lawful-set}
 use Rattle.slot.proofs.Lanes.{place-other, lane-other}
 use Rattle.slot.proofs.Steps.{act-fits}
-use Rattle.receiver.specs.Buffer.{partOf, pieceBytes}
+use Rattle.receiver.specs.Buffer.{partOf, payloadBytes}
 use Rattle.receiver.specs.Receiver.{Result, result, applied, actIn, acted, ready, acceptOf}
 use Rattle.receiver.proofs.Parts.{part-elsewhere}
 
@@ -123,8 +123,8 @@ pub record Kept (limit : ℕ) (t : Stream) (slots : List Slot) (bytes : List ℕ
 kept-all : (limit : ℕ) (t : Stream) (slots : List Slot) (bytes : List ℕ) (told : Told Accepted) → Kept limit t slots bytes (result told slots bytes)
 kept-all limit t slots bytes told = record { same-lane = refl; same-part = λ place low. refl }
 
-pub piece-length : (limit k : ℕ) (p : List ℕ) (piece : Piece) → Inside limit k piece → piece .at + length (pieceBytes p piece) ≤ limit
-piece-length limit k p piece i = simp (length-take, length-drop) (omega arith)
+pub payload-length : (limit k : ℕ) (p : List ℕ) (payload : Payload) → Inside limit k payload → payload .at + length (payloadBytes p payload) ≤ limit
+payload-length limit k p payload i = simp (length-take, length-drop) (omega arith)
 
 applied-kept : (limit : ℕ) (a t : Stream) (slots : List Slot) (bytes p : List ℕ) (act : Act) → a ≢ t → ActFits limit (length p) act
     → Kept limit t slots bytes (applied limit slots bytes p (laneStart a) act)
@@ -133,8 +133,8 @@ applied-kept limit a t slots bytes p (step place s) d f =
     record {
       same-lane = lane-other a t slots place (s .slot) d (f .within);
       same-part = λ i low.
-          part-elsewhere limit (laneStart t + i) (laneStart a + place) (s .piece .at) bytes (pieceBytes p (s .piece))
-          (place-other t a i place (λ e. d (sym e)) low (f .within)) (piece-length limit (length p) p (s .piece) (f .inside));
+          part-elsewhere limit (laneStart t + i) (laneStart a + place) (s .payload .at) bytes (payloadBytes p (s .payload))
+          (place-other t a i place (λ e. d (sym e)) low (f .within)) (payload-length limit (length p) p (s .payload) (f .inside));
     }
 
 acted-other : (limit s n : ℕ) (slots : List Slot) (bytes p : List ℕ) (t : Told Packet) → lawful limit slots ≡ true → isStream s ≡ true → n ≢ s

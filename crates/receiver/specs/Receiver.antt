@@ -25,7 +25,7 @@ result t slots bytes = record { told = t; slots = slots; bytes = bytes }
 abbrev pub applied : ℕ → List Slot → List ℕ → List ℕ → ℕ → Act → Result
 applied limit slots bytes packet start (still t) = result t slots bytes
 applied limit slots bytes packet start (step place s) =
-    result (s .told) (set slots (start + place) (s .slot)) (stored limit (start + place) bytes packet (s .piece))
+    result (s .told) (set slots (start + place) (s .slot)) (stored limit (start + place) bytes packet (s .payload))
 
 -- what a packet that was read does to its stream's slots
 abbrev pub actIn : List Slot → Packet → Act

@@ -19,15 +19,15 @@ pub fn place_of(stream: Stream) -> usize
     }
 }
 
-// Lends the part of a stream on to the writer of its piece.
-pub fn write_piece(buffer: &mut [u8], stream: Stream, at: usize, piece: &[u8])
-    requires { ⌜ (length (now buffer) ≡ 12288) × (at + length (now piece) ≤ 4096) ⌝ }
+// Lends the part of a stream on to the writer of its payload.
+pub fn write_payload(buffer: &mut [u8], stream: Stream, at: usize, payload: &[u8])
+    requires { ⌜ (length (now buffer) ≡ 12288) × (at + length (now payload) ≤ 4096) ⌝ }
     ensures { λ _. ⌜ now (buffer .exit)
-        ≡ sets (now (buffer .entry)) (partStart 4096 (laneStart stream) + at) (now (piece .entry)) ⌝ }
+        ≡ sets (now (buffer .entry)) (partStart 4096 (laneStart stream) + at) (now (payload .entry)) ⌝ }
 {
     match stream {
-        Stream::Control => copy(&mut buffer[0..4096], at, piece),
-        Stream::Ota => copy(&mut buffer[4096..8192], at, piece),
-        Stream::Alexa => copy(&mut buffer[8192..12288], at, piece),
+        Stream::Control => copy(&mut buffer[0..4096], at, payload),
+        Stream::Ota => copy(&mut buffer[4096..8192], at, payload),
+        Stream::Alexa => copy(&mut buffer[8192..12288], at, payload),
     }
 }

@@ -64,7 +64,7 @@ impl Receiver {
         self
     }
 
-    // A step of a stream's slot: its piece is written, and the slot replaced.
+    // A step of a stream's slot: its payload is written, and the slot replaced.
     fn store(self, buffer: &mut [u8], packet: &[u8], stream: Stream, step: Step) -> Outcome
         requires { ⌜ (length (now buffer) ≡ 12288) × Fit 4096 (length (now packet)) 0 (stepOf step) ⌝ }
         ensures { λ r. ⌜ result (told (r .answer)) (r .next .slots) (now (buffer .exit))
@@ -72,11 +72,11 @@ impl Receiver {
             (actBy (Stepped step)) ⌝ }
     {
         let place = buffer::place_of(stream);
-        let piece = step.piece;
-        let at = piece.at;
-        let start = piece.start;
-        let end = start + piece.len;
-        buffer::write_piece(buffer, stream, at, &packet[start..end]);
+        let payload = step.payload;
+        let at = payload.at;
+        let start = payload.start;
+        let end = start + payload.len;
+        buffer::write_payload(buffer, stream, at, &packet[start..end]);
         let left = step.slot;
         let answer = step.answer;
         let next = self.with_slot(place, left);

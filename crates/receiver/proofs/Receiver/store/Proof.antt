@@ -16,19 +16,19 @@ add-end : tie.Need-add-end
 unfolding stepOf
 add-end c = let i = c .before .before .before .before .before .pre .1 .inside in omega arith
 
-sub-write-piece : tie.Need-sub-write-piece
-sub-write-piece c = search needs
+sub-write-payload : tie.Need-sub-write-payload
+sub-write-payload c = search needs
 
-part-write-piece-start : tie.Need-part-write-piece-start
-part-write-piece-start c = search needs
+part-write-payload-start : tie.Need-part-write-payload-start
+part-write-payload-start c = search needs
 
-part-write-piece-end : tie.Need-part-write-piece-end
+part-write-payload-end : tie.Need-part-write-payload-end
 unfolding stepOf
-part-write-piece-end c = let i = c .before .before .before .before .before .before .pre .1 .inside in omega arith
+part-write-payload-end c = let i = c .before .before .before .before .before .before .pre .1 .inside in omega arith
 
-write-piece-requires : tie.Need-write-piece-requires
+write-payload-requires : tie.Need-write-payload-requires
 unfolding stepOf
-write-piece-requires c κs =
+write-payload-requires c κs =
     let s = c .before .before .before .before .before .before .before in
     let i = s .pre .1 .inside in
     (s .pre .0, simp (length-take, length-drop, add-sub-cancel-left) (omega arith))
@@ -45,7 +45,7 @@ returns c =
     let t = c .before .before .before .before .before .before .before .before .before in
     let first : laneStart (t .before .before .before .args .stream) + 0 ≡ laneStart (t .before .before .before .args .stream) = omega arith in
     rw first
-    (simp (c .with-slot .ensures, c .before .before .before .before .write-piece .ensures, t .place-of .ensures .0, add-sub-cancel-left))
+    (simp (c .with-slot .ensures, c .before .before .before .before .write-payload .ensures, t .place-of .ensures .0, add-sub-cancel-left))
 
 pub store-spec : {M : Type 1} → statement M
 store-spec =
@@ -53,10 +53,10 @@ store-spec =
     (tie.spec
     place-of-requires
     add-end
-    sub-write-piece
-    part-write-piece-start
-    part-write-piece-end
-    write-piece-requires
+    sub-write-payload
+    part-write-payload-start
+    part-write-payload-end
+    write-payload-requires
     with-slot-requires
     same-length
     returns)

@@ -4,8 +4,8 @@ use denote.Ref.{now}
 use mathlib.Core.Path.{refl, ap, _∙_}
 use native.Mathlib.Omega.{arith}
 use borrow.Author.Needs.{needs}
-use Rattle.receiver.proofs.buffer.write_piece.Statement.{statement}
-use Rattle.receiver.proofs.buffer.write_piece.Tie as tie
+use Rattle.receiver.proofs.buffer.write_payload.Statement.{statement}
+use Rattle.receiver.proofs.buffer.write_payload.Tie as tie
 
 enum-told : tie.Need-enum-told
 enum-told c = search needs
@@ -60,7 +60,7 @@ returns c =
     let s = c .before .before in
     let a = s .before .before .before .before .before .before .args in
     ap (putMid 0 4096 (now (a .buffer))) (s .copy .ensures)
-    ∙ sets-part (now (a .buffer)) 0 4096 (a .at) (now (a .piece)) (omega arith) (omega arith)
+    ∙ sets-part (now (a .buffer)) 0 4096 (a .at) (now (a .payload)) (omega arith) (omega arith)
     ∙ rw (s .before .before .enum-told .given .1) refl
 
 same-length-2 : tie.Need-same-length-2
@@ -71,7 +71,7 @@ returns-2 c =
     let s = c .before .before in
     let a = s .before .before .before .before .before .before .args in
     ap (putMid 4096 4096 (now (a .buffer))) (s .copy2 .ensures)
-    ∙ sets-part (now (a .buffer)) 4096 4096 (a .at) (now (a .piece)) (omega arith) (omega arith)
+    ∙ sets-part (now (a .buffer)) 4096 4096 (a .at) (now (a .payload)) (omega arith) (omega arith)
     ∙ rw (s .before .before .enum-told2 .given .1) refl
 
 same-length-3 : tie.Need-same-length-3
@@ -82,11 +82,11 @@ returns-3 c =
     let s = c .before .before in
     let a = s .before .before .before .before .before .before .args in
     ap (putMid 8192 4096 (now (a .buffer))) (s .copy3 .ensures)
-    ∙ sets-part (now (a .buffer)) 8192 4096 (a .at) (now (a .piece)) (omega arith) (omega arith)
+    ∙ sets-part (now (a .buffer)) 8192 4096 (a .at) (now (a .payload)) (omega arith) (omega arith)
     ∙ rw (s .before .before .enum-told3 .given .1) refl
 
-pub write-piece-spec : {M : Type 1} → statement M
-write-piece-spec =
+pub write-payload-spec : {M : Type 1} → statement M
+write-payload-spec =
     tie.close
     (tie.spec
     enum-told
