@@ -193,7 +193,13 @@ fn write_piece(how: Sending, message: &[u8], piece: Piece, out: &mut [u8]) -> An
 }
 
 // Writes the packet of the message whose piece begins at the place, for a link with a limit.
-pub fn write_packet(how: Sending, limit: usize, message: &[u8], place: usize, out: &mut [u8]) -> Answer
+pub fn write_packet(
+    how: Sending,
+    limit: usize,
+    message: &[u8],
+    place: usize,
+    out: &mut [u8],
+) -> Answer
     ensures { λ r. ⌜ written (told r) (now (out .exit))
         ≡ writtenOf limit how (now (message .entry)) place (now (out .entry)) ⌝ }
 {
