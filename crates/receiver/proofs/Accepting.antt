@@ -4,11 +4,12 @@ use native.Mathlib.Omega.{arith}
 use mathlib.Core.Path.{_≡_, refl, sym, _∙_}
 use mathlib.Core.Logic.{_≢_}
 use mathlib.Core.List.{List, [], _∷_}
-use mathlib.Core.Bool.{true, false, not}
+use mathlib.Core.Bool.{true, false, not, _&&_}
 use lib.ListN.{length, getD, drop, length-take, length-drop}
 use lib.Seq.{length-sets}
 use lib.Dec.{eqb}
 use borrow.Author.Tests.{eq-eqb, eqb-true, eqb-false}
+use Rattle.wire.specs.Limit.{limitFits}
 use Rattle.wire.specs.Told.{Told, given, refused, line}
 use Rattle.wire.specs.declared.stream.Stream.{Stream}
 use Rattle.wire.specs.Stream.{isStream, streamOf}
@@ -34,23 +35,26 @@ use Rattle.receiver.proofs.Parts.{part-elsewhere}
 
 -- ---- ready for a packet
 
--- a lawful state over a buffer of the right size
+-- a limit in its range, and a lawful state over a buffer of the right size
 pub record Fits (limit : ℕ) (slots : List Slot) (bytes : List ℕ) : Type 0 where
+  pub range : limitFits limit ≡ true
   pub law : lawful limit slots ≡ true
   pub size : length bytes ≡ slotCount * limit
 
 -- the test says so, both ways
-pub ready-says : (limit : ℕ) (slots : List Slot) (bytes : List ℕ) → ready limit slots bytes ≡ true → Fits limit slots bytes
+pub ready-says : (limit : ℕ) (slots : List Slot) (bytes : List ℕ) → ready limit slots (length bytes) ≡ true → Fits limit slots bytes
 unfolding ready
 ready-says limit slots bytes e =
+    let k = and-right (limitFits limit) (eqb (length bytes) (slotCount * limit) && lawful limit slots) e in
     record {
-      law = and-right (eqb (length bytes) (slotCount * limit)) _ e;
-      size = eqb-true (length bytes) (slotCount * limit) (and-left (eqb (length bytes) (slotCount * limit)) _ e);
+      range = and-left (limitFits limit) _ e;
+      law = and-right (eqb (length bytes) (slotCount * limit)) _ k;
+      size = eqb-true (length bytes) (slotCount * limit) (and-left (eqb (length bytes) (slotCount * limit)) _ k);
     }
 
-pub ready-holds : (limit : ℕ) (slots : List Slot) (bytes : List ℕ) → Fits limit slots bytes → ready limit slots bytes ≡ true
+pub ready-holds : (limit : ℕ) (slots : List Slot) (bytes : List ℕ) → Fits limit slots bytes → ready limit slots (length bytes) ≡ true
 unfolding ready
-ready-holds limit slots bytes r = rw (eq-eqb (length bytes) (slotCount * limit) (r .size)) (r .law)
+ready-holds limit slots bytes r = rw (r .range, eq-eqb (length bytes) (slotCount * limit) (r .size)) (r .law)
 
 -- what was read is acted on
 pub accept-ready : (limit : ℕ) (slots : List Slot) (bytes p : List ℕ) → Fits limit slots bytes
@@ -63,7 +67,7 @@ by-guard : (P : Result → Type 0) (limit : ℕ) (slots : List Slot) (bytes p : 
     → P (acted limit slots bytes p (readOf limit p)) → P (acceptOf limit slots bytes p)
 unfolding acceptOf
 by-guard P limit slots bytes p a b =
-    by-table P (line 1 (not (ready limit slots bytes)) ∷ []) (λ n. result (refused n) slots bytes) (acted limit slots bytes p (readOf limit p)) a (λ h. b)
+    by-table P (line 1 (not (ready limit slots (length bytes))) ∷ []) (λ n. result (refused n) slots bytes) (acted limit slots bytes p (readOf limit p)) a (λ h. b)
 
 -- ---- the buffer keeps its length
 
@@ -111,7 +115,7 @@ accept-lawful limit slots bytes p law =
 pub ready-next : (limit : ℕ) (slots : List Slot) (bytes p : List ℕ) → Fits limit slots bytes
     → Fits limit (acceptOf limit slots bytes p .slots) (acceptOf limit slots bytes p .bytes)
 ready-next limit slots bytes p r =
-    record { law = accept-lawful limit slots bytes p (r .law); size = accept-length limit slots bytes p ∙ r .size }
+    record { range = r .range; law = accept-lawful limit slots bytes p (r .law); size = accept-length limit slots bytes p ∙ r .size }
 
 -- ---- a packet of another stream
 
