@@ -1,7 +1,6 @@
 -- What the writer's packets do to the receiver, one by one.
-use Prim.Native.Nat.{ℕ, suc, _+_, _*_, _≤_, _<_}
+use Prim.Native.Nat.{ℕ, suc, _+_, _≤_, _<_}
 use native.Mathlib.Omega.{arith}
-use native.Mathlib.Nat.{suc-mul, mul-le-mul-right}
 use mathlib.Core.Path.{_≡_, refl, sym, ap, _∙_}
 use mathlib.Core.Option.{Option, none, some}
 use mathlib.Core.List.{List, [], _∷_}
@@ -24,6 +23,7 @@ use Rattle.slot.proofs.Slots.{lawful-count}
 use Rattle.slot.proofs.Lanes.{place-low, lane-set, lane-one}
 use Rattle.receiver.specs.Buffer.{partStart, partOf, stored}
 use Rattle.receiver.specs.Receiver.{Result, applied, actIn, acceptOf}
+use Rattle.receiver.proofs.Parts.{part-inside}
 use Rattle.receiver.proofs.Accepting.{Fits, accept-ready, ready-next, accept-other}
 use Rattle.sender.specs.declared.piece.Piece.{Piece}
 use Rattle.sender.specs.declared.writer.Sending.{Sending}
@@ -86,9 +86,7 @@ payloadFor p = record { at = p .place; start = headerSize (isFirst (p .index)) (
 
 module _ (limit : ℕ) (w : Sending) (m : List ℕ) (ok : InRange limit w (length m)) (slots : List Slot) (bytes : List ℕ) (o : Fits limit slots bytes) where
   inside : partStart limit (placeFor w) + limit ≤ length bytes
-  inside =
-      let u : suc (placeFor w) * limit ≤ slotCount * limit = mul-le-mul-right limit (place-low (streamFor w) 0 (omega arith)) in
-      omega (arith, suc-mul (placeFor w) limit, o .size)
+  inside = rw (o .size) (part-inside limit (placeFor w) (place-low (streamFor w) 0 (omega arith)))
 
   module _ (p : Piece) (within : p .place + p .size ≤ length m) (before : take (p .place) (partOf limit (placeFor w) bytes) ≡ take (p .place) m) (replaced : Bool) (r : Result) where
     -- the piece stands behind what was held

@@ -62,6 +62,11 @@ pub accept-ready : (limit : ℕ) (slots : List Slot) (bytes p : List ℕ) → Fi
 unfolding acceptOf
 accept-ready limit slots bytes p r = rw (ready-holds limit slots bytes r)
 
+-- with a limit out of its range every packet is refused by 1, and leaves all
+pub limit-refused : (limit : ℕ) (slots : List Slot) (bytes p : List ℕ) → limitFits limit ≡ false → acceptOf limit slots bytes p ≡ result (refused 1) slots bytes
+unfolding ready acceptOf
+limit-refused limit slots bytes p e = rw e
+
 -- a law of every packet: it holds where refusal 1 leaves all, and of what was read
 by-guard : (P : Result → Type 0) (limit : ℕ) (slots : List Slot) (bytes p : List ℕ) → ((n : ℕ) → P (result (refused n) slots bytes))
     → P (acted limit slots bytes p (readOf limit p)) → P (acceptOf limit slots bytes p)

@@ -40,8 +40,9 @@ returns c =
     let told = c .before .before .before .before .before .before .before .before .before .before .before .before in
     let done = told .before .before .before in
     rw (
-      ← (done .before .before .receiver-of .ensures),
-      ← (done .accept .ensures),
+      ← (done .before .before .receiver-of .ensures .0),
+      ← (done .before .before .receiver-of .ensures .1),
+      ← (done .accept .ensures .0),
       c .before .before .put .ensures,
       c .before .before .before .before .before .before .before .put-slots .ensures,
       told .answer-number .ensures,
