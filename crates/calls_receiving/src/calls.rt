@@ -5,6 +5,7 @@ use crate::convert::STATE;
 use crate::convert::answer_number;
 use crate::convert::answer_row;
 use crate::convert::is_receiver;
+use crate::convert::put_limit;
 use crate::convert::put_slots;
 use crate::convert::receiver_of;
 use receiver::Receiver;
@@ -33,7 +34,7 @@ pub fn receiver_open(limit: u64, state: &mut [u64]) -> u64
     }
     let empty = opened.state;
     let slots = empty.slots;
-    state[0] = limit;
+    put_limit(state, limit);
     put_slots(state, DONE, slots);
     DONE
 }

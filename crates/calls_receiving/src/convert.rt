@@ -15,8 +15,8 @@ use wire::logic::both;
 use wire::stream::Stream;
 ghost use mathlib.Core.Path.{_≡_};
 ghost use mathlib.Core.Bool.{true};
-ghost use Prim.Native.Nat.{_+_, _≤_};
-ghost use lib.ListN.{length};
+ghost use Prim.Native.Nat.{_+_, _≤_, _<_};
+ghost use lib.ListN.{length, set};
 ghost use lib.Seq.{sets};
 ghost use Rattle.wire.specs.Stream.{streamNumber};
 ghost use Rattle.slot.specs.Answer.{told};
@@ -91,11 +91,12 @@ pub fn receiver_of(row: &[u64]) -> Receiver
     requires { ⌜ isReceiver (now row) ≡ true ⌝ }
     ensures { λ r. ⌜ (r .limit ≡ limitOf (now (row .entry))) × (r .slots ≡ slotsOf (now (row .entry))) ⌝ }
 {
+    let limit = row[0];
     let control = slot_of(row, CONTROL);
     let ota = slot_of(row, OTA);
     let alexa = slot_of(row, ALEXA);
     Receiver {
-        limit: row[0] as usize,
+        limit: limit as usize,
         slots: [control, ota, alexa],
     }
 }
@@ -120,6 +121,14 @@ fn put_slot(row: &mut [u64], at: usize, slot: Slot)
 {
     let numbers = slot_row(slot);
     fill(row, at, &numbers);
+}
+
+// Writes the limit of the state row.
+pub fn put_limit(row: &mut [u64], limit: u64)
+    requires { ⌜ 0 < length (now row) ⌝ }
+    ensures { λ _. ⌜ now (row .exit) ≡ set (now (row .entry)) 0 limit ⌝ }
+{
+    row[0] = limit;
 }
 
 // Writes the slots of the state row, unless the call is refused by 1; the limit stays.

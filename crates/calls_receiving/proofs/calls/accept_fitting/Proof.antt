@@ -47,6 +47,7 @@ returns c =
       c .before .before .before .before .before .before .before .put-slots .ensures,
       told .answer-number .ensures,
       c .before .before .before .before .before .before .before .before .before .before .before .answer-row .ensures,
+      done .before .before .receiver-of .ensures .0,
     )
 
 pub accept-fitting-spec : {M : Type 1} → statement M

@@ -1,38 +1,56 @@
+use native.Mathlib.Omega.{arith}
+use mathlib.Core.Path.{sym, _∙_}
+use lib.Seq.{getD-set-same}
+use denote.Ref.{now}
+use borrow.Author.Tests.{eq-eqb, ne-eqb, not-true, not-false}
+use Rattle.wire.specs.Limit.{limitFits}
+use Rattle.receiver.specs.Receiver.{openOf}
+use Rattle.receiver.proofs.Opening.{opened-by}
+use Rattle.calls_receiving.specs.Calls.{receiverOpenOf}
 use borrow.Author.Needs.{needs}
 use Rattle.calls_receiving.proofs.calls.receiver_open.Statement.{statement}
 use Rattle.calls_receiving.proofs.calls.receiver_open.Tie as tie
-use Rattle.calls_receiving.proofs.calls.receiver_open.Reads as reads
-use Rattle.calls_receiving.proofs.calls.receiver_open.Lts as lts
-use Rattle.calls_receiving.proofs.convert.put_slots.Reads as put-slots-reads
-use Rattle.receiver.proofs.Receiver.open.Reads as open-reads
 
--- src/calls.rt:28:9
 returns : tie.Need-returns
-returns c = ?
+unfolding receiverOpenOf
+returns c = rw (ne-eqb _ _ (c .if1 .taken))
 
--- src/calls.rt:30:9
 open-requires : tie.Need-open-requires
 open-requires c κs = search needs
 
--- src/calls.rt:32:9
 returns-2 : tie.Need-returns-2
-returns-2 c = ?
+unfolding receiverOpenOf
+returns-2 c =
+    let o = c .before .«open» in
+    let limit = c .before .before .before .before .args .limit in
+    rw (eq-eqb _ _ (c .before .before .if1 .left), sym (opened-by limit (o .result) (o .ensures .0)) ∙ c .if2 .taken)
 
--- src/calls.rt:36:5
-slice-write-state : tie.Need-slice-write-state
-slice-write-state c = search needs
+put-limit-requires : tie.Need-put-limit-requires
+put-limit-requires c κs = search needs
 
--- src/calls.rt:37:5
 put-slots-requires : tie.Need-put-slots-requires
 put-slots-requires c κs = search needs
 
--- src/calls.rt:24:1
 same-length : tie.Need-same-length
-same-length c = ?
+same-length c = search needs
 
--- src/calls.rt:24:1
 returns-3 : tie.Need-returns-3
-returns-3 c = ?
+unfolding receiverOpenOf openOf
+returns-3 c =
+    let written = c .before .before .before .before .before .before in
+    let o = written .before .before .before .before .before .«open» in
+    let fit = written .before .before .before .before .before .before in
+    let a = fit .before .before .args in
+    let fits = not-false (limitFits (a .limit)) (sym (opened-by (a .limit) (o .result) (o .ensures .0)) ∙ written .before .before .before .before .if2 .left) in
+    rw (
+      eq-eqb _ _ (fit .if1 .left),
+      fits,
+      c .before .before .put-slots .ensures,
+      written .put-limit .ensures,
+      getD-set-same (now (a .state)) 0 (a .limit) 0 (omega (arith, fit .if1 .left)),
+      o .ensures .1,
+      fits,
+    )
 
 pub receiver-open-spec : {M : Type 1} → statement M
 receiver-open-spec =
@@ -41,7 +59,7 @@ receiver-open-spec =
     returns
     open-requires
     returns-2
-    slice-write-state
+    put-limit-requires
     put-slots-requires
     same-length
     returns-3)
