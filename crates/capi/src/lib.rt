@@ -24,6 +24,7 @@ use calls_outbox::calls::outbox_whole;
 use calls_parts::calls::frame_begin;
 use calls_parts::calls::frame_part;
 use calls_receiving::calls::receiver_accept;
+use calls_receiving::calls::receiver_open;
 use calls_sending::calls::ack_write;
 use calls_sending::calls::packet_write;
 ghost use mathlib.Core.Path.{_≡_};
@@ -33,7 +34,7 @@ ghost use Rattle.calls_classic.specs.Calls.{extractorStepOf, extractorFeedOf, f
 ghost use Rattle.calls_parts.specs.Calls.{frameBeginOf, framePartOf};
 ghost use Rattle.calls_sending.specs.Calls.{packetWriteOf, ackWriteOf};
 ghost use Rattle.calls_sending.specs.Convert.{sendingOf};
-ghost use Rattle.calls_receiving.specs.Calls.{receiverAcceptOf};
+ghost use Rattle.calls_receiving.specs.Calls.{receiverOpenOf, receiverAcceptOf};
 ghost use Rattle.calls_messages.specs.Calls.{envelopeReadOf, envelopeWriteOf, responseReadOf, responseWriteOf, informationReadOf, informationWriteOf, featuresReadOf, featuresWriteOf};
 ghost use Rattle.rows_messages.specs.Convert.{payloadFor};
 ghost use Rattle.calls_firmware.specs.Calls.{segmentReadOf, segmentWriteOf, applyReadOf, applyWriteOf, fieldReadOf};
@@ -115,10 +116,11 @@ pub extern "C" fn pito_next_sequence(sequence: u8, answer: &mut [u64]) -> u64
 
 // ---- Low Energy: sending
 
-// Writes the packet of a message whose piece begins at a place.
+// Writes the packet of a message whose piece begins at a place, for a link with a limit.
 #[no_mangle]
 pub extern "C" fn pito_packet_write(
     room: u64,
+    limit: u64,
     stream: u64,
     id: u64,
     sequence: u64,
@@ -129,11 +131,12 @@ pub extern "C" fn pito_packet_write(
     answer: &mut [u64],
 ) -> u64
     ensures { λ r. ⌜ called r [] (now (output .exit)) (now (answer .exit))
-        ≡ packetWriteOf 4096 (sendingOf room stream id sequence ack) (now (message .entry)) place (now (output .entry))
+        ≡ packetWriteOf limit (sendingOf room stream id sequence ack) (now (message .entry)) place (now (output .entry))
         (now (answer .entry)) ⌝ }
 {
     packet_write(
         room,
+        limit,
         stream,
         id,
         sequence,
@@ -163,6 +166,14 @@ pub extern "C" fn pito_ack_write(
 
 // ---- Low Energy: receiving
 
+// A receiver opened for a link with a limit.
+#[no_mangle]
+pub extern "C" fn pito_receiver_open(limit: u64, state: &mut [u64]) -> u64
+    ensures { λ r. ⌜ called r (now (state .exit)) [] [] ≡ receiverOpenOf limit (now (state .entry)) ⌝ }
+{
+    receiver_open(limit, state)
+}
+
 // One packet given to the receiver.
 #[no_mangle]
 pub extern "C" fn pito_receiver_accept(
@@ -172,7 +183,7 @@ pub extern "C" fn pito_receiver_accept(
     answer: &mut [u64],
 ) -> u64
     ensures { λ r. ⌜ called r (now (state .exit)) (now (buffer .exit)) (now (answer .exit))
-        ≡ receiverAcceptOf 4096 (now (state .entry)) (now (buffer .entry)) (now (packet .entry)) (now (answer .entry)) ⌝ }
+        ≡ receiverAcceptOf (now (state .entry)) (now (buffer .entry)) (now (packet .entry)) (now (answer .entry)) ⌝ }
 {
     receiver_accept(state, buffer, packet, answer)
 }
