@@ -14,7 +14,7 @@ use Rattle.wire.proofs.Stores.{first-bytes}
 use Rattle.wire.proofs.Tests.{and-left, and-right}
 use Rattle.framing.specs.Mark.{isMark}
 use Rattle.framing.specs.Frame.{frameOf}
-use Rattle.parts.specs.declared.state.PartWriter.{PartWriter}
+use Rattle.parts.specs.declared.state.Progress.{Progress}
 use Rattle.parts.specs.State.{startOf, ended}
 use Rattle.parts.specs.Byte.{Byte}
 use Rattle.parts.specs.Fill.{andOn, fillOf}
@@ -26,12 +26,12 @@ use Rattle.parts_claims.proofs.Filled.{fills, call-goes, call-filled}
 
 -- ---- calls one after another
 
-pub record Went (s : PartWriter) (p : List ℕ) (run : Run) : Type 0 where
+pub record Went (s : Progress) (p : List ℕ) (run : Run) : Type 0 where
   pub left : List ℕ
   pub joins : leftOf s p ≡ run .bytes ++ leftOf (run .next) left
   pub firsts : (m : ℕ) → firstsIn (length (run .bytes) + m) s p ≡ run .taken + firstsIn m (run .next) left
 
-run-went : (limit : ℕ) (cs : List Call) (s : PartWriter) (p : List ℕ) → Fits s p → Went s p (runOf limit cs s p)
+run-went : (limit : ℕ) (cs : List Call) (s : Progress) (p : List ℕ) → Fits s p → Went s p (runOf limit cs s p)
 unfolding runOf
 run-went limit [] s p f = record { left = p; joins = refl; firsts = λ m. rw (zero-add, zero-add) }
 run-went limit (c ∷ cs) s p f =
@@ -51,14 +51,14 @@ run-went limit (c ∷ cs) s p f =
 
 -- ---- fruitful calls come to the end
 
-turn-nearer : (room n : ℕ) (s : PartWriter) (p : List ℕ) {x : Byte} → 1 ≤ n → Emits s p n x
+turn-nearer : (room n : ℕ) (s : Progress) (p : List ℕ) {x : Byte} → 1 ≤ n → Emits s p n x
     → (let f = andOn s x (λ next k. fillOf room next (drop k (take n p))) in 1 ≤ length (f .bytes) + (1 - length (leftOf s p)))
 turn-nearer room n s p h (ends e) = rw e (omega arith)
 turn-nearer room n s p h (starves) = absurd (omega arith)
 turn-nearer room n s p h (own b q next e fits same count) = omega arith
 turn-nearer room (suc n) s p h (takes b x xs next e fits same count) = omega arith
 
-fill-nearer : (room n : ℕ) (s : PartWriter) (p : List ℕ) → Fits s p → 1 ≤ room → 1 ≤ n → 1 ≤ length (fillOf room s (take n p) .bytes) + (1 - length (leftOf s p))
+fill-nearer : (room n : ℕ) (s : Progress) (p : List ℕ) → Fits s p → 1 ≤ room → 1 ≤ n → 1 ≤ length (fillOf room s (take n p) .bytes) + (1 - length (leftOf s p))
 unfolding fillOf
 fill-nearer zero n s p f r h = absurd (omega arith)
 fill-nearer (suc room) n s p f r h = turn-nearer room n s p h (view s p n f)
@@ -67,7 +67,7 @@ fill-nearer (suc room) n s p f r h = turn-nearer room n s p h (view s p n f)
 abbrev least : Call → ℕ
 least c = cond (isFruitful c) 1 0
 
-call-nearer : (limit : ℕ) (s : PartWriter) (p : List ℕ) (c : Call) → Fits s p → isMark (s .sequence) ≡ false → s .total ≤ limit
+call-nearer : (limit : ℕ) (s : Progress) (p : List ℕ) (c : Call) → Fits s p → isMark (s .sequence) ≡ false → s .total ≤ limit
     → (let w = partOf limit s (offeredBy c p) (lentBy c) in least c ≤ length (writtenBy (w .told) (w .out)) + (1 - length (leftOf s p)))
 call-nearer limit s p (beyond b bs out) f m t = omega arith
 call-nearer limit s p (part n out) f m t = go (leb 1 n && leb 1 (length out)) refl
@@ -82,7 +82,7 @@ call-nearer limit s p (part n out) f m t = go (leb 1 n && leb 1 (length out)) re
         rw (call-filled limit s (take n p) out m t most lends, first-bytes out (fillOf (length out) s (take n p) .bytes) (fills (length out) n s p f .1))
         (fill-nearer (length out) n s p f lends offers)
 
-ends-in : (limit : ℕ) (cs : List Call) (s : PartWriter) (p : List ℕ) → Fits s p → isMark (s .sequence) ≡ false → s .total ≤ limit
+ends-in : (limit : ℕ) (cs : List Call) (s : Progress) (p : List ℕ) → Fits s p → isMark (s .sequence) ≡ false → s .total ≤ limit
     → length (leftOf s p) ≤ fruitful cs → ended (runOf limit cs s p .next) ≡ true
 unfolding runOf fruitful
 ends-in limit [] s p f m t h = left-ended s p (omega arith)

@@ -5,7 +5,7 @@ use mathlib.Core.Logic.{_≢_}
 use mathlib.Core.List.{List, [], _∷_}
 use lib.ListN.{length}
 use Rattle.framing.specs.Frame.{frameOf}
-use Rattle.parts.specs.declared.state.PartWriter.{PartWriter}
+use Rattle.parts.specs.declared.state.Progress.{Progress}
 use Rattle.parts_claims.specs.Run.{Call, part, beyond, fruitful}
 use Rattle.parts_claims.specs.Joined.{Sending, Sendable}
 use Rattle.parts_claims.specs.Stopping.{Offering}
@@ -26,7 +26,7 @@ SendableWhen =
 -- a lawful state, at most as many bytes as are missing, an output of one byte or more
 abbrev pub OfferingWhen : Type 0
 OfferingWhen =
-    (limit : ℕ) (s : PartWriter) (offered out : List ℕ)
+    (limit : ℕ) (s : Progress) (offered out : List ℕ)
     → s .sequence < 256
     → NoMark (s .sequence)
     → s .total ≤ limit

@@ -4,8 +4,8 @@ use lib.ListN.{drop-of-length-le}
 use lib.Seq.{drop-cons}
 use Prim.Native.Nat.{ℕ}
 use borrow.Author.Needs.{needs}
-use Rattle.parts.proofs.state.PartWriter.body.Statement.{statement}
-use Rattle.parts.proofs.state.PartWriter.body.Tie as tie
+use Rattle.parts.proofs.state.Progress.body.Statement.{statement}
+use Rattle.parts.proofs.state.Progress.body.Tie as tie
 
 cast-closing : tie.Need-cast-closing
 cast-closing c = search needs

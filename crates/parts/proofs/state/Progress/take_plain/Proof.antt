@@ -3,8 +3,8 @@ use native.Mathlib.Nat.{add-sub-cancel-left}
 use native.Mathlib.Omega.{arith}
 use Rattle.parts.proofs.FastPath.{onward-plain}
 use borrow.Author.Needs.{needs}
-use Rattle.parts.proofs.state.PartWriter.take_plain.Statement.{statement}
-use Rattle.parts.proofs.state.PartWriter.take_plain.Tie as tie
+use Rattle.parts.proofs.state.Progress.take_plain.Statement.{statement}
+use Rattle.parts.proofs.state.Progress.take_plain.Tie as tie
 
 sub-run-limit : tie.Need-sub-run-limit
 sub-run-limit c = search needs

@@ -1,6 +1,6 @@
 use borrow.Author.Needs.{needs}
-use Rattle.parts.proofs.state.PartWriter.closing.Statement.{statement}
-use Rattle.parts.proofs.state.PartWriter.closing.Tie as tie
+use Rattle.parts.proofs.state.Progress.closing.Statement.{statement}
+use Rattle.parts.proofs.state.Progress.closing.Tie as tie
 
 first-requires : tie.Need-first-requires
 first-requires c κs = search needs

@@ -3,8 +3,8 @@ use lib.ListN.{length, length-set}
 use native.Mathlib.Omega.{arith}
 use Rattle.parts.proofs.FastPath.{pair-facts, onward-pair}
 use borrow.Author.Needs.{needs}
-use Rattle.parts.proofs.state.PartWriter.take_pair.Statement.{statement}
-use Rattle.parts.proofs.state.PartWriter.take_pair.Tie as tie
+use Rattle.parts.proofs.state.Progress.take_pair.Statement.{statement}
+use Rattle.parts.proofs.state.Progress.take_pair.Tie as tie
 
 byte-at-requires : tie.Need-byte-at-requires
 byte-at-requires c κs = search needs

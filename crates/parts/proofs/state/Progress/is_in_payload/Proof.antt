@@ -1,6 +1,6 @@
 use borrow.Author.Needs.{needs}
-use Rattle.parts.proofs.state.PartWriter.is_in_payload.Statement.{statement}
-use Rattle.parts.proofs.state.PartWriter.is_in_payload.Tie as tie
+use Rattle.parts.proofs.state.Progress.is_in_payload.Statement.{statement}
+use Rattle.parts.proofs.state.Progress.is_in_payload.Tie as tie
 
 is-payload-requires : tie.Need-is-payload-requires
 is-payload-requires c κs = search needs

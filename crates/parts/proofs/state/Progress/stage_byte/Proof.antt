@@ -1,8 +1,8 @@
 use mathlib.Core.Path.{sym, _∙_}
 use Rattle.parts.proofs.Filling.{payload-stage}
 use borrow.Author.Needs.{needs}
-use Rattle.parts.proofs.state.PartWriter.stage_byte.Statement.{statement}
-use Rattle.parts.proofs.state.PartWriter.stage_byte.Tie as tie
+use Rattle.parts.proofs.state.Progress.stage_byte.Statement.{statement}
+use Rattle.parts.proofs.state.Progress.stage_byte.Tie as tie
 
 enum-told : tie.Need-enum-told
 enum-told c = search needs

@@ -1,7 +1,7 @@
 use mathlib.Core.Path.{sym, _∙_}
 use borrow.Author.Needs.{needs}
-use Rattle.parts.proofs.state.PartWriter.pass.Statement.{statement}
-use Rattle.parts.proofs.state.PartWriter.pass.Tie as tie
+use Rattle.parts.proofs.state.Progress.pass.Statement.{statement}
+use Rattle.parts.proofs.state.Progress.pass.Tie as tie
 
 is-in-payload-requires : tie.Need-is-in-payload-requires
 is-in-payload-requires c κs = search needs

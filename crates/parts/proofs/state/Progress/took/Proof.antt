@@ -1,6 +1,6 @@
 use borrow.Author.Needs.{needs}
-use Rattle.parts.proofs.state.PartWriter.took.Statement.{statement}
-use Rattle.parts.proofs.state.PartWriter.took.Tie as tie
+use Rattle.parts.proofs.state.Progress.took.Statement.{statement}
+use Rattle.parts.proofs.state.Progress.took.Tie as tie
 
 add-t4 : tie.Need-add-t4
 add-t4 c = search needs

@@ -6,8 +6,8 @@ use native.Mathlib.Omega.{arith}
 use Rattle.parts.specs.State.{inPayload}
 use Rattle.parts.specs.FastPath.{Onward}
 use Rattle.parts.proofs.FastPath.{onward-here, onward-then}
-use Rattle.parts.proofs.state.PartWriter.take_body.Statement.{statement}
-use Rattle.parts.proofs.state.PartWriter.take_body.Tie as tie
+use Rattle.parts.proofs.state.Progress.take_body.Statement.{statement}
+use Rattle.parts.proofs.state.Progress.take_body.Tie as tie
 
 abbrev Inv-loop : tie.InvT-loop
 Inv-loop payload taken out₀ at here₀ got₀ place₀ out here got place = (Onward payload here₀ out₀ taken at here out got place) × (inPayload here ≡ true)

@@ -2,8 +2,8 @@ use mathlib.Core.Path.{sym, _∙_}
 use Rattle.parts.proofs.Filling.{plain-pending}
 use Rattle.parts.specs.Byte.{byteOf}
 use borrow.Author.Needs.{needs}
-use Rattle.parts.proofs.state.PartWriter.emit.Statement.{statement}
-use Rattle.parts.proofs.state.PartWriter.emit.Tie as tie
+use Rattle.parts.proofs.state.Progress.emit.Statement.{statement}
+use Rattle.parts.proofs.state.Progress.emit.Tie as tie
 
 enum-told : tie.Need-enum-told
 enum-told c = search needs

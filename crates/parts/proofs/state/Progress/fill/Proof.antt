@@ -5,8 +5,8 @@ use native.Mathlib.Omega.{arith}
 use borrow.Author.Needs.{needs}
 use Rattle.parts.specs.Byte.{toldByte}
 use Rattle.parts.proofs.Filling.{Filling, filling-begins, filling-on, filling-taken, filling-byte, filling-stops, filling-full}
-use Rattle.parts.proofs.state.PartWriter.fill.Statement.{statement}
-use Rattle.parts.proofs.state.PartWriter.fill.Tie as tie
+use Rattle.parts.proofs.state.Progress.fill.Statement.{statement}
+use Rattle.parts.proofs.state.Progress.fill.Tie as tie
 
 abbrev Inv-loop : tie.InvT-loop
 Inv-loop payload out₀ state₀ taken₀ i₀ out state taken i = Filling payload out₀ state₀ out state taken i

@@ -1,6 +1,6 @@
 use borrow.Author.Needs.{needs}
-use Rattle.parts.proofs.state.PartWriter.has_ended.Statement.{statement}
-use Rattle.parts.proofs.state.PartWriter.has_ended.Tie as tie
+use Rattle.parts.proofs.state.Progress.has_ended.Statement.{statement}
+use Rattle.parts.proofs.state.Progress.has_ended.Tie as tie
 
 is-done-requires : tie.Need-is-done-requires
 is-done-requires c κs = search needs
