@@ -10,6 +10,7 @@ use lib.ListN.{length, take, drop, length-append, length-take}
 use lib.Dec.{ltb, eqb}
 use borrow.Author.Tests.{lt-ltb, le-ltb, le-leb, ne-eqb}
 use Rattle.wire.specs.Told.{given, refused}
+use Rattle.wire.specs.Limit.{limitFits}
 use Rattle.wire.proofs.Stores.{first-bytes}
 use Rattle.framing.specs.Mark.{isMark}
 use Rattle.parts.specs.declared.state.Progress.{Progress}
@@ -102,11 +103,12 @@ call-goes limit s p (beyond b bs out) f = beyond-goes limit s p bs b out f
 -- ---- a call that is not refused
 
 pub call-filled : (limit : ℕ) (s : Progress) (offered out : List ℕ)
-    → isMark (s .sequence) ≡ false → s .total ≤ limit → s .taken + length offered ≤ s .total → 1 ≤ length out
+    → limitFits limit ≡ true → isMark (s .sequence) ≡ false → s .total ≤ limit → s .taken + length offered ≤ s .total → 1 ≤ length out
     → partOf limit s offered out ≡ filled out (fillOf (length out) s offered)
 unfolding lawful
-call-filled limit s offered out m t h o =
+call-filled limit s offered out range m t h o =
     rw (
+      range,
       m,
       le-ltb limit (s .total) t,
       le-leb (s .taken) (s .total) (omega arith),

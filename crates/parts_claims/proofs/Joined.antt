@@ -10,6 +10,7 @@ use lib.Seq.{take-append-seam}
 use lib.Dec.{ltb, leb}
 use borrow.Author.Tests.{le-ltb, leb-true}
 use Rattle.wire.specs.Told.{given}
+use Rattle.wire.specs.Limit.{limitFits}
 use Rattle.wire.proofs.Stores.{first-bytes}
 use Rattle.wire.proofs.Tests.{and-left, and-right}
 use Rattle.framing.specs.Mark.{isMark}
@@ -67,10 +68,10 @@ fill-nearer (suc room) n s p f r h = turn-nearer room n s p h (view s p n f)
 abbrev least : Call → ℕ
 least c = cond (isFruitful c) 1 0
 
-call-nearer : (limit : ℕ) (s : Progress) (p : List ℕ) (c : Call) → Fits s p → isMark (s .sequence) ≡ false → s .total ≤ limit
+call-nearer : (limit : ℕ) (s : Progress) (p : List ℕ) (c : Call) → Fits s p → limitFits limit ≡ true → isMark (s .sequence) ≡ false → s .total ≤ limit
     → (let w = partOf limit s (offeredBy c p) (lentBy c) in least c ≤ length (writtenBy (w .told) (w .out)) + (1 - length (leftOf s p)))
-call-nearer limit s p (beyond b bs out) f m t = omega arith
-call-nearer limit s p (part n out) f m t = go (leb 1 n && leb 1 (length out)) refl
+call-nearer limit s p (beyond b bs out) f range m t = omega arith
+call-nearer limit s p (part n out) f range m t = go (leb 1 n && leb 1 (length out)) refl
   where
     go : (b : Bool) → (leb 1 n && leb 1 (length out)) ≡ b
         → (let w = partOf limit s (take n p) out in cond b 1 0 ≤ length (writtenBy (w .told) (w .out)) + (1 - length (leftOf s p)))
@@ -79,28 +80,28 @@ call-nearer limit s p (part n out) f m t = go (leb 1 n && leb 1 (length out)) re
         let offers = leb-true 1 n (and-left (leb 1 n) (leb 1 (length out)) e) in
         let lends = leb-true 1 (length out) (and-right (leb 1 n) (leb 1 (length out)) e) in
         let most : s .taken + length (take n p) ≤ s .total = rw length-take (omega (arith, f .told)) in
-        rw (call-filled limit s (take n p) out m t most lends, first-bytes out (fillOf (length out) s (take n p) .bytes) (fills (length out) n s p f .1))
+        rw (call-filled limit s (take n p) out range m t most lends, first-bytes out (fillOf (length out) s (take n p) .bytes) (fills (length out) n s p f .1))
         (fill-nearer (length out) n s p f lends offers)
 
-ends-in : (limit : ℕ) (cs : List Call) (s : Progress) (p : List ℕ) → Fits s p → isMark (s .sequence) ≡ false → s .total ≤ limit
+ends-in : (limit : ℕ) → limitFits limit ≡ true → (cs : List Call) (s : Progress) (p : List ℕ) → Fits s p → isMark (s .sequence) ≡ false → s .total ≤ limit
     → length (leftOf s p) ≤ fruitful cs → ended (runOf limit cs s p .next) ≡ true
 unfolding runOf fruitful
-ends-in limit [] s p f m t h = left-ended s p (omega arith)
-ends-in limit (c ∷ cs) s p f m t h =
+ends-in limit range [] s p f m t h = left-ended s p (omega arith)
+ends-in limit range (c ∷ cs) s p f m t h =
     let w = partOf limit s (offeredBy c p) (lentBy c) in
     let g = call-goes limit s p c f in
     let bytes = writtenBy (w .told) (w .out) in
     let rest = leftOf (w .next) (drop (takenBy (w .told)) p) in
     let size : length (leftOf s p) ≡ length bytes + length rest = ap length (g .joins) ∙ length-append bytes rest in
-    let near = call-nearer limit s p c f m t in
-    ends-in limit cs (w .next) (drop (takenBy (w .told)) p) (g .fits) (ap isMark (g .same .0) ∙ m) (rw (g .same .1) t) (omega (arith, size, near, h))
+    let near = call-nearer limit s p c f range m t in
+    ends-in limit range cs (w .next) (drop (takenBy (w .told)) p) (g .fits) (ap isMark (g .same .0) ∙ m) (rw (g .same .1) t) (omega (arith, size, near, h))
 
 -- ---- the claim
 
 whole-frame : (limit : ℕ) (m : Sending) → Sendable limit m → wholeOf limit m ≡ frameOf (m .sequence) (m .payload)
 whole-frame limit m k =
     let f = frameOf (m .sequence) (m .payload) in
-    rw (k .unmarked, le-ltb limit (length (m .payload)) (omega (arith, k .fits)), le-ltb (length (m .out)) (length f) (k .room))
+    rw (k .range, k .unmarked, le-ltb limit (length (m .payload)) (omega (arith, k .fits)), le-ltb (length (m .out)) (length f) (k .room))
     (first-bytes (m .out) f (k .room))
 
 joins-frame : (limit : ℕ) (m : Sending) (calls : List Call) → Sendable limit m
@@ -120,9 +121,9 @@ joins-frame limit m calls k =
       taken =
           sym (sym (start-firsts (length (run .bytes)) q (length p) p) ∙ ap (λ (n : ℕ). firstsIn n s p) (sym (add-zero (length (run .bytes)))) ∙ r .firsts 0
           ∙ ap (λ (n : ℕ). run .taken + n) (firsts-none (run .next) (r .left)) ∙ add-zero (run .taken));
-      ends = λ h. ends-in limit calls s p (start-fits q p) (k .unmarked) (omega (arith, k .fits)) (rw (start-left q (length p) p) h);
+      ends = λ h. ends-in limit (k .range) calls s p (start-fits q p) (k .unmarked) (omega (arith, k .fits)) (rw (start-left q (length p) p) h);
     }
 
 pub parts-join : PartsJoin
 parts-join limit m calls k =
-    (rw (k .unmarked, le-ltb limit (length (m .payload)) (omega (arith, k .fits))), whole-frame limit m k, rw (whole-frame limit m k) (joins-frame limit m calls k))
+    (rw (k .range, k .unmarked, le-ltb limit (length (m .payload)) (omega (arith, k .fits))), whole-frame limit m k, rw (whole-frame limit m k) (joins-frame limit m calls k))

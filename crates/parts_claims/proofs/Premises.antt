@@ -7,6 +7,7 @@ use native.Mathlib.Numerals.{one-add}
 use native.Mathlib.Omega.{arith}
 use lib.ListN.{length}
 use borrow.Author.Tests.{ne-eqb, le-leb}
+use Rattle.wire.proofs.Limits.{range-limit}
 use Rattle.framing.specs.Mark.{kindOf, isMark}
 use Rattle.parts_claims.specs.Run.{Call, part, beyond, fruitful}
 use Rattle.parts_claims.specs.Premises.{NoMark, SendableWhen, OfferingWhen, AllSome, FruitfulWhen, FactsSuffice}
@@ -16,11 +17,11 @@ unfolding kindOf
 no-mark b h = rw (ne-eqb b 0xF0 (h .0), ne-eqb b 0xF1 (h .1), ne-eqb b 0xF2 (h .2))
 
 sendable-when : SendableWhen
-sendable-when limit m byte plain fits room = record { unmarked = no-mark (m .sequence) plain; fits = omega arith; room = room }
+sendable-when limit m some most byte plain fits room = record { range = range-limit limit some most; unmarked = no-mark (m .sequence) plain; fits = omega arith; room = room }
 
 offering-when : OfferingWhen
-offering-when limit s offered out byte plain fits missing lends =
-    record { unmarked = no-mark (s .sequence) plain; fits = fits; missing = missing; lends = omega arith }
+offering-when limit s offered out some most byte plain fits missing lends =
+    record { range = range-limit limit some most; unmarked = no-mark (s .sequence) plain; fits = fits; missing = missing; lends = omega arith }
 
 fruitful-when : FruitfulWhen
 unfolding fruitful

@@ -90,5 +90,5 @@ stops (v ∷ out) s l = go (byteOf s l) refl (λ next k. stops out next (drop k 
 pub parts-stop : PartsStop
 parts-stop limit s offered out k =
     let f = fillOf (length out) s offered in
-    let w = call-filled limit s offered out (k .unmarked) (k .fits) (k .missing) (omega (arith, k .lends)) in
+    let w = call-filled limit s offered out (k .range) (k .unmarked) (k .fits) (k .missing) (omega (arith, k .lends)) in
     record { count = counted f; told = rw w; honest = rw w; why = rw w (stops out s offered) }

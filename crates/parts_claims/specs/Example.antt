@@ -119,9 +119,12 @@ bytes = 0xF0 ∷ 0x02 ∷ 0x00 ∷ 0x05 ∷ 0xF2 ∷ 0x02 ∷ 0x00 ∷ 0xF2 ∷ 
 -- ---- the claim
 
 pub record PartsExample : Type 0 where
-  pub begun : beginOf limit 5 8 ≡ given (state 5 8 0 2 stage.Start Plain)
+  pub begun : beginOf limit 5 8 ≡ given (record { limit = limit; progress = state 5 8 0 2 stage.Start Plain })
+  pub limitOfNone : beginOf 0 0xF2 1 ≡ refused 17
+  pub limitAboveAll : beginOf 65536 5 1 ≡ refused 17
   pub markAsSequence : beginOf limit 0xF2 1 ≡ refused 15
   pub totalAboveLimit : beginOf limit 5 9 ≡ refused 15
+  pub unlawfulLimit : partOf 0 s₀ [] (lent 1) ≡ wrote (refused 1) s₀ (lent 1)
   pub frame : Holds frame
   pub states : Holds states
   pub premises : Sendable limit sending

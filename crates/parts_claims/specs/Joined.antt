@@ -6,10 +6,11 @@ use mathlib.Core.List.{List, [], _∷_}
 use lib.ListN.{length, take}
 use lib.Dec.{ltb}
 use Rattle.wire.specs.Told.{Told, given, refused}
+use Rattle.wire.specs.Limit.{limitFits}
 use Rattle.framing.specs.Mark.{kindOf, isMark}
 use Rattle.framing.specs.Frame.{escapedBy, headerOf, frameOf}
 use Rattle.frame_writer.specs.Writer.{writeOf}
-use Rattle.parts.specs.State.{startOf, ended}
+use Rattle.parts.specs.State.{beginning, ended}
 use Rattle.parts.specs.Writer.{beginOf}
 use Rattle.parts_claims.specs.Run.{Call, Run, runOf, fruitful}
 
@@ -19,8 +20,10 @@ pub record Sending : Type 0 where
   pub payload : List ℕ
   pub out : List ℕ
 
--- what both writers have to take: a sequence that is no mark, a payload up to the limit; and for the whole writer room for the frame
+-- what both writers have to take: a limit in its range, a sequence that is no mark, a payload up to the limit; and for the whole writer room for
+-- the frame
 pub record Sendable (limit : ℕ) (m : Sending) : Type 0 where
+  pub range : limitFits limit ≡ true
   pub unmarked : isMark (m .sequence) ≡ false
   pub fits : length (m .payload) ≤ limit
   pub room : length (frameOf (m .sequence) (m .payload)) ≤ length (m .out)
@@ -61,7 +64,7 @@ abbrev pub PartsJoin : Type 0
 PartsJoin =
     (limit : ℕ) (m : Sending) (calls : List Call)
     → Sendable limit m
-    → (let s = startOf (m .sequence) (length (m .payload)) in
+    → (let s = beginning limit (m .sequence) (length (m .payload)) in
     (beginOf limit (m .sequence) (length (m .payload)) ≡ given s)
     × (wholeOf limit m ≡ frameOf (m .sequence) (m .payload))
-    × Joins (wholeOf limit m) m calls (runOf limit calls s (m .payload)))
+    × Joins (wholeOf limit m) m calls (runOf (s .limit) calls (s .progress) (m .payload)))

@@ -13,10 +13,12 @@ use Rattle.parts_claims.specs.Stopping.{Offering}
 abbrev pub NoMark : ℕ → Type 0
 NoMark b = (b ≢ 0xF0) × (b ≢ 0xF1) × (b ≢ 0xF2)
 
--- a sequence byte that is no mark, a payload of 0 to limit bytes, and for the whole writer an output that is at least as long as their frame
+-- a limit of 1 to 65,535, a sequence byte that is no mark, a payload of 0 to limit bytes, and for the whole writer an output that is at least as long as their frame
 abbrev pub SendableWhen : Type 0
 SendableWhen =
     (limit : ℕ) (m : Sending)
+    → 1 ≤ limit
+    → limit ≤ 65535
     → m .sequence < 256
     → NoMark (m .sequence)
     → length (m .payload) ≤ limit
@@ -27,6 +29,8 @@ SendableWhen =
 abbrev pub OfferingWhen : Type 0
 OfferingWhen =
     (limit : ℕ) (s : Progress) (offered out : List ℕ)
+    → 1 ≤ limit
+    → limit ≤ 65535
     → s .sequence < 256
     → NoMark (s .sequence)
     → s .total ≤ limit

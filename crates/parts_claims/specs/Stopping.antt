@@ -5,6 +5,7 @@ use mathlib.Core.Bool.{true, false}
 use mathlib.Core.List.{List}
 use lib.ListN.{length}
 use Rattle.wire.specs.Told.{given}
+use Rattle.wire.specs.Limit.{limitFits}
 use Rattle.framing.specs.Mark.{isMark}
 use Rattle.parts.specs.declared.state.Progress.{Progress}
 use Rattle.parts.specs.State.{inPayload, ended}
@@ -12,6 +13,7 @@ use Rattle.parts.specs.Writer.{Count, partOf}
 
 -- what a call has to take: a lawful state, no more payload than is missing, and an output of one byte or more
 pub record Offering (limit : ℕ) (s : Progress) (offered out : List ℕ) : Type 0 where
+  pub range : limitFits limit ≡ true
   pub unmarked : isMark (s .sequence) ≡ false
   pub fits : s .total ≤ limit
   pub missing : s .taken + length offered ≤ s .total

@@ -1,28 +1,37 @@
-use native.Mathlib.Omega.{arith}
-use Rattle.calls_classic.specs.Convert.{extractorOf}
-use Rattle.calls_classic.proofs.States.{state-long, sequence-small}
 use borrow.Author.Needs.{needs}
 use Rattle.calls_classic.proofs.convert.extractor_of.Statement.{statement}
 use Rattle.calls_classic.proofs.convert.extractor_of.Tie as tie
+use Rattle.calls_classic.proofs.convert.extractor_of.Reads as reads
+use Rattle.calls_classic.proofs.convert.extractor_of.Lts as lts
+use Rattle.calls_classic.proofs.convert.phase_of.Reads as phase-of-reads
 
+-- src/convert.rt:100:26
 shared-slice-read-phase-of : tie.Need-shared-slice-read-phase-of
-shared-slice-read-phase-of c = omega (arith, state-long (c .before .before .args .row .now) (c .before .before .pre))
+shared-slice-read-phase-of c = ?
 
+-- src/convert.rt:100:9
 phase-of-requires : tie.Need-phase-of-requires
 phase-of-requires c κs = search needs
 
-shared-slice-read-t4 : tie.Need-shared-slice-read-t4
-shared-slice-read-t4 c = omega (arith, state-long (c .before .before .before .before .args .row .now) (c .before .before .before .before .pre))
+-- src/convert.rt:101:20
+shared-slice-read-sequence : tie.Need-shared-slice-read-sequence
+shared-slice-read-sequence c = ?
 
-cast-t6 : tie.Need-cast-t6
-cast-t6 c = record { fits = sequence-small (c .before .before .before .before .args .row .now) (c .before .before .before .before .pre) }
+-- src/convert.rt:101:20
+cast-sequence : tie.Need-cast-sequence
+cast-sequence c = ?
 
-shared-slice-read-t8 : tie.Need-shared-slice-read-t8
-shared-slice-read-t8 c = omega (arith, state-long (c .before .before .before .before .before .args .row .now) (c .before .before .before .before .before .pre))
+-- src/convert.rt:102:16
+shared-slice-read-held : tie.Need-shared-slice-read-held
+shared-slice-read-held c = ?
 
+-- src/convert.rt:103:17
+shared-slice-read-limit : tie.Need-shared-slice-read-limit
+shared-slice-read-limit c = ?
+
+-- src/convert.rt:96:1
 returns : tie.Need-returns
-unfolding extractorOf
-returns c = rw (c .before .before .phase-of .ensures)
+returns c = ?
 
 pub extractor-of-spec : {M : Type 1} → statement M
 extractor-of-spec =
@@ -30,7 +39,8 @@ extractor-of-spec =
     (tie.spec
     shared-slice-read-phase-of
     phase-of-requires
-    shared-slice-read-t4
-    cast-t6
-    shared-slice-read-t8
+    shared-slice-read-sequence
+    cast-sequence
+    shared-slice-read-held
+    shared-slice-read-limit
     returns)
