@@ -123,7 +123,13 @@ fn feed_fitting(state: &mut [u64], buffer: &mut [u8], bytes: &[u8], answer: &mut
 }
 
 // Writes the frame of a payload, for a link with a limit.
-pub fn frame_write(sequence: u64, limit: u64, payload: &[u8], output: &mut [u8], answer: &mut [u64]) -> u64
+pub fn frame_write(
+    sequence: u64,
+    limit: u64,
+    payload: &[u8],
+    output: &mut [u8],
+    answer: &mut [u64],
+) -> u64
     ensures { λ r. ⌜ called r [] (now (output .exit)) (now (answer .exit))
         ≡ frameWriteOf limit sequence (now (payload .entry)) (now (output .entry)) (now (answer .entry)) ⌝ }
 {

@@ -1,37 +1,31 @@
+use native.Mathlib.Omega.{arith}
+use Rattle.calls_classic.specs.Convert.{extractorOf}
+use Rattle.calls_classic.proofs.States.{state-long, sequence-small}
 use borrow.Author.Needs.{needs}
 use Rattle.calls_classic.proofs.convert.extractor_of.Statement.{statement}
 use Rattle.calls_classic.proofs.convert.extractor_of.Tie as tie
-use Rattle.calls_classic.proofs.convert.extractor_of.Reads as reads
-use Rattle.calls_classic.proofs.convert.extractor_of.Lts as lts
-use Rattle.calls_classic.proofs.convert.phase_of.Reads as phase-of-reads
 
--- src/convert.rt:100:26
 shared-slice-read-phase-of : tie.Need-shared-slice-read-phase-of
-shared-slice-read-phase-of c = ?
+shared-slice-read-phase-of c = let s = c .before .before in omega (arith, state-long (s .args .row .now) (s .pre))
 
--- src/convert.rt:100:9
 phase-of-requires : tie.Need-phase-of-requires
 phase-of-requires c κs = search needs
 
--- src/convert.rt:101:20
 shared-slice-read-sequence : tie.Need-shared-slice-read-sequence
-shared-slice-read-sequence c = ?
+shared-slice-read-sequence c = let s = c .before .before .before .before in omega (arith, state-long (s .args .row .now) (s .pre))
 
--- src/convert.rt:101:20
 cast-sequence : tie.Need-cast-sequence
-cast-sequence c = ?
+cast-sequence c = let s = c .before .before .before .before in record { fits = sequence-small (s .args .row .now) (s .pre) }
 
--- src/convert.rt:102:16
 shared-slice-read-held : tie.Need-shared-slice-read-held
-shared-slice-read-held c = ?
+shared-slice-read-held c = let s = c .before .before .before .before .before in omega (arith, state-long (s .args .row .now) (s .pre))
 
--- src/convert.rt:103:17
 shared-slice-read-limit : tie.Need-shared-slice-read-limit
-shared-slice-read-limit c = ?
+shared-slice-read-limit c = let s = c .before .before .before .before .before .before in omega (arith, state-long (s .args .row .now) (s .pre))
 
--- src/convert.rt:96:1
 returns : tie.Need-returns
-returns c = ?
+unfolding extractorOf
+returns c = rw (c .before .before .before .phase-of .ensures)
 
 pub extractor-of-spec : {M : Type 1} → statement M
 extractor-of-spec =
