@@ -15,13 +15,15 @@ use Rattle.wire.proofs.Stores.{first-bytes}
 use Rattle.wire.proofs.Tests.{and-left, and-right}
 use Rattle.framing.specs.Mark.{isMark}
 use Rattle.framing.specs.Frame.{frameOf}
+use Rattle.frame_writer.specs.Sending.{FrameToSend, Sendable}
+use Rattle.frame_writer.proofs.Sending.{sent-frame}
 use Rattle.parts.specs.declared.state.Progress.{Progress}
 use Rattle.parts.specs.State.{startOf, ended}
 use Rattle.parts.specs.Byte.{Byte}
 use Rattle.parts.specs.Fill.{andOn, fillOf}
 use Rattle.parts.specs.Writer.{partOf}
 use Rattle.parts_claims.specs.Run.{Call, part, beyond, offeredBy, lentBy, takenBy, writtenBy, Run, runOf, isFruitful, fruitful}
-use Rattle.parts_claims.specs.Joined.{Sending, Sendable, wholeOf, Joins, PartsJoin}
+use Rattle.parts_claims.specs.Joined.{Joins, PartsJoin}
 use Rattle.parts_claims.proofs.Left.{leftOf, firstsIn, firsts-none, Fits, Emits, ends, starves, own, takes, view, start-left, start-fits, start-firsts, left-ended, ended-left}
 use Rattle.parts_claims.proofs.Filled.{fills, call-goes, call-filled}
 
@@ -98,13 +100,7 @@ ends-in limit range (c ∷ cs) s p f m t h =
 
 -- ---- the claim
 
-whole-frame : (limit : ℕ) (m : Sending) → Sendable limit m → wholeOf limit m ≡ frameOf (m .sequence) (m .payload)
-whole-frame limit m k =
-    let f = frameOf (m .sequence) (m .payload) in
-    rw (k .range, k .unmarked, le-ltb limit (length (m .payload)) (omega (arith, k .fits)), le-ltb (length (m .out)) (length f) (k .room))
-    (first-bytes (m .out) f (k .room))
-
-joins-frame : (limit : ℕ) (m : Sending) (calls : List Call) → Sendable limit m
+joins-frame : (limit : ℕ) (m : FrameToSend) (calls : List Call) → Sendable limit m
     → Joins (frameOf (m .sequence) (m .payload)) m calls (runOf limit calls (startOf (m .sequence) (length (m .payload))) (m .payload))
 joins-frame limit m calls k =
     let p = m .payload in
@@ -126,4 +122,4 @@ joins-frame limit m calls k =
 
 pub parts-join : PartsJoin
 parts-join limit m calls k =
-    (rw (k .range, k .unmarked, le-ltb limit (length (m .payload)) (omega (arith, k .fits))), whole-frame limit m k, rw (whole-frame limit m k) (joins-frame limit m calls k))
+    (rw (k .range, k .unmarked, le-ltb limit (length (m .payload)) (omega (arith, k .fits))), sent-frame limit m k, rw (sent-frame limit m k) (joins-frame limit m calls k))

@@ -7,13 +7,13 @@ use lib.ListN.{replicate}
 use Rattle.wire.specs.Told.{Told, given, refused}
 use Rattle.framing.specs.declared.mark.Kind.{Kind}
 use Rattle.framing.specs.declared.mark.Kind.the-variants.{Start, Escape, Plain}
+use Rattle.frame_writer.specs.Sending.{FrameToSend, Sendable, sent}
 use Rattle.parts.specs.declared.state.Stage.{Stage}
 use Rattle.parts.specs.declared.state.Stage.the-variants as stage
 use Rattle.parts.specs.declared.state.Progress.{Progress}
 use Rattle.parts.specs.State.{ended}
 use Rattle.parts.specs.Writer.{Count, count, wrote, beginOf, partOf}
 use Rattle.parts_claims.specs.Run.{Call, part, beyond, Run, runOf}
-use Rattle.parts_claims.specs.Joined.{Sending, Sendable, wholeOf, Joins}
 
 abbrev limit : ℕ
 limit = 8
@@ -99,7 +99,7 @@ states =
 
 -- ---- the first claim on the frame's calls
 
-abbrev sending : Sending
+abbrev sending : FrameToSend
 sending = record { sequence = 5; payload = 0xF0 ∷ []; out = lent 10 }
 
 -- the calls of the table, with one byte offered at the most and a byte beyond the payload where 26 is due
@@ -128,6 +128,6 @@ pub record PartsExample : Type 0 where
   pub frame : Holds frame
   pub states : Holds states
   pub premises : Sendable limit sending
-  pub whole : wholeOf limit sending ≡ bytes
+  pub whole : sent limit sending ≡ bytes
   pub joined : run calls ≡ record { bytes = bytes; taken = 1; next = s₅ }
   pub byOnes : run ones ≡ record { bytes = bytes; taken = 1; next = s₅ }
