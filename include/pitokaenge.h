@@ -37,7 +37,7 @@ extern "C" {
 #endif
 
 /* The version of this interface: one more with each change that a caller has to follow. */
-#define PITO_VERSION 2
+#define PITO_VERSION 3
 
 /* The library is for 64-bit machines: a length is a number of 64 bits. */
 typedef char pito_size_t_has_64_bits[sizeof(size_t) == 8 ? 1 : -1];
@@ -49,9 +49,12 @@ typedef char pito_size_t_has_64_bits[sizeof(size_t) == 8 ? 1 : -1];
 #define PITO_CALL
 #endif
 
-/* The largest message in bytes, and what the lent buffers have exactly. */
+/* The limit of a link is its largest message in bytes, 1 to 65,535. It is set when the link is opened. */
+#define PITO_LARGEST_LIMIT 65535
+
+/* What the lent buffers have exactly. */
+#define PITO_EXTRACTOR_BUFFER(limit) ((limit) + 2)
 #define PITO_MESSAGE_LIMIT 4096
-#define PITO_EXTRACTOR_BUFFER 4098
 #define PITO_RECEIVER_BUFFER 12288
 
 /* Streams. */
@@ -83,13 +86,14 @@ enum {
     PITO_REFUSED_ROOM = 13,     /* room not 20 to 512 */
     PITO_REFUSED_OUTPUT = 14,   /* output too small */
     PITO_REFUSED_ARGUMENT = 15, /* an argument out of its range */
+    PITO_REFUSED_LIMIT = 17,    /* limit not 1 to 65,535, however large */
 
     /* Frames. */
     PITO_REFUSED_START_INSIDE = 20, /* F0 inside a frame */
     PITO_REFUSED_FRAME_SHORT = 21,  /* F1 in the header, or under 2 bytes stored */
     PITO_REFUSED_HEADER = 22,       /* packet id not 02, error id not 00, F2 in the header */
     PITO_REFUSED_ESCAPE = 23,       /* F1, or no escape code, after F2 */
-    PITO_REFUSED_FRAME_LONG = 24,   /* a 4,099th byte to store */
+    PITO_REFUSED_FRAME_LONG = 24,   /* a byte to store when limit + 2 are held */
     PITO_REFUSED_CHECKSUM = 25,     /* checksum differs */
     PITO_REFUSED_TOO_MUCH = 26,     /* more payload offered than is still missing */
 
@@ -113,13 +117,26 @@ enum {
 /* ------------------------------------------------------------------------------------------------------------
  * Classic: the extractor
  *
- * State row: all 0 is the empty state, outside a frame: begin with that. Phases: 0 outside, 1 before the packet id, 2
- * before the error id, 3 before the sequence byte, 4 in the body, 5 after F2.
- * Buffer: exactly PITO_EXTRACTOR_BUFFER bytes, the same one from call to call. A frame's payload stands first in it
- * when the call that tells the frame returns, and until the next call.
- * Returns 0, 1, 20, 21, 22, 23, 24, 25.
+ * State row: pito_extractor_open fills it; keep it from call to call. It has the link's limit, which stays, and how far
+ * the extractor is in a frame. Phases: 0 outside, 1 before the packet id, 2 before the error id, 3 before the sequence
+ * byte, 4 in the body, 5 after F2. A row of zeros has a limit of 0: every step and feed refuses it by 1.
+ * Buffer: exactly PITO_EXTRACTOR_BUFFER(limit) bytes, the same one from call to call. A frame's payload stands first in
+ * it when the call that tells the frame returns, and until the next call.
+ * Steps and feeds return 0, 1, 20, 21, 22, 23, 24, 25.
  */
-enum { PITO_EXTRACTOR_PHASE, PITO_EXTRACTOR_SEQUENCE, PITO_EXTRACTOR_HELD, PITO_EXTRACTOR_STATE };
+enum {
+    PITO_EXTRACTOR_LIMIT,
+    PITO_EXTRACTOR_PHASE,
+    PITO_EXTRACTOR_SEQUENCE,
+    PITO_EXTRACTOR_HELD,
+    PITO_EXTRACTOR_STATE
+};
+
+/*
+ * Opens an extractor for a link with a limit: the empty state, outside a frame.
+ * Returns 0, 1, 17.
+ */
+PITO_CALL uint64_t pito_extractor_open(uint64_t limit, uint64_t *state, size_t state_len);
 
 /* Outcomes. */
 #define PITO_SKIPPED 0  /* of a step: a byte outside a frame */
@@ -149,25 +166,28 @@ PITO_CALL uint64_t pito_extractor_feed(uint64_t *state, size_t state_len, uint8_
  */
 
 /*
- * Writes the frame of a payload, from the first byte of the output on. PITO_FRAME_SIZE(payload_len) bytes are enough.
- * Returns 0, 1, 15 (a sequence that is F0, F1, F2 or no byte; a payload over 4,096), 14.
+ * Writes the frame of a payload, for a link with a limit, from the first byte of the output on.
+ * PITO_FRAME_SIZE(payload_len) bytes are enough.
+ * Returns 0, 1, 17, 15 (a sequence that is F0, F1, F2 or no byte; a payload over the limit), 14.
  */
 #define PITO_FRAME_SIZE(payload_len) (2 * (payload_len) + 9)
 enum { PITO_FRAME_WRITE_WRITTEN, PITO_FRAME_WRITE_ANSWER };
-PITO_CALL uint64_t pito_frame_write(uint64_t sequence, const uint8_t *payload, size_t payload_len, uint8_t *output,
-                                    size_t output_len, uint64_t *answer, size_t answer_len);
+PITO_CALL uint64_t pito_frame_write(uint64_t sequence, uint64_t limit, const uint8_t *payload, size_t payload_len,
+                                    uint8_t *output, size_t output_len, uint64_t *answer, size_t answer_len);
 
 /*
  * The same frame by parts, for a box that has no room for all of it: the payload is taken part by part, and the frame
  * goes into one output after another, of 1 byte or more each. Joined, the outputs are what pito_frame_write writes.
  *
- * State row: pito_frame_begin fills it; keep it from call to call. It has the frame's sequence byte, its payload's
- * length, the payload bytes taken and their checksum, the stage and what is pending. The stage is what is written next:
- * 0 F0, 1 packet id, 2 error id, 3 sequence byte, 4 payload and, after it, the checksum's upper byte, 5 its lower byte,
- * 6 F1, 7 nothing, the frame has ended. Pending is the code that is still owed after F2, before that: 0 none, 1 of F0,
- * 2 of F1, 3 of F2. A state is lawful with a sequence that is no mark, a total up to 4,096 and no more taken than that.
+ * State row: pito_frame_begin fills it; keep it from call to call. It has the link's limit, the frame's sequence byte,
+ * its payload's length, the payload bytes taken and their checksum, the stage and what is pending. The stage is what is
+ * written next: 0 F0, 1 packet id, 2 error id, 3 sequence byte, 4 payload and, after it, the checksum's upper byte, 5 its
+ * lower byte, 6 F1, 7 nothing, the frame has ended. Pending is the code that is still owed after F2, before that: 0 none,
+ * 1 of F0, 2 of F1, 3 of F2. A state is lawful with a limit of 1 to 65,535, a sequence that is no mark, a total up to the
+ * limit and no more taken than that.
  */
 enum {
+    PITO_PARTS_LIMIT,
     PITO_PARTS_SEQUENCE,
     PITO_PARTS_TOTAL,
     PITO_PARTS_TAKEN,
@@ -178,10 +198,11 @@ enum {
 };
 
 /*
- * Begins a frame whose payload will have `total` bytes.
- * Returns 0, 1, 15 (a sequence that is F0, F1, F2 or no byte; a total over 4,096).
+ * Begins a frame whose payload will have `total` bytes, for a link with a limit.
+ * Returns 0, 1, 17, 15 (a sequence that is F0, F1, F2 or no byte; a total over the limit).
  */
-PITO_CALL uint64_t pito_frame_begin(uint64_t sequence, uint64_t total, uint64_t *state, size_t state_len);
+PITO_CALL uint64_t pito_frame_begin(uint64_t sequence, uint64_t limit, uint64_t total, uint64_t *state,
+                                    size_t state_len);
 
 /*
  * Writes the frame on, from the first byte of the output. `payload` is any part of the payload that begins at its first

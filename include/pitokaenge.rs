@@ -3,6 +3,7 @@
 
 #[link(name = "capi", kind = "static")]
 extern "C" {
+    pub fn pito_extractor_open(limit: u64, state: *mut u64, state_len: usize) -> u64;
     pub fn pito_extractor_step(
         state: *mut u64,
         state_len: usize,
@@ -24,6 +25,7 @@ extern "C" {
     ) -> u64;
     pub fn pito_frame_write(
         sequence: u64,
+        limit: u64,
         payload: *const u8,
         payload_len: usize,
         output: *mut u8,
@@ -31,7 +33,13 @@ extern "C" {
         answer: *mut u64,
         answer_len: usize,
     ) -> u64;
-    pub fn pito_frame_begin(sequence: u64, total: u64, state: *mut u64, state_len: usize) -> u64;
+    pub fn pito_frame_begin(
+        sequence: u64,
+        limit: u64,
+        total: u64,
+        state: *mut u64,
+        state_len: usize,
+    ) -> u64;
     pub fn pito_frame_part(
         state: *mut u64,
         state_len: usize,

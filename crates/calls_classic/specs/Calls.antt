@@ -1,14 +1,14 @@
 -- Classic for C: the calls of the extractor and of the frame writer.
 use Prim.Native.Nat.{ℕ}
-use mathlib.Core.Bool.{cond, not, _&&_}
+use mathlib.Core.Bool.{cond, _&&_}
 use mathlib.Core.List.{List, [], _∷_}
 use lib.ListN.{length, replicate}
 use lib.Dec.{eqb}
-use Rattle.wire.specs.Told.{line, table}
-use Rattle.wire.specs.Limit.{limitFits}
+use Rattle.wire.specs.Told.{Told, given, refused}
 use Rattle.framing.specs.Mark.{startMark}
 use Rattle.framing.specs.Frame.{nextSequence}
-use Rattle.extractor.specs.State.{outside}
+use Rattle.extractor.specs.declared.state.Extractor.{Extractor}
+use Rattle.extractor.specs.State.{openOf}
 use Rattle.extractor.specs.Step.{Step, byteStepOf}
 use Rattle.feed.specs.Feed.{Feed, feedOf}
 use Rattle.frame_writer.specs.Writer.{writeOf}
@@ -16,11 +16,13 @@ use Rattle.rows.specs.Row.{afterwards, byteOr}
 use Rattle.calls_classic.specs.Convert.{isExtractor, extractorOf, extractorRow, replyOf, stepRow, feedRow}
 use Rattle.rows.specs.Called.{Called, called, ifFit, writerCall}
 
--- the state row of an extractor opened with a limit
+-- the state row after an opening
+abbrev pub opened : List ℕ → Told Extractor → Called
+opened state (given x) = called 0 (extractorRow (x .limit) (x .progress)) [] []
+opened state (refused n) = called n state [] []
+
 unfoldable pub extractorOpenOf : ℕ → List ℕ → Called
-extractorOpenOf limit state =
-    ifFit (eqb (length state) 4) state [] []
-    (table (line 17 (not (limitFits limit)) ∷ []) (λ n. called n state [] []) (called 0 (extractorRow limit outside) [] []))
+extractorOpenOf limit state = ifFit (eqb (length state) 4) state [] [] (opened state (openOf limit))
 
 -- rows and lent bytes after a step; the limit stays
 abbrev pub stepped : List ℕ → List ℕ → ℕ → Step → Called

@@ -12,6 +12,7 @@ use lib.Dec.{eqb, ltb}
 use borrow.Author.Tests.{eq-eqb, ne-eqb, lt-ltb, le-ltb, le-leb}
 use Rattle.wire.specs.Told.{Written, line, writes}
 use Rattle.wire.proofs.Streams.{known-stream}
+use Rattle.wire.proofs.Limits.{range-limit}
 use Rattle.field.specs.Signed.{signedOf, extended}
 use Rattle.field.specs.Tag.{varintType, lengthType, lastField}
 use Rattle.field_writer.specs.Writer.{Field, messageBytes}
@@ -96,11 +97,11 @@ unfolding kindOf
 unmarked b none = rw (ne-eqb b startMark (none .0), ne-eqb b endMark (none .1), ne-eqb b escapeMark (none .2))
 
 frame-done : (limit sequence : ℕ) (payload out answer : List ℕ) → length answer ≡ 1
-    → sequence < 256 → NoMark sequence → length payload ≤ limit → frameSize (length payload) ≤ length out
+    → 1 ≤ limit → limit ≤ 65535 → sequence < 256 → NoMark sequence → length payload ≤ limit → frameSize (length payload) ≤ length out
     → Done (frameWriteOf limit sequence payload out answer)
 unfolding frameWriteOf
-frame-done limit sequence payload out answer l b m n h =
-    rw (byte-is startMark sequence b)
+frame-done limit sequence payload out answer l some most b m n h =
+    rw (byte-is startMark sequence b, range-limit limit some most)
     (writer-done out answer (writeOf limit sequence payload out) l
     (done-two (isMark sequence || ltb limit (length payload)) (length (frameOf sequence payload)) out
     (length (frameOf sequence payload)) (sets out 0 (frameOf sequence payload))

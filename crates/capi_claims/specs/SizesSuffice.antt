@@ -107,7 +107,7 @@ stringsOf row = getD row 3 0 + getD row 5 0 + getD row 7 0 + stringsFrom (getD r
 
 pub record SizesSuffice : Type 0 where
   pub frame-write : (limit sequence : ℕ) (payload out answer : List ℕ) → length answer ≡ 1
-      → sequence < 256 → NoMark sequence → length payload ≤ limit → frameSize (length payload) ≤ length out
+      → 1 ≤ limit → limit ≤ 65535 → sequence < 256 → NoMark sequence → length payload ≤ limit → frameSize (length payload) ≤ length out
       → Done (frameWriteOf limit sequence payload out answer)
   -- at each place where a piece begins
   pub packet-write : (limit room stream id sequence ack place : ℕ) (message out answer : List ℕ) → length answer ≡ 2

@@ -21,12 +21,13 @@ damage-example =
       lawful = refl;
       size = refl;
       premises = (
-        record { unmarked = refl; fits = lit≤ tt; bytes = (lit< tt, (lit< tt, tt)); room = lit≤ tt },
+        record { range = refl; unmarked = refl; fits = lit≤ tt; room = lit≤ tt },
         (
-          record { unmarked = refl; fits = lit≤ tt; bytes = (lit< tt, (lit< tt, tt)); room = lit≤ tt },
+          record { range = refl; unmarked = refl; fits = lit≤ tt; room = lit≤ tt },
+          (lit< tt, (lit< tt, tt)),
           omega arith,
           record { inside = lit< tt; wasPlain = refl; isPlain = refl; byte = lit< tt; other = omega arith },
-          (record { unmarked = refl; fits = lit≤ tt; bytes = tt; room = lit≤ tt }, tt),
+          (record { range = refl; unmarked = refl; fits = lit≤ tt; room = lit≤ tt }, tt),
         ),
       );
       written = refl;

@@ -9,6 +9,8 @@ use borrow.Author.Tests.{eq-eqb, ne-eqb, le-leb}
 use Rattle.wire.specs.Bytes.{AllBytes}
 use Rattle.wire.proofs.Limits.{range-limit}
 use Rattle.framing.specs.Mark.{kindOf, isMark}
+use Rattle.frame_writer.specs.Sending.{NoMark}
+use Rattle.frame_writer.proofs.Sending.{no-mark, sendable-when, sent-frame}
 use Rattle.extractor.specs.declared.state.Progress.{Progress}
 use Rattle.extractor.specs.declared.state.Phase.{Phase}
 use Rattle.extractor.specs.declared.state.Phase.the-variants.{Outside, PacketId, ErrorId, Sequence, Body, Escaped}
@@ -16,22 +18,13 @@ use Rattle.extractor.specs.State.{sequenceRead, lawfulBefore, lawfulAfter, lawf
 use Rattle.extractor.specs.Step.{advanceOf}
 use Rattle.feed.specs.Feed.{Feed, decides, feedFrom}
 use Rattle.recovery.specs.Run.{callOf, runOf}
-use Rattle.recovery.specs.Premises.{NoMark, LawfulIn, asking, SendableWhen, TurnedWhen, ClosingWhen, LawfulWhen, AllUsedWhen, FactsSuffice}
+use Rattle.recovery.specs.Premises.{LawfulIn, asking, TurnedWhen, ClosingWhen, LawfulWhen, AllUsedWhen, FactsSuffice}
 use Rattle.recovery.proofs.Ready.{of-cond, is-ready, feed-ready}
 use Rattle.recovery.proofs.Cut.{feed-later, call-keeps}
-use Rattle.recovery.proofs.Recovery.{sent-frame}
-
-no-mark : (b : ℕ) → NoMark b → isMark b ≡ false
-unfolding kindOf
-no-mark b h = rw (ne-eqb b 0xF0 (h .0), ne-eqb b 0xF1 (h .1), ne-eqb b 0xF2 (h .2))
 
 all-bytes : (l : List ℕ) → ((i : ℕ) → i < length l → getD l i 0 < 256) → AllBytes l
 all-bytes [] h = tt
 all-bytes (x ∷ xs) h = (h 0 (omega arith), all-bytes xs (λ i k. h (suc i) (omega arith)))
-
-sendable-when : SendableWhen
-sendable-when limit m byte plain fits bytes room =
-    record { unmarked = no-mark (m .sequence) plain; fits = fits; bytes = all-bytes (m .payload) bytes; room = room }
 
 turned-when : TurnedWhen
 turned-when bytes place new inside was byte is other =
@@ -42,7 +35,7 @@ closing-when =
     record {
       none = λ limit. tt;
       whole-first = λ limit m is w c. (w, c);
-      damaged-first = λ limit m place new is f w o t c. (w, o, rw (sent-frame limit m f w) t, c);
+      damaged-first = λ limit m place new is w b o t c. (w, all-bytes (m .payload) b, o, rw (sent-frame limit m w) t, c);
     }
 
 -- ---- lawful states

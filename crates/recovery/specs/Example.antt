@@ -5,11 +5,12 @@ use mathlib.Core.Bool.{true}
 use mathlib.Core.List.{List, [], _∷_, _++_}
 use lib.ListN.{length, replicate}
 use Rattle.wire.specs.Limit.{limitFits}
+use Rattle.frame_writer.specs.Sending.{FrameToSend}
 use Rattle.extractor.specs.declared.state.Progress.{Progress}
 use Rattle.extractor.specs.declared.state.Phase.the-variants.{Escaped}
 use Rattle.extractor.specs.State.{lawful}
 use Rattle.recovery.specs.Run.{Call, one, many, Run, runOf, Given, handedOut}
-use Rattle.recovery.specs.Recovery.{FrameToSend, ClosingFrame, whole, damaged, bytesOf, undamaged, Closing}
+use Rattle.recovery.specs.Recovery.{ClosingFrame, whole, damaged, bytesOf, undamaged, Closing}
 
 abbrev limit : ℕ
 limit = 8

@@ -7,30 +7,17 @@ use mathlib.Core.List.{List, [], _∷_, map}
 use lib.ListN.{length, getD}
 use Rattle.wire.specs.Limit.{limitFits}
 use Rattle.framing.specs.Frame.{frameOf}
+use Rattle.frame_writer.specs.Sending.{FrameToSend, Sendable, NoMark, SendableWhen}
 use Rattle.extractor.specs.declared.state.Progress.{Progress}
 use Rattle.extractor.specs.declared.state.Phase.{Phase}
 use Rattle.extractor.specs.declared.state.Phase.the-variants.{Outside, PacketId, ErrorId, Sequence, Body, Escaped}
 use Rattle.extractor.specs.State.{lawful}
 use Rattle.recovery.specs.Run.{Call, one, many, runOf}
-use Rattle.recovery.specs.Recovery.{FrameToSend, Sendable, Turned, ClosingFrame, whole, damaged, Closing}
+use Rattle.recovery.specs.Recovery.{Turned, ClosingFrame, whole, damaged, Closing}
 
 -- a limit of 1 to 65,535
 abbrev pub RangeWhen : Type 0
 RangeWhen = (limit : ℕ) → 1 ≤ limit → limit ≤ 65535 → limitFits limit ≡ true
-
-abbrev pub NoMark : ℕ → Type 0
-NoMark b = (b ≢ 0xF0) × (b ≢ 0xF1) × (b ≢ 0xF2)
-
--- a sequence byte that is no mark, a payload of 0 to limit bytes, and an output that is at least as long as their frame
-abbrev pub SendableWhen : Type 0
-SendableWhen =
-    (limit : ℕ) (m : FrameToSend)
-    → m .sequence < 256
-    → NoMark (m .sequence)
-    → length (m .payload) ≤ limit
-    → ((i : ℕ) → i < length (m .payload) → getD (m .payload) i 0 < 256)
-    → length (frameOf (m .sequence) (m .payload)) ≤ length (m .out)
-    → Sendable limit m
 
 -- a byte that is no mark, and another one that is none
 abbrev pub TurnedWhen : Type 0
@@ -48,8 +35,8 @@ pub record ClosingWhen : Type 0 where
   pub none : (limit : ℕ) → Closing limit []
   pub whole-first : (limit : ℕ) (m : FrameToSend) (is : List ClosingFrame) → Sendable limit m → Closing limit is → Closing limit (whole m ∷ is)
   pub damaged-first : (limit : ℕ) (m : FrameToSend) (place new : ℕ) (is : List ClosingFrame)
-      → limitFits limit ≡ true
       → Sendable limit m
+      → ((i : ℕ) → i < length (m .payload) → getD (m .payload) i 0 < 256)
       → place ≢ 3
       → Turned (frameOf (m .sequence) (m .payload)) place new
       → Closing limit is

@@ -2,6 +2,7 @@
 use mathlib.Core.Path.{_≡_, refl, ap, sym, _∙_}
 use mathlib.Core.List.{List, map, List·Memᴰ, List·Memᴰ·head, List·Memᴰ·tail}
 use Rattle.wire.specs.Stream.{isStream, streamOf}
+use Rattle.wire.specs.Limit.{limitFits}
 use Rattle.framing.specs.Mark.{kindOf}
 use Rattle.framing.specs.Frame.{escapedOf, sumOf, framed}
 use Rattle.packet.specs.Header.{inRange}
@@ -34,7 +35,7 @@ agree f g same a (List·Memᴰ·tail {x = x} {xs = xs} there) = let t : map f xs
 
 -- the whole table, computed
 holds : map (λ (c : Case). answerTo (c .question)) cases ≡ map (λ (c : Case). c .expected) cases
-unfolding answerTo cases isStream streamOf kindOf escapedOf sumOf framed inRange fieldsOf contentOf lines readOf ackOf sizeFor headerBytes packetOf roomFits argumentsFit writtenOf callsFrom lawfulSlot lawful finish hold dropBy firstStep nextStep ready acceptOf varintAt varintBytes badTag tagAt valueAt tagBytes headBytes partBytes fieldBytes roleOf judged addedAt readAt fieldAt fieldsFrom responseFrom payloadOf envelopeOf envelopeWritten numberOf outbox.otherVersion outbox.badPlace outbox.badLength outbox.cutShort outbox.badStream outbox.recordAt outbox.readOf
+unfolding answerTo cases limitFits isStream streamOf kindOf escapedOf sumOf framed inRange fieldsOf contentOf lines readOf ackOf sizeFor headerBytes packetOf roomFits argumentsFit writtenOf callsFrom lawfulSlot lawful finish hold dropBy firstStep nextStep ready acceptOf varintAt varintBytes badTag tagAt valueAt tagBytes headBytes partBytes fieldBytes roleOf judged addedAt readAt fieldAt fieldsFrom responseFrom payloadOf envelopeOf envelopeWritten numberOf outbox.otherVersion outbox.badPlace outbox.badLength outbox.cutShort outbox.badStream outbox.recordAt outbox.readOf
 holds = refl
 
 pub worked-cases : WorkedCases

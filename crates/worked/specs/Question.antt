@@ -34,6 +34,8 @@ zeros n = replicate n 0
 pub data Question : Type 0 where
   -- the frame with a sequence byte and a payload
   writeFrame : ℕ → List ℕ → Question
+  -- .. for a link with another limit
+  writeFrameWithin : ℕ → ℕ → List ℕ → Question
   -- the sequence byte after one
   nextSequenceByte : ℕ → Question
   -- the packets of a message, place after place
@@ -87,6 +89,7 @@ packetsOf w m = callsOf limit w m (zeros (w .room))
 
 unfoldable pub answerTo : Question → Answer
 answerTo (writeFrame sequence payload) = bytes (bytesOf (frame.writeOf limit sequence payload output))
+answerTo (writeFrameWithin limit sequence payload) = bytes (bytesOf (frame.writeOf limit sequence payload output))
 answerTo (nextSequenceByte sequence) = sequenceByte (nextSequence sequence)
 answerTo (writePackets w m) = packets (packetsOf w m)
 answerTo (readPieces w m) = pieces (map pieceLengthOf (packetsOf w m))

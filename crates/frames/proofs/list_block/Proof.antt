@@ -39,8 +39,9 @@ add-end : tie.Need-add-end Inv-loop μ-loop
 add-end c =
     let f = c .before .before .before in
     let k = f .before .before .before .before .before .loop in
-    let w = used-fits (k .now .state .limit) (k .now .state .progress) (k .buffer) (f .before .before .before .before .before .before .before .before .args .bytes .now) (k .at) (k .inv .0) (f .feed .ensures .0) in
-    omega (arith, w)
+    let s = f .before .before .before .before .before .before .before .before in
+    let w = used-fits (k .now .state .limit) (k .now .state .progress) (k .buffer) (s .args .bytes .now) (k .at) (k .inv .0) (f .feed .ensures .0) in
+    omega (arith, w, s .good .1 .1 .0 .1)
 
 sub-list-call : tie.Need-sub-list-call Inv-loop μ-loop
 sub-list-call c = search needs
