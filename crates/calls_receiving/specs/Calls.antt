@@ -1,22 +1,23 @@
 -- Receiving over Low Energy for C: the calls that open a receiver and give it one packet.
 use Prim.Native.Nat.{ℕ}
-use mathlib.Core.Bool.{not, _&&_}
-use mathlib.Core.List.{List, [], _∷_}
+use mathlib.Core.Bool.{_&&_}
+use mathlib.Core.List.{List, []}
 use lib.ListN.{length}
 use lib.Dec.{eqb}
-use Rattle.wire.specs.Told.{line, table}
-use Rattle.wire.specs.Limit.{limitFits}
-use Rattle.slot.specs.Slot.{idles}
-use Rattle.receiver.specs.Receiver.{Result, acceptOf}
+use Rattle.wire.specs.Told.{Told, given, refused}
+use Rattle.receiver.specs.declared.Receiver.{Receiver}
+use Rattle.receiver.specs.Receiver.{openOf, Result, acceptOf}
 use Rattle.rows.specs.Row.{afterwards, numberTold}
 use Rattle.calls_receiving.specs.Convert.{isReceiver, limitOf, slotsOf, receiverRow, answerRow}
 use Rattle.rows.specs.Called.{Called, called, ifFit}
 
--- the state row of a receiver opened with a limit
+-- the state row after an opening
+abbrev pub opened : List ℕ → Told Receiver → Called
+opened state (given x) = called 0 (receiverRow (x .limit) (x .slots)) [] []
+opened state (refused n) = called n state [] []
+
 unfoldable pub receiverOpenOf : ℕ → List ℕ → Called
-receiverOpenOf limit state =
-    ifFit (eqb (length state) 19) state [] []
-    (table (line 17 (not (limitFits limit)) ∷ []) (λ n. called n state [] []) (called 0 (receiverRow limit idles) [] []))
+receiverOpenOf limit state = ifFit (eqb (length state) 19) state [] [] (opened state (openOf limit))
 
 -- rows and lent bytes after a packet; the limit stays
 abbrev pub accepted : List ℕ → List ℕ → Result → Called

@@ -21,7 +21,7 @@ ghost use Rattle.rows.specs.Called.{called};
 ghost use Rattle.calls_receiving.specs.Convert.{isReceiver, limitOf, slotsOf};
 ghost use Rattle.calls_receiving.specs.Calls.{receiverOpenOf, accepted, receiverAcceptOf};
 
-// The state row of a receiver opened with a limit.
+// Opens a receiver for a link with a limit: its empty state.
 pub fn receiver_open(limit: u64, state: &mut [u64]) -> u64
     ensures { λ r. ⌜ called r (now (state .exit)) [] [] ≡ receiverOpenOf limit (now (state .entry)) ⌝ }
 {

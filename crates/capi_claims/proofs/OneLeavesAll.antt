@@ -64,7 +64,8 @@ use Rattle.calls_classic.specs.Calls.{opened, stepped, fedCall, noneUsed, extra
 use Rattle.calls_parts.specs.Convert.{isState, stateOf}
 use Rattle.calls_parts.specs.Calls.{begun, parted, frameBeginOf, framePartOf}
 use Rattle.calls_sending.specs.Calls.{packetWriteOf, ackWriteOf}
-use Rattle.calls_receiving.specs.Calls.{accepted, receiverAcceptOf}
+use Rattle.calls_receiving.specs.Calls.{accepted, receiverOpenOf, receiverAcceptOf}
+use Rattle.calls_receiving.specs.Calls as receiving
 use Rattle.calls_messages.specs.Calls.{envelopeReadOf, envelopeWriteOf, responseReadOf, responseWriteOf, informationReadOf, informationWriteOf, featuresReadOf, featuresWriteOf}
 use Rattle.calls_firmware.specs.Calls.{segmentReadOf, segmentStored, segmentWriteOf, applyReadOf, applyStored, applyWriteOf, fieldReadOf}
 use Rattle.calls_outbox.specs.Calls.{outboxNewOf, outboxAppendOf, outboxRecordOf, outboxWholeOf}
@@ -119,11 +120,22 @@ feed-keeps bytes state lent answer =
     go true true true = λ e. refl
     go true true false = λ e. absurd (feed-not-one limit 0 s lent bytes e)
 
-accept-keeps : (limit : ℕ) (packet state lent answer : List ℕ) → Keeps state lent answer (receiverAcceptOf limit state lent packet answer)
-unfolding receiverAcceptOf acceptOf
-accept-keeps limit packet state lent answer =
-    keeps-if (eqb (length answer) 7 && isReceiver state) state lent answer _ (go (not (receiver.ready limit (slotsOf state) lent)))
+receiver-open-keeps : (limit : ℕ) (state : List ℕ) → Keeps state [] [] (receiverOpenOf limit state)
+unfolding receiverOpenOf receiver.openOf
+receiver-open-keeps limit state = keeps-if (eqb (length state) 19) state [] [] _ (go (not (limitFits limit)))
   where
+    go : (t : Bool) → Keeps state [] [] (receiving.opened state (cond t (refused 17) (given (receiver.empty limit))))
+    go true = λ e. absurd (omega (arith, e))
+    go false = λ e. absurd (omega (arith, e))
+
+accept-keeps : (packet state lent answer : List ℕ) → Keeps state lent answer (receiverAcceptOf state lent packet answer)
+unfolding receiverAcceptOf acceptOf
+accept-keeps packet state lent answer =
+    keeps-if (eqb (length answer) 7 && isReceiver state) state lent answer _ (go (not (receiver.ready limit (slotsOf state) (length lent))))
+  where
+    limit : ℕ
+    limit = limitOf state
+
     go : (t : Bool) → Keeps state lent answer (accepted state answer (cond t (result (refused 1) (slotsOf state) lent) (acted limit (slotsOf state) lent packet (readOf limit packet))))
     go true = λ e. refl
     go false = keeps-rows _ state lent answer _ _ _ (acted-keeps limit (slotsOf state) lent packet (readOf limit packet))
@@ -301,6 +313,7 @@ one-leaves-all = record {
   next-sequence = λ sequence answer. keeps-if (eqb (length answer) 1) [] [] answer _ never;
   packet-write = packet-keeps;
   ack-write = ack-keeps;
+  receiver-open = receiver-open-keeps;
   receiver-accept = accept-keeps;
   envelope-read = λ message answer. keeps-answers 6 _ [] answer _ _ (λ e. refl);
   envelope-write = envelope-keeps;

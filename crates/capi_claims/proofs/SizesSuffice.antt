@@ -125,15 +125,16 @@ args-fit stream id sequence ack s i q a =
     (in-range stream id sequence s i q)
 
 packet-done : (limit room stream id sequence ack place : ℕ) (message out answer : List ℕ) → length answer ≡ 2
-    → 20 ≤ room → room ≤ 512 → StreamNumber stream → id ≤ 15 → sequence ≤ 15 → ack ≤ 1 → length message ≤ limit
+    → 20 ≤ room → room ≤ 512 → 1 ≤ limit → limit ≤ 65535 → StreamNumber stream → id ≤ 15 → sequence ≤ 15 → ack ≤ 1 → length message ≤ limit
     → begins (foundAt (sendingOf room stream id sequence ack) (length message) place) ≡ true → room ≤ length out
     → Done (packetWriteOf limit (sendingOf room stream id sequence ack) message place out answer)
 unfolding packetWriteOf writtenOf sendingOf roomFits argumentsFit
-packet-done limit room stream id sequence ack place message out answer l low high s i q a m b h =
+packet-done limit room stream id sequence ack place message out answer l low high least most s i q a m b h =
     fit-done 2 [] out answer _ l
     (rw (
       le-leb leastRoom room (omega arith),
       le-leb room largestRoom (omega arith),
+      range-limit limit least most,
       args-fit stream id sequence ack s i q a,
       le-leb (length message) limit m,
       b,
@@ -355,8 +356,8 @@ pub sizes-suffice : SizesSuffice
 sizes-suffice = record {
   frame-write = frame-done;
   packet-write = packet-done;
-  packet-first = λ limit room stream id sequence ack message out answer l low high s i q a m h.
-      packet-done limit room stream id sequence ack 0 message out answer l low high s i q a m refl (omega arith);
+  packet-first = λ limit room stream id sequence ack message out answer l low high least most s i q a m h.
+      packet-done limit room stream id sequence ack 0 message out answer l low high least most s i q a m refl (omega arith);
   ack-write = ack-done;
   envelope-none = envelope-none;
   envelope-response = envelope-response;

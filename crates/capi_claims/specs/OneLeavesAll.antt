@@ -9,7 +9,7 @@ use Rattle.rows.specs.Called.{Called, called}
 use Rattle.calls_classic.specs.Calls.{noneUsed, extractorOpenOf, extractorStepOf, extractorFeedOf, frameWriteOf, nextSequenceOf}
 use Rattle.calls_parts.specs.Calls.{frameBeginOf, framePartOf}
 use Rattle.calls_sending.specs.Calls.{packetWriteOf, ackWriteOf}
-use Rattle.calls_receiving.specs.Calls.{receiverAcceptOf}
+use Rattle.calls_receiving.specs.Calls.{receiverOpenOf, receiverAcceptOf}
 use Rattle.calls_messages.specs.Calls.{envelopeReadOf, envelopeWriteOf, responseReadOf, responseWriteOf, informationReadOf, informationWriteOf, featuresReadOf, featuresWriteOf}
 use Rattle.calls_firmware.specs.Calls.{segmentReadOf, segmentWriteOf, applyReadOf, applyWriteOf, fieldReadOf}
 use Rattle.calls_outbox.specs.Calls.{outboxNewOf, outboxAppendOf, outboxRecordOf, outboxWholeOf}
@@ -29,8 +29,8 @@ pub record OneLeavesAll : Type 0 where
   pub packet-write : (limit : ℕ) (how : Sending) (place : ℕ) (message out answer : List ℕ)
       → Keeps [] out answer (packetWriteOf limit how message place out answer)
   pub ack-write : (stream id sequence positive : ℕ) (out answer : List ℕ) → Keeps [] out answer (ackWriteOf stream id sequence positive out answer)
-  pub receiver-accept : (limit : ℕ) (packet state lent answer : List ℕ)
-      → Keeps state lent answer (receiverAcceptOf limit state lent packet answer)
+  pub receiver-open : (limit : ℕ) (state : List ℕ) → Keeps state [] [] (receiverOpenOf limit state)
+  pub receiver-accept : (packet state lent answer : List ℕ) → Keeps state lent answer (receiverAcceptOf state lent packet answer)
   pub envelope-read : (message answer : List ℕ) → Keeps [] [] answer (envelopeReadOf message answer)
   pub envelope-write : (command : ℕ) (payload : EnvelopePayload) (bytes out answer : List ℕ)
       → Keeps [] out answer (envelopeWriteOf command payload bytes out answer)

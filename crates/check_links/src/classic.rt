@@ -1,4 +1,5 @@
 // The cases of Classic, P1 to P3.
+use crate::LIMIT;
 use crate::OUTPUT;
 use frame_writer::writer::WriteOutcome;
 use framing::header::next_sequence;
@@ -6,9 +7,6 @@ use printing::bytes;
 use printing::end;
 use printing::refused;
 use printing::text;
-
-// The limit of the worked cases.
-const LIMIT: usize = 4096;
 
 fn write_frame(label: &[u8], sequence: u8, payload: &[u8]) {
     let mut out = [0u8; OUTPUT];

@@ -19,7 +19,7 @@ open-requires : tie.Need-open-requires
 open-requires c κs = search needs
 
 returns-2 : tie.Need-returns-2
-unfolding receiverOpenOf
+unfolding receiverOpenOf openOf
 returns-2 c =
     let o = c .before .«open» in
     let limit = c .before .before .before .before .args .limit in
