@@ -54,8 +54,8 @@ typedef char pito_size_t_has_64_bits[sizeof(size_t) == 8 ? 1 : -1];
 
 /* What the lent buffers have exactly. */
 #define PITO_EXTRACTOR_BUFFER(limit) ((limit) + 2)
+#define PITO_RECEIVER_BUFFER(limit) (3 * (limit))
 #define PITO_MESSAGE_LIMIT 4096
-#define PITO_RECEIVER_BUFFER 12288
 
 /* Streams. */
 #define PITO_STREAM_CONTROL 0
@@ -74,7 +74,7 @@ enum {
     PITO_REFUSED_STREAM = 3,          /* packet of an unknown stream */
     PITO_REFUSED_RESERVED_BYTE = 4,   /* reserved byte of a first packet not 0 */
     PITO_REFUSED_PACKET_LENGTH = 5,   /* packet length is not header plus payload */
-    PITO_REFUSED_TOTAL = 6,           /* total over 4,096 */
+    PITO_REFUSED_TOTAL = 6,           /* total over the limit */
     PITO_REFUSED_EMPTY_PAYLOAD = 7,   /* empty payload, but for a first packet with total 0 */
     PITO_REFUSED_ABOVE_TOTAL = 8,     /* first payload above its total */
     PITO_REFUSED_NO_TRANSACTION = 9,  /* no open transaction of that id in the stream */
@@ -236,20 +236,21 @@ PITO_CALL uint64_t pito_next_sequence(uint8_t sequence, uint64_t *answer, size_t
  * message_len (an empty message has one packet).
  *   room      the largest whole packet in bytes, 20 to 512: the link's ATT_MTU less 3, which ATT itself takes, but at
  *             most 512; the output has at least this size
+ *   limit     the link's, 1 to 65,535
  *   stream    0, 2 or 6
  *   id        the transaction's, 0 to 15
  *   sequence  the first packet's, 0 to 15; each later packet has the next one by itself
  *   ack       1 if an ACK is wanted, else 0
- *   message   at most 4,096 bytes
- * Returns 0, 1, 13, 15 (stream, id, sequence, ack or message size out of range; a place where no piece begins), 14
+ *   message   at most as many bytes as the limit
+ * Returns 0, 1, 13, 17, 15 (stream, id, sequence, ack or message size out of range; a place where no piece begins), 14
  * (an output smaller than the room), the first that holds in this order.
  */
 #define PITO_LEAST_ROOM 20
 #define PITO_LARGEST_ROOM 512
 enum { PITO_PACKET_WRITE_WRITTEN, PITO_PACKET_WRITE_NEXT_PLACE, PITO_PACKET_WRITE_ANSWER };
-PITO_CALL uint64_t pito_packet_write(uint64_t room, uint64_t stream, uint64_t id, uint64_t sequence, uint64_t ack,
-                                     const uint8_t *message, size_t message_len, uint64_t place, uint8_t *output,
-                                     size_t output_len, uint64_t *answer, size_t answer_len);
+PITO_CALL uint64_t pito_packet_write(uint64_t room, uint64_t limit, uint64_t stream, uint64_t id, uint64_t sequence,
+                                     uint64_t ack, const uint8_t *message, size_t message_len, uint64_t place,
+                                     uint8_t *output, size_t output_len, uint64_t *answer, size_t answer_len);
 
 /*
  * Writes the ACK (positive 1) or NACK (positive 0) of a request: six bytes, first in the output. Stream and id are
@@ -264,10 +265,11 @@ PITO_CALL uint64_t pito_ack_write(uint64_t stream, uint64_t id, uint64_t sequenc
 /* ------------------------------------------------------------------------------------------------------------
  * Low Energy: receiving
  *
- * State row: the numbers of a slot for each stream, from PITO_RECEIVER_SLOT(stream) on. All 0 is the state with no open
- * transaction: begin with that. An open slot has PITO_SLOT_WANTED 1 if a packet of its transaction asked for an ACK.
- * Buffer: exactly PITO_RECEIVER_BUFFER bytes, the same one from call to call. A stream's part of it, a third, begins at
- * PITO_RECEIVER_PART(stream): control has the first, OTA the middle one, Alexa the last.
+ * State row: pito_receiver_open fills it; keep it from call to call. It has the link's limit, which stays, and the
+ * numbers of a slot for each stream, from PITO_RECEIVER_SLOT(stream) on. An open slot has PITO_SLOT_WANTED 1 if a packet
+ * of its transaction asked for an ACK. A row of zeros has a limit of 0: every packet given to it is refused by 1.
+ * Buffer: exactly PITO_RECEIVER_BUFFER(limit) bytes, the same one from call to call. A stream's part of it, a third,
+ * begins at PITO_RECEIVER_PART(stream, limit): control has the first, OTA the middle one, Alexa the last.
  */
 enum {
     PITO_SLOT_OPEN,
@@ -278,12 +280,18 @@ enum {
     PITO_SLOT_WANTED,
     PITO_SLOT_STATE
 };
-#define PITO_RECEIVER_STATE (3 * PITO_SLOT_STATE)
+enum { PITO_RECEIVER_LIMIT, PITO_RECEIVER_SLOTS, PITO_RECEIVER_STATE = PITO_RECEIVER_SLOTS + 3 * PITO_SLOT_STATE };
 
 /* Of one of the three streams: its slot's place in the state row, its part's place in the buffer. */
 #define PITO_RECEIVER_OF(stream) ((stream) == PITO_STREAM_CONTROL ? 0 : (stream) == PITO_STREAM_OTA ? 1 : 2)
-#define PITO_RECEIVER_SLOT(stream) (PITO_RECEIVER_OF(stream) * PITO_SLOT_STATE)
-#define PITO_RECEIVER_PART(stream) (PITO_RECEIVER_OF(stream) * PITO_MESSAGE_LIMIT)
+#define PITO_RECEIVER_SLOT(stream) (PITO_RECEIVER_SLOTS + PITO_RECEIVER_OF(stream) * PITO_SLOT_STATE)
+#define PITO_RECEIVER_PART(stream, limit) (PITO_RECEIVER_OF(stream) * (limit))
+
+/*
+ * Opens a receiver for a link with a limit: the empty state, with no open transaction.
+ * Returns 0, 1, 17.
+ */
+PITO_CALL uint64_t pito_receiver_open(uint64_t limit, uint64_t *state, size_t state_len);
 
 /* Outcomes. */
 #define PITO_PIECE_TAKEN 0 /* a piece of a transaction, with more to come */

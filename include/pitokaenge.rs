@@ -53,6 +53,7 @@ extern "C" {
     pub fn pito_next_sequence(sequence: u8, answer: *mut u64, answer_len: usize) -> u64;
     pub fn pito_packet_write(
         room: u64,
+        limit: u64,
         stream: u64,
         id: u64,
         sequence: u64,
@@ -75,6 +76,7 @@ extern "C" {
         answer: *mut u64,
         answer_len: usize,
     ) -> u64;
+    pub fn pito_receiver_open(limit: u64, state: *mut u64, state_len: usize) -> u64;
     pub fn pito_receiver_accept(
         state: *mut u64,
         state_len: usize,
