@@ -44,7 +44,7 @@ fn ordinary(rng: &mut Rng, operation: Operation) -> Call {
     let stream = *rng.pick(&[0, 2, 6]);
     let size = rng.index(30);
     let text = rng.bytes(size);
-    let limit = *rng.pick(&[30, 4_096, 4_096, 65_535]);
+    let limit = *rng.pick(&[33, 4_096, 4_096, 65_535]);
     match operation {
         Operation::ExtractorOpen => call.numbers(&[limit]),
         Operation::ExtractorStep => call
@@ -63,7 +63,7 @@ fn ordinary(rng: &mut Rng, operation: Operation) -> Call {
         Operation::FramePart => {
             let total = size as u64 + rng.below(4);
             let (stage, pending) = (rng.below(8), rng.below(4));
-            call.state(&[limit + 3, rng.below(240), total, 0, 2, stage, pending])
+            call.state(&[limit, rng.below(240), total, 0, 2, stage, pending])
                 .inputs(&[&text])
                 .lent(rng.bytes(80))
         }
