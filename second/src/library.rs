@@ -1,5 +1,5 @@
 //! The verified library, through its C interface (include/pitokaenge.h): the archive that
-//! `rt staticlib capi` writes, linked with the feature `library`.
+//! `tools/archive` writes, linked with the feature `library`.
 
 use crate::implementation::{Implementation, Operation};
 use pitokaenge::*;
