@@ -7,7 +7,7 @@ fn main() {
     let folder = env::var("BENCH_ARCHIVES").expect("bench/run sets it");
     println!("cargo:rerun-if-env-changed=BENCH_ARCHIVES");
     println!("cargo:rustc-link-search=native={folder}");
-    for library in ["capi", "bench_c"] {
+    for library in ["pitokaenge", "bench_c"] {
         println!("cargo:rerun-if-changed={folder}/lib{library}.a");
     }
     println!("cargo:rustc-link-lib=static=bench_c");

@@ -1,7 +1,7 @@
-//! The functions of pitokaenge.h for Rust: the archive that `rt staticlib capi` writes. A slice passes as a pointer and
+//! The functions of pitokaenge.h for Rust: the archive that `tools/archive` writes. A slice passes as a pointer and
 //! then a length. tools/check_interface holds this file to the header and to the library's sources.
 
-#[link(name = "capi", kind = "static")]
+#[link(name = "pitokaenge", kind = "static")]
 extern "C" {
     pub fn pito_extractor_open(limit: u64, state: *mut u64, state_len: usize) -> u64;
     pub fn pito_extractor_step(

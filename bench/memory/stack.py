@@ -59,7 +59,9 @@ def functions(archive):
     for line in listing.splitlines():
         label, instruction, callee = LABEL.match(line), LINE.match(line), CALLEE.search(line)
         if label:
-            code = found.setdefault(label.group(1), [])
+            if label.group(1) in found:
+                stop("two functions " + label.group(1))
+            code = found[label.group(1)] = []
         elif callee:
             code[-1].callee = callee.group(1)
         elif instruction and "R_X86_64" not in line:

@@ -13,7 +13,7 @@
 //!   one is out of a writer's range, 15; so is an unsigned one above 32 bits, and a wish other than 0
 //!   or 1.
 
-use crate::classic::{self, Decided, Extractor, Next, Outcome, Parts};
+use crate::classic::{self, Decided, Extractor, Next, Outcome, Parts, Standing};
 use crate::control::{self, Envelope, Features, Given, Information, Member, Payload, Response};
 use crate::implementation::{Implementation, Operation};
 use crate::low_energy::{self, Accepted, Open, Slots, Stream, Wish};
@@ -41,10 +41,11 @@ impl Implementation for Model {
         answer: &mut [u64],
     ) -> u64 {
         match operation {
+            Operation::ExtractorOpen => extractor_open(numbers[0], state),
             Operation::ExtractorStep => extractor_step(state, lent, numbers[0] as u8, answer),
             Operation::ExtractorFeed => extractor_feed(state, lent, &inputs[0], answer),
-            Operation::FrameWrite => frame_write(numbers[0], &inputs[0], lent, answer),
-            Operation::FrameBegin => frame_begin(numbers[0], numbers[1], state),
+            Operation::FrameWrite => frame_write(numbers[0], numbers[1], &inputs[0], lent, answer),
+            Operation::FrameBegin => frame_begin([numbers[0], numbers[1], numbers[2]], state),
             Operation::FramePart => frame_part(state, &inputs[0], lent, answer),
             Operation::NextSequence => next_sequence(numbers[0] as u8, answer),
             Operation::PacketWrite => {
@@ -164,42 +165,62 @@ fn four_bits_in(number: u64) -> Option<u8> {
     u8::try_from(number).ok().filter(|&number| number < 16)
 }
 
-/// `phase, sequence, held`: phases are 0 outside, 1 to 3 before packet id, error id and sequence
-/// byte, 4 in the body, 5 after F2.
+/// `limit, phase, sequence, held`: phases are 0 outside, 1 to 3 before packet id, error id and
+/// sequence byte, 4 in the body, 5 after F2.
 fn extractor_in(row: &[u64]) -> Option<Extractor> {
-    let [phase, sequence, held] = *row else {
+    let [limit, phase, sequence, held] = *row else {
         return None;
     };
-    let state = match (phase, sequence, held) {
-        (0, 0, 0) => Extractor::Outside,
-        (1, 0, 0) => Extractor::PacketId,
-        (2, 0, 0) => Extractor::ErrorId,
-        (3, 0, 0) => Extractor::Sequence,
-        (4 | 5, _, _) => Extractor::Body {
+    let standing = match (phase, sequence, held) {
+        (0, 0, 0) => Standing::Outside,
+        (1, 0, 0) => Standing::PacketId,
+        (2, 0, 0) => Standing::ErrorId,
+        (3, 0, 0) => Standing::Sequence,
+        (4 | 5, _, _) => Standing::Body {
             sequence: sequence.try_into().ok()?,
             held: held.try_into().ok()?,
             escape: phase == 5,
         },
         _ => return None,
     };
-    Some(state).filter(|state| state.is_lawful())
+    Some(Extractor { limit, standing }).filter(|state| state.is_lawful())
 }
 
-fn extractor_out(state: Extractor) -> [u64; 3] {
-    match state {
-        Extractor::Outside => [0, 0, 0],
-        Extractor::PacketId => [1, 0, 0],
-        Extractor::ErrorId => [2, 0, 0],
-        Extractor::Sequence => [3, 0, 0],
-        Extractor::Body {
+fn extractor_out(state: Extractor) -> [u64; 4] {
+    let [phase, sequence, held] = match state.standing {
+        Standing::Outside => [0, 0, 0],
+        Standing::PacketId => [1, 0, 0],
+        Standing::ErrorId => [2, 0, 0],
+        Standing::Sequence => [3, 0, 0],
+        Standing::Body {
             sequence,
             held,
             escape,
         } => [4 + u64::from(escape), u64::from(sequence), wide(held)],
+    };
+    [state.limit, phase, sequence, held]
+}
+
+/// No answer; the state goes out only. 17 leaves it.
+pub fn extractor_open(limit: u64, state: &mut [u64]) -> u64 {
+    set_out(state, Extractor::open(limit).map(extractor_out))
+}
+
+/// A call whose state goes out only: a refusal leaves it.
+fn set_out<const N: usize>(state: &mut [u64], made: Result<[u64; N], Refusal>) -> u64 {
+    if state.len() != N {
+        return Refusal::Lent.number();
+    }
+    match made {
+        Ok(row) => {
+            state.copy_from_slice(&row);
+            0
+        }
+        Err(refusal) => refusal.number(),
     }
 }
 
-/// State `phase, sequence, held`; answer `outcome, sequence, length` with outcome 0 skipped,
+/// State `limit, phase, sequence, held`; answer `outcome, sequence, length` with outcome 0 skipped,
 /// 1 taken, 2 frame.
 pub fn extractor_step(state: &mut [u64], buffer: &mut [u8], byte: u8, answer: &mut [u64]) -> u64 {
     ask(answer, || {
@@ -236,23 +257,34 @@ pub fn extractor_feed(
     })
 }
 
+/// A sequence as a number: one that is no byte is out of range, as a mark is.
+fn sequence_in(sequence: u64) -> u8 {
+    sequence.try_into().unwrap_or(classic::END)
+}
+
 /// Answer `written`.
-pub fn frame_write(sequence: u64, payload: &[u8], output: &mut [u8], answer: &mut [u64]) -> u64 {
+pub fn frame_write(
+    sequence: u64,
+    limit: u64,
+    payload: &[u8],
+    output: &mut [u8],
+    answer: &mut [u64],
+) -> u64 {
     ask(answer, || {
-        let sequence = u8::try_from(sequence).map_err(|_| Refusal::Argument)?;
-        let written = classic::write_frame(sequence, payload, output)?;
+        let written = classic::write_frame(sequence_in(sequence), limit, payload, output)?;
         Ok([wide(written)])
     })
 }
 
-/// `sequence, total, taken, sum, stage, pending`: stages 0 to 3 are the four bytes before the
+/// `limit, sequence, total, taken, sum, stage, pending`: stages 0 to 3 are the four bytes before the
 /// payload, 4 the payload with the checksum's first byte after it, 5 its second byte, 6 the end
 /// mark, 7 nothing; pending is 0 for none, 1 to 3 for the second byte of F0, F1, F2.
 fn parts_in(row: &[u64]) -> Option<Parts> {
-    let [sequence, total, taken, sum, stage, pending] = *row else {
+    let [limit, sequence, total, taken, sum, stage, pending] = *row else {
         return None;
     };
     Some(Parts {
+        limit,
         sequence: sequence.try_into().ok()?,
         total,
         taken,
@@ -275,7 +307,7 @@ fn parts_in(row: &[u64]) -> Option<Parts> {
     })
 }
 
-fn parts_out(parts: Parts) -> [u64; 6] {
+fn parts_out(parts: Parts) -> [u64; 7] {
     let stage = match parts.next {
         Next::Header(place) => u64::from(place),
         Next::Payload => 4,
@@ -287,6 +319,7 @@ fn parts_out(parts: Parts) -> [u64; 6] {
         .split
         .map_or(0, |mark| u64::from(mark - classic::START) + 1);
     [
+        parts.limit,
         u64::from(parts.sequence),
         parts.total,
         parts.taken,
@@ -296,21 +329,10 @@ fn parts_out(parts: Parts) -> [u64; 6] {
     ]
 }
 
-/// No answer; the state goes out only. 15 leaves it.
-pub fn frame_begin(sequence: u64, total: u64, state: &mut [u64]) -> u64 {
-    if state.len() != 6 {
-        return Refusal::Lent.number();
-    }
-    let begun = u8::try_from(sequence)
-        .map_err(|_| Refusal::Argument)
-        .and_then(|sequence| Parts::begin(sequence, total));
-    match begun {
-        Ok(parts) => {
-            state.copy_from_slice(&parts_out(parts));
-            0
-        }
-        Err(refusal) => refusal.number(),
-    }
+/// No answer; the state goes out only. 17 and 15 leave it.
+pub fn frame_begin([sequence, limit, total]: [u64; 3], state: &mut [u64]) -> u64 {
+    let begun = Parts::begin(sequence_in(sequence), limit, total);
+    set_out(state, begun.map(parts_out))
 }
 
 /// Answer `taken, written, ended`.

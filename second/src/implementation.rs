@@ -5,6 +5,7 @@
 /// The operations.
 #[derive(Clone, Copy, Debug, PartialEq, Eq, PartialOrd, Ord)]
 pub enum Operation {
+    ExtractorOpen,
     ExtractorStep,
     ExtractorFeed,
     FrameWrite,
@@ -50,8 +51,10 @@ pub struct Shape {
     pub returns: &'static [u64],
 }
 
-const EXTRACTOR: &[&str] = &["phase", "sequence", "held"];
-const PARTS: &[&str] = &["sequence", "total", "taken", "sum", "stage", "pending"];
+const EXTRACTOR: &[&str] = &["limit", "phase", "sequence", "held"];
+const PARTS: &[&str] = &[
+    "limit", "sequence", "total", "taken", "sum", "stage", "pending",
+];
 const RECEIVER: &[&str] = &[
     "control.open",
     "control.id",
@@ -152,7 +155,8 @@ const APPLY: &[&str] = &[
 const MESSAGE_READ: &[u64] = &[0, 1, 30, 31, 32, 33, 34];
 
 impl Operation {
-    pub const ALL: [Operation; 26] = [
+    pub const ALL: [Operation; 27] = [
+        Operation::ExtractorOpen,
         Operation::ExtractorStep,
         Operation::ExtractorFeed,
         Operation::FrameWrite,
@@ -192,6 +196,13 @@ impl Operation {
             returns: &[],
         };
         match self {
+            Operation::ExtractorOpen => Shape {
+                name: "extractor open",
+                numbers: &["limit"],
+                state: EXTRACTOR,
+                returns: &[0, 1, 17],
+                ..empty
+            },
             Operation::ExtractorStep => Shape {
                 name: "extractor step",
                 numbers: &["byte"],
@@ -212,18 +223,18 @@ impl Operation {
             },
             Operation::FrameWrite => Shape {
                 name: "frame write",
-                numbers: &["sequence"],
+                numbers: &["sequence", "limit"],
                 inputs: &["payload"],
                 answer: &["written"],
                 lent: "output",
-                returns: &[0, 1, 14, 15],
+                returns: &[0, 1, 14, 15, 17],
                 ..empty
             },
             Operation::FrameBegin => Shape {
                 name: "frame begin",
-                numbers: &["sequence", "total"],
+                numbers: &["sequence", "limit", "total"],
                 state: PARTS,
-                returns: &[0, 1, 15],
+                returns: &[0, 1, 15, 17],
                 ..empty
             },
             Operation::FramePart => Shape {

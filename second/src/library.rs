@@ -1,5 +1,5 @@
 //! The verified library, through its C interface (include/pitokaenge.h): the archive that
-//! `rt staticlib capi` writes, linked with the feature `library`.
+//! `tools/archive` writes, linked with the feature `library`.
 
 use crate::implementation::{Implementation, Operation};
 use pitokaenge::*;
@@ -32,6 +32,7 @@ impl Implementation for Library {
         // Every pointer comes from a slice that outlives the call, with that slice's length.
         unsafe {
             match operation {
+                Operation::ExtractorOpen => pito_extractor_open(numbers[0], row, rows),
                 Operation::ExtractorStep => {
                     pito_extractor_step(row, rows, bytes, size, numbers[0] as u8, told, tells)
                 }
@@ -41,9 +42,13 @@ impl Implementation for Library {
                 }
                 Operation::FrameWrite => {
                     let (payload, length) = input(0);
-                    pito_frame_write(numbers[0], payload, length, bytes, size, told, tells)
+                    pito_frame_write(
+                        numbers[0], numbers[1], payload, length, bytes, size, told, tells,
+                    )
                 }
-                Operation::FrameBegin => pito_frame_begin(numbers[0], numbers[1], row, rows),
+                Operation::FrameBegin => {
+                    pito_frame_begin(numbers[0], numbers[1], numbers[2], row, rows)
+                }
                 Operation::FramePart => {
                     let (payload, length) = input(0);
                     pito_frame_part(row, rows, payload, length, bytes, size, told, tells)

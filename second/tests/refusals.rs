@@ -1,7 +1,7 @@
 //! "Each is given exactly when its line holds and none above it in its group does": each line of
 //! the table, and the orders that the paper and its readings fix.
 
-use second::classic::{self, Extractor, Next, Outcome, Parts};
+use second::classic::{self, Extractor, Next, Outcome, Parts, Standing};
 use second::control::{self, Envelope, Features, Given, Information, Payload, Response};
 use second::driver::worked::bytes;
 use second::low_energy::{self, accept, write_packet, Accepted, Open, Slots, Stream, Wish};
@@ -329,26 +329,34 @@ fn packets_written() {
     assert!(output.iter().all(|&byte| byte == 0xEE));
 }
 
+/// An extractor with the limit of the worked cases.
+fn at(standing: Standing) -> Extractor {
+    Extractor {
+        limit: classic::LIMIT,
+        standing,
+    }
+}
+
 /// The state that these bytes lead to from outside.
 fn after(bytes: &[u8], buffer: &mut [u8]) -> Extractor {
-    let (state, used, _) = Extractor::default().feed(buffer, bytes);
+    let (state, used, _) = at(Standing::Outside).feed(buffer, bytes);
     assert_eq!(used, bytes.len());
     state
 }
 
 #[test]
 fn frames() {
-    let full = Extractor::Body {
+    let full = at(Standing::Body {
         sequence: 1,
         held: 4_098,
         escape: false,
-    };
-    let full_escape = Extractor::Body {
+    });
+    let full_escape = at(Standing::Body {
         sequence: 1,
         held: 4_098,
         escape: true,
-    };
-    let mut buffer = vec![0xEE; classic::BUFFER];
+    });
+    let mut buffer = vec![0xEE; 4_098];
     let mut start = |text: &str| after(&bytes(text), &mut buffer);
     let body = |text: &str| format!("F0 02 00 01 {text}");
     let cases: Vec<(Extractor, u8, u64)> = vec![
@@ -393,10 +401,10 @@ fn frames() {
             "{state:?} {byte:02X}"
         );
         let expected = match number {
-            20 => Extractor::PacketId,
-            _ => Extractor::Outside,
+            20 => Standing::PacketId,
+            _ => Standing::Outside,
         };
-        assert_eq!(next, expected);
+        assert_eq!(next, at(expected));
     }
     assert_eq!(buffer, before);
     let (next, told) = full.step(&mut buffer, 0xF2);
@@ -406,21 +414,26 @@ fn frames() {
 
 #[test]
 fn the_largest_frame_is_read_and_one_byte_more_is_24() {
-    for size in [4_096, 4_097] {
-        let frame = classic::frame(7, &vec![0xF2; size]);
-        let mut buffer = vec![0; classic::BUFFER];
-        let (state, used, decided) = Extractor::default().feed(&mut buffer, &frame);
-        assert_eq!(state, Extractor::Outside);
-        if size == 4_096 {
-            let expected = classic::Decided::Frame {
-                sequence: 7,
-                length: 4_096,
-            };
-            assert_eq!((used, decided), (frame.len(), expected));
-        } else {
-            // The last byte of the checksum.
-            let expected = classic::Decided::Refused(Refusal::Full);
-            assert_eq!((used, decided), (frame.len() - 1, expected));
+    for limit in [1, 2, 4_096, 20_000, 65_535] {
+        for more in [0, 1] {
+            let size = limit as usize + more;
+            let frame = classic::frame(7, &vec![0xF2; size]);
+            let mut buffer = vec![0; limit as usize + 2];
+            let empty = Extractor::open(limit).unwrap();
+            let (state, used, decided) = empty.feed(&mut buffer, &frame);
+            assert_eq!(state, empty);
+            let full = classic::Decided::Refused(Refusal::Full);
+            if more == 0 {
+                let expected = classic::Decided::Frame {
+                    sequence: 7,
+                    length: size,
+                };
+                assert_eq!((used, decided), (frame.len(), expected));
+            } else {
+                // The last byte of the checksum, before the end mark.
+                assert_eq!(decided, full);
+                assert_eq!(used, frame.len() - 1);
+            }
         }
     }
 }
@@ -429,44 +442,65 @@ fn the_largest_frame_is_read_and_one_byte_more_is_24() {
 fn extractor_states_and_buffers() {
     let unlawful = [(0xF0, 0), (0xF1, 0), (0xF2, 0), (0, 4_099)];
     for (sequence, held) in unlawful {
-        let state = Extractor::Body {
+        let state = at(Standing::Body {
             sequence,
             held,
             escape: false,
-        };
-        let mut buffer = vec![0; classic::BUFFER];
+        });
+        let mut buffer = vec![0; 4_098];
         assert_eq!(state.step(&mut buffer, 0xF0), (state, Err(Refusal::Lent)));
         let refused = classic::Decided::Refused(Refusal::Lent);
         assert_eq!(state.feed(&mut buffer, &[0xF0]), (state, 0, refused));
     }
     for size in [0, 4_097, 4_099] {
-        let (state, told) = Extractor::Outside.step(&mut vec![0; size], 0xF0);
-        assert_eq!((state, told), (Extractor::Outside, Err(Refusal::Lent)));
+        let outside = at(Standing::Outside);
+        let told = outside.step(&mut vec![0; size], 0xF0);
+        assert_eq!(told, (outside, Err(Refusal::Lent)));
+    }
+    // A limit that is none: 17 in an opening, 1 in a state.
+    for limit in [0, 65_536, u64::MAX] {
+        assert_eq!(Extractor::open(limit), Err(Refusal::Limit));
+        let state = Extractor {
+            limit,
+            standing: Standing::Outside,
+        };
+        for size in [0, 1, 2, 65_538] {
+            let told = state.step(&mut vec![0; size], 0xF0);
+            assert_eq!(told, (state, Err(Refusal::Lent)));
+        }
     }
 }
 
 #[test]
 fn frames_written() {
     let mut output = [0xEE; 20];
-    let mut refusal = |sequence, payload: &[u8], size: usize| {
-        let told = classic::write_frame(sequence, payload, &mut output[..size]);
+    let mut refusal = |sequence, limit, payload: &[u8], size: usize| {
+        let told = classic::write_frame(sequence, limit, payload, &mut output[..size]);
         told.expect_err("a refusal").number()
     };
     for mark in [0xF0, 0xF1, 0xF2] {
-        assert_eq!(refusal(mark, &[], 0), 15);
+        assert_eq!(refusal(mark, 4_096, &[], 0), 15);
+        for limit in [0, 65_536, u64::MAX] {
+            assert_eq!(refusal(mark, limit, &[0; 9], 0), 17);
+        }
     }
-    assert_eq!(refusal(0, &[0; 4_097], 0), 15);
-    assert_eq!(refusal(0, &[0; 4_096], 20), 14);
-    assert_eq!(refusal(0, &[], 6), 14);
-    assert_eq!(refusal(5, &[0xF0], 9), 14);
+    assert_eq!(refusal(0, 4_096, &[0; 4_097], 0), 15);
+    assert_eq!(refusal(0, 4_096, &[0; 4_096], 20), 14);
+    assert_eq!(refusal(0, 1, &[0; 2], 20), 15);
+    assert_eq!(refusal(0, 65_535, &[0; 65_535], 20), 14);
+    assert_eq!(refusal(0, 65_535, &[0; 65_536], 20), 15);
+    assert_eq!(refusal(0, 4_096, &[], 6), 14);
+    assert_eq!(refusal(5, 4_096, &[0xF0], 9), 14);
     assert!(output.iter().all(|&byte| byte == 0xEE));
 }
 
 #[test]
 fn frames_written_by_parts() {
-    assert_eq!(Parts::begin(0xF0, 1).unwrap_err().number(), 15);
-    assert_eq!(Parts::begin(5, 4_097).unwrap_err().number(), 15);
-    let begun = Parts::begin(5, 2).unwrap();
+    assert_eq!(Parts::begin(0xF0, 4_096, 1).unwrap_err().number(), 15);
+    assert_eq!(Parts::begin(5, 4_096, 4_097).unwrap_err().number(), 15);
+    assert_eq!(Parts::begin(0xF0, 0, 1).unwrap_err().number(), 17);
+    assert_eq!(Parts::begin(5, 65_536, 70_000).unwrap_err().number(), 17);
+    let begun = Parts::begin(5, 4_096, 2).unwrap();
     let marked = Parts {
         sequence: 0xF2,
         ..begun
@@ -476,11 +510,16 @@ fn frames_written_by_parts() {
         ..begun
     };
     let passed = Parts { taken: 3, ..begun };
+    let unlimited = Parts {
+        limit: 65_536,
+        ..begun
+    };
     // 1 before 26 before 14; each leaves state and output.
     let cases: &[(Parts, usize, usize, u64)] = &[
         (marked, 3, 0, 1),
         (above, 0, 1, 1),
         (passed, 3, 0, 1),
+        (unlimited, 0, 1, 1),
         (begun, 3, 0, 26),
         (begun, 3, 9, 26),
         (begun, 2, 0, 14),

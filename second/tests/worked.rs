@@ -29,13 +29,13 @@ fn made(write: impl FnOnce(&mut [u8]) -> Result<usize, Refusal>) -> Vec<u8> {
 
 #[test]
 fn p1_empty_payload() {
-    let frame = made(|output| write_frame(0, &[], output));
+    let frame = made(|output| write_frame(0, classic::LIMIT, &[], output));
     assert_eq!(frame, bytes("F0 02 00 00 00 02 F1"));
 }
 
 #[test]
 fn p2_payload_of_a_mark() {
-    let frame = made(|output| write_frame(5, &[0xF0], output));
+    let frame = made(|output| write_frame(5, classic::LIMIT, &[0xF0], output));
     assert_eq!(frame, bytes("F0 02 00 05 F2 02 00 F2 00 F1"));
 }
 
@@ -226,8 +226,8 @@ fn frames_says_inside_if_a_frame_is_open() {
 
 /// Feeds a stream from outside and gives what each call decided, until all is used.
 fn decisions(stream: &[u8]) -> Vec<Decided> {
-    let mut buffer = vec![0; classic::BUFFER];
-    let mut state = Extractor::default();
+    let mut buffer = vec![0; classic::buffer(classic::LIMIT)];
+    let mut state = Extractor::open(classic::LIMIT).unwrap();
     let mut rest = stream;
     let mut all = Vec::new();
     loop {
@@ -260,7 +260,7 @@ fn slip_summing_the_escaped_payload() {
 
 #[test]
 fn slip_leaving_the_checksum_unescaped() {
-    let frame = made(|output| write_frame(1, &[0xEE], output));
+    let frame = made(|output| write_frame(1, classic::LIMIT, &[0xEE], output));
     assert_eq!(frame, bytes("F0 02 00 01 EE 00 F2 02 F1"));
     let wrong = bytes("F0 02 00 01 EF 00 F1 F1");
     assert_eq!(decisions(&wrong)[0], Decided::Refused(Refusal::Checksum));

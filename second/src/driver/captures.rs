@@ -198,7 +198,11 @@ fn low_energy(c: &mut Comparison<'_>, capture: &Capture, script: &mut Script<'_>
 
 fn classic(c: &mut Comparison<'_>, capture: &Capture, script: &mut Script<'_>) -> Compared<()> {
     let stream = capture.chunks.concat();
-    let mut feed = Call::new(Operation::ExtractorFeed).lent(vec![0xCC; classic::BUFFER]);
+    let empty = [classic::LIMIT, 0, 0, 0];
+    let buffer = vec![0xCC; classic::buffer(classic::LIMIT)];
+    let mut feed = Call::new(Operation::ExtractorFeed)
+        .state(&empty)
+        .lent(buffer.clone());
     let mut place = 0;
     // What feeds decide, to be met again in steps.
     let mut decided = Vec::new();
@@ -218,7 +222,8 @@ fn classic(c: &mut Comparison<'_>, capture: &Capture, script: &mut Script<'_>) -
             let line = told(returned, place - 1, sequence, &feed.lent[..length as usize]);
             script.next(&line)?;
             decided.push(line);
-            if let Some((line, numbers)) = script.written() {
+            if let Some((line, mut numbers)) = script.written() {
+                numbers.push(classic::LIMIT);
                 let payload = &feed.lent[..length as usize];
                 let mut writer = Call::new(Operation::FrameWrite)
                     .numbers(&numbers)
@@ -231,7 +236,7 @@ fn classic(c: &mut Comparison<'_>, capture: &Capture, script: &mut Script<'_>) -
                 }
             }
         }
-        let side = if feed.state[0] == 0 {
+        let side = if feed.state[1] == 0 {
             "outside"
         } else {
             "inside"
@@ -239,7 +244,9 @@ fn classic(c: &mut Comparison<'_>, capture: &Capture, script: &mut Script<'_>) -
         script.next(&format!("flushed: {side}"))?;
     }
     // The same bytes one by one decide the same.
-    let mut step = Call::new(Operation::ExtractorStep).lent(vec![0xCC; classic::BUFFER]);
+    let mut step = Call::new(Operation::ExtractorStep)
+        .state(&empty)
+        .lent(buffer);
     let mut again = Script {
         name: script.name,
         left: &decided,

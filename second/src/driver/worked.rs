@@ -29,6 +29,7 @@ pub(super) fn wrote(call: &Call, made: &[u8]) -> bool {
 pub fn run(c: &mut Comparison<'_>, _: &mut Rng, _: Plan) -> Compared<()> {
     frames(c)?;
     parts(c)?;
+    limits(c)?;
     packets(c)?;
     messages(c)?;
     outbox(c)?;
@@ -39,7 +40,9 @@ pub fn run(c: &mut Comparison<'_>, _: &mut Rng, _: Plan) -> Compared<()> {
 /// Feeds a stream whole, call after call, and holds it to what each call has to tell: the number
 /// returned, then outcome, used, sequence and length.
 fn feeds(c: &mut Comparison<'_>, stream: &[u8], told: &[(u64, [u64; 4])]) -> Compared<Call> {
-    let mut call = Call::new(Operation::ExtractorFeed).lent(blank(classic::BUFFER));
+    let mut call = Call::new(Operation::ExtractorFeed)
+        .state(&[classic::LIMIT, 0, 0, 0])
+        .lent(blank(classic::buffer(classic::LIMIT)));
     let mut rest = stream;
     for (returned, answer) in told {
         call.inputs[0] = rest.to_vec();
@@ -59,7 +62,7 @@ fn frames(c: &mut Comparison<'_>) -> Compared<()> {
         c.at = format!("P{}", case + 1);
         let (payload, frame) = (bytes(payload), bytes(frame));
         let mut call = Call::new(Operation::FrameWrite)
-            .numbers(&[sequence])
+            .numbers(&[sequence, classic::LIMIT])
             .inputs(&[&payload])
             .lent(blank(40));
         c.expect(&mut call, 0, |call| wrote(call, &frame))?;
@@ -84,8 +87,9 @@ fn frames(c: &mut Comparison<'_>) -> Compared<()> {
 /// bytes taken and what was written.
 fn parts(c: &mut Comparison<'_>) -> Compared<()> {
     c.at = "a frame by parts".to_string();
-    let mut begin = Call::new(Operation::FrameBegin).numbers(&[5, 1]);
-    c.expect(&mut begin, 0, |call| call.state == [5, 1, 0, 2, 0, 0])?;
+    let mut begin = Call::new(Operation::FrameBegin).numbers(&[5, classic::LIMIT, 1]);
+    let begun = [classic::LIMIT, 5, 1, 0, 2, 0, 0];
+    c.expect(&mut begin, 0, |call| call.state == begun)?;
     let calls: [(&str, usize, u64, u64, &str); 10] = [
         ("", 3, 0, 0, "F0 02 00"),
         ("", 9, 0, 0, "05"),
@@ -113,6 +117,43 @@ fn parts(c: &mut Comparison<'_>) -> Compared<()> {
         })?;
     }
     Ok(())
+}
+
+/// No. 6 on Classic: 17 in openings and first in the writers, and 1 for a state whose limit is none.
+fn limits(c: &mut Comparison<'_>) -> Compared<()> {
+    c.at = "limits of Classic".to_string();
+    let mark = u64::from(classic::END);
+    for (limit, returned) in [(0, 17), (1, 0), (65_535, 0), (65_536, 17), (u64::MAX, 17)] {
+        let mut open = Call::new(Operation::ExtractorOpen).numbers(&[limit]);
+        let state = [if returned == 0 { limit } else { 0 }, 0, 0, 0];
+        c.expect(&mut open, returned, |call| call.state == state)?;
+        let bad = if returned == 0 { 15 } else { returned };
+        let mut write = Call::new(Operation::FrameWrite).numbers(&[mark, limit]);
+        c.expect(&mut write, bad, |_| true)?;
+        let mut begin = Call::new(Operation::FrameBegin).numbers(&[mark, limit, 1]);
+        c.expect(&mut begin, bad, |call| call.state == [0; 7])?;
+    }
+    for size in [0, 1, 2, 4_098] {
+        let mut step = Call::new(Operation::ExtractorStep).lent(blank(size));
+        c.expect(&mut step, 1, |call| call.state == [0; 4])?;
+    }
+    let mut part = Call::new(Operation::FramePart).lent(blank(9));
+    c.expect(&mut part, 1, |call| call.state == [0; 7])?;
+    // A payload of as many bytes as the limit, and one more.
+    for (payload, returned) in [("41", 0), ("41 42", 15)] {
+        let mut write = Call::new(Operation::FrameWrite)
+            .numbers(&[5, 1])
+            .inputs(&[&bytes(payload)])
+            .lent(blank(20));
+        c.expect(&mut write, returned, |_| true)?;
+    }
+    let mut feed = Call::new(Operation::ExtractorFeed)
+        .state(&[1, 0, 0, 0])
+        .lent(blank(3));
+    feed.inputs[0] = bytes("F0 02 00 05 41 00 43 F1 F0 02 00 05 41 42 00 85 F1");
+    c.expect(&mut feed, 0, |call| call.answer == [2, 8, 5, 1])?;
+    feed.inputs[0].drain(..8);
+    c.expect(&mut feed, 24, |call| call.answer == [0, 8, 0, 0])
 }
 
 /// Writes a message place after place; gives the packets.
@@ -321,7 +362,7 @@ fn slips(c: &mut Comparison<'_>) -> Compared<()> {
     c.at = "slip: leaving the checksum unescaped".to_string();
     // 2 + EE is F0, which stands escaped in the checksum.
     let mut call = Call::new(Operation::FrameWrite)
-        .numbers(&[1])
+        .numbers(&[1, classic::LIMIT])
         .inputs(&[&[0xEE]])
         .lent(blank(20));
     let right = bytes("F0 02 00 01 EE 00 F2 02 F1");

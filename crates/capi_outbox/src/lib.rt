@@ -1,0 +1,52 @@
+// The outbox for C: every capability on numbers and slices only, as its crates give it. include/pitokaenge.h describes
+// each function for its callers.
+use calls_outbox::calls::outbox_append;
+use calls_outbox::calls::outbox_new;
+use calls_outbox::calls::outbox_record;
+use calls_outbox::calls::outbox_whole;
+ghost use mathlib.Core.Path.{_≡_};
+ghost use mathlib.Core.List.{[]};
+ghost use Rattle.rows.specs.Called.{called};
+ghost use Rattle.calls_outbox.specs.Calls.{outboxNewOf, outboxAppendOf, outboxRecordOf, outboxWholeOf};
+
+// Begins a new outbox.
+#[no_mangle]
+pub extern "C" fn pito_outbox_new(output: &mut [u8], answer: &mut [u64]) -> u64
+    ensures { λ r. ⌜ called r [] (now (output .exit)) (now (answer .exit))
+        ≡ outboxNewOf 4096 (now (output .entry)) (now (answer .entry)) ⌝ }
+{
+    outbox_new(output, answer)
+}
+
+// Appends a record after the used bytes.
+#[no_mangle]
+pub extern "C" fn pito_outbox_append(
+    buffer: &mut [u8],
+    used: u64,
+    stream: u64,
+    payload: &[u8],
+    answer: &mut [u64],
+) -> u64
+    ensures { λ r. ⌜ called r [] (now (buffer .exit)) (now (answer .exit))
+        ≡ outboxAppendOf 4096 (now (buffer .entry)) used stream (now (payload .entry)) (now (answer .entry)) ⌝ }
+{
+    outbox_append(buffer, used, stream, payload, answer)
+}
+
+// Reads the record at a place.
+#[no_mangle]
+pub extern "C" fn pito_outbox_record(bytes: &[u8], place: u64, answer: &mut [u64]) -> u64
+    ensures { λ r. ⌜ called r [] [] (now (answer .exit))
+        ≡ outboxRecordOf 4096 (now (bytes .entry)) place (now (answer .entry)) ⌝ }
+{
+    outbox_record(bytes, place, answer)
+}
+
+// Whether an outbox is whole.
+#[no_mangle]
+pub extern "C" fn pito_outbox_whole(bytes: &[u8], answer: &mut [u64]) -> u64
+    ensures { λ r. ⌜ called r [] [] (now (answer .exit))
+        ≡ outboxWholeOf 4096 (now (bytes .entry)) (now (answer .entry)) ⌝ }
+{
+    outbox_whole(bytes, answer)
+}
