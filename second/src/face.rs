@@ -16,7 +16,7 @@
 use crate::classic::{self, Decided, Extractor, Next, Outcome, Parts, Standing};
 use crate::control::{self, Envelope, Features, Given, Information, Member, Payload, Response};
 use crate::implementation::{Implementation, Operation};
-use crate::low_energy::{self, Accepted, Open, Slots, Stream, Wish};
+use crate::low_energy::{self, Accepted, Open, Receiver, Slots, Stream, Wish};
 use crate::outbox::{self, Broken, Record};
 use crate::refusal::Refusal;
 use std::ops::Range;
@@ -49,11 +49,11 @@ impl Implementation for Model {
             Operation::FramePart => frame_part(state, &inputs[0], lent, answer),
             Operation::NextSequence => next_sequence(numbers[0] as u8, answer),
             Operation::PacketWrite => {
-                let [room, stream, id, sequence, ack, place] = numbers else {
-                    panic!("six numbers")
+                let [room, limit, stream, id, sequence, ack, place] = numbers else {
+                    panic!("seven numbers")
                 };
                 let wish = [*stream, *id, *sequence, *ack];
-                packet_write(*room, wish, &inputs[0], *place, lent, answer)
+                packet_write([*room, *limit], wish, &inputs[0], *place, lent, answer)
             }
             Operation::AckWrite => {
                 let [stream, id, sequence, positive] = numbers else {
@@ -61,6 +61,7 @@ impl Implementation for Model {
                 };
                 ack_write([*stream, *id, *sequence, *positive], lent, answer)
             }
+            Operation::ReceiverOpen => receiver_open(numbers[0], state),
             Operation::ReceiverAccept => receiver_accept(state, lent, &inputs[0], answer),
             Operation::EnvelopeRead => envelope_read(&inputs[0], answer),
             Operation::EnvelopeWrite => {
@@ -363,7 +364,7 @@ fn wish_row_in(row: [u64; 4]) -> Option<Wish> {
 
 /// Answer `written, next place`.
 pub fn packet_write(
-    room: u64,
+    [room, limit]: [u64; 2],
     wish: [u64; 4],
     message: &[u8],
     place: u64,
@@ -372,7 +373,7 @@ pub fn packet_write(
 ) -> u64 {
     ask(answer, || {
         let wish = wish_row_in(wish);
-        let (written, next) = low_energy::write_packet(room, wish, message, place, output)?;
+        let (written, next) = low_energy::write_packet(room, limit, wish, message, place, output)?;
         Ok([wide(written), wide(next)])
     })
 }
@@ -387,9 +388,10 @@ pub fn ack_write(wish: [u64; 4], output: &mut [u8], answer: &mut [u64]) -> u64 {
     })
 }
 
-/// Six numbers for each slot, control, OTA, Alexa: `open, id, total, held, sequence, wanted`; "a
-/// lawful idle slot's numbers are all 0", and open and wanted are 0 or 1.
-fn slots_in(row: &[u64]) -> Option<Slots> {
+/// The limit, then six numbers for each slot, control, OTA, Alexa: `open, id, total, held, sequence,
+/// wanted`; "a lawful idle slot's numbers are all 0", and open and wanted are 0 or 1.
+fn receiver_in(row: &[u64]) -> Option<Receiver> {
+    let (&limit, row) = row.split_first()?;
     let slot = |row: &[u64]| match *row {
         [0, 0, 0, 0, 0, 0] => Some(None),
         [1, id, total, held, sequence, wanted @ 0..=1] => {
@@ -400,29 +402,36 @@ fn slots_in(row: &[u64]) -> Option<Slots> {
                 sequence: sequence.try_into().ok()?,
                 wanted: wanted == 1,
             };
-            open.is_lawful().then_some(Some(open))
+            Some(Some(open))
         }
         _ => None,
     };
     let slots: Vec<Option<Open>> = row.chunks(6).map(slot).collect::<Option<_>>()?;
-    slots.try_into().ok()
+    let slots: Slots = slots.try_into().ok()?;
+    Some(Receiver { limit, slots }).filter(|state| state.is_lawful())
 }
 
-fn slots_out(slots: &Slots) -> Vec<u64> {
-    slots
-        .iter()
-        .flat_map(|slot| match *slot {
-            None => [0; 6],
-            Some(open) => [
+fn receiver_out(state: Receiver) -> [u64; 19] {
+    let mut row = [0; 19];
+    row[0] = state.limit;
+    for (slot, numbers) in state.slots.iter().zip(row[1..].chunks_mut(6)) {
+        if let Some(open) = slot {
+            numbers.copy_from_slice(&[
                 1,
                 u64::from(open.id),
                 wide(open.total),
                 wide(open.held),
                 u64::from(open.sequence),
                 u64::from(open.wanted),
-            ],
-        })
-        .collect()
+            ]);
+        }
+    }
+    row
+}
+
+/// No answer; the state goes out only. 17 leaves it.
+pub fn receiver_open(limit: u64, state: &mut [u64]) -> u64 {
+    set_out(state, Receiver::open(limit).map(receiver_out))
 }
 
 /// Answer `outcome, stream, id, sequence, total, ack wanted, replaced` with outcome 0 a piece held and
@@ -435,9 +444,9 @@ pub fn receiver_accept(
     answer: &mut [u64],
 ) -> u64 {
     ask(answer, || {
-        let slots = slots_in(state).ok_or(Refusal::Lent)?;
-        let (after, told) = low_energy::accept(slots, buffer, packet);
-        state.copy_from_slice(&slots_out(&after));
+        let before = receiver_in(state).ok_or(Refusal::Lent)?;
+        let (after, told) = low_energy::accept(before, buffer, packet);
+        state.copy_from_slice(&receiver_out(after));
         let of = |stream: Stream| u64::from(stream.number());
         Ok(match told? {
             Accepted::Held {

@@ -14,6 +14,7 @@ pub enum Operation {
     NextSequence,
     PacketWrite,
     AckWrite,
+    ReceiverOpen,
     ReceiverAccept,
     EnvelopeRead,
     EnvelopeWrite,
@@ -56,6 +57,7 @@ const PARTS: &[&str] = &[
     "limit", "sequence", "total", "taken", "sum", "stage", "pending",
 ];
 const RECEIVER: &[&str] = &[
+    "limit",
     "control.open",
     "control.id",
     "control.total",
@@ -155,7 +157,7 @@ const APPLY: &[&str] = &[
 const MESSAGE_READ: &[u64] = &[0, 1, 30, 31, 32, 33, 34];
 
 impl Operation {
-    pub const ALL: [Operation; 27] = [
+    pub const ALL: [Operation; 28] = [
         Operation::ExtractorOpen,
         Operation::ExtractorStep,
         Operation::ExtractorFeed,
@@ -165,6 +167,7 @@ impl Operation {
         Operation::NextSequence,
         Operation::PacketWrite,
         Operation::AckWrite,
+        Operation::ReceiverOpen,
         Operation::ReceiverAccept,
         Operation::EnvelopeRead,
         Operation::EnvelopeWrite,
@@ -255,11 +258,19 @@ impl Operation {
             },
             Operation::PacketWrite => Shape {
                 name: "packet write",
-                numbers: &["room", "stream", "id", "sequence", "ack wanted", "place"],
+                numbers: &[
+                    "room",
+                    "limit",
+                    "stream",
+                    "id",
+                    "sequence",
+                    "ack wanted",
+                    "place",
+                ],
                 inputs: &["message"],
                 answer: &["written", "next place"],
                 lent: "output",
-                returns: &[0, 1, 13, 14, 15],
+                returns: &[0, 1, 13, 14, 15, 17],
                 ..empty
             },
             Operation::AckWrite => Shape {
@@ -268,6 +279,13 @@ impl Operation {
                 answer: &["written"],
                 lent: "output",
                 returns: &[0, 1, 14, 15],
+                ..empty
+            },
+            Operation::ReceiverOpen => Shape {
+                name: "receiver open",
+                numbers: &["limit"],
+                state: RECEIVER,
+                returns: &[0, 1, 17],
                 ..empty
             },
             Operation::ReceiverAccept => Shape {

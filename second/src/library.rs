@@ -55,13 +55,13 @@ impl Implementation for Library {
                 }
                 Operation::NextSequence => pito_next_sequence(numbers[0] as u8, told, tells),
                 Operation::PacketWrite => {
-                    let [room, stream, id, sequence, ack, place] = *numbers else {
-                        panic!("six numbers")
+                    let [room, limit, stream, id, sequence, ack, place] = *numbers else {
+                        panic!("seven numbers")
                     };
                     let (message, length) = input(0);
                     pito_packet_write(
-                        room, stream, id, sequence, ack, message, length, place, bytes, size, told,
-                        tells,
+                        room, limit, stream, id, sequence, ack, message, length, place, bytes,
+                        size, told, tells,
                     )
                 }
                 Operation::AckWrite => {
@@ -70,6 +70,7 @@ impl Implementation for Library {
                     };
                     pito_ack_write(stream, id, sequence, positive, bytes, size, told, tells)
                 }
+                Operation::ReceiverOpen => pito_receiver_open(numbers[0], row, rows),
                 Operation::ReceiverAccept => {
                     let (packet, length) = input(0);
                     pito_receiver_accept(row, rows, bytes, size, packet, length, told, tells)

@@ -151,7 +151,7 @@ fn streams_that_are_not_apart_are_found() {
     // 10 makes the slots of the other streams idle too.
     let idle = Wrong(Operation::ReceiverAccept, |returned, state, _, _| {
         if *returned == 10 {
-            state.fill(0);
+            state[1..].fill(0);
         }
     });
     assert!(found(&idle));

@@ -1,10 +1,13 @@
 //! "Each is given exactly when its line holds and none above it in its group does": each line of
 //! the table, and the orders that the paper and its readings fix.
 
+mod common;
+
+use common::{accept, BUFFER};
 use second::classic::{self, Extractor, Next, Outcome, Parts, Standing};
 use second::control::{self, Envelope, Features, Given, Information, Payload, Response};
 use second::driver::worked::bytes;
-use second::low_energy::{self, accept, write_packet, Accepted, Open, Slots, Stream, Wish};
+use second::low_energy::{self, write_packet, Accepted, Open, Receiver, Slots, Stream, Wish};
 use second::outbox;
 use second::refusal::Refusal;
 
@@ -13,7 +16,7 @@ const IDLE: Slots = [None; 3];
 /// What a packet is refused by, from these slots; a refusal of the group's lines up to 9 changes
 /// nothing.
 fn packet_refusal(slots: Slots, packet: &[u8]) -> u64 {
-    let mut buffer = vec![0xEE; low_energy::BUFFER];
+    let mut buffer = vec![0xEE; BUFFER];
     let (after, told) = accept(slots, &mut buffer, packet);
     assert!(buffer.iter().all(|&byte| byte == 0xEE), "a byte changed");
     let number = told.expect_err("a refusal").number();
@@ -104,6 +107,13 @@ fn unlawful_states_and_buffers_come_first() {
         let mut buffer = vec![0; size];
         assert_eq!(accept(IDLE, &mut buffer, &packet).1, Err(Refusal::Lent));
     }
+    // A limit that is none, over a buffer of three times that.
+    for limit in [0, 65_536] {
+        let state = Receiver { limit, slots: IDLE };
+        let mut buffer = vec![0; low_energy::buffer(limit)];
+        let (after, told) = low_energy::accept(state, &mut buffer, &packet);
+        assert_eq!((after, told), (state, Err(Refusal::Lent)));
+    }
     let lawful = Open {
         id: 15,
         total: 4_096,
@@ -150,7 +160,7 @@ fn unlawful_states_and_buffers_come_first() {
 
 #[test]
 fn a_first_packet_replaces_and_notes_the_drop() {
-    let mut buffer = vec![0; low_energy::BUFFER];
+    let mut buffer = vec![0; BUFFER];
     let first = bytes("07 90 00 00 03 01 AA");
     let (after, told) = accept(control_open(10, 3), &mut buffer, &first);
     assert!(matches!(told, Ok(Accepted::Held { replaced: true, .. })));
@@ -185,7 +195,7 @@ fn a_first_packet_replaces_and_notes_the_drop() {
 
 /// What comes of these packets on the Alexa stream, one after the other; the last answer and slots.
 fn alexa(packets: &[&str]) -> (Slots, Result<Accepted, Refusal>) {
-    let mut buffer = vec![0; low_energy::BUFFER];
+    let mut buffer = vec![0; BUFFER];
     let mut last = (IDLE, Err(Refusal::ShortPacket));
     for packet in packets {
         last = accept(last.0, &mut buffer, &bytes(packet));
@@ -307,14 +317,24 @@ fn wish() -> Wish {
 fn packets_written() {
     let message = [0; 40];
     let mut output = [0xEE; 512];
-    let mut refusal = |room, wish, message: &[u8], place, size: usize| {
-        let told = write_packet(room, wish, message, place, &mut output[..size]);
+    let mut refused = |room, limit, wish, message: &[u8], place, size: usize| {
+        let told = write_packet(room, limit, wish, message, place, &mut output[..size]);
         told.expect_err("a refusal").number()
     };
-    // 13 before 15, 15 before 14.
+    // 13 before 17, 17 before 15, 15 before 14.
     for room in [0, 19, 513, u64::MAX] {
-        assert_eq!(refusal(room, None, &message, 1, 0), 13);
+        assert_eq!(refused(room, 0, None, &message, 1, 0), 13);
     }
+    for limit in [0, 65_536, u64::MAX] {
+        assert_eq!(refused(20, limit, None, &message, 1, 0), 17);
+    }
+    for limit in [1, 39] {
+        assert_eq!(refused(20, limit, Some(wish()), &message, 0, 0), 15);
+    }
+    assert_eq!(refused(20, 40, Some(wish()), &message, 0, 0), 14);
+    let mut refusal = |room, wish, message: &[u8], place, size| {
+        refused(room, classic::LIMIT, wish, message, place, size)
+    };
     assert_eq!(refusal(20, None, &message, 0, 0), 15);
     assert_eq!(refusal(20, Some(wish()), &[0; 4_097], 0, 0), 15);
     for place in [1, 13, 15, 30, 32, 40, 41, u64::MAX] {

@@ -1,9 +1,12 @@
 //! Whole lists: round trips, steps against feeds, frames in a stream, messages in interleaved
 //! packets.
 
+mod common;
+
+use common::{accept, BUFFER};
 use second::classic::{self, Decided, Extractor, Outcome, Standing};
 use second::control::{self, Features, Given, Information, Payload};
-use second::low_energy::{self, accept, Accepted, Stream, Wish};
+use second::low_energy::{self, Accepted, Stream, Wish};
 use second::outbox;
 use second::rng::Rng;
 
@@ -126,7 +129,7 @@ fn every_whole_frame_of_a_stream_is_given() {
 fn interleaved_messages_are_given() {
     let mut rng = Rng::new(9);
     for _ in 0..300 {
-        let mut buffer = rng.bytes(low_energy::BUFFER);
+        let mut buffer = rng.bytes(BUFFER);
         let mut slots = [None; 3];
         let messages: Vec<(Wish, Vec<u8>, usize)> = Stream::ALL
             .into_iter()

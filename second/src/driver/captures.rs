@@ -16,8 +16,9 @@
 //! A line `written: room R, stream S, id I, sequence Q, ACK A` says that our writer gives the
 //! packets of the message just finished; `written: sequence Q` that it gives the frame just ended.
 
+use super::packets;
 use super::worked::{bytes, written};
-use crate::classic;
+use crate::classic::{self, LIMIT};
 use crate::comparison::{hex, Compared, Comparison, Difference};
 use crate::implementation::{Call, Operation};
 use crate::low_energy::{self, Stream};
@@ -139,7 +140,9 @@ impl Script<'_> {
 }
 
 fn low_energy(c: &mut Comparison<'_>, capture: &Capture, script: &mut Script<'_>) -> Compared<()> {
-    let mut call = Call::new(Operation::ReceiverAccept).lent(vec![0xCC; low_energy::BUFFER]);
+    let mut call = Call::new(Operation::ReceiverAccept)
+        .state(&packets::idle(LIMIT))
+        .lent(vec![0xCC; low_energy::buffer(LIMIT)]);
     // The packets of each stream since its last first packet.
     let mut since: [Vec<Vec<u8>>; 16] = Default::default();
     for packet in &capture.chunks {
@@ -162,7 +165,7 @@ fn low_energy(c: &mut Comparison<'_>, capture: &Capture, script: &mut Script<'_>
         let who = format!("stream {number}, id {id}");
         match outcome {
             0 => {
-                let [_, _, total, held, _, _] = call.state[6 * slot..][..6] else {
+                let [_, _, total, held, _, _] = call.state[1 + 6 * slot..][..6] else {
                     panic!("six numbers")
                 };
                 script.next(&format!("held: {who}, {held} of {total} bytes{noted}"))?;
@@ -174,7 +177,7 @@ fn low_energy(c: &mut Comparison<'_>, capture: &Capture, script: &mut Script<'_>
                     "no ACK wanted"
                 };
                 script.next(&format!("finished: {who}, {total} bytes, {wish}{noted}"))?;
-                let start = slot * low_energy::MESSAGE;
+                let start = slot * LIMIT as usize;
                 let message = call.lent[start..start + total as usize].to_vec();
                 script.next(format!("message: {}", hex(&message)).trim_end())?;
                 if let Some((line, numbers)) = script.written() {
@@ -198,8 +201,8 @@ fn low_energy(c: &mut Comparison<'_>, capture: &Capture, script: &mut Script<'_>
 
 fn classic(c: &mut Comparison<'_>, capture: &Capture, script: &mut Script<'_>) -> Compared<()> {
     let stream = capture.chunks.concat();
-    let empty = [classic::LIMIT, 0, 0, 0];
-    let buffer = vec![0xCC; classic::buffer(classic::LIMIT)];
+    let empty = [LIMIT, 0, 0, 0];
+    let buffer = vec![0xCC; classic::buffer(LIMIT)];
     let mut feed = Call::new(Operation::ExtractorFeed)
         .state(&empty)
         .lent(buffer.clone());
@@ -223,7 +226,7 @@ fn classic(c: &mut Comparison<'_>, capture: &Capture, script: &mut Script<'_>) -
             script.next(&line)?;
             decided.push(line);
             if let Some((line, mut numbers)) = script.written() {
-                numbers.push(classic::LIMIT);
+                numbers.push(LIMIT);
                 let payload = &feed.lent[..length as usize];
                 let mut writer = Call::new(Operation::FrameWrite)
                     .numbers(&numbers)

@@ -2,7 +2,7 @@
 //! and too long, each argument at and past its edges, alone and several at once, so that the order
 //! of the refusals shows.
 
-use super::{edge, firmware, Plan, EDGES};
+use super::{edge, firmware, packets, Plan, EDGES};
 use crate::classic;
 use crate::comparison::{Compared, Comparison};
 use crate::implementation::{Call, Operation};
@@ -72,6 +72,7 @@ fn ordinary(rng: &mut Rng, operation: Operation) -> Call {
             let room = rng.between(20, 512);
             call.numbers(&[
                 room as u64,
+                limit,
                 stream,
                 rng.below(16),
                 rng.below(16),
@@ -84,9 +85,12 @@ fn ordinary(rng: &mut Rng, operation: Operation) -> Call {
         Operation::AckWrite => call
             .numbers(&[stream, rng.below(16), rng.below(16), rng.below(2)])
             .lent(rng.bytes(6)),
+        Operation::ReceiverOpen => call.numbers(&[limit]),
         Operation::ReceiverAccept => {
             let packet = low_energy::acknowledgement(low_energy::Stream::Ota, 3, 9, true);
-            call.inputs(&[&packet]).lent(rng.bytes(low_energy::BUFFER))
+            call.state(&packets::idle(classic::LIMIT))
+                .inputs(&[&packet])
+                .lent(rng.bytes(low_energy::buffer(classic::LIMIT)))
         }
         Operation::EnvelopeRead | Operation::ResponseRead => call.inputs(&[&[0x08, 0x05]]),
         Operation::InformationRead | Operation::FeaturesRead => call.inputs(&[&[]]),
@@ -255,9 +259,9 @@ fn each_edge(c: &mut Comparison<'_>, rng: &mut Rng) -> Compared<()> {
         (
             Operation::ReceiverAccept,
             &[
-                &[0; 18],
+                &[4_096, 0, 0, 0, 0, 0, 0, 0, 0, 0, 0, 0, 0, 0, 0, 0, 0, 0, 0],
                 &[
-                    1, 3, 9, 2, 7, 0, 1, 0, 2, 1, 0, 1, 1, 15, 4_096, 4_095, 15, 1,
+                    4_096, 1, 3, 9, 2, 7, 0, 1, 0, 2, 1, 0, 1, 1, 15, 4_096, 4_095, 15, 1,
                 ],
             ],
         ),
@@ -338,8 +342,11 @@ fn every_byte(c: &mut Comparison<'_>, rng: &mut Rng) -> Compared<()> {
 /// Every byte 0 and byte 1 of a packet, over a state with two open slots, one that wants an ACK, at
 /// several lengths.
 fn every_pair(c: &mut Comparison<'_>, rng: &mut Rng) -> Compared<()> {
-    let state = [1, 3, 9, 2, 7, 1, 0, 0, 0, 0, 0, 0, 1, 12, 5, 4, 15, 0];
-    let mut call = Call::new(Operation::ReceiverAccept).lent(rng.bytes(low_energy::BUFFER));
+    let state = [
+        4_096, 1, 3, 9, 2, 7, 1, 0, 0, 0, 0, 0, 0, 1, 12, 5, 4, 15, 0,
+    ];
+    let lent = rng.bytes(low_energy::buffer(classic::LIMIT));
+    let mut call = Call::new(Operation::ReceiverAccept).lent(lent);
     for zeroth in 0..=255u8 {
         for first in 0..=255u8 {
             let tail: &[&[u8]] = match first >> 2 & 3 {
