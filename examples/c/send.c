@@ -23,6 +23,9 @@
 
 #include "pitokaenge.h"
 
+/* The largest message of the link. */
+#define LIMIT 4096
+
 #define AT_ONCE 64
 
 static uint64_t state[PITO_PARTS_STATE];
