@@ -319,15 +319,15 @@ uint64_t plain_frame_part(uint64_t *state, size_t state_len, const uint8_t *payl
 }
 
 enum { OPEN, ID, TOTAL, HELD, LAST_SEQUENCE, WANTED, SLOT };
-enum { SLOTS = 3, PART = 4096 };
+enum { SLOTS = 3 };
 enum type { FIRST, CONTINUATION, LAST, CONTROL };
 enum accepted { PIECE, FINISHED, ACKED, NACKED };
 
-static bool is_lawful(const uint64_t *slot)
+static bool is_lawful(const uint64_t *slot, uint64_t limit)
 {
     if (slot[OPEN] == 0)
         return (slot[ID] | slot[TOTAL] | slot[HELD] | slot[LAST_SEQUENCE] | slot[WANTED]) == 0;
-    return slot[OPEN] == 1 && slot[ID] <= 15 && slot[TOTAL] <= PART && slot[HELD] >= 1 && slot[HELD] < slot[TOTAL]
+    return slot[OPEN] == 1 && slot[ID] <= 15 && slot[TOTAL] <= limit && slot[HELD] >= 1 && slot[HELD] < slot[TOTAL]
            && slot[LAST_SEQUENCE] <= 15 && slot[WANTED] <= 1;
 }
 
@@ -364,10 +364,11 @@ static uint64_t refuse_packet(uint64_t *answer, uint64_t number)
 uint64_t plain_receiver_accept(uint64_t *state, size_t state_len, uint8_t *buffer, size_t buffer_len,
                                const uint8_t *packet, size_t packet_len, uint64_t *answer, size_t answer_len)
 {
-    if (answer_len != 7 || state_len != SLOTS * SLOT || buffer_len != SLOTS * PART)
+    if (answer_len != 7 || state_len != 1 + SLOTS * SLOT || !is_limit(state[0]) || buffer_len != SLOTS * state[0])
         return 1;
+    uint64_t limit = *state++;
     for (size_t i = 0; i < SLOTS; i++)
-        if (!is_lawful(state + i * SLOT))
+        if (!is_lawful(state + i * SLOT, limit))
             return 1;
     if (packet_len < 2)
         return refuse_packet(answer, 2);
@@ -402,7 +403,7 @@ uint64_t plain_receiver_accept(uint64_t *state, size_t state_len, uint8_t *buffe
         total = (size_t)packet[3] << 8 | packet[4];
         held = 0;
         replaced = slot[OPEN] != 0;
-        if (total > PART)
+        if (total > limit)
             return refuse_packet(answer, 6);
         if (length == 0 && total != 0)
             return refuse_packet(answer, 7);
@@ -425,7 +426,7 @@ uint64_t plain_receiver_accept(uint64_t *state, size_t state_len, uint8_t *buffe
         }
         wanted = wanted || slot[WANTED] != 0;
     }
-    memcpy(buffer + index * PART + held, packet + header, length);
+    memcpy(buffer + index * limit + held, packet + header, length);
     if (held + length == total) {
         set_slot(slot, 0, 0, 0, 0, 0, false);
         return tell(answer, FINISHED, stream, id, 0, total, wanted, replaced);

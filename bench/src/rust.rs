@@ -40,9 +40,9 @@ shims! {
         face::frame_write(sequence, limit, given(payload, length), lent(output, size), told);
     frame_part(state: *mut u64, states: usize, payload: *const u8, length: usize, output: *mut u8, size: usize) told
         face::frame_part(lent(state, states), given(payload, length), lent(output, size), told);
-    packet_write(room: u64, stream: u64, id: u64, sequence: u64, ack: u64, message: *const u8, length: usize,
+    packet_write(room: u64, limit: u64, stream: u64, id: u64, sequence: u64, ack: u64, message: *const u8, length: usize,
         place: u64, output: *mut u8, size: usize) told
-        face::packet_write(room, [stream, id, sequence, ack], given(message, length), place, lent(output, size), told);
+        face::packet_write([room, limit], [stream, id, sequence, ack], given(message, length), place, lent(output, size), told);
     ack_write(stream: u64, id: u64, sequence: u64, positive: u64, output: *mut u8, size: usize) told
         face::ack_write([stream, id, sequence, positive], lent(output, size), told);
     receiver_accept(state: *mut u64, states: usize, buffer: *mut u8, size: usize, packet: *const u8, length: usize) told

@@ -53,7 +53,7 @@ use Rattle.outbox.specs.Writer.{Stored, stored, storedAt, newOf, badRecord, app
 use Rattle.rows.specs.Row.{numberTold, byteOr, outOfRange}
 use Rattle.calls_classic.specs.Convert.{isExtractor, extractorOf}
 use Rattle.calls_sending.specs.Convert.{streamWith, packetRow}
-use Rattle.calls_receiving.specs.Convert.{isReceiver, slotsOf}
+use Rattle.calls_receiving.specs.Convert.{limitOf, isReceiver, slotsOf}
 use Rattle.rows_messages.specs.Convert.{allSigned, responsePayloadOf}
 use Rattle.rows_firmware.specs.More.{isWide}
 use Rattle.rows_firmware.specs.Segment.{wroteRow}
