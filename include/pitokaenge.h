@@ -55,6 +55,8 @@ typedef char pito_size_t_has_64_bits[sizeof(size_t) == 8 ? 1 : -1];
 /* What the lent buffers have exactly. */
 #define PITO_EXTRACTOR_BUFFER(limit) ((limit) + 2)
 #define PITO_RECEIVER_BUFFER(limit) (3 * (limit))
+
+/* The largest payload of a record of the outbox, in bytes. */
 #define PITO_MESSAGE_LIMIT 4096
 
 /* Streams. */
