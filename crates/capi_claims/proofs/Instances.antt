@@ -30,11 +30,11 @@ bytes n = replicate n 9
 
 frame : Done (frameWriteOf 1 255 (240 ∷ []) (bytes 11) (7 ∷ []))
 frame =
-    sizes-suffice .frame-write 1 255 (240 ∷ []) (bytes 11) (7 ∷ []) refl (omega arith) ((λ e. omega (arith, e)), (λ e. omega (arith, e)), (λ e. omega (arith, e))) (omega arith) (omega arith)
+    sizes-suffice .frame-write 1 255 (240 ∷ []) (bytes 11) (7 ∷ []) refl (omega arith) (omega arith) (omega arith) ((λ e. omega (arith, e)), (λ e. omega (arith, e)), (λ e. omega (arith, e))) (omega arith) (omega arith)
 
 after-marks : Done (frameWriteOf 1 243 [] (bytes 9) (7 ∷ []))
 after-marks =
-    sizes-suffice .frame-write 1 243 [] (bytes 9) (7 ∷ []) refl (omega arith) ((λ e. omega (arith, e)), (λ e. omega (arith, e)), (λ e. omega (arith, e))) (omega arith) (omega arith)
+    sizes-suffice .frame-write 1 243 [] (bytes 9) (7 ∷ []) refl (omega arith) (omega arith) (omega arith) ((λ e. omega (arith, e)), (λ e. omega (arith, e)), (λ e. omega (arith, e))) (omega arith) (omega arith)
 
 packet : Done (packetWriteOf 15 (sendingOf 20 6 15 15 1) (bytes 15) 0 (bytes 20) (7 ∷ 7 ∷ []))
 packet =

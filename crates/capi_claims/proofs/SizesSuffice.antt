@@ -101,12 +101,13 @@ frame-done : (limit sequence : ℕ) (payload out answer : List ℕ) → length a
     → Done (frameWriteOf limit sequence payload out answer)
 unfolding frameWriteOf
 frame-done limit sequence payload out answer l some most b m n h =
-    rw (byte-is startMark sequence b, range-limit limit some most)
+    rw (byte-is startMark sequence b)
     (writer-done out answer (writeOf limit sequence payload out) l
+    (rw (range-limit limit some most)
     (done-two (isMark sequence || ltb limit (length payload)) (length (frameOf sequence payload)) out
     (length (frameOf sequence payload)) (sets out 0 (frameOf sequence payload))
     (rw (unmarked sequence m, le-ltb limit (length payload) n))
-    (omega (arith, frame-most sequence payload (checksumOf payload / 256) (checksumOf payload % 256)))))
+    (omega (arith, frame-most sequence payload (checksumOf payload / 256) (checksumOf payload % 256))))))
 
 stream-byte : (n : ℕ) → StreamNumber n → n < 256
 stream-byte n (inl e) = omega arith
