@@ -150,9 +150,11 @@ static void classic(void)
 static void accept(const uint8_t *packet, size_t count)
 {
     static uint64_t state[PITO_RECEIVER_STATE];
-    static uint8_t buffer[PITO_RECEIVER_BUFFER];
-    CALL(pito_receiver_accept, A(state), PITO_RECEIVER_STATE, A(buffer), length(PITO_RECEIVER_BUFFER), A(packet),
-         count, A(answer), PITO_ACCEPT_ANSWER);
+    static uint8_t buffer[PITO_RECEIVER_BUFFER(PITO_MESSAGE_LIMIT)];
+    if (state[PITO_RECEIVER_LIMIT] == 0)
+        CALL(pito_receiver_open, PITO_MESSAGE_LIMIT, A(state), PITO_RECEIVER_STATE);
+    CALL(pito_receiver_accept, A(state), PITO_RECEIVER_STATE, A(buffer), length(sizeof buffer), A(packet), count,
+         A(answer), PITO_ACCEPT_ANSWER);
 }
 
 /* All packets of a message, some of them damaged or followed by any bytes. */
@@ -160,12 +162,13 @@ static void send_message(void)
 {
     uint64_t room = once_in(40) ? below(600) : 20 + below(LARGEST_ROOM - 19), stream = any_stream(), place = 0;
     uint64_t id = below(once_in(40) ? 20 : 16), sequence = below(once_in(40) ? 20 : 16), ack = below(2);
+    uint64_t limit = once_in(40) ? any_number() : PITO_MESSAGE_LIMIT;
     size_t count = any_length(PITO_MESSAGE_LIMIT);
     int clean = once_in(2);
     fill(payload, count);
     do {
         uint64_t next, output = once_in(100) ? below(20) : LARGEST_ROOM;
-        if (CALL(pito_packet_write, room, stream, id, sequence, ack, A(payload), count, place, A(bytes), output,
+        if (CALL(pito_packet_write, room, limit, stream, id, sequence, ack, A(payload), count, place, A(bytes), output,
                  A(answer), length(PITO_PACKET_WRITE_ANSWER)) != 0)
             return;
         next = answer[1];

@@ -35,11 +35,14 @@
 /* A frame tells no stream: what comes over this link is what the crew says to the speaker. */
 #define STREAM PITO_STREAM_ALEXA
 
+/* The largest message that the crew's app sends. */
+#define LIMIT 4096
+
 #define LONGEST_LINE 128
 
 static uint8_t input[256];
 static uint64_t extractor[PITO_EXTRACTOR_STATE];
-static uint8_t frame[PITO_EXTRACTOR_BUFFER];
+static uint8_t frame[PITO_EXTRACTOR_BUFFER(LIMIT)];
 
 /* The outbox of one record. Its first byte is the file's, from the start on. */
 static uint8_t outbox[PITO_ONE_RECORD];
@@ -240,6 +243,13 @@ static void keep(uint64_t length)
     file_end += (off_t)record_length;
 }
 
+static void open_link(void)
+{
+    uint64_t number = pito_extractor_open(LIMIT, extractor, PITO_EXTRACTOR_STATE);
+    if (number != PITO_DONE)
+        fail_refused("pito_extractor_open", number);
+}
+
 static void take(const uint8_t *bytes, size_t length)
 {
     uint64_t answer[PITO_FEED_ANSWER];
@@ -266,6 +276,7 @@ int main(int words, char **word)
     }
     check_standard_streams();
     open_outbox(word[1]);
+    open_link();
     for (;;) {
         ssize_t count = read(STDIN_FILENO, input, sizeof input);
         if (count < 0 && errno == EINTR)

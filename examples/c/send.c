@@ -23,6 +23,9 @@
 
 #include "pitokaenge.h"
 
+/* The largest message of the link. */
+#define LIMIT 4096
+
 #define AT_ONCE 64
 
 static uint64_t state[PITO_PARTS_STATE];
@@ -96,7 +99,7 @@ int main(int count, char **words)
         return 2;
     }
     missing = number_in(words[2]);
-    check(pito_frame_begin(number_in(words[1]), missing, state, PITO_PARTS_STATE));
+    check(pito_frame_begin(number_in(words[1]), LIMIT, missing, state, PITO_PARTS_STATE));
     do {
         if (from == held && missing > 0) {
             from = 0;

@@ -33,27 +33,27 @@ bytes n = replicate n 9
 
 frame : Done (frameWriteOf 1 255 (240 ∷ []) (bytes 11) (7 ∷ []))
 frame =
-    sizes-suffice .frame-write 1 255 (240 ∷ []) (bytes 11) (7 ∷ []) refl (omega arith) ((λ e. omega (arith, e)), (λ e. omega (arith, e)), (λ e. omega (arith, e))) (omega arith) (omega arith)
+    sizes-suffice .frame-write 1 255 (240 ∷ []) (bytes 11) (7 ∷ []) refl (omega arith) (omega arith) (omega arith) ((λ e. omega (arith, e)), (λ e. omega (arith, e)), (λ e. omega (arith, e))) (omega arith) (omega arith)
 
 after-marks : Done (frameWriteOf 1 243 [] (bytes 9) (7 ∷ []))
 after-marks =
-    sizes-suffice .frame-write 1 243 [] (bytes 9) (7 ∷ []) refl (omega arith) ((λ e. omega (arith, e)), (λ e. omega (arith, e)), (λ e. omega (arith, e))) (omega arith) (omega arith)
+    sizes-suffice .frame-write 1 243 [] (bytes 9) (7 ∷ []) refl (omega arith) (omega arith) (omega arith) ((λ e. omega (arith, e)), (λ e. omega (arith, e)), (λ e. omega (arith, e))) (omega arith) (omega arith)
 
 packet : Done (packetWriteOf 15 (sendingOf 20 6 15 15 1) (bytes 15) 0 (bytes 20) (7 ∷ 7 ∷ []))
 packet =
     sizes-suffice .packet-first 15 20 6 15 15 1 (bytes 15) (bytes 20) (7 ∷ 7 ∷ []) refl
-    (omega arith) (omega arith) (inr (inr refl)) (omega arith) (omega arith) (omega arith) (omega arith) (omega arith)
+    (omega arith) (omega arith) (omega arith) (omega arith) (inr (inr refl)) (omega arith) (omega arith) (omega arith) (omega arith) (omega arith)
 
 later : Done (packetWriteOf 15 (sendingOf 20 0 0 0 0) (bytes 15) 14 (bytes 20) (7 ∷ 7 ∷ []))
 unfolding sendingOf sizeFor
 later =
     sizes-suffice .packet-write 15 20 0 0 0 0 14 (bytes 15) (bytes 20) (7 ∷ 7 ∷ []) refl
-    (omega arith) (omega arith) (inl refl) (omega arith) (omega arith) (omega arith) (omega arith) refl (omega arith)
+    (omega arith) (omega arith) (omega arith) (omega arith) (inl refl) (omega arith) (omega arith) (omega arith) (omega arith) refl (omega arith)
 
-widest : Done (packetWriteOf 0 (sendingOf 512 0 0 0 0) [] 0 (bytes 512) (7 ∷ 7 ∷ []))
+widest : Done (packetWriteOf 65535 (sendingOf 512 0 0 0 0) [] 0 (bytes 512) (7 ∷ 7 ∷ []))
 widest =
-    sizes-suffice .packet-first 0 512 0 0 0 0 [] (bytes 512) (7 ∷ 7 ∷ []) refl
-    (omega arith) (omega arith) (inl refl) (omega arith) (omega arith) (omega arith) (omega arith) (omega arith)
+    sizes-suffice .packet-first 65535 512 0 0 0 0 [] (bytes 512) (7 ∷ 7 ∷ []) refl
+    (omega arith) (omega arith) (omega arith) (omega arith) (inl refl) (omega arith) (omega arith) (omega arith) (omega arith) (omega arith)
 
 ack : Done (ackWriteOf 2 15 15 1 (bytes 6) (7 ∷ []))
 ack = sizes-suffice .ack-write 2 15 15 1 (bytes 6) (7 ∷ []) refl (inr (inl refl)) (omega arith) (omega arith) (omega arith) (omega arith)

@@ -13,6 +13,7 @@ use lib.Dec.{eqb, ltb}
 use borrow.Author.Tests.{eq-eqb, ne-eqb, lt-ltb, le-ltb, le-leb}
 use Rattle.wire.specs.Told.{given, Written, WrittenOf, line, writes}
 use Rattle.wire.proofs.Streams.{known-stream}
+use Rattle.wire.proofs.Limits.{range-limit}
 use Rattle.field.specs.Signed.{signedOf, extended}
 use Rattle.field.specs.Tag.{varintType, lengthType, lastField}
 use Rattle.field_writer.specs.Writer.{Field, messageBytes}
@@ -110,16 +111,17 @@ unfolding kindOf
 unmarked b none = rw (ne-eqb b startMark (none .0), ne-eqb b endMark (none .1), ne-eqb b escapeMark (none .2))
 
 frame-done : (limit sequence : ℕ) (payload out answer : List ℕ) → length answer ≡ 1
-    → sequence < 256 → NoMark sequence → length payload ≤ limit → frameSize (length payload) ≤ length out
+    → 1 ≤ limit → limit ≤ 65535 → sequence < 256 → NoMark sequence → length payload ≤ limit → frameSize (length payload) ≤ length out
     → Done (frameWriteOf limit sequence payload out answer)
 unfolding frameWriteOf
-frame-done limit sequence payload out answer l b m n h =
+frame-done limit sequence payload out answer l some most b m n h =
     rw (byte-is startMark sequence b)
     (writer-done out answer (writeOf limit sequence payload out) l
+    (rw (range-limit limit some most)
     (done-two (isMark sequence || ltb limit (length payload)) (length (frameOf sequence payload)) out
     (length (frameOf sequence payload)) (sets out 0 (frameOf sequence payload))
     (rw (unmarked sequence m, le-ltb limit (length payload) n))
-    (omega (arith, frame-most sequence payload (checksumOf payload / 256) (checksumOf payload % 256)))))
+    (omega (arith, frame-most sequence payload (checksumOf payload / 256) (checksumOf payload % 256))))))
 
 stream-byte : (n : ℕ) → StreamNumber n → n < 256
 stream-byte n (inl e) = omega arith
@@ -138,15 +140,16 @@ args-fit stream id sequence ack s i q a =
     (in-range stream id sequence s i q)
 
 packet-done : (limit room stream id sequence ack place : ℕ) (message out answer : List ℕ) → length answer ≡ 2
-    → 20 ≤ room → room ≤ 512 → StreamNumber stream → id ≤ 15 → sequence ≤ 15 → ack ≤ 1 → length message ≤ limit
+    → 20 ≤ room → room ≤ 512 → 1 ≤ limit → limit ≤ 65535 → StreamNumber stream → id ≤ 15 → sequence ≤ 15 → ack ≤ 1 → length message ≤ limit
     → begins (foundAt (sendingOf room stream id sequence ack) (length message) place) ≡ true → room ≤ length out
     → Done (packetWriteOf limit (sendingOf room stream id sequence ack) message place out answer)
 unfolding packetWriteOf writtenOf sendingOf roomFits argumentsFit
-packet-done limit room stream id sequence ack place message out answer l low high s i q a m b h =
+packet-done limit room stream id sequence ack place message out answer l low high least most s i q a m b h =
     fit-done 2 [] out answer _ l
     (rw (
       le-leb leastRoom room (omega arith),
       le-leb room largestRoom (omega arith),
+      range-limit limit least most,
       args-fit stream id sequence ack s i q a,
       le-leb (length message) limit m,
       b,
@@ -372,8 +375,8 @@ pub sizes-suffice : SizesSuffice
 sizes-suffice = record {
   frame-write = frame-done;
   packet-write = packet-done;
-  packet-first = λ limit room stream id sequence ack message out answer l low high s i q a m h.
-      packet-done limit room stream id sequence ack 0 message out answer l low high s i q a m refl (omega arith);
+  packet-first = λ limit room stream id sequence ack message out answer l low high least most s i q a m h.
+      packet-done limit room stream id sequence ack 0 message out answer l low high least most s i q a m refl (omega arith);
   ack-write = ack-done;
   envelope-none = envelope-none;
   envelope-response = envelope-response;

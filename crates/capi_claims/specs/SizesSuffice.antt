@@ -107,16 +107,16 @@ stringsOf row = getD row 3 0 + getD row 5 0 + getD row 7 0 + stringsFrom (getD r
 
 pub record SizesSuffice : Type 0 where
   pub frame-write : (limit sequence : ℕ) (payload out answer : List ℕ) → length answer ≡ 1
-      → sequence < 256 → NoMark sequence → length payload ≤ limit → frameSize (length payload) ≤ length out
+      → 1 ≤ limit → limit ≤ 65535 → sequence < 256 → NoMark sequence → length payload ≤ limit → frameSize (length payload) ≤ length out
       → Done (frameWriteOf limit sequence payload out answer)
   -- at each place where a piece begins
   pub packet-write : (limit room stream id sequence ack place : ℕ) (message out answer : List ℕ) → length answer ≡ 2
-      → 20 ≤ room → room ≤ 512 → StreamNumber stream → id ≤ 15 → sequence ≤ 15 → ack ≤ 1 → length message ≤ limit
+      → 20 ≤ room → room ≤ 512 → 1 ≤ limit → limit ≤ 65535 → StreamNumber stream → id ≤ 15 → sequence ≤ 15 → ack ≤ 1 → length message ≤ limit
       → begins (foundAt (sendingOf room stream id sequence ack) (length message) place) ≡ true → room ≤ length out
       → Done (packetWriteOf limit (sendingOf room stream id sequence ack) message place out answer)
   -- .. the first of them at 0
   pub packet-first : (limit room stream id sequence ack : ℕ) (message out answer : List ℕ) → length answer ≡ 2
-      → 20 ≤ room → room ≤ 512 → StreamNumber stream → id ≤ 15 → sequence ≤ 15 → ack ≤ 1 → length message ≤ limit → room ≤ length out
+      → 20 ≤ room → room ≤ 512 → 1 ≤ limit → limit ≤ 65535 → StreamNumber stream → id ≤ 15 → sequence ≤ 15 → ack ≤ 1 → length message ≤ limit → room ≤ length out
       → Done (packetWriteOf limit (sendingOf room stream id sequence ack) message 0 out answer)
   pub ack-write : (stream id sequence positive : ℕ) (out answer : List ℕ) → length answer ≡ 1
       → StreamNumber stream → id ≤ 15 → sequence ≤ 15 → positive ≤ 1 → ackSize ≤ length out

@@ -4,6 +4,7 @@ use crate::fast_path::pass;
 use extractor::outcome::Refusal;
 use extractor::outcome::StepOutcome;
 use extractor::state::Extractor;
+use extractor::state::Progress;
 ghost use mathlib.Core.Path.{_≡_};
 ghost use Rattle.extractor.specs.Outcome.{told};
 ghost use Rattle.extractor.specs.State.{Fits};
@@ -21,12 +22,19 @@ pub struct Fed {
     pub next: Extractor,
 }
 
+// The same of the progress alone.
+struct FedProgress {
+    outcome: FeedOutcome,
+    used: usize,
+    next: Progress,
+}
+
 // The same state made by its fields: one moved whole takes its padding along, through memory.
-fn rebuilt(state: Extractor) -> Extractor
+fn rebuilt(state: Progress) -> Progress
     ensures { λ r. ⌜ r ≡ state ⌝ }
 {
     let phase = state.phase;
-    Extractor {
+    Progress {
         phase,
         sequence: state.sequence,
         held: state.held,
@@ -60,32 +68,32 @@ fn feed_outcome(outcome: StepOutcome) -> FeedOutcome
 }
 
 // The bytes one after another, in a lawful state and over a buffer of the right size.
-fn run(start: Extractor, buffer: &mut [u8], bytes: &[u8]) -> Fed
-    requires { ⌜ Fits 4096 start (now buffer) ⌝ }
+fn run(start: Progress, limit: usize, buffer: &mut [u8], bytes: &[u8]) -> FedProgress
+    requires { ⌜ Fits limit start (now buffer) ⌝ }
     ensures { λ r. ⌜ fed (toldFeed (r .outcome)) (r .used) (r .next) (now (buffer .exit))
-        ≡ feedFrom 4096 0 start (now (buffer .entry)) (now (bytes .entry)) ⌝ }
+        ≡ feedFrom limit 0 start (now (buffer .entry)) (now (bytes .entry)) ⌝ }
 {
     let mut state = start;
     let mut i = 0;
     loop {
-        let passed = pass(state, buffer, bytes, i);
+        let passed = pass(state, limit, buffer, bytes, i);
         i = passed.at;
         let there = passed.next;
         state = rebuilt(there);
         if i >= bytes.len() {
-            return Fed {
+            return FedProgress {
                 outcome: FeedOutcome::AllUsed,
                 used: i,
                 next: state,
             };
         }
-        let done = fast_step(state, buffer, bytes[i]);
+        let done = fast_step(state, limit, buffer, bytes[i]);
         i += 1;
         let then = done.next;
         state = rebuilt(then);
         let outcome = done.outcome;
         if is_decided(outcome) {
-            return Fed {
+            return FedProgress {
                 outcome: feed_outcome(outcome),
                 used: i,
                 next: state,
@@ -94,18 +102,37 @@ fn run(start: Extractor, buffer: &mut [u8], bytes: &[u8]) -> Fed
     }
 }
 
-// Many bytes, up to the first frame or refusal.
-pub fn feed(state: Extractor, buffer: &mut [u8], bytes: &[u8]) -> Fed
+// Many bytes, for any limit and any progress.
+fn take(state: Progress, limit: usize, buffer: &mut [u8], bytes: &[u8]) -> FedProgress
     ensures { λ r. ⌜ fed (toldFeed (r .outcome)) (r .used) (r .next) (now (buffer .exit))
-        ≡ feedOf 4096 state (now (buffer .entry)) (now (bytes .entry)) ⌝ }
+        ≡ feedOf limit state (now (buffer .entry)) (now (bytes .entry)) ⌝ }
 {
-    if state.is_ready(buffer.len()) {
-        run(state, buffer, bytes)
+    if state.is_ready(limit, buffer.len()) {
+        run(state, limit, buffer, bytes)
     } else {
-        Fed {
+        FedProgress {
             outcome: FeedOutcome::Refused(Refusal::BadStateOrBuffer),
             used: 0,
             next: state,
         }
+    }
+}
+
+// Many bytes, up to the first frame or refusal.
+pub fn feed(state: Extractor, buffer: &mut [u8], bytes: &[u8]) -> Fed
+    ensures { λ r. ⌜ (fed (toldFeed (r .outcome)) (r .used) (r .next .progress) (now (buffer .exit))
+        ≡ feedOf (state .limit) (state .progress) (now (buffer .entry)) (now (bytes .entry))) × (r .next .limit ≡ state .limit) ⌝ }
+{
+    let progress = state.progress;
+    let done = take(progress, state.limit, buffer, bytes);
+    let outcome = done.outcome;
+    let progress = done.next;
+    Fed {
+        outcome,
+        used: done.used,
+        next: Extractor {
+            limit: state.limit,
+            progress,
+        },
     }
 }

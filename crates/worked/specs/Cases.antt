@@ -1,4 +1,4 @@
--- The worked cases of docs/FORMATS.md, P1 to P12 and No. 2: one table, and the one statement that each of its rows holds.
+-- The worked cases of docs/FORMATS.md, P1 to P12, and those of No. 2 and No. 6: one table, and the one statement that each of its rows holds.
 use Prim.Native.Nat.{ℕ}
 use mathlib.Core.Path.{_≡_}
 use mathlib.Core.Bool.{Bool, true, false}
@@ -11,14 +11,16 @@ use Rattle.sender.specs.declared.writer.Sending.{Sending}
 use Rattle.slot.specs.declared.Slot.{Slot}
 use Rattle.slot.specs.declared.answer.Accepted.the-variants.{Taken, Finished}
 use Rattle.slot.specs.Slot.{idle, idles}
+use Rattle.receiver.specs.Receiver.{empty}
+use Rattle.sender.specs.Writer.{last}
 use Rattle.control.specs.declared.envelope.Envelope.{Envelope}
 use Rattle.control.specs.declared.envelope.Payload.the-variants as Payload
 use Rattle.control.specs.declared.envelope.EnvelopePayload.the-variants.{Response}
 use Rattle.control.specs.declared.response.ResponsePayload.the-variants.{None}
 use Rattle.walk.specs.Gathered.{noPart}
 use Rattle.outbox.specs.Reader as outbox
-use Rattle.worked.specs.Question.{Question, writeFrame, nextSequenceByte, writePackets, readPieces, acceptPacket, writeAcknowledgement, writeEnvelope, readEnvelope, readRecord}
-use Rattle.worked.specs.Question.{Answer, bytes, sequenceByte, packets, pieces, accepted, envelope, reading, plain, extended, zeros, answerTo}
+use Rattle.worked.specs.Question.{Question, writeFrame, writeFrameWithin, nextSequenceByte, writePackets, readPieces, writePacketWithin, openReceiver, acceptPacket, acceptPacketWithin, writeAcknowledgement, writeEnvelope, readEnvelope, readRecord}
+use Rattle.worked.specs.Question.{Answer, bytes, sequenceByte, packets, pieces, sent, opened, accepted, envelope, reading, plain, extended, zeros, answerTo}
 
 -- a row: what is asked, and what comes back
 pub record Case : Type 0 where
@@ -61,6 +63,12 @@ cases =
     case (writeFrame 0 []) (bytes (given (0xF0 ∷ 0x02 ∷ 0x00 ∷ 0x00 ∷ 0x00 ∷ 0x02 ∷ 0xF1 ∷ [])))
     -- P2 payload F0, sequence 5
     ∷ case (writeFrame 5 (0xF0 ∷ [])) (bytes (given (0xF0 ∷ 0x02 ∷ 0x00 ∷ 0x05 ∷ 0xF2 ∷ 0x02 ∷ 0x00 ∷ 0xF2 ∷ 0x00 ∷ 0xF1 ∷ [])))
+    -- 17 before 15, 15 before 14; a payload of as many bytes as the limit
+    ∷ case (writeFrameWithin 0 0xF0 []) (bytes (refused 17))
+    ∷ case (writeFrameWithin 65536 5 []) (bytes (refused 17))
+    ∷ case (writeFrameWithin 65535 0xF0 (zeros 33)) (bytes (refused 15))
+    ∷ case (writeFrameWithin 1 5 (0x41 ∷ 0x42 ∷ [])) (bytes (refused 15))
+    ∷ case (writeFrameWithin 1 5 (0x41 ∷ [])) (bytes (given (0xF0 ∷ 0x02 ∷ 0x00 ∷ 0x05 ∷ 0x41 ∷ 0x00 ∷ 0x43 ∷ 0xF1 ∷ [])))
     -- P3 sequence bytes after EF, FF, 00
     ∷ case (nextSequenceByte 0xEF) (sequenceByte 0xF3)
     ∷ case (nextSequenceByte 0xFF) (sequenceByte 0x00)
@@ -77,6 +85,21 @@ cases =
     -- P6 300 bytes, rooms 262 and 263
     ∷ case (readPieces (inRoom 262) (zeros 300)) (pieces (given (plain 255) ∷ given (plain 45) ∷ []))
     ∷ case (readPieces (inRoom 263) (zeros 300)) (pieces (given (extended 256) ∷ given (plain 44) ∷ []))
+    -- 13 before 17, 17 before 15; a message of as many bytes as the limit
+    ∷ case (writePacketWithin 0 (sending 19 6 1 0 false) []) (sent (refused 13))
+    ∷ case (writePacketWithin 0 (sending 20 9 1 0 false) []) (sent (refused 17))
+    ∷ case (writePacketWithin 65536 (sending 20 6 1 0 false) []) (sent (refused 17))
+    ∷ case (writePacketWithin 1 (sending 20 6 1 0 false) (zeros 2)) (sent (refused 15))
+    ∷ case (writePacketWithin 2 (sending 20 6 1 0 false) (zeros 2)) (sent (given (last 8)))
+    -- an opening: 17 where the limit is 0 or above 65,535
+    ∷ case (openReceiver 0) (opened (refused 17))
+    ∷ case (openReceiver 1) (opened (given (empty 1)))
+    ∷ case (openReceiver 65535) (opened (given (empty 65535)))
+    ∷ case (openReceiver 65536) (opened (refused 17))
+    -- a total of the limit, and one above it; a state whose limit is 0
+    ∷ case (acceptPacketWithin 2 idles (0x61 ∷ 0x02 ∷ 0x00 ∷ 0x00 ∷ 0x02 ∷ 0x01 ∷ 0xAA ∷ [])) (accepted (given (Taken Alexa 1 false)) asking)
+    ∷ case (acceptPacketWithin 1 idles (0x61 ∷ 0x02 ∷ 0x00 ∷ 0x00 ∷ 0x02 ∷ 0x01 ∷ 0xAA ∷ [])) (accepted (refused 6) idles)
+    ∷ case (acceptPacketWithin 0 idles (zeros 6)) (accepted (refused 1) idles)
     -- P7 after sequence 15: a continuation of one byte with sequence 0, which is held, and one with sequence 10, which leaves the slot idle
     ∷ case (acceptPacket (holding 1 15) (0x00 ∷ 0x04 ∷ 0x01 ∷ 0x00 ∷ [])) (accepted (given (Taken Control 0 false)) (holding 2 0))
     ∷ case (acceptPacket (holding 1 15) (0x00 ∷ 0xA4 ∷ 0x01 ∷ 0x00 ∷ [])) (accepted (refused 10) idles)

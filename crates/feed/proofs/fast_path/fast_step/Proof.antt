@@ -17,7 +17,7 @@ begun-requires c κs = search needs
 returns : tie.Need-returns
 returns c =
     let s = c .before .before .before .before in
-    rw (c .before .before .if1 .taken, c .before .at-start .ensures, c .begun .ensures) (start-advance 4096 (s .args .state) (s .args .buffer .now))
+    rw (c .before .before .if1 .taken, c .before .at-start .ensures, c .begun .ensures) (start-advance (s .args .limit) (s .args .state) (s .args .buffer .now))
 
 is-body-requires : tie.Need-is-body-requires
 is-body-requires c κs = search needs
@@ -41,7 +41,7 @@ returns-2 c =
     let yes = sym (t .before .both .ensures) ∙ t .if2 .taken in
     let body = t .before .before .is-body in
     rw (c .outside .ensures, c .before .end .ensures, eqb-true (s .args .b) endMark (and-left (eqb (s .args .b) endMark) (body .result) yes))
-    (end-advance 4096 (s .args .state) (s .args .buffer .now) (sym (body .ensures) ∙ and-right (eqb (s .args .b) endMark) (body .result) yes))
+    (end-advance (s .args .limit) (s .args .state) (s .args .buffer .now) (sym (body .ensures) ∙ and-right (eqb (s .args .b) endMark) (body .result) yes))
 
 advance-requires : tie.Need-advance-requires
 advance-requires c κs = search needs

@@ -1,0 +1,25 @@
+use mathlib.Core.Path.{sym, _∙_}
+use Rattle.extractor.proofs.States.{ready-fits}
+use borrow.Author.Needs.{needs}
+use Rattle.feed.proofs.many.take.Statement.{statement}
+use Rattle.feed.proofs.many.take.Tie as tie
+
+is-ready-requires : tie.Need-is-ready-requires
+is-ready-requires c κs = search needs
+
+run-requires : tie.Need-run-requires
+run-requires c κs = ready-fits (sym (c .before .before .is-ready .ensures) ∙ c .before .if1 .taken)
+
+same-length : tie.Need-same-length
+same-length c = search needs
+
+returns : tie.Need-returns
+returns c =
+    let a = c .before .before in
+    rw (sym (a .before .before .before .is-ready .ensures) ∙ a .before .before .if1 .taken) (a .run .ensures)
+
+returns-2 : tie.Need-returns-2
+returns-2 c = rw (sym (c .before .is-ready .ensures) ∙ c .if1 .left)
+
+pub take-spec : {M : Type 1} → statement M
+take-spec = tie.close (tie.spec is-ready-requires run-requires same-length returns returns-2)
