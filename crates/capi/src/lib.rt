@@ -236,7 +236,7 @@ pub extern "C" fn pito_features_write(
 // Begins a new outbox.
 #[no_mangle]
 pub extern "C" fn pito_outbox_new(output: &mut [u8], answer: &mut [u64]) -> u64
-    ensures { λ r. ⌜ called r [] (now (output .exit)) (now (answer .exit)) ≡ outboxNewOf 4096 (now (output .entry)) (now (answer .entry)) ⌝ }
+    ensures { λ r. ⌜ called r [] (now (output .exit)) (now (answer .exit)) ≡ outboxNewOf (now (output .entry)) (now (answer .entry)) ⌝ }
 {
     outbox_new(output, answer)
 }
@@ -250,7 +250,7 @@ pub extern "C" fn pito_outbox_append(
     payload: &[u8],
     answer: &mut [u64],
 ) -> u64
-    ensures { λ r. ⌜ called r [] (now (buffer .exit)) (now (answer .exit)) ≡ outboxAppendOf 4096 (now (buffer .entry)) used stream (now (payload .entry)) (now (answer .entry)) ⌝ }
+    ensures { λ r. ⌜ called r [] (now (buffer .exit)) (now (answer .exit)) ≡ outboxAppendOf (now (buffer .entry)) used stream (now (payload .entry)) (now (answer .entry)) ⌝ }
 {
     outbox_append(buffer, used, stream, payload, answer)
 }
@@ -258,7 +258,7 @@ pub extern "C" fn pito_outbox_append(
 // Reads the record at a place.
 #[no_mangle]
 pub extern "C" fn pito_outbox_record(bytes: &[u8], place: u64, answer: &mut [u64]) -> u64
-    ensures { λ r. ⌜ called r [] [] (now (answer .exit)) ≡ outboxRecordOf 4096 (now (bytes .entry)) place (now (answer .entry)) ⌝ }
+    ensures { λ r. ⌜ called r [] [] (now (answer .exit)) ≡ outboxRecordOf (now (bytes .entry)) place (now (answer .entry)) ⌝ }
 {
     outbox_record(bytes, place, answer)
 }
@@ -266,7 +266,7 @@ pub extern "C" fn pito_outbox_record(bytes: &[u8], place: u64, answer: &mut [u64
 // Whether an outbox is whole.
 #[no_mangle]
 pub extern "C" fn pito_outbox_whole(bytes: &[u8], answer: &mut [u64]) -> u64
-    ensures { λ r. ⌜ called r [] [] (now (answer .exit)) ≡ outboxWholeOf 4096 (now (bytes .entry)) (now (answer .entry)) ⌝ }
+    ensures { λ r. ⌜ called r [] [] (now (answer .exit)) ≡ outboxWholeOf (now (bytes .entry)) (now (answer .entry)) ⌝ }
 {
     outbox_whole(bytes, answer)
 }

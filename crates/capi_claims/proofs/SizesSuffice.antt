@@ -37,10 +37,12 @@ use Rattle.control.specs.Envelope.{badPayload, envelopeFields, envelopeWritten}
 use Rattle.control.specs.Response.{badResponsePayload, responseFields, responseWritten}
 use Rattle.device.specs.Information.{informationFields, informationWritten}
 use Rattle.device.specs.Features.{featuresFields, featuresWritten}
-use Rattle.outbox.specs.Format.{versionOne, recordBytes}
+use Rattle.outbox.specs.Format.{formatOf, recordBytes}
 use Rattle.outbox.specs.Reader as outbox
 use Rattle.outbox.specs.Reader.{walkOf}
 use Rattle.outbox.specs.Writer.{newOf, badRecord, appendOf}
+use Rattle.outbox.proofs.Versions.{known-small, format-known}
+use Rattle.outbox.proofs.Walk.{whole-version}
 use Rattle.outbox.proofs.Stored.{length-record}
 use Rattle.round_trips.specs.Premises.{Number32, Numbers32}
 use Rattle.round_trips.proofs.Premises.{signed}
@@ -271,24 +273,27 @@ information-done serialNumber name deviceType transports out answer l e few h =
     (message-done (ltb mostTransports (length listed)) (informationFields serialNumber name listed deviceType) out answer l
     (le-ltb mostTransports (length listed) most) (omega (arith, information-most serialNumber name listed deviceType most)))
 
-new-done : (limit : ℕ) (out answer : List ℕ) → length answer ≡ 1 → 1 ≤ length out → Done (outboxNewOf limit out answer)
+new-done : (out answer : List ℕ) → length answer ≡ 1 → 1 ≤ length out → Done (outboxNewOf out answer)
 unfolding outboxNewOf newOf
-new-done limit out answer l h = fit-done 1 [] out answer _ l (rw (le-ltb (length out) 1 h))
+new-done out answer l h = fit-done 1 [] out answer _ l (rw (le-ltb (length out) 1 h))
 
-append-done : (limit used stream : ℕ) (buffer payload answer : List ℕ) → length answer ≡ 2
-    → walkOf (versionOne limit) (take used buffer) ≡ outbox.given tt
-    → StreamNumber stream → length payload ≤ limit → used + recordSize (length payload) ≤ length buffer
-    → Done (outboxAppendOf limit buffer used stream payload answer)
+append-done : (used stream : ℕ) (buffer payload answer : List ℕ) → length answer ≡ 2
+    → let fmt = formatOf (take used buffer) in
+    walkOf fmt (take used buffer) ≡ outbox.given tt
+    → StreamNumber stream → length payload ≤ fmt .limit → used + recordSize (length payload) ≤ length buffer
+    → Done (outboxAppendOf buffer used stream payload answer)
 unfolding outboxAppendOf appendOf badRecord
-append-done limit used stream buffer payload answer l whole s short room =
-    let fmt = versionOne limit in
+append-done used stream buffer payload answer l whole s short room =
+    let fmt = formatOf (take used buffer) in
+    let small = known-small fmt (format-known (take used buffer)) in
     fit-done 2 [] buffer answer _ l
     (rw (
       byte-is outOfRange stream (stream-byte stream s),
       le-ltb (length buffer) used (omega arith),
+      whole-version fmt (take used buffer) whole,
       known-stream stream s,
-      le-ltb limit (length payload) short,
-      le-ltb (length buffer - used) (length (recordBytes fmt stream payload)) (rw length-record (omega arith)),
+      le-ltb (fmt .limit) (length payload) short,
+      le-ltb (length buffer - used) (length (recordBytes fmt stream payload)) (rw length-record (omega (arith, small .1))),
       whole,
     ))
 

@@ -12,7 +12,7 @@ use Rattle.packet.specs.Control.{ackSize}
 use Rattle.sender.specs.Piece.{largestRoom}
 use Rattle.sender.specs.Writer.{begins, foundAt}
 use Rattle.field.specs.Signed.{extended}
-use Rattle.outbox.specs.Format.{versionOne}
+use Rattle.outbox.specs.Format.{formatOf}
 use Rattle.outbox.specs.Reader.{given, walkOf}
 use Rattle.round_trips.specs.Premises.{Number32, Numbers32}
 use Rattle.rows.specs.Called.{Called}
@@ -45,7 +45,7 @@ featuresSize = 22
 
 -- PITO_RECORD_SIZE
 abbrev pub recordSize : ℕ → ℕ
-recordSize n = n + 3
+recordSize n = n + 5
 
 -- nothing is refused
 abbrev pub Done : Called → Type 0
@@ -92,9 +92,10 @@ pub record SizesSuffice : Type 0 where
       → Done (informationWriteOf serialNumber name deviceType (map extended transports) out answer)
   pub features-write : (features attributes : ℕ) (out answer : List ℕ) → length answer ≡ 1 → featuresSize ≤ length out
       → Done (featuresWriteOf features attributes out answer)
-  pub outbox-new : (limit : ℕ) (out answer : List ℕ) → length answer ≡ 1 → 1 ≤ length out → Done (outboxNewOf limit out answer)
-  -- after used bytes that are a whole outbox
-  pub outbox-append : (limit used stream : ℕ) (buffer payload answer : List ℕ) → length answer ≡ 2
-      → walkOf (versionOne limit) (take used buffer) ≡ given tt
-      → StreamNumber stream → length payload ≤ limit → used + recordSize (length payload) ≤ length buffer
-      → Done (outboxAppendOf limit buffer used stream payload answer)
+  pub outbox-new : (out answer : List ℕ) → length answer ≡ 1 → 1 ≤ length out → Done (outboxNewOf out answer)
+  -- after used bytes that are a whole outbox of either version
+  pub outbox-append : (used stream : ℕ) (buffer payload answer : List ℕ) → length answer ≡ 2
+      → let fmt = formatOf (take used buffer) in
+      walkOf fmt (take used buffer) ≡ given tt
+      → StreamNumber stream → length payload ≤ fmt .limit → used + recordSize (length payload) ≤ length buffer
+      → Done (outboxAppendOf buffer used stream payload answer)

@@ -2,16 +2,18 @@
 use Prim.Native.Nat.{ℕ, _+_, _-_, _≤_, _<_}
 use mathlib.Core.Path.{_≡_, refl, sym, ap, _∙_}
 use mathlib.Core.Bool.{Bool, true, false, not, _&&_}
-use mathlib.Core.List.{List, _++_}
+use mathlib.Core.List.{List, _∷_, _++_}
 use native.Mathlib.Omega.{arith}
 use lib.ListN.{length, getD, set, take, drop, length-append, length-drop, length-set}
 use lib.Seq.{sets, length-take-le, take-append-seam, getD-drop, getD-take, drop-set-lt, drop-drop}
 use lib.Dec.{eqb}
 use borrow.Author.Tests.{eqb-true}
 use Rattle.wire.proofs.Stores.{sets-step, sets-end}
-use Rattle.outbox.specs.Format.{Format, versionOne, headSize, firstPlace}
+use Rattle.outbox.specs.declared.format.Format.{Format}
+use Rattle.outbox.specs.Format.{Known, isOne, formatOf, headSize, firstPlace}
 use Rattle.outbox.specs.Reader.{Answer, Handed, given, refused, refusedAt, otherVersion, readAll, firstRefusal, walkOf}
 use Rattle.outbox_claims.specs.Claims.{usable, recordsOf, allMoved, fromPlace, ReadsAsAlone}
+use Rattle.outbox.proofs.Versions.{known-small}
 use Rattle.outbox.proofs.Record.{clash}
 use Rattle.outbox.proofs.Walk.{other-version-walk}
 use Rattle.outbox.proofs.Place.{found-within, version-more}
@@ -130,13 +132,20 @@ last fmt part = by-walk (walkOf fmt part)
     by-walk (refused n) = refl
     by-walk (refusedAt n p) = ends-last (eqb n 41)
 
+version : (b : ℕ) (part file : List ℕ) → formatOf (b ∷ part) ≡ formatOf (b ∷ file)
+unfolding formatOf isOne
+version b part file = refl
+
 pub lists-as-whole : ListsAsWhole
 lists-as-whole =
     record {
+      version = version;
       over = over;
       goes-on = goes-on;
       further = further;
-      full = λ part size unfinished. further (versionOne 4096) part (omega (arith, size)) unfinished;
+      full = λ fmt known part size unfinished.
+          let small = known-small fmt known in
+          further fmt part (omega (arith, size, small .1, small .2)) unfinished;
       last = last;
     }
 

@@ -1,12 +1,13 @@
 -- Laws of the walk over an outbox, for its loop.
 use Prim.Native.Nat.{ℕ, suc, _+_, _-_, _≤_, _<_}
 use mathlib.Core.Path.{_≡_, refl, sym, ap, _∙_}
-use mathlib.Core.Bool.{true, false}
+use mathlib.Core.Bool.{Bool, true, false}
 use mathlib.Core.List.{List}
 use native.Mathlib.Omega.{arith}
 use lib.ListN.{length, drop}
 use Rattle.outbox.specs.Format.{Format, firstPlace}
 use Rattle.outbox.specs.Reader.{Answer, Item, Found, given, refusedAt, found, end, otherVersion, recordAt, readOf, readings, readAll, onward, refusalOr, firstRefusal, walkOf}
+use Rattle.outbox.proofs.Record.{clash}
 use Rattle.outbox.proofs.Place.{opened, right-place, read-inside, read-end, read-within}
 
 -- from a place on, with turns for all that is left, what is read decides as all does
@@ -55,6 +56,14 @@ module _ (fmt : Format) (file : List ℕ) where
   pub other-version-walk : otherVersion fmt file ≡ true → walkOf fmt file ≡ refusedAt 40 0
   unfolding readOf
   other-version-walk e = read-decides going-begins (refusedAt 40 0) (rw e)
+
+  -- a whole file has the version
+  pub whole-version : walkOf fmt file ≡ given tt → otherVersion fmt file ≡ false
+  whole-version e = by-version (otherVersion fmt file) refl
+    where
+      by-version : (b : Bool) → otherVersion fmt file ≡ b → otherVersion fmt file ≡ false
+      by-version true v = absurd (clash (cc (other-version-walk v)))
+      by-version false v = v
 
   pub walk-begins : otherVersion fmt file ≡ false → Walking fmt file firstPlace
   walk-begins e = record { version = e; first = omega arith; inside = opened fmt file e; going = going-begins }
