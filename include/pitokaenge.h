@@ -1,9 +1,9 @@
 /*
  * Pitokaenge: the link of the stoking box, for C and C++.
  *
- * Bluetooth Low Energy packets and ACKs, Classic frames, control messages and the outbox file, as functions on
- * numbers and slices. Nothing is allocated, nothing is kept between calls: the caller lends every byte and every
- * state. Each function always returns, on any bytes and any numbers, and is proved to do what its comment says.
+ * Bluetooth Low Energy packets and ACKs, Classic frames, control and firmware messages and the outbox file, as
+ * functions on numbers and slices. Nothing is allocated, nothing is kept between calls: the caller lends every byte and
+ * every state. Each function always returns, on any bytes and any numbers, and is proved to do what its comment says.
  *
  * SLICES. A slice is passed as a pointer and a length, in elements. Pointers are valid and never null, also where
  * the length is 0 (the toolchain promises nothing of a null pointer; any array's address serves), and a slice that a
@@ -15,7 +15,8 @@
  *
  * NUMBERS. Each function returns 0 or the number of a refusal, PITO_REFUSED_.. below.
  * After every call that does not return 1 the whole answer row is written. After a refusal it is 0 throughout, but
- * for what is said below (the number of bytes used by pito_extractor_feed, the place that goes with 41).
+ * for what is said below (the number of bytes used by pito_extractor_feed, the place that goes with 41, the field that
+ * goes with 50).
  * A refusal leaves state and lent bytes as they were, except that 20 to 25 leave the extractor outside a frame (20:
  * at the begin of the new one), 10 and 11 leave the slot of the stream idle, and pito_extractor_feed has by then
  * stored what came before the refused byte, in state and buffer as single steps would have.
@@ -36,7 +37,7 @@ extern "C" {
 #endif
 
 /* The version of this interface: one more with each change that a caller has to follow. */
-#define PITO_VERSION 1
+#define PITO_VERSION 2
 
 /* The library is for 64-bit machines: a length is a number of 64 bits. */
 typedef char pito_size_t_has_64_bits[sizeof(size_t) == 8 ? 1 : -1];
@@ -90,19 +91,23 @@ enum {
     PITO_REFUSED_ESCAPE = 23,       /* F1, or no escape code, after F2 */
     PITO_REFUSED_FRAME_LONG = 24,   /* a 4,099th byte to store */
     PITO_REFUSED_CHECKSUM = 25,     /* checksum differs */
+    PITO_REFUSED_TOO_MUCH = 26,     /* more payload offered than is still missing */
 
     /* Messages. */
     PITO_REFUSED_MESSAGE_CUT = 30, /* message ends inside a field */
     PITO_REFUSED_VARINT = 31,      /* varint whose tenth byte is above 01 */
     PITO_REFUSED_TAG = 32,         /* field 0 or above 536,870,911; wire type 3, 4, 6, 7 */
     PITO_REFUSED_WIRE_TYPE = 33,   /* known field with another wire type */
-    PITO_REFUSED_TOO_MANY = 34,    /* second payload member, or a ninth transport */
+    PITO_REFUSED_TOO_MANY = 34,    /* second payload member or firmware_information, ninth transport or component */
 
     /* The outbox. */
     PITO_REFUSED_VERSION = 40,       /* outbox empty, or version neither 01 nor 02 */
     PITO_REFUSED_RECORD_CUT = 41,    /* record cut short */
     PITO_REFUSED_RECORD_LENGTH = 42, /* record length 0 or over its version's: 4,097 in 01, 65,536 in 02 */
-    PITO_REFUSED_RECORD_STREAM = 43  /* record's stream not 0, 2, 6 */
+    PITO_REFUSED_RECORD_STREAM = 43, /* record's stream not 0, 2, 6 */
+
+    /* The profile. */
+    PITO_REFUSED_PROFILE = 50 /* a profile rule of a segment broken, told with its field */
 };
 
 /* ------------------------------------------------------------------------------------------------------------
@@ -153,6 +158,47 @@ PITO_CALL uint64_t pito_frame_write(uint64_t sequence, const uint8_t *payload, s
                                     size_t output_len, uint64_t *answer, size_t answer_len);
 
 /*
+ * The same frame by parts, for a box that has no room for all of it: the payload is taken part by part, and the frame
+ * goes into one output after another, of 1 byte or more each. Joined, the outputs are what pito_frame_write writes.
+ *
+ * State row: pito_frame_begin fills it; keep it from call to call. It has the frame's sequence byte, its payload's
+ * length, the payload bytes taken and their checksum, the stage and what is pending. The stage is what is written next:
+ * 0 F0, 1 packet id, 2 error id, 3 sequence byte, 4 payload and, after it, the checksum's upper byte, 5 its lower byte,
+ * 6 F1, 7 nothing, the frame has ended. Pending is the code that is still owed after F2, before that: 0 none, 1 of F0,
+ * 2 of F1, 3 of F2. A state is lawful with a sequence that is no mark, a total up to 4,096 and no more taken than that.
+ */
+enum {
+    PITO_PARTS_SEQUENCE,
+    PITO_PARTS_TOTAL,
+    PITO_PARTS_TAKEN,
+    PITO_PARTS_SUM,
+    PITO_PARTS_STAGE,
+    PITO_PARTS_PENDING,
+    PITO_PARTS_STATE
+};
+
+/*
+ * Begins a frame whose payload will have `total` bytes.
+ * Returns 0, 1, 15 (a sequence that is F0, F1, F2 or no byte; a total over 4,096).
+ */
+PITO_CALL uint64_t pito_frame_begin(uint64_t sequence, uint64_t total, uint64_t *state, size_t state_len);
+
+/*
+ * Writes the frame on, from the first byte of the output. `payload` is any part of the payload that begins at its first
+ * byte not yet taken, of 0 bytes too. The output is filled unless the frame ends or needs a payload byte that is not
+ * offered: call again, with the payload after the bytes taken, until the answer tells that the frame has ended. After
+ * that a call with no payload writes nothing.
+ * Answer:
+ *   taken    the payload bytes taken: those whose first output byte is written
+ *   written  the output bytes written
+ *   ended    1 if the whole frame is written, else 0
+ * Returns 0, 1, 26 (more payload than is missing), 14 (an output of length 0), the first that holds in this order.
+ */
+enum { PITO_FRAME_PART_TAKEN, PITO_FRAME_PART_WRITTEN, PITO_FRAME_PART_ENDED, PITO_FRAME_PART_ANSWER };
+PITO_CALL uint64_t pito_frame_part(uint64_t *state, size_t state_len, const uint8_t *payload, size_t payload_len,
+                                   uint8_t *output, size_t output_len, uint64_t *answer, size_t answer_len);
+
+/*
  * The sequence byte after a sequence byte.
  * Returns 0, 1.
  */
@@ -198,11 +244,19 @@ PITO_CALL uint64_t pito_ack_write(uint64_t stream, uint64_t id, uint64_t sequenc
  * Low Energy: receiving
  *
  * State row: the numbers of a slot for each stream, from PITO_RECEIVER_SLOT(stream) on. All 0 is the state with no open
- * transaction: begin with that.
+ * transaction: begin with that. An open slot has PITO_SLOT_WANTED 1 if a packet of its transaction asked for an ACK.
  * Buffer: exactly PITO_RECEIVER_BUFFER bytes, the same one from call to call. A stream's part of it, a third, begins at
  * PITO_RECEIVER_PART(stream): control has the first, OTA the middle one, Alexa the last.
  */
-enum { PITO_SLOT_OPEN, PITO_SLOT_ID, PITO_SLOT_TOTAL, PITO_SLOT_HELD, PITO_SLOT_SEQUENCE, PITO_SLOT_STATE };
+enum {
+    PITO_SLOT_OPEN,
+    PITO_SLOT_ID,
+    PITO_SLOT_TOTAL,
+    PITO_SLOT_HELD,
+    PITO_SLOT_SEQUENCE,
+    PITO_SLOT_WANTED,
+    PITO_SLOT_STATE
+};
 #define PITO_RECEIVER_STATE (3 * PITO_SLOT_STATE)
 
 /* Of one of the three streams: its slot's place in the state row, its part's place in the buffer. */
@@ -221,7 +275,7 @@ enum { PITO_SLOT_OPEN, PITO_SLOT_ID, PITO_SLOT_TOTAL, PITO_SLOT_HELD, PITO_SLOT_
  * Answer:
  *   sequence    an ACK's or NACK's own, else 0
  *   total       the length of a finished message, else 0
- *   ACK wanted  1 if a finished message wants an ACK, else 0
+ *   ACK wanted  1 if a message is finished and any packet of its transaction asked for an ACK, else 0
  *   replaced    1 if a first packet replaced an open transaction of its stream, else 0
  * Returns 0, or the first of 1, 2, 3, 12, 4, 5, 6, 7, 8, 9, 10, 11 that holds.
  */
@@ -351,6 +405,126 @@ PITO_CALL uint64_t pito_features_write(uint64_t features, uint64_t device_attrib
                                        size_t output_len, uint64_t *answer, size_t answer_len);
 
 /* ------------------------------------------------------------------------------------------------------------
+ * Firmware messages
+ *
+ * As control messages: parts are start and length within the message that was read, in the messages within it too; an
+ * absent string is start 0, length 0. Offset, sizes and versions are numbers of 32 bits.
+ */
+
+/*
+ * Reads an UpdateComponentSegment.
+ * Answer: the field goes with 50: 2 for an offset that is not 0, else 4 for a signature that is not 64 hexadecimal
+ * digits.
+ * Returns 0, 1, 31, 32, 33, 30, and after them 50.
+ */
+enum {
+    PITO_SEGMENT_READ_NAME_START,
+    PITO_SEGMENT_READ_NAME_LENGTH,
+    PITO_SEGMENT_READ_OFFSET,
+    PITO_SEGMENT_READ_SIZE,
+    PITO_SEGMENT_READ_SIGNATURE_START,
+    PITO_SEGMENT_READ_SIGNATURE_LENGTH,
+    PITO_SEGMENT_READ_FIELD,
+    PITO_SEGMENT_READ_ANSWER
+};
+PITO_CALL uint64_t pito_segment_read(const uint8_t *message, size_t message_len, uint64_t *answer, size_t answer_len);
+
+/*
+ * Writes an UpdateComponentSegment. PITO_SEGMENT_SIZE(name_len) bytes are enough.
+ * Answer: the field goes with 50, as in reading.
+ * Returns 0, 1, 15 (an offset or size above 32 bits), 50, 14.
+ */
+#define PITO_SEGMENT_SIZE(name_len) ((name_len) + 97)
+enum { PITO_SEGMENT_WRITE_WRITTEN, PITO_SEGMENT_WRITE_FIELD, PITO_SEGMENT_WRITE_ANSWER };
+PITO_CALL uint64_t pito_segment_write(const uint8_t *name, size_t name_len, uint64_t offset, uint64_t size,
+                                      const uint8_t *signature, size_t signature_len, uint8_t *output,
+                                      size_t output_len, uint64_t *answer, size_t answer_len);
+
+/*
+ * Reads an ApplyFirmware, with the firmware information and the components within. An absent firmware information is
+ * told as an empty one.
+ * Answer: restart_required is 0 or 1, components tells how many there are, and from PITO_APPLY_READ_COMPONENT on stand
+ * the numbers of eight components, each from PITO_APPLY_READ_COMPONENT_AT(0 to 7) on, 0 where there are fewer.
+ * Returns 0, 1, 31, 32, 33, 34, 30: of the whole message, then of its firmware information, then of each component.
+ */
+#define PITO_MOST_COMPONENTS 8
+enum {
+    PITO_COMPONENT_VERSION,
+    PITO_COMPONENT_NAME_START,
+    PITO_COMPONENT_NAME_LENGTH,
+    PITO_COMPONENT_SIZE,
+    PITO_COMPONENT_SIGNATURE_START,
+    PITO_COMPONENT_SIGNATURE_LENGTH,
+    PITO_COMPONENT_ANSWER
+};
+enum {
+    PITO_APPLY_READ_RESTART_REQUIRED,
+    PITO_APPLY_READ_VERSION,
+    PITO_APPLY_READ_NAME_START,
+    PITO_APPLY_READ_NAME_LENGTH,
+    PITO_APPLY_READ_LOCALE_START,
+    PITO_APPLY_READ_LOCALE_LENGTH,
+    PITO_APPLY_READ_VERSION_NAME_START,
+    PITO_APPLY_READ_VERSION_NAME_LENGTH,
+    PITO_APPLY_READ_COMPONENTS,
+    PITO_APPLY_READ_COMPONENT,
+    PITO_APPLY_READ_ANSWER = PITO_APPLY_READ_COMPONENT + PITO_MOST_COMPONENTS * PITO_COMPONENT_ANSWER
+};
+#define PITO_APPLY_READ_COMPONENT_AT(index) (PITO_APPLY_READ_COMPONENT + (index) * PITO_COMPONENT_ANSWER)
+PITO_CALL uint64_t pito_apply_read(const uint8_t *message, size_t message_len, uint64_t *answer, size_t answer_len);
+
+/*
+ * Writes an ApplyFirmware, of a row with the places of pito_apply_read's answer. Its strings are parts of the texts:
+ * what pito_apply_read told is such a row, and the message that it read the texts of it. Components from the row's
+ * number on are not looked at. PITO_APPLY_SIZE(components, strings_len) bytes are enough, where strings_len is the sum
+ * of the lengths of all strings, those of the components too.
+ * Returns 0, 1 (also for a row that has not PITO_APPLY_READ_ANSWER numbers), 15 (restart_required neither 0 nor 1, a
+ * version or size above 32 bits, more than eight components, a part that does not lie within the texts), 14.
+ */
+#define PITO_APPLY_SIZE(components, strings_len) (55 * (components) + (strings_len) + 66)
+enum { PITO_APPLY_WRITE_WRITTEN, PITO_APPLY_WRITE_ANSWER };
+PITO_CALL uint64_t pito_apply_write(const uint64_t *row, size_t row_len, const uint8_t *texts, size_t texts_len,
+                                    uint8_t *output, size_t output_len, uint64_t *answer, size_t answer_len);
+
+/* ------------------------------------------------------------------------------------------------------------
+ * Any message, field by field
+ */
+
+/* Outcomes of a reading at a place: the end of the message or file, a field of a message, a record of an outbox. */
+#define PITO_END 0
+#define PITO_FIELD 1
+#define PITO_RECORD 1
+
+/* The kinds of a field. */
+#define PITO_KIND_VARINT 0
+#define PITO_KIND_EIGHT_BYTES 1
+#define PITO_KIND_BYTES 2
+#define PITO_KIND_FOUR_BYTES 5
+
+/*
+ * Reads the field at a place of any message, as a member of an envelope whose schema is not this library's. Begin at
+ * place 0 and go on at the next place that each call tells, until the outcome is the end: at the message's length and
+ * beyond it.
+ * Answer, all 0 at the end:
+ *   value          a varint's 64 bits; 0 of the other kinds
+ *   start, length  of the bytes: those that the field's own length counts, or eight, or four; 0 for a varint
+ *   next           the place behind the field
+ * Returns 0, 1, 31, 32, 30.
+ */
+enum {
+    PITO_FIELD_READ_OUTCOME,
+    PITO_FIELD_READ_NUMBER,
+    PITO_FIELD_READ_KIND,
+    PITO_FIELD_READ_VALUE,
+    PITO_FIELD_READ_START,
+    PITO_FIELD_READ_LENGTH,
+    PITO_FIELD_READ_NEXT,
+    PITO_FIELD_READ_ANSWER
+};
+PITO_CALL uint64_t pito_field_read(const uint8_t *message, size_t message_len, uint64_t place, uint64_t *answer,
+                                   size_t answer_len);
+
+/* ------------------------------------------------------------------------------------------------------------
  * The outbox file: its bytes in a lent buffer, of which the first `used` are the file
  *
  * The first byte is the version. Version 01 has payloads of up to 4,096 bytes and lengths of two bytes, version 02
@@ -388,10 +562,6 @@ PITO_CALL uint64_t pito_outbox_new(uint8_t *output, size_t output_len, uint64_t 
 enum { PITO_OUTBOX_APPEND_USED, PITO_OUTBOX_APPEND_CUT_PLACE, PITO_OUTBOX_APPEND_ANSWER };
 PITO_CALL uint64_t pito_outbox_append(uint8_t *buffer, size_t buffer_len, uint64_t used, uint64_t stream,
                                       const uint8_t *payload, size_t payload_len, uint64_t *answer, size_t answer_len);
-
-/* Outcomes. */
-#define PITO_END 0
-#define PITO_RECORD 1
 
 /*
  * Reads the record at a place of an outbox. Begin at place 1 and go on at the next place that each call tells, until

@@ -31,6 +31,17 @@ extern "C" {
         answer: *mut u64,
         answer_len: usize,
     ) -> u64;
+    pub fn pito_frame_begin(sequence: u64, total: u64, state: *mut u64, state_len: usize) -> u64;
+    pub fn pito_frame_part(
+        state: *mut u64,
+        state_len: usize,
+        payload: *const u8,
+        payload_len: usize,
+        output: *mut u8,
+        output_len: usize,
+        answer: *mut u64,
+        answer_len: usize,
+    ) -> u64;
     pub fn pito_next_sequence(sequence: u8, answer: *mut u64, answer_len: usize) -> u64;
     pub fn pito_packet_write(
         room: u64,
@@ -131,6 +142,47 @@ extern "C" {
         device_attributes: u64,
         output: *mut u8,
         output_len: usize,
+        answer: *mut u64,
+        answer_len: usize,
+    ) -> u64;
+    pub fn pito_segment_read(
+        message: *const u8,
+        message_len: usize,
+        answer: *mut u64,
+        answer_len: usize,
+    ) -> u64;
+    pub fn pito_segment_write(
+        name: *const u8,
+        name_len: usize,
+        offset: u64,
+        size: u64,
+        signature: *const u8,
+        signature_len: usize,
+        output: *mut u8,
+        output_len: usize,
+        answer: *mut u64,
+        answer_len: usize,
+    ) -> u64;
+    pub fn pito_apply_read(
+        message: *const u8,
+        message_len: usize,
+        answer: *mut u64,
+        answer_len: usize,
+    ) -> u64;
+    pub fn pito_apply_write(
+        row: *const u64,
+        row_len: usize,
+        texts: *const u8,
+        texts_len: usize,
+        output: *mut u8,
+        output_len: usize,
+        answer: *mut u64,
+        answer_len: usize,
+    ) -> u64;
+    pub fn pito_field_read(
+        message: *const u8,
+        message_len: usize,
+        place: u64,
         answer: *mut u64,
         answer_len: usize,
     ) -> u64;

@@ -7,8 +7,9 @@ with each edit one has to be found for the statements named beside it, and none 
 
   contract   the writer's answer and output are those of its definition, at any place (crate sender, `write_packet`): the
              largest pieces, one ACK flag, sequences modulo 16, 13, 15 and 14
-  delivery   where the packets of one stream are those that the writer's calls give for a message, after any packets and
-             among packets of other streams, the replies to them are `atLast` of the message (`messages_arrive`)
+  delivery   where a packet is the first of those that the writer's calls give for a message, after any packets, and those
+             of its stream after it are the others, among packets of other streams, the replies to them are `atLast` of the
+             message (`messages_arrive`)
   returning  the same with nothing before or between (`round_trip`)
   asked      `atLast` of a message has it once, whatever packets there are, none too (`message_asked`)
 
@@ -19,7 +20,7 @@ import random
 import sys
 
 EDITS = {
-    "ack_on_the_first": ("contract delivery returning", "the ACK flag stands on the first packet"),
+    "ack_on_the_first": ("contract", "the ACK flag stands on the first packet"),
     "last_piece_empty": ("contract", "a piece of no bytes begins where the message ends"),
     "piece_of_254": ("contract", "a full piece is one byte less than fits, where 255 would"),
     "sequence_not_modulo": ("contract", "the definition does not reduce the sequence modulo 16"),
@@ -30,11 +31,13 @@ EDITS = {
     "given_at_each": ("delivery returning asked", "each packet gives the message"),
     "part_of_control": ("delivery returning", "the message stands in the first part, whatever its stream"),
     "state_not_kept": ("delivery returning", "each packet meets the slots of the beginning"),
-    "nothing_asked": ("asked", "where there are no packets, nothing is asked for"),
+    "nothing_asked": ("delivery returning asked", "after the last packet nothing is asked for"),
     "(refusing writer)": ("contract delivery returning", "the writer refuses all"),
     "(refusing writer, nothing_asked)": ("contract asked", "both: the claims hold of it"),
     "(idle receiver)": ("delivery returning", "the receiver takes every packet and does nothing"),
     "(refusing reader)": ("delivery returning", "every packet that is read is refused"),
+    "(replaced wish kept)": ("delivery returning", "a first packet adds its flag to the wish of what it replaces"),
+    "(last flag alone)": ("", "the last packet's flag alone says whether an ACK is wanted"),
 }
 STREAMS = [0, 2, 6]
 edit = None
@@ -153,6 +156,7 @@ def accept(limit, slots, buf, p):
     slots[i] = None
     if t[0] == "first":
         total, at, last = t[3], 0, len(bytes_) == t[3]
+        wanted = ack or edit == "(replaced wish kept)" and slot is not None and slot[4]
     else:
         if slot is None or slot[0] != ident:
             slots[i] = slot
@@ -163,11 +167,12 @@ def accept(limit, slots, buf, p):
         end = at + len(bytes_)
         if end != total if last else end >= total:
             return 11, slots, buf
+        wanted = ack or slot[4] and edit != "(last flag alone)"
     start = i * limit + at
     buf = buf[:start] + bytes_ + buf[start + len(bytes_):]
     if last:
-        return ("finished", stream, ident, total, ack), slots, buf
-    slots[i] = (ident, total, at + len(bytes_), sequence)
+        return ("finished", stream, ident, total, wanted), slots, buf
+    slots[i] = (ident, total, at + len(bytes_), sequence, wanted)
     return ("taken",), slots, buf
 
 
@@ -209,16 +214,14 @@ def message_of(w, m):
     return stream, ident, len(m), True if edit == "another_ack_wish" else ack, m
 
 
-def at_last(message, packets):
-    if not packets:
+def at_last(message, later):
+    if not later:
         return [] if edit in ("nothing_asked", "(refusing writer, nothing_asked)") else [message]
-    if not packets[1:]:
-        return [message]
-    return [message if edit == "given_at_each" else None] + at_last(message, packets[1:])
+    return [message if edit == "given_at_each" else None] + at_last(message, later[1:])
 
 
 def lawful_state(r, limit):
-    slots = [None if r.random() < .5 or limit < 2 else (r.randrange(16), limit, r.randint(1, limit - 1), r.randrange(16)) for _ in STREAMS]
+    slots = [None if r.random() < .5 or limit < 2 else (r.randrange(16), limit, r.randint(1, limit - 1), r.randrange(16), r.random() < .5) for _ in STREAMS]
     return slots, bytes_of(r, 3 * limit)
 
 
@@ -236,9 +239,10 @@ def delivery(r):
     ours = lambda p: bool(p) and p[0] // 16 == w[1] and (edit != "other_ids_between" or p[0] % 16 == w[2])
     others = lambda n: [p for p in (any_packet(r, limit) for _ in range(n)) if not ours(p)]
     before, after = ([any_packet(r, limit) for _ in range(r.randint(0, 4))] for _ in "ab")
-    during = [q for p in sent for q in others(r.choice([0, 0, 1, 2])) + [p]] + others(r.randint(0, 2))
+    later = [q for p in sent[1:] for q in others(r.choice([0, 0, 1, 2])) + [p]] + others(r.randint(0, 2))
+    during = (sent[:1] or [[]]) + later
     replies = run(limit, slots, buf, before + during + after)[len(before):][:len(during)]
-    return [given_by(limit, t, b) for p, t, b in replies if ours(p)] == at_last(message_of(w, m), sent)
+    return [given_by(limit, t, b) for p, t, b in replies if ours(p)] == at_last(message_of(w, m), sent[1:])
 
 
 def returning(r):
@@ -246,7 +250,7 @@ def returning(r):
     slots, buf = lawful_state(r, limit)
     w, m = sending(r), bytes_of(r, r.randint(0, limit))
     sent = calls(limit, w, m, bytes_of(r, w[0]))
-    return [given_by(limit, t, b) for p, t, b in run(limit, slots, buf, sent)] == at_last(message_of(w, m), sent)
+    return [given_by(limit, t, b) for p, t, b in run(limit, slots, buf, sent)] == at_last(message_of(w, m), sent[1:])
 
 
 def asked(r):

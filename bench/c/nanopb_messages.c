@@ -1,5 +1,5 @@
 /*
- * The four control messages by nanopb, with the rows of pitokaenge.h. The structs that are written are filled ahead,
+ * The control and firmware messages by nanopb, with the rows of pitokaenge.h. The structs that are written are filled ahead,
  * by the `prepare` functions, so that a `write` is pb_encode alone; it takes the prepared ones in turn. A part that is
  * read is told as its place in the decoded struct, nanopb_decoded().
  */
@@ -18,6 +18,8 @@ union message {
     Response response;
     DeviceInformation information;
     DeviceFeatures features;
+    UpdateComponentSegment segment;
+    ApplyFirmware apply;
 };
 
 static union message decoded;
@@ -226,4 +228,105 @@ uint64_t nanopb_features_write(uint64_t features, uint64_t device_attributes, ui
 {
     (void)features, (void)device_attributes, (void)answer_len;
     return encode_next(DeviceFeatures_fields, output, output_len, answer);
+}
+
+#define TELL(answer, field) \
+    do { \
+        (answer)[0] = place((field).bytes); \
+        (answer)[1] = (field).size; \
+    } while (0)
+
+/* `name start, length, offset, size, signature start, length, field`; nanopb judges no profile. */
+uint64_t nanopb_segment_read(const uint8_t *message, size_t message_len, uint64_t *answer, size_t answer_len)
+{
+    const UpdateComponentSegment *segment = &decoded.segment;
+
+    (void)answer_len;
+    if (!decode(UpdateComponentSegment_fields, message, message_len))
+        return 30;
+    TELL(answer, segment->component_name);
+    answer[2] = segment->component_offset;
+    answer[3] = segment->segment_size;
+    TELL(answer + 4, segment->segment_signature);
+    answer[6] = 0;
+    return 0;
+}
+
+void nanopb_segment_prepare(const uint8_t *name, size_t name_len, uint64_t offset, uint64_t size,
+                            const uint8_t *signature, size_t signature_len)
+{
+    UpdateComponentSegment *segment = &prepare()->segment;
+
+    FILL(segment->component_name, name, name_len);
+    segment->component_offset = (uint32_t)offset;
+    segment->segment_size = (uint32_t)size;
+    FILL(segment->segment_signature, signature, signature_len);
+}
+
+uint64_t nanopb_segment_write(const uint8_t *name, size_t name_len, uint64_t offset, uint64_t size,
+                              const uint8_t *signature, size_t signature_len, uint8_t *output, size_t output_len,
+                              uint64_t *answer, size_t answer_len)
+{
+    (void)name, (void)name_len, (void)offset, (void)size, (void)signature, (void)signature_len, (void)answer_len;
+    answer[1] = 0;
+    return encode_next(UpdateComponentSegment_fields, output, output_len, answer);
+}
+
+/* An ApplyFirmware's row: nine numbers, then six for each component. */
+enum { AHEAD = 9, EACH = 6 };
+
+uint64_t nanopb_apply_read(const uint8_t *message, size_t message_len, uint64_t *answer, size_t answer_len)
+{
+    const FirmwareInformation *information = &decoded.apply.firmware_information;
+    uint64_t *cells = answer + AHEAD;
+
+    if (!decode(ApplyFirmware_fields, message, message_len))
+        return 30;
+    answer[0] = decoded.apply.restart_required;
+    answer[1] = information->version;
+    TELL(answer + 2, information->name);
+    TELL(answer + 4, information->locale);
+    TELL(answer + 6, information->version_name);
+    answer[8] = information->components_count;
+    for (pb_size_t i = 0; i < information->components_count; i++, cells += EACH) {
+        const FirmwareComponent *component = &information->components[i];
+
+        cells[0] = component->version;
+        TELL(cells + 1, component->name);
+        cells[3] = component->size;
+        TELL(cells + 4, component->signature);
+    }
+    memset(cells, 0, (size_t)(answer + answer_len - cells) * sizeof *cells);
+    return 0;
+}
+
+void nanopb_apply_prepare(const uint64_t *row, size_t row_len, const uint8_t *texts, size_t texts_len)
+{
+    ApplyFirmware *apply = &prepare()->apply;
+    FirmwareInformation *information = &apply->firmware_information;
+    const uint64_t *cells = row + AHEAD;
+
+    (void)row_len, (void)texts_len;
+    apply->restart_required = row[0] != 0;
+    apply->has_firmware_information = true;
+    information->version = (uint32_t)row[1];
+    FILL(information->name, texts + row[2], row[3]);
+    FILL(information->locale, texts + row[4], row[5]);
+    FILL(information->version_name, texts + row[6], row[7]);
+    information->components_count = (pb_size_t)row[8];
+    for (uint64_t i = 0; i < row[8]; i++, cells += EACH) {
+        FirmwareComponent *component = &information->components[i];
+
+        component->version = (uint32_t)cells[0];
+        FILL(component->name, texts + cells[1], cells[2]);
+        component->size = (uint32_t)cells[3];
+        FILL(component->signature, texts + cells[4], cells[5]);
+    }
+}
+
+uint64_t nanopb_apply_write(const uint64_t *row, size_t row_len, const uint8_t *texts, size_t texts_len,
+                            uint8_t *output, size_t output_len, uint64_t *answer, size_t answer_len)
+{
+    (void)row, (void)row_len, (void)texts, (void)texts_len, (void)answer_len;
+    return encode_next(ApplyFirmware_fields, output, output_len, answer);
 }

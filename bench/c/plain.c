@@ -217,7 +217,95 @@ uint64_t plain_frame_write(uint64_t sequence, const uint8_t *payload, size_t pay
     return 0;
 }
 
-enum { OPEN, ID, TOTAL, HELD, LAST_SEQUENCE, SLOT };
+enum { PART_SEQUENCE, PART_TOTAL, PART_TAKEN, PART_SUM, PART_STAGE, PART_PENDING, PARTS };
+enum { HEADER_END = 4, LOW = 5, BEFORE_END = 6, DONE = 7 };
+
+uint64_t plain_frame_begin(uint64_t sequence, uint64_t total, uint64_t *state, size_t state_len)
+{
+    if (state_len != PARTS)
+        return 1;
+    if (sequence > 0xFF || is_mark(sequence) || total > PAYLOAD)
+        return 15;
+    memset(state, 0, PARTS * sizeof *state);
+    state[PART_SEQUENCE] = sequence;
+    state[PART_TOTAL] = total;
+    state[PART_SUM] = 2;
+    return 0;
+}
+
+static bool is_part(const uint64_t *state)
+{
+    return state[PART_SEQUENCE] <= 0xFF && !is_mark(state[PART_SEQUENCE]) && state[PART_TOTAL] <= PAYLOAD
+           && state[PART_TAKEN] <= state[PART_TOTAL] && state[PART_SUM] <= 0xFFFF && state[PART_STAGE] <= DONE
+           && state[PART_PENDING] <= 3;
+}
+
+/* Byte by byte: an owed code, then what the stage wants. */
+uint64_t plain_frame_part(uint64_t *state, size_t state_len, const uint8_t *payload, size_t payload_len, uint8_t *output,
+                          size_t output_len, uint64_t *answer, size_t answer_len)
+{
+    if (answer_len != 3 || state_len != PARTS || !is_part(state))
+        return 1;
+    memset(answer, 0, 3 * sizeof *answer);
+    if (payload_len > state[PART_TOTAL] - state[PART_TAKEN])
+        return 26;
+    if (output_len == 0)
+        return 14;
+
+    uint8_t header[HEADER_END] = {START, 0x02, 0x00, (uint8_t)state[PART_SEQUENCE]};
+    uint64_t missing = state[PART_TOTAL] - state[PART_TAKEN], stage = state[PART_STAGE], pending = state[PART_PENDING];
+    uint16_t sum = (uint16_t)state[PART_SUM];
+    size_t taken = 0, written = 0;
+
+    while (written < output_len) {
+        uint8_t byte;
+
+        if (pending != 0) {
+            output[written++] = ESCAPE ^ (uint8_t)(START + pending - 1);
+            pending = 0;
+            continue;
+        }
+        if (stage < HEADER_END) {
+            output[written++] = header[stage++];
+            continue;
+        }
+        if (stage == HEADER_END && missing > 0) {
+            if (taken == payload_len)
+                break;
+            byte = payload[taken++];
+            missing--;
+            sum = (uint16_t)(sum + byte);
+        } else if (stage == HEADER_END) {
+            byte = (uint8_t)(sum >> 8);
+            stage = LOW;
+        } else if (stage == LOW) {
+            byte = (uint8_t)sum;
+            stage = BEFORE_END;
+        } else {
+            if (stage == BEFORE_END) {
+                output[written++] = END;
+                stage = DONE;
+            }
+            break;
+        }
+        if (is_mark(byte)) {
+            output[written++] = ESCAPE;
+            pending = byte - START + 1u;
+        } else {
+            output[written++] = byte;
+        }
+    }
+    state[PART_TAKEN] += taken;
+    state[PART_SUM] = sum;
+    state[PART_STAGE] = stage;
+    state[PART_PENDING] = pending;
+    answer[0] = taken;
+    answer[1] = written;
+    answer[2] = stage == DONE && pending == 0;
+    return 0;
+}
+
+enum { OPEN, ID, TOTAL, HELD, LAST_SEQUENCE, WANTED, SLOT };
 enum { SLOTS = 3, PART = 4096 };
 enum type { FIRST, CONTINUATION, LAST, CONTROL };
 enum accepted { PIECE, FINISHED, ACKED, NACKED };
@@ -225,18 +313,20 @@ enum accepted { PIECE, FINISHED, ACKED, NACKED };
 static bool is_lawful(const uint64_t *slot)
 {
     if (slot[OPEN] == 0)
-        return (slot[ID] | slot[TOTAL] | slot[HELD] | slot[LAST_SEQUENCE]) == 0;
+        return (slot[ID] | slot[TOTAL] | slot[HELD] | slot[LAST_SEQUENCE] | slot[WANTED]) == 0;
     return slot[OPEN] == 1 && slot[ID] <= 15 && slot[TOTAL] <= PART && slot[HELD] >= 1 && slot[HELD] < slot[TOTAL]
-           && slot[LAST_SEQUENCE] <= 15;
+           && slot[LAST_SEQUENCE] <= 15 && slot[WANTED] <= 1;
 }
 
-static void set_slot(uint64_t *slot, uint64_t open, uint64_t id, uint64_t total, uint64_t held, uint64_t sequence)
+static void set_slot(uint64_t *slot, uint64_t open, uint64_t id, uint64_t total, uint64_t held, uint64_t sequence,
+                     bool wanted)
 {
     slot[OPEN] = open;
     slot[ID] = id;
     slot[TOTAL] = total;
     slot[HELD] = held;
     slot[LAST_SEQUENCE] = sequence;
+    slot[WANTED] = wanted;
 }
 
 static uint64_t tell(uint64_t *answer, enum accepted outcome, uint64_t stream, uint64_t id, uint64_t sequence,
@@ -289,7 +379,7 @@ uint64_t plain_receiver_accept(uint64_t *state, size_t state_len, uint8_t *buffe
     uint64_t *slot = state + index * SLOT;
     size_t length = extended ? (size_t)packet[header - 2] << 8 | packet[header - 1] : packet[header - 1];
     size_t total, held;
-    bool replaced = false;
+    bool replaced = false, wanted = flag;
 
     if (type == FIRST && packet[2] != 0)
         return refuse_packet(answer, 4);
@@ -313,19 +403,20 @@ uint64_t plain_receiver_accept(uint64_t *state, size_t state_len, uint8_t *buffe
         if (slot[OPEN] == 0 || slot[ID] != id)
             return refuse_packet(answer, 9);
         if (sequence != ((slot[LAST_SEQUENCE] + 1) & 15)) {
-            set_slot(slot, 0, 0, 0, 0, 0);
+            set_slot(slot, 0, 0, 0, 0, 0, false);
             return refuse_packet(answer, 10);
         }
         if (type == LAST ? held + length != total : held + length >= total) {
-            set_slot(slot, 0, 0, 0, 0, 0);
+            set_slot(slot, 0, 0, 0, 0, 0, false);
             return refuse_packet(answer, 11);
         }
+        wanted = wanted || slot[WANTED] != 0;
     }
     memcpy(buffer + index * PART + held, packet + header, length);
     if (held + length == total) {
-        set_slot(slot, 0, 0, 0, 0, 0);
-        return tell(answer, FINISHED, stream, id, 0, total, flag, replaced);
+        set_slot(slot, 0, 0, 0, 0, 0, false);
+        return tell(answer, FINISHED, stream, id, 0, total, wanted, replaced);
     }
-    set_slot(slot, 1, id, total, held + length, sequence);
+    set_slot(slot, 1, id, total, held + length, sequence, wanted);
     return tell(answer, PIECE, stream, id, 0, 0, false, replaced);
 }

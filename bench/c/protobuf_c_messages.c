@@ -1,5 +1,5 @@
 /*
- * The four control messages by protobuf-c, with the rows of pitokaenge.h. What is written is filled ahead, by the
+ * The control and firmware messages by protobuf-c, with the rows of pitokaenge.h. What is written is filled ahead, by the
  * `prepare` functions, so that a `write` is its size and its packing alone; it takes the prepared ones in turn. What is
  * read stands on the heap until the next is read, and a part is told by its distance from pbc_decoded().
  */
@@ -9,7 +9,7 @@
 #include <stddef.h>
 #include <string.h>
 
-enum { PREPARED = 64, LONGEST = 64, PARTS = 3, MOST_TRANSPORTS = 8 };
+enum { PREPARED = 64, LONGEST = 64, PARTS = 19, MOST_TRANSPORTS = 8, MOST_COMPONENTS = 8 };
 enum payload { NONE, RESPONSE, MEMBER };
 
 union message {
@@ -18,6 +18,8 @@ union message {
     Response response;
     DeviceInformation information;
     DeviceFeatures features;
+    UpdateComponentSegment segment;
+    ApplyFirmware apply;
 };
 
 struct prepared {
@@ -25,6 +27,9 @@ struct prepared {
     Response within;
     uint8_t parts[PARTS][LONGEST];
     Transport transports[MOST_TRANSPORTS];
+    FirmwareInformation firmware;
+    FirmwareComponent components[MOST_COMPONENTS];
+    FirmwareComponent *listed[MOST_COMPONENTS];
 };
 
 static const uint8_t decoded_base;
@@ -243,5 +248,109 @@ uint64_t pbc_features_write(uint64_t features, uint64_t device_attributes, uint8
                             uint64_t *answer, size_t answer_len)
 {
     (void)features, (void)device_attributes, (void)answer_len;
+    return encode_next(output, output_len, answer);
+}
+
+/* `name start, length, offset, size, signature start, length, field`; protobuf-c judges no profile. */
+uint64_t pbc_segment_read(const uint8_t *message, size_t message_len, uint64_t *answer, size_t answer_len)
+{
+    const UpdateComponentSegment *segment;
+
+    (void)answer_len;
+    if (!decode(&update_component_segment__descriptor, message, message_len))
+        return 30;
+    segment = &decoded->segment;
+    tell_part(&segment->component_name, answer);
+    answer[2] = segment->component_offset;
+    answer[3] = segment->segment_size;
+    tell_part(&segment->segment_signature, answer + 4);
+    answer[6] = 0;
+    return 0;
+}
+
+void pbc_segment_prepare(const uint8_t *name, size_t name_len, uint64_t offset, uint64_t size, const uint8_t *signature,
+                         size_t signature_len)
+{
+    struct prepared *made = prepare();
+    UpdateComponentSegment *segment = &made->message.segment;
+
+    update_component_segment__init(segment);
+    segment->component_name = keep(made->parts[0], name, name_len);
+    segment->component_offset = (uint32_t)offset;
+    segment->segment_size = (uint32_t)size;
+    segment->segment_signature = keep(made->parts[1], signature, signature_len);
+}
+
+uint64_t pbc_segment_write(const uint8_t *name, size_t name_len, uint64_t offset, uint64_t size,
+                           const uint8_t *signature, size_t signature_len, uint8_t *output, size_t output_len,
+                           uint64_t *answer, size_t answer_len)
+{
+    (void)name, (void)name_len, (void)offset, (void)size, (void)signature, (void)signature_len, (void)answer_len;
+    answer[1] = 0;
+    return encode_next(output, output_len, answer);
+}
+
+/* An ApplyFirmware's row: nine numbers, then six for each component. */
+enum { AHEAD = 9, EACH = 6 };
+
+uint64_t pbc_apply_read(const uint8_t *message, size_t message_len, uint64_t *answer, size_t answer_len)
+{
+    const FirmwareInformation *information;
+    uint64_t *cells = answer + AHEAD;
+
+    if (!decode(&apply_firmware__descriptor, message, message_len))
+        return 30;
+    information = decoded->apply.firmware_information;
+    answer[0] = (uint64_t)decoded->apply.restart_required;
+    answer[1] = information->version;
+    tell_part(&information->name, answer + 2);
+    tell_part(&information->locale, answer + 4);
+    tell_part(&information->version_name, answer + 6);
+    answer[8] = information->n_components;
+    for (size_t i = 0; i < information->n_components; i++, cells += EACH) {
+        const FirmwareComponent *component = information->components[i];
+
+        cells[0] = component->version;
+        tell_part(&component->name, cells + 1);
+        cells[3] = component->size;
+        tell_part(&component->signature, cells + 4);
+    }
+    memset(cells, 0, (size_t)(answer + answer_len - cells) * sizeof *cells);
+    return 0;
+}
+
+void pbc_apply_prepare(const uint64_t *row, size_t row_len, const uint8_t *texts, size_t texts_len)
+{
+    struct prepared *made = prepare();
+    ApplyFirmware *apply = &made->message.apply;
+    FirmwareInformation *information = &made->firmware;
+    const uint64_t *cells = row + AHEAD;
+
+    (void)row_len, (void)texts_len;
+    apply_firmware__init(apply);
+    apply->firmware_information = information;
+    apply->restart_required = row[0] != 0;
+    firmware_information__init(information);
+    information->version = (uint32_t)row[1];
+    information->name = keep(made->parts[0], texts + row[2], row[3]);
+    information->locale = keep(made->parts[1], texts + row[4], row[5]);
+    information->version_name = keep(made->parts[2], texts + row[6], row[7]);
+    information->n_components = row[8];
+    information->components = made->listed;
+    for (size_t i = 0; i < row[8]; i++, cells += EACH) {
+        FirmwareComponent *component = made->listed[i] = &made->components[i];
+
+        firmware_component__init(component);
+        component->version = (uint32_t)cells[0];
+        component->name = keep(made->parts[3 + 2 * i], texts + cells[1], cells[2]);
+        component->size = (uint32_t)cells[3];
+        component->signature = keep(made->parts[4 + 2 * i], texts + cells[4], cells[5]);
+    }
+}
+
+uint64_t pbc_apply_write(const uint64_t *row, size_t row_len, const uint8_t *texts, size_t texts_len, uint8_t *output,
+                         size_t output_len, uint64_t *answer, size_t answer_len)
+{
+    (void)row, (void)row_len, (void)texts, (void)texts_len, (void)answer_len;
     return encode_next(output, output_len, answer);
 }

@@ -10,6 +10,7 @@ GROUPS = {
     "Classic": ("extractor", "frame", "next"),
     "Low Energy": ("receiver", "packet", "ack"),
     "control messages": ("envelope", "response", "information", "features"),
+    "firmware messages and fields": ("segment", "apply", "field"),
     "outbox": ("outbox",),
 }
 

@@ -11,7 +11,7 @@
 #define ROUNDS 4000
 #define LONGEST_FRAME (2 * PITO_MESSAGE_LIMIT + 9)
 #define MOST_BYTES (2 * LONGEST_FRAME)
-#define LONGEST_ROW 16
+#define LONGEST_ROW PITO_APPLY_READ_ANSWER
 #define LARGEST_ROOM 512
 
 static uint64_t answer[LONGEST_ROW];
@@ -75,6 +75,30 @@ static size_t write_frame(void)
     return answer[0];
 }
 
+/* The same payload's frame by parts, with all that is left of it offered, or some of it, or too much. */
+static void write_parts(size_t count)
+{
+    static uint64_t state[PITO_PARTS_STATE];
+    uint64_t sequence = once_in(20) ? below(300) : below(0xF0);
+    size_t taken = 0;
+    int ended = 0;
+    if (CALL(pito_frame_begin, sequence, once_in(20) ? any_number() : count, A(state), length(PITO_PARTS_STATE)) != 0)
+        return;
+    while (!ended) {
+        size_t left = count - taken, part = once_in(4) ? any_length(left) : left + (once_in(40) ? 1 : 0);
+        uint64_t room = once_in(40) ? 0 : 1 + any_length(64);
+        uint64_t number = CALL(pito_frame_part, A(state), length(PITO_PARTS_STATE), A(payload + taken), part, A(bytes),
+                               room, A(answer), PITO_FRAME_PART_ANSWER);
+        if (number == 0) {
+            taken += answer[PITO_FRAME_PART_TAKEN];
+            ended = answer[PITO_FRAME_PART_ENDED] == 1;
+        }
+        /* A total that is not the payload's never ends. */
+        if (state[PITO_PARTS_TOTAL] != count)
+            return;
+    }
+}
+
 /* A frame that never ends stores too much; the others are the writer's. */
 static size_t make_frame(void)
 {
@@ -116,6 +140,9 @@ static void classic(void)
         feed_frame(count);
         if (count < 100 || once_in(20))
             step_frame(count);
+        count = any_length(PITO_MESSAGE_LIMIT);
+        fill(payload, count);
+        write_parts(count);
         CALL(pito_next_sequence, below(256), A(answer), length(PITO_NEXT_SEQUENCE_ANSWER));
     }
 }
@@ -172,12 +199,29 @@ static uint64_t any_field(void)
     return once_in(20) ? any_number() : below(20);
 }
 
+/* An unsigned 32-bit number, now and then one of 64 bits. */
+static uint64_t any_unsigned(void)
+{
+    return once_in(60) ? any_number() : (uint32_t)any_number();
+}
+
+static void read_fields(size_t count)
+{
+    uint64_t place = once_in(40) ? below(count + 3) : 0;
+    while (CALL(pito_field_read, A(bytes), count, place, A(answer), length(PITO_FIELD_READ_ANSWER)) == 0 &&
+           answer[PITO_FIELD_READ_OUTCOME] == PITO_FIELD)
+        place = answer[PITO_FIELD_READ_NEXT];
+}
+
 static void read_all(size_t count)
 {
     CALL(pito_envelope_read, A(bytes), count, A(answer), length(PITO_ENVELOPE_READ_ANSWER));
     CALL(pito_response_read, A(bytes), count, A(answer), length(PITO_RESPONSE_READ_ANSWER));
     CALL(pito_information_read, A(bytes), count, A(answer), length(PITO_INFORMATION_READ_ANSWER));
     CALL(pito_features_read, A(bytes), count, A(answer), length(PITO_FEATURES_READ_ANSWER));
+    CALL(pito_segment_read, A(bytes), count, A(answer), length(PITO_SEGMENT_READ_ANSWER));
+    CALL(pito_apply_read, A(bytes), count, A(answer), length(PITO_APPLY_READ_ANSWER));
+    read_fields(count);
 }
 
 /* Damaged, or with itself behind it: what may stand once then stands twice. */
@@ -217,6 +261,45 @@ static void write_information(size_t count)
                       length(PITO_FEATURES_WRITE_ANSWER)));
 }
 
+static void write_segment(size_t count)
+{
+    uint8_t signature[64];
+    for (size_t i = 0; i < sizeof signature; i++)
+        signature[i] = (uint8_t)"0123456789abcdefABCDEF"[below(22)];
+    if (once_in(20))
+        signature[below(sizeof signature)] = 'g';
+    read_written(CALL(pito_segment_write, A(payload), count, once_in(20) ? any_unsigned() : 0, any_unsigned(),
+                      A(signature), sizeof signature, A(bytes), room_for_message(), A(answer),
+                      length(PITO_SEGMENT_WRITE_ANSWER)));
+}
+
+/* A part of the payload, now and then one that passes its end. */
+static void any_part(uint64_t *part, size_t count)
+{
+    part[0] = below(count + 1);
+    part[1] = below(count + 1 - part[0]) + once_in(200);
+}
+
+static void write_apply(size_t count)
+{
+    static uint64_t row[PITO_APPLY_READ_ANSWER];
+    row[PITO_APPLY_READ_RESTART_REQUIRED] = below(once_in(40) ? 3 : 2);
+    row[PITO_APPLY_READ_VERSION] = any_unsigned();
+    any_part(row + PITO_APPLY_READ_NAME_START, count);
+    any_part(row + PITO_APPLY_READ_LOCALE_START, count);
+    any_part(row + PITO_APPLY_READ_VERSION_NAME_START, count);
+    row[PITO_APPLY_READ_COMPONENTS] = below(once_in(40) ? 10 : 9);
+    for (size_t i = 0; i < PITO_MOST_COMPONENTS; i++) {
+        uint64_t *component = row + PITO_APPLY_READ_COMPONENT_AT(i);
+        component[PITO_COMPONENT_VERSION] = any_unsigned();
+        any_part(component + PITO_COMPONENT_NAME_START, count);
+        component[PITO_COMPONENT_SIZE] = any_unsigned();
+        any_part(component + PITO_COMPONENT_SIGNATURE_START, count);
+    }
+    read_written(CALL(pito_apply_write, A(row), length(PITO_APPLY_READ_ANSWER), A(payload), count, A(bytes),
+                      room_for_message(), A(answer), length(PITO_APPLY_WRITE_ANSWER)));
+}
+
 static void messages(void)
 {
     for (int round = 0; round < ROUNDS; round++) {
@@ -224,6 +307,8 @@ static void messages(void)
         fill(payload, count);
         write_envelope(count);
         write_information(count);
+        write_segment(count);
+        write_apply(count);
         count = any_length(100);
         fill(bytes, count);
         read_all(count);

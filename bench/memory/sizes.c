@@ -4,7 +4,7 @@
  *   sizes parts
  *   sizes sum DEEPEST_STACK
  *
- * rows.inc has ROW(NAME) for each row that the header names; bench/memory/run makes it.
+ * rows.inc has ROW(NAME) for each row that the header names, answers.inc for each answer row; bench/memory/run makes them.
  */
 #include <stdio.h>
 #include <stdlib.h>
@@ -22,13 +22,16 @@
 union any_row {
 #include "rows.inc"
 };
+union any_answer {
+#include "answers.inc"
+};
 #undef ROW
 
 /* In the order of the table; the rows come first, so that only the end has padding. */
 static struct box {
     uint64_t extractor[PITO_EXTRACTOR_STATE];
     uint64_t receiver[PITO_RECEIVER_STATE];
-    union any_row answer;
+    union any_answer answer;
     uint64_t transports[PITO_MOST_TRANSPORTS];
     uint8_t extractor_buffer[PITO_EXTRACTOR_BUFFER];
     uint8_t receiver_buffer[PITO_RECEIVER_BUFFER];
@@ -39,6 +42,12 @@ static struct box {
     uint8_t serial_in[SERIAL_INPUT];
     uint8_t packet_in[PITO_LARGEST_ROOM];
 } box;
+
+/* In place of the frame's bytes, where it is written by parts. */
+static struct small_pipe {
+    uint64_t state[PITO_PARTS_STATE];
+    uint8_t output[SMALL_PIPE];
+} pipe;
 
 static long together;
 
@@ -77,6 +86,7 @@ static void print_buffers(void)
     buffer("extractor's", "`PITO_EXTRACTOR_BUFFER`, exactly", sizeof box.extractor_buffer);
     buffer("receiver's", "`PITO_RECEIVER_BUFFER`, exactly", sizeof box.receiver_buffer);
     buffer("outgoing frame", "4 + 2 * 4,096 + 2 * 2 + 1, all escaped", sizeof box.frame);
+    buffer("outgoing frame by parts", "any size from 1 on, here the radio module's", sizeof pipe.output);
     buffer("outgoing packet", "the largest room; from 20 on", sizeof box.packet_out);
     buffer("packet that came", "the largest room of the other side", sizeof box.packet_in);
     buffer("ACK", "exactly", sizeof box.ack);
@@ -135,7 +145,7 @@ static void instead(const char *what, long more)
 
 static void print_choices(void)
 {
-    const long message = PITO_MESSAGE_LIMIT, no_frame = SMALL_PIPE - (long)sizeof box.frame;
+    const long message = PITO_MESSAGE_LIMIT, by_parts = (long)sizeof pipe - (long)sizeof box.frame;
     const long one_at_a_time = -(long)(sizeof box.packet_out + sizeof box.ack);
     printf("| instead | bytes | together | of 32,768 |\n|---|--:|--:|--:|\n");
     instead("as above", 0);
@@ -144,9 +154,27 @@ static void print_choices(void)
     instead("a room of 20, both ways", 2 * (PITO_LEAST_ROOM - PITO_LARGEST_ROOM));
     instead("only payloads up to 2,048 bytes are sent as frames", 2 * (2048 - message));
     instead("the same, and a message buffer of 2,048", 2 * (2048 - message) + 2048);
-    instead("frames written 64 bytes at a time (not built; without its state)", no_frame);
-    instead("the same, and a message buffer of 4,096", no_frame + message);
+    instead("frames written by parts, 64 bytes at a time", by_parts);
+    instead("the same, and a message buffer of 4,096", by_parts + message);
     printf("\n");
+}
+
+/* The frame of a payload by parts, in the bytes of the second table; it has to be the whole writer's. */
+static void check_parts(const uint8_t *payload, size_t length)
+{
+    uint64_t told[PITO_FRAME_PART_ANSWER] = {0};
+    size_t taken = 0, written = 0;
+    if (pito_frame_begin(0, length, pipe.state, PITO_PARTS_STATE) != 0)
+        exit(1);
+    while (told[PITO_FRAME_PART_ENDED] == 0) {
+        if (pito_frame_part(pipe.state, PITO_PARTS_STATE, payload + taken, length - taken, pipe.output,
+                            sizeof pipe.output, told, PITO_FRAME_PART_ANSWER) != 0)
+            exit(1);
+        if (memcmp(box.frame + written, pipe.output, told[PITO_FRAME_PART_WRITTEN]) != 0)
+            exit(1);
+        taken += told[PITO_FRAME_PART_TAKEN];
+        written += told[PITO_FRAME_PART_WRITTEN];
+    }
 }
 
 /* Payloads of marks alone, one for each sum that such payloads have. */
@@ -161,6 +189,7 @@ static void print_longest_frame(void)
         if (pito_frame_write(0, payload, sizeof payload, box.frame, sizeof box.frame, written,
                              PITO_FRAME_WRITE_ANSWER) != 0)
             exit(1);
+        check_parts(payload, sizeof payload);
         longest = written[0] > longest ? written[0] : longest;
     }
     printf("Longest frame that `pito_frame_write` wrote of 4,096 marks, over every sum that marks have: %s bytes.\n",

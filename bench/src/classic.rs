@@ -1,8 +1,8 @@
 //! Loops over Classic streams and payloads.
 
-use crate::calls::{ExtractorFeed, ExtractorStep, FrameWrite};
+use crate::calls::{ExtractorFeed, ExtractorStep, FrameBegin, FramePart, FrameWrite};
 use crate::digest::Digest;
-use second::classic::{write_frame, Decided, Extractor, Outcome};
+use second::classic::{write_frame, Decided, Extractor, Outcome, Parts};
 use std::hint::black_box;
 
 const FRAME: u64 = 2;
@@ -181,4 +181,80 @@ pub fn write_own<const WHOLE: bool>(payloads: &[Payload], output: &mut [u8]) -> 
     }
     digest.lent(output);
     digest.value()
+}
+
+/// The payloads by parts, all that is left offered to each call: `room` is the size of each output.
+pub fn parts<const WHOLE: bool>(
+    calls: (FrameBegin, FramePart),
+    payloads: &[Payload],
+    output: &mut [u8],
+) -> u64 {
+    let (begin, part) = black_box(calls);
+    let mut digest = Digest::<WHOLE>::new();
+    let (mut state, mut answer) = ([0; 6], [0; 3]);
+    for payload in payloads {
+        let sequence = u64::from(payload.sequence);
+        let total = payload.bytes.len() as u64;
+        let number = unsafe { begin(sequence, total, state.as_mut_ptr(), state.len()) };
+        digest.number(number);
+        let mut rest = &payload.bytes[..];
+        loop {
+            let number = unsafe {
+                part(
+                    state.as_mut_ptr(),
+                    state.len(),
+                    rest.as_ptr(),
+                    rest.len(),
+                    output.as_mut_ptr(),
+                    payload.room,
+                    answer.as_mut_ptr(),
+                    answer.len(),
+                )
+            };
+            digest.number(number);
+            digest.row(&answer);
+            digest.bytes(&output[..answer[1] as usize]);
+            rest = &rest[answer[0] as usize..];
+            if answer[2] == 1 {
+                break;
+            }
+        }
+    }
+    digest.row(&state);
+    digest.lent(output);
+    digest.value()
+}
+
+/// The same by the types of second/.
+pub fn parts_own<const WHOLE: bool>(payloads: &[Payload], output: &mut [u8]) -> u64 {
+    let mut digest = Digest::<WHOLE>::new();
+    let mut last = [0; 6];
+    for payload in payloads {
+        let total = payload.bytes.len() as u64;
+        let mut state = Parts::begin(payload.sequence, total).expect("in range");
+        digest.number(0);
+        let mut rest = &payload.bytes[..];
+        loop {
+            let (next, told) = state.write(rest, &mut output[..payload.room]);
+            let told = told.expect("in range");
+            let (taken, written) = (told.taken as u64, told.written as u64);
+            state = next;
+            digest.row(&[0, taken, written, u64::from(told.ended)]);
+            digest.bytes(&output[..told.written]);
+            rest = &rest[told.taken..];
+            if told.ended {
+                break;
+            }
+        }
+        last = ended_row(state);
+    }
+    digest.row(&last);
+    digest.lent(output);
+    digest.value()
+}
+
+/// The row of a frame that has ended.
+fn ended_row(state: Parts) -> [u64; 6] {
+    let (sequence, sum) = (u64::from(state.sequence), u64::from(state.sum));
+    [sequence, state.total, state.taken, sum, 7, 0]
 }

@@ -11,7 +11,7 @@ use std::hint::black_box;
 use std::ops::Range;
 
 /// More than any message of the bench has.
-const OUTPUT: usize = 256;
+pub const OUTPUT: usize = 512;
 
 /// A reader, and where its parts stand: in the message, or in a struct of the reader's own.
 #[derive(Clone, Copy)]
@@ -75,7 +75,7 @@ pub fn read_features<const WHOLE: bool>(reader: Reader, messages: &[Vec<u8>]) ->
 }
 
 /// Every message by a reader of second/; a refusal's row is 0 throughout.
-fn read_own<const WHOLE: bool, const CELLS: usize, T>(
+pub fn read_own<const WHOLE: bool, const CELLS: usize, T>(
     messages: &[Vec<u8>],
     read: impl Fn(&[u8]) -> Result<T, second::refusal::Refusal>,
     tell: impl Fn(&mut Digest<WHOLE>, &[u8], T),
@@ -184,13 +184,13 @@ pub struct FeaturesGiven {
 /// Writes each of the messages `rounds` times, in order: `write` puts one into the output and gives
 /// number and size.
 #[inline(always)]
-fn write_each<const WHOLE: bool, T>(
+pub fn write_each<const WHOLE: bool, const CELLS: usize, T>(
     messages: &[T],
     rounds: usize,
-    write: impl Fn(&T, &mut [u8; OUTPUT], &mut [u64; 1]) -> u64,
+    write: impl Fn(&T, &mut [u8; OUTPUT], &mut [u64; CELLS]) -> u64,
 ) -> u64 {
     let mut digest = Digest::<WHOLE>::new();
-    let (mut output, mut answer) = ([0; OUTPUT], [0]);
+    let (mut output, mut answer) = ([0; OUTPUT], [0; CELLS]);
     for _ in 0..rounds {
         for message in messages {
             digest.number(write(message, &mut output, &mut answer));
@@ -203,7 +203,10 @@ fn write_each<const WHOLE: bool, T>(
 
 /// What a writer of second/ gave, as number and answer row.
 #[inline(always)]
-fn told(written: Result<usize, second::refusal::Refusal>, answer: &mut [u64; 1]) -> u64 {
+pub fn told<const CELLS: usize>(
+    written: Result<usize, second::refusal::Refusal>,
+    answer: &mut [u64; CELLS],
+) -> u64 {
     answer[0] = written.map_or(0, |size| size as u64);
     written.map_or_else(|refusal| refusal.number(), |_| 0)
 }
@@ -214,7 +217,7 @@ pub fn envelope_write<const WHOLE: bool>(
     rounds: usize,
 ) -> u64 {
     let write = black_box(write);
-    write_each::<WHOLE, _>(messages, rounds, |given, output, answer| unsafe {
+    write_each::<WHOLE, 1, _>(messages, rounds, |given, output, answer| unsafe {
         write(
             given.command,
             given.payload,
@@ -231,7 +234,7 @@ pub fn envelope_write<const WHOLE: bool>(
 }
 
 pub fn envelope_write_own<const WHOLE: bool>(messages: &[EnvelopeGiven], rounds: usize) -> u64 {
-    write_each::<WHOLE, _>(messages, rounds, |given, output, answer| {
+    write_each::<WHOLE, 1, _>(messages, rounds, |given, output, answer| {
         let payload = match given.payload {
             0 => Given::None,
             1 => Given::Response {
@@ -256,7 +259,7 @@ pub fn response_write<const WHOLE: bool>(
     rounds: usize,
 ) -> u64 {
     let write = black_box(write);
-    write_each::<WHOLE, _>(messages, rounds, |given, output, answer| unsafe {
+    write_each::<WHOLE, 1, _>(messages, rounds, |given, output, answer| unsafe {
         write(
             given.error_code,
             given.field,
@@ -271,7 +274,7 @@ pub fn response_write<const WHOLE: bool>(
 }
 
 pub fn response_write_own<const WHOLE: bool>(messages: &[ResponseGiven], rounds: usize) -> u64 {
-    write_each::<WHOLE, _>(messages, rounds, |given, output, answer| {
+    write_each::<WHOLE, 1, _>(messages, rounds, |given, output, answer| {
         let member = Some((given.field, &given.bytes[..]));
         told(
             write_response(given.error_code as i32, member, output),
@@ -286,7 +289,7 @@ pub fn information_write<const WHOLE: bool>(
     rounds: usize,
 ) -> u64 {
     let write = black_box(write);
-    write_each::<WHOLE, _>(messages, rounds, |given, output, answer| {
+    write_each::<WHOLE, 1, _>(messages, rounds, |given, output, answer| {
         let [serial_number, name, device_type] = &given.strings;
         unsafe {
             write(
@@ -311,7 +314,7 @@ pub fn information_write_own<const WHOLE: bool>(
     messages: &[(InformationGiven, Vec<i32>)],
     rounds: usize,
 ) -> u64 {
-    write_each::<WHOLE, _>(messages, rounds, |(given, transports), output, answer| {
+    write_each::<WHOLE, 1, _>(messages, rounds, |(given, transports), output, answer| {
         let [serial_number, name, device_type] = &given.strings;
         told(
             write_information(serial_number, name, transports, device_type, output),
@@ -326,7 +329,7 @@ pub fn features_write<const WHOLE: bool>(
     rounds: usize,
 ) -> u64 {
     let write = black_box(write);
-    write_each::<WHOLE, _>(messages, rounds, |given, output, answer| unsafe {
+    write_each::<WHOLE, 1, _>(messages, rounds, |given, output, answer| unsafe {
         write(
             given.features,
             given.device_attributes,
@@ -339,7 +342,7 @@ pub fn features_write<const WHOLE: bool>(
 }
 
 pub fn features_write_own<const WHOLE: bool>(messages: &[FeaturesGiven], rounds: usize) -> u64 {
-    write_each::<WHOLE, _>(messages, rounds, |given, output, answer| {
+    write_each::<WHOLE, 1, _>(messages, rounds, |given, output, answer| {
         let features = Features {
             features: given.features,
             device_attributes: given.device_attributes,

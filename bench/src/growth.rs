@@ -4,7 +4,7 @@ use crate::calls::*;
 use crate::control::Reader;
 use crate::inputs::repeated;
 use crate::job::{Growth, Job, Subject};
-use crate::rows_classic::{feed_job, write_job};
+use crate::rows_classic::{feed_job, parts_job, write_job};
 use crate::rows_low_energy::{accept_job, write_packets_job};
 use crate::rows_outbox::{append_job, records_job, whole_job};
 use crate::{control, inputs, work};
@@ -117,6 +117,17 @@ fn writers() -> Vec<Growth> {
         line(
             "frame writer: marks only, output of the frame's size",
             |n| write_job(marks(n), true),
+        ),
+        line("frame writer by parts: outputs of 1 byte", |n| {
+            parts_job(vec![vec![0x41; n]], 1)
+        }),
+        line(
+            "frame writer by parts: marks only, outputs of 1 byte",
+            |n| parts_job(marks(n), 1),
+        ),
+        line(
+            "frame writer by parts: marks only, outputs of 64 bytes",
+            |n| parts_job(marks(n), 64),
         ),
         line("packet writer: all packets of a message, room 20", |n| {
             write_packets_job(vec![vec![0x41; n]], 20)

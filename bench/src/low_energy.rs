@@ -118,7 +118,7 @@ pub fn accept<const WHOLE: bool>(
 ) -> u64 {
     let accept = black_box(accept);
     let mut digest = Digest::<WHOLE>::new();
-    let (mut state, mut answer) = ([0; 15], [0; 7]);
+    let (mut state, mut answer) = ([0; 18], [0; 7]);
     for packet in packets {
         let number = unsafe {
             accept(
@@ -211,9 +211,10 @@ fn accepted_row(accepted: Accepted) -> [u64; 7] {
     }
 }
 
-fn slot_row(slot: &Option<Open>) -> [u64; 5] {
-    slot.map_or([0; 5], |open| {
+fn slot_row(slot: &Option<Open>) -> [u64; 6] {
+    slot.map_or([0; 6], |open| {
         let (id, sequence) = (u64::from(open.id), u64::from(open.sequence));
-        [1, id, open.total as u64, open.held as u64, sequence]
+        let wanted = u64::from(open.wanted);
+        [1, id, open.total as u64, open.held as u64, sequence, wanted]
     })
 }

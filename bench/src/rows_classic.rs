@@ -18,6 +18,7 @@ pub fn rows() -> Vec<Row> {
     let mut rows = feed_rows();
     rows.extend(call_size_rows());
     rows.extend(writer_rows());
+    rows.extend(part_rows());
     rows
 }
 
@@ -195,4 +196,72 @@ fn writer_rows() -> Vec<Row> {
         )
     });
     roomy.chain(exact).collect()
+}
+
+/// The frame writer by parts over payloads, into outputs of one size.
+pub fn parts_job(parts: Vec<Vec<u8>>, room: usize) -> Job {
+    let written = |(index, part): (usize, &Vec<u8>)| {
+        let sequence = inputs::sequence(index);
+        second::classic::frame(sequence, part).len()
+    };
+    let bytes = parts.iter().enumerate().map(written).sum();
+    let payloads: Vec<Payload> = parts
+        .iter()
+        .enumerate()
+        .map(|(index, part)| Payload {
+            sequence: inputs::sequence(index),
+            bytes: part.clone(),
+            room,
+        })
+        .collect();
+    let [a, b, c, d] = share(payloads);
+    let job = Job::of("byte written", bytes)
+        .with(
+            Subject::Archive,
+            work!(classic::parts((pito_frame_begin, pito_frame_part), &a; room)),
+        )
+        .with(
+            Subject::Rust,
+            work!(classic::parts((rust::frame_begin, rust::frame_part), &b; room)),
+        )
+        .with(Subject::Own, work!(classic::parts_own(&c; room)))
+        .with(
+            Subject::Other,
+            work!(classic::parts((plain_frame_begin, plain_frame_part), &d; room)),
+        );
+    with_copy(job, parts)
+}
+
+fn part_rows() -> Vec<Row> {
+    let lines: [(_, _, Payloads, _); 6] = [
+        (
+            "ordinary, outputs of 64 bytes",
+            MEGABYTE,
+            inputs::ordinary,
+            64,
+        ),
+        (
+            "long clean, outputs of 64 bytes",
+            MEGABYTE,
+            inputs::long_clean,
+            64,
+        ),
+        ("marks only, outputs of 64 bytes", SHORT, inputs::marks, 64),
+        ("ordinary, outputs of 1 byte", SHORT, inputs::ordinary, 1),
+        ("marks only, outputs of 1 byte", SHORT, inputs::marks, 1),
+        (
+            "ordinary, output of 8,201 bytes",
+            SHORT,
+            inputs::ordinary,
+            OUTPUT,
+        ),
+    ];
+    lines
+        .into_iter()
+        .map(|(name, total, payloads, room)| {
+            Row::new("frame writer by parts", name, move || {
+                parts_job(payloads(total), room)
+            })
+        })
+        .collect()
 }

@@ -7,8 +7,8 @@ use crate::{control, inputs, rust, work};
 use second::control::{write_envelope, write_features, write_information, write_response, Given};
 
 /// Different messages in each line, and how often each is read or written.
-const MESSAGES: usize = 64;
-const ROUNDS: usize = 32;
+pub const MESSAGES: usize = 64;
+pub const ROUNDS: usize = 32;
 /// The member number that stands for the schema's largest.
 const FIELD: u64 = 100;
 
@@ -45,7 +45,7 @@ pub fn rows() -> Vec<Row> {
     ]
 }
 
-fn many<T>(mut one: impl FnMut(&mut second::rng::Rng) -> T) -> Vec<T> {
+pub fn many<T>(mut one: impl FnMut(&mut second::rng::Rng) -> T) -> Vec<T> {
     let mut rng = inputs::rng();
     (0..MESSAGES).map(|_| one(&mut rng)).collect()
 }
@@ -83,9 +83,9 @@ fn features() -> Vec<FeaturesGiven> {
 }
 
 /// The bytes of messages, each as often as it is read.
-fn bytes<T>(messages: &[T], write: impl Fn(&T, &mut [u8]) -> usize) -> Vec<Vec<u8>> {
+pub fn bytes<T>(messages: &[T], write: impl Fn(&T, &mut [u8]) -> usize) -> Vec<Vec<u8>> {
     let one = |message| {
-        let mut output = vec![0; 256];
+        let mut output = vec![0; control::OUTPUT];
         let written = write(message, &mut output);
         output.truncate(written);
         output
@@ -98,8 +98,9 @@ fn bytes<T>(messages: &[T], write: impl Fn(&T, &mut [u8]) -> usize) -> Vec<Vec<u
         .collect()
 }
 
+/// A job of reading: the messages, and the loops `$loops::$read` and `$loops::$own`.
 macro_rules! read_job {
-    ($messages:expr, $read:ident, $own:ident, $archive:ident, $rust:ident, $nanopb:ident, $pbc:ident) => {{
+    ($loops:ident, $messages:expr, $read:ident, $own:ident, $archive:ident, $rust:ident, $nanopb:ident, $pbc:ident) => {{
         let messages = $messages;
         let count = messages.len();
         let [a, b, c, d, e] = share(messages);
@@ -110,11 +111,11 @@ macro_rules! read_job {
             Reader::in_struct($pbc, pbc_decoded),
         ];
         Job::of("message", count)
-            .with(Subject::Archive, work!(control::$read(x, &a)))
-            .with(Subject::Rust, work!(control::$read(y, &b)))
-            .with(Subject::Own, work!(control::$own(&c)))
-            .with(Subject::Other, work!(control::$read(z, &d)))
-            .with(Subject::ProtobufC, work!(control::$read(w, &e)))
+            .with(Subject::Archive, work!($loops::$read(x, &a)))
+            .with(Subject::Rust, work!($loops::$read(y, &b)))
+            .with(Subject::Own, work!($loops::$own(&c)))
+            .with(Subject::Other, work!($loops::$read(z, &d)))
+            .with(Subject::ProtobufC, work!($loops::$read(w, &e)))
     }};
 }
 
@@ -139,6 +140,7 @@ fn read_envelope_job(envelopes: Vec<EnvelopeGiven>) -> Job {
         write_envelope(one.command as i32, given(one), output).expect("lawful")
     });
     read_job!(
+        control,
         messages,
         read_envelope,
         read_envelope_own,
@@ -155,6 +157,7 @@ fn read_response_job() -> Job {
         write_response(one.error_code as i32, member, output).expect("lawful")
     });
     read_job!(
+        control,
         messages,
         read_response,
         read_response_own,
@@ -171,6 +174,7 @@ fn read_information_job() -> Job {
         write_information(serial_number, name, &narrow(one), device_type, output).expect("lawful")
     });
     read_job!(
+        control,
         messages,
         read_information,
         read_information_own,
@@ -191,6 +195,7 @@ fn read_features_job() -> Job {
         write_features(told, output).expect("lawful")
     });
     read_job!(
+        control,
         messages,
         read_features,
         read_features_own,
@@ -210,27 +215,30 @@ fn narrow(information: &InformationGiven) -> Vec<i32> {
         .collect()
 }
 
+/// A job of writing, with the loops `$loops::$write` and `$loops::$own`.
 macro_rules! write_job {
-    ($messages:expr, $own_messages:expr, $write:ident, $own:ident, $archive:ident, $rust:ident, $nanopb:ident, $pbc:ident) => {{
+    ($loops:ident, $messages:expr, $own_messages:expr, $write:ident, $own:ident, $archive:ident, $rust:ident, $nanopb:ident, $pbc:ident) => {{
         let [a, b, d, e] = share($messages);
         let c = $own_messages;
         Job::of("message", MESSAGES * ROUNDS)
             .with(
                 Subject::Archive,
-                work!(control::$write($archive, &a, ROUNDS)),
+                work!($loops::$write($archive, &a, ROUNDS)),
             )
             .with(
                 Subject::Rust,
-                work!(control::$write(rust::$rust, &b, ROUNDS)),
+                work!($loops::$write(rust::$rust, &b, ROUNDS)),
             )
-            .with(Subject::Own, work!(control::$own(&c, ROUNDS)))
-            .with(Subject::Other, work!(control::$write($nanopb, &d, ROUNDS)))
-            .with(Subject::ProtobufC, work!(control::$write($pbc, &e, ROUNDS)))
+            .with(Subject::Own, work!($loops::$own(&c, ROUNDS)))
+            .with(Subject::Other, work!($loops::$write($nanopb, &d, ROUNDS)))
+            .with(Subject::ProtobufC, work!($loops::$write($pbc, &e, ROUNDS)))
     }};
 }
 
+pub(crate) use {read_job, write_job};
+
 /// Before the messages of a line are filled ahead.
-fn forget() {
+pub fn forget() {
     unsafe {
         nanopb_forget();
         pbc_forget();
@@ -256,6 +264,7 @@ fn write_envelope_job(payload: u64) -> Job {
     }
     let [messages, own] = [envelopes(payload), envelopes(payload)];
     write_job!(
+        control,
         messages,
         own,
         envelope_write,
@@ -276,6 +285,7 @@ fn write_response_job() -> Job {
         }
     }
     write_job!(
+        control,
         responses(),
         responses(),
         response_write,
@@ -307,6 +317,7 @@ fn write_information_job() -> Job {
         })
         .collect();
     write_job!(
+        control,
         informations(),
         own,
         information_write,
@@ -326,6 +337,7 @@ fn write_features_job() -> Job {
         }
     }
     write_job!(
+        control,
         features(),
         features(),
         features_write,

@@ -1,7 +1,7 @@
 //! The plain Rust of second/ behind the same C calls: each is its function of `face`, on the lent
 //! slices.
 
-use second::face;
+use second::face::{self, firmware};
 use std::slice;
 
 unsafe fn lent<'a, T>(start: *mut T, length: usize) -> &'a mut [T] {
@@ -10,6 +10,15 @@ unsafe fn lent<'a, T>(start: *mut T, length: usize) -> &'a mut [T] {
 
 unsafe fn given<'a, T>(start: *const T, length: usize) -> &'a [T] {
     slice::from_raw_parts(start, length)
+}
+
+pub unsafe extern "C" fn frame_begin(
+    sequence: u64,
+    total: u64,
+    state: *mut u64,
+    states: usize,
+) -> u64 {
+    face::frame_begin(sequence, total, lent(state, states))
 }
 
 macro_rules! shims {
@@ -28,6 +37,8 @@ shims! {
         face::extractor_feed(lent(state, states), lent(buffer, size), given(bytes, length), told);
     frame_write(sequence: u64, payload: *const u8, length: usize, output: *mut u8, size: usize) told
         face::frame_write(sequence, given(payload, length), lent(output, size), told);
+    frame_part(state: *mut u64, states: usize, payload: *const u8, length: usize, output: *mut u8, size: usize) told
+        face::frame_part(lent(state, states), given(payload, length), lent(output, size), told);
     packet_write(room: u64, stream: u64, id: u64, sequence: u64, ack: u64, message: *const u8, length: usize,
         place: u64, output: *mut u8, size: usize) told
         face::packet_write(room, [stream, id, sequence, ack], given(message, length), place, lent(output, size), told);
@@ -51,6 +62,14 @@ shims! {
             given(device_type, device_type_length), given(transports, transports_length), lent(output, size), told);
     features_write(features: u64, device_attributes: u64, output: *mut u8, size: usize) told
         face::features_write(features, device_attributes, lent(output, size), told);
+    segment_read(message: *const u8, length: usize) told firmware::segment_read(given(message, length), told);
+    apply_read(message: *const u8, length: usize) told firmware::apply_read(given(message, length), told);
+    segment_write(name: *const u8, name_length: usize, offset: u64, segment_size: u64, signature: *const u8,
+        signature_length: usize, output: *mut u8, size: usize) told
+        firmware::segment_write(given(name, name_length), offset, segment_size, given(signature, signature_length),
+            lent(output, size), told);
+    apply_write(row: *const u64, rows: usize, texts: *const u8, length: usize, output: *mut u8, size: usize) told
+        firmware::apply_write(given(row, rows), given(texts, length), lent(output, size), told);
     outbox_append(buffer: *mut u8, size: usize, used: u64, stream: u64, payload: *const u8, length: usize) told
         face::outbox_append(lent(buffer, size), used, stream, given(payload, length), told);
     outbox_record(bytes: *const u8, length: usize, place: u64) told

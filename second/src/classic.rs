@@ -253,6 +253,143 @@ pub fn write_frame(sequence: u8, payload: &[u8], output: &mut [u8]) -> Result<us
     deliver(&frame(sequence, payload), output)
 }
 
+/// A frame that is written by parts: "the payload part by part, its total length told at the start".
+#[derive(Clone, Copy, Debug, PartialEq, Eq)]
+pub struct Parts {
+    pub sequence: u8,
+    pub total: u64,
+    pub taken: u64,
+    /// Of the payload bytes taken.
+    pub sum: u16,
+    pub next: Next,
+    /// A mark of which F2 is written and its second byte is not.
+    pub split: Option<u8>,
+}
+
+/// What a frame's next byte is, once no second byte is owed.
+#[derive(Clone, Copy, Debug, PartialEq, Eq)]
+pub enum Next {
+    /// Of the four bytes before the payload, the one at this place.
+    Header(u8),
+    /// A payload byte, or the checksum's first byte where none is missing.
+    Payload,
+    /// The checksum's second byte.
+    LastSum,
+    End,
+    Nothing,
+}
+
+/// "It tells the bytes taken and written", and whether the frame has ended.
+#[derive(Clone, Copy, Debug, PartialEq, Eq)]
+pub struct PartWritten {
+    pub taken: usize,
+    pub written: usize,
+    pub ended: bool,
+}
+
+impl Parts {
+    /// "At the start, 15 for a sequence that is a mark or a total above the message limit."
+    pub fn begin(sequence: u8, total: u64) -> Result<Parts, Refusal> {
+        let parts = Parts {
+            sequence,
+            total,
+            taken: 0,
+            sum: checksum(&[]),
+            next: Next::Header(0),
+            split: None,
+        };
+        Some(parts)
+            .filter(|parts| parts.is_lawful())
+            .ok_or(Refusal::Argument)
+    }
+
+    /// "A state with either, or with more taken than told" is unlawful, and no other is.
+    pub fn is_lawful(self) -> bool {
+        !is_mark(self.sequence) && self.total <= PAYLOAD as u64 && self.taken <= self.total
+    }
+
+    fn ended(self) -> bool {
+        self.next == Next::Nothing && self.split.is_none()
+    }
+
+    /// The byte of payload or checksum that is due goes out: its first byte now, and a second one
+    /// if it is a mark.
+    fn put(&mut self, byte: u8) -> u8 {
+        let bytes = escaped(&[byte]);
+        self.split = bytes.get(1).map(|_| byte);
+        bytes[0]
+    }
+
+    /// The next output byte, taking from the part what it needs; none if the frame has ended, or
+    /// "it needs a payload byte not offered".
+    fn byte(&mut self, part: &mut std::slice::Iter<'_, u8>) -> Option<u8> {
+        if let Some(mark) = self.split.take() {
+            return Some(escaped(&[mark])[1]);
+        }
+        let [high, low] = self.sum.to_be_bytes();
+        match self.next {
+            Next::Header(place) => {
+                let header = [START, 0x02, 0x00, self.sequence];
+                self.next = if place < 3 {
+                    Next::Header(place + 1)
+                } else {
+                    Next::Payload
+                };
+                Some(header[usize::from(place)])
+            }
+            Next::Payload if self.taken < self.total => {
+                let byte = *part.next()?;
+                self.taken += 1;
+                self.sum = self.sum.wrapping_add(u16::from(byte));
+                Some(self.put(byte))
+            }
+            Next::Payload => {
+                self.next = Next::LastSum;
+                Some(self.put(high))
+            }
+            Next::LastSum => {
+                self.next = Next::End;
+                Some(self.put(low))
+            }
+            Next::End => {
+                self.next = Next::Nothing;
+                Some(END)
+            }
+            Next::Nothing => None,
+        }
+    }
+
+    /// "1 a state with either, or with more taken than told, then 26 more payload offered than is
+    /// still missing, then 14 an output of length 0." Each leaves state and output.
+    pub fn write(self, part: &[u8], output: &mut [u8]) -> (Parts, Result<PartWritten, Refusal>) {
+        if !self.is_lawful() {
+            return (self, Err(Refusal::Lent));
+        }
+        if part.len() as u64 > self.total - self.taken {
+            return (self, Err(Refusal::TooMuch));
+        }
+        if output.is_empty() {
+            return (self, Err(Refusal::Output));
+        }
+        let mut state = self;
+        let mut left = part.iter();
+        let mut written = 0;
+        for place in output {
+            let Some(byte) = state.byte(&mut left) else {
+                break;
+            };
+            *place = byte;
+            written += 1;
+        }
+        let told = PartWritten {
+            taken: part.len() - left.len(),
+            written,
+            ended: state.ended(),
+        };
+        (state, Ok(told))
+    }
+}
+
 /// "Sequence bytes go up by one modulo 256 and skip the marks."
 pub fn next_sequence(sequence: u8) -> u8 {
     (1..=255u8)

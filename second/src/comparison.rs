@@ -46,8 +46,10 @@ fn kinds(operation: Operation) -> Option<(usize, &'static [&'static str])> {
     match operation {
         Operation::ExtractorStep => Some((0, &["skipped", "taken", "frame"])),
         Operation::ExtractorFeed => Some((0, &["all used", "", "frame"])),
+        Operation::FramePart => Some((2, &["open", "ended"])),
         Operation::ReceiverAccept => Some((0, &["held", "finished", "ACK", "NACK"])),
         Operation::EnvelopeRead => Some((1, &["no payload", "response", "other member"])),
+        Operation::FieldRead => Some((0, &["end", "field"])),
         Operation::OutboxRecord => Some((0, &["end", "record"])),
         _ => None,
     }

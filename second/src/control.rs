@@ -13,7 +13,7 @@ pub const TRANSPORTS: usize = 8;
 
 /// The wire types that are read; 3, 4, 6 and 7 are refused by 32.
 #[derive(Clone, Copy, Debug, PartialEq, Eq)]
-enum Wire {
+pub enum Wire {
     Varint,
     Eight,
     Delimited,
@@ -21,13 +21,13 @@ enum Wire {
 }
 
 /// What is left of a message, or of a part of one. Places are always places in the lent message.
-struct Tokens<'m> {
+pub(crate) struct Tokens<'m> {
     message: &'m [u8],
-    left: Range<usize>,
+    pub(crate) left: Range<usize>,
 }
 
 impl<'m> Tokens<'m> {
-    fn over(message: &'m [u8], part: Range<usize>) -> Tokens<'m> {
+    pub(crate) fn over(message: &'m [u8], part: Range<usize>) -> Tokens<'m> {
         Tokens {
             message,
             left: part,
@@ -36,7 +36,7 @@ impl<'m> Tokens<'m> {
 
     /// A varint: 31 if its tenth byte is above 01, 30 if the bytes end inside it. "Longer varints
     /// than needed are read."
-    fn varint(&mut self) -> Result<u64, Refusal> {
+    pub(crate) fn varint(&mut self) -> Result<u64, Refusal> {
         let mut value = 0;
         for (index, &byte) in self.message[self.left.clone()].iter().take(10).enumerate() {
             if index == 9 && byte > 1 {
@@ -53,7 +53,7 @@ impl<'m> Tokens<'m> {
 
     /// The next tag, or nothing at the end: 31, 30 and "field 0 or above 536,870,911; wire type 3,
     /// 4, 6, 7".
-    fn tag(&mut self) -> Result<Option<(u64, Wire)>, Refusal> {
+    pub(crate) fn tag(&mut self) -> Result<Option<(u64, Wire)>, Refusal> {
         if self.left.is_empty() {
             return Ok(None);
         }
@@ -73,7 +73,7 @@ impl<'m> Tokens<'m> {
 
     /// The next `count` bytes as a part of the message. "a length past the end (before its
     /// content)" is 30.
-    fn bytes(&mut self, count: u64) -> Result<Range<usize>, Refusal> {
+    pub(crate) fn bytes(&mut self, count: u64) -> Result<Range<usize>, Refusal> {
         if count > self.left.len() as u64 {
             return Err(Refusal::EndsInside);
         }
@@ -83,13 +83,13 @@ impl<'m> Tokens<'m> {
     }
 
     /// A length and as many bytes.
-    fn part(&mut self) -> Result<Range<usize>, Refusal> {
+    pub(crate) fn part(&mut self) -> Result<Range<usize>, Refusal> {
         let length = self.varint()?;
         self.bytes(length)
     }
 
     /// "Other fields of wire types 0, 1, 2, 5 are skipped."
-    fn skip(&mut self, wire: Wire) -> Result<(), Refusal> {
+    pub(crate) fn skip(&mut self, wire: Wire) -> Result<(), Refusal> {
         match wire {
             Wire::Varint => self.varint().map(drop),
             Wire::Eight => self.bytes(8).map(drop),
@@ -267,7 +267,7 @@ impl Features {
 /// empty strings, packs field 3 unless it is empty, uses shortest varints, and extends a negative
 /// number to ten bytes."
 #[derive(Default)]
-struct Making(Vec<u8>);
+pub(crate) struct Making(pub(crate) Vec<u8>);
 
 impl Making {
     fn varint(mut self, mut value: u64) -> Making {
@@ -284,7 +284,7 @@ impl Making {
     }
 
     /// A number that is left out if it is 0.
-    fn number(self, field: u64, value: u64) -> Making {
+    pub(crate) fn number(self, field: u64, value: u64) -> Making {
         match value {
             0 => self,
             _ => self.tag(field, 0).varint(value),
@@ -297,14 +297,14 @@ impl Making {
     }
 
     /// A length-delimited field, also if it is empty.
-    fn delimited(self, field: u64, bytes: &[u8]) -> Making {
+    pub(crate) fn delimited(self, field: u64, bytes: &[u8]) -> Making {
         let mut made = self.tag(field, 2).varint(bytes.len() as u64);
         made.0.extend_from_slice(bytes);
         made
     }
 
     /// A string or packed list that is left out if it is empty.
-    fn unless_empty(self, field: u64, bytes: &[u8]) -> Making {
+    pub(crate) fn unless_empty(self, field: u64, bytes: &[u8]) -> Making {
         match bytes {
             [] => self,
             _ => self.delimited(field, bytes),

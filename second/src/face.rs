@@ -7,17 +7,21 @@
 //!   changes: neither state, lent bytes nor answer. Only `feed` tells then that 0 bytes were used,
 //!   where its answer row has the right length.
 //! - Every other call writes the whole answer row. After a refusal it is 0 throughout, but for what
-//!   the paper tells then: the number used by `feed`, and the place that goes with 41.
+//!   the paper tells then: the number used by `feed`, the place that goes with 41, and the field that
+//!   goes with 50.
 //! - Signed 32-bit numbers stand in two's complement, extended to 64 bits. A number that is no such
-//!   one is out of a writer's range, 15; so is a wish other than 0 or 1.
+//!   one is out of a writer's range, 15; so is an unsigned one above 32 bits, and a wish other than 0
+//!   or 1.
 
-use crate::classic::{self, Decided, Extractor, Outcome};
+use crate::classic::{self, Decided, Extractor, Next, Outcome, Parts};
 use crate::control::{self, Envelope, Features, Given, Information, Member, Payload, Response};
 use crate::implementation::{Implementation, Operation};
 use crate::low_energy::{self, Accepted, Open, Slots, Stream, Wish};
 use crate::outbox::{self, Broken, Record};
 use crate::refusal::Refusal;
 use std::ops::Range;
+
+pub mod firmware;
 
 /// The model behind its face.
 pub struct Model;
@@ -40,6 +44,8 @@ impl Implementation for Model {
             Operation::ExtractorStep => extractor_step(state, lent, numbers[0] as u8, answer),
             Operation::ExtractorFeed => extractor_feed(state, lent, &inputs[0], answer),
             Operation::FrameWrite => frame_write(numbers[0], &inputs[0], lent, answer),
+            Operation::FrameBegin => frame_begin(numbers[0], numbers[1], state),
+            Operation::FramePart => frame_part(state, &inputs[0], lent, answer),
             Operation::NextSequence => next_sequence(numbers[0] as u8, answer),
             Operation::PacketWrite => {
                 let [room, stream, id, sequence, ack, place] = numbers else {
@@ -76,6 +82,16 @@ impl Implementation for Model {
             }
             Operation::FeaturesRead => features_read(&inputs[0], answer),
             Operation::FeaturesWrite => features_write(numbers[0], numbers[1], lent, answer),
+            Operation::SegmentRead => firmware::segment_read(&inputs[0], answer),
+            Operation::SegmentWrite => {
+                let ([name, signature], [offset, size]) = (inputs, numbers) else {
+                    panic!("two inputs, two numbers")
+                };
+                firmware::segment_write(name, *offset, *size, signature, lent, answer)
+            }
+            Operation::ApplyRead => firmware::apply_read(&inputs[0], answer),
+            Operation::ApplyWrite => firmware::apply_write(numbers, &inputs[0], lent, answer),
+            Operation::FieldRead => firmware::field_read(&inputs[0], numbers[0], answer),
             Operation::OutboxNew => outbox_new(lent, answer),
             Operation::OutboxAppend => {
                 outbox_append(lent, numbers[0], numbers[1], &inputs[0], answer)
@@ -229,6 +245,84 @@ pub fn frame_write(sequence: u64, payload: &[u8], output: &mut [u8], answer: &mu
     })
 }
 
+/// `sequence, total, taken, sum, stage, pending`: stages 0 to 3 are the four bytes before the
+/// payload, 4 the payload with the checksum's first byte after it, 5 its second byte, 6 the end
+/// mark, 7 nothing; pending is 0 for none, 1 to 3 for the second byte of F0, F1, F2.
+fn parts_in(row: &[u64]) -> Option<Parts> {
+    let [sequence, total, taken, sum, stage, pending] = *row else {
+        return None;
+    };
+    Some(Parts {
+        sequence: sequence.try_into().ok()?,
+        total,
+        taken,
+        sum: sum.try_into().ok()?,
+        next: match stage {
+            0..=3 => Next::Header(stage as u8),
+            4 => Next::Payload,
+            5 => Next::LastSum,
+            6 => Next::End,
+            7 => Next::Nothing,
+            _ => return None,
+        },
+        split: match pending {
+            0 => None,
+            1 => Some(classic::START),
+            2 => Some(classic::END),
+            3 => Some(classic::ESCAPE),
+            _ => return None,
+        },
+    })
+}
+
+fn parts_out(parts: Parts) -> [u64; 6] {
+    let stage = match parts.next {
+        Next::Header(place) => u64::from(place),
+        Next::Payload => 4,
+        Next::LastSum => 5,
+        Next::End => 6,
+        Next::Nothing => 7,
+    };
+    let pending = parts
+        .split
+        .map_or(0, |mark| u64::from(mark - classic::START) + 1);
+    [
+        u64::from(parts.sequence),
+        parts.total,
+        parts.taken,
+        u64::from(parts.sum),
+        stage,
+        pending,
+    ]
+}
+
+/// No answer; the state goes out only. 15 leaves it.
+pub fn frame_begin(sequence: u64, total: u64, state: &mut [u64]) -> u64 {
+    if state.len() != 6 {
+        return Refusal::Lent.number();
+    }
+    let begun = u8::try_from(sequence)
+        .map_err(|_| Refusal::Argument)
+        .and_then(|sequence| Parts::begin(sequence, total));
+    match begun {
+        Ok(parts) => {
+            state.copy_from_slice(&parts_out(parts));
+            0
+        }
+        Err(refusal) => refusal.number(),
+    }
+}
+
+/// Answer `taken, written, ended`.
+pub fn frame_part(state: &mut [u64], payload: &[u8], output: &mut [u8], answer: &mut [u64]) -> u64 {
+    ask(answer, || {
+        let (after, told) = parts_in(state).ok_or(Refusal::Lent)?.write(payload, output);
+        let told = told?;
+        state.copy_from_slice(&parts_out(after));
+        Ok([wide(told.taken), wide(told.written), u64::from(told.ended)])
+    })
+}
+
 /// Answer `next`.
 pub fn next_sequence(sequence: u8, answer: &mut [u64]) -> u64 {
     ask(answer, || Ok([u64::from(classic::next_sequence(sequence))]))
@@ -271,23 +365,24 @@ pub fn ack_write(wish: [u64; 4], output: &mut [u8], answer: &mut [u64]) -> u64 {
     })
 }
 
-/// Five numbers for each slot, control, OTA, Alexa: `open, id, total, held, sequence`; "a lawful
-/// idle slot's numbers are all 0".
+/// Six numbers for each slot, control, OTA, Alexa: `open, id, total, held, sequence, wanted`; "a
+/// lawful idle slot's numbers are all 0", and open and wanted are 0 or 1.
 fn slots_in(row: &[u64]) -> Option<Slots> {
     let slot = |row: &[u64]| match *row {
-        [0, 0, 0, 0, 0] => Some(None),
-        [1, id, total, held, sequence] => {
+        [0, 0, 0, 0, 0, 0] => Some(None),
+        [1, id, total, held, sequence, wanted @ 0..=1] => {
             let open = Open {
                 id: id.try_into().ok()?,
                 total: total.try_into().ok()?,
                 held: held.try_into().ok()?,
                 sequence: sequence.try_into().ok()?,
+                wanted: wanted == 1,
             };
             open.is_lawful().then_some(Some(open))
         }
         _ => None,
     };
-    let slots: Vec<Option<Open>> = row.chunks(5).map(slot).collect::<Option<_>>()?;
+    let slots: Vec<Option<Open>> = row.chunks(6).map(slot).collect::<Option<_>>()?;
     slots.try_into().ok()
 }
 
@@ -295,13 +390,14 @@ fn slots_out(slots: &Slots) -> Vec<u64> {
     slots
         .iter()
         .flat_map(|slot| match *slot {
-            None => [0; 5],
+            None => [0; 6],
             Some(open) => [
                 1,
                 u64::from(open.id),
                 wide(open.total),
                 wide(open.held),
                 u64::from(open.sequence),
+                u64::from(open.wanted),
             ],
         })
         .collect()

@@ -8,6 +8,8 @@ pub enum Operation {
     ExtractorStep,
     ExtractorFeed,
     FrameWrite,
+    FrameBegin,
+    FramePart,
     NextSequence,
     PacketWrite,
     AckWrite,
@@ -20,6 +22,11 @@ pub enum Operation {
     InformationWrite,
     FeaturesRead,
     FeaturesWrite,
+    SegmentRead,
+    SegmentWrite,
+    ApplyRead,
+    ApplyWrite,
+    FieldRead,
     OutboxNew,
     OutboxAppend,
     OutboxRecord,
@@ -29,7 +36,7 @@ pub enum Operation {
 /// The rows of an operation, for building calls and for printing them.
 pub struct Shape {
     pub name: &'static str,
-    /// Numbers given by value (or, for the transports, as a row of any length).
+    /// Numbers given by value (or as a row: the transports, of any length, and an ApplyFirmware).
     pub numbers: &'static [&'static str],
     /// Bytes that are only read.
     pub inputs: &'static [&'static str],
@@ -44,22 +51,26 @@ pub struct Shape {
 }
 
 const EXTRACTOR: &[&str] = &["phase", "sequence", "held"];
+const PARTS: &[&str] = &["sequence", "total", "taken", "sum", "stage", "pending"];
 const RECEIVER: &[&str] = &[
     "control.open",
     "control.id",
     "control.total",
     "control.held",
     "control.sequence",
+    "control.wanted",
     "ota.open",
     "ota.id",
     "ota.total",
     "ota.held",
     "ota.sequence",
+    "ota.wanted",
     "alexa.open",
     "alexa.id",
     "alexa.total",
     "alexa.held",
     "alexa.sequence",
+    "alexa.wanted",
 ];
 const INFORMATION: &[&str] = &[
     "serial_number.start",
@@ -78,13 +89,75 @@ const INFORMATION: &[&str] = &[
     "transport 6",
     "transport 7",
 ];
+/// The components count from 0.
+const APPLY: &[&str] = &[
+    "restart_required",
+    "version",
+    "name.start",
+    "name.length",
+    "locale.start",
+    "locale.length",
+    "version_name.start",
+    "version_name.length",
+    "components",
+    "0.version",
+    "0.name.start",
+    "0.name.length",
+    "0.size",
+    "0.signature.start",
+    "0.signature.length",
+    "1.version",
+    "1.name.start",
+    "1.name.length",
+    "1.size",
+    "1.signature.start",
+    "1.signature.length",
+    "2.version",
+    "2.name.start",
+    "2.name.length",
+    "2.size",
+    "2.signature.start",
+    "2.signature.length",
+    "3.version",
+    "3.name.start",
+    "3.name.length",
+    "3.size",
+    "3.signature.start",
+    "3.signature.length",
+    "4.version",
+    "4.name.start",
+    "4.name.length",
+    "4.size",
+    "4.signature.start",
+    "4.signature.length",
+    "5.version",
+    "5.name.start",
+    "5.name.length",
+    "5.size",
+    "5.signature.start",
+    "5.signature.length",
+    "6.version",
+    "6.name.start",
+    "6.name.length",
+    "6.size",
+    "6.signature.start",
+    "6.signature.length",
+    "7.version",
+    "7.name.start",
+    "7.name.length",
+    "7.size",
+    "7.signature.start",
+    "7.signature.length",
+];
 const MESSAGE_READ: &[u64] = &[0, 1, 30, 31, 32, 33, 34];
 
 impl Operation {
-    pub const ALL: [Operation; 19] = [
+    pub const ALL: [Operation; 26] = [
         Operation::ExtractorStep,
         Operation::ExtractorFeed,
         Operation::FrameWrite,
+        Operation::FrameBegin,
+        Operation::FramePart,
         Operation::NextSequence,
         Operation::PacketWrite,
         Operation::AckWrite,
@@ -97,6 +170,11 @@ impl Operation {
         Operation::InformationWrite,
         Operation::FeaturesRead,
         Operation::FeaturesWrite,
+        Operation::SegmentRead,
+        Operation::SegmentWrite,
+        Operation::ApplyRead,
+        Operation::ApplyWrite,
+        Operation::FieldRead,
         Operation::OutboxNew,
         Operation::OutboxAppend,
         Operation::OutboxRecord,
@@ -139,6 +217,22 @@ impl Operation {
                 answer: &["written"],
                 lent: "output",
                 returns: &[0, 1, 14, 15],
+                ..empty
+            },
+            Operation::FrameBegin => Shape {
+                name: "frame begin",
+                numbers: &["sequence", "total"],
+                state: PARTS,
+                returns: &[0, 1, 15],
+                ..empty
+            },
+            Operation::FramePart => Shape {
+                name: "frame part",
+                inputs: &["payload"],
+                state: PARTS,
+                answer: &["taken", "written", "ended"],
+                lent: "output",
+                returns: &[0, 1, 14, 26],
                 ..empty
             },
             Operation::NextSequence => Shape {
@@ -251,6 +345,58 @@ impl Operation {
                 answer: &["written"],
                 lent: "output",
                 returns: &[0, 1, 14],
+                ..empty
+            },
+            Operation::SegmentRead => Shape {
+                name: "segment read",
+                inputs: &["message"],
+                answer: &[
+                    "name.start",
+                    "name.length",
+                    "offset",
+                    "size",
+                    "signature.start",
+                    "signature.length",
+                    "field",
+                ],
+                // Nothing is too many.
+                returns: &[0, 1, 30, 31, 32, 33, 50],
+                ..empty
+            },
+            Operation::SegmentWrite => Shape {
+                name: "segment write",
+                numbers: &["offset", "size"],
+                inputs: &["name", "signature"],
+                answer: &["written", "field"],
+                lent: "output",
+                returns: &[0, 1, 14, 15, 50],
+                ..empty
+            },
+            Operation::ApplyRead => Shape {
+                name: "apply read",
+                inputs: &["message"],
+                answer: APPLY,
+                returns: MESSAGE_READ,
+                ..empty
+            },
+            Operation::ApplyWrite => Shape {
+                name: "apply write",
+                numbers: APPLY,
+                inputs: &["texts"],
+                answer: &["written"],
+                lent: "output",
+                returns: &[0, 1, 14, 15],
+                ..empty
+            },
+            Operation::FieldRead => Shape {
+                name: "field read",
+                numbers: &["place"],
+                inputs: &["message"],
+                answer: &[
+                    "outcome", "number", "kind", "value", "start", "length", "next",
+                ],
+                // No field is known and none is too many.
+                returns: &[0, 1, 30, 31, 32],
                 ..empty
             },
             Operation::OutboxNew => Shape {

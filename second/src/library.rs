@@ -4,6 +4,7 @@
 use crate::implementation::{Implementation, Operation};
 use pitokaenge::*;
 
+mod firmware;
 #[path = "../../include/pitokaenge.rs"]
 mod pitokaenge;
 
@@ -41,6 +42,11 @@ impl Implementation for Library {
                 Operation::FrameWrite => {
                     let (payload, length) = input(0);
                     pito_frame_write(numbers[0], payload, length, bytes, size, told, tells)
+                }
+                Operation::FrameBegin => pito_frame_begin(numbers[0], numbers[1], row, rows),
+                Operation::FramePart => {
+                    let (payload, length) = input(0);
+                    pito_frame_part(row, rows, payload, length, bytes, size, told, tells)
                 }
                 Operation::NextSequence => pito_next_sequence(numbers[0] as u8, told, tells),
                 Operation::PacketWrite => {
@@ -117,6 +123,11 @@ impl Implementation for Library {
                 Operation::FeaturesWrite => {
                     pito_features_write(numbers[0], numbers[1], bytes, size, told, tells)
                 }
+                Operation::SegmentRead
+                | Operation::SegmentWrite
+                | Operation::ApplyRead
+                | Operation::ApplyWrite
+                | Operation::FieldRead => firmware::call(operation, numbers, inputs, lent, answer),
                 Operation::OutboxNew => pito_outbox_new(bytes, size, told, tells),
                 Operation::OutboxAppend => {
                     let (payload, length) = input(0);

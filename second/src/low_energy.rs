@@ -159,13 +159,15 @@ impl<'a> Packet<'a> {
     }
 }
 
-/// An open transaction: "id, total, count held and last sequence".
+/// An open transaction: "id, total, count held and last sequence", and, by request No. 2, whether an
+/// ACK is wanted: "An open slot remembers it".
 #[derive(Clone, Copy, Debug, PartialEq, Eq)]
 pub struct Open {
     pub id: u8,
     pub total: usize,
     pub held: usize,
     pub sequence: u8,
+    pub wanted: bool,
 }
 
 impl Open {
@@ -179,7 +181,8 @@ impl Open {
     }
 }
 
-/// "The receiver's state has three slots, one for each stream, each idle or open".
+/// "The receiver's state has three slots, one for each stream, each idle or open". An idle slot has
+/// nothing to remember: "a lawful idle slot remembers none".
 pub type Slots = [Option<Open>; 3];
 
 /// What an accepted packet came to.
@@ -240,7 +243,7 @@ pub fn accept(
         }
         // "A first packet that is accepted always replaces an open transaction of its stream; its
         // answer notes the drop."
-        Part::First { total, piece } => Ok((total, 0, piece, piece.len() == total)),
+        Part::First { total, piece } => Ok((total, 0, piece, piece.len() == total, packet.flag)),
         Part::Continuation { piece } | Part::Last { piece } => {
             match slots[index].filter(|open| open.id == packet.id) {
                 None => return (slots, Err(Refusal::NotOpen)),
@@ -258,7 +261,10 @@ pub fn accept(
                         after < open.total
                     };
                     if fits {
-                        Ok((open.total, open.held, piece, last))
+                        // "An ACK is wanted if at least one accepted packet of the transaction
+                        // carried the flag."
+                        let wanted = open.wanted || packet.flag;
+                        Ok((open.total, open.held, piece, last, wanted))
                     } else {
                         Err(Refusal::MissesTotal)
                     }
@@ -266,7 +272,7 @@ pub fn accept(
             }
         }
     };
-    let (total, held, piece, finished) = match place {
+    let (total, held, piece, finished, wanted) = match place {
         Ok(place) => place,
         // 10 and 11 leave "slot idle, bytes kept".
         Err(refusal) => return (set(None), Err(refusal)),
@@ -279,13 +285,12 @@ pub fn accept(
         .copy_from_slice(piece);
     let replaced = matches!(packet.part, Part::First { .. }) && slots[index].is_some();
     if finished {
-        // "Finishing makes the slot idle". "A finished transaction wants an ACK if its last packet
-        // has the flag."
+        // "Finishing makes the slot idle".
         let told = Accepted::Finished {
             stream: packet.stream,
             id: packet.id,
             total,
-            ack_wanted: packet.flag,
+            ack_wanted: wanted,
             replaced,
         };
         (set(None), Ok(told))
@@ -295,6 +300,7 @@ pub fn accept(
             total,
             held: held + piece.len(),
             sequence: packet.sequence,
+            wanted,
         };
         let told = Accepted::Held {
             stream: packet.stream,

@@ -1,4 +1,4 @@
-//! The numbers of the paper's table "Refusal numbers".
+//! The numbers of the paper's table "Refusal numbers", and those that change requests add.
 
 use std::fmt;
 
@@ -48,6 +48,8 @@ pub enum Refusal {
     Full = 24,
     /// "checksum differs"
     Checksum = 25,
+    /// "more payload offered than is still missing"
+    TooMuch = 26,
     /// "message ends inside a field"
     EndsInside = 30,
     /// "varint whose tenth byte is above 01"
@@ -56,7 +58,8 @@ pub enum Refusal {
     Tag = 32,
     /// "known field with another wire type"
     WireType = 33,
-    /// "second payload member, or a ninth transport"
+    /// "second payload member, or a ninth transport"; by No. 1 "a second firmware_information" and
+    /// "a ninth component" too
     TooMany = 34,
     /// "outbox empty, or version not 01"
     Version = 40,
@@ -66,6 +69,8 @@ pub enum Refusal {
     RecordLength = 42,
     /// "record's stream not 0, 2, 6"
     RecordStream = 43,
+    /// "a profile rule broken, told with the lowest field number" (No. 1)
+    Profile = 50,
 }
 
 impl Refusal {

@@ -51,6 +51,13 @@ impl Rng {
         }
     }
 
+    /// Numbers of all sizes.
+    pub fn fill_row(&mut self, row: &mut [u64]) {
+        for number in row {
+            *number = self.draw() >> self.below(64);
+        }
+    }
+
     pub fn bytes(&mut self, count: usize) -> Vec<u8> {
         let mut bytes = vec![0; count];
         self.fill(&mut bytes);

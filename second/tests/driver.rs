@@ -106,13 +106,15 @@ fn a_wrong_number_of_any_operation_is_found() {
     for operation in Operation::ALL {
         let returned = Wrong(operation, |returned, _, _, _| *returned ^= 1);
         assert!(found(&returned).is_some());
-        let answer = Wrong(operation, |_, _, _, answer| {
-            if let Some(last) = answer.last_mut() {
-                *last ^= 1;
-            }
-        });
-        assert!(found(&answer).is_some());
         let shape = operation.shape();
+        if !shape.answer.is_empty() {
+            let answer = Wrong(operation, |_, _, _, answer| {
+                if let Some(last) = answer.last_mut() {
+                    *last ^= 1;
+                }
+            });
+            assert!(found(&answer).is_some());
+        }
         if !shape.state.is_empty() {
             let state = Wrong(operation, |_, state, _, _| {
                 if let Some(last) = state.last_mut() {
@@ -130,6 +132,43 @@ fn a_wrong_number_of_any_operation_is_found() {
             assert!(found(&lent).is_some());
         }
     }
+}
+
+#[test]
+fn streams_that_are_not_apart_are_found() {
+    let part = PARTS
+        .iter()
+        .find(|part| part.name.contains("either order"))
+        .unwrap();
+    let found = |wrong: &Wrong| {
+        run_part(part, &mut Comparison::new(&[wrong]), SHORT)
+            .err()
+            .is_some_and(|difference| difference.0.contains("in either order"))
+    };
+    // Alone, so that only the two orders are compared.
+    let right = Wrong(Operation::ReceiverAccept, |_, _, _, _| {});
+    assert!(!found(&right));
+    // 10 makes the slots of the other streams idle too.
+    let idle = Wrong(Operation::ReceiverAccept, |returned, state, _, _| {
+        if *returned == 10 {
+            state.fill(0);
+        }
+    });
+    assert!(found(&idle));
+    // One byte of the buffer is the last packet's, whatever its stream.
+    let byte = Wrong(Operation::ReceiverAccept, |returned, _, lent, _| {
+        if let Some(last) = lent.last_mut() {
+            *last = *returned as u8;
+        }
+    });
+    assert!(found(&byte));
+    // The answer tells a number of all slots.
+    let answer = Wrong(Operation::ReceiverAccept, |returned, state, _, answer| {
+        if *returned == 0 {
+            answer[3] = state.iter().sum();
+        }
+    });
+    assert!(found(&answer));
 }
 
 #[test]

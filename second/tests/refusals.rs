@@ -1,7 +1,7 @@
 //! "Each is given exactly when its line holds and none above it in its group does": each line of
 //! the table, and the orders that the paper and its readings fix.
 
-use second::classic::{self, Extractor, Outcome};
+use second::classic::{self, Extractor, Next, Outcome, Parts};
 use second::control::{self, Envelope, Features, Given, Information, Payload, Response};
 use second::driver::worked::bytes;
 use second::low_energy::{self, accept, write_packet, Accepted, Open, Slots, Stream, Wish};
@@ -30,6 +30,7 @@ fn control_open(total: usize, held: usize) -> Slots {
         total,
         held,
         sequence: 4,
+        wanted: false,
     };
     [Some(open), None, None]
 }
@@ -108,6 +109,7 @@ fn unlawful_states_and_buffers_come_first() {
         total: 4_096,
         held: 4_095,
         sequence: 15,
+        wanted: true,
     };
     let unlawful = [
         Open { id: 16, ..lawful },
@@ -181,23 +183,115 @@ fn a_first_packet_replaces_and_notes_the_drop() {
     assert_eq!(after[0], control_open(10, 3)[0]);
 }
 
-#[test]
-fn the_flag_counts_on_the_last_packet_only() {
+/// What comes of these packets on the Alexa stream, one after the other; the last answer and slots.
+fn alexa(packets: &[&str]) -> (Slots, Result<Accepted, Refusal>) {
     let mut buffer = vec![0; low_energy::BUFFER];
-    let (slots, _) = accept(IDLE, &mut buffer, &bytes("62 02 00 00 02 01 AA"));
-    let (_, told) = accept(slots, &mut buffer, &bytes("62 18 01 BB"));
-    let finished = |ack_wanted| {
-        Ok(Accepted::Finished {
-            stream: Stream::Alexa,
-            id: 2,
-            total: 2,
-            ack_wanted,
-            replaced: false,
-        })
-    };
-    assert_eq!(told, finished(false));
-    let (_, told) = accept(slots, &mut buffer, &bytes("62 1A 01 BB"));
-    assert_eq!(told, finished(true));
+    let mut last = (IDLE, Err(Refusal::ShortPacket));
+    for packet in packets {
+        last = accept(last.0, &mut buffer, &bytes(packet));
+    }
+    last
+}
+
+/// "An ACK is wanted if at least one accepted packet of the transaction carried the flag."
+#[test]
+fn the_flag_on_any_accepted_packet_asks() {
+    let cases: &[(&[&str], bool)] = &[
+        // A single packet: its own flag.
+        (&["62 02 00 00 01 01 AA"], true),
+        (&["62 00 00 00 01 01 AA"], false),
+        (&["62 02 00 00 00 00"], true),
+        // The first's, one between, the last's; none.
+        (&["62 02 00 00 02 01 AA", "62 18 01 BB"], true),
+        (
+            &["62 00 00 00 03 01 AA", "62 16 01 BB", "62 28 01 CC"],
+            true,
+        ),
+        (&["62 00 00 00 02 01 AA", "62 1A 01 BB"], true),
+        (
+            &["62 00 00 00 03 01 AA", "62 14 01 BB", "62 28 01 CC"],
+            false,
+        ),
+        // "a replaced .. transaction forgets it", whatever its id.
+        (
+            &[
+                "62 02 00 00 02 01 AA",
+                "62 00 00 00 02 01 AA",
+                "62 18 01 BB",
+            ],
+            false,
+        ),
+        (
+            &[
+                "61 02 00 00 02 01 AA",
+                "62 00 00 00 02 01 AA",
+                "62 18 01 BB",
+            ],
+            false,
+        ),
+        // Dropped by 10, dropped by 11, finished.
+        (
+            &[
+                "62 02 00 00 02 01 AA",
+                "62 28 01 BB",
+                "62 00 00 00 01 01 AA",
+            ],
+            false,
+        ),
+        (
+            &[
+                "62 02 00 00 02 01 AA",
+                "62 14 01 BB",
+                "62 00 00 00 01 01 AA",
+            ],
+            false,
+        ),
+        (
+            &[
+                "62 02 00 00 01 01 AA",
+                "62 00 00 00 02 01 AA",
+                "62 18 01 BB",
+            ],
+            false,
+        ),
+        // Refused packets and acknowledgements count for nothing, of the same stream and id too: 9,
+        // 5, 7 with the flag, and an ACK, whose flag is set.
+        (
+            &["62 00 00 00 02 01 AA", "63 1A 01 BB", "62 18 01 BB"],
+            false,
+        ),
+        (
+            &["62 00 00 00 02 01 AA", "62 1A 02 BB", "62 18 01 BB"],
+            false,
+        ),
+        (&["62 00 00 00 02 01 AA", "62 1A 00", "62 18 01 BB"], false),
+        (
+            &["62 00 00 00 02 01 AA", "62 1E 00 02 01 00", "62 18 01 BB"],
+            false,
+        ),
+        // .. and take nothing away: an ACK and a NACK between.
+        (
+            &["62 02 00 00 02 01 AA", "62 1C 00 02 01 03", "62 18 01 BB"],
+            true,
+        ),
+        // Another stream's flag.
+        (
+            &[
+                "62 00 00 00 02 01 AA",
+                "02 02 00 00 02 01 AA",
+                "62 18 01 BB",
+            ],
+            false,
+        ),
+    ];
+    for (packets, wanted) in cases {
+        let (slots, told) = alexa(packets);
+        let Ok(Accepted::Finished { ack_wanted, .. }) = told else {
+            panic!("{packets:?}: {told:?}")
+        };
+        assert_eq!(ack_wanted, *wanted, "{packets:?}");
+        assert_eq!(slots[2], None, "{packets:?}");
+    }
 }
 
 fn wish() -> Wish {
@@ -366,6 +460,57 @@ fn frames_written() {
     assert_eq!(refusal(0, &[], 6), 14);
     assert_eq!(refusal(5, &[0xF0], 9), 14);
     assert!(output.iter().all(|&byte| byte == 0xEE));
+}
+
+#[test]
+fn frames_written_by_parts() {
+    assert_eq!(Parts::begin(0xF0, 1).unwrap_err().number(), 15);
+    assert_eq!(Parts::begin(5, 4_097).unwrap_err().number(), 15);
+    let begun = Parts::begin(5, 2).unwrap();
+    let marked = Parts {
+        sequence: 0xF2,
+        ..begun
+    };
+    let above = Parts {
+        total: 4_097,
+        ..begun
+    };
+    let passed = Parts { taken: 3, ..begun };
+    // 1 before 26 before 14; each leaves state and output.
+    let cases: &[(Parts, usize, usize, u64)] = &[
+        (marked, 3, 0, 1),
+        (above, 0, 1, 1),
+        (passed, 3, 0, 1),
+        (begun, 3, 0, 26),
+        (begun, 3, 9, 26),
+        (begun, 2, 0, 14),
+        (begun, 0, 0, 14),
+    ];
+    for &(state, offered, lent, number) in cases {
+        let mut output = vec![0xEE; lent];
+        let (after, told) = state.write(&vec![0x41; offered], &mut output);
+        assert_eq!(told.unwrap_err().number(), number);
+        assert_eq!(after, state);
+        assert!(output.iter().all(|&byte| byte == 0xEE));
+    }
+    // Any other state has a meaning: a second byte that is owed comes before the end is told.
+    let owed = Parts {
+        next: Next::Nothing,
+        split: Some(classic::END),
+        ..begun
+    };
+    let mut output = [0xEE; 3];
+    let (after, told) = owed.write(&[0x41], &mut output);
+    let told = told.unwrap();
+    assert_eq!((told.taken, told.written, told.ended), (0, 1, true));
+    assert_eq!(output, [0x03, 0xEE, 0xEE]);
+    assert_eq!(
+        after,
+        Parts {
+            split: None,
+            ..owed
+        }
+    );
 }
 
 #[test]

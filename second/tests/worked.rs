@@ -93,6 +93,7 @@ fn p7_after_sequence_15() {
         total: 10,
         held: 3,
         sequence: 15,
+        wanted: false,
     };
     let slots = [Some(open), None, None];
     let mut buffer = vec![0; low_energy::BUFFER];

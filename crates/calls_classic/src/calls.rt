@@ -32,7 +32,8 @@ ghost use Rattle.calls_classic.specs.Calls.{stepped, extractorStepOf, fe
 
 // One byte given to the extractor.
 pub fn extractor_step(state: &mut [u64], buffer: &mut [u8], byte: u8, answer: &mut [u64]) -> u64
-    ensures { λ r. ⌜ called r (now (state .exit)) (now (buffer .exit)) (now (answer .exit)) ≡ extractorStepOf 4096 (now (state .entry)) (now (buffer .entry)) byte (now (answer .entry)) ⌝ }
+    ensures { λ r. ⌜ called r (now (state .exit)) (now (buffer .exit)) (now (answer .exit))
+        ≡ extractorStepOf 4096 (now (state .entry)) (now (buffer .entry)) byte (now (answer .entry)) ⌝ }
 {
     if answer.len() != STEP_ANSWER {
         return UNFIT;
@@ -46,7 +47,9 @@ pub fn extractor_step(state: &mut [u64], buffer: &mut [u8], byte: u8, answer: &m
 // The same with rows that fit.
 fn step_fitting(state: &mut [u64], buffer: &mut [u8], byte: u8, answer: &mut [u64]) -> u64
     requires { ⌜ (isExtractor (now state) ≡ true) × (length (now answer) ≡ 3) ⌝ }
-    ensures { λ r. ⌜ called r (now (state .exit)) (now (buffer .exit)) (now (answer .exit)) ≡ stepped (now (state .entry)) (now (answer .entry)) (byteStepOf 4096 (extractorOf (now (state .entry))) (now (buffer .entry)) byte) ⌝ }
+    ensures { λ r. ⌜ called r (now (state .exit)) (now (buffer .exit)) (now (answer .exit))
+        ≡ stepped (now (state .entry)) (now (answer .entry))
+        (byteStepOf 4096 (extractorOf (now (state .entry))) (now (buffer .entry)) byte) ⌝ }
 {
     let done = extractor_of(state).step(buffer, byte);
     let outcome = done.outcome;
@@ -62,7 +65,8 @@ fn step_fitting(state: &mut [u64], buffer: &mut [u8], byte: u8, answer: &mut [u6
 
 // Many bytes given to the extractor. The answer row tells 0 used under 1, where it has its length.
 pub fn extractor_feed(state: &mut [u64], buffer: &mut [u8], bytes: &[u8], answer: &mut [u64]) -> u64
-    ensures { λ r. ⌜ called r (now (state .exit)) (now (buffer .exit)) (now (answer .exit)) ≡ extractorFeedOf 4096 (now (state .entry)) (now (buffer .entry)) (now (bytes .entry)) (now (answer .entry)) ⌝ }
+    ensures { λ r. ⌜ called r (now (state .exit)) (now (buffer .exit)) (now (answer .exit))
+        ≡ extractorFeedOf 4096 (now (state .entry)) (now (buffer .entry)) (now (bytes .entry)) (now (answer .entry)) ⌝ }
 {
     if answer.len() != FEED_ANSWER {
         return UNFIT;
@@ -78,7 +82,9 @@ pub fn extractor_feed(state: &mut [u64], buffer: &mut [u8], bytes: &[u8], answer
 // The same with rows that fit.
 fn feed_fitting(state: &mut [u64], buffer: &mut [u8], bytes: &[u8], answer: &mut [u64]) -> u64
     requires { ⌜ (isExtractor (now state) ≡ true) × (length (now answer) ≡ 4) ⌝ }
-    ensures { λ r. ⌜ called r (now (state .exit)) (now (buffer .exit)) (now (answer .exit)) ≡ fedCall (now (state .entry)) (feedOf 4096 (extractorOf (now (state .entry))) (now (buffer .entry)) (now (bytes .entry))) ⌝ }
+    ensures { λ r. ⌜ called r (now (state .exit)) (now (buffer .exit)) (now (answer .exit))
+        ≡ fedCall (now (state .entry))
+        (feedOf 4096 (extractorOf (now (state .entry))) (now (buffer .entry)) (now (bytes .entry))) ⌝ }
 {
     let done = feed(extractor_of(state), buffer, bytes);
     let outcome = done.outcome;
@@ -95,7 +101,8 @@ fn feed_fitting(state: &mut [u64], buffer: &mut [u8], bytes: &[u8], answer: &mut
 
 // Writes the frame of a payload.
 pub fn frame_write(sequence: u64, payload: &[u8], output: &mut [u8], answer: &mut [u64]) -> u64
-    ensures { λ r. ⌜ called r [] (now (output .exit)) (now (answer .exit)) ≡ frameWriteOf 4096 sequence (now (payload .entry)) (now (output .entry)) (now (answer .entry)) ⌝ }
+    ensures { λ r. ⌜ called r [] (now (output .exit)) (now (answer .exit))
+        ≡ frameWriteOf 4096 sequence (now (payload .entry)) (now (output .entry)) (now (answer .entry)) ⌝ }
 {
     if answer.len() != COUNT_ANSWER {
         return UNFIT;

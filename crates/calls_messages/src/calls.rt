@@ -43,7 +43,8 @@ ghost use Rattle.calls_messages.specs.Calls.{envelopeReadOf, envelopeWri
 
 // Reads a control envelope.
 pub fn envelope_read(message: &[u8], answer: &mut [u64]) -> u64
-    ensures { λ r. ⌜ called r [] [] (now (answer .exit)) ≡ envelopeReadOf (now (message .entry)) (now (answer .entry)) ⌝ }
+    ensures { λ r. ⌜ called r [] [] (now (answer .exit))
+        ≡ envelopeReadOf (now (message .entry)) (now (answer .entry)) ⌝ }
 {
     if answer.len() != ENVELOPE_ANSWER {
         return UNFIT;
@@ -65,7 +66,9 @@ pub fn envelope_write(
     output: &mut [u8],
     answer: &mut [u64],
 ) -> u64
-    ensures { λ r. ⌜ called r [] (now (output .exit)) (now (answer .exit)) ≡ envelopeWriteOf command (payloadFor command payload «error_code» field) (now (bytes .entry)) (now (output .entry)) (now (answer .entry)) ⌝ }
+    ensures { λ r. ⌜ called r [] (now (output .exit)) (now (answer .exit))
+        ≡ envelopeWriteOf command (payloadFor command payload «error_code» field) (now (bytes .entry))
+        (now (output .entry)) (now (answer .entry)) ⌝ }
 {
     if answer.len() != COUNT_ANSWER {
         return UNFIT;
@@ -77,7 +80,8 @@ pub fn envelope_write(
 
 // Reads a response.
 pub fn response_read(message: &[u8], answer: &mut [u64]) -> u64
-    ensures { λ r. ⌜ called r [] [] (now (answer .exit)) ≡ responseReadOf (now (message .entry)) (now (answer .entry)) ⌝ }
+    ensures { λ r. ⌜ called r [] [] (now (answer .exit))
+        ≡ responseReadOf (now (message .entry)) (now (answer .entry)) ⌝ }
 {
     if answer.len() != RESPONSE_ANSWER {
         return UNFIT;
@@ -97,7 +101,8 @@ pub fn response_write(
     output: &mut [u8],
     answer: &mut [u64],
 ) -> u64
-    ensures { λ r. ⌜ called r [] (now (output .exit)) (now (answer .exit)) ≡ responseWriteOf «error_code» field (now (bytes .entry)) (now (output .entry)) (now (answer .entry)) ⌝ }
+    ensures { λ r. ⌜ called r [] (now (output .exit)) (now (answer .exit))
+        ≡ responseWriteOf «error_code» field (now (bytes .entry)) (now (output .entry)) (now (answer .entry)) ⌝ }
 {
     if answer.len() != COUNT_ANSWER {
         return UNFIT;
@@ -109,7 +114,8 @@ pub fn response_write(
 
 // Reads device features.
 pub fn features_read(message: &[u8], answer: &mut [u64]) -> u64
-    ensures { λ r. ⌜ called r [] [] (now (answer .exit)) ≡ featuresReadOf (now (message .entry)) (now (answer .entry)) ⌝ }
+    ensures { λ r. ⌜ called r [] [] (now (answer .exit))
+        ≡ featuresReadOf (now (message .entry)) (now (answer .entry)) ⌝ }
 {
     if answer.len() != FEATURES_ANSWER {
         return UNFIT;
@@ -128,7 +134,8 @@ pub fn features_write(
     output: &mut [u8],
     answer: &mut [u64],
 ) -> u64
-    ensures { λ r. ⌜ called r [] (now (output .exit)) (now (answer .exit)) ≡ featuresWriteOf features «device_attributes» (now (output .entry)) (now (answer .entry)) ⌝ }
+    ensures { λ r. ⌜ called r [] (now (output .exit)) (now (answer .exit))
+        ≡ featuresWriteOf features «device_attributes» (now (output .entry)) (now (answer .entry)) ⌝ }
 {
     if answer.len() != COUNT_ANSWER {
         return UNFIT;
@@ -143,7 +150,8 @@ pub fn features_write(
 
 // Reads device information.
 pub fn information_read(message: &[u8], answer: &mut [u64]) -> u64
-    ensures { λ r. ⌜ called r [] [] (now (answer .exit)) ≡ informationReadOf (now (message .entry)) (now (answer .entry)) ⌝ }
+    ensures { λ r. ⌜ called r [] [] (now (answer .exit))
+        ≡ informationReadOf (now (message .entry)) (now (answer .entry)) ⌝ }
 {
     if answer.len() != INFORMATION_ANSWER {
         return UNFIT;
@@ -168,7 +176,9 @@ pub fn information_write(
     output: &mut [u8],
     answer: &mut [u64],
 ) -> u64
-    ensures { λ r. ⌜ called r [] (now (output .exit)) (now (answer .exit)) ≡ informationWriteOf (now («serial_number» .entry)) (now (name .entry)) (now («device_type» .entry)) (now (transports .entry)) (now (output .entry)) (now (answer .entry)) ⌝ }
+    ensures { λ r. ⌜ called r [] (now (output .exit)) (now (answer .exit))
+        ≡ informationWriteOf (now («serial_number» .entry)) (now (name .entry)) (now («device_type» .entry))
+        (now (transports .entry)) (now (output .entry)) (now (answer .entry)) ⌝ }
 {
     if answer.len() != COUNT_ANSWER {
         return UNFIT;

@@ -22,7 +22,8 @@ ghost use Rattle.calls_outbox.specs.Calls.{outboxNewOf, outboxAppendOf, 
 
 // Begins a new outbox.
 pub fn outbox_new(output: &mut [u8], answer: &mut [u64]) -> u64
-    ensures { λ r. ⌜ called r [] (now (output .exit)) (now (answer .exit)) ≡ outboxNewOf (now (output .entry)) (now (answer .entry)) ⌝ }
+    ensures { λ r. ⌜ called r [] (now (output .exit)) (now (answer .exit))
+        ≡ outboxNewOf (now (output .entry)) (now (answer .entry)) ⌝ }
 {
     if answer.len() != COUNT_ANSWER {
         return UNFIT;
@@ -39,7 +40,8 @@ pub fn outbox_append(
     payload: &[u8],
     answer: &mut [u64],
 ) -> u64
-    ensures { λ r. ⌜ called r [] (now (buffer .exit)) (now (answer .exit)) ≡ outboxAppendOf (now (buffer .entry)) used stream (now (payload .entry)) (now (answer .entry)) ⌝ }
+    ensures { λ r. ⌜ called r [] (now (buffer .exit)) (now (answer .exit))
+        ≡ outboxAppendOf (now (buffer .entry)) used stream (now (payload .entry)) (now (answer .entry)) ⌝ }
 {
     if answer.len() != APPEND_ANSWER {
         return UNFIT;
@@ -54,7 +56,8 @@ pub fn outbox_append(
 
 // Reads the record at a place.
 pub fn outbox_record(bytes: &[u8], place: u64, answer: &mut [u64]) -> u64
-    ensures { λ r. ⌜ called r [] [] (now (answer .exit)) ≡ outboxRecordOf (now (bytes .entry)) place (now (answer .entry)) ⌝ }
+    ensures { λ r. ⌜ called r [] [] (now (answer .exit))
+        ≡ outboxRecordOf (now (bytes .entry)) place (now (answer .entry)) ⌝ }
 {
     if answer.len() != RECORD_ANSWER {
         return UNFIT;
@@ -65,7 +68,8 @@ pub fn outbox_record(bytes: &[u8], place: u64, answer: &mut [u64]) -> u64
 
 // Whether an outbox is whole.
 pub fn outbox_whole(bytes: &[u8], answer: &mut [u64]) -> u64
-    ensures { λ r. ⌜ called r [] [] (now (answer .exit)) ≡ outboxWholeOf (now (bytes .entry)) (now (answer .entry)) ⌝ }
+    ensures { λ r. ⌜ called r [] [] (now (answer .exit))
+        ≡ outboxWholeOf (now (bytes .entry)) (now (answer .entry)) ⌝ }
 {
     if answer.len() != WHOLE_ANSWER {
         return UNFIT;

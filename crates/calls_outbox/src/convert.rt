@@ -63,7 +63,9 @@ pub fn append_row(appended: Appended) -> [u64; 2]
 // Tells what was read in an answer row, and returns its number. Each arm writes its own row: to choose one first costs more.
 pub fn tell_record(answer: &mut [u64], reading: Reading) -> u64
     requires { ⌜ length (now answer) ≡ 6 ⌝ }
-    ensures { λ r. ⌜ (r ≡ numberIn (readings.told reading)) × (now (answer .exit) ≡ afterwards (numberIn (readings.told reading)) (now (answer .entry)) (recordRow (readings.told reading))) ⌝ }
+    ensures { λ r. ⌜ (r ≡ numberIn (readings.told reading))
+        × (now (answer .exit)
+        ≡ afterwards (numberIn (readings.told reading)) (now (answer .entry)) (recordRow (readings.told reading))) ⌝ }
 {
     match reading {
         Reading::Record {

@@ -8,7 +8,7 @@ use Rattle.slot.specs.declared.Slot.{Slot}
 use Rattle.calls_receiving.specs.Convert.{slotRow}
 use Rattle.rows.proofs.Wholes.{sets-three}
 
-pub slots-written : (row : List ℕ) (control ota alexa : Slot) → length row ≡ 15
-    → sets (sets (sets row 0 (slotRow control)) 5 (slotRow ota)) 10 (slotRow alexa) ≡ slotRow control ++ (slotRow ota ++ slotRow alexa)
+pub slots-written : (row : List ℕ) (control ota alexa : Slot) → length row ≡ 18
+    → sets (sets (sets row 0 (slotRow control)) 6 (slotRow ota)) 12 (slotRow alexa) ≡ slotRow control ++ (slotRow ota ++ slotRow alexa)
 unfolding slotRow
-slots-written row control ota alexa e = sets-three row (slotRow control) (slotRow ota) (slotRow alexa) 5 10 refl refl e
+slots-written row control ota alexa e = sets-three row (slotRow control) (slotRow ota) (slotRow alexa) 6 12 refl refl e

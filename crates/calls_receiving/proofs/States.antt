@@ -12,7 +12,7 @@ use Rattle.calls_receiving.specs.Convert.{isSlot, isReceiver}
 module _ (row : List ℕ) (at : ℕ) (e : isSlot row at ≡ true) where
   bytes : (ltb (getD row (at + 1) 0) 256 && ltb (getD row (at + 4) 0) 256) ≡ true
   unfolding isSlot
-  bytes = and-right (ltb (getD row at 0) 2) _ e
+  bytes = and-right (ltb (getD row at 0) 2 && ltb (getD row (at + 5) 0) 2) _ e
 
   pub slot-id : getD row (at + 1) 0 < 256
   slot-id = ltb-true (getD row (at + 1) 0) 256 (and-left _ _ bytes)
@@ -21,19 +21,19 @@ module _ (row : List ℕ) (at : ℕ) (e : isSlot row at ≡ true) where
   slot-sequence = ltb-true (getD row (at + 4) 0) 256 (and-right (ltb (getD row (at + 1) 0) 256) _ bytes)
 
 module _ (row : List ℕ) (e : isReceiver row ≡ true) where
-  pub slots-long : length row ≡ 15
+  pub slots-long : length row ≡ 18
   unfolding isReceiver
-  slots-long = eqb-true (length row) 15 (and-left _ _ e)
+  slots-long = eqb-true (length row) 18 (and-left _ _ e)
 
-  slots : (isSlot row 0 && (isSlot row 5 && isSlot row 10)) ≡ true
+  slots : (isSlot row 0 && (isSlot row 6 && isSlot row 12)) ≡ true
   unfolding isReceiver
-  slots = and-right (eqb (length row) 15) _ e
+  slots = and-right (eqb (length row) 18) _ e
 
   pub control-fits : isSlot row 0 ≡ true
   control-fits = and-left _ _ slots
 
-  pub ota-fits : isSlot row 5 ≡ true
+  pub ota-fits : isSlot row 6 ≡ true
   ota-fits = and-left _ _ (and-right (isSlot row 0) _ slots)
 
-  pub alexa-fits : isSlot row 10 ≡ true
-  alexa-fits = and-right (isSlot row 5) _ (and-right (isSlot row 0) _ slots)
+  pub alexa-fits : isSlot row 12 ≡ true
+  alexa-fits = and-right (isSlot row 6) _ (and-right (isSlot row 0) _ slots)

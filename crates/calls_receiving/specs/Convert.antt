@@ -13,18 +13,18 @@ use Rattle.slot.specs.declared.answer.Accepted.{Accepted}
 use Rattle.slot.specs.declared.answer.Accepted.the-variants.{Taken, Finished, Acked, Nacked}
 use Rattle.slot.specs.Slot.{idle}
 
--- ---- the state row: five numbers for each slot, control, OTA, Alexa
+-- ---- the state row: six numbers for each slot, control, OTA, Alexa
 
--- open, id, total, held, sequence
+-- open, id, total, held, sequence, wanted
 unfoldable pub slotRow : Slot → List ℕ
-slotRow s = bit (s .opened) ∷ s .id ∷ s .total ∷ s .held ∷ s .sequence ∷ []
+slotRow s = bit (s .opened) ∷ s .id ∷ s .total ∷ s .held ∷ s .sequence ∷ bit (s .wanted) ∷ []
 
 abbrev pub slotsRow : List Slot → List ℕ
 slotsRow slots = slotRow (getD slots 0 idle) ++ (slotRow (getD slots 1 idle) ++ slotRow (getD slots 2 idle))
 
--- numbers from a place on that a slot can have: open or not, and an id and a sequence of one byte each
+-- numbers from a place on that a slot can have: open or not, wanted or not, and an id and a sequence of one byte each
 unfoldable pub isSlot : List ℕ → ℕ → Bool
-isSlot row at = ltb (getD row at 0) 2 && (ltb (getD row (at + 1) 0) 256 && ltb (getD row (at + 4) 0) 256)
+isSlot row at = (ltb (getD row at 0) 2 && ltb (getD row (at + 5) 0) 2) && (ltb (getD row (at + 1) 0) 256 && ltb (getD row (at + 4) 0) 256)
 
 abbrev pub slotOf : List ℕ → ℕ → Slot
 slotOf row at =
@@ -34,14 +34,15 @@ slotOf row at =
       total = getD row (at + 2) 0;
       held = getD row (at + 3) 0;
       sequence = getD row (at + 4) 0;
+      wanted = eqb (getD row (at + 5) 0) 1;
     }
 
 -- numbers that a state can have
 unfoldable pub isReceiver : List ℕ → Bool
-isReceiver row = eqb (length row) 15 && (isSlot row 0 && (isSlot row 5 && isSlot row 10))
+isReceiver row = eqb (length row) 18 && (isSlot row 0 && (isSlot row 6 && isSlot row 12))
 
 abbrev pub slotsOf : List ℕ → List Slot
-slotsOf row = slotOf row 0 ∷ slotOf row 5 ∷ slotOf row 10 ∷ []
+slotsOf row = slotOf row 0 ∷ slotOf row 6 ∷ slotOf row 12 ∷ []
 
 -- ---- the answer row: outcome, stream, id, sequence, total, ACK wanted, replaced; 0 where a case has no such value
 

@@ -22,7 +22,8 @@ pub fn receiver_accept(
     packet: &[u8],
     answer: &mut [u64],
 ) -> u64
-    ensures { λ r. ⌜ called r (now (state .exit)) (now (buffer .exit)) (now (answer .exit)) ≡ receiverAcceptOf 4096 (now (state .entry)) (now (buffer .entry)) (now (packet .entry)) (now (answer .entry)) ⌝ }
+    ensures { λ r. ⌜ called r (now (state .exit)) (now (buffer .exit)) (now (answer .exit))
+        ≡ receiverAcceptOf 4096 (now (state .entry)) (now (buffer .entry)) (now (packet .entry)) (now (answer .entry)) ⌝ }
 {
     if answer.len() != ANSWER {
         return UNFIT;
@@ -36,7 +37,9 @@ pub fn receiver_accept(
 // The same with rows that fit.
 fn accept_fitting(state: &mut [u64], buffer: &mut [u8], packet: &[u8], answer: &mut [u64]) -> u64
     requires { ⌜ (isReceiver (now state) ≡ true) × (length (now answer) ≡ 7) ⌝ }
-    ensures { λ r. ⌜ called r (now (state .exit)) (now (buffer .exit)) (now (answer .exit)) ≡ accepted (now (state .entry)) (now (answer .entry)) (acceptOf 4096 (slotsOf (now (state .entry))) (now (buffer .entry)) (now (packet .entry))) ⌝ }
+    ensures { λ r. ⌜ called r (now (state .exit)) (now (buffer .exit)) (now (answer .exit))
+        ≡ accepted (now (state .entry)) (now (answer .entry))
+        (acceptOf 4096 (slotsOf (now (state .entry))) (now (buffer .entry)) (now (packet .entry))) ⌝ }
 {
     let done = receiver_of(state).accept(buffer, packet);
     let told = done.answer;

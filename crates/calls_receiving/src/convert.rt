@@ -24,11 +24,11 @@ ghost use Rattle.rows.specs.Row.{afterwards, numberTold};
 ghost use Rattle.calls_receiving.specs.Convert.{isSlot, slotOf, isReceiver, slotsOf, slotRow, slotsRow, headRow, acceptedRow, answerRow};
 
 // The numbers of the state row, and where those of the later slots begin.
-const STATE: usize = 15;
+const STATE: usize = 18;
 
-const OTA: usize = 5;
+const OTA: usize = 6;
 
-const ALEXA: usize = 10;
+const ALEXA: usize = 12;
 
 // The numbers of the answer row.
 pub const ANSWER: usize = 7;
@@ -49,18 +49,19 @@ const NACKED: u64 = 3;
 
 // Whether the numbers from a place on are ones that a slot can have.
 fn is_slot(row: &[u64], at: usize) -> bool
-    requires { ⌜ at ≤ 10 ⌝ }
+    requires { ⌜ at ≤ 12 ⌝ }
     ensures { λ r. ⌜ r ≡ isSlot (now (row .entry)) at ⌝ }
 {
+    let flags = both(number_at(row, at) < FLAGS, number_at(row, at + 5) < FLAGS);
     let bytes = both(
         number_at(row, at + 1) < BYTES,
         number_at(row, at + 4) < BYTES,
     );
-    both(number_at(row, at) < FLAGS, bytes)
+    both(flags, bytes)
 }
 
 fn slot_of(row: &[u64], at: usize) -> Slot
-    requires { ⌜ (at + 5 ≤ length (now row)) × (isSlot (now row) at ≡ true) ⌝ }
+    requires { ⌜ (at + 6 ≤ length (now row)) × (isSlot (now row) at ≡ true) ⌝ }
     ensures { λ r. ⌜ r ≡ slotOf (now (row .entry)) at ⌝ }
 {
     Slot {
@@ -69,6 +70,7 @@ fn slot_of(row: &[u64], at: usize) -> Slot
         total: row[at + 2] as usize,
         held: row[at + 3] as usize,
         sequence: row[at + 4] as u8,
+        wanted: row[at + 5] == SET,
     }
 }
 
@@ -92,7 +94,7 @@ pub fn receiver_of(row: &[u64]) -> Receiver
     }
 }
 
-fn slot_row(slot: Slot) -> [u64; 5]
+fn slot_row(slot: Slot) -> [u64; 6]
     ensures { λ r. ⌜ r ≡ slotRow slot ⌝ }
 {
     [
@@ -101,12 +103,13 @@ fn slot_row(slot: Slot) -> [u64; 5]
         slot.total as u64,
         slot.held as u64,
         wide64(slot.sequence),
+        wide64(bit(slot.wanted)),
     ]
 }
 
 // Writes a slot's numbers from a place of the state row on.
 fn put_slot(row: &mut [u64], at: usize, slot: Slot)
-    requires { ⌜ at + 5 ≤ length (now row) ⌝ }
+    requires { ⌜ at + 6 ≤ length (now row) ⌝ }
     ensures { λ _. ⌜ now (row .exit) ≡ sets (now (row .entry)) at (slotRow slot) ⌝ }
 {
     let numbers = slot_row(slot);
@@ -115,7 +118,7 @@ fn put_slot(row: &mut [u64], at: usize, slot: Slot)
 
 // Writes the state row, unless the call is refused by 1.
 pub fn put_slots(row: &mut [u64], number: u64, slots: [Slot; 3])
-    requires { ⌜ length (now row) ≡ 15 ⌝ }
+    requires { ⌜ length (now row) ≡ 18 ⌝ }
     ensures { λ _. ⌜ now (row .exit) ≡ afterwards number (now (row .entry)) (slotsRow slots) ⌝ }
 {
     if number != UNFIT {

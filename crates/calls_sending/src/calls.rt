@@ -31,7 +31,9 @@ pub fn packet_write(
     output: &mut [u8],
     answer: &mut [u64],
 ) -> u64
-    ensures { λ r. ⌜ called r [] (now (output .exit)) (now (answer .exit)) ≡ packetWriteOf 4096 (sendingOf room stream id sequence ack) (now (message .entry)) place (now (output .entry)) (now (answer .entry)) ⌝ }
+    ensures { λ r. ⌜ called r [] (now (output .exit)) (now (answer .exit))
+        ≡ packetWriteOf 4096 (sendingOf room stream id sequence ack) (now (message .entry)) place (now (output .entry))
+        (now (answer .entry)) ⌝ }
 {
     if answer.len() != PACKET_ANSWER {
         return UNFIT;
@@ -53,7 +55,8 @@ pub fn ack_write(
     output: &mut [u8],
     answer: &mut [u64],
 ) -> u64
-    ensures { λ r. ⌜ called r [] (now (output .exit)) (now (answer .exit)) ≡ ackWriteOf stream id sequence positive (now (output .entry)) (now (answer .entry)) ⌝ }
+    ensures { λ r. ⌜ called r [] (now (output .exit)) (now (answer .exit))
+        ≡ ackWriteOf stream id sequence positive (now (output .entry)) (now (answer .entry)) ⌝ }
 {
     if answer.len() != COUNT_ANSWER {
         return UNFIT;

@@ -3,4 +3,7 @@ mod Extracting
 mod Accepting
 mod OneLeavesAll
 mod Sizes
+mod Applies
 mod SizesSuffice
+mod RowsAgree
+mod Instances

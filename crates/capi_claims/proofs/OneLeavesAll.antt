@@ -8,7 +8,7 @@ use lib.IntN.{ℤ}
 use lib.ListN.{length, take, replicate}
 use lib.Seq.{sets}
 use lib.Dec.{eqb, ltb}
-use Rattle.wire.specs.Told.{refused, line, table, written}
+use Rattle.wire.specs.Told.{given, refused, line, table, WrittenOf, written}
 use Rattle.wire.proofs.Tables.{by-table}
 use Rattle.field.specs.Signed.{signedOf, extended}
 use Rattle.field_writer.specs.Writer.{Field, messageBytes}
@@ -19,6 +19,9 @@ use Rattle.extractor.specs.Step.{advanceOf, step}
 use Rattle.extractor.specs.Outcome as extractor
 use Rattle.feed.specs.Feed.{feedFrom, fed}
 use Rattle.frame_writer.specs.Writer.{writeOf}
+use Rattle.parts.specs.State.{startOf, badStart, lawful, missing}
+use Rattle.parts.specs.Fill.{fillOf}
+use Rattle.parts.specs.Writer.{wrote, filled, partOf}
 use Rattle.packet.specs.Header.{inRange}
 use Rattle.packet.specs.Control.{ackSize, ackBytes}
 use Rattle.acknowledgement.specs.Acknowledgement.{ackOf}
@@ -35,6 +38,12 @@ use Rattle.control.specs.Envelope.{badPayload, envelopeFields, envelopeWritten}
 use Rattle.control.specs.Response.{badResponsePayload, responseFields, responseWritten}
 use Rattle.device.specs.Information.{informationFields, informationWritten}
 use Rattle.device.specs.Features.{featuresFields, featuresWritten}
+use Rattle.field.specs.Unsigned.{unsignedOf}
+use Rattle.firmware.specs.declared.apply.ApplyFirmware.{ApplyFirmware}
+use Rattle.firmware.specs.Segment.{brokenField, numberMore}
+use Rattle.firmware_writer.specs.Segment.{segmentFields, segmentWritten}
+use Rattle.firmware_writer.specs.Information.{badFirmware}
+use Rattle.firmware_writer.specs.Apply.{applyFields, applyWritten}
 use Rattle.outbox.specs.Format.{versionTwo, formatOf, newBytes, recordBytes}
 use Rattle.outbox.specs.Reader.{Answer, otherVersion, walkOf, numberIn}
 use Rattle.outbox.specs.Reader as outbox
@@ -44,12 +53,18 @@ use Rattle.calls_classic.specs.Convert.{isExtractor, extractorOf}
 use Rattle.calls_sending.specs.Convert.{streamWith, packetRow}
 use Rattle.calls_receiving.specs.Convert.{isReceiver, slotsOf}
 use Rattle.rows_messages.specs.Convert.{allSigned, responsePayloadOf}
+use Rattle.rows_firmware.specs.More.{isWide}
+use Rattle.rows_firmware.specs.Segment.{wroteRow}
+use Rattle.rows_firmware.specs.Apply.{rowSize, badRow, applyAt}
 use Rattle.calls_outbox.specs.Convert.{usedIn, usedRow}
 use Rattle.rows.specs.Called.{ifFit}
 use Rattle.calls_classic.specs.Calls.{stepped, fedCall, noneUsed, extractorStepOf, extractorFeedOf, frameWriteOf, nextSequenceOf}
+use Rattle.calls_parts.specs.Convert.{isState, stateOf}
+use Rattle.calls_parts.specs.Calls.{begun, parted, frameBeginOf, framePartOf}
 use Rattle.calls_sending.specs.Calls.{packetWriteOf, ackWriteOf}
 use Rattle.calls_receiving.specs.Calls.{accepted, receiverAcceptOf}
 use Rattle.calls_messages.specs.Calls.{envelopeReadOf, envelopeWriteOf, responseReadOf, responseWriteOf, informationReadOf, informationWriteOf, featuresReadOf, featuresWriteOf}
+use Rattle.calls_firmware.specs.Calls.{segmentReadOf, segmentStored, segmentWriteOf, applyReadOf, applyStored, applyWriteOf, fieldReadOf}
 use Rattle.calls_outbox.specs.Calls.{outboxNewOf, outboxAppendOf, outboxRecordOf, outboxWholeOf}
 use Rattle.capi_claims.specs.OneLeavesAll.{Keeps, OneLeavesAll}
 use Rattle.capi_claims.proofs.Rows.{keeps-if, keeps-rows, keeps-answers, writes-keeps, keeps-writer}
@@ -98,6 +113,29 @@ frame-keeps limit sequence payload out answer =
     let s = byteOr startMark sequence in
     keeps-writer out answer (writeOf limit s payload out)
     (writes-keeps (line 15 (isMark s || ltb limit (length payload)) ∷ line 14 (ltb (length out) (length (frameOf s payload))) ∷ []) (length (frameOf s payload)) out (sets out 0 (frameOf s payload)))
+
+begin-keeps : (limit sequence total : ℕ) (state : List ℕ) → Keeps state [] [] (frameBeginOf limit sequence total state)
+unfolding frameBeginOf
+begin-keeps limit sequence total state =
+    keeps-if (eqb (length state) 6) state [] [] _ (go (badStart limit (byteOr startMark sequence) total))
+  where
+    go : (t : Bool) → Keeps state [] [] (begun state (cond t (refused 15) (given (startOf (byteOr startMark sequence) total))))
+    go true = λ e. absurd (omega (arith, e))
+    go false = λ e. absurd (omega (arith, e))
+
+part-keeps : (limit : ℕ) (payload state out answer : List ℕ) → Keeps state out answer (framePartOf limit state payload out answer)
+unfolding framePartOf
+part-keeps limit payload state out answer =
+    let s = stateOf state in
+    keeps-if (eqb (length answer) 3 && isState state) state out answer _
+    (go (not (lawful limit s)) (ltb (missing s) (length payload)) (eqb (length out) 0))
+  where
+    go : (a b c : Bool) → (let s = stateOf state in
+        Keeps state out answer (parted state answer (cond a (wrote (refused 1) s out) (cond b (wrote (refused 26) s out) (cond c (wrote (refused 14) s out) (filled out (fillOf (length out) s payload)))))))
+    go true b c = λ e. refl
+    go false true c = λ e. absurd (omega (arith, e))
+    go false false true = λ e. absurd (omega (arith, e))
+    go false false false = λ e. absurd (omega (arith, e))
 
 packet-keeps : (limit : ℕ) (how : Sending) (place : ℕ) (message out answer : List ℕ) → Keeps [] out answer (packetWriteOf limit how message place out answer)
 unfolding packetWriteOf writtenOf
@@ -156,12 +194,46 @@ information-keeps serialNumber name deviceType transports out answer =
     (cond (allSigned transports) (informationWritten serialNumber name (map signedOf transports) deviceType out) (written (refused 15) out))
     (transports-keep (allSigned transports) serialNumber name (map signedOf transports) deviceType out)
 
+never : {A : Type 0} → _≡_ {A = ℕ} 0 1 → A
+never e = absurd (omega arith)
+
+-- writers of firmware messages
+segment-kept : (wide fine short : Bool) (field size : ℕ) (out after : List ℕ)
+    → let w : WrittenOf (ℕ × List ℕ) ℕ =
+    cond wide (written (refused (15, [])) out)
+    (cond fine (cond short (written (refused (14, [])) out) (written (given size) after)) (written (refused (50, field ∷ [])) out)) in
+    numberMore (w .told) ≡ 1 → w .out ≡ out
+segment-kept true fine short field size out after = λ e. refl
+segment-kept false false short field size out after = λ e. refl
+segment-kept false true true field size out after = λ e. refl
+segment-kept false true false field size out after = never
+
+segment-keeps : (offset size : ℕ) (name signature out answer : List ℕ)
+    → Keeps [] out answer (segmentWriteOf name offset size signature out answer)
+unfolding segmentWriteOf segmentStored segmentWritten
+segment-keeps offset size name signature out answer =
+    let w = segmentStored name offset size signature out in
+    let bytes = messageBytes (segmentFields name (unsignedOf offset) (unsignedOf size) signature) in
+    let broken = brokenField (unsignedOf offset) signature in
+    keeps-answers 2 (numberMore (w .told)) out answer (w .out) (wroteRow (w .told))
+    (segment-kept (isWide offset || isWide size) (eqb broken 0) (ltb (length out) (length bytes)) broken (length bytes) out (sets out 0 bytes))
+
+apply-kept : (bad : Bool) (a : ApplyFirmware) (texts out : List ℕ)
+    → let w = cond bad (written (refused 15) out) (applyWritten a texts out) in
+    numberTold (w .told) ≡ 1 → w .out ≡ out
+unfolding applyWritten
+apply-kept true a texts out = λ e. refl
+apply-kept false a texts out = message-keeps (badFirmware texts (a .«firmware_information»)) (applyFields texts a) out
+
+apply-keeps : (row texts out answer : List ℕ) → Keeps [] out answer (applyWriteOf row texts out answer)
+unfolding applyWriteOf applyStored
+apply-keeps row texts out answer =
+    keeps-if (eqb (length row) rowSize) [] out answer _
+    (keeps-writer out answer (applyStored row texts out) (apply-kept (badRow row) (applyAt row) texts out))
+
 -- the outbox: a refusal leaves the buffer
 StoredKeeps : List ℕ → Stored → Type 0
 StoredKeeps buffer s = numberIn (s .told) ≡ 1 → s .buffer ≡ buffer
-
-never : {A : Type 0} → _≡_ {A = ℕ} 0 1 → A
-never e = absurd (omega arith)
 
 whole-keeps : (a : Answer (Unit {0})) (buffer bytes : List ℕ) (n : ℕ) → StoredKeeps buffer (ifWhole a buffer (stored (outbox.given n) bytes))
 unfolding StoredKeeps
@@ -196,11 +268,13 @@ append-keeps used stream payload buffer answer =
     (λ h. whole-keeps (walkOf fmt (take used buffer)) buffer (after .buffer) (used + length (recordBytes fmt known payload))))))
 
 pub one-leaves-all : OneLeavesAll
-unfolding nextSequenceOf envelopeReadOf responseReadOf informationReadOf featuresReadOf outboxRecordOf outboxWholeOf
+unfolding nextSequenceOf envelopeReadOf responseReadOf informationReadOf featuresReadOf segmentReadOf applyReadOf fieldReadOf outboxRecordOf outboxWholeOf
 one-leaves-all = record {
   extractor-step = step-keeps;
   extractor-feed = feed-keeps;
   frame-write = frame-keeps;
+  frame-begin = begin-keeps;
+  frame-part = part-keeps;
   next-sequence = λ sequence answer. keeps-if (eqb (length answer) 1) [] [] answer _ never;
   packet-write = packet-keeps;
   ack-write = ack-keeps;
@@ -213,6 +287,11 @@ one-leaves-all = record {
   information-write = information-keeps;
   features-read = λ message answer. keeps-answers 2 _ [] answer _ _ (λ e. refl);
   features-write = features-keeps;
+  segment-read = λ message answer. keeps-answers 7 _ [] answer _ _ (λ e. refl);
+  segment-write = segment-keeps;
+  apply-read = λ message answer. keeps-answers rowSize _ [] answer _ _ (λ e. refl);
+  apply-write = apply-keeps;
+  field-read = λ place message answer. keeps-answers 7 _ [] answer _ _ (λ e. refl);
   outbox-new = new-keeps;
   outbox-append = append-keeps;
   outbox-record = λ place file answer. keeps-answers 6 _ [] answer _ _ (λ e. refl);

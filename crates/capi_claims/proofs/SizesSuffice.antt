@@ -6,7 +6,7 @@ use mathlib.Core.Bool.{Bool, true, false, not, _||_}
 use mathlib.Core.List.{List, [], _∷_, map}
 use native.Mathlib.Omega.{arith}
 use lib.IntN.{ℤ}
-use lib.ListN.{length, take, length-append, length-map}
+use lib.ListN.{length, take, getD, length-append, length-map}
 use lib.Seq.{sets}
 use lib.Dec.{eqb, ltb}
 use borrow.Author.Tests.{eq-eqb, ne-eqb, lt-ltb, le-ltb, le-leb}
@@ -15,7 +15,7 @@ use Rattle.wire.proofs.Streams.{known-stream}
 use Rattle.field.specs.Signed.{signedOf, extended}
 use Rattle.field.specs.Tag.{varintType, lengthType, lastField}
 use Rattle.field_writer.specs.Writer.{Field, messageBytes}
-use Rattle.framing.specs.Mark.{startMark, isMark}
+use Rattle.framing.specs.Mark.{startMark, endMark, escapeMark, kindOf, isMark}
 use Rattle.framing.specs.Frame.{frameOf, checksumOf}
 use Rattle.frame_writer.specs.Writer.{writeOf}
 use Rattle.frame_writer.proofs.Escaping.{frame-most}
@@ -31,13 +31,21 @@ use Rattle.control.specs.declared.response.ResponsePayload.{ResponsePayload}
 use Rattle.control.specs.declared.response.ResponsePayload.the-variants as within
 use Rattle.device.specs.declared.features.DeviceFeatures.{DeviceFeatures}
 use Rattle.walk.specs.Gathered.{mostTransports}
-use Rattle.walk.specs.Schema.{commandField, responseField, errorCodeField, serialNumberField, nameField, transportsField, deviceTypeField, featuresField, deviceAttributesField}
+use Rattle.walk.specs.Schema.{commandField, responseField, errorCodeField, serialNumberField, nameField, transportsField, deviceTypeField, featuresField, deviceAttributesField, componentNameField, segmentSizeField, segmentSignatureField}
 use Rattle.field_writer.specs.Message.{writesMessage, badMember}
 use Rattle.control.specs.Envelope.{badPayload, envelopeFields, envelopeWritten}
 use Rattle.control.specs.Response.{badResponsePayload, responseFields, responseWritten}
 use Rattle.device.specs.Information.{informationFields, informationWritten}
 use Rattle.device.specs.Features.{featuresFields, featuresWritten}
-use Rattle.outbox.specs.Format.{formatOf, recordBytes}
+use Rattle.firmware.specs.Segment.{brokenField}
+use Rattle.firmware_writer.specs.Segment.{segmentFields, segmentWritten}
+use Rattle.firmware_writer.specs.Information.{badFirmware}
+use Rattle.firmware_writer.specs.Apply.{applyFields, applyWritten}
+use Rattle.firmware_writer.proofs.Segments.{segment-length}
+use Rattle.firmware_round_trips.specs.Premises.{Digits}
+use Rattle.firmware_round_trips.proofs.Premises.{signature}
+use Rattle.outbox.specs.declared.format.Format.{Format}
+use Rattle.outbox.specs.Format.{Known, one, two, isOne, formatOf, recordBytes}
 use Rattle.outbox.specs.Reader as outbox
 use Rattle.outbox.specs.Reader.{walkOf}
 use Rattle.outbox.specs.Writer.{newOf, badRecord, appendOf}
@@ -54,9 +62,12 @@ use Rattle.calls_sending.specs.Convert.{streamWith, sendingOf}
 use Rattle.calls_sending.specs.Calls.{packetWriteOf, ackWriteOf}
 use Rattle.rows_messages.specs.Convert.{isSigned, allSigned, responsePayloadOf, payloadFor}
 use Rattle.calls_messages.specs.Calls.{envelopeWriteOf, responseWriteOf, informationWriteOf, featuresWriteOf}
+use Rattle.rows_firmware.specs.Apply.{applyAt}
+use Rattle.calls_firmware.specs.Calls.{segmentStored, segmentWriteOf, applyStored, applyWriteOf}
 use Rattle.calls_outbox.specs.Calls.{outboxNewOf, outboxAppendOf}
-use Rattle.capi_claims.specs.SizesSuffice.{Done, StreamNumber, MemberNumber, PayloadField, SizesSuffice, frameSize, envelopeSize, responseSize, informationSize, featuresSize, recordSize}
+use Rattle.capi_claims.specs.SizesSuffice.{Done, StreamNumber, NoMark, MemberNumber, PayloadField, Unsigned32, RowFits, stringsOf, SizesSuffice, frameSize, envelopeSize, responseSize, informationSize, featuresSize, segmentSize, applySize, recordSize}
 use Rattle.capi_claims.proofs.Sizes.{scalar-most, text-most, nested-most, packed-most, tag-most, tag-small}
+use Rattle.capi_claims.proofs.Applies.{not-wide, low-same, row-fine, firmware-fine, apply-most}
 
 -- an answer row of the right length
 fit-done : (size : ℕ) (state lent answer : List ℕ) (done : Called) → length answer ≡ size → Done done
@@ -83,8 +94,12 @@ byte-is : (other n : ℕ) → n < 256 → byteOr other n ≡ n
 unfolding byteOr
 byte-is other n h = rw (lt-ltb n 256 h)
 
+unmarked : (b : ℕ) → NoMark b → isMark b ≡ false
+unfolding kindOf
+unmarked b none = rw (ne-eqb b startMark (none .0), ne-eqb b endMark (none .1), ne-eqb b escapeMark (none .2))
+
 frame-done : (limit sequence : ℕ) (payload out answer : List ℕ) → length answer ≡ 1
-    → sequence < 256 → isMark sequence ≡ false → length payload ≤ limit → frameSize (length payload) ≤ length out
+    → sequence < 256 → NoMark sequence → length payload ≤ limit → frameSize (length payload) ≤ length out
     → Done (frameWriteOf limit sequence payload out answer)
 unfolding frameWriteOf
 frame-done limit sequence payload out answer l b m n h =
@@ -92,7 +107,7 @@ frame-done limit sequence payload out answer l b m n h =
     (writer-done out answer (writeOf limit sequence payload out) l
     (done-two (isMark sequence || ltb limit (length payload)) (length (frameOf sequence payload)) out
     (length (frameOf sequence payload)) (sets out 0 (frameOf sequence payload))
-    (rw (m, le-ltb limit (length payload) n))
+    (rw (unmarked sequence m, le-ltb limit (length payload) n))
     (omega (arith, frame-most sequence payload (checksumOf payload / 256) (checksumOf payload % 256)))))
 
 stream-byte : (n : ℕ) → StreamNumber n → n < 256
@@ -113,7 +128,7 @@ args-fit stream id sequence ack s i q a =
 
 packet-done : (limit room stream id sequence ack place : ℕ) (message out answer : List ℕ) → length answer ≡ 2
     → 20 ≤ room → room ≤ 512 → StreamNumber stream → id ≤ 15 → sequence ≤ 15 → ack ≤ 1 → length message ≤ limit
-    → begins (foundAt (sendingOf room stream id sequence ack) (length message) place) ≡ true → largestRoom ≤ length out
+    → begins (foundAt (sendingOf room stream id sequence ack) (length message) place) ≡ true → room ≤ length out
     → Done (packetWriteOf limit (sendingOf room stream id sequence ack) message place out answer)
 unfolding packetWriteOf writtenOf sendingOf roomFits argumentsFit
 packet-done limit room stream id sequence ack place message out answer l low high s i q a m b h =
@@ -273,6 +288,45 @@ information-done serialNumber name deviceType transports out answer l e few h =
     (message-done (ltb mostTransports (length listed)) (informationFields serialNumber name listed deviceType) out answer l
     (le-ltb mostTransports (length listed) most) (omega (arith, information-most serialNumber name listed deviceType most)))
 
+segment-most : (name : List ℕ) (size : ℕ) (signature : List ℕ) → length signature ≡ 64
+    → length (messageBytes (segmentFields name 0 size signature)) ≤ segmentSize (length name)
+segment-most name size signature h =
+    omega (
+      arith,
+      h,
+      segment-length name size signature,
+      text-most componentNameField name,
+      tag-small componentNameField lengthType refl,
+      scalar-most segmentSizeField size,
+      tag-small segmentSizeField varintType refl,
+      text-most segmentSignatureField signature,
+      tag-small segmentSignatureField lengthType refl,
+    )
+
+segment-done : (name : List ℕ) (size : ℕ) (signature out answer : List ℕ) → length answer ≡ 2
+    → Unsigned32 size → length signature ≡ 64 → Digits signature → segmentSize (length name) ≤ length out
+    → Done (segmentWriteOf name 0 size signature out answer)
+unfolding segmentWriteOf segmentStored segmentWritten brokenField
+segment-done name size sig out answer l n long digits h =
+    fit-done 2 [] out answer _ l
+    (rw (
+      not-wide 0 (omega arith),
+      not-wide size n,
+      low-same size n,
+      signature sig long digits,
+      le-ltb (length out) (length (messageBytes (segmentFields name 0 size sig))) (omega (arith, segment-most name size sig long)),
+    ))
+
+apply-done : (row texts out answer : List ℕ) → length row ≡ 57 → length answer ≡ 1
+    → RowFits texts row → applySize (getD row 8 0) (stringsOf row) ≤ length out
+    → Done (applyWriteOf row texts out answer)
+unfolding applyWriteOf applyStored applyWritten
+apply-done row texts out answer whole l fits h =
+    let a = applyAt row in
+    rw (eq-eqb (length row) 57 whole, row-fine texts row fits)
+    (message-done (badFirmware texts (a .«firmware_information»)) (applyFields texts a) out answer l (firmware-fine texts row fits)
+    (omega (arith, apply-most texts row fits)))
+
 new-done : (out answer : List ℕ) → length answer ≡ 1 → 1 ≤ length out → Done (outboxNewOf out answer)
 unfolding outboxNewOf newOf
 new-done out answer l h = fit-done 1 [] out answer _ l (rw (le-ltb (length out) 1 h))
@@ -297,10 +351,20 @@ append-done used stream buffer payload answer l whole s short room =
       whole,
     ))
 
+-- a version byte alone is a whole outbox
+first-done : (fmt : Format) → Known fmt → (stream : ℕ) (rest payload answer : List ℕ) → length answer ≡ 2
+    → StreamNumber stream → length payload ≤ fmt .limit → 1 + recordSize (length payload) ≤ length (fmt .version ∷ rest)
+    → Done (outboxAppendOf (fmt .version ∷ rest) 1 stream payload answer)
+unfolding isOne formatOf walkOf outbox.readAll outbox.readings outbox.readOf outbox.otherVersion outbox.badPlace
+first-done fmt one stream rest payload answer l s short room = append-done 1 stream (1 ∷ rest) payload answer l refl s short room
+first-done fmt two stream rest payload answer l s short room = append-done 1 stream (2 ∷ rest) payload answer l refl s short room
+
 pub sizes-suffice : SizesSuffice
 sizes-suffice = record {
   frame-write = frame-done;
   packet-write = packet-done;
+  packet-first = λ limit room stream id sequence ack message out answer l low high s i q a m h.
+      packet-done limit room stream id sequence ack 0 message out answer l low high s i q a m refl (omega arith);
   ack-write = ack-done;
   envelope-none = envelope-none;
   envelope-response = envelope-response;
@@ -308,6 +372,9 @@ sizes-suffice = record {
   response-write = response-done;
   information-write = information-done;
   features-write = features-done;
+  segment-write = segment-done;
+  apply-write = apply-done;
   outbox-new = new-done;
   outbox-append = append-done;
+  outbox-append-first = first-done;
 }

@@ -1,2 +1,3 @@
 pub mod OneLeavesAll
 pub mod SizesSuffice
+pub mod RowsAgree

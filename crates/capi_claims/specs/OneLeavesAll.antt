@@ -7,9 +7,11 @@ use Rattle.sender.specs.declared.writer.Sending.{Sending}
 use Rattle.control.specs.declared.envelope.EnvelopePayload.{EnvelopePayload}
 use Rattle.rows.specs.Called.{Called, called}
 use Rattle.calls_classic.specs.Calls.{noneUsed, extractorStepOf, extractorFeedOf, frameWriteOf, nextSequenceOf}
+use Rattle.calls_parts.specs.Calls.{frameBeginOf, framePartOf}
 use Rattle.calls_sending.specs.Calls.{packetWriteOf, ackWriteOf}
 use Rattle.calls_receiving.specs.Calls.{receiverAcceptOf}
 use Rattle.calls_messages.specs.Calls.{envelopeReadOf, envelopeWriteOf, responseReadOf, responseWriteOf, informationReadOf, informationWriteOf, featuresReadOf, featuresWriteOf}
+use Rattle.calls_firmware.specs.Calls.{segmentReadOf, segmentWriteOf, applyReadOf, applyWriteOf, fieldReadOf}
 use Rattle.calls_outbox.specs.Calls.{outboxNewOf, outboxAppendOf, outboxRecordOf, outboxWholeOf}
 
 -- if it returns 1, state row, lent bytes and answer row are what they were
@@ -20,6 +22,8 @@ pub record OneLeavesAll : Type 0 where
   pub extractor-step : (limit b : ℕ) (state lent answer : List ℕ) → Keeps state lent answer (extractorStepOf limit state lent b answer)
   pub extractor-feed : (limit : ℕ) (bytes state lent answer : List ℕ) → Keeps state lent (noneUsed answer) (extractorFeedOf limit state lent bytes answer)
   pub frame-write : (limit sequence : ℕ) (payload out answer : List ℕ) → Keeps [] out answer (frameWriteOf limit sequence payload out answer)
+  pub frame-begin : (limit sequence total : ℕ) (state : List ℕ) → Keeps state [] [] (frameBeginOf limit sequence total state)
+  pub frame-part : (limit : ℕ) (payload state out answer : List ℕ) → Keeps state out answer (framePartOf limit state payload out answer)
   pub next-sequence : (sequence : ℕ) (answer : List ℕ) → Keeps [] [] answer (nextSequenceOf sequence answer)
   pub packet-write : (limit : ℕ) (how : Sending) (place : ℕ) (message out answer : List ℕ)
       → Keeps [] out answer (packetWriteOf limit how message place out answer)
@@ -36,6 +40,12 @@ pub record OneLeavesAll : Type 0 where
       → Keeps [] out answer (informationWriteOf serialNumber name deviceType transports out answer)
   pub features-read : (message answer : List ℕ) → Keeps [] [] answer (featuresReadOf message answer)
   pub features-write : (features attributes : ℕ) (out answer : List ℕ) → Keeps [] out answer (featuresWriteOf features attributes out answer)
+  pub segment-read : (message answer : List ℕ) → Keeps [] [] answer (segmentReadOf message answer)
+  pub segment-write : (offset size : ℕ) (name signature out answer : List ℕ)
+      → Keeps [] out answer (segmentWriteOf name offset size signature out answer)
+  pub apply-read : (message answer : List ℕ) → Keeps [] [] answer (applyReadOf message answer)
+  pub apply-write : (row texts out answer : List ℕ) → Keeps [] out answer (applyWriteOf row texts out answer)
+  pub field-read : (place : ℕ) (message answer : List ℕ) → Keeps [] [] answer (fieldReadOf message place answer)
   pub outbox-new : (out answer : List ℕ) → Keeps [] out answer (outboxNewOf out answer)
   pub outbox-append : (used stream : ℕ) (payload buffer answer : List ℕ) → Keeps [] buffer answer (outboxAppendOf buffer used stream payload answer)
   pub outbox-record : (place : ℕ) (file answer : List ℕ) → Keeps [] [] answer (outboxRecordOf file place answer)

@@ -1,26 +1,27 @@
 -- The claim that the sizes that the C header names are enough: with so much output every writer takes what is in its range. The ranges are the
 -- header's own numbers, as a caller gives them.
-use Prim.Native.Nat.{ℕ, _+_, _*_, _≤_, _<_}
+use Prim.Native.Nat.{ℕ, zero, suc, _+_, _*_, _≤_, _<_}
 use mathlib.Core.Path.{_≡_}
 use mathlib.Core.Logic.{_⊎_}
 use mathlib.Core.Bool.{true, false}
-use mathlib.Core.List.{List, map}
+use mathlib.Core.List.{List, _∷_, map}
 use lib.IntN.{ℤ}
-use lib.ListN.{length, take}
-use Rattle.framing.specs.Mark.{isMark}
+use lib.ListN.{length, take, getD}
 use Rattle.packet.specs.Control.{ackSize}
-use Rattle.sender.specs.Piece.{largestRoom}
 use Rattle.sender.specs.Writer.{begins, foundAt}
 use Rattle.field.specs.Signed.{extended}
-use Rattle.outbox.specs.Format.{formatOf}
+use Rattle.outbox.specs.declared.format.Format.{Format}
+use Rattle.outbox.specs.Format.{Known, formatOf}
 use Rattle.outbox.specs.Reader.{given, walkOf}
 use Rattle.round_trips.specs.Premises.{Number32, Numbers32}
+use Rattle.firmware_round_trips.specs.Premises.{Digits}
 use Rattle.rows.specs.Called.{Called}
 use Rattle.calls_classic.specs.Calls.{frameWriteOf}
 use Rattle.calls_sending.specs.Convert.{sendingOf}
 use Rattle.calls_sending.specs.Calls.{packetWriteOf, ackWriteOf}
 use Rattle.rows_messages.specs.Convert.{payloadFor}
 use Rattle.calls_messages.specs.Calls.{envelopeWriteOf, responseWriteOf, informationWriteOf, featuresWriteOf}
+use Rattle.calls_firmware.specs.Calls.{segmentWriteOf, applyWriteOf}
 use Rattle.calls_outbox.specs.Calls.{outboxNewOf, outboxAppendOf}
 
 -- PITO_FRAME_SIZE
@@ -43,6 +44,14 @@ informationSize a b c = a + b + c + 124
 abbrev pub featuresSize : ℕ
 featuresSize = 22
 
+-- PITO_SEGMENT_SIZE
+abbrev pub segmentSize : ℕ → ℕ
+segmentSize n = n + 97
+
+-- PITO_APPLY_SIZE
+abbrev pub applySize : ℕ → ℕ → ℕ
+applySize components strings = 55 * components + strings + 66
+
 -- PITO_RECORD_SIZE
 abbrev pub recordSize : ℕ → ℕ
 recordSize n = n + 5
@@ -54,6 +63,10 @@ Done c = c .number ≡ 0
 abbrev pub StreamNumber : ℕ → Type 0
 StreamNumber n = (n ≡ 0) ⊎ (n ≡ 2) ⊎ (n ≡ 6)
 
+-- none of F0, F1 and F2
+abbrev pub NoMark : ℕ → Type 0
+NoMark n = (n ≡ 240 → ⊥) × (n ≡ 241 → ⊥) × (n ≡ 242 → ⊥)
+
 -- a member's number, and 0 or one for a response's payload
 abbrev pub MemberNumber : ℕ → Type 0
 MemberNumber n = (2 ≤ n) × (n ≤ 536870911)
@@ -61,15 +74,51 @@ MemberNumber n = (2 ≤ n) × (n ≤ 536870911)
 abbrev pub PayloadField : ℕ → Type 0
 PayloadField n = (n ≡ 0) ⊎ MemberNumber n
 
+-- a number from 0 to 4,294,967,295
+abbrev pub Unsigned32 : ℕ → Type 0
+Unsigned32 n = n ≤ 4294967295
+
+-- the row of an ApplyFirmware, by its places: a part whose start stands at a place lies within the texts
+abbrev pub LiesAt : List ℕ → List ℕ → ℕ → Type 0
+LiesAt texts row at = getD row at 0 + getD row (at + 1) 0 ≤ length texts
+
+-- version, name, size and signature of so many components from a place on
+abbrev pub ComponentsFit : ℕ → List ℕ → List ℕ → ℕ → Type 0
+ComponentsFit zero texts row at = Unit {0}
+ComponentsFit (suc n) texts row at =
+    (Unsigned32 (getD row at 0) × LiesAt texts row (at + 1) × Unsigned32 (getD row (at + 3) 0) × LiesAt texts row (at + 4)) × ComponentsFit n texts row (at + 6)
+
+-- the lengths of their strings together
+abbrev pub stringsFrom : ℕ → List ℕ → ℕ → ℕ
+stringsFrom zero row at = 0
+stringsFrom (suc n) row at = getD row (at + 2) 0 + getD row (at + 5) 0 + stringsFrom n row (at + 6)
+
+-- restart_required, version, name, locale, version_name, the number of components, and those components
+pub record RowFits (texts row : List ℕ) : Type 0 where
+  pub restart : getD row 0 0 ≤ 1
+  pub version : Unsigned32 (getD row 1 0)
+  pub name : LiesAt texts row 2
+  pub locale : LiesAt texts row 4
+  pub version-name : LiesAt texts row 6
+  pub most : getD row 8 0 ≤ 8
+  pub components : ComponentsFit (getD row 8 0) texts row 9
+
+abbrev pub stringsOf : List ℕ → ℕ
+stringsOf row = getD row 3 0 + getD row 5 0 + getD row 7 0 + stringsFrom (getD row 8 0) row 9
+
 pub record SizesSuffice : Type 0 where
   pub frame-write : (limit sequence : ℕ) (payload out answer : List ℕ) → length answer ≡ 1
-      → sequence < 256 → isMark sequence ≡ false → length payload ≤ limit → frameSize (length payload) ≤ length out
+      → sequence < 256 → NoMark sequence → length payload ≤ limit → frameSize (length payload) ≤ length out
       → Done (frameWriteOf limit sequence payload out answer)
   -- at each place where a piece begins
   pub packet-write : (limit room stream id sequence ack place : ℕ) (message out answer : List ℕ) → length answer ≡ 2
       → 20 ≤ room → room ≤ 512 → StreamNumber stream → id ≤ 15 → sequence ≤ 15 → ack ≤ 1 → length message ≤ limit
-      → begins (foundAt (sendingOf room stream id sequence ack) (length message) place) ≡ true → largestRoom ≤ length out
+      → begins (foundAt (sendingOf room stream id sequence ack) (length message) place) ≡ true → room ≤ length out
       → Done (packetWriteOf limit (sendingOf room stream id sequence ack) message place out answer)
+  -- .. the first of them at 0
+  pub packet-first : (limit room stream id sequence ack : ℕ) (message out answer : List ℕ) → length answer ≡ 2
+      → 20 ≤ room → room ≤ 512 → StreamNumber stream → id ≤ 15 → sequence ≤ 15 → ack ≤ 1 → length message ≤ limit → room ≤ length out
+      → Done (packetWriteOf limit (sendingOf room stream id sequence ack) message 0 out answer)
   pub ack-write : (stream id sequence positive : ℕ) (out answer : List ℕ) → length answer ≡ 1
       → StreamNumber stream → id ≤ 15 → sequence ≤ 15 → positive ≤ 1 → ackSize ≤ length out
       → Done (ackWriteOf stream id sequence positive out answer)
@@ -92,6 +141,13 @@ pub record SizesSuffice : Type 0 where
       → Done (informationWriteOf serialNumber name deviceType (map extended transports) out answer)
   pub features-write : (features attributes : ℕ) (out answer : List ℕ) → length answer ≡ 1 → featuresSize ≤ length out
       → Done (featuresWriteOf features attributes out answer)
+  -- an offset of 0, and 64 hexadecimal digits
+  pub segment-write : (name : List ℕ) (size : ℕ) (signature out answer : List ℕ) → length answer ≡ 2
+      → Unsigned32 size → length signature ≡ 64 → Digits signature → segmentSize (length name) ≤ length out
+      → Done (segmentWriteOf name 0 size signature out answer)
+  pub apply-write : (row texts out answer : List ℕ) → length row ≡ 57 → length answer ≡ 1
+      → RowFits texts row → applySize (getD row 8 0) (stringsOf row) ≤ length out
+      → Done (applyWriteOf row texts out answer)
   pub outbox-new : (out answer : List ℕ) → length answer ≡ 1 → 1 ≤ length out → Done (outboxNewOf out answer)
   -- after used bytes that are a whole outbox of either version
   pub outbox-append : (used stream : ℕ) (buffer payload answer : List ℕ) → length answer ≡ 2
@@ -99,3 +155,7 @@ pub record SizesSuffice : Type 0 where
       walkOf fmt (take used buffer) ≡ given tt
       → StreamNumber stream → length payload ≤ fmt .limit → used + recordSize (length payload) ≤ length buffer
       → Done (outboxAppendOf buffer used stream payload answer)
+  -- .. as a version byte alone is
+  pub outbox-append-first : (fmt : Format) → Known fmt → (stream : ℕ) (rest payload answer : List ℕ) → length answer ≡ 2
+      → StreamNumber stream → length payload ≤ fmt .limit → 1 + recordSize (length payload) ≤ length (fmt .version ∷ rest)
+      → Done (outboxAppendOf (fmt .version ∷ rest) 1 stream payload answer)

@@ -1,5 +1,6 @@
 // What holds of every call.
 ghost use Rattle.capi_claims.specs.OneLeavesAll.{OneLeavesAll};
+ghost use Rattle.capi_claims.specs.RowsAgree.{RowsAgree};
 ghost use Rattle.capi_claims.specs.SizesSuffice.{SizesSuffice};
 
 // A call that returns 1 has changed nothing: neither state row, lent bytes nor answer row. Only a feed tells then that it
@@ -11,4 +12,9 @@ pub fn one_leaves_all()
 // With the sizes that the C header names every writer takes what is in its range.
 pub fn sizes_suffice()
     ensures { λ _. ⌜ SizesSuffice ⌝ }
+{}
+
+// A row that was told of an ApplyFirmware is taken as that message, and a field's row tells what stands at its place.
+pub fn rows_agree()
+    ensures { λ _. ⌜ RowsAgree ⌝ }
 {}

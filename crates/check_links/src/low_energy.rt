@@ -1,4 +1,4 @@
-// The cases of Low Energy, P4 to P9.
+// The cases of Low Energy, P4 to P9 and No. 2.
 use crate::OUTPUT;
 use packet::header::extender_bit;
 use packet::reader;
@@ -120,20 +120,25 @@ fn print_accepted(accepted: Accepted) {
             stream: _,
             id: _,
             total: _,
-            ack: _,
+            ack,
             replaced: _,
-        } => text(b" finished"),
+        } => {
+            text(b" finished");
+            if ack {
+                text(b", ACK wanted");
+            }
+        }
         Accepted::Acked(_) => text(b" ACK"),
         Accepted::Nacked(_) => text(b" NACK"),
     }
 }
 
-// A packet given to a receiver with this control slot, the others idle.
-fn accept_packet(label: &[u8], control: Slot, packet: &[u8]) {
+// A packet given to a receiver with this control and this Alexa slot, OTA's idle.
+fn accept_packet(label: &[u8], control: Slot, alexa: Slot, packet: &[u8]) {
     let mut buffer = [0u8; BUFFER_SIZE];
     let none = Slot::idle();
     let state = Receiver {
-        slots: [control, none, none],
+        slots: [control, none, alexa],
     };
     let outcome = state.accept(&mut buffer, packet);
     let answer = outcome.answer;
@@ -175,6 +180,19 @@ fn open_after(sequence: u8) -> Slot {
         total: 3,
         held: 1,
         sequence,
+        wanted: false,
+    }
+}
+
+// A transaction of two bytes whose first packet, with one of them, asked for an ACK.
+fn asking() -> Slot {
+    Slot {
+        opened: true,
+        id: 1,
+        total: 2,
+        held: 1,
+        sequence: 0,
+        wanted: true,
     }
 }
 
@@ -194,10 +212,13 @@ fn sent() {
 
 pub fn cases() {
     sent();
-    accept_packet(b"P7", open_after(15), b"\x00\x04\x01\x00");
-    accept_packet(b"P7", open_after(15), b"\x00\xA4\x01\x00");
+    let none = Slot::idle();
+    accept_packet(b"P7", open_after(15), none, b"\x00\x04\x01\x00");
+    accept_packet(b"P7", open_after(15), none, b"\x00\xA4\x01\x00");
     write_acknowledgement(b"P8", 6, 1, 0, true);
     write_acknowledgement(b"P8", 6, 1, 0, false);
     write_packets(b"P9", Shown::Headers, in_room(20), b"");
-    accept_packet(b"P9", Slot::idle(), b"\x00\x00\x00\x00\x00\x00");
+    accept_packet(b"P9", none, none, b"\x00\x00\x00\x00\x00\x00");
+    accept_packet(b"No. 2", none, none, b"\x61\x02\x00\x00\x02\x01\xAA");
+    accept_packet(b"No. 2", none, asking(), b"\x61\x18\x01\xBB");
 }

@@ -17,12 +17,19 @@ use device::information::read_information;
 use device::information::write_information;
 use field::value::Part;
 use field_writer::message::Wrote;
+use firmware::apply::read_apply;
+use firmware::segment::SegmentRead;
+use firmware::segment::read_segment;
+use firmware_writer::apply::write_apply;
+use firmware_writer::segment::SegmentWrote;
+use firmware_writer::segment::write_segment;
 use libc::STDIN_FILENO;
 use libc::STDOUT_FILENO;
 use walk::gathered::Verdict;
 ghost use Prim.Native.Nat.{_+_, _≤_};
 ghost use lib.ListN.{length};
 ghost use Rattle.field_writer.specs.Message.{wroteSize};
+ghost use Rattle.firmware_writer.specs.Segment.{segmentWroteSize};
 
 const ENVELOPE: u8 = b'E';
 
@@ -31,6 +38,10 @@ const RESPONSE: u8 = b'R';
 const INFORMATION: u8 = b'I';
 
 const FEATURES: u8 = b'F';
+
+const SEGMENT: u8 = b'S';
+
+const APPLY: u8 = b'A';
 // The answers for any other letter, and for an input that is too long.
 const NO_KIND: u8 = 1;
 
@@ -52,6 +63,17 @@ fn show(wrote: Wrote, out: &[u8])
             io::write_all(STDOUT_FILENO, &[0u8]);
             io::write_all(STDOUT_FILENO, &out[..n]);
         }
+    }
+}
+
+// What was written of a segment.
+fn show_segment(wrote: SegmentWrote, out: &[u8])
+    requires { ⌜ segmentWroteSize wrote ≤ length (now out) ⌝ }
+{
+    match wrote {
+        SegmentWrote::Profile(_) => refuse(wrote.number()),
+        SegmentWrote::NoRoom => refuse(wrote.number()),
+        SegmentWrote::Done(n) => show(Wrote::Done(n), out),
     }
 }
 
@@ -146,6 +168,39 @@ fn features_again(message: &[u8], out: &mut [u8]) {
     }
 }
 
+fn segment_again(message: &[u8], out: &mut [u8]) {
+    let read = read_segment(message);
+    match read {
+        SegmentRead::Refused(e) => refuse(e.number()),
+        SegmentRead::Profile(_) => refuse(read.number()),
+        SegmentRead::Read(s) => {
+            let name = s.component_name;
+            let signature = s.segment_signature;
+            let wrote = write_segment(
+                out,
+                bytes_of(message, name),
+                s.component_offset,
+                s.segment_size,
+                bytes_of(message, signature),
+            );
+            show_segment(wrote, out);
+        }
+    }
+}
+
+fn apply_again(message: &[u8], out: &mut [u8]) {
+    let read = read_apply(message);
+    let verdict = read.verdict;
+    match verdict {
+        Verdict::Refused(e) => refuse(e.number()),
+        Verdict::Fine => {
+            let apply = read.apply;
+            let wrote = write_apply(out, apply, message);
+            show(wrote, out);
+        }
+    }
+}
+
 fn again(kind: u8, message: &[u8], out: &mut [u8]) {
     if kind == ENVELOPE {
         return envelope_again(message, out);
@@ -158,6 +213,12 @@ fn again(kind: u8, message: &[u8], out: &mut [u8]) {
     }
     if kind == FEATURES {
         return features_again(message, out);
+    }
+    if kind == SEGMENT {
+        return segment_again(message, out);
+    }
+    if kind == APPLY {
+        return apply_again(message, out);
     }
     refuse(NO_KIND)
 }

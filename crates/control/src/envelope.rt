@@ -130,7 +130,8 @@ fn bad_payload(payload: EnvelopePayload) -> bool
 // The number of bytes of an envelope's payload.
 fn payload_len(payload: EnvelopePayload, body: &[u8]) -> usize
     requires { ⌜ badPayload payload ≡ false ⌝ }
-    ensures { λ r. ⌜ (r ≡ length (messageBytes (payloadFields payload (now (body .entry))))) × (r ≤ 60 + length (now (body .entry))) ⌝ }
+    ensures { λ r. ⌜ (r ≡ length (messageBytes (payloadFields payload (now (body .entry)))))
+        × (r ≤ 60 + length (now (body .entry))) ⌝ }
 {
     match payload {
         EnvelopePayload::None => 0,
@@ -147,8 +148,10 @@ fn payload_len(payload: EnvelopePayload, body: &[u8]) -> usize
 
 // An envelope's payload, written at a place; the answer is the place after it.
 fn put_payload(out: &mut [u8], at: usize, payload: EnvelopePayload, body: &[u8]) -> usize
-    requires { ⌜ (badPayload payload ≡ false) × (at + length (messageBytes (payloadFields payload (now body))) ≤ length (now out)) ⌝ }
-    ensures { λ r. ⌜ Put (now (out .entry)) at (messageBytes (payloadFields payload (now (body .entry)))) r (now (out .exit)) ⌝ }
+    requires { ⌜ (badPayload payload ≡ false)
+        × (at + length (messageBytes (payloadFields payload (now body))) ≤ length (now out)) ⌝ }
+    ensures { λ r. ⌜ Put (now (out .entry)) at (messageBytes (payloadFields payload (now (body .entry)))) r
+        (now (out .exit)) ⌝ }
 {
     match payload {
         EnvelopePayload::None => at,
@@ -167,7 +170,8 @@ fn put_payload(out: &mut [u8], at: usize, payload: EnvelopePayload, body: &[u8])
 
 // Writes a control envelope.
 pub fn write_envelope(out: &mut [u8], command: i32, payload: EnvelopePayload, body: &[u8]) -> Wrote
-    ensures { λ r. ⌜ written (toldWrote r) (now (out .exit)) ≡ envelopeWritten command payload (now (body .entry)) (now (out .entry)) ⌝ }
+    ensures { λ r. ⌜ written (toldWrote r) (now (out .exit))
+        ≡ envelopeWritten command payload (now (body .entry)) (now (out .entry)) ⌝ }
 {
     if bad_payload(payload) {
         return Wrote::Refused(WriteRefusal::BadArgument);

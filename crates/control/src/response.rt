@@ -86,7 +86,8 @@ pub(crate) fn bad_response_payload(payload: ResponsePayload) -> bool
 // The number of bytes of a response's payload.
 fn response_payload_len(payload: ResponsePayload, body: &[u8]) -> usize
     requires { ⌜ badResponsePayload payload ≡ false ⌝ }
-    ensures { λ r. ⌜ (r ≡ length (messageBytes (responsePayloadFields payload (now (body .entry))))) × (r ≤ 20 + length (now (body .entry))) ⌝ }
+    ensures { λ r. ⌜ (r ≡ length (messageBytes (responsePayloadFields payload (now (body .entry)))))
+        × (r ≤ 20 + length (now (body .entry))) ⌝ }
 {
     match payload {
         ResponsePayload::None => 0,
@@ -96,8 +97,10 @@ fn response_payload_len(payload: ResponsePayload, body: &[u8]) -> usize
 
 // A response's payload, written at a place; the answer is the place after it.
 fn put_response_payload(out: &mut [u8], at: usize, payload: ResponsePayload, body: &[u8]) -> usize
-    requires { ⌜ (badResponsePayload payload ≡ false) × (at + length (messageBytes (responsePayloadFields payload (now body))) ≤ length (now out)) ⌝ }
-    ensures { λ r. ⌜ Put (now (out .entry)) at (messageBytes (responsePayloadFields payload (now (body .entry)))) r (now (out .exit)) ⌝ }
+    requires { ⌜ (badResponsePayload payload ≡ false)
+        × (at + length (messageBytes (responsePayloadFields payload (now body))) ≤ length (now out)) ⌝ }
+    ensures { λ r. ⌜ Put (now (out .entry)) at (messageBytes (responsePayloadFields payload (now (body .entry)))) r
+        (now (out .exit)) ⌝ }
 {
     match payload {
         ResponsePayload::None => at,
@@ -108,7 +111,8 @@ fn put_response_payload(out: &mut [u8], at: usize, payload: ResponsePayload, bod
 // The number of bytes of a response; code is the varint's value of its error code.
 pub(crate) fn response_len(code: u64, payload: ResponsePayload, body: &[u8]) -> usize
     requires { ⌜ badResponsePayload payload ≡ false ⌝ }
-    ensures { λ r. ⌜ (r ≡ length (messageBytes (responseFields code payload (now (body .entry))))) × (r ≤ 40 + length (now (body .entry))) ⌝ }
+    ensures { λ r. ⌜ (r ≡ length (messageBytes (responseFields code payload (now (body .entry)))))
+        × (r ≤ 40 + length (now (body .entry))) ⌝ }
 {
     scalar_len(ERROR_CODE, code) + response_payload_len(payload, body)
 }
@@ -121,8 +125,10 @@ pub(crate) fn put_response(
     payload: ResponsePayload,
     body: &[u8],
 ) -> usize
-    requires { ⌜ (badResponsePayload payload ≡ false) × (at + length (messageBytes (responseFields code payload (now body))) ≤ length (now out)) ⌝ }
-    ensures { λ r. ⌜ Put (now (out .entry)) at (messageBytes (responseFields code payload (now (body .entry)))) r (now (out .exit)) ⌝ }
+    requires { ⌜ (badResponsePayload payload ≡ false)
+        × (at + length (messageBytes (responseFields code payload (now body))) ≤ length (now out)) ⌝ }
+    ensures { λ r. ⌜ Put (now (out .entry)) at (messageBytes (responseFields code payload (now (body .entry)))) r
+        (now (out .exit)) ⌝ }
 {
     let next = put_scalar(out, at, ERROR_CODE, code);
     put_response_payload(out, next, payload, body)
@@ -135,7 +141,8 @@ pub fn write_response(
     payload: ResponsePayload,
     body: &[u8],
 ) -> Wrote
-    ensures { λ r. ⌜ written (toldWrote r) (now (out .exit)) ≡ responseWritten «error_code» payload (now (body .entry)) (now (out .entry)) ⌝ }
+    ensures { λ r. ⌜ written (toldWrote r) (now (out .exit))
+        ≡ responseWritten «error_code» payload (now (body .entry)) (now (out .entry)) ⌝ }
 {
     if bad_response_payload(payload) {
         return Wrote::Refused(WriteRefusal::BadArgument);

@@ -5,19 +5,20 @@ use mathlib.Core.Logic.{inr}
 use mathlib.Core.Option.{none, some}
 use mathlib.Core.List.{[], _∷_}
 use mathlib.Core.Bool.{true}
+use lib.ListN.{getD, drop}
 use Rattle.wire.specs.declared.stream.Stream.the-variants.{Alexa}
 use Rattle.wire.specs.Stream.{isStream, streamOf}
 use Rattle.packet.specs.Header.{inRange}
 use Rattle.packet.specs.Reader.{fieldsOf, contentOf, lines, readOf}
 use Rattle.slot.specs.Slot.{lawfulSlot, lawful}
-use Rattle.slot.specs.Step.{leave, finish, hold, firstStep, nextStep}
+use Rattle.slot.specs.Step.{finish, hold, dropBy, firstStep, nextStep}
 use Rattle.receiver.specs.Receiver.{ready, acceptOf}
 use Rattle.sender.specs.Piece.{sizeFor}
 use Rattle.sender.specs.Writer.{headerBytes, packetOf, roomFits, argumentsFit, writtenOf}
 use Rattle.delivery.specs.Calls.{callsFrom, callsOf, Takes}
 use Rattle.delivery.proofs.CallsGiveAll.{takes-all}
 use Rattle.delivery.specs.Delivery.{runOf, repliesTo, those, ours, givenTo}
-use Rattle.delivery.specs.Instance.{limit, how, message, output, slots, buffer, before, during, after, Arrives}
+use Rattle.delivery.specs.Instance.{limit, how, message, output, slots, buffer, before, first, later, after, Arrives}
 
 law : lawful limit slots ≡ true
 unfolding lawfulSlot lawful
@@ -26,13 +27,17 @@ law = refl
 takes : Takes limit how message output
 takes = takes-all limit how message output (omega arith) (omega arith) (inr (inr refl)) (omega arith) (omega arith) (omega arith) (omega arith)
 
-sent : those (ours how) during ≡ callsOf limit how message output
+begins : first ≡ getD (callsOf limit how message output) 0 []
+unfolding isStream inRange sizeFor headerBytes packetOf roomFits argumentsFit writtenOf callsFrom
+begins = refl
+
+sent : those (ours how) later ≡ drop 1 (callsOf limit how message output)
 unfolding isStream inRange sizeFor headerBytes packetOf roomFits argumentsFit writtenOf callsFrom
 sent = refl
 
-arrived : givenTo limit how (repliesTo limit slots buffer before during after)
+arrived : givenTo limit how (repliesTo limit slots buffer before (first ∷ later) after)
     ≡ none ∷ none ∷ some (record { stream = Alexa; id = 1; total = 35; ack = true; payload = message }) ∷ []
-unfolding isStream streamOf fieldsOf contentOf lines readOf lawfulSlot lawful leave finish hold firstStep nextStep ready acceptOf runOf
+unfolding isStream streamOf fieldsOf contentOf lines readOf lawfulSlot lawful finish hold dropBy firstStep nextStep ready acceptOf runOf
 arrived = refl
 
 pub arrives : Arrives
@@ -41,7 +46,8 @@ arrives =
       law = law;
       size = refl;
       takes = takes;
+      begins = begins;
       sent = sent;
       arrived = arrived;
-      claimed = λ claim. claim limit slots buffer before during after how message output law refl takes sent;
+      claimed = λ claim. claim limit slots buffer before first later after how message output law refl takes begins sent;
     }

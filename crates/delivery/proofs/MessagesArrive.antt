@@ -5,7 +5,7 @@ use mathlib.Core.Path.{_≡_, refl, sym, ap, _∙_}
 use mathlib.Core.Option.{none}
 use mathlib.Core.List.{List, [], _∷_, _++_, map, append-assoc}
 use mathlib.Core.Bool.{Bool, true, false, cond}
-use lib.ListN.{length, take, drop}
+use lib.ListN.{length, getD, take, drop}
 use lib.Dec.{eqb}
 use borrow.Author.Tests.{eqb-true, eqb-false, eq-eqb}
 use Rattle.packet.specs.Header.{fourBits}
@@ -21,7 +21,7 @@ use Rattle.sender.proofs.Largest.{size-le, size-some}
 use Rattle.sender.proofs.Guard.{InRange, room-low, range-facts}
 use Rattle.delivery.proofs.CallsGiveAll.{calls-are}
 use Rattle.delivery.specs.Delivery.{Reply, runOf, Message, those, ours, givenIn, givenTo, messageOf, atLast, MessagesArrive, RoundTrip, MessageAsked}
-use Rattle.delivery.proofs.Steps.{gives, Awaits, start, within, awaits-kept, pieceFor, last-step, more-step}
+use Rattle.delivery.proofs.Steps.{gives, Holding, Awaits, start, within, holding-kept, pieceFor, last-step, more-step}
 
 -- ---- one packet of a run
 
@@ -68,11 +68,12 @@ packet-ours : (w : Sending) (m : List ℕ) (p : Piece) → w .id < fourBits → 
 unfolding packetOf headerBytes
 packet-ours w m p l = eq-eqb _ _ (stream-back (w .stream) (w .id) l)
 
--- a packet that more follow
-last-later : (g : Message) (w : Sending) (m p : List ℕ) (fuel index place rest : ℕ) → 1 ≤ fuel
-    → atLast g (p ∷ map (packetOf w m) (piecesFrom fuel (w .room) index place rest)) ≡ none ∷ atLast g (map (packetOf w m) (piecesFrom fuel (w .room) index place rest))
-last-later g w m p zero index place rest l = absurd (omega arith)
-last-later g w m p (suc fuel) index place rest l = refl
+-- where there are packets, the first of them gives nothing yet
+last-later : (g : Message) (w : Sending) (m : List ℕ) (fuel index place rest : ℕ) → 1 ≤ fuel
+    → atLast g (map (packetOf w m) (piecesFrom fuel (w .room) index place rest))
+    ≡ none ∷ atLast g (drop 1 (map (packetOf w m) (piecesFrom fuel (w .room) index place rest)))
+last-later g w m zero index place rest l = absurd (omega arith)
+last-later g w m (suc fuel) index place rest l = refl
 
 module _ (limit : ℕ) (w : Sending) (m : List ℕ) (room : leastRoom ≤ w .room) (ok : InRange limit w (length m)) where
   abbrev packetsFrom : ℕ → ℕ → ℕ → ℕ → List (List ℕ)
@@ -82,19 +83,19 @@ module _ (limit : ℕ) (w : Sending) (m : List ℕ) (room : leastRoom ≤ w .roo
   abbrev packetsAfter : Bool → ℕ → ℕ → ℕ → ℕ → ℕ → List (List ℕ)
   packetsAfter last fuel index place rest n = map (packetOf w m) (cond last [] (piecesFrom fuel (w .room) (suc index) (place + n) (rest - n)))
 
-  -- the packets of the pieces from an awaited place on are all that come of the stream in ds
+  -- what is held is all before a place, and the packets of the pieces from there on are all that come of the stream in ds
   abbrev Rest : List (List ℕ) → Type 0
   Rest ds =
-      (fuel index place rest : ℕ) (slots : List Slot) (bytes : List ℕ) → Awaits limit w m slots bytes index place → place + rest ≡ length m → rest < fuel
-      → those (ours w) ds ≡ packetsFrom fuel index place rest
-      → givenTo limit w (runOf limit slots bytes ds) ≡ atLast (messageOf w m) (packetsFrom fuel index place rest)
+      (fuel index place rest : ℕ) (slots : List Slot) (bytes : List ℕ) → Holding limit w m index place slots bytes → place + rest ≡ length m → rest < fuel
+      → 1 ≤ rest → those (ours w) ds ≡ packetsFrom fuel (suc index) place rest
+      → givenTo limit w (runOf limit slots bytes ds) ≡ atLast (messageOf w m) (drop 1 (packetsFrom fuel (suc index) place rest))
 
   -- the awaited packet comes
   awaited : (ds : List (List ℕ)) → Rest ds → (fuel index place rest n : ℕ) (slots : List Slot) (bytes : List ℕ) → Awaits limit w m slots bytes index place
       → place + rest ≡ length m → rest < suc fuel → n ≡ sizeFor (w .room) (isFirst index) rest
       → (last : Bool) → eqb n rest ≡ last → those (ours w) ds ≡ packetsAfter last fuel index place rest n
       → givenTo limit w (runOf limit slots bytes (packetOf w m (pieceFor index place n) ∷ ds))
-      ≡ atLast (messageOf w m) (packetOf w m (pieceFor index place n) ∷ packetsAfter last fuel index place rest n)
+      ≡ atLast (messageOf w m) (packetsAfter last fuel index place rest n)
   awaited ds later fuel index place rest n slots bytes a t f en true b e =
       let p : List ℕ = packetOf w m (pieceFor index place n) in
       let nr : n ≡ rest = eqb-true n rest b in
@@ -110,27 +111,36 @@ module _ (limit : ℕ) (w : Sending) (m : List ℕ) (room : leastRoom ≤ w .roo
       looked-at limit w slots bytes p ds (packet-ours w m (pieceFor index place n) (ok .id))
       ∙ rw (
         more .nothing,
-        later fuel (suc index) (place + n) (rest - n) (r .slots) (r .bytes) (within (more .holding) (omega arith)) (omega arith) (omega arith) e,
+        later fuel index (place + n) (rest - n) (r .slots) (r .bytes) (more .holding) (omega arith) (omega arith) (omega arith) e,
       )
-      (sym (last-later (messageOf w m) w m p fuel (suc index) (place + n) (rest - n) (omega arith)))
+      (sym (last-later (messageOf w m) w m fuel (suc index) (place + n) (rest - n) (omega arith)))
 
   rest-by : (q : List ℕ) (ds : List (List ℕ)) → Rest ds → (b : Bool) → ours w q ≡ b → Rest (q ∷ ds)
-  rest-by q ds later b g zero index place rest slots bytes a t f e = absurd (omega arith)
-  rest-by q ds later true g (suc fuel) index place rest slots bytes a t f e =
-      let n : ℕ = sizeFor (w .room) (isFirst index) rest in
-      let both : q ∷ those (ours w) ds ≡ packetOf w m (pieceFor index place n) ∷ packetsAfter (eqb n rest) fuel index place rest n
+  rest-by q ds later b g zero index place rest slots bytes h t f s e = absurd (omega arith)
+  rest-by q ds later true g (suc fuel) index place rest slots bytes h t f s e =
+      let n : ℕ = sizeFor (w .room) (isFirst (suc index)) rest in
+      let both : q ∷ those (ours w) ds ≡ packetOf w m (pieceFor (suc index) place n) ∷ packetsAfter (eqb n rest) fuel (suc index) place rest n
       = sym (put-in (ours w) q ds g) ∙ e in
-      let head : q ≡ packetOf w m (pieceFor index place n) = cc in
-      let tail : those (ours w) ds ≡ packetsAfter (eqb n rest) fuel index place rest n = cc in
-      rw head (awaited ds later fuel index place rest n slots bytes a t f refl (eqb n rest) refl tail)
-  rest-by q ds later false g (suc fuel) index place rest slots bytes a t f e =
+      let head : q ≡ packetOf w m (pieceFor (suc index) place n) = cc in
+      let tail : those (ours w) ds ≡ packetsAfter (eqb n rest) fuel (suc index) place rest n = cc in
+      rw head (awaited ds later fuel (suc index) place rest n slots bytes (within h (omega arith)) t f refl (eqb n rest) refl tail)
+  rest-by q ds later false g (suc fuel) index place rest slots bytes h t f s e =
       skipped limit w slots bytes q ds g
-      ∙ later (suc fuel) index place rest _ _ (awaits-kept q (ok .known) g a) t f (sym (left-out (ours w) q ds g) ∙ e)
+      ∙ later (suc fuel) index place rest _ _ (holding-kept q (ok .known) g h) t f s (sym (left-out (ours w) q ds g) ∙ e)
 
   rest-given : (ds : List (List ℕ)) → Rest ds
-  rest-given [] zero index place rest slots bytes a t f e = absurd (omega arith)
-  rest-given [] (suc fuel) index place rest slots bytes a t f e = let z = ap length e in absurd (omega arith)
-  rest-given (q ∷ ds) fuel index place rest slots bytes a t f e = rest-by q ds (rest-given ds) (ours w q) refl fuel index place rest slots bytes a t f e
+  rest-given [] zero index place rest slots bytes h t f s e = absurd (omega arith)
+  rest-given [] (suc fuel) index place rest slots bytes h t f s e = let z = ap length e in absurd (omega arith)
+  rest-given (q ∷ ds) fuel index place rest slots bytes h t f s e = rest-by q ds (rest-given ds) (ours w q) refl fuel index place rest slots bytes h t f s e
+
+  -- the first packet comes, and later the others
+  all-given : (first : List ℕ) (later : List (List ℕ)) (slots : List Slot) (bytes : List ℕ) → Fits limit slots bytes
+      → first ≡ getD (packetsOf w m) 0 [] → those (ours w) later ≡ drop 1 (packetsOf w m)
+      → givenTo limit w (runOf limit slots bytes (first ∷ later)) ≡ atLast (messageOf w m) (drop 1 (packetsOf w m))
+  all-given first later slots bytes o begins e =
+      let n : ℕ = sizeFor (w .room) (isFirst 0) (length m) in
+      rw begins
+      (awaited later (rest-given later) (length m) 0 0 (length m) n slots bytes (start o) (omega arith) (omega arith) refl (eqb n (length m)) refl e)
 
 -- ---- whatever came before, whatever comes after
 
@@ -154,20 +164,22 @@ unfolding runOf
 run-cut limit slots bytes [] after = refl
 run-cut limit slots bytes (q ∷ ds) after = rw (run-cut limit (acceptOf limit slots bytes q .slots) (acceptOf limit slots bytes q .bytes) ds after)
 
-during-given : (limit : ℕ) (during after : List (List ℕ)) (w : Sending) (m : List ℕ) (replies : List Reply) → leastRoom ≤ w .room → InRange limit w (length m)
-    → those (ours w) during ≡ packetsOf w m → Later limit replies (during ++ after)
-    → givenTo limit w (take (length during) replies) ≡ atLast (messageOf w m) (packetsOf w m)
-during-given limit during after w m replies room ok e l =
-    ap (λ (rs : List Reply). givenTo limit w (take (length during) rs)) (l .same)
-    ∙ ap (givenTo limit w) (run-cut limit (l .slots) (l .bytes) during after)
-    ∙ rest-given limit w m room ok during (suc (length m)) 0 0 (length m) (l .slots) (l .bytes) (start (l .is-ready)) (omega arith) (omega arith) e
+during-given : (limit : ℕ) (first : List ℕ) (later after : List (List ℕ)) (w : Sending) (m : List ℕ) (replies : List Reply)
+    → leastRoom ≤ w .room → InRange limit w (length m) → first ≡ getD (packetsOf w m) 0 [] → those (ours w) later ≡ drop 1 (packetsOf w m)
+    → Later limit replies ((first ∷ later) ++ after)
+    → givenTo limit w (take (length (first ∷ later)) replies) ≡ atLast (messageOf w m) (drop 1 (packetsOf w m))
+during-given limit first later after w m replies room ok begins e l =
+    ap (λ (rs : List Reply). givenTo limit w (take (length (first ∷ later)) rs)) (l .same)
+    ∙ ap (givenTo limit w) (run-cut limit (l .slots) (l .bytes) (first ∷ later) after)
+    ∙ all-given limit w m room ok first later (l .slots) (l .bytes) (l .is-ready) begins e
 
 pub messages-arrive : MessagesArrive
-messages-arrive limit slots bytes before during after w m out law size t e =
+messages-arrive limit slots bytes before first later after w m out law size t begins e =
     let s = calls-are limit w m out t in
     rw (s, append-assoc)
-    (during-given limit during after w m _ (room-low (w .room) (t .room)) (range-facts limit w (length m) (t .arguments)) (e ∙ s)
-    (later-on limit slots bytes before (during ++ after) (record { law = law; size = size })))
+    (during-given limit first later after w m _ (room-low (w .room) (t .room)) (range-facts limit w (length m) (t .arguments))
+    (begins ∙ ap (λ (ps : List (List ℕ)). getD ps 0 []) s) (e ∙ ap (λ (ps : List (List ℕ)). drop 1 ps) s)
+    (later-on limit slots bytes before ((first ∷ later) ++ after) (record { law = law; size = size })))
 
 -- ---- nothing before or between
 
@@ -185,17 +197,16 @@ replies-ours limit slots bytes w m (p ∷ ps) l =
 
 pub round-trip : RoundTrip
 round-trip limit slots bytes w m out law size t =
-    let l = range-facts limit w (length m) (t .arguments) .id in
-    let s = calls-are limit w m out t in
-    let sent : List (List ℕ) = packetsOf w m in
-    rw s
-    (ap (givenIn limit) (sym (replies-ours limit slots bytes w m (piecesOf (w .room) (length m)) l))
-    ∙ ap (givenTo limit w) (sym (run-cut limit slots bytes sent []))
-    ∙ rw s at (messages-arrive limit slots bytes [] sent [] w m out law size t (all-ours w m (piecesOf (w .room) (length m)) l ∙ sym s)))
+    let ok = range-facts limit w (length m) (t .arguments) in
+    let first : List ℕ = getD (packetsOf w m) 0 [] in
+    let later : List (List ℕ) = drop 1 (packetsOf w m) in
+    rw (calls-are limit w m out t)
+    (ap (givenIn limit) (sym (replies-ours limit slots bytes w m (piecesOf (w .room) (length m)) (ok .id)))
+    ∙ all-given limit w m (room-low (w .room) (t .room)) ok first later slots bytes (record { law = law; size = size }) refl
+    (all-ours w m (drop 1 (piecesOf (w .room) (length m))) (ok .id)))
 
 -- ---- the message is asked for
 
 pub message-asked : MessageAsked
 message-asked message [] = refl
-message-asked message (p ∷ []) = refl
-message-asked message (p ∷ q ∷ ps) = message-asked message (q ∷ ps)
+message-asked message (p ∷ later) = message-asked message later

@@ -2,28 +2,28 @@
 use Prim.Native.Nat.{ℕ, suc, _+_, _*_, _≤_, _<_}
 use native.Mathlib.Omega.{arith}
 use native.Mathlib.Nat.{suc-mul, mul-le-mul-right}
-use mathlib.Core.Path.{_≡_, refl, ap, _∙_}
+use mathlib.Core.Path.{_≡_, refl, sym, ap, _∙_}
 use mathlib.Core.Option.{Option, none, some}
-use mathlib.Core.List.{List}
-use mathlib.Core.Bool.{Bool, true, false, cond, _&&_}
-use lib.ListN.{length, getD, take}
+use mathlib.Core.List.{List, [], _∷_}
+use mathlib.Core.Bool.{Bool, true, false, cond, _&&_, _||_, false≢true}
+use lib.ListN.{length, getD, set, take}
 use lib.Seq.{getD-set-same, take-length}
 use borrow.Author.Tests.{eq-eqb, ne-eqb, lt-leb}
 use Rattle.wire.specs.declared.stream.Stream.{Stream}
-use Rattle.wire.specs.declared.stream.Stream.the-variants.{Control, Ota, Alexa}
 use Rattle.wire.specs.Stream.{isStream, streamOf}
 use Rattle.wire.specs.Told.{given}
 use Rattle.packet.specs.declared.reader.Head.{Head}
 use Rattle.packet.specs.declared.reader.Packet.{Packet}
 use Rattle.packet.specs.Header.{headerSize, sequenceAfter}
-use Rattle.packet.specs.Reader.{readOf}
+use Rattle.packet.specs.Reader.{headIn, readOf}
 use Rattle.slot.specs.declared.Slot.{Slot}
 use Rattle.slot.specs.declared.step.Piece as part
-use Rattle.slot.specs.Slot.{idle, slotCount}
-use Rattle.slot.specs.Step.{finish, hold, firstStep, offTotal, nextStep, slotStep}
+use Rattle.slot.specs.Slot.{idle, isOpen, slotCount, laneStart, laneOf}
+use Rattle.slot.specs.Step.{Step, step, finish, hold, firstStep, offTotal, nextStep, placeWhere}
 use Rattle.slot.proofs.Slots.{lawful-count}
-use Rattle.receiver.specs.Buffer.{placeOf, partStart, partOf, stored}
-use Rattle.receiver.specs.Receiver.{Result, applied, placeIn, acceptOf}
+use Rattle.slot.proofs.Lanes.{place-low, lane-set, lane-one}
+use Rattle.receiver.specs.Buffer.{partStart, partOf, stored}
+use Rattle.receiver.specs.Receiver.{Result, applied, actIn, acceptOf}
 use Rattle.receiver.proofs.Accepting.{Fits, accept-ready, ready-next, accept-other}
 use Rattle.sender.specs.declared.piece.Piece.{Piece}
 use Rattle.sender.specs.declared.writer.Sending.{Sending}
@@ -36,14 +36,9 @@ use Rattle.delivery.proofs.Growing.{part-grows}
 
 -- ---- a ready receiver
 
-place-low : (s : Stream) → placeOf s < slotCount
-place-low Control = omega arith
-place-low Ota = omega arith
-place-low Alexa = omega arith
-
 -- it does what was read
 accept-read : (limit : ℕ) (slots : List Slot) (bytes p : List ℕ) (x : Packet) → Fits limit slots bytes → readOf limit p ≡ given x
-    → acceptOf limit slots bytes p ≡ applied limit slots bytes p (placeIn x) (slotStep (getD slots (placeIn x) idle) x)
+    → acceptOf limit slots bytes p ≡ applied limit slots bytes p (laneStart (headIn x .stream)) (actIn slots x)
 accept-read limit slots bytes p x o e = accept-ready limit slots bytes p o ∙ rw e
 
 -- what its answer gives
@@ -52,23 +47,33 @@ gives limit r = givenBy limit (r .told) (r .bytes)
 
 -- ---- the state between the packets of a message
 
-abbrev pub placeFor : Sending → ℕ
-placeFor w = placeOf (streamOf (w .stream))
+abbrev streamFor : Sending → Stream
+streamFor w = streamOf (w .stream)
+
+-- the place of the message's slot: its stream's first
+abbrev placeFor : Sending → ℕ
+placeFor w = laneStart (streamFor w) + 0
 
 abbrev openSlot : Sending → List ℕ → ℕ → ℕ → Slot
 openSlot w m index place =
-    record { opened = true; id = w .id; total = length m; held = place; sequence = sequenceAfter (w .sequence) index }
+    record { opened = true; id = w .id; total = length m; held = place; sequence = sequenceAfter (w .sequence) index; wanted = false }
 
 -- The packets up to the one with this index have come, and none of the stream since: `place` bytes are held, and the part begins with them.
 pub record Holding (limit : ℕ) (w : Sending) (m : List ℕ) (index place : ℕ) (slots : List Slot) (bytes : List ℕ) : Type 0 where
   pub is-ready : Fits limit slots bytes
-  pub slot : getD slots (placeFor w) idle ≡ openSlot w m index place
+  pub slot : getD (laneOf (streamFor w) slots) 0 idle ≡ openSlot w m index place
   pub held : take place (partOf limit (placeFor w) bytes) ≡ take place m
 
 -- what a packet that more follow does
 pub record More (limit : ℕ) (w : Sending) (m : List ℕ) (index place : ℕ) (r : Result) : Type 0 where
   pub nothing : gives limit r ≡ none
   pub holding : Holding limit w m index place (r .slots) (r .bytes)
+
+-- a slot that is stored at a stream's first place is its first
+lane-stored : (t : Stream) (slots : List Slot) (s : Slot) → length slots ≡ slotCount → getD (laneOf t (set slots (laneStart t + 0) s)) 0 idle ≡ s
+lane-stored t slots s e =
+    let long : 0 < length (laneOf t slots) = rw (lane-one t slots e) (omega arith) in
+    ap (λ (lane : List Slot). getD lane 0 idle) (lane-set t slots 0 s (omega arith)) ∙ getD-set-same (laneOf t slots) 0 s idle long
 
 -- ---- what the packet of a piece does: it finishes, or more is to come
 
@@ -82,7 +87,7 @@ pieceIn p = record { at = p .place; start = headerSize (isFirst (p .index)) (ext
 module _ (limit : ℕ) (w : Sending) (m : List ℕ) (ok : InRange limit w (length m)) (slots : List Slot) (bytes : List ℕ) (o : Fits limit slots bytes) where
   inside : partStart limit (placeFor w) + limit ≤ length bytes
   inside =
-      let u : suc (placeFor w) * limit ≤ slotCount * limit = mul-le-mul-right limit (place-low (streamOf (w .stream))) in
+      let u : suc (placeFor w) * limit ≤ slotCount * limit = mul-le-mul-right limit (place-low (streamFor w) 0 (omega arith)) in
       omega (arith, suc-mul (placeFor w) limit, o .size)
 
   module _ (p : Piece) (within : p .place + p .size ≤ length m) (before : take (p .place) (partOf limit (placeFor w) bytes) ≡ take (p .place) m) (replaced : Bool) (r : Result) where
@@ -91,14 +96,18 @@ module _ (limit : ℕ) (w : Sending) (m : List ℕ) (ok : InRange limit w (lengt
     stores = rw (payload-read w m p) (part-grows limit (placeFor w) (p .place) (p .size) bytes m inside within (ok .within) before)
 
     last-gives : p .place + p .size ≡ length m
-        → r ≡ applied limit slots bytes (packetOf w m p) (placeFor w) (finish (headFor w p) (isLast (length m) p && w .ack) (length m) replaced (pieceIn p))
+        → r ≡ applied limit slots bytes (packetOf w m p) (laneStart (streamFor w)) (step 0 (finish (headFor w p) (w .ack) (length m) replaced (pieceIn p)))
         → gives limit r ≡ some (messageOf w m)
     unfolding finish
     last-gives e f =
-        let all : take (length m) (partOf limit (placeFor w) (stored limit (placeFor w) bytes (packetOf w m p) (pieceIn p))) ≡ m = rw e at stores ∙ take-length m in
-        rw (f, eq-eqb (p .place + p .size) (length m) e, all)
+        let same : laneStart (streamFor w) ≡ placeFor w = omega arith in
+        let left : List ℕ = stored limit (placeFor w) bytes (packetOf w m p) (pieceIn p) in
+        let all : take (length m) (partOf limit (laneStart (streamFor w)) left) ≡ m
+        = ap (λ (i : ℕ). take (length m) (partOf limit i left)) same ∙ rw e at stores ∙ take-length m in
+        rw (f, all)
 
-    more-holds : Fits limit (r .slots) (r .bytes) → r ≡ applied limit slots bytes (packetOf w m p) (placeFor w) (hold (headFor w p) (length m) replaced (pieceIn p))
+    more-holds : Fits limit (r .slots) (r .bytes)
+        → r ≡ applied limit slots bytes (packetOf w m p) (laneStart (streamFor w)) (step 0 (hold (headFor w p) false (length m) replaced (pieceIn p)))
         → More limit w m (p .index) (p .place + p .size) r
     unfolding hold
     more-holds ready f =
@@ -107,7 +116,7 @@ module _ (limit : ℕ) (w : Sending) (m : List ℕ) (ok : InRange limit w (lengt
           holding =
               record {
                 is-ready = ready;
-                slot = rw f (getD-set-same slots (placeFor w) _ idle (omega (arith, place-low (streamOf (w .stream)), lawful-count limit slots (o .law))));
+                slot = rw f (lane-stored (streamFor w) slots _ (lawful-count limit slots (o .law)));
                 held = rw f stores;
               };
         }
@@ -119,33 +128,43 @@ module _ (limit : ℕ) (w : Sending) (m : List ℕ) (ok : InRange limit w (lengt
   abbrev piece : Piece
   piece = pieceFor 0 0 n
 
+  -- what the stream's slot was
+  abbrev was : Slot
+  was = getD (laneOf (streamFor w) slots) 0 idle
+
   first-is : acceptOf limit slots bytes (packetOf w m piece)
-      ≡ applied limit slots bytes (packetOf w m piece) (placeFor w)
-      (firstStep (getD slots (placeFor w) idle) (headFor w piece) (isLast (length m) piece && w .ack) (length m) (headerSize true (extended n)) n)
+      ≡ applied limit slots bytes (packetOf w m piece) (laneStart (streamFor w))
+      (step 0 (firstStep was (headFor w piece) (isLast (length m) piece && w .ack) (length m) (headerSize true (extended n)) n))
   first-is =
       accept-read limit slots bytes (packetOf w m piece) _ o (first-read limit w m piece (ok .known) (ok .id) (omega arith) refl (ok .within) filled)
 
   first-last : n ≡ length m → gives limit (acceptOf limit slots bytes (packetOf w m piece)) ≡ some (messageOf w m)
   unfolding firstStep
   first-last e =
-      last-gives limit w m ok slots bytes o piece (omega arith) refl (getD slots (placeFor w) idle .opened) _ (omega arith)
-      (first-is ∙ rw (eq-eqb n (length m) e))
+      last-gives limit w m ok slots bytes o piece (omega arith) refl (was .opened) _ (omega arith)
+      (first-is ∙ rw (eq-eqb n (length m) e, eq-eqb (0 + n) (length m) (omega arith)))
 
   first-more : n < length m → More limit w m 0 (0 + n) (acceptOf limit slots bytes (packetOf w m piece))
   unfolding firstStep
   first-more l =
-      more-holds limit w m ok slots bytes o piece (omega arith) refl (getD slots (placeFor w) idle .opened) _
-      (ready-next limit slots bytes (packetOf w m piece) o) (first-is ∙ rw (ne-eqb n (length m) (λ e. omega arith)))
+      more-holds limit w m ok slots bytes o piece (omega arith) refl (was .opened) _
+      (ready-next limit slots bytes (packetOf w m piece) o) (first-is ∙ rw (ne-eqb n (length m) (λ e. omega arith), ne-eqb (0 + n) (length m) (λ e. omega arith)))
 
 -- ---- the packets after the first
 
--- one that fits an open slot passes the table
-next-passes : (s : Slot) (h : Head) (ack last : Bool) (start n : ℕ) → s .opened ≡ true → s .id ≡ h .id → h .sequence ≡ sequenceAfter (s .sequence) 1
+-- one that fits an open transaction passes the table
+next-passes : (s : Slot) (h : Head) (ack last : Bool) (start n : ℕ) → h .sequence ≡ sequenceAfter (s .sequence) 1
     → offTotal last (s .held + n) (s .total) ≡ false
     → nextStep s h ack last start n
-    ≡ cond last (finish h ack (s .total) false (record { at = s .held; start = start; len = n })) (hold h (s .total) false (record { at = s .held; start = start; len = n }))
+    ≡ cond last (finish h (s .wanted || ack) (s .total) false (record { at = s .held; start = start; len = n }))
+    (hold h (s .wanted || ack) (s .total) false (record { at = s .held; start = start; len = n }))
 unfolding nextStep
-next-passes s h ack last start n u i q t = simp (u, eq-eqb (s .id) (h .id) i, eq-eqb (h .sequence) (sequenceAfter (s .sequence) 1) q, t)
+next-passes s h ack last start n q t = simp (eq-eqb (h .sequence) (sequenceAfter (s .sequence) 1) q, t)
+
+-- a first slot that passes a test is found
+first-found : (test : Slot → Bool) (lane : List Slot) → test idle ≡ false → test (getD lane 0 idle) ≡ true → placeWhere test lane ≡ some 0
+first-found test [] refuses passes = absurd (false≢true (sym refuses ∙ passes))
+first-found test (s ∷ lane) refuses passes = rw passes
 
 module _ (limit : ℕ) (w : Sending) (m : List ℕ) (ok : InRange limit w (length m)) (slots : List Slot) (bytes : List ℕ) (index place n : ℕ)
     (h : Holding limit w m index place slots bytes) (some-left : 1 ≤ n) (small : place + n ≤ length m) where
@@ -155,17 +174,21 @@ module _ (limit : ℕ) (w : Sending) (m : List ℕ) (ok : InRange limit w (lengt
   not-first : isFirst (suc index) ≡ false
   not-first = ne-eqb (suc index) 0 (λ e. omega arith)
 
+  -- the message's slot is found
+  found-at : placeWhere (isOpen (w .id)) (laneOf (streamFor w) slots) ≡ some 0
+  found-at = first-found (isOpen (w .id)) (laneOf (streamFor w) slots) refl (ap (isOpen (w .id)) (h .slot) ∙ eq-eqb (w .id) (w .id) refl)
+
   next-is : (last : Bool) → isLast (length m) following ≡ last → offTotal last (place + n) (length m) ≡ false
       → acceptOf limit slots bytes (packetOf w m following)
-      ≡ applied limit slots bytes (packetOf w m following) (placeFor w)
-      (cond last (finish (headFor w following) (isLast (length m) following && w .ack) (length m) false (pieceIn following))
-      (hold (headFor w following) (length m) false (pieceIn following)))
+      ≡ applied limit slots bytes (packetOf w m following) (laneStart (streamFor w))
+      (step 0 (cond last (finish (headFor w following) (last && w .ack) (length m) false (pieceIn following))
+      (hold (headFor w following) (last && w .ack) (length m) false (pieceIn following))))
   next-is last e t =
       accept-read limit slots bytes (packetOf w m following) _ (h .is-ready)
       (next-read limit w m following (ok .known) (ok .id) small not-first some-left)
-      ∙ rw (h .slot, e, not-first)
-      (ap (applied limit slots bytes (packetOf w m following) (placeFor w))
-      (next-passes (openSlot w m index place) (headFor w following) (last && w .ack) last (headerSize false (extended n)) n refl refl (omega arith) t))
+      ∙ rw (found-at, h .slot, e, not-first)
+      (ap (λ (s : Step). applied limit slots bytes (packetOf w m following) (laneStart (streamFor w)) (step 0 s))
+      (next-passes (openSlot w m index place) (headFor w following) (last && w .ack) last (headerSize false (extended n)) n (omega arith) t))
 
   next-last : place + n ≡ length m → gives limit (acceptOf limit slots bytes (packetOf w m following)) ≡ some (messageOf w m)
   next-last e =
@@ -186,20 +209,17 @@ pub data Awaits (limit : ℕ) (w : Sending) (m : List ℕ) (slots : List Slot) (
   start : Fits limit slots bytes → Awaits limit w m slots bytes 0 0
   within : {index place : ℕ} → Holding limit w m index place slots bytes → place < length m → Awaits limit w m slots bytes (suc index) place
 
--- packets of other streams change nothing of it
-pub awaits-kept : {limit : ℕ} {w : Sending} {m : List ℕ} {slots : List Slot} {bytes : List ℕ} {index place : ℕ} (q : List ℕ) → isStream (w .stream) ≡ true
-    → ours w q ≡ false → Awaits limit w m slots bytes index place
-    → Awaits limit w m (acceptOf limit slots bytes q .slots) (acceptOf limit slots bytes q .bytes) index place
-awaits-kept {limit} {w} {m} {slots} {bytes} q known e (start o) = start (ready-next limit slots bytes q o)
-awaits-kept {limit} {w} {m} {slots} {bytes} q known e (within {index} {place} h l) =
+-- packets of other streams change nothing of what is held
+pub holding-kept : {limit : ℕ} {w : Sending} {m : List ℕ} {slots : List Slot} {bytes : List ℕ} {index place : ℕ} (q : List ℕ) → isStream (w .stream) ≡ true
+    → ours w q ≡ false → Holding limit w m index place slots bytes
+    → Holding limit w m index place (acceptOf limit slots bytes q .slots) (acceptOf limit slots bytes q .bytes)
+holding-kept {limit} {w} {m} {slots} {bytes} {index} {place} q known e h =
     let k = accept-other limit (w .stream) slots bytes q (h .is-ready) known e in
-    within
-    (record {
+    record {
       is-ready = ready-next limit slots bytes q (h .is-ready);
-      slot = k .same-slot ∙ h .slot;
-      held = ap (take place) (k .same-part) ∙ h .held;
-    })
-    l
+      slot = ap (λ (lane : List Slot). getD lane 0 idle) (k .same-lane) ∙ h .slot;
+      held = ap (take place) (k .same-part 0 (omega arith)) ∙ h .held;
+    }
 
 module _ (limit : ℕ) (w : Sending) (m : List ℕ) (ok : InRange limit w (length m)) (slots : List Slot) (bytes : List ℕ) (n : ℕ) where
   -- the last packet gives the message

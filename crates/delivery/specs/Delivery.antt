@@ -4,7 +4,7 @@ use mathlib.Core.Path.{_≡_}
 use mathlib.Core.Option.{Option, none, some}
 use mathlib.Core.List.{List, [], _∷_, _++_, map}
 use mathlib.Core.Bool.{Bool, true, cond}
-use lib.ListN.{length, take, drop}
+use lib.ListN.{length, getD, take, drop}
 use Rattle.wire.specs.Told.{Told, given, refused}
 use Rattle.wire.specs.declared.stream.Stream.{Stream}
 use Rattle.wire.specs.Stream.{streamOf}
@@ -12,8 +12,8 @@ use Rattle.packet.specs.Header.{isOf}
 use Rattle.slot.specs.declared.Slot.{Slot}
 use Rattle.slot.specs.declared.answer.Accepted.{Accepted}
 use Rattle.slot.specs.declared.answer.Accepted.the-variants.{Taken, Finished, Acked, Nacked}
-use Rattle.slot.specs.Slot.{slotCount, lawful}
-use Rattle.receiver.specs.Buffer.{placeOf, partOf}
+use Rattle.slot.specs.Slot.{slotCount, laneStart, lawful}
+use Rattle.receiver.specs.Buffer.{partOf}
 use Rattle.receiver.specs.Receiver.{acceptOf}
 use Rattle.sender.specs.declared.writer.Sending.{Sending}
 use Rattle.delivery.specs.Calls.{callsOf, Takes}
@@ -50,7 +50,7 @@ pub record Message : Type 0 where
 -- a message is given when the answer is finished: what it tells, and the first bytes of the stream's part of the buffer
 abbrev pub givenBy : ℕ → Told Accepted → List ℕ → Option Message
 givenBy limit (given (Finished stream id total ack replaced)) bytes =
-    some (record { stream = stream; id = id; total = total; ack = ack; payload = take total (partOf limit (placeOf stream) bytes) })
+    some (record { stream = stream; id = id; total = total; ack = ack; payload = take total (partOf limit (laneStart stream) bytes) })
 givenBy limit (given (Taken stream id replaced)) bytes = none
 givenBy limit (given (Acked head)) bytes = none
 givenBy limit (given (Nacked head)) bytes = none
@@ -79,23 +79,23 @@ givenTo limit w replies = givenIn limit (those (λ (r : Reply). ours w (r .packe
 abbrev pub messageOf : Sending → List ℕ → Message
 messageOf w m = record { stream = streamOf (w .stream); id = w .id; total = length m; ack = w .ack; payload = m }
 
--- nothing at each of the packets but the last, and there the message; it is asked for where there are no packets too
+-- nothing at the first packet and at each of those after it but the last, and there the message
 abbrev pub atLast : Message → List (List ℕ) → List (Option Message)
 atLast message [] = some message ∷ []
-atLast message (p ∷ []) = some message ∷ []
-atLast message (p ∷ q ∷ ps) = none ∷ atLast message (q ∷ ps)
+atLast message (p ∷ later) = none ∷ atLast message later
 
--- From every lawful state and buffer of the right size, whatever packets come before and after: where the packets of one stream
--- are exactly those that the writer's calls give for a message, in order, with any packets of other streams among them, the last
--- of them gives the message, and no other of them gives any.
+-- From every lawful state and buffer of the right size, whatever packets come before and after: where a packet is the first of those
+-- that the writer's calls give for a message, and those of its stream among the packets after it are exactly the others, in order,
+-- with any packets of other streams between, the last of them gives the message, and no other of them gives any.
 abbrev pub MessagesArrive : Type 0
 MessagesArrive =
-    (limit : ℕ) (slots : List Slot) (bytes : List ℕ) (before during after : List (List ℕ)) (w : Sending) (m out : List ℕ)
+    (limit : ℕ) (slots : List Slot) (bytes : List ℕ) (before : List (List ℕ)) (first : List ℕ) (later after : List (List ℕ)) (w : Sending) (m out : List ℕ)
     → lawful limit slots ≡ true
     → length bytes ≡ slotCount * limit
     → Takes limit w m out
-    → those (ours w) during ≡ callsOf limit w m out
-    → givenTo limit w (repliesTo limit slots bytes before during after) ≡ atLast (messageOf w m) (callsOf limit w m out)
+    → first ≡ getD (callsOf limit w m out) 0 []
+    → those (ours w) later ≡ drop 1 (callsOf limit w m out)
+    → givenTo limit w (repliesTo limit slots bytes before (first ∷ later) after) ≡ atLast (messageOf w m) (drop 1 (callsOf limit w m out))
 
 -- With nothing before or between: the writer's packets alone give the message, at the last of them.
 abbrev pub RoundTrip : Type 0
@@ -104,7 +104,7 @@ RoundTrip =
     → lawful limit slots ≡ true
     → length bytes ≡ slotCount * limit
     → Takes limit w m out
-    → givenIn limit (runOf limit slots bytes (callsOf limit w m out)) ≡ atLast (messageOf w m) (callsOf limit w m out)
+    → givenIn limit (runOf limit slots bytes (callsOf limit w m out)) ≡ atLast (messageOf w m) (drop 1 (callsOf limit w m out))
 
 -- the messages that are given
 abbrev pub givenOnly : List (Option Message) → List Message
@@ -114,4 +114,4 @@ givenOnly (some message ∷ os) = message ∷ givenOnly os
 
 -- Whatever packets a writer's calls give, none at all too, both claims ask for the message, and once: no writer that refuses meets them.
 abbrev pub MessageAsked : Type 0
-MessageAsked = (message : Message) (packets : List (List ℕ)) → givenOnly (atLast message packets) ≡ message ∷ []
+MessageAsked = (message : Message) (later : List (List ℕ)) → givenOnly (atLast message later) ≡ message ∷ []

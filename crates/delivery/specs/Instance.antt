@@ -4,7 +4,7 @@ use mathlib.Core.Path.{_≡_}
 use mathlib.Core.Option.{none, some}
 use mathlib.Core.List.{List, [], _∷_}
 use mathlib.Core.Bool.{true}
-use lib.ListN.{length, replicate}
+use lib.ListN.{length, getD, drop, replicate}
 use Rattle.wire.specs.declared.stream.Stream.the-variants.{Alexa}
 use Rattle.slot.specs.declared.Slot.{Slot}
 use Rattle.slot.specs.Slot.{idle, slotCount, lawful}
@@ -32,25 +32,26 @@ message = from 1 35
 abbrev pub output : List ℕ
 output = replicate 20 0
 
--- an OTA transaction is open, of which two bytes are held
+-- an OTA transaction is open, of which two bytes are held, and which wants an ACK
 abbrev pub slots : List Slot
-slots = idle ∷ record { opened = true; id = 3; total = 6; held = 2; sequence = 15 } ∷ idle ∷ []
+slots = idle ∷ record { opened = true; id = 3; total = 6; held = 2; sequence = 15; wanted = true } ∷ idle ∷ []
 
 abbrev pub buffer : List ℕ
 buffer = replicate (slotCount * limit) 0
 
--- a transaction of the same stream and id is begun
+-- a transaction of the same stream and id is begun; a control message, whole
 abbrev pub before : List (List ℕ)
-before = (0x61 ∷ 0x50 ∷ 0x00 ∷ 0x00 ∷ 0x04 ∷ 0x01 ∷ 0xEE ∷ []) ∷ []
+before = (0x61 ∷ 0x50 ∷ 0x00 ∷ 0x00 ∷ 0x04 ∷ 0x01 ∷ 0xEE ∷ []) ∷ (0x01 ∷ 0x00 ∷ 0x00 ∷ 0x00 ∷ 0x02 ∷ 0x02 ∷ 0x08 ∷ 0x5E ∷ []) ∷ []
 
--- P4's three packets, and among them packets of other streams
-abbrev pub during : List (List ℕ)
-during =
-    -- a control message, whole
-    (0x01 ∷ 0x00 ∷ 0x00 ∷ 0x00 ∷ 0x02 ∷ 0x02 ∷ 0x08 ∷ 0x5E ∷ [])
-    ∷ (0x61 ∷ 0x00 ∷ 0x00 ∷ 0x00 ∷ 0x23 ∷ 0x0E ∷ from 1 14)
+-- P4's first packet
+abbrev pub first : List ℕ
+first = 0x61 ∷ 0x00 ∷ 0x00 ∷ 0x00 ∷ 0x23 ∷ 0x0E ∷ from 1 14
+
+-- the two after it, and among them packets of other streams
+abbrev pub later : List (List ℕ)
+later =
     -- the open OTA transaction goes on
-    ∷ (0x23 ∷ 0x04 ∷ 0x02 ∷ 0xAA ∷ 0xBB ∷ [])
+    (0x23 ∷ 0x04 ∷ 0x02 ∷ 0xAA ∷ 0xBB ∷ [])
     -- an ACK
     ∷ (0x01 ∷ 0x0E ∷ 0x00 ∷ 0x02 ∷ 0x01 ∷ 0x00 ∷ [])
     ∷ (0x61 ∷ 0x14 ∷ 0x11 ∷ from 15 17)
@@ -74,8 +75,9 @@ pub record Arrives : Type 0 where
   pub law : lawful limit slots ≡ true
   pub size : length buffer ≡ slotCount * limit
   pub takes : Takes limit how message output
-  pub sent : those (ours how) during ≡ callsOf limit how message output
-  pub arrived : givenTo limit how (repliesTo limit slots buffer before during after)
+  pub begins : first ≡ getD (callsOf limit how message output) 0 []
+  pub sent : those (ours how) later ≡ drop 1 (callsOf limit how message output)
+  pub arrived : givenTo limit how (repliesTo limit slots buffer before (first ∷ later) after)
       ≡ none ∷ none ∷ some (record { stream = Alexa; id = 1; total = 35; ack = true; payload = message }) ∷ []
   pub claimed : MessagesArrive
-      → givenTo limit how (repliesTo limit slots buffer before during after) ≡ atLast (messageOf how message) (callsOf limit how message output)
+      → givenTo limit how (repliesTo limit slots buffer before (first ∷ later) after) ≡ atLast (messageOf how message) (drop 1 (callsOf limit how message output))

@@ -95,7 +95,12 @@ fn information_room(
     device_type: &[u8],
 ) -> Room
     requires { ⌜ length (now transports) ≤ mostTransports ⌝ }
-    ensures { λ r. ⌜ r ≡ lessRoom (length (messageBytes (informationFields (now («serial_number» .entry)) (now (name .entry)) (now (transports .entry)) (now («device_type» .entry))))) (Room.Left len) ⌝ }
+    ensures { λ r. ⌜ r
+        ≡ lessRoom
+        (length
+        (messageBytes
+        (informationFields (now («serial_number» .entry)) (now (name .entry)) (now (transports .entry))
+        (now («device_type» .entry))))) (Room.Left len) ⌝ }
 {
     Room::Left(len)
         .less(text_len(SERIAL_NUMBER, serial_number))
@@ -112,8 +117,14 @@ fn put_information(
     transports: &[i32],
     device_type: &[u8],
 ) -> usize
-    requires { ⌜ (length (now transports) ≤ mostTransports) × (length (messageBytes (informationFields (now «serial_number») (now name) (now transports) (now «device_type»))) ≤ length (now out)) ⌝ }
-    ensures { λ r. ⌜ Put (now (out .entry)) 0 (messageBytes (informationFields (now («serial_number» .entry)) (now (name .entry)) (now (transports .entry)) (now («device_type» .entry)))) r (now (out .exit)) ⌝ }
+    requires { ⌜ (length (now transports) ≤ mostTransports)
+        × (length
+        (messageBytes (informationFields (now «serial_number») (now name) (now transports) (now «device_type»)))
+        ≤ length (now out)) ⌝ }
+    ensures { λ r. ⌜ Put (now (out .entry)) 0
+        (messageBytes
+        (informationFields (now («serial_number» .entry)) (now (name .entry)) (now (transports .entry))
+        (now («device_type» .entry)))) r (now (out .exit)) ⌝ }
 {
     let second = put_text(out, 0, SERIAL_NUMBER, serial_number);
     let third = put_text(out, second, NAME, name);
@@ -129,7 +140,9 @@ pub fn write_information(
     transports: &[i32],
     device_type: &[u8],
 ) -> Wrote
-    ensures { λ r. ⌜ written (toldWrote r) (now (out .exit)) ≡ informationWritten (now («serial_number» .entry)) (now (name .entry)) (now (transports .entry)) (now («device_type» .entry)) (now (out .entry)) ⌝ }
+    ensures { λ r. ⌜ written (toldWrote r) (now (out .exit))
+        ≡ informationWritten (now («serial_number» .entry)) (now (name .entry)) (now (transports .entry))
+        (now («device_type» .entry)) (now (out .entry)) ⌝ }
 {
     if MOST_TRANSPORTS < transports.len() {
         return Wrote::Refused(WriteRefusal::BadArgument);

@@ -4,7 +4,7 @@ use mathlib.Core.Bool.{cond}
 use mathlib.Core.List.{List, [], _∷_}
 use lib.ListN.{length, take, drop}
 use lib.Dec.{ltb, eqb}
-use Rattle.wire.specs.Told.{Told, given, refused, andThen, line, table}
+use Rattle.wire.specs.Told.{Told, ToldOf, given, refused, andThen, line, table}
 use Rattle.field.specs.declared.value.Part.{Part}
 use Rattle.field.specs.declared.value.Value.{Value}
 use Rattle.field.specs.declared.value.Value.the-variants.{Number, Bytes, Skipped}
@@ -46,7 +46,7 @@ Within s [] = Unit {0}
 Within s (p ∷ ps) = (p .start + p .len ≤ length s) × Within s ps
 
 -- the parts of what is told, if anything is, lie within the message
-abbrev pub TellsWithin : {A : Type 0} → List ℕ → (A → List Part) → Told A → Type 0
+abbrev pub TellsWithin : {N A : Type 0} → List ℕ → (A → List Part) → ToldOf N A → Type 0
 TellsWithin s parts (given a) = Within s (parts a)
 TellsWithin s parts (refused n) = Unit {0}
 

@@ -1,7 +1,8 @@
-// Fields of Protocol Buffers messages: varints, signed numbers, tags and values, read.
+// Fields of Protocol Buffers messages: varints, 32-bit numbers, tags and values, read.
 pub mod fields;
 pub mod signed;
 pub mod tag;
+pub mod unsigned;
 pub mod value;
 pub mod varint;
 

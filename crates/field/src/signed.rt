@@ -1,23 +1,20 @@
 // Signed 32-bit numbers in varints.
+use crate::unsigned::low_bits;
 ghost use mathlib.Core.Path.{_≡_};
 ghost use Rattle.field.specs.Signed.{signedOf, extended};
 
-// The largest number of 32 bits and of 64 bits, and the bits of the former.
+// The largest number of 32 bits and of 64 bits.
 const MAX_32: u64 = 4294967295;
 
 const MAX_64: u64 = 18446744073709551615;
-
-const BITS_32: u64 = 32;
-// The number of values of 32 bits, and of those the first that is a negative number's.
-const COUNT_32: u64 = 4294967296;
-
+// The first of the values of 32 bits that is a negative number's.
 const FIRST_NEGATIVE: u64 = 2147483648;
 
 // The low 32 bits of a varint's value, in two's complement.
 pub fn low_signed(value: u64) -> i32
     ensures { λ r. ⌜ r ≡ signedOf value ⌝ }
 {
-    let low = value - (value >> BITS_32) * COUNT_32;
+    let low = low_bits(value);
     if low < FIRST_NEGATIVE {
         low as i32
     } else {

@@ -7,8 +7,8 @@ use crate::tag::VARINT;
 use crate::varint::Varint;
 use crate::varint::read_varint;
 ghost use mathlib.Core.Path.{_≡_};
-ghost use Rattle.wire.specs.Told.{andThen};
-ghost use Rattle.field.specs.Varint.{varintAt};
+ghost use Prim.Native.Nat.{_≤_};
+ghost use lib.ListN.{length};
 ghost use Rattle.field.specs.Value.{skippedAt, partOf, valueAt, toldValue, TellsWithin, readParts};
 
 // A part of the lent message.
@@ -47,50 +47,48 @@ fn skip(message: &[u8], at: usize, n: usize) -> ValueRead
     ValueRead::Refused(Refusal::Cut)
 }
 
-// A length and as many bytes.
-fn read_part(message: &[u8], at: usize) -> ValueRead
-    ensures { λ r. ⌜ toldValue r ≡ andThen (varintAt (now (message .entry)) at) (partOf (now (message .entry))) ⌝ }
+// The bytes that a length counts, from the place after it.
+fn part_of(message: &[u8], value: u64, next: usize) -> ValueRead
+    requires { ⌜ next ≤ length (now message) ⌝ }
+    ensures { λ r. ⌜ toldValue r ≡ partOf (now (message .entry)) (value, next) ⌝ }
 {
-    match read_varint(message, at) {
-        Varint::Refused(e) => ValueRead::Refused(e),
-        Varint::Value { value, next } => {
-            let size = message.len();
-            let left = size - next;
-            if value <= left as u64 {
-                let len = value as usize;
-                let end = next + len;
-                return ValueRead::Read {
-                    value: Value::Bytes(Part { start: next, len }),
-                    next: end,
-                };
-            }
-            ValueRead::Refused(Refusal::Cut)
-        }
+    let size = message.len();
+    let left = size - next;
+    if value <= left as u64 {
+        let len = value as usize;
+        let end = next + len;
+        return ValueRead::Read {
+            value: Value::Bytes(Part { start: next, len }),
+            next: end,
+        };
     }
+    ValueRead::Refused(Refusal::Cut)
 }
 
-// The value of a wire type at a place.
+// The value of a wire type at a place. A number and a length are read by the same code: so small the compiler inlines it.
 pub fn read_value(message: &[u8], at: usize, wire: u64) -> ValueRead
     ensures { λ r. ⌜ toldValue r ≡ valueAt (now (message .entry)) at wire ⌝ }
     ensures { λ r. ⌜ TellsWithin (now (message .entry)) readParts (toldValue r) ⌝ }
 {
-    if wire == VARINT {
-        return match read_varint(message, at) {
-            Varint::Refused(e) => ValueRead::Refused(e),
-            Varint::Value { value, next } => ValueRead::Read {
-                value: Value::Number(value),
-                next,
-            },
-        };
-    }
-    if wire == LENGTH {
-        return read_part(message, at);
+    if LENGTH < wire {
+        if wire == FIXED32 {
+            return skip(message, at, 4);
+        }
+        return ValueRead::Refused(Refusal::BadTag);
     }
     if wire == FIXED64 {
         return skip(message, at, 8);
     }
-    if wire == FIXED32 {
-        return skip(message, at, 4);
+    match read_varint(message, at) {
+        Varint::Refused(e) => ValueRead::Refused(e),
+        Varint::Value { value, next } => {
+            if wire == VARINT {
+                return ValueRead::Read {
+                    value: Value::Number(value),
+                    next,
+                };
+            }
+            part_of(message, value, next)
+        }
     }
-    ValueRead::Refused(Refusal::BadTag)
 }

@@ -80,7 +80,8 @@ pub fn put_part(out: &mut [u8], at: usize, field: u64, bytes: &[u8]) -> usize
 // The number of bytes of a string.
 pub fn text_len(field: u64, bytes: &[u8]) -> usize
     requires { ⌜ field ≤ lastField ⌝ }
-    ensures { λ r. ⌜ (r ≡ length (fieldBytes (text field (now (bytes .entry))))) × (r ≤ 20 + length (now (bytes .entry))) ⌝ }
+    ensures { λ r. ⌜ (r ≡ length (fieldBytes (text field (now (bytes .entry)))))
+        × (r ≤ 20 + length (now (bytes .entry))) ⌝ }
 {
     if bytes.len() == 0 {
         return 0;
@@ -102,7 +103,8 @@ pub fn put_text(out: &mut [u8], at: usize, field: u64, bytes: &[u8]) -> usize
 // The number of bytes of signed numbers as varints.
 fn varints_len(list: &[i32]) -> usize
     requires { ⌜ length (now list) < 2 ^ 32 ⌝ }
-    ensures { λ r. ⌜ (r ≡ length (varintsBytes (map extended (now (list .entry))))) × (r ≤ 10 * length (now (list .entry))) ⌝ }
+    ensures { λ r. ⌜ (r ≡ length (varintsBytes (map extended (now (list .entry)))))
+        × (r ≤ 10 * length (now (list .entry))) ⌝ }
 {
     let mut n: usize = 0;
     let mut i = 0;
@@ -141,8 +143,11 @@ pub fn packed_len(field: u64, list: &[i32]) -> usize
 
 // A packed list, written at a place; the answer is the place after it.
 pub fn put_packed(out: &mut [u8], at: usize, field: u64, list: &[i32]) -> usize
-    requires { ⌜ (field ≤ lastField) × (length (now list) < 2 ^ 32) × (at + length (fieldBytes (packed field (map extended (now list)))) ≤ length (now out)) ⌝ }
-    ensures { λ r. ⌜ Put (now (out .entry)) at (fieldBytes (packed field (map extended (now (list .entry))))) r (now (out .exit)) ⌝ }
+    requires { ⌜ (field ≤ lastField)
+        × (length (now list) < 2 ^ 32)
+        × (at + length (fieldBytes (packed field (map extended (now list)))) ≤ length (now out)) ⌝ }
+    ensures { λ r. ⌜ Put (now (out .entry)) at (fieldBytes (packed field (map extended (now (list .entry))))) r
+        (now (out .exit)) ⌝ }
 {
     if list.len() == 0 {
         return at;

@@ -68,7 +68,7 @@ escaped-least (b ∷ bs) = rw length-append (omega (arith, unit-least (kindOf b)
 -- ---- a frame in its parts
 
 module _ (s : ℕ) (p : List ℕ) (high low : ℕ) where
-  frame-parts : framed s (p ++ (high ∷ low ∷ [])) ≡ headerOf s ++ (escapedOf p ++ (unit high ++ (unit low ++ (endMark ∷ []))))
+  pub frame-parts : framed s (p ++ (high ∷ low ∷ [])) ≡ headerOf s ++ (escapedOf p ++ (unit high ++ (unit low ++ (endMark ∷ []))))
   unfolding framed escapedOf
   frame-parts = rw (escaped-append p (high ∷ low ∷ [])) (simp (append-assoc, append-nil))
 

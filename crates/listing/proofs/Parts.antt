@@ -2,15 +2,16 @@
 use Prim.Native.Nat.{ℕ, _+_, _-_, _≤_, _<_}
 use mathlib.Core.Path.{_≡_, refl, sym, ap, _∙_}
 use mathlib.Core.Bool.{Bool, true, false, not, _&&_}
-use mathlib.Core.List.{List, _∷_, _++_}
+use mathlib.Core.List.{List, [], _∷_, _++_}
+use mathlib.Mathlib.Data.Bool.Basic.{or-eq-false-eq-eq-false-and-eq-false}
 use native.Mathlib.Omega.{arith}
 use lib.ListN.{length, getD, set, take, drop, length-append, length-drop, length-set}
-use lib.Seq.{sets, length-take-le, take-append-seam, getD-drop, getD-take, drop-set-lt, drop-drop}
+use lib.Seq.{sets, length-take-le, take-take, take-append-seam, drop-append-le, getD-drop, getD-take, drop-set-lt, drop-drop}
 use lib.Dec.{eqb}
-use borrow.Author.Tests.{eqb-true}
-use Rattle.wire.proofs.Stores.{sets-step, sets-end}
+use borrow.Author.Tests.{eqb-true, not-false}
+use Rattle.wire.proofs.Stores.{sets-step, sets-end, part-stored}
 use Rattle.outbox.specs.declared.format.Format.{Format}
-use Rattle.outbox.specs.Format.{Known, isOne, formatOf, headSize, firstPlace}
+use Rattle.outbox.specs.Format.{Known, isOne, formatOf, headSize, newBytes, firstPlace}
 use Rattle.outbox.specs.Reader.{Answer, Handed, given, refused, refusedAt, otherVersion, readAll, firstRefusal, walkOf}
 use Rattle.outbox_claims.specs.Claims.{usable, recordsOf, allMoved, fromPlace, ReadsAsAlone}
 use Rattle.outbox.proofs.Versions.{known-small}
@@ -136,18 +137,13 @@ version : (b : ℕ) (part file : List ℕ) → formatOf (b ∷ part) ≡ formatO
 unfolding formatOf isOne
 version b part file = refl
 
-pub lists-as-whole : ListsAsWhole
-lists-as-whole =
-    record {
-      version = version;
-      over = over;
-      goes-on = goes-on;
-      further = further;
-      full = λ fmt known part size unfinished.
-          let small = known-small fmt known in
-          further fmt part (omega (arith, size, small .1, small .2)) unfinished;
-      last = last;
-    }
+-- the first byte of an outbox is its version
+version-byte : (fmt : Format) (file : List ℕ) → otherVersion fmt file ≡ false → take firstPlace file ≡ newBytes fmt
+unfolding otherVersion
+version-byte fmt [] v = absurd (clash (cc))
+version-byte fmt (b ∷ file) v =
+    let same = or-eq-false-eq-eq-false-and-eq-false (eqb (length (b ∷ file)) 0) (not (eqb b (fmt .version))) .0 v .1 in
+    rw (eqb-true b (fmt .version) (not-false _ same))
 
 -- moving the bytes of a part, byte by byte: what is left to store, and that it is not stored over
 pub record Moving (buffer : List ℕ) (place held : ℕ) (now : List ℕ) (i : ℕ) : Type 0 where
@@ -163,6 +159,22 @@ module _ (buffer : List ℕ) (place held : ℕ) (first : firstPlace ≤ place) (
   run-long : length run ≡ held - place
   unfolding run
   run-long = length-drop place (take held buffer) ∙ rw (length-take-le held buffer fits)
+
+  -- the version byte stays, and behind it stand the bytes from the place on
+  carries : (fmt : Format) (more : List ℕ) → otherVersion fmt (take held buffer) ≡ false
+      → let next = carryOf buffer place held in
+      (next .held ≡ length (fromPlace fmt (take held buffer) place)) × (take (next .held) (next .buffer) ++ more ≡ fromPlace fmt (take held buffer ++ more) place)
+  unfolding run carryOf
+  carries fmt more v =
+      let part = take held buffer in
+      let version : take firstPlace buffer ≡ newBytes fmt = sym (take-take firstPlace held buffer (omega arith)) ∙ version-byte fmt part v in
+      let stored : take (firstPlace + length run) (sets buffer firstPlace run) ≡ newBytes fmt ++ run
+      = part-stored buffer 0 firstPlace run (omega (arith, run-long)) ∙ ap (λ l. l ++ run) version in (
+        omega (arith, run-long),
+        ap (λ n. take (firstPlace + n) (sets buffer firstPlace run) ++ more) (sym run-long)
+            ∙ ap (λ l. l ++ more) stored
+            ∙ ap (λ l. newBytes fmt ++ l) (sym (drop-append-le place part more (omega (arith, length-take-le held buffer fits)))),
+      )
 
   pub moving-begins : Moving buffer place held buffer 0
   moving-begins = record { inside = omega arith; long = refl; kept = refl; left = refl }
@@ -206,3 +218,22 @@ module _ (buffer : List ℕ) (place held : ℕ) (first : firstPlace ≤ place) (
     pub moving-ends : held - place ≤ i → carried (firstPlace + (held - place)) now ≡ carryOf buffer place held
     unfolding run carryOf
     moving-ends h = ap (carried (firstPlace + (held - place))) (sym (sets-end now run (firstPlace + i) i (omega (arith, run-long))) ∙ m .left)
+
+pub lists-as-whole : ListsAsWhole
+lists-as-whole =
+    record {
+      version = version;
+      over = over;
+      goes-on = goes-on;
+      carries = λ fmt buffer more held fits unfinished.
+          let part = take held buffer in
+          let within = more-within fmt false part unfinished in
+          let place = listedOf fmt false part .place in
+          let inside : place ≤ held = omega (arith, within .1, length-take-le held buffer fits) in
+          carries buffer place held (within .0) inside fits fmt more (more-version fmt false part unfinished);
+      further = further;
+      full = λ fmt known part size unfinished.
+          let small = known-small fmt known in
+          further fmt part (omega (arith, size, small .1, small .2)) unfinished;
+      last = last;
+    }

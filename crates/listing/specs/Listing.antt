@@ -55,6 +55,13 @@ pub record ListsAsWhole : Type 0 where
   pub goes-on : (fmt : Format) (part more : List ℕ) → listedOf fmt false part .over ≡ false
       → let place = listedOf fmt false part .place in
       readAll fmt (part ++ more) ≡ recordsOf (readAll fmt part) ++ allMoved (place - firstPlace) (readAll fmt (fromPlace fmt (part ++ more) place))
+  -- .. which begins with what is carried over, in so many bytes as are told
+  pub carries : (fmt : Format) (buffer more : List ℕ) (held : ℕ) → held ≤ length buffer
+      → let part = take held buffer in
+      listedOf fmt false part .over ≡ false
+      → let place = listedOf fmt false part .place in
+      let next = carryOf buffer place held in
+      (next .held ≡ length (fromPlace fmt part place)) × (take (next .held) (next .buffer) ++ more ≡ fromPlace fmt (part ++ more) place)
   -- .. and with room for the longest record that place is beyond the first record's
   pub further : (fmt : Format) (part : List ℕ) → firstPlace + (headSize fmt + fmt .limit) ≤ length part → listedOf fmt false part .over ≡ false
       → firstPlace < listedOf fmt false part .place

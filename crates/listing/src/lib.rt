@@ -152,7 +152,8 @@ fn carry_over(buffer: &mut [u8], place: usize, held: usize) -> usize
 // Fills the buffer from standard input behind the bytes that it keeps, and tells how many bytes it then holds.
 fn refill(buffer: &mut [u8], kept: usize) -> usize
     requires { ⌜ kept ≤ length (now buffer) ⌝ }
-    ensures { λ r. ⌜ (r ≤ length (now (buffer .exit))) × (take kept (now (buffer .exit)) ≡ take kept (now (buffer .entry))) ⌝ }
+    ensures { λ r. ⌜ (r ≤ length (now (buffer .exit)))
+        × (take kept (now (buffer .exit)) ≡ take kept (now (buffer .entry))) ⌝ }
 {
     let read = io::read_full(STDIN_FILENO, &mut buffer[kept..]);
     kept + read

@@ -94,8 +94,11 @@ fn put_length(buffer: &mut [u8], at: usize, fmt: Format, n: usize)
 
 // Writes a record at a place.
 fn put_record(buffer: &mut [u8], at: usize, fmt: Format, stream: u8, payload: &[u8])
-    requires { ⌜ Known fmt × (at + (headSize fmt + length (now payload)) ≤ length (now buffer)) × (length (now payload) ≤ fmt .limit) ⌝ }
-    ensures { λ _. ⌜ now (buffer .exit) ≡ sets (now (buffer .entry)) at (recordBytes fmt stream (now (payload .entry))) ⌝ }
+    requires { ⌜ Known fmt
+        × (at + (headSize fmt + length (now payload)) ≤ length (now buffer))
+        × (length (now payload) ≤ fmt .limit) ⌝ }
+    ensures { λ _. ⌜ now (buffer .exit)
+        ≡ sets (now (buffer .entry)) at (recordBytes fmt stream (now (payload .entry))) ⌝ }
 {
     let width = fmt.width;
     put_length(buffer, at, fmt, payload.len() + 1);
@@ -105,8 +108,11 @@ fn put_record(buffer: &mut [u8], at: usize, fmt: Format, stream: u8, payload: &[
 
 // Appends a record right after used bytes of a version.
 fn append_by(buffer: &mut [u8], used: usize, fmt: Format, stream: u8, payload: &[u8]) -> Appended
-    requires { ⌜ Known fmt × (used ≤ length (now buffer)) × (otherVersion fmt (take used (now buffer)) ≡ false) ⌝ }
-    ensures { λ r. ⌜ stored (told r) (now (buffer .exit)) ≡ appendOf fmt (now (buffer .entry)) used stream (now (payload .entry)) ⌝ }
+    requires { ⌜ Known fmt
+        × (used ≤ length (now buffer))
+        × (otherVersion fmt (take used (now buffer)) ≡ false) ⌝ }
+    ensures { λ r. ⌜ stored (told r) (now (buffer .exit))
+        ≡ appendOf fmt (now (buffer .entry)) used stream (now (payload .entry)) ⌝ }
 {
     if bad_record(fmt, stream, payload.len()) {
         return Appended::BadRecord;

@@ -111,4 +111,9 @@ each fmt byte head limit one = hold versionOne lawful-one judged-one
 each fmt byte head limit two = hold versionTwo lawful-two judged-two
 
 pub hold-in-each-version : HoldInEachVersion
-hold-in-each-version = record { lawful = λ fmt holds. omega (arith, holds (fmt .limit) (omega arith)); hold = each }
+hold-in-each-version =
+    record {
+      lawful = λ fmt holds. omega (arith, holds (fmt .limit) (omega arith));
+      whole-files-cut = λ fmt file whole kept. cuts-are-found .whole fmt file kept whole;
+      hold = each;
+    }

@@ -74,4 +74,7 @@ pub record HoldIn (fmt : Format) (byte head limit : ℕ) : Type 0 where
 pub record HoldInEachVersion : Type 0 where
   -- a format is lawful where its field holds every length
   pub lawful : (fmt : Format) → ((n : ℕ) → n ≤ fmt .limit → n + 1 < 256 ^ fmt .width) → Lawful fmt
+  -- a whole file of any format, also where nothing is kept, or where a length in its range could not be written
+  pub whole-files-cut : (fmt : Format) (file : List ℕ) → walkOf fmt file ≡ given tt → (kept : ℕ)
+      → readAll fmt (take kept file) ≡ cutAt kept (readAll fmt file)
   pub hold : (fmt : Format) (byte head limit : ℕ) → Version fmt byte head limit → HoldIn fmt byte head limit

@@ -1,17 +1,16 @@
 -- Laws of a packet given to the receiver.
-use Prim.Native.Nat.{ℕ, zero, suc, _+_, _*_, _≤_}
+use Prim.Native.Nat.{ℕ, _+_, _*_, _≤_, _<_}
 use native.Mathlib.Omega.{arith}
-use mathlib.Core.Path.{_≡_, refl, sym, ap, _∙_}
+use mathlib.Core.Path.{_≡_, refl, sym, _∙_}
 use mathlib.Core.Logic.{_≢_}
 use mathlib.Core.List.{List, [], _∷_}
 use mathlib.Core.Bool.{true, false, not}
-use lib.ListN.{length, getD, length-take, length-drop}
-use lib.Seq.{getD-set-other, length-sets}
+use lib.ListN.{length, getD, drop, length-take, length-drop}
+use lib.Seq.{length-sets}
 use lib.Dec.{eqb}
 use borrow.Author.Tests.{eq-eqb, eqb-true, eqb-false}
 use Rattle.wire.specs.Told.{Told, given, refused, line}
 use Rattle.wire.specs.declared.stream.Stream.{Stream}
-use Rattle.wire.specs.declared.stream.Stream.the-variants.{Control, Ota, Alexa}
 use Rattle.wire.specs.Stream.{isStream, streamOf}
 use Rattle.wire.proofs.Tests.{and-left, and-right}
 use Rattle.wire.proofs.Tables.{by-table}
@@ -22,12 +21,15 @@ use Rattle.packet.specs.Reader.{headIn, readOf}
 use Rattle.packet.proofs.Reading.{Passes, IfGiven, read-passes, empty-refused}
 use Rattle.slot.specs.declared.Slot.{Slot}
 use Rattle.slot.specs.declared.step.Piece.{Piece}
-use Rattle.slot.specs.Slot.{idle, slotCount, lawful}
-use Rattle.slot.specs.Step.{Step, slotStep}
-use Rattle.slot.proofs.Slots.{lawful-at, lawful-set}
-use Rattle.slot.proofs.Steps.{Inside, Sound, step-sound}
-use Rattle.receiver.specs.Buffer.{placeOf, partOf, pieceBytes}
-use Rattle.receiver.specs.Receiver.{Result, result, applied, placeIn, acted, ready, acceptOf}
+use Rattle.slot.specs.declared.answer.Accepted.{Accepted}
+use Rattle.slot.specs.Slot.{slotsEach, slotCount, laneStart, laneOf, lawful}
+use Rattle.slot.specs.Step.{Act, still, step}
+use Rattle.slot.specs.Fit.{Inside, Fit, ActFits}
+use Rattle.slot.proofs.Slots.{lawful-lane, lawful-set}
+use Rattle.slot.proofs.Lanes.{place-other, lane-other}
+use Rattle.slot.proofs.Steps.{act-fits}
+use Rattle.receiver.specs.Buffer.{partOf, pieceBytes}
+use Rattle.receiver.specs.Receiver.{Result, result, applied, actIn, acted, ready, acceptOf}
 use Rattle.receiver.proofs.Parts.{part-elsewhere}
 
 -- ---- ready for a packet
@@ -65,27 +67,39 @@ by-guard P limit slots bytes p a b =
 
 -- ---- the buffer keeps its length
 
+applied-length : (limit start : ℕ) (slots : List Slot) (bytes p : List ℕ) (act : Act)
+    → length (applied limit slots bytes p start act .bytes) ≡ length bytes
+applied-length limit start slots bytes p (still t) = refl
+applied-length limit start slots bytes p (step place s) = simp length-sets
+
 acted-length : (limit : ℕ) (slots : List Slot) (bytes p : List ℕ) (t : Told Packet) → length (acted limit slots bytes p t .bytes) ≡ length bytes
 acted-length limit slots bytes p (refused n) = refl
-acted-length limit slots bytes p (given x) = simp length-sets
+acted-length limit slots bytes p (given x) = applied-length limit (laneStart (headIn x .stream)) slots bytes p (actIn slots x)
 
 pub accept-length : (limit : ℕ) (slots : List Slot) (bytes p : List ℕ) → length (acceptOf limit slots bytes p .bytes) ≡ length bytes
 accept-length limit slots bytes p =
     by-guard (λ (r : Result). length (r .bytes) ≡ length bytes) limit slots bytes p (λ n. refl) (acted-length limit slots bytes p (readOf limit p))
 
+-- ---- what a packet that passed does, fits
+
+pub in-fits : (limit k n : ℕ) (slots : List Slot) (x : Packet) → lawful limit slots ≡ true → Passes limit k n x → ActFits limit k (actIn slots x)
+in-fits limit k n slots x law o =
+    let t : Stream = headIn x .stream in
+    let short = length-take slotsEach (drop (laneStart t) slots) in
+    act-fits limit k (laneOf t slots) x (omega arith) (lawful-lane limit slots t law) (o .within)
+
 -- ---- a lawful state stays lawful
 
--- the step of a packet that passed
-acted-sound : (limit k n : ℕ) (slots : List Slot) (x : Packet) → lawful limit slots ≡ true → Passes limit k n x
-    → Sound limit k (slotStep (getD slots (placeIn x) idle) x)
-acted-sound limit k n slots x law o =
-    step-sound limit k (getD slots (placeIn x) idle) x (lawful-at limit slots (placeIn x) law) (o .within)
+applied-lawful : (limit k start : ℕ) (slots : List Slot) (bytes p : List ℕ) (act : Act) → lawful limit slots ≡ true → ActFits limit k act
+    → lawful limit (applied limit slots bytes p start act .slots) ≡ true
+applied-lawful limit k start slots bytes p (still t) law f = law
+applied-lawful limit k start slots bytes p (step place s) law f = lawful-set limit slots (start + place) (s .slot) law (f .left)
 
 acted-lawful : (limit n : ℕ) (slots : List Slot) (bytes p : List ℕ) (t : Told Packet) → lawful limit slots ≡ true
     → IfGiven (Passes limit (length p) n) t → lawful limit (acted limit slots bytes p t .slots) ≡ true
 acted-lawful limit n slots bytes p (refused m) law o = law
 acted-lawful limit n slots bytes p (given x) law o =
-    lawful-set limit slots (placeIn x) _ law (acted-sound limit (length p) n slots x law o .left)
+    applied-lawful limit (length p) (laneStart (headIn x .stream)) slots bytes p (actIn slots x) law (in-fits limit (length p) n slots x law o)
 
 pub accept-lawful : (limit : ℕ) (slots : List Slot) (bytes p : List ℕ) → lawful limit slots ≡ true
     → lawful limit (acceptOf limit slots bytes p .slots) ≡ true
@@ -101,52 +115,40 @@ ready-next limit slots bytes p r =
 
 -- ---- a packet of another stream
 
--- the slot and the part of a place are as they were
-pub record Kept (limit place : ℕ) (slots : List Slot) (bytes : List ℕ) (r : Result) : Type 0 where
-  pub same-slot : getD (r .slots) place idle ≡ getD slots place idle
-  pub same-part : partOf limit place (r .bytes) ≡ partOf limit place bytes
+-- the slots of a stream, and their parts, are as they were
+pub record Kept (limit : ℕ) (t : Stream) (slots : List Slot) (bytes : List ℕ) (r : Result) : Type 0 where
+  pub same-lane : laneOf t (r .slots) ≡ laneOf t slots
+  pub same-part : (place : ℕ) → place < slotsEach → partOf limit (laneStart t + place) (r .bytes) ≡ partOf limit (laneStart t + place) bytes
 
-piece-length : (limit k : ℕ) (p : List ℕ) (piece : Piece) → Inside limit k piece → piece .at + length (pieceBytes p piece) ≤ limit
+kept-all : (limit : ℕ) (t : Stream) (slots : List Slot) (bytes : List ℕ) (told : Told Accepted) → Kept limit t slots bytes (result told slots bytes)
+kept-all limit t slots bytes told = record { same-lane = refl; same-part = λ place low. refl }
+
+pub piece-length : (limit k : ℕ) (p : List ℕ) (piece : Piece) → Inside limit k piece → piece .at + length (pieceBytes p piece) ≤ limit
 piece-length limit k p piece i = simp (length-take, length-drop) (omega arith)
 
-applied-elsewhere : (limit i j : ℕ) (slots : List Slot) (bytes p : List ℕ) (step : Step) → i ≢ j → Inside limit (length p) (step .piece)
-    → Kept limit i slots bytes (applied limit slots bytes p j step)
-applied-elsewhere limit i j slots bytes p step d inside =
+applied-kept : (limit : ℕ) (a t : Stream) (slots : List Slot) (bytes p : List ℕ) (act : Act) → a ≢ t → ActFits limit (length p) act
+    → Kept limit t slots bytes (applied limit slots bytes p (laneStart a) act)
+applied-kept limit a t slots bytes p (still told) d f = kept-all limit t slots bytes told
+applied-kept limit a t slots bytes p (step place s) d f =
     record {
-      same-slot = getD-set-other slots j i (step .slot) idle d;
-      same-part =
-          part-elsewhere limit i j (step .piece .at) bytes (pieceBytes p (step .piece)) d (piece-length limit (length p) p (step .piece) inside);
+      same-lane = lane-other a t slots place (s .slot) d (f .within);
+      same-part = λ i low.
+          part-elsewhere limit (laneStart t + i) (laneStart a + place) (s .piece .at) bytes (pieceBytes p (s .piece))
+          (place-other t a i place (λ e. d (sym e)) low (f .within)) (piece-length limit (length p) p (s .piece) (f .inside));
     }
 
--- the stream of a place
-streamAt : ℕ → Stream
-streamAt zero = Control
-streamAt (suc zero) = Ota
-streamAt (suc (suc n)) = Alexa
-
-stream-back : (a : Stream) → streamAt (placeOf a) ≡ a
-unfolding streamAt
-stream-back Control = refl
-stream-back Ota = refl
-stream-back Alexa = refl
-
--- streams at one place are one
-same-stream : (a b : Stream) → placeOf a ≡ placeOf b → a ≡ b
-same-stream a b e = sym (stream-back a) ∙ ap streamAt e ∙ stream-back b
-
 acted-other : (limit s n : ℕ) (slots : List Slot) (bytes p : List ℕ) (t : Told Packet) → lawful limit slots ≡ true → isStream s ≡ true → n ≢ s
-    → IfGiven (Passes limit (length p) n) t → Kept limit (placeOf (streamOf s)) slots bytes (acted limit slots bytes p t)
-acted-other limit s n slots bytes p (refused m) law known d o = record { same-slot = refl; same-part = refl }
+    → IfGiven (Passes limit (length p) n) t → Kept limit (streamOf s) slots bytes (acted limit slots bytes p t)
+acted-other limit s n slots bytes p (refused m) law known d o = kept-all limit (streamOf s) slots bytes (refused m)
 acted-other limit s n slots bytes p (given x) law known d o =
-    applied-elsewhere limit (placeOf (streamOf s)) (placeIn x) slots bytes p _
-    (λ e. other-stream n s (o .known) known d (sym (o .named) ∙ sym (same-stream (streamOf s) (headIn x .stream) e)))
-    (acted-sound limit (length p) n slots x law o .inside)
+    applied-kept limit (headIn x .stream) (streamOf s) slots bytes p (actIn slots x)
+    (λ e. other-stream n s (o .known) known d (sym (o .named) ∙ e)) (in-fits limit (length p) n slots x law o)
 
--- a packet of another stream changes neither the slot of a stream nor its part of the buffer
+-- a packet of another stream changes neither a stream's slots nor their parts of the buffer
 pub accept-other : (limit s : ℕ) (slots : List Slot) (bytes p : List ℕ) → Fits limit slots bytes → isStream s ≡ true → isOf s p ≡ false
-    → Kept limit (placeOf (streamOf s)) slots bytes (acceptOf limit slots bytes p)
+    → Kept limit (streamOf s) slots bytes (acceptOf limit slots bytes p)
 accept-other limit s slots bytes [] r known o =
-    rw (accept-ready limit slots bytes [] r, empty-refused limit) (record { same-slot = refl; same-part = refl })
+    rw (accept-ready limit slots bytes [] r, empty-refused limit) (kept-all limit (streamOf s) slots bytes _)
 accept-other limit s slots bytes (b ∷ p) r known o =
     rw (accept-ready limit slots bytes (b ∷ p) r)
     (acted-other limit s (streamBits b) slots bytes (b ∷ p) (readOf limit (b ∷ p)) (r .law) known (eqb-false (streamBits b) s o) (read-passes limit (b ∷ p)))

@@ -1,17 +1,9 @@
--- The lent buffer: a part for each slot, one after the other.
+-- The lent buffer: a part for each slot, one after the other, in the order of the slots.
 use Prim.Native.Nat.{ℕ, _+_, _*_}
 use mathlib.Core.List.{List}
 use lib.ListN.{take, drop}
 use lib.Seq.{sets}
-use Rattle.wire.specs.declared.stream.Stream.{Stream}
-use Rattle.wire.specs.declared.stream.Stream.the-variants.{Control, Ota, Alexa}
 use Rattle.slot.specs.declared.step.Piece.{Piece}
-
--- control has the first part, OTA the middle one, Alexa the last
-abbrev pub placeOf : Stream → ℕ
-placeOf Control = 0
-placeOf Ota = 1
-placeOf Alexa = 2
 
 -- where the part of a slot begins
 abbrev pub partStart : ℕ → ℕ → ℕ

@@ -5,11 +5,12 @@ ghost use mathlib.Core.Path.{_≡_};
 ghost use Prim.Native.Nat.{_+_, _≤_, _<_};
 ghost use lib.ListN.{length};
 ghost use lib.Seq.{sets};
-ghost use Rattle.receiver.specs.Buffer.{placeOf, partStart};
+ghost use Rattle.slot.specs.Slot.{laneStart};
+ghost use Rattle.receiver.specs.Buffer.{partStart};
 
 // The place of a stream's slot and part.
 pub fn place_of(stream: Stream) -> usize
-    ensures { λ r. ⌜ (r ≡ placeOf stream) × (r < 3) ⌝ }
+    ensures { λ r. ⌜ (r ≡ laneStart stream) × (r < 3) ⌝ }
 {
     match stream {
         Stream::Control => 0,
@@ -21,7 +22,8 @@ pub fn place_of(stream: Stream) -> usize
 // Lends the part of a stream on to the writer of its piece.
 pub fn write_piece(buffer: &mut [u8], stream: Stream, at: usize, piece: &[u8])
     requires { ⌜ (length (now buffer) ≡ 12288) × (at + length (now piece) ≤ 4096) ⌝ }
-    ensures { λ _. ⌜ now (buffer .exit) ≡ sets (now (buffer .entry)) (partStart 4096 (placeOf stream) + at) (now (piece .entry)) ⌝ }
+    ensures { λ _. ⌜ now (buffer .exit)
+        ≡ sets (now (buffer .entry)) (partStart 4096 (laneStart stream) + at) (now (piece .entry)) ⌝ }
 {
     match stream {
         Stream::Control => copy(&mut buffer[0..4096], at, piece),

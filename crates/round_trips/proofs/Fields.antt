@@ -49,10 +49,10 @@ module _ {step : List ℕ → ℕ → Gathered → Told (Gathered × ℕ)} where
       record { runs = λ fuel l. walk-next step s at g h fuel l q e ∙ R .runs (fuel - 1) (omega (arith, forward s at g q e)) }
 
 -- the place before something that is not empty lies within the message
-within : {s : List ℕ} {at : ℕ} {l rest : List ℕ} → At s at l rest → 1 ≤ length l → at < length s
+pub within : {s : List ℕ} {at : ℕ} {l rest : List ℕ} → At s at l rest → 1 ≤ length l → at < length s
 within a h = omega (arith, inside a)
 
-tag-count : (f w : ℕ) → 1 ≤ length (tagBytes f w)
+pub tag-count : (f w : ℕ) → 1 ≤ length (tagBytes f w)
 unfolding tagBytes
 tag-count f w = varint-count (f * 8 + w) .0
 
@@ -65,10 +65,15 @@ pub part-there : {s : List ℕ} {at : ℕ} {rest : List ℕ} (f : ℕ) (l : List
 unfolding partBytes
 part-there f l a = behind (headBytes f (length l)) l a
 
-part-count : (f : ℕ) (l : List ℕ) → 1 ≤ length (partBytes f l)
+pub part-count : (f : ℕ) (l : List ℕ) → 1 ≤ length (partBytes f l)
 unfolding partBytes headBytes
 part-count f l =
     omega (arith, length-append (tagBytes f 2 ++ varintBytes (length l)) l, length-append (tagBytes f 2) (varintBytes (length l)), tag-count f 2)
+
+-- and in the first bytes up to its end, where nothing follows it
+pub part-cut : {s : List ℕ} {at : ℕ} {rest : List ℕ} (f : ℕ) (l : List ℕ) → At s at (partBytes f l) rest
+    → At (take (partAt at f l .start + length l) s) (partAt at f l .start) l []
+part-cut f l a = cut (omega (arith, inside a, within a (part-count f l), joined-length (headBytes f (length l)) l (part-is f l))) (part-there f l a)
 
 module _ (schema : Schema) {s : List ℕ} {at : ℕ} {rest : List ℕ} (g : Gathered) (f : ℕ) (low : 1 ≤ f) (high : f ≤ lastField) where
   number-step : (i v : ℕ) → roleOf schema f ≡ Scalar i → v < 2 ^ 64 → At s at (tagBytes f 0 ++ varintBytes v) rest
@@ -83,7 +88,7 @@ module _ (schema : Schema) {s : List ℕ} {at : ℕ} {rest : List ℕ} (g : Gath
         place,
       )
 
-  pub part-step : (role : Role) (l : List ℕ) (g′ : Gathered) → roleOf schema f ≡ role → judged role 2 (g .field) ≡ given tt
+  pub part-step : (role : Role) (l : List ℕ) (g′ : Gathered) → roleOf schema f ≡ role → judged role 2 (g .field) (g .count) ≡ given tt
       → withAdded s (partAdded role f (partAt at f l)) g ≡ given g′ → length l < 2 ^ 64 → At s at (partBytes f l) rest
       → fieldAt schema s at g ≡ given (g′, at + length (partBytes f l))
   unfolding fieldAt readAt addedAt partBytes headBytes
@@ -153,7 +158,7 @@ module _ (schema : Schema) {s : List ℕ} {at : ℕ} {rest : List ℕ} {r : Told
           (within b (omega (arith, length-append (tagBytes f 0) (varintBytes v), tag-count f 0))) (number-step schema g f low high i v e h b) R₁
 
 module _ (schema : Schema) {s : List ℕ} (lent : length s < 2 ^ 64) {at : ℕ} {rest : List ℕ} {r : Told Gathered} (g : Gathered) (f : ℕ) (low : 1 ≤ f) (high : f ≤ lastField) where
-  reads-part : (role : Role) (l : List ℕ) (g′ : Gathered) → roleOf schema f ≡ role → judged role 2 (g .field) ≡ given tt
+  pub reads-part : (role : Role) (l : List ℕ) (g′ : Gathered) → roleOf schema f ≡ role → judged role 2 (g .field) (g .count) ≡ given tt
       → withAdded s (partAdded role f (partAt at f l)) g ≡ given g′ → At s at (partBytes f l) rest
       → Reads (fieldAt schema) s (at + length (partBytes f l)) g′ r → Reads (fieldAt schema) s at g r
   reads-part role l g′ e j k a R =
@@ -194,11 +199,10 @@ module _ (schema : Schema) {s : List ℕ} (lent : length s < 2 ^ 64) {at : ℕ} 
           let l = varintsBytes (map extended ts) in
           let w : fieldBytes (packed f (map extended ts)) ≡ partBytes f l = sym (packed-some f ts n) ∙ part-is f l in
           let b : At s at (partBytes f l) rest = rw w at a in
-          let c : At (take (partAt at f l .start + length l) s) (partAt at f l .start) l [] = cut (omega (arith, inside b, within b (part-count f l), joined-length (headBytes f (length l)) l (part-is f l))) (part-there f l b) in
-          reads-part Transports l (withTransports ts g) e refl (reads-entries ts g fs h c .runs (length (take (partAt at f l .start + length l) s)) (omega arith)) b (rw w at R)
+          reads-part Transports l (withTransports ts g) e refl (reads-entries ts g fs h (part-cut f l b) .runs (length (take (partAt at f l .start + length l) s)) (omega arith)) b (rw w at R)
 
   -- a member, of a role that is one
-  pub reads-member : (role : Role) (l : List ℕ) → roleOf schema f ≡ role → judged role 2 (g .field) ≡ given tt
+  pub reads-member : (role : Role) (l : List ℕ) → roleOf schema f ≡ role → judged role 2 (g .field) (g .count) ≡ given tt
       → withAdded s (partAdded role f (partAt at f l)) g ≡ given (withMember f (partAt at f l) g) → At s at (fieldBytes (nested f l)) rest
       → Reads (fieldAt schema) s (at + length (fieldBytes (nested f l))) (withMember f (partAt at f l) g) r → Reads (fieldAt schema) s at g r
   unfolding fieldBytes

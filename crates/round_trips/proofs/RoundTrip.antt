@@ -51,7 +51,7 @@ reads-back bad fields out read a b h e =
     (ap read (first-bytes out bytes h) ∙ e)
 
 -- a message of these fields is read up to its end
-done : {s : List ℕ} {at : ℕ} (l : List ℕ) → At s at (l ++ []) [] → length s ≤ at + length l
+pub done : {s : List ℕ} {at : ℕ} (l : List ℕ) → At s at (l ++ []) [] → length s ≤ at + length l
 done l a = omega (arith, last (behind l [] a))
 
 features-read : (f : DeviceFeatures) (s : List ℕ) → f .features < 2 ^ 64 → f .«device_attributes» < 2 ^ 64 → At s 0 (messageBytes (featuresFields f)) [] → featuresOf s ≡ given f
@@ -120,7 +120,7 @@ module _ (schema : Schema) (v : ℕ) (small : v < 2 ^ 64) (first : roleOf schema
       let b = fieldBytes (scalar 1 v) in
       fields-read schema s at (reads-scalar schema nothing 1 (omega arith) (omega arith) 0 v first small refl (front b [] a) (reads-end (done b a)))
 
-  scalar-then : (role : Role) (f : ℕ) (l : List ℕ) → 1 ≤ f → f ≤ lastField → length s < 2 ^ 64 → roleOf schema f ≡ role → judged role 2 0 ≡ given tt
+  scalar-then : (role : Role) (f : ℕ) (l : List ℕ) → 1 ≤ f → f ≤ lastField → length s < 2 ^ 64 → roleOf schema f ≡ role → judged role 2 0 0 ≡ given tt
       → ((p : Part) → withAdded s (partAdded role f p) (withScalar 0 v nothing) ≡ given (withMember f p (withScalar 0 v nothing)))
       → At s at (messageBytes (scalar 1 v ∷ nested f l ∷ [])) []
       → fieldsFrom schema s at ≡ given (withMember f (partAt (at + length (fieldBytes (scalar 1 v))) f l) (withScalar 0 v nothing))

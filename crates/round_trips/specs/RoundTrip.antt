@@ -8,7 +8,7 @@ use lib.ListN.{length, take}
 use lib.Dec.{eqb}
 use mir.Syntax.{w32}
 use mir.Val.{SFits}
-use Rattle.wire.specs.Told.{Told, given, refused, andThen, Written, written}
+use Rattle.wire.specs.Told.{Told, ToldOf, given, refused, andThen, Written, WrittenOf, written}
 use Rattle.field.specs.Signed.{extended}
 use Rattle.field.specs.Tag.{lastField}
 use Rattle.field.specs.Value.{bytesOf}
@@ -46,12 +46,12 @@ abbrev pub MemberNumber : ℕ → Type 0
 MemberNumber field = (2 ≤ field) × (field ≤ lastField)
 
 -- something was given, and P holds of it
-abbrev pub Gives : {A : Type 0} → Told A → (A → Type 0) → Type 0
+abbrev pub Gives : {N A : Type 0} → ToldOf N A → (A → Type 0) → Type 0
 Gives (given a) P = P a
 Gives (refused n) P = ⊥
 
 -- a writer gives the number of its bytes, and of as many first bytes of the output a reader makes a
-abbrev pub ReadsBack : {A : Type 0} → Written ℕ → (List ℕ → Told A) → A → Type 0
+abbrev pub ReadsBack : {N A : Type 0} → WrittenOf N ℕ → (List ℕ → ToldOf N A) → A → Type 0
 ReadsBack w read a = Gives (w .told) (λ n. read (take n (w .out)) ≡ given a)
 
 -- neither a writer that refuses reads back, nor anything by a reader that does

@@ -73,7 +73,8 @@ fn arguments_fit(how: Sending, length: usize) -> bool
 
 // The table of refusals, from the top.
 fn decide(how: Sending, length: usize, place: usize, space: usize) -> Decision
-    ensures { λ r. ⌜ (decisionOf r ≡ decided 4096 how length place space) × WritesGiven how length space (decisionOf r) ⌝ }
+    ensures { λ r. ⌜ (decisionOf r ≡ decided 4096 how length place space)
+        × WritesGiven how length space (decisionOf r) ⌝ }
 {
     let room = how.room;
     if !room_fits(room) {
@@ -147,7 +148,9 @@ fn put_length(out: &mut [u8], at: usize, n: usize)
 // The header, and how long it is.
 fn put_header(out: &mut [u8], how: Sending, total: usize, piece: Piece, last: bool) -> usize
     requires { ⌜ Writes how total (length (now out)) piece ⌝ }
-    ensures { λ r. ⌜ (now (out .exit) ≡ sets (now (out .entry)) 0 (headerBytes how total piece last)) × (r ≡ headerSize (isFirst (piece .index)) (extended (piece .size))) × (r < 8) ⌝ }
+    ensures { λ r. ⌜ (now (out .exit) ≡ sets (now (out .entry)) 0 (headerBytes how total piece last))
+        × (r ≡ headerSize (isFirst (piece .index)) (extended (piece .size)))
+        × (r < 8) ⌝ }
 {
     let first = piece.index == 0;
     let size = piece.size;
@@ -170,7 +173,9 @@ fn answer_for(last: bool, length: usize, next: usize) -> Answer
 // The packet of a piece, first in the output.
 fn write_piece(how: Sending, message: &[u8], piece: Piece, out: &mut [u8]) -> Answer
     requires { ⌜ Writes how (length (now message)) (length (now out)) piece ⌝ }
-    ensures { λ r. ⌜ written (told r) (now (out .exit)) ≡ written (given (sentOf how (now (message .entry)) piece)) (sets (now (out .entry)) 0 (packetOf how (now (message .entry)) piece)) ⌝ }
+    ensures { λ r. ⌜ written (told r) (now (out .exit))
+        ≡ written (given (sentOf how (now (message .entry)) piece))
+        (sets (now (out .entry)) 0 (packetOf how (now (message .entry)) piece)) ⌝ }
 {
     let place = piece.place;
     let size = piece.size;
@@ -183,7 +188,8 @@ fn write_piece(how: Sending, message: &[u8], piece: Piece, out: &mut [u8]) -> An
 
 // Writes the packet of the message whose piece begins at the place.
 pub fn write_packet(how: Sending, message: &[u8], place: usize, out: &mut [u8]) -> Answer
-    ensures { λ r. ⌜ written (told r) (now (out .exit)) ≡ writtenOf 4096 how (now (message .entry)) place (now (out .entry)) ⌝ }
+    ensures { λ r. ⌜ written (told r) (now (out .exit))
+        ≡ writtenOf 4096 how (now (message .entry)) place (now (out .entry)) ⌝ }
 {
     let decision = decide(how, message.len(), place, out.len());
     match decision {

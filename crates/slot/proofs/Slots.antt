@@ -4,12 +4,13 @@ use native.Mathlib.Omega.{arith}
 use mathlib.Core.Path.{_≡_, refl}
 use mathlib.Core.List.{List, [], _∷_}
 use mathlib.Core.Bool.{Bool, true, false, cond, _&&_, and-true}
-use lib.ListN.{length, getD, set, length-set}
+use lib.ListN.{length, getD, set, take, drop, length-set}
 use lib.Dec.{ltb, leb, eqb}
 use borrow.Author.Tests.{eqb-true, ltb-true, leb-true, lt-ltb, le-leb}
+use Rattle.wire.specs.declared.stream.Stream.{Stream}
 use Rattle.wire.proofs.Tests.{and-left, and-right}
 use Rattle.slot.specs.declared.Slot.{Slot}
-use Rattle.slot.specs.Slot.{idle, openLaw, idleLaw, lawfulSlot, allLawful, slotCount, lawful}
+use Rattle.slot.specs.Slot.{idle, openLaw, idleLaw, lawfulSlot, allLawful, slotsEach, slotCount, laneStart, laneOf, lawful}
 
 -- ---- one slot
 
@@ -58,7 +59,7 @@ held-by : (limit : ℕ) (s : Slot) (b : Bool) → cond b (openLaw limit s) (idle
 held-by limit s true e = let o = open-numbers limit s e in omega arith
 held-by limit s false e =
     let e2 = and-right (eqb (s .sequence) 0) _ (and-right (eqb (s .id) 0) _ e) in
-    let h : s .held ≡ 0 = eqb-true (s .held) 0 (and-right (eqb (s .total) 0) _ e2) in
+    let h : s .held ≡ 0 = eqb-true (s .held) 0 (and-left (eqb (s .held) 0) _ (and-right (eqb (s .total) 0) _ e2)) in
     omega arith
 
 -- open or idle, no more is held than the limit
@@ -68,7 +69,7 @@ held-low limit s e = held-by limit s (s .opened) e
 
 -- ---- all slots
 
-all-at : (limit : ℕ) (l : List Slot) (k : ℕ) → allLawful limit l ≡ true → lawfulSlot limit (getD l k idle) ≡ true
+pub all-at : (limit : ℕ) (l : List Slot) (k : ℕ) → allLawful limit l ≡ true → lawfulSlot limit (getD l k idle) ≡ true
 all-at limit [] k e = idle-lawful limit
 all-at limit (s ∷ l) zero e = and-left (lawfulSlot limit s) _ e
 all-at limit (s ∷ l) (suc k) e = all-at limit l k (and-right (lawfulSlot limit s) _ e)
@@ -79,6 +80,17 @@ all-set limit (x ∷ l) zero s e h = rw h (and-right (lawfulSlot limit x) _ e)
 all-set limit (x ∷ l) (suc k) s e h =
     rw (and-left (lawfulSlot limit x) _ e) (all-set limit l k s (and-right (lawfulSlot limit x) _ e) h)
 
+all-take : (limit n : ℕ) (l : List Slot) → allLawful limit l ≡ true → allLawful limit (take n l) ≡ true
+all-take limit zero l e = refl
+all-take limit (suc n) [] e = refl
+all-take limit (suc n) (s ∷ l) e =
+    rw (and-left (lawfulSlot limit s) _ e) (all-take limit n l (and-right (lawfulSlot limit s) _ e))
+
+all-drop : (limit n : ℕ) (l : List Slot) → allLawful limit l ≡ true → allLawful limit (drop n l) ≡ true
+all-drop limit zero l e = e
+all-drop limit (suc n) [] e = refl
+all-drop limit (suc n) (s ∷ l) e = all-drop limit n l (and-right (lawfulSlot limit s) _ e)
+
 pub lawful-count : (limit : ℕ) (l : List Slot) → lawful limit l ≡ true → length l ≡ slotCount
 unfolding lawful
 lawful-count limit l e = eqb-true (length l) slotCount (and-left (eqb (length l) slotCount) _ e)
@@ -87,6 +99,12 @@ lawful-count limit l e = eqb-true (length l) slotCount (and-left (eqb (length l)
 pub lawful-at : (limit : ℕ) (l : List Slot) (k : ℕ) → lawful limit l ≡ true → lawfulSlot limit (getD l k idle) ≡ true
 unfolding lawful
 lawful-at limit l k e = all-at limit l k (and-right (eqb (length l) slotCount) _ e)
+
+-- so is each of a stream's
+pub lawful-lane : (limit : ℕ) (l : List Slot) (t : Stream) → lawful limit l ≡ true → allLawful limit (laneOf t l) ≡ true
+unfolding lawful
+lawful-lane limit l t e =
+    all-take limit slotsEach (drop (laneStart t) l) (all-drop limit (laneStart t) l (and-right (eqb (length l) slotCount) _ e))
 
 -- a lawful slot in place of another
 pub lawful-set : (limit : ℕ) (l : List Slot) (k : ℕ) (s : Slot) → lawful limit l ≡ true → lawfulSlot limit s ≡ true → lawful limit (set l k s) ≡ true

@@ -1,11 +1,13 @@
--- Laws of the transition of one slot.
+-- Laws of what a packet does to its stream's slots.
 use Prim.Native.Nat.{ℕ, zero, suc, _+_, _≤_, _<_}
 use native.Mathlib.Omega.{arith}
-use mathlib.Core.Path.{_≡_, refl, sym}
-use mathlib.Core.Bool.{Bool, true, false, cond}
+use mathlib.Core.Path.{_≡_, refl, sym, ap, _∙_}
+use mathlib.Core.Option.{Option, none, some}
+use mathlib.Core.List.{List, [], _∷_}
+use mathlib.Core.Bool.{Bool, true, false, cond, _||_, false≢true}
+use lib.ListN.{length, getD}
 use lib.Dec.{eqb}
 use borrow.Author.Tests.{eqb-true, eqb-false, leb-false, not-false}
-use Rattle.wire.specs.Told.{Told, given, refused}
 use Rattle.wire.proofs.Tests.{and-left}
 use Rattle.wire.proofs.Tables.{by-table}
 use Rattle.packet.specs.declared.reader.Head.{Head}
@@ -15,88 +17,118 @@ use Rattle.packet.specs.Reader.{lenIn}
 use Rattle.packet.proofs.Reading.{HeadLow, Within}
 use Rattle.slot.specs.declared.Slot.{Slot}
 use Rattle.slot.specs.declared.step.Piece.{Piece}
-use Rattle.slot.specs.declared.answer.Accepted.{Accepted}
-use Rattle.slot.specs.declared.answer.Accepted.the-variants.{Acked, Nacked}
-use Rattle.slot.specs.Slot.{lawfulSlot}
-use Rattle.slot.specs.Step.{Step, leave, finish, hold, firstStep, offTotal, lines, leftBy, nextStep, slotStep}
-use Rattle.slot.proofs.Slots.{OpenSlot, lawful-open, open-lawful, idle-lawful}
+use Rattle.slot.specs.Slot.{idle, isOpen, lawfulSlot, allLawful, slotsEach}
+use Rattle.slot.specs.Step.{Step, Act, still, step, finish, hold, dropBy, firstStep, offTotal, lines, nextStep, further, placeWhere, atPlace, actOf}
+use Rattle.slot.specs.Fit.{Inside, Fit, ActFits}
+use Rattle.slot.proofs.Slots.{OpenSlot, lawful-open, open-lawful, idle-lawful, all-at}
 
--- a piece lies within a packet of k bytes, and where it is written within a part
-abbrev pub Inside : ℕ → ℕ → Piece → Type 0
-Inside limit k piece = (piece .start + piece .len ≤ k) × (piece .at + piece .len ≤ limit)
+-- ---- the place that is found
 
--- a step leaves its slot lawful, and its piece within bounds
-pub record Sound (limit k : ℕ) (step : Step) : Type 0 where
-  pub inside : Inside limit k (step .piece)
-  pub left : lawfulSlot limit (step .slot) ≡ true
+abbrev isSome : Option ℕ → Bool
+isSome none = false
+isSome (some place) = true
 
-module _ (limit k : ℕ) where
-  leave-sound : (t : Told Accepted) (s : Slot) → lawfulSlot limit s ≡ true → Sound limit k (leave t s)
-  unfolding leave
-  leave-sound t s law = record { inside = (omega arith, omega arith); left = law }
+-- a place that is found is one of the list's, and its slot passes the test
+pub record Found (test : Slot → Bool) (l : List Slot) (place : ℕ) : Type 0 where
+  pub below : place < length l
+  pub passes : test (getD l place idle) ≡ true
 
-  finish-sound : (h : Head) (ack : Bool) (total : ℕ) (replaced : Bool) (piece : Piece) → Inside limit k piece
-      → Sound limit k (finish h ack total replaced piece)
+found-further : (test : Slot → Bool) (x : Slot) (l : List Slot) (place : ℕ) (o : Option ℕ) → ((k : ℕ) → o ≡ some k → Found test l k)
+    → further o ≡ some place → Found test (x ∷ l) place
+found-further test x l place none later e = absurd (false≢true (ap isSome e))
+found-further test x l place (some k) later e =
+    let f = later k refl in
+    let same : suc k ≡ place = cc in
+    rw (← same) (record { below = omega (arith, f .below); passes = f .passes })
+
+found-by : (test : Slot → Bool) (x : Slot) (l : List Slot) (place : ℕ) (b : Bool) → test x ≡ b
+    → ((k : ℕ) → placeWhere test l ≡ some k → Found test l k)
+    → cond b (some 0) (further (placeWhere test l)) ≡ some place → Found test (x ∷ l) place
+found-by test x l place true t later e =
+    let same : 0 ≡ place = cc in
+    rw (← same) (record { below = omega arith; passes = t })
+found-by test x l place false t later e = found-further test x l place (placeWhere test l) later e
+
+found : (test : Slot → Bool) (l : List Slot) (place : ℕ) → placeWhere test l ≡ some place → Found test l place
+found test [] place e = absurd (false≢true (ap isSome e))
+found test (x ∷ l) place e = found-by test x l place (test x) refl (found test l) e
+
+-- ---- each step fits
+
+module _ (limit k place : ℕ) (low : place < slotsEach) where
+  drop-fits : (n : ℕ) → Fit limit k place (dropBy n)
+  unfolding dropBy
+  drop-fits n = record { within = low; inside = (omega arith, omega arith); left = idle-lawful limit }
+
+  finish-fits : (h : Head) (wanted : Bool) (total : ℕ) (replaced : Bool) (piece : Piece) → Inside limit k piece
+      → Fit limit k place (finish h wanted total replaced piece)
   unfolding finish
-  finish-sound h ack total replaced piece i = record { inside = i; left = idle-lawful limit }
+  finish-fits h wanted total replaced piece i = record { within = low; inside = i; left = idle-lawful limit }
 
-  hold-sound : (h : Head) (total : ℕ) (replaced : Bool) (piece : Piece) → Inside limit k piece → HeadLow h → total ≤ limit
-      → 1 ≤ piece .at + piece .len → piece .at + piece .len < total → Sound limit k (hold h total replaced piece)
+  hold-fits : (h : Head) (wanted : Bool) (total : ℕ) (replaced : Bool) (piece : Piece) → Inside limit k piece → HeadLow h → total ≤ limit
+      → 1 ≤ piece .at + piece .len → piece .at + piece .len < total → Fit limit k place (hold h wanted total replaced piece)
   unfolding hold
-  hold-sound h total replaced piece i low t some below =
+  hold-fits h wanted total replaced piece i head t sent below =
       record {
+        within = low;
         inside = i;
-        left = open-lawful limit _ refl (record { id-low = low .0; sequence-low = low .1; total-low = t; some-held = some; held-below = below });
+        left = open-lawful limit _ refl (record { id-low = head .0; sequence-low = head .1; total-low = t; some-held = sent; held-below = below });
       }
 
   some-sent : (len total : ℕ) → (len ≡ 0 → total ≡ 0) → (len ≡ total → ⊥) → 1 ≤ len
   some-sent zero total z d = absurd (d (sym (z refl)))
   some-sent (suc len) total z d = omega arith
 
-  first-sound : (s : Slot) (h : Head) (ack : Bool) (total start len : ℕ) (b : Bool) → eqb len total ≡ b
-      → Within limit k (First h ack total start len) → Sound limit k (firstStep s h ack total start len)
+  first-fits : (s : Slot) (h : Head) (ack : Bool) (total start len : ℕ) (b : Bool) → eqb len total ≡ b
+      → Within limit k (First h ack total start len) → Fit limit k place (firstStep s h ack total start len)
   unfolding firstStep
-  first-sound s h ack total start len true e w = rw e (finish-sound h ack total (s .opened) _ (omega arith, omega arith))
-  first-sound s h ack total start len false e w =
-      let some = some-sent len total (w .3) (eqb-false len total e) in
+  first-fits s h ack total start len true e w = rw e (finish-fits h ack total (s .opened) _ (omega arith, omega arith))
+  first-fits s h ack total start len false e w =
+      let sent = some-sent len total (w .3) (eqb-false len total e) in
       let d : (len ≡ total → ⊥) = eqb-false len total e in
-      rw e (hold-sound h total (s .opened) _ (omega arith, omega arith) (w .4) (w .2) (omega arith) (omega arith))
+      rw e (hold-fits h ack total (s .opened) _ (omega arith, omega arith) (w .4) (w .2) (omega arith) (omega arith))
 
-  left-lawful : (n : ℕ) (s : Slot) (b : Bool) → eqb n 9 ≡ b → lawfulSlot limit s ≡ true → lawfulSlot limit (leftBy n s) ≡ true
-  left-lawful n s true e law = rw e law
-  left-lawful n s false e law = rw e (idle-lawful limit)
-
-  go-on-sound : (s : Slot) (h : Head) (ack last : Bool) (start len : ℕ) → OpenSlot limit s → HeadLow h → start + len ≤ k
+  go-on-fits : (s : Slot) (h : Head) (wanted last : Bool) (start len : ℕ) → OpenSlot limit s → HeadLow h → start + len ≤ k
       → offTotal last (s .held + len) (s .total) ≡ false
-      → Sound limit k
-      (cond last (finish h ack (s .total) false (record { at = s .held; start = start; len = len }))
-      (hold h (s .total) false (record { at = s .held; start = start; len = len })))
-  go-on-sound s h ack true start len o low w t =
+      → Fit limit k place
+      (cond last (finish h wanted (s .total) false (record { at = s .held; start = start; len = len }))
+      (hold h wanted (s .total) false (record { at = s .held; start = start; len = len })))
+  go-on-fits s h wanted true start len o head w t =
       let e : s .held + len ≡ s .total = eqb-true (s .held + len) (s .total) (not-false _ t) in
-      finish-sound h ack (s .total) false _ (w, omega arith)
-  go-on-sound s h ack false start len o low w t =
+      finish-fits h wanted (s .total) false _ (w, omega arith)
+  go-on-fits s h wanted false start len o head w t =
       let e : s .held + len < s .total = leb-false (s .total) (s .held + len) t in
-      hold-sound h (s .total) false _ (w, omega arith) low (o .total-low) (omega arith) e
+      hold-fits h wanted (s .total) false _ (w, omega arith) head (o .total-low) (omega arith) e
 
-  next-sound : (s : Slot) (h : Head) (ack last : Bool) (start len : ℕ) → lawfulSlot limit s ≡ true
-      → Within limit k (Next h ack last start len) → Sound limit k (nextStep s h ack last start len)
+  next-fits : (s : Slot) (h : Head) (ack last : Bool) (start len : ℕ) → lawfulSlot limit s ≡ true → isOpen (h .id) s ≡ true
+      → Within limit k (Next h ack last start len) → Fit limit k place (nextStep s h ack last start len)
   unfolding nextStep
-  next-sound s h ack last start len law w =
-      by-table (Sound limit k) (lines s h last len) (λ n. leave (refused n) (leftBy n s)) _
-      (λ n. leave-sound (refused n) (leftBy n s) (left-lawful n s (eqb n 9) refl law)) (λ e.
-      let o = lawful-open limit s law (and-left (s .opened) (eqb (s .id) (h .id)) (not-false _ (e .0))) in
-      go-on-sound s h ack last start len o (w .1) (w .0) (e .1 .1 .0))
+  next-fits s h ack last start len law known w =
+      by-table (Fit limit k place) (lines s h last len) dropBy _ drop-fits (λ e.
+      go-on-fits s h (s .wanted || ack) last start len (lawful-open limit s law (and-left (s .opened) _ known)) (w .1) (w .0) (e .1 .0))
 
-  -- what a packet that was read does to a lawful slot
-  pub step-sound : (s : Slot) (x : Packet) → lawfulSlot limit s ≡ true → Within limit k x → Sound limit k (slotStep s x)
-  step-sound s (First h ack total start len) law w = first-sound s h ack total start len (eqb len total) refl w
-  step-sound s (Next h ack last start len) law w = next-sound s h ack last start len law w
-  step-sound s (Ack h) law w = leave-sound (given (Acked h)) s law
-  step-sound s (Nack h) law w = leave-sound (given (Nacked h)) s law
+-- ---- what a packet does fits
 
-  -- a payload is no longer than its packet
-  pub len-low : (x : Packet) → Within limit k x → lenIn x ≤ k
-  len-low (First h ack total start len) w = omega arith
-  len-low (Next h ack last start len) w = omega arith
-  len-low (Ack h) w = omega arith
-  len-low (Nack h) w = omega arith
+at-fits : (limit k n : ℕ) (f : ℕ → Step) (o : Option ℕ) → ((place : ℕ) → o ≡ some place → Fit limit k place (f place))
+    → ActFits limit k (atPlace n f o)
+at-fits limit k n f none h = tt
+at-fits limit k n f (some place) h = h place refl
+
+-- a packet that was read, on the lawful slots of its stream
+pub act-fits : (limit k : ℕ) (lane : List Slot) (x : Packet) → length lane ≤ slotsEach → allLawful limit lane ≡ true → Within limit k x
+    → ActFits limit k (actOf lane x)
+act-fits limit k lane (First h ack total start len) short law w =
+    first-fits limit k 0 (omega arith) (getD lane 0 idle) h ack total start len (eqb len total) refl w
+act-fits limit k lane (Next h ack last start len) short law w =
+    at-fits limit k 9 (λ place. nextStep (getD lane place idle) h ack last start len) (placeWhere (isOpen (h .id)) lane) (λ place e.
+    let f = found (isOpen (h .id)) lane place e in
+    next-fits limit k place (omega (arith, f .below)) (getD lane place idle) h ack last start len (all-at limit lane place law) (f .passes) w)
+act-fits limit k lane (Ack h) short law w = tt
+act-fits limit k lane (Nack h) short law w = tt
+
+-- a payload is no longer than its packet
+pub len-low : (limit k : ℕ) (x : Packet) → Within limit k x → lenIn x ≤ k
+len-low limit k (First h ack total start len) w = omega arith
+len-low limit k (Next h ack last start len) w = omega arith
+len-low limit k (Ack h) w = omega arith
+len-low limit k (Nack h) w = omega arith

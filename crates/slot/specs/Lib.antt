@@ -1,3 +1,4 @@
 pub mod Answer
 pub mod Slot
 pub mod Step
+pub mod Fit

@@ -1,7 +1,9 @@
--- What a packet does to the slot of its stream: the pure transition of one slot.
-use Prim.Native.Nat.{ℕ, _+_}
+-- What a packet does to the slots of its stream: nothing but an answer, or a step of one slot.
+use Prim.Native.Nat.{ℕ, suc, _+_}
 use mathlib.Core.List.{List, [], _∷_}
-use mathlib.Core.Bool.{Bool, true, false, not, cond, _&&_}
+use mathlib.Core.Option.{Option, none, some}
+use mathlib.Core.Bool.{Bool, true, false, not, cond, _||_}
+use lib.ListN.{getD}
 use lib.Dec.{leb, eqb}
 use Rattle.wire.specs.Told.{Told, given, refused, Line, line, table}
 use Rattle.packet.specs.declared.reader.Head.{Head}
@@ -13,7 +15,9 @@ use Rattle.slot.specs.declared.step.Piece.{Piece}
 use Rattle.slot.specs.declared.answer.Accepted.{Accepted}
 use Rattle.slot.specs.declared.answer.Accepted.the-variants.{Taken, Finished, Acked, Nacked}
 use Rattle.slot.specs.declared.step.Step as code
-use Rattle.slot.specs.Slot.{idle}
+use Rattle.slot.specs.declared.step.Act as acts
+use Rattle.slot.specs.declared.step.Act.the-variants.{Still, Step as Stepped}
+use Rattle.slot.specs.Slot.{idle, isOpen}
 use Rattle.slot.specs.Answer as answer
 
 -- what is told, the slot afterwards, and the piece that is written
@@ -22,63 +26,89 @@ pub record Step : Type 0 where
   pub slot : Slot
   pub piece : Piece
 
-unfoldable pub stepOf : code.Step → Step
-stepOf s = record { told = answer.told (s .answer); slot = s .slot; piece = s .piece }
+-- what is done with a packet: an answer that leaves all, or a step of the slot at a place among its stream's
+pub data Act : Type 0 where
+  still : Told Accepted → Act
+  step : ℕ → Step → Act
+
+-- ---- a step of one slot
 
 -- no bytes
 abbrev pub nothing : Piece
 nothing = record { at = 0; start = 0; len = 0 }
 
--- nothing is written
-unfoldable pub leave : Told Accepted → Slot → Step
-leave t s = record { told = t; slot = s; piece = nothing }
-
--- the transaction is finished, and its slot idle
+-- the transaction is finished: its wish for an ACK is told, and its slot idle
 unfoldable pub finish : Head → Bool → ℕ → Bool → Piece → Step
-finish head ack total replaced piece =
-    record { told = given (Finished (head .stream) (head .id) total ack replaced); slot = idle; piece = piece }
+finish head wanted total replaced piece =
+    record { told = given (Finished (head .stream) (head .id) total wanted replaced); slot = idle; piece = piece }
 
--- more is to come: the slot holds all up to the piece's end
-unfoldable pub hold : Head → ℕ → Bool → Piece → Step
-hold head total replaced piece =
+-- more is to come: the slot holds all up to the piece's end, and remembers the wish
+unfoldable pub hold : Head → Bool → ℕ → Bool → Piece → Step
+hold head wanted total replaced piece =
     record {
       told = given (Taken (head .stream) (head .id) replaced);
-      slot = record { opened = true; id = head .id; total = total; held = piece .at + piece .len; sequence = head .sequence };
+      slot = record { opened = true; id = head .id; total = total; held = piece .at + piece .len; sequence = head .sequence; wanted = wanted };
       piece = piece;
     }
 
--- a first packet replaces what is open; one whose payload equals its total finishes at once
+-- the transaction is dropped: its slot is idle, its wish forgotten, and nothing is written
+unfoldable pub dropBy : ℕ → Step
+dropBy n = record { told = refused n; slot = idle; piece = nothing }
+
+-- a first packet replaces what is open, its wish too; one whose payload equals its total finishes at once
 unfoldable pub firstStep : Slot → Head → Bool → ℕ → ℕ → ℕ → Step
 firstStep s head ack total start len =
     cond (eqb len total) (finish head ack total (s .opened) (record { at = 0; start = start; len = len }))
-    (hold head total (s .opened) (record { at = 0; start = start; len = len }))
+    (hold head ack total (s .opened) (record { at = 0; start = start; len = len }))
 
 -- type 1 reaches or passes the total, or type 2 misses it
 abbrev pub offTotal : Bool → ℕ → ℕ → Bool
 offTotal last held total = cond last (not (eqb held total)) (leb total held)
 
--- the lines of the table on a packet that follows
+-- the lines of the table on a packet that follows in an open transaction
 abbrev pub lines : Slot → Head → Bool → ℕ → List Line
 lines s head last len =
-    line 9 (not (s .opened && eqb (s .id) (head .id)))
-    ∷ line 10 (not (eqb (head .sequence) (sequenceAfter (s .sequence) 1)))
+    line 10 (not (eqb (head .sequence) (sequenceAfter (s .sequence) 1)))
     ∷ line 11 (offTotal last (s .held + len) (s .total))
     ∷ []
 
--- what each leaves: 9 all, 10 and 11 the slot idle
-abbrev pub leftBy : ℕ → Slot → Slot
-leftBy n s = cond (eqb n 9) s idle
-
--- a packet that follows is written behind what is held
+-- it is written behind what is held, and adds its flag to the wish; 10 and 11 drop the transaction
 unfoldable pub nextStep : Slot → Head → Bool → Bool → ℕ → ℕ → Step
 nextStep s head ack last start len =
-    table (lines s head last len) (λ n. leave (refused n) (leftBy n s))
-    (cond last (finish head ack (s .total) false (record { at = s .held; start = start; len = len }))
-    (hold head (s .total) false (record { at = s .held; start = start; len = len })))
+    table (lines s head last len) dropBy
+    (cond last (finish head (s .wanted || ack) (s .total) false (record { at = s .held; start = start; len = len }))
+    (hold head (s .wanted || ack) (s .total) false (record { at = s .held; start = start; len = len })))
 
--- the transition of one slot
-abbrev pub slotStep : Slot → Packet → Step
-slotStep s (First head ack total start len) = firstStep s head ack total start len
-slotStep s (Next head ack last start len) = nextStep s head ack last start len
-slotStep s (Ack head) = leave (given (Acked head)) s
-slotStep s (Nack head) = leave (given (Nacked head)) s
+-- ---- the slots of a stream
+
+-- one place further
+abbrev pub further : Option ℕ → Option ℕ
+further none = none
+further (some place) = some (suc place)
+
+-- the place of the first slot that passes a test
+abbrev pub placeWhere : (Slot → Bool) → List Slot → Option ℕ
+placeWhere test [] = none
+placeWhere test (s ∷ ss) = cond (test s) (some 0) (further (placeWhere test ss))
+
+-- a step at the place that was found, or a refusal that leaves all
+abbrev pub atPlace : ℕ → (ℕ → Step) → Option ℕ → Act
+atPlace n f none = still (refused n)
+atPlace n f (some place) = step place (f place)
+
+-- what a packet does to its stream's slots: 9 where no transaction of its id is open
+abbrev pub actOf : List Slot → Packet → Act
+actOf lane (First head ack total start len) = step 0 (firstStep (getD lane 0 idle) head ack total start len)
+actOf lane (Next head ack last start len) =
+    atPlace 9 (λ place. nextStep (getD lane place idle) head ack last start len) (placeWhere (isOpen (head .id)) lane)
+actOf lane (Ack head) = still (given (Acked head))
+actOf lane (Nack head) = still (given (Nacked head))
+
+-- ---- what the code decides, for a stream of one slot
+
+unfoldable pub stepOf : code.Step → Step
+stepOf s = record { told = answer.told (s .answer); slot = s .slot; piece = s .piece }
+
+abbrev pub actBy : acts.Act → Act
+actBy (Still told) = still (answer.told told)
+actBy (Stepped s) = step 0 (stepOf s)

@@ -6,7 +6,7 @@ ghost use mathlib.Core.Path.{_≡_};
 ghost use Rattle.slot.specs.Answer.{numberOf};
 
 // A packet that is not refused: a piece of a transaction with more to come, its last piece, an ACK or a NACK.
-// Replaced: an open transaction of the stream was replaced.
+// Replaced: an open transaction of the stream was replaced. ACK: one of the transaction's packets asked for it.
 pub enum Accepted {
     Taken {
         stream: Stream,

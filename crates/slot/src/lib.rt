@@ -1,11 +1,11 @@
-// The slot of a stream: idle, or open with id, total, count held and last sequence.
+// The slot of a stream: idle, or open with id, total, count held, last sequence and whether an ACK is wanted.
 pub mod answer;
 pub mod step;
 
 use packet::header;
 use wire::logic::both;
 ghost use mathlib.Core.Path.{_≡_};
-ghost use Rattle.slot.specs.Slot.{idle, openLaw, idleLaw, lawfulSlot, lawful};
+ghost use Rattle.slot.specs.Slot.{idle, openLaw, idleLaw, isOpen, lawfulSlot, lawful};
 
 pub struct Slot {
     pub opened: bool,
@@ -13,6 +13,7 @@ pub struct Slot {
     pub total: usize,
     pub held: usize,
     pub sequence: u8,
+    pub wanted: bool,
 }
 
 impl Slot {
@@ -25,6 +26,7 @@ impl Slot {
             total: 0,
             held: 0,
             sequence: 0,
+            wanted: false,
         }
     }
 
@@ -40,8 +42,16 @@ impl Slot {
     fn idle_law(self) -> bool
         ensures { λ r. ⌜ r ≡ idleLaw self ⌝ }
     {
-        let counts = both(self.total == 0, self.held == 0);
+        let none = both(self.held == 0, !self.wanted);
+        let counts = both(self.total == 0, none);
         both(self.id == 0, both(self.sequence == 0, counts))
+    }
+
+    // Whether a transaction of that id is open.
+    fn is_open(self, id: u8) -> bool
+        ensures { λ r. ⌜ r ≡ isOpen id self ⌝ }
+    {
+        both(self.opened, self.id == id)
     }
 
     pub fn is_lawful(self) -> bool

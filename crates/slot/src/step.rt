@@ -6,12 +6,14 @@ use crate::answer::Refusal;
 use packet::header;
 use packet::reader::Head;
 use packet::reader::Packet;
-use wire::logic::both;
+use wire::logic::either;
 ghost use mathlib.Core.Path.{_≡_};
 ghost use Prim.Native.Nat.{_^_, _<_};
+ghost use mathlib.Core.List.{[], _∷_};
 ghost use Rattle.packet.specs.Reader.{lenIn};
-ghost use Rattle.slot.specs.Answer.{told};
-ghost use Rattle.slot.specs.Step.{stepOf, leave, finish, hold, firstStep, offTotal, nextStep, slotStep};
+ghost use Rattle.packet.specs.declared.reader.Packet.the-variants.{Next};
+ghost use Rattle.slot.specs.Answer.{numberOf};
+ghost use Rattle.slot.specs.Step.{stepOf, actBy, finish, hold, dropBy, firstStep, offTotal, nextStep, actOf};
 
 // The bytes of the packet that are written, from start on, and their place in the slot's part of the buffer.
 pub struct Piece {
@@ -27,24 +29,15 @@ pub struct Step {
     pub piece: Piece,
 }
 
-// Nothing is written.
-fn leave(answer: Answer, slot: Slot) -> Step
-    ensures { λ r. ⌜ stepOf r ≡ leave (told answer) slot ⌝ }
-{
-    Step {
-        answer,
-        slot,
-        piece: Piece {
-            at: 0,
-            start: 0,
-            len: 0,
-        },
-    }
+// An answer that leaves all, or a step of the slot.
+pub enum Act {
+    Still(Answer),
+    Step(Step),
 }
 
-// The transaction is finished, and its slot idle.
-fn finish(head: Head, ack: bool, total: usize, replaced: bool, piece: Piece) -> Step
-    ensures { λ r. ⌜ stepOf r ≡ finish head ack total replaced piece ⌝ }
+// The transaction is finished: its wish for an ACK is told, and its slot idle.
+fn finish(head: Head, wanted: bool, total: usize, replaced: bool, piece: Piece) -> Step
+    ensures { λ r. ⌜ stepOf r ≡ finish head wanted total replaced piece ⌝ }
 {
     let stream = head.stream;
     let slot = Slot::idle();
@@ -53,7 +46,7 @@ fn finish(head: Head, ack: bool, total: usize, replaced: bool, piece: Piece) -> 
             stream,
             id: head.id,
             total,
-            ack,
+            ack: wanted,
             replaced,
         }),
         slot,
@@ -61,12 +54,13 @@ fn finish(head: Head, ack: bool, total: usize, replaced: bool, piece: Piece) -> 
     }
 }
 
-// More is to come: the slot holds all up to the piece's end.
-fn hold(head: Head, total: usize, replaced: bool, piece: Piece) -> Step
+// More is to come: the slot holds all up to the piece's end, and remembers the wish.
+fn hold(head: Head, wanted: bool, total: usize, replaced: bool, piece: Piece) -> Step
     requires { ⌜ (piece .at < 2 ^ 63) × (piece .len < 2 ^ 63) ⌝ }
-    ensures { λ r. ⌜ stepOf r ≡ hold head total replaced piece ⌝ }
+    ensures { λ r. ⌜ stepOf r ≡ hold head wanted total replaced piece ⌝ }
 {
     let stream = head.stream;
+    let held = piece.at + piece.len;
     Step {
         answer: Answer::Given(Accepted::Taken {
             stream,
@@ -77,14 +71,31 @@ fn hold(head: Head, total: usize, replaced: bool, piece: Piece) -> Step
             opened: true,
             id: head.id,
             total,
-            held: piece.at + piece.len,
+            held,
             sequence: head.sequence,
+            wanted,
         },
         piece,
     }
 }
 
-// A first packet replaces what is open; one whose payload equals its total finishes at once.
+// The transaction is dropped: its slot is idle, and nothing is written.
+fn drop_by(why: Refusal) -> Step
+    ensures { λ r. ⌜ stepOf r ≡ dropBy (numberOf why) ⌝ }
+{
+    let slot = Slot::idle();
+    Step {
+        answer: Answer::Refused(why),
+        slot,
+        piece: Piece {
+            at: 0,
+            start: 0,
+            len: 0,
+        },
+    }
+}
+
+// A first packet replaces what is open, its wish too; one whose payload equals its total finishes at once.
 fn on_first(slot: Slot, head: Head, ack: bool, total: usize, start: usize, len: usize) -> Step
     requires { ⌜ len < 2 ^ 63 ⌝ }
     ensures { λ r. ⌜ stepOf r ≡ firstStep slot head ack total start len ⌝ }
@@ -94,7 +105,7 @@ fn on_first(slot: Slot, head: Head, ack: bool, total: usize, start: usize, len: 
     if len == total {
         return finish(head, ack, total, replaced, piece);
     }
-    hold(head, total, replaced, piece)
+    hold(head, ack, total, replaced, piece)
 }
 
 // Whether type 1 reaches or passes the total, or type 2 misses it.
@@ -104,36 +115,45 @@ fn off_total(last: bool, held: usize, total: usize) -> bool
     if last { held != total } else { total <= held }
 }
 
-// A packet that follows is written behind what is held.
+// A packet that follows in an open transaction is written behind what is held, and adds its flag to the wish.
 fn on_next(slot: Slot, head: Head, ack: bool, last: bool, start: usize, len: usize) -> Step
     requires { ⌜ (slot .held < 2 ^ 63) × (len < 2 ^ 63) ⌝ }
     ensures { λ r. ⌜ stepOf r ≡ nextStep slot head ack last start len ⌝ }
 {
-    let none = Slot::idle();
-    let known = both(slot.opened, slot.id == head.id);
-    if !known {
-        return leave(Answer::Refused(Refusal::NoTransaction), slot);
-    }
     let awaited = header::sequence_after(slot.sequence, 1);
     if head.sequence != awaited {
-        return leave(Answer::Refused(Refusal::Sequence), none);
+        return drop_by(Refusal::Sequence);
     }
     let at = slot.held;
     let total = slot.total;
     if off_total(last, at + len, total) {
-        return leave(Answer::Refused(Refusal::Amount), none);
+        return drop_by(Refusal::Amount);
     }
+    let wanted = either(slot.wanted, ack);
     let piece = Piece { at, start, len };
     if last {
-        return finish(head, ack, total, false, piece);
+        return finish(head, wanted, total, false, piece);
     }
-    hold(head, total, false, piece)
+    hold(head, wanted, total, false, piece)
 }
 
-// The transition of one slot.
-pub fn slot_step(slot: Slot, packet: Packet) -> Step
+// A packet that follows: what it does where its transaction is open.
+fn follow(slot: Slot, head: Head, ack: bool, last: bool, start: usize, len: usize) -> Act
+    requires { ⌜ (slot .held < 2 ^ 63) × (len < 2 ^ 63) ⌝ }
+    ensures { λ r. ⌜ actBy r ≡ actOf (slot ∷ []) (Next head ack last start len) ⌝ }
+{
+    let known = slot.is_open(head.id);
+    if !known {
+        return Act::Still(Answer::Refused(Refusal::NoTransaction));
+    }
+    let step = on_next(slot, head, ack, last, start, len);
+    Act::Step(step)
+}
+
+// What a packet does to the slot of its stream.
+pub fn act_on(slot: Slot, packet: Packet) -> Act
     requires { ⌜ (slot .held < 2 ^ 63) × (lenIn packet < 2 ^ 63) ⌝ }
-    ensures { λ r. ⌜ stepOf r ≡ slotStep slot packet ⌝ }
+    ensures { λ r. ⌜ actBy r ≡ actOf (slot ∷ []) packet ⌝ }
 {
     match packet {
         Packet::First {
@@ -142,15 +162,18 @@ pub fn slot_step(slot: Slot, packet: Packet) -> Step
             total,
             start,
             len,
-        } => on_first(slot, head, ack, total, start, len),
+        } => {
+            let step = on_first(slot, head, ack, total, start, len);
+            Act::Step(step)
+        }
         Packet::Next {
             head,
             ack,
             last,
             start,
             len,
-        } => on_next(slot, head, ack, last, start, len),
-        Packet::Ack(head) => leave(Answer::Given(Accepted::Acked(head)), slot),
-        Packet::Nack(head) => leave(Answer::Given(Accepted::Nacked(head)), slot),
+        } => follow(slot, head, ack, last, start, len),
+        Packet::Ack(head) => Act::Still(Answer::Given(Accepted::Acked(head))),
+        Packet::Nack(head) => Act::Still(Answer::Given(Accepted::Nacked(head))),
     }
 }

@@ -1,9 +1,10 @@
 -- Laws of one step: an entry and a field end after their place, and all parts that are gathered lie within the message.
 use Prim.Native.Nat.{ℕ, _+_, _≤_, _<_, zero-le}
-use mathlib.Core.Path.{_≡_, refl, ap}
+use mathlib.Core.Path.{_≡_, refl, sym, ap, _∙_}
+use mathlib.Core.Bool.{true, _&&_, not}
 use mathlib.Core.List.{List, [], _∷_}
 use native.Mathlib.Omega.{arith}
-use lib.Dec.{leb}
+use lib.Dec.{leb, eqb}
 use lib.ListN.{length, take}
 use borrow.Author.Tests.{leb-false}
 use Rattle.wire.specs.Told.{Told, given, refused, andThen}
@@ -19,12 +20,12 @@ use Rattle.field.proofs.Varints.{Ends, varint-ends}
 use Rattle.field.proofs.Places.{tag-ends, Held, value-held, within-set}
 use Rattle.walk.specs.declared.schema.Schema.{Schema}
 use Rattle.walk.specs.declared.schema.Role.{Role}
-use Rattle.walk.specs.declared.schema.Role.the-variants.{Scalar, Text, Transports, Nested, Member, Unknown}
+use Rattle.walk.specs.declared.schema.Role.the-variants.{Scalar, Text, Transports, Nested, Repeated, Member, Unknown}
 use Rattle.walk.specs.declared.gathered.Gathered.{Gathered}
 use Rattle.walk.specs.declared.gathered.Verdict.{Verdict}
 use Rattle.walk.specs.declared.gathered.Verdict.the-variants.{Fine, Refused}
-use Rattle.walk.specs.Gathered.{mostTransports, nothing, partsGathered, withTransport, judgedAs}
-use Rattle.walk.specs.Schema.{roleOf}
+use Rattle.walk.specs.Gathered.{mostTransports, mostRepeated, nothing, partsGathered, withTransport, judgedAs}
+use Rattle.walk.specs.Schema.{roleOf, fitsRole, isMember, isRepeated}
 use Rattle.walk.specs.declared.reader.Added.{Added}
 use Rattle.walk.specs.declared.reader.Added.the-variants as Added
 use Rattle.walk.specs.Walk.{placed, entryAt, packedFrom, judged, valueAdded, addedAt, readAt, withAdded, fieldAt, fieldsFrom}
@@ -50,6 +51,7 @@ addedParts Added.Nothing = []
 addedParts (Added.Scalar slot v) = []
 addedParts (Added.Text slot p) = p ∷ []
 addedParts (Added.Member field p) = p ∷ []
+addedParts Added.Repeated = []
 addedParts (Added.Transport v) = []
 addedParts (Added.Packed p) = p ∷ []
 
@@ -58,34 +60,76 @@ value-within s (Scalar i) field (Number v) h = tt
 value-within s (Text i) field (Number v) h = tt
 value-within s Transports field (Number v) h = tt
 value-within s Nested field (Number v) h = tt
+value-within s Repeated field (Number v) h = tt
 value-within s Member field (Number v) h = tt
 value-within s Unknown field (Number v) h = tt
 value-within s (Scalar i) field (Bytes p) h = tt
 value-within s (Text i) field (Bytes p) h = h
 value-within s Transports field (Bytes p) h = h
 value-within s Nested field (Bytes p) h = h
+value-within s Repeated field (Bytes p) h = tt
 value-within s Member field (Bytes p) h = h
 value-within s Unknown field (Bytes p) h = tt
 value-within s role field Skipped h = tt
 
-abbrev Adds : List ℕ → ℕ → Added × ℕ → Type 0
-Adds s at q = (at < q .1) × Within s (addedParts (q .0))
+-- there is room for one message more of a repeated field
+abbrev Counts : ℕ → Added → Type 0
+Counts count Added.Nothing = Unit {0}
+Counts count (Added.Scalar slot v) = Unit {0}
+Counts count (Added.Text slot p) = Unit {0}
+Counts count (Added.Member field p) = Unit {0}
+Counts count Added.Repeated = count < mostRepeated
+Counts count (Added.Transport v) = Unit {0}
+Counts count (Added.Packed p) = Unit {0}
 
-read-adds : (schema : Schema) (s : List ℕ) (at member : ℕ) → Sat (Adds s at) (readAt schema s at member)
+judged-counts : (role : Role) (wire member count : ℕ) → Sat (λ (u : Unit {0}). isRepeated role ≡ true → count < mostRepeated) (judged role wire member count)
+unfolding judged
+judged-counts role wire member count =
+    let P : Unit {0} → Type 0 = λ u. isRepeated role ≡ true → count < mostRepeated in
+    sat-cond P (not (fitsRole role wire)) (refused 33) _ (λ _. tt)
+    (λ _. sat-cond P (isMember role wire && not (eqb member 0)) (refused 34) _ (λ _. tt)
+    (λ _. sat-cond P (isRepeated role && leb mostRepeated count) (refused 34) (given tt) (λ _. tt)
+    (λ t e. omega (arith, leb-false mostRepeated count (sym (ap (λ b. b && leb mostRepeated count) e) ∙ t)))))
+
+value-counts : (count : ℕ) (role : Role) (field : ℕ) (v : Value) → (isRepeated role ≡ true → count < mostRepeated) → Counts count (valueAdded role field v)
+value-counts count (Scalar i) field (Number v) h = tt
+value-counts count (Text i) field (Number v) h = tt
+value-counts count Transports field (Number v) h = tt
+value-counts count Nested field (Number v) h = tt
+value-counts count Repeated field (Number v) h = tt
+value-counts count Member field (Number v) h = tt
+value-counts count Unknown field (Number v) h = tt
+value-counts count (Scalar i) field (Bytes p) h = tt
+value-counts count (Text i) field (Bytes p) h = tt
+value-counts count Transports field (Bytes p) h = tt
+value-counts count Nested field (Bytes p) h = tt
+value-counts count Repeated field (Bytes p) h = h refl
+value-counts count Member field (Bytes p) h = tt
+value-counts count Unknown field (Bytes p) h = tt
+value-counts count role field Skipped h = tt
+
+abbrev Adds : List ℕ → ℕ → ℕ → Added × ℕ → Type 0
+Adds s at count q = (at < q .1) × Within s (addedParts (q .0)) × Counts count (q .0)
+
+read-adds : (schema : Schema) (s : List ℕ) (at member count : ℕ) → Sat (Adds s at count) (readAt schema s at member count)
 unfolding readAt addedAt
-read-adds schema s at member =
-    sat-then (λ (h : Head). at < h .next) (Adds s at) (tagAt s at) _ (tag-ends s at)
-    (λ h l. sat-then (λ (u : Unit {0}). Unit {0}) (Adds s at) (judged (roleOf schema (h .field)) (h .wire) member) _
-    (sat-any (judged (roleOf schema (h .field)) (h .wire) member))
-    (λ u w. sat-then (Held s (h .next)) (Adds s at) (valueAt s (h .next) (h .wire)) _ (value-held s (h .next) (h .wire))
-    (λ v k. (omega arith, value-within s (roleOf schema (h .field)) (h .field) (v .0) (k .1)))))
+read-adds schema s at member count =
+    let Q = Adds s at count in
+    sat-then (λ (h : Head). at < h .next) Q (tagAt s at) _ (tag-ends s at)
+    (λ h l. sat-then (λ (u : Unit {0}). isRepeated (roleOf schema (h .field)) ≡ true → count < mostRepeated) Q (judged (roleOf schema (h .field)) (h .wire) member count) _
+    (judged-counts (roleOf schema (h .field)) (h .wire) member count)
+    (λ u w. sat-then (Held s (h .next)) Q (valueAt s (h .next) (h .wire)) _ (value-held s (h .next) (h .wire))
+    (λ v k. (omega arith, value-within s (roleOf schema (h .field)) (h .field) (v .0) (k .1), value-counts count (roleOf schema (h .field)) (h .field) (v .0) w))))
 
-pub packed-within : (schema : Schema) (s : List ℕ) (at member : ℕ) (p : Part) (n : ℕ) → readAt schema s at member ≡ given (Added.Packed p, n)
-    → p .start + p .len ≤ length s
-packed-within schema s at member p n e = sat-given (Adds s at) (readAt schema s at member) (Added.Packed p, n) (read-adds schema s at member) e .1 .0
+module _ (schema : Schema) (s : List ℕ) (at member count : ℕ) where
+  pub packed-within : (p : Part) (n : ℕ) → readAt schema s at member count ≡ given (Added.Packed p, n) → p .start + p .len ≤ length s
+  packed-within p n e = sat-given (Adds s at count) (readAt schema s at member count) (Added.Packed p, n) (read-adds schema s at member count) e .1 .0
+
+  pub repeated-room : (n : ℕ) → readAt schema s at member count ≡ given (Added.Repeated, n) → count < mostRepeated
+  repeated-room n e = sat-given (Adds s at count) (readAt schema s at member count) (Added.Repeated, n) (read-adds schema s at member count) e .2
 
 -- a field, by what it adds
-pub field-by : (schema : Schema) (s : List ℕ) (at : ℕ) (g : Gathered) {r : Told (Added × ℕ)} → readAt schema s at (g .field) ≡ r
+pub field-by : (schema : Schema) (s : List ℕ) (at : ℕ) (g : Gathered) {r : Told (Added × ℕ)} → readAt schema s at (g .field) (g .count) ≡ r
     → fieldAt schema s at g ≡ andThen r (λ a. andThen (withAdded s (a .0) g) (placed (a .1)))
 unfolding fieldAt
 field-by schema s at g e = ap (λ r. andThen r (λ a. andThen (withAdded s (a .0) g) (placed (a .1)))) e
@@ -95,11 +139,11 @@ unfolding fieldAt
 field-forward schema s at g q e =
     let Q : Gathered × ℕ → Type 0 = λ x. at < x .1 in
     sat-given Q (fieldAt schema s at g) q
-    (sat-then (Adds s at) Q (readAt schema s at (g .field)) _ (read-adds schema s at (g .field))
+    (sat-then (Adds s at (g .count)) Q (readAt schema s at (g .field) (g .count)) _ (read-adds schema s at (g .field) (g .count))
     (λ a h. sat-then (λ (x : Gathered). Unit {0}) Q (withAdded s (a .0) g) _ (sat-any (withAdded s (a .0) g)) (λ x u. h .0)))
     e
 
--- ---- all parts that are gathered lie within the message, and there are at most eight transports
+-- ---- all parts that are gathered lie within the message, and at most eight were counted
 abbrev Inside : List ℕ → Gathered → Type 0
 Inside s g = Within s (partsGathered g) × (g .count ≤ mostTransports)
 
@@ -116,13 +160,14 @@ entries-inside s t at g w =
     (λ p u. sat-then (Inside s) Q (withTransport (p .0) x) _ (transport-inside s (p .0) x h) (λ y k. k)))
     (length t) at g w
 
-added-inside : (s : List ℕ) (a : Added) (g : Gathered) → Within s (addedParts a) → Inside s g → Sat (Inside s) (withAdded s a g)
-added-inside s Added.Nothing g h w = w
-added-inside s (Added.Scalar slot v) g h w = w
-added-inside s (Added.Text slot p) g h w = ((w .0 .0, within-set s (g .texts) slot p (h .0) (w .0 .1)), w .1)
-added-inside s (Added.Member field p) g h w = ((h .0, w .0 .1), w .1)
-added-inside s (Added.Transport v) g h w = transport-inside s v g w
-added-inside s (Added.Packed p) g h w = entries-inside s (take (p .start + p .len) s) (p .start) g w
+added-inside : (s : List ℕ) (a : Added) (g : Gathered) → Within s (addedParts a) → Counts (g .count) a → Inside s g → Sat (Inside s) (withAdded s a g)
+added-inside s Added.Nothing g h k w = w
+added-inside s (Added.Scalar slot v) g h k w = w
+added-inside s (Added.Text slot p) g h k w = ((w .0 .0, within-set s (g .texts) slot p (h .0) (w .0 .1)), w .1)
+added-inside s (Added.Member field p) g h k w = ((h .0, w .0 .1), w .1)
+added-inside s Added.Repeated g h k w = (w .0, omega arith)
+added-inside s (Added.Transport v) g h k w = transport-inside s v g w
+added-inside s (Added.Packed p) g h k w = entries-inside s (take (p .start + p .len) s) (p .start) g w
 
 pub fields-within : (schema : Schema) (s : List ℕ) (at : ℕ) (g : Gathered) → fieldsFrom schema s at ≡ given g → Within s (partsGathered g) × (g .count ≤ mostTransports)
 unfolding fieldsFrom fieldAt
@@ -130,7 +175,7 @@ fields-within schema s at g e =
     let Q : Gathered × ℕ → Type 0 = λ q. Inside s (q .0) in
     sat-given (Inside s) (fieldsFrom schema s at) g
     (walk-keeps (fieldAt schema) (Inside s) s
-    (λ a x w. sat-then (Adds s a) Q (readAt schema s a (x .field)) _ (read-adds schema s a (x .field))
-    (λ d h. sat-then (Inside s) Q (withAdded s (d .0) x) _ (added-inside s (d .0) x (h .1) w) (λ y k. k)))
+    (λ a x w. sat-then (Adds s a (x .count)) Q (readAt schema s a (x .field) (x .count)) _ (read-adds schema s a (x .field) (x .count))
+    (λ d h. sat-then (Inside s) Q (withAdded s (d .0) x) _ (added-inside s (d .0) x (h .1) (h .2) w) (λ y k. k)))
     (length s) at nothing ((zero-le, (zero-le, (zero-le, (zero-le, tt)))), zero-le))
     e

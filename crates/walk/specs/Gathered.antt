@@ -17,6 +17,10 @@ use Rattle.walk.specs.declared.gathered.Kept.{Kept}
 abbrev pub mostTransports : ℕ
 mostTransports = 8
 
+-- the most messages of a repeated field
+abbrev pub mostRepeated : ℕ
+mostRepeated = 8
+
 -- an absent part
 abbrev pub noPart : Part
 noPart = record { start = 0; len = 0 }
@@ -43,6 +47,11 @@ withText slot p g =
 abbrev pub withMember : ℕ → Part → Gathered → Gathered
 withMember field p g =
     record { scalars = g .scalars; texts = g .texts; field = field; part = p; transports = g .transports; count = g .count }
+
+-- one message more of a repeated field
+abbrev pub withRepeated : Gathered → Gathered
+withRepeated g =
+    record { scalars = g .scalars; texts = g .texts; field = g .field; part = g .part; transports = g .transports; count = g .count + 1 }
 
 -- one transport more: the ninth is 34
 unfoldable pub withTransport : ℕ → Gathered → Told Gathered

@@ -5,9 +5,9 @@ use mathlib.Core.List.{List, [], _∷_}
 use lib.Dec.{eqb}
 use Rattle.field.specs.Tag.{varintType, lengthType}
 use Rattle.walk.specs.declared.schema.Schema.{Schema}
-use Rattle.walk.specs.declared.schema.Schema.the-variants.{Envelope, Response, Information, Features}
+use Rattle.walk.specs.declared.schema.Schema.the-variants.{Envelope, Response, Information, Features, Segment, Apply, Firmware, Component}
 use Rattle.walk.specs.declared.schema.Role.{Role}
-use Rattle.walk.specs.declared.schema.Role.the-variants.{Scalar, Text, Transports, Nested, Member, Unknown}
+use Rattle.walk.specs.declared.schema.Role.the-variants.{Scalar, Text, Transports, Nested, Repeated, Member, Unknown}
 
 -- the fields of an envelope and of a response
 abbrev pub commandField : ℕ
@@ -39,6 +39,55 @@ featuresField = 1
 abbrev pub deviceAttributesField : ℕ
 deviceAttributesField = 2
 
+-- the fields of UpdateComponentSegment
+abbrev pub componentNameField : ℕ
+componentNameField = 1
+
+abbrev pub componentOffsetField : ℕ
+componentOffsetField = 2
+
+abbrev pub segmentSizeField : ℕ
+segmentSizeField = 3
+
+abbrev pub segmentSignatureField : ℕ
+segmentSignatureField = 4
+
+-- the fields of ApplyFirmware
+abbrev pub firmwareInformationField : ℕ
+firmwareInformationField = 1
+
+abbrev pub restartRequiredField : ℕ
+restartRequiredField = 2
+
+-- the fields of FirmwareInformation
+abbrev pub firmwareVersionField : ℕ
+firmwareVersionField = 1
+
+abbrev pub firmwareNameField : ℕ
+firmwareNameField = 2
+
+abbrev pub componentsField : ℕ
+componentsField = 3
+
+abbrev pub localeField : ℕ
+localeField = 4
+
+abbrev pub versionNameField : ℕ
+versionNameField = 5
+
+-- the fields of FirmwareComponent
+abbrev pub firmwareComponentVersionField : ℕ
+firmwareComponentVersionField = 1
+
+abbrev pub firmwareComponentNameField : ℕ
+firmwareComponentNameField = 2
+
+abbrev pub firmwareComponentSizeField : ℕ
+firmwareComponentSizeField = 3
+
+abbrev pub firmwareComponentSignatureField : ℕ
+firmwareComponentSignatureField = 4
+
 -- where scalars and strings are kept
 abbrev pub first : ℕ
 first = 0
@@ -56,6 +105,14 @@ knownFields Response = (errorCodeField, Scalar first) ∷ []
 knownFields Information =
     (serialNumberField, Text first) ∷ (nameField, Text second) ∷ (transportsField, Transports) ∷ (deviceTypeField, Text third) ∷ []
 knownFields Features = (featuresField, Scalar first) ∷ (deviceAttributesField, Scalar second) ∷ []
+knownFields Segment =
+    (componentNameField, Text first) ∷ (componentOffsetField, Scalar first) ∷ (segmentSizeField, Scalar second) ∷ (segmentSignatureField, Text second) ∷ []
+knownFields Apply = (firmwareInformationField, Nested) ∷ (restartRequiredField, Scalar first) ∷ []
+knownFields Firmware =
+    (firmwareVersionField, Scalar first) ∷ (firmwareNameField, Text first) ∷ (componentsField, Repeated) ∷ (localeField, Text second) ∷ (versionNameField, Text third) ∷ []
+knownFields Component =
+    (firmwareComponentVersionField, Scalar first) ∷ (firmwareComponentNameField, Text first) ∷ (firmwareComponentSizeField, Scalar second)
+    ∷ (firmwareComponentSignatureField, Text second) ∷ []
 
 -- what any other field is
 abbrev pub otherFields : Schema → Role
@@ -63,6 +120,10 @@ otherFields Envelope = Member
 otherFields Response = Member
 otherFields Information = Unknown
 otherFields Features = Unknown
+otherFields Segment = Unknown
+otherFields Apply = Unknown
+otherFields Firmware = Unknown
+otherFields Component = Unknown
 
 abbrev lookup : ℕ → List (ℕ × Role) → Role → Role
 lookup field [] other = other
@@ -78,6 +139,7 @@ fitsRole (Scalar slot) wire = eqb wire varintType
 fitsRole (Text slot) wire = eqb wire lengthType
 fitsRole Transports wire = eqb wire varintType || eqb wire lengthType
 fitsRole Nested wire = eqb wire lengthType
+fitsRole Repeated wire = eqb wire lengthType
 fitsRole Member wire = true
 fitsRole Unknown wire = true
 
@@ -87,5 +149,16 @@ isMember (Scalar slot) wire = false
 isMember (Text slot) wire = false
 isMember Transports wire = false
 isMember Nested wire = eqb wire lengthType
+isMember Repeated wire = false
 isMember Member wire = eqb wire lengthType
 isMember Unknown wire = false
+
+-- the fields of which there may be some, and no more
+abbrev pub isRepeated : Role → Bool
+isRepeated (Scalar slot) = false
+isRepeated (Text slot) = false
+isRepeated Transports = false
+isRepeated Nested = false
+isRepeated Repeated = true
+isRepeated Member = false
+isRepeated Unknown = false

@@ -14,15 +14,15 @@ use Rattle.field.specs.declared.value.Value.{Value}
 use Rattle.field.specs.declared.value.Value.the-variants.{Number, Bytes, Skipped}
 use Rattle.walk.specs.declared.schema.Schema.{Schema}
 use Rattle.walk.specs.declared.schema.Role.{Role}
-use Rattle.walk.specs.declared.schema.Role.the-variants.{Scalar, Text, Transports, Nested, Member, Unknown}
+use Rattle.walk.specs.declared.schema.Role.the-variants.{Scalar, Text, Transports, Nested, Repeated, Member, Unknown}
 use Rattle.walk.specs.declared.gathered.Gathered.{Gathered}
 use Rattle.walk.specs.declared.reader.EntryRead.{EntryRead}
 use Rattle.walk.specs.declared.reader.Added.{Added}
 use Rattle.walk.specs.declared.reader.Added.the-variants as Added
 use Rattle.walk.specs.declared.reader.FieldRead.{FieldRead}
 use Rattle.walk.specs.declared.reader.FieldRead.the-variants as FieldRead
-use Rattle.walk.specs.Schema.{roleOf, fitsRole, isMember}
-use Rattle.walk.specs.Gathered.{nothing, withScalar, withText, withMember, withTransport, judgedAs}
+use Rattle.walk.specs.Schema.{roleOf, fitsRole, isMember, isRepeated}
+use Rattle.walk.specs.Gathered.{mostRepeated, nothing, withScalar, withText, withMember, withRepeated, withTransport, judgedAs}
 
 -- steps from a place to the end of the bytes, each one with the place after it; fuel bounds their number, and as many as there are bytes is enough
 abbrev pub walk : (List ℕ → ℕ → Gathered → Told (Gathered × ℕ)) → ℕ → List ℕ → ℕ → Gathered → Told Gathered
@@ -42,10 +42,11 @@ entryAt s at g = andThen (varintAt s at) (λ p. andThen (withTransport (p .0) g)
 unfoldable pub packedFrom : List ℕ → ℕ → Gathered → Told Gathered
 packedFrom s at g = walk entryAt (length s) s at g
 
--- a tag by its role: 33 for a known field with another wire type, 34 for a second member
-unfoldable pub judged : Role → ℕ → ℕ → Told (Unit {0})
-judged role wire member =
-    table (line 33 (not (fitsRole role wire)) ∷ line 34 (isMember role wire && not (eqb member 0)) ∷ []) refused (given tt)
+-- a tag by its role: 33 for a known field with another wire type, 34 for a second member and for one message too many of a repeated field
+unfoldable pub judged : Role → ℕ → ℕ → ℕ → Told (Unit {0})
+judged role wire member count =
+    table (line 33 (not (fitsRole role wire)) ∷ line 34 (isMember role wire && not (eqb member 0)) ∷ line 34 (isRepeated role && leb mostRepeated count) ∷ []) refused
+    (given tt)
 
 -- what a number, a part of the message and a value add
 abbrev pub numberAdded : Role → ℕ → Added
@@ -53,6 +54,7 @@ numberAdded (Scalar slot) v = Added.Scalar slot v
 numberAdded (Text slot) v = Added.Nothing
 numberAdded Transports v = Added.Transport v
 numberAdded Nested v = Added.Nothing
+numberAdded Repeated v = Added.Nothing
 numberAdded Member v = Added.Nothing
 numberAdded Unknown v = Added.Nothing
 
@@ -61,6 +63,7 @@ partAdded (Scalar slot) field p = Added.Nothing
 partAdded (Text slot) field p = Added.Text slot p
 partAdded Transports field p = Added.Packed p
 partAdded Nested field p = Added.Member field p
+partAdded Repeated field p = Added.Repeated
 partAdded Member field p = Added.Member field p
 partAdded Unknown field p = Added.Nothing
 
@@ -74,10 +77,10 @@ unfoldable pub addedAt : List ℕ → ℕ → ℕ → Role → ℕ → Told (Add
 addedAt s at wire role field = andThen (valueAt s at wire) (λ v. given (valueAdded role field (v .0), v .1))
 
 -- what a field adds, and the place after it: its tag, its tag by its role, then its value
-unfoldable pub readAt : Schema → List ℕ → ℕ → ℕ → Told (Added × ℕ)
-readAt schema s at member =
+unfoldable pub readAt : Schema → List ℕ → ℕ → ℕ → ℕ → Told (Added × ℕ)
+readAt schema s at member count =
     andThen (tagAt s at) (λ h.
-    andThen (judged (roleOf schema (h .field)) (h .wire) member) (λ _.
+    andThen (judged (roleOf schema (h .field)) (h .wire) member count) (λ _.
     addedAt s (h .next) (h .wire) (roleOf schema (h .field)) (h .field)))
 
 -- what was gathered with what a field adds: a packed list is read within its part
@@ -86,12 +89,13 @@ withAdded s Added.Nothing g = given g
 withAdded s (Added.Scalar slot v) g = given (withScalar slot v g)
 withAdded s (Added.Text slot p) g = given (withText slot p g)
 withAdded s (Added.Member field p) g = given (withMember field p g)
+withAdded s Added.Repeated g = given (withRepeated g)
 withAdded s (Added.Transport v) g = withTransport v g
 withAdded s (Added.Packed p) g = packedFrom (take (p .start + p .len) s) (p .start) g
 
 -- one field: what it adds, and what was gathered with that
 unfoldable pub fieldAt : Schema → List ℕ → ℕ → Gathered → Told (Gathered × ℕ)
-fieldAt schema s at g = andThen (readAt schema s at (g .field)) (λ a. andThen (withAdded s (a .0) g) (placed (a .1)))
+fieldAt schema s at g = andThen (readAt schema s at (g .field) (g .count)) (λ a. andThen (withAdded s (a .0) g) (placed (a .1)))
 
 -- the fields of a message, from a place to the end
 unfoldable pub fieldsFrom : Schema → List ℕ → ℕ → Told Gathered

@@ -5,10 +5,13 @@ use field::Refusal;
 use field::signed::low_signed;
 use field::value::Part;
 ghost use mathlib.Core.Path.{_≡_};
-ghost use Rattle.walk.specs.Gathered.{nothing, withScalar, withText, withMember, withTransport, toldKept};
+ghost use Prim.Native.Nat.{_<_};
+ghost use Rattle.walk.specs.Gathered.{mostRepeated, nothing, withScalar, withText, withMember, withRepeated, withTransport, toldKept};
 
 // The most transports that are read and written.
 pub const MOST_TRANSPORTS: usize = 8;
+// The most messages of a repeated field that are read and written.
+pub const MOST_REPEATED: usize = 8;
 // The strings that a message can have.
 const TEXTS: usize = 3;
 
@@ -19,6 +22,7 @@ pub struct Gathered {
     pub field: u64,
     pub part: Part,
     pub transports: [i32; 8],
+    // Of the transports, or of the messages of a repeated field.
     pub count: usize,
 }
 
@@ -83,6 +87,16 @@ impl Gathered {
         let mut next = self;
         next.field = field;
         next.part = part;
+        next
+    }
+
+    // One message more of a repeated field.
+    pub(crate) fn with_repeated(self) -> Gathered
+        requires { ⌜ self .count < mostRepeated ⌝ }
+        ensures { λ r. ⌜ r ≡ withRepeated self ⌝ }
+    {
+        let mut next = self;
+        next.count = next.count + 1;
         next
     }
 

@@ -1,11 +1,13 @@
 // The reader of fields, for every message.
 use crate::gathered::Gathered;
 use crate::gathered::Kept;
+use crate::gathered::MOST_REPEATED;
 use crate::gathered::Verdict;
 use crate::schema::Role;
 use crate::schema::Schema;
 use crate::schema::fits_role;
 use crate::schema::is_member;
+use crate::schema::is_repeated;
 use crate::schema::role_of;
 use field::Refusal;
 use field::tag::Tag;
@@ -35,6 +37,8 @@ pub enum Added {
     Scalar { slot: usize, value: u64 },
     Text { slot: usize, part: Part },
     Member { field: u64, part: Part },
+    // A message of a repeated field.
+    Repeated,
     Transport(u64),
     // A packed list of transports.
     Packed(Part),
@@ -46,14 +50,17 @@ pub enum FieldRead {
     Refused(Refusal),
 }
 
-// Whether a field of this role and wire type may stand here; member is the member's field so far.
-fn judge(role: Role, wire: u64, member: u64) -> Verdict
-    ensures { λ r. ⌜ toldVerdict r ≡ judged role wire member ⌝ }
+// Whether a field of this role and wire type may stand here; member is the member's field so far, count the messages of a repeated field.
+fn judge(role: Role, wire: u64, member: u64, count: usize) -> Verdict
+    ensures { λ r. ⌜ toldVerdict r ≡ judged role wire member count ⌝ }
 {
     if !fits_role(role, wire) {
         return Verdict::Refused(Refusal::WrongType);
     }
     if wire::logic::both(is_member(role, wire), member != 0) {
+        return Verdict::Refused(Refusal::TooMany);
+    }
+    if wire::logic::both(is_repeated(role), MOST_REPEATED <= count) {
         return Verdict::Refused(Refusal::TooMany);
     }
     Verdict::Fine
@@ -114,7 +121,8 @@ fn read_packed(message: &[u8], from: usize, gathered: Gathered) -> Kept
 // The packed list in a part of the message.
 fn keep_packed(message: &[u8], gathered: Gathered, part: Part) -> Kept
     requires { ⌜ part .start + part .len ≤ length (now message) ⌝ }
-    ensures { λ r. ⌜ toldKept r ≡ packedFrom (take (part .start + part .len) (now (message .entry))) (part .start) gathered ⌝ }
+    ensures { λ r. ⌜ toldKept r
+        ≡ packedFrom (take (part .start + part .len) (now (message .entry))) (part .start) gathered ⌝ }
 {
     let start = part.start;
     let end = start + part.len;
@@ -130,6 +138,7 @@ fn number_added(role: Role, value: u64) -> Added
         Role::Text(_) => Added::Nothing,
         Role::Transports => Added::Transport(value),
         Role::Nested => Added::Nothing,
+        Role::Repeated => Added::Nothing,
         Role::Member => Added::Nothing,
         Role::Unknown => Added::Nothing,
     }
@@ -144,6 +153,7 @@ fn part_added(role: Role, field: u64, part: Part) -> Added
         Role::Text(slot) => Added::Text { slot, part },
         Role::Transports => Added::Packed(part),
         Role::Nested => Added::Member { field, part },
+        Role::Repeated => Added::Repeated,
         Role::Member => Added::Member { field, part },
         Role::Unknown => Added::Nothing,
     }
@@ -173,15 +183,15 @@ fn take_value(message: &[u8], at: usize, wire: u64, role: Role, field: u64) -> F
     }
 }
 
-// One field: its tag is judged, then its value is read; member is the member's field so far.
-fn read_field(schema: Schema, message: &[u8], at: usize, member: u64) -> FieldRead
-    ensures { λ r. ⌜ toldField r ≡ readAt schema (now (message .entry)) at member ⌝ }
+// One field: its tag is judged, then its value is read; member and count are what was gathered of them so far.
+fn read_field(schema: Schema, message: &[u8], at: usize, member: u64, count: usize) -> FieldRead
+    ensures { λ r. ⌜ toldField r ≡ readAt schema (now (message .entry)) at member count ⌝ }
 {
     match read_tag(message, at) {
         Tag::Refused(e) => FieldRead::Refused(e),
         Tag::Tagged(head) => {
             let role = role_of(schema, head.field);
-            match judge(role, head.wire, member) {
+            match judge(role, head.wire, member, count) {
                 Verdict::Refused(e) => FieldRead::Refused(e),
                 Verdict::Fine => take_value(message, head.next, head.wire, role, head.field),
             }
@@ -214,7 +224,7 @@ pub fn read_fields(schema: Schema, message: &[u8], from: usize) -> Kept
     let mut so_far = Gathered::nothing();
     let mut at = from;
     while at < message.len() {
-        match read_field(schema, message, at, so_far.field) {
+        match read_field(schema, message, at, so_far.field, so_far.count) {
             FieldRead::Refused(e) => return stop(e, so_far),
             FieldRead::Read { added, next } => {
                 match added {
@@ -222,6 +232,7 @@ pub fn read_fields(schema: Schema, message: &[u8], from: usize) -> Kept
                     Added::Scalar { slot, value } => so_far = so_far.with_scalar(slot, value),
                     Added::Text { slot, part } => so_far = so_far.with_text(slot, part),
                     Added::Member { field, part } => so_far = so_far.with_member(field, part),
+                    Added::Repeated => so_far = so_far.with_repeated(),
                     Added::Transport(value) => {
                         let kept = so_far.with_transport(value);
                         let verdict = kept.verdict;

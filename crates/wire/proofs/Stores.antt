@@ -9,12 +9,12 @@ use lib.ListN.{length, take, drop, set, getD, drop-of-length-le, length-append, 
 use lib.Seq.{sets, sets-eq, drop-cons, drop-set-lt, drop-set-add, take-set-le, take-add, take-at, drop-at, take-append-seam, length-take-le}
 
 -- two runs, one after the other
-pub sets-append : (l : List ℕ) (i : ℕ) (xs ys : List ℕ) → sets l i (xs ++ ys) ≡ sets (sets l i xs) (i + length xs) ys
+pub sets-append : {A : Type 0} (l : List A) (i : ℕ) (xs ys : List A) → sets l i (xs ++ ys) ≡ sets (sets l i xs) (i + length xs) ys
 sets-append l i [] ys = rw add-zero
 sets-append l i (x ∷ xs) ys = sets-append (set l i x) (suc i) xs ys ∙ rw (suc-add, add-suc)
 
 -- the same, with the place where the second begins
-pub sets-then : (l : List ℕ) (i j : ℕ) (xs ys : List ℕ) → j ≡ i + length xs → sets (sets l i xs) j ys ≡ sets l i (xs ++ ys)
+pub sets-then : {A : Type 0} (l : List A) (i j : ℕ) (xs ys : List A) → j ≡ i + length xs → sets (sets l i xs) j ys ≡ sets l i (xs ++ ys)
 sets-then l i j xs ys e = rw e (sym (sets-append l i xs ys))
 
 -- a run copied byte by byte: what is left of it after one byte

@@ -3,15 +3,28 @@ use Prim.Native.Nat.{ℕ}
 use mathlib.Core.Bool.{Bool, cond}
 use mathlib.Core.List.{List, [], _∷_}
 
--- what was asked for, or the number of the refusal
-pub data Told (A : Type 0) : Type 0 where
-  given : A → Told A
-  refused : ℕ → Told A
+-- what was asked for, or what a refusal tells
+pub data ToldOf (N A : Type 0) : Type 0 where
+  given : A → ToldOf N A
+  refused : N → ToldOf N A
+
+-- a refusal tells its number
+abbrev pub Told : Type 0 → Type 0
+Told A = ToldOf ℕ A
+
+-- a refusal tells its number, and the numbers that go with it
+abbrev pub ToldMore : Type 0 → Type 0
+ToldMore A = ToldOf (ℕ × List ℕ) A
 
 -- go on with what was given, or stay refused
-abbrev pub andThen : {A B : Type 0} → Told A → (A → Told B) → Told B
+abbrev pub andThen : {N A B : Type 0} → ToldOf N A → (A → ToldOf N B) → ToldOf N B
 andThen (given a) f = f a
 andThen (refused n) f = refused n
+
+-- nothing goes with the number
+abbrev pub alone : {A : Type 0} → Told A → ToldMore A
+alone (given a) = given a
+alone (refused n) = refused (n, [])
 
 -- a line of the table: its number, and whether what it says holds
 pub record Line : Type 0 where
@@ -27,11 +40,14 @@ table [] refuse rest = rest
 table (r ∷ rs) refuse rest = cond (r .holds) (refuse (r .number)) (table rs refuse rest)
 
 -- what a writer tells, and the lent output afterwards
-pub record Written (A : Type 0) : Type 0 where
-  pub told : Told A
+pub record WrittenOf (N A : Type 0) : Type 0 where
+  pub told : ToldOf N A
   pub out : List ℕ
 
-abbrev pub written : {A : Type 0} → Told A → List ℕ → Written A
+abbrev pub Written : Type 0 → Type 0
+Written A = WrittenOf ℕ A
+
+abbrev pub written : {N A : Type 0} → ToldOf N A → List ℕ → WrittenOf N A
 written t l = record { told = t; out = l }
 
 -- a writer with its table: a refusal leaves the output as it was

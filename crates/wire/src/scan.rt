@@ -105,7 +105,8 @@ fn copy_until(out: &mut [u8], at: usize, run: &[u8], from: usize, first: u8, las
     requires { ⌜ at + length (now run) ≤ length (now out) ⌝ }
     requires { ⌜ anyInRange first last (now run) ≡ true ⌝ }
     requires { ⌜ Clear first last (now run) from ⌝ }
-    ensures { λ r. ⌜ ((l : List ℕ) → Copied first last (now (run .entry)) at l from (now (out .entry)) → Copied first last (now (run .entry)) at l r (now (out .exit))) ⌝ }
+    ensures { λ r. ⌜ ((l : List ℕ) → Copied first last (now (run .entry)) at l from (now (out .entry)) → Copied first
+        last (now (run .entry)) at l r (now (out .exit))) ⌝ }
 {
     let mut i = from;
     loop {

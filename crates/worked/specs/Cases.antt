@@ -1,11 +1,11 @@
--- The worked cases of docs/FORMATS.md, P1 to P12: one table, and the one statement that each of its rows holds.
+-- The worked cases of docs/FORMATS.md, P1 to P12 and No. 2: one table, and the one statement that each of its rows holds.
 use Prim.Native.Nat.{ℕ}
 use mathlib.Core.Path.{_≡_}
 use mathlib.Core.Bool.{Bool, true, false}
 use mathlib.Core.List.{List, [], _∷_, _++_, List·Memᴰ}
 use lib.IntN.{ℤ, pos, negℤ}
 use lib.ListN.{take, replicate}
-use Rattle.wire.specs.declared.stream.Stream.the-variants.{Control}
+use Rattle.wire.specs.declared.stream.Stream.the-variants.{Control, Alexa}
 use Rattle.wire.specs.Told.{given, refused}
 use Rattle.sender.specs.declared.writer.Sending.{Sending}
 use Rattle.slot.specs.declared.Slot.{Slot}
@@ -38,7 +38,11 @@ inRoom room = sending room 0 0 0 false
 
 -- a control transaction of three bytes, id 0, of which so many are held; the last packet had this sequence
 abbrev pub holding : ℕ → ℕ → List Slot
-holding held sequence = record { opened = true; id = 0; total = 3; held = held; sequence = sequence } ∷ idle ∷ idle ∷ []
+holding held sequence = record { opened = true; id = 0; total = 3; held = held; sequence = sequence; wanted = false } ∷ idle ∷ idle ∷ []
+
+-- an Alexa transaction of two bytes, id 1, of which one is held; it had sequence 0 and asked for an ACK
+abbrev pub asking : List Slot
+asking = idle ∷ idle ∷ record { opened = true; id = 1; total = 2; held = 1; sequence = 0; wanted = true } ∷ []
 
 -- error codes of Amazon's page
 abbrev pub success : ℤ
@@ -82,6 +86,9 @@ cases =
     -- P9 empty transaction, stream, id, sequence 0; and a receiver finishes it at once, its slot idle
     ∷ case (writePackets (sending 20 0 0 0 false) []) (packets (zeros 6 ∷ []))
     ∷ case (acceptPacket idles (zeros 6)) (accepted (given (Finished Control 0 0 false false)) idles)
+    -- No. 2: the flag on the first packet only; an ACK is wanted
+    ∷ case (acceptPacket idles (0x61 ∷ 0x02 ∷ 0x00 ∷ 0x00 ∷ 0x02 ∷ 0x01 ∷ 0xAA ∷ [])) (accepted (given (Taken Alexa 1 false)) asking)
+    ∷ case (acceptPacket asking (0x61 ∷ 0x18 ∷ 0x01 ∷ 0xBB ∷ [])) (accepted (given (Finished Alexa 1 2 true false)) idles)
     -- P10 command 94 with success, 20 with unsupported; and each read back
     ∷ case (writeEnvelope (pos 94) (Response success None)) (bytes (given (0x08 ∷ 0x5E ∷ 0x4A ∷ 0x00 ∷ [])))
     ∷ case (readEnvelope (0x08 ∷ 0x5E ∷ 0x4A ∷ 0x00 ∷ [])) (envelope (given (responseRead 94 success)))

@@ -162,8 +162,8 @@ fn low_energy(c: &mut Comparison<'_>, capture: &Capture, script: &mut Script<'_>
         let who = format!("stream {number}, id {id}");
         match outcome {
             0 => {
-                let [_, _, total, held, _] = call.state[5 * slot..][..5] else {
-                    panic!("five numbers")
+                let [_, _, total, held, _, _] = call.state[6 * slot..][..6] else {
+                    panic!("six numbers")
                 };
                 script.next(&format!("held: {who}, {held} of {total} bytes{noted}"))?;
             }

@@ -31,7 +31,7 @@ pub fn run(c: &mut Comparison<'_>, rng: &mut Rng, plan: Plan) -> Compared<()> {
 }
 
 /// A value at an edge of its varint.
-fn value(rng: &mut Rng) -> u64 {
+pub(super) fn value(rng: &mut Rng) -> u64 {
     match rng.below(4) {
         0 => rng.below(4),
         1 => rng.below(200),
@@ -41,7 +41,12 @@ fn value(rng: &mut Rng) -> u64 {
 }
 
 /// A varint: mostly the shortest, sometimes longer than needed, rarely one that no number has.
-fn varint(rng: &mut Rng, mut value: u64, into: &mut Vec<u8>) {
+fn varint(rng: &mut Rng, value: u64, into: &mut Vec<u8>) {
+    varint_wrong(rng, 60, value, into);
+}
+
+/// A varint that no number has once in `odds`, never if that is 0.
+pub(super) fn varint_wrong(rng: &mut Rng, odds: u64, mut value: u64, into: &mut Vec<u8>) {
     let mut made = Vec::new();
     while value >= 0x80 {
         made.push(value as u8 | 0x80);
@@ -53,7 +58,7 @@ fn varint(rng: &mut Rng, mut value: u64, into: &mut Vec<u8>) {
         let size = rng.between(made.len(), 10);
         longer(&mut made, size);
     }
-    if rng.once_in(60) {
+    if odds > 0 && rng.once_in(odds) {
         // A tenth byte above 01, or an eleventh.
         longer(&mut made, 10);
         made[9] = *rng.pick(&[0x02, 0x7F, 0x80, 0x81, 0xFF, 0x01, 0x00]);

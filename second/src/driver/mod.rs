@@ -2,9 +2,12 @@
 
 pub mod captures;
 pub mod control;
+pub mod firmware;
 pub mod listing;
+pub mod orders;
 pub mod outboxes;
 pub mod packets;
+pub mod parts;
 pub mod rooms;
 pub mod sizes;
 pub mod streams;
@@ -53,12 +56,24 @@ pub const PARTS: &[Part] = &[
         run: streams::run,
     },
     Part {
+        name: "frames by parts",
+        run: parts::run,
+    },
+    Part {
         name: "packets in interleaved lists",
         run: packets::run,
     },
     Part {
+        name: "packets of two streams in either order",
+        run: orders::run,
+    },
+    Part {
         name: "control messages",
         run: control::run,
+    },
+    Part {
+        name: "firmware messages",
+        run: firmware::run,
     },
     Part {
         name: "outboxes",

@@ -30,8 +30,8 @@ pub fn run(c: &mut Comparison<'_>, rng: &mut Rng, plan: Plan) -> Compared<()> {
     Ok(())
 }
 
-/// A slot's five numbers, open and lawful.
-fn open_slot(rng: &mut Rng) -> [u64; 5] {
+/// A slot's six numbers, open and lawful.
+fn open_slot(rng: &mut Rng) -> [u64; 6] {
     let total = match rng.below(4) {
         0 => rng.between(2, 5),
         1 => rng.between(2, 600),
@@ -44,15 +44,22 @@ fn open_slot(rng: &mut Rng) -> [u64; 5] {
         2 => total - rng.between(1, (total - 1).min(300)),
         _ => rng.between(1, total - 1),
     };
-    [1, rng.below(16), total as u64, held as u64, rng.below(16)]
+    [
+        1,
+        rng.below(16),
+        total as u64,
+        held as u64,
+        rng.below(16),
+        rng.below(2),
+    ]
 }
 
 /// A lawful state, each slot idle or open.
-fn lawful(rng: &mut Rng) -> Vec<u64> {
+pub(super) fn lawful(rng: &mut Rng) -> Vec<u64> {
     (0..3)
         .flat_map(|_| {
             if rng.once_in(3) {
-                [0; 5]
+                [0; 6]
             } else {
                 open_slot(rng)
             }
@@ -64,15 +71,17 @@ fn lawful(rng: &mut Rng) -> Vec<u64> {
 fn unlawful(rng: &mut Rng) -> Vec<u64> {
     let mut state = lawful(rng);
     for _ in 0..rng.between(1, 2) {
-        let place = rng.index(15);
-        state[place] = match rng.below(4) {
+        let place = rng.index(18);
+        state[place] = match rng.below(5) {
             // Held at or past its total, total at or under what is held.
             0 => {
-                let slot = place / 5 * 5;
+                let slot = place / 6 * 6;
                 state[slot + 2 + rng.index(2)]
                     .wrapping_add(rng.below(3))
                     .wrapping_sub(1)
             }
+            // A flag, or what would be one elsewhere; an idle slot may not remember any.
+            1 => rng.below(3),
             _ => edge(rng),
         };
     }
@@ -124,7 +133,7 @@ fn foreign(rng: &mut Rng, wish: Wish, message: &[u8]) -> Vec<Vec<u8>> {
             (_, true) => 2,
         };
         let extended = size > 255 || rng.once_in(4);
-        // Flags on packets before the last say nothing.
+        // The flag on any packet asks.
         let flag = if last { wish.ack } else { rng.once_in(4) };
         packets.push(raw(
             wish.stream.number() << 4 | wish.id,
@@ -152,7 +161,7 @@ fn any_byte(rng: &mut Rng) -> u8 {
 }
 
 /// An ACK or NACK, or something like one.
-fn acknowledgement(rng: &mut Rng) -> Vec<u8> {
+pub(super) fn acknowledgement(rng: &mut Rng) -> Vec<u8> {
     let stream = *rng.pick(&Stream::ALL);
     let (id, sequence) = (rng.below(16) as u8, rng.below(16) as u8);
     let made = low_energy::acknowledgement(stream, id, sequence, rng.once_in(2));
@@ -165,11 +174,11 @@ fn acknowledgement(rng: &mut Rng) -> Vec<u8> {
 
 /// A packet made for the state at hand: each field is the right one mostly, and one off or any
 /// otherwise.
-fn directed(rng: &mut Rng, state: &[u64]) -> Vec<u8> {
+pub(super) fn directed(rng: &mut Rng, state: &[u64]) -> Vec<u8> {
     let stream = *rng.pick(&Stream::ALL);
-    let slot = &state[stream.slot() * 5..stream.slot() * 5 + 5];
-    let [open, id, total, held, sequence] = slot else {
-        panic!("five numbers")
+    let slot = &state[stream.slot() * 6..stream.slot() * 6 + 6];
+    let [open, id, total, held, sequence, _] = slot else {
+        panic!("six numbers")
     };
     let kind = *rng.pick(&[0, 0, 1, 1, 2, 2, 2, 3]);
     let mut head = stream.number() << 4;
@@ -261,7 +270,7 @@ fn list(c: &mut Comparison<'_>, rng: &mut Rng, call: &mut Call) -> Compared<u64>
     call.state = if rng.once_in(3) {
         lawful(rng)
     } else {
-        vec![0; 15]
+        vec![0; 18]
     };
     let damaging = *rng.pick(&[0, 0, 20, 8, 4]);
     let directing = *rng.pick(&[0, 0, 8, 2, 1]);

@@ -2,7 +2,7 @@
 //! and too long, each argument at and past its edges, alone and several at once, so that the order
 //! of the refusals shows.
 
-use super::{edge, Plan, EDGES};
+use super::{edge, firmware, Plan, EDGES};
 use crate::classic;
 use crate::comparison::{Compared, Comparison};
 use crate::implementation::{Call, Operation};
@@ -29,6 +29,7 @@ pub fn run(c: &mut Comparison<'_>, rng: &mut Rng, plan: Plan) -> Compared<()> {
             .inputs(&[&[byte as u8]])
             .lent(vec![0; 16]);
         c.run(&mut call)?;
+        c.run(&mut Call::new(Operation::FrameBegin).numbers(&[byte, 1]))?;
     }
     c.at = "every byte in every state of the extractor".to_string();
     every_byte(c, rng)?;
@@ -51,6 +52,13 @@ fn ordinary(rng: &mut Rng, operation: Operation) -> Call {
             .numbers(&[rng.below(240)])
             .inputs(&[&text])
             .lent(rng.bytes(80)),
+        Operation::FrameBegin => call.numbers(&[rng.below(240), rng.below(4_097)]),
+        Operation::FramePart => {
+            let total = size as u64 + rng.below(4);
+            call.state(&[rng.below(240), total, 0, 2, rng.below(8), rng.below(4)])
+                .inputs(&[&text])
+                .lent(rng.bytes(80))
+        }
         Operation::NextSequence => call.numbers(&[rng.below(256)]),
         Operation::PacketWrite => {
             let room = rng.between(20, 512);
@@ -89,6 +97,20 @@ fn ordinary(rng: &mut Rng, operation: Operation) -> Call {
                 .lent(rng.bytes(160))
         }
         Operation::FeaturesWrite => call.numbers(&[rng.draw(), rng.draw()]).lent(rng.bytes(22)),
+        Operation::SegmentRead => {
+            let message = [&[0x18, 0x07, 0x22, 0x40][..], &firmware::digits(rng)].concat();
+            call.inputs(&[&message])
+        }
+        Operation::SegmentWrite => call
+            .numbers(&[0, rng.draw() >> 32])
+            .inputs(&[&text, &firmware::digits(rng)])
+            .lent(rng.bytes(110)),
+        Operation::ApplyRead => call.inputs(&[&[0x0A, 0x04, 0x1A, 0x00, 0x1A, 0x00, 0x10, 0x01]]),
+        Operation::ApplyWrite => {
+            let row = firmware::row(rng, text.len());
+            call.numbers(&row).inputs(&[&text]).lent(rng.bytes(700))
+        }
+        Operation::FieldRead => call.numbers(&[0]).inputs(&[&[0x12, 0x02, 0x05, 0x06]]),
         Operation::OutboxNew => call.lent(rng.bytes(4)),
         Operation::OutboxAppend => {
             let mut lent = rng.bytes(60);
@@ -104,7 +126,12 @@ fn ordinary(rng: &mut Rng, operation: Operation) -> Call {
 fn rows(c: &mut Comparison<'_>, rng: &mut Rng, operation: Operation) -> Compared<()> {
     let shape = operation.shape();
     for _ in 0..8 {
-        for length in 0..=shape.answer.len() + 3 {
+        // A call that tells no numbers has no answer row.
+        let lengths = match shape.answer.len() {
+            0 => 0..=0,
+            most => 0..=most + 3,
+        };
+        for length in lengths {
             let mut call = ordinary(rng, operation);
             call.answer.resize(length, 0);
             let expected = length != shape.answer.len();
@@ -169,7 +196,11 @@ fn disturb(rng: &mut Rng, call: &mut Call) {
                 let count = rng.index(12);
                 call.numbers.resize(count, 1);
             }
-            7 if rng.once_in(10) => {
+            7 if call.operation == Operation::ApplyWrite && rng.once_in(4) => {
+                let length = rng.between(55, 59);
+                call.numbers.resize(length, 0);
+            }
+            7 if rng.once_in(10) && !call.answer.is_empty() => {
                 let length = rng.index(call.answer.len() + 2);
                 call.answer.resize(length, 0);
             }
@@ -185,7 +216,7 @@ fn disturb(rng: &mut Rng, call: &mut Call) {
 /// Each number of each row, alone, at each edge: of the states, lawful otherwise, and of what is
 /// given, in range otherwise.
 fn each_edge(c: &mut Comparison<'_>, rng: &mut Rng) -> Compared<()> {
-    let states: [(Operation, &[&[u64]]); 3] = [
+    let states: [(Operation, &[&[u64]]); 4] = [
         (
             Operation::ExtractorStep,
             &[&[0, 0, 0], &[3, 0, 0], &[4, 7, 3], &[5, 7, 4_098]],
@@ -195,10 +226,20 @@ fn each_edge(c: &mut Comparison<'_>, rng: &mut Rng) -> Compared<()> {
             &[&[0, 0, 0], &[3, 0, 0], &[4, 7, 3], &[5, 7, 4_098]],
         ),
         (
+            Operation::FramePart,
+            &[
+                &[7, 30, 0, 2, 0, 0],
+                &[7, 4_096, 4_000, 0xF0F1, 4, 3],
+                &[7, 30, 0, 2, 7, 0],
+            ],
+        ),
+        (
             Operation::ReceiverAccept,
             &[
-                &[0; 15],
-                &[1, 3, 9, 2, 7, 1, 0, 2, 1, 0, 1, 15, 4_096, 4_095, 15],
+                &[0; 18],
+                &[
+                    1, 3, 9, 2, 7, 0, 1, 0, 2, 1, 0, 1, 1, 15, 4_096, 4_095, 15, 1,
+                ],
             ],
         ),
     ];
@@ -270,9 +311,10 @@ fn every_byte(c: &mut Comparison<'_>, rng: &mut Rng) -> Compared<()> {
     Ok(())
 }
 
-/// Every byte 0 and byte 1 of a packet, over a state with two open slots, at several lengths.
+/// Every byte 0 and byte 1 of a packet, over a state with two open slots, one that wants an ACK, at
+/// several lengths.
 fn every_pair(c: &mut Comparison<'_>, rng: &mut Rng) -> Compared<()> {
-    let state = [1, 3, 9, 2, 7, 0, 0, 0, 0, 0, 1, 12, 5, 4, 15];
+    let state = [1, 3, 9, 2, 7, 1, 0, 0, 0, 0, 0, 0, 1, 12, 5, 4, 15, 0];
     let mut call = Call::new(Operation::ReceiverAccept).lent(rng.bytes(low_energy::BUFFER));
     for zeroth in 0..=255u8 {
         for first in 0..=255u8 {

@@ -27,7 +27,7 @@ pub fn run(c: &mut Comparison<'_>, rng: &mut Rng, plan: Plan) -> Compared<()> {
 }
 
 /// A byte that matters often.
-fn byte(rng: &mut Rng) -> u8 {
+pub fn byte(rng: &mut Rng) -> u8 {
     const MATTER: &[u8] = &[
         0xF0, 0xF1, 0xF2, 0xF0, 0xF1, 0xF2, 0x00, 0x02, 0x03, 0x01, 0xEE, 0xEF, 0xF3, 0xFF,
     ];
@@ -39,7 +39,7 @@ fn byte(rng: &mut Rng) -> u8 {
 }
 
 /// A payload: mostly short, often such that its checksum has a mark.
-fn payload(rng: &mut Rng) -> Vec<u8> {
+pub fn payload(rng: &mut Rng) -> Vec<u8> {
     if rng.once_in(400) {
         // Sums around F000 to F2FF and past 65,536.
         let mut payload = vec![0xFF; rng.between(238, 262)];
@@ -62,7 +62,7 @@ fn payload(rng: &mut Rng) -> Vec<u8> {
 }
 
 /// A sequence byte that is no mark.
-fn sequence(rng: &mut Rng) -> u8 {
+pub fn sequence(rng: &mut Rng) -> u8 {
     loop {
         let sequence = byte(rng);
         if !is_mark(sequence) {

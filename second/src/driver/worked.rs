@@ -1,4 +1,4 @@
-//! "Worked by hand": P1 to P12, and the slips that the paper names.
+//! "Worked by hand": P1 to P12, the slips that the paper names, and the cases of the change requests.
 
 use super::Plan;
 use crate::classic;
@@ -15,12 +15,12 @@ pub fn bytes(text: &str) -> Vec<u8> {
 }
 
 /// A buffer filled with a byte that no result here has.
-fn blank(size: usize) -> Vec<u8> {
+pub(super) fn blank(size: usize) -> Vec<u8> {
     vec![0xCC; size]
 }
 
 /// Whether a writer left exactly these bytes at the front and nothing else.
-fn wrote(call: &Call, made: &[u8]) -> bool {
+pub(super) fn wrote(call: &Call, made: &[u8]) -> bool {
     call.answer[0] == made.len() as u64
         && call.lent.starts_with(made)
         && call.lent[made.len()..].iter().all(|&byte| byte == 0xCC)
@@ -28,10 +28,12 @@ fn wrote(call: &Call, made: &[u8]) -> bool {
 
 pub fn run(c: &mut Comparison<'_>, _: &mut Rng, _: Plan) -> Compared<()> {
     frames(c)?;
+    parts(c)?;
     packets(c)?;
     messages(c)?;
     outbox(c)?;
-    slips(c)
+    slips(c)?;
+    requests(c)
 }
 
 /// Feeds a stream whole, call after call, and holds it to what each call has to tell: the number
@@ -78,6 +80,41 @@ fn frames(c: &mut Comparison<'_>) -> Compared<()> {
     Ok(())
 }
 
+/// A frame of one byte F0 by parts: what is offered, the output's size, then the number returned, the
+/// bytes taken and what was written.
+fn parts(c: &mut Comparison<'_>) -> Compared<()> {
+    c.at = "a frame by parts".to_string();
+    let mut begin = Call::new(Operation::FrameBegin).numbers(&[5, 1]);
+    c.expect(&mut begin, 0, |call| call.state == [5, 1, 0, 2, 0, 0])?;
+    let calls: [(&str, usize, u64, u64, &str); 10] = [
+        ("", 3, 0, 0, "F0 02 00"),
+        ("", 9, 0, 0, "05"),
+        ("F0", 1, 0, 1, "F2"),
+        ("", 1, 0, 0, "02"),
+        ("00", 1, 26, 0, ""),
+        ("", 0, 14, 0, ""),
+        ("", 9, 0, 0, "00 F2 00 F1"),
+        ("", 9, 0, 0, ""),
+        ("00", 0, 26, 0, ""),
+        ("", 0, 14, 0, ""),
+    ];
+    let mut call = Call::new(Operation::FramePart).state(&begin.state);
+    for (place, (offered, size, returned, taken, made)) in calls.into_iter().enumerate() {
+        let made = bytes(made);
+        call.inputs[0] = bytes(offered);
+        call.lent = blank(size);
+        let before = call.state.clone();
+        let ended = u64::from(returned == 0 && place >= 6);
+        c.expect(&mut call, returned, |call| {
+            call.answer == [taken, made.len() as u64, ended]
+                && call.lent.starts_with(&made)
+                && call.lent[made.len()..].iter().all(|&byte| byte == 0xCC)
+                && (call.state == before) == made.is_empty()
+        })?;
+    }
+    Ok(())
+}
+
 /// Writes a message place after place; gives the packets.
 pub fn written(
     c: &mut Comparison<'_>,
@@ -113,7 +150,7 @@ fn receiver(state: &[u64]) -> Call {
         .lent(blank(low_energy::BUFFER))
 }
 
-const IDLE: [u64; 15] = [0; 15];
+const IDLE: [u64; 18] = [0; 18];
 
 fn packets(c: &mut Comparison<'_>) -> Compared<()> {
     c.at = "P4".to_string();
@@ -130,14 +167,14 @@ fn packets(c: &mut Comparison<'_>) -> Compared<()> {
     let mut call = receiver(&IDLE);
     c.hold(made == expected, "the three packets", &call)?;
     let answers = [
-        ([0, 6, 1, 0, 0, 0, 0], [1, 1, 35, 14, 0]),
-        ([0, 6, 1, 0, 0, 0, 0], [1, 1, 35, 31, 1]),
-        ([1, 6, 1, 0, 35, 1, 0], [0; 5]),
+        ([0, 6, 1, 0, 0, 0, 0], [1, 1, 35, 14, 0, 0]),
+        ([0, 6, 1, 0, 0, 0, 0], [1, 1, 35, 31, 1, 0]),
+        ([1, 6, 1, 0, 35, 1, 0], [0; 6]),
     ];
     for (packet, (answer, slot)) in made.iter().zip(answers) {
         call.inputs[0] = packet.clone();
         c.expect(&mut call, 0, |call| {
-            call.answer == answer && call.state[10..] == slot
+            call.answer == answer && call.state[12..] == slot
         })?;
     }
     let kept = call.lent[8_192..8_227] == message
@@ -172,11 +209,11 @@ fn packets(c: &mut Comparison<'_>) -> Compared<()> {
 
     c.at = "P7".to_string();
     // OTA is open with id 4, total 9, one byte held, last sequence 15.
-    let open = [0, 0, 0, 0, 0, 1, 4, 9, 1, 15, 0, 0, 0, 0, 0];
+    let open = [0, 0, 0, 0, 0, 0, 1, 4, 9, 1, 15, 0, 0, 0, 0, 0, 0, 0];
     let mut call = receiver(&open).inputs(&[&bytes("24 04 02 AA BB")]);
     c.expect(&mut call, 0, |call| {
         call.answer == [0, 2, 4, 0, 0, 0, 0]
-            && call.state == [0, 0, 0, 0, 0, 1, 4, 9, 3, 0, 0, 0, 0, 0, 0]
+            && call.state == [0, 0, 0, 0, 0, 0, 1, 4, 9, 3, 0, 0, 0, 0, 0, 0, 0, 0]
             && call.lent[4_096..4_100] == [0xCC, 0xAA, 0xBB, 0xCC]
     })?;
     let mut call = receiver(&open).inputs(&[&bytes("24 A4 02 AA BB")]);
@@ -335,12 +372,12 @@ fn slips(c: &mut Comparison<'_>) -> Compared<()> {
     c.expect(&mut call, 0, |call| {
         call.answer == [1, 6, 5, 0, 200, 0, 0] && call.lent[8_192..8_392] == piece
     })?;
-    let open = [0, 0, 0, 0, 0, 0, 0, 0, 0, 0, 1, 5, 300, 7, 3];
+    let open = [0, 0, 0, 0, 0, 0, 0, 0, 0, 0, 0, 0, 1, 5, 300, 7, 3, 0];
     let packet = [bytes("65 45 00 C8"), piece.clone()].concat();
     let mut call = receiver(&open).inputs(&[&packet]);
     c.expect(&mut call, 0, |call| {
         call.answer == [0, 6, 5, 0, 0, 0, 0]
-            && call.state[10..] == [1, 5, 300, 207, 4]
+            && call.state[12..] == [1, 5, 300, 207, 4, 0]
             && call.lent[8_199..8_399] == piece
     })?;
 
@@ -348,6 +385,34 @@ fn slips(c: &mut Comparison<'_>) -> Compared<()> {
     let packet = [bytes("61 02 00 00 23 0E"), counting(14)].concat();
     let mut call = receiver(&IDLE).inputs(&[&packet]);
     c.expect(&mut call, 0, |call| {
-        call.answer == [0, 6, 1, 0, 0, 0, 0] && call.state[10..] == [1, 1, 35, 14, 0]
+        call.answer == [0, 6, 1, 0, 0, 0, 0] && call.state[12..] == [1, 1, 35, 14, 0, 1]
     })
+}
+
+/// No. 2: "An ACK is wanted if at least one accepted packet of the transaction carried the flag."
+fn requests(c: &mut Comparison<'_>) -> Compared<()> {
+    c.at = "No. 2: the flag on the first packet only".to_string();
+    let mut call = receiver(&IDLE).inputs(&[&bytes("61 02 00 00 02 01 AA")]);
+    c.expect(&mut call, 0, |call| {
+        call.answer == [0, 6, 1, 0, 0, 0, 0] && call.state[12..] == [1, 1, 2, 1, 0, 1]
+    })?;
+    call.inputs[0] = bytes("61 18 01 BB");
+    c.expect(&mut call, 0, |call| {
+        call.answer == [1, 6, 1, 0, 2, 1, 0] && call.state == IDLE
+    })?;
+
+    c.at = "No. 2: what a slot remembers is 0 or 1, and 0 in an idle one".to_string();
+    for slot in 0..3 {
+        for (open, wanted, returned) in [(0, 1, 1), (0, 2, 1), (1, 0, 2), (1, 1, 2), (1, 2, 1)] {
+            let mut state = IDLE;
+            if open == 1 {
+                state[6 * slot..][..5].copy_from_slice(&[1, 3, 9, 2, 7]);
+            }
+            state[6 * slot + 5] = wanted;
+            // One byte: 2, unless the state is unlawful.
+            let mut call = receiver(&state).inputs(&[&[0]]);
+            c.expect(&mut call, returned, |call| call.state == state)?;
+        }
+    }
+    Ok(())
 }

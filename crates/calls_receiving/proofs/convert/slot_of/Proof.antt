@@ -51,6 +51,15 @@ shared-slice-read-t25 c = search needs
 cast-t26 : tie.Need-cast-t26
 cast-t26 c = record { fits = slot-sequence (c .before .before .before .before .before .args .row .now) (c .before .before .before .before .before .args .at) (c .before .before .before .before .before .pre .1) }
 
+add-t27 : tie.Need-add-t27
+add-t27 c = search needs
+
+mul-t28 : tie.Need-mul-t28
+mul-t28 c = search needs
+
+shared-slice-read-t30 : tie.Need-shared-slice-read-t30
+shared-slice-read-t30 c = search needs
+
 returns : tie.Need-returns
 returns c = search needs
 
@@ -74,4 +83,7 @@ slot-of-spec =
     mul-t23
     shared-slice-read-t25
     cast-t26
+    add-t27
+    mul-t28
+    shared-slice-read-t30
     returns)

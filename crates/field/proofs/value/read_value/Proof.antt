@@ -1,12 +1,61 @@
-use mathlib.Core.Path.{ap, sym, _∙_}
-use borrow.Author.Tests.{eq-eqb, ne-eqb}
-use Rattle.field.specs.Varint.{toldVarint}
-use Rattle.field.specs.Value.{valueAt, toldValue}
-use Rattle.field.proofs.Places.{value-told}
+use Prim.Native.Nat.{ℕ, zero, suc, _≤_}
+use mathlib.Core.Path.{_≡_, refl, ap, sym, _∙_}
+use mathlib.Core.Bool.{cond}
+use mathlib.Core.List.{List}
+use native.Mathlib.Omega.{arith}
 use denote.Ref.{now}
+use lib.Dec.{eqb}
+use borrow.Author.Tests.{ne-eqb}
+use Rattle.wire.specs.Told.{given, andThen}
+use Rattle.field.specs.declared.value.Value.the-variants.{Number}
+use Rattle.field.specs.Varint.{varintAt, toldVarint}
+use Rattle.field.specs.Value.{partOf, valueAt, toldValue}
+use Rattle.field.proofs.Varints.{varint-next}
+use Rattle.field.proofs.Places.{value-told}
 use borrow.Author.Needs.{needs}
 use Rattle.field.proofs.value.read_value.Statement.{statement}
 use Rattle.field.proofs.value.read_value.Tie as tie
+
+-- the wire types 0 and 2 begin with a varint
+by-varint : (s : List ℕ) (at wire : ℕ) → wire ≤ 2 → (wire ≡ 1 → ⊥)
+    → valueAt s at wire ≡ andThen (varintAt s at) (λ p. cond (eqb wire 0) (given (Number (p .0), p .1)) (partOf s p))
+unfolding valueAt
+by-varint s at zero l n = refl
+by-varint s at (suc zero) l n = absurd (n refl)
+by-varint s at (suc (suc zero)) l n = refl
+by-varint s at (suc (suc (suc wire))) l n = absurd (omega arith)
+
+skip-requires : tie.Need-skip-requires
+skip-requires c κs = search needs
+
+returns : tie.Need-returns
+unfolding valueAt
+returns c =
+    let a = c .before .before .before .before .args in
+    value-told (now (a .message)) (a .at) (a .wire) (toldValue (c .skip .result)) (rw (c .before .if2 .taken) (c .skip .ensures))
+
+returns-2 : tie.Need-returns-2
+unfolding valueAt
+returns-2 c =
+    let wire = c .before .before .before .args .wire in
+    let above = c .before .if1 .taken in (
+      rw (
+        ne-eqb wire 0 (λ e. omega (arith, above, e)),
+        ne-eqb wire 2 (λ e. omega (arith, above, e)),
+        ne-eqb wire 1 (λ e. omega (arith, above, e)),
+        ne-eqb _ _ (c .if2 .left),
+      ),
+      tt,
+    )
+
+skip-requires-2 : tie.Need-skip-requires-2
+skip-requires-2 c κs = search needs
+
+returns-3 : tie.Need-returns-3
+unfolding valueAt
+returns-3 c =
+    let a = c .before .before .before .before .args in
+    value-told (now (a .message)) (a .at) (a .wire) (toldValue (c .skip2 .result)) (rw (c .before .if3 .taken) (c .skip2 .ensures))
 
 read-varint-requires : tie.Need-read-varint-requires
 read-varint-requires c κs = search needs
@@ -17,61 +66,37 @@ enum-known-e c = search needs
 enum-known-value : tie.Need-enum-known-value
 enum-known-value c = search needs
 
-returns : tie.Need-returns
-unfolding valueAt
-returns c = (rw (eq-eqb _ _ (c .before .before .before .before .if1 .taken), sym (c .before .before .before .read-varint .ensures) ∙ ap toldVarint (c .before .e .given .1)), tt)
-
-returns-2 : tie.Need-returns-2
-unfolding valueAt
-returns-2 c = (rw (eq-eqb _ _ (c .before .before .before .before .if1 .taken), sym (c .before .before .before .read-varint .ensures) ∙ ap toldVarint (c .before .value .given .1)), tt)
-
-read-part-requires : tie.Need-read-part-requires
-read-part-requires c κs = search needs
-
-returns-3 : tie.Need-returns-3
-unfolding valueAt
-returns-3 c =
-    let a = c .before .before .before .before .args in
-    value-told (now (a .message)) (a .at) (a .wire) (toldValue (c .read-part .result))
-    (rw (ne-eqb _ _ (c .before .before .if1 .left), eq-eqb _ _ (c .before .if2 .taken)) (c .read-part .ensures))
-
-skip-requires : tie.Need-skip-requires
-skip-requires c κs = search needs
-
 returns-4 : tie.Need-returns-4
 unfolding valueAt
-returns-4 c =
-    let a = c .before .before .before .before .before .args in
-    value-told (now (a .message)) (a .at) (a .wire) (toldValue (c .skip .result))
-    (rw (ne-eqb _ _ (c .before .before .before .if1 .left), ne-eqb _ _ (c .before .before .if2 .left), eq-eqb _ _ (c .before .if3 .taken)) (c .skip .ensures))
+returns-4 c = (rw (c .if4 .taken, sym (c .before .before .before .before .read-varint .ensures) ∙ ap toldVarint (c .before .before .value .given .1)), tt)
 
-skip-requires-2 : tie.Need-skip-requires-2
-skip-requires-2 c κs = search needs
+part-of-requires : tie.Need-part-of-requires
+part-of-requires c κs = varint-next _ _ _ _ (sym (c .before .before .before .before .read-varint .ensures) ∙ ap toldVarint (c .before .before .value .given .1)) .1
 
 returns-5 : tie.Need-returns-5
-unfolding valueAt
 returns-5 c =
-    let a = c .before .before .before .before .before .before .args in
-    value-told (now (a .message)) (a .at) (a .wire) (toldValue (c .skip2 .result))
-    (rw (ne-eqb _ _ (c .before .before .before .before .if1 .left), ne-eqb _ _ (c .before .before .before .if2 .left), ne-eqb _ _ (c .before .before .if3 .left), eq-eqb _ _ (c .before .if4 .taken)) (c .skip2 .ensures))
+    let a = c .before .before .before .before .before .before .before .args in
+    (rw (by-varint (now (a .message)) (a .at) (a .wire) (c .before .before .before .before .before .if1 .left) (c .before .before .before .before .if3 .left), sym (c .before .before .before .read-varint .ensures) ∙ ap toldVarint (c .before .e .given .1)), tt)
 
 returns-6 : tie.Need-returns-6
-unfolding valueAt
-returns-6 c = (rw (ne-eqb _ _ (c .before .before .before .if1 .left), ne-eqb _ _ (c .before .before .if2 .left), ne-eqb _ _ (c .before .if3 .left), ne-eqb _ _ (c .if4 .left)), tt)
+returns-6 c =
+    let a = c .before .before .before .before .before .before .before .before .before .args in
+    value-told (now (a .message)) (a .at) (a .wire) (toldValue (c .part-of .result))
+    (rw (by-varint (now (a .message)) (a .at) (a .wire) (c .before .before .before .before .before .before .before .if1 .left) (c .before .before .before .before .before .before .if3 .left), sym (c .before .before .before .before .before .read-varint .ensures) ∙ ap toldVarint (c .before .before .before .value .given .1), ne-eqb _ _ (c .before .if4 .left)) (c .part-of .ensures))
 
 pub read-value-spec : {M : Type 1} → statement M
 read-value-spec =
     tie.close
     (tie.spec
+    skip-requires
+    returns
+    returns-2
+    skip-requires-2
+    returns-3
     read-varint-requires
     enum-known-e
     enum-known-value
-    returns
-    returns-2
-    read-part-requires
-    returns-3
-    skip-requires
     returns-4
-    skip-requires-2
+    part-of-requires
     returns-5
     returns-6)

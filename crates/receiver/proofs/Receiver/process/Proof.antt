@@ -13,8 +13,8 @@ enum-known-answer c = search needs
 enum-known-answer-2 : tie.Need-enum-known-answer-2
 enum-known-answer-2 c = search needs
 
-apply-requires : tie.Need-apply-requires
-apply-requires c κs =
+accept-read-requires : tie.Need-accept-read-requires
+accept-read-requires c κs =
     let s = c .before .before in
     (s .before .before .before .before .before .pre, sym (s .before .before .read .ensures) ∙ ap reader.told (s .answer2 .given .1))
 
@@ -27,7 +27,7 @@ same-length c = search needs
 returns-2 : tie.Need-returns-2
 returns-2 c =
     let s = c .before .before .before .before in
-    rw (← s .before .before .before .read .ensures, s .before .answer2 .given .1) (c .before .before .apply .ensures)
+    rw (← s .before .before .before .read .ensures, s .before .answer2 .given .1) (c .before .before .accept-read .ensures)
 
 pub process-spec : {M : Type 1} → statement M
 process-spec =
@@ -36,7 +36,7 @@ process-spec =
     read-requires
     enum-known-answer
     enum-known-answer-2
-    apply-requires
+    accept-read-requires
     returns
     same-length
     returns-2)

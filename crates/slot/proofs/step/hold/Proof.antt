@@ -4,12 +4,12 @@ use borrow.Author.Needs.{needs}
 use Rattle.slot.proofs.step.hold.Statement.{statement}
 use Rattle.slot.proofs.step.hold.Tie as tie
 
-add-t8 : tie.Need-add-t8
-add-t8 c = search needs
+add-held : tie.Need-add-held
+add-held c = search needs
 
 returns : tie.Need-returns
 unfolding stepOf hold
 returns c = refl
 
 pub hold-spec : {M : Type 1} → statement M
-hold-spec = tie.close (tie.spec add-t8 returns)
+hold-spec = tie.close (tie.spec add-held returns)

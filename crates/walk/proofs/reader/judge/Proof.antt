@@ -1,10 +1,15 @@
-use mathlib.Core.Path.{sym, ap, _∙_}
-use mathlib.Core.Bool.{_&&_, not}
-use lib.Dec.{eqb}
+use mathlib.Core.Path.{_≡_, sym, ap, _∙_}
+use mathlib.Core.Bool.{Bool, _&&_, not}
+use lib.Dec.{eqb, leb}
+use Rattle.walk.specs.Gathered.{mostRepeated}
 use Rattle.walk.specs.Walk.{judged}
 use borrow.Author.Needs.{needs}
 use Rattle.walk.proofs.reader.judge.Statement.{statement}
 use Rattle.walk.proofs.reader.judge.Tie as tie
+
+-- a test of two parts, by what the calls said of it
+tested : {a b d v : Bool} (other : Bool) → a ≡ b → d ≡ (a && other) → d ≡ v → (b && other) ≡ v
+tested other e f g = sym (f ∙ ap (λ x. x && other) e) ∙ g
 
 fits-role-requires : tie.Need-fits-role-requires
 fits-role-requires c κs = search needs
@@ -21,13 +26,40 @@ both-requires c κs = search needs
 
 returns-2 : tie.Need-returns-2
 unfolding judged
-returns-2 c = rw (sym (ap not (c .before .before .before .before .fits-role .ensures)) ∙ c .before .before .before .if1 .left, sym (c .before .both .ensures ∙ ap (λ b. b && not (eqb (c .before .before .before .before .before .args .member) 0)) (c .before .before .is-member .ensures)) ∙ c .if2 .taken)
+returns-2 c =
+    let a = c .before .before .before .before .before .args in
+    rw (
+      sym (ap not (c .before .before .before .before .fits-role .ensures)) ∙ c .before .before .before .if1 .left,
+      tested (not (eqb (a .member) 0)) (c .before .before .is-member .ensures) (c .before .both .ensures) (c .if2 .taken),
+    )
+
+is-repeated-requires : tie.Need-is-repeated-requires
+is-repeated-requires c κs = search needs
+
+both-requires-2 : tie.Need-both-requires-2
+both-requires-2 c κs = search needs
 
 returns-3 : tie.Need-returns-3
 unfolding judged
-returns-3 c = rw (sym (ap not (c .before .before .before .before .fits-role .ensures)) ∙ c .before .before .before .if1 .left, sym (c .before .both .ensures ∙ ap (λ b. b && not (eqb (c .before .before .before .before .before .args .member) 0)) (c .before .before .is-member .ensures)) ∙ c .if2 .left)
+returns-3 c =
+    let a = c .before .before .before .before .before .before .before .before .args in
+    rw (
+      sym (ap not (c .before .before .before .before .before .before .before .fits-role .ensures)) ∙ c .before .before .before .before .before .before .if1 .left,
+      tested (not (eqb (a .member) 0)) (c .before .before .before .before .before .is-member .ensures) (c .before .before .before .before .both .ensures) (c .before .before .before .if2 .left),
+      tested (leb mostRepeated (a .count)) (c .before .before .is-repeated .ensures) (c .before .both2 .ensures) (c .if3 .taken),
+    )
+
+returns-4 : tie.Need-returns-4
+unfolding judged
+returns-4 c =
+    let a = c .before .before .before .before .before .before .before .before .args in
+    rw (
+      sym (ap not (c .before .before .before .before .before .before .before .fits-role .ensures)) ∙ c .before .before .before .before .before .before .if1 .left,
+      tested (not (eqb (a .member) 0)) (c .before .before .before .before .before .is-member .ensures) (c .before .before .before .before .both .ensures) (c .before .before .before .if2 .left),
+      tested (leb mostRepeated (a .count)) (c .before .before .is-repeated .ensures) (c .before .both2 .ensures) (c .if3 .left),
+    )
 
 pub judge-spec : {M : Type 1} → statement M
 judge-spec =
     tie.close
-    (tie.spec fits-role-requires returns is-member-requires both-requires returns-2 returns-3)
+    (tie.spec fits-role-requires returns is-member-requires both-requires returns-2 is-repeated-requires both-requires-2 returns-3 returns-4)

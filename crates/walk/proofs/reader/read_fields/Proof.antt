@@ -14,7 +14,7 @@ use Rattle.walk.specs.declared.reader.Added.{Added}
 use Rattle.walk.specs.Gathered.{judgedAs, toldKept}
 use Rattle.walk.specs.Walk.{walk, placed, fieldAt, fieldsFrom, withAdded, readAt, toldField}
 use Rattle.walk.proofs.Walks.{Walks, walk-end, walk-stop, walks-next}
-use Rattle.walk.proofs.Steps.{field-by, field-forward, packed-within}
+use Rattle.walk.proofs.Steps.{field-by, field-forward, packed-within, repeated-room}
 use Rattle.walk.proofs.reader.read_fields.Statement.{statement}
 use Rattle.walk.proofs.reader.read_fields.Tie as tie
 
@@ -83,7 +83,7 @@ module _ (c : tie.After-known-told2 Inv-loop μ-loop) where
   abbrev next : ℕ
   next = c .before .added .given .0 .1 .0
 
-  read : {a : Added} → added ≡ a → readAt schema message at (so-far .field) ≡ given (a, next)
+  read : {a : Added} → added ≡ a → readAt schema message at (so-far .field) (so-far .count) ≡ given (a, next)
   read e = sym (c .before .before .before .read-field .ensures) ∙ ap toldField (c .before .added .given .1) ∙ ap (λ a. given (a, next)) e
 
   went : {a : Added} → added ≡ a → {r : Told Gathered} → withAdded message a so-far ≡ r → fieldAt schema message at so-far ≡ andThen r (placed next)
@@ -118,6 +118,15 @@ enum-known-added-4 c = search needs
 with-member-requires : tie.Need-with-member-requires Inv-loop μ-loop
 with-member-requires c κs = search needs
 
+enum-told-2 : tie.Need-enum-told-2 Inv-loop μ-loop
+enum-told-2 c = search needs
+
+with-repeated-requires : tie.Need-with-repeated-requires Inv-loop μ-loop
+with-repeated-requires c κs =
+    let a = c .before .before .before .before .before .before .before .before .before .before .args in
+    let l = c .before .before .before .before .before .before .before .loop in
+    repeated-room (a .schema) _ (l .at) (l .so-far .field) (l .so-far .count) _ (read (c .before .before) (c .enum-told2 .given .1))
+
 enum-known-added-5 : tie.Need-enum-known-added-5 Inv-loop μ-loop
 enum-known-added-5 c = search needs
 
@@ -135,8 +144,8 @@ returns-2 c =
     ap toldKept (c .stop2 .ensures)
     ∙ sym (halted (c .before .before .before .before .before .before .before .before .before .before .before .before .before) _ (went (c .before .before .before .before .before .before .before .before .before) (c .before .before .before .before .before .before .before .added5 .given .1) (kept-told (c .before .before .before .before .before .with-transport .result) (c .before .before .before .before .before .with-transport .ensures) (c .before .before .verdict .given .1))))
 
-enum-told-2 : tie.Need-enum-told-2 Inv-loop μ-loop
-enum-told-2 c = search needs
+enum-told-3 : tie.Need-enum-told-3 Inv-loop μ-loop
+enum-told-3 c = search needs
 
 enum-known-added-6 : tie.Need-enum-known-added-6 Inv-loop μ-loop
 enum-known-added-6 c = search needs
@@ -145,7 +154,7 @@ keep-packed-requires : tie.Need-keep-packed-requires Inv-loop μ-loop
 keep-packed-requires c κs =
     let a = c .before .before .before .before .before .before .before .before .before .before .before .args in
     let l = c .before .before .before .before .before .before .before .before .loop in
-    packed-within (a .schema) _ (l .at) (l .so-far .field) _ _ (read (c .before .before .before) (c .before .added6 .given .1))
+    packed-within (a .schema) _ (l .at) (l .so-far .field) (l .so-far .count) _ _ (read (c .before .before .before) (c .before .added6 .given .1))
 
 enum-known-verdict-2 : tie.Need-enum-known-verdict-2 Inv-loop μ-loop
 enum-known-verdict-2 c = search needs
@@ -158,8 +167,8 @@ returns-3 c =
     ap toldKept (c .stop3 .ensures)
     ∙ sym (halted (c .before .before .before .before .before .before .before .before .before .before .before .before .before) _ (went (c .before .before .before .before .before .before .before .before .before) (c .before .before .before .before .before .before .before .added6 .given .1) (kept-told (c .before .before .before .before .before .keep-packed .result) (c .before .before .before .before .before .keep-packed .ensures) (c .before .before .verdict2 .given .1))))
 
-enum-told-3 : tie.Need-enum-told-3 Inv-loop μ-loop
-enum-told-3 c = search needs
+enum-told-4 : tie.Need-enum-told-4 Inv-loop μ-loop
+enum-told-4 c = search needs
 
 loop-less : tie.Need-loop-less Inv-loop μ-loop
 loop-less c = turn (c .before .before) (c .enum-told .given .1) _ refl .1
@@ -186,16 +195,22 @@ loop-again-4 : tie.Need-loop-again-4 Inv-loop μ-loop
 loop-again-4 c = turn (c .before .before .before .before) (c .before .before .added4 .given .1) _ (ap given (sym (c .with-member .ensures))) .0
 
 loop-less-5 : tie.Need-loop-less-5 Inv-loop μ-loop
-loop-less-5 c = turn (c .before .before .before .before .before .before .before) (c .before .before .before .before .before .added5 .given .1) _ (kept-told (c .before .before .before .with-transport .result) (c .before .before .before .with-transport .ensures) (c .enum-told2 .given .1)) .1
+loop-less-5 c = turn (c .before .before .before) (c .before .enum-told2 .given .1) _ (ap given (sym (c .with-repeated .ensures))) .1
 
 loop-again-5 : tie.Need-loop-again-5 Inv-loop μ-loop
-loop-again-5 c = turn (c .before .before .before .before .before .before .before) (c .before .before .before .before .before .added5 .given .1) _ (kept-told (c .before .before .before .with-transport .result) (c .before .before .before .with-transport .ensures) (c .enum-told2 .given .1)) .0
+loop-again-5 c = turn (c .before .before .before) (c .before .enum-told2 .given .1) _ (ap given (sym (c .with-repeated .ensures))) .0
 
 loop-less-6 : tie.Need-loop-less-6 Inv-loop μ-loop
-loop-less-6 c = turn (c .before .before .before .before .before .before .before) (c .before .before .before .before .before .added6 .given .1) _ (kept-told (c .before .before .before .keep-packed .result) (c .before .before .before .keep-packed .ensures) (c .enum-told3 .given .1)) .1
+loop-less-6 c = turn (c .before .before .before .before .before .before .before) (c .before .before .before .before .before .added5 .given .1) _ (kept-told (c .before .before .before .with-transport .result) (c .before .before .before .with-transport .ensures) (c .enum-told3 .given .1)) .1
 
 loop-again-6 : tie.Need-loop-again-6 Inv-loop μ-loop
-loop-again-6 c = turn (c .before .before .before .before .before .before .before) (c .before .before .before .before .before .added6 .given .1) _ (kept-told (c .before .before .before .keep-packed .result) (c .before .before .before .keep-packed .ensures) (c .enum-told3 .given .1)) .0
+loop-again-6 c = turn (c .before .before .before .before .before .before .before) (c .before .before .before .before .before .added5 .given .1) _ (kept-told (c .before .before .before .with-transport .result) (c .before .before .before .with-transport .ensures) (c .enum-told3 .given .1)) .0
+
+loop-less-7 : tie.Need-loop-less-7 Inv-loop μ-loop
+loop-less-7 c = turn (c .before .before .before .before .before .before .before) (c .before .before .before .before .before .added6 .given .1) _ (kept-told (c .before .before .before .keep-packed .result) (c .before .before .before .keep-packed .ensures) (c .enum-told4 .given .1)) .1
+
+loop-again-7 : tie.Need-loop-again-7 Inv-loop μ-loop
+loop-again-7 c = turn (c .before .before .before .before .before .before .before) (c .before .before .before .before .before .added6 .given .1) _ (kept-told (c .before .before .before .keep-packed .result) (c .before .before .before .keep-packed .ensures) (c .enum-told4 .given .1)) .0
 
 fine-requires : tie.Need-fine-requires Inv-loop μ-loop
 fine-requires c κs = search needs
@@ -225,18 +240,20 @@ read-fields-spec =
     with-text-requires
     enum-known-added-4
     with-member-requires
+    enum-told-2
+    with-repeated-requires
     enum-known-added-5
     with-transport-requires
     enum-known-verdict
     stop-requires-2
     returns-2
-    enum-told-2
+    enum-told-3
     enum-known-added-6
     keep-packed-requires
     enum-known-verdict-2
     stop-requires-3
     returns-3
-    enum-told-3
+    enum-told-4
     loop-less
     loop-again
     loop-less-2
@@ -249,5 +266,7 @@ read-fields-spec =
     loop-again-5
     loop-less-6
     loop-again-6
+    loop-less-7
+    loop-again-7
     fine-requires
     returns-4)

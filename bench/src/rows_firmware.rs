@@ -1,0 +1,170 @@
+//! Lines about firmware messages.
+
+use crate::calls::*;
+use crate::control::Reader;
+use crate::firmware::{ApplyGiven, SegmentGiven, ROW};
+use crate::job::{share, Job, Row, Subject};
+use crate::rows_control::{bytes, forget, many, read_job, write_job, MESSAGES, ROUNDS};
+use crate::{firmware, rust, work};
+use second::driver::firmware::digits;
+use second::firmware::{write_apply, write_segment, Apply, Component, Information};
+
+pub fn rows() -> Vec<Row> {
+    let read = |name, make: fn() -> Job| Row::new("messages read", name, make);
+    let write = |name, make: fn() -> Job| Row::new("messages written", name, make);
+    vec![
+        read("segment", read_segment_job),
+        read("firmware, 1 component", || read_apply_job(1)),
+        read("firmware, 8 components", || read_apply_job(8)),
+        write("segment", write_segment_job),
+        write("firmware, 1 component", || write_apply_job(1)),
+        write("firmware, 8 components", || write_apply_job(8)),
+    ]
+}
+
+fn segments() -> Vec<SegmentGiven> {
+    many(|rng| SegmentGiven {
+        name: rng.bytes(12),
+        size: 552_960 + rng.below(1 << 16),
+        signature: digits(rng),
+    })
+}
+
+/// The messages as plain types, with the bytes that their parts are places in.
+fn applies(components: usize) -> Vec<(Apply, Vec<u8>)> {
+    many(|rng| {
+        let version = 12_345 + rng.below(100) as u32;
+        let one = |index: usize| Component {
+            version,
+            name: 20 + 24 * index..32 + 24 * index,
+            size: 552_960 + index as u32,
+            signature: 32 + 24 * index..44 + 24 * index,
+        };
+        let information = Information {
+            version,
+            name: 0..5,
+            components: (0..components).map(one).collect(),
+            locale: 5..10,
+            version_name: 10..15,
+        };
+        let apply = Apply {
+            information,
+            restart_required: true,
+        };
+        (apply, rng.bytes(20 + 24 * components))
+    })
+}
+
+/// The same messages as rows.
+fn given(applies: Vec<(Apply, Vec<u8>)>) -> Vec<ApplyGiven> {
+    let row_of = |apply: &Apply| {
+        let information = &apply.information;
+        let mut row = [0; ROW];
+        let named = [
+            &information.name,
+            &information.locale,
+            &information.version_name,
+        ];
+        let mut numbers = vec![apply.restart_required.into(), information.version.into()];
+        for part in named {
+            numbers.extend([part.start as u64, part.len() as u64]);
+        }
+        numbers.push(information.components.len() as u64);
+        for one in &information.components {
+            numbers.push(one.version.into());
+            numbers.extend([one.name.start as u64, one.name.len() as u64]);
+            numbers.push(one.size.into());
+            numbers.extend([one.signature.start as u64, one.signature.len() as u64]);
+        }
+        row[..numbers.len()].copy_from_slice(&numbers);
+        row
+    };
+    let one = |(apply, texts): (Apply, Vec<u8>)| ApplyGiven {
+        row: row_of(&apply),
+        texts,
+    };
+    applies.into_iter().map(one).collect()
+}
+
+fn read_segment_job() -> Job {
+    let messages = bytes(&segments(), |one, output| {
+        write_segment(&one.name, 0, one.size as u32, &one.signature, output).expect("lawful")
+    });
+    read_job!(
+        firmware,
+        messages,
+        read_segment,
+        read_segment_own,
+        pito_segment_read,
+        segment_read,
+        nanopb_segment_read,
+        pbc_segment_read
+    )
+}
+
+fn read_apply_job(components: usize) -> Job {
+    let messages = bytes(&applies(components), |(apply, texts), output| {
+        write_apply(texts, apply, output).expect("lawful")
+    });
+    read_job!(
+        firmware,
+        messages,
+        read_apply,
+        read_apply_own,
+        pito_apply_read,
+        apply_read,
+        nanopb_apply_read,
+        pbc_apply_read
+    )
+}
+
+fn write_segment_job() -> Job {
+    forget();
+    for one in &segments() {
+        let (name, signature) = (&one.name, &one.signature);
+        for prepare in [nanopb_segment_prepare, pbc_segment_prepare] {
+            unsafe {
+                prepare(
+                    name.as_ptr(),
+                    name.len(),
+                    0,
+                    one.size,
+                    signature.as_ptr(),
+                    signature.len(),
+                )
+            };
+        }
+    }
+    write_job!(
+        firmware,
+        segments(),
+        segments(),
+        segment_write,
+        segment_write_own,
+        pito_segment_write,
+        segment_write,
+        nanopb_segment_write,
+        pbc_segment_write
+    )
+}
+
+fn write_apply_job(components: usize) -> Job {
+    forget();
+    for one in &given(applies(components)) {
+        let (row, texts) = (&one.row, &one.texts);
+        for prepare in [nanopb_apply_prepare, pbc_apply_prepare] {
+            unsafe { prepare(row.as_ptr(), row.len(), texts.as_ptr(), texts.len()) };
+        }
+    }
+    write_job!(
+        firmware,
+        given(applies(components)),
+        applies(components),
+        apply_write,
+        apply_write_own,
+        pito_apply_write,
+        apply_write,
+        nanopb_apply_write,
+        pbc_apply_write
+    )
+}

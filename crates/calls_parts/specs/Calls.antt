@@ -1,0 +1,37 @@
+-- The calls of the frame writer by parts for C.
+use Prim.Native.Nat.{ℕ}
+use mathlib.Core.Bool.{cond, _&&_}
+use mathlib.Core.List.{List, []}
+use lib.ListN.{length}
+use lib.Dec.{eqb}
+use Rattle.wire.specs.Told.{Told, given, refused}
+use Rattle.framing.specs.Mark.{startMark}
+use Rattle.parts.specs.declared.state.PartWriter.{PartWriter}
+use Rattle.parts.specs.Writer.{Wrote, beginOf, partOf}
+use Rattle.rows.specs.Row.{afterwards, byteOr}
+use Rattle.rows.specs.Called.{Called, called, ifFit}
+use Rattle.calls_parts.specs.Convert.{isState, stateOf, stateRow, replyOf, partRow}
+
+-- the state row after a call that returns a number: each refusal leaves it
+abbrev pub kept : ℕ → List ℕ → List ℕ → List ℕ
+kept number before row = cond (eqb number 0) row before
+
+-- the state row after a start
+abbrev pub begun : List ℕ → Told PartWriter → Called
+begun state (given s) = called 0 (stateRow s) [] []
+begun state (refused n) = called n state [] []
+
+-- a sequence that is no byte stands for a mark: 15
+unfoldable pub frameBeginOf : ℕ → ℕ → ℕ → List ℕ → Called
+frameBeginOf limit sequence total state =
+    ifFit (eqb (length state) 6) state [] [] (begun state (beginOf limit (byteOr startMark sequence) total))
+
+-- rows and output after a part
+abbrev pub parted : List ℕ → List ℕ → Wrote → Called
+parted state answer w =
+    let r = replyOf (w .told) in
+    called (r .number) (kept (r .number) state (stateRow (w .next))) (w .out) (afterwards (r .number) answer (partRow r))
+
+unfoldable pub framePartOf : ℕ → List ℕ → List ℕ → List ℕ → List ℕ → Called
+framePartOf limit state payload out answer =
+    ifFit (eqb (length answer) 3 && isState state) state out answer (parted state answer (partOf limit (stateOf state) payload out))

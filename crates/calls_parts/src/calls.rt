@@ -1,0 +1,86 @@
+// The frame writer by parts for C.
+use crate::convert::PART_ANSWER;
+use crate::convert::STATE;
+use crate::convert::is_state;
+use crate::convert::part_reply;
+use crate::convert::state_of;
+use crate::convert::state_row;
+use framing::mark::Mark;
+use parts::state::PartWriter;
+use parts::writer::Begun;
+use rows::row::DONE;
+use rows::row::UNFIT;
+use rows::row::byte_or;
+use rows::row::put;
+use rows::row::write_row;
+use wire::bytes::wide64;
+ghost use mathlib.Core.Path.{_≡_};
+ghost use mathlib.Core.Bool.{true};
+ghost use mathlib.Core.List.{[]};
+ghost use lib.ListN.{length};
+ghost use Rattle.parts.specs.Writer.{partOf};
+ghost use Rattle.rows.specs.Called.{called};
+ghost use Rattle.calls_parts.specs.Convert.{isState, stateOf};
+ghost use Rattle.calls_parts.specs.Calls.{kept, parted, frameBeginOf, framePartOf};
+
+// Writes a state row, unless the call is refused.
+fn keep(state: &mut [u64], number: u64, row: &[u64])
+    requires { ⌜ length (now state) ≡ length (now row) ⌝ }
+    ensures { λ _. ⌜ now (state .exit) ≡ kept number (now (state .entry)) (now (row .entry)) ⌝ }
+{
+    if number == DONE {
+        write_row(state, row);
+    }
+}
+
+// Begins a frame whose payload will have `total` bytes.
+pub fn frame_begin(sequence: u64, total: u64, state: &mut [u64]) -> u64
+    ensures { λ r. ⌜ called r (now (state .exit)) [] [] ≡ frameBeginOf 4096 sequence total (now (state .entry)) ⌝ }
+{
+    if state.len() != STATE {
+        return UNFIT;
+    }
+    let sequence = byte_or(Mark::START, sequence);
+    let begun = PartWriter::begin(sequence, total as usize);
+    match begun {
+        Begun::Ready(next) => {
+            let row = state_row(next);
+            write_row(state, &row);
+            DONE
+        }
+        Begun::BadArgument => wide64(begun.number()),
+    }
+}
+
+// Takes payload and writes the frame on into an output.
+pub fn frame_part(state: &mut [u64], payload: &[u8], output: &mut [u8], answer: &mut [u64]) -> u64
+    ensures { λ r. ⌜ called r (now (state .exit)) (now (output .exit)) (now (answer .exit))
+        ≡ framePartOf 4096 (now (state .entry)) (now (payload .entry)) (now (output .entry)) (now (answer .entry)) ⌝ }
+{
+    if answer.len() != PART_ANSWER {
+        return UNFIT;
+    }
+    if !is_state(state) {
+        return UNFIT;
+    }
+    part_fitting(state, payload, output, answer)
+}
+
+// The same with rows that fit.
+fn part_fitting(state: &mut [u64], payload: &[u8], output: &mut [u8], answer: &mut [u64]) -> u64
+    requires { ⌜ (isState (now state) ≡ true) × (length (now answer) ≡ 3) ⌝ }
+    ensures { λ r. ⌜ called r (now (state .exit)) (now (output .exit)) (now (answer .exit))
+        ≡ parted (now (state .entry)) (now (answer .entry))
+        (partOf 4096 (stateOf (now (state .entry))) (now (payload .entry)) (now (output .entry))) ⌝ }
+{
+    let done = state_of(state).write(payload, output);
+    let outcome = done.outcome;
+    let reply = part_reply(outcome);
+    let number = reply.number;
+    let next = done.next;
+    let numbers = state_row(next);
+    let row = [reply.taken, reply.written, reply.ended];
+    keep(state, number, &numbers);
+    put(answer, number, &row);
+    number
+}

@@ -1,0 +1,172 @@
+// The state of a frame that is written by parts, and what a call answers, as rows.
+use framing::mark::Kind;
+use parts::state::PartWriter;
+use parts::state::Stage;
+use parts::writer::PartOutcome;
+use rows::row::BYTES;
+use rows::row::DONE;
+use rows::row::number_at;
+use wire::bytes::wide64;
+use wire::logic::both;
+ghost use mathlib.Core.Path.{_≡_};
+ghost use mathlib.Core.Bool.{true};
+ghost use Rattle.parts.specs.Writer.{told};
+ghost use Rattle.calls_parts.specs.Convert.{stageNumber, stageOf, pendingNumber, pendingOf, isState, stateOf, stateRow, flag, replyOf};
+
+// The numbers of a state row; how many sums, stages and pending marks there are.
+pub const STATE: usize = 6;
+
+const SUMS: u64 = 65536;
+
+const STAGES: u64 = 8;
+
+const PENDING: u64 = 4;
+
+// The numbers of an answer row.
+pub const PART_ANSWER: usize = 3;
+
+// What a call answers: the number that it returns, and what the row tells.
+pub struct Reply {
+    pub number: u64,
+    pub taken: u64,
+    pub written: u64,
+    pub ended: u64,
+}
+
+fn stage_number(stage: Stage) -> u64
+    ensures { λ r. ⌜ r ≡ stageNumber stage ⌝ }
+{
+    match stage {
+        Stage::Start => 0,
+        Stage::PacketId => 1,
+        Stage::ErrorId => 2,
+        Stage::Sequence => 3,
+        Stage::Payload => 4,
+        Stage::Low => 5,
+        Stage::End => 6,
+        Stage::Done => 7,
+    }
+}
+
+fn stage_of(n: u64) -> Stage
+    ensures { λ r. ⌜ r ≡ stageOf n ⌝ }
+{
+    if n == 0 {
+        return Stage::Start;
+    }
+    if n == 1 {
+        return Stage::PacketId;
+    }
+    if n == 2 {
+        return Stage::ErrorId;
+    }
+    if n == 3 {
+        return Stage::Sequence;
+    }
+    if n == 4 {
+        return Stage::Payload;
+    }
+    if n == 5 {
+        return Stage::Low;
+    }
+    if n == 6 {
+        return Stage::End;
+    }
+    Stage::Done
+}
+
+fn pending_number(kind: Kind) -> u64
+    ensures { λ r. ⌜ r ≡ pendingNumber kind ⌝ }
+{
+    match kind {
+        Kind::Start => 1,
+        Kind::End => 2,
+        Kind::Escape => 3,
+        Kind::Plain => 0,
+    }
+}
+
+fn pending_of(n: u64) -> Kind
+    ensures { λ r. ⌜ r ≡ pendingOf n ⌝ }
+{
+    if n == 1 {
+        return Kind::Start;
+    }
+    if n == 2 {
+        return Kind::End;
+    }
+    if n == 3 {
+        return Kind::Escape;
+    }
+    Kind::Plain
+}
+
+// Whether a row has numbers that a state can have.
+pub fn is_state(row: &[u64]) -> bool
+    ensures { λ r. ⌜ r ≡ isState (now (row .entry)) ⌝ }
+{
+    let ends = both(number_at(row, 4) < STAGES, number_at(row, 5) < PENDING);
+    let sums = both(number_at(row, 3) < SUMS, ends);
+    let numbers = both(number_at(row, 0) < BYTES, sums);
+    both(row.len() == STATE, numbers)
+}
+
+pub fn state_of(row: &[u64]) -> PartWriter
+    requires { ⌜ isState (now row) ≡ true ⌝ }
+    ensures { λ r. ⌜ r ≡ stateOf (now (row .entry)) ⌝ }
+{
+    let stage = stage_of(row[4]);
+    let pending = pending_of(row[5]);
+    PartWriter {
+        sequence: row[0] as u8,
+        total: row[1] as usize,
+        taken: row[2] as usize,
+        sum: row[3] as u16,
+        stage,
+        pending,
+    }
+}
+
+pub fn state_row(state: PartWriter) -> [u64; 6]
+    ensures { λ r. ⌜ r ≡ stateRow state ⌝ }
+{
+    let stage = state.stage;
+    let pending = state.pending;
+    [
+        wide64(state.sequence),
+        state.total as u64,
+        state.taken as u64,
+        state.sum as u64,
+        stage_number(stage),
+        pending_number(pending),
+    ]
+}
+
+fn number(b: bool) -> u64
+    ensures { λ r. ⌜ r ≡ flag b ⌝ }
+{
+    if b { 1 } else { 0 }
+}
+
+pub fn part_reply(outcome: PartOutcome) -> Reply
+    ensures { λ r. ⌜ r ≡ replyOf (told outcome) ⌝ }
+{
+    match outcome {
+        PartOutcome::Wrote {
+            taken,
+            written,
+            ended,
+        } => Reply {
+            number: DONE,
+            taken: taken as u64,
+            written: written as u64,
+            ended: number(ended),
+        },
+        PartOutcome::Refused(why) => Reply {
+            number: wide64(why.number()),
+            taken: 0,
+            written: 0,
+            ended: 0,
+        },
+    }
+}

@@ -1,0 +1,103 @@
+-- An instance of each field of SizesSuffice but ApplyFirmware's: the ends of its ranges, and just the output that the header names. The append also by computation.
+use Prim.Native.Nat.{ℕ, zero, suc}
+use mathlib.Core.Path.{_≡_, refl}
+use mathlib.Core.Logic.{inl, inr}
+use mathlib.Core.List.{List, [], _∷_, map}
+use native.Mathlib.Omega.{arith}
+use lib.IntN.{ℤ, pos, negsuc}
+use lib.ListN.{replicate}
+use Rattle.field.specs.Signed.{extended}
+use Rattle.wire.specs.Stream.{isStream}
+use Rattle.sender.specs.Piece.{sizeFor}
+use Rattle.outbox.specs.Format.{numberOf, bytesOf, recordBytes}
+use Rattle.outbox.specs.Reader.{otherVersion, badPlace, badLength, cutShort, badStream, recordAt, readOf, readings, readAll, walkOf}
+use Rattle.outbox.specs.Writer.{badRecord, appendOf}
+use Rattle.firmware_round_trips.specs.Premises.{Digits, lower}
+use Rattle.rows.specs.Row.{byteOr}
+use Rattle.rows.specs.Called.{called}
+use Rattle.calls_classic.specs.Calls.{frameWriteOf}
+use Rattle.calls_sending.specs.Convert.{sendingOf}
+use Rattle.calls_sending.specs.Calls.{packetWriteOf, ackWriteOf}
+use Rattle.rows_messages.specs.Convert.{payloadFor}
+use Rattle.calls_messages.specs.Calls.{envelopeWriteOf, responseWriteOf, informationWriteOf, featuresWriteOf}
+use Rattle.calls_firmware.specs.Calls.{segmentWriteOf}
+use Rattle.calls_outbox.specs.Calls.{outboxNewOf, outboxAppendOf}
+use Rattle.capi_claims.specs.SizesSuffice.{Done}
+use Rattle.capi_claims.proofs.SizesSuffice.{sizes-suffice}
+
+abbrev bytes : ℕ → List ℕ
+bytes n = replicate n 9
+
+frame : Done (frameWriteOf 1 255 (240 ∷ []) (bytes 11) (7 ∷ []))
+frame =
+    sizes-suffice .frame-write 1 255 (240 ∷ []) (bytes 11) (7 ∷ []) refl (omega arith) ((λ e. omega (arith, e)), (λ e. omega (arith, e)), (λ e. omega (arith, e))) (omega arith) (omega arith)
+
+after-marks : Done (frameWriteOf 1 243 [] (bytes 9) (7 ∷ []))
+after-marks =
+    sizes-suffice .frame-write 1 243 [] (bytes 9) (7 ∷ []) refl (omega arith) ((λ e. omega (arith, e)), (λ e. omega (arith, e)), (λ e. omega (arith, e))) (omega arith) (omega arith)
+
+packet : Done (packetWriteOf 15 (sendingOf 20 6 15 15 1) (bytes 15) 0 (bytes 20) (7 ∷ 7 ∷ []))
+packet =
+    sizes-suffice .packet-first 15 20 6 15 15 1 (bytes 15) (bytes 20) (7 ∷ 7 ∷ []) refl
+    (omega arith) (omega arith) (inr (inr refl)) (omega arith) (omega arith) (omega arith) (omega arith) (omega arith)
+
+later : Done (packetWriteOf 15 (sendingOf 20 0 0 0 0) (bytes 15) 14 (bytes 20) (7 ∷ 7 ∷ []))
+unfolding sendingOf sizeFor
+later =
+    sizes-suffice .packet-write 15 20 0 0 0 0 14 (bytes 15) (bytes 20) (7 ∷ 7 ∷ []) refl
+    (omega arith) (omega arith) (inl refl) (omega arith) (omega arith) (omega arith) (omega arith) refl (omega arith)
+
+widest : Done (packetWriteOf 0 (sendingOf 512 0 0 0 0) [] 0 (bytes 512) (7 ∷ 7 ∷ []))
+widest =
+    sizes-suffice .packet-first 0 512 0 0 0 0 [] (bytes 512) (7 ∷ 7 ∷ []) refl
+    (omega arith) (omega arith) (inl refl) (omega arith) (omega arith) (omega arith) (omega arith) (omega arith)
+
+ack : Done (ackWriteOf 2 15 15 1 (bytes 6) (7 ∷ []))
+ack = sizes-suffice .ack-write 2 15 15 1 (bytes 6) (7 ∷ []) refl (inr (inl refl)) (omega arith) (omega arith) (omega arith) (omega arith)
+
+none : Done (envelopeWriteOf (extended (pos 2147483647)) (payloadFor (extended (pos 2147483647)) 0 5 1) [] (bytes 53) (7 ∷ []))
+none = sizes-suffice .envelope-none (pos 2147483647) 5 1 [] (bytes 53) (7 ∷ []) refl (omega arith) (omega arith)
+
+response : Done (envelopeWriteOf (extended (negsuc 2147483647)) (payloadFor (extended (negsuc 2147483647)) 1 (extended (negsuc 2147483647)) 9) (65 ∷ []) (bytes 54) (7 ∷ []))
+response =
+    sizes-suffice .envelope-response (negsuc 2147483647) (negsuc 2147483647) 9 (65 ∷ []) (bytes 54) (7 ∷ []) refl (omega arith) (omega arith) (inr (omega arith, omega arith)) (omega arith)
+
+member : Done (envelopeWriteOf (extended (pos 0)) (payloadFor (extended (pos 0)) 2 5 536870911) (65 ∷ []) (bytes 54) (7 ∷ []))
+member =
+    sizes-suffice .envelope-member (pos 0) 5 536870911 (65 ∷ []) (bytes 54) (7 ∷ []) refl (omega arith) (omega arith, omega arith) (λ e. omega (arith, e)) (omega arith)
+
+alone : Done (responseWriteOf (extended (negsuc 2147483647)) 2 (65 ∷ []) (bytes 32) (7 ∷ []))
+alone = sizes-suffice .response-write (negsuc 2147483647) 2 (65 ∷ []) (bytes 32) (7 ∷ []) refl (omega arith) (inr (omega arith, omega arith)) (omega arith)
+
+abbrev transports : List ℤ
+transports = replicate 8 (negsuc 2147483647)
+
+information : Done (informationWriteOf (65 ∷ []) (66 ∷ []) (67 ∷ []) (map extended transports) (bytes 127) (7 ∷ []))
+information =
+    sizes-suffice .information-write (65 ∷ []) (66 ∷ []) (67 ∷ []) transports (bytes 127) (7 ∷ []) refl
+    (omega arith, (omega arith, (omega arith, (omega arith, (omega arith, (omega arith, (omega arith, (omega arith, tt)))))))) (omega arith) (omega arith)
+
+features : Done (featuresWriteOf 18446744073709551615 18446744073709551615 (bytes 22) (7 ∷ []))
+features = sizes-suffice .features-write 18446744073709551615 18446744073709551615 (bytes 22) (7 ∷ []) refl (omega arith)
+
+digits : (n : ℕ) → Digits (replicate n 102)
+digits zero = tt
+digits (suc n) = (lower (omega arith) (omega arith), digits n)
+
+segment : Done (segmentWriteOf (65 ∷ []) 0 4294967295 (replicate 64 102) (bytes 98) (7 ∷ 7 ∷ []))
+segment = sizes-suffice .segment-write (65 ∷ []) 4294967295 (replicate 64 102) (bytes 98) (7 ∷ 7 ∷ []) refl (omega arith) refl (digits 64) (omega arith)
+
+new : Done (outboxNewOf 4096 (bytes 1) (7 ∷ []))
+new = sizes-suffice .outbox-new 4096 (bytes 1) (7 ∷ []) refl (omega arith)
+
+append : Done (outboxAppendOf 1 (1 ∷ 9 ∷ 9 ∷ 9 ∷ 9 ∷ []) 1 6 (65 ∷ []) (7 ∷ 7 ∷ []))
+append = sizes-suffice .outbox-append-first 1 6 (9 ∷ 9 ∷ 9 ∷ 9 ∷ []) (65 ∷ []) (7 ∷ 7 ∷ []) refl (inr (inr refl)) (omega arith) (omega arith)
+
+behind : Done (outboxAppendOf 1 (1 ∷ 0 ∷ 2 ∷ 6 ∷ 65 ∷ 9 ∷ 9 ∷ 9 ∷ []) 5 2 [] (7 ∷ 7 ∷ []))
+unfolding isStream walkOf readAll readings readOf otherVersion badPlace recordAt badLength cutShort badStream numberOf
+behind =
+    sizes-suffice .outbox-append 1 5 2 (1 ∷ 0 ∷ 2 ∷ 6 ∷ 65 ∷ 9 ∷ 9 ∷ 9 ∷ []) [] (7 ∷ 7 ∷ []) refl refl (inr (inl refl)) (omega arith) (omega arith)
+
+appended : outboxAppendOf 1 (1 ∷ 9 ∷ 9 ∷ 9 ∷ 9 ∷ []) 1 6 (65 ∷ []) (7 ∷ 7 ∷ []) ≡ called 0 [] (1 ∷ 0 ∷ 2 ∷ 6 ∷ 65 ∷ []) (5 ∷ 0 ∷ [])
+unfolding outboxAppendOf appendOf badRecord isStream walkOf readAll readings readOf otherVersion badPlace bytesOf recordBytes byteOr
+appended = refl

@@ -1,0 +1,40 @@
+-- The claim that rows agree with what the library itself tells: the row of an ApplyFirmware is taken by its writer as that message, and the row of a
+-- field tells what stands at the place.
+use Prim.Native.Nat.{ℕ, _≤_}
+use mathlib.Core.Path.{_≡_}
+use mathlib.Core.Bool.{cond}
+use mathlib.Core.List.{List, [], _∷_}
+use lib.ListN.{length, getD}
+use lib.Dec.{eqb}
+use Rattle.wire.specs.Told.{given, andThen}
+use Rattle.field.specs.declared.value.Value.{Value}
+use Rattle.field.specs.declared.value.Value.the-variants.{Number, Bytes, Skipped}
+use Rattle.field.specs.Fields.{Standing, field, end, foundAt}
+use Rattle.firmware.specs.declared.component.FirmwareComponent.{FirmwareComponent}
+use Rattle.firmware.specs.declared.apply.ApplyFirmware.{ApplyFirmware}
+use Rattle.firmware_writer.specs.Apply.{applyWritten}
+use Rattle.rows.specs.Called.{writerCall}
+use Rattle.rows_firmware.specs.Apply.{wholeRow}
+use Rattle.rows_firmware.specs.FieldRow.{fieldAt}
+use Rattle.calls_firmware.specs.Calls.{applyWriteOf}
+use Rattle.capi_claims.specs.SizesSuffice.{Unsigned32}
+
+abbrev pub NumbersFit : List FirmwareComponent → Type 0
+NumbersFit [] = Unit {0}
+NumbersFit (c ∷ cs) = (Unsigned32 (c .version) × Unsigned32 (c .size)) × NumbersFit cs
+
+-- what a field's row tells: kind 0 is a number, kind 2 a part, any other bytes that are passed over
+abbrev pub rowValue : List ℕ → Value
+rowValue row =
+    cond (eqb (getD row 2 0) 0) (Number (getD row 3 0))
+    (cond (eqb (getD row 2 0) 2) (Bytes (record { start = getD row 4 0; len = getD row 5 0 })) Skipped)
+
+abbrev pub rowStanding : List ℕ → Standing
+rowStanding row = cond (eqb (getD row 0 0) 0) end (field (getD row 1 0) (rowValue row) (getD row 6 0))
+
+pub record RowsAgree : Type 0 where
+  -- an ApplyFirmware whose numbers its type holds, with at most eight components
+  pub apply : (a : ApplyFirmware) (texts out answer : List ℕ) → Unsigned32 (a .«firmware_information» .version)
+      → length (a .«firmware_information» .components) ≡ 8 → NumbersFit (a .«firmware_information» .components) → a .«firmware_information» .count ≤ 8
+      → applyWriteOf (wholeRow a) texts out answer ≡ writerCall out answer (applyWritten a texts out)
+  pub field : (message : List ℕ) (place : ℕ) → andThen (fieldAt message place) (λ row. given (rowStanding row)) ≡ foundAt message place

@@ -1,0 +1,6 @@
+pub mod Steps
+pub mod Texts
+pub mod Parts
+pub mod Components
+pub mod Segments
+pub mod Insides

@@ -1,0 +1,47 @@
+-- Laws of a segment: its digits one by one, and what is told of it.
+use Prim.Native.Nat.{ℕ, _+_, _≤_, _<_}
+use mathlib.Core.Path.{_≡_, refl}
+use mathlib.Core.Bool.{Bool, true, false, cond, _&&_, not}
+use mathlib.Core.List.{List, [], _∷_}
+use native.Mathlib.Numerals.{add-one}
+use native.Mathlib.Omega.{arith}
+use native.Mathlib.Decide.{ℕ-discrete}
+use lib.ListN.{length, drop, getD, drop-of-length-le}
+use lib.Seq.{drop-cons}
+use lib.Dec.{eqb}
+use borrow.Author.Tests.{ne-eqb}
+use Rattle.wire.specs.Told.{given, refused}
+use Rattle.field.specs.Value.{Within, TellsWithin, bytesOf}
+use Rattle.firmware.specs.declared.segment.UpdateComponentSegment.{UpdateComponentSegment}
+use Rattle.firmware.specs.Segment.{isDigit, allDigits, brokenField, segmentJudged, segmentParts}
+
+pub digits-here : (l : List ℕ) (i : ℕ) → i < length l → allDigits (drop i l) ≡ (isDigit (getD l i 0) && allDigits (drop (i + 1) l))
+digits-here l i h = rw (drop-cons l i 0 h, add-one)
+
+pub digits-end : (l : List ℕ) (i : ℕ) → length l ≤ i → allDigits (drop i l) ≡ true
+digits-end l i h = rw (drop-of-length-le l h)
+
+pub not-true : (b : Bool) → not b ≡ true → b ≡ false
+not-true true e = absurd (let z : _≡_ {A = ℕ} 0 1 = cc in omega arith)
+not-true false e = refl
+
+pub not-false : (b : Bool) → not b ≡ false → b ≡ true
+not-false true e = refl
+not-false false e = absurd (let z : _≡_ {A = ℕ} 0 1 = cc in omega arith)
+
+-- where no rule is broken the offset is 0
+pub offset-none : (offset : ℕ) (signature : List ℕ) → brokenField offset signature ≡ 0 → offset ≡ 0
+unfolding brokenField
+offset-none offset signature e = by-offset (ℕ-discrete offset 0)
+  where
+    by-offset : Dec (offset ≡ 0) → offset ≡ 0
+    by-offset (yes z) = z
+    by-offset (no n) = absurd (let two : brokenField offset signature ≡ 2 = rw (ne-eqb offset 0 n) in omega (arith, e, two))
+
+-- what is told lies within the message
+pub judged-within : (s : List ℕ) (m : UpdateComponentSegment) → Within s (segmentParts m) → TellsWithin s segmentParts (segmentJudged s m)
+judged-within s m h = by-test (eqb (brokenField (m .«component_offset») (bytesOf s (m .«segment_signature»))) 0)
+  where
+    by-test : (b : Bool) → TellsWithin {N = ℕ × List ℕ} s segmentParts (cond b (given m) (refused (50, brokenField (m .«component_offset») (bytesOf s (m .«segment_signature»)) ∷ [])))
+    by-test true = h
+    by-test false = tt

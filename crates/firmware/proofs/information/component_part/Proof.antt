@@ -1,0 +1,37 @@
+use borrow.Author.Tests.{eq-eqb, ne-eqb}
+use borrow.Author.Needs.{needs}
+use Rattle.firmware.proofs.information.component_part.Statement.{statement}
+use Rattle.firmware.proofs.information.component_part.Tie as tie
+
+returns : tie.Need-returns
+returns c = rw (ne-eqb _ _ (c .if1 .taken))
+
+enum-told : tie.Need-enum-told
+enum-told c = search needs
+
+enum-known-value : tie.Need-enum-known-value
+enum-known-value c = search needs
+
+enum-told-2 : tie.Need-enum-told-2
+enum-told-2 c = search needs
+
+returns-2 : tie.Need-returns-2
+returns-2 c = rw (eq-eqb _ _ (c .before .before .if1 .left), c .enum-told .given .1)
+
+returns-3 : tie.Need-returns-3
+returns-3 c = rw (eq-eqb _ _ (c .before .before .before .if1 .left), c .before .value .given .1)
+
+returns-4 : tie.Need-returns-4
+returns-4 c = rw (eq-eqb _ _ (c .before .before .if1 .left), c .enum-told2 .given .1)
+
+pub component-part-spec : {M : Type 1} → statement M
+component-part-spec =
+    tie.close
+    (tie.spec
+    returns
+    enum-told
+    enum-known-value
+    enum-told-2
+    returns-2
+    returns-3
+    returns-4)

@@ -1,0 +1,46 @@
+use mathlib.Core.Path.{_≡_, ap, _∙_}
+use native.Mathlib.Omega.{arith}
+use denote.Ref.{now}
+use borrow.Author.Tests.{eq-eqb, ne-eqb}
+use Rattle.field.specs.Value.{bytesOf}
+use Rattle.firmware.specs.Segment.{brokenField}
+use Rattle.firmware.proofs.Texts.{part-view}
+use borrow.Author.Needs.{needs}
+use Rattle.firmware.proofs.segment.judge_segment.Statement.{statement}
+use Rattle.firmware.proofs.segment.judge_segment.Tie as tie
+
+broken : (c : tie.After-broken-field) → let a = c .before .before .before .before .before .args in c .broken-field .result ≡ brokenField (a .segment .«component_offset») (bytesOf (now (a .message)) (a .segment .«segment_signature»))
+broken c = let a = c .before .before .before .before .before .args in c .broken-field .ensures ∙ ap (brokenField (a .segment .«component_offset»)) (part-view (now (a .message)) (a .segment .«segment_signature»))
+
+add-end : tie.Need-add-end
+add-end c = omega (arith, c .before .before .before .pre)
+
+sub-broken-field : tie.Need-sub-broken-field
+sub-broken-field c = search needs
+
+part-broken-field-start : tie.Need-part-broken-field-start
+part-broken-field-start c = search needs
+
+part-broken-field-end : tie.Need-part-broken-field-end
+part-broken-field-end c = omega (arith, c .before .before .before .pre)
+
+broken-field-requires : tie.Need-broken-field-requires
+broken-field-requires c κs = search needs
+
+returns : tie.Need-returns
+returns c = rw (← broken (c .before), ne-eqb _ _ (c .if1 .taken))
+
+returns-2 : tie.Need-returns-2
+returns-2 c = rw (← broken (c .before), eq-eqb _ _ (c .if1 .left))
+
+pub judge-segment-spec : {M : Type 1} → statement M
+judge-segment-spec =
+    tie.close
+    (tie.spec
+    add-end
+    sub-broken-field
+    part-broken-field-start
+    part-broken-field-end
+    broken-field-requires
+    returns
+    returns-2)

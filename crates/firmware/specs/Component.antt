@@ -1,0 +1,43 @@
+-- FirmwareComponent: two strings and two numbers of 32 bits.
+use Prim.Native.Nat.{ℕ}
+use mathlib.Core.List.{List, [], _∷_}
+use lib.ListN.{getD}
+use Rattle.wire.specs.Told.{Told, given, refused, andThen}
+use Rattle.field.specs.declared.value.Part.{Part}
+use Rattle.field.specs.Refusal.{numberOf}
+use Rattle.field.specs.Unsigned.{unsignedOf}
+use Rattle.walk.specs.declared.gathered.Gathered.{Gathered}
+use Rattle.walk.specs.declared.schema.Schema.the-variants as Schema
+use Rattle.walk.specs.Schema.{first, second}
+use Rattle.walk.specs.Gathered.{noPart}
+use Rattle.walk.specs.Walk.{fieldsFrom}
+use Rattle.firmware.specs.declared.component.FirmwareComponent.{FirmwareComponent}
+use Rattle.firmware.specs.declared.component.ComponentRead.{ComponentRead}
+use Rattle.firmware.specs.declared.component.ComponentRead.the-variants as ComponentRead
+
+-- no component: an empty one
+abbrev pub noComponent : FirmwareComponent
+noComponent = record { version = 0; name = noPart; size = 0; signature = noPart }
+
+-- the component that was gathered
+abbrev pub componentMade : Gathered → FirmwareComponent
+componentMade g =
+    record {
+      version = unsignedOf (getD (g .scalars) first 0);
+      name = getD (g .texts) first noPart;
+      size = unsignedOf (getD (g .scalars) second 0);
+      signature = getD (g .texts) second noPart;
+    }
+
+-- the component from a place to the end
+unfoldable pub componentFrom : List ℕ → ℕ → Told FirmwareComponent
+componentFrom s at = andThen (fieldsFrom Schema.Component s at) (λ g. given (componentMade g))
+
+-- the answers of component_from
+abbrev pub toldComponent : ComponentRead → Told FirmwareComponent
+toldComponent (ComponentRead.Read c) = given c
+toldComponent (ComponentRead.Refused e) = refused (numberOf e)
+
+-- the parts that a component tells
+abbrev pub componentParts : FirmwareComponent → List Part
+componentParts c = c .name ∷ c .signature ∷ []

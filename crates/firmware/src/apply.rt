@@ -1,0 +1,81 @@
+// ApplyFirmware: the firmware that is to be used, and whether to restart.
+use crate::information::FirmwareInformation;
+use crate::information::FirmwareRead;
+use crate::information::firmware_from;
+use field::Refusal;
+use field::value::Part;
+use walk::gathered::Verdict;
+use walk::reader::read_fields;
+use walk::schema::FIRST;
+use walk::schema::Schema;
+ghost use mathlib.Core.Path.{_≡_};
+ghost use Prim.Native.Nat.{_+_, _≤_};
+ghost use lib.ListN.{length};
+ghost use Rattle.firmware.specs.Information.{toldFirmware, withFirmware};
+ghost use Rattle.firmware.specs.Apply.{firmwareIn, applyOf, noApply, toldApply, withApply, Inside};
+
+pub struct ApplyFirmware {
+    pub firmware_information: FirmwareInformation,
+    pub restart_required: bool,
+}
+
+// The message stands beside the verdict, and is the empty one where it is refused.
+pub struct ApplyRead {
+    pub verdict: Verdict,
+    pub apply: ApplyFirmware,
+}
+
+// The firmware information within a part of the message.
+fn firmware_in(message: &[u8], part: Part) -> FirmwareRead
+    requires { ⌜ part .start + part .len ≤ length (now message) ⌝ }
+    ensures { λ r. ⌜ toldFirmware r ≡ withFirmware (firmwareIn (now (message .entry)) part) ⌝ }
+{
+    let start = part.start;
+    let end = start + part.len;
+    firmware_from(&message[..end], start)
+}
+
+// ApplyFirmware. It is read through before its firmware information.
+pub fn read_apply(message: &[u8]) -> ApplyRead
+    ensures { λ r. ⌜ toldApply r ≡ withApply (applyOf (now (message .entry))) ⌝ }
+    ensures { λ r. ⌜ Inside (now (message .entry)) (r .apply) ⌝ }
+{
+    let kept = read_fields(Schema::Apply, message, 0);
+    let verdict = kept.verdict;
+    let gathered = kept.gathered;
+    match verdict {
+        Verdict::Refused(e) => refused_apply(e),
+        Verdict::Fine => {
+            let part = gathered.part;
+            let read = firmware_in(message, part);
+            let judged = read.verdict;
+            match judged {
+                Verdict::Refused(e) => refused_apply(e),
+                Verdict::Fine => {
+                    let firmware_information = read.information;
+                    ApplyRead {
+                        verdict: Verdict::Fine,
+                        apply: ApplyFirmware {
+                            firmware_information,
+                            restart_required: gathered.scalars[FIRST] != 0,
+                        },
+                    }
+                }
+            }
+        }
+    }
+}
+
+// A message that is refused is the empty one.
+fn refused_apply(e: Refusal) -> ApplyRead
+    ensures { λ r. ⌜ r ≡ record { verdict = Verdict.Refused e; apply = noApply } ⌝ }
+{
+    let firmware_information = FirmwareInformation::none();
+    ApplyRead {
+        verdict: Verdict::Refused(e),
+        apply: ApplyFirmware {
+            firmware_information,
+            restart_required: false,
+        },
+    }
+}

@@ -1,0 +1,144 @@
+// UpdateComponentSegment: the piece of firmware that comes next.
+use field::Refusal;
+use field::unsigned::low_unsigned;
+use field::value::Part;
+use walk::gathered::Gathered;
+use walk::gathered::Verdict;
+use walk::reader::read_fields;
+use walk::schema::COMPONENT_OFFSET;
+use walk::schema::FIRST;
+use walk::schema::SECOND;
+use walk::schema::SEGMENT_SIGNATURE;
+use walk::schema::Schema;
+use wire::logic::both;
+use wire::logic::either;
+ghost use mathlib.Core.Path.{_≡_};
+ghost use Prim.Native.Nat.{_+_, _≤_};
+ghost use lib.ListN.{length};
+ghost use Rattle.field.specs.Value.{TellsWithin};
+ghost use Rattle.firmware.specs.Segment.{isDigit, allDigits, isSignature, brokenField, segmentMade, segmentJudged, segmentOf, toldSegment, numberMore, segmentParts};
+
+// The hexadecimal digits of a signature.
+const SIGNATURE_DIGITS: usize = 64;
+// No field has this number.
+pub const NO_FIELD: u64 = 0;
+
+// Strings are parts of the lent message.
+pub struct UpdateComponentSegment {
+    pub component_name: Part,
+    pub component_offset: u32,
+    pub segment_size: u32,
+    pub segment_signature: Part,
+}
+
+pub enum SegmentRead {
+    Read(UpdateComponentSegment),
+    Refused(Refusal),
+    // A rule of the profile is broken, in this field.
+    Profile(u64),
+}
+
+impl SegmentRead {
+    // 0 where the segment is read.
+    pub fn number(self) -> u8
+        ensures { λ r. ⌜ r ≡ numberMore (toldSegment self) ⌝ }
+    {
+        match self {
+            SegmentRead::Read(_) => 0,
+            SegmentRead::Refused(why) => why.number(),
+            SegmentRead::Profile(_) => 50,
+        }
+    }
+}
+
+// Whether a byte is a hexadecimal digit.
+fn is_digit(byte: u8) -> bool
+    ensures { λ r. ⌜ r ≡ isDigit byte ⌝ }
+{
+    let decimal = both(b'0' <= byte, byte <= b'9');
+    let upper = both(b'A' <= byte, byte <= b'F');
+    let lower = both(b'a' <= byte, byte <= b'f');
+    either(decimal, either(upper, lower))
+}
+
+// Whether all bytes are hexadecimal digits.
+fn all_digits(bytes: &[u8]) -> bool
+    ensures { λ r. ⌜ r ≡ allDigits (now (bytes .entry)) ⌝ }
+{
+    let mut i = 0;
+    while i < bytes.len() {
+        if !is_digit(bytes[i]) {
+            return false;
+        }
+        i += 1;
+    }
+    true
+}
+
+fn is_signature(bytes: &[u8]) -> bool
+    ensures { λ r. ⌜ r ≡ isSignature (now (bytes .entry)) ⌝ }
+{
+    if bytes.len() != SIGNATURE_DIGITS {
+        return false;
+    }
+    all_digits(bytes)
+}
+
+// The lowest field of which the profile's rule is broken, or none.
+pub fn broken_field(offset: u32, signature: &[u8]) -> u64
+    ensures { λ r. ⌜ r ≡ brokenField offset (now (signature .entry)) ⌝ }
+{
+    if offset != 0 {
+        return COMPONENT_OFFSET;
+    }
+    if !is_signature(signature) {
+        return SEGMENT_SIGNATURE;
+    }
+    NO_FIELD
+}
+
+// The segment that was gathered.
+fn segment_made(gathered: Gathered) -> UpdateComponentSegment
+    ensures { λ r. ⌜ r ≡ segmentMade gathered ⌝ }
+{
+    let component_name = gathered.texts[FIRST];
+    let segment_signature = gathered.texts[SECOND];
+    UpdateComponentSegment {
+        component_name,
+        component_offset: low_unsigned(gathered.scalars[FIRST]),
+        segment_size: low_unsigned(gathered.scalars[SECOND]),
+        segment_signature,
+    }
+}
+
+// A segment that was read through, by the profile.
+fn judge_segment(message: &[u8], segment: UpdateComponentSegment) -> SegmentRead
+    requires { ⌜ segment .«segment_signature» .start + segment .«segment_signature» .len ≤ length (now message) ⌝ }
+    ensures { λ r. ⌜ toldSegment r ≡ segmentJudged (now (message .entry)) segment ⌝ }
+{
+    let signature = segment.segment_signature;
+    let start = signature.start;
+    let end = start + signature.len;
+    let broken = broken_field(segment.component_offset, &message[start..end]);
+    if broken != NO_FIELD {
+        return SegmentRead::Profile(broken);
+    }
+    SegmentRead::Read(segment)
+}
+
+// A segment.
+pub fn read_segment(message: &[u8]) -> SegmentRead
+    ensures { λ r. ⌜ toldSegment r ≡ segmentOf (now (message .entry)) ⌝ }
+    ensures { λ r. ⌜ TellsWithin (now (message .entry)) segmentParts (toldSegment r) ⌝ }
+{
+    let kept = read_fields(Schema::Segment, message, 0);
+    let verdict = kept.verdict;
+    let gathered = kept.gathered;
+    match verdict {
+        Verdict::Refused(e) => SegmentRead::Refused(e),
+        Verdict::Fine => {
+            let segment = segment_made(gathered);
+            judge_segment(message, segment)
+        }
+    }
+}

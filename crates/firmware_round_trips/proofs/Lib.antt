@@ -1,0 +1,6 @@
+pub mod Segments
+pub mod Components
+pub mod Applies
+pub mod Told
+pub mod Premises
+pub mod ByHand

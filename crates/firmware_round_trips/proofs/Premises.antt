@@ -1,0 +1,69 @@
+-- The premises of the round trips, built from the facts of docs/FORMATS.md; and the round trips that compute.
+use Prim.Native.Nat.{ℕ}
+use mathlib.Core.Path.{_≡_, refl}
+use mathlib.Core.Bool.{true}
+use mathlib.Core.List.{List, [], _∷_}
+use native.Mathlib.Omega.{arith}
+use lib.ListN.{length}
+use borrow.Author.Tests.{le-leb, lt-leb, eq-eqb}
+use Rattle.field.specs.Varint.{varintAt}
+use Rattle.field.specs.Tag.{badTag, tagAt}
+use Rattle.field.specs.Value.{valueAt}
+use Rattle.field.specs.Fields.{foundAt}
+use Rattle.field_writer.specs.Varint.{varintBytes}
+use Rattle.field_writer.specs.Writer.{tagBytes, headBytes, partBytes, fieldBytes}
+use Rattle.walk.specs.Schema.{roleOf}
+use Rattle.walk.specs.Walk.{judged, addedAt, readAt, fieldAt, fieldsFrom}
+use Rattle.firmware.specs.declared.component.FirmwareComponent.{FirmwareComponent}
+use Rattle.firmware.specs.Segment.{isDigit, allDigits, isSignature, brokenField, segmentOf}
+use Rattle.firmware_writer.specs.Segment.{segmentWritten}
+use Rattle.firmware.specs.Component.{componentFrom}
+use Rattle.firmware_writer.specs.Component.{outside, badComponent}
+use Rattle.firmware.specs.Information.{partsFrom, componentIn, componentsFrom, firmwareFrom}
+use Rattle.firmware_writer.specs.Information.{present, badFirmware}
+use Rattle.firmware.specs.Apply.{firmwareIn, applyOf}
+use Rattle.firmware_writer.specs.Apply.{applyWritten}
+use Rattle.firmware_round_trips.specs.RoundTrip.{ComponentsTake}
+use Rattle.firmware_round_trips.specs.Premises.{Digit, decimal, upper, lower, Digits, SegmentsTaken, InRange, AppliesTaken, OneOfEach}
+
+digit : (b : ℕ) → Digit b → isDigit b ≡ true
+unfolding isDigit
+digit b (decimal l h) = rw (le-leb 48 b l, le-leb b 57 h)
+digit b (upper l h) = rw (le-leb 48 b (omega arith), lt-leb b 57 (omega arith), le-leb 65 b l, le-leb b 70 h)
+digit b (lower l h) = rw (le-leb 48 b (omega arith), lt-leb b 57 (omega arith), le-leb 65 b (omega arith), lt-leb b 70 (omega arith), le-leb 97 b l, le-leb b 102 h)
+
+digits : (l : List ℕ) → Digits l → allDigits l ≡ true
+digits [] d = refl
+digits (b ∷ l) d = rw (digit b (d .0), digits l (d .1))
+
+pub signature : (l : List ℕ) → length l ≡ 64 → Digits l → isSignature l ≡ true
+unfolding isSignature
+signature l n d = rw (eq-eqb (length l) 64 n, digits l d)
+
+pub segments-taken : SegmentsTaken
+unfolding SegmentsTaken
+segments-taken name size sig out n long d lent room = record { number = omega arith; digits = signature sig long d; lent = omega arith; room = omega arith }
+
+components : (texts : List ℕ) (cs : List FirmwareComponent) → InRange texts cs → ComponentsTake texts cs
+components texts [] h = tt
+components texts (c ∷ cs) h = ((omega (arith, h .0 .0), omega (arith, h .0 .1), (h .0 .2, (h .0 .3, tt))), components texts cs (h .1))
+
+pub applies-taken : AppliesTaken
+unfolding AppliesTaken
+applies-taken a texts out version eight most name locale versionName cs lent room =
+    record {
+      firmware =
+          record {
+            number = omega arith;
+            strings = (name, (locale, (versionName, tt)));
+            most = omega arith;
+            there = omega arith;
+            components = components texts (present (a .«firmware_information»)) cs;
+          };
+      lent = omega arith;
+      room = omega arith;
+    }
+
+pub one-of-each : OneOfEach
+unfolding varintAt varintBytes badTag tagAt valueAt foundAt tagBytes headBytes partBytes fieldBytes roleOf judged addedAt readAt fieldAt fieldsFrom isDigit isSignature brokenField segmentOf segmentWritten componentFrom outside badComponent partsFrom componentIn componentsFrom firmwareFrom badFirmware firmwareIn applyOf applyWritten
+one-of-each = record { segment = refl; apply = refl }

@@ -1,0 +1,74 @@
+use mathlib.Core.List.{[], _∷_, _++_, map}
+use denote.Ref.{now}
+use Rattle.field.specs.Value.{bytesOf}
+use Rattle.field_writer.specs.Writer.{scalar, text}
+use Rattle.walk.specs.Schema.{firmwareVersionField, firmwareNameField, localeField, versionNameField}
+use Rattle.firmware_writer.specs.Component.{componentField}
+use Rattle.firmware_writer.specs.Information.{present}
+use Rattle.field_writer.specs.declared.message.Room.the-variants.{Left}
+use Rattle.firmware_writer.proofs.Texts.{firmware-fine}
+use Rattle.firmware_writer.proofs.Fields.{room-end, room-more, room-join}
+use borrow.Author.Needs.{needs}
+use Rattle.firmware_writer.proofs.information.firmware_room.Statement.{statement}
+use Rattle.firmware_writer.proofs.information.firmware_room.Tie as tie
+
+cast-scalar-len : tie.Need-cast-scalar-len
+cast-scalar-len c = search needs
+
+scalar-len-requires : tie.Need-scalar-len-requires
+scalar-len-requires c κs = search needs
+
+less-requires : tie.Need-less-requires
+less-requires c κs = search needs
+
+text-part-len-requires : tie.Need-text-part-len-requires
+text-part-len-requires c κs = (search needs, firmware-fine (now (c .before .before .before .before .before .before .before .before .args .texts)) (c .before .before .before .before .before .before .before .before .args .information) (c .before .before .before .before .before .before .before .before .pre) .name)
+
+less-requires-2 : tie.Need-less-requires-2
+less-requires-2 c κs = search needs
+
+components-room-requires : tie.Need-components-room-requires
+components-room-requires c κs = let f = firmware-fine (now (c .before .before .before .before .before .before .before .before .before .before .args .texts)) (c .before .before .before .before .before .before .before .before .before .before .args .information) (c .before .before .before .before .before .before .before .before .before .before .pre) in (f .most, f .components)
+
+text-part-len-requires-2 : tie.Need-text-part-len-requires-2
+text-part-len-requires-2 c κs = (search needs, firmware-fine (now (c .before .before .before .before .before .before .before .before .before .before .before .args .texts)) (c .before .before .before .before .before .before .before .before .before .before .before .args .information) (c .before .before .before .before .before .before .before .before .before .before .before .pre) .locale)
+
+less-requires-3 : tie.Need-less-requires-3
+less-requires-3 c κs = search needs
+
+text-part-len-requires-3 : tie.Need-text-part-len-requires-3
+text-part-len-requires-3 c κs = (search needs, firmware-fine (now (c .before .before .before .before .before .before .before .before .before .before .before .before .before .args .texts)) (c .before .before .before .before .before .before .before .before .before .before .before .before .before .args .information) (c .before .before .before .before .before .before .before .before .before .before .before .before .before .pre) .version-name)
+
+less-requires-4 : tie.Need-less-requires-4
+less-requires-4 c κs = search needs
+
+returns : tie.Need-returns
+returns c =
+    let a = c .before .before .before .before .before .before .before .before .before .before .before .before .before .before .before .args in
+    let i = a .information in
+    let f₁ = scalar firmwareVersionField (i .version) in
+    let f₂ = text firmwareNameField (bytesOf (now (a .texts)) (i .name)) in
+    let fs = map (componentField (now (a .texts))) (present i) in
+    let f₄ = text localeField (bytesOf (now (a .texts)) (i .locale)) in
+    let f₅ = text versionNameField (bytesOf (now (a .texts)) (i .«version_name»)) in
+    room-more f₁ (f₂ ∷ (fs ++ (f₄ ∷ f₅ ∷ []))) (Left (a .len)) (c .before .before .before .before .before .before .before .before .scalar-len .ensures .0) (c .before .before .before .before .before .before .before .less .ensures)
+    (room-more f₂ (fs ++ (f₄ ∷ f₅ ∷ [])) (c .before .before .before .before .before .before .before .less .result) (c .before .before .before .before .before .before .text-part-len .ensures) (c .before .before .before .before .before .less2 .ensures)
+    (room-join fs (f₄ ∷ f₅ ∷ []) (c .before .before .before .before .before .less2 .result) (c .before .before .before .before .components-room .ensures)
+    (room-more f₄ (f₅ ∷ []) (c .before .before .before .before .components-room .result) (c .before .before .before .text-part-len2 .ensures) (c .before .before .less3 .ensures)
+    (room-more f₅ [] (c .before .before .less3 .result) (c .before .text-part-len3 .ensures) (c .less4 .ensures) (room-end (c .less4 .result))))))
+
+pub firmware-room-spec : {M : Type 1} → statement M
+firmware-room-spec =
+    tie.close
+    (tie.spec
+    cast-scalar-len
+    scalar-len-requires
+    less-requires
+    text-part-len-requires
+    less-requires-2
+    components-room-requires
+    text-part-len-requires-2
+    less-requires-3
+    text-part-len-requires-3
+    less-requires-4
+    returns)

@@ -1,0 +1,54 @@
+// ApplyFirmware written.
+use crate::information::bad_firmware;
+use crate::information::firmware_room;
+use crate::information::put_firmware;
+use field_writer::fields::head_len;
+use field_writer::fields::put_head;
+use field_writer::fields::put_scalar;
+use field_writer::fields::scalar_len;
+use field_writer::message::Room;
+use field_writer::message::WriteRefusal;
+use field_writer::message::Wrote;
+use firmware::apply::ApplyFirmware;
+use walk::schema::FIRMWARE_INFORMATION;
+use walk::schema::RESTART_REQUIRED;
+ghost use mathlib.Core.Path.{_≡_};
+ghost use Prim.Native.Nat.{_+_};
+ghost use Rattle.wire.specs.Told.{written};
+ghost use Rattle.field_writer.specs.Message.{toldWrote};
+ghost use Rattle.firmware_writer.specs.Apply.{boolValue, applyWritten};
+
+// The varint's value of a bool.
+fn bool_value(b: bool) -> u64
+    ensures { λ r. ⌜ r ≡ boolValue b ⌝ }
+{
+    if b { 1 } else { 0 }
+}
+
+// Writes ApplyFirmware. Its strings are parts of the lent texts.
+pub fn write_apply(out: &mut [u8], apply: ApplyFirmware, texts: &[u8]) -> Wrote
+    ensures { λ r. ⌜ written (toldWrote r) (now (out .exit))
+        ≡ applyWritten apply (now (texts .entry)) (now (out .entry)) ⌝ }
+{
+    let information = apply.firmware_information;
+    if bad_firmware(texts, information) {
+        return Wrote::Refused(WriteRefusal::BadArgument);
+    }
+    let restart = bool_value(apply.restart_required);
+    let room = out.len();
+    match firmware_room(room, texts, information) {
+        Room::Short => Wrote::Refused(WriteRefusal::NoRoom),
+        Room::Left(rest) => {
+            let len = room - rest;
+            let around = head_len(FIRMWARE_INFORMATION, len)
+                + scalar_len(RESTART_REQUIRED, restart);
+            if rest < around {
+                return Wrote::Refused(WriteRefusal::NoRoom);
+            }
+            let start = put_head(out, 0, FIRMWARE_INFORMATION, len);
+            let next = put_firmware(out, start, texts, information);
+            let end = put_scalar(out, next, RESTART_REQUIRED, restart);
+            Wrote::Done(end)
+        }
+    }
+}

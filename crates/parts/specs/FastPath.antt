@@ -1,0 +1,39 @@
+-- The fast path of the writer by parts: payload bytes that are written at once.
+use Prim.Native.Nat.{ℕ, _+_, _-_, _≤_}
+use mathlib.Core.Path.{_≡_}
+use mathlib.Core.List.{List}
+use lib.ListN.{length, drop}
+use lib.Seq.{sets}
+use Rattle.wire.specs.Told.{given}
+use Rattle.framing.specs.declared.mark.Kind.{Kind}
+use Rattle.framing.specs.declared.mark.Kind.the-variants.{Start, End, Escape, Plain}
+use Rattle.framing.specs.Frame.{startCode, endCode, escapeCode}
+use Rattle.parts.specs.declared.state.Stage.the-variants as stage
+use Rattle.parts.specs.declared.state.PartWriter.{PartWriter}
+use Rattle.parts.specs.State.{ended}
+use Rattle.parts.specs.Fill.{Filled, fillOf}
+use Rattle.parts.specs.Writer.{Wrote, wrote, count}
+
+-- what follows F2 for a mark
+abbrev pub codeBy : Kind → ℕ
+codeBy Start = startCode
+codeBy End = endCode
+codeBy Escape = escapeCode
+codeBy Plain = escapeCode
+
+-- in the payload, with nothing pending
+abbrev pub body : ℕ → ℕ → ℕ → ℕ → PartWriter
+body sequence total taken sum = record { sequence = sequence; total = total; taken = taken; sum = sum; stage = stage.Payload; pending = Plain }
+
+-- what a call leaves that has taken and written some, and then fills the rest
+abbrev pub resumed : List ℕ → ℕ → ℕ → Filled → Wrote
+resumed out taken at f =
+    wrote (given (count (taken + f .taken) (at + length (f .bytes)) (ended (f .next)))) (f .next) (sets out at (f .bytes))
+
+-- writing bytes i to j at once loses nothing: what is left to be filled gives what was left before
+pub record Onward (payload : List ℕ) (s : PartWriter) (out : List ℕ) (taken i : ℕ) (s′ : PartWriter) (out′ : List ℕ) (taken′ j : ℕ) : Type 0 where
+  pub from : i ≤ j
+  pub within : j ≤ length out
+  pub offered : taken′ ≤ length payload
+  pub same : length out′ ≡ length out
+  pub rest : resumed out′ taken′ j (fillOf (length out - j) s′ (drop taken′ payload)) ≡ resumed out taken i (fillOf (length out - i) s (drop taken payload))

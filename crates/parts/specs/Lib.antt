@@ -1,0 +1,5 @@
+pub mod State
+pub mod Byte
+pub mod Fill
+pub mod FastPath
+pub mod Writer

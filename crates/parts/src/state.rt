@@ -1,0 +1,133 @@
+// The state of a frame that is written by parts: every value has a meaning, that of what is still to be written.
+use framing::mark::Kind;
+use framing::mark::is_mark;
+use wire::MESSAGE_LIMIT;
+use wire::logic::both;
+use wire::logic::either;
+ghost use mathlib.Core.Path.{_≡_};
+ghost use Rattle.framing.specs.Mark.{isMarkKind};
+ghost use Rattle.parts.specs.State.{startOf, badStart, lawful, missing, isPayload, isDone, inPayload, ended};
+
+// What is written next. Payload: a payload byte or, after the last one, the high byte of the checksum.
+pub enum Stage {
+    Start,
+    PacketId,
+    ErrorId,
+    Sequence,
+    Payload,
+    Low,
+    End,
+    Done,
+}
+
+// The frame's sequence, its payload's length, the payload bytes taken and their checksum, the stage, and the mark of which
+// only F2 is written (plain: none): its code comes before the stage's byte.
+pub struct PartWriter {
+    pub sequence: u8,
+    pub total: usize,
+    pub taken: usize,
+    pub sum: u16,
+    pub stage: Stage,
+    pub pending: Kind,
+}
+
+pub fn bad_start(sequence: u8, total: usize) -> bool
+    ensures { λ r. ⌜ r ≡ badStart 4096 sequence total ⌝ }
+{
+    either(is_mark(sequence), MESSAGE_LIMIT < total)
+}
+
+fn is_payload(stage: Stage) -> bool
+    ensures { λ r. ⌜ r ≡ isPayload stage ⌝ }
+{
+    match stage {
+        Stage::Start => false,
+        Stage::PacketId => false,
+        Stage::ErrorId => false,
+        Stage::Sequence => false,
+        Stage::Payload => true,
+        Stage::Low => false,
+        Stage::End => false,
+        Stage::Done => false,
+    }
+}
+
+fn is_done(stage: Stage) -> bool
+    ensures { λ r. ⌜ r ≡ isDone stage ⌝ }
+{
+    match stage {
+        Stage::Start => false,
+        Stage::PacketId => false,
+        Stage::ErrorId => false,
+        Stage::Sequence => false,
+        Stage::Payload => false,
+        Stage::Low => false,
+        Stage::End => false,
+        Stage::Done => true,
+    }
+}
+
+fn is_pending(kind: Kind) -> bool
+    ensures { λ r. ⌜ r ≡ isMarkKind kind ⌝ }
+{
+    match kind {
+        Kind::Start => true,
+        Kind::End => true,
+        Kind::Escape => true,
+        Kind::Plain => false,
+    }
+}
+
+impl PartWriter {
+    // Before the first byte of a frame.
+    pub fn start(sequence: u8, total: usize) -> Self
+        ensures { λ r. ⌜ r ≡ startOf sequence total ⌝ }
+    {
+        PartWriter {
+            sequence,
+            total,
+            taken: 0,
+            sum: 2,
+            stage: Stage::Start,
+            pending: Kind::Plain,
+        }
+    }
+
+    pub fn is_lawful(self) -> bool
+        ensures { λ r. ⌜ r ≡ lawful 4096 self ⌝ }
+    {
+        both(
+            !bad_start(self.sequence, self.total),
+            self.taken <= self.total,
+        )
+    }
+
+    // The payload bytes still missing.
+    pub fn missing(self) -> usize
+        ensures { λ r. ⌜ r ≡ missing self ⌝ }
+    {
+        if self.taken < self.total {
+            self.total - self.taken
+        } else {
+            0
+        }
+    }
+
+    // Whether the next byte is that of the stage, and the stage is the payload's.
+    pub fn is_in_payload(self) -> bool
+        ensures { λ r. ⌜ r ≡ inPayload self ⌝ }
+    {
+        let stage = self.stage;
+        let pending = self.pending;
+        both(is_payload(stage), !is_pending(pending))
+    }
+
+    // Whether all of the frame is written.
+    pub fn has_ended(self) -> bool
+        ensures { λ r. ⌜ r ≡ ended self ⌝ }
+    {
+        let stage = self.stage;
+        let pending = self.pending;
+        both(is_done(stage), !is_pending(pending))
+    }
+}

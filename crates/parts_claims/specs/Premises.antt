@@ -1,0 +1,52 @@
+-- The premises of the claims from the other side: each follows from the facts of docs/FORMATS.md, written out, so none of them asks for more.
+use Prim.Native.Nat.{ℕ, _+_, _≤_, _<_}
+use mathlib.Core.Path.{_≡_}
+use mathlib.Core.Logic.{_≢_}
+use mathlib.Core.List.{List, [], _∷_}
+use lib.ListN.{length}
+use Rattle.framing.specs.Frame.{frameOf}
+use Rattle.parts.specs.declared.state.PartWriter.{PartWriter}
+use Rattle.parts_claims.specs.Run.{Call, part, beyond, fruitful}
+use Rattle.parts_claims.specs.Joined.{Sending, Sendable}
+use Rattle.parts_claims.specs.Stopping.{Offering}
+
+abbrev pub NoMark : ℕ → Type 0
+NoMark b = (b ≢ 0xF0) × (b ≢ 0xF1) × (b ≢ 0xF2)
+
+-- a sequence byte that is no mark, a payload of 0 to limit bytes, and for the whole writer an output that is at least as long as their frame
+abbrev pub SendableWhen : Type 0
+SendableWhen =
+    (limit : ℕ) (m : Sending)
+    → m .sequence < 256
+    → NoMark (m .sequence)
+    → length (m .payload) ≤ limit
+    → length (frameOf (m .sequence) (m .payload)) ≤ length (m .out)
+    → Sendable limit m
+
+-- a lawful state, at most as many bytes as are missing, an output of one byte or more
+abbrev pub OfferingWhen : Type 0
+OfferingWhen =
+    (limit : ℕ) (s : PartWriter) (offered out : List ℕ)
+    → s .sequence < 256
+    → NoMark (s .sequence)
+    → s .total ≤ limit
+    → s .taken + length offered ≤ s .total
+    → 1 ≤ length out
+    → Offering limit s offered out
+
+-- calls that each offer and lend a byte
+abbrev pub AllSome : List Call → Type 0
+AllSome [] = Unit {0}
+AllSome (part n out ∷ cs) = (1 ≤ n) × (1 ≤ length out) × AllSome cs
+AllSome (beyond b bs out ∷ cs) = ⊥
+
+-- .. are fruitful, all of them
+abbrev pub FruitfulWhen : Type 0
+FruitfulWhen = (calls : List Call) → AllSome calls → fruitful calls ≡ length calls
+
+-- ---- the claim
+
+pub record FactsSuffice : Type 0 where
+  pub sendable : SendableWhen
+  pub offering : OfferingWhen
+  pub fruitful : FruitfulWhen

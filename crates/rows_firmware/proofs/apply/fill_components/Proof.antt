@@ -1,0 +1,86 @@
+use lib.Seq.{length-sets}
+use Rattle.firmware.specs.declared.component.FirmwareComponent.{FirmwareComponent}
+use mathlib.Core.List.{List}
+use Prim.Native.Nat.{_+_, _*_, _-_, _≤_}
+use native.Mathlib.Omega.{arith}
+use mathlib.Core.Path.{_≡_, refl, ap, _∙_}
+use borrow.Author.Needs.{needs}
+use lib.ListN.{length, take}
+use lib.Seq.{sets, take-all}
+use Rattle.rows_firmware.specs.Apply.{componentRows}
+use Rattle.rows_firmware.proofs.Components.{rows-more}
+use Rattle.rows_firmware.proofs.apply.fill_components.Statement.{statement}
+use Rattle.rows_firmware.proofs.apply.fill_components.Tie as tie
+
+abbrev Inv-loop : tie.InvT-loop
+Inv-loop row₀ components at₀ i₀ row at i = (i ≤ 8) × (at ≡ 9 + 6 * i) × (length row ≡ length row₀) × (row ≡ sets row₀ 9 (componentRows (take i components)))
+
+abbrev μ-loop : tie.MeasureT-loop
+μ-loop row₀ components at₀ i₀ row at i = 8 - i
+
+loop-holds : tie.Need-loop-holds Inv-loop μ-loop
+loop-holds c = (search needs, refl, refl, refl)
+
+mul-component : tie.Need-mul-component Inv-loop μ-loop
+mul-component c = omega arith
+
+array-copy-out-component : tie.Need-array-copy-out-component Inv-loop μ-loop
+array-copy-out-component c = omega arith
+
+component-row-requires : tie.Need-component-row-requires Inv-loop μ-loop
+component-row-requires c κs = search needs
+
+slice-aggregate-fill : tie.Need-slice-aggregate-fill Inv-loop μ-loop
+slice-aggregate-fill c = search needs
+
+fill-requires : tie.Need-fill-requires Inv-loop μ-loop
+fill-requires c κs = rw (c .before .before .component-row .ensures) (omega (arith, c .before .before .before .before .before .loop .inv .2, c .before .before .before .before .before .before .before .pre))
+
+add-at : tie.Need-add-at Inv-loop μ-loop
+add-at c = omega arith
+
+add-i : tie.Need-add-i Inv-loop μ-loop
+add-i c = search needs
+
+loop-less : tie.Need-loop-less Inv-loop μ-loop
+loop-less c = search needs
+
+loop-again : tie.Need-loop-again Inv-loop μ-loop
+loop-again c =
+    let s = c .before .before .before .before .before .before .before .before in
+    let a = s .before .before .args in
+    let filled = c .before .before .fill .ensures in (
+      omega arith,
+      omega arith,
+      rw (filled, length-sets) (s .loop .inv .2),
+      rw (filled, c .before .before .before .before .before .component-row .ensures, s .loop .inv .3) (rows-more (a .row .now) (a .t2) (s .loop .i) (s .loop .at) (s .loop .inv .1) (omega (arith, s .before .before .good .1 .0 .1 .0 .1))),
+    )
+
+same-length : tie.Need-same-length Inv-loop μ-loop
+same-length c = search needs
+
+returns : tie.Need-returns Inv-loop μ-loop
+returns c =
+    let s = c .before .before .before in
+    let eight = s .good .1 .0 .1 .0 .1 in
+    let all = take-all (c .before .loop .i) (s .args .t2) (omega (arith, eight)) in
+    (c .before .loop .inv .3 ∙ ap (λ (cs : List FirmwareComponent). sets (s .args .row .now) 9 (componentRows cs)) all, eight)
+
+pub fill-components-spec : {M : Type 1} → statement M
+fill-components-spec =
+    tie.close
+    (tie.spec
+    Inv-loop
+    μ-loop
+    loop-holds
+    mul-component
+    array-copy-out-component
+    component-row-requires
+    slice-aggregate-fill
+    fill-requires
+    add-at
+    add-i
+    loop-less
+    loop-again
+    same-length
+    returns)

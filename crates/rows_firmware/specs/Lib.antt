@@ -1,0 +1,4 @@
+pub mod More
+pub mod Segment
+pub mod Apply
+pub mod FieldRow

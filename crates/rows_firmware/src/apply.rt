@@ -1,0 +1,213 @@
+// ApplyFirmware as a row: what its reader tells, and what its writer is given.
+use crate::segment::is_wide;
+use field::unsigned::low_unsigned;
+use field::value::Part;
+use firmware::apply::ApplyFirmware;
+use firmware::component::FirmwareComponent;
+use firmware::information::FirmwareInformation;
+use rows::row::UNFIT;
+use rows::row::fill;
+use rows::row::number_at;
+use walk::gathered::MOST_REPEATED;
+use wire::logic::either;
+ghost use mathlib.Core.Path.{_≡_};
+ghost use Prim.Native.Nat.{_+_, _≤_};
+ghost use lib.ListN.{length};
+ghost use lib.Seq.{sets};
+ghost use Rattle.walk.specs.Gathered.{mostRepeated};
+ghost use Rattle.firmware_writer.specs.Apply.{boolValue};
+ghost use Rattle.rows.specs.Row.{afterwards};
+ghost use Rattle.rows_firmware.specs.Apply.{rowSize, firstComponent, componentRow, componentRows, headRow, wholeRow, partAt, componentAt, componentsAt, applyAt, wideAt, anyWide, badRow};
+
+// The numbers of the row, the place of its first component, and the numbers of each.
+pub const APPLY_ANSWER: usize = 57;
+
+const FIRST_COMPONENT: usize = 9;
+
+const COMPONENT_NUMBERS: usize = 6;
+
+// ---- what was read
+
+fn flag(b: bool) -> u64
+    ensures { λ r. ⌜ r ≡ boolValue b ⌝ }
+{
+    if b { 1 } else { 0 }
+}
+
+fn component_row(component: FirmwareComponent) -> [u64; 6]
+    ensures { λ r. ⌜ r ≡ componentRow component ⌝ }
+{
+    let name = component.name;
+    let signature = component.signature;
+    [
+        component.version as u64,
+        name.start as u64,
+        name.len as u64,
+        component.size as u64,
+        signature.start as u64,
+        signature.len as u64,
+    ]
+}
+
+// The numbers before the components.
+fn head_row(apply: ApplyFirmware) -> [u64; 9]
+    ensures { λ r. ⌜ r ≡ headRow apply ⌝ }
+{
+    let information = apply.firmware_information;
+    let name = information.name;
+    let locale = information.locale;
+    let version_name = information.version_name;
+    let restart = flag(apply.restart_required);
+    [
+        restart,
+        information.version as u64,
+        name.start as u64,
+        name.len as u64,
+        locale.start as u64,
+        locale.len as u64,
+        version_name.start as u64,
+        version_name.len as u64,
+        information.count as u64,
+    ]
+}
+
+// Writes the components, each from its place on.
+fn fill_components(row: &mut [u64], components: [FirmwareComponent; 8])
+    requires { ⌜ length (now row) ≡ rowSize ⌝ }
+    ensures { λ _. ⌜ now (row .exit) ≡ sets (now (row .entry)) firstComponent (componentRows components) ⌝ }
+    ensures { λ _. ⌜ length components ≡ mostRepeated ⌝ }
+{
+    let mut at = FIRST_COMPONENT;
+    let mut i = 0;
+    while i < MOST_REPEATED {
+        let component = components[i];
+        let numbers = component_row(component);
+        fill(row, at, &numbers);
+        at += COMPONENT_NUMBERS;
+        i += 1;
+    }
+}
+
+// Writes the whole row, part by part, unless the call is refused by 1.
+pub fn put_apply(row: &mut [u64], number: u64, apply: ApplyFirmware)
+    requires { ⌜ length (now row) ≡ rowSize ⌝ }
+    ensures { λ _. ⌜ now (row .exit) ≡ afterwards number (now (row .entry)) (wholeRow apply) ⌝ }
+{
+    if number != UNFIT {
+        let head = head_row(apply);
+        fill(row, 0, &head);
+        let information = apply.firmware_information;
+        let components = information.components;
+        fill_components(row, components);
+    }
+}
+
+// ---- what the writer is given
+
+// The part whose numbers begin at a place.
+fn part_at(row: &[u64], at: usize) -> Part
+    requires { ⌜ at ≤ rowSize ⌝ }
+    ensures { λ r. ⌜ r ≡ partAt (now (row .entry)) at ⌝ }
+{
+    let start = number_at(row, at);
+    let len = number_at(row, at + 1);
+    Part {
+        start: start as usize,
+        len: len as usize,
+    }
+}
+
+// The component whose numbers begin at a place.
+fn component_at(row: &[u64], at: usize) -> FirmwareComponent
+    requires { ⌜ at + 4 ≤ rowSize ⌝ }
+    ensures { λ r. ⌜ r ≡ componentAt (now (row .entry)) at ⌝ }
+{
+    let name = part_at(row, at + 1);
+    let signature = part_at(row, at + 4);
+    FirmwareComponent {
+        version: low_unsigned(number_at(row, at)),
+        name,
+        size: low_unsigned(number_at(row, at + 3)),
+        signature,
+    }
+}
+
+// The eight components.
+fn components_at(row: &[u64]) -> [FirmwareComponent; 8]
+    ensures { λ r. ⌜ r ≡ componentsAt mostRepeated (now (row .entry)) firstComponent ⌝ }
+{
+    let first = component_at(row, FIRST_COMPONENT);
+    let mut components = [first; 8];
+    let mut at = FIRST_COMPONENT;
+    let mut i = 0;
+    while i < MOST_REPEATED {
+        components[i] = component_at(row, at);
+        at += COMPONENT_NUMBERS;
+        i += 1;
+    }
+    components
+}
+
+// The message of a row's numbers.
+pub fn apply_at(row: &[u64]) -> ApplyFirmware
+    ensures { λ r. ⌜ r ≡ applyAt (now (row .entry)) ⌝ }
+{
+    let name = part_at(row, 2);
+    let locale = part_at(row, 4);
+    let version_name = part_at(row, 6);
+    let components = components_at(row);
+    let firmware_information = FirmwareInformation {
+        version: low_unsigned(number_at(row, 1)),
+        name,
+        components,
+        count: number_at(row, 8) as usize,
+        locale,
+        version_name,
+    };
+    ApplyFirmware {
+        firmware_information,
+        restart_required: number_at(row, 0) == 1,
+    }
+}
+
+// Whether the component at a place has a number above 32 bits.
+fn wide_at(row: &[u64], at: usize) -> bool
+    requires { ⌜ at + 4 ≤ rowSize ⌝ }
+    ensures { λ r. ⌜ r ≡ wideAt (now (row .entry)) at ⌝ }
+{
+    either(is_wide(number_at(row, at)), is_wide(number_at(row, at + 3)))
+}
+
+// Whether one of the first components has.
+fn any_wide(row: &[u64], count: usize) -> bool
+    requires { ⌜ count ≤ mostRepeated ⌝ }
+    ensures { λ r. ⌜ r ≡ anyWide count (now (row .entry)) firstComponent ⌝ }
+{
+    let mut at = FIRST_COMPONENT;
+    let mut i = 0;
+    while i < count {
+        if wide_at(row, at) {
+            return true;
+        }
+        at += COMPONENT_NUMBERS;
+        i += 1;
+    }
+    false
+}
+
+// Whether no message has a row's numbers.
+pub fn bad_row(row: &[u64]) -> bool
+    ensures { λ r. ⌜ r ≡ badRow (now (row .entry)) ⌝ }
+{
+    if 1 < number_at(row, 0) {
+        return true;
+    }
+    if is_wide(number_at(row, 1)) {
+        return true;
+    }
+    let count = number_at(row, 8) as usize;
+    if MOST_REPEATED < count {
+        return true;
+    }
+    any_wide(row, count)
+}

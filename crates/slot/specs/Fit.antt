@@ -1,0 +1,21 @@
+-- What every act on a lawful state keeps to.
+use Prim.Native.Nat.{ℕ, _+_, _≤_, _<_}
+use mathlib.Core.Path.{_≡_}
+use mathlib.Core.Bool.{true}
+use Rattle.slot.specs.declared.step.Piece.{Piece}
+use Rattle.slot.specs.Slot.{slotsEach, lawfulSlot}
+use Rattle.slot.specs.Step.{Step, Act, still, step}
+
+-- a piece lies within a packet of k bytes, and where it is written within a part
+abbrev pub Inside : ℕ → ℕ → Piece → Type 0
+Inside limit k piece = (piece .start + piece .len ≤ k) × (piece .at + piece .len ≤ limit)
+
+-- a step is at one of its stream's places, its piece keeps within bounds, and it leaves its slot lawful
+pub record Fit (limit k place : ℕ) (s : Step) : Type 0 where
+  pub within : place < slotsEach
+  pub inside : Inside limit k (s .piece)
+  pub left : lawfulSlot limit (s .slot) ≡ true
+
+abbrev pub ActFits : ℕ → ℕ → Act → Type 0
+ActFits limit k (still told) = Unit {0}
+ActFits limit k (step place s) = Fit limit k place s

@@ -1,0 +1,96 @@
+//! "Two packets whose stream fields differ, given in either order over the same buffer, get the same
+//! two answers, end in the same state and leave the same buffer": pairs of such packets, from lawful
+//! states, two thirds of them as the packets before left them.
+
+use super::{packets, Plan};
+use crate::comparison::{hex, Compared, Comparison};
+use crate::implementation::{Call, Operation};
+use crate::low_energy;
+use crate::rng::Rng;
+
+pub fn run(c: &mut Comparison<'_>, rng: &mut Rng, plan: Plan) -> Compared<()> {
+    let idle = Call::new(Operation::ReceiverAccept).lent(rng.bytes(low_energy::BUFFER));
+    let mut call = idle.clone();
+    for number in 0..plan.times(100_000) {
+        if number % 256 == 0 {
+            c.at = format!("packets of two streams, pair {number}");
+        }
+        match rng.below(30) {
+            0 => call.state.clone_from(&idle.state),
+            1..=10 => call.state = packets::lawful(rng),
+            _ => {}
+        }
+        for _ in 0..rng.index(3) {
+            call.inputs[0] = packets::directed(rng, &call.state);
+            c.run(&mut call)?;
+        }
+        let (one, other) = pair(rng, &call.state);
+        either_order(c, &mut call, one, other)?;
+    }
+    Ok(())
+}
+
+/// Both orders, from the call's state and buffer; the call then holds what they left.
+fn either_order(
+    c: &mut Comparison<'_>,
+    call: &mut Call,
+    one: Vec<u8>,
+    other: Vec<u8>,
+) -> Compared<()> {
+    let mut turned = call.clone();
+    let first = told(c, call, &one)?;
+    let second = told(c, call, &other)?;
+    let turned_second = told(c, &mut turned, &other)?;
+    let turned_first = told(c, &mut turned, &one)?;
+    let same = first == turned_first
+        && second == turned_second
+        && call.state == turned.state
+        && call.lent == turned.lent;
+    if same {
+        return Ok(());
+    }
+    let what = format!("{} and {} in either order", hex(&one), hex(&other));
+    c.hold(false, &what, &turned)
+}
+
+/// What is told of a packet: the number returned, and the answer where it is 0.
+fn told(
+    c: &mut Comparison<'_>,
+    call: &mut Call,
+    packet: &[u8],
+) -> Compared<(u64, Option<Vec<u64>>)> {
+    call.inputs[0] = packet.to_vec();
+    let returned = c.run(call)?;
+    Ok((returned, (returned == 0).then(|| call.answer.clone())))
+}
+
+/// Two packets of at least one byte whose stream fields differ.
+fn pair(rng: &mut Rng, state: &[u64]) -> (Vec<u8>, Vec<u8>) {
+    loop {
+        let (one, other) = (packet(rng, state), packet(rng, state));
+        if let (Some(a), Some(b)) = (one.first(), other.first()) {
+            if a >> 4 != b >> 4 {
+                return (one, other);
+            }
+        }
+    }
+}
+
+/// A packet for the state at hand, an ACK or something like one; some of any stream, some of one
+/// byte.
+fn packet(rng: &mut Rng, state: &[u64]) -> Vec<u8> {
+    let mut packet = if rng.once_in(8) {
+        packets::acknowledgement(rng)
+    } else {
+        packets::directed(rng, state)
+    };
+    if rng.once_in(6) {
+        if let Some(first) = packet.first_mut() {
+            *first = *first & 0x0F | (rng.below(16) as u8) << 4;
+        }
+    }
+    if rng.once_in(40) {
+        packet.truncate(1);
+    }
+    packet
+}
