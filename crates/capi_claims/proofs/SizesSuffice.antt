@@ -45,7 +45,7 @@ use Rattle.firmware_writer.proofs.Segments.{segment-length}
 use Rattle.firmware_round_trips.specs.Premises.{Digits}
 use Rattle.firmware_round_trips.proofs.Premises.{signature}
 use Rattle.outbox.specs.declared.format.Format.{Format}
-use Rattle.outbox.specs.Format.{Known, one, two, isOne, formatOf, recordBytes}
+use Rattle.outbox.specs.Format.{Known, one, two, isOne, formatOf, headSize, recordBytes}
 use Rattle.outbox.specs.Reader as outbox
 use Rattle.outbox.specs.Reader.{walkOf}
 use Rattle.outbox.specs.Writer.{newOf, badRecord, appendOf}
@@ -334,12 +334,11 @@ new-done out answer l h = fit-done 1 [] out answer _ l (rw (le-ltb (length out) 
 append-done : (used stream : ℕ) (buffer payload answer : List ℕ) → length answer ≡ 2
     → let fmt = formatOf (take used buffer) in
     walkOf fmt (take used buffer) ≡ outbox.given tt
-    → StreamNumber stream → length payload ≤ fmt .limit → used + recordSize (length payload) ≤ length buffer
+    → StreamNumber stream → length payload ≤ fmt .limit → used + (headSize fmt + length payload) ≤ length buffer
     → Done (outboxAppendOf buffer used stream payload answer)
 unfolding outboxAppendOf appendOf badRecord
 append-done used stream buffer payload answer l whole s short room =
     let fmt = formatOf (take used buffer) in
-    let small = known-small fmt (format-known (take used buffer)) in
     fit-done 2 [] buffer answer _ l
     (rw (
       byte-is outOfRange stream (stream-byte stream s),
@@ -347,13 +346,13 @@ append-done used stream buffer payload answer l whole s short room =
       whole-version fmt (take used buffer) whole,
       known-stream stream s,
       le-ltb (fmt .limit) (length payload) short,
-      le-ltb (length buffer - used) (length (recordBytes fmt stream payload)) (rw length-record (omega (arith, small .1))),
+      le-ltb (length buffer - used) (length (recordBytes fmt stream payload)) (rw length-record (omega arith)),
       whole,
     ))
 
 -- a version byte alone is a whole outbox
 first-done : (fmt : Format) → Known fmt → (stream : ℕ) (rest payload answer : List ℕ) → length answer ≡ 2
-    → StreamNumber stream → length payload ≤ fmt .limit → 1 + recordSize (length payload) ≤ length (fmt .version ∷ rest)
+    → StreamNumber stream → length payload ≤ fmt .limit → 1 + (headSize fmt + length payload) ≤ length (fmt .version ∷ rest)
     → Done (outboxAppendOf (fmt .version ∷ rest) 1 stream payload answer)
 unfolding isOne formatOf walkOf outbox.readAll outbox.readings outbox.readOf outbox.otherVersion outbox.badPlace
 first-done fmt one stream rest payload answer l s short room = append-done 1 stream (1 ∷ rest) payload answer l refl s short room
@@ -377,4 +376,5 @@ sizes-suffice = record {
   outbox-new = new-done;
   outbox-append = append-done;
   outbox-append-first = first-done;
+  record-size = λ fmt known n. omega (arith, known-small fmt known .1);
 }

@@ -11,7 +11,7 @@ use Rattle.packet.specs.Control.{ackSize}
 use Rattle.sender.specs.Writer.{begins, foundAt}
 use Rattle.field.specs.Signed.{extended}
 use Rattle.outbox.specs.declared.format.Format.{Format}
-use Rattle.outbox.specs.Format.{Known, formatOf}
+use Rattle.outbox.specs.Format.{Known, formatOf, headSize}
 use Rattle.outbox.specs.Reader.{given, walkOf}
 use Rattle.round_trips.specs.Premises.{Number32, Numbers32}
 use Rattle.firmware_round_trips.specs.Premises.{Digits}
@@ -153,9 +153,11 @@ pub record SizesSuffice : Type 0 where
   pub outbox-append : (used stream : ℕ) (buffer payload answer : List ℕ) → length answer ≡ 2
       → let fmt = formatOf (take used buffer) in
       walkOf fmt (take used buffer) ≡ given tt
-      → StreamNumber stream → length payload ≤ fmt .limit → used + recordSize (length payload) ≤ length buffer
+      → StreamNumber stream → length payload ≤ fmt .limit → used + (headSize fmt + length payload) ≤ length buffer
       → Done (outboxAppendOf buffer used stream payload answer)
   -- .. as a version byte alone is
   pub outbox-append-first : (fmt : Format) → Known fmt → (stream : ℕ) (rest payload answer : List ℕ) → length answer ≡ 2
-      → StreamNumber stream → length payload ≤ fmt .limit → 1 + recordSize (length payload) ≤ length (fmt .version ∷ rest)
+      → StreamNumber stream → length payload ≤ fmt .limit → 1 + (headSize fmt + length payload) ≤ length (fmt .version ∷ rest)
       → Done (outboxAppendOf (fmt .version ∷ rest) 1 stream payload answer)
+  -- the header's size is enough for a record of either
+  pub record-size : (fmt : Format) → Known fmt → (n : ℕ) → headSize fmt + n ≤ recordSize n
