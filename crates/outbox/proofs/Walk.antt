@@ -69,15 +69,17 @@ module _ (fmt : Format) (file : List ℕ) where
   walk-begins e = record { version = e; first = omega arith; inside = opened fmt file e; going = going-begins }
 
   module _ {place : ℕ} (w : Walking fmt file place) where
-    pub walk-ends : length file ≤ place → walkOf fmt file ≡ given tt
-    walk-ends h = read-decides (w .going) (given end) (read-end fmt file place (w .version) (w .first) (omega (arith, w .inside)))
+    pub walk-ends : length file ≤ place → walkOf fmt file ≡ refusalOr (readOf fmt file place) (given tt)
+    walk-ends h =
+        let here : readOf fmt file place ≡ given end = read-end fmt file place (w .version) (w .first) (omega (arith, w .inside)) in
+        read-decides (w .going) (given end) here ∙ ap (λ a. refusalOr a (given tt)) (sym here)
 
     module _ (h : place < length file) where
       here : readOf fmt file place ≡ recordAt fmt place (drop place file)
       here = read-inside fmt file place (w .version) (right-place file place (w .first) (w .inside)) (omega arith)
 
-      pub walk-stops : (n : ℕ) → recordAt fmt place (drop place file) ≡ refusedAt n place → walkOf fmt file ≡ refusedAt n place
-      walk-stops n e = read-decides (w .going) (refusedAt n place) (here ∙ e)
+      pub walk-stops : (n : ℕ) → recordAt fmt place (drop place file) ≡ refusedAt n place → walkOf fmt file ≡ refusalOr (readOf fmt file place) (given tt)
+      walk-stops n e = read-decides (w .going) (refusedAt n place) (here ∙ e) ∙ ap (λ a. refusalOr a (given tt)) (sym (here ∙ e))
 
       pub walk-goes : (f : Found) → recordAt fmt place (drop place file) ≡ given (found f) → Walking fmt file (f .next)
       walk-goes f e =
@@ -88,3 +90,11 @@ module _ (fmt : Format) (file : List ℕ) where
             inside = within .1;
             going = read-goes (w .going) f (here ∙ e);
           }
+
+  -- where what is read at a place decides
+  module _ (v : otherVersion fmt file ≡ false) (place : ℕ) (first : firstPlace ≤ place) (d : walkOf fmt file ≡ refusalOr (readOf fmt file place) (given tt)) where
+    pub decided-end : place ≡ length file → walkOf fmt file ≡ given tt
+    decided-end h = d ∙ ap (λ a. refusalOr a (given tt)) (read-end fmt file place v first h)
+
+    pub decided-here : place < length file → (a : Answer Item) → recordAt fmt place (drop place file) ≡ a → walkOf fmt file ≡ refusalOr a (given tt)
+    decided-here h a e = d ∙ ap (λ x. refusalOr x (given tt)) (read-inside fmt file place v (right-place file place first (omega arith)) (omega arith) ∙ e)

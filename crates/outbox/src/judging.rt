@@ -10,8 +10,8 @@ ghost use mathlib.Core.Path.{_≡_};
 ghost use mathlib.Core.Bool.{false};
 ghost use Prim.Native.Nat.{ℕ, _≤_};
 ghost use lib.ListN.{length};
-ghost use Rattle.outbox.specs.Format.{Known};
-ghost use Rattle.outbox.specs.Reader.{otherVersion, lengthIn, recordAt, walkOf, toldJudged, toldWalk};
+ghost use Rattle.outbox.specs.Format.{Known, firstPlace};
+ghost use Rattle.outbox.specs.Reader.{given, otherVersion, lengthIn, recordAt, readOf, refusalOr, walkOf, toldJudged, toldWalk};
 
 // The record at the front of some bytes.
 pub enum Judged {
@@ -57,10 +57,13 @@ pub fn judge(rest: &[u8], fmt: Format) -> Judged
     }
 }
 
-// Whether the records of an outbox are whole, or its first refusal.
-pub fn walk_records(file: &[u8], fmt: Format) -> Walked
+// The place up to which the records of an outbox are whole: what is read there decides. The loop hands on nothing else,
+// since constants that it would have to keep for each way out cost every record.
+fn whole_up_to(file: &[u8], fmt: Format) -> usize
     requires { ⌜ Known fmt × (otherVersion fmt (now file) ≡ false) ⌝ }
-    ensures { λ r. ⌜ toldWalk r ≡ walkOf fmt (now (file .entry)) ⌝ }
+    ensures { λ r. ⌜ (firstPlace ≤ r)
+        × (r ≤ length (now (file .entry)))
+        × (walkOf fmt (now (file .entry)) ≡ refusalOr (readOf fmt (now (file .entry)) r) (given tt)) ⌝ }
 {
     let mut place = FIRST_PLACE;
     while place < file.len() {
@@ -69,10 +72,25 @@ pub fn walk_records(file: &[u8], fmt: Format) -> Walked
                 let head = fmt.width + 1;
                 place = place + head + size;
             }
-            Judged::Broken(fault) => {
-                return Walked::Broken { fault, place };
+            Judged::Broken(_) => {
+                return place;
             }
         }
     }
-    Walked::Whole
+    place
+}
+
+// Whether the records of an outbox are whole, or its first refusal.
+pub fn walk_records(file: &[u8], fmt: Format) -> Walked
+    requires { ⌜ Known fmt × (otherVersion fmt (now file) ≡ false) ⌝ }
+    ensures { λ r. ⌜ toldWalk r ≡ walkOf fmt (now (file .entry)) ⌝ }
+{
+    let place = whole_up_to(file, fmt);
+    if place == file.len() {
+        return Walked::Whole;
+    }
+    match judge(&file[place..], fmt) {
+        Judged::Record { stream: _, size: _ } => Walked::Whole,
+        Judged::Broken(fault) => Walked::Broken { fault, place },
+    }
 }
