@@ -46,10 +46,13 @@ use Rattle.field.proofs.fields.Found as S
 use Rattle.field.proofs.fields.Found.Laws as S′
 use Rattle.field.proofs.fields.new as new
 use Rattle.field.proofs.fields.new.Symbol as new-def
+use Rattle.field.proofs.fields.new.Symbol.{name as #new}
 use Rattle.field.proofs.fields.new.Met as new-thm
 use Rattle.field.proofs.fields.next as next
 use Rattle.field.proofs.fields.next.Symbol as next-def
+use Rattle.field.proofs.fields.next.Symbol.{name as #next}
 use Rattle.field.proofs.fields.next.Met as next-thm
+use Rattle.field.proofs.fields.found_at.Key.{name as #found}
 use Rattle.field.proofs.fields.found_at as found
 use Rattle.field.proofs.fields.found_at.Statement as stated
 use Rattle.field.proofs.fields.found_at.Code as code

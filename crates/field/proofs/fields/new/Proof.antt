@@ -36,6 +36,7 @@ use denote.Exit.{yes}
 use Rattle.field.specs.declared.fields.Fields.{Fields}
 use Rattle.field.proofs.fields.Fields as T
 use Rattle.field.proofs.fields.Fields.Laws as T′
+use Rattle.field.proofs.fields.new.Key.{name as #new}
 use Rattle.field.proofs.fields.new as new
 use Rattle.field.proofs.fields.new.Statement as stated
 use Rattle.field.proofs.fields.new.Code as code

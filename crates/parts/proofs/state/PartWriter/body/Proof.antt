@@ -1,4 +1,4 @@
-use borrow.Author.Tests.{lt-ltb, le-ltb}
+use borrow.Author.Tests.{eq-eqb, ne-eqb, lt-ltb, le-ltb, lt-leb, le-leb}
 use Rattle.parts.specs.Byte.{bodyByte}
 use lib.ListN.{drop-of-length-le}
 use lib.Seq.{drop-cons}
