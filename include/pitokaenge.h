@@ -108,9 +108,9 @@ enum {
     PITO_REFUSED_TEXT = 36,        /* a string not well-formed UTF-8, told with its field and the place in it */
 
     /* The outbox. */
-    PITO_REFUSED_VERSION = 40,       /* outbox empty, or version not 01 */
+    PITO_REFUSED_VERSION = 40,       /* outbox empty, or version neither 01 nor 02 */
     PITO_REFUSED_RECORD_CUT = 41,    /* record cut short */
-    PITO_REFUSED_RECORD_LENGTH = 42, /* record length 0 or over 4,097 */
+    PITO_REFUSED_RECORD_LENGTH = 42, /* record length 0 or over its version's: 4,097 in 01, 65,536 in 02 */
     PITO_REFUSED_RECORD_STREAM = 43, /* record's stream not 0, 2, 6 */
 
     /* The profile. */
@@ -575,31 +575,37 @@ PITO_CALL uint64_t pito_field_read(const uint8_t *message, size_t message_len, u
 /* ------------------------------------------------------------------------------------------------------------
  * The outbox file: its bytes in a lent buffer, of which the first `used` are the file
  *
+ * The first byte is the version. Version 01 has payloads of up to 4,096 bytes and lengths of two bytes, version 02
+ * payloads of up to 65,535 and lengths of four. A new outbox is of version 02; files of 01 are read and appended to as
+ * such.
+ *
  * A file that is larger than the memory needs no buffer of its size. A record appended to an outbox of the version
- * byte alone stands behind that byte as it would at the end of any outbox; and the version byte with the bytes from a
- * record's place on is an outbox whose first record it is. PITO_ONE_RECORD bytes are enough for both (examples/c).
+ * byte alone stands behind that byte as it would at the end of any outbox of that version; and the version byte with
+ * the bytes from a record's place on is an outbox whose first record it is. PITO_ONE_RECORD(payload_len) bytes are
+ * enough for both where no payload is longer (examples/c).
  */
 
-/* Where the first record stands, a record's size, and that of an outbox of the version byte and the longest record. */
+/* Where the first record stands; what is enough for a record of any version, and for an outbox of one record. */
 #define PITO_FIRST_PLACE 1
-#define PITO_RECORD_SIZE(payload_len) ((payload_len) + 3)
-#define PITO_ONE_RECORD (PITO_FIRST_PLACE + PITO_RECORD_SIZE(PITO_MESSAGE_LIMIT))
+#define PITO_RECORD_SIZE(payload_len) ((payload_len) + 5)
+#define PITO_ONE_RECORD(payload_len) (PITO_FIRST_PLACE + PITO_RECORD_SIZE(payload_len))
 
 /*
- * Begins a new outbox: one byte, first in the output.
+ * Begins a new outbox, of version 02: one byte, first in the output.
  * Returns 0, 1, 14.
  */
 enum { PITO_OUTBOX_NEW_USED, PITO_OUTBOX_NEW_ANSWER };
 PITO_CALL uint64_t pito_outbox_new(uint8_t *output, size_t output_len, uint64_t *answer, size_t answer_len);
 
 /*
- * Appends a record right after the used bytes, which must be a whole outbox: 3 bytes and the payload. Each call looks
- * through all used bytes, record by record, so a large outbox makes it slow: see above for one record at a time.
+ * Appends a record of their version right after the used bytes, which must be a whole outbox: 5 bytes and the payload,
+ * in version 01 3 and the payload. Each call looks through all used bytes, record by record, so a large outbox makes it
+ * slow: see above for one record at a time.
  *   stream   0, 2 or 6
- *   payload  at most 4,096 bytes
+ *   payload  at most 65,535 bytes, in version 01 at most 4,096
  * Answer: used is the number of used bytes afterwards; the cut place goes with 41, and is where the record that is cut
  * short begins: appending with used set to it drops what is left of that record.
- * Returns 0, 1, 15 (stream or payload size), 14, or the used bytes' own refusal, 40, 42, 41, 43.
+ * Returns 0, 1, 40 (of the used bytes), 15 (stream or payload size), 14, or the used bytes' other refusals, 42, 41, 43.
  */
 enum { PITO_OUTBOX_APPEND_USED, PITO_OUTBOX_APPEND_CUT_PLACE, PITO_OUTBOX_APPEND_ANSWER };
 PITO_CALL uint64_t pito_outbox_append(uint8_t *buffer, size_t buffer_len, uint64_t used, uint64_t stream,

@@ -36,7 +36,7 @@ static struct box {
     uint8_t extractor_buffer[PITO_EXTRACTOR_BUFFER(PITO_MESSAGE_LIMIT)];
     uint8_t receiver_buffer[PITO_RECEIVER_BUFFER];
     uint8_t frame[LONGEST_FRAME];
-    uint8_t outbox[PITO_ONE_RECORD];
+    uint8_t outbox[PITO_ONE_RECORD(PITO_MESSAGE_LIMIT)];
     uint8_t packet_out[PITO_LARGEST_ROOM];
     uint8_t ack[PITO_ACK_SIZE];
     uint8_t serial_in[SERIAL_INPUT];

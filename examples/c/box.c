@@ -12,8 +12,8 @@
  * no outbox, or if another box has it open (it is then left as it was); with 2 on bad usage. A reader of the notes that
  * is gone stops nothing; where no report can be written any more the box ends with 1.
  *
- * There is no heap, and the file is never held in memory: it is written and read one record at a time, through a
- * small outbox that has the version byte and room for one record.
+ * A new file is of version 02; one of version 01 stays so. There is no heap, and the file is never held in memory: it
+ * is written and read one record at a time, through a small outbox that has the version byte and room for one record.
  */
 #define _XOPEN_SOURCE 700
 
@@ -45,7 +45,7 @@ static uint64_t extractor[PITO_EXTRACTOR_STATE];
 static uint8_t frame[PITO_EXTRACTOR_BUFFER(LIMIT)];
 
 /* The outbox of one record. Its first byte is the file's, from the start on. */
-static uint8_t outbox[PITO_ONE_RECORD];
+static uint8_t outbox[PITO_ONE_RECORD(PITO_MESSAGE_LIMIT)];
 
 static int file;
 static off_t file_end;
@@ -150,7 +150,8 @@ static void drop_cut_record(void)
 
 /*
  * Finds the end of the last whole record. The bytes from each record's place on are read behind the version byte, so
- * that it is the first record of the small outbox. The largest fits, so only the end of the file can cut one.
+ * that it is the first record of the small outbox. The largest of this box's fits, so only the end of the file can cut
+ * one; a record that the small outbox does not hold is of another box, whose file is left as it was.
  */
 static void resume_outbox(void)
 {
@@ -160,6 +161,10 @@ static void resume_outbox(void)
         size_t held = read_file(outbox + PITO_FIRST_PLACE, sizeof outbox - PITO_FIRST_PLACE, file_end);
         uint64_t number = pito_outbox_record(outbox, PITO_FIRST_PLACE + held, PITO_FIRST_PLACE, answer,
                                              PITO_OUTBOX_RECORD_ANSWER);
+        if (number == PITO_REFUSED_RECORD_CUT && PITO_FIRST_PLACE + held == sizeof outbox) {
+            note("box: a record of the file is longer than this box's messages\n");
+            exit(1);
+        }
         if (number == PITO_REFUSED_RECORD_CUT) {
             drop_cut_record();
             return;

@@ -8,7 +8,7 @@ use lib.IntN.{ℤ}
 use lib.ListN.{length, take, replicate}
 use lib.Seq.{sets}
 use lib.Dec.{eqb, ltb}
-use Rattle.wire.specs.Told.{given, refused, line, WrittenOf, written}
+use Rattle.wire.specs.Told.{given, refused, line, table, WrittenOf, written}
 use Rattle.wire.specs.Limit.{limitFits}
 use Rattle.wire.proofs.Tables.{by-table}
 use Rattle.field.specs.Signed.{signedOf, extended}
@@ -50,8 +50,8 @@ use Rattle.firmware.specs.Segment.{brokenField}
 use Rattle.firmware_writer.specs.Segment.{segmentStrings, segmentFields, segmentFilled, segmentWritten}
 use Rattle.firmware_writer.specs.Information.{badFirmware, firmwareStrings}
 use Rattle.firmware_writer.specs.Apply.{applyFields, applyWritten}
-use Rattle.outbox.specs.Format.{versionOne, newBytes, recordBytes}
-use Rattle.outbox.specs.Reader.{Answer, walkOf, numberIn}
+use Rattle.outbox.specs.Format.{versionTwo, formatOf, newBytes, recordBytes}
+use Rattle.outbox.specs.Reader.{Answer, otherVersion, walkOf, numberIn}
 use Rattle.outbox.specs.Reader as outbox
 use Rattle.outbox.specs.Writer.{Stored, stored, storedAt, newOf, badRecord, appendOf, ifWhole}
 use Rattle.rows.specs.Row.{numberTold, byteOr, outOfRange}
@@ -298,29 +298,31 @@ whole-keeps (outbox.given whole) buffer bytes n = never
 whole-keeps (outbox.refused k) buffer bytes n = λ e. refl
 whole-keeps (outbox.refusedAt k place) buffer bytes n = λ e. refl
 
-new-keeps : (limit : ℕ) (out answer : List ℕ) → Keeps [] out answer (outboxNewOf limit out answer)
+new-keeps : (out answer : List ℕ) → Keeps [] out answer (outboxNewOf out answer)
 unfolding outboxNewOf newOf StoredKeeps
-new-keeps limit out answer =
-    let s = newOf (versionOne limit) out in
+new-keeps out answer =
+    let s = newOf versionTwo out in
     keeps-answers 1 (numberIn (s .told)) out answer (s .buffer) (usedIn (s .told) ∷ [])
-    (by-table (StoredKeeps out) (line 14 (ltb (length out) 1) ∷ []) (λ n. stored (outbox.refused n) out) (storedAt out 0 (newBytes (versionOne limit))) (λ n e. refl) (λ h. never))
+    (by-table (StoredKeeps out) (line 14 (ltb (length out) 1) ∷ []) (λ n. stored (outbox.refused n) out) (storedAt out 0 (newBytes versionTwo)) (λ n e. refl) (λ h. never))
 
-append-keeps : (limit used stream : ℕ) (payload buffer answer : List ℕ)
-    → Keeps [] buffer answer (outboxAppendOf limit buffer used stream payload answer)
+append-keeps : (used stream : ℕ) (payload buffer answer : List ℕ) → Keeps [] buffer answer (outboxAppendOf buffer used stream payload answer)
 unfolding outboxAppendOf appendOf StoredKeeps
-append-keeps limit used stream payload buffer answer =
-    let fmt = versionOne limit in
+append-keeps used stream payload buffer answer =
+    let fmt = formatOf (take used buffer) in
     let known = byteOr outOfRange stream in
     let s = appendOf fmt buffer used known payload in
     let after = storedAt buffer used (recordBytes fmt known payload) in
+    let walked = ifWhole (walkOf fmt (take used buffer)) buffer after in
+    let lines = line 15 (badRecord fmt known (length payload)) ∷ line 14 (ltb (length buffer - used) (length (recordBytes fmt known payload))) ∷ [] in
     keeps-answers 2 (numberIn (s .told)) buffer answer (s .buffer) (usedRow (s .told))
-    (by-table (StoredKeeps buffer)
-    (line 1 (ltb (length buffer) used)
-    ∷ line 15 (badRecord fmt known (length payload))
-    ∷ line 14 (ltb (length buffer - used) (length (recordBytes fmt known payload)))
-    ∷ [])
-    (λ n. stored (outbox.refused n) buffer) (ifWhole (walkOf fmt (take used buffer)) buffer after) (λ n e. refl)
-    (λ h. whole-keeps (walkOf fmt (take used buffer)) buffer (after .buffer) (used + length (recordBytes fmt known payload))))
+    (by-table (StoredKeeps buffer) (line 1 (ltb (length buffer) used) ∷ []) (λ n. stored (outbox.refused n) buffer)
+    (table (line 40 (otherVersion fmt (take used buffer)) ∷ []) (λ n. stored (outbox.refusedAt n 0) buffer) (table lines (λ n. stored (outbox.refused n) buffer) walked)) (λ n e. refl)
+    (λ h.
+    by-table (StoredKeeps buffer) (line 40 (otherVersion fmt (take used buffer)) ∷ []) (λ n. stored (outbox.refusedAt n 0) buffer)
+    (table lines (λ n. stored (outbox.refused n) buffer) walked) (λ n e. refl)
+    (λ h.
+    by-table (StoredKeeps buffer) lines (λ n. stored (outbox.refused n) buffer) walked (λ n e. refl)
+    (λ h. whole-keeps (walkOf fmt (take used buffer)) buffer (after .buffer) (used + length (recordBytes fmt known payload))))))
 
 pub one-leaves-all : OneLeavesAll
 unfolding nextSequenceOf envelopeReadOf responseReadOf informationReadOf featuresReadOf segmentReadOf applyReadOf fieldReadOf outboxRecordOf outboxWholeOf
@@ -351,6 +353,6 @@ one-leaves-all = record {
   field-read = λ place message answer. keeps-answers 7 _ [] answer _ _ (λ e. refl);
   outbox-new = new-keeps;
   outbox-append = append-keeps;
-  outbox-record = λ limit place file answer. keeps-answers 6 _ [] answer _ _ (λ e. refl);
-  outbox-whole = λ limit file answer. keeps-answers 1 _ [] answer _ _ (λ e. refl);
+  outbox-record = λ place file answer. keeps-answers 6 _ [] answer _ _ (λ e. refl);
+  outbox-whole = λ file answer. keeps-answers 1 _ [] answer _ _ (λ e. refl);
 }

@@ -51,10 +51,13 @@ use Rattle.firmware_writer.proofs.Segments.{segment-length, segment-clean}
 use Rattle.firmware_round_trips.specs.RoundTrip.{Unsigned32}
 use Rattle.firmware_round_trips.specs.Premises.{Digits}
 use Rattle.firmware_round_trips.proofs.Premises.{signature, digits-well}
-use Rattle.outbox.specs.Format.{versionOne, recordBytes}
+use Rattle.outbox.specs.declared.format.Format.{Format}
+use Rattle.outbox.specs.Format.{Known, one, two, isOne, formatOf, headSize, recordBytes}
 use Rattle.outbox.specs.Reader as outbox
 use Rattle.outbox.specs.Reader.{walkOf}
 use Rattle.outbox.specs.Writer.{newOf, badRecord, appendOf}
+use Rattle.outbox.proofs.Versions.{known-small, format-known}
+use Rattle.outbox.proofs.Walk.{whole-version}
 use Rattle.outbox.proofs.Stored.{length-record}
 use Rattle.round_trips.specs.Premises.{Number32, Numbers32}
 use Rattle.round_trips.proofs.Premises.{signed}
@@ -345,31 +348,36 @@ apply-done row texts out answer whole l fits h =
     (texts-done (badFirmware texts (a .«firmware_information»)) (firmwareStrings texts (a .«firmware_information»)) (applyFields texts a) out answer l (firmware-fine texts row fits) (strings-fine texts row fits)
     (omega (arith, apply-most texts row fits)))
 
-new-done : (limit : ℕ) (out answer : List ℕ) → length answer ≡ 1 → 1 ≤ length out → Done (outboxNewOf limit out answer)
+new-done : (out answer : List ℕ) → length answer ≡ 1 → 1 ≤ length out → Done (outboxNewOf out answer)
 unfolding outboxNewOf newOf
-new-done limit out answer l h = fit-done 1 [] out answer _ l (rw (le-ltb (length out) 1 h))
+new-done out answer l h = fit-done 1 [] out answer _ l (rw (le-ltb (length out) 1 h))
 
-append-done : (limit used stream : ℕ) (buffer payload answer : List ℕ) → length answer ≡ 2
-    → walkOf (versionOne limit) (take used buffer) ≡ outbox.given tt
-    → StreamNumber stream → length payload ≤ limit → used + recordSize (length payload) ≤ length buffer
-    → Done (outboxAppendOf limit buffer used stream payload answer)
+append-done : (used stream : ℕ) (buffer payload answer : List ℕ) → length answer ≡ 2
+    → let fmt = formatOf (take used buffer) in
+    walkOf fmt (take used buffer) ≡ outbox.given tt
+    → StreamNumber stream → length payload ≤ fmt .limit → used + (headSize fmt + length payload) ≤ length buffer
+    → Done (outboxAppendOf buffer used stream payload answer)
 unfolding outboxAppendOf appendOf badRecord
-append-done limit used stream buffer payload answer l whole s short room =
-    let fmt = versionOne limit in
+append-done used stream buffer payload answer l whole s short room =
+    let fmt = formatOf (take used buffer) in
     fit-done 2 [] buffer answer _ l
     (rw (
       byte-is outOfRange stream (stream-byte stream s),
       le-ltb (length buffer) used (omega arith),
+      whole-version fmt (take used buffer) whole,
       known-stream stream s,
-      le-ltb limit (length payload) short,
+      le-ltb (fmt .limit) (length payload) short,
       le-ltb (length buffer - used) (length (recordBytes fmt stream payload)) (rw length-record (omega arith)),
       whole,
     ))
 
--- the version byte alone is a whole outbox
-new-whole : (limit : ℕ) (rest : List ℕ) → walkOf (versionOne limit) (take 1 (1 ∷ rest)) ≡ outbox.given tt
-unfolding walkOf outbox.readAll outbox.readings outbox.readOf outbox.otherVersion outbox.badPlace
-new-whole limit rest = refl
+-- a version byte alone is a whole outbox
+first-done : (fmt : Format) → Known fmt → (stream : ℕ) (rest payload answer : List ℕ) → length answer ≡ 2
+    → StreamNumber stream → length payload ≤ fmt .limit → 1 + (headSize fmt + length payload) ≤ length (fmt .version ∷ rest)
+    → Done (outboxAppendOf (fmt .version ∷ rest) 1 stream payload answer)
+unfolding isOne formatOf walkOf outbox.readAll outbox.readings outbox.readOf outbox.otherVersion outbox.badPlace
+first-done fmt one stream rest payload answer l s short room = append-done 1 stream (1 ∷ rest) payload answer l refl s short room
+first-done fmt two stream rest payload answer l s short room = append-done 1 stream (2 ∷ rest) payload answer l refl s short room
 
 pub sizes-suffice : SizesSuffice
 sizes-suffice = record {
@@ -388,6 +396,6 @@ sizes-suffice = record {
   apply-write = apply-done;
   outbox-new = new-done;
   outbox-append = append-done;
-  outbox-append-first = λ limit stream rest payload answer l s short room.
-      append-done limit 1 stream (1 ∷ rest) payload answer l (new-whole limit rest) s short room;
+  outbox-append-first = first-done;
+  record-size = λ fmt known n. omega (arith, known-small fmt known .1);
 }

@@ -21,7 +21,7 @@ use Rattle.receiver.specs.Receiver.{openOf, Result, acceptOf}
 use Rattle.control.specs.declared.envelope.Envelope.{Envelope}
 use Rattle.control.specs.declared.envelope.EnvelopePayload.{EnvelopePayload}
 use Rattle.control.specs.Envelope.{envelopeOf, envelopeWritten}
-use Rattle.outbox.specs.Format.{versionOne}
+use Rattle.outbox.specs.Format.{formatOf}
 use Rattle.outbox.specs.Reader as outbox
 
 -- the limit of docs/FORMATS.md
@@ -111,4 +111,4 @@ answerTo (acceptPacket slots p) = acceptedBy (acceptOf limit slots (zeros (slotC
 answerTo (writeAcknowledgement stream id sequence positive) = bytes (bytesOf (ackOf stream id sequence positive output))
 answerTo (writeEnvelope command payload) = bytes (bytesOf (envelopeWritten command payload [] output))
 answerTo (readEnvelope m) = envelope (envelopeOf m)
-answerTo (readRecord file place) = reading (outbox.readOf (versionOne limit) file place)
+answerTo (readRecord file place) = reading (outbox.readOf (formatOf file) file place)

@@ -373,8 +373,6 @@ fn outbox(c: &mut Comparison<'_>) -> Compared<()> {
     c.expect(&mut call, 41, |call| call.answer == [0, 0, 0, 0, 0, 1])?;
     let mut call = Call::new(Operation::OutboxWhole).inputs(&[&file[..5]]);
     c.expect(&mut call, 41, |call| call.answer == [1])?;
-    let mut call = Call::new(Operation::OutboxNew).lent(blank(2));
-    c.expect(&mut call, 0, |call| wrote(call, &[1]))?;
     let mut lent = blank(8);
     lent[0] = 1;
     let mut call = Call::new(Operation::OutboxAppend)
@@ -383,7 +381,44 @@ fn outbox(c: &mut Comparison<'_>) -> Compared<()> {
         .lent(lent);
     c.expect(&mut call, 0, |call| {
         call.answer == [6, 0] && call.lent.starts_with(&file) && call.lent[6..] == [0xCC, 0xCC]
-    })
+    })?;
+
+    c.at = "version 02".to_string();
+    let mut call = Call::new(Operation::OutboxNew).lent(blank(2));
+    c.expect(&mut call, 0, |call| wrote(call, &[2]))?;
+    let file = bytes("02 00 00 00 03 06 41 42");
+    let mut call = Call::new(Operation::OutboxRecord)
+        .numbers(&[1])
+        .inputs(&[&file]);
+    c.expect(&mut call, 0, |call| call.answer == [1, 6, 6, 2, 8, 0])?;
+    let mut lent = blank(9);
+    lent[0] = 2;
+    let mut call = Call::new(Operation::OutboxAppend)
+        .numbers(&[1, 6])
+        .inputs(&[b"AB"])
+        .lent(lent);
+    c.expect(&mut call, 0, |call| {
+        call.answer == [8, 0] && call.lent.starts_with(&file) && call.lent[8..] == [0xCC]
+    })?;
+    for (file, number, place) in [
+        ("02 00 00 00", 41, 1),
+        ("02 00 01 00 01", 42, 0),
+        ("02 00 01 00 00", 41, 1),
+        ("03", 40, 0),
+        ("", 40, 0),
+    ] {
+        let mut call = Call::new(Operation::OutboxWhole).inputs(&[&bytes(file)]);
+        c.expect(&mut call, number, |call| call.answer == [place])?;
+    }
+    for (first, number) in [(3, 40), (2, 15), (1, 15)] {
+        let mut lent = blank(9);
+        lent[0] = first;
+        let mut call = Call::new(Operation::OutboxAppend)
+            .numbers(&[1, 9])
+            .lent(lent);
+        c.expect(&mut call, number, |call| call.answer == [0, 0])?;
+    }
+    Ok(())
 }
 
 /// "Slips we have seen".
