@@ -56,8 +56,8 @@ typedef char pito_size_t_has_64_bits[sizeof(size_t) == 8 ? 1 : -1];
 #define PITO_EXTRACTOR_BUFFER(limit) ((limit) + 2)
 #define PITO_RECEIVER_BUFFER(limit) (3 * (limit))
 
-/* The largest payload of a record of the outbox, in bytes. */
-#define PITO_MESSAGE_LIMIT 4096
+/* The largest payload of a record in an outbox of version 01, in bytes; in one of version 02 it is PITO_LARGEST_LIMIT. */
+#define PITO_VERSION_01_LIMIT 4096
 
 /* Streams. */
 #define PITO_STREAM_CONTROL 0

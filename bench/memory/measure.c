@@ -9,14 +9,15 @@
 #include "pitokaenge.h"
 
 #define ROUNDS 4000
-#define EXTRACTOR_BUFFER PITO_EXTRACTOR_BUFFER(PITO_MESSAGE_LIMIT)
-#define LONGEST_FRAME (2 * PITO_MESSAGE_LIMIT + 9)
+#define LIMIT 4096
+#define EXTRACTOR_BUFFER PITO_EXTRACTOR_BUFFER(LIMIT)
+#define LONGEST_FRAME (2 * LIMIT + 9)
 #define MOST_BYTES (2 * LONGEST_FRAME)
 #define LONGEST_ROW PITO_APPLY_READ_ANSWER
 #define LARGEST_ROOM 512
 
 static uint64_t answer[LONGEST_ROW];
-static uint8_t payload[PITO_MESSAGE_LIMIT + 8], bytes[MOST_BYTES];
+static uint8_t payload[LIMIT + 8], bytes[MOST_BYTES];
 static const uint8_t streams[] = {PITO_STREAM_CONTROL, PITO_STREAM_OTA, PITO_STREAM_ALEXA};
 
 /* A length, now and then a wrong one. */
@@ -67,12 +68,12 @@ static size_t damage(uint8_t *to, size_t count)
 /* The limit of the worked cases, or now and then any number. */
 static uint64_t any_limit(void)
 {
-    return once_in(20) ? any_number() : PITO_MESSAGE_LIMIT;
+    return once_in(20) ? any_number() : LIMIT;
 }
 
 static size_t write_frame(void)
 {
-    size_t count = any_length(PITO_MESSAGE_LIMIT + (once_in(40) ? 8 : 0));
+    size_t count = any_length(LIMIT + (once_in(40) ? 8 : 0));
     uint64_t sequence = once_in(20) ? below(300) : below(0xF0);
     uint64_t room = once_in(20) ? below(LONGEST_FRAME) : LONGEST_FRAME;
     fill(payload, count);
@@ -123,8 +124,8 @@ static size_t make_frame(void)
 static void open_extractor(uint64_t *state)
 {
     CALL(pito_extractor_open, any_limit(), A(state), length(PITO_EXTRACTOR_STATE));
-    if (state[PITO_EXTRACTOR_LIMIT] != PITO_MESSAGE_LIMIT)
-        CALL(pito_extractor_open, PITO_MESSAGE_LIMIT, A(state), PITO_EXTRACTOR_STATE);
+    if (state[PITO_EXTRACTOR_LIMIT] != LIMIT)
+        CALL(pito_extractor_open, LIMIT, A(state), PITO_EXTRACTOR_STATE);
 }
 
 static void feed_frame(size_t count)
@@ -159,7 +160,7 @@ static void classic(void)
         feed_frame(count);
         if (count < 100 || once_in(20))
             step_frame(count);
-        count = any_length(PITO_MESSAGE_LIMIT);
+        count = any_length(LIMIT);
         fill(payload, count);
         write_parts(count);
         CALL(pito_next_sequence, below(256), A(answer), length(PITO_NEXT_SEQUENCE_ANSWER));
@@ -169,9 +170,9 @@ static void classic(void)
 static void accept(const uint8_t *packet, size_t count)
 {
     static uint64_t state[PITO_RECEIVER_STATE];
-    static uint8_t buffer[PITO_RECEIVER_BUFFER(PITO_MESSAGE_LIMIT)];
+    static uint8_t buffer[PITO_RECEIVER_BUFFER(LIMIT)];
     if (state[PITO_RECEIVER_LIMIT] == 0)
-        CALL(pito_receiver_open, PITO_MESSAGE_LIMIT, A(state), PITO_RECEIVER_STATE);
+        CALL(pito_receiver_open, LIMIT, A(state), PITO_RECEIVER_STATE);
     CALL(pito_receiver_accept, A(state), PITO_RECEIVER_STATE, A(buffer), length(sizeof buffer), A(packet), count,
          A(answer), PITO_ACCEPT_ANSWER);
 }
@@ -181,8 +182,8 @@ static void send_message(void)
 {
     uint64_t room = once_in(40) ? below(600) : 20 + below(LARGEST_ROOM - 19), stream = any_stream(), place = 0;
     uint64_t id = below(once_in(40) ? 20 : 16), sequence = below(once_in(40) ? 20 : 16), ack = below(2);
-    uint64_t limit = once_in(40) ? any_number() : PITO_MESSAGE_LIMIT;
-    size_t count = any_length(PITO_MESSAGE_LIMIT);
+    uint64_t limit = once_in(40) ? any_number() : LIMIT;
+    size_t count = any_length(LIMIT);
     int clean = once_in(2);
     fill(payload, count);
     do {
@@ -350,7 +351,7 @@ static void outbox(void)
 {
     uint64_t used = 0;
     for (int round = 0; round < ROUNDS; round++) {
-        size_t count = any_length(PITO_MESSAGE_LIMIT + once_in(40));
+        size_t count = any_length(LIMIT + once_in(40));
         if (used == 0 || once_in(10))
             used = CALL(pito_outbox_new, A(bytes), !once_in(40), A(answer), length(PITO_OUTBOX_NEW_ANSWER)) == 0;
         CALL(pito_outbox_new, A(payload), below(3), A(answer), length(PITO_OUTBOX_NEW_ANSWER));

@@ -13,8 +13,10 @@
 #include "pitokaenge.h"
 
 #define ALL_A_BOX_HAS 32768
+/* The limit of both links. */
+#define LIMIT 4096
 
-#define LONGEST_FRAME PITO_FRAME_SIZE(PITO_MESSAGE_LIMIT)
+#define LONGEST_FRAME PITO_FRAME_SIZE(LIMIT)
 #define SERIAL_INPUT 256
 #define SMALL_PIPE 64
 
@@ -33,10 +35,10 @@ static struct box {
     uint64_t receiver[PITO_RECEIVER_STATE];
     union any_answer answer;
     uint64_t transports[PITO_MOST_TRANSPORTS];
-    uint8_t extractor_buffer[PITO_EXTRACTOR_BUFFER(PITO_MESSAGE_LIMIT)];
-    uint8_t receiver_buffer[PITO_RECEIVER_BUFFER];
+    uint8_t extractor_buffer[PITO_EXTRACTOR_BUFFER(LIMIT)];
+    uint8_t receiver_buffer[PITO_RECEIVER_BUFFER(LIMIT)];
     uint8_t frame[LONGEST_FRAME];
-    uint8_t outbox[PITO_ONE_RECORD(PITO_MESSAGE_LIMIT)];
+    uint8_t outbox[PITO_ONE_RECORD(LIMIT)];
     uint8_t packet_out[PITO_LARGEST_ROOM];
     uint8_t ack[PITO_ACK_SIZE];
     uint8_t serial_in[SERIAL_INPUT];
@@ -145,7 +147,7 @@ static void instead(const char *what, long more)
 
 static void print_choices(void)
 {
-    const long message = PITO_MESSAGE_LIMIT, by_parts = (long)sizeof pipe - (long)sizeof box.frame;
+    const long message = LIMIT, by_parts = (long)sizeof pipe - (long)sizeof box.frame;
     const long one_at_a_time = -(long)(sizeof box.packet_out + sizeof box.ack);
     printf("| instead | bytes | together | of 32,768 |\n|---|--:|--:|--:|\n");
     instead("as above", 0);
@@ -164,7 +166,7 @@ static void check_parts(const uint8_t *payload, size_t length)
 {
     uint64_t told[PITO_FRAME_PART_ANSWER] = {0};
     size_t taken = 0, written = 0;
-    if (pito_frame_begin(0, PITO_MESSAGE_LIMIT, length, pipe.state, PITO_PARTS_STATE) != 0)
+    if (pito_frame_begin(0, LIMIT, length, pipe.state, PITO_PARTS_STATE) != 0)
         exit(1);
     while (told[PITO_FRAME_PART_ENDED] == 0) {
         if (pito_frame_part(pipe.state, PITO_PARTS_STATE, payload + taken, length - taken, pipe.output,
@@ -180,13 +182,13 @@ static void check_parts(const uint8_t *payload, size_t length)
 /* Payloads of marks alone, one for each sum that such payloads have. */
 static void print_longest_frame(void)
 {
-    static uint8_t payload[PITO_MESSAGE_LIMIT];
+    static uint8_t payload[LIMIT];
     uint64_t written[PITO_FRAME_WRITE_ANSWER], longest = 0;
     memset(payload, 0xF0, sizeof payload);
     for (size_t turn = 0; turn <= 2 * sizeof payload; turn++) {
         if (turn > 0)
             payload[(turn - 1) % sizeof payload]++;
-        if (pito_frame_write(0, PITO_MESSAGE_LIMIT, payload, sizeof payload, box.frame, sizeof box.frame, written,
+        if (pito_frame_write(0, LIMIT, payload, sizeof payload, box.frame, sizeof box.frame, written,
                              PITO_FRAME_WRITE_ANSWER) != 0)
             exit(1);
         check_parts(payload, sizeof payload);

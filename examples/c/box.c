@@ -45,7 +45,7 @@ static uint64_t extractor[PITO_EXTRACTOR_STATE];
 static uint8_t frame[PITO_EXTRACTOR_BUFFER(LIMIT)];
 
 /* The outbox of one record. Its first byte is the file's, from the start on. */
-static uint8_t outbox[PITO_ONE_RECORD(PITO_MESSAGE_LIMIT)];
+static uint8_t outbox[PITO_ONE_RECORD(LIMIT)];
 
 static int file;
 static off_t file_end;

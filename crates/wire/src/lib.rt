@@ -4,6 +4,3 @@ pub mod limit;
 pub mod logic;
 pub mod scan;
 pub mod stream;
-
-// The largest message, in bytes.
-pub const MESSAGE_LIMIT: usize = 4096;
