@@ -15,8 +15,8 @@
  *
  * NUMBERS. Each function returns 0 or the number of a refusal, PITO_REFUSED_.. below.
  * After every call that does not return 1 the whole answer row is written. After a refusal it is 0 throughout, but
- * for what is said below (the number of bytes used by pito_extractor_feed, the place that goes with 41, the field that
- * goes with 50).
+ * for what is said below (the number of bytes used by pito_extractor_feed, the place that goes with 41, the field and
+ * the place that go with 36, the field that goes with 50).
  * A refusal leaves state and lent bytes as they were, except that 20 to 25 leave the extractor outside a frame (20:
  * at the begin of the new one), 10 and 11 leave the slot of the stream idle, and pito_extractor_feed has by then
  * stored what came before the refused byte, in state and buffer as single steps would have.
@@ -37,7 +37,7 @@ extern "C" {
 #endif
 
 /* The version of this interface: one more with each change that a caller has to follow. */
-#define PITO_VERSION 2
+#define PITO_VERSION 3
 
 /* The library is for 64-bit machines: a length is a number of 64 bits. */
 typedef char pito_size_t_has_64_bits[sizeof(size_t) == 8 ? 1 : -1];
@@ -99,6 +99,7 @@ enum {
     PITO_REFUSED_TAG = 32,         /* field 0 or above 536,870,911; wire type 3, 4, 6, 7 */
     PITO_REFUSED_WIRE_TYPE = 33,   /* known field with another wire type */
     PITO_REFUSED_TOO_MANY = 34,    /* second payload member or firmware_information, ninth transport or component */
+    PITO_REFUSED_TEXT = 36,        /* a string not well-formed UTF-8, told with its field and the place in it */
 
     /* The outbox. */
     PITO_REFUSED_VERSION = 40,       /* outbox empty, or version not 01 */
@@ -295,9 +296,9 @@ PITO_CALL uint64_t pito_receiver_accept(uint64_t *state, size_t state_len, uint8
 /* ------------------------------------------------------------------------------------------------------------
  * Control messages
  *
- * Readers tell parts as start and length within the message that was read. They return 0, 1, 31, 32, 33, 34 or 30;
- * a message is judged field by field. Writers write from the first byte of the output on, in the shortest form, and
- * return 0, 1, 15, 14; PITO_.._SIZE is enough output for any arguments of these lengths.
+ * Readers tell parts as start and length within the message that was read. They return 0, 1, 31, 32, 33, 34 or 30,
+ * pito_information_read 36 too; a message is judged field by field. Writers write from the first byte of the output
+ * on, in the shortest form, and return 0, 1, 15, 14; PITO_.._SIZE is enough output for any arguments of these lengths.
  */
 
 /* The payload of an envelope. */
@@ -360,9 +361,9 @@ PITO_CALL uint64_t pito_response_write(uint64_t error_code, uint64_t field, cons
                                        uint8_t *output, size_t output_len, uint64_t *answer, size_t answer_len);
 
 /*
- * Reads device information. Strings are handed on as bytes; an absent one is start 0, length 0.
+ * Reads device information. Strings are well-formed UTF-8; an absent one is start 0, length 0.
  * Answer: how many transports there are, and from PITO_INFORMATION_READ_TRANSPORT on eight of them, 0 where there are
- * fewer.
+ * fewer. Field and place go with 36: the string's field, and where in it the first bad sequence begins.
  */
 #define PITO_MOST_TRANSPORTS 8
 enum {
@@ -374,17 +375,26 @@ enum {
     PITO_INFORMATION_READ_DEVICE_TYPE_LENGTH,
     PITO_INFORMATION_READ_TRANSPORTS,
     PITO_INFORMATION_READ_TRANSPORT,
-    PITO_INFORMATION_READ_ANSWER = PITO_INFORMATION_READ_TRANSPORT + PITO_MOST_TRANSPORTS
+    PITO_INFORMATION_READ_FIELD = PITO_INFORMATION_READ_TRANSPORT + PITO_MOST_TRANSPORTS,
+    PITO_INFORMATION_READ_PLACE,
+    PITO_INFORMATION_READ_ANSWER
 };
 PITO_CALL uint64_t pito_information_read(const uint8_t *message, size_t message_len, uint64_t *answer,
                                          size_t answer_len);
 
 /*
  * Writes device information; transports are at most eight signed 32-bit numbers, each in 64 bits.
+ * Answer: field and place go with 36, as in reading.
+ * Returns 0, 1, 15, 36 (of the first string in writing order), 14.
  */
 #define PITO_INFORMATION_SIZE(serial_number_len, name_len, device_type_len)                                            \
     ((serial_number_len) + (name_len) + (device_type_len) + 124)
-enum { PITO_INFORMATION_WRITE_WRITTEN, PITO_INFORMATION_WRITE_ANSWER };
+enum {
+    PITO_INFORMATION_WRITE_WRITTEN,
+    PITO_INFORMATION_WRITE_FIELD,
+    PITO_INFORMATION_WRITE_PLACE,
+    PITO_INFORMATION_WRITE_ANSWER
+};
 PITO_CALL uint64_t pito_information_write(const uint8_t *serial_number, size_t serial_number_len, const uint8_t *name,
                                           size_t name_len, const uint8_t *device_type, size_t device_type_len,
                                           const uint64_t *transports, size_t transports_len, uint8_t *output,
@@ -408,14 +418,14 @@ PITO_CALL uint64_t pito_features_write(uint64_t features, uint64_t device_attrib
  * Firmware messages
  *
  * As control messages: parts are start and length within the message that was read, in the messages within it too; an
- * absent string is start 0, length 0. Offset, sizes and versions are numbers of 32 bits.
+ * absent string is start 0, length 0. Strings are well-formed UTF-8. Offset, sizes and versions are numbers of 32 bits.
  */
 
 /*
  * Reads an UpdateComponentSegment.
  * Answer: the field goes with 50: 2 for an offset that is not 0, else 4 for a signature that is not 64 hexadecimal
- * digits.
- * Returns 0, 1, 31, 32, 33, 30, and after them 50.
+ * digits. Field and place go with 36, as for device information.
+ * Returns 0, 1, 31, 32, 33, 30, 36, and after them 50.
  */
 enum {
     PITO_SEGMENT_READ_NAME_START,
@@ -425,17 +435,18 @@ enum {
     PITO_SEGMENT_READ_SIGNATURE_START,
     PITO_SEGMENT_READ_SIGNATURE_LENGTH,
     PITO_SEGMENT_READ_FIELD,
+    PITO_SEGMENT_READ_PLACE,
     PITO_SEGMENT_READ_ANSWER
 };
 PITO_CALL uint64_t pito_segment_read(const uint8_t *message, size_t message_len, uint64_t *answer, size_t answer_len);
 
 /*
  * Writes an UpdateComponentSegment. PITO_SEGMENT_SIZE(name_len) bytes are enough.
- * Answer: the field goes with 50, as in reading.
- * Returns 0, 1, 15 (an offset or size above 32 bits), 50, 14.
+ * Answer: field and place, as in reading.
+ * Returns 0, 1, 15 (an offset or size above 32 bits), 36, 50, 14.
  */
 #define PITO_SEGMENT_SIZE(name_len) ((name_len) + 97)
-enum { PITO_SEGMENT_WRITE_WRITTEN, PITO_SEGMENT_WRITE_FIELD, PITO_SEGMENT_WRITE_ANSWER };
+enum { PITO_SEGMENT_WRITE_WRITTEN, PITO_SEGMENT_WRITE_FIELD, PITO_SEGMENT_WRITE_PLACE, PITO_SEGMENT_WRITE_ANSWER };
 PITO_CALL uint64_t pito_segment_write(const uint8_t *name, size_t name_len, uint64_t offset, uint64_t size,
                                       const uint8_t *signature, size_t signature_len, uint8_t *output,
                                       size_t output_len, uint64_t *answer, size_t answer_len);
@@ -444,8 +455,9 @@ PITO_CALL uint64_t pito_segment_write(const uint8_t *name, size_t name_len, uint
  * Reads an ApplyFirmware, with the firmware information and the components within. An absent firmware information is
  * told as an empty one.
  * Answer: restart_required is 0 or 1, components tells how many there are, and from PITO_APPLY_READ_COMPONENT on stand
- * the numbers of eight components, each from PITO_APPLY_READ_COMPONENT_AT(0 to 7) on, 0 where there are fewer.
- * Returns 0, 1, 31, 32, 33, 34, 30: of the whole message, then of its firmware information, then of each component.
+ * the numbers of eight components, each from PITO_APPLY_READ_COMPONENT_AT(0 to 7) on, 0 where there are fewer. Field
+ * and place go with 36; the field is that of the string's own message.
+ * Returns 0, 1, 31, 32, 33, 34, 30, 36: of the whole message, then of its firmware information, then of each component.
  */
 #define PITO_MOST_COMPONENTS 8
 enum {
@@ -468,21 +480,26 @@ enum {
     PITO_APPLY_READ_VERSION_NAME_LENGTH,
     PITO_APPLY_READ_COMPONENTS,
     PITO_APPLY_READ_COMPONENT,
-    PITO_APPLY_READ_ANSWER = PITO_APPLY_READ_COMPONENT + PITO_MOST_COMPONENTS * PITO_COMPONENT_ANSWER
+    PITO_APPLY_READ_FIELD = PITO_APPLY_READ_COMPONENT + PITO_MOST_COMPONENTS * PITO_COMPONENT_ANSWER,
+    PITO_APPLY_READ_PLACE,
+    PITO_APPLY_READ_ANSWER
 };
+#define PITO_APPLY_ROW PITO_APPLY_READ_FIELD
 #define PITO_APPLY_READ_COMPONENT_AT(index) (PITO_APPLY_READ_COMPONENT + (index) * PITO_COMPONENT_ANSWER)
 PITO_CALL uint64_t pito_apply_read(const uint8_t *message, size_t message_len, uint64_t *answer, size_t answer_len);
 
 /*
- * Writes an ApplyFirmware, of a row with the places of pito_apply_read's answer. Its strings are parts of the texts:
- * what pito_apply_read told is such a row, and the message that it read the texts of it. Components from the row's
- * number on are not looked at. PITO_APPLY_SIZE(components, strings_len) bytes are enough, where strings_len is the sum
- * of the lengths of all strings, those of the components too.
- * Returns 0, 1 (also for a row that has not PITO_APPLY_READ_ANSWER numbers), 15 (restart_required neither 0 nor 1, a
- * version or size above 32 bits, more than eight components, a part that does not lie within the texts), 14.
+ * Writes an ApplyFirmware, of a row of PITO_APPLY_ROW numbers with the places of pito_apply_read's answer. Its strings
+ * are parts of the texts: the first PITO_APPLY_ROW numbers that pito_apply_read told are such a row, and the message
+ * that it read the texts of it. Components from the row's number on are not looked at. PITO_APPLY_SIZE(components,
+ * strings_len) bytes are enough, where strings_len is the sum of the lengths of all strings, those of the components too.
+ * Answer: field and place go with 36, as in reading, of the first string in writing order: the components' strings
+ * stand between name and locale.
+ * Returns 0, 1 (also for a row that has not PITO_APPLY_ROW numbers), 15 (restart_required neither 0 nor 1, a version or
+ * size above 32 bits, more than eight components, a part that does not lie within the texts), 36, 14.
  */
 #define PITO_APPLY_SIZE(components, strings_len) (55 * (components) + (strings_len) + 66)
-enum { PITO_APPLY_WRITE_WRITTEN, PITO_APPLY_WRITE_ANSWER };
+enum { PITO_APPLY_WRITE_WRITTEN, PITO_APPLY_WRITE_FIELD, PITO_APPLY_WRITE_PLACE, PITO_APPLY_WRITE_ANSWER };
 PITO_CALL uint64_t pito_apply_write(const uint64_t *row, size_t row_len, const uint8_t *texts, size_t texts_len,
                                     uint8_t *output, size_t output_len, uint64_t *answer, size_t answer_len);
 

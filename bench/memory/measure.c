@@ -282,7 +282,7 @@ static void any_part(uint64_t *part, size_t count)
 
 static void write_apply(size_t count)
 {
-    static uint64_t row[PITO_APPLY_READ_ANSWER];
+    static uint64_t row[PITO_APPLY_ROW];
     row[PITO_APPLY_READ_RESTART_REQUIRED] = below(once_in(40) ? 3 : 2);
     row[PITO_APPLY_READ_VERSION] = any_unsigned();
     any_part(row + PITO_APPLY_READ_NAME_START, count);
@@ -296,7 +296,7 @@ static void write_apply(size_t count)
         component[PITO_COMPONENT_SIZE] = any_unsigned();
         any_part(component + PITO_COMPONENT_SIGNATURE_START, count);
     }
-    read_written(CALL(pito_apply_write, A(row), length(PITO_APPLY_READ_ANSWER), A(payload), count, A(bytes),
+    read_written(CALL(pito_apply_write, A(row), length(PITO_APPLY_ROW), A(payload), count, A(bytes),
                       room_for_message(), A(answer), length(PITO_APPLY_WRITE_ANSWER)));
 }
 

@@ -67,7 +67,7 @@ pub fn read_response<const WHOLE: bool>(reader: Reader, messages: &[Vec<u8>]) ->
 }
 
 pub fn read_information<const WHOLE: bool>(reader: Reader, messages: &[Vec<u8>]) -> u64 {
-    read::<WHOLE, 15>(reader, messages, &[0, 2, 4])
+    read::<WHOLE, 17>(reader, messages, &[0, 2, 4])
 }
 
 pub fn read_features<const WHOLE: bool>(reader: Reader, messages: &[Vec<u8>]) -> u64 {
@@ -135,7 +135,8 @@ pub fn read_response_own<const WHOLE: bool>(messages: &[Vec<u8>]) -> u64 {
 }
 
 pub fn read_information_own<const WHOLE: bool>(messages: &[Vec<u8>]) -> u64 {
-    read_own::<WHOLE, 15, _>(messages, Information::read, |digest, message, told| {
+    let read = |message: &[u8]| Information::read(message).map_err(|broken| broken.refusal);
+    read_own::<WHOLE, 17, _>(messages, read, |digest, message, told| {
         let parts = [told.serial_number, told.name, told.device_type];
         parts
             .iter()
@@ -147,6 +148,7 @@ pub fn read_information_own<const WHOLE: bool>(messages: &[Vec<u8>]) -> u64 {
         for place in 0..8 {
             digest.number(told.transports.get(place).map_or(0, |one| signed_out(*one)));
         }
+        digest.row(&[0, 0]);
     })
 }
 
@@ -289,7 +291,7 @@ pub fn information_write<const WHOLE: bool>(
     rounds: usize,
 ) -> u64 {
     let write = black_box(write);
-    write_each::<WHOLE, 1, _>(messages, rounds, |given, output, answer| {
+    write_each::<WHOLE, 3, _>(messages, rounds, |given, output, answer| {
         let [serial_number, name, device_type] = &given.strings;
         unsafe {
             write(
@@ -314,12 +316,10 @@ pub fn information_write_own<const WHOLE: bool>(
     messages: &[(InformationGiven, Vec<i32>)],
     rounds: usize,
 ) -> u64 {
-    write_each::<WHOLE, 1, _>(messages, rounds, |(given, transports), output, answer| {
+    write_each::<WHOLE, 3, _>(messages, rounds, |(given, transports), output, answer| {
         let [serial_number, name, device_type] = &given.strings;
-        told(
-            write_information(serial_number, name, transports, device_type, output),
-            answer,
-        )
+        let written = write_information(serial_number, name, transports, device_type, output);
+        told(written.map_err(|broken| broken.refusal), answer)
     })
 }
 

@@ -6,34 +6,46 @@ use second::firmware::{write_apply, write_segment, Apply, Component, Segment};
 use std::hint::black_box;
 use std::ops::Range;
 
-/// The row of an ApplyFirmware: its length, and where it has the start of a part.
+/// The row of an ApplyFirmware: its length, that of the reader's answer, and where both have the start
+/// of a part.
 pub const ROW: usize = 57;
+const ANSWER: usize = 59;
 const STARTS: [usize; 19] = [
     2, 4, 6, 10, 13, 16, 19, 22, 25, 28, 31, 34, 37, 40, 43, 46, 49, 52, 55,
 ];
 
 pub fn read_segment<const WHOLE: bool>(reader: Reader, messages: &[Vec<u8>]) -> u64 {
-    read::<WHOLE, 7>(reader, messages, &[0, 4])
+    read::<WHOLE, 8>(reader, messages, &[0, 4])
 }
 
 pub fn read_apply<const WHOLE: bool>(reader: Reader, messages: &[Vec<u8>]) -> u64 {
-    read::<WHOLE, ROW>(reader, messages, &STARTS)
+    read::<WHOLE, ANSWER>(reader, messages, &STARTS)
 }
 
 pub fn read_segment_own<const WHOLE: bool>(messages: &[Vec<u8>]) -> u64 {
     let read = |message: &[u8]| Segment::read(message).map_err(|broken| broken.refusal);
-    read_own::<WHOLE, 7, _>(messages, read, |digest, message, told| {
+    read_own::<WHOLE, 8, _>(messages, read, |digest, message, told| {
         let (name, signature) = (told.component_name, told.segment_signature);
         let lengths = [name.len() as u64, signature.len() as u64];
         digest.bytes(&message[name]);
         digest.bytes(&message[signature]);
         let (offset, size) = (told.component_offset, told.segment_size);
-        digest.row(&[0, lengths[0], offset.into(), size.into(), 0, lengths[1], 0]);
+        digest.row(&[
+            0,
+            lengths[0],
+            offset.into(),
+            size.into(),
+            0,
+            lengths[1],
+            0,
+            0,
+        ]);
     })
 }
 
 pub fn read_apply_own<const WHOLE: bool>(messages: &[Vec<u8>]) -> u64 {
-    read_own::<WHOLE, ROW, _>(messages, Apply::read, |digest, message, told| {
+    let read = |message: &[u8]| Apply::read(message).map_err(|broken| broken.refusal);
+    read_own::<WHOLE, ANSWER, _>(messages, read, |digest, message, told| {
         let information = &told.information;
         let length = |part: &Range<usize>| part.len() as u64;
         let named = [
@@ -60,6 +72,7 @@ pub fn read_apply_own<const WHOLE: bool>(messages: &[Vec<u8>]) -> u64 {
             let (name, signature) = (length(&one.name), length(&one.signature));
             digest.row(&[version, 0, name, size, 0, signature]);
         }
+        digest.row(&[0, 0]);
     })
 }
 
@@ -81,7 +94,7 @@ pub fn segment_write<const WHOLE: bool>(
     rounds: usize,
 ) -> u64 {
     let write = black_box(write);
-    write_each::<WHOLE, 2, _>(messages, rounds, |given, output, answer| unsafe {
+    write_each::<WHOLE, 3, _>(messages, rounds, |given, output, answer| unsafe {
         write(
             given.name.as_ptr(),
             given.name.len(),
@@ -98,7 +111,7 @@ pub fn segment_write<const WHOLE: bool>(
 }
 
 pub fn segment_write_own<const WHOLE: bool>(messages: &[SegmentGiven], rounds: usize) -> u64 {
-    write_each::<WHOLE, 2, _>(messages, rounds, |given, output, answer| {
+    write_each::<WHOLE, 3, _>(messages, rounds, |given, output, answer| {
         let size = given.size as u32;
         let written = write_segment(&given.name, 0, size, &given.signature, output);
         told(written.map_err(|broken| broken.refusal), answer)
@@ -111,7 +124,7 @@ pub fn apply_write<const WHOLE: bool>(
     rounds: usize,
 ) -> u64 {
     let write = black_box(write);
-    write_each::<WHOLE, 1, _>(messages, rounds, |given, output, answer| unsafe {
+    write_each::<WHOLE, 3, _>(messages, rounds, |given, output, answer| unsafe {
         write(
             given.row.as_ptr(),
             given.row.len(),
@@ -126,7 +139,8 @@ pub fn apply_write<const WHOLE: bool>(
 }
 
 pub fn apply_write_own<const WHOLE: bool>(messages: &[(Apply, Vec<u8>)], rounds: usize) -> u64 {
-    write_each::<WHOLE, 1, _>(messages, rounds, |(given, texts), output, answer| {
-        told(write_apply(texts, given, output), answer)
+    write_each::<WHOLE, 3, _>(messages, rounds, |(given, texts), output, answer| {
+        let written = write_apply(texts, given, output);
+        told(written.map_err(|broken| broken.refusal), answer)
     })
 }

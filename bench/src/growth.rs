@@ -190,6 +190,23 @@ fn information_lines() -> Vec<Growth> {
         line("8 packed entries of 10 bytes, then unknown fields", |n| {
             [delimited(0x1A, LONG_VARINT.repeat(8)), unknown(n)].concat()
         }),
+        line("a string of ASCII", |n| name(repeated(b"A", n))),
+        line("a string of sequences of 2 bytes", |n| {
+            name(repeated("\u{DF}".as_bytes(), n))
+        }),
+        line("a string of sequences of 3 bytes", |n| {
+            name(repeated("\u{FFFD}".as_bytes(), n / 3 * 3))
+        }),
+        line(
+            "a string of sequences of 4 bytes, the table's last row",
+            |n| name(repeated("\u{10FFFF}".as_bytes(), n)),
+        ),
+        line("a string of ASCII and sequences of 2 bytes in turn", |n| {
+            name(repeated("A\u{DF}A".as_bytes(), n))
+        }),
+        line("a string of sequences of 4 bytes, the last cut (36)", |n| {
+            name(repeated("\u{10FFFF}".as_bytes(), n - 1))
+        }),
     ]
 }
 
@@ -238,6 +255,11 @@ fn delimited(tag: u8, bytes: Vec<u8>) -> Vec<u8> {
     let mut field = vec![tag, low as u8 | 0x80, middle as u8 | 0x80, high as u8];
     field.extend(bytes);
     field
+}
+
+/// Device information with this name.
+fn name(string: Vec<u8>) -> Vec<u8> {
+    delimited(0x12, string)
 }
 
 fn information(message: Vec<u8>) -> Job {

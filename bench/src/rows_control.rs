@@ -27,7 +27,7 @@ pub fn rows() -> Vec<Row> {
         }),
         read("response with a payload", read_response_job),
         read(
-            "information, 3 strings and 3 transports",
+            "information, 3 strings of 20 bytes and 3 transports",
             read_information_job,
         ),
         read("features", read_features_job),
@@ -38,7 +38,7 @@ pub fn rows() -> Vec<Row> {
         write("envelope with a command only", || write_envelope_job(0)),
         write("response with a payload", write_response_job),
         write(
-            "information, 3 strings and 3 transports",
+            "information, 3 strings of 20 bytes and 3 transports",
             write_information_job,
         ),
         write("features", write_features_job),
@@ -68,9 +68,15 @@ fn responses() -> Vec<ResponseGiven> {
     })
 }
 
+/// A string of ASCII.
+pub fn letters(rng: &mut second::rng::Rng, length: usize) -> Vec<u8> {
+    let byte = |_| 0x20 + rng.below(0x5F) as u8;
+    (0..length).map(byte).collect()
+}
+
 fn informations() -> Vec<InformationGiven> {
     many(|rng| InformationGiven {
-        strings: [rng.bytes(16), rng.bytes(20), rng.bytes(13)],
+        strings: [20; 3].map(|length| letters(rng, length)),
         transports: vec![1, 2, 3],
     })
 }

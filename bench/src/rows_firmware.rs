@@ -4,7 +4,7 @@ use crate::calls::*;
 use crate::control::Reader;
 use crate::firmware::{ApplyGiven, SegmentGiven, ROW};
 use crate::job::{share, Job, Row, Subject};
-use crate::rows_control::{bytes, forget, many, read_job, write_job, MESSAGES, ROUNDS};
+use crate::rows_control::{bytes, forget, letters, many, read_job, write_job, MESSAGES, ROUNDS};
 use crate::{firmware, rust, work};
 use second::driver::firmware::digits;
 use second::firmware::{write_apply, write_segment, Apply, Component, Information};
@@ -24,7 +24,7 @@ pub fn rows() -> Vec<Row> {
 
 fn segments() -> Vec<SegmentGiven> {
     many(|rng| SegmentGiven {
-        name: rng.bytes(12),
+        name: letters(rng, 12),
         size: 552_960 + rng.below(1 << 16),
         signature: digits(rng),
     })
@@ -51,7 +51,7 @@ fn applies(components: usize) -> Vec<(Apply, Vec<u8>)> {
             information,
             restart_required: true,
         };
-        (apply, rng.bytes(20 + 24 * components))
+        (apply, letters(rng, 20 + 24 * components))
     })
 }
 

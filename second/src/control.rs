@@ -3,7 +3,8 @@
 //! A message is read as a row of tags, each with its value; what a tag means is decided message by
 //! message, in plain matches on field number and wire type.
 
-use crate::refusal::{deliver, Refusal};
+use crate::refusal::{deliver, Broken, Refusal};
+use crate::text;
 use std::ops::Range;
 
 /// The largest field number.
@@ -86,6 +87,13 @@ impl<'m> Tokens<'m> {
     pub(crate) fn part(&mut self) -> Result<Range<usize>, Refusal> {
         let length = self.varint()?;
         self.bytes(length)
+    }
+
+    /// A string: 36 is "judged when its field ends, after 30".
+    pub(crate) fn text(&mut self, field: u64) -> Result<Range<usize>, Broken> {
+        let part = self.part()?;
+        text::judge(field, &self.message[part.clone()])?;
+        Ok(part)
     }
 
     /// "Other fields of wire types 0, 1, 2, 5 are skipped."
@@ -196,8 +204,8 @@ impl Envelope {
     }
 }
 
-/// "DeviceInformation: strings 1, 2, 4 and repeated enum 3". "Strings are handed on as bytes", so
-/// they are parts of the message; an absent one is the part 0..0.
+/// "DeviceInformation: strings 1, 2, 4 and repeated enum 3". Strings are parts of the message; an
+/// absent one is the part 0..0.
 #[derive(Clone, Debug, Default, PartialEq, Eq)]
 pub struct Information {
     pub serial_number: Range<usize>,
@@ -207,14 +215,14 @@ pub struct Information {
 }
 
 impl Information {
-    pub fn read(message: &[u8]) -> Result<Information, Refusal> {
+    pub fn read(message: &[u8]) -> Result<Information, Broken> {
         let mut tokens = Tokens::over(message, 0..message.len());
         let mut told = Information::default();
         while let Some(tag) = tokens.tag()? {
             match tag {
-                (1, Wire::Delimited) => told.serial_number = tokens.part()?,
-                (2, Wire::Delimited) => told.name = tokens.part()?,
-                (4, Wire::Delimited) => told.device_type = tokens.part()?,
+                (1, Wire::Delimited) => told.serial_number = tokens.text(1)?,
+                (2, Wire::Delimited) => told.name = tokens.text(2)?,
+                (4, Wire::Delimited) => told.device_type = tokens.text(4)?,
                 (3, Wire::Varint) => told.transport(tokens.varint()?)?,
                 (3, Wire::Delimited) => {
                     let list = tokens.part()?;
@@ -223,7 +231,7 @@ impl Information {
                         told.transport(entries.varint()?)?;
                     }
                 }
-                (1..=4, _) => return Err(Refusal::WireType),
+                (1..=4, _) => return Err(Refusal::WireType.into()),
                 (_, wire) => tokens.skip(wire)?,
             }
         }
@@ -375,17 +383,20 @@ pub fn write_envelope(
     deliver(&made.0, output)
 }
 
-/// Writes a DeviceInformation: 15 for more than eight transports, then 14.
+/// Writes a DeviceInformation: 15 for more than eight transports, then 36, then 14.
 pub fn write_information(
     serial_number: &[u8],
     name: &[u8],
     transports: &[i32],
     device_type: &[u8],
     output: &mut [u8],
-) -> Result<usize, Refusal> {
+) -> Result<usize, Broken> {
     if transports.len() > TRANSPORTS {
-        return Err(Refusal::Argument);
+        return Err(Refusal::Argument.into());
     }
+    text::judge(1, serial_number)?;
+    text::judge(2, name)?;
+    text::judge(4, device_type)?;
     let list = transports
         .iter()
         .fold(Making::default(), |list, &transport| {
@@ -396,7 +407,7 @@ pub fn write_information(
         .unless_empty(2, name)
         .unless_empty(3, &list.0)
         .unless_empty(4, device_type);
-    deliver(&made.0, output)
+    Ok(deliver(&made.0, output)?)
 }
 
 /// Writes a DeviceFeatures: 14 only.

@@ -18,7 +18,7 @@ use crate::control::{self, Envelope, Features, Given, Information, Member, Paylo
 use crate::implementation::{Implementation, Operation};
 use crate::low_energy::{self, Accepted, Open, Slots, Stream, Wish};
 use crate::outbox::{self, Broken, Record};
-use crate::refusal::Refusal;
+use crate::refusal::{self, Refusal};
 use std::ops::Range;
 
 pub mod firmware;
@@ -102,12 +102,12 @@ impl Implementation for Model {
     }
 }
 
-/// A refusal with the place in the answer row and the number that go with it, if any does.
-struct Refused(Refusal, Option<(usize, u64)>);
+/// A refusal with the numbers that go with it, each at its place in the answer row.
+struct Refused(Refusal, Vec<(usize, u64)>);
 
 impl From<Refusal> for Refused {
     fn from(refusal: Refusal) -> Refused {
-        Refused(refusal, None)
+        Refused(refusal, Vec::new())
     }
 }
 
@@ -125,10 +125,10 @@ fn ask<const N: usize>(
             answer.copy_from_slice(&row);
             0
         }
-        Err(Refused(Refusal::Lent, None)) => Refusal::Lent.number(),
+        Err(Refused(Refusal::Lent, told)) if told.is_empty() => Refusal::Lent.number(),
         Err(Refused(refusal, told)) => {
             answer.fill(0);
-            if let Some((place, number)) = told {
+            for (place, number) in told {
                 answer[place] = number;
             }
             refusal.number()
@@ -223,7 +223,7 @@ pub fn extractor_feed(
 ) -> u64 {
     ask(answer, || {
         let (after, used, decided) = extractor_in(state)
-            .ok_or(Refused(Refusal::Lent, Some((1, 0))))?
+            .ok_or_else(|| Refused(Refusal::Lent, vec![(1, 0)]))?
             .feed(buffer, bytes);
         state.copy_from_slice(&extractor_out(after));
         match decided {
@@ -231,7 +231,7 @@ pub fn extractor_feed(
             Decided::Frame { sequence, length } => {
                 Ok([2, wide(used), u64::from(sequence), wide(length)])
             }
-            Decided::Refused(refusal) => Err(Refused(refusal, Some((1, wide(used))))),
+            Decided::Refused(refusal) => Err(Refused(refusal, vec![(1, wide(used))])),
         }
     })
 }
@@ -548,13 +548,21 @@ pub fn response_write(
     })
 }
 
+/// The field that goes with 36 and 50, and the place that goes with 36, stand in the row's last two
+/// numbers.
+fn fault_out<const N: usize>(broken: refusal::Broken) -> Refused {
+    let field = broken.field.map(|field| (N - 2, field));
+    let place = broken.place.map(|place| (N - 1, place));
+    Refused(broken.refusal, field.into_iter().chain(place).collect())
+}
+
 /// Answer `serial_number.start, .length, name.start, .length, device_type.start, .length,
-/// transports` and eight transports, 0 where there are fewer.
+/// transports`, eight transports, 0 where there are fewer, and `field, place`.
 pub fn information_read(message: &[u8], answer: &mut [u64]) -> u64 {
     ask(answer, || {
-        let told = Information::read(message)?;
+        let told = Information::read(message).map_err(fault_out::<17>)?;
         let parts = [&told.serial_number, &told.name, &told.device_type];
-        let mut row = [0; 15];
+        let mut row = [0; 17];
         let numbers = parts
             .into_iter()
             .flat_map(part_out)
@@ -567,7 +575,7 @@ pub fn information_read(message: &[u8], answer: &mut [u64]) -> u64 {
     })
 }
 
-/// Answer `written`.
+/// Answer `written, field, place`.
 pub fn information_write(
     serial_number: &[u8],
     name: &[u8],
@@ -583,8 +591,9 @@ pub fn information_write(
             .map(signed_in)
             .collect::<Result<_, _>>()?;
         let written =
-            control::write_information(serial_number, name, &transports, device_type, output)?;
-        Ok([wide(written)])
+            control::write_information(serial_number, name, &transports, device_type, output)
+                .map_err(fault_out::<3>)?;
+        Ok([wide(written), 0, 0])
     })
 }
 
@@ -620,7 +629,7 @@ pub fn outbox_new(output: &mut [u8], answer: &mut [u64]) -> u64 {
 /// A refusal of outbox bytes; the place that goes with 41 stands in the row's last number.
 fn broken_out<const N: usize>(broken: Broken) -> Refused {
     let told = broken.place.map(|place| (N - 1, wide(place)));
-    Refused(broken.refusal, told)
+    Refused(broken.refusal, told.into_iter().collect())
 }
 
 /// Answer `used, cut place`.

@@ -4,29 +4,14 @@
 //! Strings are parts of the message that was read, in nested messages too; an absent one is 0..0.
 
 use crate::control::{Making, Tokens, Wire};
-use crate::refusal::{deliver, Refusal};
+use crate::refusal::{deliver, Broken, Refusal};
+use crate::text;
 use std::ops::Range;
 
 /// "a ninth component is 34, 15 for the writer"
 pub const COMPONENTS: usize = 8;
 /// "segment_signature 64 hexadecimal digits of either case"
 pub const SIGNATURE: usize = 64;
-
-/// A refusal, with the field that goes with 50.
-#[derive(Clone, Copy, Debug, PartialEq, Eq)]
-pub struct Broken {
-    pub refusal: Refusal,
-    pub field: Option<u64>,
-}
-
-impl From<Refusal> for Broken {
-    fn from(refusal: Refusal) -> Broken {
-        Broken {
-            refusal,
-            field: None,
-        }
-    }
-}
 
 /// "A uint32 is the low 32 bits of its varint"
 fn low(value: u64) -> u32 {
@@ -47,6 +32,7 @@ fn profile(component_offset: u32, segment_signature: &[u8]) -> Result<(), Broken
     Err(Broken {
         refusal: Refusal::Profile,
         field: Some(field),
+        place: None,
     })
 }
 
@@ -66,10 +52,10 @@ impl Segment {
         let mut told = Segment::default();
         while let Some(tag) = tokens.tag()? {
             match tag {
-                (1, Wire::Delimited) => told.component_name = tokens.part()?,
+                (1, Wire::Delimited) => told.component_name = tokens.text(1)?,
                 (2, Wire::Varint) => told.component_offset = low(tokens.varint()?),
                 (3, Wire::Varint) => told.segment_size = low(tokens.varint()?),
-                (4, Wire::Delimited) => told.segment_signature = tokens.part()?,
+                (4, Wire::Delimited) => told.segment_signature = tokens.text(4)?,
                 (1..=4, _) => return Err(Refusal::WireType.into()),
                 (_, wire) => tokens.skip(wire)?,
             }
@@ -82,8 +68,8 @@ impl Segment {
     }
 }
 
-/// Writes an UpdateComponentSegment: 50, "between 15 and 14 when writing", then 14. No number of 32
-/// bits is out of range.
+/// Writes an UpdateComponentSegment: 36, then 50, "between 15 and 14 when writing", then 14. No
+/// number of 32 bits is out of range.
 pub fn write_segment(
     component_name: &[u8],
     component_offset: u32,
@@ -91,6 +77,8 @@ pub fn write_segment(
     segment_signature: &[u8],
     output: &mut [u8],
 ) -> Result<usize, Broken> {
+    text::judge(1, component_name)?;
+    text::judge(4, segment_signature)?;
     profile(component_offset, segment_signature)?;
     let made = Making::default()
         .unless_empty(1, component_name)
@@ -110,16 +98,16 @@ pub struct Component {
 }
 
 impl Component {
-    fn within(message: &[u8], part: Range<usize>) -> Result<Component, Refusal> {
+    fn within(message: &[u8], part: Range<usize>) -> Result<Component, Broken> {
         let mut tokens = Tokens::over(message, part);
         let mut told = Component::default();
         while let Some(tag) = tokens.tag()? {
             match tag {
                 (1, Wire::Varint) => told.version = low(tokens.varint()?),
-                (2, Wire::Delimited) => told.name = tokens.part()?,
+                (2, Wire::Delimited) => told.name = tokens.text(2)?,
                 (3, Wire::Varint) => told.size = low(tokens.varint()?),
-                (4, Wire::Delimited) => told.signature = tokens.part()?,
-                (1..=4, _) => return Err(Refusal::WireType),
+                (4, Wire::Delimited) => told.signature = tokens.text(4)?,
+                (1..=4, _) => return Err(Refusal::WireType.into()),
                 (_, wire) => tokens.skip(wire)?,
             }
         }
@@ -148,22 +136,22 @@ pub struct Information {
 
 impl Information {
     /// "Outer messages are read through before inner ones": the components after the end.
-    fn within(message: &[u8], part: Range<usize>) -> Result<Information, Refusal> {
+    fn within(message: &[u8], part: Range<usize>) -> Result<Information, Broken> {
         let mut tokens = Tokens::over(message, part);
         let mut told = Information::default();
         let mut components = Vec::new();
         while let Some(tag) = tokens.tag()? {
             match tag {
                 (1, Wire::Varint) => told.version = low(tokens.varint()?),
-                (2, Wire::Delimited) => told.name = tokens.part()?,
+                (2, Wire::Delimited) => told.name = tokens.text(2)?,
                 // "both new 34s are judged at the tag"
                 (3, Wire::Delimited) if components.len() == COMPONENTS => {
-                    return Err(Refusal::TooMany)
+                    return Err(Refusal::TooMany.into())
                 }
                 (3, Wire::Delimited) => components.push(tokens.part()?),
-                (4, Wire::Delimited) => told.locale = tokens.part()?,
-                (5, Wire::Delimited) => told.version_name = tokens.part()?,
-                (1..=5, _) => return Err(Refusal::WireType),
+                (4, Wire::Delimited) => told.locale = tokens.text(4)?,
+                (5, Wire::Delimited) => told.version_name = tokens.text(5)?,
+                (1..=5, _) => return Err(Refusal::WireType.into()),
                 (_, wire) => tokens.skip(wire)?,
             }
         }
@@ -199,17 +187,19 @@ pub struct Apply {
 
 impl Apply {
     /// "a second firmware_information is 34, an absent one reads as empty"
-    pub fn read(message: &[u8]) -> Result<Apply, Refusal> {
+    pub fn read(message: &[u8]) -> Result<Apply, Broken> {
         let mut tokens = Tokens::over(message, 0..message.len());
         let mut information = None;
         let mut restart_required = false;
         while let Some(tag) = tokens.tag()? {
             match tag {
-                (1, Wire::Delimited) if information.is_some() => return Err(Refusal::TooMany),
+                (1, Wire::Delimited) if information.is_some() => {
+                    return Err(Refusal::TooMany.into())
+                }
                 (1, Wire::Delimited) => information = Some(tokens.part()?),
                 // "a bool is true when not 0"
                 (2, Wire::Varint) => restart_required = tokens.varint()? != 0,
-                (1 | 2, _) => return Err(Refusal::WireType),
+                (1 | 2, _) => return Err(Refusal::WireType.into()),
                 (_, wire) => tokens.skip(wire)?,
             }
         }
@@ -225,11 +215,23 @@ fn text<'t>(texts: &'t [u8], part: &Range<usize>) -> Result<&'t [u8], Refusal> {
     texts.get(part.clone()).ok_or(Refusal::Argument)
 }
 
-/// Writes an ApplyFirmware whose parts are places in the texts: 15, then 14. Of firmware_information
-/// "the writer always writes one".
-pub fn write_apply(texts: &[u8], apply: &Apply, output: &mut [u8]) -> Result<usize, Refusal> {
+/// 36 "in writing order": the components stand between name and locale.
+fn judge_texts(texts: &[u8], information: &Information) -> Result<(), Broken> {
+    text::judge(2, text(texts, &information.name)?)?;
+    for component in &information.components {
+        text::judge(2, text(texts, &component.name)?)?;
+        text::judge(4, text(texts, &component.signature)?)?;
+    }
+    text::judge(4, text(texts, &information.locale)?)?;
+    text::judge(5, text(texts, &information.version_name)?)
+}
+
+/// Writes an ApplyFirmware whose parts are places in the texts: 15, then 36, then 14. Of
+/// firmware_information "the writer always writes one".
+pub fn write_apply(texts: &[u8], apply: &Apply, output: &mut [u8]) -> Result<usize, Broken> {
     let made = Making::default()
         .delimited(1, &apply.information.bytes(texts)?)
         .number(2, u64::from(apply.restart_required));
-    deliver(&made.0, output)
+    judge_texts(texts, &apply.information)?;
+    Ok(deliver(&made.0, output)?)
 }

@@ -88,6 +88,8 @@ const INFORMATION: &[&str] = &[
     "transport 5",
     "transport 6",
     "transport 7",
+    "field",
+    "place",
 ];
 /// The components count from 0.
 const APPLY: &[&str] = &[
@@ -149,7 +151,70 @@ const APPLY: &[&str] = &[
     "7.signature.start",
     "7.signature.length",
 ];
+/// The row that is told: the same, and what goes with a refusal.
+const APPLY_TOLD: &[&str] = &[
+    "restart_required",
+    "version",
+    "name.start",
+    "name.length",
+    "locale.start",
+    "locale.length",
+    "version_name.start",
+    "version_name.length",
+    "components",
+    "0.version",
+    "0.name.start",
+    "0.name.length",
+    "0.size",
+    "0.signature.start",
+    "0.signature.length",
+    "1.version",
+    "1.name.start",
+    "1.name.length",
+    "1.size",
+    "1.signature.start",
+    "1.signature.length",
+    "2.version",
+    "2.name.start",
+    "2.name.length",
+    "2.size",
+    "2.signature.start",
+    "2.signature.length",
+    "3.version",
+    "3.name.start",
+    "3.name.length",
+    "3.size",
+    "3.signature.start",
+    "3.signature.length",
+    "4.version",
+    "4.name.start",
+    "4.name.length",
+    "4.size",
+    "4.signature.start",
+    "4.signature.length",
+    "5.version",
+    "5.name.start",
+    "5.name.length",
+    "5.size",
+    "5.signature.start",
+    "5.signature.length",
+    "6.version",
+    "6.name.start",
+    "6.name.length",
+    "6.size",
+    "6.signature.start",
+    "6.signature.length",
+    "7.version",
+    "7.name.start",
+    "7.name.length",
+    "7.size",
+    "7.signature.start",
+    "7.signature.length",
+    "field",
+    "place",
+];
 const MESSAGE_READ: &[u64] = &[0, 1, 30, 31, 32, 33, 34];
+const STRINGS_READ: &[u64] = &[0, 1, 30, 31, 32, 33, 34, 36];
 
 impl Operation {
     pub const ALL: [Operation; 26] = [
@@ -319,16 +384,16 @@ impl Operation {
                 name: "information read",
                 inputs: &["message"],
                 answer: INFORMATION,
-                returns: MESSAGE_READ,
+                returns: STRINGS_READ,
                 ..empty
             },
             Operation::InformationWrite => Shape {
                 name: "information write",
                 numbers: &["transports..."],
                 inputs: &["serial_number", "name", "device_type"],
-                answer: &["written"],
+                answer: &["written", "field", "place"],
                 lent: "output",
-                returns: &[0, 1, 14, 15],
+                returns: &[0, 1, 14, 15, 36],
                 ..empty
             },
             Operation::FeaturesRead => Shape {
@@ -358,34 +423,35 @@ impl Operation {
                     "signature.start",
                     "signature.length",
                     "field",
+                    "place",
                 ],
                 // Nothing is too many.
-                returns: &[0, 1, 30, 31, 32, 33, 50],
+                returns: &[0, 1, 30, 31, 32, 33, 36, 50],
                 ..empty
             },
             Operation::SegmentWrite => Shape {
                 name: "segment write",
                 numbers: &["offset", "size"],
                 inputs: &["name", "signature"],
-                answer: &["written", "field"],
+                answer: &["written", "field", "place"],
                 lent: "output",
-                returns: &[0, 1, 14, 15, 50],
+                returns: &[0, 1, 14, 15, 36, 50],
                 ..empty
             },
             Operation::ApplyRead => Shape {
                 name: "apply read",
                 inputs: &["message"],
-                answer: APPLY,
-                returns: MESSAGE_READ,
+                answer: APPLY_TOLD,
+                returns: STRINGS_READ,
                 ..empty
             },
             Operation::ApplyWrite => Shape {
                 name: "apply write",
                 numbers: APPLY,
                 inputs: &["texts"],
-                answer: &["written"],
+                answer: &["written", "field", "place"],
                 lent: "output",
-                returns: &[0, 1, 14, 15],
+                returns: &[0, 1, 14, 15, 36],
                 ..empty
             },
             Operation::FieldRead => Shape {

@@ -15,3 +15,4 @@ pub mod low_energy;
 pub mod outbox;
 pub mod refusal;
 pub mod rng;
+pub mod text;

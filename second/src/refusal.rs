@@ -61,6 +61,9 @@ pub enum Refusal {
     /// "second payload member, or a ninth transport"; by No. 1 "a second firmware_information" and
     /// "a ninth component" too
     TooMany = 34,
+    /// "a string not well formed, told with its field and the place in it of the first bad sequence"
+    /// (No. 3)
+    Text = 36,
     /// "outbox empty, or version not 01"
     Version = 40,
     /// "record cut short, told with the place of its length"
@@ -83,6 +86,25 @@ impl Refusal {
 impl fmt::Display for Refusal {
     fn fmt(&self, f: &mut fmt::Formatter<'_>) -> fmt::Result {
         write!(f, "{}", self.number())
+    }
+}
+
+/// A refusal with what is told beside its number: the field that goes with 36 and 50, the place that
+/// goes with 36.
+#[derive(Clone, Copy, Debug, PartialEq, Eq)]
+pub struct Broken {
+    pub refusal: Refusal,
+    pub field: Option<u64>,
+    pub place: Option<u64>,
+}
+
+impl From<Refusal> for Broken {
+    fn from(refusal: Refusal) -> Broken {
+        Broken {
+            refusal,
+            field: None,
+            place: None,
+        }
     }
 }
 

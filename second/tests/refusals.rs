@@ -529,10 +529,11 @@ fn the_sequence_skips_the_marks() {
 fn numbers(message: &str) -> [Result<(), u64>; 4] {
     let message = bytes(message);
     let plain = |told: Result<(), Refusal>| told.map_err(Refusal::number);
+    let strings = Information::read(&message).map(drop);
     [
         plain(Envelope::read(&message).map(drop)),
         plain(Response::read(&message).map(drop)),
-        plain(Information::read(&message).map(drop)),
+        plain(strings.map_err(|broken| broken.refusal)),
         plain(Features::read(&message).map(drop)),
     ]
 }
@@ -695,7 +696,7 @@ fn messages_written() {
     assert_eq!(written(largest), Ok(bytes("FA FF FF FF 0F 01 41")));
     assert_eq!(written(Given::None), Ok(vec![]));
     let nine = control::write_information(&[], &[], &[0; 9], &[], &mut []);
-    assert_eq!(nine, Err(Refusal::Argument));
+    assert_eq!(nine, Err(Refusal::Argument.into()));
     let written = control::write_information(b"s", b"", &[0, -1], b"t", &mut output).unwrap();
     let expected = bytes("0A 01 73 1A 0B 00 FF FF FF FF FF FF FF FF FF 01 22 01 74");
     assert_eq!(output[..written], expected);

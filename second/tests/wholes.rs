@@ -208,7 +208,8 @@ fn control_messages_come_back() {
     for _ in 0..3_000 {
         let text = |rng: &mut Rng| {
             let size = rng.index(150);
-            rng.bytes(size)
+            let code = |_| char::from_u32(rng.below(0x11_0000) as u32);
+            String::from_iter((0..size / 4).filter_map(code)).into_bytes()
         };
         let (serial, name, kind) = (text(&mut rng), text(&mut rng), text(&mut rng));
         let transports: Vec<i32> = (0..rng.index(9))

@@ -4,21 +4,23 @@ use mathlib.Core.Bool.{cond, _||_}
 use mathlib.Core.List.{List, []}
 use lib.ListN.{length}
 use lib.Dec.{eqb}
-use Rattle.wire.specs.Told.{refused, written, Written, WrittenOf}
+use Rattle.wire.specs.Told.{refused, written, WrittenOf}
 use Rattle.field.specs.Unsigned.{unsignedOf}
-use Rattle.firmware.specs.Segment.{segmentOf, numberMore}
+use Rattle.walk.specs.Refusal.{numberMore}
+use Rattle.firmware.specs.Segment.{segmentOf}
 use Rattle.firmware_writer.specs.Segment.{segmentWritten}
 use Rattle.firmware.specs.Apply.{applyOf}
 use Rattle.firmware_writer.specs.Apply.{applyWritten}
 use Rattle.rows.specs.Row.{numberTold}
-use Rattle.rows.specs.Called.{Called, ifFit, answers, writerCall}
+use Rattle.rows.specs.Called.{Called, ifFit, answers}
+use Rattle.rows_messages.specs.Convert.{textCall}
 use Rattle.rows_firmware.specs.More.{isWide}
-use Rattle.rows_firmware.specs.Segment.{segmentRow, wroteRow}
-use Rattle.rows_firmware.specs.Apply.{rowSize, applyRow, badRow, applyAt}
+use Rattle.rows_firmware.specs.Segment.{segmentRow}
+use Rattle.rows_firmware.specs.Apply.{rowSize, answerSize, applyRow, badRow, applyAt}
 use Rattle.rows_firmware.specs.FieldRow.{fieldAt, rowTold}
 
 unfoldable pub segmentReadOf : List ℕ → List ℕ → Called
-segmentReadOf message answer = answers 7 answer [] (numberMore (segmentOf message)) [] (segmentRow (segmentOf message))
+segmentReadOf message answer = answers 8 answer [] (numberMore (segmentOf message)) [] (segmentRow (segmentOf message))
 
 -- an offset or size above 32 bits is out of range: 15; any other is its own low 32 bits
 unfoldable pub segmentStored : List ℕ → ℕ → ℕ → List ℕ → List ℕ → WrittenOf (ℕ × List ℕ) ℕ
@@ -27,19 +29,18 @@ segmentStored name offset size signature out =
 
 unfoldable pub segmentWriteOf : List ℕ → ℕ → ℕ → List ℕ → List ℕ → List ℕ → Called
 segmentWriteOf name offset size signature out answer =
-    let w = segmentStored name offset size signature out in
-    answers 2 answer out (numberMore (w .told)) (w .out) (wroteRow (w .told))
+    textCall out answer (segmentStored name offset size signature out)
 
 unfoldable pub applyReadOf : List ℕ → List ℕ → Called
-applyReadOf message answer = answers rowSize answer [] (numberTold (applyOf message)) [] (applyRow (applyOf message))
+applyReadOf message answer = answers answerSize answer [] (numberMore (applyOf message)) [] (applyRow (applyOf message))
 
 -- a row whose numbers no message has is out of range: 15
-unfoldable pub applyStored : List ℕ → List ℕ → List ℕ → Written ℕ
-applyStored row texts out = cond (badRow row) (written (refused 15) out) (applyWritten (applyAt row) texts out)
+unfoldable pub applyStored : List ℕ → List ℕ → List ℕ → WrittenOf (ℕ × List ℕ) ℕ
+applyStored row texts out = cond (badRow row) (written (refused (15, [])) out) (applyWritten (applyAt row) texts out)
 
 unfoldable pub applyWriteOf : List ℕ → List ℕ → List ℕ → List ℕ → Called
 applyWriteOf row texts out answer =
-    ifFit (eqb (length row) rowSize) [] out answer (writerCall out answer (applyStored row texts out))
+    ifFit (eqb (length row) rowSize) [] out answer (textCall out answer (applyStored row texts out))
 
 unfoldable pub fieldReadOf : List ℕ → ℕ → List ℕ → Called
 fieldReadOf message place answer = answers 7 answer [] (numberTold (fieldAt message place)) [] (rowTold (fieldAt message place))

@@ -5,26 +5,25 @@ use firmware::apply::read_apply;
 use firmware::segment::read_segment;
 use firmware_writer::apply::write_apply;
 use firmware_writer::segment::write_segment;
-use rows::row::COUNT_ANSWER;
-use rows::row::Count;
 use rows::row::UNFIT;
 use rows::row::put;
-use rows::row::tell;
 use rows_firmware::apply::APPLY_ANSWER;
+use rows_firmware::apply::APPLY_ROW;
 use rows_firmware::apply::apply_at;
 use rows_firmware::apply::bad_row;
 use rows_firmware::apply::put_apply;
 use rows_firmware::field_row::FIELD_ANSWER;
 use rows_firmware::field_row::told_field;
 use rows_firmware::segment::SEGMENT_ANSWER;
-use rows_firmware::segment::SEGMENT_WROTE_ANSWER;
 use rows_firmware::segment::is_wide;
 use rows_firmware::segment::segment_number;
 use rows_firmware::segment::segment_row;
 use rows_firmware::segment::wrote_number;
 use rows_firmware::segment::wrote_row;
-use rows_messages::convert::count_of;
+use rows_messages::convert::WROTE_ANSWER;
+use rows_messages::convert::tell_wrote;
 use rows_messages::convert::verdict_number;
+use text_writer::TextWrote;
 use wire::bytes::wide64;
 use wire::logic::either;
 ghost use mathlib.Core.Path.{_≡_};
@@ -60,12 +59,12 @@ pub fn segment_write(
         ≡ segmentWriteOf (now (name .entry)) offset size (now (signature .entry)) (now (output .entry))
         (now (answer .entry)) ⌝ }
 {
-    if answer.len() != SEGMENT_WROTE_ANSWER {
+    if answer.len() != WROTE_ANSWER {
         return UNFIT;
     }
     if either(is_wide(offset), is_wide(size)) {
         let number = wide64(WriteRefusal::BadArgument.number());
-        let row = [0u64; 2];
+        let row = [0u64; 3];
         put(answer, number, &row);
         return number;
     }
@@ -93,7 +92,7 @@ pub fn apply_read(message: &[u8], answer: &mut [u64]) -> u64
     let verdict = read.verdict;
     let apply = read.apply;
     let number = verdict_number(verdict);
-    put_apply(answer, number, apply);
+    put_apply(answer, number, verdict, apply);
     number
 }
 
@@ -102,18 +101,18 @@ pub fn apply_write(row: &[u64], texts: &[u8], output: &mut [u8], answer: &mut [u
     ensures { λ r. ⌜ called r [] (now (output .exit)) (now (answer .exit))
         ≡ applyWriteOf (now (row .entry)) (now (texts .entry)) (now (output .entry)) (now (answer .entry)) ⌝ }
 {
-    if row.len() != APPLY_ANSWER {
+    if row.len() != APPLY_ROW {
         return UNFIT;
     }
-    if answer.len() != COUNT_ANSWER {
+    if answer.len() != WROTE_ANSWER {
         return UNFIT;
     }
     if bad_row(row) {
-        return tell(answer, Count::none(WriteRefusal::BadArgument.number()));
+        return tell_wrote(answer, TextWrote::Refused(WriteRefusal::BadArgument));
     }
     let apply = apply_at(row);
     let wrote = write_apply(output, apply, texts);
-    tell(answer, count_of(wrote))
+    tell_wrote(answer, wrote)
 }
 
 // Reads the field at a place of any message.

@@ -4,13 +4,14 @@ use mathlib.Core.Bool.{cond}
 use mathlib.Core.List.{List, [], map}
 use Rattle.wire.specs.Told.{refused, written}
 use Rattle.field.specs.Signed.{signedOf}
+use Rattle.walk.specs.Refusal.{numberMore}
 use Rattle.control.specs.declared.envelope.EnvelopePayload.{EnvelopePayload}
 use Rattle.control.specs.Envelope.{envelopeOf, envelopeWritten}
 use Rattle.control.specs.Response.{responseFrom, responseWritten}
 use Rattle.device.specs.Features.{featuresOf, featuresWritten}
 use Rattle.device.specs.Information.{informationOf, informationWritten}
 use Rattle.rows.specs.Row.{numberTold}
-use Rattle.rows_messages.specs.Convert.{allSigned, envelopeRow, responseRow, featuresRow, informationRow, responsePayloadOf}
+use Rattle.rows_messages.specs.Convert.{allSigned, envelopeRow, responseRow, featuresRow, informationRow, textCall, responsePayloadOf}
 use Rattle.rows.specs.Called.{Called, answers, writerCall}
 
 unfoldable pub envelopeReadOf : List ℕ → List ℕ → Called
@@ -35,10 +36,10 @@ featuresWriteOf features attributes out answer =
 
 unfoldable pub informationReadOf : List ℕ → List ℕ → Called
 informationReadOf message answer =
-    answers 15 answer [] (numberTold (informationOf message)) [] (informationRow (informationOf message))
+    answers 17 answer [] (numberMore (informationOf message)) [] (informationRow (informationOf message))
 
 -- a transport that is no signed number is out of range: 15
 unfoldable pub informationWriteOf : List ℕ → List ℕ → List ℕ → List ℕ → List ℕ → List ℕ → Called
 informationWriteOf serialNumber name deviceType transports out answer =
-    writerCall out answer
-    (cond (allSigned transports) (informationWritten serialNumber name (map signedOf transports) deviceType out) (written (refused 15) out))
+    textCall out answer
+    (cond (allSigned transports) (informationWritten serialNumber name (map signedOf transports) deviceType out) (written (refused (15, [])) out))

@@ -11,29 +11,29 @@ use device::information::write_information;
 use field::signed::low_signed;
 use field_writer::message::WriteRefusal;
 use rows::row::COUNT_ANSWER;
-use rows::row::Count;
 use rows::row::UNFIT;
 use rows::row::put;
-use rows::row::put_both;
 use rows::row::tell;
 use rows_messages::convert::ENVELOPE_ANSWER;
 use rows_messages::convert::FEATURES_ANSWER;
 use rows_messages::convert::INFORMATION_ANSWER;
 use rows_messages::convert::RESPONSE_ANSWER;
+use rows_messages::convert::WROTE_ANSWER;
 use rows_messages::convert::all_signed;
 use rows_messages::convert::count_of;
 use rows_messages::convert::envelope_number;
 use rows_messages::convert::envelope_row;
 use rows_messages::convert::features_number;
 use rows_messages::convert::features_row;
-use rows_messages::convert::parts_row;
 use rows_messages::convert::payload_for;
+use rows_messages::convert::put_information;
 use rows_messages::convert::response_number;
 use rows_messages::convert::response_payload;
 use rows_messages::convert::response_row;
 use rows_messages::convert::signed_list;
-use rows_messages::convert::transports_row;
+use rows_messages::convert::tell_wrote;
 use rows_messages::convert::verdict_number;
+use text_writer::TextWrote;
 use walk::gathered::MOST_TRANSPORTS;
 ghost use mathlib.Core.Path.{_≡_};
 ghost use mathlib.Core.List.{[]};
@@ -160,10 +160,7 @@ pub fn information_read(message: &[u8], answer: &mut [u64]) -> u64
     let verdict = read.verdict;
     let information = read.information;
     let number = verdict_number(verdict);
-    let parts = parts_row(information);
-    let listed = information.transports;
-    let transports = transports_row(&listed);
-    put_both(answer, number, &parts, &transports);
+    put_information(answer, number, verdict, information);
     number
 }
 
@@ -180,17 +177,17 @@ pub fn information_write(
         ≡ informationWriteOf (now («serial_number» .entry)) (now (name .entry)) (now («device_type» .entry))
         (now (transports .entry)) (now (output .entry)) (now (answer .entry)) ⌝ }
 {
-    if answer.len() != COUNT_ANSWER {
+    if answer.len() != WROTE_ANSWER {
         return UNFIT;
     }
     if MOST_TRANSPORTS < transports.len() {
-        return tell(answer, Count::none(WriteRefusal::BadArgument.number()));
+        return tell_wrote(answer, TextWrote::Refused(WriteRefusal::BadArgument));
     }
     if !all_signed(transports) {
-        return tell(answer, Count::none(WriteRefusal::BadArgument.number()));
+        return tell_wrote(answer, TextWrote::Refused(WriteRefusal::BadArgument));
     }
     let list = signed_list(transports);
     let count = transports.len();
     let wrote = write_information(output, serial_number, name, &list[..count], device_type);
-    tell(answer, count_of(wrote))
+    tell_wrote(answer, wrote)
 }

@@ -1,8 +1,8 @@
 -- The row of an ApplyFirmware: the message that it stands for, and the longest that this can be.
-use Prim.Native.Nat.{ℕ, zero, suc, _+_, _*_, _≤_, _<_, _^_, zero-le}
-use mathlib.Core.Path.{_≡_, refl, ap, _∙_}
+use Prim.Native.Nat.{ℕ, zero, suc, _+_, _*_, _≤_, _^_, zero-le}
+use mathlib.Core.Path.{_≡_, refl, ap}
 use mathlib.Core.Bool.{false}
-use mathlib.Core.List.{List, [], _∷_, map}
+use mathlib.Core.List.{List, [], _∷_, _++_, map}
 use native.Mathlib.Omega.{arith}
 use lib.ListN.{length, take, drop, getD}
 use borrow.Author.Tests.{lt-ltb, le-ltb}
@@ -15,13 +15,15 @@ use Rattle.field_writer.proofs.Runs.{message-length}
 use Rattle.walk.specs.Schema.{firmwareInformationField, restartRequiredField, firmwareVersionField, firmwareNameField, componentsField, localeField, versionNameField, firmwareComponentVersionField, firmwareComponentNameField, firmwareComponentSizeField, firmwareComponentSignatureField}
 use Rattle.firmware.specs.declared.component.FirmwareComponent.{FirmwareComponent}
 use Rattle.firmware.specs.declared.apply.ApplyFirmware.{ApplyFirmware}
+use Rattle.text_writer.specs.Texts.{AllWellFormed}
 use Rattle.firmware_writer.specs.Component.{outside, badComponent, componentFields, componentField}
-use Rattle.firmware_writer.specs.Information.{badComponents, badFirmware, present, firmwareFields}
+use Rattle.firmware_writer.specs.Information.{badComponents, badFirmware, present, componentsStrings, firmwareStrings, firmwareFields}
 use Rattle.firmware_writer.specs.Apply.{boolValue, applyFields}
 use Rattle.firmware_writer.proofs.Texts.{component-length, firmware-length}
+use Rattle.firmware_round_trips.specs.RoundTrip.{Unsigned32}
 use Rattle.rows_firmware.specs.More.{isWide}
 use Rattle.rows_firmware.specs.Apply.{componentAt, componentsAt, applyAt, wideAt, anyWide, badRow}
-use Rattle.capi_claims.specs.SizesSuffice.{Unsigned32, LiesAt, ComponentsFit, stringsFrom, RowFits, stringsOf, applySize}
+use Rattle.capi_claims.specs.SizesSuffice.{LiesAt, ComponentsFit, stringsFrom, RowFits, stringsOf, applySize}
 use Rattle.capi_claims.proofs.Sizes.{scalar-most, text-most, nested-most, tag-small}
 
 -- ---- numbers of 32 bits
@@ -36,7 +38,7 @@ low-same n h = omega arith
 module _ (texts row : List ℕ) where
   lies : (at : ℕ) → LiesAt texts row at → outside texts (record { start = getD row at 0; len = getD row (at + 1) 0 }) ≡ false
   unfolding outside
-  lies at h = le-ltb (length texts) (getD row at 0 + getD row (at + 1) 0) h
+  lies at h = le-ltb (length texts) (getD row at 0 + getD row (at + 1) 0) (h .0)
 
   none-wide : (n at : ℕ) → ComponentsFit n texts row at → anyWide n row at ≡ false
   unfolding wideAt
@@ -47,6 +49,11 @@ module _ (texts row : List ℕ) where
   unfolding badComponent componentAt
   none-outside zero at h = refl
   none-outside (suc n) at h = rw (lies (at + 1) (h .0 .1), lies (at + 4) (h .0 .3), none-outside n (at + 6) (h .1))
+
+  strings-behind : (n at : ℕ) (others : List (ℕ × List ℕ)) → ComponentsFit n texts row at → AllWellFormed others → AllWellFormed (componentsStrings texts (componentsAt n row at) ++ others)
+  unfolding componentAt
+  strings-behind zero at others h w = w
+  strings-behind (suc n) at others h w = (h .0 .1 .1, (h .0 .3 .1, strings-behind n (at + 6) others (h .1) w))
 
   -- the first of the eight
   first-of : (n m at : ℕ) → n ≤ m → take n (componentsAt m row at) ≡ componentsAt n row at
@@ -79,6 +86,13 @@ module _ (texts row : List ℕ) where
           lies 4 (h .locale),
           lies 6 (h .version-name),
         )
+
+    -- its strings are well formed
+    pub strings-fine : AllWellFormed (firmwareStrings texts (applyAt row .«firmware_information»))
+    unfolding applyAt
+    strings-fine =
+        rw there
+        (h .name .1, strings-behind (getD row 8 0) 9 _ (h .components) (h .locale .1, (h .version-name .1, tt)))
 
 -- ---- the longest that it can be
 taken : (n : ℕ) (l : List ℕ) → length (take n l) ≤ n

@@ -1,5 +1,5 @@
 -- An instance of each field of SizesSuffice but ApplyFirmware's: the ends of its ranges, and just the output that the header names. The append also by computation.
-use Prim.Native.Nat.{ℕ, zero, suc}
+use Prim.Native.Nat.{ℕ, zero, suc, _≤_, zero-le}
 use mathlib.Core.Path.{_≡_, refl}
 use mathlib.Core.Logic.{inl, inr}
 use mathlib.Core.List.{List, [], _∷_, map}
@@ -7,6 +7,9 @@ use native.Mathlib.Omega.{arith}
 use lib.IntN.{ℤ, pos, negsuc}
 use lib.ListN.{replicate}
 use Rattle.field.specs.Signed.{extended}
+use borrow.Author.Tests.{le-leb}
+use Rattle.text.specs.Table.{rows, within, described}
+use Rattle.text.specs.WellFormed.{WellFormed, empty, more}
 use Rattle.wire.specs.Stream.{isStream}
 use Rattle.sender.specs.Piece.{sizeFor}
 use Rattle.outbox.specs.Format.{numberOf, bytesOf, recordBytes}
@@ -69,13 +72,18 @@ member =
 alone : Done (responseWriteOf (extended (negsuc 2147483647)) 2 (65 ∷ []) (bytes 32) (7 ∷ []))
 alone = sizes-suffice .response-write (negsuc 2147483647) 2 (65 ∷ []) (bytes 32) (7 ∷ []) refl (omega arith) (inr (omega arith, omega arith)) (omega arith)
 
+-- one ASCII byte is a string that is well formed
+letter : (b : ℕ) → b ≤ 127 → WellFormed (b ∷ [])
+unfolding described rows within
+letter b h = more (b ∷ []) [] refl (rw (le-leb 0 b zero-le, le-leb b 127 h)) empty
+
 abbrev transports : List ℤ
 transports = replicate 8 (negsuc 2147483647)
 
-information : Done (informationWriteOf (65 ∷ []) (66 ∷ []) (67 ∷ []) (map extended transports) (bytes 127) (7 ∷ []))
+information : Done (informationWriteOf (65 ∷ []) (66 ∷ []) (67 ∷ []) (map extended transports) (bytes 127) (7 ∷ 7 ∷ 7 ∷ []))
 information =
-    sizes-suffice .information-write (65 ∷ []) (66 ∷ []) (67 ∷ []) transports (bytes 127) (7 ∷ []) refl
-    (omega arith, (omega arith, (omega arith, (omega arith, (omega arith, (omega arith, (omega arith, (omega arith, tt)))))))) (omega arith) (omega arith)
+    sizes-suffice .information-write (65 ∷ []) (66 ∷ []) (67 ∷ []) transports (bytes 127) (7 ∷ 7 ∷ 7 ∷ []) refl
+    (omega arith, (omega arith, (omega arith, (omega arith, (omega arith, (omega arith, (omega arith, (omega arith, tt)))))))) (omega arith) (letter 65 (omega arith)) (letter 66 (omega arith)) (letter 67 (omega arith)) (omega arith)
 
 features : Done (featuresWriteOf 18446744073709551615 18446744073709551615 (bytes 22) (7 ∷ []))
 features = sizes-suffice .features-write 18446744073709551615 18446744073709551615 (bytes 22) (7 ∷ []) refl (omega arith)
@@ -84,8 +92,8 @@ digits : (n : ℕ) → Digits (replicate n 102)
 digits zero = tt
 digits (suc n) = (lower (omega arith) (omega arith), digits n)
 
-segment : Done (segmentWriteOf (65 ∷ []) 0 4294967295 (replicate 64 102) (bytes 98) (7 ∷ 7 ∷ []))
-segment = sizes-suffice .segment-write (65 ∷ []) 4294967295 (replicate 64 102) (bytes 98) (7 ∷ 7 ∷ []) refl (omega arith) refl (digits 64) (omega arith)
+segment : Done (segmentWriteOf (65 ∷ []) 0 4294967295 (replicate 64 102) (bytes 98) (7 ∷ 7 ∷ 7 ∷ []))
+segment = sizes-suffice .segment-write (65 ∷ []) 4294967295 (replicate 64 102) (bytes 98) (7 ∷ 7 ∷ 7 ∷ []) refl (letter 65 (omega arith)) (omega arith) refl (digits 64) (omega arith)
 
 new : Done (outboxNewOf 4096 (bytes 1) (7 ∷ []))
 new = sizes-suffice .outbox-new 4096 (bytes 1) (7 ∷ []) refl (omega arith)

@@ -6,4 +6,5 @@ mod Sizes
 mod Applies
 mod SizesSuffice
 mod RowsAgree
+mod Strings
 mod Instances

@@ -21,7 +21,7 @@ use Rattle.feed.specs.Feed.{feedFrom, fed}
 use Rattle.frame_writer.specs.Writer.{writeOf}
 use Rattle.parts.specs.State.{startOf, badStart, lawful, missing}
 use Rattle.parts.specs.Fill.{fillOf}
-use Rattle.parts.specs.Writer.{wrote, filled, partOf}
+use Rattle.parts.specs.Writer.{wrote, filled}
 use Rattle.packet.specs.Header.{inRange}
 use Rattle.packet.specs.Control.{ackSize, ackBytes}
 use Rattle.acknowledgement.specs.Acknowledgement.{ackOf}
@@ -36,13 +36,17 @@ use Rattle.walk.specs.Gathered.{mostTransports}
 use Rattle.field_writer.specs.Message.{writesMessage}
 use Rattle.control.specs.Envelope.{badPayload, envelopeFields, envelopeWritten}
 use Rattle.control.specs.Response.{badResponsePayload, responseFields, responseWritten}
-use Rattle.device.specs.Information.{informationFields, informationWritten}
+use Rattle.walk.specs.Refusal.{numberMore}
+use Rattle.text_writer.specs.declared.Fault.{Fault}
+use Rattle.text_writer.specs.declared.Fault.the-variants.{None, At}
+use Rattle.text_writer.specs.Texts.{firstFault, faulted, aloneWritten, writesTexts}
+use Rattle.device.specs.Information.{informationStrings, informationFields, informationWritten}
 use Rattle.device.specs.Features.{featuresFields, featuresWritten}
 use Rattle.field.specs.Unsigned.{unsignedOf}
 use Rattle.firmware.specs.declared.apply.ApplyFirmware.{ApplyFirmware}
-use Rattle.firmware.specs.Segment.{brokenField, numberMore}
-use Rattle.firmware_writer.specs.Segment.{segmentFields, segmentWritten}
-use Rattle.firmware_writer.specs.Information.{badFirmware}
+use Rattle.firmware.specs.Segment.{brokenField}
+use Rattle.firmware_writer.specs.Segment.{segmentStrings, segmentFields, segmentFilled, segmentWritten}
+use Rattle.firmware_writer.specs.Information.{badFirmware, firmwareStrings}
 use Rattle.firmware_writer.specs.Apply.{applyFields, applyWritten}
 use Rattle.outbox.specs.Format.{versionOne, newBytes, recordBytes}
 use Rattle.outbox.specs.Reader.{Answer, walkOf, numberIn}
@@ -54,8 +58,7 @@ use Rattle.calls_sending.specs.Convert.{streamWith, packetRow}
 use Rattle.calls_receiving.specs.Convert.{isReceiver, slotsOf}
 use Rattle.rows_messages.specs.Convert.{allSigned, responsePayloadOf}
 use Rattle.rows_firmware.specs.More.{isWide}
-use Rattle.rows_firmware.specs.Segment.{wroteRow}
-use Rattle.rows_firmware.specs.Apply.{rowSize, badRow, applyAt}
+use Rattle.rows_firmware.specs.Apply.{rowSize, answerSize, badRow, applyAt}
 use Rattle.calls_outbox.specs.Convert.{usedIn, usedRow}
 use Rattle.rows.specs.Called.{ifFit}
 use Rattle.calls_classic.specs.Calls.{stepped, fedCall, noneUsed, extractorStepOf, extractorFeedOf, frameWriteOf, nextSequenceOf}
@@ -67,7 +70,7 @@ use Rattle.calls_messages.specs.Calls.{envelopeReadOf, envelopeWriteOf, respons
 use Rattle.calls_firmware.specs.Calls.{segmentReadOf, segmentStored, segmentWriteOf, applyReadOf, applyStored, applyWriteOf, fieldReadOf}
 use Rattle.calls_outbox.specs.Calls.{outboxNewOf, outboxAppendOf, outboxRecordOf, outboxWholeOf}
 use Rattle.capi_claims.specs.OneLeavesAll.{Keeps, OneLeavesAll}
-use Rattle.capi_claims.proofs.Rows.{keeps-if, keeps-rows, keeps-answers, writes-keeps, keeps-writer}
+use Rattle.capi_claims.proofs.Rows.{keeps-if, keeps-rows, keeps-answers, writes-keeps, keeps-writer, keeps-text}
 use Rattle.capi_claims.proofs.Extracting.{advance-not-one, feed-not-one}
 use Rattle.capi_claims.proofs.Accepting.{acted-keeps}
 
@@ -178,58 +181,76 @@ features-keeps features attributes out answer =
     let f : DeviceFeatures = record { features = features; «device_attributes» = attributes } in
     keeps-writer out answer (featuresWritten f out) (message-keeps false (featuresFields f) out)
 
+never : {A : Type 0} → _≡_ {A = ℕ} 0 1 → A
+never e = absurd (omega arith)
+
+-- .. and of messages with strings
+texts-kept : (bad short : Bool) (fault : Fault) (n : ℕ) (out after : List ℕ)
+    → let w : WrittenOf (ℕ × List ℕ) ℕ =
+    cond bad (written (refused (15, [])) out)
+    (faulted fault out (aloneWritten (cond bad (written (refused 15) out) (cond short (written (refused 14) out) (written (given n) after))))) in
+    numberMore (w .told) ≡ 1 → w .out ≡ out
+texts-kept true short fault n out after = λ e. refl
+texts-kept false short (At field place) n out after = λ e. refl
+texts-kept false true None n out after = λ e. refl
+texts-kept false false None n out after = never
+
+texts-keep : (bad : Bool) (strings : List (ℕ × List ℕ)) (fields : List Field) (out : List ℕ)
+    → numberMore (writesTexts bad strings fields out .told) ≡ 1 → writesTexts bad strings fields out .out ≡ out
+texts-keep bad strings fields out =
+    let bytes = messageBytes fields in
+    texts-kept bad (ltb (length out) (length bytes)) (firstFault strings) (length bytes) out (sets out 0 bytes)
+
 transports-keep : (signed : Bool) (serialNumber name : List ℕ) (transports : List ℤ) (deviceType out : List ℕ)
-    → let w = cond signed (informationWritten serialNumber name transports deviceType out) (written (refused 15) out) in
-    numberTold (w .told) ≡ 1 → w .out ≡ out
+    → let w = cond signed (informationWritten serialNumber name transports deviceType out) (written (refused (15, [])) out) in
+    numberMore (w .told) ≡ 1 → w .out ≡ out
 unfolding informationWritten
 transports-keep true serialNumber name transports deviceType out =
-    message-keeps (ltb mostTransports (length transports)) (informationFields serialNumber name transports deviceType) out
+    texts-keep (ltb mostTransports (length transports)) (informationStrings serialNumber name deviceType) (informationFields serialNumber name transports deviceType) out
 transports-keep false serialNumber name transports deviceType out = λ e. refl
 
 information-keeps : (serialNumber name deviceType transports out answer : List ℕ)
     → Keeps [] out answer (informationWriteOf serialNumber name deviceType transports out answer)
 unfolding informationWriteOf
 information-keeps serialNumber name deviceType transports out answer =
-    keeps-writer out answer
-    (cond (allSigned transports) (informationWritten serialNumber name (map signedOf transports) deviceType out) (written (refused 15) out))
+    keeps-text out answer
+    (cond (allSigned transports) (informationWritten serialNumber name (map signedOf transports) deviceType out) (written (refused (15, [])) out))
     (transports-keep (allSigned transports) serialNumber name (map signedOf transports) deviceType out)
 
-never : {A : Type 0} → _≡_ {A = ℕ} 0 1 → A
-never e = absurd (omega arith)
-
 -- writers of firmware messages
-segment-kept : (wide fine short : Bool) (field size : ℕ) (out after : List ℕ)
+segment-kept : (wide fine short : Bool) (fault : Fault) (field size : ℕ) (out after : List ℕ)
     → let w : WrittenOf (ℕ × List ℕ) ℕ =
     cond wide (written (refused (15, [])) out)
-    (cond fine (cond short (written (refused (14, [])) out) (written (given size) after)) (written (refused (50, field ∷ [])) out)) in
+    (faulted fault out (cond fine (cond short (written (refused (14, [])) out) (written (given size) after)) (written (refused (50, field ∷ [])) out))) in
     numberMore (w .told) ≡ 1 → w .out ≡ out
-segment-kept true fine short field size out after = λ e. refl
-segment-kept false false short field size out after = λ e. refl
-segment-kept false true true field size out after = λ e. refl
-segment-kept false true false field size out after = never
+segment-kept true fine short fault field size out after = λ e. refl
+segment-kept false fine short (At at place) field size out after = λ e. refl
+segment-kept false false short None field size out after = λ e. refl
+segment-kept false true true None field size out after = λ e. refl
+segment-kept false true false None field size out after = never
 
 segment-keeps : (offset size : ℕ) (name signature out answer : List ℕ)
     → Keeps [] out answer (segmentWriteOf name offset size signature out answer)
-unfolding segmentWriteOf segmentStored segmentWritten
+unfolding segmentWriteOf segmentStored segmentWritten segmentFilled
 segment-keeps offset size name signature out answer =
-    let w = segmentStored name offset size signature out in
     let bytes = messageBytes (segmentFields name (unsignedOf offset) (unsignedOf size) signature) in
     let broken = brokenField (unsignedOf offset) signature in
-    keeps-answers 2 (numberMore (w .told)) out answer (w .out) (wroteRow (w .told))
-    (segment-kept (isWide offset || isWide size) (eqb broken 0) (ltb (length out) (length bytes)) broken (length bytes) out (sets out 0 bytes))
+    keeps-text out answer (segmentStored name offset size signature out)
+    (segment-kept (isWide offset || isWide size) (eqb broken 0) (ltb (length out) (length bytes)) (firstFault (segmentStrings name signature)) broken (length bytes) out (sets out 0 bytes))
 
 apply-kept : (bad : Bool) (a : ApplyFirmware) (texts out : List ℕ)
-    → let w = cond bad (written (refused 15) out) (applyWritten a texts out) in
-    numberTold (w .told) ≡ 1 → w .out ≡ out
+    → let w = cond bad (written (refused (15, [])) out) (applyWritten a texts out) in
+    numberMore (w .told) ≡ 1 → w .out ≡ out
 unfolding applyWritten
 apply-kept true a texts out = λ e. refl
-apply-kept false a texts out = message-keeps (badFirmware texts (a .«firmware_information»)) (applyFields texts a) out
+apply-kept false a texts out =
+    texts-keep (badFirmware texts (a .«firmware_information»)) (firmwareStrings texts (a .«firmware_information»)) (applyFields texts a) out
 
 apply-keeps : (row texts out answer : List ℕ) → Keeps [] out answer (applyWriteOf row texts out answer)
 unfolding applyWriteOf applyStored
 apply-keeps row texts out answer =
     keeps-if (eqb (length row) rowSize) [] out answer _
-    (keeps-writer out answer (applyStored row texts out) (apply-kept (badRow row) (applyAt row) texts out))
+    (keeps-text out answer (applyStored row texts out) (apply-kept (badRow row) (applyAt row) texts out))
 
 -- the outbox: a refusal leaves the buffer
 StoredKeeps : List ℕ → Stored → Type 0
@@ -281,13 +302,13 @@ one-leaves-all = record {
   envelope-write = envelope-keeps;
   response-read = λ message answer. keeps-answers 4 _ [] answer _ _ (λ e. refl);
   response-write = response-keeps;
-  information-read = λ message answer. keeps-answers 15 _ [] answer _ _ (λ e. refl);
+  information-read = λ message answer. keeps-answers 17 _ [] answer _ _ (λ e. refl);
   information-write = information-keeps;
   features-read = λ message answer. keeps-answers 2 _ [] answer _ _ (λ e. refl);
   features-write = features-keeps;
-  segment-read = λ message answer. keeps-answers 7 _ [] answer _ _ (λ e. refl);
+  segment-read = λ message answer. keeps-answers 8 _ [] answer _ _ (λ e. refl);
   segment-write = segment-keeps;
-  apply-read = λ message answer. keeps-answers rowSize _ [] answer _ _ (λ e. refl);
+  apply-read = λ message answer. keeps-answers answerSize _ [] answer _ _ (λ e. refl);
   apply-write = apply-keeps;
   field-read = λ place message answer. keeps-answers 7 _ [] answer _ _ (λ e. refl);
   outbox-new = new-keeps;

@@ -6,10 +6,12 @@ use mathlib.Core.List.{List, [], _∷_}
 use native.Mathlib.Omega.{arith}
 use lib.ListN.{length}
 use lib.Dec.{eqb}
-use Rattle.wire.specs.Told.{given, refused, Line, Written, writes, written}
+use Rattle.wire.specs.Told.{given, refused, Line, Written, WrittenOf, writes, written}
 use Rattle.wire.proofs.Tables.{by-table}
 use Rattle.rows.specs.Row.{afterwards, numberTold, sizeTold}
 use Rattle.rows.specs.Called.{Called, called, ifFit, answers, writerCall}
+use Rattle.walk.specs.Refusal.{numberMore}
+use Rattle.rows_messages.specs.Convert.{wroteRow, textCall}
 use Rattle.capi_claims.specs.OneLeavesAll.{Keeps}
 
 -- a call that is refused by its rows, or keeps all if it is not
@@ -40,3 +42,6 @@ writes-keeps lines a before after =
 
 pub keeps-writer : (out answer : List ℕ) (w : Written ℕ) → (numberTold (w .told) ≡ 1 → w .out ≡ out) → Keeps [] out answer (writerCall out answer w)
 keeps-writer out answer w k = keeps-answers 1 (numberTold (w .told)) out answer (w .out) (sizeTold (w .told) ∷ []) k
+
+pub keeps-text : (out answer : List ℕ) (w : WrittenOf (ℕ × List ℕ) ℕ) → (numberMore (w .told) ≡ 1 → w .out ≡ out) → Keeps [] out answer (textCall out answer w)
+keeps-text out answer w k = keeps-answers 3 (numberMore (w .told)) out answer (w .out) (wroteRow (w .told)) k

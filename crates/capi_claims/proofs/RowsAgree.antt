@@ -20,12 +20,12 @@ use Rattle.field.specs.Fields.{Standing, field, end, foundAt}
 use Rattle.firmware.specs.declared.component.FirmwareComponent.{FirmwareComponent}
 use Rattle.firmware.specs.declared.apply.ApplyFirmware.{ApplyFirmware}
 use Rattle.firmware_writer.specs.Apply.{boolValue, applyWritten}
-use Rattle.rows.specs.Called.{writerCall}
+use Rattle.firmware_round_trips.specs.RoundTrip.{Unsigned32}
+use Rattle.rows_messages.specs.Convert.{textCall}
 use Rattle.rows_firmware.specs.Apply.{componentRow, componentRows, headRow, wholeRow, componentAt, componentsAt, applyAt, wideAt, anyWide, badRow}
 use Rattle.rows_firmware.specs.FieldRow.{fieldRow, fieldAt}
 use Rattle.rows_firmware.proofs.Components.{rows-length}
 use Rattle.calls_firmware.specs.Calls.{applyStored, applyWriteOf}
-use Rattle.capi_claims.specs.SizesSuffice.{Unsigned32}
 use Rattle.capi_claims.specs.RowsAgree.{NumbersFit, rowStanding, RowsAgree}
 use Rattle.capi_claims.proofs.Applies.{not-wide, low-same}
 
@@ -130,7 +130,7 @@ module _ (a : ApplyFirmware) (version : Unsigned32 (a .«firmware_information» 
         none-wide count cs (omega (arith, eight, most)) fit,
       )
 
-  apply-agrees : (texts out answer : List ℕ) → applyWriteOf (wholeRow a) texts out answer ≡ writerCall out answer (applyWritten a texts out)
+  apply-agrees : (texts out answer : List ℕ) → applyWriteOf (wholeRow a) texts out answer ≡ textCall out answer (applyWritten a texts out)
   unfolding applyWriteOf applyStored
   apply-agrees texts out answer = rw (eq-eqb (length (wholeRow a)) 57 row-length, row-fine, row-again)
 

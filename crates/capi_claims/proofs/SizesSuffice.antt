@@ -1,16 +1,17 @@
 -- With the sizes that the header names every writer takes what is in its range.
 use Prim.Native.Nat.{ℕ, _+_, _-_, _/_, _%_, _≤_, _<_}
-use mathlib.Core.Path.{_≡_, refl, ap}
+use mathlib.Core.Path.{_≡_, refl, sym, ap, subst}
 use mathlib.Core.Logic.{inl, inr}
 use mathlib.Core.Bool.{Bool, true, false, not, _||_}
 use mathlib.Core.List.{List, [], _∷_, map}
+use native.Mathlib.Nat.{zero-add}
 use native.Mathlib.Omega.{arith}
 use lib.IntN.{ℤ}
 use lib.ListN.{length, take, getD, length-append, length-map}
 use lib.Seq.{sets}
 use lib.Dec.{eqb, ltb}
 use borrow.Author.Tests.{eq-eqb, ne-eqb, lt-ltb, le-ltb, le-leb}
-use Rattle.wire.specs.Told.{Written, line, writes}
+use Rattle.wire.specs.Told.{given, Written, WrittenOf, line, writes}
 use Rattle.wire.proofs.Streams.{known-stream}
 use Rattle.field.specs.Signed.{signedOf, extended}
 use Rattle.field.specs.Tag.{varintType, lengthType, lastField}
@@ -33,17 +34,22 @@ use Rattle.device.specs.declared.features.DeviceFeatures.{DeviceFeatures}
 use Rattle.walk.specs.Gathered.{mostTransports}
 use Rattle.walk.specs.Schema.{commandField, responseField, errorCodeField, serialNumberField, nameField, transportsField, deviceTypeField, featuresField, deviceAttributesField, componentNameField, segmentSizeField, segmentSignatureField}
 use Rattle.field_writer.specs.Message.{writesMessage, badMember}
+use Rattle.field_writer.proofs.Messages.{wrote}
+use Rattle.text.specs.WellFormed.{WellFormed}
+use Rattle.text_writer.specs.Texts.{AllWellFormed, writesTexts}
+use Rattle.text_writer.proofs.Texts.{well-faultless, texts-wrote}
 use Rattle.control.specs.Envelope.{badPayload, envelopeFields, envelopeWritten}
 use Rattle.control.specs.Response.{badResponsePayload, responseFields, responseWritten}
-use Rattle.device.specs.Information.{informationFields, informationWritten}
+use Rattle.device.specs.Information.{informationStrings, informationFields, informationWritten}
 use Rattle.device.specs.Features.{featuresFields, featuresWritten}
 use Rattle.firmware.specs.Segment.{brokenField}
-use Rattle.firmware_writer.specs.Segment.{segmentFields, segmentWritten}
-use Rattle.firmware_writer.specs.Information.{badFirmware}
+use Rattle.firmware_writer.specs.Segment.{segmentStrings, segmentFields, segmentFilled, segmentWritten}
+use Rattle.firmware_writer.specs.Information.{badFirmware, firmwareStrings}
 use Rattle.firmware_writer.specs.Apply.{applyFields, applyWritten}
-use Rattle.firmware_writer.proofs.Segments.{segment-length}
+use Rattle.firmware_writer.proofs.Segments.{segment-length, segment-clean}
+use Rattle.firmware_round_trips.specs.RoundTrip.{Unsigned32}
 use Rattle.firmware_round_trips.specs.Premises.{Digits}
-use Rattle.firmware_round_trips.proofs.Premises.{signature}
+use Rattle.firmware_round_trips.proofs.Premises.{signature, digits-well}
 use Rattle.outbox.specs.Format.{versionOne, recordBytes}
 use Rattle.outbox.specs.Reader as outbox
 use Rattle.outbox.specs.Reader.{walkOf}
@@ -57,14 +63,14 @@ use Rattle.rows.specs.Called.{Called, ifFit, writerCall}
 use Rattle.calls_classic.specs.Calls.{frameWriteOf}
 use Rattle.calls_sending.specs.Convert.{streamWith, sendingOf}
 use Rattle.calls_sending.specs.Calls.{packetWriteOf, ackWriteOf}
-use Rattle.rows_messages.specs.Convert.{isSigned, allSigned, responsePayloadOf, payloadFor}
+use Rattle.rows_messages.specs.Convert.{isSigned, allSigned, responsePayloadOf, payloadFor, textCall}
 use Rattle.calls_messages.specs.Calls.{envelopeWriteOf, responseWriteOf, informationWriteOf, featuresWriteOf}
 use Rattle.rows_firmware.specs.Apply.{applyAt}
 use Rattle.calls_firmware.specs.Calls.{segmentStored, segmentWriteOf, applyStored, applyWriteOf}
 use Rattle.calls_outbox.specs.Calls.{outboxNewOf, outboxAppendOf}
-use Rattle.capi_claims.specs.SizesSuffice.{Done, StreamNumber, NoMark, MemberNumber, PayloadField, Unsigned32, RowFits, stringsOf, SizesSuffice, frameSize, envelopeSize, responseSize, informationSize, featuresSize, segmentSize, applySize, recordSize}
+use Rattle.capi_claims.specs.SizesSuffice.{Done, StreamNumber, NoMark, MemberNumber, PayloadField, RowFits, stringsOf, SizesSuffice, frameSize, envelopeSize, responseSize, informationSize, featuresSize, segmentSize, applySize, recordSize}
 use Rattle.capi_claims.proofs.Sizes.{scalar-most, text-most, nested-most, packed-most, tag-most, tag-small}
-use Rattle.capi_claims.proofs.Applies.{not-wide, low-same, row-fine, firmware-fine, apply-most}
+use Rattle.capi_claims.proofs.Applies.{not-wide, low-same, row-fine, firmware-fine, strings-fine, apply-most}
 
 -- an answer row of the right length
 fit-done : (size : ℕ) (state lent answer : List ℕ) (done : Called) → length answer ≡ size → Done done
@@ -84,6 +90,14 @@ message-done : (bad : Bool) (fields : List Field) (out answer : List ℕ) → le
 message-done bad fields out answer l e h =
     let bytes = messageBytes fields in
     writer-done out answer (writesMessage bad fields out) l (done-two bad (length bytes) out (length bytes) (sets out 0 bytes) e h)
+
+texts-done : (bad : Bool) (strings : List (ℕ × List ℕ)) (fields : List Field) (out answer : List ℕ) → length answer ≡ 3 → bad ≡ false → AllWellFormed strings
+    → length (messageBytes fields) ≤ length out → Done (textCall out answer (writesTexts bad strings fields out))
+texts-done bad strings fields out answer l e well h =
+    let bytes = messageBytes fields in
+    let w = wrote bad fields out {n = length bytes} {l = sets out 0 bytes} e h (record { place = sym (zero-add (length bytes)); stored = refl }) in
+    subst (λ (w : WrittenOf (ℕ × List ℕ) ℕ). Done (textCall out answer w)) (texts-wrote bad strings fields out (given (length bytes)) (sets out 0 bytes) e (well-faultless strings well) w)
+    (fit-done 3 [] out answer _ l refl)
 
 -- ---- frames and packets
 
@@ -273,17 +287,17 @@ information-most serialNumber name transports deviceType h =
       tag-small deviceTypeField lengthType refl,
     ))
 
-information-done : (serialNumber name deviceType : List ℕ) (transports : List ℤ) (out answer : List ℕ) → length answer ≡ 1
-    → Numbers32 transports → length transports ≤ 8
+information-done : (serialNumber name deviceType : List ℕ) (transports : List ℤ) (out answer : List ℕ) → length answer ≡ 3
+    → Numbers32 transports → length transports ≤ 8 → WellFormed serialNumber → WellFormed name → WellFormed deviceType
     → informationSize (length serialNumber) (length name) (length deviceType) ≤ length out
     → Done (informationWriteOf serialNumber name deviceType (map extended transports) out answer)
 unfolding informationWriteOf informationWritten
-information-done serialNumber name deviceType transports out answer l e few h =
+information-done serialNumber name deviceType transports out answer l e few well₁ well₂ well₃ h =
     let listed = map signedOf (map extended transports) in
     let most : length listed ≤ mostTransports = rw (length-map (map extended transports) signedOf, length-map transports extended) few in
     rw (all-are-signed transports e)
-    (message-done (ltb mostTransports (length listed)) (informationFields serialNumber name listed deviceType) out answer l
-    (le-ltb mostTransports (length listed) most) (omega (arith, information-most serialNumber name listed deviceType most)))
+    (texts-done (ltb mostTransports (length listed)) (informationStrings serialNumber name deviceType) (informationFields serialNumber name listed deviceType) out answer l
+    (le-ltb mostTransports (length listed) most) (well₁, (well₂, (well₃, tt))) (omega (arith, information-most serialNumber name listed deviceType most)))
 
 segment-most : (name : List ℕ) (size : ℕ) (signature : List ℕ) → length signature ≡ 64
     → length (messageBytes (segmentFields name 0 size signature)) ≤ segmentSize (length name)
@@ -300,28 +314,32 @@ segment-most name size signature h =
       tag-small segmentSignatureField lengthType refl,
     )
 
-segment-done : (name : List ℕ) (size : ℕ) (signature out answer : List ℕ) → length answer ≡ 2
-    → Unsigned32 size → length signature ≡ 64 → Digits signature → segmentSize (length name) ≤ length out
+segment-done : (name : List ℕ) (size : ℕ) (signature out answer : List ℕ) → length answer ≡ 3
+    → WellFormed name → Unsigned32 size → length signature ≡ 64 → Digits signature → segmentSize (length name) ≤ length out
     → Done (segmentWriteOf name 0 size signature out answer)
-unfolding segmentWriteOf segmentStored segmentWritten brokenField
-segment-done name size sig out answer l n long digits h =
-    fit-done 2 [] out answer _ l
+unfolding segmentWriteOf segmentStored segmentFilled brokenField
+segment-done name size sig out answer l well n long digits h =
+    let clean : segmentWritten name 0 size sig out ≡ segmentFilled name 0 size sig out =
+    sym (segment-clean name 0 size sig out (well-faultless (segmentStrings name sig) (well, (digits-well sig digits, tt))) refl)
+    in
+    fit-done 3 [] out answer _ l
     (rw (
       not-wide 0 (omega arith),
       not-wide size n,
       low-same size n,
+      clean,
       signature sig long digits,
       le-ltb (length out) (length (messageBytes (segmentFields name 0 size sig))) (omega (arith, segment-most name size sig long)),
     ))
 
-apply-done : (row texts out answer : List ℕ) → length row ≡ 57 → length answer ≡ 1
+apply-done : (row texts out answer : List ℕ) → length row ≡ 57 → length answer ≡ 3
     → RowFits texts row → applySize (getD row 8 0) (stringsOf row) ≤ length out
     → Done (applyWriteOf row texts out answer)
 unfolding applyWriteOf applyStored applyWritten
 apply-done row texts out answer whole l fits h =
     let a = applyAt row in
     rw (eq-eqb (length row) 57 whole, row-fine texts row fits)
-    (message-done (badFirmware texts (a .«firmware_information»)) (applyFields texts a) out answer l (firmware-fine texts row fits)
+    (texts-done (badFirmware texts (a .«firmware_information»)) (firmwareStrings texts (a .«firmware_information»)) (applyFields texts a) out answer l (firmware-fine texts row fits) (strings-fine texts row fits)
     (omega (arith, apply-most texts row fits)))
 
 new-done : (limit : ℕ) (out answer : List ℕ) → length answer ≡ 1 → 1 ≤ length out → Done (outboxNewOf limit out answer)

@@ -1,3 +1,4 @@
 pub mod OneLeavesAll
 pub mod SizesSuffice
 pub mod RowsAgree
+pub mod StringsWellFormed

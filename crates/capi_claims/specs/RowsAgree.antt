@@ -13,11 +13,11 @@ use Rattle.field.specs.Fields.{Standing, field, end, foundAt}
 use Rattle.firmware.specs.declared.component.FirmwareComponent.{FirmwareComponent}
 use Rattle.firmware.specs.declared.apply.ApplyFirmware.{ApplyFirmware}
 use Rattle.firmware_writer.specs.Apply.{applyWritten}
-use Rattle.rows.specs.Called.{writerCall}
+use Rattle.firmware_round_trips.specs.RoundTrip.{Unsigned32}
+use Rattle.rows_messages.specs.Convert.{textCall}
 use Rattle.rows_firmware.specs.Apply.{wholeRow}
 use Rattle.rows_firmware.specs.FieldRow.{fieldAt}
 use Rattle.calls_firmware.specs.Calls.{applyWriteOf}
-use Rattle.capi_claims.specs.SizesSuffice.{Unsigned32}
 
 abbrev pub NumbersFit : List FirmwareComponent → Type 0
 NumbersFit [] = Unit {0}
@@ -36,5 +36,5 @@ pub record RowsAgree : Type 0 where
   -- an ApplyFirmware whose numbers its type holds, with at most eight components
   pub apply : (a : ApplyFirmware) (texts out answer : List ℕ) → Unsigned32 (a .«firmware_information» .version)
       → length (a .«firmware_information» .components) ≡ 8 → NumbersFit (a .«firmware_information» .components) → a .«firmware_information» .count ≤ 8
-      → applyWriteOf (wholeRow a) texts out answer ≡ writerCall out answer (applyWritten a texts out)
+      → applyWriteOf (wholeRow a) texts out answer ≡ textCall out answer (applyWritten a texts out)
   pub field : (message : List ℕ) (place : ℕ) → andThen (fieldAt message place) (λ row. given (rowStanding row)) ≡ foundAt message place

@@ -3,16 +3,19 @@
 use Prim.Native.Nat.{ℕ, zero, suc, _+_, _*_, _≤_, _<_}
 use mathlib.Core.Path.{_≡_}
 use mathlib.Core.Logic.{_⊎_}
-use mathlib.Core.Bool.{true, false}
+use mathlib.Core.Bool.{true}
 use mathlib.Core.List.{List, _∷_, map}
 use lib.IntN.{ℤ}
 use lib.ListN.{length, take, getD}
 use Rattle.packet.specs.Control.{ackSize}
 use Rattle.sender.specs.Writer.{begins, foundAt}
 use Rattle.field.specs.Signed.{extended}
+use Rattle.field.specs.Value.{bytesOf}
+use Rattle.text.specs.WellFormed.{WellFormed}
 use Rattle.outbox.specs.Format.{versionOne}
 use Rattle.outbox.specs.Reader.{given, walkOf}
 use Rattle.round_trips.specs.Premises.{Number32, Numbers32}
+use Rattle.firmware_round_trips.specs.RoundTrip.{Unsigned32}
 use Rattle.firmware_round_trips.specs.Premises.{Digits}
 use Rattle.rows.specs.Called.{Called}
 use Rattle.calls_classic.specs.Calls.{frameWriteOf}
@@ -73,13 +76,10 @@ MemberNumber n = (2 ≤ n) × (n ≤ 536870911)
 abbrev pub PayloadField : ℕ → Type 0
 PayloadField n = (n ≡ 0) ⊎ MemberNumber n
 
--- a number from 0 to 4,294,967,295
-abbrev pub Unsigned32 : ℕ → Type 0
-Unsigned32 n = n ≤ 4294967295
-
--- the row of an ApplyFirmware, by its places: a part whose start stands at a place lies within the texts
+-- the row of an ApplyFirmware, by its places: a part whose start stands at a place lies within the texts and is well formed
 abbrev pub LiesAt : List ℕ → List ℕ → ℕ → Type 0
-LiesAt texts row at = getD row at 0 + getD row (at + 1) 0 ≤ length texts
+LiesAt texts row at =
+    (getD row at 0 + getD row (at + 1) 0 ≤ length texts) × WellFormed (bytesOf texts (record { start = getD row at 0; len = getD row (at + 1) 0 }))
 
 -- version, name, size and signature of so many components from a place on
 abbrev pub ComponentsFit : ℕ → List ℕ → List ℕ → ℕ → Type 0
@@ -134,17 +134,17 @@ pub record SizesSuffice : Type 0 where
   pub response-write : (code : ℤ) (field : ℕ) (bytes out answer : List ℕ) → length answer ≡ 1
       → Number32 code → PayloadField field → responseSize (length bytes) ≤ length out
       → Done (responseWriteOf (extended code) field bytes out answer)
-  pub information-write : (serialNumber name deviceType : List ℕ) (transports : List ℤ) (out answer : List ℕ) → length answer ≡ 1
-      → Numbers32 transports → length transports ≤ 8
+  pub information-write : (serialNumber name deviceType : List ℕ) (transports : List ℤ) (out answer : List ℕ) → length answer ≡ 3
+      → Numbers32 transports → length transports ≤ 8 → WellFormed serialNumber → WellFormed name → WellFormed deviceType
       → informationSize (length serialNumber) (length name) (length deviceType) ≤ length out
       → Done (informationWriteOf serialNumber name deviceType (map extended transports) out answer)
   pub features-write : (features attributes : ℕ) (out answer : List ℕ) → length answer ≡ 1 → featuresSize ≤ length out
       → Done (featuresWriteOf features attributes out answer)
   -- an offset of 0, and 64 hexadecimal digits
-  pub segment-write : (name : List ℕ) (size : ℕ) (signature out answer : List ℕ) → length answer ≡ 2
-      → Unsigned32 size → length signature ≡ 64 → Digits signature → segmentSize (length name) ≤ length out
+  pub segment-write : (name : List ℕ) (size : ℕ) (signature out answer : List ℕ) → length answer ≡ 3
+      → WellFormed name → Unsigned32 size → length signature ≡ 64 → Digits signature → segmentSize (length name) ≤ length out
       → Done (segmentWriteOf name 0 size signature out answer)
-  pub apply-write : (row texts out answer : List ℕ) → length row ≡ 57 → length answer ≡ 1
+  pub apply-write : (row texts out answer : List ℕ) → length row ≡ 57 → length answer ≡ 3
       → RowFits texts row → applySize (getD row 8 0) (stringsOf row) ≤ length out
       → Done (applyWriteOf row texts out answer)
   pub outbox-new : (limit : ℕ) (out answer : List ℕ) → length answer ≡ 1 → 1 ≤ length out → Done (outboxNewOf limit out answer)

@@ -2,6 +2,7 @@
 ghost use Rattle.capi_claims.specs.OneLeavesAll.{OneLeavesAll};
 ghost use Rattle.capi_claims.specs.RowsAgree.{RowsAgree};
 ghost use Rattle.capi_claims.specs.SizesSuffice.{SizesSuffice};
+ghost use Rattle.capi_claims.specs.StringsWellFormed.{StringsWellFormed};
 
 // A call that returns 1 has changed nothing: neither state row, lent bytes nor answer row. Only a feed tells then that it
 // used 0 bytes.
@@ -17,4 +18,9 @@ pub fn sizes_suffice()
 // A row that was told of an ApplyFirmware is taken as that message, and a field's row tells what stands at its place.
 pub fn rows_agree()
     ensures { λ _. ⌜ RowsAgree ⌝ }
+{}
+
+// Every string that a reader's row tells lies within the message and is well formed.
+pub fn strings_well_formed()
+    ensures { λ _. ⌜ StringsWellFormed ⌝ }
 {}

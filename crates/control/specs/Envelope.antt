@@ -6,7 +6,6 @@ use lib.IntN.{ℤ}
 use lib.ListN.{getD, take}
 use lib.Dec.{eqb}
 use Rattle.wire.specs.Told.{Told, given, refused, andThen, Written}
-use Rattle.field.specs.Refusal.{numberOf}
 use Rattle.field.specs.Signed.{signedOf, extended}
 use Rattle.field_writer.specs.Writer.{Field, scalar, nested, messageBytes}
 use Rattle.field.specs.declared.value.Part.{Part}
@@ -22,6 +21,7 @@ use Rattle.control.specs.declared.envelope.EnvelopeRead.the-variants as 
 use Rattle.control.specs.declared.envelope.EnvelopePayload.{EnvelopePayload}
 use Rattle.control.specs.declared.envelope.EnvelopePayload.the-variants as Sent
 use Rattle.walk.specs.Schema.{commandField, responseField, first}
+use Rattle.walk.specs.Refusal.{messageNumber, numbered}
 use Rattle.walk.specs.Walk.{fieldsFrom}
 use Rattle.field_writer.specs.Message.{writesMessage, badMember}
 use Rattle.control.specs.Response.{responseFrom, responseParts, responseFields, badResponsePayload}
@@ -37,17 +37,17 @@ payloadOf s g =
 -- an envelope: it is read through before its response
 unfoldable pub envelopeOf : List ℕ → Told Envelope
 envelopeOf s =
-    andThen (fieldsFrom Schema.Envelope s 0) (λ g.
+    andThen (numbered (fieldsFrom Schema.Envelope s 0)) (λ g.
     andThen (payloadOf s g) (λ p. given (record { command = signedOf (getD (g .scalars) first 0); payload = p })))
 
 -- the answers of read_payload and read_envelope
 abbrev pub toldPayload : PayloadRead → Told Payload
 toldPayload (PayloadRead.Read p) = given p
-toldPayload (PayloadRead.Refused e) = refused (numberOf e)
+toldPayload (PayloadRead.Refused e) = refused (messageNumber e)
 
 abbrev pub toldEnvelope : EnvelopeRead → Told Envelope
 toldEnvelope (EnvelopeRead.Read e) = given e
-toldEnvelope (EnvelopeRead.Refused e) = refused (numberOf e)
+toldEnvelope (EnvelopeRead.Refused e) = refused (messageNumber e)
 
 -- the parts that a payload and an envelope tell
 abbrev pub payloadParts : Payload → List Part

@@ -5,7 +5,6 @@ use mathlib.Core.List.{List, [], _∷_}
 use lib.IntN.{ℤ}
 use lib.ListN.{getD}
 use Rattle.wire.specs.Told.{Told, given, refused, andThen, Written}
-use Rattle.field.specs.Refusal.{numberOf}
 use Rattle.field.specs.Signed.{signedOf, extended}
 use Rattle.field_writer.specs.Writer.{Field, scalar, nested}
 use Rattle.field.specs.declared.value.Part.{Part}
@@ -17,6 +16,7 @@ use Rattle.control.specs.declared.response.ResponseRead.the-variants.{Re
 use Rattle.control.specs.declared.response.ResponsePayload.{ResponsePayload}
 use Rattle.control.specs.declared.response.ResponsePayload.the-variants.{None, Member}
 use Rattle.walk.specs.Schema.{errorCodeField, first}
+use Rattle.walk.specs.Refusal.{messageNumber, numbered}
 use Rattle.walk.specs.Walk.{fieldsFrom}
 use Rattle.field_writer.specs.Message.{writesMessage, badMember}
 
@@ -26,12 +26,12 @@ responseMade g = record { «error_code» = signedOf (getD (g .scalars) first 0);
 
 -- the response from a place to the end
 unfoldable pub responseFrom : List ℕ → ℕ → Told Response
-responseFrom s at = andThen (fieldsFrom Schema.Response s at) (λ g. given (responseMade g))
+responseFrom s at = andThen (numbered (fieldsFrom Schema.Response s at)) (λ g. given (responseMade g))
 
 -- the answers of response_from and read_response
 abbrev pub toldResponse : ResponseRead → Told Response
 toldResponse (Read r) = given r
-toldResponse (Refused e) = refused (numberOf e)
+toldResponse (Refused e) = refused (messageNumber e)
 
 -- the part that a response tells
 abbrev pub responseParts : Response → List Part

@@ -6,7 +6,6 @@ use crate::response::bad_response_payload;
 use crate::response::put_response;
 use crate::response::response_from;
 use crate::response::response_len;
-use field::Refusal;
 use field::signed::low_signed;
 use field::signed::sign_extended;
 use field::value::Part;
@@ -20,8 +19,9 @@ use field_writer::message::WriteRefusal;
 use field_writer::message::Wrote;
 use field_writer::message::bad_member;
 use walk::gathered::Gathered;
-use walk::gathered::Verdict;
 use walk::reader::read_fields;
+use walk::refusal::MessageRefusal;
+use walk::refusal::Verdict;
 use walk::schema::COMMAND;
 use walk::schema::FIRST;
 use walk::schema::RESPONSE;
@@ -53,12 +53,12 @@ pub struct Envelope {
 
 pub enum PayloadRead {
     Read(Payload),
-    Refused(Refusal),
+    Refused(MessageRefusal),
 }
 
 pub enum EnvelopeRead {
     Read(Envelope),
-    Refused(Refusal),
+    Refused(MessageRefusal),
 }
 
 // The payload of an envelope that is written. The lent bytes are those of the member, also of the response's.

@@ -1,5 +1,4 @@
 // The response: an error code and an optional payload.
-use field::Refusal;
 use field::signed::low_signed;
 use field::signed::sign_extended;
 use field::value::Part;
@@ -10,8 +9,9 @@ use field_writer::fields::scalar_len;
 use field_writer::message::WriteRefusal;
 use field_writer::message::Wrote;
 use field_writer::message::bad_member;
-use walk::gathered::Verdict;
 use walk::reader::read_fields;
+use walk::refusal::MessageRefusal;
+use walk::refusal::Verdict;
 use walk::schema::ERROR_CODE;
 use walk::schema::FIRST;
 use walk::schema::Schema;
@@ -35,7 +35,7 @@ pub struct Response {
 
 pub enum ResponseRead {
     Read(Response),
-    Refused(Refusal),
+    Refused(MessageRefusal),
 }
 
 // The payload of a response that is written: none, or the lent bytes as a member of this number.

@@ -4,7 +4,6 @@ use mathlib.Core.Bool.{false}
 use mathlib.Core.List.{List, [], _∷_}
 use lib.ListN.{getD}
 use Rattle.wire.specs.Told.{Told, given, refused, andThen, Written}
-use Rattle.field.specs.Refusal.{numberOf}
 use Rattle.field_writer.specs.Writer.{Field, scalar}
 use Rattle.walk.specs.declared.gathered.Gathered.{Gathered}
 use Rattle.walk.specs.declared.schema.Schema.the-variants as Schema
@@ -12,6 +11,7 @@ use Rattle.device.specs.declared.features.DeviceFeatures.{DeviceFeatures
 use Rattle.device.specs.declared.features.FeaturesRead.{FeaturesRead}
 use Rattle.device.specs.declared.features.FeaturesRead.the-variants.{Read, Refused}
 use Rattle.walk.specs.Schema.{featuresField, deviceAttributesField, first, second}
+use Rattle.walk.specs.Refusal.{messageNumber, numbered}
 use Rattle.walk.specs.Walk.{fieldsFrom}
 use Rattle.field_writer.specs.Message.{writesMessage}
 
@@ -20,12 +20,12 @@ abbrev pub featuresMade : Gathered → DeviceFeatures
 featuresMade g = record { features = getD (g .scalars) first 0; «device_attributes» = getD (g .scalars) second 0 }
 
 unfoldable pub featuresOf : List ℕ → Told DeviceFeatures
-featuresOf s = andThen (fieldsFrom Schema.Features s 0) (λ g. given (featuresMade g))
+featuresOf s = andThen (numbered (fieldsFrom Schema.Features s 0)) (λ g. given (featuresMade g))
 
 -- the answers of read_features
 abbrev pub toldFeatures : FeaturesRead → Told DeviceFeatures
 toldFeatures (Read f) = given f
-toldFeatures (Refused e) = refused (numberOf e)
+toldFeatures (Refused e) = refused (messageNumber e)
 
 -- the fields of device features
 abbrev pub featuresFields : DeviceFeatures → List Field

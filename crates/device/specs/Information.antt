@@ -4,7 +4,7 @@ use mathlib.Core.List.{List, [], _∷_, map}
 use lib.IntN.{ℤ, pos}
 use lib.ListN.{length, getD, replicate}
 use lib.Dec.{ltb}
-use Rattle.wire.specs.Told.{Told, given, refused, andThen, Written}
+use Rattle.wire.specs.Told.{ToldMore, given, refused, andThen, WrittenOf}
 use Rattle.field.specs.Signed.{extended}
 use Rattle.field_writer.specs.Writer.{Field, text, packed}
 use Rattle.field.specs.declared.value.Part.{Part}
@@ -13,9 +13,10 @@ use Rattle.walk.specs.declared.schema.Schema.the-variants as Schema
 use Rattle.device.specs.declared.information.DeviceInformation.{DeviceInformation}
 use Rattle.device.specs.declared.information.InformationRead.{InformationRead}
 use Rattle.walk.specs.Schema.{serialNumberField, nameField, transportsField, deviceTypeField, first, second, third}
-use Rattle.walk.specs.Gathered.{mostTransports, noPart, judgedAs}
+use Rattle.walk.specs.Gathered.{mostTransports, noPart}
+use Rattle.walk.specs.Refusal.{judgedAs}
 use Rattle.walk.specs.Walk.{fieldsFrom}
-use Rattle.field_writer.specs.Message.{writesMessage}
+use Rattle.text_writer.specs.Texts.{writesTexts}
 
 -- the information that was gathered
 abbrev pub informationMade : Gathered → DeviceInformation
@@ -32,14 +33,14 @@ abbrev pub noInformation : DeviceInformation
 noInformation =
     record { «serial_number» = noPart; name = noPart; transports = replicate mostTransports (pos 0); count = 0; «device_type» = noPart }
 
-unfoldable pub informationOf : List ℕ → Told DeviceInformation
+unfoldable pub informationOf : List ℕ → ToldMore DeviceInformation
 informationOf s = andThen (fieldsFrom Schema.Information s 0) (λ g. given (informationMade g))
 
 -- an answer of read_information: what it tells, and the information beside it, which is empty where it is refused
-abbrev pub toldInformation : InformationRead → Told DeviceInformation × DeviceInformation
+abbrev pub toldInformation : InformationRead → ToldMore DeviceInformation × DeviceInformation
 toldInformation r = (judgedAs (r .verdict) (r .information), r .information)
 
-abbrev pub withInformation : Told DeviceInformation → Told DeviceInformation × DeviceInformation
+abbrev pub withInformation : ToldMore DeviceInformation → ToldMore DeviceInformation × DeviceInformation
 withInformation (given i) = (given i, i)
 withInformation (refused n) = (refused n, noInformation)
 
@@ -52,7 +53,11 @@ abbrev pub informationFields : List ℕ → List ℕ → List ℤ → List ℕ �
 informationFields serialNumber name transports deviceType =
     text serialNumberField serialNumber ∷ text nameField name ∷ packed transportsField (map extended transports) ∷ text deviceTypeField deviceType ∷ []
 
+-- its strings, in writing order
+abbrev pub informationStrings : List ℕ → List ℕ → List ℕ → List (ℕ × List ℕ)
+informationStrings serialNumber name deviceType = (serialNumberField, serialNumber) ∷ (nameField, name) ∷ (deviceTypeField, deviceType) ∷ []
+
 -- device information written
-unfoldable pub informationWritten : List ℕ → List ℕ → List ℤ → List ℕ → List ℕ → Written ℕ
+unfoldable pub informationWritten : List ℕ → List ℕ → List ℤ → List ℕ → List ℕ → WrittenOf (ℕ × List ℕ) ℕ
 informationWritten serialNumber name transports deviceType out =
-    writesMessage (ltb mostTransports (length transports)) (informationFields serialNumber name transports deviceType) out
+    writesTexts (ltb mostTransports (length transports)) (informationStrings serialNumber name deviceType) (informationFields serialNumber name transports deviceType) out

@@ -1,11 +1,11 @@
 // Device features.
-use field::Refusal;
 use field_writer::fields::put_scalar;
 use field_writer::fields::scalar_len;
 use field_writer::message::WriteRefusal;
 use field_writer::message::Wrote;
-use walk::gathered::Verdict;
 use walk::reader::read_fields;
+use walk::refusal::MessageRefusal;
+use walk::refusal::Verdict;
 use walk::schema::DEVICE_ATTRIBUTES;
 use walk::schema::FEATURES;
 use walk::schema::FIRST;
@@ -23,7 +23,7 @@ pub struct DeviceFeatures {
 
 pub enum FeaturesRead {
     Read(DeviceFeatures),
-    Refused(Refusal),
+    Refused(MessageRefusal),
 }
 
 // Device features.

@@ -7,9 +7,11 @@ use field_writer::fields::text_len;
 use field_writer::message::Room;
 use field_writer::message::WriteRefusal;
 use field_writer::message::Wrote;
+use text_writer::Fault;
+use text_writer::TextWrote;
 use walk::gathered::MOST_TRANSPORTS;
-use walk::gathered::Verdict;
 use walk::reader::read_fields;
+use walk::refusal::Verdict;
 use walk::schema::DEVICE_TYPE;
 use walk::schema::FIRST;
 use walk::schema::NAME;
@@ -21,13 +23,15 @@ use walk::schema::TRANSPORTS;
 ghost use mathlib.Core.Path.{_≡_};
 ghost use Prim.Native.Nat.{_≤_};
 ghost use lib.ListN.{length};
+ghost use lib.Dec.{ltb};
 ghost use Rattle.wire.specs.Told.{written};
 ghost use Rattle.field_writer.specs.Put.{Put};
-ghost use Rattle.field.specs.Value.{Within};
 ghost use Rattle.field_writer.specs.Writer.{messageBytes};
 ghost use Rattle.walk.specs.Gathered.{mostTransports};
-ghost use Rattle.device.specs.Information.{informationOf, toldInformation, withInformation, informationParts, informationFields, informationWritten};
-ghost use Rattle.field_writer.specs.Message.{toldWrote, lessRoom};
+ghost use Rattle.walk.specs.Refusal.{Strings};
+ghost use Rattle.device.specs.Information.{informationOf, toldInformation, withInformation, informationParts, informationStrings, informationFields, informationWritten};
+ghost use Rattle.field_writer.specs.Message.{writesMessage, toldWrote, lessRoom};
+ghost use Rattle.text_writer.specs.Texts.{firstFault, toldTextWrote};
 
 // Strings are parts of the lent message; of the transports the first count are there.
 pub struct DeviceInformation {
@@ -47,7 +51,7 @@ pub struct InformationRead {
 // Device information.
 pub fn read_information(message: &[u8]) -> InformationRead
     ensures { λ r. ⌜ toldInformation r ≡ withInformation (informationOf (now (message .entry))) ⌝ }
-    ensures { λ r. ⌜ Within (now (message .entry)) (informationParts (r .information)) ⌝ }
+    ensures { λ r. ⌜ Strings (now (message .entry)) (informationParts (r .information)) ⌝ }
     ensures { λ r. ⌜ r .information .count ≤ mostTransports ⌝ }
 {
     let kept = read_fields(Schema::Information, message, 0);
@@ -132,8 +136,8 @@ fn put_information(
     put_text(out, fourth, DEVICE_TYPE, device_type)
 }
 
-// Writes device information.
-pub fn write_information(
+// Device information whatever its strings are.
+fn fill_information(
     out: &mut [u8],
     serial_number: &[u8],
     name: &[u8],
@@ -141,8 +145,9 @@ pub fn write_information(
     device_type: &[u8],
 ) -> Wrote
     ensures { λ r. ⌜ written (toldWrote r) (now (out .exit))
-        ≡ informationWritten (now («serial_number» .entry)) (now (name .entry)) (now (transports .entry))
-        (now («device_type» .entry)) (now (out .entry)) ⌝ }
+        ≡ writesMessage (ltb mostTransports (length (now (transports .entry))))
+        (informationFields (now («serial_number» .entry)) (now (name .entry)) (now (transports .entry)) (now («device_type» .entry)))
+        (now (out .entry)) ⌝ }
 {
     if MOST_TRANSPORTS < transports.len() {
         return Wrote::Refused(WriteRefusal::BadArgument);
@@ -152,6 +157,40 @@ pub fn write_information(
         Room::Left(_) => {
             let end = put_information(out, serial_number, name, transports, device_type);
             Wrote::Done(end)
+        }
+    }
+}
+
+// The first string that is not well formed.
+fn information_fault(serial_number: &[u8], name: &[u8], device_type: &[u8]) -> Fault
+    ensures { λ r. ⌜ r ≡ firstFault (informationStrings (now («serial_number» .entry)) (now (name .entry)) (now («device_type» .entry))) ⌝ }
+{
+    Fault::None
+        .or_text(SERIAL_NUMBER, serial_number)
+        .or_text(NAME, name)
+        .or_text(DEVICE_TYPE, device_type)
+}
+
+// Writes device information.
+pub fn write_information(
+    out: &mut [u8],
+    serial_number: &[u8],
+    name: &[u8],
+    transports: &[i32],
+    device_type: &[u8],
+) -> TextWrote
+    ensures { λ r. ⌜ written (toldTextWrote r) (now (out .exit))
+        ≡ informationWritten (now («serial_number» .entry)) (now (name .entry)) (now (transports .entry))
+        (now («device_type» .entry)) (now (out .entry)) ⌝ }
+{
+    if MOST_TRANSPORTS < transports.len() {
+        return TextWrote::Refused(WriteRefusal::BadArgument);
+    }
+    match information_fault(serial_number, name, device_type) {
+        Fault::At { field, place } => TextWrote::BadText { field, place },
+        Fault::None => {
+            let wrote = fill_information(out, serial_number, name, transports, device_type);
+            TextWrote::of(wrote)
         }
     }
 }

@@ -4,7 +4,7 @@ use mathlib.Core.Path.{_≡_, refl, sym, ap, _∙_}
 use mathlib.Core.List.{List, [], _∷_, _++_, append-assoc, append-nil}
 use native.Mathlib.Omega.{arith}
 use lib.ListN.{length, set, length-append}
-use Rattle.wire.specs.Told.{Told, given, refused, andThen}
+use Rattle.wire.specs.Told.{ToldMore, given, refused, andThen}
 use Rattle.wire.proofs.Stores.{sets-then}
 use Rattle.field.specs.declared.value.Part.{Part}
 use Rattle.walk.specs.Gathered.{mostRepeated}
@@ -22,7 +22,7 @@ pub record Reading (s : List ℕ) (from at : ℕ) (kept : List FirmwareComponent
 pub reading-begins : (s : List ℕ) (from : ℕ) → length (partsFrom s from) ≤ mostRepeated → Reading s from from (placed []) 0
 reading-begins s from h = record { done = []; many = refl; stored = refl; whole = same (componentsIn s (partsFrom s from)); room = omega arith }
   where
-    same : (r : Told (List FirmwareComponent)) → r ≡ andThen r (λ cs. given ([] ++ cs))
+    same : (r : ToldMore (List FirmwareComponent)) → r ≡ andThen r (λ cs. given ([] ++ cs))
     same (given cs) = refl
     same (refused n) = refl
 
@@ -39,7 +39,7 @@ module _ {s : List ℕ} {from at : ℕ} {kept : List FirmwareComponent} {count :
     pub reading-room : count < mostRepeated
     reading-room = omega (arith, R .many, R .room, ap length laid)
 
-    pub reading-stops : (n : ℕ) → componentIn s p ≡ refused n → componentsFrom s from ≡ refused n
+    pub reading-stops : (n : ℕ × List ℕ) → componentIn s p ≡ refused n → componentsFrom s from ≡ refused n
     unfolding componentsFrom
     reading-stops n e =
         let w : componentsIn s (partsFrom s from) ≡ refused n =
@@ -56,7 +56,7 @@ module _ {s : List ℕ} {from at : ℕ} {kept : List FirmwareComponent} {count :
           room = omega (arith, R .room, ap length laid, length-append (R .done) (c ∷ []));
         }
       where
-        regroup : (r : Told (List FirmwareComponent))
+        regroup : (r : ToldMore (List FirmwareComponent))
             → andThen (andThen r (λ cs. given (c ∷ cs))) (λ cs. given (R .done ++ cs)) ≡ andThen r (λ cs. given ((R .done ++ (c ∷ [])) ++ cs))
         regroup (given cs) = ap given (sym (append-assoc (R .done) (c ∷ []) cs))
         regroup (refused n) = refl

@@ -1,22 +1,23 @@
--- Laws of what is told of ApplyFirmware: all parts lie within the message, and there are at most eight components.
+-- Laws of what is told of ApplyFirmware: all strings lie within the message and are well formed, and there are at most eight components.
 use Prim.Native.Nat.{ℕ, zero, suc, _+_, _≤_, zero-le}
 use mathlib.Core.Path.{_≡_, refl, ap}
 use mathlib.Core.List.{List, [], _∷_}
-use native.Mathlib.Omega.{arith}
-use native.Mathlib.Decide.{decLe}
 use lib.ListN.{length, take, set, getD, replicate}
-use lib.Seq.{sets, length-take-le, take-all}
-use Rattle.wire.specs.Told.{Told, given, refused}
+use lib.Seq.{sets}
+use Rattle.wire.specs.Told.{ToldMore, given, refused}
 use Rattle.field.specs.declared.value.Part.{Part}
 use Rattle.field.specs.Value.{Within}
 use Rattle.field.proofs.Told.{Sat, sat-then, sat-weaken}
-use Rattle.field.proofs.Places.{within-longer, within-get}
+use Rattle.field.proofs.Places.{within-get}
 use Rattle.walk.specs.declared.gathered.Gathered.{Gathered}
 use Rattle.walk.specs.declared.schema.Schema.{Schema}
 use Rattle.walk.specs.declared.schema.Schema.the-variants as Schema
 use Rattle.walk.specs.Schema.{first, second, third}
-use Rattle.walk.specs.Gathered.{mostRepeated, noPart, partsGathered}
+use Rattle.walk.specs.Gathered.{mostRepeated, noPart, partsGathered, AllText}
+use Rattle.walk.specs.Refusal.{Strings}
 use Rattle.walk.specs.Walk.{fieldsFrom}
+use Rattle.text.specs.WellFormed.{empty}
+use Rattle.walk.proofs.Strings.{text-get, strings-first}
 use Rattle.walk.proofs.Steps.{fields-within}
 use Rattle.firmware.specs.declared.component.FirmwareComponent.{FirmwareComponent}
 use Rattle.firmware.specs.declared.information.FirmwareInformation.{FirmwareInformation}
@@ -31,38 +32,31 @@ use Rattle.firmware.specs.Apply.{firmwareIn, applyOf, toldApply, withApp
 pub record Gathers (s : List ℕ) (g : Gathered) : Type 0 where
   pub parts : Within s (partsGathered g)
   pub most : g .count ≤ mostRepeated
+  pub texts : AllText s (g .texts)
 
 gathers : (schema : Schema) (s : List ℕ) (at : ℕ) → Sat (Gathers s) (fieldsFrom schema s at)
 gathers schema s at = by-told (fieldsFrom schema s at) refl
   where
-    by-told : (r : Told Gathered) → fieldsFrom schema s at ≡ r → Sat (Gathers s) r
-    by-told (given g) e = let w = fields-within schema s at g e in record { parts = w .0; most = w .1 }
+    by-told : (r : ToldMore Gathered) → fieldsFrom schema s at ≡ r → Sat (Gathers s) r
+    by-told (given g) e = let w = fields-within schema s at g e in record { parts = w .0; most = w .1; texts = w .2 }
     by-told (refused n) e = tt
 
 text-within : (s : List ℕ) (g : Gathered) (i : ℕ) → Gathers s g → getD (g .texts) i noPart .start + getD (g .texts) i noPart .len ≤ length s
 text-within s g i w = within-get s (g .texts) i noPart zero-le (w .parts .1)
 
--- the first bytes are no more than all
-take-shorter : (n : ℕ) (s : List ℕ) → length (take n s) ≤ length s
-take-shorter n s = by-size (decLe n (length s))
-  where
-    by-size : Dec (n ≤ length s) → length (take n s) ≤ length s
-    by-size (yes h) = omega (arith, length-take-le n s h)
-    by-size (no h) = omega (arith, ap length (take-all n s (omega arith)))
-
 -- ---- components
-component-within : (s : List ℕ) (at : ℕ) → Sat (λ (c : FirmwareComponent). Within s (componentParts c)) (componentFrom s at)
+component-within : (s : List ℕ) (at : ℕ) → Sat (λ (c : FirmwareComponent). Strings s (componentParts c)) (componentFrom s at)
 unfolding componentFrom
 component-within s at =
-    sat-then (Gathers s) (λ (c : FirmwareComponent). Within s (componentParts c)) (fieldsFrom Schema.Component s at) _ (gathers Schema.Component s at)
-    (λ g w. (text-within s g first w, (text-within s g second w, tt)))
+    sat-then (Gathers s) (λ (c : FirmwareComponent). Strings s (componentParts c)) (fieldsFrom Schema.Component s at) _ (gathers Schema.Component s at)
+    (λ g w. ((text-within s g first w, (text-within s g second w, tt)), (text-get s (g .texts) first (w .texts), (text-get s (g .texts) second (w .texts), tt))))
 
-component-in-within : (s : List ℕ) (p : Part) → Sat (λ (c : FirmwareComponent). Within s (componentParts c)) (componentIn s p)
+component-in-within : (s : List ℕ) (p : Part) → Sat (λ (c : FirmwareComponent). Strings s (componentParts c)) (componentIn s p)
 component-in-within s p =
     let t = take (p .start + p .len) s in
     rw (component-cut s p)
-    (sat-weaken (λ (c : FirmwareComponent). Within t (componentParts c)) (λ (c : FirmwareComponent). Within s (componentParts c)) (componentFrom t (p .start)) (component-within t (p .start))
-    (λ c h. within-longer t s (componentParts c) (take-shorter (p .start + p .len) s) h))
+    (sat-weaken (λ (c : FirmwareComponent). Strings t (componentParts c)) (λ (c : FirmwareComponent). Strings s (componentParts c)) (componentFrom t (p .start)) (component-within t (p .start))
+    (λ c h. strings-first (p .start + p .len) s (componentParts c) h))
 
 -- ---- what holds of each component that is read holds of all eight places, if it holds of the empty one
 module _ (P : FirmwareComponent → Type 0) where
@@ -97,32 +91,38 @@ module _ (P : FirmwareComponent → Type 0) where
 
 -- ---- firmware information
 abbrev Held : List ℕ → FirmwareComponent → Type 0
-Held s c = Within s (componentParts c)
+Held s c = Strings s (componentParts c)
 
 abbrev Firm : List ℕ → FirmwareInformation → Type 0
-Firm s f = Within s (ownParts f) × Each (Held s) (f .components) × (f .count ≤ mostRepeated)
+Firm s f = Strings s (ownParts f) × Each (Held s) (f .components) × (f .count ≤ mostRepeated)
 
 none-held : (s : List ℕ) → Held s noComponent
-none-held s = (zero-le, (zero-le, tt))
+none-held s = ((zero-le, (zero-le, tt)), (empty, (empty, tt)))
 
 firmware-within : (s : List ℕ) (at : ℕ) → Sat (Firm s) (firmwareFrom s at)
 unfolding firmwareFrom
 firmware-within s at =
     sat-then (Gathers s) (Firm s) (fieldsFrom Schema.Firmware s at) _ (gathers Schema.Firmware s at)
     (λ g w. sat-then (Each (Held s)) (Firm s) (componentsFrom s at) _ (each-from (Held s) s (component-in-within s) (none-held s) at)
-    (λ cs h. ((text-within s g first w, (text-within s g second w, (text-within s g third w, tt))), h, w .most)))
+    (λ cs h. (
+      (
+        (text-within s g first w, (text-within s g second w, (text-within s g third w, tt))),
+        (text-get s (g .texts) first (w .texts), (text-get s (g .texts) second (w .texts), (text-get s (g .texts) third (w .texts), tt))),
+      ),
+      h,
+      w .most,
+    )))
 
-longer : (s t : List ℕ) → length s ≤ length t → (cs : List FirmwareComponent) → Each (Held s) cs → Each (Held t) cs
-longer s t l [] h = tt
-longer s t l (c ∷ cs) h = (within-longer s t (componentParts c) l (h .0), longer s t l cs (h .1))
+held-first : (n : ℕ) (s : List ℕ) (cs : List FirmwareComponent) → Each (Held (take n s)) cs → Each (Held s) cs
+held-first n s [] h = tt
+held-first n s (c ∷ cs) h = (strings-first n s (componentParts c) (h .0), held-first n s cs (h .1))
 
 firmware-in-within : (s : List ℕ) (p : Part) → Sat (Firm s) (firmwareIn s p)
 unfolding firmwareIn
 firmware-in-within s p =
     let t = take (p .start + p .len) s in
-    let l = take-shorter (p .start + p .len) s in
     sat-weaken (Firm t) (Firm s) (firmwareFrom t (p .start)) (firmware-within t (p .start))
-    (λ f h. (within-longer t s (ownParts f) l (h .0), longer t s l (f .components) (h .1), h .2))
+    (λ f h. (strings-first (p .start + p .len) s (ownParts f) (h .0), held-first (p .start + p .len) s (f .components) (h .1), h .2))
 
 pub apply-within : (s : List ℕ) → Sat (Inside s) (applyOf s)
 unfolding applyOf
@@ -134,9 +134,9 @@ apply-within s =
 pub told-inside : (s : List ℕ) (r : ApplyRead) → toldApply r ≡ withApply (applyOf s) → (toldApply r ≡ withApply (applyOf s)) × Inside s (r .apply)
 told-inside s r e = (e, rw (ap (λ q. q .1) e) (beside (applyOf s) (apply-within s)))
   where
-    beside : (t : Told ApplyFirmware) → Sat (Inside s) t → Inside s (withApply t .1)
+    beside : (t : ToldMore ApplyFirmware) → Sat (Inside s) t → Inside s (withApply t .1)
     beside (given a) h = h
-    beside (refused n) h = record { own = (zero-le, (zero-le, (zero-le, tt))); each = each-none (Held s) (none-held s) mostRepeated; most = zero-le }
+    beside (refused n) h = record { own = ((zero-le, (zero-le, (zero-le, tt))), (empty, (empty, (empty, tt)))); each = each-none (Held s) (none-held s) mostRepeated; most = zero-le }
 
 -- the part of the firmware information lies within the message
 pub part-inside : (s : List ℕ) (g : Gathered) → fieldsFrom Schema.Apply s 0 ≡ given g → g .part .start + g .part .len ≤ length s

@@ -1,5 +1,4 @@
 pub mod Steps
-pub mod Texts
 pub mod Parts
 pub mod Components
 pub mod Segments

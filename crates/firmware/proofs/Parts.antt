@@ -8,13 +8,14 @@ use native.Mathlib.Decide.{ℕ-discrete}
 use lib.ListN.{length, length-append}
 use lib.Dec.{leb, eqb}
 use borrow.Author.Tests.{le-leb, lt-leb, leb-true, leb-false, ne-eqb}
-use Rattle.wire.specs.Told.{Told, given, refused, andThen}
+use Rattle.wire.specs.Told.{Told, ToldMore, alone, given, refused, andThen}
 use Rattle.field.specs.declared.tag.Head.{Head}
 use Rattle.field.specs.declared.value.Part.{Part}
 use Rattle.field.specs.declared.value.Value.{Value}
 use Rattle.field.specs.declared.value.Value.the-variants.{Number, Bytes, Skipped}
 use Rattle.field.specs.Tag.{tagAt}
-use Rattle.field.specs.Value.{valueAt, Within, valueParts}
+use Rattle.field.specs.Value.{valueAt, Within, valueParts, bytesOf}
+use Rattle.text.specs.WellFormed.{badPlace}
 use Rattle.field.specs.Fields.{Standing, field, end, foundAt}
 use Rattle.field.proofs.Told.{Sat, sat-cond, sat-then, sat-weaken, sat-given}
 use Rattle.field.proofs.Places.{tag-ends, Held, value-held}
@@ -23,9 +24,9 @@ use Rattle.walk.specs.declared.schema.Schema.the-variants as Schema
 use Rattle.walk.specs.declared.schema.Role.{Role}
 use Rattle.walk.specs.declared.schema.Role.the-variants as Role
 use Rattle.walk.specs.Schema.{roleOf}
-use Rattle.walk.specs.Gathered.{nothing}
+use Rattle.walk.specs.Gathered.{nothing, withText}
 use Rattle.walk.specs.declared.reader.Added.{Added}
-use Rattle.walk.specs.Walk.{walk, placed, judged, valueAdded, addedAt, readAt, withAdded, fieldAt, fieldsFrom}
+use Rattle.walk.specs.Walk.{walk, placed, judged, valueAdded, addedAt, readAt, withString, withAdded, fieldAt, fieldsFrom}
 use Rattle.walk.proofs.Steps.{field-forward, fields-within}
 use Rattle.firmware.specs.Information.{partOfComponent, partsOnward, partsWalked, partsFrom}
 
@@ -68,30 +69,13 @@ parts-turn s at e = parts-any s (length s) (suc (length s)) at (omega arith) (om
 pub parts-end : (s : List ℕ) (at : ℕ) → length s ≤ at → partsFrom s at ≡ []
 parts-end s at h = parts-turn s at (found-end s at h)
 
--- ---- the parts lie within the message
-within-append : (s : List ℕ) (ps qs : List Part) → Within s ps → Within s qs → Within s (ps ++ qs)
-within-append s [] qs h k = k
-within-append s (p ∷ ps) qs h k = (h .0, within-append s ps qs (h .1) k)
-
+-- ---- the part of a component lies within the message
 pub within-one : (s : List ℕ) (number : ℕ) (value : Value) → Within s (valueParts value) → Within s (partOfComponent number value)
 within-one s number value h = by-test (eqb number 3)
   where
     by-test : (b : Bool) → Within s (cond b (valueParts value) [])
     by-test true = h
     by-test false = tt
-
-walked-within : (s : List ℕ) (fuel at : ℕ) → Within s (partsWalked fuel s at)
-walked-within s zero at = tt
-walked-within s (suc fuel) at = by-found (walked-within s fuel) (foundAt s at) (found-stands s at)
-  where
-    by-found : ((next : ℕ) → Within s (partsWalked fuel s next)) → (r : Told Standing) → Sat (Stands s at) r → Within s (partsOnward (partsWalked fuel s) r)
-    by-found w (given (field number value next)) l = within-append s (partOfComponent number value) (partsWalked fuel s next) (within-one s number value (l .1)) (w next)
-    by-found w (given end) l = tt
-    by-found w (refused n) l = tt
-
-pub parts-within : (s : List ℕ) (at : ℕ) → Within s (partsFrom s at)
-unfolding partsFrom
-parts-within s at = walked-within s (length s) at
 
 -- ---- the walk of firmware information counts them
 -- roles that count nothing
@@ -118,6 +102,14 @@ quiet-field f n =
 abbrev Counted : ℕ → ℕ → Gathered × ℕ → Type 0
 Counted count next q = (count ≡ q .0 .count) × (next ≡ q .1)
 
+string-counts : (s : List ℕ) (f slot : ℕ) (p : Part) (next : ℕ) (g : Gathered) → Sat (Counted (g .count) next) (andThen (withString s f slot p g) (placed next))
+unfolding withString
+string-counts s f slot p next g = by-place (eqb (badPlace (bytesOf s p)) (length (bytesOf s p)))
+  where
+    by-place : (b : Bool) → Sat {N = ℕ × List ℕ} (Counted (g .count) next) (andThen (cond b (given (withText slot p g)) (refused (36, f ∷ badPlace (bytesOf s p) ∷ []))) (placed next))
+    by-place true = (refl, refl)
+    by-place false = tt
+
 quiet-counts : (s : List ℕ) (role : Role) (f : ℕ) (v : Value) (next : ℕ) (g : Gathered) → Quiet role
     → Sat (Counted (g .count) next) (andThen (withAdded s (valueAdded role f v) g) (placed next))
 quiet-counts s (Role.Scalar i) f (Number v) next g h = (refl, refl)
@@ -128,7 +120,7 @@ quiet-counts s Role.Repeated f (Number v) next g h = absurd h
 quiet-counts s Role.Member f (Number v) next g h = (refl, refl)
 quiet-counts s Role.Unknown f (Number v) next g h = (refl, refl)
 quiet-counts s (Role.Scalar i) f (Bytes p) next g h = (refl, refl)
-quiet-counts s (Role.Text i) f (Bytes p) next g h = (refl, refl)
+quiet-counts s (Role.Text i) f (Bytes p) next g h = string-counts s f i p next g
 quiet-counts s Role.Transports f (Bytes p) next g h = absurd h
 quiet-counts s Role.Nested f (Bytes p) next g h = (refl, refl)
 quiet-counts s Role.Repeated f (Bytes p) next g h = absurd h
@@ -168,7 +160,7 @@ field-counts s at g inside = by-tag (tagAt s at) refl
   where
     by-value : (h : Head) (u : Told (Unit {0})) (v : Told (Value × ℕ)) → tagAt s at ≡ given h → valueAt s (h .next) (h .wire) ≡ v
         → Sat (Counts s at (g .count))
-        (andThen (andThen u (λ _. andThen v (adds h))) (λ a. andThen (withAdded s (a .0) g) (placed (a .1))))
+        (andThen (alone (andThen u (λ _. andThen v (adds h)))) (λ a. andThen (withAdded s (a .0) g) (placed (a .1))))
     by-value h (given u) (given x) e k =
         let found : foundAt s at ≡ given (field (h .field) (x .0) (x .1)) = rw (lt-leb (length s) at inside, e, k) in
         sat-weaken (Counted (length (partOfComponent (h .field) (x .0)) + g .count) (x .1)) (Counts s at (g .count)) (andThen (withAdded s (valueAdded (roleOf Schema.Firmware (h .field)) (h .field) (x .0)) g) (placed (x .1))) (value-counts s (h .field) (x .0) (x .1) g)
@@ -179,7 +171,7 @@ field-counts s at g inside = by-tag (tagAt s at) refl
 
     by-tag : (t : Told Head) → tagAt s at ≡ t
         → Sat (Counts s at (g .count))
-        (andThen (andThen t (λ h. andThen (judged (roleOf Schema.Firmware (h .field)) (h .wire) (g .field) (g .count)) (λ _. andThen (valueAt s (h .next) (h .wire)) (adds h))))
+        (andThen (alone (andThen t (λ h. andThen (judged (roleOf Schema.Firmware (h .field)) (h .wire) (g .field) (g .count)) (λ _. andThen (valueAt s (h .next) (h .wire)) (adds h)))))
         (λ a. andThen (withAdded s (a .0) g) (placed (a .1))))
     by-tag (given h) e = by-value h (judged (roleOf Schema.Firmware (h .field)) (h .wire) (g .field) (g .count)) (valueAt s (h .next) (h .wire)) e refl
     by-tag (refused n) e = tt
@@ -193,7 +185,7 @@ walk-counts s (suc fuel) at g h =
     (λ t. by-field (walk-counts s fuel) (fieldAt Schema.Firmware s at g) refl (field-counts s at g (leb-false (length s) at t)))
   where
     by-field : ((at₁ : ℕ) (g₁ : Gathered) → length s ≤ at₁ + fuel → Sat (λ (x : Gathered). length (partsFrom s at₁) + g₁ .count ≡ x .count) (walk (fieldAt Schema.Firmware) fuel s at₁ g₁))
-        → (r : Told (Gathered × ℕ)) → fieldAt Schema.Firmware s at g ≡ r → Sat (Counts s at (g .count)) r
+        → (r : ToldMore (Gathered × ℕ)) → fieldAt Schema.Firmware s at g ≡ r → Sat (Counts s at (g .count)) r
         → Sat (λ (x : Gathered). length (partsFrom s at) + g .count ≡ x .count) (andThen r (λ q. walk (fieldAt Schema.Firmware) fuel s (q .1) (q .0)))
     by-field more (given q) e c =
         sat-weaken (λ (x : Gathered). length (partsFrom s (q .1)) + q .0 .count ≡ x .count) (λ (x : Gathered). length (partsFrom s at) + g .count ≡ x .count)

@@ -11,7 +11,9 @@ use lib.Seq.{drop-cons}
 use lib.Dec.{eqb}
 use borrow.Author.Tests.{ne-eqb}
 use Rattle.wire.specs.Told.{given, refused}
-use Rattle.field.specs.Value.{Within, TellsWithin, bytesOf}
+use Rattle.field.specs.Value.{Within, bytesOf}
+use Rattle.walk.specs.Gathered.{AllText}
+use Rattle.walk.specs.Refusal.{TellsStrings}
 use Rattle.firmware.specs.declared.segment.UpdateComponentSegment.{UpdateComponentSegment}
 use Rattle.firmware.specs.Segment.{isDigit, allDigits, brokenField, segmentJudged, segmentParts}
 
@@ -38,10 +40,10 @@ offset-none offset signature e = by-offset (ℕ-discrete offset 0)
     by-offset (yes z) = z
     by-offset (no n) = absurd (let two : brokenField offset signature ≡ 2 = rw (ne-eqb offset 0 n) in omega (arith, e, two))
 
--- what is told lies within the message
-pub judged-within : (s : List ℕ) (m : UpdateComponentSegment) → Within s (segmentParts m) → TellsWithin s segmentParts (segmentJudged s m)
-judged-within s m h = by-test (eqb (brokenField (m .«component_offset») (bytesOf s (m .«segment_signature»))) 0)
+-- what is told lies within the message and is well formed
+pub judged-within : (s : List ℕ) (m : UpdateComponentSegment) → Within s (segmentParts m) → AllText s (segmentParts m) → TellsStrings s segmentParts (segmentJudged s m)
+judged-within s m h k = by-test (eqb (brokenField (m .«component_offset») (bytesOf s (m .«segment_signature»))) 0)
   where
-    by-test : (b : Bool) → TellsWithin {N = ℕ × List ℕ} s segmentParts (cond b (given m) (refused (50, brokenField (m .«component_offset») (bytesOf s (m .«segment_signature»)) ∷ [])))
-    by-test true = h
+    by-test : (b : Bool) → TellsStrings s segmentParts (cond b (given m) (refused (50, brokenField (m .«component_offset») (bytesOf s (m .«segment_signature»)) ∷ [])))
+    by-test true = (h, k)
     by-test false = tt

@@ -3,7 +3,7 @@ use Prim.Native.Nat.{ℕ, _+_}
 use mathlib.Core.Path.{_≡_, refl}
 use mathlib.Core.List.{List}
 use lib.ListN.{take, getD}
-use Rattle.wire.specs.Told.{Told, given, refused}
+use Rattle.wire.specs.Told.{ToldMore, given, refused}
 use Rattle.field.specs.declared.value.Part.{Part}
 use Rattle.walk.specs.declared.gathered.Gathered.{Gathered}
 use Rattle.walk.specs.declared.schema.Schema.the-variants as Schema
@@ -21,16 +21,16 @@ unfolding componentIn
 component-cut s p = refl
 
 -- what is told of firmware information, without what stands beside it
-pub firmware-told : (t : Told FirmwareInformation) → withFirmware t .0 ≡ t
+pub firmware-told : (t : ToldMore FirmwareInformation) → withFirmware t .0 ≡ t
 firmware-told (given f) = refl
 firmware-told (refused n) = refl
 
 module _ (s : List ℕ) (at : ℕ) where
-  pub firmware-stops : (n : ℕ) → fieldsFrom Schema.Firmware s at ≡ refused n → firmwareFrom s at ≡ refused n
+  pub firmware-stops : (n : ℕ × List ℕ) → fieldsFrom Schema.Firmware s at ≡ refused n → firmwareFrom s at ≡ refused n
   unfolding firmwareFrom
   firmware-stops n e = rw e
 
-  pub firmware-halts : (g : Gathered) (n : ℕ) → fieldsFrom Schema.Firmware s at ≡ given g → componentsFrom s at ≡ refused n → firmwareFrom s at ≡ refused n
+  pub firmware-halts : (g : Gathered) (n : ℕ × List ℕ) → fieldsFrom Schema.Firmware s at ≡ given g → componentsFrom s at ≡ refused n → firmwareFrom s at ≡ refused n
   unfolding firmwareFrom
   firmware-halts g n e k = rw (e, k)
 
@@ -41,11 +41,11 @@ module _ (s : List ℕ) (at : ℕ) where
 
 -- ---- the message
 module _ (s : List ℕ) where
-  pub apply-stops : (n : ℕ) → fieldsFrom Schema.Apply s 0 ≡ refused n → applyOf s ≡ refused n
+  pub apply-stops : (n : ℕ × List ℕ) → fieldsFrom Schema.Apply s 0 ≡ refused n → applyOf s ≡ refused n
   unfolding applyOf
   apply-stops n e = rw e
 
-  pub apply-halts : (g : Gathered) (n : ℕ) → fieldsFrom Schema.Apply s 0 ≡ given g → firmwareIn s (g .part) ≡ refused n → applyOf s ≡ refused n
+  pub apply-halts : (g : Gathered) (n : ℕ × List ℕ) → fieldsFrom Schema.Apply s 0 ≡ given g → firmwareIn s (g .part) ≡ refused n → applyOf s ≡ refused n
   unfolding applyOf
   apply-halts g n e k = rw (e, k)
 

@@ -4,12 +4,12 @@ use mathlib.Core.Bool.{Bool, false, not}
 use mathlib.Core.List.{List}
 use lib.ListN.{getD, take}
 use lib.Dec.{eqb}
-use Rattle.wire.specs.Told.{Told, given, refused, andThen}
+use Rattle.wire.specs.Told.{ToldMore, given, refused, andThen}
 use Rattle.field.specs.declared.value.Part.{Part}
-use Rattle.field.specs.Value.{Within}
 use Rattle.walk.specs.declared.schema.Schema.the-variants as Schema
 use Rattle.walk.specs.Schema.{first}
-use Rattle.walk.specs.Gathered.{mostRepeated, judgedAs}
+use Rattle.walk.specs.Gathered.{mostRepeated}
+use Rattle.walk.specs.Refusal.{Strings, judgedAs}
 use Rattle.walk.specs.Walk.{fieldsFrom}
 use Rattle.firmware.specs.declared.information.FirmwareInformation.{FirmwareInformation}
 use Rattle.firmware.specs.declared.apply.ApplyFirmware.{ApplyFirmware}
@@ -22,11 +22,11 @@ abbrev pub isTrue : ℕ → Bool
 isTrue v = not (eqb v 0)
 
 -- the firmware information within its part; an absent one has no bytes
-unfoldable pub firmwareIn : List ℕ → Part → Told FirmwareInformation
+unfoldable pub firmwareIn : List ℕ → Part → ToldMore FirmwareInformation
 firmwareIn s p = firmwareFrom (take (p .start + p .len) s) (p .start)
 
 -- the message: it is read through before its firmware information
-unfoldable pub applyOf : List ℕ → Told ApplyFirmware
+unfoldable pub applyOf : List ℕ → ToldMore ApplyFirmware
 applyOf s =
     andThen (fieldsFrom Schema.Apply s 0) (λ g.
     andThen (firmwareIn s (g .part)) (λ f. given (record { «firmware_information» = f; «restart_required» = isTrue (getD (g .scalars) first 0) })))
@@ -35,15 +35,15 @@ abbrev pub noApply : ApplyFirmware
 noApply = record { «firmware_information» = noFirmware; «restart_required» = false }
 
 -- an answer of read_apply: what it tells, and the message beside it, which is empty where it is refused
-abbrev pub toldApply : ApplyRead → Told ApplyFirmware × ApplyFirmware
+abbrev pub toldApply : ApplyRead → ToldMore ApplyFirmware × ApplyFirmware
 toldApply r = (judgedAs (r .verdict) (r .apply), r .apply)
 
-abbrev pub withApply : Told ApplyFirmware → Told ApplyFirmware × ApplyFirmware
+abbrev pub withApply : ToldMore ApplyFirmware → ToldMore ApplyFirmware × ApplyFirmware
 withApply (given a) = (given a, a)
 withApply (refused n) = (refused n, noApply)
 
--- all parts lie within the message, and there are at most eight components
+-- all strings lie within the message and are well formed, and there are at most eight components
 pub record Inside (s : List ℕ) (a : ApplyFirmware) : Type 0 where
-  pub own : Within s (ownParts (a .«firmware_information»))
-  pub each : Each (λ c. Within s (componentParts c)) (a .«firmware_information» .components)
+  pub own : Strings s (ownParts (a .«firmware_information»))
+  pub each : Each (λ c. Strings s (componentParts c)) (a .«firmware_information» .components)
   pub most : a .«firmware_information» .count ≤ mostRepeated

@@ -2,14 +2,14 @@
 use Prim.Native.Nat.{ℕ}
 use mathlib.Core.List.{List, [], _∷_}
 use lib.ListN.{getD}
-use Rattle.wire.specs.Told.{Told, given, refused, andThen}
+use Rattle.wire.specs.Told.{ToldMore, given, refused, andThen}
 use Rattle.field.specs.declared.value.Part.{Part}
-use Rattle.field.specs.Refusal.{numberOf}
 use Rattle.field.specs.Unsigned.{unsignedOf}
 use Rattle.walk.specs.declared.gathered.Gathered.{Gathered}
 use Rattle.walk.specs.declared.schema.Schema.the-variants as Schema
 use Rattle.walk.specs.Schema.{first, second}
 use Rattle.walk.specs.Gathered.{noPart}
+use Rattle.walk.specs.Refusal.{whyOf}
 use Rattle.walk.specs.Walk.{fieldsFrom}
 use Rattle.firmware.specs.declared.component.FirmwareComponent.{FirmwareComponent}
 use Rattle.firmware.specs.declared.component.ComponentRead.{ComponentRead}
@@ -30,13 +30,13 @@ componentMade g =
     }
 
 -- the component from a place to the end
-unfoldable pub componentFrom : List ℕ → ℕ → Told FirmwareComponent
+unfoldable pub componentFrom : List ℕ → ℕ → ToldMore FirmwareComponent
 componentFrom s at = andThen (fieldsFrom Schema.Component s at) (λ g. given (componentMade g))
 
 -- the answers of component_from
-abbrev pub toldComponent : ComponentRead → Told FirmwareComponent
+abbrev pub toldComponent : ComponentRead → ToldMore FirmwareComponent
 toldComponent (ComponentRead.Read c) = given c
-toldComponent (ComponentRead.Refused e) = refused (numberOf e)
+toldComponent (ComponentRead.Refused e) = refused (whyOf e)
 
 -- the parts that a component tells
 abbrev pub componentParts : FirmwareComponent → List Part

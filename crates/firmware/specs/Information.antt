@@ -5,7 +5,7 @@ use mathlib.Core.List.{List, [], _∷_, _++_}
 use lib.ListN.{length, getD, take, replicate}
 use lib.Seq.{sets}
 use lib.Dec.{eqb}
-use Rattle.wire.specs.Told.{Told, given, refused, andThen}
+use Rattle.wire.specs.Told.{Told, ToldMore, given, refused, andThen}
 use Rattle.field.specs.declared.value.Part.{Part}
 use Rattle.field.specs.declared.value.Value.{Value}
 use Rattle.field.specs.Fields.{Standing, field, end, foundAt}
@@ -14,7 +14,8 @@ use Rattle.field.specs.Value.{valueParts}
 use Rattle.walk.specs.declared.gathered.Gathered.{Gathered}
 use Rattle.walk.specs.declared.schema.Schema.the-variants as Schema
 use Rattle.walk.specs.Schema.{componentsField, first, second, third}
-use Rattle.walk.specs.Gathered.{mostRepeated, noPart, judgedAs}
+use Rattle.walk.specs.Gathered.{mostRepeated, noPart}
+use Rattle.walk.specs.Refusal.{judgedAs}
 use Rattle.walk.specs.Walk.{fieldsFrom}
 use Rattle.firmware.specs.declared.component.FirmwareComponent.{FirmwareComponent}
 use Rattle.firmware.specs.declared.information.FirmwareInformation.{FirmwareInformation}
@@ -59,11 +60,11 @@ Onward s at (NextComponent.At p next) = (at < next) × (p .start + p .len ≤ le
 Onward s at NextComponent.None = Unit {0}
 
 -- a component within its part: what follows it in the message is not seen
-unfoldable pub componentIn : List ℕ → Part → Told FirmwareComponent
+unfoldable pub componentIn : List ℕ → Part → ToldMore FirmwareComponent
 componentIn s p = componentFrom (take (p .start + p .len) s) (p .start)
 
 -- one after another: the first refusal is the answer
-abbrev pub componentsIn : List ℕ → List Part → Told (List FirmwareComponent)
+abbrev pub componentsIn : List ℕ → List Part → ToldMore (List FirmwareComponent)
 componentsIn s [] = given []
 componentsIn s (p ∷ ps) = andThen (componentIn s p) (λ c. andThen (componentsIn s ps) (λ cs. given (c ∷ cs)))
 
@@ -71,7 +72,7 @@ componentsIn s (p ∷ ps) = andThen (componentIn s p) (λ c. andThen (components
 abbrev pub placed : List FirmwareComponent → List FirmwareComponent
 placed cs = sets (replicate mostRepeated noComponent) 0 cs
 
-unfoldable pub componentsFrom : List ℕ → ℕ → Told (List FirmwareComponent)
+unfoldable pub componentsFrom : List ℕ → ℕ → ToldMore (List FirmwareComponent)
 componentsFrom s at = andThen (componentsIn s (partsFrom s at)) (λ cs. given (placed cs))
 
 -- ---- reading
@@ -91,18 +92,18 @@ noFirmware =
     record { version = 0; name = noPart; components = replicate mostRepeated noComponent; count = 0; locale = noPart; «version_name» = noPart }
 
 -- the information from a place to the end: it is read through before its components
-unfoldable pub firmwareFrom : List ℕ → ℕ → Told FirmwareInformation
+unfoldable pub firmwareFrom : List ℕ → ℕ → ToldMore FirmwareInformation
 firmwareFrom s at = andThen (fieldsFrom Schema.Firmware s at) (λ g. andThen (componentsFrom s at) (λ cs. given (firmwareMade g cs)))
 
 -- the answers of components_from
-abbrev pub toldComponents : ComponentsRead → Told (List FirmwareComponent)
+abbrev pub toldComponents : ComponentsRead → ToldMore (List FirmwareComponent)
 toldComponents r = judgedAs (r .verdict) (r .components)
 
 -- the answers of firmware_from: what is told, and the information beside it, which is empty where it is refused
-abbrev pub toldFirmware : FirmwareRead → Told FirmwareInformation × FirmwareInformation
+abbrev pub toldFirmware : FirmwareRead → ToldMore FirmwareInformation × FirmwareInformation
 toldFirmware r = (judgedAs (r .verdict) (r .information), r .information)
 
-abbrev pub withFirmware : Told FirmwareInformation → Told FirmwareInformation × FirmwareInformation
+abbrev pub withFirmware : ToldMore FirmwareInformation → ToldMore FirmwareInformation × FirmwareInformation
 withFirmware (given f) = (given f, f)
 withFirmware (refused n) = (refused n, noFirmware)
 

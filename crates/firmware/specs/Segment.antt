@@ -4,15 +4,15 @@ use mathlib.Core.Bool.{Bool, true, cond, _&&_, _||_, not}
 use mathlib.Core.List.{List, [], _∷_}
 use lib.ListN.{length, getD}
 use lib.Dec.{leb, eqb}
-use Rattle.wire.specs.Told.{ToldMore, alone, given, refused, andThen}
+use Rattle.wire.specs.Told.{ToldMore, given, refused, andThen}
 use Rattle.field.specs.declared.value.Part.{Part}
-use Rattle.field.specs.Refusal.{numberOf}
 use Rattle.field.specs.Unsigned.{unsignedOf}
 use Rattle.field.specs.Value.{bytesOf}
 use Rattle.walk.specs.declared.gathered.Gathered.{Gathered}
 use Rattle.walk.specs.declared.schema.Schema.the-variants as Schema
 use Rattle.walk.specs.Schema.{componentOffsetField, segmentSignatureField, first, second}
 use Rattle.walk.specs.Gathered.{noPart}
+use Rattle.walk.specs.Refusal.{whyOf}
 use Rattle.walk.specs.Walk.{fieldsFrom}
 use Rattle.firmware.specs.declared.segment.UpdateComponentSegment.{UpdateComponentSegment}
 use Rattle.firmware.specs.declared.segment.SegmentRead.{SegmentRead}
@@ -61,18 +61,13 @@ abbrev pub segmentJudged : List ℕ → UpdateComponentSegment → ToldMore Upda
 segmentJudged s m = profiled (brokenField (m .«component_offset») (bytesOf s (m .«segment_signature»))) refused (given m)
 
 unfoldable pub segmentOf : List ℕ → ToldMore UpdateComponentSegment
-segmentOf s = andThen (alone (fieldsFrom Schema.Segment s 0)) (λ g. segmentJudged s (segmentMade g))
+segmentOf s = andThen (fieldsFrom Schema.Segment s 0) (λ g. segmentJudged s (segmentMade g))
 
 -- the answers of read_segment
 abbrev pub toldSegment : SegmentRead → ToldMore UpdateComponentSegment
 toldSegment (SegmentRead.Read m) = given m
-toldSegment (SegmentRead.Refused e) = refused (numberOf e, [])
+toldSegment (SegmentRead.Refused e) = refused (whyOf e)
 toldSegment (SegmentRead.Profile field) = refused (50, field ∷ [])
-
--- 0, or the number of the refusal
-abbrev pub numberMore : {A : Type 0} → ToldMore A → ℕ
-numberMore (given a) = 0
-numberMore (refused n) = n .0
 
 -- the parts that it tells
 abbrev pub segmentParts : UpdateComponentSegment → List Part

@@ -2,10 +2,10 @@
 use crate::information::FirmwareInformation;
 use crate::information::FirmwareRead;
 use crate::information::firmware_from;
-use field::Refusal;
 use field::value::Part;
-use walk::gathered::Verdict;
 use walk::reader::read_fields;
+use walk::refusal::MessageRefusal;
+use walk::refusal::Verdict;
 use walk::schema::FIRST;
 use walk::schema::Schema;
 ghost use mathlib.Core.Path.{_≡_};
@@ -67,7 +67,7 @@ pub fn read_apply(message: &[u8]) -> ApplyRead
 }
 
 // A message that is refused is the empty one.
-fn refused_apply(e: Refusal) -> ApplyRead
+fn refused_apply(e: MessageRefusal) -> ApplyRead
     ensures { λ r. ⌜ r ≡ record { verdict = Verdict.Refused e; apply = noApply } ⌝ }
 {
     let firmware_information = FirmwareInformation::none();

@@ -1,9 +1,9 @@
 // FirmwareComponent, a message within firmware information.
-use field::Refusal;
 use field::unsigned::low_unsigned;
 use field::value::Part;
-use walk::gathered::Verdict;
 use walk::reader::read_fields;
+use walk::refusal::MessageRefusal;
+use walk::refusal::Verdict;
 use walk::schema::FIRST;
 use walk::schema::SECOND;
 use walk::schema::Schema;
@@ -20,7 +20,7 @@ pub struct FirmwareComponent {
 
 pub enum ComponentRead {
     Read(FirmwareComponent),
-    Refused(Refusal),
+    Refused(MessageRefusal),
 }
 
 impl FirmwareComponent {

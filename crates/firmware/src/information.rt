@@ -2,15 +2,15 @@
 use crate::component::ComponentRead;
 use crate::component::FirmwareComponent;
 use crate::component::component_from;
-use field::Refusal;
 use field::fields::Found;
 use field::fields::found_at;
 use field::unsigned::low_unsigned;
 use field::value::Part;
 use field::value::Value;
 use walk::gathered::Gathered;
-use walk::gathered::Verdict;
 use walk::reader::read_fields;
+use walk::refusal::MessageRefusal;
+use walk::refusal::Verdict;
 use walk::schema::COMPONENTS;
 use walk::schema::FIRST;
 use walk::schema::SECOND;
@@ -173,7 +173,7 @@ fn firmware_made(gathered: Gathered, components: [FirmwareComponent; 8]) -> Firm
 }
 
 // Information that is refused is the empty one.
-fn refused_firmware(e: Refusal) -> FirmwareRead
+fn refused_firmware(e: MessageRefusal) -> FirmwareRead
     ensures { λ r. ⌜ r ≡ record { verdict = Verdict.Refused e; information = noFirmware } ⌝ }
 {
     let information = FirmwareInformation::none();

@@ -1,10 +1,10 @@
 // UpdateComponentSegment: the piece of firmware that comes next.
-use field::Refusal;
 use field::unsigned::low_unsigned;
 use field::value::Part;
 use walk::gathered::Gathered;
-use walk::gathered::Verdict;
 use walk::reader::read_fields;
+use walk::refusal::MessageRefusal;
+use walk::refusal::Verdict;
 use walk::schema::COMPONENT_OFFSET;
 use walk::schema::FIRST;
 use walk::schema::SECOND;
@@ -15,8 +15,8 @@ use wire::logic::either;
 ghost use mathlib.Core.Path.{_≡_};
 ghost use Prim.Native.Nat.{_+_, _≤_};
 ghost use lib.ListN.{length};
-ghost use Rattle.field.specs.Value.{TellsWithin};
-ghost use Rattle.firmware.specs.Segment.{isDigit, allDigits, isSignature, brokenField, segmentMade, segmentJudged, segmentOf, toldSegment, numberMore, segmentParts};
+ghost use Rattle.walk.specs.Refusal.{numberMore, TellsStrings};
+ghost use Rattle.firmware.specs.Segment.{isDigit, allDigits, isSignature, brokenField, segmentMade, segmentJudged, segmentOf, toldSegment, segmentParts};
 
 // The hexadecimal digits of a signature.
 const SIGNATURE_DIGITS: usize = 64;
@@ -33,7 +33,7 @@ pub struct UpdateComponentSegment {
 
 pub enum SegmentRead {
     Read(UpdateComponentSegment),
-    Refused(Refusal),
+    Refused(MessageRefusal),
     // A rule of the profile is broken, in this field.
     Profile(u64),
 }
@@ -129,7 +129,7 @@ fn judge_segment(message: &[u8], segment: UpdateComponentSegment) -> SegmentRead
 // A segment.
 pub fn read_segment(message: &[u8]) -> SegmentRead
     ensures { λ r. ⌜ toldSegment r ≡ segmentOf (now (message .entry)) ⌝ }
-    ensures { λ r. ⌜ TellsWithin (now (message .entry)) segmentParts (toldSegment r) ⌝ }
+    ensures { λ r. ⌜ TellsStrings (now (message .entry)) segmentParts (toldSegment r) ⌝ }
 {
     let kept = read_fields(Schema::Segment, message, 0);
     let verdict = kept.verdict;

@@ -22,16 +22,17 @@ use Rattle.firmware.specs.declared.component.FirmwareComponent.{FirmwareCompone
 use Rattle.firmware.specs.declared.information.FirmwareInformation.{FirmwareInformation}
 use Rattle.firmware.specs.declared.apply.ApplyFirmware.{ApplyFirmware}
 use Rattle.firmware.specs.Component.{noComponent}
+use Rattle.text_writer.specs.Texts.{AllWellFormed}
 use Rattle.firmware_writer.specs.Component.{outside, badComponent, componentField}
 use Rattle.firmware.specs.Information.{partsFrom, placed, componentsFrom, firmwareFrom}
-use Rattle.firmware_writer.specs.Information.{present, badComponents, badFirmware, firmwareFields}
+use Rattle.firmware_writer.specs.Information.{present, badComponents, badFirmware, componentsStrings, firmwareStrings, firmwareFields}
 use Rattle.firmware.specs.Apply.{isTrue, firmwareIn, applyOf}
 use Rattle.firmware_writer.specs.Apply.{boolValue, applyFields, applyWritten}
 use Rattle.firmware_writer.proofs.Fields.{message-append}
 use Rattle.firmware.proofs.Parts.{parts-end}
 use Rattle.round_trips.proofs.Values.{At, whole, front, behind}
 use Rattle.round_trips.proofs.Fields.{reads-end, reads-scalar, reads-text, reads-member, partAt, part-there, part-cut, textAt, fields-read, text-back}
-use Rattle.round_trips.proofs.RoundTrip.{reads-back, done}
+use Rattle.round_trips.proofs.RoundTrip.{texts-back, done}
 use Rattle.firmware_round_trips.specs.RoundTrip.{firmwareContents, applyContents, applyAgain, ComponentsTake, FirmwareTakes, ApplyRoundTrip}
 use Rattle.firmware_round_trips.proofs.Segments.{unsigned-trip}
 use Rattle.firmware_round_trips.proofs.Components.{componentsBytes, partsAt, componentsAt, components-count, withCounted, parts-scalar, parts-text, reads-components, parts-components, components-in, components-contents}
@@ -117,10 +118,10 @@ module _ (texts : List ℕ) (f : FirmwareInformation) where
         let g₄ = withText 1 (textAt (localePlace at) localeField (bytesOf texts (f .locale))) g₃ in
         fields-read Schema.Firmware s at
         (reads-scalar Schema.Firmware nothing firmwareVersionField (omega arith) (omega arith) 0 (f .version) refl (omega (arith, t .number)) refl (l .version)
-        (reads-text Schema.Firmware lent g₁ firmwareNameField (omega arith) (omega arith) 0 (bytesOf texts (f .name)) refl refl (l .name)
+        (reads-text Schema.Firmware lent g₁ firmwareNameField (omega arith) (omega arith) 0 (bytesOf texts (f .name)) (t .strings .1 .0) refl refl (l .name)
         (reads-components texts lent (listPlace at) _ (present f) g₂ (omega (arith, counted t)) (l .list)
-        (reads-text Schema.Firmware lent g₃ localeField (omega arith) (omega arith) 1 (bytesOf texts (f .locale)) refl refl (l .locale)
-        (reads-text Schema.Firmware lent g₄ versionNameField (omega arith) (omega arith) 2 (bytesOf texts (f .«version_name»)) refl refl (front versionNameBytes [] (l .end))
+        (reads-text Schema.Firmware lent g₃ localeField (omega arith) (omega arith) 1 (bytesOf texts (f .locale)) (t .strings .1 .1 .0) refl refl (l .locale)
+        (reads-text Schema.Firmware lent g₄ versionNameField (omega arith) (omega arith) 2 (bytesOf texts (f .«version_name»)) (t .strings .1 .1 .1 .0) refl refl (front versionNameBytes [] (l .end))
         (reads-end (done versionNameBytes (l .end))))))))
 
     parts-there : Laid s at [] → partsFrom s at ≡ partsAt texts (listPlace at) (present f)
@@ -193,22 +194,32 @@ outside-fine texts p h = le-ltb (length texts) (p .start + p .len) h
 components-fine : (texts : List ℕ) (cs : List FirmwareComponent) → ComponentsTake texts cs → badComponents texts cs ≡ false
 unfolding badComponent
 components-fine texts [] t = refl
-components-fine texts (c ∷ cs) t = rw (outside-fine texts (c .name) (t .0 .2 .0), outside-fine texts (c .signature) (t .0 .2 .1 .0), components-fine texts cs (t .1))
+components-fine texts (c ∷ cs) t = rw (outside-fine texts (c .name) (t .0 .2 .0 .0), outside-fine texts (c .signature) (t .0 .2 .0 .1 .0), components-fine texts cs (t .1))
 
 firmware-fine : (texts : List ℕ) (f : FirmwareInformation) → FirmwareTakes texts f → badFirmware texts f ≡ false
 unfolding badFirmware
 firmware-fine texts f t =
     rw (
       le-ltb mostRepeated (f .count) (omega (arith, t .most)),
-      outside-fine texts (f .name) (t .strings .0),
+      outside-fine texts (f .name) (t .strings .0 .0),
       components-fine texts (present f) (t .components),
-      outside-fine texts (f .locale) (t .strings .1 .0),
-      outside-fine texts (f .«version_name») (t .strings .1 .1 .0),
+      outside-fine texts (f .locale) (t .strings .0 .1 .0),
+      outside-fine texts (f .«version_name») (t .strings .0 .1 .1 .0),
     )
+
+-- their strings are well formed
+components-strings : (texts : List ℕ) (cs : List FirmwareComponent) (others : List (ℕ × List ℕ)) → ComponentsTake texts cs → AllWellFormed others → AllWellFormed (componentsStrings texts cs ++ others)
+components-strings texts [] others t w = w
+components-strings texts (c ∷ cs) others t w = (t .0 .2 .1 .0, (t .0 .2 .1 .1 .0, components-strings texts cs others (t .1) w))
+
+firmware-strings : (texts : List ℕ) (f : FirmwareInformation) → FirmwareTakes texts f → AllWellFormed (firmwareStrings texts f)
+firmware-strings texts f t =
+    (t .strings .1 .0, components-strings texts (present f) ((localeField, bytesOf texts (f .locale)) ∷ (versionNameField, bytesOf texts (f .«version_name»)) ∷ []) (t .components) (t .strings .1 .1 .0, (t .strings .1 .1 .1 .0, tt)))
 
 pub apply-round-trip : ApplyRoundTrip
 unfolding ApplyRoundTrip applyWritten
 apply-round-trip a texts out t =
     let fields = applyFields texts a in
-    reads-back (badFirmware texts (a .«firmware_information»)) fields out applyAgain (applyContents texts a) (firmware-fine texts (a .«firmware_information») (t .firmware))
+    texts-back (badFirmware texts (a .«firmware_information»)) (firmwareStrings texts (a .«firmware_information»)) fields out applyAgain (applyContents texts a)
+    (firmware-fine texts (a .«firmware_information») (t .firmware)) (firmware-strings texts (a .«firmware_information») (t .firmware))
     (omega (arith, t .room)) (apply-read texts a (messageBytes fields) (t .firmware) (omega (arith, t .room, t .lent)) (whole (messageBytes fields)))

@@ -9,7 +9,7 @@ use native.Mathlib.Decide.{ℕ-discrete}
 use lib.ListN.{length, length-append, length-take}
 use lib.Dec.{eqb}
 use borrow.Author.Tests.{ne-eqb, lt-leb}
-use Rattle.wire.specs.Told.{Told, given}
+use Rattle.wire.specs.Told.{ToldMore, given}
 use Rattle.field.specs.declared.value.Part.{Part}
 use Rattle.field.specs.declared.value.Value.the-variants.{Number, Bytes}
 use Rattle.field.specs.Tag.{lastField}
@@ -22,10 +22,10 @@ use Rattle.walk.specs.declared.schema.Schema.the-variants as Schema
 use Rattle.walk.specs.declared.schema.Role.the-variants as Role
 use Rattle.walk.specs.declared.gathered.Gathered.{Gathered}
 use Rattle.walk.specs.Schema.{roleOf, componentsField, firmwareComponentVersionField, firmwareComponentNameField, firmwareComponentSizeField, firmwareComponentSignatureField}
-use Rattle.walk.specs.Gathered.{mostRepeated, nothing, withScalar, withText, withRepeated}
+use Rattle.walk.specs.Gathered.{mostRepeated, AllText, nothing, withScalar, withText, withRepeated}
 use Rattle.walk.specs.Walk.{judged, fieldAt, fieldsFrom}
 use Rattle.firmware.specs.declared.component.FirmwareComponent.{FirmwareComponent}
-use Rattle.firmware.specs.Component.{componentFrom}
+use Rattle.firmware.specs.Component.{componentFrom, componentParts}
 use Rattle.firmware_writer.specs.Component.{componentFields, componentField}
 use Rattle.firmware.specs.Information.{partsFrom, componentIn, componentsIn}
 use Rattle.firmware.proofs.Parts.{parts-turn}
@@ -53,9 +53,9 @@ componentAt texts at c =
     }
 
 module _ (texts : List ℕ) {s : List ℕ} {at : ℕ} (c : FirmwareComponent) where
-  component-from : Unsigned32 (c .version) → Unsigned32 (c .size) → length s < 2 ^ 64 → At s at (componentBytes texts c) [] → componentFrom s at ≡ given (componentAt texts at c)
+  component-from : AllText texts (componentParts c) → Unsigned32 (c .version) → Unsigned32 (c .size) → length s < 2 ^ 64 → At s at (componentBytes texts c) [] → componentFrom s at ≡ given (componentAt texts at c)
   unfolding componentFrom roleOf
-  component-from v z lent a =
+  component-from well v z lent a =
       let name = bytesOf texts (c .name) in
       let signature = bytesOf texts (c .signature) in
       let b₁ = fieldBytes (scalar firmwareComponentVersionField (c .version)) in
@@ -73,9 +73,9 @@ module _ (texts : List ℕ) {s : List ℕ} {at : ℕ} (c : FirmwareComponent) wh
       let all : fieldsFrom Schema.Component s at ≡ given (withText 1 p₄ g₃) =
       fields-read Schema.Component s at
       (reads-scalar Schema.Component nothing firmwareComponentVersionField (omega arith) (omega arith) 0 (c .version) refl (omega arith) refl (front b₁ (b₂ ++ (b₃ ++ (b₄ ++ []))) a)
-      (reads-text Schema.Component lent g₁ firmwareComponentNameField (omega arith) (omega arith) 0 name refl refl (front b₂ (b₃ ++ (b₄ ++ [])) a₂)
+      (reads-text Schema.Component lent g₁ firmwareComponentNameField (omega arith) (omega arith) 0 name (well .0) refl refl (front b₂ (b₃ ++ (b₄ ++ [])) a₂)
       (reads-scalar Schema.Component g₂ firmwareComponentSizeField (omega arith) (omega arith) 1 (c .size) refl (omega arith) refl (front b₃ (b₄ ++ []) a₃)
-      (reads-text Schema.Component lent g₃ firmwareComponentSignatureField (omega arith) (omega arith) 1 signature refl refl (front b₄ [] a₄)
+      (reads-text Schema.Component lent g₃ firmwareComponentSignatureField (omega arith) (omega arith) 1 signature (well .1 .0) refl refl (front b₄ [] a₄)
       (reads-end (done b₄ a₄)))))) in
       rw (all, unsigned-trip (c .version) v, unsigned-trip (c .size) z)
 
@@ -190,7 +190,7 @@ module _ (texts : List ℕ) {s : List ℕ} (lent : length s < 2 ^ 64) where
       → At s (after texts at c) (componentsBytes texts cs) rest
   others-there c cs a = behind (fieldBytes (componentField texts c)) (componentsBytes texts cs) a
 
-  reads-one : {r : Told Gathered} {at : ℕ} {rest : List ℕ} (c : FirmwareComponent) (g : Gathered) → g .count < mostRepeated
+  reads-one : {r : ToldMore Gathered} {at : ℕ} {rest : List ℕ} (c : FirmwareComponent) (g : Gathered) → g .count < mostRepeated
       → At s at (partBytes componentsField (componentBytes texts c)) rest
       → Reads (fieldAt Schema.Firmware) s (after texts at c) (withRepeated g) r → Reads (fieldAt Schema.Firmware) s at g r
   unfolding fieldBytes judged roleOf
@@ -198,7 +198,7 @@ module _ (texts : List ℕ) {s : List ℕ} (lent : length s < 2 ^ 64) where
       reads-part Schema.Firmware lent g componentsField (omega arith) (omega arith) Role.Repeated (componentBytes texts c) (withRepeated g) refl
       (rw (lt-leb 8 (g .count) h)) refl a R
 
-  pub reads-components : {r : Told Gathered} (at : ℕ) (rest : List ℕ) (cs : List FirmwareComponent) (g : Gathered) → g .count + length cs ≤ mostRepeated
+  pub reads-components : {r : ToldMore Gathered} (at : ℕ) (rest : List ℕ) (cs : List FirmwareComponent) (g : Gathered) → g .count + length cs ≤ mostRepeated
       → At s at (componentsBytes texts cs) rest
       → Reads (fieldAt Schema.Firmware) s (at + length (componentsBytes texts cs)) (withCounted (length cs) g) r → Reads (fieldAt Schema.Firmware) s at g r
   reads-components at rest [] g h a R = rw (add-zero at, add-zero (g .count)) at R
@@ -216,12 +216,12 @@ module _ (texts : List ℕ) {s : List ℕ} (lent : length s < 2 ^ 64) where
   unfolding fieldBytes
   parts-one {at} c a = parts-turn s at (found-part componentsField (omega arith) (omega arith) (componentBytes texts c) lent a)
 
-  component-in : {at : ℕ} {rest : List ℕ} (c : FirmwareComponent) → Unsigned32 (c .version) → Unsigned32 (c .size)
+  component-in : {at : ℕ} {rest : List ℕ} (c : FirmwareComponent) → AllText texts (componentParts c) → Unsigned32 (c .version) → Unsigned32 (c .size)
       → At s at (partBytes componentsField (componentBytes texts c)) rest
       → componentIn s (partAt at componentsField (componentBytes texts c)) ≡ given (componentAt texts (partAt at componentsField (componentBytes texts c) .start) c)
   unfolding componentIn
-  component-in {at} c v z a =
-      component-from texts c v z (omega (arith, length-take (partAt at componentsField (componentBytes texts c) .start + length (componentBytes texts c)) s))
+  component-in {at} c well v z a =
+      component-from texts c well v z (omega (arith, length-take (partAt at componentsField (componentBytes texts c) .start + length (componentBytes texts c)) s))
       (part-cut componentsField (componentBytes texts c) a)
 
   pub parts-components : (at : ℕ) (rest : List ℕ) (cs : List FirmwareComponent) → At s at (componentsBytes texts cs) rest
@@ -235,7 +235,7 @@ module _ (texts : List ℕ) {s : List ℕ} (lent : length s < 2 ^ 64) where
       → componentsIn s (partsAt texts at cs) ≡ given (componentsAt texts at cs)
   components-in at rest [] t a = refl
   components-in at rest (c ∷ cs) t a =
-      rw (component-in c (t .0 .0) (t .0 .1) (first-there c cs a), components-in (after texts at c) rest cs (t .1) (others-there c cs a))
+      rw (component-in c (t .0 .2 .1) (t .0 .0) (t .0 .1) (first-there c cs a), components-in (after texts at c) rest cs (t .1) (others-there c cs a))
 
   pub components-contents : (at : ℕ) (rest : List ℕ) (cs : List FirmwareComponent) → At s at (componentsBytes texts cs) rest
       → map (componentContents s) (componentsAt texts at cs) ≡ map (componentContents texts) cs

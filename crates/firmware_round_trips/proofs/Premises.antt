@@ -1,5 +1,5 @@
 -- The premises of the round trips, built from the facts of docs/FORMATS.md; and the round trips that compute.
-use Prim.Native.Nat.{ℕ}
+use Prim.Native.Nat.{ℕ, _≤_, zero-le}
 use mathlib.Core.Path.{_≡_, refl}
 use mathlib.Core.Bool.{true}
 use mathlib.Core.List.{List, [], _∷_}
@@ -12,11 +12,13 @@ use Rattle.field.specs.Value.{valueAt}
 use Rattle.field.specs.Fields.{foundAt}
 use Rattle.field_writer.specs.Varint.{varintBytes}
 use Rattle.field_writer.specs.Writer.{tagBytes, headBytes, partBytes, fieldBytes}
+use Rattle.text.specs.Table.{rows, within, described, rowOf}
+use Rattle.text.specs.WellFormed.{WellFormed, empty, more, sequenceAt, badPlace}
 use Rattle.walk.specs.Schema.{roleOf}
-use Rattle.walk.specs.Walk.{judged, addedAt, readAt, fieldAt, fieldsFrom}
+use Rattle.walk.specs.Walk.{judged, addedAt, readAt, fieldAt, fieldsFrom, withString}
 use Rattle.firmware.specs.declared.component.FirmwareComponent.{FirmwareComponent}
 use Rattle.firmware.specs.Segment.{isDigit, allDigits, isSignature, brokenField, segmentOf}
-use Rattle.firmware_writer.specs.Segment.{segmentWritten}
+use Rattle.firmware_writer.specs.Segment.{segmentFilled, segmentWritten}
 use Rattle.firmware.specs.Component.{componentFrom}
 use Rattle.firmware_writer.specs.Component.{outside, badComponent}
 use Rattle.firmware.specs.Information.{partsFrom, componentIn, componentsFrom, firmwareFrom}
@@ -40,13 +42,25 @@ pub signature : (l : List ℕ) → length l ≡ 64 → Digits l → isSignature 
 unfolding isSignature
 signature l n d = rw (eq-eqb (length l) 64 n, digits l d)
 
+-- digits are ASCII, so well formed
+digit-ascii : (b : ℕ) → Digit b → b ≤ 127
+digit-ascii b (decimal l h) = omega arith
+digit-ascii b (upper l h) = omega arith
+digit-ascii b (lower l h) = omega arith
+
+pub digits-well : (l : List ℕ) → Digits l → WellFormed l
+unfolding described rows within
+digits-well [] d = empty
+digits-well (b ∷ l) d = more (b ∷ []) l refl (rw (le-leb 0 b zero-le, le-leb b 127 (digit-ascii b (d .0)))) (digits-well l (d .1))
+
 pub segments-taken : SegmentsTaken
 unfolding SegmentsTaken
-segments-taken name size sig out n long d lent room = record { number = omega arith; digits = signature sig long d; lent = omega arith; room = omega arith }
+segments-taken name size sig out well n long d lent room =
+    record { number = omega arith; digits = signature sig long d; strings = (well, (digits-well sig d, tt)); lent = omega arith; room = omega arith }
 
 components : (texts : List ℕ) (cs : List FirmwareComponent) → InRange texts cs → ComponentsTake texts cs
 components texts [] h = tt
-components texts (c ∷ cs) h = ((omega (arith, h .0 .0), omega (arith, h .0 .1), (h .0 .2, (h .0 .3, tt))), components texts cs (h .1))
+components texts (c ∷ cs) h = ((omega (arith, h .0 .0), omega (arith, h .0 .1), ((h .0 .2 .0, (h .0 .3 .0, tt)), (h .0 .2 .1, (h .0 .3 .1, tt)))), components texts cs (h .1))
 
 pub applies-taken : AppliesTaken
 unfolding AppliesTaken
@@ -55,7 +69,7 @@ applies-taken a texts out version eight most name locale versionName cs lent roo
       firmware =
           record {
             number = omega arith;
-            strings = (name, (locale, (versionName, tt)));
+            strings = ((name .0, (locale .0, (versionName .0, tt))), (name .1, (locale .1, (versionName .1, tt))));
             most = omega arith;
             there = omega arith;
             components = components texts (present (a .«firmware_information»)) cs;
@@ -65,5 +79,5 @@ applies-taken a texts out version eight most name locale versionName cs lent roo
     }
 
 pub one-of-each : OneOfEach
-unfolding varintAt varintBytes badTag tagAt valueAt foundAt tagBytes headBytes partBytes fieldBytes roleOf judged addedAt readAt fieldAt fieldsFrom isDigit isSignature brokenField segmentOf segmentWritten componentFrom outside badComponent partsFrom componentIn componentsFrom firmwareFrom badFirmware firmwareIn applyOf applyWritten
+unfolding varintAt varintBytes badTag tagAt valueAt foundAt tagBytes headBytes partBytes fieldBytes roleOf judged addedAt readAt fieldAt fieldsFrom isDigit isSignature brokenField segmentOf segmentFilled segmentWritten componentFrom outside badComponent partsFrom componentIn componentsFrom firmwareFrom badFirmware firmwareIn applyOf applyWritten withString badPlace sequenceAt rowOf rows within
 one-of-each = record { segment = refl; apply = refl }

@@ -1,12 +1,12 @@
 -- The round trip of a segment.
 use Prim.Native.Nat.{ℕ, _+_, _≤_, _<_, _^_}
-use mathlib.Core.Path.{_≡_, refl, ap, _∙_}
+use mathlib.Core.Path.{_≡_, refl, ap, subst, _∙_}
 use mathlib.Core.Bool.{true}
 use mathlib.Core.List.{List, [], _++_}
 use native.Mathlib.Omega.{arith}
 use lib.ListN.{length}
 use borrow.Author.Tests.{le-ltb}
-use Rattle.wire.specs.Told.{ToldMore, given, refused}
+use Rattle.wire.specs.Told.{ToldMore, given, refused, WrittenOf}
 use Rattle.wire.proofs.Stores.{first-bytes}
 use Rattle.field.specs.Unsigned.{unsignedOf}
 use Rattle.field_writer.specs.Writer.{scalar, text, fieldBytes, messageBytes}
@@ -15,8 +15,11 @@ use Rattle.walk.specs.Schema.{roleOf, componentNameField, componentOffsetField,
 use Rattle.walk.specs.Gathered.{nothing, withScalar, withText}
 use Rattle.walk.specs.Walk.{fieldsFrom}
 use Rattle.firmware.specs.Segment.{isSignature, brokenField, segmentOf}
-use Rattle.firmware_writer.specs.Segment.{segmentFields, segmentWritten}
-use Rattle.round_trips.specs.RoundTrip.{Gives}
+use Rattle.text_writer.specs.Texts.{AllWellFormed}
+use Rattle.text_writer.proofs.Texts.{well-faultless}
+use Rattle.firmware_writer.specs.Segment.{segmentStrings, segmentFields, segmentFilled}
+use Rattle.firmware_writer.proofs.Segments.{segment-clean}
+use Rattle.round_trips.specs.RoundTrip.{Gives, ReadsBack}
 use Rattle.round_trips.proofs.Values.{At, whole, front, behind}
 use Rattle.round_trips.proofs.Fields.{reads-end, reads-scalar, reads-text, textAt, fields-read, text-back}
 use Rattle.round_trips.proofs.RoundTrip.{done}
@@ -25,10 +28,10 @@ use Rattle.firmware_round_trips.specs.RoundTrip.{Refusal, Unsigned32, se
 pub unsigned-trip : (v : ℕ) → Unsigned32 v → unsignedOf v ≡ v
 unsigned-trip v h = omega arith
 
-segment-read : (name : List ℕ) (size : ℕ) (signature s : List ℕ) → Unsigned32 size → isSignature signature ≡ true → length s < 2 ^ 64
+segment-read : (name : List ℕ) (size : ℕ) (signature s : List ℕ) → AllWellFormed (segmentStrings name signature) → Unsigned32 size → isSignature signature ≡ true → length s < 2 ^ 64
     → At s 0 (messageBytes (segmentFields name 0 size signature)) [] → segmentAgain s ≡ given (name, 0, size, signature)
 unfolding segmentOf roleOf brokenField
-segment-read name size signature s n d lent a =
+segment-read name size signature s well n d lent a =
     let b₁ = fieldBytes (text componentNameField name) in
     let b₂ = fieldBytes (scalar componentOffsetField 0) in
     let b₃ = fieldBytes (scalar segmentSizeField size) in
@@ -43,10 +46,10 @@ segment-read name size signature s n d lent a =
     let g₃ = withScalar 1 size g₂ in
     let all : fieldsFrom Schema.Segment s 0 ≡ given (withText 1 p₄ g₃) =
     fields-read Schema.Segment s 0
-    (reads-text Schema.Segment lent nothing componentNameField (omega arith) (omega arith) 0 name refl refl (front b₁ (b₂ ++ (b₃ ++ (b₄ ++ []))) a)
+    (reads-text Schema.Segment lent nothing componentNameField (omega arith) (omega arith) 0 name (well .0) refl refl (front b₁ (b₂ ++ (b₃ ++ (b₄ ++ []))) a)
     (reads-scalar Schema.Segment g₁ componentOffsetField (omega arith) (omega arith) 0 0 refl (omega arith) refl (front b₂ (b₃ ++ (b₄ ++ [])) a₂)
     (reads-scalar Schema.Segment g₂ segmentSizeField (omega arith) (omega arith) 1 size refl (omega arith) refl (front b₃ (b₄ ++ []) a₃)
-    (reads-text Schema.Segment lent g₃ segmentSignatureField (omega arith) (omega arith) 1 signature refl refl (front b₄ [] a₄)
+    (reads-text Schema.Segment lent g₃ segmentSignatureField (omega arith) (omega arith) 1 signature (well .1 .0) refl refl (front b₄ [] a₄)
     (reads-end (done b₄ a₄)))))) in
     rw (
       all,
@@ -58,13 +61,15 @@ segment-read name size signature s n d lent a =
     )
 
 pub segment-round-trip : SegmentRoundTrip
-unfolding SegmentRoundTrip segmentWritten brokenField
+unfolding SegmentRoundTrip segmentFilled brokenField
 segment-round-trip name size signature out t =
     let bytes = messageBytes (segmentFields name 0 size signature) in
     let room : length bytes ≤ length out = omega (arith, t .room) in
-    rw (t .digits, le-ltb (length out) (length bytes) room)
+    subst (λ (w : WrittenOf (ℕ × List ℕ) ℕ). ReadsBack w segmentAgain (name, 0, size, signature))
+    (segment-clean name 0 size signature out (well-faultless (segmentStrings name signature) (t .strings)) refl)
+    (rw (t .digits, le-ltb (length out) (length bytes) room)
     (ap segmentAgain (first-bytes out bytes room)
-    ∙ segment-read name size signature bytes (t .number) (t .digits) (omega (arith, t .lent)) (whole bytes))
+    ∙ segment-read name size signature bytes (t .strings) (t .number) (t .digits) (omega (arith, t .lent)) (whole bytes)))
 
 -- what refuses reads nothing back
 pub none-refused : NoneRefused

@@ -4,29 +4,32 @@ use mathlib.Core.Path.{_≡_, refl, subst}
 use mathlib.Core.Bool.{Bool, true, false, cond, not}
 use mathlib.Core.List.{List, [], _∷_}
 use native.Mathlib.Omega.{arith}
-use lib.ListN.{length, take, set, getD, replicate, length-take}
+use lib.ListN.{length, take, set, getD, replicate}
 use lib.Seq.{sets, length-sets}
 use lib.Dec.{eqb}
 use borrow.Author.Tests.{ne-eqb}
-use Rattle.wire.specs.Told.{Told, ToldMore, given, refused, andThen, alone}
+use Rattle.wire.specs.Told.{ToldMore, given, refused, andThen}
 use Rattle.field.specs.declared.value.Part.{Part}
 use Rattle.field.specs.Unsigned.{unsignedOf}
 use Rattle.field.specs.Value.{bytesOf, Within}
 use Rattle.field.proofs.Told.{Sat, sat-then, sat-weaken, sat-given}
-use Rattle.field.proofs.Places.{within-longer, within-get}
+use Rattle.field.proofs.Places.{within-get}
+use Rattle.text.specs.WellFormed.{empty}
 use Rattle.field_writer.specs.Writer.{messageBytes}
 use Rattle.walk.specs.declared.gathered.Gathered.{Gathered}
 use Rattle.walk.specs.declared.schema.Schema.{Schema}
 use Rattle.walk.specs.declared.schema.Schema.the-variants as Schema
 use Rattle.walk.specs.Schema.{first, second, third}
-use Rattle.walk.specs.Gathered.{mostRepeated, noPart, partsGathered}
+use Rattle.walk.specs.Gathered.{mostRepeated, noPart, partsGathered, AllText}
 use Rattle.walk.specs.Walk.{fieldsFrom}
 use Rattle.walk.proofs.Steps.{fields-within}
+use Rattle.walk.proofs.Strings.{text-get, strings-first}
+use Rattle.text_writer.specs.Texts.{AllWellFormed}
 use Rattle.firmware.specs.declared.segment.UpdateComponentSegment.{UpdateComponentSegment}
 use Rattle.firmware.specs.declared.component.FirmwareComponent.{FirmwareComponent}
 use Rattle.firmware.specs.declared.apply.ApplyFirmware.{ApplyFirmware}
 use Rattle.firmware.specs.Segment.{isSignature, brokenField, segmentMade, segmentJudged, segmentOf}
-use Rattle.firmware_writer.specs.Segment.{segmentFields, segmentWritten}
+use Rattle.firmware_writer.specs.Segment.{segmentStrings, segmentFields, segmentWritten}
 use Rattle.firmware.specs.Component.{noComponent, componentFrom, componentParts}
 use Rattle.firmware.specs.Information.{partsFrom, componentIn, componentsIn, componentsFrom, firmwareFrom}
 use Rattle.firmware_writer.specs.Information.{present}
@@ -39,6 +42,20 @@ use Rattle.firmware_round_trips.proofs.Applies.{apply-round-trip}
 -- the low 32 bits
 unsigned-fits : (v : ℕ) → Unsigned32 (unsignedOf v)
 unsigned-fits v = omega arith
+
+-- ---- what was gathered
+abbrev pub Gathers : List ℕ → Gathered → Type 0
+Gathers s g = Within s (partsGathered g) × (g .count ≤ mostRepeated) × AllText s (g .texts)
+
+pub gathers : (schema : Schema) (s : List ℕ) (at : ℕ) → Sat (Gathers s) (fieldsFrom schema s at)
+gathers schema s at = by-told (fieldsFrom schema s at) refl
+  where
+    by-told : (r : ToldMore Gathered) → fieldsFrom schema s at ≡ r → Sat (Gathers s) r
+    by-told (given g) e = fields-within schema s at g e
+    by-told (refused n) e = tt
+
+pub text-within : (s : List ℕ) (g : Gathered) (i : ℕ) → Gathers s g → getD (g .texts) i noPart .start + getD (g .texts) i noPart .len ≤ length s
+text-within s g i w = within-get s (g .texts) i noPart zero-le (w .0 .1)
 
 -- ---- the segment
 -- no field is broken: the offset is 0 and the signature is one
@@ -58,23 +75,24 @@ record Judged (s : List ℕ) (m : UpdateComponentSegment) : Type 0 where
   begins : m .«component_offset» ≡ 0
   digits : isSignature (bytesOf s (m .«segment_signature»)) ≡ true
   number : Unsigned32 (m .«segment_size»)
+  strings : AllWellFormed (segmentStrings (bytesOf s (m .«component_name»)) (bytesOf s (m .«segment_signature»)))
 
 segment-judged : (s : List ℕ) (m : UpdateComponentSegment) → segmentOf s ≡ given m → Judged s m
 unfolding segmentOf
-segment-judged s m e = by-gathered (fieldsFrom Schema.Segment s 0) e
+segment-judged s m e = by-gathered (fieldsFrom Schema.Segment s 0) (gathers Schema.Segment s 0) e
   where
-    by-test : (g : Gathered) (b : Bool) → eqb (brokenField (segmentMade g .«component_offset») (bytesOf s (segmentMade g .«segment_signature»))) 0 ≡ b
+    by-test : (g : Gathered) → Gathers s g → (b : Bool) → eqb (brokenField (segmentMade g .«component_offset») (bytesOf s (segmentMade g .«segment_signature»))) 0 ≡ b
         → cond {A = ToldMore UpdateComponentSegment} b (given (segmentMade g)) (refused (50, brokenField (segmentMade g .«component_offset») (bytesOf s (segmentMade g .«segment_signature»)) ∷ [])) ≡ given m → Judged s m
-    by-test g true t e =
+    by-test g w true t e =
         let same : segmentMade g ≡ m = cc in
         let u = unbroken (segmentMade g .«component_offset») (bytesOf s (segmentMade g .«segment_signature»)) t in
         subst (λ (x : UpdateComponentSegment). Judged s x) same
-        (record { begins = u .0; digits = u .1; number = unsigned-fits (getD (g .scalars) second 0) })
-    by-test g false t e = absurd (let z : _≡_ {A = ℕ} 0 1 = cc in omega arith)
+        (record { begins = u .0; digits = u .1; number = unsigned-fits (getD (g .scalars) second 0); strings = (text-get s (g .texts) first (w .2), (text-get s (g .texts) second (w .2), tt)) })
+    by-test g w false t e = absurd (let z : _≡_ {A = ℕ} 0 1 = cc in omega arith)
 
-    by-gathered : (r : Told Gathered) → andThen (alone r) (λ g. segmentJudged s (segmentMade g)) ≡ given m → Judged s m
-    by-gathered (given g) e = by-test g (eqb (brokenField (segmentMade g .«component_offset») (bytesOf s (segmentMade g .«segment_signature»))) 0) refl e
-    by-gathered (refused n) e = absurd (let z : _≡_ {A = ℕ} 0 1 = cc in omega arith)
+    by-gathered : (r : ToldMore Gathered) → Sat (Gathers s) r → andThen r (λ g. segmentJudged s (segmentMade g)) ≡ given m → Judged s m
+    by-gathered (given g) w e = by-test g w (eqb (brokenField (segmentMade g .«component_offset») (bytesOf s (segmentMade g .«segment_signature»))) 0) refl e
+    by-gathered (refused n) w e = absurd (let z : _≡_ {A = ℕ} 0 1 = cc in omega arith)
 
 pub segments-told-taken : SegmentsToldTaken
 unfolding SegmentsToldTaken SegmentRoundTrip
@@ -88,39 +106,22 @@ segments-told-taken s out m e lent room =
         (bytesOf s (m .«component_name»), offset, m .«segment_size», bytesOf s (m .«segment_signature»))
     taken j zero z room =
         segment-round-trip (bytesOf s (m .«component_name»)) (m .«segment_size») (bytesOf s (m .«segment_signature»)) out
-        (record { number = j .number; digits = j .digits; lent = omega (arith, lent); room = room })
+        (record { number = j .number; digits = j .digits; strings = j .strings; lent = omega (arith, lent); room = room })
     taken j (suc n) z room = absurd (omega arith)
-
--- ---- what was gathered
-abbrev Gathers : List ℕ → Gathered → Type 0
-Gathers s g = Within s (partsGathered g) × (g .count ≤ mostRepeated)
-
-gathers : (schema : Schema) (s : List ℕ) (at : ℕ) → Sat (Gathers s) (fieldsFrom schema s at)
-gathers schema s at = by-told (fieldsFrom schema s at) refl
-  where
-    by-told : (r : Told Gathered) → fieldsFrom schema s at ≡ r → Sat (Gathers s) r
-    by-told (given g) e = fields-within schema s at g e
-    by-told (refused n) e = tt
-
-text-within : (s : List ℕ) (g : Gathered) (i : ℕ) → Gathers s g → getD (g .texts) i noPart .start + getD (g .texts) i noPart .len ≤ length s
-text-within s g i w = within-get s (g .texts) i noPart zero-le (w .0 .1)
-
-take-shorter : (n : ℕ) (s : List ℕ) → length (take n s) ≤ length s
-take-shorter n s = omega (arith, length-take n s)
 
 -- ---- components
 component-takes : (s : List ℕ) (at : ℕ) → Sat (ComponentTakes s) (componentFrom s at)
 unfolding componentFrom
 component-takes s at =
     sat-then (Gathers s) (ComponentTakes s) (fieldsFrom Schema.Component s at) _ (gathers Schema.Component s at)
-    (λ g w. (unsigned-fits (getD (g .scalars) first 0), unsigned-fits (getD (g .scalars) second 0), (text-within s g first w, (text-within s g second w, tt))))
+    (λ g w. (unsigned-fits (getD (g .scalars) first 0), unsigned-fits (getD (g .scalars) second 0), ((text-within s g first w, (text-within s g second w, tt)), (text-get s (g .texts) first (w .2), (text-get s (g .texts) second (w .2), tt)))))
 
 component-in-takes : (s : List ℕ) (p : Part) → Sat (ComponentTakes s) (componentIn s p)
 unfolding componentIn
 component-in-takes s p =
     let t = take (p .start + p .len) s in
     sat-weaken (ComponentTakes t) (ComponentTakes s) (componentFrom t (p .start)) (component-takes t (p .start))
-    (λ c h. (h .0, h .1, within-longer t s (componentParts c) (take-shorter (p .start + p .len) s) (h .2)))
+    (λ c h. (h .0, h .1, strings-first (p .start + p .len) s (componentParts c) (h .2)))
 
 components-in-take : (s : List ℕ) (ps : List Part) → Sat (ComponentsTake s) (componentsIn s ps)
 components-in-take s [] = tt
@@ -130,7 +131,7 @@ components-in-take s (p ∷ ps) =
 
 none-take : (s : List ℕ) (n : ℕ) → ComponentsTake s (replicate n noComponent)
 none-take s zero = tt
-none-take s (suc n) = ((omega arith, omega arith, (zero-le, (zero-le, tt))), none-take s n)
+none-take s (suc n) = ((omega arith, omega arith, ((zero-le, (zero-le, tt)), (empty, (empty, tt)))), none-take s n)
 
 set-take : (s : List ℕ) (l : List FirmwareComponent) (i : ℕ) (c : FirmwareComponent) → ComponentTakes s c → ComponentsTake s l → ComponentsTake s (set l i c)
 set-take s [] i c h w = tt
@@ -164,33 +165,32 @@ firmware-takes s at =
     (λ g w. sat-then (Eight s) (FirmwareTakes s) (componentsFrom s at) _ (components-take s at)
     (λ cs h. record {
       number = unsigned-fits (getD (g .scalars) first 0);
-      strings = (text-within s g first w, (text-within s g second w, (text-within s g third w, tt)));
+      strings = ((text-within s g first w, (text-within s g second w, (text-within s g third w, tt))), (text-get s (g .texts) first (w .2), (text-get s (g .texts) second (w .2), (text-get s (g .texts) third (w .2), tt))));
       most = w .1;
       there = omega (arith, w .1, h .0);
       components = first-take s (g .count) cs (h .1);
     }))
 
 -- in a longer message
-components-longer : (s t : List ℕ) (cs : List FirmwareComponent) → length s ≤ length t → ComponentsTake s cs → ComponentsTake t cs
-components-longer s t [] l h = tt
-components-longer s t (c ∷ cs) l h = ((h .0 .0, h .0 .1, within-longer s t (componentParts c) l (h .0 .2)), components-longer s t cs l (h .1))
+components-longer : (n : ℕ) (s : List ℕ) (cs : List FirmwareComponent) → ComponentsTake (take n s) cs → ComponentsTake s cs
+components-longer n s [] h = tt
+components-longer n s (c ∷ cs) h = ((h .0 .0, h .0 .1, strings-first n s (componentParts c) (h .0 .2)), components-longer n s cs (h .1))
 
 firmware-in-takes : (s : List ℕ) (p : Part) → Sat (FirmwareTakes s) (firmwareIn s p)
 unfolding firmwareIn
 firmware-in-takes s p =
     let t = take (p .start + p .len) s in
-    let l = take-shorter (p .start + p .len) s in
     sat-weaken (FirmwareTakes t) (FirmwareTakes s) (firmwareFrom t (p .start)) (firmware-takes t (p .start))
     (λ f h. record {
       number = h .number;
-      strings = within-longer t s (f .name ∷ f .locale ∷ f .«version_name» ∷ []) l (h .strings);
+      strings = strings-first (p .start + p .len) s (f .name ∷ f .locale ∷ f .«version_name» ∷ []) (h .strings);
       most = h .most;
       there = h .there;
-      components = components-longer t s (present f) l (h .components);
+      components = components-longer (p .start + p .len) s (present f) (h .components);
     })
 
 -- ---- the message
-apply-takes : (s : List ℕ) → Sat (λ (a : ApplyFirmware). FirmwareTakes s (a .«firmware_information»)) (applyOf s)
+pub apply-takes : (s : List ℕ) → Sat (λ (a : ApplyFirmware). FirmwareTakes s (a .«firmware_information»)) (applyOf s)
 unfolding applyOf
 apply-takes s =
     let Q : ApplyFirmware → Type 0 = λ a. FirmwareTakes s (a .«firmware_information») in

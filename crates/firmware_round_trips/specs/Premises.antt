@@ -6,6 +6,8 @@ use mathlib.Core.List.{List, [], _∷_}
 use lib.ListN.{length, replicate}
 use lib.Seq.{sets}
 use Rattle.field.specs.declared.value.Part.{Part}
+use Rattle.field.specs.Value.{bytesOf}
+use Rattle.text.specs.WellFormed.{WellFormed}
 use Rattle.field_writer.specs.Writer.{messageBytes}
 use Rattle.walk.specs.Gathered.{noPart}
 use Rattle.firmware.specs.declared.component.FirmwareComponent.{FirmwareComponent}
@@ -33,15 +35,15 @@ abbrev pub Digits : List ℕ → Type 0
 Digits [] = Unit {0}
 Digits (b ∷ l) = Digit b × Digits l
 
--- a segment with any name, any size, and a signature of 64 hexadecimal digits
+-- a segment with any name that is well formed, any size, and a signature of 64 hexadecimal digits
 unfoldable pub SegmentsTaken : Type 0
 SegmentsTaken =
-    (name : List ℕ) (size : ℕ) (signature out : List ℕ) → Number32 size → length signature ≡ 64 → Digits signature → Lendable out
+    (name : List ℕ) (size : ℕ) (signature out : List ℕ) → WellFormed name → Number32 size → length signature ≡ 64 → Digits signature → Lendable out
     → length (messageBytes (segmentFields name 0 size signature)) ≤ length out → SegmentTakes name size signature out
 
--- a part that lies within the texts
+-- a part that lies within the texts, and is well formed
 abbrev pub Lies : List ℕ → Part → Type 0
-Lies texts p = p .start + p .len ≤ length texts
+Lies texts p = (p .start + p .len ≤ length texts) × WellFormed (bytesOf texts p)
 
 abbrev pub InRange : List ℕ → List FirmwareComponent → Type 0
 InRange texts [] = Unit {0}

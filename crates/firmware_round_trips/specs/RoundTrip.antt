@@ -1,19 +1,21 @@
--- Reading a firmware message that was written gives back every number and the bytes of every string, for all that docs/FORMATS.md has a writer take, whatever the output held before. And a writer takes whatever a reader tells.
+-- Reading a firmware message that was written gives back every number and the bytes of every string, for all that docs/FORMATS.md has a writer take, strings that are well formed among it, whatever the output held before. And a writer takes whatever a reader tells.
 use Prim.Native.Nat.{ℕ, _≤_, _<_, _^_}
 use mathlib.Core.Path.{_≡_}
 use mathlib.Core.Bool.{Bool, true}
 use mathlib.Core.List.{List, [], _∷_, map}
 use lib.ListN.{length}
-use Rattle.wire.specs.Told.{Told, ToldMore, given, refused, andThen, WrittenOf, written}
-use Rattle.field.specs.Value.{bytesOf, Within}
+use Rattle.wire.specs.Told.{ToldMore, given, refused, andThen, WrittenOf, written}
+use Rattle.field.specs.Value.{bytesOf}
 use Rattle.field_writer.specs.Writer.{messageBytes}
 use Rattle.walk.specs.Gathered.{mostRepeated}
+use Rattle.walk.specs.Refusal.{Strings}
+use Rattle.text_writer.specs.Texts.{AllWellFormed}
 use Rattle.firmware.specs.declared.segment.UpdateComponentSegment.{UpdateComponentSegment}
 use Rattle.firmware.specs.declared.component.FirmwareComponent.{FirmwareComponent}
 use Rattle.firmware.specs.declared.information.FirmwareInformation.{FirmwareInformation}
 use Rattle.firmware.specs.declared.apply.ApplyFirmware.{ApplyFirmware}
 use Rattle.firmware.specs.Segment.{isSignature, segmentOf}
-use Rattle.firmware_writer.specs.Segment.{segmentFields, segmentWritten}
+use Rattle.firmware_writer.specs.Segment.{segmentStrings, segmentFields, segmentWritten}
 use Rattle.firmware.specs.Component.{componentParts}
 use Rattle.firmware_writer.specs.Information.{present}
 use Rattle.firmware.specs.Apply.{applyOf}
@@ -45,6 +47,7 @@ segmentAgain s = andThen (segmentOf s) (λ m. given (segmentContents s m))
 pub record SegmentTakes (name : List ℕ) (size : ℕ) (signature out : List ℕ) : Type 0 where
   pub number : Unsigned32 size
   pub digits : isSignature signature ≡ true
+  pub strings : AllWellFormed (segmentStrings name signature)
   pub lent : Lent out
   pub room : length (messageBytes (segmentFields name 0 size signature)) ≤ length out
 
@@ -71,12 +74,12 @@ firmwareContents s f =
 abbrev pub applyContents : List ℕ → ApplyFirmware → Bool × (ℕ × List ℕ × ℕ × List (ℕ × List ℕ × ℕ × List ℕ) × List ℕ × List ℕ)
 applyContents s a = (a .«restart_required», firmwareContents s (a .«firmware_information»))
 
-abbrev pub applyAgain : List ℕ → Told (Bool × (ℕ × List ℕ × ℕ × List (ℕ × List ℕ × ℕ × List ℕ) × List ℕ × List ℕ))
+abbrev pub applyAgain : List ℕ → ToldMore (Bool × (ℕ × List ℕ × ℕ × List (ℕ × List ℕ × ℕ × List ℕ) × List ℕ × List ℕ))
 applyAgain s = andThen (applyOf s) (λ a. given (applyContents s a))
 
--- components in range: the numbers, and the strings within the texts
+-- components in range: the numbers, and the strings within the texts and well formed
 abbrev pub ComponentTakes : List ℕ → FirmwareComponent → Type 0
-ComponentTakes texts c = Unsigned32 (c .version) × Unsigned32 (c .size) × Within texts (componentParts c)
+ComponentTakes texts c = Unsigned32 (c .version) × Unsigned32 (c .size) × Strings texts (componentParts c)
 
 abbrev pub ComponentsTake : List ℕ → List FirmwareComponent → Type 0
 ComponentsTake texts [] = Unit {0}
@@ -85,7 +88,7 @@ ComponentsTake texts (c ∷ cs) = ComponentTakes texts c × ComponentsTake texts
 -- what firmware information is written of
 pub record FirmwareTakes (texts : List ℕ) (f : FirmwareInformation) : Type 0 where
   pub number : Unsigned32 (f .version)
-  pub strings : Within texts (f .name ∷ f .locale ∷ f .«version_name» ∷ [])
+  pub strings : Strings texts (f .name ∷ f .locale ∷ f .«version_name» ∷ [])
   pub most : f .count ≤ mostRepeated
   pub there : f .count ≤ length (f .components)
   pub components : ComponentsTake texts (present f)

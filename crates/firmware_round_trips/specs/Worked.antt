@@ -5,7 +5,7 @@ use mathlib.Core.Bool.{true, false}
 use mathlib.Core.List.{List, [], _∷_, _++_, map}
 use lib.ListN.{length, replicate}
 use lib.Seq.{sets}
-use Rattle.wire.specs.Told.{Told, ToldMore, ToldOf, given, refused, WrittenOf, written}
+use Rattle.wire.specs.Told.{ToldMore, given, refused}
 use Rattle.field.specs.declared.value.Part.{Part}
 use Rattle.walk.specs.declared.gathered.Gathered.{Gathered}
 use Rattle.walk.specs.declared.schema.Schema.the-variants as Schema
@@ -21,9 +21,7 @@ use Rattle.firmware.specs.Component.{noComponent}
 use Rattle.firmware.specs.Information.{noFirmware, partsFrom}
 use Rattle.firmware.specs.Apply.{applyOf, noApply}
 use Rattle.firmware_writer.specs.Apply.{applyWritten}
-
-abbrev pub part : ℕ → ℕ → Part
-part start len = record { start = start; len = len }
+use Rattle.round_trips.specs.Worked.{part, WriteCase, writeCase}
 
 -- 64 hexadecimal digits: 0, 9, A, F, a, f, and more
 abbrev pub digits : List ℕ
@@ -51,6 +49,30 @@ named =
       «version_name» = noPart;
     }
 
+-- a component with a name, and a locale, in texts of two bytes and one
+abbrev pub misnamed : ℕ → FirmwareInformation
+misnamed count =
+    record {
+      version = 0;
+      name = noPart;
+      components = sets (replicate 8 noComponent) 0 (record { version = 0; name = part 0 2; size = 0; signature = noPart } ∷ []);
+      count = count;
+      locale = part 2 1;
+      «version_name» = noPart;
+    }
+
+-- a name, a component with a signature, and a version_name, each of one byte of the texts
+abbrev pub ending : Part → Part → Part → FirmwareInformation
+ending name signature version =
+    record {
+      version = 0;
+      name = name;
+      components = sets (replicate 8 noComponent) 0 (record { version = 0; name = noPart; size = 0; signature = signature } ∷ []);
+      count = 1;
+      locale = noPart;
+      «version_name» = version;
+    }
+
 -- a segment read: its bytes, and what is told
 pub record SegmentCase : Type 0 where
   pub bytes : List ℕ
@@ -61,9 +83,9 @@ segmentCase s t = record { bytes = s; told = t }
 
 pub record ApplyCase : Type 0 where
   pub bytes : List ℕ
-  pub told : Told ApplyFirmware
+  pub told : ToldMore ApplyFirmware
 
-abbrev pub applyCase : List ℕ → Told ApplyFirmware → ApplyCase
+abbrev pub applyCase : List ℕ → ToldMore ApplyFirmware → ApplyCase
 applyCase s t = record { bytes = s; told = t }
 
 unfoldable pub segmentCases : List SegmentCase
@@ -89,6 +111,10 @@ segmentCases =
     ∷ segmentCase (0x22 ∷ 0x40 ∷ replicate 63 0x37 ++ (0x47 ∷ [])) (refused (50, 4 ∷ []))
     ∷ segmentCase (0x22 ∷ 0x40 ∷ replicate 63 0x37 ++ (0x60 ∷ [])) (refused (50, 4 ∷ []))
     ∷ segmentCase (0x22 ∷ 0x40 ∷ replicate 63 0x37 ++ (0x67 ∷ [])) (refused (50, 4 ∷ []))
+    -- a name that is not well formed, and the message ends inside the next field; one cut short; a signature, before the profile
+    ∷ segmentCase (0x0A ∷ 0x02 ∷ 0x41 ∷ 0x80 ∷ 0x10 ∷ []) (refused (36, 1 ∷ 1 ∷ []))
+    ∷ segmentCase (0x0A ∷ 0x02 ∷ 0xFF ∷ []) (refused (30, []))
+    ∷ segmentCase (0x10 ∷ 0x01 ∷ 0x22 ∷ 0x01 ∷ 0xC3 ∷ []) (refused (36, 4 ∷ 0 ∷ []))
     ∷ []
 
 unfoldable pub applyCases : List ApplyCase
@@ -99,20 +125,20 @@ applyCases =
     -- two empty components, restart
     ∷ applyCase (0x0A ∷ 0x04 ∷ 0x1A ∷ 0x00 ∷ 0x1A ∷ 0x00 ∷ 0x10 ∷ 0x01 ∷ []) (given (record { «firmware_information» = listing [] 2; «restart_required» = true }))
     -- a second firmware_information; with another wire type
-    ∷ applyCase (0x0A ∷ 0x00 ∷ 0x0A ∷ []) (refused 34)
-    ∷ applyCase (0x0A ∷ 0x00 ∷ 0x08 ∷ []) (refused 33)
+    ∷ applyCase (0x0A ∷ 0x00 ∷ 0x0A ∷ []) (refused (34, []))
+    ∷ applyCase (0x0A ∷ 0x00 ∷ 0x08 ∷ []) (refused (33, []))
     -- a ninth component, whose length is missing
-    ∷ applyCase (0x0A ∷ 0x11 ∷ 0x1A ∷ 0x00 ∷ 0x1A ∷ 0x00 ∷ 0x1A ∷ 0x00 ∷ 0x1A ∷ 0x00 ∷ 0x1A ∷ 0x00 ∷ 0x1A ∷ 0x00 ∷ 0x1A ∷ 0x00 ∷ 0x1A ∷ 0x00 ∷ 0x1A ∷ []) (refused 34)
+    ∷ applyCase (0x0A ∷ 0x11 ∷ 0x1A ∷ 0x00 ∷ 0x1A ∷ 0x00 ∷ 0x1A ∷ 0x00 ∷ 0x1A ∷ 0x00 ∷ 0x1A ∷ 0x00 ∷ 0x1A ∷ 0x00 ∷ 0x1A ∷ 0x00 ∷ 0x1A ∷ 0x00 ∷ 0x1A ∷ []) (refused (34, []))
     -- a ninth with another wire type
-    ∷ applyCase (0x0A ∷ 0x11 ∷ 0x1A ∷ 0x00 ∷ 0x1A ∷ 0x00 ∷ 0x1A ∷ 0x00 ∷ 0x1A ∷ 0x00 ∷ 0x1A ∷ 0x00 ∷ 0x1A ∷ 0x00 ∷ 0x1A ∷ 0x00 ∷ 0x1A ∷ 0x00 ∷ 0x18 ∷ []) (refused 33)
+    ∷ applyCase (0x0A ∷ 0x11 ∷ 0x1A ∷ 0x00 ∷ 0x1A ∷ 0x00 ∷ 0x1A ∷ 0x00 ∷ 0x1A ∷ 0x00 ∷ 0x1A ∷ 0x00 ∷ 0x1A ∷ 0x00 ∷ 0x1A ∷ 0x00 ∷ 0x1A ∷ 0x00 ∷ 0x18 ∷ []) (refused (33, []))
     -- eight
     ∷ applyCase (0x0A ∷ 0x10 ∷ 0x1A ∷ 0x00 ∷ 0x1A ∷ 0x00 ∷ 0x1A ∷ 0x00 ∷ 0x1A ∷ 0x00 ∷ 0x1A ∷ 0x00 ∷ 0x1A ∷ 0x00 ∷ 0x1A ∷ 0x00 ∷ 0x1A ∷ 0x00 ∷ []) (given (record { «firmware_information» = listing [] 8; «restart_required» = false }))
     -- the outer message goes first
-    ∷ applyCase (0x0A ∷ 0x02 ∷ 0x1A ∷ 0x05 ∷ 0x0B ∷ []) (refused 32)
-    ∷ applyCase (0x0A ∷ 0x02 ∷ 0x1A ∷ 0x05 ∷ []) (refused 30)
-    ∷ applyCase (0x0A ∷ 0x01 ∷ 0x08 ∷ 0x0A ∷ []) (refused 34)
+    ∷ applyCase (0x0A ∷ 0x02 ∷ 0x1A ∷ 0x05 ∷ 0x0B ∷ []) (refused (32, []))
+    ∷ applyCase (0x0A ∷ 0x02 ∷ 0x1A ∷ 0x05 ∷ []) (refused (30, []))
+    ∷ applyCase (0x0A ∷ 0x01 ∷ 0x08 ∷ 0x0A ∷ []) (refused (34, []))
     -- two components that are broken: the first is told
-    ∷ applyCase (0x0A ∷ 0x06 ∷ 0x1A ∷ 0x01 ∷ 0x08 ∷ 0x1A ∷ 0x01 ∷ 0x0B ∷ []) (refused 30)
+    ∷ applyCase (0x0A ∷ 0x06 ∷ 0x1A ∷ 0x01 ∷ 0x08 ∷ 0x1A ∷ 0x01 ∷ 0x0B ∷ []) (refused (30, []))
     -- a name of no bytes has its own place
     ∷ applyCase (0x0A ∷ 0x02 ∷ 0x12 ∷ 0x00 ∷ [])
     (given (record {
@@ -129,9 +155,9 @@ applyCases =
     -- restart_required 2 ^ 32
     ∷ applyCase (0x10 ∷ 0x80 ∷ 0x80 ∷ 0x80 ∷ 0x80 ∷ 0x10 ∷ []) (given (record { «firmware_information» = noFirmware; «restart_required» = true }))
     -- a component that is broken, and a locale of another wire type after it
-    ∷ applyCase (0x0A ∷ 0x05 ∷ 0x1A ∷ 0x01 ∷ 0x08 ∷ 0x20 ∷ 0x00 ∷ []) (refused 33)
+    ∷ applyCase (0x0A ∷ 0x05 ∷ 0x1A ∷ 0x01 ∷ 0x08 ∷ 0x20 ∷ 0x00 ∷ []) (refused (33, []))
     -- a component sees its own bytes only
-    ∷ applyCase (0x0A ∷ 0x05 ∷ 0x1A ∷ 0x02 ∷ 0x12 ∷ 0x01 ∷ 0x41 ∷ []) (refused 30)
+    ∷ applyCase (0x0A ∷ 0x05 ∷ 0x1A ∷ 0x02 ∷ 0x12 ∷ 0x01 ∷ 0x41 ∷ []) (refused (30, []))
     -- a name and a locale of one byte each, a component named after them, version 5 and size 6
     ∷ applyCase (0x0A ∷ 0x0F ∷ 0x12 ∷ 0x01 ∷ 0x41 ∷ 0x1A ∷ 0x07 ∷ 0x08 ∷ 0x05 ∷ 0x12 ∷ 0x01 ∷ 0x42 ∷ 0x18 ∷ 0x06 ∷ 0x22 ∷ 0x01 ∷ 0x43 ∷ [])
     (given (record {
@@ -139,17 +165,17 @@ applyCases =
           record { version = 0; name = part 4 1; components = sets (replicate 8 noComponent) 0 (record { version = 5; name = part 11 1; size = 6; signature = noPart } ∷ []); count = 1; locale = part 16 1; «version_name» = noPart };
       «restart_required» = false;
     }))
+    -- a locale and, before it, a component's name that are not well formed: the outer message goes first; the name alone
+    ∷ applyCase (0x0A ∷ 0x09 ∷ 0x1A ∷ 0x04 ∷ 0x12 ∷ 0x02 ∷ 0x41 ∷ 0x80 ∷ 0x22 ∷ 0x01 ∷ 0xC3 ∷ []) (refused (36, 4 ∷ 0 ∷ []))
+    ∷ applyCase (0x0A ∷ 0x06 ∷ 0x1A ∷ 0x04 ∷ 0x12 ∷ 0x02 ∷ 0x41 ∷ 0x80 ∷ []) (refused (36, 2 ∷ 1 ∷ []))
+    -- version_name
+    ∷ applyCase (0x0A ∷ 0x03 ∷ 0x2A ∷ 0x01 ∷ 0xC3 ∷ []) (refused (36, 5 ∷ 0 ∷ []))
+    -- a component's signature; a name that an empty one replaces
+    ∷ applyCase (0x0A ∷ 0x05 ∷ 0x1A ∷ 0x03 ∷ 0x22 ∷ 0x01 ∷ 0xFF ∷ []) (refused (36, 4 ∷ 0 ∷ []))
+    ∷ applyCase (0x0A ∷ 0x05 ∷ 0x12 ∷ 0x01 ∷ 0xFF ∷ 0x12 ∷ 0x00 ∷ []) (refused (36, 2 ∷ 0 ∷ []))
     ∷ []
 
 -- ---- writing
--- what a writer tells, and the output afterwards
-pub record WriteCase (N : Type 0) : Type 0 where
-  pub done : WrittenOf N ℕ
-  pub expected : WrittenOf N ℕ
-
-abbrev pub writeCase : {N : Type 0} → WrittenOf N ℕ → ToldOf N ℕ → List ℕ → WriteCase N
-writeCase w t out = record { done = w; expected = written t out }
-
 unfoldable pub segmentWrites : List (WriteCase (ℕ × List ℕ))
 segmentWrites =
     -- no name, offset 0, size 7, 64 digits
@@ -160,9 +186,12 @@ segmentWrites =
     ∷ writeCase (segmentWritten [] 1 7 [] []) (refused (50, 2 ∷ [])) []
     ∷ writeCase (segmentWritten [] 0 7 (0x47 ∷ []) []) (refused (50, 4 ∷ [])) []
     ∷ writeCase (segmentWritten [] 1 7 digits (replicate 70 9)) (refused (50, 2 ∷ [])) (replicate 70 9)
+    -- a name or a signature that is not well formed, before the profile and the room
+    ∷ writeCase (segmentWritten (0x41 ∷ 0x80 ∷ []) 1 7 (0xC3 ∷ []) (9 ∷ [])) (refused (36, 1 ∷ 1 ∷ [])) (9 ∷ [])
+    ∷ writeCase (segmentWritten [] 1 7 (0xC3 ∷ []) []) (refused (36, 4 ∷ 0 ∷ [])) []
     ∷ []
 
-unfoldable pub applyWrites : List (WriteCase ℕ)
+unfoldable pub applyWrites : List (WriteCase (ℕ × List ℕ))
 applyWrites =
     -- all empty, no restart
     writeCase (applyWritten noApply [] (9 ∷ 9 ∷ 9 ∷ [])) (given 2) (0x0A ∷ 0x00 ∷ 9 ∷ [])
@@ -170,14 +199,22 @@ applyWrites =
     ∷ writeCase (applyWritten (record { «firmware_information» = listing [] 2; «restart_required» = true }) [] (replicate 8 9)) (given 8)
     (0x0A ∷ 0x04 ∷ 0x1A ∷ 0x00 ∷ 0x1A ∷ 0x00 ∷ 0x10 ∷ 0x01 ∷ [])
     -- an output of one byte too few
-    ∷ writeCase (applyWritten (record { «firmware_information» = listing [] 2; «restart_required» = true }) [] (replicate 7 9)) (refused 14) (replicate 7 9)
+    ∷ writeCase (applyWritten (record { «firmware_information» = listing [] 2; «restart_required» = true }) [] (replicate 7 9)) (refused (14, [])) (replicate 7 9)
     -- nine components; a part beyond the texts, before the room; one of a component that is not there
-    ∷ writeCase (applyWritten (record { «firmware_information» = listing [] 9; «restart_required» = false }) [] []) (refused 15) []
-    ∷ writeCase (applyWritten (record { «firmware_information» = listing (record { version = 0; name = noPart; size = 0; signature = part 1 1 } ∷ []) 1; «restart_required» = false }) (7 ∷ []) []) (refused 15) []
+    ∷ writeCase (applyWritten (record { «firmware_information» = listing [] 9; «restart_required» = false }) [] []) (refused (15, [])) []
+    ∷ writeCase (applyWritten (record { «firmware_information» = listing (record { version = 0; name = noPart; size = 0; signature = part 1 1 } ∷ []) 1; «restart_required» = false }) (7 ∷ []) []) (refused (15, [])) []
     ∷ writeCase (applyWritten (record { «firmware_information» = listing (record { version = 0; name = noPart; size = 0; signature = part 1 1 } ∷ []) 0; «restart_required» = false }) (7 ∷ []) (9 ∷ 9 ∷ [])) (given 2) (0x0A ∷ 0x00 ∷ [])
     -- a name and a locale of one byte each, a component named after them, version 5 and size 6
     ∷ writeCase (applyWritten (record { «firmware_information» = named; «restart_required» = false }) (0x41 ∷ 0x42 ∷ 0x43 ∷ []) (replicate 17 9)) (given 17)
     (0x0A ∷ 0x0F ∷ 0x12 ∷ 0x01 ∷ 0x41 ∷ 0x1A ∷ 0x07 ∷ 0x08 ∷ 0x05 ∷ 0x12 ∷ 0x01 ∷ 0x42 ∷ 0x18 ∷ 0x06 ∷ 0x22 ∷ 0x01 ∷ 0x43 ∷ [])
+    -- the locale is C3 and the component is named 41 80: its name is written first; with nine components; the locale alone
+    ∷ writeCase (applyWritten (record { «firmware_information» = misnamed 1; «restart_required» = false }) (0x41 ∷ 0x80 ∷ 0xC3 ∷ []) (9 ∷ [])) (refused (36, 2 ∷ 1 ∷ [])) (9 ∷ [])
+    ∷ writeCase (applyWritten (record { «firmware_information» = misnamed 9; «restart_required» = false }) (0x41 ∷ 0x80 ∷ 0xC3 ∷ []) (9 ∷ [])) (refused (15, [])) (9 ∷ [])
+    ∷ writeCase (applyWritten (record { «firmware_information» = misnamed 0; «restart_required» = false }) (0x41 ∷ 0x80 ∷ 0xC3 ∷ []) (9 ∷ [])) (refused (36, 4 ∷ 0 ∷ [])) (9 ∷ [])
+    -- name, signature and version_name are C3: the name first; the other two; version_name alone
+    ∷ writeCase (applyWritten (record { «firmware_information» = ending (part 0 1) (part 0 1) (part 0 1); «restart_required» = false }) (0xC3 ∷ []) []) (refused (36, 2 ∷ 0 ∷ [])) []
+    ∷ writeCase (applyWritten (record { «firmware_information» = ending noPart (part 0 1) (part 0 1); «restart_required» = false }) (0xC3 ∷ []) []) (refused (36, 4 ∷ 0 ∷ [])) []
+    ∷ writeCase (applyWritten (record { «firmware_information» = ending noPart noPart (part 0 1); «restart_required» = false }) (0xC3 ∷ []) []) (refused (36, 5 ∷ 0 ∷ [])) []
     ∷ []
 
 -- every line of the tables holds

@@ -1,6 +1,6 @@
 -- Laws of parts of a lent text: where they lie, and their bytes.
 use Prim.Native.Nat.{ℕ, _+_, _-_, _≤_, _<_}
-use mathlib.Core.Path.{_≡_}
+use mathlib.Core.Path.{_≡_, refl}
 use mathlib.Core.Bool.{false}
 use mathlib.Core.List.{List, [], _∷_, _++_, map}
 use native.Mathlib.Omega.{arith}
@@ -13,6 +13,8 @@ use Rattle.field.specs.Value.{bytesOf}
 use Rattle.field_writer.specs.Writer.{scalar, text, nested, headBytes, fieldBytes, messageBytes}
 use Rattle.field_writer.proofs.Runs.{message-length, joined-length}
 use Rattle.field_writer.proofs.Messages.{or-false}
+use Rattle.text_writer.specs.declared.Fault.{Fault}
+use Rattle.text_writer.specs.Texts.{orText, faultFrom}
 use Rattle.walk.specs.Schema.{firmwareVersionField, firmwareNameField, localeField, versionNameField, firmwareInformationField, restartRequiredField, firmwareComponentVersionField, firmwareComponentNameField, firmwareComponentSizeField, firmwareComponentSignatureField}
 use Rattle.firmware.specs.declared.component.FirmwareComponent.{FirmwareComponent}
 use Rattle.firmware.specs.declared.information.FirmwareInformation.{FirmwareInformation}
@@ -98,3 +100,8 @@ apply-length texts a =
     let l = messageBytes (firmwareFields texts (a .«firmware_information»)) in
     let f₂ = scalar restartRequiredField (boolValue (a .«restart_required»)) in
     omega (arith, message-length (nested firmwareInformationField l) (f₂ ∷ []), message-length f₂ [], nested-length firmwareInformationField l)
+
+-- ---- strings: some, and then others
+pub fault-append : (fault : Fault) (xs ys : List (ℕ × List ℕ)) → faultFrom fault (xs ++ ys) ≡ faultFrom (faultFrom fault xs) ys
+fault-append fault [] ys = refl
+fault-append fault (t ∷ xs) ys = fault-append (orText (t .0) (t .1) fault) xs ys

@@ -2,13 +2,13 @@
 use Prim.Native.Nat.{ℕ}
 use mathlib.Core.Bool.{Bool, cond}
 use mathlib.Core.List.{List, [], _∷_}
-use Rattle.wire.specs.Told.{Written}
+use Rattle.wire.specs.Told.{WrittenOf}
 use Rattle.field_writer.specs.Writer.{Field, scalar, nested, messageBytes}
 use Rattle.walk.specs.declared.schema.Schema.the-variants as Schema
 use Rattle.walk.specs.Schema.{firmwareInformationField, restartRequiredField}
-use Rattle.field_writer.specs.Message.{writesMessage}
+use Rattle.text_writer.specs.Texts.{writesTexts}
 use Rattle.firmware.specs.declared.apply.ApplyFirmware.{ApplyFirmware}
-use Rattle.firmware_writer.specs.Information.{badFirmware, firmwareFields}
+use Rattle.firmware_writer.specs.Information.{badFirmware, firmwareStrings, firmwareFields}
 
 -- the varint's value of a bool
 abbrev pub boolValue : Bool → ℕ
@@ -21,5 +21,7 @@ applyFields texts a =
     ∷ scalar restartRequiredField (boolValue (a .«restart_required»)) ∷ []
 
 -- the message written
-unfoldable pub applyWritten : ApplyFirmware → List ℕ → List ℕ → Written ℕ
-applyWritten a texts out = writesMessage (badFirmware texts (a .«firmware_information»)) (applyFields texts a) out
+unfoldable pub applyWritten : ApplyFirmware → List ℕ → List ℕ → WrittenOf (ℕ × List ℕ) ℕ
+applyWritten a texts out =
+    let f = a .«firmware_information» in
+    writesTexts (badFirmware texts f) (firmwareStrings texts f) (applyFields texts a) out

@@ -19,6 +19,10 @@ outside texts p = ltb (length texts) (p .start + p .len)
 unfoldable pub badComponent : List ℕ → FirmwareComponent → Bool
 badComponent texts c = outside texts (c .name) || outside texts (c .signature)
 
+-- its strings, in writing order
+abbrev pub componentStrings : List ℕ → FirmwareComponent → List (ℕ × List ℕ)
+componentStrings texts c = (firmwareComponentNameField, bytesOf texts (c .name)) ∷ (firmwareComponentSignatureField, bytesOf texts (c .signature)) ∷ []
+
 abbrev pub componentFields : List ℕ → FirmwareComponent → List Field
 componentFields texts c =
     scalar firmwareComponentVersionField (c .version) ∷ text firmwareComponentNameField (bytesOf texts (c .name))

@@ -11,7 +11,7 @@ use Rattle.walk.specs.Schema.{firmwareVersionField, firmwareNameField, localeFi
 use Rattle.walk.specs.Gathered.{mostRepeated}
 use Rattle.firmware.specs.declared.component.FirmwareComponent.{FirmwareComponent}
 use Rattle.firmware.specs.declared.information.FirmwareInformation.{FirmwareInformation}
-use Rattle.firmware_writer.specs.Component.{outside, badComponent, componentField}
+use Rattle.firmware_writer.specs.Component.{outside, badComponent, componentStrings, componentField}
 
 -- ---- writing
 -- the components that are there
@@ -26,6 +26,16 @@ badComponents texts (c ∷ cs) = badComponent texts c || badComponents texts cs
 unfoldable pub badFirmware : List ℕ → FirmwareInformation → Bool
 badFirmware texts f =
     ltb mostRepeated (f .count) || (outside texts (f .name) || (badComponents texts (present f) || (outside texts (f .locale) || outside texts (f .«version_name»))))
+
+-- the strings, in writing order: those of the components stand between the name and the locale
+abbrev pub componentsStrings : List ℕ → List FirmwareComponent → List (ℕ × List ℕ)
+componentsStrings texts [] = []
+componentsStrings texts (c ∷ cs) = componentStrings texts c ++ componentsStrings texts cs
+
+abbrev pub firmwareStrings : List ℕ → FirmwareInformation → List (ℕ × List ℕ)
+firmwareStrings texts f =
+    (firmwareNameField, bytesOf texts (f .name))
+    ∷ (componentsStrings texts (present f) ++ ((localeField, bytesOf texts (f .locale)) ∷ (versionNameField, bytesOf texts (f .«version_name»)) ∷ []))
 
 abbrev pub firmwareFields : List ℕ → FirmwareInformation → List Field
 firmwareFields texts f =

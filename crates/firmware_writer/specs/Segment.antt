@@ -11,6 +11,7 @@ use Rattle.walk.specs.Schema.{componentNameField, componentOffsetField, segment
 use Rattle.firmware.specs.declared.segment.UpdateComponentSegment.{UpdateComponentSegment}
 use Rattle.firmware_writer.specs.declared.segment.SegmentWrote.{SegmentWrote}
 use Rattle.firmware_writer.specs.declared.segment.SegmentWrote.the-variants as SegmentWrote
+use Rattle.text_writer.specs.Texts.{firstFault, faulted}
 use Rattle.firmware.specs.Segment.{brokenField, profiled}
 
 -- ---- writing
@@ -18,21 +19,31 @@ abbrev pub segmentFields : List ℕ → ℕ → ℕ → List ℕ → List Field
 segmentFields name offset size signature =
     text componentNameField name ∷ scalar componentOffsetField offset ∷ scalar segmentSizeField size ∷ text segmentSignatureField signature ∷ []
 
--- a segment written: the profile, then the room
-unfoldable pub segmentWritten : List ℕ → ℕ → ℕ → List ℕ → List ℕ → WrittenOf (ℕ × List ℕ) ℕ
-segmentWritten name offset size signature out =
+-- its strings, in writing order
+abbrev pub segmentStrings : List ℕ → List ℕ → List (ℕ × List ℕ)
+segmentStrings name signature = (componentNameField, name) ∷ (segmentSignatureField, signature) ∷ []
+
+-- a segment written whatever its strings are: the profile, then the room
+unfoldable pub segmentFilled : List ℕ → ℕ → ℕ → List ℕ → List ℕ → WrittenOf (ℕ × List ℕ) ℕ
+segmentFilled name offset size signature out =
     let bytes = messageBytes (segmentFields name offset size signature) in
     profiled (brokenField offset signature) (λ n. written (refused n) out)
     (table (line 14 (ltb (length out) (length bytes)) ∷ []) (λ n. written (refused (n, [])) out) (written (given (length bytes)) (sets out 0 bytes)))
 
+-- a segment written: its strings come first
+unfoldable pub segmentWritten : List ℕ → ℕ → ℕ → List ℕ → List ℕ → WrittenOf (ℕ × List ℕ) ℕ
+segmentWritten name offset size signature out = faulted (firstFault (segmentStrings name signature)) out (segmentFilled name offset size signature out)
+
 -- the answers of write_segment
 abbrev pub toldSegmentWrote : SegmentWrote → ToldMore ℕ
 toldSegmentWrote (SegmentWrote.Done n) = given n
+toldSegmentWrote (SegmentWrote.BadText field place) = refused (36, field ∷ place ∷ [])
 toldSegmentWrote (SegmentWrote.Profile field) = refused (50, field ∷ [])
 toldSegmentWrote SegmentWrote.NoRoom = refused (14, [])
 
 -- the number of bytes that were written
 abbrev pub segmentWroteSize : SegmentWrote → ℕ
 segmentWroteSize (SegmentWrote.Done n) = n
+segmentWroteSize (SegmentWrote.BadText field place) = 0
 segmentWroteSize (SegmentWrote.Profile field) = 0
 segmentWroteSize SegmentWrote.NoRoom = 0

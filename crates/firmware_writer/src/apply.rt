@@ -1,5 +1,6 @@
 // ApplyFirmware written.
 use crate::information::bad_firmware;
+use crate::information::firmware_fault;
 use crate::information::firmware_room;
 use crate::information::put_firmware;
 use field_writer::fields::head_len;
@@ -10,13 +11,18 @@ use field_writer::message::Room;
 use field_writer::message::WriteRefusal;
 use field_writer::message::Wrote;
 use firmware::apply::ApplyFirmware;
+use text_writer::Fault;
+use text_writer::TextWrote;
 use walk::schema::FIRMWARE_INFORMATION;
 use walk::schema::RESTART_REQUIRED;
 ghost use mathlib.Core.Path.{_≡_};
+ghost use mathlib.Core.Bool.{false};
 ghost use Prim.Native.Nat.{_+_};
 ghost use Rattle.wire.specs.Told.{written};
-ghost use Rattle.field_writer.specs.Message.{toldWrote};
-ghost use Rattle.firmware_writer.specs.Apply.{boolValue, applyWritten};
+ghost use Rattle.field_writer.specs.Message.{writesMessage, toldWrote};
+ghost use Rattle.text_writer.specs.Texts.{toldTextWrote};
+ghost use Rattle.firmware_writer.specs.Apply.{boolValue, applyFields, applyWritten};
+ghost use Rattle.firmware_writer.specs.Information.{badFirmware};
 
 // The varint's value of a bool.
 fn bool_value(b: bool) -> u64
@@ -25,15 +31,14 @@ fn bool_value(b: bool) -> u64
     if b { 1 } else { 0 }
 }
 
-// Writes ApplyFirmware. Its strings are parts of the lent texts.
-pub fn write_apply(out: &mut [u8], apply: ApplyFirmware, texts: &[u8]) -> Wrote
+// ApplyFirmware whatever its strings are. That its parts lie within the texts was judged before.
+fn fill_apply(out: &mut [u8], apply: ApplyFirmware, texts: &[u8]) -> Wrote
+    requires { ⌜ badFirmware (now texts) (apply .«firmware_information») ≡ false ⌝ }
     ensures { λ r. ⌜ written (toldWrote r) (now (out .exit))
-        ≡ applyWritten apply (now (texts .entry)) (now (out .entry)) ⌝ }
+        ≡ writesMessage (badFirmware (now (texts .entry)) (apply .«firmware_information»))
+        (applyFields (now (texts .entry)) apply) (now (out .entry)) ⌝ }
 {
     let information = apply.firmware_information;
-    if bad_firmware(texts, information) {
-        return Wrote::Refused(WriteRefusal::BadArgument);
-    }
     let restart = bool_value(apply.restart_required);
     let room = out.len();
     match firmware_room(room, texts, information) {
@@ -49,6 +54,23 @@ pub fn write_apply(out: &mut [u8], apply: ApplyFirmware, texts: &[u8]) -> Wrote
             let next = put_firmware(out, start, texts, information);
             let end = put_scalar(out, next, RESTART_REQUIRED, restart);
             Wrote::Done(end)
+        }
+    }
+}
+
+// Writes ApplyFirmware. Its strings are parts of the lent texts.
+pub fn write_apply(out: &mut [u8], apply: ApplyFirmware, texts: &[u8]) -> TextWrote
+    ensures { λ r. ⌜ written (toldTextWrote r) (now (out .exit)) ≡ applyWritten apply (now (texts .entry)) (now (out .entry)) ⌝ }
+{
+    let information = apply.firmware_information;
+    if bad_firmware(texts, information) {
+        return TextWrote::Refused(WriteRefusal::BadArgument);
+    }
+    match firmware_fault(texts, information) {
+        Fault::At { field, place } => TextWrote::BadText { field, place },
+        Fault::None => {
+            let wrote = fill_apply(out, apply, texts);
+            TextWrote::of(wrote)
         }
     }
 }

@@ -8,6 +8,7 @@ use field_writer::fields::scalar_len;
 use field_writer::fields::text_len;
 use field_writer::message::Room;
 use firmware::component::FirmwareComponent;
+use text_writer::Fault;
 use walk::schema::COMPONENTS;
 use walk::schema::FIRMWARE_COMPONENT_NAME;
 use walk::schema::FIRMWARE_COMPONENT_SIGNATURE;
@@ -22,7 +23,8 @@ ghost use Rattle.field.specs.Tag.{lastField};
 ghost use Rattle.field.specs.Value.{bytesOf};
 ghost use Rattle.field_writer.specs.Writer.{text, fieldBytes, messageBytes};
 ghost use Rattle.field_writer.specs.Message.{lessRoom};
-ghost use Rattle.firmware_writer.specs.Component.{outside, badComponent, componentFields, componentField};
+ghost use Rattle.firmware_writer.specs.Component.{outside, badComponent, componentStrings, componentFields, componentField};
+ghost use Rattle.text_writer.specs.Texts.{orText, faultFrom};
 
 // Whether a part does not lie within the texts.
 pub(crate) fn is_outside(texts: &[u8], part: Part) -> bool
@@ -71,6 +73,27 @@ pub(crate) fn put_text_part(
     let start = part.start;
     let end = start + part.len;
     put_text(out, at, field, &texts[start..end])
+}
+
+// A string that is a part of the texts is judged, unless a fault was found before.
+pub(crate) fn text_part_fault(fault: Fault, texts: &[u8], field: u64, part: Part) -> Fault
+    requires { ⌜ outside (now texts) part ≡ false ⌝ }
+    ensures { λ r. ⌜ r ≡ orText field (bytesOf (now (texts .entry)) part) fault ⌝ }
+{
+    let start = part.start;
+    let end = start + part.len;
+    fault.or_text(field, &texts[start..end])
+}
+
+// A component's strings are judged, unless a fault was found before.
+pub(crate) fn component_fault(fault: Fault, texts: &[u8], component: FirmwareComponent) -> Fault
+    requires { ⌜ badComponent (now texts) component ≡ false ⌝ }
+    ensures { λ r. ⌜ r ≡ faultFrom fault (componentStrings (now (texts .entry)) component) ⌝ }
+{
+    let name = component.name;
+    let signature = component.signature;
+    let first = text_part_fault(fault, texts, FIRMWARE_COMPONENT_NAME, name);
+    text_part_fault(first, texts, FIRMWARE_COMPONENT_SIGNATURE, signature)
 }
 
 // The room that a component's fields leave.

@@ -1,15 +1,18 @@
 // FirmwareInformation written.
 use crate::component::bad_component;
+use crate::component::component_fault;
 use crate::component::component_field_room;
 use crate::component::is_outside;
 use crate::component::put_component;
 use crate::component::put_text_part;
+use crate::component::text_part_fault;
 use crate::component::text_part_len;
 use field_writer::fields::put_scalar;
 use field_writer::fields::scalar_len;
 use field_writer::message::Room;
 use firmware::component::FirmwareComponent;
 use firmware::information::FirmwareInformation;
+use text_writer::Fault;
 use walk::gathered::MOST_REPEATED;
 use walk::schema::FIRMWARE_NAME;
 use walk::schema::FIRMWARE_VERSION;
@@ -25,7 +28,8 @@ ghost use Rattle.field_writer.specs.Writer.{messageBytes};
 ghost use Rattle.walk.specs.Gathered.{mostRepeated};
 ghost use Rattle.field_writer.specs.Message.{lessRoom};
 ghost use Rattle.firmware_writer.specs.Component.{componentField};
-ghost use Rattle.firmware_writer.specs.Information.{badComponents, badFirmware, firmwareFields};
+ghost use Rattle.firmware_writer.specs.Information.{badComponents, badFirmware, componentsStrings, firmwareStrings, firmwareFields};
+ghost use Rattle.text_writer.specs.Texts.{faultFrom, firstFault};
 
 // Whether a part of the first components does not lie within the texts.
 fn bad_components(texts: &[u8], components: [FirmwareComponent; 8], count: usize) -> bool
@@ -65,6 +69,41 @@ pub(crate) fn bad_firmware(texts: &[u8], information: FirmwareInformation) -> bo
         return true;
     }
     is_outside(texts, version_name)
+}
+
+// The strings of the first components are judged, unless a fault was found before.
+fn components_fault(
+    fault: Fault,
+    texts: &[u8],
+    components: [FirmwareComponent; 8],
+    count: usize,
+) -> Fault
+    requires { ⌜ (count ≤ mostRepeated) × (badComponents (now texts) (take count components) ≡ false) ⌝ }
+    ensures { λ r. ⌜ r ≡ faultFrom fault (componentsStrings (now (texts .entry)) (take count components)) ⌝ }
+{
+    let mut found = fault;
+    let mut i = 0;
+    while i < count {
+        let component = components[i];
+        found = component_fault(found, texts, component);
+        i += 1;
+    }
+    found
+}
+
+// The first string of firmware information, in writing order, that is not well formed.
+pub(crate) fn firmware_fault(texts: &[u8], information: FirmwareInformation) -> Fault
+    requires { ⌜ badFirmware (now texts) information ≡ false ⌝ }
+    ensures { λ r. ⌜ r ≡ firstFault (firmwareStrings (now (texts .entry)) information) ⌝ }
+{
+    let name = information.name;
+    let components = information.components;
+    let locale = information.locale;
+    let version_name = information.version_name;
+    let first = text_part_fault(Fault::None, texts, FIRMWARE_NAME, name);
+    let second = components_fault(first, texts, components, information.count);
+    let third = text_part_fault(second, texts, LOCALE, locale);
+    text_part_fault(third, texts, VERSION_NAME, version_name)
 }
 
 // The room that the first components leave.

@@ -6,6 +6,7 @@ use field_writer::fields::text_len;
 use field_writer::message::Room;
 use firmware::segment::NO_FIELD;
 use firmware::segment::broken_field;
+use text_writer::Fault;
 use walk::schema::COMPONENT_NAME;
 use walk::schema::SEGMENT_SIGNATURE;
 use walk::schema::SEGMENT_SIZE;
@@ -16,12 +17,15 @@ ghost use Rattle.wire.specs.Told.{written};
 ghost use Rattle.field_writer.specs.Put.{Put};
 ghost use Rattle.field_writer.specs.Writer.{messageBytes};
 ghost use Rattle.field_writer.specs.Message.{lessRoom};
-ghost use Rattle.firmware.specs.Segment.{numberMore};
-ghost use Rattle.firmware_writer.specs.Segment.{segmentFields, segmentWritten, toldSegmentWrote};
+ghost use Rattle.walk.specs.Refusal.{numberMore};
+ghost use Rattle.firmware_writer.specs.Segment.{segmentStrings, segmentFields, segmentFilled, segmentWritten, toldSegmentWrote};
+ghost use Rattle.text_writer.specs.Texts.{firstFault};
 
 pub enum SegmentWrote {
     // The number of bytes written.
     Done(usize),
+    // A string is not well formed: its field, and the place in it.
+    BadText { field: u64, place: usize },
     // A rule of the profile is broken, in this field.
     Profile(u64),
     // The output is smaller than the message.
@@ -35,6 +39,7 @@ impl SegmentWrote {
     {
         match self {
             SegmentWrote::Done(_) => 0,
+            SegmentWrote::BadText { field: _, place: _ } => 36,
             SegmentWrote::Profile(_) => 50,
             SegmentWrote::NoRoom => 14,
         }
@@ -80,8 +85,8 @@ fn put_segment(
     put_text(out, third, SEGMENT_SIGNATURE, segment_signature)
 }
 
-// Writes a segment.
-pub fn write_segment(
+// A segment whatever its strings are.
+fn fill_segment(
     out: &mut [u8],
     component_name: &[u8],
     component_offset: u32,
@@ -89,7 +94,7 @@ pub fn write_segment(
     segment_signature: &[u8],
 ) -> SegmentWrote
     ensures { λ r. ⌜ written (toldSegmentWrote r) (now (out .exit))
-        ≡ segmentWritten (now («component_name» .entry)) «component_offset» «segment_size»
+        ≡ segmentFilled (now («component_name» .entry)) «component_offset» «segment_size»
         (now («segment_signature» .entry)) (now (out .entry)) ⌝ }
 {
     let broken = broken_field(component_offset, segment_signature);
@@ -102,5 +107,38 @@ pub fn write_segment(
             let end = put_segment(out, component_name, segment_size, segment_signature);
             SegmentWrote::Done(end)
         }
+    }
+}
+
+// The first string that is not well formed.
+fn segment_fault(component_name: &[u8], segment_signature: &[u8]) -> Fault
+    ensures { λ r. ⌜ r ≡ firstFault (segmentStrings (now («component_name» .entry)) (now («segment_signature» .entry))) ⌝ }
+{
+    Fault::None
+        .or_text(COMPONENT_NAME, component_name)
+        .or_text(SEGMENT_SIGNATURE, segment_signature)
+}
+
+// Writes a segment.
+pub fn write_segment(
+    out: &mut [u8],
+    component_name: &[u8],
+    component_offset: u32,
+    segment_size: u32,
+    segment_signature: &[u8],
+) -> SegmentWrote
+    ensures { λ r. ⌜ written (toldSegmentWrote r) (now (out .exit))
+        ≡ segmentWritten (now («component_name» .entry)) «component_offset» «segment_size»
+        (now («segment_signature» .entry)) (now (out .entry)) ⌝ }
+{
+    match segment_fault(component_name, segment_signature) {
+        Fault::At { field, place } => SegmentWrote::BadText { field, place },
+        Fault::None => fill_segment(
+            out,
+            component_name,
+            component_offset,
+            segment_size,
+            segment_signature,
+        ),
     }
 }

@@ -14,12 +14,14 @@ use lib.Dec.{eqb}
 use borrow.Author.Tests.{eq-eqb, ne-eqb, lt-leb}
 use mir.Syntax.{w32}
 use mir.Val.{SFits}
-use Rattle.wire.specs.Told.{Told, given}
+use Rattle.wire.specs.Told.{ToldOf, ToldMore, alone, given}
 use Rattle.field.specs.declared.value.Part.{Part}
 use Rattle.field_writer.specs.Varint.{varintBytes}
 use Rattle.field.specs.Signed.{extended}
 use Rattle.field.specs.Tag.{lastField}
 use Rattle.field.specs.Value.{bytesOf}
+use Rattle.text.specs.WellFormed.{WellFormed, badPlace}
+use Rattle.text.proofs.Places.{well-formed-whole}
 use Rattle.field_writer.specs.Writer.{scalar, text, packed, nested, tagBytes, headBytes, partBytes, varintsBytes, fieldBytes}
 use Rattle.field_writer.proofs.Varints.{varint-count}
 use Rattle.field_writer.proofs.Runs.{text-some, packed-none, packed-some, joined-length, part-is}
@@ -34,16 +36,17 @@ use Rattle.walk.specs.Walk.{walk, entryAt, packedFrom, judged, partAdded, added
 use Rattle.round_trips.specs.RoundTrip.{AllSigned32}
 use Rattle.walk.proofs.Walks.{Forward, walk-end, walk-next}
 use Rattle.walk.proofs.Steps.{entry-forward, field-forward}
+use Rattle.walk.proofs.Strings.{string-taken}
 
 -- ---- a walk from a place gives r, with any fuel that is enough
-pub record Reads (step : List ℕ → ℕ → Gathered → Told (Gathered × ℕ)) (s : List ℕ) (at : ℕ) (g : Gathered) (r : Told Gathered) : Type 0 where
+pub record Reads {N : Type 0} (step : List ℕ → ℕ → Gathered → ToldOf N (Gathered × ℕ)) (s : List ℕ) (at : ℕ) (g : Gathered) (r : ToldOf N Gathered) : Type 0 where
   pub runs : (fuel : ℕ) → length s ≤ at + fuel → walk step fuel s at g ≡ r
 
-module _ {step : List ℕ → ℕ → Gathered → Told (Gathered × ℕ)} where
+module _ {N : Type 0} {step : List ℕ → ℕ → Gathered → ToldOf N (Gathered × ℕ)} where
   pub reads-end : {s : List ℕ} {at : ℕ} {g : Gathered} → length s ≤ at → Reads step s at g (given g)
   reads-end {s} {at} {g} h = record { runs = λ fuel l. walk-end step fuel s at g h }
 
-  pub reads-next : Forward step → {s : List ℕ} {at : ℕ} {g : Gathered} {r : Told Gathered} (q : Gathered × ℕ) → at < length s → step s at g ≡ given q
+  pub reads-next : Forward step → {s : List ℕ} {at : ℕ} {g : Gathered} {r : ToldOf N Gathered} (q : Gathered × ℕ) → at < length s → step s at g ≡ given q
       → Reads step s (q .1) (q .0) r → Reads step s at g r
   reads-next forward {s} {at} {g} q h e R =
       record { runs = λ fuel l. walk-next step s at g h fuel l q e ∙ R .runs (fuel - 1) (omega (arith, forward s at g q e)) }
@@ -140,7 +143,7 @@ reads-entries {s} {at} (t ∷ ts) g fs h a =
     (within a (omega (arith, length-append v l, varint-count (extended t)))) (entry-step t g (fs .0) (omega arith) (front v l a))
     (rw (one-more t ts g) at (reads-entries ts (withTransports (t ∷ []) g) (fs .1) (omega arith) (behind v l a)))
 
-module _ (schema : Schema) {s : List ℕ} {at : ℕ} {rest : List ℕ} {r : Told Gathered} (g : Gathered) (f : ℕ) (low : 1 ≤ f) (high : f ≤ lastField) where
+module _ (schema : Schema) {s : List ℕ} {at : ℕ} {rest : List ℕ} {r : ToldMore Gathered} (g : Gathered) (f : ℕ) (low : 1 ≤ f) (high : f ≤ lastField) where
   pub reads-scalar : (i v : ℕ) → roleOf schema f ≡ Scalar i → v < 2 ^ 64 → withScalar i 0 g ≡ g → At s at (fieldBytes (scalar f v)) rest
       → Reads (fieldAt schema) s (at + length (fieldBytes (scalar f v))) (withScalar i v g) r → Reads (fieldAt schema) s at g r
   unfolding fieldBytes
@@ -157,7 +160,7 @@ module _ (schema : Schema) {s : List ℕ} {at : ℕ} {rest : List ℕ} {r : Told
           reads-next (field-forward schema) (withScalar i v g, at + length (tagBytes f 0 ++ varintBytes v))
           (within b (omega (arith, length-append (tagBytes f 0) (varintBytes v), tag-count f 0))) (number-step schema g f low high i v e h b) R₁
 
-module _ (schema : Schema) {s : List ℕ} (lent : length s < 2 ^ 64) {at : ℕ} {rest : List ℕ} {r : Told Gathered} (g : Gathered) (f : ℕ) (low : 1 ≤ f) (high : f ≤ lastField) where
+module _ (schema : Schema) {s : List ℕ} (lent : length s < 2 ^ 64) {at : ℕ} {rest : List ℕ} {r : ToldMore Gathered} (g : Gathered) (f : ℕ) (low : 1 ≤ f) (high : f ≤ lastField) where
   pub reads-part : (role : Role) (l : List ℕ) (g′ : Gathered) → roleOf schema f ≡ role → judged role 2 (g .field) (g .count) ≡ given tt
       → withAdded s (partAdded role f (partAt at f l)) g ≡ given g′ → At s at (partBytes f l) rest
       → Reads (fieldAt schema) s (at + length (partBytes f l)) g′ r → Reads (fieldAt schema) s at g r
@@ -165,10 +168,10 @@ module _ (schema : Schema) {s : List ℕ} (lent : length s < 2 ^ 64) {at : ℕ} 
       let h : length l < 2 ^ 64 = omega (arith, inside a, joined-length (headBytes f (length l)) l (part-is f l)) in
       reads-next (field-forward schema) (g′, at + length (partBytes f l)) (within a (part-count f l)) (part-step schema g f low high role l g′ e j k h a) R
 
-  pub reads-text : (i : ℕ) (l : List ℕ) → roleOf schema f ≡ Text i → withText i noPart g ≡ g → At s at (fieldBytes (text f l)) rest
+  pub reads-text : (i : ℕ) (l : List ℕ) → WellFormed l → roleOf schema f ≡ Text i → withText i noPart g ≡ g → At s at (fieldBytes (text f l)) rest
       → Reads (fieldAt schema) s (at + length (fieldBytes (text f l))) (withText i (textAt at f l) g) r → Reads (fieldAt schema) s at g r
   unfolding fieldBytes judged
-  reads-text i l e same a R = by-length (ℕ-discrete (length l) 0)
+  reads-text i l well e same a R = by-length (ℕ-discrete (length l) 0)
     where
       by-length : Dec (length l ≡ 0) → Reads (fieldAt schema) s at g r
       by-length (yes z) =
@@ -179,7 +182,10 @@ module _ (schema : Schema) {s : List ℕ} (lent : length s < 2 ^ 64) {at : ℕ} 
       by-length (no n) =
           let q : textAt at f l ≡ partAt at f l = rw (ne-eqb (length l) 0 n) in
           let R₁ : Reads (fieldAt schema) s (at + length (fieldBytes (text f l))) (withText i (partAt at f l) g) r = rw q at R in
-          reads-part (Text i) l (withText i (partAt at f l) g) e refl refl (rw (ne-eqb (length l) 0 n) at a) (rw (ne-eqb (length l) 0 n) at R₁)
+          let b : At s at (partBytes f l) rest = rw (ne-eqb (length l) 0 n) at a in
+          let there = part-there f l b in
+          let bad : length l ≡ badPlace (bytesOf s (partAt at f l)) = sym (ap badPlace (taken there) ∙ well-formed-whole l well) in
+          reads-part (Text i) l (withText i (partAt at f l) g) e refl (string-taken s f i (partAt at f l) g (length l) (omega (arith, inside there)) bad refl) b (rw (ne-eqb (length l) 0 n) at R₁)
 
   pub reads-packed : (ts : List ℤ) → roleOf schema f ≡ Transports → AllSigned32 ts → g .count + length ts ≤ 8 → At s at (fieldBytes (packed f (map extended ts))) rest
       → Reads (fieldAt schema) s (at + length (fieldBytes (packed f (map extended ts)))) (withTransports ts g) r → Reads (fieldAt schema) s at g r
@@ -199,7 +205,7 @@ module _ (schema : Schema) {s : List ℕ} (lent : length s < 2 ^ 64) {at : ℕ} 
           let l = varintsBytes (map extended ts) in
           let w : fieldBytes (packed f (map extended ts)) ≡ partBytes f l = sym (packed-some f ts n) ∙ part-is f l in
           let b : At s at (partBytes f l) rest = rw w at a in
-          reads-part Transports l (withTransports ts g) e refl (reads-entries ts g fs h (part-cut f l b) .runs (length (take (partAt at f l .start + length l) s)) (omega arith)) b (rw w at R)
+          reads-part Transports l (withTransports ts g) e refl (ap alone (reads-entries ts g fs h (part-cut f l b) .runs (length (take (partAt at f l .start + length l) s)) (omega arith))) b (rw w at R)
 
   -- a member, of a role that is one
   pub reads-member : (role : Role) (l : List ℕ) → roleOf schema f ≡ role → judged role 2 (g .field) (g .count) ≡ given tt
@@ -209,7 +215,7 @@ module _ (schema : Schema) {s : List ℕ} (lent : length s < 2 ^ 64) {at : ℕ} 
   reads-member role l e j k a R = reads-part role l (withMember f (partAt at f l) g) e j k a R
 
 -- ---- the whole message, and the bytes of its parts
-pub fields-read : (schema : Schema) (s : List ℕ) (at : ℕ) {r : Told Gathered} → Reads (fieldAt schema) s at nothing r → fieldsFrom schema s at ≡ r
+pub fields-read : (schema : Schema) (s : List ℕ) (at : ℕ) {r : ToldMore Gathered} → Reads (fieldAt schema) s at nothing r → fieldsFrom schema s at ≡ r
 unfolding fieldsFrom
 fields-read schema s at R = R .runs (length s) (omega arith)
 

@@ -2,3 +2,4 @@ pub mod Values
 pub mod Fields
 pub mod RoundTrip
 pub mod Premises
+pub mod ByHand

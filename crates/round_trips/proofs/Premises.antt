@@ -12,9 +12,11 @@ use Rattle.field.specs.Value.{valueAt}
 use Rattle.field_writer.specs.Writer.{tagBytes, headBytes, partBytes, fieldBytes}
 use Rattle.walk.specs.Schema.{roleOf}
 use Rattle.walk.specs.Gathered.{withTransport}
-use Rattle.walk.specs.Walk.{entryAt, packedFrom, judged, addedAt, readAt, fieldAt, fieldsFrom}
+use Rattle.walk.specs.Walk.{entryAt, packedFrom, judged, addedAt, readAt, fieldAt, fieldsFrom, withString}
 use Rattle.control.specs.Response.{responseFrom, responseWritten}
 use Rattle.control.specs.Envelope.{payloadOf, envelopeOf, envelopeWritten}
+use Rattle.text.specs.Table.{rows, within, rowOf}
+use Rattle.text.specs.WellFormed.{sequenceAt, badPlace}
 use Rattle.device.specs.Information.{informationOf, informationWritten}
 use Rattle.device.specs.Features.{featuresOf, featuresWritten}
 use Rattle.round_trips.specs.RoundTrip.{AllSigned32}
@@ -48,12 +50,13 @@ envelopes-taken =
 
 pub information-taken : InformationTaken
 unfolding InformationTaken
-information-taken serial name ts kind out zs most lent room = record { signed = all-signed ts zs; most = omega arith; lent = omega arith; room = omega arith }
+information-taken serial name ts kind out zs most well₁ well₂ well₃ lent room =
+    record { signed = all-signed ts zs; most = omega arith; strings = (well₁, (well₂, (well₃, tt))); lent = omega arith; room = omega arith }
 
 pub features-taken : FeaturesTaken
 unfolding FeaturesTaken
 features-taken f out h₁ h₂ room = record { first = omega arith; second = omega arith; room = omega arith }
 
 pub one-of-each : OneOfEach
-unfolding varintAt varintBytes badTag tagAt valueAt tagBytes headBytes partBytes fieldBytes roleOf withTransport entryAt packedFrom judged addedAt readAt fieldAt fieldsFrom responseFrom responseWritten payloadOf envelopeOf envelopeWritten informationOf informationWritten featuresOf featuresWritten
+unfolding varintAt varintBytes badTag tagAt valueAt tagBytes headBytes partBytes fieldBytes roleOf withTransport entryAt packedFrom judged addedAt readAt fieldAt fieldsFrom responseFrom responseWritten payloadOf envelopeOf envelopeWritten informationOf informationWritten featuresOf featuresWritten withString badPlace sequenceAt rowOf rows within
 one-of-each = record { response = refl; envelope = refl; information = refl; features = refl }

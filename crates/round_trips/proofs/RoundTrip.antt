@@ -10,7 +10,9 @@ use lib.ListN.{length, replicate}
 use lib.Seq.{sets, take-all}
 use lib.Dec.{eqb, ltb}
 use borrow.Author.Tests.{ne-eqb, le-ltb, eqb-false}
-use Rattle.wire.specs.Told.{Told, given, refused, andThen, Written}
+use Rattle.wire.specs.Told.{Told, ToldMore, given, refused, andThen, Written, WrittenOf}
+use Rattle.text_writer.specs.Texts.{AllWellFormed, writesTexts}
+use Rattle.text_writer.proofs.Texts.{well-faultless, texts-wrote}
 use Rattle.wire.proofs.Stores.{first-bytes}
 use Rattle.field.specs.declared.value.Part.{Part}
 use Rattle.field.specs.Signed.{extended}
@@ -37,7 +39,7 @@ use Rattle.field_writer.proofs.Messages.{wrote, or-false, member-above, member-
 use Rattle.control.specs.Response.{responseFrom, responseFields, badResponsePayload, responseWritten}
 use Rattle.control.specs.Envelope.{payloadOf, envelopeOf, envelopeFields, badPayload, envelopeWritten}
 use Rattle.device.specs.Features.{featuresOf, featuresFields, featuresWritten}
-use Rattle.device.specs.Information.{informationOf, informationFields, informationWritten}
+use Rattle.device.specs.Information.{informationOf, informationStrings, informationFields, informationWritten}
 use Rattle.round_trips.specs.RoundTrip.{Signed32, AllSigned32, MemberNumber, Gives, ReadsBack, NoneRefused, innerBytes, responseContents, responseAgain, InnerNumbered, payloadBytes, CodeSigned32, PayloadNumbered, envelopeContents, envelopeAgain, informationAgain, ResponseRoundTrip, EnvelopeRoundTrip, FeaturesRoundTrip, InformationRoundTrip}
 use Rattle.round_trips.proofs.Values.{At, whole, front, behind, last, taken, signed-trip, extended-fits}
 use Rattle.round_trips.proofs.Fields.{reads-end, reads-scalar, reads-text, reads-packed, reads-member, partAt, part-there, textAt, withTransports, fields-read, text-back}
@@ -48,6 +50,15 @@ pub reads-back : {A : Type 0} (bad : Bool) (fields : List Field) (out : List ℕ
 reads-back bad fields out read a b h e =
     let bytes = messageBytes fields in
     subst (λ (w : Written ℕ). ReadsBack w read a) (wrote bad fields out {n = length bytes} {l = sets out 0 bytes} b h (record { place = sym (zero-add (length bytes)); stored = refl }))
+    (ap read (first-bytes out bytes h) ∙ e)
+
+-- the same of a writer of strings that are well formed
+pub texts-back : {A : Type 0} (bad : Bool) (strings : List (ℕ × List ℕ)) (fields : List Field) (out : List ℕ) (read : List ℕ → ToldMore A) (a : A) → bad ≡ false → AllWellFormed strings
+    → length (messageBytes fields) ≤ length out → read (messageBytes fields) ≡ given a → ReadsBack (writesTexts bad strings fields out) read a
+texts-back bad strings fields out read a b well h e =
+    let bytes = messageBytes fields in
+    let w = wrote bad fields out {n = length bytes} {l = sets out 0 bytes} b h (record { place = sym (zero-add (length bytes)); stored = refl }) in
+    subst (λ (w : WrittenOf (ℕ × List ℕ) ℕ). ReadsBack w read a) (texts-wrote bad strings fields out (given (length bytes)) (sets out 0 bytes) b (well-faultless strings well) w)
     (ap read (first-bytes out bytes h) ∙ e)
 
 -- a message of these fields is read up to its end
@@ -72,11 +83,11 @@ features-round-trip f out t =
     (features-read f (messageBytes (featuresFields f)) (omega (arith, t .first)) (omega (arith, t .second)) (whole (messageBytes (featuresFields f))))
 
 -- ---- device information
-information-read : (serial name : List ℕ) (ts : List ℤ) (kind s : List ℕ) → AllSigned32 ts → length ts ≤ 8 → length s < 2 ^ 64
+information-read : (serial name : List ℕ) (ts : List ℤ) (kind s : List ℕ) → AllWellFormed (informationStrings serial name kind) → AllSigned32 ts → length ts ≤ 8 → length s < 2 ^ 64
     → At s 0 (messageBytes (informationFields serial name ts kind)) []
     → informationAgain s ≡ given (serial, name, ts, kind)
 unfolding informationOf roleOf
-information-read serial name ts kind s fs h lent a =
+information-read serial name ts kind s well fs h lent a =
     let b₁ = fieldBytes (text serialNumberField serial) in
     let b₂ = fieldBytes (text nameField name) in
     let b₃ = fieldBytes (packed transportsField (map extended ts)) in
@@ -92,10 +103,10 @@ information-read serial name ts kind s fs h lent a =
     let g₃ = withTransports ts g₂ in
     let all : fieldsFrom Schema.Information s 0 ≡ given (withText 2 p₄ g₃) =
     fields-read Schema.Information s 0
-    (reads-text Schema.Information lent nothing serialNumberField (omega arith) (omega arith) 0 serial refl refl (front b₁ (b₂ ++ (b₃ ++ (b₄ ++ []))) a)
-    (reads-text Schema.Information lent g₁ nameField (omega arith) (omega arith) 1 name refl refl (front b₂ (b₃ ++ (b₄ ++ [])) a₂)
+    (reads-text Schema.Information lent nothing serialNumberField (omega arith) (omega arith) 0 serial (well .0) refl refl (front b₁ (b₂ ++ (b₃ ++ (b₄ ++ []))) a)
+    (reads-text Schema.Information lent g₁ nameField (omega arith) (omega arith) 1 name (well .1 .0) refl refl (front b₂ (b₃ ++ (b₄ ++ [])) a₂)
     (reads-packed Schema.Information lent g₂ transportsField (omega arith) (omega arith) ts refl fs (omega arith) (front b₃ (b₄ ++ []) a₃)
-    (reads-text Schema.Information lent g₃ deviceTypeField (omega arith) (omega arith) 2 kind refl refl (front b₄ [] a₄)
+    (reads-text Schema.Information lent g₃ deviceTypeField (omega arith) (omega arith) 2 kind (well .1 .1 .0) refl refl (front b₄ [] a₄)
     (reads-end (done b₄ a₄)))))) in
     rw (
       all,
@@ -110,8 +121,8 @@ pub information-round-trip : InformationRoundTrip
 unfolding InformationRoundTrip informationWritten
 information-round-trip serial name ts kind out t =
     let fields = informationFields serial name ts kind in
-    reads-back (ltb 8 (length ts)) fields out informationAgain (serial, name, ts, kind) (le-ltb 8 (length ts) (omega (arith, t .most))) (omega (arith, t .room))
-    (information-read serial name ts kind (messageBytes fields) (t .signed) (omega (arith, t .most)) (omega (arith, t .room, t .lent)) (whole (messageBytes fields)))
+    texts-back (ltb 8 (length ts)) (informationStrings serial name kind) fields out informationAgain (serial, name, ts, kind) (le-ltb 8 (length ts) (omega (arith, t .most))) (t .strings) (omega (arith, t .room))
+    (information-read serial name ts kind (messageBytes fields) (t .strings) (t .signed) (omega (arith, t .most)) (omega (arith, t .room, t .lent)) (whole (messageBytes fields)))
 
 -- ---- a scalar in field 1, alone or before a member: the envelope and the response
 module _ (schema : Schema) (v : ℕ) (small : v < 2 ^ 64) (first : roleOf schema 1 ≡ Role.Scalar 0) {s : List ℕ} {at : ℕ} where

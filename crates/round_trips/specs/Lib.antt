@@ -1,2 +1,3 @@
 pub mod RoundTrip
 pub mod Premises
+pub mod Worked

@@ -8,6 +8,7 @@ use Rattle.field.specs.Signed.{extended}
 use Rattle.field_writer.specs.Writer.{messageBytes}
 use Rattle.control.specs.declared.response.ResponsePayload.the-variants as Inner
 use Rattle.control.specs.declared.envelope.EnvelopePayload.the-variants as Sent
+use Rattle.text.specs.WellFormed.{WellFormed}
 use Rattle.device.specs.declared.features.DeviceFeatures.{DeviceFeatures}
 use Rattle.control.specs.Response.{responseFields, responseWritten}
 use Rattle.control.specs.Envelope.{envelopeFields, envelopeWritten}
@@ -48,10 +49,11 @@ pub record EnvelopesTaken : Type 0 where
   pub member : (command : ℤ) (field : ℕ) (body out : List ℕ) → Number32 command → 2 ≤ field → field ≤ 536870911 → (field ≡ 9 → ⊥) → Lendable out
       → length (messageBytes (envelopeFields (extended command) (Sent.Member field) body)) ≤ length out → EnvelopeTakes command (Sent.Member field) body out
 
--- device information with any strings and at most eight transports
+-- device information with any strings that are well formed and at most eight transports
 unfoldable pub InformationTaken : Type 0
 InformationTaken =
-    (serialNumber name : List ℕ) (transports : List ℤ) (deviceType out : List ℕ) → Numbers32 transports → length transports ≤ 8 → Lendable out
+    (serialNumber name : List ℕ) (transports : List ℤ) (deviceType out : List ℕ) → Numbers32 transports → length transports ≤ 8
+    → WellFormed serialNumber → WellFormed name → WellFormed deviceType → Lendable out
     → length (messageBytes (informationFields serialNumber name transports deviceType)) ≤ length out
     → InformationTakes serialNumber name transports deviceType out
 

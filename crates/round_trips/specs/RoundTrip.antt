@@ -8,7 +8,7 @@ use lib.ListN.{length, take}
 use lib.Dec.{eqb}
 use mir.Syntax.{w32}
 use mir.Val.{SFits}
-use Rattle.wire.specs.Told.{Told, ToldOf, given, refused, andThen, Written, WrittenOf, written}
+use Rattle.wire.specs.Told.{Told, ToldOf, given, refused, andThen, Written, WrittenOf, written, ToldMore}
 use Rattle.field.specs.Signed.{extended}
 use Rattle.field.specs.Tag.{lastField}
 use Rattle.field.specs.Value.{bytesOf}
@@ -27,7 +27,8 @@ use Rattle.walk.specs.Schema.{responseField}
 use Rattle.walk.specs.Gathered.{mostTransports}
 use Rattle.control.specs.Response.{responseFrom, responseFields, responseWritten}
 use Rattle.control.specs.Envelope.{envelopeOf, envelopeFields, envelopeWritten}
-use Rattle.device.specs.Information.{informationOf, informationFields, informationWritten}
+use Rattle.text_writer.specs.Texts.{AllWellFormed}
+use Rattle.device.specs.Information.{informationOf, informationStrings, informationFields, informationWritten}
 use Rattle.device.specs.Features.{featuresOf, featuresFields, featuresWritten}
 
 -- a signed 32-bit number, a list of them, an output of the machine
@@ -135,13 +136,14 @@ EnvelopeRoundTrip =
 abbrev pub informationContents : List ℕ → DeviceInformation → List ℕ × List ℕ × List ℤ × List ℕ
 informationContents s i = (bytesOf s (i .«serial_number»), bytesOf s (i .name), take (i .count) (i .transports), bytesOf s (i .«device_type»))
 
-abbrev pub informationAgain : List ℕ → Told (List ℕ × List ℕ × List ℤ × List ℕ)
+abbrev pub informationAgain : List ℕ → ToldMore (List ℕ × List ℕ × List ℤ × List ℕ)
 informationAgain s = andThen (informationOf s) (λ i. given (informationContents s i))
 
 -- what device information is written of
 pub record InformationTakes (serialNumber name : List ℕ) (transports : List ℤ) (deviceType out : List ℕ) : Type 0 where
   pub signed : AllSigned32 transports
   pub most : length transports ≤ mostTransports
+  pub strings : AllWellFormed (informationStrings serialNumber name deviceType)
   pub lent : Lent out
   pub room : length (messageBytes (informationFields serialNumber name transports deviceType)) ≤ length out
 

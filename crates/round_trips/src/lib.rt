@@ -1,6 +1,7 @@
 // Reading what a writer wrote gives back every value and the bytes of every part. These functions do nothing: their contracts are the claims.
 ghost use Rattle.round_trips.specs.RoundTrip.{NoneRefused, EnvelopeRoundTrip, ResponseRoundTrip, InformationRoundTrip, FeaturesRoundTrip};
 ghost use Rattle.round_trips.specs.Premises.{EnvelopesTaken, ResponsesTaken, InformationTaken, FeaturesTaken, OneOfEach};
+ghost use Rattle.round_trips.specs.Worked.{WorkedInformation};
 
 // A writer or a reader that refuses makes none of them true.
 pub fn none_refused()
@@ -43,4 +44,9 @@ pub fn features_taken()
 // One message of each kind, by computation.
 pub fn one_of_each()
     ensures { λ _. ⌜ OneOfEach ⌝ }
+{}
+
+// Device information worked by hand.
+pub fn worked()
+    ensures { λ _. ⌜ WorkedInformation ⌝ }
 {}

@@ -4,19 +4,22 @@ use mathlib.Core.Bool.{Bool, false, _||_}
 use mathlib.Core.List.{List, [], _∷_, _++_}
 use lib.ListN.{getD, replicate}
 use lib.Dec.{ltb, eqb}
-use Rattle.wire.specs.Told.{Told, given, refused}
+use Rattle.wire.specs.Told.{ToldMore, given, refused}
 use Rattle.field.specs.declared.value.Part.{Part}
 use Rattle.field.specs.Unsigned.{unsignedOf}
 use Rattle.walk.specs.Gathered.{mostRepeated}
 use Rattle.firmware.specs.declared.apply.ApplyFirmware.{ApplyFirmware}
 use Rattle.firmware.specs.declared.component.FirmwareComponent.{FirmwareComponent}
 use Rattle.firmware_writer.specs.Apply.{boolValue}
-use Rattle.rows_messages.specs.Convert.{partRow}
+use Rattle.rows_messages.specs.Convert.{partRow, faultOf}
 use Rattle.rows_firmware.specs.More.{isWide}
 
--- the numbers of the row, the place of its first component, and the numbers of each
+-- the numbers of the row, and of the answer that tells also the field and the place that go with a refusal; the place of its first component, and the numbers of each
 abbrev pub rowSize : ℕ
 rowSize = 57
+
+abbrev pub answerSize : ℕ
+answerSize = 59
 
 abbrev pub firstComponent : ℕ
 firstComponent = 9
@@ -44,9 +47,9 @@ headRow a =
 abbrev pub wholeRow : ApplyFirmware → List ℕ
 wholeRow a = headRow a ++ componentRows (a .«firmware_information» .components)
 
-abbrev pub applyRow : Told ApplyFirmware → List ℕ
-applyRow (given a) = wholeRow a
-applyRow (refused n) = replicate rowSize 0
+abbrev pub applyRow : ToldMore ApplyFirmware → List ℕ
+applyRow (given a) = wholeRow a ++ replicate 2 0
+applyRow (refused why) = replicate rowSize 0 ++ faultOf why
 
 -- ---- what the writer is given
 abbrev pub partAt : List ℕ → ℕ → Part

@@ -8,19 +8,26 @@ use firmware::information::FirmwareInformation;
 use rows::row::UNFIT;
 use rows::row::fill;
 use rows::row::number_at;
+use rows_messages::convert::verdict_fault;
 use walk::gathered::MOST_REPEATED;
+use walk::refusal::Verdict;
 use wire::logic::either;
 ghost use mathlib.Core.Path.{_≡_};
+ghost use mathlib.Core.List.{_++_};
 ghost use Prim.Native.Nat.{_+_, _≤_};
 ghost use lib.ListN.{length};
 ghost use lib.Seq.{sets};
 ghost use Rattle.walk.specs.Gathered.{mostRepeated};
+ghost use Rattle.walk.specs.Refusal.{toldVerdict};
 ghost use Rattle.firmware_writer.specs.Apply.{boolValue};
 ghost use Rattle.rows.specs.Row.{afterwards};
-ghost use Rattle.rows_firmware.specs.Apply.{rowSize, firstComponent, componentRow, componentRows, headRow, wholeRow, partAt, componentAt, componentsAt, applyAt, wideAt, anyWide, badRow};
+ghost use Rattle.rows_messages.specs.Convert.{faultRow};
+ghost use Rattle.rows_firmware.specs.Apply.{rowSize, answerSize, firstComponent, componentRow, componentRows, headRow, wholeRow, partAt, componentAt, componentsAt, applyAt, wideAt, anyWide, badRow};
 
-// The numbers of the row, the place of its first component, and the numbers of each.
-pub const APPLY_ANSWER: usize = 57;
+// The numbers of the row, and of the answer that tells also the field and the place that go with a refusal; the place of the first component, and the numbers of each.
+pub const APPLY_ROW: usize = 57;
+
+pub const APPLY_ANSWER: usize = 59;
 
 const FIRST_COMPONENT: usize = 9;
 
@@ -73,7 +80,7 @@ fn head_row(apply: ApplyFirmware) -> [u64; 9]
 
 // Writes the components, each from its place on.
 fn fill_components(row: &mut [u64], components: [FirmwareComponent; 8])
-    requires { ⌜ length (now row) ≡ rowSize ⌝ }
+    requires { ⌜ length (now row) ≡ answerSize ⌝ }
     ensures { λ _. ⌜ now (row .exit) ≡ sets (now (row .entry)) firstComponent (componentRows components) ⌝ }
     ensures { λ _. ⌜ length components ≡ mostRepeated ⌝ }
 {
@@ -89,9 +96,9 @@ fn fill_components(row: &mut [u64], components: [FirmwareComponent; 8])
 }
 
 // Writes the whole row, part by part, unless the call is refused by 1.
-pub fn put_apply(row: &mut [u64], number: u64, apply: ApplyFirmware)
-    requires { ⌜ length (now row) ≡ rowSize ⌝ }
-    ensures { λ _. ⌜ now (row .exit) ≡ afterwards number (now (row .entry)) (wholeRow apply) ⌝ }
+pub fn put_apply(row: &mut [u64], number: u64, verdict: Verdict, apply: ApplyFirmware)
+    requires { ⌜ length (now row) ≡ answerSize ⌝ }
+    ensures { λ _. ⌜ now (row .exit) ≡ afterwards number (now (row .entry)) (wholeRow apply ++ faultRow (toldVerdict verdict)) ⌝ }
 {
     if number != UNFIT {
         let head = head_row(apply);
@@ -99,6 +106,8 @@ pub fn put_apply(row: &mut [u64], number: u64, apply: ApplyFirmware)
         let information = apply.firmware_information;
         let components = information.components;
         fill_components(row, components);
+        let fault = verdict_fault(verdict);
+        fill(row, APPLY_ROW, &fault);
     }
 }
 

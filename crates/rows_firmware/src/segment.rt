@@ -1,17 +1,20 @@
 // UpdateComponentSegment: what its reader and its writer tell, as rows.
 use firmware::segment::SegmentRead;
 use firmware_writer::segment::SegmentWrote;
+use walk::refusal::MessageRefusal;
 use wire::bytes::wide64;
 ghost use mathlib.Core.Path.{_≡_};
-ghost use Rattle.firmware.specs.Segment.{toldSegment, numberMore};
+ghost use mathlib.Core.List.{_++_};
+ghost use lib.ListN.{replicate};
+ghost use Rattle.walk.specs.Refusal.{whyOf, numberMore};
+ghost use Rattle.firmware.specs.Segment.{toldSegment};
 ghost use Rattle.firmware_writer.specs.Segment.{toldSegmentWrote};
+ghost use Rattle.rows_messages.specs.Convert.{faultOf, wroteRow};
 ghost use Rattle.rows_firmware.specs.More.{isWide};
-ghost use Rattle.rows_firmware.specs.Segment.{segmentRow, wroteRow};
+ghost use Rattle.rows_firmware.specs.Segment.{segmentRow};
 
-// The numbers of the answer rows.
-pub const SEGMENT_ANSWER: usize = 7;
-
-pub const SEGMENT_WROTE_ANSWER: usize = 2;
+// The numbers of the answer row.
+pub const SEGMENT_ANSWER: usize = 8;
 
 // How many numbers have 32 bits.
 const COUNT_32: u64 = 4294967296;
@@ -29,12 +32,21 @@ pub fn segment_number(read: SegmentRead) -> u64
     wide64(read.number())
 }
 
-pub fn segment_row(read: SegmentRead) -> [u64; 7]
+fn refused_row(why: MessageRefusal) -> [u64; 8]
+    ensures { λ r. ⌜ r ≡ replicate 6 0 ++ faultOf (whyOf why) ⌝ }
+{
+    match why {
+        MessageRefusal::Field(_) => [0u64; 8],
+        MessageRefusal::BadText { field, place } => [0, 0, 0, 0, 0, 0, field, place as u64],
+    }
+}
+
+pub fn segment_row(read: SegmentRead) -> [u64; 8]
     ensures { λ r. ⌜ r ≡ segmentRow (toldSegment read) ⌝ }
 {
     match read {
-        SegmentRead::Refused(_) => [0u64; 7],
-        SegmentRead::Profile(field) => [0, 0, 0, 0, 0, 0, field],
+        SegmentRead::Refused(why) => refused_row(why),
+        SegmentRead::Profile(field) => [0, 0, 0, 0, 0, 0, field, 0],
         SegmentRead::Read(segment) => {
             let name = segment.component_name;
             let signature = segment.segment_signature;
@@ -45,6 +57,7 @@ pub fn segment_row(read: SegmentRead) -> [u64; 7]
                 segment.segment_size as u64,
                 signature.start as u64,
                 signature.len as u64,
+                0,
                 0,
             ]
         }
@@ -57,12 +70,13 @@ pub fn wrote_number(wrote: SegmentWrote) -> u64
     wide64(wrote.number())
 }
 
-pub fn wrote_row(wrote: SegmentWrote) -> [u64; 2]
+pub fn wrote_row(wrote: SegmentWrote) -> [u64; 3]
     ensures { λ r. ⌜ r ≡ wroteRow (toldSegmentWrote wrote) ⌝ }
 {
     match wrote {
-        SegmentWrote::Done(n) => [n as u64, 0],
-        SegmentWrote::Profile(field) => [0, field],
-        SegmentWrote::NoRoom => [0, 0],
+        SegmentWrote::Done(n) => [n as u64, 0, 0],
+        SegmentWrote::BadText { field, place } => [0, field, place as u64],
+        SegmentWrote::Profile(field) => [0, field, 0],
+        SegmentWrote::NoRoom => [0u64; 3],
     }
 }

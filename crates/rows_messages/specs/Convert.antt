@@ -3,11 +3,12 @@ use Prim.Native.Nat.{ℕ}
 use mathlib.Core.Bool.{Bool, true, cond, not, _&&_}
 use mathlib.Core.List.{List, [], _∷_, _++_, map}
 use lib.IntN.{ℤ}
-use lib.ListN.{replicate}
+use lib.ListN.{getD, replicate}
 use lib.Dec.{eqb}
-use Rattle.wire.specs.Told.{Told, given, refused}
+use Rattle.wire.specs.Told.{Told, ToldMore, WrittenOf, given, refused}
 use Rattle.field.specs.declared.value.Part.{Part}
 use Rattle.field.specs.Signed.{signedOf, extended}
+use Rattle.walk.specs.Refusal.{numberMore}
 use Rattle.control.specs.declared.envelope.Envelope.{Envelope}
 use Rattle.control.specs.declared.envelope.Payload.{Payload}
 use Rattle.control.specs.declared.envelope.Payload.the-variants.{None, Response, Member}
@@ -18,6 +19,7 @@ use Rattle.control.specs.declared.response.ResponsePayload.{ResponsePayload}
 use Rattle.control.specs.declared.response.ResponsePayload.the-variants as within
 use Rattle.device.specs.declared.features.DeviceFeatures.{DeviceFeatures}
 use Rattle.device.specs.declared.information.DeviceInformation.{DeviceInformation}
+use Rattle.rows.specs.Called.{Called, answers}
 
 -- ---- signed numbers: two's complement, extended to 64 bits
 
@@ -61,9 +63,26 @@ partsRow i = partRow (i .«serial_number») ++ (partRow (i .name) ++ (partRow (i
 abbrev pub transportsRow : List ℤ → List ℕ
 transportsRow transports = map extended transports
 
-abbrev pub informationRow : Told DeviceInformation → List ℕ
-informationRow (given i) = partsRow i ++ transportsRow (i .transports)
-informationRow (refused n) = replicate 15 0
+-- the field and the place that go with a refusal; 0 where none does
+abbrev pub faultOf : ℕ × List ℕ → List ℕ
+faultOf why = getD (why .1) 0 0 ∷ getD (why .1) 1 0 ∷ []
+
+abbrev pub faultRow : {A : Type 0} → ToldMore A → List ℕ
+faultRow (given a) = replicate 2 0
+faultRow (refused why) = faultOf why
+
+abbrev pub informationRow : ToldMore DeviceInformation → List ℕ
+informationRow (given i) = partsRow i ++ (transportsRow (i .transports) ++ replicate 2 0)
+informationRow (refused why) = replicate 15 0 ++ faultOf why
+
+-- how many bytes a writer of strings wrote, and the field and the place
+abbrev pub wroteRow : ToldMore ℕ → List ℕ
+wroteRow (given n) = n ∷ replicate 2 0
+wroteRow (refused why) = 0 ∷ faultOf why
+
+-- the call of such a writer
+abbrev pub textCall : List ℕ → List ℕ → WrittenOf (ℕ × List ℕ) ℕ → Called
+textCall out answer w = answers 3 answer out (numberMore (w .told)) (w .out) (wroteRow (w .told))
 
 -- ---- what the writers are given; what no parameter of the library holds stands for member 0, which is out of range
 

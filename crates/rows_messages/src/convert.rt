@@ -6,36 +6,48 @@ use control::response::ResponsePayload;
 use control::response::ResponseRead;
 use device::features::FeaturesRead;
 use device::information::DeviceInformation;
-use field::Refusal;
 use field::signed::low_signed;
 use field::signed::sign_extended;
 use field_writer::message::Wrote;
 use rows::row::Count;
 use rows::row::DONE;
+use rows::row::UNFIT;
+use rows::row::fill;
+use rows::row::put;
+use text_writer::TextWrote;
 use walk::gathered::MOST_TRANSPORTS;
-use walk::gathered::Verdict;
+use walk::refusal::MessageRefusal;
+use walk::refusal::Verdict;
 ghost use mathlib.Core.Path.{_≡_};
-ghost use mathlib.Core.List.{map};
+ghost use mathlib.Core.List.{_++_, map};
 ghost use Prim.Native.Nat.{_≤_};
 ghost use lib.ListN.{length, take};
-ghost use Rattle.field.specs.Refusal.{numberOf};
 ghost use Rattle.field.specs.Signed.{signedOf};
-ghost use Rattle.walk.specs.Gathered.{toldVerdict};
+ghost use Rattle.walk.specs.Refusal.{messageNumber, whyOf, numberMore, toldVerdict};
 ghost use Rattle.control.specs.Envelope.{toldEnvelope};
 ghost use Rattle.control.specs.Response.{toldResponse};
 ghost use Rattle.device.specs.Features.{toldFeatures};
 ghost use Rattle.field_writer.specs.Message.{toldWrote};
-ghost use Rattle.rows.specs.Row.{numberTold, countOf};
-ghost use Rattle.rows_messages.specs.Convert.{isSigned, allSigned, payloadRow, envelopeRow, responsePayloadOf, payloadFor, responseRow, partsRow, transportsRow, featuresRow};
+ghost use Rattle.text_writer.specs.Texts.{toldTextWrote};
+ghost use Rattle.rows.specs.Row.{afterwards, numberTold, countOf};
+ghost use Rattle.rows_messages.specs.Convert.{isSigned, allSigned, payloadRow, envelopeRow, responsePayloadOf, payloadFor, responseRow, partsRow, transportsRow, faultOf, faultRow, wroteRow, featuresRow};
 
 // The numbers of the answer rows.
 pub const ENVELOPE_ANSWER: usize = 6;
 
 pub const RESPONSE_ANSWER: usize = 4;
 
-pub const INFORMATION_ANSWER: usize = 15;
+pub const INFORMATION_ANSWER: usize = 17;
 
 pub const FEATURES_ANSWER: usize = 2;
+
+// .. and of a writer of strings.
+pub const WROTE_ANSWER: usize = 3;
+
+// The places of the transports, and of the field and the place that go with a refusal.
+const FIRST_TRANSPORT: usize = 7;
+
+const FAULT: usize = 15;
 
 // The payloads of an envelope.
 const NONE: u64 = 0;
@@ -44,11 +56,14 @@ const RESPONSE: u64 = 1;
 
 const MEMBER: u64 = 2;
 
+// The refusal of a string that is not well formed.
+const BAD_TEXT: u64 = 36;
+
 // No field has this number: of a response it says that there is no payload, and as a member's it is out of range.
 const NO_FIELD: u64 = 0;
 
-fn refusal_number(why: Refusal) -> u64
-    ensures { λ r. ⌜ r ≡ numberOf why ⌝ }
+fn refusal_number(why: MessageRefusal) -> u64
+    ensures { λ r. ⌜ r ≡ messageNumber why ⌝ }
 {
     why.number() as u64
 }
@@ -67,6 +82,41 @@ pub fn count_of(wrote: Wrote) -> Count
         Wrote::Done(n) => Count::of(n),
         Wrote::Refused(why) => Count::none(why.number()),
     }
+}
+
+// ---- writers of strings
+
+fn text_number(wrote: TextWrote) -> u64
+    ensures { λ r. ⌜ r ≡ numberMore (toldTextWrote wrote) ⌝ }
+{
+    match wrote {
+        TextWrote::Done(_) => DONE,
+        TextWrote::Refused(why) => why.number() as u64,
+        TextWrote::BadText { field: _, place: _ } => BAD_TEXT,
+    }
+}
+
+fn text_row(wrote: TextWrote) -> [u64; 3]
+    ensures { λ r. ⌜ r ≡ wroteRow (toldTextWrote wrote) ⌝ }
+{
+    match wrote {
+        TextWrote::Done(n) => [n as u64, 0, 0],
+        TextWrote::Refused(_) => [0u64; 3],
+        TextWrote::BadText { field, place } => [0, field, place as u64],
+    }
+}
+
+// Tells what such a writer wrote in an answer row, and returns its number.
+pub fn tell_wrote(answer: &mut [u64], wrote: TextWrote) -> u64
+    requires { ⌜ length (now answer) ≡ 3 ⌝ }
+    ensures { λ r. ⌜ (r ≡ numberMore (toldTextWrote wrote))
+        × (now (answer .exit)
+        ≡ afterwards (numberMore (toldTextWrote wrote)) (now (answer .entry)) (wroteRow (toldTextWrote wrote))) ⌝ }
+{
+    let number = text_number(wrote);
+    let row = text_row(wrote);
+    put(answer, number, &row);
+    number
 }
 
 // ---- the envelope
@@ -207,7 +257,7 @@ pub fn features_row(read: FeaturesRead) -> [u64; 2]
 // ---- device information
 
 pub fn verdict_number(verdict: Verdict) -> u64
-    ensures { λ r. ⌜ r ≡ numberTold (toldVerdict verdict) ⌝ }
+    ensures { λ r. ⌜ r ≡ numberMore (toldVerdict verdict) ⌝ }
 {
     match verdict {
         Verdict::Fine => DONE,
@@ -215,8 +265,27 @@ pub fn verdict_number(verdict: Verdict) -> u64
     }
 }
 
+// The field and the place that go with a refusal.
+pub fn fault_of(why: MessageRefusal) -> [u64; 2]
+    ensures { λ r. ⌜ r ≡ faultOf (whyOf why) ⌝ }
+{
+    match why {
+        MessageRefusal::Field(_) => [0u64; 2],
+        MessageRefusal::BadText { field, place } => [field, place as u64],
+    }
+}
+
+pub fn verdict_fault(verdict: Verdict) -> [u64; 2]
+    ensures { λ r. ⌜ r ≡ faultRow (toldVerdict verdict) ⌝ }
+{
+    match verdict {
+        Verdict::Fine => [0u64; 2],
+        Verdict::Refused(why) => fault_of(why),
+    }
+}
+
 // The three strings, and how many transports there are.
-pub fn parts_row(information: DeviceInformation) -> [u64; 7]
+fn parts_row(information: DeviceInformation) -> [u64; 7]
     ensures { λ r. ⌜ r ≡ partsRow information ⌝ }
 {
     let serial_number = information.serial_number;
@@ -234,7 +303,7 @@ pub fn parts_row(information: DeviceInformation) -> [u64; 7]
 }
 
 // The transports; 0 where there are fewer.
-pub fn transports_row(list: &[i32]) -> [u64; 8]
+fn transports_row(list: &[i32]) -> [u64; 8]
     requires { ⌜ length (now list) ≡ 8 ⌝ }
     ensures { λ r. ⌜ r ≡ transportsRow (now (list .entry)) ⌝ }
 {
@@ -246,6 +315,29 @@ pub fn transports_row(list: &[i32]) -> [u64; 8]
         i += 1;
     }
     row
+}
+
+// Writes the whole row, part by part, unless the call is refused by 1.
+pub fn put_information(
+    row: &mut [u64],
+    number: u64,
+    verdict: Verdict,
+    information: DeviceInformation,
+)
+    requires { ⌜ length (now row) ≡ 17 ⌝ }
+    ensures { λ _. ⌜ now (row .exit)
+        ≡ afterwards number (now (row .entry))
+        (partsRow information ++ (transportsRow (information .transports) ++ faultRow (toldVerdict verdict))) ⌝ }
+{
+    if number != UNFIT {
+        let parts = parts_row(information);
+        fill(row, 0, &parts);
+        let listed = information.transports;
+        let transports = transports_row(&listed);
+        fill(row, FIRST_TRANSPORT, &transports);
+        let fault = verdict_fault(verdict);
+        fill(row, FAULT, &fault);
+    }
 }
 
 // Whether all numbers of a row are signed ones of 32 bits, extended to 64.

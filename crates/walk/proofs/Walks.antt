@@ -6,12 +6,12 @@ use native.Mathlib.Omega.{arith}
 use lib.Dec.{leb}
 use lib.ListN.{length}
 use borrow.Author.Tests.{le-leb, lt-leb}
-use Rattle.wire.specs.Told.{Told, given, refused, andThen}
+use Rattle.wire.specs.Told.{ToldOf, given, refused, andThen}
 use Rattle.field.proofs.Told.{Sat, sat-cond, sat-then}
 use Rattle.walk.specs.declared.gathered.Gathered.{Gathered}
 use Rattle.walk.specs.Walk.{walk}
 
-module _ (step : List ℕ → ℕ → Gathered → Told (Gathered × ℕ)) where
+module _ {N : Type 0} (step : List ℕ → ℕ → Gathered → ToldOf N (Gathered × ℕ)) where
   pub walk-end : (fuel : ℕ) (s : List ℕ) (at : ℕ) (g : Gathered) → length s ≤ at → walk step fuel s at g ≡ given g
   walk-end zero s at g h = refl
   walk-end (suc fuel) s at g h = rw (le-leb (length s) at h)
@@ -28,7 +28,7 @@ module _ (step : List ℕ → ℕ → Gathered → Told (Gathered × ℕ)) where
       → walk step fuel s at g ≡ walk step (fuel - 1) s (q .1) (q .0)
   walk-next s at g inside fuel h q e = walk-turn s at g inside fuel h ∙ ap (λ r. andThen r (λ q. walk step (fuel - 1) s (q .1) (q .0))) e
 
-  pub walk-stop : (s : List ℕ) (at : ℕ) (g : Gathered) → at < length s → (fuel : ℕ) → length s ≤ at + fuel → (n : ℕ) → step s at g ≡ refused n
+  pub walk-stop : (s : List ℕ) (at : ℕ) (g : Gathered) → at < length s → (fuel : ℕ) → length s ≤ at + fuel → (n : N) → step s at g ≡ refused n
       → walk step fuel s at g ≡ refused n
   walk-stop s at g inside fuel h n e = walk-turn s at g inside fuel h ∙ ap (λ r. andThen r (λ q. walk step (fuel - 1) s (q .1) (q .0))) e
 
@@ -41,17 +41,17 @@ module _ (step : List ℕ → ℕ → Gathered → Told (Gathered × ℕ)) where
       (λ _. sat-then (λ (q : Gathered × ℕ). P (q .0)) P (step s at g) _ (k at g w) (λ q h. walk-keeps P s k fuel (q .1) (q .0) h))
 
 -- the loop's invariant: the walk from here, with fuel for what is left, is the whole walk
-pub record Walks (step : List ℕ → ℕ → Gathered → Told (Gathered × ℕ)) (s : List ℕ) (whole : Told Gathered) (at : ℕ) (g : Gathered) : Type 0 where
+pub record Walks {N : Type 0} (step : List ℕ → ℕ → Gathered → ToldOf N (Gathered × ℕ)) (s : List ℕ) (whole : ToldOf N Gathered) (at : ℕ) (g : Gathered) : Type 0 where
   pub fuel : ℕ
   pub enough : length s ≤ at + fuel
   pub same : whole ≡ walk step fuel s at g
 
 -- each step ends after its place
-abbrev pub Forward : (List ℕ → ℕ → Gathered → Told (Gathered × ℕ)) → Type 0
+abbrev pub Forward : {N : Type 0} → (List ℕ → ℕ → Gathered → ToldOf N (Gathered × ℕ)) → Type 0
 Forward step = (s : List ℕ) (at : ℕ) (g : Gathered) (q : Gathered × ℕ) → step s at g ≡ given q → at < q .1
 
 -- a turn of the loop
-pub walks-next : (step : List ℕ → ℕ → Gathered → Told (Gathered × ℕ)) → Forward step → {s : List ℕ} {whole : Told Gathered} {at : ℕ} {g : Gathered} (q : Gathered × ℕ)
+pub walks-next : {N : Type 0} (step : List ℕ → ℕ → Gathered → ToldOf N (Gathered × ℕ)) → Forward step → {s : List ℕ} {whole : ToldOf N Gathered} {at : ℕ} {g : Gathered} (q : Gathered × ℕ)
     → Walks step s whole at g → at < length s → step s at g ≡ given q → Walks step s whole (q .1) (q .0)
 walks-next step forward {s} {whole} {at} {g} q w inside e =
     record {

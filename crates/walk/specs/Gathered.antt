@@ -7,11 +7,13 @@ use lib.Dec.{leb}
 use Rattle.wire.specs.Told.{Told, given, refused, line, table}
 use Rattle.field.specs.Refusal.{numberOf}
 use Rattle.field.specs.Signed.{signedOf}
+use Rattle.field.specs.Value.{bytesOf}
+use Rattle.text.specs.WellFormed.{WellFormed}
 use Rattle.field.specs.declared.value.Part.{Part}
 use Rattle.walk.specs.declared.gathered.Gathered.{Gathered}
-use Rattle.walk.specs.declared.gathered.Verdict.{Verdict}
-use Rattle.walk.specs.declared.gathered.Verdict.the-variants.{Fine, Refused}
-use Rattle.walk.specs.declared.gathered.Kept.{Kept}
+use Rattle.walk.specs.declared.gathered.FieldVerdict.{FieldVerdict}
+use Rattle.walk.specs.declared.gathered.FieldVerdict.the-variants.{Fine, Refused}
+use Rattle.walk.specs.declared.gathered.Grown.{Grown}
 
 -- the most transports
 abbrev pub mostTransports : ℕ
@@ -33,6 +35,11 @@ nothing =
 -- all parts that were gathered
 abbrev pub partsGathered : Gathered → List Part
 partsGathered g = g .part ∷ g .texts
+
+-- strings that are well formed
+abbrev pub AllText : List ℕ → List Part → Type 0
+AllText s [] = Unit {0}
+AllText s (p ∷ ps) = WellFormed (bytesOf s p) × AllText s ps
 
 -- a scalar, a string: the last one counts
 abbrev pub withScalar : ℕ → ℕ → Gathered → Gathered
@@ -60,12 +67,12 @@ withTransport v g =
     (given (record { scalars = g .scalars; texts = g .texts; field = g .field; part = g .part; transports = set (g .transports) (g .count) (signedOf v); count = g .count + 1 }))
 
 -- a verdict on a, by the numbers
-abbrev pub judgedAs : {A : Type 0} → Verdict → A → Told A
-judgedAs Fine a = given a
-judgedAs (Refused e) a = refused (numberOf e)
+abbrev pub fieldJudged : {A : Type 0} → FieldVerdict → A → Told A
+fieldJudged Fine a = given a
+fieldJudged (Refused e) a = refused (numberOf e)
 
-abbrev pub toldVerdict : Verdict → Told (Unit {0})
-toldVerdict v = judgedAs v tt
+abbrev pub toldFieldVerdict : FieldVerdict → Told (Unit {0})
+toldFieldVerdict v = fieldJudged v tt
 
-abbrev pub toldKept : Kept → Told Gathered
-toldKept k = judgedAs (k .verdict) (k .gathered)
+abbrev pub toldGrown : Grown → Told Gathered
+toldGrown k = fieldJudged (k .verdict) (k .gathered)

@@ -1,3 +1,4 @@
 pub mod Schema
 pub mod Gathered
+pub mod Refusal
 pub mod Walk

@@ -4,11 +4,12 @@ use mathlib.Core.Bool.{cond, _&&_, not}
 use mathlib.Core.List.{List, [], _∷_}
 use lib.ListN.{length, take}
 use lib.Dec.{leb, eqb}
-use Rattle.wire.specs.Told.{Told, given, refused, andThen, line, table}
+use Rattle.wire.specs.Told.{ToldOf, Told, ToldMore, alone, given, refused, andThen, line, table}
 use Rattle.field.specs.Refusal.{numberOf}
 use Rattle.field.specs.Varint.{varintAt}
 use Rattle.field.specs.Tag.{tagAt}
-use Rattle.field.specs.Value.{valueAt}
+use Rattle.field.specs.Value.{valueAt, bytesOf}
+use Rattle.text.specs.WellFormed.{badPlace}
 use Rattle.field.specs.declared.value.Part.{Part}
 use Rattle.field.specs.declared.value.Value.{Value}
 use Rattle.field.specs.declared.value.Value.the-variants.{Number, Bytes, Skipped}
@@ -22,16 +23,16 @@ use Rattle.walk.specs.declared.reader.Added.the-variants as Added
 use Rattle.walk.specs.declared.reader.FieldRead.{FieldRead}
 use Rattle.walk.specs.declared.reader.FieldRead.the-variants as FieldRead
 use Rattle.walk.specs.Schema.{roleOf, fitsRole, isMember, isRepeated}
-use Rattle.walk.specs.Gathered.{mostRepeated, nothing, withScalar, withText, withMember, withRepeated, withTransport, judgedAs}
+use Rattle.walk.specs.Gathered.{mostRepeated, nothing, withScalar, withText, withMember, withRepeated, withTransport, fieldJudged}
 
 -- steps from a place to the end of the bytes, each one with the place after it; fuel bounds their number, and as many as there are bytes is enough
-abbrev pub walk : (List ℕ → ℕ → Gathered → Told (Gathered × ℕ)) → ℕ → List ℕ → ℕ → Gathered → Told Gathered
+abbrev pub walk : {N : Type 0} → (List ℕ → ℕ → Gathered → ToldOf N (Gathered × ℕ)) → ℕ → List ℕ → ℕ → Gathered → ToldOf N Gathered
 walk step zero s at g = given g
 walk step (suc fuel) s at g =
     cond (leb (length s) at) (given g) (andThen (step s at g) (λ q. walk step fuel s (q .1) (q .0)))
 
 -- what was gathered, with the place after it
-abbrev pub placed : ℕ → Gathered → Told (Gathered × ℕ)
+abbrev pub placed : {N : Type 0} → ℕ → Gathered → ToldOf N (Gathered × ℕ)
 placed n g = given (g, n)
 
 -- one entry of a packed list
@@ -60,7 +61,7 @@ numberAdded Unknown v = Added.Nothing
 
 abbrev pub partAdded : Role → ℕ → Part → Added
 partAdded (Scalar slot) field p = Added.Nothing
-partAdded (Text slot) field p = Added.Text slot p
+partAdded (Text slot) field p = Added.Text field slot p
 partAdded Transports field p = Added.Packed p
 partAdded Nested field p = Added.Member field p
 partAdded Repeated field p = Added.Repeated
@@ -83,27 +84,33 @@ readAt schema s at member count =
     andThen (judged (roleOf schema (h .field)) (h .wire) member count) (λ _.
     addedAt s (h .next) (h .wire) (roleOf schema (h .field)) (h .field)))
 
+-- a string: 36, with its field and the place of its first bad sequence, unless there is none
+unfoldable pub withString : List ℕ → ℕ → ℕ → Part → Gathered → ToldMore Gathered
+withString s field slot p g =
+    let place = badPlace (bytesOf s p) in
+    cond (eqb place (length (bytesOf s p))) (given (withText slot p g)) (refused (36, field ∷ place ∷ []))
+
 -- what was gathered with what a field adds: a packed list is read within its part
-abbrev pub withAdded : List ℕ → Added → Gathered → Told Gathered
+abbrev pub withAdded : List ℕ → Added → Gathered → ToldMore Gathered
 withAdded s Added.Nothing g = given g
 withAdded s (Added.Scalar slot v) g = given (withScalar slot v g)
-withAdded s (Added.Text slot p) g = given (withText slot p g)
+withAdded s (Added.Text field slot p) g = withString s field slot p g
 withAdded s (Added.Member field p) g = given (withMember field p g)
 withAdded s Added.Repeated g = given (withRepeated g)
-withAdded s (Added.Transport v) g = withTransport v g
-withAdded s (Added.Packed p) g = packedFrom (take (p .start + p .len) s) (p .start) g
+withAdded s (Added.Transport v) g = alone (withTransport v g)
+withAdded s (Added.Packed p) g = alone (packedFrom (take (p .start + p .len) s) (p .start) g)
 
 -- one field: what it adds, and what was gathered with that
-unfoldable pub fieldAt : Schema → List ℕ → ℕ → Gathered → Told (Gathered × ℕ)
-fieldAt schema s at g = andThen (readAt schema s at (g .field) (g .count)) (λ a. andThen (withAdded s (a .0) g) (placed (a .1)))
+unfoldable pub fieldAt : Schema → List ℕ → ℕ → Gathered → ToldMore (Gathered × ℕ)
+fieldAt schema s at g = andThen (alone (readAt schema s at (g .field) (g .count))) (λ a. andThen (withAdded s (a .0) g) (placed (a .1)))
 
 -- the fields of a message, from a place to the end
-unfoldable pub fieldsFrom : Schema → List ℕ → ℕ → Told Gathered
+unfoldable pub fieldsFrom : Schema → List ℕ → ℕ → ToldMore Gathered
 fieldsFrom schema s at = walk (fieldAt schema) (length s) s at nothing
 
 -- the answers of read_entry
 abbrev pub toldEntry : EntryRead → Told (Gathered × ℕ)
-toldEntry r = judgedAs (r .verdict) (r .gathered, r .next)
+toldEntry r = fieldJudged (r .verdict) (r .gathered, r .next)
 
 -- the answers of take_value and read_field
 abbrev pub toldField : FieldRead → Told (Added × ℕ)

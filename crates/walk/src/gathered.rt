@@ -1,19 +1,18 @@
 // What is gathered of a message, field by field.
 use crate::schema::FIRST;
 use crate::schema::SECOND;
+use crate::schema::THIRD;
 use field::Refusal;
 use field::signed::low_signed;
 use field::value::Part;
 ghost use mathlib.Core.Path.{_≡_};
 ghost use Prim.Native.Nat.{_<_};
-ghost use Rattle.walk.specs.Gathered.{mostRepeated, nothing, withScalar, withText, withMember, withRepeated, withTransport, toldKept};
+ghost use Rattle.walk.specs.Gathered.{mostRepeated, nothing, withScalar, withText, withMember, withRepeated, withTransport, toldGrown};
 
 // The most transports that are read and written.
 pub const MOST_TRANSPORTS: usize = 8;
 // The most messages of a repeated field that are read and written.
 pub const MOST_REPEATED: usize = 8;
-// The strings that a message can have.
-const TEXTS: usize = 3;
 
 pub struct Gathered {
     pub scalars: [u64; 2],
@@ -26,14 +25,14 @@ pub struct Gathered {
     pub count: usize,
 }
 
-pub enum Verdict {
+pub enum FieldVerdict {
     Fine,
     Refused(Refusal),
 }
 
 // What was gathered stands beside the verdict: an enum cannot hold an array.
-pub struct Kept {
-    pub verdict: Verdict,
+pub struct Grown {
+    pub verdict: FieldVerdict,
     pub gathered: Gathered,
 }
 
@@ -53,7 +52,7 @@ impl Gathered {
         }
     }
 
-    // A scalar: the last one counts. The places are written out: a store at a computed one copies all that is gathered.
+    // A scalar: the last one counts. The places are written out, here and below: a store at a computed one copies all that is gathered.
     pub(crate) fn with_scalar(self, slot: usize, value: u64) -> Gathered
         ensures { λ r. ⌜ r ≡ withScalar slot value self ⌝ }
     {
@@ -74,8 +73,17 @@ impl Gathered {
         ensures { λ r. ⌜ r ≡ withText slot part self ⌝ }
     {
         let mut next = self;
-        if slot < TEXTS {
-            next.texts[slot] = part;
+        if slot == FIRST {
+            next.texts[FIRST] = part;
+            return next;
+        }
+        if slot == SECOND {
+            next.texts[SECOND] = part;
+            return next;
+        }
+        if slot == THIRD {
+            next.texts[THIRD] = part;
+            return next;
         }
         next
     }
@@ -101,8 +109,8 @@ impl Gathered {
     }
 
     // One transport more, unless there are too many.
-    pub(crate) fn with_transport(self, value: u64) -> Kept
-        ensures { λ r. ⌜ toldKept r ≡ withTransport value self ⌝ }
+    pub(crate) fn with_transport(self, value: u64) -> Grown
+        ensures { λ r. ⌜ toldGrown r ≡ withTransport value self ⌝ }
     {
         let n = self.count;
         if n < MOST_TRANSPORTS {
@@ -110,13 +118,13 @@ impl Gathered {
             let mut next = self;
             next.transports[n] = transport;
             next.count = n + 1;
-            return Kept {
-                verdict: Verdict::Fine,
+            return Grown {
+                verdict: FieldVerdict::Fine,
                 gathered: next,
             };
         }
-        Kept {
-            verdict: Verdict::Refused(Refusal::TooMany),
+        Grown {
+            verdict: FieldVerdict::Refused(Refusal::TooMany),
             gathered: self,
         }
     }

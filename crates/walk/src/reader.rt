@@ -1,8 +1,11 @@
 // The reader of fields, for every message.
+use crate::gathered::FieldVerdict;
 use crate::gathered::Gathered;
-use crate::gathered::Kept;
+use crate::gathered::Grown;
 use crate::gathered::MOST_REPEATED;
-use crate::gathered::Verdict;
+use crate::refusal::Kept;
+use crate::refusal::MessageRefusal;
+use crate::refusal::Verdict;
 use crate::schema::Role;
 use crate::schema::Schema;
 use crate::schema::fits_role;
@@ -18,15 +21,19 @@ use field::value::ValueRead;
 use field::value::read_value;
 use field::varint::Varint;
 use field::varint::read_varint;
+use text::check::bad_place;
 ghost use mathlib.Core.Path.{_≡_};
 ghost use Prim.Native.Nat.{_+_, _≤_};
 ghost use lib.ListN.{length, take};
-ghost use Rattle.walk.specs.Gathered.{toldKept, toldVerdict};
+ghost use Rattle.field.specs.Value.{bytesOf};
+ghost use Rattle.text.specs.WellFormed.{badPlace};
+ghost use Rattle.walk.specs.Gathered.{toldGrown, toldFieldVerdict};
+ghost use Rattle.walk.specs.Refusal.{toldKept, judgedAs};
 ghost use Rattle.walk.specs.Walk.{entryAt, packedFrom, judged, numberAdded, partAdded, valueAdded, addedAt, readAt, fieldsFrom, toldEntry, toldField};
 
 // What was gathered, and the place after what was read.
 pub struct EntryRead {
-    pub verdict: Verdict,
+    pub verdict: FieldVerdict,
     pub gathered: Gathered,
     pub next: usize,
 }
@@ -35,7 +42,7 @@ pub struct EntryRead {
 pub enum Added {
     Nothing,
     Scalar { slot: usize, value: u64 },
-    Text { slot: usize, part: Part },
+    Text { field: u64, slot: usize, part: Part },
     Member { field: u64, part: Part },
     // A message of a repeated field.
     Repeated,
@@ -51,19 +58,19 @@ pub enum FieldRead {
 }
 
 // Whether a field of this role and wire type may stand here; member is the member's field so far, count the messages of a repeated field.
-fn judge(role: Role, wire: u64, member: u64, count: usize) -> Verdict
-    ensures { λ r. ⌜ toldVerdict r ≡ judged role wire member count ⌝ }
+fn judge(role: Role, wire: u64, member: u64, count: usize) -> FieldVerdict
+    ensures { λ r. ⌜ toldFieldVerdict r ≡ judged role wire member count ⌝ }
 {
     if !fits_role(role, wire) {
-        return Verdict::Refused(Refusal::WrongType);
+        return FieldVerdict::Refused(Refusal::WrongType);
     }
     if wire::logic::both(is_member(role, wire), member != 0) {
-        return Verdict::Refused(Refusal::TooMany);
+        return FieldVerdict::Refused(Refusal::TooMany);
     }
     if wire::logic::both(is_repeated(role), MOST_REPEATED <= count) {
-        return Verdict::Refused(Refusal::TooMany);
+        return FieldVerdict::Refused(Refusal::TooMany);
     }
-    Verdict::Fine
+    FieldVerdict::Fine
 }
 
 // One entry of a packed list.
@@ -72,7 +79,7 @@ fn read_entry(message: &[u8], at: usize, gathered: Gathered) -> EntryRead
 {
     match read_varint(message, at) {
         Varint::Refused(e) => EntryRead {
-            verdict: Verdict::Refused(e),
+            verdict: FieldVerdict::Refused(e),
             gathered,
             next: at,
         },
@@ -90,8 +97,8 @@ fn read_entry(message: &[u8], at: usize, gathered: Gathered) -> EntryRead
 }
 
 // The entries of a packed list, from a place to the end.
-fn read_packed(message: &[u8], from: usize, gathered: Gathered) -> Kept
-    ensures { λ r. ⌜ toldKept r ≡ packedFrom (now (message .entry)) from gathered ⌝ }
+fn read_packed(message: &[u8], from: usize, gathered: Gathered) -> Grown
+    ensures { λ r. ⌜ toldGrown r ≡ packedFrom (now (message .entry)) from gathered ⌝ }
 {
     let mut so_far = gathered;
     let mut at = from;
@@ -99,29 +106,29 @@ fn read_packed(message: &[u8], from: usize, gathered: Gathered) -> Kept
         let moved = read_entry(message, at, so_far);
         let verdict = moved.verdict;
         match verdict {
-            Verdict::Refused(e) => {
-                return Kept {
-                    verdict: Verdict::Refused(e),
+            FieldVerdict::Refused(e) => {
+                return Grown {
+                    verdict: FieldVerdict::Refused(e),
                     gathered: so_far,
                 };
             }
-            Verdict::Fine => {
+            FieldVerdict::Fine => {
                 let grown = moved.gathered;
                 so_far = grown;
                 at = moved.next;
             }
         }
     }
-    Kept {
-        verdict: Verdict::Fine,
+    Grown {
+        verdict: FieldVerdict::Fine,
         gathered: so_far,
     }
 }
 
 // The packed list in a part of the message.
-fn keep_packed(message: &[u8], gathered: Gathered, part: Part) -> Kept
+fn keep_packed(message: &[u8], gathered: Gathered, part: Part) -> Grown
     requires { ⌜ part .start + part .len ≤ length (now message) ⌝ }
-    ensures { λ r. ⌜ toldKept r
+    ensures { λ r. ⌜ toldGrown r
         ≡ packedFrom (take (part .start + part .len) (now (message .entry))) (part .start) gathered ⌝ }
 {
     let start = part.start;
@@ -150,7 +157,7 @@ fn part_added(role: Role, field: u64, part: Part) -> Added
 {
     match role {
         Role::Scalar(_) => Added::Nothing,
-        Role::Text(slot) => Added::Text { slot, part },
+        Role::Text(slot) => Added::Text { field, slot, part },
         Role::Transports => Added::Packed(part),
         Role::Nested => Added::Member { field, part },
         Role::Repeated => Added::Repeated,
@@ -192,11 +199,21 @@ fn read_field(schema: Schema, message: &[u8], at: usize, member: u64, count: usi
         Tag::Tagged(head) => {
             let role = role_of(schema, head.field);
             match judge(role, head.wire, member, count) {
-                Verdict::Refused(e) => FieldRead::Refused(e),
-                Verdict::Fine => take_value(message, head.next, head.wire, role, head.field),
+                FieldVerdict::Refused(e) => FieldRead::Refused(e),
+                FieldVerdict::Fine => take_value(message, head.next, head.wire, role, head.field),
             }
         }
     }
+}
+
+// The place of the first bad sequence of a string in the message; its length where there is none.
+fn text_place(message: &[u8], part: Part) -> usize
+    requires { ⌜ part .start + part .len ≤ length (now message) ⌝ }
+    ensures { λ r. ⌜ r ≡ badPlace (bytesOf (now (message .entry)) part) ⌝ }
+{
+    let start = part.start;
+    let end = start + part.len;
+    bad_place(&message[start..end])
 }
 
 fn fine(gathered: Gathered) -> Kept
@@ -209,10 +226,21 @@ fn fine(gathered: Gathered) -> Kept
 }
 
 fn stop(e: Refusal, gathered: Gathered) -> Kept
-    ensures { λ r. ⌜ r ≡ record { verdict = Verdict.Refused e; gathered = gathered } ⌝ }
+    ensures { λ r. ⌜ r ≡ record { verdict = Verdict.Refused (MessageRefusal.Field e); gathered = gathered } ⌝ }
 {
+    let why = MessageRefusal::Field(e);
     Kept {
-        verdict: Verdict::Refused(e),
+        verdict: Verdict::Refused(why),
+        gathered,
+    }
+}
+
+fn stop_text(field: u64, place: usize, gathered: Gathered) -> Kept
+    ensures { λ r. ⌜ r ≡ record { verdict = Verdict.Refused (MessageRefusal.BadText field place); gathered = gathered } ⌝ }
+{
+    let why = MessageRefusal::BadText { field, place };
+    Kept {
+        verdict: Verdict::Refused(why),
         gathered,
     }
 }
@@ -230,7 +258,13 @@ pub fn read_fields(schema: Schema, message: &[u8], from: usize) -> Kept
                 match added {
                     Added::Nothing => {}
                     Added::Scalar { slot, value } => so_far = so_far.with_scalar(slot, value),
-                    Added::Text { slot, part } => so_far = so_far.with_text(slot, part),
+                    Added::Text { field, slot, part } => {
+                        let place = text_place(message, part);
+                        if place != part.len {
+                            return stop_text(field, place, so_far);
+                        }
+                        so_far = so_far.with_text(slot, part);
+                    }
                     Added::Member { field, part } => so_far = so_far.with_member(field, part),
                     Added::Repeated => so_far = so_far.with_repeated(),
                     Added::Transport(value) => {
@@ -238,7 +272,7 @@ pub fn read_fields(schema: Schema, message: &[u8], from: usize) -> Kept
                         let verdict = kept.verdict;
                         let grown = kept.gathered;
                         so_far = grown;
-                        if let Verdict::Refused(e) = verdict {
+                        if let FieldVerdict::Refused(e) = verdict {
                             return stop(e, so_far);
                         }
                     }
@@ -247,7 +281,7 @@ pub fn read_fields(schema: Schema, message: &[u8], from: usize) -> Kept
                         let verdict = kept.verdict;
                         let grown = kept.gathered;
                         so_far = grown;
-                        if let Verdict::Refused(e) = verdict {
+                        if let FieldVerdict::Refused(e) = verdict {
                             return stop(e, so_far);
                         }
                     }

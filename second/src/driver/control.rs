@@ -1,7 +1,7 @@
 //! Control messages: random ones of known and unknown fields, damaged and truncated; what is read
 //! is written back and read again; and the writers on arguments of their own.
 
-use super::{damage, edge, Plan};
+use super::{damage, edge, text, Plan};
 use crate::comparison::{Compared, Comparison};
 use crate::control::LAST_FIELD;
 use crate::implementation::{Call, Operation};
@@ -99,7 +99,7 @@ fn content(rng: &mut Rng, depth: u64) -> Vec<u8> {
         0 => {}
         1 => {
             let size = rng.index(12);
-            content = rng.bytes(size);
+            content = text(rng, size);
         }
         2 | 3 if depth > 0 => content = fields(rng, depth - 1),
         4 => {
@@ -108,7 +108,7 @@ fn content(rng: &mut Rng, depth: u64) -> Vec<u8> {
             } else {
                 3
             };
-            content = rng.bytes(size);
+            content = text(rng, size);
         }
         _ => {
             // A packed list.
@@ -347,14 +347,14 @@ impl Desk {
             1 => rng.below(LAST_FIELD) + 1,
             _ => edge(rng),
         };
-        let text = |rng: &mut Rng| {
+        let string = |rng: &mut Rng| {
             let size = match rng.below(200) {
                 0 => rng.between(4_090, 5_000),
                 1..=9 => rng.between(120, 135),
                 10..=60 => 0,
                 _ => rng.index(20),
             };
-            rng.bytes(size)
+            text(rng, size)
         };
         match kind {
             0 => {
@@ -364,11 +364,11 @@ impl Desk {
                     rng.below(3)
                 };
                 writer.numbers = vec![signed(rng), payload, signed(rng), number(rng)];
-                writer.inputs = vec![text(rng)];
+                writer.inputs = vec![string(rng)];
             }
             1 => {
                 writer.numbers = vec![signed(rng), number(rng)];
-                writer.inputs = vec![text(rng)];
+                writer.inputs = vec![string(rng)];
             }
             2 => {
                 let count = if rng.once_in(3) {
@@ -380,7 +380,7 @@ impl Desk {
                 writer.numbers = (0..count)
                     .map(|_| if usual { rng.below(3) } else { signed(rng) })
                     .collect();
-                writer.inputs = vec![text(rng), text(rng), text(rng)];
+                writer.inputs = vec![string(rng), string(rng), string(rng)];
             }
             _ => {
                 writer.numbers = vec![value(rng), value(rng)];

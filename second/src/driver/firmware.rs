@@ -4,7 +4,7 @@
 
 use super::control::{value, varint_wrong};
 use super::worked::{blank, bytes, wrote};
-use super::{damage, edge, Plan};
+use super::{damage, edge, text, Plan};
 use crate::comparison::{Compared, Comparison};
 use crate::control::LAST_FIELD;
 use crate::firmware::{COMPONENTS, SIGNATURE};
@@ -15,6 +15,8 @@ use crate::rng::Rng;
 const AHEAD: usize = 9;
 const EACH: usize = 6;
 const ROW: usize = AHEAD + EACH * COMPONENTS;
+/// The numbers that are told: what goes with a refusal stands behind the row.
+const TOLD: usize = ROW + 2;
 /// Where the row has the number of components.
 const COUNT: usize = 8;
 
@@ -58,42 +60,49 @@ fn worked(c: &mut Comparison<'_>) -> Compared<()> {
         .inputs(&[&[], &digits])
         .lent(blank(80));
     c.expect(&mut call, 0, |call| wrote(call, &plain))?;
-    let taken: [(Vec<u8>, [u64; 7]); 2] = [
-        (plain, [0, 0, 0, 7, 4, 64, 0]),
+    let taken: [(Vec<u8>, [u64; 8]); 2] = [
+        (plain, [0, 0, 0, 7, 4, 64, 0, 0]),
         // The last offset is 2^32, whose low 32 bits are 0.
         (
             with_digits("10 01 10 80 80 80 80 10 22 40"),
-            [0, 0, 0, 0, 10, 64, 0],
+            [0, 0, 0, 0, 10, 64, 0, 0],
         ),
     ];
     for (message, told) in taken {
         let mut call = Call::new(Operation::SegmentRead).inputs(&[&message]);
         c.expect(&mut call, 0, |call| call.answer == told)?;
     }
-    for (message, returned, field) in [("10 01", 50, 2), ("", 50, 4), ("10 01 22", 30, 0)] {
+    for (message, returned, field, place) in [
+        ("10 01", 50, 2, 0),
+        ("", 50, 4, 0),
+        ("10 01 22", 30, 0, 0),
+        // A string is judged when its field ends, before the profile and before what follows it.
+        ("10 01 0A 04 41 E2 82 41 22", 36, 1, 1),
+        ("22 01 C3", 36, 4, 0),
+    ] {
         let mut call = Call::new(Operation::SegmentRead).inputs(&[&bytes(message)]);
         c.expect(&mut call, returned, |call| {
-            call.answer == [0, 0, 0, 0, 0, 0, field]
+            call.answer == [0, 0, 0, 0, 0, 0, field, place]
         })?;
     }
 
     c.at = "an ApplyFirmware by hand".to_string();
     for (restart, count, message) in [(0, 0, "0A 00"), (1, 2, "0A 04 1A 00 1A 00 10 01")] {
         let message = bytes(message);
-        let mut row = [0; ROW];
+        let mut row = [0; TOLD];
         (row[0], row[COUNT]) = (restart, count);
         let mut call = Call::new(Operation::ApplyWrite)
-            .numbers(&row)
+            .numbers(&row[..ROW])
             .lent(blank(12));
         c.expect(&mut call, 0, |call| wrote(call, &message))?;
         let mut call = Call::new(Operation::ApplyRead).inputs(&[&message]);
         c.expect(&mut call, 0, |call| call.answer == row)?;
     }
     let mut call = Call::new(Operation::ApplyRead);
-    c.expect(&mut call, 0, |call| call.answer == [0; ROW])?;
+    c.expect(&mut call, 0, |call| call.answer == [0; TOLD])?;
     let mut call = Call::new(Operation::ApplyRead).inputs(&[&bytes("10 80 80 80 80 10")]);
     c.expect(&mut call, 0, |call| {
-        call.answer[0] == 1 && call.answer[1..] == [0; ROW - 1]
+        call.answer[0] == 1 && call.answer[1..] == [0; TOLD - 1]
     })?;
     for (message, returned) in [
         ("0A 00 0A", 34),
@@ -108,8 +117,24 @@ fn worked(c: &mut Comparison<'_>) -> Compared<()> {
         ("0A 02 1A 05", 30),
     ] {
         let mut call = Call::new(Operation::ApplyRead).inputs(&[&bytes(message)]);
-        c.expect(&mut call, returned, |call| call.answer == [0; ROW])?;
+        c.expect(&mut call, returned, |call| call.answer == [0; TOLD])?;
     }
+
+    // The locale is C3 and the component is named 41 80: reading goes through the outer message first,
+    // writing in writing order.
+    let message = bytes("0A 09 1A 04 12 02 41 80 22 01 C3");
+    let mut call = Call::new(Operation::ApplyRead).inputs(&[&message]);
+    c.expect(&mut call, 36, |call| {
+        call.answer[..ROW] == [0; ROW] && call.answer[ROW..] == [4, 0]
+    })?;
+    let mut row = [0; ROW];
+    (row[4], row[5], row[COUNT]) = (2, 1, 1);
+    row[AHEAD + 2] = 2;
+    let mut call = Call::new(Operation::ApplyWrite)
+        .numbers(&row)
+        .inputs(&[&bytes("41 80 C3")])
+        .lent(blank(2));
+    c.expect(&mut call, 36, |call| call.answer == [0, 2, 1])?;
 
     c.at = "fields by hand".to_string();
     let message =
@@ -149,6 +174,8 @@ const PIECES: &[&str] = &[
     "1A",
     "1A 01 0D",
     "22 01 61",
+    "22 01 C3",
+    "12 02 C3 A9",
     "20 00",
     "2A 00",
     "28 00",
@@ -230,7 +257,7 @@ fn string(rng: &mut Rng) -> Vec<u8> {
         1..=12 => 0,
         _ => rng.index(12),
     };
-    rng.bytes(size)
+    text(rng, size)
 }
 
 /// Makes messages in which something is wrong once in `odds` places, nowhere if that is 0.
@@ -538,7 +565,7 @@ impl Desk {
         self.apply_read.inputs[0] = message.to_vec();
         if c.run(&mut self.apply_read)? == 0 {
             let told = self.apply_read.answer.clone();
-            self.apply_write.numbers.clone_from(&told);
+            self.apply_write.numbers = told[..ROW].to_vec();
             self.apply_write.inputs[0] = message.to_vec();
             let again = written(c, rng, &mut self.apply_write, message.len() + 2)?;
             self.apply_read.inputs[0].clone_from(&again);
@@ -591,7 +618,7 @@ impl Desk {
         call.lent.clear();
         call.lent.resize(rng.index(most), 0x55);
         if matches!(c.run(call)?, 0 | 14) {
-            let told = [0, call.inputs[0].len() as u64, 0, size, 0, 64, 0];
+            let told = [0, call.inputs[0].len() as u64, 0, size, 0, 64, 0, 0];
             let given = call.inputs.clone();
             let message = written(c, rng, call, most)?;
             self.segment_read.inputs[0].clone_from(&message);
@@ -599,7 +626,7 @@ impl Desk {
                 let text = |start: usize| {
                     &message[call.answer[start] as usize..][..call.answer[start + 1] as usize]
                 };
-                (0..7).all(|cell| [0, 4].contains(&cell) || call.answer[cell] == told[cell])
+                (0..8).all(|cell| [0, 4].contains(&cell) || call.answer[cell] == told[cell])
                     && text(0) == given[0]
                     && text(4) == given[1]
             })?;
@@ -615,7 +642,8 @@ impl Desk {
             4..=6 => 0,
             _ => rng.index(40),
         };
-        let texts = rng.bytes(size);
+        let texts = text(rng, size);
+        let size = texts.len();
         let mut row = row(rng, size);
         if rng.once_in(3) {
             let place = rng.index(ROW);

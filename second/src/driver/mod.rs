@@ -11,6 +11,7 @@ pub mod parts;
 pub mod rooms;
 pub mod sizes;
 pub mod streams;
+pub mod strings;
 pub mod worked;
 
 use crate::comparison::{Compared, Comparison};
@@ -66,6 +67,10 @@ pub const PARTS: &[Part] = &[
     Part {
         name: "packets of two streams in either order",
         run: orders::run,
+    },
+    Part {
+        name: "strings",
+        run: strings::run,
     },
     Part {
         name: "control messages",
@@ -191,4 +196,40 @@ pub fn edge(rng: &mut Rng) -> u64 {
     } else {
         *rng.pick(EDGES)
     }
+}
+
+/// A string of about `size` bytes: mostly ASCII or sequences of all lengths, sometimes with a few
+/// bytes damaged, rarely any bytes.
+fn text(rng: &mut Rng, size: usize) -> Vec<u8> {
+    let plain = rng.once_in(2);
+    if rng.once_in(16) {
+        return rng.bytes(size);
+    }
+    let mut made = String::new();
+    while made.len() < size {
+        let code = match rng.below(if plain { 1 } else { 4 }) {
+            0 => rng.below(0x80),
+            1 => *rng.pick(&[
+                0x80, 0x7FF, 0x800, 0xD7FF, 0xE000, 0xFFFF, 0x1_0000, 0x10_FFFF,
+            ]),
+            2 => rng.below(0x1_0000),
+            _ => rng.below(0x11_0000),
+        };
+        made.extend(char::from_u32(code as u32));
+    }
+    let mut made = made.into_bytes();
+    if rng.once_in(16) && !made.is_empty() {
+        let place = rng.index(made.len());
+        match rng.below(3) {
+            0 => made.truncate(place),
+            1 => drop(made.remove(place)),
+            _ => {
+                made[place] = *rng.pick(&[
+                    0x80, 0x8F, 0x90, 0x9F, 0xA0, 0xBF, 0xC0, 0xC1, 0xC2, 0xE0, 0xED, 0xF0, 0xF4,
+                    0xF5, 0xFF,
+                ]);
+            }
+        }
+    }
+    made
 }

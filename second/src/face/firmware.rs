@@ -1,9 +1,9 @@
 //! The face of the firmware messages and of the reader of any field.
 
-use super::{ask, part_out, wide, wish_in, Refused};
+use super::{ask, fault_out, part_out, wide, wish_in};
 use crate::control::Wire;
 use crate::field::{Content, Field};
-use crate::firmware::{self, Apply, Broken, Component, Information, Segment, COMPONENTS};
+use crate::firmware::{self, Apply, Component, Information, Segment, COMPONENTS};
 use crate::refusal::Refusal;
 use std::ops::Range;
 
@@ -25,16 +25,10 @@ fn part_in(start: u64, length: u64) -> Result<Range<usize>, Refusal> {
     Ok(place(start)?..place(end)?)
 }
 
-/// The field that goes with 50 stands in the row's last number.
-fn broken_out<const N: usize>(broken: Broken) -> Refused {
-    let told = broken.field.map(|field| (N - 1, field));
-    Refused(broken.refusal, told)
-}
-
-/// Answer `name.start, .length, offset, size, signature.start, .length, field`.
+/// Answer `name.start, .length, offset, size, signature.start, .length, field, place`.
 pub fn segment_read(message: &[u8], answer: &mut [u64]) -> u64 {
     ask(answer, || {
-        let told = Segment::read(message).map_err(broken_out::<7>)?;
+        let told = Segment::read(message).map_err(fault_out::<8>)?;
         let [name, name_length] = part_out(&told.component_name);
         let [signature, signature_length] = part_out(&told.segment_signature);
         Ok([
@@ -45,11 +39,12 @@ pub fn segment_read(message: &[u8], answer: &mut [u64]) -> u64 {
             signature,
             signature_length,
             0,
+            0,
         ])
     })
 }
 
-/// Answer `written, field`.
+/// Answer `written, field, place`.
 pub fn segment_write(
     name: &[u8],
     offset: u64,
@@ -61,26 +56,29 @@ pub fn segment_write(
     ask(answer, || {
         let (offset, size) = (unsigned_in(offset)?, unsigned_in(size)?);
         let written = firmware::write_segment(name, offset, size, signature, output)
-            .map_err(broken_out::<2>)?;
-        Ok([wide(written), 0])
+            .map_err(fault_out::<3>)?;
+        Ok([wide(written), 0, 0])
     })
 }
 
 /// Answer `restart_required, version, name.start, .length, locale.start, .length,
 /// version_name.start, .length, components` and eight times `version, name.start, .length, size,
-/// signature.start, .length`, 0 where there are fewer.
+/// signature.start, .length`, 0 where there are fewer, then `field, place`.
 pub fn apply_read(message: &[u8], answer: &mut [u64]) -> u64 {
     ask(answer, || {
-        let told = Apply::read(message)?;
+        let told = Apply::read(message).map_err(fault_out::<{ ROW + 2 }>)?;
         let information = &told.information;
-        let mut row = [0; ROW];
+        let mut row = [0; ROW + 2];
         row[0] = u64::from(told.restart_required);
         row[1] = u64::from(information.version);
         row[2..4].copy_from_slice(&part_out(&information.name));
         row[4..6].copy_from_slice(&part_out(&information.locale));
         row[6..8].copy_from_slice(&part_out(&information.version_name));
         row[8] = wide(information.components.len());
-        for (cells, component) in row[AHEAD..].chunks_mut(EACH).zip(&information.components) {
+        for (cells, component) in row[AHEAD..ROW]
+            .chunks_mut(EACH)
+            .zip(&information.components)
+        {
             cells[0] = u64::from(component.version);
             cells[1..3].copy_from_slice(&part_out(&component.name));
             cells[3] = u64::from(component.size);
@@ -121,12 +119,14 @@ fn apply_in(row: &[u64; ROW]) -> Result<Apply, Refusal> {
     })
 }
 
-/// The row as the reader tells it, its parts places in the texts; answer `written`.
+/// The row as the reader tells it, without field and place, its parts places in the texts; answer
+/// `written, field, place`.
 pub fn apply_write(row: &[u64], texts: &[u8], output: &mut [u8], answer: &mut [u64]) -> u64 {
     ask(answer, || {
         let row = row.try_into().map_err(|_| Refusal::Lent)?;
-        let written = firmware::write_apply(texts, &apply_in(row)?, output)?;
-        Ok([wide(written)])
+        let written =
+            firmware::write_apply(texts, &apply_in(row)?, output).map_err(fault_out::<3>)?;
+        Ok([wide(written), 0, 0])
     })
 }
 

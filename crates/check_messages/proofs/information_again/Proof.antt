@@ -46,8 +46,8 @@ bytes-of-requires-3 c κs = search needs
 write-information-requires : tie.Need-write-information-requires
 write-information-requires c κs = search needs
 
-show-requires : tie.Need-show-requires
-show-requires c κs = information-size (c .before .before .before .write-information .result) _ _ _ _ _ _ (c .before .before .before .write-information .ensures)
+show-text-requires : tie.Need-show-text-requires
+show-text-requires c κs = information-size (c .before .before .before .write-information .result) _ _ _ _ _ _ (c .before .before .before .write-information .ensures)
 
 returns : tie.Need-returns
 returns c = search needs
@@ -73,7 +73,7 @@ information-again-spec =
     slice-aggregate-write-information
     bytes-of-requires-3
     write-information-requires
-    show-requires
+    show-text-requires
     returns
     same-length
     returns-2)

@@ -16,23 +16,8 @@ read-information-requires c κs = search needs
 verdict-number-requires : tie.Need-verdict-number-requires
 verdict-number-requires c κs = search needs
 
-parts-row-requires : tie.Need-parts-row-requires
-parts-row-requires c κs = search needs
-
-slice-aggregate-transports-row : tie.Need-slice-aggregate-transports-row
-slice-aggregate-transports-row c = search needs
-
-transports-row-requires : tie.Need-transports-row-requires
-transports-row-requires c κs = search needs
-
-slice-aggregate-put-both : tie.Need-slice-aggregate-put-both
-slice-aggregate-put-both c = search needs
-
-slice-aggregate-put-both-2 : tie.Need-slice-aggregate-put-both-2
-slice-aggregate-put-both-2 c = search needs
-
-put-both-requires : tie.Need-put-both-requires
-put-both-requires c κs = search needs
+put-information-requires : tie.Need-put-information-requires
+put-information-requires c κs = search needs
 
 same-length : tie.Need-same-length
 same-length c = search needs
@@ -40,17 +25,15 @@ same-length c = search needs
 returns-2 : tie.Need-returns-2
 unfolding informationReadOf
 returns-2 c =
-    let s = c .before .before .before .before .before .before .before .before .before .before .before .before in
+    let s = c .before .before .before .before .before .before in
     let told = informationOf (s .before .before .before .before .args .message .now) in
     let read = s .read-information .result in
     rw (
       eq-eqb _ _ (s .before .if1 .left),
       ← (read-number (read .verdict) (read .information) told (s .read-information .ensures .0)),
       ← (read-row (read .verdict) (read .information) told (s .read-information .ensures .0)),
-      c .before .before .put-both .ensures,
-      c .before .before .before .before .before .before .before .before .before .before .verdict-number .ensures,
-      c .before .before .before .before .before .before .before .before .before .parts-row .ensures,
-      c .before .before .before .before .before .before .transports-row .ensures,
+      c .before .before .put-information .ensures,
+      c .before .before .before .before .verdict-number .ensures,
     )
 
 pub information-read-spec : {M : Type 1} → statement M
@@ -60,11 +43,6 @@ information-read-spec =
     returns
     read-information-requires
     verdict-number-requires
-    parts-row-requires
-    slice-aggregate-transports-row
-    transports-row-requires
-    slice-aggregate-put-both
-    slice-aggregate-put-both-2
-    put-both-requires
+    put-information-requires
     same-length
     returns-2)

@@ -11,14 +11,8 @@ returns : tie.Need-returns
 unfolding informationWriteOf
 returns c = rw (ne-eqb _ _ (c .if1 .taken))
 
-number-requires : tie.Need-number-requires
-number-requires c κs = search needs
-
-none-requires : tie.Need-none-requires
-none-requires c κs = search needs
-
-tell-requires : tie.Need-tell-requires
-tell-requires c κs = search needs
+tell-wrote-requires : tie.Need-tell-wrote-requires
+tell-wrote-requires c κs = search needs
 
 same-length : tie.Need-same-length
 same-length c = search needs
@@ -26,27 +20,19 @@ same-length c = search needs
 returns-2 : tie.Need-returns-2
 unfolding informationWriteOf
 returns-2 c =
-    let a = c .before .before .before .before .before .before .before .before .before .before .before .before .before .before .args in
+    let a = c .before .before .before .before .before .before .before .before .before .before .before .before .args in
     rw (
-      eq-eqb _ _ (c .before .before .before .before .before .before .before .if1 .left),
-      too-many (a .serial-number .now) (a .name .now) (a .device-type .now) (a .transports .now) (a .output .now) (allSigned (a .transports .now)) (c .before .before .before .before .before .before .if2 .taken),
-      c .before .before .tell .ensures .0,
-      c .before .before .tell .ensures .1,
-      c .before .before .before .none .ensures,
-      c .before .before .before .before .number .ensures,
+      eq-eqb _ _ (c .before .before .before .before .before .if1 .left),
+      too-many (a .serial-number .now) (a .name .now) (a .device-type .now) (a .transports .now) (a .output .now) (allSigned (a .transports .now)) (c .before .before .before .before .if2 .taken),
+      c .before .before .tell-wrote .ensures .0,
+      c .before .before .tell-wrote .ensures .1,
     )
 
 all-signed-requires : tie.Need-all-signed-requires
 all-signed-requires c κs = search needs
 
-number-requires-2 : tie.Need-number-requires-2
-number-requires-2 c κs = search needs
-
-none-requires-2 : tie.Need-none-requires-2
-none-requires-2 c κs = search needs
-
-tell-requires-2 : tie.Need-tell-requires-2
-tell-requires-2 c κs = search needs
+tell-wrote-requires-2 : tie.Need-tell-wrote-requires-2
+tell-wrote-requires-2 c κs = search needs
 
 same-length-2 : tie.Need-same-length-2
 same-length-2 c = search needs
@@ -55,13 +41,11 @@ returns-3 : tie.Need-returns-3
 unfolding informationWriteOf
 returns-3 c =
     rw (
-      eq-eqb _ _ (c .before .before .before .before .before .before .before .before .before .if1 .left),
-      ← (c .before .before .before .before .before .before .before .all-signed .ensures),
-      not-true (c .before .before .before .before .before .before .before .all-signed .result) (c .before .before .before .before .before .before .if3 .taken),
-      c .before .before .tell2 .ensures .0,
-      c .before .before .tell2 .ensures .1,
-      c .before .before .before .none2 .ensures,
-      c .before .before .before .before .number2 .ensures,
+      eq-eqb _ _ (c .before .before .before .before .before .before .before .if1 .left),
+      ← (c .before .before .before .before .before .all-signed .ensures),
+      not-true (c .before .before .before .before .before .all-signed .result) (c .before .before .before .before .if3 .taken),
+      c .before .before .tell-wrote2 .ensures .0,
+      c .before .before .tell-wrote2 .ensures .1,
     )
 
 signed-list-requires : tie.Need-signed-list-requires
@@ -76,11 +60,8 @@ slice-aggregate-write-information c = rw (c .before .before .signed-list .ensure
 write-information-requires : tie.Need-write-information-requires
 write-information-requires c κs = search needs
 
-count-of-requires : tie.Need-count-of-requires
-count-of-requires c κs = search needs
-
-tell-requires-3 : tie.Need-tell-requires-3
-tell-requires-3 c κs = search needs
+tell-wrote-requires-3 : tie.Need-tell-wrote-requires-3
+tell-wrote-requires-3 c κs = search needs
 
 same-length-3 : tie.Need-same-length-3
 same-length-3 c = search needs
@@ -92,14 +73,13 @@ returns-4 : tie.Need-returns-4
 unfolding informationWriteOf
 returns-4 c =
     rw (
-      eq-eqb _ _ (c .before .before .before .before .before .before .before .before .before .before .before .before .before .before .if1 .left),
-      ← (c .before .before .before .before .before .before .before .before .before .before .before .before .all-signed .ensures),
-      not-false (c .before .before .before .before .before .before .before .before .before .before .before .before .all-signed .result) (c .before .before .before .before .before .before .before .before .before .before .before .if3 .left),
-      ← (c .before .before .before .before .before .before .before .before .before .before .signed-list .ensures),
-      ← (c .before .before .before .before .before .before .before .write-information .ensures),
-      c .before .before .tell3 .ensures .0,
-      c .before .before .tell3 .ensures .1,
-      c .before .before .before .count-of .ensures,
+      eq-eqb _ _ (c .before .before .before .before .before .before .before .before .before .before .before .before .before .if1 .left),
+      ← (c .before .before .before .before .before .before .before .before .before .before .before .all-signed .ensures),
+      not-false (c .before .before .before .before .before .before .before .before .before .before .before .all-signed .result) (c .before .before .before .before .before .before .before .before .before .before .if3 .left),
+      ← (c .before .before .before .before .before .before .before .before .before .signed-list .ensures),
+      ← (c .before .before .before .before .before .before .write-information .ensures),
+      c .before .before .tell-wrote3 .ensures .0,
+      c .before .before .tell-wrote3 .ensures .1,
     )
 
 pub information-write-spec : {M : Type 1} → statement M
@@ -107,23 +87,18 @@ information-write-spec =
     tie.close
     (tie.spec
     returns
-    number-requires
-    none-requires
-    tell-requires
+    tell-wrote-requires
     same-length
     returns-2
     all-signed-requires
-    number-requires-2
-    none-requires-2
-    tell-requires-2
+    tell-wrote-requires-2
     same-length-2
     returns-3
     signed-list-requires
     array-share-prefix-list
     slice-aggregate-write-information
     write-information-requires
-    count-of-requires
-    tell-requires-3
+    tell-wrote-requires-3
     same-length-3
     same-length-4
     returns-4)

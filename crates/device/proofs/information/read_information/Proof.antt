@@ -2,13 +2,15 @@ use Prim.Native.Nat.{zero-le}
 use mathlib.Core.Path.{_≡_, ap, sym, _∙_}
 use denote.Ref.{now}
 use Rattle.wire.specs.Told.{given, refused}
-use Rattle.field.specs.Refusal.{numberOf}
 use Rattle.walk.specs.declared.schema.Schema.the-variants as Schema
 use Rattle.field.proofs.Places.{within-get}
 use Rattle.walk.specs.Schema.{first, second, third}
-use Rattle.walk.specs.Gathered.{noPart, judgedAs}
+use Rattle.walk.specs.Gathered.{noPart}
+use Rattle.walk.specs.Refusal.{whyOf, judgedAs}
 use Rattle.walk.specs.Walk.{fieldsFrom}
 use Rattle.device.specs.Information.{informationOf}
+use Rattle.text.specs.WellFormed.{empty}
+use Rattle.walk.proofs.Strings.{text-get}
 use Rattle.walk.proofs.Steps.{fields-within}
 use borrow.Author.Needs.{needs}
 use Rattle.device.proofs.information.read_information.Statement.{statement}
@@ -29,7 +31,7 @@ read c =
     let k = c .before .before .read-fields in
     sym (k .ensures) ∙ ap (λ v. judgedAs v (k .result .gathered)) (c .enum-told .given .1)
 
-refuses : (c : tie.After-verdict) → fieldsFrom Schema.Information (now (c .before .before .before .before .args .message)) 0 ≡ refused (numberOf (c .verdict .given .0 .0))
+refuses : (c : tie.After-verdict) → fieldsFrom Schema.Information (now (c .before .before .before .before .args .message)) 0 ≡ refused (whyOf (c .verdict .given .0 .0))
 refuses c =
     let k = c .before .before .read-fields in
     sym (k .ensures) ∙ ap (λ v. judgedAs v (k .result .gathered)) (c .verdict .given .1)
@@ -45,7 +47,7 @@ element-copy-out-device-type c = search needs
 
 returns : tie.Need-returns
 unfolding informationOf
-returns c = (rw (refuses (c .before)), ((zero-le, (zero-le, (zero-le, tt))), zero-le))
+returns c = (rw (refuses (c .before)), (((zero-le, (zero-le, (zero-le, tt))), (empty, (empty, (empty, tt)))), zero-le))
 
 returns-2 : tie.Need-returns-2
 unfolding informationOf
@@ -54,7 +56,13 @@ returns-2 c =
     let inside = fields-within Schema.Information _ 0 _ (read (c .before .before .before .before .before)) in
     let each = inside .0 .1 in (
       rw (read (c .before .before .before .before .before)),
-      ((within-get _ texts first noPart zero-le each, (within-get _ texts second noPart zero-le each, (within-get _ texts third noPart zero-le each, tt))), inside .1),
+      (
+        (
+          (within-get _ texts first noPart zero-le each, (within-get _ texts second noPart zero-le each, (within-get _ texts third noPart zero-le each, tt))),
+          (text-get _ texts first (inside .2), (text-get _ texts second (inside .2), (text-get _ texts third (inside .2), tt))),
+        ),
+        inside .1,
+      ),
     )
 
 pub read-information-spec : {M : Type 1} → statement M

@@ -1,9 +1,9 @@
 use mathlib.Core.Path.{sym, _∙_}
+use borrow.Author.Needs.{needs}
 use borrow.Author.Tests.{lt-ltb, le-ltb}
 use denote.Ref.{now}
-use Rattle.device.specs.Information.{informationFields, informationWritten}
-use Rattle.field_writer.proofs.Messages.{wrote-bad, wrote-short, wrote, room-short, room-left}
-use borrow.Author.Needs.{needs}
+use Rattle.device.specs.Information.{informationStrings, informationFields, informationWritten}
+use Rattle.text_writer.proofs.Texts.{texts-bad, texts-fault, texts-wrote}
 use Rattle.device.proofs.information.write_information.Statement.{statement}
 use Rattle.device.proofs.information.write_information.Tie as tie
 
@@ -11,27 +11,29 @@ returns : tie.Need-returns
 unfolding informationWritten
 returns c =
     let a = c .before .before .before .before .before .args in
-    wrote-bad _ (informationFields (now (a .serial-number)) (now (a .name)) (now (a .transports)) (now (a .device-type))) (now (a .out)) (lt-ltb _ _ (c .if1 .taken))
+    texts-bad _ (informationStrings (now (a .serial-number)) (now (a .name)) (now (a .device-type))) (informationFields (now (a .serial-number)) (now (a .name)) (now (a .transports)) (now (a .device-type))) (now (a .out)) (lt-ltb _ _ (c .if1 .taken))
 
-information-room-requires : tie.Need-information-room-requires
-information-room-requires c κs = search needs
+information-fault-requires : tie.Need-information-fault-requires
+information-fault-requires c κs = search needs
+
+enum-known-field : tie.Need-enum-known-field
+enum-known-field c = search needs
 
 enum-told : tie.Need-enum-told
 enum-told c = search needs
 
-enum-told-2 : tie.Need-enum-told-2
-enum-told-2 c = search needs
+fill-information-requires : tie.Need-fill-information-requires
+fill-information-requires c κs = search needs
 
-put-information-requires : tie.Need-put-information-requires
-put-information-requires c κs =
-    (c .before .before .before .before .if1 .left, room-left _ _ _ (sym (c .before .before .before .information-room .ensures) ∙ c .before .enum-told2 .given .1))
+of-requires : tie.Need-of-requires
+of-requires c κs = search needs
 
 returns-2 : tie.Need-returns-2
 unfolding informationWritten
 returns-2 c =
-    let a = c .before .before .before .before .before .before .before .before .args in
-    wrote-short _ (informationFields (now (a .serial-number)) (now (a .name)) (now (a .transports)) (now (a .device-type))) _ (le-ltb _ _ (c .before .before .before .if1 .left))
-    (room-short _ _ (sym (c .before .before .information-room .ensures) ∙ c .enum-told .given .1))
+    let a = c .before .before .before .before .before .before .before .before .before .args in
+    texts-fault _ (informationStrings (now (a .serial-number)) (now (a .name)) (now (a .device-type))) (informationFields (now (a .serial-number)) (now (a .name)) (now (a .transports)) (now (a .device-type))) (now (a .out)) _ _ (le-ltb _ _ (c .before .before .before .before .if1 .left))
+    (sym (c .before .before .before .information-fault .ensures) ∙ c .before .field .given .1)
 
 same-length : tie.Need-same-length
 same-length c = search needs
@@ -39,19 +41,21 @@ same-length c = search needs
 returns-3 : tie.Need-returns-3
 unfolding informationWritten
 returns-3 c =
-    let a = c .before .before .before .before .before .before .before .before .before .before .before .before .args in
-    wrote _ (informationFields (now (a .serial-number)) (now (a .name)) (now (a .transports)) (now (a .device-type))) _ (le-ltb _ _ (c .before .before .before .before .before .before .before .if1 .left))
-    (room-left _ _ _ (sym (c .before .before .before .before .before .before .information-room .ensures) ∙ c .before .before .before .before .enum-told2 .given .1)) (c .before .before .put-information .ensures)
+    let a = c .before .before .before .before .before .before .before .before .before .before .before .before .before .args in
+    rw (c .of .ensures)
+    (texts-wrote _ (informationStrings (now (a .serial-number)) (now (a .name)) (now (a .device-type))) (informationFields (now (a .serial-number)) (now (a .name)) (now (a .transports)) (now (a .device-type))) (now (a .out)) _ _ (le-ltb _ _ (c .before .before .before .before .before .before .before .before .if1 .left))
+    (sym (c .before .before .before .before .before .before .before .information-fault .ensures) ∙ c .before .before .before .before .before .enum-told .given .1) (c .before .before .before .fill-information .ensures))
 
 pub write-information-spec : {M : Type 1} → statement M
 write-information-spec =
     tie.close
     (tie.spec
     returns
-    information-room-requires
+    information-fault-requires
+    enum-known-field
     enum-told
-    enum-told-2
-    put-information-requires
+    fill-information-requires
+    of-requires
     returns-2
     same-length
     returns-3)

@@ -4,13 +4,13 @@ use denote.Ref.{now}
 use borrow.Author.Tests.{eq-eqb, ne-eqb}
 use Rattle.field.specs.Value.{bytesOf}
 use Rattle.firmware.specs.Segment.{brokenField}
-use Rattle.firmware.proofs.Texts.{part-view}
+use Rattle.walk.proofs.Strings.{part-taken}
 use borrow.Author.Needs.{needs}
 use Rattle.firmware.proofs.segment.judge_segment.Statement.{statement}
 use Rattle.firmware.proofs.segment.judge_segment.Tie as tie
 
 broken : (c : tie.After-broken-field) → let a = c .before .before .before .before .before .args in c .broken-field .result ≡ brokenField (a .segment .«component_offset») (bytesOf (now (a .message)) (a .segment .«segment_signature»))
-broken c = let a = c .before .before .before .before .before .args in c .broken-field .ensures ∙ ap (brokenField (a .segment .«component_offset»)) (part-view (now (a .message)) (a .segment .«segment_signature»))
+broken c = let a = c .before .before .before .before .before .args in c .broken-field .ensures ∙ ap (brokenField (a .segment .«component_offset»)) (part-taken (now (a .message)) (a .segment .«segment_signature»))
 
 add-end : tie.Need-add-end
 add-end c = omega (arith, c .before .before .before .pre)

@@ -1,15 +1,14 @@
 use mathlib.Core.Path.{_≡_, ap, sym, _∙_}
 use denote.Ref.{now}
 use Rattle.wire.specs.Told.{given, refused}
-use Rattle.field.specs.Refusal.{numberOf}
 use Rattle.walk.specs.declared.schema.Schema.the-variants as Schema
-use Rattle.walk.specs.Gathered.{judgedAs}
+use Rattle.walk.specs.Refusal.{whyOf, Strings, judgedAs}
 use Rattle.walk.specs.Walk.{fieldsFrom}
 use Prim.Native.Nat.{zero-le}
-use Rattle.field.specs.Value.{Within}
 use Rattle.field.proofs.Places.{within-get}
 use Rattle.walk.specs.Schema.{first, second}
 use Rattle.walk.specs.Gathered.{noPart}
+use Rattle.walk.proofs.Strings.{text-get}
 use Rattle.walk.proofs.Steps.{fields-within}
 use Rattle.firmware.specs.Segment.{segmentOf, segmentMade, segmentParts}
 use Rattle.firmware.proofs.Segments.{judged-within}
@@ -23,17 +22,18 @@ read c =
     let k = c .before .before .before .read-fields in
     sym (k .ensures) ∙ ap (λ v. judgedAs v (k .result .gathered)) (c .enum-told .given .1)
 
-refuses : (c : tie.After-verdict) → fieldsFrom Schema.Segment (now (c .before .before .before .before .before .args .message)) 0 ≡ refused (numberOf (c .verdict .given .0 .0))
+refuses : (c : tie.After-verdict) → fieldsFrom Schema.Segment (now (c .before .before .before .before .before .args .message)) 0 ≡ refused (whyOf (c .verdict .given .0 .0))
 refuses c =
     let k = c .before .before .before .read-fields in
     sym (k .ensures) ∙ ap (λ v. judgedAs v (k .result .gathered)) (c .verdict .given .1)
 
--- its parts lie within the message
-inside : (c : tie.After-enum-told) → Within (now (c .before .before .before .before .before .args .message)) (segmentParts (segmentMade (c .before .before .before .read-fields .result .gathered)))
+-- its strings lie within the message and are well formed
+inside : (c : tie.After-enum-told) → Strings (now (c .before .before .before .before .before .args .message)) (segmentParts (segmentMade (c .before .before .before .read-fields .result .gathered)))
 inside c =
     let texts = c .before .before .before .read-fields .result .gathered .texts in
-    let each = fields-within Schema.Segment _ 0 _ (read c) .0 .1 in
-    (within-get _ texts first noPart zero-le each, (within-get _ texts second noPart zero-le each, tt))
+    let all = fields-within Schema.Segment _ 0 _ (read c) in
+    let each = all .0 .1 in
+    ((within-get _ texts first noPart zero-le each, (within-get _ texts second noPart zero-le each, tt)), (text-get _ texts first (all .2), (text-get _ texts second (all .2), tt)))
 
 read-fields-requires : tie.Need-read-fields-requires
 read-fields-requires c κs = search needs
@@ -48,7 +48,7 @@ segment-made-requires : tie.Need-segment-made-requires
 segment-made-requires c κs = search needs
 
 judge-segment-requires : tie.Need-judge-segment-requires
-judge-segment-requires c κs = rw (c .segment-made .ensures) (inside (c .before) .1 .0)
+judge-segment-requires c κs = rw (c .segment-made .ensures) (inside (c .before) .0 .1 .0)
 
 returns : tie.Need-returns
 unfolding segmentOf
@@ -58,7 +58,7 @@ returns-2 : tie.Need-returns-2
 unfolding segmentOf
 returns-2 c =
     let told = rw (c .before .segment-made .ensures) at (c .judge-segment .ensures) in
-    (rw (read (c .before .before)) told, rw told (judged-within _ (segmentMade (c .before .before .before .before .before .read-fields .result .gathered)) (inside (c .before .before))))
+    (rw (read (c .before .before)) told, rw told (judged-within _ (segmentMade (c .before .before .before .before .before .read-fields .result .gathered)) (inside (c .before .before) .0) (inside (c .before .before) .1)))
 
 pub read-segment-spec : {M : Type 1} → statement M
 read-segment-spec =

@@ -1,111 +1,53 @@
-use Prim.Native.Nat.{_-_, _≤_}
-use mathlib.Core.Bool.{false}
-use mathlib.Core.List.{[], _∷_}
-use mathlib.Core.Path.{_≡_, sym, _∙_}
-use native.Mathlib.Omega.{arith}
+use mathlib.Core.Path.{sym, _∙_}
 use denote.Ref.{now}
-use lib.ListN.{length}
-use Rattle.field_writer.specs.Writer.{scalar, nested, headBytes, messageBytes}
-use Rattle.field_writer.specs.declared.message.Room.the-variants.{Left}
-use Rattle.field_writer.specs.Message.{lessRoom}
-use Rattle.field_writer.proofs.Runs.{put-field, put-then}
-use Rattle.field_writer.proofs.Messages.{wrote-bad, wrote-short, wrote, room-short}
-use Rattle.walk.specs.Schema.{firmwareInformationField, restartRequiredField}
-use Rattle.firmware_writer.specs.Information.{badFirmware, firmwareFields}
-use Rattle.firmware_writer.specs.Apply.{boolValue, applyFields, applyWritten}
-use Rattle.firmware_writer.proofs.Fields.{room-rest, nested-is, put-last}
-use Rattle.firmware_writer.proofs.Texts.{apply-length}
+use Rattle.text_writer.proofs.Texts.{texts-bad, texts-fault, texts-wrote}
+use Rattle.firmware_writer.specs.Information.{firmwareStrings}
+use Rattle.firmware_writer.specs.Apply.{applyFields, applyWritten}
 use borrow.Author.Needs.{needs}
 use Rattle.firmware_writer.proofs.apply.write_apply.Statement.{statement}
 use Rattle.firmware_writer.proofs.apply.write_apply.Tie as tie
-
--- the information is one that is written
-fine : (c : tie.Else1) → badFirmware (now (c .before .before .before .before .before .args .texts)) (c .before .before .before .before .before .args .apply .«firmware_information») ≡ false
-fine c = sym (c .before .bad-firmware .ensures) ∙ c .if1 .left
-
--- what it leaves of the output, and the number of its bytes
-left-over : (c : tie.After-known-told) → lessRoom (length (messageBytes (firmwareFields (now (c .before .before .before .before .before .before .before .before .before .before .args .texts)) (c .before .before .before .before .before .before .before .before .before .before .args .apply .«firmware_information»)))) (Left (length (now (c .before .before .before .before .before .before .before .before .before .before .args .out)))) ≡ Left (c .before .rest .given .0 .0)
-left-over c = sym (c .before .before .before .firmware-room .ensures) ∙ c .before .rest .given .1
-
-spent : (c : tie.After-known-told) → (c .before .rest .given .0 .0 ≡ length (now (c .before .before .before .before .before .before .before .before .before .before .args .out)) - length (messageBytes (firmwareFields (now (c .before .before .before .before .before .before .before .before .before .before .args .texts)) (c .before .before .before .before .before .before .before .before .before .before .args .apply .«firmware_information»)))) × (length (messageBytes (firmwareFields (now (c .before .before .before .before .before .before .before .before .before .before .args .texts)) (c .before .before .before .before .before .before .before .before .before .before .args .apply .«firmware_information»))) ≤ length (now (c .before .before .before .before .before .before .before .before .before .before .args .out)))
-spent c = room-rest (length (now (c .before .before .before .before .before .before .before .before .before .before .args .out))) (length (messageBytes (firmwareFields (now (c .before .before .before .before .before .before .before .before .before .before .args .texts)) (c .before .before .before .before .before .before .before .before .before .before .args .apply .«firmware_information»)))) (c .before .rest .given .0 .0) (left-over c)
-
-counted : (c : tie.After-known-told) → length (now (c .before .before .before .before .before .before .before .before .before .before .args .out)) - c .before .rest .given .0 .0 ≡ length (messageBytes (firmwareFields (now (c .before .before .before .before .before .before .before .before .before .before .args .texts)) (c .before .before .before .before .before .before .before .before .before .before .args .apply .«firmware_information»)))
-counted c = omega (arith, spent c)
 
 bad-firmware-requires : tie.Need-bad-firmware-requires
 bad-firmware-requires c κs = search needs
 
 returns : tie.Need-returns
 unfolding applyWritten
-returns c = wrote-bad _ (applyFields (now (c .before .before .before .before .before .args .texts)) (c .before .before .before .before .before .args .apply)) (now (c .before .before .before .before .before .args .out)) (sym (c .before .bad-firmware .ensures) ∙ c .if1 .taken)
+returns c =
+    let a = c .before .before .before .before .before .args in
+    texts-bad _ (firmwareStrings (now (a .texts)) (a .apply .«firmware_information»)) (applyFields (now (a .texts)) (a .apply)) (now (a .out)) (sym (c .before .bad-firmware .ensures) ∙ c .if1 .taken)
 
-bool-value-requires : tie.Need-bool-value-requires
-bool-value-requires c κs = search needs
+firmware-fault-requires : tie.Need-firmware-fault-requires
+firmware-fault-requires c κs = sym (c .before .bad-firmware .ensures) ∙ c .if1 .left
 
-firmware-room-requires : tie.Need-firmware-room-requires
-firmware-room-requires c κs = fine (c .before)
+enum-known-field : tie.Need-enum-known-field
+enum-known-field c = search needs
 
 enum-told : tie.Need-enum-told
 enum-told c = search needs
 
-enum-known-rest : tie.Need-enum-known-rest
-enum-known-rest c = search needs
+fill-apply-requires : tie.Need-fill-apply-requires
+fill-apply-requires c κs = sym (c .before .before .before .before .before .bad-firmware .ensures) ∙ c .before .before .before .before .if1 .left
 
-sub-len : tie.Need-sub-len
-sub-len c = omega (arith, spent c)
-
-head-len-requires : tie.Need-head-len-requires
-head-len-requires c κs = search needs
-
-scalar-len-requires : tie.Need-scalar-len-requires
-scalar-len-requires c κs = search needs
-
-add-around : tie.Need-add-around
-add-around c = search needs
+of-requires : tie.Need-of-requires
+of-requires c κs = search needs
 
 returns-2 : tie.Need-returns-2
 unfolding applyWritten
 returns-2 c =
-    let e = spent (c .before .before .before) in
-    wrote-short _ (applyFields (now (c .before .before .before .before .before .before .before .before .before .before .before .before .before .args .texts)) (c .before .before .before .before .before .before .before .before .before .before .before .before .before .args .apply)) (now (c .before .before .before .before .before .before .before .before .before .before .before .before .before .args .out)) (fine (c .before .before .before .before .before .before .before .before)) (omega (arith, c .if2 .taken, apply-length (now (c .before .before .before .before .before .before .before .before .before .before .before .before .before .args .texts)) (c .before .before .before .before .before .before .before .before .before .before .before .before .before .args .apply), rw (counted (c .before .before .before)) at (c .before .before .head-len .ensures .0), rw (c .before .before .before .before .before .before .before .bool-value .ensures) at (c .before .scalar-len .ensures .0), e))
-
-put-head-requires : tie.Need-put-head-requires
-put-head-requires c κs =
-    let e = spent (c .before .before .before .before) in
-    (search needs, omega (arith, c .before .if2 .left, c .before .before .before .head-len .ensures .0, e))
-
-put-firmware-requires : tie.Need-put-firmware-requires
-put-firmware-requires c κs =
-    let e = spent (c .before .before .before .before .before .before .before .before) in
-    let h = c .before .before .before .put-head in
-    (fine (c .before .before .before .before .before .before .before .before .before .before .before .before .before), omega (arith, c .before .before .before .before .before .if2 .left, c .before .before .before .before .before .before .before .head-len .ensures .0, h .ensures .place, h .kept .0, e))
-
-put-scalar-requires : tie.Need-put-scalar-requires
-put-scalar-requires c κs =
-    let e = spent (c .before .before .before .before .before .before .before .before .before .before .before .before) in
-    let h = c .before .before .before .before .before .before .before .put-head in
-    let p = c .before .before .before .put-firmware in
-    (search needs, omega (arith, c .before .before .before .before .before .before .before .before .before .if2 .left, c .before .before .before .before .before .before .before .before .before .before .before .head-len .ensures .0, c .before .before .before .before .before .before .before .before .before .before .scalar-len .ensures .0, h .ensures .place, h .kept .0, p .ensures .place, p .kept .0, e))
-
-returns-3 : tie.Need-returns-3
-unfolding applyWritten
-returns-3 c = wrote-short _ (applyFields (now (c .before .before .before .before .before .before .before .before .before .args .texts)) (c .before .before .before .before .before .before .before .before .before .args .apply)) (now (c .before .before .before .before .before .before .before .before .before .args .out)) (fine (c .before .before .before .before)) (omega (arith, apply-length (now (c .before .before .before .before .before .before .before .before .before .args .texts)) (c .before .before .before .before .before .before .before .before .before .args .apply), room-short (length (now (c .before .before .before .before .before .before .before .before .before .args .out))) (length (messageBytes (firmwareFields (now (c .before .before .before .before .before .before .before .before .before .args .texts)) (c .before .before .before .before .before .before .before .before .before .args .apply .«firmware_information»)))) (sym (c .before .before .firmware-room .ensures) ∙ c .enum-told .given .1)))
+    let a = c .before .before .before .before .before .before .before .before .before .args in
+    texts-fault _ (firmwareStrings (now (a .texts)) (a .apply .«firmware_information»)) (applyFields (now (a .texts)) (a .apply)) (now (a .out)) _ _ (sym (c .before .before .before .before .before .bad-firmware .ensures) ∙ c .before .before .before .before .if1 .left)
+    (sym (c .before .before .before .firmware-fault .ensures) ∙ c .before .field .given .1)
 
 same-length : tie.Need-same-length
 same-length c = search needs
 
-returns-4 : tie.Need-returns-4
+returns-3 : tie.Need-returns-3
 unfolding applyWritten
-returns-4 c =
-    let e = spent (c .before .before .before .before .before .before .before .before .before .before .before .before .before .before .before) in
-    let l = messageBytes (firmwareFields (now (c .before .before .before .before .before .before .before .before .before .before .before .before .before .before .before .before .before .before .before .before .before .before .before .before .before .args .texts)) (c .before .before .before .before .before .before .before .before .before .before .before .before .before .before .before .before .before .before .before .before .before .before .before .before .before .args .apply .«firmware_information»)) in
-    let b = boolValue (c .before .before .before .before .before .before .before .before .before .before .before .before .before .before .before .before .before .before .before .before .before .before .before .before .before .args .apply .«restart_required») in
-    wrote _ (applyFields (now (c .before .before .before .before .before .before .before .before .before .before .before .before .before .before .before .before .before .before .before .before .before .before .before .before .before .args .texts)) (c .before .before .before .before .before .before .before .before .before .before .before .before .before .before .before .before .before .before .before .before .before .before .before .before .before .args .apply)) (now (c .before .before .before .before .before .before .before .before .before .before .before .before .before .before .before .before .before .before .before .before .before .before .before .before .before .args .out)) (fine (c .before .before .before .before .before .before .before .before .before .before .before .before .before .before .before .before .before .before .before .before))
-    (omega (arith, c .before .before .before .before .before .before .before .before .before .before .before .before .if2 .left, apply-length (now (c .before .before .before .before .before .before .before .before .before .before .before .before .before .before .before .before .before .before .before .before .before .before .before .before .before .args .texts)) (c .before .before .before .before .before .before .before .before .before .before .before .before .before .before .before .before .before .before .before .before .before .before .before .before .before .args .apply), rw (counted (c .before .before .before .before .before .before .before .before .before .before .before .before .before .before .before)) at (c .before .before .before .before .before .before .before .before .before .before .before .before .before .before .head-len .ensures .0), rw (c .before .before .before .before .before .before .before .before .before .before .before .before .before .before .before .before .before .before .before .bool-value .ensures) at (c .before .before .before .before .before .before .before .before .before .before .before .before .before .scalar-len .ensures .0), e))
-    (put-field (nested firmwareInformationField l) (scalar restartRequiredField b ∷ [])
-    (put-then (headBytes firmwareInformationField (length l)) l (nested-is firmwareInformationField l) (rw (counted (c .before .before .before .before .before .before .before .before .before .before .before .before .before .before .before)) at (c .before .before .before .before .before .before .before .before .before .before .put-head .ensures)) (c .before .before .before .before .before .before .put-firmware .ensures))
-    (put-last (scalar restartRequiredField b) (rw (c .before .before .before .before .before .before .before .before .before .before .before .before .before .before .before .before .before .before .before .bool-value .ensures) at (c .before .before .put-scalar .ensures))))
+returns-3 c =
+    let a = c .before .before .before .before .before .before .before .before .before .before .before .before .before .args in
+    rw (c .of .ensures)
+    (texts-wrote _ (firmwareStrings (now (a .texts)) (a .apply .«firmware_information»)) (applyFields (now (a .texts)) (a .apply)) (now (a .out)) _ _ (sym (c .before .before .before .before .before .before .before .before .before .bad-firmware .ensures) ∙ c .before .before .before .before .before .before .before .before .if1 .left)
+    (sym (c .before .before .before .before .before .before .before .firmware-fault .ensures) ∙ c .before .before .before .before .before .enum-told .given .1) (c .before .before .before .fill-apply .ensures))
 
 pub write-apply-spec : {M : Type 1} → statement M
 write-apply-spec =
@@ -113,18 +55,11 @@ write-apply-spec =
     (tie.spec
     bad-firmware-requires
     returns
-    bool-value-requires
-    firmware-room-requires
+    firmware-fault-requires
+    enum-known-field
     enum-told
-    enum-known-rest
-    sub-len
-    head-len-requires
-    scalar-len-requires
-    add-around
+    fill-apply-requires
+    of-requires
     returns-2
-    put-head-requires
-    put-firmware-requires
-    put-scalar-requires
-    returns-3
     same-length
-    returns-4)
+    returns-3)

@@ -1,6 +1,6 @@
 use native.Mathlib.Omega.{arith}
 use denote.Ref.{now}
-use Rattle.firmware.proofs.Texts.{part-view}
+use Rattle.walk.proofs.Strings.{part-taken}
 use Rattle.firmware_writer.proofs.Texts.{lies-inside}
 use borrow.Author.Needs.{needs}
 use Rattle.firmware_writer.proofs.component.put_text_part.Statement.{statement}
@@ -21,7 +21,7 @@ part-put-text-end c = let a = c .before .before .before .before .args in omega (
 put-text-requires : tie.Need-put-text-requires
 put-text-requires c κs =
     let a = c .before .before .before .before .before .args in
-    (c .before .before .before .before .before .pre .0, rw (part-view (now (a .texts)) (a .part)) (c .before .before .before .before .before .pre .2))
+    (c .before .before .before .before .before .pre .0, rw (part-taken (now (a .texts)) (a .part)) (c .before .before .before .before .before .pre .2))
 
 same-length : tie.Need-same-length
 same-length c = search needs
@@ -29,7 +29,7 @@ same-length c = search needs
 returns : tie.Need-returns
 returns c =
     let a = c .before .before .before .before .before .before .before .before .args in
-    rw (part-view (now (a .texts)) (a .part)) at (c .before .before .put-text .ensures)
+    rw (part-taken (now (a .texts)) (a .part)) at (c .before .before .put-text .ensures)
 
 pub put-text-part-spec : {M : Type 1} → statement M
 put-text-part-spec =

@@ -3,7 +3,7 @@ use native.Mathlib.Omega.{arith}
 use denote.Ref.{now}
 use lib.ListN.{length}
 use Rattle.field_writer.specs.Writer.{text, fieldBytes}
-use Rattle.firmware.proofs.Texts.{part-view}
+use Rattle.walk.proofs.Strings.{part-taken}
 use Rattle.firmware_writer.proofs.Texts.{lies-inside}
 use borrow.Author.Needs.{needs}
 use Rattle.firmware_writer.proofs.component.text_part_len.Statement.{statement}
@@ -27,7 +27,7 @@ text-len-requires c κs = search needs
 returns : tie.Need-returns
 returns c =
     let a = c .before .before .before .before .args in
-    c .text-len .ensures .0 ∙ ap (λ l. length (fieldBytes (text (a .field) l))) (part-view (now (a .texts)) (a .part))
+    c .text-len .ensures .0 ∙ ap (λ l. length (fieldBytes (text (a .field) l))) (part-taken (now (a .texts)) (a .part))
 
 pub text-part-len-spec : {M : Type 1} → statement M
 text-part-len-spec =

@@ -8,6 +8,9 @@ enum-known-wrote c = search needs
 enum-known-wrote-2 : tie.Need-enum-known-wrote-2
 enum-known-wrote-2 c = search needs
 
+enum-known-wrote-3 : tie.Need-enum-known-wrote-3
+enum-known-wrote-3 c = search needs
+
 enum-told : tie.Need-enum-told
 enum-told c = search needs
 
@@ -18,8 +21,11 @@ returns-2 : tie.Need-returns-2
 returns-2 c = rw (c .before .wrote2 .given .1)
 
 returns-3 : tie.Need-returns-3
-returns-3 c = rw (c .enum-told .given .1)
+returns-3 c = rw (c .before .wrote3 .given .1)
+
+returns-4 : tie.Need-returns-4
+returns-4 c = rw (c .enum-told .given .1)
 
 pub wrote-row-spec : {M : Type 1} → statement M
 wrote-row-spec =
-    tie.close (tie.spec enum-known-wrote enum-known-wrote-2 enum-told returns returns-2 returns-3)
+    tie.close (tie.spec enum-known-wrote enum-known-wrote-2 enum-known-wrote-3 enum-told returns returns-2 returns-3 returns-4)

@@ -1,6 +1,6 @@
 use mathlib.Core.Path.{ap, sym, _∙_}
 use Rattle.field.specs.Tag.{toldTag}
-use Rattle.walk.specs.Gathered.{toldVerdict}
+use Rattle.walk.specs.Gathered.{toldFieldVerdict}
 use Rattle.walk.specs.Walk.{readAt}
 use borrow.Author.Needs.{needs}
 use Rattle.walk.proofs.reader.read_field.Statement.{statement}
@@ -39,7 +39,7 @@ unfolding readAt
 returns-2 c =
     rw (
       sym (c .before .before .before .before .before .before .before .before .read-tag .ensures) ∙ ap toldTag (c .before .before .before .before .before .before .head .given .1),
-      sym (rw (c .before .before .before .before .role-of .ensures) at (c .before .before .before .judge .ensures)) ∙ ap toldVerdict (c .before .e2 .given .1),
+      sym (rw (c .before .before .before .before .role-of .ensures) at (c .before .before .before .judge .ensures)) ∙ ap toldFieldVerdict (c .before .e2 .given .1),
     )
 
 returns-3 : tie.Need-returns-3
@@ -47,7 +47,7 @@ unfolding readAt
 returns-3 c =
     rw (
       sym (c .before .before .before .before .before .before .before .before .read-tag .ensures) ∙ ap toldTag (c .before .before .before .before .before .before .head .given .1),
-      sym (rw (c .before .before .before .before .role-of .ensures) at (c .before .before .before .judge .ensures)) ∙ ap toldVerdict (c .before .enum-told .given .1),
+      sym (rw (c .before .before .before .before .role-of .ensures) at (c .before .before .before .judge .ensures)) ∙ ap toldFieldVerdict (c .before .enum-told .given .1),
     )
     (rw (c .before .before .before .before .role-of .ensures) at (c .take-value .ensures))
 

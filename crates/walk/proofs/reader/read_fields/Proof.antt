@@ -1,20 +1,24 @@
-use Prim.Native.Nat.{ℕ, _-_, _<_}
+use Prim.Native.Nat.{ℕ, _+_, _-_, _≤_, _<_}
 use mathlib.Core.Path.{_≡_, refl, ap, sym, _∙_}
 use mathlib.Core.List.{List}
 use native.Mathlib.Omega.{arith}
 use borrow.Author.Needs.{needs}
 use lib.ListN.{length}
 use denote.Ref.{now}
-use Rattle.wire.specs.Told.{Told, given, refused, andThen}
+use Rattle.wire.specs.Told.{Told, ToldMore, alone, given, refused, andThen}
 use Rattle.walk.specs.declared.gathered.Gathered.{Gathered}
-use Rattle.walk.specs.declared.gathered.Kept.{Kept}
-use Rattle.walk.specs.declared.gathered.Verdict.{Verdict}
+use Rattle.walk.specs.declared.gathered.Grown.{Grown}
+use Rattle.walk.specs.declared.gathered.FieldVerdict.{FieldVerdict}
 use Rattle.walk.specs.declared.schema.Schema.{Schema}
+use Rattle.field.specs.declared.value.Part.{Part}
 use Rattle.walk.specs.declared.reader.Added.{Added}
-use Rattle.walk.specs.Gathered.{judgedAs, toldKept}
+use Rattle.walk.specs.declared.reader.Added.the-variants as Added
+use Rattle.walk.specs.Gathered.{fieldJudged, toldGrown}
+use Rattle.walk.specs.Refusal.{toldKept}
 use Rattle.walk.specs.Walk.{walk, placed, fieldAt, fieldsFrom, withAdded, readAt, toldField}
 use Rattle.walk.proofs.Walks.{Walks, walk-end, walk-stop, walks-next}
-use Rattle.walk.proofs.Steps.{field-by, field-forward, packed-within, repeated-room}
+use Rattle.walk.proofs.Steps.{field-by, field-forward, packed-within, text-within, repeated-room}
+use Rattle.walk.proofs.Strings.{string-taken, string-refused}
 use Rattle.walk.proofs.reader.read_fields.Statement.{statement}
 use Rattle.walk.proofs.reader.read_fields.Tie as tie
 
@@ -34,11 +38,11 @@ loop-holds c =
     record { fuel = length (a .message .now); enough = omega arith; same = ap (walk (fieldAt (a .schema)) (length (a .message .now)) (a .message .now) (a .from)) (sym (c .nothing .ensures)) }
 
 -- what a call kept, by its verdict
-kept-told : (k : Kept) {r : Told Gathered} {v : Verdict} → toldKept k ≡ r → k .verdict ≡ v → r ≡ judgedAs v (k .gathered)
-kept-told k t e = sym t ∙ ap (λ j. judgedAs j (k .gathered)) e
+grown-told : (k : Grown) {r : Told Gathered} {v : FieldVerdict} → toldGrown k ≡ r → k .verdict ≡ v → alone r ≡ alone (fieldJudged v (k .gathered))
+grown-told k t e = ap alone (sym t ∙ ap (λ j. fieldJudged j (k .gathered)) e)
 
 -- where a field is refused, all of them are
-halted : (c : tie.In-loop Inv-loop μ-loop) (n : ℕ) → let a = c .before .before .before .before .args in
+halted : (c : tie.In-loop Inv-loop μ-loop) (n : ℕ × List ℕ) → let a = c .before .before .before .before .args in
     fieldAt (a .schema) (now (a .message)) (c .before .loop .at) (c .before .loop .so-far) ≡ refused n → fieldsFrom (a .schema) (now (a .message)) (a .from) ≡ refused n
 halted c n e =
     let l = c .before .loop in
@@ -86,7 +90,11 @@ module _ (c : tie.After-known-told2 Inv-loop μ-loop) where
   read : {a : Added} → added ≡ a → readAt schema message at (so-far .field) (so-far .count) ≡ given (a, next)
   read e = sym (c .before .before .before .read-field .ensures) ∙ ap toldField (c .before .added .given .1) ∙ ap (λ a. given (a, next)) e
 
-  went : {a : Added} → added ≡ a → {r : Told Gathered} → withAdded message a so-far ≡ r → fieldAt schema message at so-far ≡ andThen r (placed next)
+  -- a string lies within the message
+  held : {f slot : ℕ} {p : Part} → added ≡ Added.Text f slot p → p .start + p .len ≤ length message
+  held {f} {slot} {p} e = text-within schema message at (so-far .field) (so-far .count) f slot p next (read e)
+
+  went : {a : Added} → added ≡ a → {r : ToldMore Gathered} → withAdded message a so-far ≡ r → fieldAt schema message at so-far ≡ andThen r (placed next)
   went e w = field-by schema message at so-far (read e) ∙ ap (λ r. andThen r (placed next)) w
 
   -- the turn, where the field leaves g
@@ -108,6 +116,18 @@ with-scalar-requires c κs = search needs
 
 enum-known-added-3 : tie.Need-enum-known-added-3 Inv-loop μ-loop
 enum-known-added-3 c = search needs
+
+text-place-requires : tie.Need-text-place-requires Inv-loop μ-loop
+text-place-requires c κs = held (c .before .before .before) (c .before .added3 .given .1)
+
+stop-text-requires : tie.Need-stop-text-requires Inv-loop μ-loop
+stop-text-requires c κs = search needs
+
+returns-2 : tie.Need-returns-2 Inv-loop μ-loop
+returns-2 c =
+    let e = c .before .before .before .before .before .added3 .given .1 in
+    ap toldKept (c .stop-text .ensures)
+    ∙ sym (halted (c .before .before .before .before .before .before .before .before .before .before .before) _ (went (c .before .before .before .before .before .before .before) e (string-refused _ _ _ _ _ _ (held (c .before .before .before .before .before .before .before) e) (c .before .before .before .text-place .ensures) (c .before .if1 .taken))))
 
 with-text-requires : tie.Need-with-text-requires Inv-loop μ-loop
 with-text-requires c κs = search needs
@@ -139,10 +159,10 @@ enum-known-verdict c = search needs
 stop-requires-2 : tie.Need-stop-requires-2 Inv-loop μ-loop
 stop-requires-2 c κs = search needs
 
-returns-2 : tie.Need-returns-2 Inv-loop μ-loop
-returns-2 c =
+returns-3 : tie.Need-returns-3 Inv-loop μ-loop
+returns-3 c =
     ap toldKept (c .stop2 .ensures)
-    ∙ sym (halted (c .before .before .before .before .before .before .before .before .before .before .before .before .before) _ (went (c .before .before .before .before .before .before .before .before .before) (c .before .before .before .before .before .before .before .added5 .given .1) (kept-told (c .before .before .before .before .before .with-transport .result) (c .before .before .before .before .before .with-transport .ensures) (c .before .before .verdict .given .1))))
+    ∙ sym (halted (c .before .before .before .before .before .before .before .before .before .before .before .before .before) _ (went (c .before .before .before .before .before .before .before .before .before) (c .before .before .before .before .before .before .before .added5 .given .1) (grown-told (c .before .before .before .before .before .with-transport .result) (c .before .before .before .before .before .with-transport .ensures) (c .before .before .verdict .given .1))))
 
 enum-told-3 : tie.Need-enum-told-3 Inv-loop μ-loop
 enum-told-3 c = search needs
@@ -162,10 +182,10 @@ enum-known-verdict-2 c = search needs
 stop-requires-3 : tie.Need-stop-requires-3 Inv-loop μ-loop
 stop-requires-3 c κs = search needs
 
-returns-3 : tie.Need-returns-3 Inv-loop μ-loop
-returns-3 c =
+returns-4 : tie.Need-returns-4 Inv-loop μ-loop
+returns-4 c =
     ap toldKept (c .stop3 .ensures)
-    ∙ sym (halted (c .before .before .before .before .before .before .before .before .before .before .before .before .before) _ (went (c .before .before .before .before .before .before .before .before .before) (c .before .before .before .before .before .before .before .added6 .given .1) (kept-told (c .before .before .before .before .before .keep-packed .result) (c .before .before .before .before .before .keep-packed .ensures) (c .before .before .verdict2 .given .1))))
+    ∙ sym (halted (c .before .before .before .before .before .before .before .before .before .before .before .before .before) _ (went (c .before .before .before .before .before .before .before .before .before) (c .before .before .before .before .before .before .before .added6 .given .1) (grown-told (c .before .before .before .before .before .keep-packed .result) (c .before .before .before .before .before .keep-packed .ensures) (c .before .before .verdict2 .given .1))))
 
 enum-told-4 : tie.Need-enum-told-4 Inv-loop μ-loop
 enum-told-4 c = search needs
@@ -182,11 +202,18 @@ loop-less-2 c = turn (c .before .before .before .before) (c .before .before .add
 loop-again-2 : tie.Need-loop-again-2 Inv-loop μ-loop
 loop-again-2 c = turn (c .before .before .before .before) (c .before .before .added2 .given .1) _ (ap given (sym (c .with-scalar .ensures))) .0
 
+-- a string that is well formed
+kept-text : (c : tie.After-with-text Inv-loop μ-loop) → let k = c .before .before .before .before .before .before .before in withAdded (message k) (added k) (so-far k) ≡ given (c .with-text .result)
+kept-text c =
+    let e = c .before .before .before .before .before .added3 .given .1 in
+    ap (λ a. withAdded (message (c .before .before .before .before .before .before .before)) a (so-far (c .before .before .before .before .before .before .before))) e
+    ∙ string-taken _ _ _ _ _ _ (held (c .before .before .before .before .before .before .before) e) (c .before .before .before .text-place .ensures) (c .before .if1 .left) ∙ ap given (sym (c .with-text .ensures))
+
 loop-less-3 : tie.Need-loop-less-3 Inv-loop μ-loop
-loop-less-3 c = turn (c .before .before .before .before) (c .before .before .added3 .given .1) _ (ap given (sym (c .with-text .ensures))) .1
+loop-less-3 c = turn (c .before .before .before .before .before .before .before) refl _ (kept-text c) .1
 
 loop-again-3 : tie.Need-loop-again-3 Inv-loop μ-loop
-loop-again-3 c = turn (c .before .before .before .before) (c .before .before .added3 .given .1) _ (ap given (sym (c .with-text .ensures))) .0
+loop-again-3 c = turn (c .before .before .before .before .before .before .before) refl _ (kept-text c) .0
 
 loop-less-4 : tie.Need-loop-less-4 Inv-loop μ-loop
 loop-less-4 c = turn (c .before .before .before .before) (c .before .before .added4 .given .1) _ (ap given (sym (c .with-member .ensures))) .1
@@ -201,22 +228,22 @@ loop-again-5 : tie.Need-loop-again-5 Inv-loop μ-loop
 loop-again-5 c = turn (c .before .before .before) (c .before .enum-told2 .given .1) _ (ap given (sym (c .with-repeated .ensures))) .0
 
 loop-less-6 : tie.Need-loop-less-6 Inv-loop μ-loop
-loop-less-6 c = turn (c .before .before .before .before .before .before .before) (c .before .before .before .before .before .added5 .given .1) _ (kept-told (c .before .before .before .with-transport .result) (c .before .before .before .with-transport .ensures) (c .enum-told3 .given .1)) .1
+loop-less-6 c = turn (c .before .before .before .before .before .before .before) (c .before .before .before .before .before .added5 .given .1) _ (grown-told (c .before .before .before .with-transport .result) (c .before .before .before .with-transport .ensures) (c .enum-told3 .given .1)) .1
 
 loop-again-6 : tie.Need-loop-again-6 Inv-loop μ-loop
-loop-again-6 c = turn (c .before .before .before .before .before .before .before) (c .before .before .before .before .before .added5 .given .1) _ (kept-told (c .before .before .before .with-transport .result) (c .before .before .before .with-transport .ensures) (c .enum-told3 .given .1)) .0
+loop-again-6 c = turn (c .before .before .before .before .before .before .before) (c .before .before .before .before .before .added5 .given .1) _ (grown-told (c .before .before .before .with-transport .result) (c .before .before .before .with-transport .ensures) (c .enum-told3 .given .1)) .0
 
 loop-less-7 : tie.Need-loop-less-7 Inv-loop μ-loop
-loop-less-7 c = turn (c .before .before .before .before .before .before .before) (c .before .before .before .before .before .added6 .given .1) _ (kept-told (c .before .before .before .keep-packed .result) (c .before .before .before .keep-packed .ensures) (c .enum-told4 .given .1)) .1
+loop-less-7 c = turn (c .before .before .before .before .before .before .before) (c .before .before .before .before .before .added6 .given .1) _ (grown-told (c .before .before .before .keep-packed .result) (c .before .before .before .keep-packed .ensures) (c .enum-told4 .given .1)) .1
 
 loop-again-7 : tie.Need-loop-again-7 Inv-loop μ-loop
-loop-again-7 c = turn (c .before .before .before .before .before .before .before) (c .before .before .before .before .before .added6 .given .1) _ (kept-told (c .before .before .before .keep-packed .result) (c .before .before .before .keep-packed .ensures) (c .enum-told4 .given .1)) .0
+loop-again-7 c = turn (c .before .before .before .before .before .before .before) (c .before .before .before .before .before .added6 .given .1) _ (grown-told (c .before .before .before .keep-packed .result) (c .before .before .before .keep-packed .ensures) (c .enum-told4 .given .1)) .0
 
 fine-requires : tie.Need-fine-requires Inv-loop μ-loop
 fine-requires c κs = search needs
 
-returns-4 : tie.Need-returns-4 Inv-loop μ-loop
-returns-4 c =
+returns-5 : tie.Need-returns-5 Inv-loop μ-loop
+returns-5 c =
     let l = c .before .before .loop in
     ap toldKept (c .fine .ensures) ∙ sym (l .inv .same ∙ walk-end (fieldAt (c .before .before .before .before .before .args .schema)) (l .inv .fuel) _ (l .at) (l .so-far) (c .before .loop-test .left))
 
@@ -237,6 +264,9 @@ read-fields-spec =
     enum-known-added-2
     with-scalar-requires
     enum-known-added-3
+    text-place-requires
+    stop-text-requires
+    returns-2
     with-text-requires
     enum-known-added-4
     with-member-requires
@@ -246,13 +276,13 @@ read-fields-spec =
     with-transport-requires
     enum-known-verdict
     stop-requires-2
-    returns-2
+    returns-3
     enum-told-3
     enum-known-added-6
     keep-packed-requires
     enum-known-verdict-2
     stop-requires-3
-    returns-3
+    returns-4
     enum-told-4
     loop-less
     loop-again
@@ -269,4 +299,4 @@ read-fields-spec =
     loop-less-7
     loop-again-7
     fine-requires
-    returns-4)
+    returns-5)

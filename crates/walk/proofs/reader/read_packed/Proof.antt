@@ -5,7 +5,7 @@ use borrow.Author.Needs.{needs}
 use lib.ListN.{length}
 use denote.Ref.{now}
 use Rattle.wire.specs.Told.{given}
-use Rattle.walk.specs.Gathered.{judgedAs}
+use Rattle.walk.specs.Gathered.{fieldJudged}
 use Rattle.walk.specs.Walk.{entryAt, packedFrom}
 use Rattle.walk.proofs.Walks.{Walks, walk-end, walk-stop, walks-next}
 use Rattle.walk.proofs.Steps.{entry-forward}
@@ -33,7 +33,7 @@ returns c =
     let l = c .before .before .before .before .before .loop in
     let k = c .before .before .before .read-entry in
     sym (l .inv .same ∙ walk-stop entryAt _ (l .at) (l .so-far) (c .before .before .before .before .loop-test .taken) (l .inv .fuel) (l .inv .enough) _
-    (sym (k .ensures) ∙ ap (λ j. judgedAs j (k .result .gathered, k .result .next)) (c .before .verdict .given .1)))
+    (sym (k .ensures) ∙ ap (λ j. fieldJudged j (k .result .gathered, k .result .next)) (c .before .verdict .given .1)))
 
 enum-told : tie.Need-enum-told Inv-loop μ-loop
 enum-told c = search needs
@@ -42,7 +42,7 @@ enum-told c = search needs
 went : (c : tie.After-enum-told Inv-loop μ-loop) → entryAt (now (c .before .before .before .before .before .before .args .message)) (c .before .before .before .before .loop .at) (c .before .before .before .before .loop .so-far) ≡ given (c .before .before .read-entry .result .gathered, c .before .before .read-entry .result .next)
 went c =
     let k = c .before .before .read-entry in
-    sym (k .ensures) ∙ ap (λ j. judgedAs j (k .result .gathered, k .result .next)) (c .enum-told .given .1)
+    sym (k .ensures) ∙ ap (λ j. fieldJudged j (k .result .gathered, k .result .next)) (c .enum-told .given .1)
 
 loop-less : tie.Need-loop-less Inv-loop μ-loop
 loop-less c =

@@ -12,19 +12,38 @@ use Rattle.walk.proofs.gathered.Gathered.with_text.Tie as tie
 length-mapped : {A B : Type 0} (f : A → B) (l : List A) (n : ℕ) → length (map f l) ≡ n → length l ≡ n
 length-mapped f l n e = sym (length-map l f) ∙ e
 
-mul-part : tie.Need-mul-part
-mul-part c = search needs
-
 element-set-from-part : tie.Need-element-set-from-part
 element-set-from-part c = search needs
 
 returns : tie.Need-returns
-returns c = search needs
+returns c = rw (c .if1 .taken)
+
+element-set-from-part-2 : tie.Need-element-set-from-part-2
+element-set-from-part-2 c = search needs
 
 returns-2 : tie.Need-returns-2
-returns-2 c =
-    let long : length (c .before .args .self .texts) ≡ 3 = search (needs, length-mapped) in
-    rw (set-out (c .before .args .self .texts) (c .before .args .slot) (c .before .args .part) (omega arith))
+returns-2 c = rw (c .if2 .taken)
+
+element-set-from-part-3 : tie.Need-element-set-from-part-3
+element-set-from-part-3 c = search needs
+
+returns-3 : tie.Need-returns-3
+returns-3 c = rw (c .if3 .taken)
+
+returns-4 : tie.Need-returns-4
+returns-4 c =
+    let a = c .before .before .before .args in
+    let long : length (a .self .texts) ≡ 3 = search (needs, length-mapped) in
+    rw (set-out (a .self .texts) (a .slot) (a .part) (omega arith))
 
 pub with-text-spec : {M : Type 1} → statement M
-with-text-spec = tie.close (tie.spec mul-part element-set-from-part returns returns-2)
+with-text-spec =
+    tie.close
+    (tie.spec
+    element-set-from-part
+    returns
+    element-set-from-part-2
+    returns-2
+    element-set-from-part-3
+    returns-3
+    returns-4)

@@ -1,0 +1,95 @@
+// Reads a firmware message and writes it again: for comparison with other makers' tools (tools/compare_protoc).
+// Standard input is a letter for the message's kind and the message. Standard output is the answer; 1 is for any other letter, 2 for an
+// input that is too long.
+use answering::NO_KIND;
+use answering::TOO_LONG;
+use answering::bytes_of;
+use answering::refuse;
+use answering::show;
+use answering::show_text;
+use field_writer::message::Wrote;
+use firmware::apply::read_apply;
+use firmware::segment::SegmentRead;
+use firmware::segment::read_segment;
+use firmware_writer::apply::write_apply;
+use firmware_writer::segment::SegmentWrote;
+use firmware_writer::segment::write_segment;
+use libc::STDIN_FILENO;
+use walk::refusal::Verdict;
+ghost use Prim.Native.Nat.{_≤_};
+ghost use lib.ListN.{length};
+ghost use Rattle.firmware_writer.specs.Segment.{segmentWroteSize};
+
+const SEGMENT: u8 = b'S';
+
+const APPLY: u8 = b'A';
+// A letter, a message of at most 8,192 bytes, and one byte that is too many.
+const INPUT: usize = 8194;
+
+// What was written of a segment.
+fn show_segment(wrote: SegmentWrote, out: &[u8])
+    requires { ⌜ segmentWroteSize wrote ≤ length (now out) ⌝ }
+{
+    match wrote {
+        SegmentWrote::BadText { field: _, place: _ } => refuse(wrote.number()),
+        SegmentWrote::Profile(_) => refuse(wrote.number()),
+        SegmentWrote::NoRoom => refuse(wrote.number()),
+        SegmentWrote::Done(n) => show(Wrote::Done(n), out),
+    }
+}
+
+fn segment_again(message: &[u8], out: &mut [u8]) {
+    let read = read_segment(message);
+    match read {
+        SegmentRead::Refused(e) => refuse(e.number()),
+        SegmentRead::Profile(_) => refuse(read.number()),
+        SegmentRead::Read(s) => {
+            let name = s.component_name;
+            let signature = s.segment_signature;
+            let wrote = write_segment(
+                out,
+                bytes_of(message, name),
+                s.component_offset,
+                s.segment_size,
+                bytes_of(message, signature),
+            );
+            show_segment(wrote, out);
+        }
+    }
+}
+
+fn apply_again(message: &[u8], out: &mut [u8]) {
+    let read = read_apply(message);
+    let verdict = read.verdict;
+    match verdict {
+        Verdict::Refused(e) => refuse(e.number()),
+        Verdict::Fine => {
+            let apply = read.apply;
+            let wrote = write_apply(out, apply, message);
+            show_text(wrote, out);
+        }
+    }
+}
+
+fn again(kind: u8, message: &[u8], out: &mut [u8]) {
+    if kind == SEGMENT {
+        return segment_again(message, out);
+    }
+    if kind == APPLY {
+        return apply_again(message, out);
+    }
+    refuse(NO_KIND)
+}
+
+fn main() {
+    let mut input = [0u8; 8194];
+    let n = io::read_full(STDIN_FILENO, &mut input);
+    if n == 0 {
+        return refuse(NO_KIND);
+    }
+    if n == INPUT {
+        return refuse(TOO_LONG);
+    }
+    let mut out = [0u8; 8192];
+    again(input[0], &input[1..n], &mut out);
+}

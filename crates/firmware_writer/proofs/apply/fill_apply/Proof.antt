@@ -1,0 +1,118 @@
+use Prim.Native.Nat.{_-_, _≤_}
+use mathlib.Core.Bool.{false}
+use mathlib.Core.List.{[], _∷_}
+use mathlib.Core.Path.{_≡_, sym, _∙_}
+use native.Mathlib.Omega.{arith}
+use denote.Ref.{now}
+use lib.ListN.{length}
+use Rattle.field_writer.specs.Writer.{scalar, nested, headBytes, messageBytes}
+use Rattle.field_writer.specs.declared.message.Room.the-variants.{Left}
+use Rattle.field_writer.specs.Message.{lessRoom}
+use Rattle.field_writer.proofs.Runs.{put-field, put-then}
+use Rattle.field_writer.proofs.Messages.{wrote-short, wrote, room-short}
+use Rattle.walk.specs.Schema.{firmwareInformationField, restartRequiredField}
+use Rattle.firmware_writer.specs.Information.{badFirmware, firmwareFields}
+use Rattle.firmware_writer.specs.Apply.{boolValue, applyFields}
+use Rattle.firmware_writer.proofs.Fields.{room-rest, nested-is, put-last}
+use Rattle.firmware_writer.proofs.Texts.{apply-length}
+use borrow.Author.Needs.{needs}
+use Rattle.firmware_writer.proofs.apply.fill_apply.Statement.{statement}
+use Rattle.firmware_writer.proofs.apply.fill_apply.Tie as tie
+
+-- the information is one that is written
+fine : (c : tie.Start) → badFirmware (now (c .args .texts)) (c .args .apply .«firmware_information») ≡ false
+fine c = c .pre
+
+-- what it leaves of the output, and the number of its bytes
+left-over : (c : tie.After-known-told) → lessRoom (length (messageBytes (firmwareFields (now (c .before .before .before .before .before .before .before .before .args .texts)) (c .before .before .before .before .before .before .before .before .args .apply .«firmware_information»)))) (Left (length (now (c .before .before .before .before .before .before .before .before .args .out)))) ≡ Left (c .before .rest .given .0 .0)
+left-over c = sym (c .before .before .before .firmware-room .ensures) ∙ c .before .rest .given .1
+
+spent : (c : tie.After-known-told) → (c .before .rest .given .0 .0 ≡ length (now (c .before .before .before .before .before .before .before .before .args .out)) - length (messageBytes (firmwareFields (now (c .before .before .before .before .before .before .before .before .args .texts)) (c .before .before .before .before .before .before .before .before .args .apply .«firmware_information»)))) × (length (messageBytes (firmwareFields (now (c .before .before .before .before .before .before .before .before .args .texts)) (c .before .before .before .before .before .before .before .before .args .apply .«firmware_information»))) ≤ length (now (c .before .before .before .before .before .before .before .before .args .out)))
+spent c = room-rest (length (now (c .before .before .before .before .before .before .before .before .args .out))) (length (messageBytes (firmwareFields (now (c .before .before .before .before .before .before .before .before .args .texts)) (c .before .before .before .before .before .before .before .before .args .apply .«firmware_information»)))) (c .before .rest .given .0 .0) (left-over c)
+
+counted : (c : tie.After-known-told) → length (now (c .before .before .before .before .before .before .before .before .args .out)) - c .before .rest .given .0 .0 ≡ length (messageBytes (firmwareFields (now (c .before .before .before .before .before .before .before .before .args .texts)) (c .before .before .before .before .before .before .before .before .args .apply .«firmware_information»)))
+counted c = omega (arith, spent c)
+
+bool-value-requires : tie.Need-bool-value-requires
+bool-value-requires c κs = search needs
+
+firmware-room-requires : tie.Need-firmware-room-requires
+firmware-room-requires c κs = fine (c .before .before .before .before)
+
+enum-told : tie.Need-enum-told
+enum-told c = search needs
+
+enum-known-rest : tie.Need-enum-known-rest
+enum-known-rest c = search needs
+
+sub-len : tie.Need-sub-len
+sub-len c = omega (arith, spent c)
+
+head-len-requires : tie.Need-head-len-requires
+head-len-requires c κs = search needs
+
+scalar-len-requires : tie.Need-scalar-len-requires
+scalar-len-requires c κs = search needs
+
+add-around : tie.Need-add-around
+add-around c = search needs
+
+returns : tie.Need-returns
+returns c =
+    let e = spent (c .before .before .before) in
+    wrote-short _ (applyFields (now (c .before .before .before .before .before .before .before .before .before .before .before .args .texts)) (c .before .before .before .before .before .before .before .before .before .before .before .args .apply)) (now (c .before .before .before .before .before .before .before .before .before .before .before .args .out)) (fine (c .before .before .before .before .before .before .before .before .before .before .before)) (omega (arith, c .if1 .taken, apply-length (now (c .before .before .before .before .before .before .before .before .before .before .before .args .texts)) (c .before .before .before .before .before .before .before .before .before .before .before .args .apply), rw (counted (c .before .before .before)) at (c .before .before .head-len .ensures .0), rw (c .before .before .before .before .before .before .before .bool-value .ensures) at (c .before .scalar-len .ensures .0), e))
+
+put-head-requires : tie.Need-put-head-requires
+put-head-requires c κs =
+    let e = spent (c .before .before .before .before) in
+    (search needs, omega (arith, c .before .if1 .left, c .before .before .before .head-len .ensures .0, e))
+
+put-firmware-requires : tie.Need-put-firmware-requires
+put-firmware-requires c κs =
+    let e = spent (c .before .before .before .before .before .before .before .before) in
+    let h = c .before .before .before .put-head in
+    (fine (c .before .before .before .before .before .before .before .before .before .before .before .before .before .before .before .before), omega (arith, c .before .before .before .before .before .if1 .left, c .before .before .before .before .before .before .before .head-len .ensures .0, h .ensures .place, h .kept .0, e))
+
+put-scalar-requires : tie.Need-put-scalar-requires
+put-scalar-requires c κs =
+    let e = spent (c .before .before .before .before .before .before .before .before .before .before .before .before) in
+    let h = c .before .before .before .before .before .before .before .put-head in
+    let p = c .before .before .before .put-firmware in
+    (search needs, omega (arith, c .before .before .before .before .before .before .before .before .before .if1 .left, c .before .before .before .before .before .before .before .before .before .before .before .head-len .ensures .0, c .before .before .before .before .before .before .before .before .before .before .scalar-len .ensures .0, h .ensures .place, h .kept .0, p .ensures .place, p .kept .0, e))
+
+returns-2 : tie.Need-returns-2
+returns-2 c = wrote-short _ (applyFields (now (c .before .before .before .before .before .before .before .args .texts)) (c .before .before .before .before .before .before .before .args .apply)) (now (c .before .before .before .before .before .before .before .args .out)) (fine (c .before .before .before .before .before .before .before)) (omega (arith, apply-length (now (c .before .before .before .before .before .before .before .args .texts)) (c .before .before .before .before .before .before .before .args .apply), room-short (length (now (c .before .before .before .before .before .before .before .args .out))) (length (messageBytes (firmwareFields (now (c .before .before .before .before .before .before .before .args .texts)) (c .before .before .before .before .before .before .before .args .apply .«firmware_information»)))) (sym (c .before .before .firmware-room .ensures) ∙ c .enum-told .given .1)))
+
+same-length : tie.Need-same-length
+same-length c = search needs
+
+returns-3 : tie.Need-returns-3
+returns-3 c =
+    let e = spent (c .before .before .before .before .before .before .before .before .before .before .before .before .before .before .before) in
+    let l = messageBytes (firmwareFields (now (c .before .before .before .before .before .before .before .before .before .before .before .before .before .before .before .before .before .before .before .before .before .before .before .args .texts)) (c .before .before .before .before .before .before .before .before .before .before .before .before .before .before .before .before .before .before .before .before .before .before .before .args .apply .«firmware_information»)) in
+    let b = boolValue (c .before .before .before .before .before .before .before .before .before .before .before .before .before .before .before .before .before .before .before .before .before .before .before .args .apply .«restart_required») in
+    wrote _ (applyFields (now (c .before .before .before .before .before .before .before .before .before .before .before .before .before .before .before .before .before .before .before .before .before .before .before .args .texts)) (c .before .before .before .before .before .before .before .before .before .before .before .before .before .before .before .before .before .before .before .before .before .before .before .args .apply)) (now (c .before .before .before .before .before .before .before .before .before .before .before .before .before .before .before .before .before .before .before .before .before .before .before .args .out)) (fine (c .before .before .before .before .before .before .before .before .before .before .before .before .before .before .before .before .before .before .before .before .before .before .before))
+    (omega (arith, c .before .before .before .before .before .before .before .before .before .before .before .before .if1 .left, apply-length (now (c .before .before .before .before .before .before .before .before .before .before .before .before .before .before .before .before .before .before .before .before .before .before .before .args .texts)) (c .before .before .before .before .before .before .before .before .before .before .before .before .before .before .before .before .before .before .before .before .before .before .before .args .apply), rw (counted (c .before .before .before .before .before .before .before .before .before .before .before .before .before .before .before)) at (c .before .before .before .before .before .before .before .before .before .before .before .before .before .before .head-len .ensures .0), rw (c .before .before .before .before .before .before .before .before .before .before .before .before .before .before .before .before .before .before .before .bool-value .ensures) at (c .before .before .before .before .before .before .before .before .before .before .before .before .before .scalar-len .ensures .0), e))
+    (put-field (nested firmwareInformationField l) (scalar restartRequiredField b ∷ [])
+    (put-then (headBytes firmwareInformationField (length l)) l (nested-is firmwareInformationField l) (rw (counted (c .before .before .before .before .before .before .before .before .before .before .before .before .before .before .before)) at (c .before .before .before .before .before .before .before .before .before .before .put-head .ensures)) (c .before .before .before .before .before .before .put-firmware .ensures))
+    (put-last (scalar restartRequiredField b) (rw (c .before .before .before .before .before .before .before .before .before .before .before .before .before .before .before .before .before .before .before .bool-value .ensures) at (c .before .before .put-scalar .ensures))))
+
+pub fill-apply-spec : {M : Type 1} → statement M
+fill-apply-spec =
+    tie.close
+    (tie.spec
+    bool-value-requires
+    firmware-room-requires
+    enum-told
+    enum-known-rest
+    sub-len
+    head-len-requires
+    scalar-len-requires
+    add-around
+    returns
+    put-head-requires
+    put-firmware-requires
+    put-scalar-requires
+    returns-2
+    same-length
+    returns-3)
