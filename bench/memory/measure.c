@@ -9,6 +9,7 @@
 #include "pitokaenge.h"
 
 #define ROUNDS 4000
+#define EXTRACTOR_BUFFER PITO_EXTRACTOR_BUFFER(PITO_MESSAGE_LIMIT)
 #define LONGEST_FRAME (2 * PITO_MESSAGE_LIMIT + 9)
 #define MOST_BYTES (2 * LONGEST_FRAME)
 #define LONGEST_ROW PITO_APPLY_READ_ANSWER
@@ -63,13 +64,19 @@ static size_t damage(uint8_t *to, size_t count)
     return count;
 }
 
+/* The limit of the worked cases, or now and then any number. */
+static uint64_t any_limit(void)
+{
+    return once_in(20) ? any_number() : PITO_MESSAGE_LIMIT;
+}
+
 static size_t write_frame(void)
 {
     size_t count = any_length(PITO_MESSAGE_LIMIT + (once_in(40) ? 8 : 0));
     uint64_t sequence = once_in(20) ? below(300) : below(0xF0);
     uint64_t room = once_in(20) ? below(LONGEST_FRAME) : LONGEST_FRAME;
     fill(payload, count);
-    if (CALL(pito_frame_write, sequence, A(payload), count, A(bytes), room, A(answer),
+    if (CALL(pito_frame_write, sequence, any_limit(), A(payload), count, A(bytes), room, A(answer),
              length(PITO_FRAME_WRITE_ANSWER)) != 0)
         return 0;
     return answer[0];
@@ -82,7 +89,8 @@ static void write_parts(size_t count)
     uint64_t sequence = once_in(20) ? below(300) : below(0xF0);
     size_t taken = 0;
     int ended = 0;
-    if (CALL(pito_frame_begin, sequence, once_in(20) ? any_number() : count, A(state), length(PITO_PARTS_STATE)) != 0)
+    if (CALL(pito_frame_begin, sequence, any_limit(), once_in(20) ? any_number() : count, A(state),
+             length(PITO_PARTS_STATE)) != 0)
         return;
     while (!ended) {
         size_t left = count - taken, part = once_in(4) ? any_length(left) : left + (once_in(40) ? 1 : 0);
@@ -104,22 +112,32 @@ static size_t make_frame(void)
 {
     size_t count = write_frame();
     if (once_in(20)) {
-        count = PITO_EXTRACTOR_BUFFER + 400;
+        count = EXTRACTOR_BUFFER + 400;
         memset(bytes, 0x20, count);
         memcpy(bytes, "\xF0\x02\x00\x05", 4);
     }
     return damage(bytes, count);
 }
 
+/* The state stays where the limit is none. */
+static void open_extractor(uint64_t *state)
+{
+    CALL(pito_extractor_open, any_limit(), A(state), length(PITO_EXTRACTOR_STATE));
+    if (state[PITO_EXTRACTOR_LIMIT] != PITO_MESSAGE_LIMIT)
+        CALL(pito_extractor_open, PITO_MESSAGE_LIMIT, A(state), PITO_EXTRACTOR_STATE);
+}
+
 static void feed_frame(size_t count)
 {
     static uint64_t state[PITO_EXTRACTOR_STATE];
-    static uint8_t buffer[PITO_EXTRACTOR_BUFFER];
+    static uint8_t buffer[EXTRACTOR_BUFFER];
     size_t used = 0;
+    if (state[PITO_EXTRACTOR_LIMIT] == 0)
+        open_extractor(state);
     while (used < count) {
         size_t part = 1 + any_length(count - used - 1);
         uint64_t number = CALL(pito_extractor_feed, A(state), PITO_EXTRACTOR_STATE, A(buffer),
-                               length(PITO_EXTRACTOR_BUFFER), A(bytes + used), part, A(answer), PITO_FEED_ANSWER);
+                               length(EXTRACTOR_BUFFER), A(bytes + used), part, A(answer), PITO_FEED_ANSWER);
         used += number == 1 ? 0 : answer[1];
     }
 }
@@ -127,9 +145,10 @@ static void feed_frame(size_t count)
 static void step_frame(size_t count)
 {
     static uint64_t state[PITO_EXTRACTOR_STATE];
-    static uint8_t buffer[PITO_EXTRACTOR_BUFFER];
+    static uint8_t buffer[EXTRACTOR_BUFFER];
+    open_extractor(state);
     for (size_t i = 0; i < count; i++)
-        CALL(pito_extractor_step, A(state), length(PITO_EXTRACTOR_STATE), A(buffer), PITO_EXTRACTOR_BUFFER, bytes[i],
+        CALL(pito_extractor_step, A(state), length(PITO_EXTRACTOR_STATE), A(buffer), EXTRACTOR_BUFFER, bytes[i],
              A(answer), PITO_STEP_ANSWER);
 }
 

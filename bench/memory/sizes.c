@@ -33,7 +33,7 @@ static struct box {
     uint64_t receiver[PITO_RECEIVER_STATE];
     union any_answer answer;
     uint64_t transports[PITO_MOST_TRANSPORTS];
-    uint8_t extractor_buffer[PITO_EXTRACTOR_BUFFER];
+    uint8_t extractor_buffer[PITO_EXTRACTOR_BUFFER(PITO_MESSAGE_LIMIT)];
     uint8_t receiver_buffer[PITO_RECEIVER_BUFFER];
     uint8_t frame[LONGEST_FRAME];
     uint8_t outbox[PITO_ONE_RECORD];
@@ -83,7 +83,7 @@ static void buffer(const char *what, const char *why, size_t bytes)
 static void print_buffers(void)
 {
     printf("| buffer | why this size | bytes |\n|---|---|--:|\n");
-    buffer("extractor's", "`PITO_EXTRACTOR_BUFFER`, exactly", sizeof box.extractor_buffer);
+    buffer("extractor's", "`PITO_EXTRACTOR_BUFFER(limit)`, exactly: limit + 2", sizeof box.extractor_buffer);
     buffer("receiver's", "`PITO_RECEIVER_BUFFER`, exactly", sizeof box.receiver_buffer);
     buffer("outgoing frame", "4 + 2 * 4,096 + 2 * 2 + 1, all escaped", sizeof box.frame);
     buffer("outgoing frame by parts", "any size from 1 on, here the radio module's", sizeof pipe.output);
@@ -164,7 +164,7 @@ static void check_parts(const uint8_t *payload, size_t length)
 {
     uint64_t told[PITO_FRAME_PART_ANSWER] = {0};
     size_t taken = 0, written = 0;
-    if (pito_frame_begin(0, length, pipe.state, PITO_PARTS_STATE) != 0)
+    if (pito_frame_begin(0, PITO_MESSAGE_LIMIT, length, pipe.state, PITO_PARTS_STATE) != 0)
         exit(1);
     while (told[PITO_FRAME_PART_ENDED] == 0) {
         if (pito_frame_part(pipe.state, PITO_PARTS_STATE, payload + taken, length - taken, pipe.output,
@@ -186,7 +186,7 @@ static void print_longest_frame(void)
     for (size_t turn = 0; turn <= 2 * sizeof payload; turn++) {
         if (turn > 0)
             payload[(turn - 1) % sizeof payload]++;
-        if (pito_frame_write(0, payload, sizeof payload, box.frame, sizeof box.frame, written,
+        if (pito_frame_write(0, PITO_MESSAGE_LIMIT, payload, sizeof payload, box.frame, sizeof box.frame, written,
                              PITO_FRAME_WRITE_ANSWER) != 0)
             exit(1);
         check_parts(payload, sizeof payload);

@@ -3,17 +3,15 @@ use crate::action::Action;
 use crate::action::action_for;
 use crate::outcome::Refusal;
 use crate::outcome::StepOutcome;
-use crate::state::CHECKSUM;
 use crate::state::Extractor;
 use crate::state::Phase;
 use crate::state::Progress;
 use framing::checksum::is_checked;
 ghost use mathlib.Core.Path.{_≡_};
-ghost use Prim.Native.Nat.{_+_, _≤_};
+ghost use Prim.Native.Nat.{ℕ, _+_, _≤_};
 ghost use lib.ListN.{length};
 ghost use Rattle.extractor.specs.declared.outcome.StepOutcome.the-variants.{Refused};
 ghost use Rattle.extractor.specs.Outcome.{told};
-ghost use Rattle.extractor.specs.State.{Fits};
 ghost use Rattle.extractor.specs.Step.{step, storeOf, endOf, performOf, advanceOf, byteStepOf};
 
 pub struct Stepped {
@@ -28,15 +26,13 @@ pub struct Advanced {
 }
 
 impl Progress {
-    // Stores a byte at the count held.
-    fn store(self, limit: usize, buffer: &mut [u8], x: u8) -> Advanced
-        requires { ⌜ length (now buffer) ≡ limit + 2 ⌝ }
-        ensures { λ r. ⌜ step (told (r .outcome)) (r .next) (now (buffer .exit))
-            ≡ storeOf limit self (now (buffer .entry)) x ⌝ }
+    // Stores a byte at the count held, where there is room. The buffer's size tells the limit.
+    fn store(self, buffer: &mut [u8], x: u8) -> Advanced
+        ensures { λ r. ⌜ ((limit : ℕ) → length (now (buffer .entry)) ≡ limit + 2
+            → step (told (r .outcome)) (r .next) (now (buffer .exit)) ≡ storeOf limit self (now (buffer .entry)) x) ⌝ }
     {
         let held = self.held;
-        let room = limit + CHECKSUM;
-        if held < room {
+        if held < buffer.len() {
             buffer[held] = x;
             let count = held + 1;
             Advanced {
@@ -76,10 +72,10 @@ impl Progress {
     }
 
     // Does what the byte b asks for.
-    fn perform(self, limit: usize, buffer: &mut [u8], b: u8, action: Action) -> Advanced
-        requires { ⌜ Fits limit self (now buffer) ⌝ }
-        ensures { λ r. ⌜ step (told (r .outcome)) (r .next) (now (buffer .exit))
-            ≡ performOf limit self (now (buffer .entry)) b action ⌝ }
+    fn perform(self, buffer: &mut [u8], b: u8, action: Action) -> Advanced
+        requires { ⌜ self .held ≤ length (now buffer) ⌝ }
+        ensures { λ r. ⌜ ((limit : ℕ) → length (now (buffer .entry)) ≡ limit + 2
+            → step (told (r .outcome)) (r .next) (now (buffer .exit)) ≡ performOf limit self (now (buffer .entry)) b action) ⌝ }
     {
         match action {
             Action::Skip => Advanced {
@@ -107,7 +103,7 @@ impl Progress {
                     held: self.held,
                 },
             },
-            Action::Store(x) => self.store(limit, buffer, x),
+            Action::Store(x) => self.store(buffer, x),
             Action::Finish => Advanced {
                 outcome: self.end(buffer),
                 next: Progress::outside(),
@@ -116,14 +112,14 @@ impl Progress {
         }
     }
 
-    // One byte, in a lawful state and over a buffer of the right size.
-    pub fn advance(self, limit: usize, buffer: &mut [u8], b: u8) -> Advanced
-        requires { ⌜ Fits limit self (now buffer) ⌝ }
-        ensures { λ r. ⌜ step (told (r .outcome)) (r .next) (now (buffer .exit))
-            ≡ advanceOf limit self (now (buffer .entry)) b ⌝ }
+    // One byte, in a lawful state and over a buffer whose size tells the limit.
+    pub fn advance(self, buffer: &mut [u8], b: u8) -> Advanced
+        requires { ⌜ self .held ≤ length (now buffer) ⌝ }
+        ensures { λ r. ⌜ ((limit : ℕ) → length (now (buffer .entry)) ≡ limit + 2
+            → step (told (r .outcome)) (r .next) (now (buffer .exit)) ≡ advanceOf limit self (now (buffer .entry)) b) ⌝ }
     {
         let phase = self.phase;
-        self.perform(limit, buffer, b, action_for(phase, b))
+        self.perform(buffer, b, action_for(phase, b))
     }
 
     // One byte, for any limit and any progress.
@@ -132,7 +128,7 @@ impl Progress {
             ≡ byteStepOf limit self (now (buffer .entry)) b ⌝ }
     {
         if self.is_ready(limit, buffer.len()) {
-            self.advance(limit, buffer, b)
+            self.advance(buffer, b)
         } else {
             refuse(Refusal::BadStateOrBuffer, self)
         }

@@ -282,5 +282,5 @@ pub fn fast_step(state: Progress, limit: usize, buffer: &mut [u8], b: u8) -> Adv
             next: Progress::outside(),
         };
     }
-    state.advance(limit, buffer, b)
+    state.advance(buffer, b)
 }

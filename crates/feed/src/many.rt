@@ -22,13 +22,6 @@ pub struct Fed {
     pub next: Extractor,
 }
 
-// The same of the progress alone.
-struct FedProgress {
-    outcome: FeedOutcome,
-    used: usize,
-    next: Progress,
-}
-
 // The same state made by its fields: one moved whole takes its padding along, through memory.
 fn rebuilt(state: Progress) -> Progress
     ensures { λ r. ⌜ r ≡ state ⌝ }
@@ -68,10 +61,10 @@ fn feed_outcome(outcome: StepOutcome) -> FeedOutcome
 }
 
 // The bytes one after another, in a lawful state and over a buffer of the right size.
-fn run(start: Progress, limit: usize, buffer: &mut [u8], bytes: &[u8]) -> FedProgress
+fn run(start: Progress, limit: usize, buffer: &mut [u8], bytes: &[u8]) -> Fed
     requires { ⌜ Fits limit start (now buffer) ⌝ }
-    ensures { λ r. ⌜ fed (toldFeed (r .outcome)) (r .used) (r .next) (now (buffer .exit))
-        ≡ feedFrom limit 0 start (now (buffer .entry)) (now (bytes .entry)) ⌝ }
+    ensures { λ r. ⌜ (fed (toldFeed (r .outcome)) (r .used) (r .next .progress) (now (buffer .exit))
+        ≡ feedFrom limit 0 start (now (buffer .entry)) (now (bytes .entry))) × (r .next .limit ≡ limit) ⌝ }
 {
     let mut state = start;
     let mut i = 0;
@@ -81,10 +74,13 @@ fn run(start: Progress, limit: usize, buffer: &mut [u8], bytes: &[u8]) -> FedPro
         let there = passed.next;
         state = rebuilt(there);
         if i >= bytes.len() {
-            return FedProgress {
+            return Fed {
                 outcome: FeedOutcome::AllUsed,
                 used: i,
-                next: state,
+                next: Extractor {
+                    limit,
+                    progress: state,
+                },
             };
         }
         let done = fast_step(state, limit, buffer, bytes[i]);
@@ -93,27 +89,14 @@ fn run(start: Progress, limit: usize, buffer: &mut [u8], bytes: &[u8]) -> FedPro
         state = rebuilt(then);
         let outcome = done.outcome;
         if is_decided(outcome) {
-            return FedProgress {
+            return Fed {
                 outcome: feed_outcome(outcome),
                 used: i,
-                next: state,
+                next: Extractor {
+                    limit,
+                    progress: state,
+                },
             };
-        }
-    }
-}
-
-// Many bytes, for any limit and any progress.
-fn take(state: Progress, limit: usize, buffer: &mut [u8], bytes: &[u8]) -> FedProgress
-    ensures { λ r. ⌜ fed (toldFeed (r .outcome)) (r .used) (r .next) (now (buffer .exit))
-        ≡ feedOf limit state (now (buffer .entry)) (now (bytes .entry)) ⌝ }
-{
-    if state.is_ready(limit, buffer.len()) {
-        run(state, limit, buffer, bytes)
-    } else {
-        FedProgress {
-            outcome: FeedOutcome::Refused(Refusal::BadStateOrBuffer),
-            used: 0,
-            next: state,
         }
     }
 }
@@ -124,15 +107,14 @@ pub fn feed(state: Extractor, buffer: &mut [u8], bytes: &[u8]) -> Fed
         ≡ feedOf (state .limit) (state .progress) (now (buffer .entry)) (now (bytes .entry))) × (r .next .limit ≡ state .limit) ⌝ }
 {
     let progress = state.progress;
-    let done = take(progress, state.limit, buffer, bytes);
-    let outcome = done.outcome;
-    let progress = done.next;
-    Fed {
-        outcome,
-        used: done.used,
-        next: Extractor {
-            limit: state.limit,
-            progress,
-        },
+    let limit = state.limit;
+    if progress.is_ready(limit, buffer.len()) {
+        run(progress, limit, buffer, bytes)
+    } else {
+        Fed {
+            outcome: FeedOutcome::Refused(Refusal::BadStateOrBuffer),
+            used: 0,
+            next: state,
+        }
     }
 }

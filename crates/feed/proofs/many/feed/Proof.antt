@@ -1,16 +1,25 @@
-use mathlib.Core.Path.{refl}
+use mathlib.Core.Path.{refl, sym, _∙_}
+use Rattle.extractor.proofs.States.{ready-fits}
 use borrow.Author.Needs.{needs}
 use Rattle.feed.proofs.many.feed.Statement.{statement}
 use Rattle.feed.proofs.many.feed.Tie as tie
 
-take-requires : tie.Need-take-requires
-take-requires c κs = search needs
+is-ready-requires : tie.Need-is-ready-requires
+is-ready-requires c κs = search needs
+
+run-requires : tie.Need-run-requires
+run-requires c κs = ready-fits (sym (c .before .before .is-ready .ensures) ∙ c .before .if1 .taken)
 
 same-length : tie.Need-same-length
 same-length c = search needs
 
 returns : tie.Need-returns
-returns c = (c .before .before .before .take .ensures, refl)
+returns c =
+    let a = c .before .before in
+    rw (sym (a .before .before .before .is-ready .ensures) ∙ a .before .before .if1 .taken) (a .run .ensures)
+
+returns-2 : tie.Need-returns-2
+returns-2 c = (rw (sym (c .before .is-ready .ensures) ∙ c .if1 .left), refl)
 
 pub feed-spec : {M : Type 1} → statement M
-feed-spec = tie.close (tie.spec take-requires same-length returns)
+feed-spec = tie.close (tie.spec is-ready-requires run-requires same-length returns returns-2)

@@ -33,7 +33,7 @@ returns : tie.Need-returns Inv-loop μ-loop
 returns c =
     let g = c .before .before .before .before .before in
     let on = running-on (g .before .before .loop .inv) (g .pass .ensures) (g .pass .kept .1 .1 .0) (c .before .rebuilt .ensures) in
-    running-end on (search needs)
+    (running-end on (search needs), refl)
 
 shared-slice-read-fast-step : tie.Need-shared-slice-read-fast-step Inv-loop μ-loop
 shared-slice-read-fast-step c = search needs
@@ -68,9 +68,11 @@ same-length-2 c =
 returns-2 : tie.Need-returns-2 Inv-loop μ-loop
 returns-2 c =
     let g = c .before .before .before .before .before .before .before .before .before .before .before .before .before .before .before in
-    let on = running-on (g .before .before .loop .inv) (g .pass .ensures) (g .pass .kept .1 .1 .0) (c .before .before .before .before .before .before .before .before .before .before .before .rebuilt .ensures) in
-    rw (c .feed-outcome .ensures)
-    (running-stop on (c .before .before .before .before .before .before .before .fast-step .ensures) (c .before .before .before .before .before .before .before .before .before .before .if1 .left) (c .before .before .before .rebuilt2 .ensures) (sym (c .before .before .is-decided .ensures) ∙ c .before .if2 .taken))
+    let on = running-on (g .before .before .loop .inv) (g .pass .ensures) (g .pass .kept .1 .1 .0) (c .before .before .before .before .before .before .before .before .before .before .before .rebuilt .ensures) in (
+      rw (c .feed-outcome .ensures)
+          (running-stop on (c .before .before .before .before .before .before .before .fast-step .ensures) (c .before .before .before .before .before .before .before .before .before .before .if1 .left) (c .before .before .before .rebuilt2 .ensures) (sym (c .before .before .is-decided .ensures) ∙ c .before .if2 .taken)),
+      refl,
+    )
 
 loop-less : tie.Need-loop-less Inv-loop μ-loop
 loop-less c = omega (arith, c .before .before .before .before .before .before .before .before .before .before .before .before .before .before .pass .ensures .from)

@@ -14,9 +14,9 @@ same-length c = search needs
 
 returns : tie.Need-returns
 unfolding advanceOf
-returns c =
+returns c = λ limit e.
     let p = c .before .before in
-    rw (← (p .before .action-for .ensures)) (p .perform .ensures)
+    rw (← (p .before .action-for .ensures)) (p .perform .ensures limit e)
 
 pub advance-spec : {M : Type 1} → statement M
 advance-spec = tie.close (tie.spec action-for-requires perform-requires same-length returns)

@@ -4,9 +4,6 @@ use borrow.Author.Needs.{needs}
 use Rattle.extractor.proofs.state.Progress.store.Statement.{statement}
 use Rattle.extractor.proofs.state.Progress.store.Tie as tie
 
-add-room : tie.Need-add-room
-add-room c = search needs
-
 slice-write-buffer : tie.Need-slice-write-buffer
 slice-write-buffer c = search needs
 
@@ -21,13 +18,13 @@ same-length c = search needs
 
 returns : tie.Need-returns
 unfolding storeOf
-returns c = simp (lt-ltb _ _ (c .if1 .taken))
+returns c = λ limit e. simp (lt-ltb _ _ (rw e at (c .if1 .taken)))
 
 returns-2 : tie.Need-returns-2
 unfolding storeOf
-returns-2 c = simp (le-ltb _ _ (c .before .if1 .left), c .outside .ensures)
+returns-2 c = λ limit e. simp (le-ltb _ _ (rw e at (c .before .if1 .left)), c .outside .ensures)
 
 pub store-spec : {M : Type 1} → statement M
 store-spec =
     tie.close
-    (tie.spec add-room slice-write-buffer add-count outside-requires same-length returns returns-2)
+    (tie.spec slice-write-buffer add-count outside-requires same-length returns returns-2)
