@@ -167,12 +167,19 @@ static void classic(void)
     }
 }
 
+static void open_receiver(uint64_t *state)
+{
+    CALL(pito_receiver_open, any_limit(), A(state), length(PITO_RECEIVER_STATE));
+    if (state[PITO_RECEIVER_LIMIT] != LIMIT)
+        CALL(pito_receiver_open, LIMIT, A(state), PITO_RECEIVER_STATE);
+}
+
 static void accept(const uint8_t *packet, size_t count)
 {
     static uint64_t state[PITO_RECEIVER_STATE];
     static uint8_t buffer[PITO_RECEIVER_BUFFER(LIMIT)];
-    if (state[PITO_RECEIVER_LIMIT] == 0)
-        CALL(pito_receiver_open, LIMIT, A(state), PITO_RECEIVER_STATE);
+    if (state[PITO_RECEIVER_LIMIT] == 0 || once_in(200))
+        open_receiver(state);
     CALL(pito_receiver_accept, A(state), PITO_RECEIVER_STATE, A(buffer), length(sizeof buffer), A(packet), count,
          A(answer), PITO_ACCEPT_ANSWER);
 }
@@ -182,7 +189,7 @@ static void send_message(void)
 {
     uint64_t room = once_in(40) ? below(600) : 20 + below(LARGEST_ROOM - 19), stream = any_stream(), place = 0;
     uint64_t id = below(once_in(40) ? 20 : 16), sequence = below(once_in(40) ? 20 : 16), ack = below(2);
-    uint64_t limit = once_in(40) ? any_number() : LIMIT;
+    uint64_t limit = any_limit();
     size_t count = any_length(LIMIT);
     int clean = once_in(2);
     fill(payload, count);

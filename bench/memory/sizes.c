@@ -86,7 +86,7 @@ static void print_buffers(void)
 {
     printf("| buffer | why this size | bytes |\n|---|---|--:|\n");
     buffer("extractor's", "`PITO_EXTRACTOR_BUFFER(limit)`, exactly: limit + 2", sizeof box.extractor_buffer);
-    buffer("receiver's", "`PITO_RECEIVER_BUFFER`, exactly", sizeof box.receiver_buffer);
+    buffer("receiver's", "`PITO_RECEIVER_BUFFER(limit)`, exactly: 3 * limit", sizeof box.receiver_buffer);
     buffer("outgoing frame", "4 + 2 * 4,096 + 2 * 2 + 1, all escaped", sizeof box.frame);
     buffer("outgoing frame by parts", "any size from 1 on, here the radio module's", sizeof pipe.output);
     buffer("outgoing packet", "the largest room; from 20 on", sizeof box.packet_out);
