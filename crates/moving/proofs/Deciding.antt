@@ -12,13 +12,14 @@ use borrow.Author.Tests.{le-ltb, eqb-true, eq-eqb, ne-eqb, not-false}
 use Rattle.wire.specs.Told.{line, table}
 use Rattle.outbox.specs.declared.format.Format.{Format}
 use Rattle.outbox.specs.Format.{Known, one, two, formatOf, newBytes, firstPlace}
-use Rattle.outbox.specs.Reader.{Answer, given, refused, refusedAt, Item, Found, found, end, onward, otherVersion, readOf, readings, readAll, walkOf}
+use Rattle.outbox.specs.Reader.{Answer, given, refused, refusedAt, Item, Found, found, end, Handed, onward, otherVersion, readOf, readings, readAll, walkOf}
 use Rattle.outbox.specs.Writer.{Stored, stored, ifWhole}
 use Rattle.outbox.proofs.Record.{clash, found-stands}
 use Rattle.outbox.proofs.Place.{read-record}
 use Rattle.outbox.proofs.Walk.{whole-version}
 use Rattle.outbox.proofs.Versions.{format-known}
-use Rattle.moving.specs.Moves.{recordsIn, overBy, overFrom, movedTo, placed, sizeUnless, moveOf}
+use Rattle.moving.specs.Moves.{formatFor, recordsIn, overBy, overFrom, movedTo, placed, sizeUnless, countOf, moveOf}
+use Rattle.moving.specs.declared.Wished.{Wished}
 
 -- ---- a file's own records are within its own limit
 
@@ -26,16 +27,16 @@ module _ (fmt : Format) (file : List ℕ) where
   within-own : (turns place : ℕ) → overFrom (fmt .limit) place (readings turns fmt file place) ≡ given tt
   unfolding readings
   within-own zero place = refl
-  within-own (suc turns) place = by-answer (readOf fmt file place) refl
+  within-own (suc turns) place = by-answer (λ next. within-own turns next) (readOf fmt file place) refl
     where
-      by-answer : (a : Answer Item) → readOf fmt file place ≡ a
+      by-answer : ((next : ℕ) → overFrom (fmt .limit) next (readings turns fmt file next) ≡ given tt) → (a : Answer Item) → readOf fmt file place ≡ a
           → overBy (fmt .limit) place a (λ next. overFrom (fmt .limit) next (onward a (λ n. readings turns fmt file n))) ≡ given tt
-      by-answer (given (found f)) e =
+      by-answer later (given (found f)) e =
           let s = found-stands fmt place (drop place file) f (read-record fmt file place f e) in
-          rw (le-ltb (fmt .limit) (f .size) (rw (s .1) (omega (arith, s .0 .short)))) (within-own turns (f .next))
-      by-answer (given end) e = refl
-      by-answer (refused n) e = refl
-      by-answer (refusedAt n p) e = refl
+          rw (le-ltb (fmt .limit) (f .size) (rw (s .1) (omega (arith, s .0 .short)))) (later (f .next))
+      by-answer later (given end) e = refl
+      by-answer later (refused n) e = refl
+      by-answer later (refusedAt n p) e = refl
 
   pub all-within : overFrom (fmt .limit) firstPlace (readAll fmt file) ≡ given tt
   unfolding readAll
@@ -80,13 +81,40 @@ decided out bytes (given n) = table (line 14 (ltb (length out) n) ∷ []) (λ m.
 decided out bytes (refused n) = stored (refused n) out
 decided out bytes (refusedAt n place) = stored (refusedAt n place) out
 
-pub count-decides : (o : Answer (Unit {0})) (out bytes : List ℕ) (a : Answer ℕ) → sizeUnless o (length bytes) ≡ a → ifWhole o out (placed out bytes) ≡ decided out bytes a
-count-decides (given none) out bytes a e = ap (decided out bytes) e
+count-decides : (o : Answer (Unit {0})) (out bytes : List ℕ) (a : Answer ℕ) → sizeUnless o (length bytes) ≡ a → ifWhole o out (placed out bytes) ≡ decided out bytes a
+count-decides (given none) out bytes a e =
+    let plus : 0 + length bytes ≡ length bytes = omega arith in
+    ap (λ n. table (line 14 (ltb (length out) (length bytes)) ∷ []) (λ m. stored (refused m) out) (stored (given n) (sets out 0 bytes))) plus
+    ∙ ap (decided out bytes) e
 count-decides (refused n) out bytes a e = ap (decided out bytes) e
 count-decides (refusedAt n place) out bytes a e = ap (decided out bytes) e
 
 -- a size is told where no record is too long
-pub size-told : (o : Answer (Unit {0})) (k n : ℕ) → sizeUnless o k ≡ given n → (o ≡ given tt) × (k ≡ n)
+size-told : (o : Answer (Unit {0})) (k n : ℕ) → sizeUnless o k ≡ given n → (o ≡ given tt) × (k ≡ n)
 size-told (given none) k n e = (refl, cc)
 size-told (refused m) k n e = absurd (clash (cc))
 size-told (refusedAt m place) k n e = absurd (clash (cc))
+
+module _ (fmt : Format) (hs : List Handed) where
+  pub counted : (out : List ℕ) (a : Answer ℕ) → countOf fmt firstPlace firstPlace hs ≡ a
+      → ifWhole (overFrom (fmt .limit) firstPlace hs) out (placed out (newBytes fmt ++ recordsIn fmt hs)) ≡ decided out (newBytes fmt ++ recordsIn fmt hs) a
+  unfolding countOf
+  counted out a e =
+      let o = overFrom (fmt .limit) firstPlace hs in
+      let bytes = newBytes fmt ++ recordsIn fmt hs in
+      let plus : length bytes ≡ firstPlace + length (recordsIn fmt hs) = omega arith in
+      count-decides o out bytes a (ap (sizeUnless o) plus ∙ e)
+
+  pub counted-size : (n : ℕ) → countOf fmt firstPlace firstPlace hs ≡ given n → (overFrom (fmt .limit) firstPlace hs ≡ given tt) × (firstPlace + length (recordsIn fmt hs) ≡ n)
+  unfolding countOf
+  counted-size n e = size-told (overFrom (fmt .limit) firstPlace hs) (firstPlace + length (recordsIn fmt hs)) n e
+
+-- ---- a file that is not whole
+
+pub broken : (wished : Format) (file out : List ℕ) (n place : ℕ) → walkOf (formatOf file) file ≡ refusedAt n place → moveOf wished file out ≡ stored (refusedAt n place) out
+unfolding moveOf
+broken wished file out n place e = rw e
+
+pub known-for : (w : Wished) → Known (formatFor w)
+known-for Wished.One = one
+known-for Wished.Two = two

@@ -5,12 +5,12 @@ use mathlib.Core.Bool.{Bool, true, false, cond}
 use mathlib.Core.List.{List, [], _∷_, _++_}
 use native.Mathlib.Omega.{arith}
 use lib.Dec.{ltb}
-use lib.ListN.{length, set, take, drop, length-append, length-drop, length-set}
+use lib.ListN.{length, take, drop, length-append, length-drop}
 use lib.Seq.{sets, length-take-le, length-sets}
 use borrow.Author.Tests.{lt-ltb, le-ltb, ltb-false}
 use Rattle.wire.proofs.Stores.{sets-append}
 use Rattle.outbox.specs.declared.format.Format.{Format}
-use Rattle.outbox.specs.Format.{Known, headSize, recordBytes, newBytes, firstPlace}
+use Rattle.outbox.specs.Format.{Known, headSize, recordBytes, firstPlace}
 use Rattle.outbox.specs.Reader.{Answer, given, refused, refusedAt, Item, Found, found, end, Handed, handed, payloadIn, onward, recordAt, readOf, readings, readAll}
 use Rattle.outbox.proofs.Record.{clash, found-stands, found-spans}
 use Rattle.outbox.proofs.Place.{read-within, read-record}
@@ -147,7 +147,7 @@ module _ (wished fmt : Format) (file : List ℕ) where
                 ∙ c .counts;
           }
 
--- ---- writing
+-- ---- writing, from the first record's place on
 
 pub record Writing (wished fmt : Format) (file before : List ℕ) (place at : ℕ) (out : List ℕ) : Type 0 where
   pub hs : List Handed
@@ -155,7 +155,7 @@ pub record Writing (wished fmt : Format) (file before : List ℕ) (place at : �
   pub fits : overFrom (wished .limit) place hs ≡ given tt
   pub room : at + length (recordsIn wished hs) ≤ length out
   pub long : length out ≡ length before
-  pub left : sets out at (recordsIn wished hs) ≡ sets before 0 (newBytes wished ++ recordsIn wished (readAll fmt file))
+  pub left : sets out at (recordsIn wished hs) ≡ sets before firstPlace (recordsIn wished (readAll fmt file))
 
 fitting : (t : Bool) (x : Answer (Unit {0})) (place : ℕ) → cond t (refusedAt 46 place) x ≡ given tt → (t ≡ false) × (x ≡ given tt)
 fitting true x place e = absurd (clash (cc))
@@ -163,19 +163,11 @@ fitting false x place e = (refl, e)
 
 module _ (wished fmt : Format) (file before : List ℕ) where
   pub writing-begins : overFrom (wished .limit) firstPlace (readAll fmt file) ≡ given tt → firstPlace + length (recordsIn wished (readAll fmt file)) ≤ length before
-      → Writing wished fmt file before firstPlace firstPlace (set before 0 (wished .version))
-  writing-begins o h =
-      record {
-        hs = readAll fmt file;
-        coming = coming-begins fmt file;
-        fits = o;
-        room = rw length-set h;
-        long = length-set before 0 (wished .version);
-        left = refl;
-      }
+      → Writing wished fmt file before firstPlace firstPlace before
+  writing-begins o h = record { hs = readAll fmt file; coming = coming-begins fmt file; fits = o; room = h; long = refl; left = refl }
 
   module _ {place at : ℕ} {out : List ℕ} (w : Writing wished fmt file before place at out) where
-    pub writing-ends : recordOnly (readOf fmt file place) ≡ given end → out ≡ sets before 0 (newBytes wished ++ recordsIn wished (readAll fmt file))
+    pub writing-ends : recordOnly (readOf fmt file place) ≡ given end → out ≡ sets before firstPlace (recordsIn wished (readAll fmt file))
     writing-ends e =
         let a = readOf fmt file place in
         let none : recordsIn wished (w .hs) ≡ []
