@@ -49,7 +49,7 @@ module _ (fmt : Format) (file : List ℕ) where
       let both = or-eq-false-eq-eq-false-and-eq-false (eqb (length file) 0) (not (eqb (getD file 0 0) (fmt .version))) .0 (whole-version fmt file w) in
       eqb-true (getD file 0 0) (fmt .version) (not-false _ (both .1))
 
-known-same : (a b : Format) → Known a → Known b → a .version ≡ b .version → a ≡ b
+pub known-same : (a b : Format) → Known a → Known b → a .version ≡ b .version → a ≡ b
 known-same a b one one e = refl
 known-same a b two two e = refl
 known-same a b one two e = absurd (omega (arith, e))
