@@ -48,7 +48,7 @@ movable : Movable 65535 oneRecord
 unfolding isOne formatOf walkOf readAll readings readOf otherVersion badPlace recordAt badLength cutShort badStream numberOf isStream
 movable =
     record {
-      bytes = (omega arith, omega arith, omega arith, omega arith, omega arith, omega arith, tt);
+      bytes = (omega arith, (omega arith, (omega arith, (omega arith, (omega arith, (omega arith, tt))))));
       whole = refl;
       short = (omega arith, tt);
     }
