@@ -17,6 +17,8 @@ use calls_messages::calls::information_read;
 use calls_messages::calls::information_write;
 use calls_messages::calls::response_read;
 use calls_messages::calls::response_write;
+use calls_moving::outbox_to_one;
+use calls_moving::outbox_to_two;
 use calls_outbox::calls::outbox_append;
 use calls_outbox::calls::outbox_new;
 use calls_outbox::calls::outbox_record;
@@ -37,6 +39,8 @@ ghost use Rattle.calls_receiving.specs.Calls.{receiverAcceptOf};
 ghost use Rattle.calls_messages.specs.Calls.{envelopeReadOf, envelopeWriteOf, responseReadOf, responseWriteOf, informationReadOf, informationWriteOf, featuresReadOf, featuresWriteOf};
 ghost use Rattle.rows_messages.specs.Convert.{payloadFor};
 ghost use Rattle.calls_firmware.specs.Calls.{segmentReadOf, segmentWriteOf, applyReadOf, applyWriteOf, fieldReadOf};
+ghost use Rattle.calls_moving.specs.Calls.{outboxMoveOf};
+ghost use Rattle.outbox.specs.Format.{versionOne, versionTwo};
 ghost use Rattle.calls_outbox.specs.Calls.{outboxNewOf, outboxAppendOf, outboxRecordOf, outboxWholeOf};
 
 // ---- Classic: the extractor and the frame writer, whole and by parts
@@ -382,4 +386,22 @@ pub extern "C" fn pito_outbox_whole(bytes: &[u8], answer: &mut [u64]) -> u64
         ≡ outboxWholeOf (now (bytes .entry)) (now (answer .entry)) ⌝ }
 {
     outbox_whole(bytes, answer)
+}
+
+// Writes an outbox as version 01.
+#[no_mangle]
+pub extern "C" fn pito_outbox_to_01(bytes: &[u8], output: &mut [u8], answer: &mut [u64]) -> u64
+    ensures { λ r. ⌜ called r [] (now (output .exit)) (now (answer .exit))
+        ≡ outboxMoveOf versionOne (now (bytes .entry)) (now (output .entry)) (now (answer .entry)) ⌝ }
+{
+    outbox_to_one(bytes, output, answer)
+}
+
+// Writes an outbox as version 02.
+#[no_mangle]
+pub extern "C" fn pito_outbox_to_02(bytes: &[u8], output: &mut [u8], answer: &mut [u64]) -> u64
+    ensures { λ r. ⌜ called r [] (now (output .exit)) (now (answer .exit))
+        ≡ outboxMoveOf versionTwo (now (bytes .entry)) (now (output .entry)) (now (answer .entry)) ⌝ }
+{
+    outbox_to_two(bytes, output, answer)
 }
