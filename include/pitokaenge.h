@@ -598,9 +598,10 @@ PITO_CALL uint64_t pito_outbox_whole(const uint8_t *bytes, size_t bytes_len, uin
  * refusal is of (0 with 40).
  * Returns 0, 1, the outbox's first refusal (40, 42, 41, 43), then 46 (to version 01: a payload over 4,096), then 14.
  */
-enum { PITO_OUTBOX_MOVE_SIZE, PITO_OUTBOX_MOVE_PLACE, PITO_OUTBOX_MOVE_ANSWER };
+enum { PITO_OUTBOX_TO_01_SIZE, PITO_OUTBOX_TO_01_PLACE, PITO_OUTBOX_TO_01_ANSWER };
 PITO_CALL uint64_t pito_outbox_to_01(const uint8_t *bytes, size_t bytes_len, uint8_t *output, size_t output_len,
                                      uint64_t *answer, size_t answer_len);
+enum { PITO_OUTBOX_TO_02_SIZE, PITO_OUTBOX_TO_02_PLACE, PITO_OUTBOX_TO_02_ANSWER };
 PITO_CALL uint64_t pito_outbox_to_02(const uint8_t *bytes, size_t bytes_len, uint8_t *output, size_t output_len,
                                      uint64_t *answer, size_t answer_len);
 

@@ -31,6 +31,8 @@ pub enum Operation {
     OutboxAppend,
     OutboxRecord,
     OutboxWhole,
+    OutboxTo01,
+    OutboxTo02,
 }
 
 /// The rows of an operation, for building calls and for printing them.
@@ -152,7 +154,7 @@ const APPLY: &[&str] = &[
 const MESSAGE_READ: &[u64] = &[0, 1, 30, 31, 32, 33, 34];
 
 impl Operation {
-    pub const ALL: [Operation; 26] = [
+    pub const ALL: [Operation; 28] = [
         Operation::ExtractorStep,
         Operation::ExtractorFeed,
         Operation::FrameWrite,
@@ -179,6 +181,8 @@ impl Operation {
         Operation::OutboxAppend,
         Operation::OutboxRecord,
         Operation::OutboxWhole,
+        Operation::OutboxTo01,
+        Operation::OutboxTo02,
     ];
 
     pub fn shape(self) -> Shape {
@@ -428,6 +432,23 @@ impl Operation {
                 inputs: &["bytes"],
                 answer: &["cut place"],
                 returns: &[0, 1, 40, 41, 42, 43],
+                ..empty
+            },
+            Operation::OutboxTo01 => Shape {
+                name: "outbox to 01",
+                inputs: &["bytes"],
+                answer: &["size", "place"],
+                lent: "output",
+                returns: &[0, 1, 14, 40, 41, 42, 43, 46],
+                ..empty
+            },
+            Operation::OutboxTo02 => Shape {
+                name: "outbox to 02",
+                inputs: &["bytes"],
+                answer: &["size", "place"],
+                lent: "output",
+                // Every payload of 01 is short enough for 02.
+                returns: &[0, 1, 14, 40, 41, 42, 43],
                 ..empty
             },
         }
