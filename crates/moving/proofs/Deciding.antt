@@ -1,19 +1,19 @@
 -- Laws of the call: what it is where the file is whole.
 use Prim.Native.Nat.{ℕ, zero, suc, _+_, _≤_, _<_}
 use mathlib.Core.Path.{_≡_, refl, sym, ap, _∙_}
-use mathlib.Core.Bool.{false, not}
+use mathlib.Core.Bool.{Bool, true, false, not}
 use mathlib.Core.List.{List, [], _∷_, _++_}
 use mathlib.Mathlib.Data.Bool.Basic.{or-eq-false-eq-eq-false-and-eq-false}
 use native.Mathlib.Omega.{arith}
 use lib.Dec.{eqb, ltb}
 use lib.ListN.{length, getD, drop}
 use lib.Seq.{sets}
-use borrow.Author.Tests.{le-ltb, eqb-true, eq-eqb, ne-eqb, not-false}
+use borrow.Author.Tests.{le-ltb, ltb-false, eqb-true, eq-eqb, ne-eqb, not-false}
 use Rattle.wire.specs.Told.{line, table}
 use Rattle.outbox.specs.declared.format.Format.{Format}
 use Rattle.outbox.specs.Format.{Known, one, two, formatOf, newBytes, firstPlace}
 use Rattle.outbox.specs.Reader.{Answer, given, refused, refusedAt, Item, Found, found, end, Handed, onward, otherVersion, readOf, readings, readAll, walkOf}
-use Rattle.outbox.specs.Writer.{Stored, stored, ifWhole}
+use Rattle.outbox.specs.Writer.{Stored, stored, storedAt, ifWhole}
 use Rattle.outbox.proofs.Record.{clash, found-stands}
 use Rattle.outbox.proofs.Place.{read-record}
 use Rattle.outbox.proofs.Walk.{whole-version}
@@ -108,6 +108,26 @@ module _ (fmt : Format) (hs : List Handed) where
   pub counted-size : (n : ℕ) → countOf fmt firstPlace firstPlace hs ≡ given n → (overFrom (fmt .limit) firstPlace hs ≡ given tt) × (firstPlace + length (recordsIn fmt hs) ≡ n)
   unfolding countOf
   counted-size n e = size-told (overFrom (fmt .limit) firstPlace hs) (firstPlace + length (recordsIn fmt hs)) n e
+
+-- ---- what is told to be written lies within the output
+
+if-fits : (limit : ℕ) (a : Answer (Unit {0})) (out : List ℕ) (s : Stored) → ((n : ℕ) → s .told ≡ given n → n ≤ limit) → (n : ℕ) → ifWhole a out s .told ≡ given n → n ≤ limit
+if-fits limit (given none) out s k n e = k n e
+if-fits limit (refused m) out s k n e = absurd (clash (cc))
+if-fits limit (refusedAt m place) out s k n e = absurd (clash (cc))
+
+placed-fits : (out bytes : List ℕ) (t : Bool) → ltb (length out) (length bytes) ≡ t → (n : ℕ)
+    → table (line 14 t ∷ []) (λ m. stored (refused m) out) (storedAt out 0 bytes) .told ≡ given n → n ≤ length out
+placed-fits out bytes true t n e = absurd (clash (cc))
+placed-fits out bytes false t n e = let m : 0 + length bytes ≡ n = cc in omega (arith, m, ltb-false (length out) (length bytes) t)
+
+pub written-fits : (wished : Format) (file out : List ℕ) (n : ℕ) → moveOf wished file out .told ≡ given n → n ≤ length out
+unfolding moveOf
+written-fits wished file out n e =
+    let fmt = formatOf file in
+    let bytes = movedTo wished fmt file in
+    if-fits (length out) (walkOf fmt file) out _
+    (if-fits (length out) (overFrom (wished .limit) firstPlace (readAll fmt file)) out _ (placed-fits out bytes (ltb (length out) (length bytes)) refl)) n e
 
 -- ---- a file that is not whole
 
