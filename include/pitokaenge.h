@@ -112,6 +112,7 @@ enum {
     PITO_REFUSED_RECORD_CUT = 41,    /* record cut short */
     PITO_REFUSED_RECORD_LENGTH = 42, /* record length 0 or over its version's: 4,097 in 01, 65,536 in 02 */
     PITO_REFUSED_RECORD_STREAM = 43, /* record's stream not 0, 2, 6 */
+    PITO_REFUSED_RECORD_LONG = 46,   /* payload over 4,096 on the way to version 01 */
 
     /* The profile. */
     PITO_REFUSED_PROFILE = 50 /* a profile rule of a segment broken, told with its field */
@@ -637,6 +638,20 @@ PITO_CALL uint64_t pito_outbox_record(const uint8_t *bytes, size_t bytes_len, ui
  */
 enum { PITO_OUTBOX_WHOLE_CUT_PLACE, PITO_OUTBOX_WHOLE_ANSWER };
 PITO_CALL uint64_t pito_outbox_whole(const uint8_t *bytes, size_t bytes_len, uint64_t *answer, size_t answer_len);
+
+/*
+ * Writes an outbox as version 01, or as version 02: the same records in the same order. One that has the version already
+ * is copied. From 01 to 02 each record grows by 2 bytes; what comes back is, byte for byte, what went.
+ * Answer: the number of bytes written; the place goes with 40 to 43 and 46, and is where the record begins that the
+ * refusal is of (0 with 40).
+ * Returns 0, 1, the outbox's first refusal (40, 42, 41, 43), then 46 (to version 01: a payload over 4,096), then 14.
+ */
+enum { PITO_OUTBOX_TO_01_SIZE, PITO_OUTBOX_TO_01_PLACE, PITO_OUTBOX_TO_01_ANSWER };
+PITO_CALL uint64_t pito_outbox_to_01(const uint8_t *bytes, size_t bytes_len, uint8_t *output, size_t output_len,
+                                     uint64_t *answer, size_t answer_len);
+enum { PITO_OUTBOX_TO_02_SIZE, PITO_OUTBOX_TO_02_PLACE, PITO_OUTBOX_TO_02_ANSWER };
+PITO_CALL uint64_t pito_outbox_to_02(const uint8_t *bytes, size_t bytes_len, uint8_t *output, size_t output_len,
+                                     uint64_t *answer, size_t answer_len);
 
 #ifdef __cplusplus
 }

@@ -52,7 +52,17 @@ fn broken(rng: &mut Rng, mut file: Vec<u8>) -> Vec<u8> {
             (1 | 2, false) => {
                 let place = *rng.pick(&places);
                 let lengths = [
-                    0, 1, 2, 4_096, 4_097, 4_098, 0xFFFF, 0x1_0000, 0x1_0001, 0x0100, 0x0100_0000,
+                    0,
+                    1,
+                    2,
+                    4_096,
+                    4_097,
+                    4_098,
+                    0xFFFF,
+                    0x1_0000,
+                    0x1_0001,
+                    0x0100,
+                    0x0100_0000,
                 ];
                 let length: u32 = *rng.pick(&lengths);
                 file[place..place + width].copy_from_slice(&length.to_be_bytes()[4 - width..]);
@@ -79,6 +89,7 @@ struct Desk {
     append: Call,
     record: Call,
     whole: Call,
+    moves: [Call; 2],
 }
 
 impl Desk {
@@ -88,6 +99,10 @@ impl Desk {
             append: Call::new(Operation::OutboxAppend),
             record: Call::new(Operation::OutboxRecord),
             whole: Call::new(Operation::OutboxWhole),
+            moves: [
+                Call::new(Operation::OutboxTo01),
+                Call::new(Operation::OutboxTo02),
+            ],
         }
     }
 
@@ -201,6 +216,7 @@ impl Desk {
         self.whole.inputs[0].clear();
         self.whole.inputs[0].extend_from_slice(bytes);
         c.run(&mut self.whole)?;
+        self.moved(c, rng, bytes)?;
 
         // The places told, one after the other, and some that nobody told.
         self.record.inputs[0].clear();
@@ -260,6 +276,37 @@ impl Desk {
             let used = self.append.answer[0] as usize;
             self.whole.inputs[0] = self.append.lent[..used].to_vec();
             c.expect(&mut self.whole, 0, |call| call.answer == [0])?;
+        }
+        Ok(())
+    }
+
+    /// Writes the bytes as each version; what came out whole goes back to the same bytes.
+    fn moved(&mut self, c: &mut Comparison<'_>, rng: &mut Rng, bytes: &[u8]) -> Compared<()> {
+        for there in 0..2 {
+            let call = &mut self.moves[there];
+            call.inputs[0].clear();
+            call.inputs[0].extend_from_slice(bytes);
+            let room = match rng.below(4) {
+                0 => rng.index(bytes.len() + 2),
+                1 => bytes.len(),
+                _ => 2 * bytes.len() + 2,
+            };
+            call.lent = rng.bytes(room);
+            if c.run(call)? != 0 {
+                continue;
+            }
+            let size = call.answer[0] as usize;
+            let made = call.lent[..size].to_vec();
+            // Just the room that it takes, and one byte less.
+            call.lent = rng.bytes(size);
+            c.expect(call, 0, |call| call.lent == made)?;
+            call.lent = rng.bytes(size - 1);
+            c.expect(call, 14, |call| call.answer == [0, 0])?;
+            let own = usize::from(bytes[0] == 2);
+            let call = &mut self.moves[own];
+            call.inputs[0] = made;
+            call.lent = rng.bytes(bytes.len());
+            c.expect(call, 0, |call| call.lent == bytes)?;
         }
         Ok(())
     }

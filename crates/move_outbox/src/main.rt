@@ -1,0 +1,97 @@
+// Writes the outbox file given on standard input in the version that the argument names, 01 or 02, to standard output. Where
+// it refuses, standard output gets nothing, and the error output says why.
+use libc::STDERR_FILENO;
+use libc::STDIN_FILENO;
+use libc::STDOUT_FILENO;
+use moving::Moved;
+use moving::Wished;
+use moving::move_file;
+ghost use mathlib.Core.Path.{_≡_};
+ghost use lib.ListN.{length};
+
+// A file must be shorter than this, and has less than twice its bytes in any version.
+const INPUT: usize = 1048576;
+
+const OUTPUT: usize = 2097152;
+
+// The argument.
+enum Asked {
+    One,
+    Two,
+    Neither,
+}
+
+// Room for the file. The `ensures` gives only the length, which lending the array as a slice needs.
+fn input_room() -> [u8; INPUT]
+    ensures { λ r. ⌜ 1048576 ≡ length r ⌝ }
+{
+    [0; INPUT]
+}
+
+fn output_room() -> [u8; OUTPUT]
+    ensures { λ r. ⌜ 2097152 ≡ length r ⌝ }
+{
+    [0; OUTPUT]
+}
+
+fn complain(text: &[u8]) {
+    io::write_all(STDERR_FILENO, b"move_outbox: ");
+    io::write_all(STDERR_FILENO, text);
+}
+
+fn complain_at(number: u8, place: usize) {
+    complain(b"refused ");
+    io::print_decimal(STDERR_FILENO, number as u64);
+    io::write_all(STDERR_FILENO, b" at ");
+    io::print_decimal(STDERR_FILENO, place as u64);
+    io::write_all(STDERR_FILENO, b"\n");
+}
+
+fn argument() -> Asked {
+    let mut word = [0u8; 3];
+    let n = os::arg(1, &mut word);
+    if n != 2 {
+        return Asked::Neither;
+    }
+    if word[0] != b'0' {
+        return Asked::Neither;
+    }
+    if word[1] == b'1' {
+        return Asked::One;
+    }
+    if word[1] == b'2' {
+        return Asked::Two;
+    }
+    Asked::Neither
+}
+
+fn move_to(file: &[u8], wished: Wished, output: &mut [u8]) {
+    let moved = move_file(file, wished, output);
+    match moved {
+        Moved::Written(n) => {
+            io::write_all(STDOUT_FILENO, &output[..n]);
+        }
+        Moved::NoRoom => complain(b"refused 14\n"),
+        Moved::TooLong(place) => complain_at(moved.number(), place),
+        Moved::Broken { fault: _, place } => complain_at(moved.number(), place),
+    }
+}
+
+fn move_input(input: &mut [u8], output: &mut [u8]) {
+    let held = io::read_full(STDIN_FILENO, input);
+    if held == input.len() {
+        complain(b"the file has 1,048,576 bytes or more\n");
+        return;
+    }
+    match argument() {
+        Asked::One => move_to(&input[..held], Wished::One, output),
+        Asked::Two => move_to(&input[..held], Wished::Two, output),
+        Asked::Neither => complain(b"the argument must be 01 or 02\n"),
+    }
+}
+
+fn main() {
+    let mut input = input_room();
+    let mut output = output_room();
+    move_input(&mut input, &mut output);
+}

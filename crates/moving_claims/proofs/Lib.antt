@@ -1,0 +1,4 @@
+pub mod Numbers
+pub mod Rebuilt
+pub mod FilesMove
+mod Instances

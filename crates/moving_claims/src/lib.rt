@@ -1,0 +1,7 @@
+// What moving keeps: a whole file that can make the journey has the same records in the wished version, and comes back byte for byte.
+ghost use Rattle.moving_claims.specs.Claims.{FilesMove};
+
+// For every whole file whose payloads are within the wished version's limit.
+pub fn files_move()
+    ensures { λ _. ⌜ FilesMove ⌝ }
+{}
