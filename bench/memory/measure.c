@@ -120,12 +120,11 @@ static size_t make_frame(void)
     return damage(bytes, count);
 }
 
-/* The state stays where the limit is none. */
 static void open_extractor(uint64_t *state)
 {
-    CALL(pito_extractor_open, any_limit(), A(state), length(PITO_EXTRACTOR_STATE));
-    if (state[PITO_EXTRACTOR_LIMIT] != LIMIT)
-        CALL(pito_extractor_open, LIMIT, A(state), PITO_EXTRACTOR_STATE);
+    do
+        CALL(pito_extractor_open, any_limit(), A(state), length(PITO_EXTRACTOR_STATE));
+    while (state[PITO_EXTRACTOR_LIMIT] != LIMIT);
 }
 
 static void feed_frame(size_t count)
@@ -167,13 +166,19 @@ static void classic(void)
     }
 }
 
+static uint64_t receiver[PITO_RECEIVER_STATE];
+
+static void open_receiver(void)
+{
+    do
+        CALL(pito_receiver_open, any_limit(), A(receiver), length(PITO_RECEIVER_STATE));
+    while (receiver[PITO_RECEIVER_LIMIT] != LIMIT);
+}
+
 static void accept(const uint8_t *packet, size_t count)
 {
-    static uint64_t state[PITO_RECEIVER_STATE];
     static uint8_t buffer[PITO_RECEIVER_BUFFER(LIMIT)];
-    if (state[PITO_RECEIVER_LIMIT] == 0)
-        CALL(pito_receiver_open, LIMIT, A(state), PITO_RECEIVER_STATE);
-    CALL(pito_receiver_accept, A(state), PITO_RECEIVER_STATE, A(buffer), length(sizeof buffer), A(packet), count,
+    CALL(pito_receiver_accept, A(receiver), PITO_RECEIVER_STATE, A(buffer), length(sizeof buffer), A(packet), count,
          A(answer), PITO_ACCEPT_ANSWER);
 }
 
@@ -204,6 +209,8 @@ static void send_message(void)
 static void low_energy(void)
 {
     for (int round = 0; round < ROUNDS; round++) {
+        if (round == 0 || once_in(2))
+            open_receiver();
         send_message();
         if (CALL(pito_ack_write, any_stream(), below(17), below(17), below(3), A(bytes), once_in(20) ? 5 : 6,
                  A(answer), length(PITO_ACK_WRITE_ANSWER)) == 0)
@@ -354,6 +361,9 @@ static void outbox(void)
         size_t count = any_length(LIMIT + once_in(40));
         if (used == 0 || once_in(10))
             used = CALL(pito_outbox_new, A(bytes), !once_in(40), A(answer), length(PITO_OUTBOX_NEW_ANSWER)) == 0;
+        /* Version 01. */
+        if (used == 1 && once_in(2))
+            bytes[0] = 1;
         CALL(pito_outbox_new, A(payload), below(3), A(answer), length(PITO_OUTBOX_NEW_ANSWER));
         fill(payload, count);
         if (CALL(pito_outbox_append, A(bytes), MOST_BYTES, once_in(60) ? MOST_BYTES + 1 : used, any_stream(),
