@@ -9,8 +9,9 @@
  * Standard error: `dropped PLACE` for a cut last record that was found at the start, `refused NUMBER` for each
  * refused byte of the stream, and what ended the program.
  * Ends with 0 at the end of the input; with 1 after the first failed call of the system, if the file is there and is
- * no outbox, or if another box has it open (it is then left as it was); with 2 on bad usage. A reader of the notes that
- * is gone stops nothing; where no report can be written any more the box ends with 1.
+ * no outbox, has a record that is longer than this box's messages, or is open in another box (it is then left as it
+ * was); with 2 on bad usage. A reader of the notes that is gone stops nothing; where no report can be written any more
+ * the box ends with 1.
  *
  * A new file is of version 02; one of version 01 stays so. There is no heap, and the file is never held in memory: it
  * is written and read one record at a time, through a small outbox that has the version byte and room for one record.

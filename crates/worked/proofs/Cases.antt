@@ -23,8 +23,9 @@ use Rattle.walk.specs.Schema.{roleOf}
 use Rattle.walk.specs.Walk.{judged, addedAt, readAt, fieldAt, fieldsFrom}
 use Rattle.control.specs.Response.{responseFrom}
 use Rattle.control.specs.Envelope.{payloadOf, envelopeOf, envelopeWritten}
-use Rattle.outbox.specs.Format.{isOne, formatOf, numberOf}
+use Rattle.outbox.specs.Format.{isOne, formatOf, numberOf, bytesOf, recordBytes}
 use Rattle.outbox.specs.Reader as outbox
+use Rattle.outbox.specs.Writer.{badRecord, appendOf}
 use Rattle.worked.specs.Question.{answerTo}
 use Rattle.worked.specs.Cases.{Case, cases, WorkedCases}
 
@@ -35,7 +36,7 @@ agree f g same a (List·Memᴰ·tail {x = x} {xs = xs} there) = let t : map f xs
 
 -- the whole table, computed
 holds : map (λ (c : Case). answerTo (c .question)) cases ≡ map (λ (c : Case). c .expected) cases
-unfolding answerTo cases limitFits isStream streamOf kindOf escapedOf sumOf framed inRange fieldsOf contentOf lines readOf ackOf sizeFor headerBytes packetOf roomFits argumentsFit writtenOf callsFrom lawfulSlot lawful finish hold dropBy firstStep nextStep openOf ready acceptOf varintAt varintBytes badTag tagAt valueAt tagBytes headBytes partBytes fieldBytes roleOf judged addedAt readAt fieldAt fieldsFrom responseFrom payloadOf envelopeOf envelopeWritten isOne formatOf numberOf outbox.otherVersion outbox.badPlace outbox.badLength outbox.cutShort outbox.badStream outbox.recordAt outbox.readOf
+unfolding answerTo cases limitFits isStream streamOf kindOf escapedOf sumOf framed inRange fieldsOf contentOf lines readOf ackOf sizeFor headerBytes packetOf roomFits argumentsFit writtenOf callsFrom lawfulSlot lawful finish hold dropBy firstStep nextStep openOf ready acceptOf varintAt varintBytes badTag tagAt valueAt tagBytes headBytes partBytes fieldBytes roleOf judged addedAt readAt fieldAt fieldsFrom responseFrom payloadOf envelopeOf envelopeWritten isOne formatOf numberOf outbox.otherVersion outbox.badPlace outbox.badLength outbox.cutShort outbox.badStream outbox.recordAt outbox.readOf outbox.readings outbox.readAll outbox.walkOf bytesOf recordBytes badRecord appendOf
 holds = refl
 
 pub worked-cases : WorkedCases

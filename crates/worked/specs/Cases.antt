@@ -19,8 +19,9 @@ use Rattle.control.specs.declared.envelope.EnvelopePayload.the-variants.{Respon
 use Rattle.control.specs.declared.response.ResponsePayload.the-variants.{None}
 use Rattle.walk.specs.Gathered.{noPart}
 use Rattle.outbox.specs.Reader as outbox
-use Rattle.worked.specs.Question.{Question, writeFrame, writeFrameWithin, nextSequenceByte, writePackets, readPieces, writePacketWithin, openReceiver, acceptPacket, acceptPacketWithin, writeAcknowledgement, writeEnvelope, readEnvelope, readRecord}
-use Rattle.worked.specs.Question.{Answer, bytes, sequenceByte, packets, pieces, sent, opened, accepted, envelope, reading, plain, extended, zeros, answerTo}
+use Rattle.outbox.specs.Writer.{stored}
+use Rattle.worked.specs.Question.{Question, writeFrame, writeFrameWithin, nextSequenceByte, writePackets, readPieces, writePacketWithin, openReceiver, acceptPacket, acceptPacketWithin, writeAcknowledgement, writeEnvelope, readEnvelope, readRecord, appendRecord}
+use Rattle.worked.specs.Question.{Answer, bytes, sequenceByte, packets, pieces, sent, opened, accepted, envelope, reading, appended, plain, extended, zeros, answerTo}
 
 -- a row: what is asked, and what comes back
 pub record Case : Type 0 where
@@ -125,6 +126,22 @@ cases =
     (reading (outbox.given (outbox.found (record { stream = 6; start = 4; size = 2; next = 6 }))))
     ∷ case (readRecord (0x01 ∷ 0x00 ∷ 0x03 ∷ 0x06 ∷ 0x41 ∷ 0x42 ∷ []) 6) (reading (outbox.given outbox.end))
     ∷ case (readRecord (take 5 (0x01 ∷ 0x00 ∷ 0x03 ∷ 0x06 ∷ 0x41 ∷ 0x42 ∷ [])) 1) (reading (outbox.refusedAt 41 1))
+    -- No. 6: a record of version 02; a cut length, a length of 65,537, one of 65,536 with nothing behind it; another version, and none
+    ∷ case (readRecord (0x02 ∷ 0x00 ∷ 0x00 ∷ 0x00 ∷ 0x03 ∷ 0x06 ∷ 0x41 ∷ 0x42 ∷ []) 1)
+    (reading (outbox.given (outbox.found (record { stream = 6; start = 6; size = 2; next = 8 }))))
+    ∷ case (readRecord (0x02 ∷ 0x00 ∷ 0x00 ∷ 0x00 ∷ []) 1) (reading (outbox.refusedAt 41 1))
+    ∷ case (readRecord (0x02 ∷ 0x00 ∷ 0x01 ∷ 0x00 ∷ 0x01 ∷ []) 1) (reading (outbox.refusedAt 42 1))
+    ∷ case (readRecord (0x02 ∷ 0x00 ∷ 0x01 ∷ 0x00 ∷ 0x00 ∷ []) 1) (reading (outbox.refusedAt 41 1))
+    ∷ case (readRecord (0x03 ∷ []) 1) (reading (outbox.refusedAt 40 0))
+    ∷ case (readRecord [] 1) (reading (outbox.refusedAt 40 0))
+    -- appending: 1 before 40, 40 before 15, then 15; a record in each version
+    ∷ case (appendRecord (0x03 ∷ []) 2 9 []) (appended (stored (outbox.refused 1) (0x03 ∷ [])))
+    ∷ case (appendRecord (0x03 ∷ []) 1 9 []) (appended (stored (outbox.refusedAt 40 0) (0x03 ∷ [])))
+    ∷ case (appendRecord (0x02 ∷ []) 1 9 []) (appended (stored (outbox.refused 15) (0x02 ∷ [])))
+    ∷ case (appendRecord (0x02 ∷ zeros 8) 1 6 (0x41 ∷ 0x42 ∷ []))
+    (appended (stored (outbox.given 8) (0x02 ∷ 0x00 ∷ 0x00 ∷ 0x00 ∷ 0x03 ∷ 0x06 ∷ 0x41 ∷ 0x42 ∷ 0x00 ∷ [])))
+    ∷ case (appendRecord (0x01 ∷ zeros 6) 1 6 (0x41 ∷ 0x42 ∷ []))
+    (appended (stored (outbox.given 6) (0x01 ∷ 0x00 ∷ 0x03 ∷ 0x06 ∷ 0x41 ∷ 0x42 ∷ 0x00 ∷ [])))
     ∷ []
 
 -- every row of the table holds

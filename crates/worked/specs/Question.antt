@@ -23,8 +23,9 @@ use Rattle.control.specs.declared.envelope.EnvelopePayload.{EnvelopePayload}
 use Rattle.control.specs.Envelope.{envelopeOf, envelopeWritten}
 use Rattle.outbox.specs.Format.{formatOf}
 use Rattle.outbox.specs.Reader as outbox
+use Rattle.outbox.specs.Writer.{Stored, appendOf}
 
--- the limit of docs/FORMATS.md
+-- the limit of P1 to P12
 abbrev pub limit : ℕ
 limit = 4096
 
@@ -59,6 +60,8 @@ pub data Question : Type 0 where
   readEnvelope : List ℕ → Question
   -- the record of an outbox at a place
   readRecord : List ℕ → ℕ → Question
+  -- a record of a stream with a payload, after so many used bytes of a buffer
+  appendRecord : List ℕ → ℕ → ℕ → List ℕ → Question
 
 -- what a packet carries: so many bytes, their number in one byte or extended
 pub data PieceLength : Type 0 where
@@ -77,6 +80,8 @@ pub data Answer : Type 0 where
   accepted : Told Accepted → List Slot → Answer
   envelope : Told Envelope → Answer
   reading : outbox.Answer outbox.Item → Answer
+  -- what an append tells, and the buffer afterwards
+  appended : Stored → Answer
 
 -- the bytes that a writer wrote: so many, first in the lent output
 abbrev pub bytesOf : Written ℕ → Told (List ℕ)
@@ -112,3 +117,4 @@ answerTo (writeAcknowledgement stream id sequence positive) = bytes (bytesOf (ac
 answerTo (writeEnvelope command payload) = bytes (bytesOf (envelopeWritten command payload [] output))
 answerTo (readEnvelope m) = envelope (envelopeOf m)
 answerTo (readRecord file place) = reading (outbox.readOf (formatOf file) file place)
+answerTo (appendRecord buffer used stream payload) = appended (appendOf (formatOf (take used buffer)) buffer used stream payload)
