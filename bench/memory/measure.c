@@ -347,7 +347,7 @@ static void messages(void)
 
 static void read_outbox(size_t used)
 {
-    uint64_t place = once_in(40) ? below(used + 3) : 1;
+    uint64_t place = once_in(40) ? below(used + 3) : !once_in(40);
     CALL(pito_outbox_whole, A(bytes), used, A(answer), length(PITO_OUTBOX_WHOLE_ANSWER));
     while (CALL(pito_outbox_record, A(bytes), used, place, A(answer), length(PITO_OUTBOX_RECORD_ANSWER)) == 0 &&
            answer[0] == PITO_RECORD)
