@@ -187,7 +187,7 @@ static void send_message(void)
 {
     uint64_t room = once_in(40) ? below(600) : 20 + below(LARGEST_ROOM - 19), stream = any_stream(), place = 0;
     uint64_t id = below(once_in(40) ? 20 : 16), sequence = below(once_in(40) ? 20 : 16), ack = below(2);
-    uint64_t limit = once_in(40) ? any_number() : LIMIT;
+    uint64_t limit = any_limit();
     size_t count = any_length(LIMIT);
     int clean = once_in(2);
     fill(payload, count);

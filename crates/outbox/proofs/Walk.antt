@@ -91,6 +91,12 @@ module _ (fmt : Format) (file : List ℕ) where
             going = read-goes (w .going) f (here ∙ e);
           }
 
+  -- an outbox that has its version byte alone
+  pub alone-whole : otherVersion fmt file ≡ false → length file ≡ firstPlace → walkOf fmt file ≡ given tt
+  alone-whole v h =
+      let w = walk-begins v in
+      walk-ends w (omega arith) ∙ ap (λ a. refusalOr a (given tt)) (read-end fmt file firstPlace v (omega arith) (sym h))
+
   -- where what is read at a place decides
   module _ (v : otherVersion fmt file ≡ false) (place : ℕ) (first : firstPlace ≤ place) (d : walkOf fmt file ≡ refusalOr (readOf fmt file place) (given tt)) where
     pub decided-end : place ≡ length file → walkOf fmt file ≡ given tt

@@ -94,3 +94,14 @@ pub fn walk_records(file: &[u8], fmt: Format) -> Walked
         Judged::Broken(fault) => Walked::Broken { fault, place },
     }
 }
+
+// The same before an append: an outbox that has its version byte alone, which is what a box appends to, is not walked.
+pub fn walk_used(file: &[u8], fmt: Format) -> Walked
+    requires { ⌜ Known fmt × (otherVersion fmt (now file) ≡ false) ⌝ }
+    ensures { λ r. ⌜ toldWalk r ≡ walkOf fmt (now (file .entry)) ⌝ }
+{
+    if file.len() == FIRST_PLACE {
+        return Walked::Whole;
+    }
+    walk_records(file, fmt)
+}

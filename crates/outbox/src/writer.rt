@@ -3,7 +3,7 @@ use crate::format::FIRST_PLACE;
 use crate::format::Format;
 use crate::format::is_one;
 use crate::format::other_version;
-use crate::judging::walk_records;
+use crate::judging::walk_used;
 use crate::reader::Fault;
 use crate::reader::Walked;
 use wire::bytes::copy;
@@ -122,7 +122,7 @@ fn append_by(buffer: &mut [u8], used: usize, fmt: Format, stream: u8, payload: &
     if buffer.len() - used < size {
         return Appended::NoRoom;
     }
-    match walk_records(&buffer[..used], fmt) {
+    match walk_used(&buffer[..used], fmt) {
         Walked::Whole => {
             put_record(buffer, used, fmt, stream, payload);
             let end = used + size;

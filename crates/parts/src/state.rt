@@ -1,4 +1,5 @@
-// The state of a frame that is written by parts: its link's limit, and how far it is. Every value has a meaning, that of what is still to be written.
+// The state of a frame that is written by parts: its link's limit, and its progress. Every value has a meaning, that of what
+// is still to be written.
 use framing::mark::Kind;
 use framing::mark::is_mark;
 use wire::limit::limit_fits;

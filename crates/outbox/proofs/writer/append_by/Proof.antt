@@ -64,31 +64,31 @@ returns-2 c =
     (sym (d .before .bad-record .ensures) ∙ d .if1 .left)
     (c .if2 .taken))
 
-slice-reshare-prefix-walk-records : tie.Need-slice-reshare-prefix-walk-records
-slice-reshare-prefix-walk-records c = search needs
+slice-reshare-prefix-walk-used : tie.Need-slice-reshare-prefix-walk-used
+slice-reshare-prefix-walk-used c = search needs
 
-slice-aggregate-walk-records : tie.Need-slice-aggregate-walk-records
-slice-aggregate-walk-records c = sym (length-take-le _ _ (c .before .before .before .before .before .before .before .pre .1))
+slice-aggregate-walk-used : tie.Need-slice-aggregate-walk-used
+slice-aggregate-walk-used c = sym (length-take-le _ _ (c .before .before .before .before .before .before .before .pre .1))
 
-walk-records-requires : tie.Need-walk-records-requires
-walk-records-requires c κs = search needs
+walk-used-requires : tie.Need-walk-used-requires
+walk-used-requires c κs = search needs
 
 enum-told : tie.Need-enum-told
 enum-told c = search needs
 
 -- past the tests the used bytes decide
-decided : (c : tie.After-walk-records)
+decided : (c : tie.After-walk-used)
     → let s = c .before .before .before .before .before .before .before .before in
     appendOf (s .args .fmt) (now (s .args .buffer)) (s .args .used) (s .args .stream) (now (s .args .payload))
     ≡ ifWhole
-    (toldWalk (c .walk-records .result))
+    (toldWalk (c .walk-used .result))
     (now (s .args .buffer))
     (storedAt (now (s .args .buffer)) (s .args .used) (recordBytes (s .args .fmt) (s .args .stream) (now (s .args .payload))))
 decided c =
     let e = c .before .before in
     let d = e .before .before in
     let s = d .before .before .before .before in
-    rw (c .walk-records .ensures)
+    rw (c .walk-used .ensures)
     (append-judged
     (s .args .fmt)
     (s .args .stream)
@@ -145,9 +145,9 @@ append-by-spec =
     add-size
     sub-if2
     returns-2
-    slice-reshare-prefix-walk-records
-    slice-aggregate-walk-records
-    walk-records-requires
+    slice-reshare-prefix-walk-used
+    slice-aggregate-walk-used
+    walk-used-requires
     enum-told
     put-record-requires
     add-end
