@@ -168,11 +168,11 @@ static void classic(void)
 
 static uint64_t receiver[PITO_RECEIVER_STATE];
 
-static void open_receiver(void)
+static void open_receiver(uint64_t *state)
 {
     do
-        CALL(pito_receiver_open, any_limit(), A(receiver), length(PITO_RECEIVER_STATE));
-    while (receiver[PITO_RECEIVER_LIMIT] != LIMIT);
+        CALL(pito_receiver_open, any_limit(), A(state), length(PITO_RECEIVER_STATE));
+    while (state[PITO_RECEIVER_LIMIT] != LIMIT);
 }
 
 static void accept(const uint8_t *packet, size_t count)
@@ -197,6 +197,8 @@ static void send_message(void)
                  A(answer), length(PITO_PACKET_WRITE_ANSWER)) != 0)
             return;
         next = answer[1];
+        /* Another type now and then: a message that ends too early. */
+        bytes[1] ^= !clean && once_in(4) ? 0x0C : 0;
         accept(bytes, clean ? answer[0] : damage(bytes, answer[0]));
         if (!clean && once_in(4)) {
             fill(bytes, 8);
@@ -208,9 +210,9 @@ static void send_message(void)
 
 static void low_energy(void)
 {
+    static uint64_t other[PITO_RECEIVER_STATE];
     for (int round = 0; round < ROUNDS; round++) {
-        if (round == 0 || once_in(2))
-            open_receiver();
+        open_receiver(round == 0 ? receiver : other);
         send_message();
         if (CALL(pito_ack_write, any_stream(), below(17), below(17), below(3), A(bytes), once_in(20) ? 5 : 6,
                  A(answer), length(PITO_ACK_WRITE_ANSWER)) == 0)
