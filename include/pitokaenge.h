@@ -37,7 +37,7 @@ extern "C" {
 #endif
 
 /* The version of this interface: one more with each change that a caller has to follow. */
-#define PITO_VERSION 3
+#define PITO_VERSION 4
 
 /* The library is for 64-bit machines: a length is a number of 64 bits. */
 typedef char pito_size_t_has_64_bits[sizeof(size_t) == 8 ? 1 : -1];
@@ -49,10 +49,15 @@ typedef char pito_size_t_has_64_bits[sizeof(size_t) == 8 ? 1 : -1];
 #define PITO_CALL
 #endif
 
-/* The largest message in bytes, and what the lent buffers have exactly. */
-#define PITO_MESSAGE_LIMIT 4096
-#define PITO_EXTRACTOR_BUFFER 4098
-#define PITO_RECEIVER_BUFFER 12288
+/* The limit of a link is its largest message in bytes, 1 to 65,535. It is set when the link is opened. */
+#define PITO_LARGEST_LIMIT 65535
+
+/* What the lent buffers have exactly. */
+#define PITO_EXTRACTOR_BUFFER(limit) ((limit) + 2)
+#define PITO_RECEIVER_BUFFER(limit) (3 * (limit))
+
+/* The largest payload of a record in an outbox of version 01, in bytes; in one of version 02 it is PITO_LARGEST_LIMIT. */
+#define PITO_VERSION_01_LIMIT 4096
 
 /* Streams. */
 #define PITO_STREAM_CONTROL 0
@@ -71,7 +76,7 @@ enum {
     PITO_REFUSED_STREAM = 3,          /* packet of an unknown stream */
     PITO_REFUSED_RESERVED_BYTE = 4,   /* reserved byte of a first packet not 0 */
     PITO_REFUSED_PACKET_LENGTH = 5,   /* packet length is not header plus payload */
-    PITO_REFUSED_TOTAL = 6,           /* total over 4,096 */
+    PITO_REFUSED_TOTAL = 6,           /* total over the limit */
     PITO_REFUSED_EMPTY_PAYLOAD = 7,   /* empty payload, but for a first packet with total 0 */
     PITO_REFUSED_ABOVE_TOTAL = 8,     /* first payload above its total */
     PITO_REFUSED_NO_TRANSACTION = 9,  /* no open transaction of that id in the stream */
@@ -83,13 +88,14 @@ enum {
     PITO_REFUSED_ROOM = 13,     /* room not 20 to 512 */
     PITO_REFUSED_OUTPUT = 14,   /* output too small */
     PITO_REFUSED_ARGUMENT = 15, /* an argument out of its range */
+    PITO_REFUSED_LIMIT = 17,    /* limit not 1 to 65,535, however large */
 
     /* Frames. */
     PITO_REFUSED_START_INSIDE = 20, /* F0 inside a frame */
     PITO_REFUSED_FRAME_SHORT = 21,  /* F1 in the header, or under 2 bytes stored */
     PITO_REFUSED_HEADER = 22,       /* packet id not 02, error id not 00, F2 in the header */
     PITO_REFUSED_ESCAPE = 23,       /* F1, or no escape code, after F2 */
-    PITO_REFUSED_FRAME_LONG = 24,   /* a 4,099th byte to store */
+    PITO_REFUSED_FRAME_LONG = 24,   /* a byte to store when limit + 2 are held */
     PITO_REFUSED_CHECKSUM = 25,     /* checksum differs */
     PITO_REFUSED_TOO_MUCH = 26,     /* more payload offered than is still missing */
 
@@ -102,9 +108,9 @@ enum {
     PITO_REFUSED_TEXT = 36,        /* a string not well-formed UTF-8, told with its field and the place in it */
 
     /* The outbox. */
-    PITO_REFUSED_VERSION = 40,       /* outbox empty, or version not 01 */
+    PITO_REFUSED_VERSION = 40,       /* outbox empty, or version neither 01 nor 02 */
     PITO_REFUSED_RECORD_CUT = 41,    /* record cut short */
-    PITO_REFUSED_RECORD_LENGTH = 42, /* record length 0 or over 4,097 */
+    PITO_REFUSED_RECORD_LENGTH = 42, /* record length 0 or over its version's: 4,097 in 01, 65,536 in 02 */
     PITO_REFUSED_RECORD_STREAM = 43, /* record's stream not 0, 2, 6 */
 
     /* The profile. */
@@ -114,13 +120,26 @@ enum {
 /* ------------------------------------------------------------------------------------------------------------
  * Classic: the extractor
  *
- * State row: all 0 is the empty state, outside a frame: begin with that. Phases: 0 outside, 1 before the packet id, 2
- * before the error id, 3 before the sequence byte, 4 in the body, 5 after F2.
- * Buffer: exactly PITO_EXTRACTOR_BUFFER bytes, the same one from call to call. A frame's payload stands first in it
- * when the call that tells the frame returns, and until the next call.
- * Returns 0, 1, 20, 21, 22, 23, 24, 25.
+ * State row: pito_extractor_open fills it; keep it from call to call. It has the link's limit, which stays, and how far
+ * the extractor is in a frame. Phases: 0 outside, 1 before the packet id, 2 before the error id, 3 before the sequence
+ * byte, 4 in the body, 5 after F2. A row of zeros has a limit of 0: every step and feed refuses it by 1.
+ * Buffer: exactly PITO_EXTRACTOR_BUFFER(limit) bytes, the same one from call to call. A frame's payload stands first in
+ * it when the call that tells the frame returns, and until the next call.
+ * Steps and feeds return 0, 1, 20, 21, 22, 23, 24, 25.
  */
-enum { PITO_EXTRACTOR_PHASE, PITO_EXTRACTOR_SEQUENCE, PITO_EXTRACTOR_HELD, PITO_EXTRACTOR_STATE };
+enum {
+    PITO_EXTRACTOR_LIMIT,
+    PITO_EXTRACTOR_PHASE,
+    PITO_EXTRACTOR_SEQUENCE,
+    PITO_EXTRACTOR_HELD,
+    PITO_EXTRACTOR_STATE
+};
+
+/*
+ * Opens an extractor for a link with a limit: the empty state, outside a frame.
+ * Returns 0, 1, 17.
+ */
+PITO_CALL uint64_t pito_extractor_open(uint64_t limit, uint64_t *state, size_t state_len);
 
 /* Outcomes. */
 #define PITO_SKIPPED 0  /* of a step: a byte outside a frame */
@@ -150,25 +169,28 @@ PITO_CALL uint64_t pito_extractor_feed(uint64_t *state, size_t state_len, uint8_
  */
 
 /*
- * Writes the frame of a payload, from the first byte of the output on. PITO_FRAME_SIZE(payload_len) bytes are enough.
- * Returns 0, 1, 15 (a sequence that is F0, F1, F2 or no byte; a payload over 4,096), 14.
+ * Writes the frame of a payload, for a link with a limit, from the first byte of the output on.
+ * PITO_FRAME_SIZE(payload_len) bytes are enough.
+ * Returns 0, 1, 17, 15 (a sequence that is F0, F1, F2 or no byte; a payload over the limit), 14.
  */
 #define PITO_FRAME_SIZE(payload_len) (2 * (payload_len) + 9)
 enum { PITO_FRAME_WRITE_WRITTEN, PITO_FRAME_WRITE_ANSWER };
-PITO_CALL uint64_t pito_frame_write(uint64_t sequence, const uint8_t *payload, size_t payload_len, uint8_t *output,
-                                    size_t output_len, uint64_t *answer, size_t answer_len);
+PITO_CALL uint64_t pito_frame_write(uint64_t sequence, uint64_t limit, const uint8_t *payload, size_t payload_len,
+                                    uint8_t *output, size_t output_len, uint64_t *answer, size_t answer_len);
 
 /*
  * The same frame by parts, for a box that has no room for all of it: the payload is taken part by part, and the frame
  * goes into one output after another, of 1 byte or more each. Joined, the outputs are what pito_frame_write writes.
  *
- * State row: pito_frame_begin fills it; keep it from call to call. It has the frame's sequence byte, its payload's
- * length, the payload bytes taken and their checksum, the stage and what is pending. The stage is what is written next:
- * 0 F0, 1 packet id, 2 error id, 3 sequence byte, 4 payload and, after it, the checksum's upper byte, 5 its lower byte,
- * 6 F1, 7 nothing, the frame has ended. Pending is the code that is still owed after F2, before that: 0 none, 1 of F0,
- * 2 of F1, 3 of F2. A state is lawful with a sequence that is no mark, a total up to 4,096 and no more taken than that.
+ * State row: pito_frame_begin fills it; keep it from call to call. It has the link's limit, the frame's sequence byte,
+ * its payload's length, the payload bytes taken and their checksum, the stage and what is pending. The stage is what is
+ * written next: 0 F0, 1 packet id, 2 error id, 3 sequence byte, 4 payload and, after it, the checksum's upper byte, 5 its
+ * lower byte, 6 F1, 7 nothing, the frame has ended. Pending is the code that is still owed after F2, before that: 0 none,
+ * 1 of F0, 2 of F1, 3 of F2. A state is lawful with a limit of 1 to 65,535, a sequence that is no mark, a total up to the
+ * limit and no more taken than that.
  */
 enum {
+    PITO_PARTS_LIMIT,
     PITO_PARTS_SEQUENCE,
     PITO_PARTS_TOTAL,
     PITO_PARTS_TAKEN,
@@ -179,10 +201,11 @@ enum {
 };
 
 /*
- * Begins a frame whose payload will have `total` bytes.
- * Returns 0, 1, 15 (a sequence that is F0, F1, F2 or no byte; a total over 4,096).
+ * Begins a frame whose payload will have `total` bytes, for a link with a limit.
+ * Returns 0, 1, 17, 15 (a sequence that is F0, F1, F2 or no byte; a total over the limit).
  */
-PITO_CALL uint64_t pito_frame_begin(uint64_t sequence, uint64_t total, uint64_t *state, size_t state_len);
+PITO_CALL uint64_t pito_frame_begin(uint64_t sequence, uint64_t limit, uint64_t total, uint64_t *state,
+                                    size_t state_len);
 
 /*
  * Writes the frame on, from the first byte of the output. `payload` is any part of the payload that begins at its first
@@ -216,20 +239,21 @@ PITO_CALL uint64_t pito_next_sequence(uint8_t sequence, uint64_t *answer, size_t
  * message_len (an empty message has one packet).
  *   room      the largest whole packet in bytes, 20 to 512: the link's ATT_MTU less 3, which ATT itself takes, but at
  *             most 512; the output has at least this size
+ *   limit     the link's, 1 to 65,535
  *   stream    0, 2 or 6
  *   id        the transaction's, 0 to 15
  *   sequence  the first packet's, 0 to 15; each later packet has the next one by itself
  *   ack       1 if an ACK is wanted, else 0
- *   message   at most 4,096 bytes
- * Returns 0, 1, 13, 15 (stream, id, sequence, ack or message size out of range; a place where no piece begins), 14
+ *   message   at most as many bytes as the limit
+ * Returns 0, 1, 13, 17, 15 (stream, id, sequence, ack or message size out of range; a place where no piece begins), 14
  * (an output smaller than the room), the first that holds in this order.
  */
 #define PITO_LEAST_ROOM 20
 #define PITO_LARGEST_ROOM 512
 enum { PITO_PACKET_WRITE_WRITTEN, PITO_PACKET_WRITE_NEXT_PLACE, PITO_PACKET_WRITE_ANSWER };
-PITO_CALL uint64_t pito_packet_write(uint64_t room, uint64_t stream, uint64_t id, uint64_t sequence, uint64_t ack,
-                                     const uint8_t *message, size_t message_len, uint64_t place, uint8_t *output,
-                                     size_t output_len, uint64_t *answer, size_t answer_len);
+PITO_CALL uint64_t pito_packet_write(uint64_t room, uint64_t limit, uint64_t stream, uint64_t id, uint64_t sequence,
+                                     uint64_t ack, const uint8_t *message, size_t message_len, uint64_t place,
+                                     uint8_t *output, size_t output_len, uint64_t *answer, size_t answer_len);
 
 /*
  * Writes the ACK (positive 1) or NACK (positive 0) of a request: six bytes, first in the output. Stream and id are
@@ -244,10 +268,11 @@ PITO_CALL uint64_t pito_ack_write(uint64_t stream, uint64_t id, uint64_t sequenc
 /* ------------------------------------------------------------------------------------------------------------
  * Low Energy: receiving
  *
- * State row: the numbers of a slot for each stream, from PITO_RECEIVER_SLOT(stream) on. All 0 is the state with no open
- * transaction: begin with that. An open slot has PITO_SLOT_WANTED 1 if a packet of its transaction asked for an ACK.
- * Buffer: exactly PITO_RECEIVER_BUFFER bytes, the same one from call to call. A stream's part of it, a third, begins at
- * PITO_RECEIVER_PART(stream): control has the first, OTA the middle one, Alexa the last.
+ * State row: pito_receiver_open fills it; keep it from call to call. It has the link's limit, which stays, and the
+ * numbers of a slot for each stream, from PITO_RECEIVER_SLOT(stream) on. An open slot has PITO_SLOT_WANTED 1 if a packet
+ * of its transaction asked for an ACK. A row of zeros has a limit of 0: every packet given to it is refused by 1.
+ * Buffer: exactly PITO_RECEIVER_BUFFER(limit) bytes, the same one from call to call. A stream's part of it, a third,
+ * begins at PITO_RECEIVER_PART(stream, limit): control has the first, OTA the middle one, Alexa the last.
  */
 enum {
     PITO_SLOT_OPEN,
@@ -258,12 +283,18 @@ enum {
     PITO_SLOT_WANTED,
     PITO_SLOT_STATE
 };
-#define PITO_RECEIVER_STATE (3 * PITO_SLOT_STATE)
+enum { PITO_RECEIVER_LIMIT, PITO_RECEIVER_SLOTS, PITO_RECEIVER_STATE = PITO_RECEIVER_SLOTS + 3 * PITO_SLOT_STATE };
 
 /* Of one of the three streams: its slot's place in the state row, its part's place in the buffer. */
 #define PITO_RECEIVER_OF(stream) ((stream) == PITO_STREAM_CONTROL ? 0 : (stream) == PITO_STREAM_OTA ? 1 : 2)
-#define PITO_RECEIVER_SLOT(stream) (PITO_RECEIVER_OF(stream) * PITO_SLOT_STATE)
-#define PITO_RECEIVER_PART(stream) (PITO_RECEIVER_OF(stream) * PITO_MESSAGE_LIMIT)
+#define PITO_RECEIVER_SLOT(stream) (PITO_RECEIVER_SLOTS + PITO_RECEIVER_OF(stream) * PITO_SLOT_STATE)
+#define PITO_RECEIVER_PART(stream, limit) (PITO_RECEIVER_OF(stream) * (limit))
+
+/*
+ * Opens a receiver for a link with a limit: the empty state, with no open transaction.
+ * Returns 0, 1, 17.
+ */
+PITO_CALL uint64_t pito_receiver_open(uint64_t limit, uint64_t *state, size_t state_len);
 
 /* Outcomes. */
 #define PITO_PIECE_TAKEN 0 /* a piece of a transaction, with more to come */
@@ -544,31 +575,37 @@ PITO_CALL uint64_t pito_field_read(const uint8_t *message, size_t message_len, u
 /* ------------------------------------------------------------------------------------------------------------
  * The outbox file: its bytes in a lent buffer, of which the first `used` are the file
  *
+ * The first byte is the version. Version 01 has payloads of up to 4,096 bytes and lengths of two bytes, version 02
+ * payloads of up to 65,535 and lengths of four. A new outbox is of version 02; files of 01 are read and appended to as
+ * such.
+ *
  * A file that is larger than the memory needs no buffer of its size. A record appended to an outbox of the version
- * byte alone stands behind that byte as it would at the end of any outbox; and the version byte with the bytes from a
- * record's place on is an outbox whose first record it is. PITO_ONE_RECORD bytes are enough for both (examples/c).
+ * byte alone stands behind that byte as it would at the end of any outbox of that version; and the version byte with
+ * the bytes from a record's place on is an outbox whose first record it is. PITO_ONE_RECORD(payload_len) bytes are
+ * enough for both where no payload is longer (examples/c).
  */
 
-/* Where the first record stands, a record's size, and that of an outbox of the version byte and the longest record. */
+/* Where the first record stands; what is enough for a record of any version, and for an outbox of one record. */
 #define PITO_FIRST_PLACE 1
-#define PITO_RECORD_SIZE(payload_len) ((payload_len) + 3)
-#define PITO_ONE_RECORD (PITO_FIRST_PLACE + PITO_RECORD_SIZE(PITO_MESSAGE_LIMIT))
+#define PITO_RECORD_SIZE(payload_len) ((payload_len) + 5)
+#define PITO_ONE_RECORD(payload_len) (PITO_FIRST_PLACE + PITO_RECORD_SIZE(payload_len))
 
 /*
- * Begins a new outbox: one byte, first in the output.
+ * Begins a new outbox, of version 02: one byte, first in the output.
  * Returns 0, 1, 14.
  */
 enum { PITO_OUTBOX_NEW_USED, PITO_OUTBOX_NEW_ANSWER };
 PITO_CALL uint64_t pito_outbox_new(uint8_t *output, size_t output_len, uint64_t *answer, size_t answer_len);
 
 /*
- * Appends a record right after the used bytes, which must be a whole outbox: 3 bytes and the payload. Each call looks
- * through all used bytes, record by record, so a large outbox makes it slow: see above for one record at a time.
+ * Appends a record of their version right after the used bytes, which must be a whole outbox: 5 bytes and the payload,
+ * in version 01 3 and the payload. Each call looks through all used bytes, record by record, so a large outbox makes it
+ * slow: see above for one record at a time.
  *   stream   0, 2 or 6
- *   payload  at most 4,096 bytes
+ *   payload  at most 65,535 bytes, in version 01 at most 4,096
  * Answer: used is the number of used bytes afterwards; the cut place goes with 41, and is where the record that is cut
  * short begins: appending with used set to it drops what is left of that record.
- * Returns 0, 1, 15 (stream or payload size), 14, or the used bytes' own refusal, 40, 42, 41, 43.
+ * Returns 0, 1, 40 (of the used bytes), 15 (stream or payload size), 14, or the used bytes' other refusals, 42, 41, 43.
  */
 enum { PITO_OUTBOX_APPEND_USED, PITO_OUTBOX_APPEND_CUT_PLACE, PITO_OUTBOX_APPEND_ANSWER };
 PITO_CALL uint64_t pito_outbox_append(uint8_t *buffer, size_t buffer_len, uint64_t used, uint64_t stream,

@@ -3,6 +3,7 @@
 
 #[link(name = "pitokaenge", kind = "static")]
 extern "C" {
+    pub fn pito_extractor_open(limit: u64, state: *mut u64, state_len: usize) -> u64;
     pub fn pito_extractor_step(
         state: *mut u64,
         state_len: usize,
@@ -24,6 +25,7 @@ extern "C" {
     ) -> u64;
     pub fn pito_frame_write(
         sequence: u64,
+        limit: u64,
         payload: *const u8,
         payload_len: usize,
         output: *mut u8,
@@ -31,7 +33,13 @@ extern "C" {
         answer: *mut u64,
         answer_len: usize,
     ) -> u64;
-    pub fn pito_frame_begin(sequence: u64, total: u64, state: *mut u64, state_len: usize) -> u64;
+    pub fn pito_frame_begin(
+        sequence: u64,
+        limit: u64,
+        total: u64,
+        state: *mut u64,
+        state_len: usize,
+    ) -> u64;
     pub fn pito_frame_part(
         state: *mut u64,
         state_len: usize,
@@ -45,6 +53,7 @@ extern "C" {
     pub fn pito_next_sequence(sequence: u8, answer: *mut u64, answer_len: usize) -> u64;
     pub fn pito_packet_write(
         room: u64,
+        limit: u64,
         stream: u64,
         id: u64,
         sequence: u64,
@@ -67,6 +76,7 @@ extern "C" {
         answer: *mut u64,
         answer_len: usize,
     ) -> u64;
+    pub fn pito_receiver_open(limit: u64, state: *mut u64, state_len: usize) -> u64;
     pub fn pito_receiver_accept(
         state: *mut u64,
         state_len: usize,

@@ -38,8 +38,8 @@ NOTHING = {
 
 
 class Outbox:
-    def __init__(self, width, limit, wrong=None):
-        self.version, self.width, self.limit, self.wrong = 1, width, limit, wrong
+    def __init__(self, version, width, limit, wrong=None):
+        self.version, self.width, self.limit, self.wrong = version, width, limit, wrong
         self.head = width + 1
 
     def number(self, b):
@@ -93,6 +93,8 @@ class Outbox:
             return ("refused", 14, None), buffer
         if used > len(buffer):
             return ("refused", 1, None), buffer
+        if used == 0 or buffer[0] != self.version:
+            return ("refused", 40, 0), buffer
         if stream not in STREAMS or len(payload) > self.limit:
             return ("refused", 15, None), buffer
         bytes_ = self.record(stream, payload)
@@ -216,11 +218,11 @@ def tries(wrong, seconds, claims):
     def found(box, calls):
         return next((name + ": " + why for name, call in calls if name in claims for why in [call()] if why), None)
 
-    for width, limit in ((1, 0), (1, 2), (2, 1), (2, 3)):
-        box = Outbox(width, limit, wrong)
+    for version, width, limit in ((1, 1, 0), (2, 1, 2), (1, 2, 1), (2, 2, 3)):
+        box = Outbox(version, width, limit, wrong)
         for size in range(1, 8):
             for rest in itertools.product((0, 1, 2, 3), repeat=size - 1):
-                file = [1] + list(rest)
+                file = [version] + list(rest)
                 for kept in range(size + 1):
                     entry = (6, [5] * min(limit, 1))
                     count += 4
@@ -234,13 +236,14 @@ def tries(wrong, seconds, claims):
                         return "width %d, limit %d: %s" % (width, limit, why), count
     until = time.time() + seconds
     while time.time() < until:
-        box = Outbox(rnd.choice((1, 2, 4)), rnd.randrange(200), wrong)
+        box = Outbox(rnd.choice((1, 2)), rnd.choice((1, 2, 4)), rnd.randrange(200), wrong)
         entries = [(rnd.choice(STREAMS), [rnd.randrange(256) for _ in range(rnd.randrange(box.limit + 1))]) for _ in range(rnd.randrange(4))]
-        whole = [1] + [b for e in entries for b in Outbox(box.width, box.limit).record(*e)]
+        right = Outbox(box.version, box.width, box.limit)
+        whole = [box.version] + [b for e in entries for b in right.record(*e)]
         kept = rnd.randrange(len(whole) + 1)
         entry = (rnd.choice(STREAMS), [rnd.randrange(256) for _ in range(rnd.randrange(box.limit + 1))])
         room = [rnd.randrange(256) for _ in range(300)]
-        at = sum(len(Outbox(box.width, box.limit).record(*e)) for e in entries[:1]) + 1
+        at = sum(len(right.record(*e)) for e in entries[:1]) + 1
         count += 5
         why = found(box, (
             ("records_return", lambda: box.records_return([rnd.randrange(256) for _ in range(len(whole) + rnd.randrange(3))], entries)),

@@ -4,11 +4,12 @@
 #include <string.h>
 
 enum { START = 0xF0, END = 0xF1, ESCAPE = 0xF2 };
-enum { PAYLOAD = 4096, BUFFER = PAYLOAD + 2 };
+enum { LARGEST_LIMIT = 65535 };
 enum phase { OUTSIDE, PACKET_ID, ERROR_ID, SEQUENCE, BODY, ESCAPED };
 enum outcome { SKIPPED, TAKEN, FRAME };
 
 struct extractor {
+    size_t room;
     enum phase phase;
     uint8_t sequence;
     size_t held;
@@ -19,25 +20,31 @@ static bool is_mark(uint64_t byte)
     return byte >= START && byte <= ESCAPE;
 }
 
+static bool is_limit(uint64_t limit)
+{
+    return limit >= 1 && limit <= LARGEST_LIMIT;
+}
+
 static bool load(struct extractor *x, const uint64_t *state, size_t state_len, size_t buffer_len)
 {
-    if (state_len != 3 || buffer_len != BUFFER)
+    if (state_len != 4 || !is_limit(state[0]) || buffer_len != state[0] + 2)
         return false;
-    if (state[0] > ESCAPED || state[1] > 0xFF || is_mark(state[1]) || state[2] > BUFFER)
+    if (state[1] > ESCAPED || state[2] > 0xFF || is_mark(state[2]) || state[3] > buffer_len)
         return false;
-    if (state[0] < BODY && (state[1] != 0 || state[2] != 0))
+    if (state[1] < BODY && (state[2] != 0 || state[3] != 0))
         return false;
-    x->phase = (enum phase)state[0];
-    x->sequence = (uint8_t)state[1];
-    x->held = (size_t)state[2];
+    x->room = buffer_len;
+    x->phase = (enum phase)state[1];
+    x->sequence = (uint8_t)state[2];
+    x->held = (size_t)state[3];
     return true;
 }
 
 static void save(const struct extractor *x, uint64_t *state)
 {
-    state[0] = x->phase;
-    state[1] = x->sequence;
-    state[2] = x->held;
+    state[1] = x->phase;
+    state[2] = x->sequence;
+    state[3] = x->held;
 }
 
 static void leave(struct extractor *x, enum phase phase)
@@ -64,7 +71,7 @@ static uint16_t checksum(const uint8_t *payload, size_t length)
 
 static uint64_t store(struct extractor *x, uint8_t *buffer, uint8_t byte)
 {
-    if (x->held == BUFFER)
+    if (x->held == x->room)
         return refuse(x, 24);
     buffer[x->held++] = byte;
     x->phase = BODY;
@@ -187,13 +194,15 @@ static uint8_t *put(uint8_t *output, uint8_t byte)
     return output;
 }
 
-uint64_t plain_frame_write(uint64_t sequence, const uint8_t *payload, size_t payload_len, uint8_t *output,
+uint64_t plain_frame_write(uint64_t sequence, uint64_t limit, const uint8_t *payload, size_t payload_len, uint8_t *output,
                            size_t output_len, uint64_t *answer, size_t answer_len)
 {
     if (answer_len != 1)
         return 1;
     answer[0] = 0;
-    if (sequence > 0xFF || is_mark(sequence) || payload_len > PAYLOAD)
+    if (!is_limit(limit))
+        return 17;
+    if (sequence > 0xFF || is_mark(sequence) || payload_len > limit)
         return 15;
 
     uint16_t sum = checksum(payload, payload_len);
@@ -217,16 +226,19 @@ uint64_t plain_frame_write(uint64_t sequence, const uint8_t *payload, size_t pay
     return 0;
 }
 
-enum { PART_SEQUENCE, PART_TOTAL, PART_TAKEN, PART_SUM, PART_STAGE, PART_PENDING, PARTS };
+enum { PART_LIMIT, PART_SEQUENCE, PART_TOTAL, PART_TAKEN, PART_SUM, PART_STAGE, PART_PENDING, PARTS };
 enum { HEADER_END = 4, LOW = 5, BEFORE_END = 6, DONE = 7 };
 
-uint64_t plain_frame_begin(uint64_t sequence, uint64_t total, uint64_t *state, size_t state_len)
+uint64_t plain_frame_begin(uint64_t sequence, uint64_t limit, uint64_t total, uint64_t *state, size_t state_len)
 {
     if (state_len != PARTS)
         return 1;
-    if (sequence > 0xFF || is_mark(sequence) || total > PAYLOAD)
+    if (!is_limit(limit))
+        return 17;
+    if (sequence > 0xFF || is_mark(sequence) || total > limit)
         return 15;
     memset(state, 0, PARTS * sizeof *state);
+    state[PART_LIMIT] = limit;
     state[PART_SEQUENCE] = sequence;
     state[PART_TOTAL] = total;
     state[PART_SUM] = 2;
@@ -235,7 +247,8 @@ uint64_t plain_frame_begin(uint64_t sequence, uint64_t total, uint64_t *state, s
 
 static bool is_part(const uint64_t *state)
 {
-    return state[PART_SEQUENCE] <= 0xFF && !is_mark(state[PART_SEQUENCE]) && state[PART_TOTAL] <= PAYLOAD
+    return is_limit(state[PART_LIMIT]) && state[PART_SEQUENCE] <= 0xFF && !is_mark(state[PART_SEQUENCE])
+           && state[PART_TOTAL] <= state[PART_LIMIT]
            && state[PART_TAKEN] <= state[PART_TOTAL] && state[PART_SUM] <= 0xFFFF && state[PART_STAGE] <= DONE
            && state[PART_PENDING] <= 3;
 }
@@ -306,15 +319,15 @@ uint64_t plain_frame_part(uint64_t *state, size_t state_len, const uint8_t *payl
 }
 
 enum { OPEN, ID, TOTAL, HELD, LAST_SEQUENCE, WANTED, SLOT };
-enum { SLOTS = 3, PART = 4096 };
+enum { SLOTS = 3 };
 enum type { FIRST, CONTINUATION, LAST, CONTROL };
 enum accepted { PIECE, FINISHED, ACKED, NACKED };
 
-static bool is_lawful(const uint64_t *slot)
+static bool is_lawful(const uint64_t *slot, uint64_t limit)
 {
     if (slot[OPEN] == 0)
         return (slot[ID] | slot[TOTAL] | slot[HELD] | slot[LAST_SEQUENCE] | slot[WANTED]) == 0;
-    return slot[OPEN] == 1 && slot[ID] <= 15 && slot[TOTAL] <= PART && slot[HELD] >= 1 && slot[HELD] < slot[TOTAL]
+    return slot[OPEN] == 1 && slot[ID] <= 15 && slot[TOTAL] <= limit && slot[HELD] >= 1 && slot[HELD] < slot[TOTAL]
            && slot[LAST_SEQUENCE] <= 15 && slot[WANTED] <= 1;
 }
 
@@ -351,10 +364,11 @@ static uint64_t refuse_packet(uint64_t *answer, uint64_t number)
 uint64_t plain_receiver_accept(uint64_t *state, size_t state_len, uint8_t *buffer, size_t buffer_len,
                                const uint8_t *packet, size_t packet_len, uint64_t *answer, size_t answer_len)
 {
-    if (answer_len != 7 || state_len != SLOTS * SLOT || buffer_len != SLOTS * PART)
+    if (answer_len != 7 || state_len != 1 + SLOTS * SLOT || !is_limit(state[0]) || buffer_len != SLOTS * state[0])
         return 1;
+    uint64_t limit = *state++;
     for (size_t i = 0; i < SLOTS; i++)
-        if (!is_lawful(state + i * SLOT))
+        if (!is_lawful(state + i * SLOT, limit))
             return 1;
     if (packet_len < 2)
         return refuse_packet(answer, 2);
@@ -389,7 +403,7 @@ uint64_t plain_receiver_accept(uint64_t *state, size_t state_len, uint8_t *buffe
         total = (size_t)packet[3] << 8 | packet[4];
         held = 0;
         replaced = slot[OPEN] != 0;
-        if (total > PART)
+        if (total > limit)
             return refuse_packet(answer, 6);
         if (length == 0 && total != 0)
             return refuse_packet(answer, 7);
@@ -412,7 +426,7 @@ uint64_t plain_receiver_accept(uint64_t *state, size_t state_len, uint8_t *buffe
         }
         wanted = wanted || slot[WANTED] != 0;
     }
-    memcpy(buffer + index * PART + held, packet + header, length);
+    memcpy(buffer + index * limit + held, packet + header, length);
     if (held + length == total) {
         set_slot(slot, 0, 0, 0, 0, 0, false);
         return tell(answer, FINISHED, stream, id, 0, total, wanted, replaced);

@@ -12,9 +12,9 @@ uint64_t plain_extractor_step(uint64_t *state, size_t state_len, uint8_t *buffer
                               uint64_t *answer, size_t answer_len);
 uint64_t plain_extractor_feed(uint64_t *state, size_t state_len, uint8_t *buffer, size_t buffer_len,
                               const uint8_t *bytes, size_t bytes_len, uint64_t *answer, size_t answer_len);
-uint64_t plain_frame_write(uint64_t sequence, const uint8_t *payload, size_t payload_len, uint8_t *output,
+uint64_t plain_frame_write(uint64_t sequence, uint64_t limit, const uint8_t *payload, size_t payload_len, uint8_t *output,
                            size_t output_len, uint64_t *answer, size_t answer_len);
-uint64_t plain_frame_begin(uint64_t sequence, uint64_t total, uint64_t *state, size_t state_len);
+uint64_t plain_frame_begin(uint64_t sequence, uint64_t limit, uint64_t total, uint64_t *state, size_t state_len);
 uint64_t plain_frame_part(uint64_t *state, size_t state_len, const uint8_t *payload, size_t payload_len, uint8_t *output,
                           size_t output_len, uint64_t *answer, size_t answer_len);
 uint64_t plain_receiver_accept(uint64_t *state, size_t state_len, uint8_t *buffer, size_t buffer_len,

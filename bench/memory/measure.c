@@ -9,13 +9,15 @@
 #include "pitokaenge.h"
 
 #define ROUNDS 4000
-#define LONGEST_FRAME (2 * PITO_MESSAGE_LIMIT + 9)
+#define LIMIT 4096
+#define EXTRACTOR_BUFFER PITO_EXTRACTOR_BUFFER(LIMIT)
+#define LONGEST_FRAME (2 * LIMIT + 9)
 #define MOST_BYTES (2 * LONGEST_FRAME)
 #define LONGEST_ROW PITO_APPLY_READ_ANSWER
 #define LARGEST_ROOM 512
 
 static uint64_t answer[LONGEST_ROW];
-static uint8_t payload[PITO_MESSAGE_LIMIT + 8], bytes[MOST_BYTES];
+static uint8_t payload[LIMIT + 8], bytes[MOST_BYTES];
 static const uint8_t streams[] = {PITO_STREAM_CONTROL, PITO_STREAM_OTA, PITO_STREAM_ALEXA};
 
 /* A length, now and then a wrong one. */
@@ -63,13 +65,19 @@ static size_t damage(uint8_t *to, size_t count)
     return count;
 }
 
+/* The limit of the worked cases, or now and then any number. */
+static uint64_t any_limit(void)
+{
+    return once_in(20) ? any_number() : LIMIT;
+}
+
 static size_t write_frame(void)
 {
-    size_t count = any_length(PITO_MESSAGE_LIMIT + (once_in(40) ? 8 : 0));
+    size_t count = any_length(LIMIT + (once_in(40) ? 8 : 0));
     uint64_t sequence = once_in(20) ? below(300) : below(0xF0);
     uint64_t room = once_in(20) ? below(LONGEST_FRAME) : LONGEST_FRAME;
     fill(payload, count);
-    if (CALL(pito_frame_write, sequence, A(payload), count, A(bytes), room, A(answer),
+    if (CALL(pito_frame_write, sequence, any_limit(), A(payload), count, A(bytes), room, A(answer),
              length(PITO_FRAME_WRITE_ANSWER)) != 0)
         return 0;
     return answer[0];
@@ -82,7 +90,8 @@ static void write_parts(size_t count)
     uint64_t sequence = once_in(20) ? below(300) : below(0xF0);
     size_t taken = 0;
     int ended = 0;
-    if (CALL(pito_frame_begin, sequence, once_in(20) ? any_number() : count, A(state), length(PITO_PARTS_STATE)) != 0)
+    if (CALL(pito_frame_begin, sequence, any_limit(), once_in(20) ? any_number() : count, A(state),
+             length(PITO_PARTS_STATE)) != 0)
         return;
     while (!ended) {
         size_t left = count - taken, part = once_in(4) ? any_length(left) : left + (once_in(40) ? 1 : 0);
@@ -104,22 +113,31 @@ static size_t make_frame(void)
 {
     size_t count = write_frame();
     if (once_in(20)) {
-        count = PITO_EXTRACTOR_BUFFER + 400;
+        count = EXTRACTOR_BUFFER + 400;
         memset(bytes, 0x20, count);
         memcpy(bytes, "\xF0\x02\x00\x05", 4);
     }
     return damage(bytes, count);
 }
 
+static void open_extractor(uint64_t *state)
+{
+    do
+        CALL(pito_extractor_open, any_limit(), A(state), length(PITO_EXTRACTOR_STATE));
+    while (state[PITO_EXTRACTOR_LIMIT] != LIMIT);
+}
+
 static void feed_frame(size_t count)
 {
     static uint64_t state[PITO_EXTRACTOR_STATE];
-    static uint8_t buffer[PITO_EXTRACTOR_BUFFER];
+    static uint8_t buffer[EXTRACTOR_BUFFER];
     size_t used = 0;
+    if (state[PITO_EXTRACTOR_LIMIT] == 0)
+        open_extractor(state);
     while (used < count) {
         size_t part = 1 + any_length(count - used - 1);
         uint64_t number = CALL(pito_extractor_feed, A(state), PITO_EXTRACTOR_STATE, A(buffer),
-                               length(PITO_EXTRACTOR_BUFFER), A(bytes + used), part, A(answer), PITO_FEED_ANSWER);
+                               length(EXTRACTOR_BUFFER), A(bytes + used), part, A(answer), PITO_FEED_ANSWER);
         used += number == 1 ? 0 : answer[1];
     }
 }
@@ -127,9 +145,10 @@ static void feed_frame(size_t count)
 static void step_frame(size_t count)
 {
     static uint64_t state[PITO_EXTRACTOR_STATE];
-    static uint8_t buffer[PITO_EXTRACTOR_BUFFER];
+    static uint8_t buffer[EXTRACTOR_BUFFER];
+    open_extractor(state);
     for (size_t i = 0; i < count; i++)
-        CALL(pito_extractor_step, A(state), length(PITO_EXTRACTOR_STATE), A(buffer), PITO_EXTRACTOR_BUFFER, bytes[i],
+        CALL(pito_extractor_step, A(state), length(PITO_EXTRACTOR_STATE), A(buffer), EXTRACTOR_BUFFER, bytes[i],
              A(answer), PITO_STEP_ANSWER);
 }
 
@@ -140,19 +159,27 @@ static void classic(void)
         feed_frame(count);
         if (count < 100 || once_in(20))
             step_frame(count);
-        count = any_length(PITO_MESSAGE_LIMIT);
+        count = any_length(LIMIT);
         fill(payload, count);
         write_parts(count);
         CALL(pito_next_sequence, below(256), A(answer), length(PITO_NEXT_SEQUENCE_ANSWER));
     }
 }
 
+static uint64_t receiver[PITO_RECEIVER_STATE];
+
+static void open_receiver(uint64_t *state)
+{
+    do
+        CALL(pito_receiver_open, any_limit(), A(state), length(PITO_RECEIVER_STATE));
+    while (state[PITO_RECEIVER_LIMIT] != LIMIT);
+}
+
 static void accept(const uint8_t *packet, size_t count)
 {
-    static uint64_t state[PITO_RECEIVER_STATE];
-    static uint8_t buffer[PITO_RECEIVER_BUFFER];
-    CALL(pito_receiver_accept, A(state), PITO_RECEIVER_STATE, A(buffer), length(PITO_RECEIVER_BUFFER), A(packet),
-         count, A(answer), PITO_ACCEPT_ANSWER);
+    static uint8_t buffer[PITO_RECEIVER_BUFFER(LIMIT)];
+    CALL(pito_receiver_accept, A(receiver), PITO_RECEIVER_STATE, A(buffer), length(sizeof buffer), A(packet), count,
+         A(answer), PITO_ACCEPT_ANSWER);
 }
 
 /* All packets of a message, some of them damaged or followed by any bytes. */
@@ -160,15 +187,18 @@ static void send_message(void)
 {
     uint64_t room = once_in(40) ? below(600) : 20 + below(LARGEST_ROOM - 19), stream = any_stream(), place = 0;
     uint64_t id = below(once_in(40) ? 20 : 16), sequence = below(once_in(40) ? 20 : 16), ack = below(2);
-    size_t count = any_length(PITO_MESSAGE_LIMIT);
+    uint64_t limit = any_limit();
+    size_t count = any_length(LIMIT);
     int clean = once_in(2);
     fill(payload, count);
     do {
         uint64_t next, output = once_in(100) ? below(20) : LARGEST_ROOM;
-        if (CALL(pito_packet_write, room, stream, id, sequence, ack, A(payload), count, place, A(bytes), output,
+        if (CALL(pito_packet_write, room, limit, stream, id, sequence, ack, A(payload), count, place, A(bytes), output,
                  A(answer), length(PITO_PACKET_WRITE_ANSWER)) != 0)
             return;
         next = answer[1];
+        /* Another type now and then: a message that ends too early. */
+        bytes[1] ^= !clean && once_in(4) ? 0x0C : 0;
         accept(bytes, clean ? answer[0] : damage(bytes, answer[0]));
         if (!clean && once_in(4)) {
             fill(bytes, 8);
@@ -180,7 +210,9 @@ static void send_message(void)
 
 static void low_energy(void)
 {
+    static uint64_t other[PITO_RECEIVER_STATE];
     for (int round = 0; round < ROUNDS; round++) {
+        open_receiver(round == 0 ? receiver : other);
         send_message();
         if (CALL(pito_ack_write, any_stream(), below(17), below(17), below(3), A(bytes), once_in(20) ? 5 : 6,
                  A(answer), length(PITO_ACK_WRITE_ANSWER)) == 0)
@@ -317,7 +349,7 @@ static void messages(void)
 
 static void read_outbox(size_t used)
 {
-    uint64_t place = once_in(40) ? below(used + 3) : 1;
+    uint64_t place = once_in(40) ? below(used + 3) : !once_in(40);
     CALL(pito_outbox_whole, A(bytes), used, A(answer), length(PITO_OUTBOX_WHOLE_ANSWER));
     while (CALL(pito_outbox_record, A(bytes), used, place, A(answer), length(PITO_OUTBOX_RECORD_ANSWER)) == 0 &&
            answer[0] == PITO_RECORD)
@@ -328,9 +360,12 @@ static void outbox(void)
 {
     uint64_t used = 0;
     for (int round = 0; round < ROUNDS; round++) {
-        size_t count = any_length(PITO_MESSAGE_LIMIT + once_in(40));
+        size_t count = any_length(LIMIT + once_in(40));
         if (used == 0 || once_in(10))
             used = CALL(pito_outbox_new, A(bytes), !once_in(40), A(answer), length(PITO_OUTBOX_NEW_ANSWER)) == 0;
+        /* Version 01. */
+        if (used == 1 && once_in(2))
+            bytes[0] = 1;
         CALL(pito_outbox_new, A(payload), below(3), A(answer), length(PITO_OUTBOX_NEW_ANSWER));
         fill(payload, count);
         if (CALL(pito_outbox_append, A(bytes), MOST_BYTES, once_in(60) ? MOST_BYTES + 1 : used, any_stream(),

@@ -23,12 +23,12 @@ calls! {
         answers: usize) plain_extractor_step;
     ExtractorFeed(state: *mut u64, states: usize, buffer: *mut u8, size: usize, bytes: *const u8, length: usize,
         answer: *mut u64, answers: usize) plain_extractor_feed;
-    FrameWrite(sequence: u64, payload: *const u8, length: usize, output: *mut u8, size: usize, answer: *mut u64,
-        answers: usize) plain_frame_write;
-    FrameBegin(sequence: u64, total: u64, state: *mut u64, states: usize) plain_frame_begin;
+    FrameWrite(sequence: u64, limit: u64, payload: *const u8, length: usize, output: *mut u8, size: usize,
+        answer: *mut u64, answers: usize) plain_frame_write;
+    FrameBegin(sequence: u64, limit: u64, total: u64, state: *mut u64, states: usize) plain_frame_begin;
     FramePart(state: *mut u64, states: usize, payload: *const u8, length: usize, output: *mut u8, size: usize,
         answer: *mut u64, answers: usize) plain_frame_part;
-    PacketWrite(room: u64, stream: u64, id: u64, sequence: u64, ack: u64, message: *const u8, length: usize,
+    PacketWrite(room: u64, limit: u64, stream: u64, id: u64, sequence: u64, ack: u64, message: *const u8, length: usize,
         place: u64, output: *mut u8, size: usize, answer: *mut u64, answers: usize);
     AckWrite(stream: u64, id: u64, sequence: u64, positive: u64, output: *mut u8, size: usize, answer: *mut u64,
         answers: usize);

@@ -2,12 +2,15 @@
 
 use crate::calls::{ExtractorFeed, ExtractorStep, FrameBegin, FramePart, FrameWrite};
 use crate::digest::Digest;
-use second::classic::{write_frame, Decided, Extractor, Outcome, Parts};
+use second::classic::{write_frame, Decided, Extractor, Outcome, Parts, Standing, LIMIT};
 use std::hint::black_box;
 
 const FRAME: u64 = 2;
+/// The link that is measured has the limit of the worked cases.
+pub const BUFFER: usize = second::classic::buffer(LIMIT);
+const EMPTY: [u64; 4] = [LIMIT, 0, 0, 0];
 /// An output that every frame fits.
-pub const OUTPUT: usize = 2 * 4_096 + 9;
+pub const OUTPUT: usize = 2 * LIMIT as usize + 9;
 
 /// A payload, its sequence byte, and the size of the output that it is written to.
 pub struct Payload {
@@ -26,7 +29,7 @@ pub fn feed<const WHOLE: bool>(
 ) -> u64 {
     let feed = black_box(feed);
     let mut digest = Digest::<WHOLE>::new();
-    let (mut state, mut answer) = ([0; 3], [0; 4]);
+    let (mut state, mut answer) = (EMPTY, [0; 4]);
     for mut rest in stream.chunks(size) {
         while !rest.is_empty() {
             let number = unsafe {
@@ -57,7 +60,7 @@ pub fn feed<const WHOLE: bool>(
 /// The same by the types of second/.
 pub fn feed_own<const WHOLE: bool>(stream: &[u8], size: usize, buffer: &mut [u8]) -> u64 {
     let mut digest = Digest::<WHOLE>::new();
-    let mut state = Extractor::default();
+    let mut state = Extractor::open(LIMIT).expect("a limit");
     for mut rest in stream.chunks(size) {
         while !rest.is_empty() {
             let (next, used, decided) = state.feed(buffer, rest);
@@ -81,7 +84,7 @@ pub fn feed_own<const WHOLE: bool>(stream: &[u8], size: usize, buffer: &mut [u8]
 pub fn step<const WHOLE: bool>(step: ExtractorStep, stream: &[u8], buffer: &mut [u8]) -> u64 {
     let step = black_box(step);
     let mut digest = Digest::<WHOLE>::new();
-    let (mut state, mut answer) = ([0; 3], [0; 3]);
+    let (mut state, mut answer) = (EMPTY, [0; 3]);
     for &byte in stream {
         let number = unsafe {
             step(
@@ -107,7 +110,7 @@ pub fn step<const WHOLE: bool>(step: ExtractorStep, stream: &[u8], buffer: &mut 
 
 pub fn step_own<const WHOLE: bool>(stream: &[u8], buffer: &mut [u8]) -> u64 {
     let mut digest = Digest::<WHOLE>::new();
-    let mut state = Extractor::default();
+    let mut state = Extractor::open(LIMIT).expect("a limit");
     for &byte in stream {
         let (next, told) = state.step(buffer, byte);
         state = next;
@@ -126,18 +129,19 @@ pub fn step_own<const WHOLE: bool>(stream: &[u8], buffer: &mut [u8]) -> u64 {
     digest.value()
 }
 
-fn state_row(state: Extractor) -> [u64; 3] {
-    match state {
-        Extractor::Outside => [0; 3],
-        Extractor::PacketId => [1, 0, 0],
-        Extractor::ErrorId => [2, 0, 0],
-        Extractor::Sequence => [3, 0, 0],
-        Extractor::Body {
+fn state_row(state: Extractor) -> [u64; 4] {
+    let [phase, sequence, held] = match state.standing {
+        Standing::Outside => [0; 3],
+        Standing::PacketId => [1, 0, 0],
+        Standing::ErrorId => [2, 0, 0],
+        Standing::Sequence => [3, 0, 0],
+        Standing::Body {
             sequence,
             held,
             escape,
         } => [4 + u64::from(escape), u64::from(sequence), held as u64],
-    }
+    };
+    [state.limit, phase, sequence, held]
 }
 
 pub fn write<const WHOLE: bool>(write: FrameWrite, payloads: &[Payload], output: &mut [u8]) -> u64 {
@@ -148,6 +152,7 @@ pub fn write<const WHOLE: bool>(write: FrameWrite, payloads: &[Payload], output:
         let number = unsafe {
             write(
                 u64::from(payload.sequence),
+                LIMIT,
                 payload.bytes.as_ptr(),
                 payload.bytes.len(),
                 output.as_mut_ptr(),
@@ -169,6 +174,7 @@ pub fn write_own<const WHOLE: bool>(payloads: &[Payload], output: &mut [u8]) -> 
     for payload in payloads {
         match write_frame(
             payload.sequence,
+            LIMIT,
             &payload.bytes,
             &mut output[..payload.room],
         ) {
@@ -191,11 +197,11 @@ pub fn parts<const WHOLE: bool>(
 ) -> u64 {
     let (begin, part) = black_box(calls);
     let mut digest = Digest::<WHOLE>::new();
-    let (mut state, mut answer) = ([0; 6], [0; 3]);
+    let (mut state, mut answer) = ([0; 7], [0; 3]);
     for payload in payloads {
         let sequence = u64::from(payload.sequence);
         let total = payload.bytes.len() as u64;
-        let number = unsafe { begin(sequence, total, state.as_mut_ptr(), state.len()) };
+        let number = unsafe { begin(sequence, LIMIT, total, state.as_mut_ptr(), state.len()) };
         digest.number(number);
         let mut rest = &payload.bytes[..];
         loop {
@@ -228,10 +234,10 @@ pub fn parts<const WHOLE: bool>(
 /// The same by the types of second/.
 pub fn parts_own<const WHOLE: bool>(payloads: &[Payload], output: &mut [u8]) -> u64 {
     let mut digest = Digest::<WHOLE>::new();
-    let mut last = [0; 6];
+    let mut last = [0; 7];
     for payload in payloads {
         let total = payload.bytes.len() as u64;
-        let mut state = Parts::begin(payload.sequence, total).expect("in range");
+        let mut state = Parts::begin(payload.sequence, LIMIT, total).expect("in range");
         digest.number(0);
         let mut rest = &payload.bytes[..];
         loop {
@@ -254,7 +260,7 @@ pub fn parts_own<const WHOLE: bool>(payloads: &[Payload], output: &mut [u8]) -> 
 }
 
 /// The row of a frame that has ended.
-fn ended_row(state: Parts) -> [u64; 6] {
+fn ended_row(state: Parts) -> [u64; 7] {
     let (sequence, sum) = (u64::from(state.sequence), u64::from(state.sum));
-    [sequence, state.total, state.taken, sum, 7, 0]
+    [state.limit, sequence, state.total, state.taken, sum, 7, 0]
 }

@@ -8,6 +8,7 @@ use crate::rows_classic::{feed_job, parts_job, write_job};
 use crate::rows_low_energy::{accept_job, write_packets_job};
 use crate::rows_outbox::{append_job, records_job, whole_job};
 use crate::{control, inputs, work};
+use second::outbox::TWO;
 
 /// All of a stream in one call.
 const ONE_CALL: usize = usize::MAX;
@@ -293,16 +294,16 @@ fn outbox() -> Vec<Growth> {
     let line = |name, make: fn(usize) -> Job| doubling(name, "records", 1_024, make);
     vec![
         line("outbox: records of 1 byte, place after place", |n| {
-            records_job(inputs::outbox(n, 1), 1)
+            records_job(inputs::outbox(TWO, n, 1), 1)
         }),
         line("outbox: whole, records of 1 byte", |n| {
-            whole_job(inputs::outbox(n, 1), 1)
+            whole_job(inputs::outbox(TWO, n, 1), 1)
         }),
         line("outbox: whole, records with no payload", |n| {
-            whole_job(inputs::outbox(n, 0), 1)
+            whole_job(inputs::outbox(TWO, n, 0), 1)
         }),
         line("outbox: append after records of 1 byte", |n| {
-            append_job(inputs::outbox(n, 1), 1, 1)
+            append_job(inputs::outbox(TWO, n, 1), 1, 1)
         }),
     ]
 }

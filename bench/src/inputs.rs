@@ -3,7 +3,7 @@
 use crate::low_energy::WISH;
 use second::classic::{self, END, ESCAPE, START};
 use second::low_energy::{self, acknowledgement};
-use second::outbox;
+use second::outbox::{self, Version};
 use second::rng::Rng;
 
 pub const MARKS: [u8; 3] = [START, END, ESCAPE];
@@ -220,12 +220,12 @@ pub fn refused() -> Vec<(&'static str, Vec<Vec<u8>>)> {
     REFUSED.into_iter().map(packets).collect()
 }
 
-/// A whole outbox of so many records with payloads of one size.
-pub fn outbox(records: usize, payload: usize) -> Vec<u8> {
+/// A whole outbox of a version, of so many records with payloads of one size.
+pub fn outbox(version: Version, records: usize, payload: usize) -> Vec<u8> {
     let mut rng = rng();
-    let mut bytes = vec![0x01];
+    let mut bytes = vec![if version == outbox::ONE { 0x01 } else { 0x02 }];
     for _ in 0..records {
-        bytes.extend((payload as u16 + 1).to_be_bytes());
+        bytes.extend(&(payload as u32 + 1).to_be_bytes()[4 - version.width..]);
         bytes.push(*rng.pick(&[0, 2, 6]));
         bytes.extend(rng.bytes(payload));
     }

@@ -2,13 +2,15 @@
 
 use crate::calls::{AckWrite, PacketWrite, ReceiverAccept};
 use crate::digest::Digest;
+use second::classic::LIMIT;
 use second::low_energy::{
-    accept as accept_packet, acknowledgement, write_packet, Accepted, Open, Slots, Stream, Wish,
-    MESSAGE,
+    self, accept as accept_packet, acknowledgement, write_packet, Accepted, Open, Receiver, Stream,
+    Wish,
 };
 use std::hint::black_box;
 
 const FINISHED: u64 = 1;
+pub const BUFFER: usize = low_energy::buffer(LIMIT);
 /// What all packets of the bench share; the stream is Alexa's.
 pub const WISH: Wish = Wish {
     stream: Stream::Alexa,
@@ -28,6 +30,7 @@ pub fn write<const WHOLE: bool>(write: PacketWrite, messages: &[Vec<u8>], room: 
             let number = unsafe {
                 write(
                     room as u64,
+                    LIMIT,
                     u64::from(WISH.stream.number()),
                     u64::from(WISH.id),
                     u64::from(WISH.sequence),
@@ -60,7 +63,7 @@ pub fn write_own<const WHOLE: bool>(messages: &[Vec<u8>], room: usize) -> u64 {
     for message in messages {
         let mut place = 0;
         loop {
-            let told = write_packet(room as u64, Some(WISH), message, place, &mut output);
+            let told = write_packet(room as u64, LIMIT, Some(WISH), message, place, &mut output);
             let (written, next) = told.expect("a lawful wish");
             digest.row(&[0, written as u64, next as u64]);
             digest.bytes(&output[..written]);
@@ -118,7 +121,8 @@ pub fn accept<const WHOLE: bool>(
 ) -> u64 {
     let accept = black_box(accept);
     let mut digest = Digest::<WHOLE>::new();
-    let (mut state, mut answer) = ([0; 18], [0; 7]);
+    let (mut state, mut answer) = ([0; 19], [0; 7]);
+    state[0] = LIMIT;
     for packet in packets {
         let number = unsafe {
             accept(
@@ -147,18 +151,18 @@ pub fn accept<const WHOLE: bool>(
 fn third(buffer: &[u8], stream: u64, total: usize) -> &[u8] {
     let start = match stream {
         0 => 0,
-        2 => MESSAGE,
-        _ => 2 * MESSAGE,
+        2 => LIMIT as usize,
+        _ => 2 * LIMIT as usize,
     };
     &buffer[start..start + total]
 }
 
 pub fn accept_own<const WHOLE: bool>(packets: &[Vec<u8>], buffer: &mut [u8]) -> u64 {
     let mut digest = Digest::<WHOLE>::new();
-    let mut slots: Slots = [None; 3];
+    let mut state = Receiver::open(LIMIT).expect("a limit");
     for packet in packets {
-        let (after, told) = accept_packet(slots, buffer, packet);
-        slots = after;
+        let (after, told) = accept_packet(state, buffer, packet);
+        state = after;
         match told {
             Err(refusal) => digest.row(&[refusal.number(), 0, 0, 0, 0, 0, 0, 0]),
             Ok(accepted) => {
@@ -171,6 +175,8 @@ pub fn accept_own<const WHOLE: bool>(packets: &[Vec<u8>], buffer: &mut [u8]) -> 
             }
         }
     }
+    digest.number(state.limit);
+    let slots = state.slots;
     slots.iter().for_each(|slot| digest.row(&slot_row(slot)));
     digest.lent(buffer);
     digest.value()

@@ -1,10 +1,9 @@
 //! Lines about Classic frames.
 
 use crate::calls::*;
-use crate::classic::{Payload, OUTPUT};
+use crate::classic::{Payload, BUFFER, OUTPUT};
 use crate::job::{share, with_copy, Job, Row, Subject};
 use crate::{classic, inputs, rust, work};
-use second::classic::BUFFER;
 
 const MEGABYTE: usize = 1 << 20;
 /// The input of the lines that are no goal's: enough for steady counts.

@@ -2,8 +2,8 @@
 
 use crate::calls::*;
 use crate::job::{share, with_copy, Job, Row, Subject};
+use crate::low_energy::BUFFER;
 use crate::{inputs, low_energy, rust, work};
-use second::low_energy::BUFFER;
 
 /// Messages by their size in bytes.
 const SIZES: [(usize, &str); 2] = [(4_096, "4,096"), (100, "100")];

@@ -3,6 +3,7 @@
 use crate::calls::*;
 use crate::job::{share, with_copy, Job, Row, Subject};
 use crate::{inputs, outbox, rust, work};
+use second::outbox::{ONE, TWO};
 
 /// The payload of each record.
 const PAYLOAD: usize = 100;
@@ -10,24 +11,42 @@ const PAYLOAD: usize = 100;
 pub fn rows() -> Vec<Row> {
     let line = |name, make: fn() -> Job| Row::new("outbox", name, make);
     vec![
-        line("append 100 bytes to a new outbox", || {
-            append_job(inputs::outbox(0, PAYLOAD), PAYLOAD, 2_048)
+        line("version 01, append 100 bytes to an empty outbox", || {
+            append_job(inputs::outbox(ONE, 0, PAYLOAD), PAYLOAD, 2_048)
         }),
-        line("append 100 bytes after 100 records", || {
-            append_job(inputs::outbox(100, PAYLOAD), PAYLOAD, 64)
+        line("version 01, append 100 bytes after 100 records", || {
+            append_job(inputs::outbox(ONE, 100, PAYLOAD), PAYLOAD, 64)
         }),
-        line("read 1,000 records, place after place", || {
-            records_job(inputs::outbox(1_000, PAYLOAD), 4)
+        line("version 01, read 1,000 records, place after place", || {
+            records_job(inputs::outbox(ONE, 1_000, PAYLOAD), 4)
         }),
-        line("whole, 1,000 records", || {
-            whole_job(inputs::outbox(1_000, PAYLOAD), 4)
+        line("version 01, whole, 1,000 records", || {
+            whole_job(inputs::outbox(ONE, 1_000, PAYLOAD), 4)
         }),
-        line("whole, 1,000 records cut in the last", || {
-            let mut bytes = inputs::outbox(1_000, PAYLOAD);
-            bytes.pop();
-            whole_job(bytes, 4)
+        line("version 01, whole, 1,000 records cut in the last", || {
+            whole_job(cut(inputs::outbox(ONE, 1_000, PAYLOAD)), 4)
+        }),
+        line("version 02, append 100 bytes to a new outbox", || {
+            append_job(inputs::outbox(TWO, 0, PAYLOAD), PAYLOAD, 2_048)
+        }),
+        line("version 02, append 100 bytes after 100 records", || {
+            append_job(inputs::outbox(TWO, 100, PAYLOAD), PAYLOAD, 64)
+        }),
+        line("version 02, read 1,000 records, place after place", || {
+            records_job(inputs::outbox(TWO, 1_000, PAYLOAD), 4)
+        }),
+        line("version 02, whole, 1,000 records", || {
+            whole_job(inputs::outbox(TWO, 1_000, PAYLOAD), 4)
+        }),
+        line("version 02, whole, 1,000 records cut in the last", || {
+            whole_job(cut(inputs::outbox(TWO, 1_000, PAYLOAD)), 4)
         }),
     ]
+}
+
+fn cut(mut bytes: Vec<u8>) -> Vec<u8> {
+    bytes.pop();
+    bytes
 }
 
 /// A payload of one size appended to the same outbox, call after call.
@@ -35,7 +54,7 @@ pub fn append_job(bytes: Vec<u8>, payload: usize, calls: usize) -> Job {
     let used = bytes.len();
     let room = || {
         let mut buffer = bytes.clone();
-        buffer.resize(used + payload + 3, 0);
+        buffer.resize(used + payload + 5, 0);
         buffer
     };
     let payloads = inputs::messages(calls * payload, payload);

@@ -14,11 +14,12 @@ unsafe fn given<'a, T>(start: *const T, length: usize) -> &'a [T] {
 
 pub unsafe extern "C" fn frame_begin(
     sequence: u64,
+    limit: u64,
     total: u64,
     state: *mut u64,
     states: usize,
 ) -> u64 {
-    face::frame_begin(sequence, total, lent(state, states))
+    face::frame_begin([sequence, limit, total], lent(state, states))
 }
 
 macro_rules! shims {
@@ -35,13 +36,13 @@ shims! {
         face::extractor_step(lent(state, states), lent(buffer, size), byte, told);
     extractor_feed(state: *mut u64, states: usize, buffer: *mut u8, size: usize, bytes: *const u8, length: usize) told
         face::extractor_feed(lent(state, states), lent(buffer, size), given(bytes, length), told);
-    frame_write(sequence: u64, payload: *const u8, length: usize, output: *mut u8, size: usize) told
-        face::frame_write(sequence, given(payload, length), lent(output, size), told);
+    frame_write(sequence: u64, limit: u64, payload: *const u8, length: usize, output: *mut u8, size: usize) told
+        face::frame_write(sequence, limit, given(payload, length), lent(output, size), told);
     frame_part(state: *mut u64, states: usize, payload: *const u8, length: usize, output: *mut u8, size: usize) told
         face::frame_part(lent(state, states), given(payload, length), lent(output, size), told);
-    packet_write(room: u64, stream: u64, id: u64, sequence: u64, ack: u64, message: *const u8, length: usize,
+    packet_write(room: u64, limit: u64, stream: u64, id: u64, sequence: u64, ack: u64, message: *const u8, length: usize,
         place: u64, output: *mut u8, size: usize) told
-        face::packet_write(room, [stream, id, sequence, ack], given(message, length), place, lent(output, size), told);
+        face::packet_write([room, limit], [stream, id, sequence, ack], given(message, length), place, lent(output, size), told);
     ack_write(stream: u64, id: u64, sequence: u64, positive: u64, output: *mut u8, size: usize) told
         face::ack_write([stream, id, sequence, positive], lent(output, size), told);
     receiver_accept(state: *mut u64, states: usize, buffer: *mut u8, size: usize, packet: *const u8, length: usize) told

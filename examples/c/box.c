@@ -9,11 +9,12 @@
  * Standard error: `dropped PLACE` for a cut last record that was found at the start, `refused NUMBER` for each
  * refused byte of the stream, and what ended the program.
  * Ends with 0 at the end of the input; with 1 after the first failed call of the system, if the file is there and is
- * no outbox, or if another box has it open (it is then left as it was); with 2 on bad usage. A reader of the notes that
- * is gone stops nothing; where no report can be written any more the box ends with 1.
+ * no outbox, has a record that is longer than this box's messages, or is open in another box (it is then left as it
+ * was); with 2 on bad usage. A reader of the notes that is gone stops nothing; where no report can be written any more
+ * the box ends with 1.
  *
- * There is no heap, and the file is never held in memory: it is written and read one record at a time, through a
- * small outbox that has the version byte and room for one record.
+ * A new file is of version 02; one of version 01 stays so. There is no heap, and the file is never held in memory: it
+ * is written and read one record at a time, through a small outbox that has the version byte and room for one record.
  */
 #define _XOPEN_SOURCE 700
 
@@ -35,14 +36,17 @@
 /* A frame tells no stream: what comes over this link is what the crew says to the speaker. */
 #define STREAM PITO_STREAM_ALEXA
 
+/* The largest message that the crew's app sends. */
+#define LIMIT 4096
+
 #define LONGEST_LINE 128
 
 static uint8_t input[256];
 static uint64_t extractor[PITO_EXTRACTOR_STATE];
-static uint8_t frame[PITO_EXTRACTOR_BUFFER];
+static uint8_t frame[PITO_EXTRACTOR_BUFFER(LIMIT)];
 
 /* The outbox of one record. Its first byte is the file's, from the start on. */
-static uint8_t outbox[PITO_ONE_RECORD];
+static uint8_t outbox[PITO_ONE_RECORD(LIMIT)];
 
 static int file;
 static off_t file_end;
@@ -147,7 +151,8 @@ static void drop_cut_record(void)
 
 /*
  * Finds the end of the last whole record. The bytes from each record's place on are read behind the version byte, so
- * that it is the first record of the small outbox. The largest fits, so only the end of the file can cut one.
+ * that it is the first record of the small outbox. The largest of this box's fits, so only the end of the file can cut
+ * one; a record that the small outbox does not hold is of another box, whose file is left as it was.
  */
 static void resume_outbox(void)
 {
@@ -157,6 +162,10 @@ static void resume_outbox(void)
         size_t held = read_file(outbox + PITO_FIRST_PLACE, sizeof outbox - PITO_FIRST_PLACE, file_end);
         uint64_t number = pito_outbox_record(outbox, PITO_FIRST_PLACE + held, PITO_FIRST_PLACE, answer,
                                              PITO_OUTBOX_RECORD_ANSWER);
+        if (number == PITO_REFUSED_RECORD_CUT && PITO_FIRST_PLACE + held == sizeof outbox) {
+            note("box: a record of the file is longer than this box's messages\n");
+            exit(1);
+        }
         if (number == PITO_REFUSED_RECORD_CUT) {
             drop_cut_record();
             return;
@@ -240,6 +249,13 @@ static void keep(uint64_t length)
     file_end += (off_t)record_length;
 }
 
+static void open_link(void)
+{
+    uint64_t number = pito_extractor_open(LIMIT, extractor, PITO_EXTRACTOR_STATE);
+    if (number != PITO_DONE)
+        fail_refused("pito_extractor_open", number);
+}
+
 static void take(const uint8_t *bytes, size_t length)
 {
     uint64_t answer[PITO_FEED_ANSWER];
@@ -266,6 +282,7 @@ int main(int words, char **word)
     }
     check_standard_streams();
     open_outbox(word[1]);
+    open_link();
     for (;;) {
         ssize_t count = read(STDIN_FILENO, input, sizeof input);
         if (count < 0 && errno == EINTR)

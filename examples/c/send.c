@@ -7,7 +7,7 @@
  * SEQUENCE is the frame's sequence byte and LENGTH the payload's length, both in base 10. What stands on standard input
  * behind the payload is left there.
  * Ends with 0 once the frame is written; with 1 after a refusal (`refused NUMBER` on standard error: 15 for a sequence
- * that is a mark or no byte, and for a payload over 4,096 bytes), if the payload ends early, or after a failed call of the
+ * that is a mark or no byte, and for a payload over the link's limit), if the payload ends early, or after a failed call of the
  * system; with 2 on bad usage.
  *
  * It holds no more than a part of the payload and what the module takes at once: neither the payload nor the frame.
@@ -22,6 +22,9 @@
 #include <unistd.h>
 
 #include "pitokaenge.h"
+
+/* The largest message of the link. */
+#define LIMIT 4096
 
 #define AT_ONCE 64
 
@@ -96,7 +99,7 @@ int main(int count, char **words)
         return 2;
     }
     missing = number_in(words[2]);
-    check(pito_frame_begin(number_in(words[1]), missing, state, PITO_PARTS_STATE));
+    check(pito_frame_begin(number_in(words[1]), LIMIT, missing, state, PITO_PARTS_STATE));
     do {
         if (from == held && missing > 0) {
             from = 0;

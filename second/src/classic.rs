@@ -1,6 +1,7 @@
-//! "The frame of Classic (001)": the extractor, the frame writer and the next sequence byte.
+//! "The frame of Classic (001)": the extractor, the frame writer and the next sequence byte, for a
+//! link with any limit (No. 6).
 
-use crate::refusal::{deliver, Refusal};
+use crate::refusal::{deliver, limit_in, Refusal};
 
 /// Start of frame.
 pub const START: u8 = 0xF0;
@@ -8,19 +9,29 @@ pub const START: u8 = 0xF0;
 pub const END: u8 = 0xF1;
 /// The byte before an escaped one.
 pub const ESCAPE: u8 = 0xF2;
-/// "The lent buffer has exactly 4,098 bytes": 4,096 of payload and two of checksum.
-pub const BUFFER: usize = 4_098;
-/// The largest payload of a frame.
-pub const PAYLOAD: usize = 4_096;
+/// The limit of `frames` and of the worked cases.
+pub const LIMIT: u64 = 4_096;
+
+/// What the lent buffer has exactly: "the extractor's two more" than the limit, for the checksum.
+pub const fn buffer(limit: u64) -> usize {
+    limit as usize + 2
+}
 
 /// "F0, F1, F2 are the marks."
 pub fn is_mark(byte: u8) -> bool {
     matches!(byte, START | END | ESCAPE)
 }
 
-/// Where the extractor stands in its stream.
+/// The extractor of a link: its limit, which stays, and where it stands in its stream.
+#[derive(Clone, Copy, Debug, PartialEq, Eq)]
+pub struct Extractor {
+    pub limit: u64,
+    pub standing: Standing,
+}
+
+/// Where an extractor stands in its stream.
 #[derive(Clone, Copy, Debug, Default, PartialEq, Eq)]
-pub enum Extractor {
+pub enum Standing {
     /// No frame is open.
     #[default]
     Outside,
@@ -61,27 +72,66 @@ pub enum Decided {
 }
 
 impl Extractor {
-    /// "A lawful state holds at most 4,098 bytes, none before the sequence byte is read, and a
-    /// sequence that is no mark; what isn't read yet is 0." The states before the sequence byte
-    /// carry no numbers at all here, so only an open body can be unlawful.
-    pub fn is_lawful(self) -> bool {
-        match self {
-            Extractor::Body { sequence, held, .. } => !is_mark(sequence) && held <= BUFFER,
-            _ => true,
-        }
+    /// The empty state of a link with a limit: outside a frame.
+    pub fn open(limit: u64) -> Result<Extractor, Refusal> {
+        limit_in(limit)?;
+        Ok(Extractor {
+            limit,
+            standing: Standing::Outside,
+        })
     }
 
-    /// Whether a frame is open.
-    pub fn is_inside(self) -> bool {
-        self != Extractor::Outside
+    /// "A lawful state holds at most" the limit and two more bytes, "none before the sequence byte
+    /// is read, and a sequence that is no mark; what isn't read yet is 0." The states before the
+    /// sequence byte carry no numbers at all here, so only an open body can be unlawful; and a
+    /// limit that is none.
+    pub fn is_lawful(self) -> bool {
+        limit_in(self.limit).is_ok()
+            && match self.standing {
+                Standing::Body { sequence, held, .. } => {
+                    !is_mark(sequence) && held <= buffer(self.limit)
+                }
+                _ => true,
+            }
+    }
+
+    fn is_unfit(self, lent: &[u8]) -> bool {
+        !self.is_lawful() || lent.len() != buffer(self.limit)
+    }
+
+    fn at(self, standing: Standing) -> Extractor {
+        Extractor { standing, ..self }
     }
 
     /// "One byte is one step of the extractor."
     pub fn step(self, buffer: &mut [u8], byte: u8) -> (Extractor, Result<Outcome, Refusal>) {
-        use Extractor::*;
-        if buffer.len() != BUFFER || !self.is_lawful() {
+        if self.is_unfit(buffer) {
             return (self, Err(Refusal::Lent));
         }
+        let (next, told) = self.standing.step(buffer, byte);
+        (self.at(next), told)
+    }
+
+    /// "Many bytes given at once stop after the first frame or refusal, or at their end, and the
+    /// number used is told, 0 under 1."
+    pub fn feed(self, buffer: &mut [u8], bytes: &[u8]) -> (Extractor, usize, Decided) {
+        if self.is_unfit(buffer) {
+            return (self, 0, Decided::Refused(Refusal::Lent));
+        }
+        let (next, used, decided) = self.standing.feed(buffer, bytes);
+        (self.at(next), used, decided)
+    }
+}
+
+impl Standing {
+    /// Whether a frame is open.
+    pub fn is_inside(self) -> bool {
+        self != Standing::Outside
+    }
+
+    /// A byte, over a buffer of the right size.
+    fn step(self, buffer: &mut [u8], byte: u8) -> (Standing, Result<Outcome, Refusal>) {
+        use Standing::*;
         // "Every refusal of a byte but 20 leaves the extractor outside."
         let fall = |refusal| (Outside, Err(refusal));
         let go = |state| (state, Ok(Outcome::Taken));
@@ -141,37 +191,31 @@ impl Extractor {
         }
     }
 
-    /// "Many bytes given at once stop after the first frame or refusal, or at their end, and the
-    /// number used is told, 0 under 1."
-    ///
     /// Runs between marks go through whole; only marks, the byte after F2 and the header go
     /// through `step`.
-    pub fn feed(self, buffer: &mut [u8], bytes: &[u8]) -> (Extractor, usize, Decided) {
-        if buffer.len() != BUFFER || !self.is_lawful() {
-            return (self, 0, Decided::Refused(Refusal::Lent));
-        }
+    fn feed(self, buffer: &mut [u8], bytes: &[u8]) -> (Standing, usize, Decided) {
         let mut state = self;
         let mut rest = bytes;
         while !rest.is_empty() {
             match state {
-                Extractor::Outside if rest[0] != START => {
+                Standing::Outside if rest[0] != START => {
                     let skipped = rest.iter().take_while(|&&byte| byte != START).count();
                     rest = &rest[skipped..];
                 }
-                Extractor::Body {
+                Standing::Body {
                     sequence,
                     held,
                     escape: false,
                 } if !is_mark(rest[0]) => {
                     let plain = rest.iter().take_while(|&&byte| !is_mark(byte)).count();
-                    let fits = plain.min(BUFFER - held);
+                    let fits = plain.min(buffer.len() - held);
                     let held = keep(buffer, held, &rest[..fits]).expect("cut to what fits");
                     rest = &rest[fits..];
                     if fits < plain {
                         let used = bytes.len() - rest.len() + 1;
-                        return (Extractor::Outside, used, Decided::Refused(Refusal::Full));
+                        return (Standing::Outside, used, Decided::Refused(Refusal::Full));
                     }
-                    state = Extractor::Body {
+                    state = Standing::Body {
                         sequence,
                         held,
                         escape: false,
@@ -245,9 +289,14 @@ pub fn frame(sequence: u8, payload: &[u8]) -> Vec<u8> {
     .concat()
 }
 
-/// The frame writer: 15 if the sequence is a mark or the payload above 4,096 bytes, then 14.
-pub fn write_frame(sequence: u8, payload: &[u8], output: &mut [u8]) -> Result<usize, Refusal> {
-    if is_mark(sequence) || payload.len() > PAYLOAD {
+/// The frame writer: 17, 15 if the sequence is a mark or the payload above the limit, then 14.
+pub fn write_frame(
+    sequence: u8,
+    limit: u64,
+    payload: &[u8],
+    output: &mut [u8],
+) -> Result<usize, Refusal> {
+    if payload.len() > limit_in(limit)? || is_mark(sequence) {
         return Err(Refusal::Argument);
     }
     deliver(&frame(sequence, payload), output)
@@ -256,6 +305,7 @@ pub fn write_frame(sequence: u8, payload: &[u8], output: &mut [u8]) -> Result<us
 /// A frame that is written by parts: "the payload part by part, its total length told at the start".
 #[derive(Clone, Copy, Debug, PartialEq, Eq)]
 pub struct Parts {
+    pub limit: u64,
     pub sequence: u8,
     pub total: u64,
     pub taken: u64,
@@ -288,9 +338,11 @@ pub struct PartWritten {
 }
 
 impl Parts {
-    /// "At the start, 15 for a sequence that is a mark or a total above the message limit."
-    pub fn begin(sequence: u8, total: u64) -> Result<Parts, Refusal> {
+    /// 17; then "at the start, 15 for a sequence that is a mark or a total above the message limit."
+    pub fn begin(sequence: u8, limit: u64, total: u64) -> Result<Parts, Refusal> {
+        limit_in(limit)?;
         let parts = Parts {
+            limit,
             sequence,
             total,
             taken: 0,
@@ -303,9 +355,13 @@ impl Parts {
             .ok_or(Refusal::Argument)
     }
 
-    /// "A state with either, or with more taken than told" is unlawful, and no other is.
+    /// "A state with either, or with more taken than told" is unlawful, or with a limit that is
+    /// none, and no other is.
     pub fn is_lawful(self) -> bool {
-        !is_mark(self.sequence) && self.total <= PAYLOAD as u64 && self.taken <= self.total
+        limit_in(self.limit).is_ok()
+            && !is_mark(self.sequence)
+            && self.total <= self.limit
+            && self.taken <= self.total
     }
 
     fn ended(self) -> bool {
@@ -401,8 +457,8 @@ pub fn next_sequence(sequence: u8) -> u8 {
 /// The text that `frames` prints for a stream: one line for each frame and refusal as they come,
 /// "place of the deciding byte, sequence, payload length", then the count skipped, then the end.
 pub fn listing(stream: &[u8]) -> String {
-    let mut buffer = vec![0; BUFFER];
-    let mut state = Extractor::default();
+    let mut buffer = vec![0; buffer(LIMIT)];
+    let mut state = Extractor::open(LIMIT).expect("a limit");
     let mut skipped = 0;
     let mut lines = Vec::new();
     for (place, &byte) in stream.iter().enumerate() {
@@ -418,7 +474,7 @@ pub fn listing(stream: &[u8]) -> String {
         }
     }
     lines.push(format!("skipped {skipped}"));
-    let side = if state.is_inside() {
+    let side = if state.standing.is_inside() {
         "inside"
     } else {
         "outside"

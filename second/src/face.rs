@@ -13,10 +13,10 @@
 //!   one is out of a writer's range, 15; so is an unsigned one above 32 bits, and a wish other than 0
 //!   or 1.
 
-use crate::classic::{self, Decided, Extractor, Next, Outcome, Parts};
+use crate::classic::{self, Decided, Extractor, Next, Outcome, Parts, Standing};
 use crate::control::{self, Envelope, Features, Given, Information, Member, Payload, Response};
 use crate::implementation::{Implementation, Operation};
-use crate::low_energy::{self, Accepted, Open, Slots, Stream, Wish};
+use crate::low_energy::{self, Accepted, Open, Receiver, Slots, Stream, Wish};
 use crate::outbox::{self, Broken, Record};
 use crate::refusal::{self, Refusal};
 use std::ops::Range;
@@ -41,18 +41,19 @@ impl Implementation for Model {
         answer: &mut [u64],
     ) -> u64 {
         match operation {
+            Operation::ExtractorOpen => extractor_open(numbers[0], state),
             Operation::ExtractorStep => extractor_step(state, lent, numbers[0] as u8, answer),
             Operation::ExtractorFeed => extractor_feed(state, lent, &inputs[0], answer),
-            Operation::FrameWrite => frame_write(numbers[0], &inputs[0], lent, answer),
-            Operation::FrameBegin => frame_begin(numbers[0], numbers[1], state),
+            Operation::FrameWrite => frame_write(numbers[0], numbers[1], &inputs[0], lent, answer),
+            Operation::FrameBegin => frame_begin([numbers[0], numbers[1], numbers[2]], state),
             Operation::FramePart => frame_part(state, &inputs[0], lent, answer),
             Operation::NextSequence => next_sequence(numbers[0] as u8, answer),
             Operation::PacketWrite => {
-                let [room, stream, id, sequence, ack, place] = numbers else {
-                    panic!("six numbers")
+                let [room, limit, stream, id, sequence, ack, place] = numbers else {
+                    panic!("seven numbers")
                 };
                 let wish = [*stream, *id, *sequence, *ack];
-                packet_write(*room, wish, &inputs[0], *place, lent, answer)
+                packet_write([*room, *limit], wish, &inputs[0], *place, lent, answer)
             }
             Operation::AckWrite => {
                 let [stream, id, sequence, positive] = numbers else {
@@ -60,6 +61,7 @@ impl Implementation for Model {
                 };
                 ack_write([*stream, *id, *sequence, *positive], lent, answer)
             }
+            Operation::ReceiverOpen => receiver_open(numbers[0], state),
             Operation::ReceiverAccept => receiver_accept(state, lent, &inputs[0], answer),
             Operation::EnvelopeRead => envelope_read(&inputs[0], answer),
             Operation::EnvelopeWrite => {
@@ -164,42 +166,62 @@ fn four_bits_in(number: u64) -> Option<u8> {
     u8::try_from(number).ok().filter(|&number| number < 16)
 }
 
-/// `phase, sequence, held`: phases are 0 outside, 1 to 3 before packet id, error id and sequence
-/// byte, 4 in the body, 5 after F2.
+/// `limit, phase, sequence, held`: phases are 0 outside, 1 to 3 before packet id, error id and
+/// sequence byte, 4 in the body, 5 after F2.
 fn extractor_in(row: &[u64]) -> Option<Extractor> {
-    let [phase, sequence, held] = *row else {
+    let [limit, phase, sequence, held] = *row else {
         return None;
     };
-    let state = match (phase, sequence, held) {
-        (0, 0, 0) => Extractor::Outside,
-        (1, 0, 0) => Extractor::PacketId,
-        (2, 0, 0) => Extractor::ErrorId,
-        (3, 0, 0) => Extractor::Sequence,
-        (4 | 5, _, _) => Extractor::Body {
+    let standing = match (phase, sequence, held) {
+        (0, 0, 0) => Standing::Outside,
+        (1, 0, 0) => Standing::PacketId,
+        (2, 0, 0) => Standing::ErrorId,
+        (3, 0, 0) => Standing::Sequence,
+        (4 | 5, _, _) => Standing::Body {
             sequence: sequence.try_into().ok()?,
             held: held.try_into().ok()?,
             escape: phase == 5,
         },
         _ => return None,
     };
-    Some(state).filter(|state| state.is_lawful())
+    Some(Extractor { limit, standing }).filter(|state| state.is_lawful())
 }
 
-fn extractor_out(state: Extractor) -> [u64; 3] {
-    match state {
-        Extractor::Outside => [0, 0, 0],
-        Extractor::PacketId => [1, 0, 0],
-        Extractor::ErrorId => [2, 0, 0],
-        Extractor::Sequence => [3, 0, 0],
-        Extractor::Body {
+fn extractor_out(state: Extractor) -> [u64; 4] {
+    let [phase, sequence, held] = match state.standing {
+        Standing::Outside => [0, 0, 0],
+        Standing::PacketId => [1, 0, 0],
+        Standing::ErrorId => [2, 0, 0],
+        Standing::Sequence => [3, 0, 0],
+        Standing::Body {
             sequence,
             held,
             escape,
         } => [4 + u64::from(escape), u64::from(sequence), wide(held)],
+    };
+    [state.limit, phase, sequence, held]
+}
+
+/// No answer; the state goes out only. 17 leaves it.
+pub fn extractor_open(limit: u64, state: &mut [u64]) -> u64 {
+    set_out(state, Extractor::open(limit).map(extractor_out))
+}
+
+/// A call whose state goes out only: a refusal leaves it.
+fn set_out<const N: usize>(state: &mut [u64], made: Result<[u64; N], Refusal>) -> u64 {
+    if state.len() != N {
+        return Refusal::Lent.number();
+    }
+    match made {
+        Ok(row) => {
+            state.copy_from_slice(&row);
+            0
+        }
+        Err(refusal) => refusal.number(),
     }
 }
 
-/// State `phase, sequence, held`; answer `outcome, sequence, length` with outcome 0 skipped,
+/// State `limit, phase, sequence, held`; answer `outcome, sequence, length` with outcome 0 skipped,
 /// 1 taken, 2 frame.
 pub fn extractor_step(state: &mut [u64], buffer: &mut [u8], byte: u8, answer: &mut [u64]) -> u64 {
     ask(answer, || {
@@ -236,23 +258,34 @@ pub fn extractor_feed(
     })
 }
 
+/// A sequence as a number: one that is no byte is out of range, as a mark is.
+fn sequence_in(sequence: u64) -> u8 {
+    sequence.try_into().unwrap_or(classic::END)
+}
+
 /// Answer `written`.
-pub fn frame_write(sequence: u64, payload: &[u8], output: &mut [u8], answer: &mut [u64]) -> u64 {
+pub fn frame_write(
+    sequence: u64,
+    limit: u64,
+    payload: &[u8],
+    output: &mut [u8],
+    answer: &mut [u64],
+) -> u64 {
     ask(answer, || {
-        let sequence = u8::try_from(sequence).map_err(|_| Refusal::Argument)?;
-        let written = classic::write_frame(sequence, payload, output)?;
+        let written = classic::write_frame(sequence_in(sequence), limit, payload, output)?;
         Ok([wide(written)])
     })
 }
 
-/// `sequence, total, taken, sum, stage, pending`: stages 0 to 3 are the four bytes before the
+/// `limit, sequence, total, taken, sum, stage, pending`: stages 0 to 3 are the four bytes before the
 /// payload, 4 the payload with the checksum's first byte after it, 5 its second byte, 6 the end
 /// mark, 7 nothing; pending is 0 for none, 1 to 3 for the second byte of F0, F1, F2.
 fn parts_in(row: &[u64]) -> Option<Parts> {
-    let [sequence, total, taken, sum, stage, pending] = *row else {
+    let [limit, sequence, total, taken, sum, stage, pending] = *row else {
         return None;
     };
     Some(Parts {
+        limit,
         sequence: sequence.try_into().ok()?,
         total,
         taken,
@@ -275,7 +308,7 @@ fn parts_in(row: &[u64]) -> Option<Parts> {
     })
 }
 
-fn parts_out(parts: Parts) -> [u64; 6] {
+fn parts_out(parts: Parts) -> [u64; 7] {
     let stage = match parts.next {
         Next::Header(place) => u64::from(place),
         Next::Payload => 4,
@@ -287,6 +320,7 @@ fn parts_out(parts: Parts) -> [u64; 6] {
         .split
         .map_or(0, |mark| u64::from(mark - classic::START) + 1);
     [
+        parts.limit,
         u64::from(parts.sequence),
         parts.total,
         parts.taken,
@@ -296,21 +330,10 @@ fn parts_out(parts: Parts) -> [u64; 6] {
     ]
 }
 
-/// No answer; the state goes out only. 15 leaves it.
-pub fn frame_begin(sequence: u64, total: u64, state: &mut [u64]) -> u64 {
-    if state.len() != 6 {
-        return Refusal::Lent.number();
-    }
-    let begun = u8::try_from(sequence)
-        .map_err(|_| Refusal::Argument)
-        .and_then(|sequence| Parts::begin(sequence, total));
-    match begun {
-        Ok(parts) => {
-            state.copy_from_slice(&parts_out(parts));
-            0
-        }
-        Err(refusal) => refusal.number(),
-    }
+/// No answer; the state goes out only. 17 and 15 leave it.
+pub fn frame_begin([sequence, limit, total]: [u64; 3], state: &mut [u64]) -> u64 {
+    let begun = Parts::begin(sequence_in(sequence), limit, total);
+    set_out(state, begun.map(parts_out))
 }
 
 /// Answer `taken, written, ended`.
@@ -341,7 +364,7 @@ fn wish_row_in(row: [u64; 4]) -> Option<Wish> {
 
 /// Answer `written, next place`.
 pub fn packet_write(
-    room: u64,
+    [room, limit]: [u64; 2],
     wish: [u64; 4],
     message: &[u8],
     place: u64,
@@ -350,7 +373,7 @@ pub fn packet_write(
 ) -> u64 {
     ask(answer, || {
         let wish = wish_row_in(wish);
-        let (written, next) = low_energy::write_packet(room, wish, message, place, output)?;
+        let (written, next) = low_energy::write_packet(room, limit, wish, message, place, output)?;
         Ok([wide(written), wide(next)])
     })
 }
@@ -365,9 +388,10 @@ pub fn ack_write(wish: [u64; 4], output: &mut [u8], answer: &mut [u64]) -> u64 {
     })
 }
 
-/// Six numbers for each slot, control, OTA, Alexa: `open, id, total, held, sequence, wanted`; "a
-/// lawful idle slot's numbers are all 0", and open and wanted are 0 or 1.
-fn slots_in(row: &[u64]) -> Option<Slots> {
+/// The limit, then six numbers for each slot, control, OTA, Alexa: `open, id, total, held, sequence,
+/// wanted`; "a lawful idle slot's numbers are all 0", and open and wanted are 0 or 1.
+fn receiver_in(row: &[u64]) -> Option<Receiver> {
+    let (&limit, row) = row.split_first()?;
     let slot = |row: &[u64]| match *row {
         [0, 0, 0, 0, 0, 0] => Some(None),
         [1, id, total, held, sequence, wanted @ 0..=1] => {
@@ -378,29 +402,36 @@ fn slots_in(row: &[u64]) -> Option<Slots> {
                 sequence: sequence.try_into().ok()?,
                 wanted: wanted == 1,
             };
-            open.is_lawful().then_some(Some(open))
+            Some(Some(open))
         }
         _ => None,
     };
     let slots: Vec<Option<Open>> = row.chunks(6).map(slot).collect::<Option<_>>()?;
-    slots.try_into().ok()
+    let slots: Slots = slots.try_into().ok()?;
+    Some(Receiver { limit, slots }).filter(|state| state.is_lawful())
 }
 
-fn slots_out(slots: &Slots) -> Vec<u64> {
-    slots
-        .iter()
-        .flat_map(|slot| match *slot {
-            None => [0; 6],
-            Some(open) => [
+fn receiver_out(state: Receiver) -> [u64; 19] {
+    let mut row = [0; 19];
+    row[0] = state.limit;
+    for (slot, numbers) in state.slots.iter().zip(row[1..].chunks_mut(6)) {
+        if let Some(open) = slot {
+            numbers.copy_from_slice(&[
                 1,
                 u64::from(open.id),
                 wide(open.total),
                 wide(open.held),
                 u64::from(open.sequence),
                 u64::from(open.wanted),
-            ],
-        })
-        .collect()
+            ]);
+        }
+    }
+    row
+}
+
+/// No answer; the state goes out only. 17 leaves it.
+pub fn receiver_open(limit: u64, state: &mut [u64]) -> u64 {
+    set_out(state, Receiver::open(limit).map(receiver_out))
 }
 
 /// Answer `outcome, stream, id, sequence, total, ack wanted, replaced` with outcome 0 a piece held and
@@ -413,9 +444,9 @@ pub fn receiver_accept(
     answer: &mut [u64],
 ) -> u64 {
     ask(answer, || {
-        let slots = slots_in(state).ok_or(Refusal::Lent)?;
-        let (after, told) = low_energy::accept(slots, buffer, packet);
-        state.copy_from_slice(&slots_out(&after));
+        let before = receiver_in(state).ok_or(Refusal::Lent)?;
+        let (after, told) = low_energy::accept(before, buffer, packet);
+        state.copy_from_slice(&receiver_out(after));
         let of = |stream: Stream| u64::from(stream.number());
         Ok(match told? {
             Accepted::Held {

@@ -5,6 +5,7 @@
 /// The operations.
 #[derive(Clone, Copy, Debug, PartialEq, Eq, PartialOrd, Ord)]
 pub enum Operation {
+    ExtractorOpen,
     ExtractorStep,
     ExtractorFeed,
     FrameWrite,
@@ -13,6 +14,7 @@ pub enum Operation {
     NextSequence,
     PacketWrite,
     AckWrite,
+    ReceiverOpen,
     ReceiverAccept,
     EnvelopeRead,
     EnvelopeWrite,
@@ -50,9 +52,12 @@ pub struct Shape {
     pub returns: &'static [u64],
 }
 
-const EXTRACTOR: &[&str] = &["phase", "sequence", "held"];
-const PARTS: &[&str] = &["sequence", "total", "taken", "sum", "stage", "pending"];
+const EXTRACTOR: &[&str] = &["limit", "phase", "sequence", "held"];
+const PARTS: &[&str] = &[
+    "limit", "sequence", "total", "taken", "sum", "stage", "pending",
+];
 const RECEIVER: &[&str] = &[
+    "limit",
     "control.open",
     "control.id",
     "control.total",
@@ -217,7 +222,8 @@ const MESSAGE_READ: &[u64] = &[0, 1, 30, 31, 32, 33, 34];
 const STRINGS_READ: &[u64] = &[0, 1, 30, 31, 32, 33, 34, 36];
 
 impl Operation {
-    pub const ALL: [Operation; 26] = [
+    pub const ALL: [Operation; 28] = [
+        Operation::ExtractorOpen,
         Operation::ExtractorStep,
         Operation::ExtractorFeed,
         Operation::FrameWrite,
@@ -226,6 +232,7 @@ impl Operation {
         Operation::NextSequence,
         Operation::PacketWrite,
         Operation::AckWrite,
+        Operation::ReceiverOpen,
         Operation::ReceiverAccept,
         Operation::EnvelopeRead,
         Operation::EnvelopeWrite,
@@ -257,6 +264,13 @@ impl Operation {
             returns: &[],
         };
         match self {
+            Operation::ExtractorOpen => Shape {
+                name: "extractor open",
+                numbers: &["limit"],
+                state: EXTRACTOR,
+                returns: &[0, 1, 17],
+                ..empty
+            },
             Operation::ExtractorStep => Shape {
                 name: "extractor step",
                 numbers: &["byte"],
@@ -277,18 +291,18 @@ impl Operation {
             },
             Operation::FrameWrite => Shape {
                 name: "frame write",
-                numbers: &["sequence"],
+                numbers: &["sequence", "limit"],
                 inputs: &["payload"],
                 answer: &["written"],
                 lent: "output",
-                returns: &[0, 1, 14, 15],
+                returns: &[0, 1, 14, 15, 17],
                 ..empty
             },
             Operation::FrameBegin => Shape {
                 name: "frame begin",
-                numbers: &["sequence", "total"],
+                numbers: &["sequence", "limit", "total"],
                 state: PARTS,
-                returns: &[0, 1, 15],
+                returns: &[0, 1, 15, 17],
                 ..empty
             },
             Operation::FramePart => Shape {
@@ -309,11 +323,19 @@ impl Operation {
             },
             Operation::PacketWrite => Shape {
                 name: "packet write",
-                numbers: &["room", "stream", "id", "sequence", "ack wanted", "place"],
+                numbers: &[
+                    "room",
+                    "limit",
+                    "stream",
+                    "id",
+                    "sequence",
+                    "ack wanted",
+                    "place",
+                ],
                 inputs: &["message"],
                 answer: &["written", "next place"],
                 lent: "output",
-                returns: &[0, 1, 13, 14, 15],
+                returns: &[0, 1, 13, 14, 15, 17],
                 ..empty
             },
             Operation::AckWrite => Shape {
@@ -322,6 +344,13 @@ impl Operation {
                 answer: &["written"],
                 lent: "output",
                 returns: &[0, 1, 14, 15],
+                ..empty
+            },
+            Operation::ReceiverOpen => Shape {
+                name: "receiver open",
+                numbers: &["limit"],
+                state: RECEIVER,
+                returns: &[0, 1, 17],
                 ..empty
             },
             Operation::ReceiverAccept => Shape {

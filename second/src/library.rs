@@ -32,6 +32,7 @@ impl Implementation for Library {
         // Every pointer comes from a slice that outlives the call, with that slice's length.
         unsafe {
             match operation {
+                Operation::ExtractorOpen => pito_extractor_open(numbers[0], row, rows),
                 Operation::ExtractorStep => {
                     pito_extractor_step(row, rows, bytes, size, numbers[0] as u8, told, tells)
                 }
@@ -41,22 +42,26 @@ impl Implementation for Library {
                 }
                 Operation::FrameWrite => {
                     let (payload, length) = input(0);
-                    pito_frame_write(numbers[0], payload, length, bytes, size, told, tells)
+                    pito_frame_write(
+                        numbers[0], numbers[1], payload, length, bytes, size, told, tells,
+                    )
                 }
-                Operation::FrameBegin => pito_frame_begin(numbers[0], numbers[1], row, rows),
+                Operation::FrameBegin => {
+                    pito_frame_begin(numbers[0], numbers[1], numbers[2], row, rows)
+                }
                 Operation::FramePart => {
                     let (payload, length) = input(0);
                     pito_frame_part(row, rows, payload, length, bytes, size, told, tells)
                 }
                 Operation::NextSequence => pito_next_sequence(numbers[0] as u8, told, tells),
                 Operation::PacketWrite => {
-                    let [room, stream, id, sequence, ack, place] = *numbers else {
-                        panic!("six numbers")
+                    let [room, limit, stream, id, sequence, ack, place] = *numbers else {
+                        panic!("seven numbers")
                     };
                     let (message, length) = input(0);
                     pito_packet_write(
-                        room, stream, id, sequence, ack, message, length, place, bytes, size, told,
-                        tells,
+                        room, limit, stream, id, sequence, ack, message, length, place, bytes,
+                        size, told, tells,
                     )
                 }
                 Operation::AckWrite => {
@@ -65,6 +70,7 @@ impl Implementation for Library {
                     };
                     pito_ack_write(stream, id, sequence, positive, bytes, size, told, tells)
                 }
+                Operation::ReceiverOpen => pito_receiver_open(numbers[0], row, rows),
                 Operation::ReceiverAccept => {
                     let (packet, length) = input(0);
                     pito_receiver_accept(row, rows, bytes, size, packet, length, told, tells)

@@ -1,11 +1,12 @@
-//! "The packet of Low Energy (000)": packets read and written, ACK and NACK, and the receiver.
+//! "The packet of Low Energy (000)": packets read and written, ACK and NACK, and the receiver, on a
+//! link with any limit (No. 6).
 
-use crate::refusal::{deliver, Refusal};
+use crate::refusal::{deliver, limit_in, Refusal};
 
-/// The largest message.
-pub const MESSAGE: usize = 4_096;
-/// "It works over a lent buffer of exactly 12,288 bytes."
-pub const BUFFER: usize = 3 * MESSAGE;
+/// What the lent buffer has exactly: "the receiver's buffer is three times that", the limit.
+pub const fn buffer(limit: u64) -> usize {
+    3 * limit as usize
+}
 
 /// "stream in the upper four bits (0 control, 6 Alexa, 2 OTA)". The order is that of the lent
 /// buffer's thirds: "control has the first third, the middle third belongs to the OTA stream, the
@@ -100,8 +101,9 @@ impl Fields {
 }
 
 impl<'a> Packet<'a> {
-    /// Reads one packet; the refusals are 2, 3, 12, 4, 5, 6, 7, 8 in the table's order.
-    pub fn read(packet: &'a [u8]) -> Result<Packet<'a>, Refusal> {
+    /// Reads one packet of a link with a limit; the refusals are 2, 3, 12, 4, 5, 6, 7, 8 in the
+    /// table's order.
+    pub fn read(limit: u64, packet: &'a [u8]) -> Result<Packet<'a>, Refusal> {
         let mut bytes = packet.iter();
         let (Some(&zeroth), Some(&first)) = (bytes.next(), bytes.next()) else {
             return Err(Refusal::ShortPacket);
@@ -139,7 +141,7 @@ impl<'a> Packet<'a> {
         if piece.len() != fields.length {
             return Err(Refusal::PacketLength);
         }
-        if fields.total > MESSAGE {
+        if fields.total as u64 > limit {
             return Err(Refusal::Total);
         }
         if piece.is_empty() && !(kind == 0 && fields.total == 0) {
@@ -171,12 +173,12 @@ pub struct Open {
 }
 
 impl Open {
-    /// "A lawful state has id and sequence up to 15, total 1 to 4,096 and 1 <= held < total in
+    /// "A lawful state has id and sequence up to 15, total 1 to" the limit "and 1 <= held < total in
     /// each open slot."
-    pub fn is_lawful(&self) -> bool {
+    pub fn is_lawful(&self, limit: u64) -> bool {
         self.id <= 15
             && self.sequence <= 15
-            && (1..=MESSAGE).contains(&self.total)
+            && (1..=limit).contains(&(self.total as u64))
             && (1..self.total).contains(&self.held)
     }
 }
@@ -184,6 +186,30 @@ impl Open {
 /// "The receiver's state has three slots, one for each stream, each idle or open". An idle slot has
 /// nothing to remember: "a lawful idle slot remembers none".
 pub type Slots = [Option<Open>; 3];
+
+/// The receiver of a link: its limit, which stays, and its slots.
+#[derive(Clone, Copy, Debug, PartialEq, Eq)]
+pub struct Receiver {
+    pub limit: u64,
+    pub slots: Slots,
+}
+
+impl Receiver {
+    /// The empty state of a link with a limit: every slot idle.
+    pub fn open(limit: u64) -> Result<Receiver, Refusal> {
+        limit_in(limit)?;
+        Ok(Receiver {
+            limit,
+            slots: [None; 3],
+        })
+    }
+
+    /// "a state whose limit is out of range is unlawful".
+    pub fn is_lawful(&self) -> bool {
+        let lawful = |open: &Open| open.is_lawful(self.limit);
+        limit_in(self.limit).is_ok() && self.slots.iter().flatten().all(lawful)
+    }
+}
 
 /// What an accepted packet came to.
 #[derive(Clone, Copy, Debug, PartialEq, Eq)]
@@ -213,21 +239,22 @@ pub enum Accepted {
 
 /// One packet given to the receiver.
 pub fn accept(
-    slots: Slots,
-    buffer: &mut [u8],
+    state: Receiver,
+    lent: &mut [u8],
     packet: &[u8],
-) -> (Slots, Result<Accepted, Refusal>) {
-    if buffer.len() != BUFFER || !slots.iter().flatten().all(Open::is_lawful) {
-        return (slots, Err(Refusal::Lent));
+) -> (Receiver, Result<Accepted, Refusal>) {
+    let Receiver { limit, slots } = state;
+    if !state.is_lawful() || lent.len() != buffer(limit) {
+        return (state, Err(Refusal::Lent));
     }
-    let packet = match Packet::read(packet) {
+    let packet = match Packet::read(limit, packet) {
         Ok(packet) => packet,
-        Err(refusal) => return (slots, Err(refusal)),
+        Err(refusal) => return (state, Err(refusal)),
     };
     let index = packet.stream.slot();
     let set = |slot: Option<Open>| {
-        let mut after = slots;
-        after[index] = slot;
+        let mut after = state;
+        after.slots[index] = slot;
         after
     };
     let place = match packet.part {
@@ -239,14 +266,14 @@ pub fn accept(
                 sequence: packet.sequence,
                 positive: packet.flag,
             };
-            return (slots, Ok(told));
+            return (state, Ok(told));
         }
         // "A first packet that is accepted always replaces an open transaction of its stream; its
         // answer notes the drop."
         Part::First { total, piece } => Ok((total, 0, piece, piece.len() == total, packet.flag)),
         Part::Continuation { piece } | Part::Last { piece } => {
             match slots[index].filter(|open| open.id == packet.id) {
-                None => return (slots, Err(Refusal::NotOpen)),
+                None => return (state, Err(Refusal::NotOpen)),
                 // "Here 0 follows 15. Within a transaction each packet's sequence is one more,
                 // modulo 16".
                 Some(open) if packet.sequence != (open.sequence + 1) % 16 => {
@@ -278,8 +305,7 @@ pub fn accept(
         Err(refusal) => return (set(None), Err(refusal)),
     };
     // "An accepted piece is written in its third at the count held, and no other byte changes."
-    buffer
-        .chunks_exact_mut(MESSAGE)
+    lent.chunks_exact_mut(limit as usize)
         .nth(index)
         .expect("three thirds")[held..held + piece.len()]
         .copy_from_slice(piece);
@@ -383,10 +409,11 @@ pub fn packet(wish: Wish, message: &[u8], piece: Piece) -> Vec<u8> {
     made
 }
 
-/// The message packet writer: 13, 15, 14. "One packet is written at a time; a place in the message
+/// The message packet writer of a link with a limit: 13, 17, 15, 14. "One packet is written at a time; a place in the message
 /// where no piece begins is 15." Gives the bytes written and the place after the piece.
 pub fn write_packet(
     room: u64,
+    limit: u64,
     wish: Option<Wish>,
     message: &[u8],
     place: u64,
@@ -396,8 +423,9 @@ pub fn write_packet(
         return Err(Refusal::Room);
     }
     let room = room as usize;
+    let limit = limit_in(limit)?;
     let wish = wish.ok_or(Refusal::Argument)?;
-    if message.len() > MESSAGE {
+    if message.len() > limit {
         return Err(Refusal::Argument);
     }
     let piece = pieces(message.len(), room)

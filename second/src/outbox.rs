@@ -1,12 +1,40 @@
-//! "The outbox file": "A version byte 01, then records."
+//! "The outbox file": "A version byte 01, then records." "New outboxes have version byte 02 and
+//! four-byte lengths, 1 to 65,536. Version 01 files are still read and appended to, within their own
+//! limit."
 
 use crate::low_energy::Stream;
 use crate::refusal::{deliver, Refusal};
 
-/// The largest payload of a record.
-pub const PAYLOAD: usize = 4_096;
-/// "record length 0 or over 4,097"
-const LENGTHS: std::ops::RangeInclusive<usize> = 1..=PAYLOAD + 1;
+/// What a version byte says of the records after it.
+#[derive(Clone, Copy, Debug, PartialEq, Eq)]
+pub struct Version {
+    /// How many bytes a length has.
+    pub width: usize,
+    /// The largest payload; a length counts the stream byte besides.
+    pub payload: usize,
+}
+
+/// "a two-byte length", "record length 0 or over 4,097"
+pub const ONE: Version = Version {
+    width: 2,
+    payload: 4_096,
+};
+/// "four-byte lengths, 1 to 65,536"
+pub const TWO: Version = Version {
+    width: 4,
+    payload: 65_535,
+};
+
+impl Version {
+    /// "40 is for an empty file and versions other than 01 and 02"
+    pub fn of(bytes: &[u8]) -> Result<Version, Refusal> {
+        match bytes.first() {
+            Some(0x01) => Ok(ONE),
+            Some(0x02) => Ok(TWO),
+            _ => Err(Refusal::Version),
+        }
+    }
+}
 
 /// A refusal of outbox bytes, with the place of the record's length where the paper tells it
 /// (41 only).
@@ -37,48 +65,47 @@ pub struct Record {
     pub next: usize,
 }
 
-/// "A new outbox is the byte 01."
+/// "New outboxes have version byte 02"
 pub fn new(output: &mut [u8]) -> Result<usize, Refusal> {
-    deliver(&[0x01], output)
+    deliver(&[0x02], output)
 }
 
 /// "A record is read at a place, 1 or one told before; at the end of the bytes the answer is the
 /// end; 0 or a place beyond is 15, after 40." Nothing is the end.
 pub fn record(bytes: &[u8], place: u64) -> Result<Option<Record>, Broken> {
-    if bytes.first() != Some(&0x01) {
-        return Err(Refusal::Version.into());
-    }
+    let version = Version::of(bytes)?;
     if place == 0 || place > bytes.len() as u64 {
         return Err(Refusal::Argument.into());
     }
     let place = place as usize;
+    let rest = &bytes[place..];
+    if rest.is_empty() {
+        return Ok(None);
+    }
     let cut = Broken {
         refusal: Refusal::RecordCut,
         place: Some(place),
     };
-    // "A record is a two-byte length, big-endian, counting what follows: a stream byte (0, 2, 6)
-    // and the payload." "a length of one byte is 41"
-    match &bytes[place..] {
-        [] => Ok(None),
-        [_] => Err(cut),
-        [high, low, rest @ ..] => {
-            let length = usize::from(*high) << 8 | usize::from(*low);
-            if !LENGTHS.contains(&length) {
-                return Err(Refusal::RecordLength.into());
-            }
-            let [stream, payload @ ..] = rest.get(..length).ok_or(cut)? else {
-                unreachable!("the length is at least 1");
-            };
-            let stream = Stream::of(u64::from(*stream)).ok_or(Refusal::RecordStream)?;
-            let start = place + 3;
-            Ok(Some(Record {
-                stream,
-                start,
-                length: payload.len(),
-                next: start + payload.len(),
-            }))
-        }
+    // "A record is a .. length, big-endian, counting what follows: a stream byte (0, 2, 6) and the
+    // payload." "42 uses each version's range, a cut length is 41"
+    let (field, rest) = rest.split_at_checked(version.width).ok_or(cut)?;
+    let length = field
+        .iter()
+        .fold(0, |number, byte| number << 8 | usize::from(*byte));
+    if length == 0 || length > version.payload + 1 {
+        return Err(Refusal::RecordLength.into());
     }
+    let [stream, payload @ ..] = rest.get(..length).ok_or(cut)? else {
+        unreachable!("the length is at least 1");
+    };
+    let stream = Stream::of(u64::from(*stream)).ok_or(Refusal::RecordStream)?;
+    let start = place + version.width + 1;
+    Ok(Some(Record {
+        stream,
+        start,
+        length: payload.len(),
+        next: start + payload.len(),
+    }))
 }
 
 /// All records of whole bytes, "judged record by record".
@@ -94,19 +121,21 @@ pub fn whole(bytes: &[u8]) -> Result<Vec<Record>, Broken> {
 }
 
 /// "Appending writes the record right after the used bytes, which must be whole: otherwise it gives
-/// their own refusal, 40 to 43." The order is 1, 15, 14, then 40 to 43. Gives the bytes used
-/// afterwards.
+/// their own refusal". The order is 1, 40 ("in appending comes right after 1"), 15 ("a payload above
+/// the version's limit is 15 when appending"), 14, then 41 to 43. Gives the bytes used afterwards.
 pub fn append(buffer: &mut [u8], used: u64, stream: u64, payload: &[u8]) -> Result<usize, Broken> {
     if used > buffer.len() as u64 {
         return Err(Refusal::Lent.into());
     }
+    let (before, free) = buffer.split_at_mut(used as usize);
+    let version = Version::of(before)?;
     let stream = Stream::of(stream).ok_or(Refusal::Argument)?;
-    if payload.len() > PAYLOAD {
+    if payload.len() > version.payload {
         return Err(Refusal::Argument.into());
     }
-    let (before, free) = buffer.split_at_mut(used as usize);
-    let length = (payload.len() + 1) as u16;
-    let made = [&length.to_be_bytes()[..], &[stream.number()], payload].concat();
+    let length = (payload.len() as u32 + 1).to_be_bytes();
+    let field = &length[length.len() - version.width..];
+    let made = [field, &[stream.number()], payload].concat();
     if free.len() < made.len() {
         return Err(Refusal::Output.into());
     }

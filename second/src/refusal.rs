@@ -36,6 +36,8 @@ pub enum Refusal {
     Output = 14,
     /// "writer argument out of its range"
     Argument = 15,
+    /// "a limit of 0 or above 65,535" (No. 6)
+    Limit = 17,
     /// "F0 inside a frame"
     StartInside = 20,
     /// "F1 in the header, or under 2 bytes stored"
@@ -44,7 +46,7 @@ pub enum Refusal {
     Header = 22,
     /// "F1 or a byte other than 00, 02, 03 after F2"
     Escape = 23,
-    /// "a 4,099th byte to store"
+    /// "a 4,099th byte to store"; by No. 6 one when limit + 2 are held
     Full = 24,
     /// "checksum differs"
     Checksum = 25,
@@ -105,6 +107,14 @@ impl From<Refusal> for Broken {
             field: None,
             place: None,
         }
+    }
+}
+
+/// The limit of a link: 1 to 65,535 bytes, or 17.
+pub fn limit_in(limit: u64) -> Result<usize, Refusal> {
+    match limit {
+        1..=65_535 => Ok(limit as usize),
+        _ => Err(Refusal::Limit),
     }
 }
 

@@ -151,7 +151,7 @@ fn streams_that_are_not_apart_are_found() {
     // 10 makes the slots of the other streams idle too.
     let idle = Wrong(Operation::ReceiverAccept, |returned, state, _, _| {
         if *returned == 10 {
-            state.fill(0);
+            state[1..].fill(0);
         }
     });
     assert!(found(&idle));
@@ -180,14 +180,14 @@ fn a_difference_tells_the_call_and_both_answers() {
     let mut comparison = Comparison::new(&[&Model, &wrong]);
     comparison.at = "here".to_string();
     let mut call = Call::new(Operation::FrameWrite)
-        .numbers(&[5])
+        .numbers(&[5, 4_096])
         .inputs(&[&[0xF0]])
         .lent(vec![0xCC; 12]);
     let text = comparison.run(&mut call).unwrap_err().0;
     for line in [
         "difference: here",
         "call: frame write",
-        "given 1 numbers: sequence 5",
+        "given 2 numbers: sequence 5, limit 4096",
         "payload, 1 bytes: F0",
         "output before, 12 bytes: CC CC CC CC CC CC CC CC CC CC CC CC",
         "second: returned 0",

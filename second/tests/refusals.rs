@@ -1,10 +1,13 @@
 //! "Each is given exactly when its line holds and none above it in its group does": each line of
 //! the table, and the orders that the paper and its readings fix.
 
-use second::classic::{self, Extractor, Next, Outcome, Parts};
+mod common;
+
+use common::{accept, BUFFER};
+use second::classic::{self, Extractor, Next, Outcome, Parts, Standing};
 use second::control::{self, Envelope, Features, Given, Information, Payload, Response};
 use second::driver::worked::bytes;
-use second::low_energy::{self, accept, write_packet, Accepted, Open, Slots, Stream, Wish};
+use second::low_energy::{self, write_packet, Accepted, Open, Receiver, Slots, Stream, Wish};
 use second::outbox;
 use second::refusal::Refusal;
 
@@ -13,7 +16,7 @@ const IDLE: Slots = [None; 3];
 /// What a packet is refused by, from these slots; a refusal of the group's lines up to 9 changes
 /// nothing.
 fn packet_refusal(slots: Slots, packet: &[u8]) -> u64 {
-    let mut buffer = vec![0xEE; low_energy::BUFFER];
+    let mut buffer = vec![0xEE; BUFFER];
     let (after, told) = accept(slots, &mut buffer, packet);
     assert!(buffer.iter().all(|&byte| byte == 0xEE), "a byte changed");
     let number = told.expect_err("a refusal").number();
@@ -104,6 +107,13 @@ fn unlawful_states_and_buffers_come_first() {
         let mut buffer = vec![0; size];
         assert_eq!(accept(IDLE, &mut buffer, &packet).1, Err(Refusal::Lent));
     }
+    // A limit that is none, over a buffer of three times that.
+    for limit in [0, 65_536] {
+        let state = Receiver { limit, slots: IDLE };
+        let mut buffer = vec![0; low_energy::buffer(limit)];
+        let (after, told) = low_energy::accept(state, &mut buffer, &packet);
+        assert_eq!((after, told), (state, Err(Refusal::Lent)));
+    }
     let lawful = Open {
         id: 15,
         total: 4_096,
@@ -150,7 +160,7 @@ fn unlawful_states_and_buffers_come_first() {
 
 #[test]
 fn a_first_packet_replaces_and_notes_the_drop() {
-    let mut buffer = vec![0; low_energy::BUFFER];
+    let mut buffer = vec![0; BUFFER];
     let first = bytes("07 90 00 00 03 01 AA");
     let (after, told) = accept(control_open(10, 3), &mut buffer, &first);
     assert!(matches!(told, Ok(Accepted::Held { replaced: true, .. })));
@@ -185,7 +195,7 @@ fn a_first_packet_replaces_and_notes_the_drop() {
 
 /// What comes of these packets on the Alexa stream, one after the other; the last answer and slots.
 fn alexa(packets: &[&str]) -> (Slots, Result<Accepted, Refusal>) {
-    let mut buffer = vec![0; low_energy::BUFFER];
+    let mut buffer = vec![0; BUFFER];
     let mut last = (IDLE, Err(Refusal::ShortPacket));
     for packet in packets {
         last = accept(last.0, &mut buffer, &bytes(packet));
@@ -307,14 +317,24 @@ fn wish() -> Wish {
 fn packets_written() {
     let message = [0; 40];
     let mut output = [0xEE; 512];
-    let mut refusal = |room, wish, message: &[u8], place, size: usize| {
-        let told = write_packet(room, wish, message, place, &mut output[..size]);
+    let mut refused = |room, limit, wish, message: &[u8], place, size: usize| {
+        let told = write_packet(room, limit, wish, message, place, &mut output[..size]);
         told.expect_err("a refusal").number()
     };
-    // 13 before 15, 15 before 14.
+    // 13 before 17, 17 before 15, 15 before 14.
     for room in [0, 19, 513, u64::MAX] {
-        assert_eq!(refusal(room, None, &message, 1, 0), 13);
+        assert_eq!(refused(room, 0, None, &message, 1, 0), 13);
     }
+    for limit in [0, 65_536, u64::MAX] {
+        assert_eq!(refused(20, limit, None, &message, 1, 0), 17);
+    }
+    for limit in [1, 39] {
+        assert_eq!(refused(20, limit, Some(wish()), &message, 0, 0), 15);
+    }
+    assert_eq!(refused(20, 40, Some(wish()), &message, 0, 0), 14);
+    let mut refusal = |room, wish, message: &[u8], place, size| {
+        refused(room, classic::LIMIT, wish, message, place, size)
+    };
     assert_eq!(refusal(20, None, &message, 0, 0), 15);
     assert_eq!(refusal(20, Some(wish()), &[0; 4_097], 0, 0), 15);
     for place in [1, 13, 15, 30, 32, 40, 41, u64::MAX] {
@@ -329,26 +349,34 @@ fn packets_written() {
     assert!(output.iter().all(|&byte| byte == 0xEE));
 }
 
+/// An extractor with the limit of the worked cases.
+fn at(standing: Standing) -> Extractor {
+    Extractor {
+        limit: classic::LIMIT,
+        standing,
+    }
+}
+
 /// The state that these bytes lead to from outside.
 fn after(bytes: &[u8], buffer: &mut [u8]) -> Extractor {
-    let (state, used, _) = Extractor::default().feed(buffer, bytes);
+    let (state, used, _) = at(Standing::Outside).feed(buffer, bytes);
     assert_eq!(used, bytes.len());
     state
 }
 
 #[test]
 fn frames() {
-    let full = Extractor::Body {
+    let full = at(Standing::Body {
         sequence: 1,
         held: 4_098,
         escape: false,
-    };
-    let full_escape = Extractor::Body {
+    });
+    let full_escape = at(Standing::Body {
         sequence: 1,
         held: 4_098,
         escape: true,
-    };
-    let mut buffer = vec![0xEE; classic::BUFFER];
+    });
+    let mut buffer = vec![0xEE; 4_098];
     let mut start = |text: &str| after(&bytes(text), &mut buffer);
     let body = |text: &str| format!("F0 02 00 01 {text}");
     let cases: Vec<(Extractor, u8, u64)> = vec![
@@ -393,10 +421,10 @@ fn frames() {
             "{state:?} {byte:02X}"
         );
         let expected = match number {
-            20 => Extractor::PacketId,
-            _ => Extractor::Outside,
+            20 => Standing::PacketId,
+            _ => Standing::Outside,
         };
-        assert_eq!(next, expected);
+        assert_eq!(next, at(expected));
     }
     assert_eq!(buffer, before);
     let (next, told) = full.step(&mut buffer, 0xF2);
@@ -406,21 +434,26 @@ fn frames() {
 
 #[test]
 fn the_largest_frame_is_read_and_one_byte_more_is_24() {
-    for size in [4_096, 4_097] {
-        let frame = classic::frame(7, &vec![0xF2; size]);
-        let mut buffer = vec![0; classic::BUFFER];
-        let (state, used, decided) = Extractor::default().feed(&mut buffer, &frame);
-        assert_eq!(state, Extractor::Outside);
-        if size == 4_096 {
-            let expected = classic::Decided::Frame {
-                sequence: 7,
-                length: 4_096,
-            };
-            assert_eq!((used, decided), (frame.len(), expected));
-        } else {
-            // The last byte of the checksum.
-            let expected = classic::Decided::Refused(Refusal::Full);
-            assert_eq!((used, decided), (frame.len() - 1, expected));
+    for limit in [1, 2, 4_096, 20_000, 65_535] {
+        for more in [0, 1] {
+            let size = limit as usize + more;
+            let frame = classic::frame(7, &vec![0xF2; size]);
+            let mut buffer = vec![0; limit as usize + 2];
+            let empty = Extractor::open(limit).unwrap();
+            let (state, used, decided) = empty.feed(&mut buffer, &frame);
+            assert_eq!(state, empty);
+            let full = classic::Decided::Refused(Refusal::Full);
+            if more == 0 {
+                let expected = classic::Decided::Frame {
+                    sequence: 7,
+                    length: size,
+                };
+                assert_eq!((used, decided), (frame.len(), expected));
+            } else {
+                // The last byte of the checksum, before the end mark.
+                assert_eq!(decided, full);
+                assert_eq!(used, frame.len() - 1);
+            }
         }
     }
 }
@@ -429,44 +462,65 @@ fn the_largest_frame_is_read_and_one_byte_more_is_24() {
 fn extractor_states_and_buffers() {
     let unlawful = [(0xF0, 0), (0xF1, 0), (0xF2, 0), (0, 4_099)];
     for (sequence, held) in unlawful {
-        let state = Extractor::Body {
+        let state = at(Standing::Body {
             sequence,
             held,
             escape: false,
-        };
-        let mut buffer = vec![0; classic::BUFFER];
+        });
+        let mut buffer = vec![0; 4_098];
         assert_eq!(state.step(&mut buffer, 0xF0), (state, Err(Refusal::Lent)));
         let refused = classic::Decided::Refused(Refusal::Lent);
         assert_eq!(state.feed(&mut buffer, &[0xF0]), (state, 0, refused));
     }
     for size in [0, 4_097, 4_099] {
-        let (state, told) = Extractor::Outside.step(&mut vec![0; size], 0xF0);
-        assert_eq!((state, told), (Extractor::Outside, Err(Refusal::Lent)));
+        let outside = at(Standing::Outside);
+        let told = outside.step(&mut vec![0; size], 0xF0);
+        assert_eq!(told, (outside, Err(Refusal::Lent)));
+    }
+    // A limit that is none: 17 in an opening, 1 in a state.
+    for limit in [0, 65_536, u64::MAX] {
+        assert_eq!(Extractor::open(limit), Err(Refusal::Limit));
+        let state = Extractor {
+            limit,
+            standing: Standing::Outside,
+        };
+        for size in [0, 1, 2, 65_538] {
+            let told = state.step(&mut vec![0; size], 0xF0);
+            assert_eq!(told, (state, Err(Refusal::Lent)));
+        }
     }
 }
 
 #[test]
 fn frames_written() {
     let mut output = [0xEE; 20];
-    let mut refusal = |sequence, payload: &[u8], size: usize| {
-        let told = classic::write_frame(sequence, payload, &mut output[..size]);
+    let mut refusal = |sequence, limit, payload: &[u8], size: usize| {
+        let told = classic::write_frame(sequence, limit, payload, &mut output[..size]);
         told.expect_err("a refusal").number()
     };
     for mark in [0xF0, 0xF1, 0xF2] {
-        assert_eq!(refusal(mark, &[], 0), 15);
+        assert_eq!(refusal(mark, 4_096, &[], 0), 15);
+        for limit in [0, 65_536, u64::MAX] {
+            assert_eq!(refusal(mark, limit, &[0; 9], 0), 17);
+        }
     }
-    assert_eq!(refusal(0, &[0; 4_097], 0), 15);
-    assert_eq!(refusal(0, &[0; 4_096], 20), 14);
-    assert_eq!(refusal(0, &[], 6), 14);
-    assert_eq!(refusal(5, &[0xF0], 9), 14);
+    assert_eq!(refusal(0, 4_096, &[0; 4_097], 0), 15);
+    assert_eq!(refusal(0, 4_096, &[0; 4_096], 20), 14);
+    assert_eq!(refusal(0, 1, &[0; 2], 20), 15);
+    assert_eq!(refusal(0, 65_535, &[0; 65_535], 20), 14);
+    assert_eq!(refusal(0, 65_535, &[0; 65_536], 20), 15);
+    assert_eq!(refusal(0, 4_096, &[], 6), 14);
+    assert_eq!(refusal(5, 4_096, &[0xF0], 9), 14);
     assert!(output.iter().all(|&byte| byte == 0xEE));
 }
 
 #[test]
 fn frames_written_by_parts() {
-    assert_eq!(Parts::begin(0xF0, 1).unwrap_err().number(), 15);
-    assert_eq!(Parts::begin(5, 4_097).unwrap_err().number(), 15);
-    let begun = Parts::begin(5, 2).unwrap();
+    assert_eq!(Parts::begin(0xF0, 4_096, 1).unwrap_err().number(), 15);
+    assert_eq!(Parts::begin(5, 4_096, 4_097).unwrap_err().number(), 15);
+    assert_eq!(Parts::begin(0xF0, 0, 1).unwrap_err().number(), 17);
+    assert_eq!(Parts::begin(5, 65_536, 70_000).unwrap_err().number(), 17);
+    let begun = Parts::begin(5, 4_096, 2).unwrap();
     let marked = Parts {
         sequence: 0xF2,
         ..begun
@@ -476,11 +530,16 @@ fn frames_written_by_parts() {
         ..begun
     };
     let passed = Parts { taken: 3, ..begun };
+    let unlimited = Parts {
+        limit: 65_536,
+        ..begun
+    };
     // 1 before 26 before 14; each leaves state and output.
     let cases: &[(Parts, usize, usize, u64)] = &[
         (marked, 3, 0, 1),
         (above, 0, 1, 1),
         (passed, 3, 0, 1),
+        (unlimited, 0, 1, 1),
         (begun, 3, 0, 26),
         (begun, 3, 9, 26),
         (begun, 2, 0, 14),

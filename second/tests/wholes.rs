@@ -1,9 +1,12 @@
 //! Whole lists: round trips, steps against feeds, frames in a stream, messages in interleaved
 //! packets.
 
-use second::classic::{self, Decided, Extractor, Outcome};
+mod common;
+
+use common::{accept, BUFFER};
+use second::classic::{self, Decided, Extractor, Outcome, Standing};
 use second::control::{self, Features, Given, Information, Payload};
-use second::low_energy::{self, accept, Accepted, Stream, Wish};
+use second::low_energy::{self, Accepted, Stream, Wish};
 use second::outbox;
 use second::rng::Rng;
 
@@ -43,16 +46,19 @@ fn feeds_decide_what_steps_decide() {
                 stream[place] = marked(&mut rng);
             }
         }
-        let held = rng.between(4_085, 4_098);
-        let mut state = match rng.below(3) {
-            0 => Extractor::Body {
+        let limit = *rng.pick(&[1, 2, 19, 20, 255, 256, 4_096, 20_000, 65_535]);
+        let room = classic::buffer(limit);
+        let held = rng.between(room.saturating_sub(13), room);
+        let standing = match rng.below(3) {
+            0 => Standing::Body {
                 sequence: 1,
                 held,
                 escape: rng.once_in(2),
             },
-            _ => Extractor::Outside,
+            _ => Standing::Outside,
         };
-        let mut buffer = rng.bytes(classic::BUFFER);
+        let mut state = Extractor { limit, standing };
+        let mut buffer = rng.bytes(room);
         let mut rest = &stream[..];
         while !rest.is_empty() {
             let (mut stepped, mut stepped_buffer) = (state, buffer.clone());
@@ -96,8 +102,9 @@ fn every_whole_frame_of_a_stream_is_given() {
             // Any noise may follow, and it may decide things too, but no frame: it has no F1.
             stream.extend(noise(&mut rng, 6).iter().filter(|&&byte| byte != 0xF1));
         }
-        let mut buffer = rng.bytes(classic::BUFFER);
-        let mut state = Extractor::default();
+        let limit = *rng.pick(&[12, 19, 20, 255, 256, 4_096, 20_000, 65_535]);
+        let mut buffer = rng.bytes(classic::buffer(limit));
+        let mut state = Extractor::open(limit).unwrap();
         let mut place = 0;
         let mut got = Vec::new();
         while place < stream.len() {
@@ -122,7 +129,7 @@ fn every_whole_frame_of_a_stream_is_given() {
 fn interleaved_messages_are_given() {
     let mut rng = Rng::new(9);
     for _ in 0..300 {
-        let mut buffer = rng.bytes(low_energy::BUFFER);
+        let mut buffer = rng.bytes(BUFFER);
         let mut slots = [None; 3];
         let messages: Vec<(Wish, Vec<u8>, usize)> = Stream::ALL
             .into_iter()

@@ -1,11 +1,12 @@
 //! "Worked by hand", P1 to P12, and "Slips we have seen", on the model itself.
 
+mod common;
+
+use common::{accept, BUFFER};
 use second::classic::{self, listing, next_sequence, write_frame, Decided, Extractor};
 use second::control::{self, Envelope, Given, Payload, Response};
 use second::driver::worked::bytes;
-use second::low_energy::{
-    self, accept, acknowledgement, pieces, write_packet, Accepted, Open, Stream, Wish,
-};
+use second::low_energy::{acknowledgement, pieces, write_packet, Accepted, Open, Stream, Wish};
 use second::outbox;
 use second::refusal::Refusal;
 
@@ -29,13 +30,13 @@ fn made(write: impl FnOnce(&mut [u8]) -> Result<usize, Refusal>) -> Vec<u8> {
 
 #[test]
 fn p1_empty_payload() {
-    let frame = made(|output| write_frame(0, &[], output));
+    let frame = made(|output| write_frame(0, classic::LIMIT, &[], output));
     assert_eq!(frame, bytes("F0 02 00 00 00 02 F1"));
 }
 
 #[test]
 fn p2_payload_of_a_mark() {
-    let frame = made(|output| write_frame(5, &[0xF0], output));
+    let frame = made(|output| write_frame(5, classic::LIMIT, &[0xF0], output));
     assert_eq!(frame, bytes("F0 02 00 05 F2 02 00 F2 00 F1"));
 }
 
@@ -52,8 +53,15 @@ fn p4_headers_of_35_bytes_at_room_20() {
     let mut piece_sizes = Vec::new();
     while place < 35 {
         let mut output = [0; 20];
-        let (written, next) =
-            write_packet(20, alexa(true), &message, place as u64, &mut output).unwrap();
+        let (written, next) = write_packet(
+            20,
+            classic::LIMIT,
+            alexa(true),
+            &message,
+            place as u64,
+            &mut output,
+        )
+        .unwrap();
         let header = written - (next - place);
         assert_eq!(output[header..written], message[place..next]);
         headers.push(output[..header].to_vec());
@@ -80,9 +88,9 @@ fn p6_300_bytes() {
     assert_eq!(sizes(300, 263), [256, 44]);
     let message = [7; 300];
     let mut output = [0; 263];
-    write_packet(263, alexa(false), &message, 0, &mut output).unwrap();
+    write_packet(263, classic::LIMIT, alexa(false), &message, 0, &mut output).unwrap();
     assert_eq!(output[..7], bytes("61 01 00 01 2C 01 00"));
-    write_packet(262, alexa(false), &message, 0, &mut output).unwrap();
+    write_packet(262, classic::LIMIT, alexa(false), &message, 0, &mut output).unwrap();
     assert_eq!(output[..6], bytes("61 00 00 01 2C FF"));
 }
 
@@ -96,7 +104,7 @@ fn p7_after_sequence_15() {
         wanted: false,
     };
     let slots = [Some(open), None, None];
-    let mut buffer = vec![0; low_energy::BUFFER];
+    let mut buffer = vec![0; BUFFER];
     let (after, told) = accept(slots, &mut buffer, &bytes("02 04 01 AA"));
     assert!(matches!(told, Ok(Accepted::Held { .. })));
     let open = after[0].unwrap();
@@ -113,7 +121,7 @@ fn p8_acknowledgements() {
     let nack = acknowledgement(Stream::Alexa, 1, 0, false);
     assert_eq!(ack[..], bytes("61 0E 00 02 01 00"));
     assert_eq!(nack[..], bytes("61 0C 00 02 01 03"));
-    let mut buffer = vec![0; low_energy::BUFFER];
+    let mut buffer = vec![0; BUFFER];
     for sequence in 0..16 {
         for positive in [false, true] {
             let packet = acknowledgement(Stream::Ota, 5, sequence, positive);
@@ -139,11 +147,11 @@ fn p9_empty_transaction() {
     };
     let mut output = [0xCC; 20];
     assert_eq!(
-        write_packet(20, Some(wish), &[], 0, &mut output),
+        write_packet(20, classic::LIMIT, Some(wish), &[], 0, &mut output),
         Ok((6, 0))
     );
     assert_eq!(output[..7], [0, 0, 0, 0, 0, 0, 0xCC]);
-    let mut buffer = vec![0xEE; low_energy::BUFFER];
+    let mut buffer = vec![0xEE; BUFFER];
     let (after, told) = accept([None; 3], &mut buffer, &output[..6]);
     assert_eq!(after, [None; 3]);
     let expected = Accepted::Finished {
@@ -226,8 +234,8 @@ fn frames_says_inside_if_a_frame_is_open() {
 
 /// Feeds a stream from outside and gives what each call decided, until all is used.
 fn decisions(stream: &[u8]) -> Vec<Decided> {
-    let mut buffer = vec![0; classic::BUFFER];
-    let mut state = Extractor::default();
+    let mut buffer = vec![0; classic::buffer(classic::LIMIT)];
+    let mut state = Extractor::open(classic::LIMIT).unwrap();
     let mut rest = stream;
     let mut all = Vec::new();
     loop {
@@ -260,7 +268,7 @@ fn slip_summing_the_escaped_payload() {
 
 #[test]
 fn slip_leaving_the_checksum_unescaped() {
-    let frame = made(|output| write_frame(1, &[0xEE], output));
+    let frame = made(|output| write_frame(1, classic::LIMIT, &[0xEE], output));
     assert_eq!(frame, bytes("F0 02 00 01 EE 00 F2 02 F1"));
     let wrong = bytes("F0 02 00 01 EF 00 F1 F1");
     assert_eq!(decisions(&wrong)[0], Decided::Refused(Refusal::Checksum));
@@ -268,7 +276,7 @@ fn slip_leaving_the_checksum_unescaped() {
 
 #[test]
 fn slip_refusing_an_extender_on_200() {
-    let mut buffer = vec![0; low_energy::BUFFER];
+    let mut buffer = vec![0; BUFFER];
     let packet = [bytes("61 01 00 00 C8 00 C8"), vec![9; 200]].concat();
     let (_, told) = accept([None; 3], &mut buffer, &packet);
     assert!(matches!(told, Ok(Accepted::Finished { total: 200, .. })));
@@ -276,7 +284,7 @@ fn slip_refusing_an_extender_on_200() {
 
 #[test]
 fn slip_finishing_14_of_35() {
-    let mut buffer = vec![0; low_energy::BUFFER];
+    let mut buffer = vec![0; BUFFER];
     let packet = [bytes("61 02 00 00 23 0E"), vec![9; 14]].concat();
     let (after, told) = accept([None; 3], &mut buffer, &packet);
     assert!(matches!(told, Ok(Accepted::Held { .. })));

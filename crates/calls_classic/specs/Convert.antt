@@ -6,11 +6,12 @@ use lib.ListN.{length, getD}
 use lib.Dec.{ltb, eqb}
 use Rattle.extractor.specs.declared.state.Phase.{Phase}
 use Rattle.extractor.specs.declared.state.Phase.the-variants.{Outside, PacketId, ErrorId, Sequence, Body, Escaped}
+use Rattle.extractor.specs.declared.state.Progress.{Progress}
 use Rattle.extractor.specs.declared.state.Extractor.{Extractor}
 use Rattle.extractor.specs.Outcome.{Report, skipped, taken, allUsed, frame, refused}
 use Rattle.calls_classic.specs.declared.convert.Reply.{Reply}
 
--- ---- the state row: phase, sequence, held
+-- ---- the state row: limit, phase, sequence, held
 
 abbrev pub phaseNumber : Phase → ℕ
 phaseNumber Outside = 0
@@ -28,13 +29,14 @@ phaseOf n =
 
 -- numbers that a state can have: a phase up to 5, and a sequence of one byte
 unfoldable pub isExtractor : List ℕ → Bool
-isExtractor row = eqb (length row) 3 && (ltb (getD row 0 0) 6 && ltb (getD row 1 0) 256)
+isExtractor row = eqb (length row) 4 && (ltb (getD row 1 0) 6 && ltb (getD row 2 0) 256)
 
 unfoldable pub extractorOf : List ℕ → Extractor
-extractorOf row = record { phase = phaseOf (getD row 0 0); sequence = getD row 1 0; held = getD row 2 0 }
+extractorOf row =
+    record { limit = getD row 0 0; progress = record { phase = phaseOf (getD row 1 0); sequence = getD row 2 0; held = getD row 3 0 } }
 
-abbrev pub extractorRow : Extractor → List ℕ
-extractorRow s = phaseNumber (s .phase) ∷ s .sequence ∷ s .held ∷ []
+abbrev pub extractorRow : ℕ → Progress → List ℕ
+extractorRow limit s = limit ∷ phaseNumber (s .phase) ∷ s .sequence ∷ s .held ∷ []
 
 -- ---- the answer
 

@@ -1,5 +1,7 @@
 // Classic for C: the extractor and the frame writer.
+use crate::convert::BAD_LIMIT;
 use crate::convert::FEED_ANSWER;
+use crate::convert::STATE;
 use crate::convert::STEP_ANSWER;
 use crate::convert::extractor_of;
 use crate::convert::extractor_row;
@@ -7,6 +9,8 @@ use crate::convert::feed_reply;
 use crate::convert::frame_count;
 use crate::convert::is_extractor;
 use crate::convert::step_reply;
+use extractor::state::Extractor;
+use extractor::state::Opened;
 use feed::many::feed;
 use frame_writer::writer::write_frame;
 use framing::header;
@@ -28,12 +32,29 @@ ghost use Rattle.extractor.specs.Step.{byteStepOf};
 ghost use Rattle.feed.specs.Feed.{feedOf};
 ghost use Rattle.rows.specs.Called.{called};
 ghost use Rattle.calls_classic.specs.Convert.{isExtractor, extractorOf};
-ghost use Rattle.calls_classic.specs.Calls.{stepped, extractorStepOf, fedCall, extractorFeedOf, frameWriteOf, nextSequenceOf};
+ghost use Rattle.calls_classic.specs.Calls.{extractorOpenOf, stepped, extractorStepOf, fedCall, extractorFeedOf, frameWriteOf, nextSequenceOf};
+
+// Opens an extractor for a link with a limit: its empty state.
+pub fn extractor_open(limit: u64, state: &mut [u64]) -> u64
+    ensures { λ r. ⌜ called r (now (state .exit)) [] [] ≡ extractorOpenOf limit (now (state .entry)) ⌝ }
+{
+    if state.len() != STATE {
+        return UNFIT;
+    }
+    match Extractor::open(limit as usize) {
+        Opened::Empty(next) => {
+            let row = extractor_row(next);
+            write_row(state, &row);
+            DONE
+        }
+        Opened::BadLimit => BAD_LIMIT,
+    }
+}
 
 // One byte given to the extractor.
 pub fn extractor_step(state: &mut [u64], buffer: &mut [u8], byte: u8, answer: &mut [u64]) -> u64
     ensures { λ r. ⌜ called r (now (state .exit)) (now (buffer .exit)) (now (answer .exit))
-        ≡ extractorStepOf 4096 (now (state .entry)) (now (buffer .entry)) byte (now (answer .entry)) ⌝ }
+        ≡ extractorStepOf (now (state .entry)) (now (buffer .entry)) byte (now (answer .entry)) ⌝ }
 {
     if answer.len() != STEP_ANSWER {
         return UNFIT;
@@ -48,8 +69,9 @@ pub fn extractor_step(state: &mut [u64], buffer: &mut [u8], byte: u8, answer: &m
 fn step_fitting(state: &mut [u64], buffer: &mut [u8], byte: u8, answer: &mut [u64]) -> u64
     requires { ⌜ (isExtractor (now state) ≡ true) × (length (now answer) ≡ 3) ⌝ }
     ensures { λ r. ⌜ called r (now (state .exit)) (now (buffer .exit)) (now (answer .exit))
-        ≡ stepped (now (state .entry)) (now (answer .entry))
-        (byteStepOf 4096 (extractorOf (now (state .entry))) (now (buffer .entry)) byte) ⌝ }
+        ≡ (let x = extractorOf (now (state .entry)) in
+        stepped (now (state .entry)) (now (answer .entry)) (x .limit)
+        (byteStepOf (x .limit) (x .progress) (now (buffer .entry)) byte)) ⌝ }
 {
     let done = extractor_of(state).step(buffer, byte);
     let outcome = done.outcome;
@@ -66,7 +88,7 @@ fn step_fitting(state: &mut [u64], buffer: &mut [u8], byte: u8, answer: &mut [u6
 // Many bytes given to the extractor. The answer row tells 0 used under 1, where it has its length.
 pub fn extractor_feed(state: &mut [u64], buffer: &mut [u8], bytes: &[u8], answer: &mut [u64]) -> u64
     ensures { λ r. ⌜ called r (now (state .exit)) (now (buffer .exit)) (now (answer .exit))
-        ≡ extractorFeedOf 4096 (now (state .entry)) (now (buffer .entry)) (now (bytes .entry)) (now (answer .entry)) ⌝ }
+        ≡ extractorFeedOf (now (state .entry)) (now (buffer .entry)) (now (bytes .entry)) (now (answer .entry)) ⌝ }
 {
     if answer.len() != FEED_ANSWER {
         return UNFIT;
@@ -83,8 +105,9 @@ pub fn extractor_feed(state: &mut [u64], buffer: &mut [u8], bytes: &[u8], answer
 fn feed_fitting(state: &mut [u64], buffer: &mut [u8], bytes: &[u8], answer: &mut [u64]) -> u64
     requires { ⌜ (isExtractor (now state) ≡ true) × (length (now answer) ≡ 4) ⌝ }
     ensures { λ r. ⌜ called r (now (state .exit)) (now (buffer .exit)) (now (answer .exit))
-        ≡ fedCall (now (state .entry))
-        (feedOf 4096 (extractorOf (now (state .entry))) (now (buffer .entry)) (now (bytes .entry))) ⌝ }
+        ≡ (let x = extractorOf (now (state .entry)) in
+        fedCall (now (state .entry)) (x .limit)
+        (feedOf (x .limit) (x .progress) (now (buffer .entry)) (now (bytes .entry)))) ⌝ }
 {
     let done = feed(extractor_of(state), buffer, bytes);
     let outcome = done.outcome;
@@ -99,16 +122,22 @@ fn feed_fitting(state: &mut [u64], buffer: &mut [u8], bytes: &[u8], answer: &mut
     number
 }
 
-// Writes the frame of a payload.
-pub fn frame_write(sequence: u64, payload: &[u8], output: &mut [u8], answer: &mut [u64]) -> u64
+// Writes the frame of a payload, for a link with a limit.
+pub fn frame_write(
+    sequence: u64,
+    limit: u64,
+    payload: &[u8],
+    output: &mut [u8],
+    answer: &mut [u64],
+) -> u64
     ensures { λ r. ⌜ called r [] (now (output .exit)) (now (answer .exit))
-        ≡ frameWriteOf 4096 sequence (now (payload .entry)) (now (output .entry)) (now (answer .entry)) ⌝ }
+        ≡ frameWriteOf limit sequence (now (payload .entry)) (now (output .entry)) (now (answer .entry)) ⌝ }
 {
     if answer.len() != COUNT_ANSWER {
         return UNFIT;
     }
     let sequence = byte_or(Mark::START, sequence);
-    let outcome = write_frame(sequence, payload, output);
+    let outcome = write_frame(sequence, limit as usize, payload, output);
     tell(answer, frame_count(outcome))
 }
 

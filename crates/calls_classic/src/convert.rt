@@ -2,6 +2,7 @@
 use extractor::outcome::StepOutcome;
 use extractor::state::Extractor;
 use extractor::state::Phase;
+use extractor::state::Progress;
 use feed::many::FeedOutcome;
 use frame_writer::writer::WriteOutcome;
 use rows::row::BYTES;
@@ -19,9 +20,12 @@ ghost use Rattle.rows.specs.Row.{countOf};
 ghost use Rattle.calls_classic.specs.Convert.{phaseNumber, phaseOf, isExtractor, extractorOf, extractorRow, reply, replyOf};
 
 // The numbers of a state row, and how many phases there are.
-const STATE: usize = 3;
+pub const STATE: usize = 4;
 
 const PHASES: u64 = 6;
+
+// What an opening answers to a limit out of its range.
+pub const BAD_LIMIT: u64 = 17;
 
 // The numbers of the answer rows of a step and of a feed.
 pub const STEP_ANSWER: usize = 3;
@@ -85,7 +89,7 @@ fn phase_of(n: u64) -> Phase
 pub fn is_extractor(row: &[u64]) -> bool
     ensures { λ r. ⌜ r ≡ isExtractor (now (row .entry)) ⌝ }
 {
-    let numbers = both(number_at(row, 0) < PHASES, number_at(row, 1) < BYTES);
+    let numbers = both(number_at(row, 1) < PHASES, number_at(row, 2) < BYTES);
     both(row.len() == STATE, numbers)
 }
 
@@ -93,22 +97,30 @@ pub fn extractor_of(row: &[u64]) -> Extractor
     requires { ⌜ isExtractor (now row) ≡ true ⌝ }
     ensures { λ r. ⌜ r ≡ extractorOf (now (row .entry)) ⌝ }
 {
-    let phase = phase_of(row[0]);
+    let phase = phase_of(row[1]);
+    let sequence = row[2] as u8;
+    let held = row[3] as usize;
+    let limit = row[0] as usize;
     Extractor {
-        phase,
-        sequence: row[1] as u8,
-        held: row[2] as usize,
+        limit,
+        progress: Progress {
+            phase,
+            sequence,
+            held,
+        },
     }
 }
 
-pub fn extractor_row(state: Extractor) -> [u64; 3]
-    ensures { λ r. ⌜ r ≡ extractorRow state ⌝ }
+pub fn extractor_row(state: Extractor) -> [u64; 4]
+    ensures { λ r. ⌜ r ≡ extractorRow (state .limit) (state .progress) ⌝ }
 {
-    let phase = state.phase;
+    let progress = state.progress;
+    let phase = progress.phase;
     [
+        state.limit as u64,
         phase_number(phase),
-        wide64(state.sequence),
-        state.held as u64,
+        wide64(progress.sequence),
+        progress.held as u64,
     ]
 }
 

@@ -23,7 +23,7 @@ ghost use Rattle.calls_outbox.specs.Calls.{outboxNewOf, outboxAppendOf, 
 // Begins a new outbox.
 pub fn outbox_new(output: &mut [u8], answer: &mut [u64]) -> u64
     ensures { λ r. ⌜ called r [] (now (output .exit)) (now (answer .exit))
-        ≡ outboxNewOf 4096 (now (output .entry)) (now (answer .entry)) ⌝ }
+        ≡ outboxNewOf (now (output .entry)) (now (answer .entry)) ⌝ }
 {
     if answer.len() != COUNT_ANSWER {
         return UNFIT;
@@ -41,7 +41,7 @@ pub fn outbox_append(
     answer: &mut [u64],
 ) -> u64
     ensures { λ r. ⌜ called r [] (now (buffer .exit)) (now (answer .exit))
-        ≡ outboxAppendOf 4096 (now (buffer .entry)) used stream (now (payload .entry)) (now (answer .entry)) ⌝ }
+        ≡ outboxAppendOf (now (buffer .entry)) used stream (now (payload .entry)) (now (answer .entry)) ⌝ }
 {
     if answer.len() != APPEND_ANSWER {
         return UNFIT;
@@ -57,7 +57,7 @@ pub fn outbox_append(
 // Reads the record at a place.
 pub fn outbox_record(bytes: &[u8], place: u64, answer: &mut [u64]) -> u64
     ensures { λ r. ⌜ called r [] [] (now (answer .exit))
-        ≡ outboxRecordOf 4096 (now (bytes .entry)) place (now (answer .entry)) ⌝ }
+        ≡ outboxRecordOf (now (bytes .entry)) place (now (answer .entry)) ⌝ }
 {
     if answer.len() != RECORD_ANSWER {
         return UNFIT;
@@ -69,7 +69,7 @@ pub fn outbox_record(bytes: &[u8], place: u64, answer: &mut [u64]) -> u64
 // Whether an outbox is whole.
 pub fn outbox_whole(bytes: &[u8], answer: &mut [u64]) -> u64
     ensures { λ r. ⌜ called r [] [] (now (answer .exit))
-        ≡ outboxWholeOf 4096 (now (bytes .entry)) (now (answer .entry)) ⌝ }
+        ≡ outboxWholeOf (now (bytes .entry)) (now (answer .entry)) ⌝ }
 {
     if answer.len() != WHOLE_ANSWER {
         return UNFIT;

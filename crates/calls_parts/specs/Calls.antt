@@ -18,20 +18,21 @@ kept number before row = cond (eqb number 0) row before
 
 -- the state row after a start
 abbrev pub begun : List ℕ → Told PartWriter → Called
-begun state (given s) = called 0 (stateRow s) [] []
+begun state (given s) = called 0 (stateRow (s .limit) (s .progress)) [] []
 begun state (refused n) = called n state [] []
 
 -- a sequence that is no byte stands for a mark: 15
 unfoldable pub frameBeginOf : ℕ → ℕ → ℕ → List ℕ → Called
 frameBeginOf limit sequence total state =
-    ifFit (eqb (length state) 6) state [] [] (begun state (beginOf limit (byteOr startMark sequence) total))
+    ifFit (eqb (length state) 7) state [] [] (begun state (beginOf limit (byteOr startMark sequence) total))
 
--- rows and output after a part
-abbrev pub parted : List ℕ → List ℕ → Wrote → Called
-parted state answer w =
+-- rows and output after a part; the limit stays
+abbrev pub parted : List ℕ → List ℕ → ℕ → Wrote → Called
+parted state answer limit w =
     let r = replyOf (w .told) in
-    called (r .number) (kept (r .number) state (stateRow (w .next))) (w .out) (afterwards (r .number) answer (partRow r))
+    called (r .number) (kept (r .number) state (stateRow limit (w .next))) (w .out) (afterwards (r .number) answer (partRow r))
 
-unfoldable pub framePartOf : ℕ → List ℕ → List ℕ → List ℕ → List ℕ → Called
-framePartOf limit state payload out answer =
-    ifFit (eqb (length answer) 3 && isState state) state out answer (parted state answer (partOf limit (stateOf state) payload out))
+unfoldable pub framePartOf : List ℕ → List ℕ → List ℕ → List ℕ → Called
+framePartOf state payload out answer =
+    let s = stateOf state in
+    ifFit (eqb (length answer) 3 && isState state) state out answer (parted state answer (s .limit) (partOf (s .limit) (s .progress) payload out))

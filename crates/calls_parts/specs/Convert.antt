@@ -9,11 +9,12 @@ use Rattle.framing.specs.declared.mark.Kind.{Kind}
 use Rattle.framing.specs.declared.mark.Kind.the-variants as kind
 use Rattle.parts.specs.declared.state.Stage.{Stage}
 use Rattle.parts.specs.declared.state.Stage.the-variants.{Start, PacketId, ErrorId, Sequence, Payload, Low, End, Done}
+use Rattle.parts.specs.declared.state.Progress.{Progress}
 use Rattle.parts.specs.declared.state.PartWriter.{PartWriter}
 use Rattle.parts.specs.Writer.{Count}
 use Rattle.calls_parts.specs.declared.convert.Reply.{Reply}
 
--- ---- the state row: sequence, total, taken, sum, stage, pending
+-- ---- the state row: limit, sequence, total, taken, sum, stage, pending
 
 abbrev pub stageNumber : Stage → ℕ
 stageNumber Start = 0
@@ -46,22 +47,26 @@ pendingOf n = cond (eqb n 1) kind.Start (cond (eqb n 2) kind.End (cond (eqb n 3)
 -- numbers that a state can have: a sequence of one byte, a sum of two, a stage up to 7 and a pending code up to 3
 unfoldable pub isState : List ℕ → Bool
 isState row =
-    eqb (length row) 6
-    && (ltb (getD row 0 0) 256 && (ltb (getD row 3 0) 65536 && (ltb (getD row 4 0) 8 && ltb (getD row 5 0) 4)))
+    eqb (length row) 7
+    && (ltb (getD row 1 0) 256 && (ltb (getD row 4 0) 65536 && (ltb (getD row 5 0) 8 && ltb (getD row 6 0) 4)))
 
 unfoldable pub stateOf : List ℕ → PartWriter
 stateOf row =
     record {
-      sequence = getD row 0 0;
-      total = getD row 1 0;
-      taken = getD row 2 0;
-      sum = getD row 3 0;
-      stage = stageOf (getD row 4 0);
-      pending = pendingOf (getD row 5 0);
+      limit = getD row 0 0;
+      progress =
+          record {
+            sequence = getD row 1 0;
+            total = getD row 2 0;
+            taken = getD row 3 0;
+            sum = getD row 4 0;
+            stage = stageOf (getD row 5 0);
+            pending = pendingOf (getD row 6 0);
+          };
     }
 
-abbrev pub stateRow : PartWriter → List ℕ
-stateRow s = s .sequence ∷ s .total ∷ s .taken ∷ s .sum ∷ stageNumber (s .stage) ∷ pendingNumber (s .pending) ∷ []
+abbrev pub stateRow : ℕ → Progress → List ℕ
+stateRow limit s = limit ∷ s .sequence ∷ s .total ∷ s .taken ∷ s .sum ∷ stageNumber (s .stage) ∷ pendingNumber (s .pending) ∷ []
 
 -- ---- the answer
 

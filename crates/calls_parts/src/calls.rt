@@ -33,21 +33,22 @@ fn keep(state: &mut [u64], number: u64, row: &[u64])
     }
 }
 
-// Begins a frame whose payload will have `total` bytes.
-pub fn frame_begin(sequence: u64, total: u64, state: &mut [u64]) -> u64
-    ensures { λ r. ⌜ called r (now (state .exit)) [] [] ≡ frameBeginOf 4096 sequence total (now (state .entry)) ⌝ }
+// Begins a frame whose payload will have `total` bytes, for a link with a limit.
+pub fn frame_begin(sequence: u64, limit: u64, total: u64, state: &mut [u64]) -> u64
+    ensures { λ r. ⌜ called r (now (state .exit)) [] [] ≡ frameBeginOf limit sequence total (now (state .entry)) ⌝ }
 {
     if state.len() != STATE {
         return UNFIT;
     }
     let sequence = byte_or(Mark::START, sequence);
-    let begun = PartWriter::begin(sequence, total as usize);
+    let begun = PartWriter::begin(sequence, limit as usize, total as usize);
     match begun {
         Begun::Ready(next) => {
             let row = state_row(next);
             write_row(state, &row);
             DONE
         }
+        Begun::BadLimit => wide64(begun.number()),
         Begun::BadArgument => wide64(begun.number()),
     }
 }
@@ -55,7 +56,7 @@ pub fn frame_begin(sequence: u64, total: u64, state: &mut [u64]) -> u64
 // Takes payload and writes the frame on into an output.
 pub fn frame_part(state: &mut [u64], payload: &[u8], output: &mut [u8], answer: &mut [u64]) -> u64
     ensures { λ r. ⌜ called r (now (state .exit)) (now (output .exit)) (now (answer .exit))
-        ≡ framePartOf 4096 (now (state .entry)) (now (payload .entry)) (now (output .entry)) (now (answer .entry)) ⌝ }
+        ≡ framePartOf (now (state .entry)) (now (payload .entry)) (now (output .entry)) (now (answer .entry)) ⌝ }
 {
     if answer.len() != PART_ANSWER {
         return UNFIT;
@@ -70,8 +71,9 @@ pub fn frame_part(state: &mut [u64], payload: &[u8], output: &mut [u8], answer: 
 fn part_fitting(state: &mut [u64], payload: &[u8], output: &mut [u8], answer: &mut [u64]) -> u64
     requires { ⌜ (isState (now state) ≡ true) × (length (now answer) ≡ 3) ⌝ }
     ensures { λ r. ⌜ called r (now (state .exit)) (now (output .exit)) (now (answer .exit))
-        ≡ parted (now (state .entry)) (now (answer .entry))
-        (partOf 4096 (stateOf (now (state .entry))) (now (payload .entry)) (now (output .entry))) ⌝ }
+        ≡ (let s = stateOf (now (state .entry)) in
+        parted (now (state .entry)) (now (answer .entry)) (s .limit)
+        (partOf (s .limit) (s .progress) (now (payload .entry)) (now (output .entry)))) ⌝ }
 {
     let done = state_of(state).write(payload, output);
     let outcome = done.outcome;

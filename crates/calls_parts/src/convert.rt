@@ -1,6 +1,7 @@
 // The state of a frame that is written by parts, and what a call answers, as rows.
 use framing::mark::Kind;
 use parts::state::PartWriter;
+use parts::state::Progress;
 use parts::state::Stage;
 use parts::writer::PartOutcome;
 use rows::row::BYTES;
@@ -14,7 +15,7 @@ ghost use Rattle.parts.specs.Writer.{told};
 ghost use Rattle.calls_parts.specs.Convert.{stageNumber, stageOf, pendingNumber, pendingOf, isState, stateOf, stateRow, flag, replyOf};
 
 // The numbers of a state row; how many sums, stages and pending marks there are.
-pub const STATE: usize = 6;
+pub const STATE: usize = 7;
 
 const SUMS: u64 = 65536;
 
@@ -105,9 +106,9 @@ fn pending_of(n: u64) -> Kind
 pub fn is_state(row: &[u64]) -> bool
     ensures { λ r. ⌜ r ≡ isState (now (row .entry)) ⌝ }
 {
-    let ends = both(number_at(row, 4) < STAGES, number_at(row, 5) < PENDING);
-    let sums = both(number_at(row, 3) < SUMS, ends);
-    let numbers = both(number_at(row, 0) < BYTES, sums);
+    let ends = both(number_at(row, 5) < STAGES, number_at(row, 6) < PENDING);
+    let sums = both(number_at(row, 4) < SUMS, ends);
+    let numbers = both(number_at(row, 1) < BYTES, sums);
     both(row.len() == STATE, numbers)
 }
 
@@ -115,28 +116,38 @@ pub fn state_of(row: &[u64]) -> PartWriter
     requires { ⌜ isState (now row) ≡ true ⌝ }
     ensures { λ r. ⌜ r ≡ stateOf (now (row .entry)) ⌝ }
 {
-    let stage = stage_of(row[4]);
-    let pending = pending_of(row[5]);
+    let stage = stage_of(row[5]);
+    let pending = pending_of(row[6]);
+    let sequence = row[1] as u8;
+    let total = row[2] as usize;
+    let taken = row[3] as usize;
+    let sum = row[4] as u16;
+    let limit = row[0] as usize;
     PartWriter {
-        sequence: row[0] as u8,
-        total: row[1] as usize,
-        taken: row[2] as usize,
-        sum: row[3] as u16,
-        stage,
-        pending,
+        limit,
+        progress: Progress {
+            sequence,
+            total,
+            taken,
+            sum,
+            stage,
+            pending,
+        },
     }
 }
 
-pub fn state_row(state: PartWriter) -> [u64; 6]
-    ensures { λ r. ⌜ r ≡ stateRow state ⌝ }
+pub fn state_row(state: PartWriter) -> [u64; 7]
+    ensures { λ r. ⌜ r ≡ stateRow (state .limit) (state .progress) ⌝ }
 {
-    let stage = state.stage;
-    let pending = state.pending;
+    let progress = state.progress;
+    let stage = progress.stage;
+    let pending = progress.pending;
     [
-        wide64(state.sequence),
-        state.total as u64,
-        state.taken as u64,
-        state.sum as u64,
+        state.limit as u64,
+        wide64(progress.sequence),
+        progress.total as u64,
+        progress.taken as u64,
+        progress.sum as u64,
         stage_number(stage),
         pending_number(pending),
     ]

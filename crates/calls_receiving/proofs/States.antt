@@ -21,19 +21,19 @@ module _ (row : List ℕ) (at : ℕ) (e : isSlot row at ≡ true) where
   slot-sequence = ltb-true (getD row (at + 4) 0) 256 (and-right (ltb (getD row (at + 1) 0) 256) _ bytes)
 
 module _ (row : List ℕ) (e : isReceiver row ≡ true) where
-  pub slots-long : length row ≡ 18
+  pub slots-long : length row ≡ 19
   unfolding isReceiver
-  slots-long = eqb-true (length row) 18 (and-left _ _ e)
+  slots-long = eqb-true (length row) 19 (and-left _ _ e)
 
-  slots : (isSlot row 0 && (isSlot row 6 && isSlot row 12)) ≡ true
+  slots : (isSlot row 1 && (isSlot row 7 && isSlot row 13)) ≡ true
   unfolding isReceiver
-  slots = and-right (eqb (length row) 18) _ e
+  slots = and-right (eqb (length row) 19) _ e
 
-  pub control-fits : isSlot row 0 ≡ true
+  pub control-fits : isSlot row 1 ≡ true
   control-fits = and-left _ _ slots
 
-  pub ota-fits : isSlot row 6 ≡ true
-  ota-fits = and-left _ _ (and-right (isSlot row 0) _ slots)
+  pub ota-fits : isSlot row 7 ≡ true
+  ota-fits = and-left _ _ (and-right (isSlot row 1) _ slots)
 
-  pub alexa-fits : isSlot row 12 ≡ true
-  alexa-fits = and-right (isSlot row 6) _ (and-right (isSlot row 0) _ slots)
+  pub alexa-fits : isSlot row 13 ≡ true
+  alexa-fits = and-right (isSlot row 7) _ (and-right (isSlot row 1) _ slots)

@@ -13,14 +13,14 @@ use Rattle.slot.specs.declared.answer.Accepted.{Accepted}
 use Rattle.slot.specs.declared.answer.Accepted.the-variants.{Taken, Finished, Acked, Nacked}
 use Rattle.slot.specs.Slot.{idle}
 
--- ---- the state row: six numbers for each slot, control, OTA, Alexa
+-- ---- the state row: the limit, then six numbers for each slot, control, OTA, Alexa
 
 -- open, id, total, held, sequence, wanted
 unfoldable pub slotRow : Slot → List ℕ
 slotRow s = bit (s .opened) ∷ s .id ∷ s .total ∷ s .held ∷ s .sequence ∷ bit (s .wanted) ∷ []
 
-abbrev pub slotsRow : List Slot → List ℕ
-slotsRow slots = slotRow (getD slots 0 idle) ++ (slotRow (getD slots 1 idle) ++ slotRow (getD slots 2 idle))
+abbrev pub receiverRow : ℕ → List Slot → List ℕ
+receiverRow limit slots = limit ∷ slotRow (getD slots 0 idle) ++ (slotRow (getD slots 1 idle) ++ slotRow (getD slots 2 idle))
 
 -- numbers from a place on that a slot can have: open or not, wanted or not, and an id and a sequence of one byte each
 unfoldable pub isSlot : List ℕ → ℕ → Bool
@@ -39,10 +39,13 @@ slotOf row at =
 
 -- numbers that a state can have
 unfoldable pub isReceiver : List ℕ → Bool
-isReceiver row = eqb (length row) 18 && (isSlot row 0 && (isSlot row 6 && isSlot row 12))
+isReceiver row = eqb (length row) 19 && (isSlot row 1 && (isSlot row 7 && isSlot row 13))
+
+abbrev pub limitOf : List ℕ → ℕ
+limitOf row = getD row 0 0
 
 abbrev pub slotsOf : List ℕ → List Slot
-slotsOf row = slotOf row 0 ∷ slotOf row 6 ∷ slotOf row 12 ∷ []
+slotsOf row = slotOf row 1 ∷ slotOf row 7 ∷ slotOf row 13 ∷ []
 
 -- ---- the answer row: outcome, stream, id, sequence, total, ACK wanted, replaced; 0 where a case has no such value
 

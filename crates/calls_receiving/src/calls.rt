@@ -1,19 +1,43 @@
-// Receiving over Low Energy for C: one packet given to the receiver.
+// Receiving over Low Energy for C: a receiver opened, and one packet given to it.
 use crate::convert::ANSWER;
+use crate::convert::BAD_LIMIT;
+use crate::convert::STATE;
 use crate::convert::answer_number;
 use crate::convert::answer_row;
 use crate::convert::is_receiver;
+use crate::convert::put_limit;
 use crate::convert::put_slots;
 use crate::convert::receiver_of;
+use receiver::Receiver;
+use rows::row::DONE;
 use rows::row::UNFIT;
 use rows::row::put;
 ghost use mathlib.Core.Path.{_≡_};
 ghost use mathlib.Core.Bool.{true};
+ghost use mathlib.Core.List.{[]};
 ghost use lib.ListN.{length};
 ghost use Rattle.receiver.specs.Receiver.{acceptOf};
 ghost use Rattle.rows.specs.Called.{called};
-ghost use Rattle.calls_receiving.specs.Convert.{isReceiver, slotsOf};
-ghost use Rattle.calls_receiving.specs.Calls.{accepted, receiverAcceptOf};
+ghost use Rattle.calls_receiving.specs.Convert.{isReceiver, limitOf, slotsOf};
+ghost use Rattle.calls_receiving.specs.Calls.{receiverOpenOf, accepted, receiverAcceptOf};
+
+// Opens a receiver for a link with a limit: its empty state.
+pub fn receiver_open(limit: u64, state: &mut [u64]) -> u64
+    ensures { λ r. ⌜ called r (now (state .exit)) [] [] ≡ receiverOpenOf limit (now (state .entry)) ⌝ }
+{
+    if state.len() != STATE {
+        return UNFIT;
+    }
+    let opened = Receiver::open(limit as usize);
+    if opened.refused {
+        return BAD_LIMIT;
+    }
+    let empty = opened.state;
+    let slots = empty.slots;
+    put_limit(state, limit);
+    put_slots(state, DONE, slots);
+    DONE
+}
 
 // One packet given to the receiver.
 pub fn receiver_accept(
@@ -23,7 +47,7 @@ pub fn receiver_accept(
     answer: &mut [u64],
 ) -> u64
     ensures { λ r. ⌜ called r (now (state .exit)) (now (buffer .exit)) (now (answer .exit))
-        ≡ receiverAcceptOf 4096 (now (state .entry)) (now (buffer .entry)) (now (packet .entry)) (now (answer .entry)) ⌝ }
+        ≡ receiverAcceptOf (now (state .entry)) (now (buffer .entry)) (now (packet .entry)) (now (answer .entry)) ⌝ }
 {
     if answer.len() != ANSWER {
         return UNFIT;
@@ -39,7 +63,7 @@ fn accept_fitting(state: &mut [u64], buffer: &mut [u8], packet: &[u8], answer: &
     requires { ⌜ (isReceiver (now state) ≡ true) × (length (now answer) ≡ 7) ⌝ }
     ensures { λ r. ⌜ called r (now (state .exit)) (now (buffer .exit)) (now (answer .exit))
         ≡ accepted (now (state .entry)) (now (answer .entry))
-        (acceptOf 4096 (slotsOf (now (state .entry))) (now (buffer .entry)) (now (packet .entry))) ⌝ }
+        (acceptOf (limitOf (now (state .entry))) (slotsOf (now (state .entry))) (now (buffer .entry)) (now (packet .entry))) ⌝ }
 {
     let done = receiver_of(state).accept(buffer, packet);
     let told = done.answer;

@@ -15,20 +15,25 @@ use wire::logic::both;
 use wire::stream::Stream;
 ghost use mathlib.Core.Path.{_≡_};
 ghost use mathlib.Core.Bool.{true};
-ghost use Prim.Native.Nat.{_+_, _≤_};
-ghost use lib.ListN.{length};
+ghost use Prim.Native.Nat.{_+_, _≤_, _<_};
+ghost use lib.ListN.{length, set};
 ghost use lib.Seq.{sets};
 ghost use Rattle.wire.specs.Stream.{streamNumber};
 ghost use Rattle.slot.specs.Answer.{told};
 ghost use Rattle.rows.specs.Row.{afterwards, numberTold};
-ghost use Rattle.calls_receiving.specs.Convert.{isSlot, slotOf, isReceiver, slotsOf, slotRow, slotsRow, headRow, acceptedRow, answerRow};
+ghost use Rattle.calls_receiving.specs.Convert.{isSlot, slotOf, isReceiver, limitOf, slotsOf, slotRow, receiverRow, headRow, acceptedRow, answerRow};
 
-// The numbers of the state row, and where those of the later slots begin.
-const STATE: usize = 18;
+// The numbers of the state row: the limit, then the slots; and where those of each slot begin.
+pub const STATE: usize = 19;
 
-const OTA: usize = 6;
+const CONTROL: usize = 1;
 
-const ALEXA: usize = 12;
+const OTA: usize = 7;
+
+const ALEXA: usize = 13;
+
+// The refusal of a limit that is none.
+pub const BAD_LIMIT: u64 = 17;
 
 // The numbers of the answer row.
 pub const ANSWER: usize = 7;
@@ -49,7 +54,7 @@ const NACKED: u64 = 3;
 
 // Whether the numbers from a place on are ones that a slot can have.
 fn is_slot(row: &[u64], at: usize) -> bool
-    requires { ⌜ at ≤ 12 ⌝ }
+    requires { ⌜ at ≤ 13 ⌝ }
     ensures { λ r. ⌜ r ≡ isSlot (now (row .entry)) at ⌝ }
 {
     let flags = both(number_at(row, at) < FLAGS, number_at(row, at + 5) < FLAGS);
@@ -79,17 +84,19 @@ pub fn is_receiver(row: &[u64]) -> bool
     ensures { λ r. ⌜ r ≡ isReceiver (now (row .entry)) ⌝ }
 {
     let later = both(is_slot(row, OTA), is_slot(row, ALEXA));
-    both(row.len() == STATE, both(is_slot(row, 0), later))
+    both(row.len() == STATE, both(is_slot(row, CONTROL), later))
 }
 
 pub fn receiver_of(row: &[u64]) -> Receiver
     requires { ⌜ isReceiver (now row) ≡ true ⌝ }
-    ensures { λ r. ⌜ r .slots ≡ slotsOf (now (row .entry)) ⌝ }
+    ensures { λ r. ⌜ (r .limit ≡ limitOf (now (row .entry))) × (r .slots ≡ slotsOf (now (row .entry))) ⌝ }
 {
-    let control = slot_of(row, 0);
+    let limit = row[0];
+    let control = slot_of(row, CONTROL);
     let ota = slot_of(row, OTA);
     let alexa = slot_of(row, ALEXA);
     Receiver {
+        limit: limit as usize,
         slots: [control, ota, alexa],
     }
 }
@@ -116,13 +123,22 @@ fn put_slot(row: &mut [u64], at: usize, slot: Slot)
     fill(row, at, &numbers);
 }
 
-// Writes the state row, unless the call is refused by 1.
+// Writes the limit of the state row.
+pub fn put_limit(row: &mut [u64], limit: u64)
+    requires { ⌜ 0 < length (now row) ⌝ }
+    ensures { λ _. ⌜ now (row .exit) ≡ set (now (row .entry)) 0 limit ⌝ }
+{
+    row[0] = limit;
+}
+
+// Writes the slots of the state row, unless the call is refused by 1; the limit stays.
 pub fn put_slots(row: &mut [u64], number: u64, slots: [Slot; 3])
-    requires { ⌜ length (now row) ≡ 18 ⌝ }
-    ensures { λ _. ⌜ now (row .exit) ≡ afterwards number (now (row .entry)) (slotsRow slots) ⌝ }
+    requires { ⌜ length (now row) ≡ 19 ⌝ }
+    ensures { λ _. ⌜ now (row .exit)
+        ≡ afterwards number (now (row .entry)) (receiverRow (limitOf (now (row .entry))) slots) ⌝ }
 {
     if number != UNFIT {
-        put_slot(row, 0, slots[0]);
+        put_slot(row, CONTROL, slots[0]);
         put_slot(row, OTA, slots[1]);
         put_slot(row, ALEXA, slots[2]);
     }

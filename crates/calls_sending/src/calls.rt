@@ -19,9 +19,10 @@ ghost use Rattle.calls_sending.specs.Convert.{sendingOf};
 ghost use Rattle.rows.specs.Called.{called};
 ghost use Rattle.calls_sending.specs.Calls.{packetWriteOf, ackWriteOf};
 
-// Writes the packet of a message whose piece begins at a place.
+// Writes the packet of a message whose piece begins at a place, for a link with a limit.
 pub fn packet_write(
     room: u64,
+    limit: u64,
     stream: u64,
     id: u64,
     sequence: u64,
@@ -32,14 +33,14 @@ pub fn packet_write(
     answer: &mut [u64],
 ) -> u64
     ensures { λ r. ⌜ called r [] (now (output .exit)) (now (answer .exit))
-        ≡ packetWriteOf 4096 (sendingOf room stream id sequence ack) (now (message .entry)) place (now (output .entry))
+        ≡ packetWriteOf limit (sendingOf room stream id sequence ack) (now (message .entry)) place (now (output .entry))
         (now (answer .entry)) ⌝ }
 {
     if answer.len() != PACKET_ANSWER {
         return UNFIT;
     }
     let how = sending(room, stream, id, sequence, ack);
-    let outcome = write_packet(how, message, place as usize, output);
+    let outcome = write_packet(how, limit as usize, message, place as usize, output);
     let number = packet_number(outcome);
     let row = packet_row(outcome, message.len());
     put(answer, number, &row);

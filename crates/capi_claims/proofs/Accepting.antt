@@ -21,7 +21,7 @@ use Rattle.rows.specs.Row.{numberTold}
 
 -- a step that is refused by 1 writes nothing
 abbrev WritesNone : Step → Type 0
-WritesNone s = numberTold (s .told) ≡ 1 → s .piece ≡ nothing
+WritesNone s = numberTold (s .told) ≡ 1 → s .payload ≡ nothing
 
 never : {A : Type 0} → _≡_ {A = ℕ} 0 1 → A
 never e = absurd (omega arith)

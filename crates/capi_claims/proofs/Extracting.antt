@@ -12,7 +12,7 @@ use Rattle.framing.specs.Mark.{kindOf}
 use Rattle.framing.specs.Frame.{packetId, errorId, startCode, endCode, escapeCode, checked}
 use Rattle.extractor.specs.declared.state.Phase.{Phase}
 use Rattle.extractor.specs.declared.state.Phase.the-variants.{Outside, PacketId, ErrorId, Sequence, Body, Escaped}
-use Rattle.extractor.specs.declared.state.Extractor.{Extractor}
+use Rattle.extractor.specs.declared.state.Progress.{Progress}
 use Rattle.extractor.specs.declared.action.Action.{Action}
 use Rattle.extractor.specs.declared.action.Action.the-variants.{Skip, Begin, Restart, Go, Number, Store, Finish, Refuse}
 use Rattle.extractor.specs.Action.{outsideBy, headerBy, sequenceBy, bodyBy, codeOf, codeBy, actionBy}
@@ -83,7 +83,7 @@ action-named Sequence k b = sequence-named k
 action-named Body k b = body-named k b
 action-named Escaped k b = code-by-named k b
 
-store-not-one : (limit : ℕ) (s : Extractor) (l : List ℕ) (x : ℕ) → NotOne (storeOf limit s l x .report)
+store-not-one : (limit : ℕ) (s : Progress) (l : List ℕ) (x : ℕ) → NotOne (storeOf limit s l x .report)
 unfolding storeOf
 store-not-one limit s l x = go (ltb (s .held) (limit + 2))
   where
@@ -91,7 +91,7 @@ store-not-one limit s l x = go (ltb (s .held) (limit + 2))
     go true = λ e. omega arith
     go false = λ e. omega arith
 
-end-not-one : (s : Extractor) (l : List ℕ) → NotOne (endOf s l)
+end-not-one : (s : Progress) (l : List ℕ) → NotOne (endOf s l)
 unfolding endOf
 end-not-one s l = go (ltb (s .held) 2) (not (checked l (s .held - 2)))
   where
@@ -100,7 +100,7 @@ end-not-one s l = go (ltb (s .held) 2) (not (checked l (s .held - 2)))
     go false true = λ e. omega arith
     go false false = λ e. omega arith
 
-perform-not-one : (limit : ℕ) (s : Extractor) (l : List ℕ) (b : ℕ) (a : Action) → Named a → NotOne (performOf limit s l b a .report)
+perform-not-one : (limit : ℕ) (s : Progress) (l : List ℕ) (b : ℕ) (a : Action) → Named a → NotOne (performOf limit s l b a .report)
 perform-not-one limit s l b Skip n = λ e. omega arith
 perform-not-one limit s l b Begin n = λ e. omega arith
 perform-not-one limit s l b Restart n = λ e. omega arith
@@ -110,7 +110,7 @@ perform-not-one limit s l b (Store x) n = store-not-one limit s l x
 perform-not-one limit s l b Finish n = end-not-one s l
 perform-not-one limit s l b (Refuse r) n = n
 
-pub advance-not-one : (limit : ℕ) (s : Extractor) (l : List ℕ) (b : ℕ) → NotOne (advanceOf limit s l b .report)
+pub advance-not-one : (limit : ℕ) (s : Progress) (l : List ℕ) (b : ℕ) → NotOne (advanceOf limit s l b .report)
 unfolding advanceOf
 advance-not-one limit s l b = perform-not-one limit s l b (actionBy (s .phase) (kindOf b) b) (action-named (s .phase) (kindOf b) b)
 
@@ -123,14 +123,14 @@ report-not-one (frame sequence k) n = n
 report-not-one (refused k) n = n
 
 -- a byte decides, or the bytes after it do
-decided-not-one : (limit n : ℕ) (s : Extractor) (l : List ℕ) (b : ℕ) (bs : List ℕ) (t : Bool)
+decided-not-one : (limit n : ℕ) (s : Progress) (l : List ℕ) (b : ℕ) (bs : List ℕ) (t : Bool)
     → let a = advanceOf limit s l b in
     NotOne (feedFrom limit (n + 1) (a .next) (a .buffer) bs .report)
     → NotOne (cond t (fed (feedReport (a .report)) (n + 1) (a .next) (a .buffer)) (feedFrom limit (n + 1) (a .next) (a .buffer) bs) .report)
 decided-not-one limit n s l b bs true later = report-not-one (advanceOf limit s l b .report) (advance-not-one limit s l b)
 decided-not-one limit n s l b bs false later = later
 
-pub feed-not-one : (limit n : ℕ) (s : Extractor) (l bytes : List ℕ) → NotOne (feedFrom limit n s l bytes .report)
+pub feed-not-one : (limit n : ℕ) (s : Progress) (l bytes : List ℕ) → NotOne (feedFrom limit n s l bytes .report)
 unfolding feedFrom
 feed-not-one limit n s l [] = λ e. omega arith
 feed-not-one limit n s l (b ∷ bs) =

@@ -12,7 +12,7 @@ use Rattle.text.specs.Table.{rows, within, described}
 use Rattle.text.specs.WellFormed.{WellFormed, empty, more}
 use Rattle.wire.specs.Stream.{isStream}
 use Rattle.sender.specs.Piece.{sizeFor}
-use Rattle.outbox.specs.Format.{numberOf, bytesOf, recordBytes}
+use Rattle.outbox.specs.Format.{versionOne, versionTwo, one, two, isOne, formatOf, numberOf, bytesOf, recordBytes}
 use Rattle.outbox.specs.Reader.{otherVersion, badPlace, badLength, cutShort, badStream, recordAt, readOf, readings, readAll, walkOf}
 use Rattle.outbox.specs.Writer.{badRecord, appendOf}
 use Rattle.firmware_round_trips.specs.Premises.{Digits, lower}
@@ -33,27 +33,27 @@ bytes n = replicate n 9
 
 frame : Done (frameWriteOf 1 255 (240 ∷ []) (bytes 11) (7 ∷ []))
 frame =
-    sizes-suffice .frame-write 1 255 (240 ∷ []) (bytes 11) (7 ∷ []) refl (omega arith) ((λ e. omega (arith, e)), (λ e. omega (arith, e)), (λ e. omega (arith, e))) (omega arith) (omega arith)
+    sizes-suffice .frame-write 1 255 (240 ∷ []) (bytes 11) (7 ∷ []) refl (omega arith) (omega arith) (omega arith) ((λ e. omega (arith, e)), (λ e. omega (arith, e)), (λ e. omega (arith, e))) (omega arith) (omega arith)
 
 after-marks : Done (frameWriteOf 1 243 [] (bytes 9) (7 ∷ []))
 after-marks =
-    sizes-suffice .frame-write 1 243 [] (bytes 9) (7 ∷ []) refl (omega arith) ((λ e. omega (arith, e)), (λ e. omega (arith, e)), (λ e. omega (arith, e))) (omega arith) (omega arith)
+    sizes-suffice .frame-write 1 243 [] (bytes 9) (7 ∷ []) refl (omega arith) (omega arith) (omega arith) ((λ e. omega (arith, e)), (λ e. omega (arith, e)), (λ e. omega (arith, e))) (omega arith) (omega arith)
 
 packet : Done (packetWriteOf 15 (sendingOf 20 6 15 15 1) (bytes 15) 0 (bytes 20) (7 ∷ 7 ∷ []))
 packet =
     sizes-suffice .packet-first 15 20 6 15 15 1 (bytes 15) (bytes 20) (7 ∷ 7 ∷ []) refl
-    (omega arith) (omega arith) (inr (inr refl)) (omega arith) (omega arith) (omega arith) (omega arith) (omega arith)
+    (omega arith) (omega arith) (omega arith) (omega arith) (inr (inr refl)) (omega arith) (omega arith) (omega arith) (omega arith) (omega arith)
 
 later : Done (packetWriteOf 15 (sendingOf 20 0 0 0 0) (bytes 15) 14 (bytes 20) (7 ∷ 7 ∷ []))
 unfolding sendingOf sizeFor
 later =
     sizes-suffice .packet-write 15 20 0 0 0 0 14 (bytes 15) (bytes 20) (7 ∷ 7 ∷ []) refl
-    (omega arith) (omega arith) (inl refl) (omega arith) (omega arith) (omega arith) (omega arith) refl (omega arith)
+    (omega arith) (omega arith) (omega arith) (omega arith) (inl refl) (omega arith) (omega arith) (omega arith) (omega arith) refl (omega arith)
 
-widest : Done (packetWriteOf 0 (sendingOf 512 0 0 0 0) [] 0 (bytes 512) (7 ∷ 7 ∷ []))
+widest : Done (packetWriteOf 65535 (sendingOf 512 0 0 0 0) [] 0 (bytes 512) (7 ∷ 7 ∷ []))
 widest =
-    sizes-suffice .packet-first 0 512 0 0 0 0 [] (bytes 512) (7 ∷ 7 ∷ []) refl
-    (omega arith) (omega arith) (inl refl) (omega arith) (omega arith) (omega arith) (omega arith) (omega arith)
+    sizes-suffice .packet-first 65535 512 0 0 0 0 [] (bytes 512) (7 ∷ 7 ∷ []) refl
+    (omega arith) (omega arith) (omega arith) (omega arith) (inl refl) (omega arith) (omega arith) (omega arith) (omega arith) (omega arith)
 
 ack : Done (ackWriteOf 2 15 15 1 (bytes 6) (7 ∷ []))
 ack = sizes-suffice .ack-write 2 15 15 1 (bytes 6) (7 ∷ []) refl (inr (inl refl)) (omega arith) (omega arith) (omega arith) (omega arith)
@@ -95,17 +95,20 @@ digits (suc n) = (lower (omega arith) (omega arith), digits n)
 segment : Done (segmentWriteOf (65 ∷ []) 0 4294967295 (replicate 64 102) (bytes 98) (7 ∷ 7 ∷ 7 ∷ []))
 segment = sizes-suffice .segment-write (65 ∷ []) 4294967295 (replicate 64 102) (bytes 98) (7 ∷ 7 ∷ 7 ∷ []) refl (letter 65 (omega arith)) (omega arith) refl (digits 64) (omega arith)
 
-new : Done (outboxNewOf 4096 (bytes 1) (7 ∷ []))
-new = sizes-suffice .outbox-new 4096 (bytes 1) (7 ∷ []) refl (omega arith)
+new : Done (outboxNewOf (bytes 1) (7 ∷ []))
+new = sizes-suffice .outbox-new (bytes 1) (7 ∷ []) refl (omega arith)
 
-append : Done (outboxAppendOf 1 (1 ∷ 9 ∷ 9 ∷ 9 ∷ 9 ∷ []) 1 6 (65 ∷ []) (7 ∷ 7 ∷ []))
-append = sizes-suffice .outbox-append-first 1 6 (9 ∷ 9 ∷ 9 ∷ 9 ∷ []) (65 ∷ []) (7 ∷ 7 ∷ []) refl (inr (inr refl)) (omega arith) (omega arith)
+append : Done (outboxAppendOf (1 ∷ 9 ∷ 9 ∷ 9 ∷ 9 ∷ []) 1 6 (65 ∷ []) (7 ∷ 7 ∷ []))
+append = sizes-suffice .outbox-append-first versionOne one 6 (9 ∷ 9 ∷ 9 ∷ 9 ∷ []) (65 ∷ []) (7 ∷ 7 ∷ []) refl (inr (inr refl)) (omega arith) (omega arith)
 
-behind : Done (outboxAppendOf 1 (1 ∷ 0 ∷ 2 ∷ 6 ∷ 65 ∷ 9 ∷ 9 ∷ 9 ∷ []) 5 2 [] (7 ∷ 7 ∷ []))
-unfolding isStream walkOf readAll readings readOf otherVersion badPlace recordAt badLength cutShort badStream numberOf
+append-two : Done (outboxAppendOf (2 ∷ bytes 6) 1 6 (65 ∷ []) (7 ∷ 7 ∷ []))
+append-two = sizes-suffice .outbox-append-first versionTwo two 6 (bytes 6) (65 ∷ []) (7 ∷ 7 ∷ []) refl (inr (inr refl)) (omega arith) (omega arith)
+
+behind : Done (outboxAppendOf (1 ∷ 0 ∷ 2 ∷ 6 ∷ 65 ∷ 9 ∷ 9 ∷ 9 ∷ []) 5 2 [] (7 ∷ 7 ∷ []))
+unfolding isStream isOne formatOf walkOf readAll readings readOf otherVersion badPlace recordAt badLength cutShort badStream numberOf
 behind =
-    sizes-suffice .outbox-append 1 5 2 (1 ∷ 0 ∷ 2 ∷ 6 ∷ 65 ∷ 9 ∷ 9 ∷ 9 ∷ []) [] (7 ∷ 7 ∷ []) refl refl (inr (inl refl)) (omega arith) (omega arith)
+    sizes-suffice .outbox-append 5 2 (1 ∷ 0 ∷ 2 ∷ 6 ∷ 65 ∷ 9 ∷ 9 ∷ 9 ∷ []) [] (7 ∷ 7 ∷ []) refl refl (inr (inl refl)) (omega arith) (omega arith)
 
-appended : outboxAppendOf 1 (1 ∷ 9 ∷ 9 ∷ 9 ∷ 9 ∷ []) 1 6 (65 ∷ []) (7 ∷ 7 ∷ []) ≡ called 0 [] (1 ∷ 0 ∷ 2 ∷ 6 ∷ 65 ∷ []) (5 ∷ 0 ∷ [])
-unfolding outboxAppendOf appendOf badRecord isStream walkOf readAll readings readOf otherVersion badPlace bytesOf recordBytes byteOr
+appended : outboxAppendOf (1 ∷ 9 ∷ 9 ∷ 9 ∷ 9 ∷ []) 1 6 (65 ∷ []) (7 ∷ 7 ∷ []) ≡ called 0 [] (1 ∷ 0 ∷ 2 ∷ 6 ∷ 65 ∷ []) (5 ∷ 0 ∷ [])
+unfolding outboxAppendOf appendOf badRecord isStream isOne formatOf walkOf readAll readings readOf otherVersion badPlace bytesOf recordBytes byteOr
 appended = refl

@@ -8,18 +8,20 @@ use lib.IntN.{ℤ}
 use lib.ListN.{length, take, replicate}
 use lib.Seq.{sets}
 use lib.Dec.{eqb, ltb}
-use Rattle.wire.specs.Told.{given, refused, line, WrittenOf, written}
+use Rattle.wire.specs.Told.{given, refused, line, table, WrittenOf, written}
+use Rattle.wire.specs.Limit.{limitFits}
 use Rattle.wire.proofs.Tables.{by-table}
 use Rattle.field.specs.Signed.{signedOf, extended}
 use Rattle.field_writer.specs.Writer.{Field, messageBytes}
 use Rattle.framing.specs.Mark.{startMark, isMark}
 use Rattle.framing.specs.Frame.{frameOf}
-use Rattle.extractor.specs.State.{ready}
+use Rattle.extractor.specs.declared.state.Progress.{Progress}
+use Rattle.extractor.specs.State.{ready, empty, openOf}
 use Rattle.extractor.specs.Step.{advanceOf, step}
 use Rattle.extractor.specs.Outcome as extractor
 use Rattle.feed.specs.Feed.{feedFrom, fed}
 use Rattle.frame_writer.specs.Writer.{writeOf}
-use Rattle.parts.specs.State.{startOf, badStart, lawful, missing}
+use Rattle.parts.specs.State.{beginning, badStart, lawful, missing}
 use Rattle.parts.specs.Fill.{fillOf}
 use Rattle.parts.specs.Writer.{wrote, filled}
 use Rattle.packet.specs.Header.{inRange}
@@ -48,24 +50,25 @@ use Rattle.firmware.specs.Segment.{brokenField}
 use Rattle.firmware_writer.specs.Segment.{segmentStrings, segmentFields, segmentFilled, segmentWritten}
 use Rattle.firmware_writer.specs.Information.{badFirmware, firmwareStrings}
 use Rattle.firmware_writer.specs.Apply.{applyFields, applyWritten}
-use Rattle.outbox.specs.Format.{versionOne, newBytes, recordBytes}
-use Rattle.outbox.specs.Reader.{Answer, walkOf, numberIn}
+use Rattle.outbox.specs.Format.{versionTwo, formatOf, newBytes, recordBytes}
+use Rattle.outbox.specs.Reader.{Answer, otherVersion, walkOf, numberIn}
 use Rattle.outbox.specs.Reader as outbox
 use Rattle.outbox.specs.Writer.{Stored, stored, storedAt, newOf, badRecord, appendOf, ifWhole}
 use Rattle.rows.specs.Row.{numberTold, byteOr, outOfRange}
 use Rattle.calls_classic.specs.Convert.{isExtractor, extractorOf}
 use Rattle.calls_sending.specs.Convert.{streamWith, packetRow}
-use Rattle.calls_receiving.specs.Convert.{isReceiver, slotsOf}
+use Rattle.calls_receiving.specs.Convert.{limitOf, isReceiver, slotsOf}
 use Rattle.rows_messages.specs.Convert.{allSigned, responsePayloadOf}
 use Rattle.rows_firmware.specs.More.{isWide}
 use Rattle.rows_firmware.specs.Apply.{rowSize, answerSize, badRow, applyAt}
 use Rattle.calls_outbox.specs.Convert.{usedIn, usedRow}
 use Rattle.rows.specs.Called.{ifFit}
-use Rattle.calls_classic.specs.Calls.{stepped, fedCall, noneUsed, extractorStepOf, extractorFeedOf, frameWriteOf, nextSequenceOf}
+use Rattle.calls_classic.specs.Calls.{opened, stepped, fedCall, noneUsed, extractorOpenOf, extractorStepOf, extractorFeedOf, frameWriteOf, nextSequenceOf}
 use Rattle.calls_parts.specs.Convert.{isState, stateOf}
 use Rattle.calls_parts.specs.Calls.{begun, parted, frameBeginOf, framePartOf}
 use Rattle.calls_sending.specs.Calls.{packetWriteOf, ackWriteOf}
-use Rattle.calls_receiving.specs.Calls.{accepted, receiverAcceptOf}
+use Rattle.calls_receiving.specs.Calls.{accepted, receiverOpenOf, receiverAcceptOf}
+use Rattle.calls_receiving.specs.Calls as receiving
 use Rattle.calls_messages.specs.Calls.{envelopeReadOf, envelopeWriteOf, responseReadOf, responseWriteOf, informationReadOf, informationWriteOf, featuresReadOf, featuresWriteOf}
 use Rattle.calls_firmware.specs.Calls.{segmentReadOf, segmentStored, segmentWriteOf, applyReadOf, applyStored, applyWriteOf, fieldReadOf}
 use Rattle.calls_outbox.specs.Calls.{outboxNewOf, outboxAppendOf, outboxRecordOf, outboxWholeOf}
@@ -74,37 +77,68 @@ use Rattle.capi_claims.proofs.Rows.{keeps-if, keeps-rows, keeps-answers
 use Rattle.capi_claims.proofs.Extracting.{advance-not-one, feed-not-one}
 use Rattle.capi_claims.proofs.Accepting.{acted-keeps}
 
--- the extractor's step and feed: guarded, then never 1
-step-keeps : (limit b : ℕ) (state lent answer : List ℕ) → Keeps state lent answer (extractorStepOf limit state lent b answer)
-unfolding extractorStepOf
-step-keeps limit b state lent answer =
-    keeps-if (eqb (length answer) 3 && isExtractor state) state lent answer _ (go (not (ready limit (extractorOf state) (length lent))))
+-- the extractor's opening is never 1; its step and feed are guarded, then never 1
+open-keeps : (limit : ℕ) (state : List ℕ) → Keeps state [] [] (extractorOpenOf limit state)
+unfolding extractorOpenOf openOf
+open-keeps limit state = keeps-if (eqb (length state) 4) state [] [] _ (go (not (limitFits limit)))
   where
-    go : (t : Bool) → Keeps state lent answer (stepped state answer (cond t (step (extractor.refused 1) (extractorOf state) lent) (advanceOf limit (extractorOf state) lent b)))
-    go true = λ e. refl
-    go false = λ e. absurd (advance-not-one limit (extractorOf state) lent b e)
+    go : (t : Bool) → Keeps state [] [] (opened state (cond t (refused 17) (given (empty limit))))
+    go true = λ e. absurd (omega (arith, e))
+    go false = λ e. absurd (omega (arith, e))
 
-feed-keeps : (limit : ℕ) (bytes state lent answer : List ℕ) → Keeps state lent (noneUsed answer) (extractorFeedOf limit state lent bytes answer)
-unfolding extractorFeedOf noneUsed
-feed-keeps limit bytes state lent answer =
-    go (eqb (length answer) 4) (isExtractor state) (not (ready limit (extractorOf state) (length lent)))
+step-keeps : (b : ℕ) (state lent answer : List ℕ) → Keeps state lent answer (extractorStepOf state lent b answer)
+unfolding extractorStepOf
+step-keeps b state lent answer =
+    keeps-if (eqb (length answer) 3 && isExtractor state) state lent answer _ (go (not (ready limit s (length lent))))
   where
+    limit : ℕ
+    limit = extractorOf state .limit
+
+    s : Progress
+    s = extractorOf state .progress
+
+    go : (t : Bool) → Keeps state lent answer (stepped state answer limit (cond t (step (extractor.refused 1) s lent) (advanceOf limit s lent b)))
+    go true = λ e. refl
+    go false = λ e. absurd (advance-not-one limit s lent b e)
+
+feed-keeps : (bytes state lent answer : List ℕ) → Keeps state lent (noneUsed answer) (extractorFeedOf state lent bytes answer)
+unfolding extractorFeedOf noneUsed
+feed-keeps bytes state lent answer =
+    go (eqb (length answer) 4) (isExtractor state) (not (ready limit s (length lent)))
+  where
+    limit : ℕ
+    limit = extractorOf state .limit
+
+    s : Progress
+    s = extractorOf state .progress
+
     told : Bool → List ℕ
     told long = cond long (replicate 4 0) answer
 
     go : (long fits t : Bool) → Keeps state lent (told long)
         (ifFit (long && fits) state lent (told long)
-        (fedCall state (cond t (fed (extractor.refused 1) 0 (extractorOf state) lent) (feedFrom limit 0 (extractorOf state) lent bytes))))
+        (fedCall state limit (cond t (fed (extractor.refused 1) 0 s lent) (feedFrom limit 0 s lent bytes))))
     go false fits t = λ e. refl
     go true false t = λ e. refl
     go true true true = λ e. refl
-    go true true false = λ e. absurd (feed-not-one limit 0 (extractorOf state) lent bytes e)
+    go true true false = λ e. absurd (feed-not-one limit 0 s lent bytes e)
 
-accept-keeps : (limit : ℕ) (packet state lent answer : List ℕ) → Keeps state lent answer (receiverAcceptOf limit state lent packet answer)
-unfolding receiverAcceptOf acceptOf
-accept-keeps limit packet state lent answer =
-    keeps-if (eqb (length answer) 7 && isReceiver state) state lent answer _ (go (not (receiver.ready limit (slotsOf state) lent)))
+receiver-open-keeps : (limit : ℕ) (state : List ℕ) → Keeps state [] [] (receiverOpenOf limit state)
+unfolding receiverOpenOf receiver.openOf
+receiver-open-keeps limit state = keeps-if (eqb (length state) 19) state [] [] _ (go (not (limitFits limit)))
   where
+    go : (t : Bool) → Keeps state [] [] (receiving.opened state (cond t (refused 17) (given (receiver.empty limit))))
+    go true = λ e. absurd (omega (arith, e))
+    go false = λ e. absurd (omega (arith, e))
+
+accept-keeps : (packet state lent answer : List ℕ) → Keeps state lent answer (receiverAcceptOf state lent packet answer)
+unfolding receiverAcceptOf acceptOf
+accept-keeps packet state lent answer =
+    keeps-if (eqb (length answer) 7 && isReceiver state) state lent answer _ (go (not (receiver.ready limit (slotsOf state) (length lent))))
+  where
+    limit : ℕ
+    limit = limitOf state
+
     go : (t : Bool) → Keeps state lent answer (accepted state answer (cond t (result (refused 1) (slotsOf state) lent) (acted limit (slotsOf state) lent packet (readOf limit packet))))
     go true = λ e. refl
     go false = keeps-rows _ state lent answer _ _ _ (acted-keeps limit (slotsOf state) lent packet (readOf limit packet))
@@ -115,26 +149,28 @@ unfolding frameWriteOf
 frame-keeps limit sequence payload out answer =
     let s = byteOr startMark sequence in
     keeps-writer out answer (writeOf limit s payload out)
-    (writes-keeps (line 15 (isMark s || ltb limit (length payload)) ∷ line 14 (ltb (length out) (length (frameOf s payload))) ∷ []) (length (frameOf s payload)) out (sets out 0 (frameOf s payload)))
+    (writes-keeps (line 17 (not (limitFits limit)) ∷ line 15 (isMark s || ltb limit (length payload)) ∷ line 14 (ltb (length out) (length (frameOf s payload))) ∷ []) (length (frameOf s payload)) out (sets out 0 (frameOf s payload)))
 
 begin-keeps : (limit sequence total : ℕ) (state : List ℕ) → Keeps state [] [] (frameBeginOf limit sequence total state)
 unfolding frameBeginOf
 begin-keeps limit sequence total state =
-    keeps-if (eqb (length state) 6) state [] [] _ (go (badStart limit (byteOr startMark sequence) total))
+    keeps-if (eqb (length state) 7) state [] [] _ (go (not (limitFits limit)) (badStart limit (byteOr startMark sequence) total))
   where
-    go : (t : Bool) → Keeps state [] [] (begun state (cond t (refused 15) (given (startOf (byteOr startMark sequence) total))))
-    go true = λ e. absurd (omega (arith, e))
-    go false = λ e. absurd (omega (arith, e))
+    go : (t u : Bool) → Keeps state [] [] (begun state (cond t (refused 17) (cond u (refused 15) (given (beginning limit (byteOr startMark sequence) total)))))
+    go true u = λ e. absurd (omega (arith, e))
+    go false true = λ e. absurd (omega (arith, e))
+    go false false = λ e. absurd (omega (arith, e))
 
-part-keeps : (limit : ℕ) (payload state out answer : List ℕ) → Keeps state out answer (framePartOf limit state payload out answer)
+part-keeps : (payload state out answer : List ℕ) → Keeps state out answer (framePartOf state payload out answer)
 unfolding framePartOf
-part-keeps limit payload state out answer =
-    let s = stateOf state in
+part-keeps payload state out answer =
+    let limit = stateOf state .limit in
+    let s = stateOf state .progress in
     keeps-if (eqb (length answer) 3 && isState state) state out answer _
     (go (not (lawful limit s)) (ltb (missing s) (length payload)) (eqb (length out) 0))
   where
-    go : (a b c : Bool) → (let s = stateOf state in
-        Keeps state out answer (parted state answer (cond a (wrote (refused 1) s out) (cond b (wrote (refused 26) s out) (cond c (wrote (refused 14) s out) (filled out (fillOf (length out) s payload)))))))
+    go : (a b c : Bool) → (let s = stateOf state .progress in
+        Keeps state out answer (parted state answer (stateOf state .limit) (cond a (wrote (refused 1) s out) (cond b (wrote (refused 26) s out) (cond c (wrote (refused 14) s out) (filled out (fillOf (length out) s payload)))))))
     go true b c = λ e. refl
     go false true c = λ e. absurd (omega (arith, e))
     go false false true = λ e. absurd (omega (arith, e))
@@ -262,33 +298,36 @@ whole-keeps (outbox.given whole) buffer bytes n = never
 whole-keeps (outbox.refused k) buffer bytes n = λ e. refl
 whole-keeps (outbox.refusedAt k place) buffer bytes n = λ e. refl
 
-new-keeps : (limit : ℕ) (out answer : List ℕ) → Keeps [] out answer (outboxNewOf limit out answer)
+new-keeps : (out answer : List ℕ) → Keeps [] out answer (outboxNewOf out answer)
 unfolding outboxNewOf newOf StoredKeeps
-new-keeps limit out answer =
-    let s = newOf (versionOne limit) out in
+new-keeps out answer =
+    let s = newOf versionTwo out in
     keeps-answers 1 (numberIn (s .told)) out answer (s .buffer) (usedIn (s .told) ∷ [])
-    (by-table (StoredKeeps out) (line 14 (ltb (length out) 1) ∷ []) (λ n. stored (outbox.refused n) out) (storedAt out 0 (newBytes (versionOne limit))) (λ n e. refl) (λ h. never))
+    (by-table (StoredKeeps out) (line 14 (ltb (length out) 1) ∷ []) (λ n. stored (outbox.refused n) out) (storedAt out 0 (newBytes versionTwo)) (λ n e. refl) (λ h. never))
 
-append-keeps : (limit used stream : ℕ) (payload buffer answer : List ℕ)
-    → Keeps [] buffer answer (outboxAppendOf limit buffer used stream payload answer)
+append-keeps : (used stream : ℕ) (payload buffer answer : List ℕ) → Keeps [] buffer answer (outboxAppendOf buffer used stream payload answer)
 unfolding outboxAppendOf appendOf StoredKeeps
-append-keeps limit used stream payload buffer answer =
-    let fmt = versionOne limit in
+append-keeps used stream payload buffer answer =
+    let fmt = formatOf (take used buffer) in
     let known = byteOr outOfRange stream in
     let s = appendOf fmt buffer used known payload in
     let after = storedAt buffer used (recordBytes fmt known payload) in
+    let walked = ifWhole (walkOf fmt (take used buffer)) buffer after in
+    let lines = line 15 (badRecord fmt known (length payload)) ∷ line 14 (ltb (length buffer - used) (length (recordBytes fmt known payload))) ∷ [] in
     keeps-answers 2 (numberIn (s .told)) buffer answer (s .buffer) (usedRow (s .told))
-    (by-table (StoredKeeps buffer)
-    (line 1 (ltb (length buffer) used)
-    ∷ line 15 (badRecord fmt known (length payload))
-    ∷ line 14 (ltb (length buffer - used) (length (recordBytes fmt known payload)))
-    ∷ [])
-    (λ n. stored (outbox.refused n) buffer) (ifWhole (walkOf fmt (take used buffer)) buffer after) (λ n e. refl)
-    (λ h. whole-keeps (walkOf fmt (take used buffer)) buffer (after .buffer) (used + length (recordBytes fmt known payload))))
+    (by-table (StoredKeeps buffer) (line 1 (ltb (length buffer) used) ∷ []) (λ n. stored (outbox.refused n) buffer)
+    (table (line 40 (otherVersion fmt (take used buffer)) ∷ []) (λ n. stored (outbox.refusedAt n 0) buffer) (table lines (λ n. stored (outbox.refused n) buffer) walked)) (λ n e. refl)
+    (λ h.
+    by-table (StoredKeeps buffer) (line 40 (otherVersion fmt (take used buffer)) ∷ []) (λ n. stored (outbox.refusedAt n 0) buffer)
+    (table lines (λ n. stored (outbox.refused n) buffer) walked) (λ n e. refl)
+    (λ h.
+    by-table (StoredKeeps buffer) lines (λ n. stored (outbox.refused n) buffer) walked (λ n e. refl)
+    (λ h. whole-keeps (walkOf fmt (take used buffer)) buffer (after .buffer) (used + length (recordBytes fmt known payload))))))
 
 pub one-leaves-all : OneLeavesAll
 unfolding nextSequenceOf envelopeReadOf responseReadOf informationReadOf featuresReadOf segmentReadOf applyReadOf fieldReadOf outboxRecordOf outboxWholeOf
 one-leaves-all = record {
+  extractor-open = open-keeps;
   extractor-step = step-keeps;
   extractor-feed = feed-keeps;
   frame-write = frame-keeps;
@@ -297,6 +336,7 @@ one-leaves-all = record {
   next-sequence = λ sequence answer. keeps-if (eqb (length answer) 1) [] [] answer _ never;
   packet-write = packet-keeps;
   ack-write = ack-keeps;
+  receiver-open = receiver-open-keeps;
   receiver-accept = accept-keeps;
   envelope-read = λ message answer. keeps-answers 6 _ [] answer _ _ (λ e. refl);
   envelope-write = envelope-keeps;
@@ -313,6 +353,6 @@ one-leaves-all = record {
   field-read = λ place message answer. keeps-answers 7 _ [] answer _ _ (λ e. refl);
   outbox-new = new-keeps;
   outbox-append = append-keeps;
-  outbox-record = λ limit place file answer. keeps-answers 6 _ [] answer _ _ (λ e. refl);
-  outbox-whole = λ limit file answer. keeps-answers 1 _ [] answer _ _ (λ e. refl);
+  outbox-record = λ place file answer. keeps-answers 6 _ [] answer _ _ (λ e. refl);
+  outbox-whole = λ file answer. keeps-answers 1 _ [] answer _ _ (λ e. refl);
 }

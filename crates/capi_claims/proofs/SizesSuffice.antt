@@ -13,6 +13,7 @@ use lib.Dec.{eqb, ltb}
 use borrow.Author.Tests.{eq-eqb, ne-eqb, lt-ltb, le-ltb, le-leb}
 use Rattle.wire.specs.Told.{given, Written, WrittenOf, line, writes}
 use Rattle.wire.proofs.Streams.{known-stream}
+use Rattle.wire.proofs.Limits.{range-limit}
 use Rattle.field.specs.Signed.{signedOf, extended}
 use Rattle.field.specs.Tag.{varintType, lengthType, lastField}
 use Rattle.field_writer.specs.Writer.{Field, messageBytes}
@@ -50,10 +51,13 @@ use Rattle.firmware_writer.proofs.Segments.{segment-length, segment-clean}
 use Rattle.firmware_round_trips.specs.RoundTrip.{Unsigned32}
 use Rattle.firmware_round_trips.specs.Premises.{Digits}
 use Rattle.firmware_round_trips.proofs.Premises.{signature, digits-well}
-use Rattle.outbox.specs.Format.{versionOne, recordBytes}
+use Rattle.outbox.specs.declared.format.Format.{Format}
+use Rattle.outbox.specs.Format.{Known, one, two, isOne, formatOf, headSize, recordBytes}
 use Rattle.outbox.specs.Reader as outbox
 use Rattle.outbox.specs.Reader.{walkOf}
 use Rattle.outbox.specs.Writer.{newOf, badRecord, appendOf}
+use Rattle.outbox.proofs.Versions.{known-small, format-known}
+use Rattle.outbox.proofs.Walk.{whole-version}
 use Rattle.outbox.proofs.Stored.{length-record}
 use Rattle.round_trips.specs.Premises.{Number32, Numbers32}
 use Rattle.round_trips.proofs.Premises.{signed}
@@ -110,16 +114,17 @@ unfolding kindOf
 unmarked b none = rw (ne-eqb b startMark (none .0), ne-eqb b endMark (none .1), ne-eqb b escapeMark (none .2))
 
 frame-done : (limit sequence : ℕ) (payload out answer : List ℕ) → length answer ≡ 1
-    → sequence < 256 → NoMark sequence → length payload ≤ limit → frameSize (length payload) ≤ length out
+    → 1 ≤ limit → limit ≤ 65535 → sequence < 256 → NoMark sequence → length payload ≤ limit → frameSize (length payload) ≤ length out
     → Done (frameWriteOf limit sequence payload out answer)
 unfolding frameWriteOf
-frame-done limit sequence payload out answer l b m n h =
+frame-done limit sequence payload out answer l some most b m n h =
     rw (byte-is startMark sequence b)
     (writer-done out answer (writeOf limit sequence payload out) l
+    (rw (range-limit limit some most)
     (done-two (isMark sequence || ltb limit (length payload)) (length (frameOf sequence payload)) out
     (length (frameOf sequence payload)) (sets out 0 (frameOf sequence payload))
     (rw (unmarked sequence m, le-ltb limit (length payload) n))
-    (omega (arith, frame-most sequence payload (checksumOf payload / 256) (checksumOf payload % 256)))))
+    (omega (arith, frame-most sequence payload (checksumOf payload / 256) (checksumOf payload % 256))))))
 
 stream-byte : (n : ℕ) → StreamNumber n → n < 256
 stream-byte n (inl e) = omega arith
@@ -138,15 +143,16 @@ args-fit stream id sequence ack s i q a =
     (in-range stream id sequence s i q)
 
 packet-done : (limit room stream id sequence ack place : ℕ) (message out answer : List ℕ) → length answer ≡ 2
-    → 20 ≤ room → room ≤ 512 → StreamNumber stream → id ≤ 15 → sequence ≤ 15 → ack ≤ 1 → length message ≤ limit
+    → 20 ≤ room → room ≤ 512 → 1 ≤ limit → limit ≤ 65535 → StreamNumber stream → id ≤ 15 → sequence ≤ 15 → ack ≤ 1 → length message ≤ limit
     → begins (foundAt (sendingOf room stream id sequence ack) (length message) place) ≡ true → room ≤ length out
     → Done (packetWriteOf limit (sendingOf room stream id sequence ack) message place out answer)
 unfolding packetWriteOf writtenOf sendingOf roomFits argumentsFit
-packet-done limit room stream id sequence ack place message out answer l low high s i q a m b h =
+packet-done limit room stream id sequence ack place message out answer l low high least most s i q a m b h =
     fit-done 2 [] out answer _ l
     (rw (
       le-leb leastRoom room (omega arith),
       le-leb room largestRoom (omega arith),
+      range-limit limit least most,
       args-fit stream id sequence ack s i q a,
       le-leb (length message) limit m,
       b,
@@ -342,38 +348,43 @@ apply-done row texts out answer whole l fits h =
     (texts-done (badFirmware texts (a .«firmware_information»)) (firmwareStrings texts (a .«firmware_information»)) (applyFields texts a) out answer l (firmware-fine texts row fits) (strings-fine texts row fits)
     (omega (arith, apply-most texts row fits)))
 
-new-done : (limit : ℕ) (out answer : List ℕ) → length answer ≡ 1 → 1 ≤ length out → Done (outboxNewOf limit out answer)
+new-done : (out answer : List ℕ) → length answer ≡ 1 → 1 ≤ length out → Done (outboxNewOf out answer)
 unfolding outboxNewOf newOf
-new-done limit out answer l h = fit-done 1 [] out answer _ l (rw (le-ltb (length out) 1 h))
+new-done out answer l h = fit-done 1 [] out answer _ l (rw (le-ltb (length out) 1 h))
 
-append-done : (limit used stream : ℕ) (buffer payload answer : List ℕ) → length answer ≡ 2
-    → walkOf (versionOne limit) (take used buffer) ≡ outbox.given tt
-    → StreamNumber stream → length payload ≤ limit → used + recordSize (length payload) ≤ length buffer
-    → Done (outboxAppendOf limit buffer used stream payload answer)
+append-done : (used stream : ℕ) (buffer payload answer : List ℕ) → length answer ≡ 2
+    → let fmt = formatOf (take used buffer) in
+    walkOf fmt (take used buffer) ≡ outbox.given tt
+    → StreamNumber stream → length payload ≤ fmt .limit → used + (headSize fmt + length payload) ≤ length buffer
+    → Done (outboxAppendOf buffer used stream payload answer)
 unfolding outboxAppendOf appendOf badRecord
-append-done limit used stream buffer payload answer l whole s short room =
-    let fmt = versionOne limit in
+append-done used stream buffer payload answer l whole s short room =
+    let fmt = formatOf (take used buffer) in
     fit-done 2 [] buffer answer _ l
     (rw (
       byte-is outOfRange stream (stream-byte stream s),
       le-ltb (length buffer) used (omega arith),
+      whole-version fmt (take used buffer) whole,
       known-stream stream s,
-      le-ltb limit (length payload) short,
+      le-ltb (fmt .limit) (length payload) short,
       le-ltb (length buffer - used) (length (recordBytes fmt stream payload)) (rw length-record (omega arith)),
       whole,
     ))
 
--- the version byte alone is a whole outbox
-new-whole : (limit : ℕ) (rest : List ℕ) → walkOf (versionOne limit) (take 1 (1 ∷ rest)) ≡ outbox.given tt
-unfolding walkOf outbox.readAll outbox.readings outbox.readOf outbox.otherVersion outbox.badPlace
-new-whole limit rest = refl
+-- a version byte alone is a whole outbox
+first-done : (fmt : Format) → Known fmt → (stream : ℕ) (rest payload answer : List ℕ) → length answer ≡ 2
+    → StreamNumber stream → length payload ≤ fmt .limit → 1 + (headSize fmt + length payload) ≤ length (fmt .version ∷ rest)
+    → Done (outboxAppendOf (fmt .version ∷ rest) 1 stream payload answer)
+unfolding isOne formatOf walkOf outbox.readAll outbox.readings outbox.readOf outbox.otherVersion outbox.badPlace
+first-done fmt one stream rest payload answer l s short room = append-done 1 stream (1 ∷ rest) payload answer l refl s short room
+first-done fmt two stream rest payload answer l s short room = append-done 1 stream (2 ∷ rest) payload answer l refl s short room
 
 pub sizes-suffice : SizesSuffice
 sizes-suffice = record {
   frame-write = frame-done;
   packet-write = packet-done;
-  packet-first = λ limit room stream id sequence ack message out answer l low high s i q a m h.
-      packet-done limit room stream id sequence ack 0 message out answer l low high s i q a m refl (omega arith);
+  packet-first = λ limit room stream id sequence ack message out answer l low high least most s i q a m h.
+      packet-done limit room stream id sequence ack 0 message out answer l low high least most s i q a m refl (omega arith);
   ack-write = ack-done;
   envelope-none = envelope-none;
   envelope-response = envelope-response;
@@ -385,6 +396,6 @@ sizes-suffice = record {
   apply-write = apply-done;
   outbox-new = new-done;
   outbox-append = append-done;
-  outbox-append-first = λ limit stream rest payload answer l s short room.
-      append-done limit 1 stream (1 ∷ rest) payload answer l (new-whole limit rest) s short room;
+  outbox-append-first = first-done;
+  record-size = λ fmt known n. omega (arith, known-small fmt known .1);
 }

@@ -6,10 +6,10 @@ use mathlib.Core.List.{List, []}
 use Rattle.sender.specs.declared.writer.Sending.{Sending}
 use Rattle.control.specs.declared.envelope.EnvelopePayload.{EnvelopePayload}
 use Rattle.rows.specs.Called.{Called, called}
-use Rattle.calls_classic.specs.Calls.{noneUsed, extractorStepOf, extractorFeedOf, frameWriteOf, nextSequenceOf}
+use Rattle.calls_classic.specs.Calls.{noneUsed, extractorOpenOf, extractorStepOf, extractorFeedOf, frameWriteOf, nextSequenceOf}
 use Rattle.calls_parts.specs.Calls.{frameBeginOf, framePartOf}
 use Rattle.calls_sending.specs.Calls.{packetWriteOf, ackWriteOf}
-use Rattle.calls_receiving.specs.Calls.{receiverAcceptOf}
+use Rattle.calls_receiving.specs.Calls.{receiverOpenOf, receiverAcceptOf}
 use Rattle.calls_messages.specs.Calls.{envelopeReadOf, envelopeWriteOf, responseReadOf, responseWriteOf, informationReadOf, informationWriteOf, featuresReadOf, featuresWriteOf}
 use Rattle.calls_firmware.specs.Calls.{segmentReadOf, segmentWriteOf, applyReadOf, applyWriteOf, fieldReadOf}
 use Rattle.calls_outbox.specs.Calls.{outboxNewOf, outboxAppendOf, outboxRecordOf, outboxWholeOf}
@@ -19,17 +19,18 @@ abbrev pub Keeps : List ℕ → List ℕ → List ℕ → Called → Type 0
 Keeps state lent answer c = c .number ≡ 1 → c ≡ called 1 state lent answer
 
 pub record OneLeavesAll : Type 0 where
-  pub extractor-step : (limit b : ℕ) (state lent answer : List ℕ) → Keeps state lent answer (extractorStepOf limit state lent b answer)
-  pub extractor-feed : (limit : ℕ) (bytes state lent answer : List ℕ) → Keeps state lent (noneUsed answer) (extractorFeedOf limit state lent bytes answer)
+  pub extractor-open : (limit : ℕ) (state : List ℕ) → Keeps state [] [] (extractorOpenOf limit state)
+  pub extractor-step : (b : ℕ) (state lent answer : List ℕ) → Keeps state lent answer (extractorStepOf state lent b answer)
+  pub extractor-feed : (bytes state lent answer : List ℕ) → Keeps state lent (noneUsed answer) (extractorFeedOf state lent bytes answer)
   pub frame-write : (limit sequence : ℕ) (payload out answer : List ℕ) → Keeps [] out answer (frameWriteOf limit sequence payload out answer)
   pub frame-begin : (limit sequence total : ℕ) (state : List ℕ) → Keeps state [] [] (frameBeginOf limit sequence total state)
-  pub frame-part : (limit : ℕ) (payload state out answer : List ℕ) → Keeps state out answer (framePartOf limit state payload out answer)
+  pub frame-part : (payload state out answer : List ℕ) → Keeps state out answer (framePartOf state payload out answer)
   pub next-sequence : (sequence : ℕ) (answer : List ℕ) → Keeps [] [] answer (nextSequenceOf sequence answer)
   pub packet-write : (limit : ℕ) (how : Sending) (place : ℕ) (message out answer : List ℕ)
       → Keeps [] out answer (packetWriteOf limit how message place out answer)
   pub ack-write : (stream id sequence positive : ℕ) (out answer : List ℕ) → Keeps [] out answer (ackWriteOf stream id sequence positive out answer)
-  pub receiver-accept : (limit : ℕ) (packet state lent answer : List ℕ)
-      → Keeps state lent answer (receiverAcceptOf limit state lent packet answer)
+  pub receiver-open : (limit : ℕ) (state : List ℕ) → Keeps state [] [] (receiverOpenOf limit state)
+  pub receiver-accept : (packet state lent answer : List ℕ) → Keeps state lent answer (receiverAcceptOf state lent packet answer)
   pub envelope-read : (message answer : List ℕ) → Keeps [] [] answer (envelopeReadOf message answer)
   pub envelope-write : (command : ℕ) (payload : EnvelopePayload) (bytes out answer : List ℕ)
       → Keeps [] out answer (envelopeWriteOf command payload bytes out answer)
@@ -46,8 +47,7 @@ pub record OneLeavesAll : Type 0 where
   pub apply-read : (message answer : List ℕ) → Keeps [] [] answer (applyReadOf message answer)
   pub apply-write : (row texts out answer : List ℕ) → Keeps [] out answer (applyWriteOf row texts out answer)
   pub field-read : (place : ℕ) (message answer : List ℕ) → Keeps [] [] answer (fieldReadOf message place answer)
-  pub outbox-new : (limit : ℕ) (out answer : List ℕ) → Keeps [] out answer (outboxNewOf limit out answer)
-  pub outbox-append : (limit used stream : ℕ) (payload buffer answer : List ℕ)
-      → Keeps [] buffer answer (outboxAppendOf limit buffer used stream payload answer)
-  pub outbox-record : (limit place : ℕ) (file answer : List ℕ) → Keeps [] [] answer (outboxRecordOf limit file place answer)
-  pub outbox-whole : (limit : ℕ) (file answer : List ℕ) → Keeps [] [] answer (outboxWholeOf limit file answer)
+  pub outbox-new : (out answer : List ℕ) → Keeps [] out answer (outboxNewOf out answer)
+  pub outbox-append : (used stream : ℕ) (payload buffer answer : List ℕ) → Keeps [] buffer answer (outboxAppendOf buffer used stream payload answer)
+  pub outbox-record : (place : ℕ) (file answer : List ℕ) → Keeps [] [] answer (outboxRecordOf file place answer)
+  pub outbox-whole : (file answer : List ℕ) → Keeps [] [] answer (outboxWholeOf file answer)

@@ -12,7 +12,8 @@ use Rattle.sender.specs.Writer.{begins, foundAt}
 use Rattle.field.specs.Signed.{extended}
 use Rattle.field.specs.Value.{bytesOf}
 use Rattle.text.specs.WellFormed.{WellFormed}
-use Rattle.outbox.specs.Format.{versionOne}
+use Rattle.outbox.specs.declared.format.Format.{Format}
+use Rattle.outbox.specs.Format.{Known, formatOf, headSize}
 use Rattle.outbox.specs.Reader.{given, walkOf}
 use Rattle.round_trips.specs.Premises.{Number32, Numbers32}
 use Rattle.firmware_round_trips.specs.RoundTrip.{Unsigned32}
@@ -56,7 +57,7 @@ applySize components strings = 55 * components + strings + 66
 
 -- PITO_RECORD_SIZE
 abbrev pub recordSize : ℕ → ℕ
-recordSize n = n + 3
+recordSize n = n + 5
 
 -- nothing is refused
 abbrev pub Done : Called → Type 0
@@ -107,16 +108,16 @@ stringsOf row = getD row 3 0 + getD row 5 0 + getD row 7 0 + stringsFrom (getD r
 
 pub record SizesSuffice : Type 0 where
   pub frame-write : (limit sequence : ℕ) (payload out answer : List ℕ) → length answer ≡ 1
-      → sequence < 256 → NoMark sequence → length payload ≤ limit → frameSize (length payload) ≤ length out
+      → 1 ≤ limit → limit ≤ 65535 → sequence < 256 → NoMark sequence → length payload ≤ limit → frameSize (length payload) ≤ length out
       → Done (frameWriteOf limit sequence payload out answer)
   -- at each place where a piece begins
   pub packet-write : (limit room stream id sequence ack place : ℕ) (message out answer : List ℕ) → length answer ≡ 2
-      → 20 ≤ room → room ≤ 512 → StreamNumber stream → id ≤ 15 → sequence ≤ 15 → ack ≤ 1 → length message ≤ limit
+      → 20 ≤ room → room ≤ 512 → 1 ≤ limit → limit ≤ 65535 → StreamNumber stream → id ≤ 15 → sequence ≤ 15 → ack ≤ 1 → length message ≤ limit
       → begins (foundAt (sendingOf room stream id sequence ack) (length message) place) ≡ true → room ≤ length out
       → Done (packetWriteOf limit (sendingOf room stream id sequence ack) message place out answer)
   -- .. the first of them at 0
   pub packet-first : (limit room stream id sequence ack : ℕ) (message out answer : List ℕ) → length answer ≡ 2
-      → 20 ≤ room → room ≤ 512 → StreamNumber stream → id ≤ 15 → sequence ≤ 15 → ack ≤ 1 → length message ≤ limit → room ≤ length out
+      → 20 ≤ room → room ≤ 512 → 1 ≤ limit → limit ≤ 65535 → StreamNumber stream → id ≤ 15 → sequence ≤ 15 → ack ≤ 1 → length message ≤ limit → room ≤ length out
       → Done (packetWriteOf limit (sendingOf room stream id sequence ack) message 0 out answer)
   pub ack-write : (stream id sequence positive : ℕ) (out answer : List ℕ) → length answer ≡ 1
       → StreamNumber stream → id ≤ 15 → sequence ≤ 15 → positive ≤ 1 → ackSize ≤ length out
@@ -147,13 +148,16 @@ pub record SizesSuffice : Type 0 where
   pub apply-write : (row texts out answer : List ℕ) → length row ≡ 57 → length answer ≡ 3
       → RowFits texts row → applySize (getD row 8 0) (stringsOf row) ≤ length out
       → Done (applyWriteOf row texts out answer)
-  pub outbox-new : (limit : ℕ) (out answer : List ℕ) → length answer ≡ 1 → 1 ≤ length out → Done (outboxNewOf limit out answer)
-  -- after used bytes that are a whole outbox
-  pub outbox-append : (limit used stream : ℕ) (buffer payload answer : List ℕ) → length answer ≡ 2
-      → walkOf (versionOne limit) (take used buffer) ≡ given tt
-      → StreamNumber stream → length payload ≤ limit → used + recordSize (length payload) ≤ length buffer
-      → Done (outboxAppendOf limit buffer used stream payload answer)
-  -- .. as the version byte alone is
-  pub outbox-append-first : (limit stream : ℕ) (rest payload answer : List ℕ) → length answer ≡ 2
-      → StreamNumber stream → length payload ≤ limit → 1 + recordSize (length payload) ≤ length (1 ∷ rest)
-      → Done (outboxAppendOf limit (1 ∷ rest) 1 stream payload answer)
+  pub outbox-new : (out answer : List ℕ) → length answer ≡ 1 → 1 ≤ length out → Done (outboxNewOf out answer)
+  -- after used bytes that are a whole outbox of either version
+  pub outbox-append : (used stream : ℕ) (buffer payload answer : List ℕ) → length answer ≡ 2
+      → let fmt = formatOf (take used buffer) in
+      walkOf fmt (take used buffer) ≡ given tt
+      → StreamNumber stream → length payload ≤ fmt .limit → used + (headSize fmt + length payload) ≤ length buffer
+      → Done (outboxAppendOf buffer used stream payload answer)
+  -- .. as a version byte alone is
+  pub outbox-append-first : (fmt : Format) → Known fmt → (stream : ℕ) (rest payload answer : List ℕ) → length answer ≡ 2
+      → StreamNumber stream → length payload ≤ fmt .limit → 1 + (headSize fmt + length payload) ≤ length (fmt .version ∷ rest)
+      → Done (outboxAppendOf (fmt .version ∷ rest) 1 stream payload answer)
+  -- the header's size is enough for a record of either
+  pub record-size : (fmt : Format) → Known fmt → (n : ℕ) → headSize fmt + n ≤ recordSize n

@@ -1,24 +1,34 @@
 // The two links for C: every capability on numbers and slices only, as its crates give it. include/pitokaenge.h describes
 // each function for its callers.
 use calls_classic::calls::extractor_feed;
+use calls_classic::calls::extractor_open;
 use calls_classic::calls::extractor_step;
 use calls_classic::calls::frame_write;
 use calls_classic::calls::next_sequence;
 use calls_parts::calls::frame_begin;
 use calls_parts::calls::frame_part;
 use calls_receiving::calls::receiver_accept;
+use calls_receiving::calls::receiver_open;
 use calls_sending::calls::ack_write;
 use calls_sending::calls::packet_write;
 ghost use mathlib.Core.Path.{_≡_};
 ghost use mathlib.Core.List.{[]};
 ghost use Rattle.rows.specs.Called.{called};
-ghost use Rattle.calls_classic.specs.Calls.{extractorStepOf, extractorFeedOf, frameWriteOf, nextSequenceOf};
+ghost use Rattle.calls_classic.specs.Calls.{extractorOpenOf, extractorStepOf, extractorFeedOf, frameWriteOf, nextSequenceOf};
 ghost use Rattle.calls_parts.specs.Calls.{frameBeginOf, framePartOf};
 ghost use Rattle.calls_sending.specs.Calls.{packetWriteOf, ackWriteOf};
 ghost use Rattle.calls_sending.specs.Convert.{sendingOf};
-ghost use Rattle.calls_receiving.specs.Calls.{receiverAcceptOf};
+ghost use Rattle.calls_receiving.specs.Calls.{receiverOpenOf, receiverAcceptOf};
 
 // ---- Classic: the extractor and the frame writer, whole and by parts
+
+// Opens an extractor for a link with a limit: its empty state.
+#[no_mangle]
+pub extern "C" fn pito_extractor_open(limit: u64, state: &mut [u64]) -> u64
+    ensures { λ r. ⌜ called r (now (state .exit)) [] [] ≡ extractorOpenOf limit (now (state .entry)) ⌝ }
+{
+    extractor_open(limit, state)
+}
 
 // One byte given to the extractor.
 #[no_mangle]
@@ -29,7 +39,7 @@ pub extern "C" fn pito_extractor_step(
     answer: &mut [u64],
 ) -> u64
     ensures { λ r. ⌜ called r (now (state .exit)) (now (buffer .exit)) (now (answer .exit))
-        ≡ extractorStepOf 4096 (now (state .entry)) (now (buffer .entry)) byte (now (answer .entry)) ⌝ }
+        ≡ extractorStepOf (now (state .entry)) (now (buffer .entry)) byte (now (answer .entry)) ⌝ }
 {
     extractor_step(state, buffer, byte, answer)
 }
@@ -43,31 +53,32 @@ pub extern "C" fn pito_extractor_feed(
     answer: &mut [u64],
 ) -> u64
     ensures { λ r. ⌜ called r (now (state .exit)) (now (buffer .exit)) (now (answer .exit))
-        ≡ extractorFeedOf 4096 (now (state .entry)) (now (buffer .entry)) (now (bytes .entry)) (now (answer .entry)) ⌝ }
+        ≡ extractorFeedOf (now (state .entry)) (now (buffer .entry)) (now (bytes .entry)) (now (answer .entry)) ⌝ }
 {
     extractor_feed(state, buffer, bytes, answer)
 }
 
-// Writes the frame of a payload.
+// Writes the frame of a payload, for a link with a limit.
 #[no_mangle]
 pub extern "C" fn pito_frame_write(
     sequence: u64,
+    limit: u64,
     payload: &[u8],
     output: &mut [u8],
     answer: &mut [u64],
 ) -> u64
     ensures { λ r. ⌜ called r [] (now (output .exit)) (now (answer .exit))
-        ≡ frameWriteOf 4096 sequence (now (payload .entry)) (now (output .entry)) (now (answer .entry)) ⌝ }
+        ≡ frameWriteOf limit sequence (now (payload .entry)) (now (output .entry)) (now (answer .entry)) ⌝ }
 {
-    frame_write(sequence, payload, output, answer)
+    frame_write(sequence, limit, payload, output, answer)
 }
 
-// Begins a frame that is written by parts.
+// Begins a frame that is written by parts, for a link with a limit.
 #[no_mangle]
-pub extern "C" fn pito_frame_begin(sequence: u64, total: u64, state: &mut [u64]) -> u64
-    ensures { λ r. ⌜ called r (now (state .exit)) [] [] ≡ frameBeginOf 4096 sequence total (now (state .entry)) ⌝ }
+pub extern "C" fn pito_frame_begin(sequence: u64, limit: u64, total: u64, state: &mut [u64]) -> u64
+    ensures { λ r. ⌜ called r (now (state .exit)) [] [] ≡ frameBeginOf limit sequence total (now (state .entry)) ⌝ }
 {
-    frame_begin(sequence, total, state)
+    frame_begin(sequence, limit, total, state)
 }
 
 // Takes payload and writes the frame on into an output.
@@ -79,7 +90,7 @@ pub extern "C" fn pito_frame_part(
     answer: &mut [u64],
 ) -> u64
     ensures { λ r. ⌜ called r (now (state .exit)) (now (output .exit)) (now (answer .exit))
-        ≡ framePartOf 4096 (now (state .entry)) (now (payload .entry)) (now (output .entry)) (now (answer .entry)) ⌝ }
+        ≡ framePartOf (now (state .entry)) (now (payload .entry)) (now (output .entry)) (now (answer .entry)) ⌝ }
 {
     frame_part(state, payload, output, answer)
 }
@@ -94,10 +105,11 @@ pub extern "C" fn pito_next_sequence(sequence: u8, answer: &mut [u64]) -> u64
 
 // ---- Low Energy: sending
 
-// Writes the packet of a message whose piece begins at a place.
+// Writes the packet of a message whose piece begins at a place, for a link with a limit.
 #[no_mangle]
 pub extern "C" fn pito_packet_write(
     room: u64,
+    limit: u64,
     stream: u64,
     id: u64,
     sequence: u64,
@@ -108,11 +120,12 @@ pub extern "C" fn pito_packet_write(
     answer: &mut [u64],
 ) -> u64
     ensures { λ r. ⌜ called r [] (now (output .exit)) (now (answer .exit))
-        ≡ packetWriteOf 4096 (sendingOf room stream id sequence ack) (now (message .entry)) place (now (output .entry))
+        ≡ packetWriteOf limit (sendingOf room stream id sequence ack) (now (message .entry)) place (now (output .entry))
         (now (answer .entry)) ⌝ }
 {
     packet_write(
         room,
+        limit,
         stream,
         id,
         sequence,
@@ -142,6 +155,14 @@ pub extern "C" fn pito_ack_write(
 
 // ---- Low Energy: receiving
 
+// Opens a receiver for a link with a limit: its empty state.
+#[no_mangle]
+pub extern "C" fn pito_receiver_open(limit: u64, state: &mut [u64]) -> u64
+    ensures { λ r. ⌜ called r (now (state .exit)) [] [] ≡ receiverOpenOf limit (now (state .entry)) ⌝ }
+{
+    receiver_open(limit, state)
+}
+
 // One packet given to the receiver.
 #[no_mangle]
 pub extern "C" fn pito_receiver_accept(
@@ -151,7 +172,7 @@ pub extern "C" fn pito_receiver_accept(
     answer: &mut [u64],
 ) -> u64
     ensures { λ r. ⌜ called r (now (state .exit)) (now (buffer .exit)) (now (answer .exit))
-        ≡ receiverAcceptOf 4096 (now (state .entry)) (now (buffer .entry)) (now (packet .entry)) (now (answer .entry)) ⌝ }
+        ≡ receiverAcceptOf (now (state .entry)) (now (buffer .entry)) (now (packet .entry)) (now (answer .entry)) ⌝ }
 {
     receiver_accept(state, buffer, packet, answer)
 }

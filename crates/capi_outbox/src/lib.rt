@@ -13,7 +13,7 @@ ghost use Rattle.calls_outbox.specs.Calls.{outboxNewOf, outboxAppendOf, outboxR
 #[no_mangle]
 pub extern "C" fn pito_outbox_new(output: &mut [u8], answer: &mut [u64]) -> u64
     ensures { λ r. ⌜ called r [] (now (output .exit)) (now (answer .exit))
-        ≡ outboxNewOf 4096 (now (output .entry)) (now (answer .entry)) ⌝ }
+        ≡ outboxNewOf (now (output .entry)) (now (answer .entry)) ⌝ }
 {
     outbox_new(output, answer)
 }
@@ -28,7 +28,7 @@ pub extern "C" fn pito_outbox_append(
     answer: &mut [u64],
 ) -> u64
     ensures { λ r. ⌜ called r [] (now (buffer .exit)) (now (answer .exit))
-        ≡ outboxAppendOf 4096 (now (buffer .entry)) used stream (now (payload .entry)) (now (answer .entry)) ⌝ }
+        ≡ outboxAppendOf (now (buffer .entry)) used stream (now (payload .entry)) (now (answer .entry)) ⌝ }
 {
     outbox_append(buffer, used, stream, payload, answer)
 }
@@ -37,7 +37,7 @@ pub extern "C" fn pito_outbox_append(
 #[no_mangle]
 pub extern "C" fn pito_outbox_record(bytes: &[u8], place: u64, answer: &mut [u64]) -> u64
     ensures { λ r. ⌜ called r [] [] (now (answer .exit))
-        ≡ outboxRecordOf 4096 (now (bytes .entry)) place (now (answer .entry)) ⌝ }
+        ≡ outboxRecordOf (now (bytes .entry)) place (now (answer .entry)) ⌝ }
 {
     outbox_record(bytes, place, answer)
 }
@@ -46,7 +46,7 @@ pub extern "C" fn pito_outbox_record(bytes: &[u8], place: u64, answer: &mut [u64
 #[no_mangle]
 pub extern "C" fn pito_outbox_whole(bytes: &[u8], answer: &mut [u64]) -> u64
     ensures { λ r. ⌜ called r [] [] (now (answer .exit))
-        ≡ outboxWholeOf 4096 (now (bytes .entry)) (now (answer .entry)) ⌝ }
+        ≡ outboxWholeOf (now (bytes .entry)) (now (answer .entry)) ⌝ }
 {
     outbox_whole(bytes, answer)
 }

@@ -1,4 +1,5 @@
 // The cases of Classic, P1 to P3.
+use crate::LIMIT;
 use crate::OUTPUT;
 use frame_writer::writer::WriteOutcome;
 use framing::header::next_sequence;
@@ -9,7 +10,7 @@ use printing::text;
 
 fn write_frame(label: &[u8], sequence: u8, payload: &[u8]) {
     let mut out = [0u8; OUTPUT];
-    let outcome = frame_writer::writer::write_frame(sequence, payload, &mut out);
+    let outcome = frame_writer::writer::write_frame(sequence, LIMIT, payload, &mut out);
     text(label);
     match outcome {
         WriteOutcome::Frame(n) => bytes(&out, n),

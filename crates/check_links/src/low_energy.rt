@@ -1,4 +1,5 @@
 // The cases of Low Energy, P4 to P9 and No. 2.
+use crate::LIMIT;
 use crate::OUTPUT;
 use packet::header::extender_bit;
 use packet::reader;
@@ -8,8 +9,8 @@ use printing::end;
 use printing::number;
 use printing::refused;
 use printing::text;
-use receiver::BUFFER_SIZE;
 use receiver::Receiver;
+use receiver::SLOT_COUNT;
 use sender::piece::LARGEST_ROOM;
 use sender::writer;
 use sender::writer::Sending;
@@ -65,7 +66,7 @@ fn print_read(shown: Shown, packet: &[u8], read: Packet) {
 // Prints the packet that stands first in the output, as it is read back.
 fn read_packet(shown: Shown, out: &[u8], length: usize) {
     let n = smaller(length, out.len());
-    match reader::read(&out[0..n]) {
+    match reader::read(LIMIT, &out[0..n]) {
         reader::Answer::Read(read) => print_read(shown, out, read),
         reader::Answer::Refused(why) => refused(why.number()),
     }
@@ -73,7 +74,7 @@ fn read_packet(shown: Shown, out: &[u8], length: usize) {
 
 // Prints the packet of a message at a place, and answers the next place, or 0 after the last.
 fn next_packet(shown: Shown, how: Sending, message: &[u8], place: usize, out: &mut [u8]) -> usize {
-    match write_packet(how, message, place, out) {
+    match write_packet(how, LIMIT, message, place, out) {
         writer::Answer::More { length, next } => {
             read_packet(shown, out, length);
             text(b",");
@@ -135,9 +136,10 @@ fn print_accepted(accepted: Accepted) {
 
 // A packet given to a receiver with this control and this Alexa slot, OTA's idle.
 fn accept_packet(label: &[u8], control: Slot, alexa: Slot, packet: &[u8]) {
-    let mut buffer = [0u8; BUFFER_SIZE];
+    let mut buffer = [0u8; SLOT_COUNT * LIMIT];
     let none = Slot::idle();
     let state = Receiver {
+        limit: LIMIT,
         slots: [control, none, alexa],
     };
     let outcome = state.accept(&mut buffer, packet);

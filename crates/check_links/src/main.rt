@@ -2,6 +2,9 @@
 mod classic;
 mod low_energy;
 
+// The limit of the worked cases.
+pub const LIMIT: usize = 4096;
+
 // The output lent to a writer: more than any case needs, but for packets of messages.
 pub const OUTPUT: usize = 32;
 

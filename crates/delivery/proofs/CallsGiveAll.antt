@@ -9,7 +9,9 @@ use lib.ListN.{length, take}
 use lib.Seq.{sets, length-sets}
 use lib.Dec.{eqb}
 use borrow.Author.Tests.{eq-eqb, ne-eqb, eqb-true, eqb-false, le-ltb, le-leb}
+use Rattle.wire.specs.Limit.{limitFits}
 use Rattle.wire.specs.Told.{given}
+use Rattle.wire.proofs.Limits.{range-limit}
 use Rattle.wire.proofs.Stores.{first-bytes}
 use Rattle.packet.proofs.Headers.{in-range}
 use Rattle.sender.specs.declared.piece.Piece.{Piece}
@@ -32,7 +34,7 @@ last-by place n rest length true e t = let s = eqb-true n rest e in eq-eqb (plac
 last-by place n rest length false e t =
     let d : (n ≡ rest → ⊥) = eqb-false n rest e in ne-eqb (place + n) length (λ s. d (omega arith))
 
-module _ (limit : ℕ) (w : Sending) (m : List ℕ) (fits : roomFits (w .room) ≡ true) (fit : argumentsFit limit w (length m) ≡ true) where
+module _ (limit : ℕ) (w : Sending) (m : List ℕ) (range : limitFits limit ≡ true) (fits : roomFits (w .room) ≡ true) (fit : argumentsFit limit w (length m) ≡ true) where
   -- the next piece, where so many bytes are left from a place on
   abbrev size : ℕ → ℕ → ℕ
   size index rest = sizeFor (w .room) (isFirst index) rest
@@ -46,7 +48,7 @@ module _ (limit : ℕ) (w : Sending) (m : List ℕ) (fits : roomFits (w .room) �
   call : (out : List ℕ) (place : ℕ) (p : Piece) → w .room ≤ length out → foundAt w (length m) place ≡ some p
       → writtenOf limit w m place out ≡ done w m out (given p)
   unfolding writtenOf
-  call out place p o e = simp (fits, fit, e, le-ltb (length out) (w .room) o)
+  call out place p o e = simp (fits, range, fit, e, le-ltb (length out) (w .room) o)
 
   -- a call where a piece begins gives its packet, and after it, unless it is the last, what the calls from the next place on give
   gives : (calls index place rest : ℕ) (out : List ℕ) → place + rest ≡ length m → w .room ≤ length out
@@ -94,15 +96,16 @@ module _ (limit : ℕ) (w : Sending) (m : List ℕ) (fits : roomFits (w .room) �
 
 pub calls-are : (limit : ℕ) (w : Sending) (m out : List ℕ) → Takes limit w m out → callsOf limit w m out ≡ packetsOf w m
 calls-are limit w m out t =
-    calls-from limit w m (t .room) (t .arguments) (suc (length m)) 0 0 (length m) out (omega arith) (omega arith) (λ q h. refl)
+    calls-from limit w m (t .range) (t .room) (t .arguments) (suc (length m)) 0 0 (length m) out (omega arith) (omega arith) (λ q h. refl)
 
 pub calls-give-all : CallsGiveAll
 calls-give-all limit w m out t = let e = calls-are limit w m out t in (e, rw e (omega arith))
 
 pub takes-all : TakesAll
 unfolding roomFits argumentsFit
-takes-all limit w m out low high s i q l o =
+takes-all limit w m out least most low high s i q l o =
     record {
+      range = range-limit limit least most;
       room = rw (le-leb leastRoom (w .room) low, le-leb (w .room) largestRoom high);
       arguments = rw (in-range (w .stream) (w .id) (w .sequence) s i q, le-leb (length m) limit l);
       space = omega arith;

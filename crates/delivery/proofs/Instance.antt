@@ -7,6 +7,7 @@ use mathlib.Core.List.{[], _∷_}
 use mathlib.Core.Bool.{true}
 use lib.ListN.{getD, drop}
 use Rattle.wire.specs.declared.stream.Stream.the-variants.{Alexa}
+use Rattle.wire.specs.Limit.{limitFits}
 use Rattle.wire.specs.Stream.{isStream, streamOf}
 use Rattle.packet.specs.Header.{inRange}
 use Rattle.packet.specs.Reader.{fieldsOf, contentOf, lines, readOf}
@@ -25,19 +26,19 @@ unfolding lawfulSlot lawful
 law = refl
 
 takes : Takes limit how message output
-takes = takes-all limit how message output (omega arith) (omega arith) (inr (inr refl)) (omega arith) (omega arith) (omega arith) (omega arith)
+takes = takes-all limit how message output (omega arith) (omega arith) (omega arith) (omega arith) (inr (inr refl)) (omega arith) (omega arith) (omega arith) (omega arith)
 
 begins : first ≡ getD (callsOf limit how message output) 0 []
-unfolding isStream inRange sizeFor headerBytes packetOf roomFits argumentsFit writtenOf callsFrom
+unfolding limitFits isStream inRange sizeFor headerBytes packetOf roomFits argumentsFit writtenOf callsFrom
 begins = refl
 
 sent : those (ours how) later ≡ drop 1 (callsOf limit how message output)
-unfolding isStream inRange sizeFor headerBytes packetOf roomFits argumentsFit writtenOf callsFrom
+unfolding limitFits isStream inRange sizeFor headerBytes packetOf roomFits argumentsFit writtenOf callsFrom
 sent = refl
 
 arrived : givenTo limit how (repliesTo limit slots buffer before (first ∷ later) after)
     ≡ none ∷ none ∷ some (record { stream = Alexa; id = 1; total = 35; ack = true; payload = message }) ∷ []
-unfolding isStream streamOf fieldsOf contentOf lines readOf lawfulSlot lawful finish hold dropBy firstStep nextStep ready acceptOf runOf
+unfolding limitFits isStream streamOf fieldsOf contentOf lines readOf lawfulSlot lawful finish hold dropBy firstStep nextStep ready acceptOf runOf
 arrived = refl
 
 pub arrives : Arrives

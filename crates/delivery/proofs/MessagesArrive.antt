@@ -179,7 +179,7 @@ messages-arrive limit slots bytes before first later after w m out law size t be
     rw (s, append-assoc)
     (during-given limit first later after w m _ (room-low (w .room) (t .room)) (range-facts limit w (length m) (t .arguments))
     (begins ∙ ap (λ (ps : List (List ℕ)). getD ps 0 []) s) (e ∙ ap (λ (ps : List (List ℕ)). drop 1 ps) s)
-    (later-on limit slots bytes before ((first ∷ later) ++ after) (record { law = law; size = size })))
+    (later-on limit slots bytes before ((first ∷ later) ++ after) (record { range = t .range; law = law; size = size })))
 
 -- ---- nothing before or between
 
@@ -202,7 +202,7 @@ round-trip limit slots bytes w m out law size t =
     let later : List (List ℕ) = drop 1 (packetsOf w m) in
     rw (calls-are limit w m out t)
     (ap (givenIn limit) (sym (replies-ours limit slots bytes w m (piecesOf (w .room) (length m)) (ok .id)))
-    ∙ all-given limit w m (room-low (w .room) (t .room)) ok first later slots bytes (record { law = law; size = size }) refl
+    ∙ all-given limit w m (room-low (w .room) (t .room)) ok first later slots bytes (record { range = t .range; law = law; size = size }) refl
     (all-ours w m (drop 1 (piecesOf (w .room) (length m))) (ok .id)))
 
 -- ---- the message is asked for

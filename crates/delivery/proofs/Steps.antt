@@ -1,7 +1,6 @@
 -- What the writer's packets do to the receiver, one by one.
-use Prim.Native.Nat.{ℕ, suc, _+_, _*_, _≤_, _<_}
+use Prim.Native.Nat.{ℕ, suc, _+_, _≤_, _<_}
 use native.Mathlib.Omega.{arith}
-use native.Mathlib.Nat.{suc-mul, mul-le-mul-right}
 use mathlib.Core.Path.{_≡_, refl, sym, ap, _∙_}
 use mathlib.Core.Option.{Option, none, some}
 use mathlib.Core.List.{List, [], _∷_}
@@ -17,13 +16,14 @@ use Rattle.packet.specs.declared.reader.Packet.{Packet}
 use Rattle.packet.specs.Header.{headerSize, sequenceAfter}
 use Rattle.packet.specs.Reader.{headIn, readOf}
 use Rattle.slot.specs.declared.Slot.{Slot}
-use Rattle.slot.specs.declared.step.Piece as part
+use Rattle.slot.specs.declared.step.Payload.{Payload}
 use Rattle.slot.specs.Slot.{idle, isOpen, slotCount, laneStart, laneOf}
 use Rattle.slot.specs.Step.{Step, step, finish, hold, firstStep, offTotal, nextStep, placeWhere}
 use Rattle.slot.proofs.Slots.{lawful-count}
 use Rattle.slot.proofs.Lanes.{place-low, lane-set, lane-one}
 use Rattle.receiver.specs.Buffer.{partStart, partOf, stored}
 use Rattle.receiver.specs.Receiver.{Result, applied, actIn, acceptOf}
+use Rattle.receiver.proofs.Parts.{part-inside}
 use Rattle.receiver.proofs.Accepting.{Fits, accept-ready, ready-next, accept-other}
 use Rattle.sender.specs.declared.piece.Piece.{Piece}
 use Rattle.sender.specs.declared.writer.Sending.{Sending}
@@ -81,33 +81,31 @@ abbrev pub pieceFor : ℕ → ℕ → ℕ → Piece
 pieceFor index place n = record { index = index; place = place; size = n }
 
 -- where its bytes are and go
-abbrev pieceIn : Piece → part.Piece
-pieceIn p = record { at = p .place; start = headerSize (isFirst (p .index)) (extended (p .size)); len = p .size }
+abbrev payloadFor : Piece → Payload
+payloadFor p = record { at = p .place; start = headerSize (isFirst (p .index)) (extended (p .size)); len = p .size }
 
 module _ (limit : ℕ) (w : Sending) (m : List ℕ) (ok : InRange limit w (length m)) (slots : List Slot) (bytes : List ℕ) (o : Fits limit slots bytes) where
   inside : partStart limit (placeFor w) + limit ≤ length bytes
-  inside =
-      let u : suc (placeFor w) * limit ≤ slotCount * limit = mul-le-mul-right limit (place-low (streamFor w) 0 (omega arith)) in
-      omega (arith, suc-mul (placeFor w) limit, o .size)
+  inside = rw (o .size) (part-inside limit (placeFor w) (place-low (streamFor w) 0 (omega arith)))
 
   module _ (p : Piece) (within : p .place + p .size ≤ length m) (before : take (p .place) (partOf limit (placeFor w) bytes) ≡ take (p .place) m) (replaced : Bool) (r : Result) where
     -- the piece stands behind what was held
-    stores : take (p .place + p .size) (partOf limit (placeFor w) (stored limit (placeFor w) bytes (packetOf w m p) (pieceIn p))) ≡ take (p .place + p .size) m
+    stores : take (p .place + p .size) (partOf limit (placeFor w) (stored limit (placeFor w) bytes (packetOf w m p) (payloadFor p))) ≡ take (p .place + p .size) m
     stores = rw (payload-read w m p) (part-grows limit (placeFor w) (p .place) (p .size) bytes m inside within (ok .within) before)
 
     last-gives : p .place + p .size ≡ length m
-        → r ≡ applied limit slots bytes (packetOf w m p) (laneStart (streamFor w)) (step 0 (finish (headFor w p) (w .ack) (length m) replaced (pieceIn p)))
+        → r ≡ applied limit slots bytes (packetOf w m p) (laneStart (streamFor w)) (step 0 (finish (headFor w p) (w .ack) (length m) replaced (payloadFor p)))
         → gives limit r ≡ some (messageOf w m)
     unfolding finish
     last-gives e f =
         let same : laneStart (streamFor w) ≡ placeFor w = omega arith in
-        let left : List ℕ = stored limit (placeFor w) bytes (packetOf w m p) (pieceIn p) in
+        let left : List ℕ = stored limit (placeFor w) bytes (packetOf w m p) (payloadFor p) in
         let all : take (length m) (partOf limit (laneStart (streamFor w)) left) ≡ m
         = ap (λ (i : ℕ). take (length m) (partOf limit i left)) same ∙ rw e at stores ∙ take-length m in
         rw (f, all)
 
     more-holds : Fits limit (r .slots) (r .bytes)
-        → r ≡ applied limit slots bytes (packetOf w m p) (laneStart (streamFor w)) (step 0 (hold (headFor w p) false (length m) replaced (pieceIn p)))
+        → r ≡ applied limit slots bytes (packetOf w m p) (laneStart (streamFor w)) (step 0 (hold (headFor w p) false (length m) replaced (payloadFor p)))
         → More limit w m (p .index) (p .place + p .size) r
     unfolding hold
     more-holds ready f =
@@ -181,8 +179,8 @@ module _ (limit : ℕ) (w : Sending) (m : List ℕ) (ok : InRange limit w (lengt
   next-is : (last : Bool) → isLast (length m) following ≡ last → offTotal last (place + n) (length m) ≡ false
       → acceptOf limit slots bytes (packetOf w m following)
       ≡ applied limit slots bytes (packetOf w m following) (laneStart (streamFor w))
-      (step 0 (cond last (finish (headFor w following) (last && w .ack) (length m) false (pieceIn following))
-      (hold (headFor w following) (last && w .ack) (length m) false (pieceIn following))))
+      (step 0 (cond last (finish (headFor w following) (last && w .ack) (length m) false (payloadFor following))
+      (hold (headFor w following) (last && w .ack) (length m) false (payloadFor following))))
   next-is last e t =
       accept-read limit slots bytes (packetOf w m following) _ (h .is-ready)
       (next-read limit w m following (ok .known) (ok .id) small not-first some-left)

@@ -5,6 +5,7 @@ use mathlib.Core.Logic.{_⊎_}
 use mathlib.Core.List.{List, [], _∷_}
 use mathlib.Core.Bool.{true}
 use lib.ListN.{length, take}
+use Rattle.wire.specs.Limit.{limitFits}
 use Rattle.wire.specs.Told.{Told, given, refused}
 use Rattle.sender.specs.declared.writer.Sending.{Sending}
 use Rattle.sender.specs.Writer.{packetsOf, roomFits, argumentsFit, Sent, more, last, writtenOf}
@@ -27,6 +28,8 @@ callsOf limit w m out = callsFrom (suc (length m)) limit w m out 0
 
 -- what the writer takes
 pub record Takes (limit : ℕ) (w : Sending) (m out : List ℕ) : Type 0 where
+  -- a limit of 1 to 65,535
+  pub range : limitFits limit ≡ true
   -- a room of 20 to 512
   pub room : roomFits (w .room) ≡ true
   -- stream, id, sequence and message in their ranges
@@ -38,6 +41,8 @@ pub record Takes (limit : ℕ) (w : Sending) (m out : List ℕ) : Type 0 where
 abbrev pub TakesAll : Type 0
 TakesAll =
     (limit : ℕ) (w : Sending) (m out : List ℕ)
+    → 1 ≤ limit
+    → limit ≤ 65535
     → 20 ≤ w .room
     → w .room ≤ 512
     → (w .stream ≡ 0) ⊎ (w .stream ≡ 2) ⊎ (w .stream ≡ 6)

@@ -6,7 +6,7 @@ use lib.ListN.{length, set}
 use lib.Dec.{ltb}
 use Rattle.wire.specs.Told.{line, table}
 use Rattle.framing.specs.Frame.{checked}
-use Rattle.extractor.specs.declared.state.Extractor.{Extractor}
+use Rattle.extractor.specs.declared.state.Progress.{Progress}
 use Rattle.extractor.specs.declared.action.Action.{Action}
 use Rattle.extractor.specs.declared.action.Action.the-variants.{Skip, Begin, Restart, Go, Number, Store, Finish, Refuse}
 use Rattle.extractor.specs.Outcome.{Report, taken, skipped, frame, refused, numberOf}
@@ -16,19 +16,19 @@ use Rattle.extractor.specs.Action.{actionOf}
 -- what a step leaves: its report, the next state and the lent buffer
 pub record Step : Type 0 where
   pub report : Report
-  pub next : Extractor
+  pub next : Progress
   pub buffer : List ℕ
 
-abbrev pub step : Report → Extractor → List ℕ → Step
+abbrev pub step : Report → Progress → List ℕ → Step
 step r s l = record { report = r; next = s; buffer = l }
 
 -- an unescaped byte is stored at the count held, where there is room
-unfoldable pub storeOf : ℕ → Extractor → List ℕ → ℕ → Step
+unfoldable pub storeOf : ℕ → Progress → List ℕ → ℕ → Step
 storeOf limit s l x =
     cond (ltb (s .held) (limit + 2)) (step taken (body (s .sequence) (s .held + 1)) (set l (s .held) x)) (step (refused 24) outside l)
 
 -- F1 in the body: the last two bytes held are the checksum of those before them
-unfoldable pub endOf : Extractor → List ℕ → Report
+unfoldable pub endOf : Progress → List ℕ → Report
 endOf s l =
     table
     (line 21 (ltb (s .held) 2)
@@ -36,7 +36,7 @@ endOf s l =
     ∷ [])
     refused (frame (s .sequence) (s .held - 2))
 
-abbrev pub performOf : ℕ → Extractor → List ℕ → ℕ → Action → Step
+abbrev pub performOf : ℕ → Progress → List ℕ → ℕ → Action → Step
 performOf limit s l b Skip = step skipped s l
 performOf limit s l b Begin = step taken begun l
 performOf limit s l b Restart = step (refused 20) begun l
@@ -47,9 +47,9 @@ performOf limit s l b Finish = step (endOf s l) outside l
 performOf limit s l b (Refuse r) = step (refused (numberOf r)) outside l
 
 -- a byte, in a lawful state with a buffer of the right size
-unfoldable pub advanceOf : ℕ → Extractor → List ℕ → ℕ → Step
+unfoldable pub advanceOf : ℕ → Progress → List ℕ → ℕ → Step
 advanceOf limit s l b = performOf limit s l b (actionOf (s .phase) b)
 
 -- the step of one byte, on all inputs
-abbrev pub byteStepOf : ℕ → Extractor → List ℕ → ℕ → Step
+abbrev pub byteStepOf : ℕ → Progress → List ℕ → ℕ → Step
 byteStepOf limit s l b = table (line 1 (not (ready limit s (length l))) ∷ []) (λ n. step (refused n) s l) (advanceOf limit s l b)

@@ -1,9 +1,10 @@
-// The extractor's state: where in a frame it is, and what it holds of it.
+// The extractor's state: its link's limit, where in a frame it is, and what it holds of it.
 use framing::mark::is_mark;
-use wire::MESSAGE_LIMIT;
+use wire::limit::limit_fits;
 use wire::logic::both;
 ghost use mathlib.Core.Path.{_≡_};
-ghost use Rattle.extractor.specs.State.{outside, begun, sequenceRead, lawfulBefore, lawfulAfter, lawful, ready};
+ghost use Prim.Native.Nat.{_≤_};
+ghost use Rattle.extractor.specs.State.{outside, begun, sequenceRead, lawfulBefore, lawfulAfter, lawful, ready, empty, openOf, toldOpen};
 
 // What the next byte is taken for.
 pub enum Phase {
@@ -15,20 +16,32 @@ pub enum Phase {
     Escaped,
 }
 
-pub struct Extractor {
+// Where in a frame the extractor is, and what it holds of it.
+pub struct Progress {
     pub phase: Phase,
     pub sequence: u8,
     pub held: usize,
 }
 
-// The bytes of the lent buffer: a payload and its checksum.
-pub const ROOM: usize = MESSAGE_LIMIT + 2;
+pub struct Extractor {
+    pub limit: usize,
+    pub progress: Progress,
+}
 
-impl Extractor {
+// An extractor in its empty state, or a limit that is none: refusal 17.
+pub enum Opened {
+    Empty(Extractor),
+    BadLimit,
+}
+
+// What the lent buffer has beside the limit: room for a checksum.
+pub const CHECKSUM: usize = 2;
+
+impl Progress {
     pub fn outside() -> Self
         ensures { λ r. ⌜ r ≡ outside ⌝ }
     {
-        Extractor {
+        Progress {
             phase: Phase::Outside,
             sequence: 0,
             held: 0,
@@ -39,29 +52,54 @@ impl Extractor {
     pub fn begun() -> Self
         ensures { λ r. ⌜ r ≡ begun ⌝ }
     {
-        Extractor {
+        Progress {
             phase: Phase::PacketId,
             sequence: 0,
             held: 0,
         }
     }
 
-    fn is_lawful(self) -> bool
-        ensures { λ r. ⌜ r ≡ lawful 4096 self ⌝ }
+    fn is_lawful(self, limit: usize) -> bool
+        requires { ⌜ limit ≤ 65535 ⌝ }
+        ensures { λ r. ⌜ r ≡ lawful limit self ⌝ }
     {
         let phase = self.phase;
         if sequence_read(phase) {
-            lawful_after(self.sequence, self.held)
+            lawful_after(limit, self.sequence, self.held)
         } else {
             lawful_before(self.sequence, self.held)
         }
     }
 
-    // Whether the state is lawful and a buffer of this size is the right one.
-    pub fn is_ready(self, size: usize) -> bool
-        ensures { λ r. ⌜ r ≡ ready 4096 self size ⌝ }
+    // Whether the limit is in its range, the progress lawful for it and a buffer of this size the right one.
+    pub fn is_ready(self, limit: usize, size: usize) -> bool
+        ensures { λ r. ⌜ r ≡ ready limit self size ⌝ }
     {
-        both(size == ROOM, self.is_lawful())
+        if limit_fits(limit) {
+            both(size == limit + CHECKSUM, self.is_lawful(limit))
+        } else {
+            false
+        }
+    }
+}
+
+impl Extractor {
+    pub fn outside(limit: usize) -> Self
+        ensures { λ r. ⌜ r ≡ empty limit ⌝ }
+    {
+        let progress = Progress::outside();
+        Extractor { limit, progress }
+    }
+
+    // An extractor for a link with a limit, in its empty state.
+    pub fn open(limit: usize) -> Opened
+        ensures { λ r. ⌜ toldOpen r ≡ openOf limit ⌝ }
+    {
+        if limit_fits(limit) {
+            Opened::Empty(Extractor::outside(limit))
+        } else {
+            Opened::BadLimit
+        }
     }
 }
 
@@ -85,8 +123,9 @@ fn lawful_before(sequence: u8, held: usize) -> bool
     both(sequence == 0, held == 0)
 }
 
-fn lawful_after(sequence: u8, held: usize) -> bool
-    ensures { λ r. ⌜ r ≡ lawfulAfter 4096 sequence held ⌝ }
+fn lawful_after(limit: usize, sequence: u8, held: usize) -> bool
+    requires { ⌜ limit ≤ 65535 ⌝ }
+    ensures { λ r. ⌜ r ≡ lawfulAfter limit sequence held ⌝ }
 {
-    both(!is_mark(sequence), held <= ROOM)
+    both(!is_mark(sequence), held <= limit + CHECKSUM)
 }

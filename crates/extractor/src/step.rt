@@ -5,14 +5,13 @@ use crate::outcome::Refusal;
 use crate::outcome::StepOutcome;
 use crate::state::Extractor;
 use crate::state::Phase;
-use crate::state::ROOM;
+use crate::state::Progress;
 use framing::checksum::is_checked;
 ghost use mathlib.Core.Path.{_≡_};
-ghost use Prim.Native.Nat.{_+_, _≤_};
+ghost use Prim.Native.Nat.{ℕ, _+_, _≤_};
 ghost use lib.ListN.{length};
 ghost use Rattle.extractor.specs.declared.outcome.StepOutcome.the-variants.{Refused};
 ghost use Rattle.extractor.specs.Outcome.{told};
-ghost use Rattle.extractor.specs.State.{Fits};
 ghost use Rattle.extractor.specs.Step.{step, storeOf, endOf, performOf, advanceOf, byteStepOf};
 
 pub struct Stepped {
@@ -20,28 +19,34 @@ pub struct Stepped {
     pub next: Extractor,
 }
 
-impl Extractor {
-    // Stores a byte at the count held.
-    fn store(self, buffer: &mut [u8], x: u8) -> Stepped
-        requires { ⌜ length (now buffer) ≡ 4096 + 2 ⌝ }
-        ensures { λ r. ⌜ step (told (r .outcome)) (r .next) (now (buffer .exit))
-            ≡ storeOf 4096 self (now (buffer .entry)) x ⌝ }
+// The same of the progress alone.
+pub struct Advanced {
+    pub outcome: StepOutcome,
+    pub next: Progress,
+}
+
+impl Progress {
+    // Stores a byte at the count held, where there is room. The buffer's size tells the limit.
+    fn store(self, buffer: &mut [u8], x: u8) -> Advanced
+        ensures { λ r. ⌜ ((limit : ℕ) → length (now (buffer .entry)) ≡ limit + 2
+            → step (told (r .outcome)) (r .next) (now (buffer .exit)) ≡ storeOf limit self (now (buffer .entry)) x) ⌝ }
     {
         let held = self.held;
-        if held < ROOM {
+        if held < buffer.len() {
             buffer[held] = x;
-            Stepped {
+            let count = held + 1;
+            Advanced {
                 outcome: StepOutcome::Taken,
-                next: Extractor {
+                next: Progress {
                     phase: Phase::Body,
                     sequence: self.sequence,
-                    held: held + 1,
+                    held: count,
                 },
             }
         } else {
-            Stepped {
+            Advanced {
                 outcome: StepOutcome::Refused(Refusal::TooLong),
-                next: Extractor::outside(),
+                next: Progress::outside(),
             }
         }
     }
@@ -67,62 +72,62 @@ impl Extractor {
     }
 
     // Does what the byte b asks for.
-    fn perform(self, buffer: &mut [u8], b: u8, action: Action) -> Stepped
-        requires { ⌜ Fits 4096 self (now buffer) ⌝ }
-        ensures { λ r. ⌜ step (told (r .outcome)) (r .next) (now (buffer .exit))
-            ≡ performOf 4096 self (now (buffer .entry)) b action ⌝ }
+    fn perform(self, buffer: &mut [u8], b: u8, action: Action) -> Advanced
+        requires { ⌜ self .held ≤ length (now buffer) ⌝ }
+        ensures { λ r. ⌜ ((limit : ℕ) → length (now (buffer .entry)) ≡ limit + 2
+            → step (told (r .outcome)) (r .next) (now (buffer .exit)) ≡ performOf limit self (now (buffer .entry)) b action) ⌝ }
     {
         match action {
-            Action::Skip => Stepped {
+            Action::Skip => Advanced {
                 outcome: StepOutcome::Skipped,
                 next: self,
             },
-            Action::Begin => Stepped {
+            Action::Begin => Advanced {
                 outcome: StepOutcome::Taken,
-                next: Extractor::begun(),
+                next: Progress::begun(),
             },
-            Action::Restart => refuse(Refusal::StartInside, Extractor::begun()),
-            Action::Go(phase) => Stepped {
+            Action::Restart => refuse(Refusal::StartInside, Progress::begun()),
+            Action::Go(phase) => Advanced {
                 outcome: StepOutcome::Taken,
-                next: Extractor {
+                next: Progress {
                     phase,
                     sequence: self.sequence,
                     held: self.held,
                 },
             },
-            Action::Number => Stepped {
+            Action::Number => Advanced {
                 outcome: StepOutcome::Taken,
-                next: Extractor {
+                next: Progress {
                     phase: Phase::Body,
                     sequence: b,
                     held: self.held,
                 },
             },
             Action::Store(x) => self.store(buffer, x),
-            Action::Finish => Stepped {
+            Action::Finish => Advanced {
                 outcome: self.end(buffer),
-                next: Extractor::outside(),
+                next: Progress::outside(),
             },
-            Action::Refuse(why) => refuse(why, Extractor::outside()),
+            Action::Refuse(why) => refuse(why, Progress::outside()),
         }
     }
 
-    // One byte, in a lawful state and over a buffer of the right size.
-    pub fn advance(self, buffer: &mut [u8], b: u8) -> Stepped
-        requires { ⌜ Fits 4096 self (now buffer) ⌝ }
-        ensures { λ r. ⌜ step (told (r .outcome)) (r .next) (now (buffer .exit))
-            ≡ advanceOf 4096 self (now (buffer .entry)) b ⌝ }
+    // One byte, in a lawful state and over a buffer whose size tells the limit.
+    pub fn advance(self, buffer: &mut [u8], b: u8) -> Advanced
+        requires { ⌜ self .held ≤ length (now buffer) ⌝ }
+        ensures { λ r. ⌜ ((limit : ℕ) → length (now (buffer .entry)) ≡ limit + 2
+            → step (told (r .outcome)) (r .next) (now (buffer .exit)) ≡ advanceOf limit self (now (buffer .entry)) b) ⌝ }
     {
         let phase = self.phase;
         self.perform(buffer, b, action_for(phase, b))
     }
 
-    // One byte.
-    pub fn step(self, buffer: &mut [u8], b: u8) -> Stepped
+    // One byte, for any limit and any progress.
+    fn take(self, limit: usize, buffer: &mut [u8], b: u8) -> Advanced
         ensures { λ r. ⌜ step (told (r .outcome)) (r .next) (now (buffer .exit))
-            ≡ byteStepOf 4096 self (now (buffer .entry)) b ⌝ }
+            ≡ byteStepOf limit self (now (buffer .entry)) b ⌝ }
     {
-        if self.is_ready(buffer.len()) {
+        if self.is_ready(limit, buffer.len()) {
             self.advance(buffer, b)
         } else {
             refuse(Refusal::BadStateOrBuffer, self)
@@ -130,10 +135,30 @@ impl Extractor {
     }
 }
 
-fn refuse(why: Refusal, next: Extractor) -> Stepped
+impl Extractor {
+    // One byte.
+    pub fn step(self, buffer: &mut [u8], b: u8) -> Stepped
+        ensures { λ r. ⌜ (step (told (r .outcome)) (r .next .progress) (now (buffer .exit))
+            ≡ byteStepOf (self .limit) (self .progress) (now (buffer .entry)) b) × (r .next .limit ≡ self .limit) ⌝ }
+    {
+        let progress = self.progress;
+        let done = progress.take(self.limit, buffer, b);
+        let outcome = done.outcome;
+        let progress = done.next;
+        Stepped {
+            outcome,
+            next: Extractor {
+                limit: self.limit,
+                progress,
+            },
+        }
+    }
+}
+
+fn refuse(why: Refusal, next: Progress) -> Advanced
     ensures { λ r. ⌜ r ≡ record { outcome = Refused why; next = next } ⌝ }
 {
-    Stepped {
+    Advanced {
         outcome: StepOutcome::Refused(why),
         next,
     }

@@ -6,7 +6,7 @@ use mathlib.Core.Bool.{true, false≢true}
 use Rattle.framing.specs.declared.mark.Kind.the-variants.{Start, End}
 use Rattle.framing.specs.Mark.{startMark, endMark}
 use Rattle.framing.proofs.Marks.{start-kind, end-kind}
-use Rattle.extractor.specs.declared.state.Extractor.{Extractor}
+use Rattle.extractor.specs.declared.state.Progress.{Progress}
 use Rattle.extractor.specs.declared.state.Phase.{Phase}
 use Rattle.extractor.specs.declared.state.Phase.the-variants.{Outside, PacketId, ErrorId, Sequence, Body, Escaped}
 use Rattle.extractor.specs.Action.{actionBy}
@@ -15,7 +15,7 @@ use Rattle.extractor.specs.Step.{step, endOf, performOf, advanceOf}
 use Rattle.feed.specs.FastPath.{startReport, isBody}
 
 -- F0 in any phase, and F1 in the body
-pub start-advance : (limit : ℕ) (s : Extractor) (l : List ℕ) → step (startReport (s .phase)) begun l ≡ advanceOf limit s l startMark
+pub start-advance : (limit : ℕ) (s : Progress) (l : List ℕ) → step (startReport (s .phase)) begun l ≡ advanceOf limit s l startMark
 unfolding advanceOf
 start-advance limit s l = rw start-kind (go (s .phase))
   where
@@ -27,7 +27,7 @@ start-advance limit s l = rw start-kind (go (s .phase))
     go Body = refl
     go Escaped = refl
 
-pub end-advance : (limit : ℕ) (s : Extractor) (l : List ℕ) → isBody (s .phase) ≡ true → step (endOf s l) outside l ≡ advanceOf limit s l endMark
+pub end-advance : (limit : ℕ) (s : Progress) (l : List ℕ) → isBody (s .phase) ≡ true → step (endOf s l) outside l ≡ advanceOf limit s l endMark
 unfolding advanceOf
 end-advance limit s l e = rw end-kind (go (s .phase) e)
   where

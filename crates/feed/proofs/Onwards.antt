@@ -18,7 +18,7 @@ use Rattle.framing.specs.declared.mark.Kind.the-variants.{Start, End, Escape, P
 use Rattle.framing.specs.Mark.{startMark, endMark, escapeMark, kindOf, isMark}
 use Rattle.framing.specs.Frame.{packetId, errorId, startCode, endCode, escapeCode}
 use Rattle.framing.proofs.Marks.{clear-plain, unmarked-plain, start-kind, escape-kind, packet-kind, error-kind}
-use Rattle.extractor.specs.declared.state.Extractor.{Extractor}
+use Rattle.extractor.specs.declared.state.Progress.{Progress}
 use Rattle.extractor.specs.declared.state.Phase.{Phase}
 use Rattle.extractor.specs.declared.state.Phase.the-variants.{Outside, Body, Escaped}
 use Rattle.extractor.specs.declared.action.Action.the-variants.{Store}
@@ -33,15 +33,15 @@ use Rattle.feed.proofs.Loop.{Running}
 -- ---- bytes that are passed
 
 module _ {limit : ℕ} {bytes : List ℕ} where
-  pub onward-here : {s : Extractor} {l : List ℕ} {i : ℕ} → Fits limit s l → i ≤ length bytes → Onward limit bytes s l i s l i
+  pub onward-here : {s : Progress} {l : List ℕ} {i : ℕ} → Fits limit s l → i ≤ length bytes → Onward limit bytes s l i s l i
   onward-here fits h = record { from = omega arith; within = h; fits = fits; rest = refl }
 
-  pub onward-then : {s₀ : Extractor} {l₀ : List ℕ} {i₀ : ℕ} {s₁ : Extractor} {l₁ : List ℕ} {i₁ : ℕ} {s₂ : Extractor} {l₂ : List ℕ} {i₂ : ℕ}
+  pub onward-then : {s₀ : Progress} {l₀ : List ℕ} {i₀ : ℕ} {s₁ : Progress} {l₁ : List ℕ} {i₁ : ℕ} {s₂ : Progress} {l₂ : List ℕ} {i₂ : ℕ}
       → Onward limit bytes s₀ l₀ i₀ s₁ l₁ i₁ → Onward limit bytes s₁ l₁ i₁ s₂ l₂ i₂ → Onward limit bytes s₀ l₀ i₀ s₂ l₂ i₂
   onward-then x y = record { from = omega (arith, x .from, y .from); within = y .within; fits = y .fits; rest = y .rest ∙ x .rest }
 
   -- passing bytes keeps what holds at the test of the loop over many bytes
-  pub running-on : {l₀ : List ℕ} {s₀ : Extractor} {l : List ℕ} {s : Extractor} {i : ℕ} {l′ : List ℕ} {s′ next : Extractor} {j : ℕ}
+  pub running-on : {l₀ : List ℕ} {s₀ : Progress} {l : List ℕ} {s : Progress} {i : ℕ} {l′ : List ℕ} {s′ next : Progress} {j : ℕ}
       → Running limit bytes l₀ s₀ l s i → Onward limit bytes s l i s′ l′ j → length l′ ≡ length l → next ≡ s′ → Running limit bytes l₀ s₀ l′ next j
   running-on inv on kept moved = rw moved (record { within = on .within; fits = on .fits; same = kept ∙ inv .same; rest = on .rest ∙ inv .rest })
 
@@ -56,7 +56,7 @@ not-start x q e = go (eqb x endMark) (eqb x escapeMark) (rw q at e)
     go false true e = let z : _≡_ {A = ℕ} 0 1 = cc in omega (arith, z)
     go false false e = let z : _≡_ {A = ℕ} 0 1 = cc in omega (arith, z)
 
-outside-one : (limit n : ℕ) (s : Extractor) (l : List ℕ) (x : ℕ) (xs : List ℕ) → s .phase ≡ Outside → eqb x startMark ≡ false
+outside-one : (limit n : ℕ) (s : Progress) (l : List ℕ) (x : ℕ) (xs : List ℕ) → s .phase ≡ Outside → eqb x startMark ≡ false
     → feedFrom limit n s l (x ∷ xs) ≡ feedFrom limit (n + 1) s l xs
 unfolding feedFrom advanceOf
 outside-one limit n s l x xs p q = go (kindOf x) refl
@@ -67,7 +67,7 @@ outside-one limit n s l x xs p q = go (kindOf x) refl
     go Escape e = rw (p, e)
     go Plain e = rw (p, e)
 
-outside-run : (limit n : ℕ) (s : Extractor) (l xs ys : List ℕ) → s .phase ≡ Outside → anyInRange startMark startMark xs ≡ false
+outside-run : (limit n : ℕ) (s : Progress) (l xs ys : List ℕ) → s .phase ≡ Outside → anyInRange startMark startMark xs ≡ false
     → feedFrom limit n s l (xs ++ ys) ≡ feedFrom limit (n + length xs) s l ys
 outside-run limit n s l [] ys p e = rw add-zero
 outside-run limit n s l (x ∷ xs) ys p e =
@@ -75,7 +75,7 @@ outside-run limit n s l (x ∷ xs) ys p e =
     outside-one limit n s l x (xs ++ ys) p (out-of-range startMark startMark startMark x (k .0) (lit≤ tt) (lit≤ tt))
     ∙ outside-run limit (n + 1) s l xs ys p (k .1) ∙ rw (add-one, suc-add, add-suc)
 
-pub onward-outside : {limit : ℕ} {s : Extractor} {l : List ℕ} (bytes : List ℕ) (i e k : ℕ) → Fits limit s l → s .phase ≡ Outside → i ≤ e → e ≤ length bytes
+pub onward-outside : {limit : ℕ} {s : Progress} {l : List ℕ} (bytes : List ℕ) (i e k : ℕ) → Fits limit s l → s .phase ≡ Outside → i ≤ e → e ≤ length bytes
     → Clear startMark startMark (take (e - i) (drop i bytes)) k → Onward limit bytes s l i s l (i + k)
 onward-outside {limit} {s} {l} bytes i e k fits p h w clear =
     record {
@@ -90,21 +90,21 @@ onward-outside {limit} {s} {l} bytes i e k fits p h w clear =
 
 -- ---- plain bytes of a body
 
-as-body : (s : Extractor) → s .phase ≡ Body → s ≡ body (s .sequence) (s .held)
+as-body : (s : Progress) → s .phase ≡ Body → s ≡ body (s .sequence) (s .held)
 as-body s p = ap (λ (q : Phase). record { phase = q; sequence = s .sequence; held = s .held }) p
 
 -- nothing is passed, and the state made by its fields
-pub onward-body : {limit : ℕ} {s : Extractor} {l : List ℕ} (bytes : List ℕ) {i : ℕ} → Fits limit s l → s .phase ≡ Body → i ≤ length bytes
+pub onward-body : {limit : ℕ} {s : Progress} {l : List ℕ} (bytes : List ℕ) {i : ℕ} → Fits limit s l → s .phase ≡ Body → i ≤ length bytes
     → Onward limit bytes s l i (body (s .sequence) (s .held)) l i
 onward-body {limit} {s} {l} bytes {i} fits p h =
     record {
       from = omega arith;
       within = h;
       fits = record { room = fits .room; size = fits .size };
-      rest = ap (λ (z : Extractor). feedFrom limit i z l (drop i bytes)) (sym (as-body s p));
+      rest = ap (λ (z : Progress). feedFrom limit i z l (drop i bytes)) (sym (as-body s p));
     }
 
-store-fits : (limit : ℕ) (s : Extractor) (l : List ℕ) (x : ℕ) → s .held < limit + 2
+store-fits : (limit : ℕ) (s : Progress) (l : List ℕ) (x : ℕ) → s .held < limit + 2
     → storeOf limit s l x ≡ step taken (body (s .sequence) (s .held + 1)) (set l (s .held) x)
 unfolding storeOf
 store-fits limit s l x f = rw (lt-ltb (s .held) (limit + 2) f)
@@ -122,7 +122,7 @@ plain-run limit n q h l (x ∷ xs) ys e f =
     plain-one limit n q h l x (xs ++ ys) (clear-plain x (k .0)) (omega arith)
     ∙ plain-run limit (n + 1) q (h + 1) (set l h x) xs ys (k .1) (omega arith) ∙ simp (add-one, suc-add, add-suc)
 
-pub onward-plain : {limit : ℕ} {s : Extractor} {l after : List ℕ} (bytes : List ℕ) (i e k : ℕ) → Fits limit s l → s .phase ≡ Body → i ≤ e → e ≤ length bytes
+pub onward-plain : {limit : ℕ} {s : Progress} {l after : List ℕ} (bytes : List ℕ) (i e k : ℕ) → Fits limit s l → s .phase ≡ Body → i ≤ e → e ≤ length bytes
     → s .held + (e - i) ≤ limit + 2 → Copied startMark escapeMark (take (e - i) (drop i bytes)) (s .held) l k after
     → Onward limit bytes s l i (body (s .sequence) (s .held + k)) after (i + k)
 onward-plain {limit} {s} {l} bytes i e k fits p h w room copied =
@@ -167,7 +167,7 @@ drop-two l i h =
     let two : i + 2 ≡ suc (suc i) = omega arith in
     rw (one, two, drop-cons l i 0 (omega arith), drop-cons l (suc i) 0 (omega arith))
 
-pub onward-pair : {limit : ℕ} {s : Extractor} {l : List ℕ} (bytes : List ℕ) (i x : ℕ) → Fits limit s l → s .phase ≡ Body → i ≤ length bytes
+pub onward-pair : {limit : ℕ} {s : Progress} {l : List ℕ} (bytes : List ℕ) (i x : ℕ) → Fits limit s l → s .phase ≡ Body → i ≤ length bytes
     → x ≡ markAt bytes i → (x ≡ 0 → ⊥) → s .held < limit + 2
     → Onward limit bytes s l i (body (s .sequence) (s .held + 1)) (set l (s .held) x) (i + 2)
 onward-pair {limit} {s} {l} bytes i x fits p w e nz f = go (ltb (length bytes - i) 2) refl
@@ -188,7 +188,7 @@ onward-pair {limit} {s} {l} bytes i x fits p w e nz f = go (ltb (length bytes - 
 
 -- ---- a header
 
-header-four : (limit n : ℕ) (s : Extractor) (l : List ℕ) (a b c d : ℕ) (ys : List ℕ) → s .phase ≡ Outside → isHeader a b c d ≡ true
+header-four : (limit n : ℕ) (s : Progress) (l : List ℕ) (a b c d : ℕ) (ys : List ℕ) → s .phase ≡ Outside → isHeader a b c d ≡ true
     → feedFrom limit n s l (a ∷ b ∷ c ∷ d ∷ ys) ≡ feedFrom limit (n + 4) (body d 0) l ys
 unfolding feedFrom advanceOf
 header-four limit n s l a b c d ys p e =
@@ -224,7 +224,7 @@ header-whole bytes i w e = go (ltb (length bytes - i) 4) refl e
     go true t g = absurd (false≢true g)
     go false t g = (omega (arith, ltb-false (length bytes - i) 4 t), g)
 
-pub onward-header : {limit : ℕ} {s : Extractor} {l : List ℕ} (bytes : List ℕ) (i : ℕ) → Fits limit s l → s .phase ≡ Outside → i ≤ length bytes
+pub onward-header : {limit : ℕ} {s : Progress} {l : List ℕ} (bytes : List ℕ) (i : ℕ) → Fits limit s l → s .phase ≡ Outside → i ≤ length bytes
     → headerAt bytes i ≡ true → Onward limit bytes s l i (body (getD bytes (i + 3) 0) 0) l (i + 4)
 onward-header {limit} {s} {l} bytes i fits p w e =
     let k = header-whole bytes i w e in

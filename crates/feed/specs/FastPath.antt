@@ -9,7 +9,7 @@ use Rattle.framing.specs.Mark.{startMark, endMark, escapeMark, isMark}
 use Rattle.framing.specs.Frame.{packetId, errorId, startCode, endCode, escapeCode}
 use Rattle.extractor.specs.declared.state.Phase.{Phase}
 use Rattle.extractor.specs.declared.state.Phase.the-variants.{Outside, PacketId, ErrorId, Sequence, Body, Escaped}
-use Rattle.extractor.specs.declared.state.Extractor.{Extractor}
+use Rattle.extractor.specs.declared.state.Progress.{Progress}
 use Rattle.extractor.specs.Outcome.{Report, taken, refused}
 use Rattle.extractor.specs.State.{Fits}
 use Rattle.feed.specs.Feed.{feedFrom}
@@ -51,7 +51,7 @@ headerAt l i =
     cond (ltb (length l - i) 4) false (isHeader (getD l i 0) (getD l (i + 1) 0) (getD l (i + 2) 0) (getD l (i + 3) 0))
 
 -- passing bytes i to j loses nothing: what is left of the bytes gives what was left before
-pub record Onward (limit : ℕ) (bytes : List ℕ) (s : Extractor) (l : List ℕ) (i : ℕ) (s′ : Extractor) (l′ : List ℕ) (j : ℕ) : Type 0 where
+pub record Onward (limit : ℕ) (bytes : List ℕ) (s : Progress) (l : List ℕ) (i : ℕ) (s′ : Progress) (l′ : List ℕ) (j : ℕ) : Type 0 where
   pub from : i ≤ j
   pub within : j ≤ length bytes
   pub fits : Fits limit s′ l′

@@ -4,7 +4,7 @@ use mathlib.Core.List.{List, [], _∷_}
 use mathlib.Core.Bool.{Bool, true, false, cond, not}
 use lib.ListN.{length}
 use Rattle.wire.specs.Told.{line, table}
-use Rattle.extractor.specs.declared.state.Extractor.{Extractor}
+use Rattle.extractor.specs.declared.state.Progress.{Progress}
 use Rattle.extractor.specs.Outcome.{Report, skipped, taken, allUsed, frame, refused, numberOf}
 use Rattle.extractor.specs.State.{ready}
 use Rattle.extractor.specs.Step.{advanceOf}
@@ -21,10 +21,10 @@ toldFeed (Refused r) = refused (numberOf r)
 pub record Feed : Type 0 where
   pub report : Report
   pub used : ℕ
-  pub next : Extractor
+  pub next : Progress
   pub buffer : List ℕ
 
-abbrev pub fed : Report → ℕ → Extractor → List ℕ → Feed
+abbrev pub fed : Report → ℕ → Progress → List ℕ → Feed
 fed r n s l = record { report = r; used = n; next = s; buffer = l }
 
 -- a frame or a refusal decides
@@ -43,12 +43,12 @@ feedReport (frame sequence n) = frame sequence n
 feedReport (refused n) = refused n
 
 -- the bytes after the first n, up to the first that decides
-unfoldable pub feedFrom : ℕ → ℕ → Extractor → List ℕ → List ℕ → Feed
+unfoldable pub feedFrom : ℕ → ℕ → Progress → List ℕ → List ℕ → Feed
 feedFrom limit n s l [] = fed allUsed n s l
 feedFrom limit n s l (b ∷ bs) =
     let r = advanceOf limit s l b in
     cond (decides (r .report)) (fed (feedReport (r .report)) (n + 1) (r .next) (r .buffer)) (feedFrom limit (n + 1) (r .next) (r .buffer) bs)
 
 -- the call for many bytes, on all inputs
-abbrev pub feedOf : ℕ → Extractor → List ℕ → List ℕ → Feed
+abbrev pub feedOf : ℕ → Progress → List ℕ → List ℕ → Feed
 feedOf limit s l bytes = table (line 1 (not (ready limit s (length l))) ∷ []) (λ n. fed (refused n) 0 s l) (feedFrom limit 0 s l bytes)

@@ -1,10 +1,10 @@
 // The fast path over many bytes: what passes bytes at once promises only that nothing is lost by it.
 use extractor::outcome::Refusal;
 use extractor::outcome::StepOutcome;
-use extractor::state::Extractor;
+use extractor::state::CHECKSUM;
 use extractor::state::Phase;
-use extractor::state::ROOM;
-use extractor::step::Stepped;
+use extractor::state::Progress;
+use extractor::step::Advanced;
 use framing::header::ERROR_ID;
 use framing::header::PACKET_ID;
 use framing::mark::END_CODE;
@@ -30,44 +30,45 @@ ghost use Rattle.feed.specs.FastPath.{markOf, markAt, startReport, isBod
 
 // The state, and the place of the first byte that was not passed.
 pub struct Passed {
-    pub next: Extractor,
+    pub next: Progress,
     pub at: usize,
 }
 
 // Passes bytes that need no step of their own.
-pub fn pass(state: Extractor, buffer: &mut [u8], bytes: &[u8], i: usize) -> Passed
-    requires { ⌜ Fits 4096 state (now buffer) ⌝ }
+pub fn pass(state: Progress, limit: usize, buffer: &mut [u8], bytes: &[u8], i: usize) -> Passed
+    requires { ⌜ Fits limit state (now buffer) ⌝ }
     requires { ⌜ i ≤ length (now bytes) ⌝ }
-    ensures { λ r. ⌜ Onward 4096 (now (bytes .entry)) state (now (buffer .entry)) i
+    ensures { λ r. ⌜ Onward limit (now (bytes .entry)) state (now (buffer .entry)) i
         (r .next) (now (buffer .exit)) (r .at) ⌝ }
 {
     let phase = state.phase;
     match phase {
-        Phase::Outside => find_frame(state, buffer, bytes, i),
+        Phase::Outside => find_frame(state, limit, buffer, bytes, i),
         Phase::PacketId => Passed { next: state, at: i },
         Phase::ErrorId => Passed { next: state, at: i },
         Phase::Sequence => Passed { next: state, at: i },
-        Phase::Body => take_body(state, buffer, bytes, i),
+        Phase::Body => take_body(state, limit, buffer, bytes, i),
         Phase::Escaped => Passed { next: state, at: i },
     }
 }
 
 // Passes the bytes up to a start mark and, where a whole header stands there, the header and the body.
-fn find_frame(state: Extractor, buffer: &mut [u8], bytes: &[u8], i: usize) -> Passed
-    requires { ⌜ Fits 4096 state (now buffer) ⌝ }
+fn find_frame(state: Progress, limit: usize, buffer: &mut [u8], bytes: &[u8], i: usize) -> Passed
+    requires { ⌜ Fits limit state (now buffer) ⌝ }
     requires { ⌜ i ≤ length (now bytes) ⌝ }
     requires { ⌜ state .phase ≡ Outside ⌝ }
-    ensures { λ r. ⌜ Onward 4096 (now (bytes .entry)) state (now (buffer .entry)) i
+    ensures { λ r. ⌜ Onward limit (now (bytes .entry)) state (now (buffer .entry)) i
         (r .next) (now (buffer .exit)) (r .at) ⌝ }
 {
     let at = i + before_start(&bytes[i..]);
     if header_at(bytes, at) {
-        let body = Extractor {
+        let sequence = bytes[at + 3];
+        let body = Progress {
             phase: Phase::Body,
-            sequence: bytes[at + 3],
+            sequence,
             held: 0,
         };
-        take_body(body, buffer, bytes, at + 4)
+        take_body(body, limit, buffer, bytes, at + 4)
     } else {
         Passed { next: state, at }
     }
@@ -84,20 +85,20 @@ fn before_start(run: &[u8]) -> usize
 }
 
 // Stores the bytes of a body from i on, plain and escaped ones, up to what wants a step of its own.
-fn take_body(state: Extractor, buffer: &mut [u8], bytes: &[u8], i: usize) -> Passed
-    requires { ⌜ Fits 4096 state (now buffer) ⌝ }
+fn take_body(state: Progress, limit: usize, buffer: &mut [u8], bytes: &[u8], i: usize) -> Passed
+    requires { ⌜ Fits limit state (now buffer) ⌝ }
     requires { ⌜ i ≤ length (now bytes) ⌝ }
     requires { ⌜ state .phase ≡ Body ⌝ }
-    ensures { λ r. ⌜ Onward 4096 (now (bytes .entry)) state (now (buffer .entry)) i
+    ensures { λ r. ⌜ Onward limit (now (bytes .entry)) state (now (buffer .entry)) i
         (r .next) (now (buffer .exit)) (r .at) ⌝ }
 {
     let mut here = state;
     let mut at = i;
     loop {
-        let run = take_run(here, buffer, bytes, at);
+        let run = take_run(here, limit, buffer, bytes, at);
         let end = run.at;
         let after = run.next;
-        let pair = take_pair(after, buffer, bytes, end);
+        let pair = take_pair(after, limit, buffer, bytes, end);
         at = pair.at;
         here = pair.next;
         if at == end {
@@ -107,17 +108,17 @@ fn take_body(state: Extractor, buffer: &mut [u8], bytes: &[u8], i: usize) -> Pas
 }
 
 // Stores the plain bytes from i on, of which there are none where another escape mark follows.
-fn take_run(state: Extractor, buffer: &mut [u8], bytes: &[u8], i: usize) -> Passed
-    requires { ⌜ Fits 4096 state (now buffer) ⌝ }
+fn take_run(state: Progress, limit: usize, buffer: &mut [u8], bytes: &[u8], i: usize) -> Passed
+    requires { ⌜ Fits limit state (now buffer) ⌝ }
     requires { ⌜ i ≤ length (now bytes) ⌝ }
     requires { ⌜ state .phase ≡ Body ⌝ }
-    ensures { λ r. ⌜ (Onward 4096 (now (bytes .entry)) state (now (buffer .entry)) i
+    ensures { λ r. ⌜ (Onward limit (now (bytes .entry)) state (now (buffer .entry)) i
         (r .next) (now (buffer .exit)) (r .at))
         × (r .next .phase ≡ Body) ⌝ }
 {
     if byte_at(bytes, i) == Mark::ESCAPE {
         return Passed {
-            next: Extractor {
+            next: Progress {
                 phase: Phase::Body,
                 sequence: state.sequence,
                 held: state.held,
@@ -125,37 +126,40 @@ fn take_run(state: Extractor, buffer: &mut [u8], bytes: &[u8], i: usize) -> Pass
             at: i,
         };
     }
-    take_plain(state, buffer, bytes, i)
+    take_plain(state, limit, buffer, bytes, i)
 }
 
 // Stores the plain bytes from i on for which there is room, in the body.
-fn take_plain(state: Extractor, buffer: &mut [u8], bytes: &[u8], i: usize) -> Passed
-    requires { ⌜ Fits 4096 state (now buffer) ⌝ }
+fn take_plain(state: Progress, limit: usize, buffer: &mut [u8], bytes: &[u8], i: usize) -> Passed
+    requires { ⌜ Fits limit state (now buffer) ⌝ }
     requires { ⌜ i ≤ length (now bytes) ⌝ }
     requires { ⌜ state .phase ≡ Body ⌝ }
-    ensures { λ r. ⌜ (Onward 4096 (now (bytes .entry)) state (now (buffer .entry)) i
+    ensures { λ r. ⌜ (Onward limit (now (bytes .entry)) state (now (buffer .entry)) i
         (r .next) (now (buffer .exit)) (r .at))
         × (r .next .phase ≡ Body) ⌝ }
 {
     let held = state.held;
-    let end = i + smaller(bytes.len() - i, ROOM - held);
+    let room = limit + CHECKSUM;
+    let end = i + smaller(bytes.len() - i, room - held);
     let n = copy_clear(buffer, held, &bytes[i..end], Mark::START, Mark::ESCAPE);
+    let count = held + n;
+    let after = i + n;
     Passed {
-        next: Extractor {
+        next: Progress {
             phase: Phase::Body,
             sequence: state.sequence,
-            held: held + n,
+            held: count,
         },
-        at: i + n,
+        at: after,
     }
 }
 
 // Stores the mark that an escape mark and its code at i stand for, where both are there and there is room.
-fn take_pair(state: Extractor, buffer: &mut [u8], bytes: &[u8], i: usize) -> Passed
-    requires { ⌜ Fits 4096 state (now buffer) ⌝ }
+fn take_pair(state: Progress, limit: usize, buffer: &mut [u8], bytes: &[u8], i: usize) -> Passed
+    requires { ⌜ Fits limit state (now buffer) ⌝ }
     requires { ⌜ i ≤ length (now bytes) ⌝ }
     requires { ⌜ state .phase ≡ Body ⌝ }
-    ensures { λ r. ⌜ (Onward 4096 (now (bytes .entry)) state (now (buffer .entry)) i
+    ensures { λ r. ⌜ (Onward limit (now (bytes .entry)) state (now (buffer .entry)) i
         (r .next) (now (buffer .exit)) (r .at))
         × (r .next .phase ≡ Body) ⌝ }
 {
@@ -164,15 +168,18 @@ fn take_pair(state: Extractor, buffer: &mut [u8], bytes: &[u8], i: usize) -> Pas
     if mark == 0 {
         return Passed { next: state, at: i };
     }
-    if held < ROOM {
+    let room = limit + CHECKSUM;
+    if held < room {
         buffer[held] = mark;
+        let count = held + 1;
+        let after = i + 2;
         Passed {
-            next: Extractor {
+            next: Progress {
                 phase: Phase::Body,
                 sequence: state.sequence,
-                held: held + 1,
+                held: count,
             },
-            at: i + 2,
+            at: after,
         }
     } else {
         Passed { next: state, at: i }
@@ -257,22 +264,22 @@ fn is_body(phase: Phase) -> bool
 }
 
 // One byte of many. A start mark, and an end mark in the body, decide most calls and are taken here.
-pub fn fast_step(state: Extractor, buffer: &mut [u8], b: u8) -> Stepped
-    requires { ⌜ Fits 4096 state (now buffer) ⌝ }
+pub fn fast_step(state: Progress, limit: usize, buffer: &mut [u8], b: u8) -> Advanced
+    requires { ⌜ Fits limit state (now buffer) ⌝ }
     ensures { λ r. ⌜ step (told (r .outcome)) (r .next) (now (buffer .exit))
-        ≡ advanceOf 4096 state (now (buffer .entry)) b ⌝ }
+        ≡ advanceOf limit state (now (buffer .entry)) b ⌝ }
 {
     let phase = state.phase;
     if b == Mark::START {
-        return Stepped {
+        return Advanced {
             outcome: at_start(phase),
-            next: Extractor::begun(),
+            next: Progress::begun(),
         };
     }
     if both(b == Mark::END, is_body(phase)) {
-        return Stepped {
+        return Advanced {
             outcome: state.end(buffer),
-            next: Extractor::outside(),
+            next: Progress::outside(),
         };
     }
     state.advance(buffer, b)

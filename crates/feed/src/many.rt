@@ -4,6 +4,7 @@ use crate::fast_path::pass;
 use extractor::outcome::Refusal;
 use extractor::outcome::StepOutcome;
 use extractor::state::Extractor;
+use extractor::state::Progress;
 ghost use mathlib.Core.Path.{_≡_};
 ghost use Rattle.extractor.specs.Outcome.{told};
 ghost use Rattle.extractor.specs.State.{Fits};
@@ -22,11 +23,11 @@ pub struct Fed {
 }
 
 // The same state made by its fields: one moved whole takes its padding along, through memory.
-fn rebuilt(state: Extractor) -> Extractor
+fn rebuilt(state: Progress) -> Progress
     ensures { λ r. ⌜ r ≡ state ⌝ }
 {
     let phase = state.phase;
-    Extractor {
+    Progress {
         phase,
         sequence: state.sequence,
         held: state.held,
@@ -60,15 +61,15 @@ fn feed_outcome(outcome: StepOutcome) -> FeedOutcome
 }
 
 // The bytes one after another, in a lawful state and over a buffer of the right size.
-fn run(start: Extractor, buffer: &mut [u8], bytes: &[u8]) -> Fed
-    requires { ⌜ Fits 4096 start (now buffer) ⌝ }
-    ensures { λ r. ⌜ fed (toldFeed (r .outcome)) (r .used) (r .next) (now (buffer .exit))
-        ≡ feedFrom 4096 0 start (now (buffer .entry)) (now (bytes .entry)) ⌝ }
+fn run(start: Progress, limit: usize, buffer: &mut [u8], bytes: &[u8]) -> Fed
+    requires { ⌜ Fits limit start (now buffer) ⌝ }
+    ensures { λ r. ⌜ (fed (toldFeed (r .outcome)) (r .used) (r .next .progress) (now (buffer .exit))
+        ≡ feedFrom limit 0 start (now (buffer .entry)) (now (bytes .entry))) × (r .next .limit ≡ limit) ⌝ }
 {
     let mut state = start;
     let mut i = 0;
     loop {
-        let passed = pass(state, buffer, bytes, i);
+        let passed = pass(state, limit, buffer, bytes, i);
         i = passed.at;
         let there = passed.next;
         state = rebuilt(there);
@@ -76,10 +77,13 @@ fn run(start: Extractor, buffer: &mut [u8], bytes: &[u8]) -> Fed
             return Fed {
                 outcome: FeedOutcome::AllUsed,
                 used: i,
-                next: state,
+                next: Extractor {
+                    limit,
+                    progress: state,
+                },
             };
         }
-        let done = fast_step(state, buffer, bytes[i]);
+        let done = fast_step(state, limit, buffer, bytes[i]);
         i += 1;
         let then = done.next;
         state = rebuilt(then);
@@ -88,7 +92,10 @@ fn run(start: Extractor, buffer: &mut [u8], bytes: &[u8]) -> Fed
             return Fed {
                 outcome: feed_outcome(outcome),
                 used: i,
-                next: state,
+                next: Extractor {
+                    limit,
+                    progress: state,
+                },
             };
         }
     }
@@ -96,11 +103,13 @@ fn run(start: Extractor, buffer: &mut [u8], bytes: &[u8]) -> Fed
 
 // Many bytes, up to the first frame or refusal.
 pub fn feed(state: Extractor, buffer: &mut [u8], bytes: &[u8]) -> Fed
-    ensures { λ r. ⌜ fed (toldFeed (r .outcome)) (r .used) (r .next) (now (buffer .exit))
-        ≡ feedOf 4096 state (now (buffer .entry)) (now (bytes .entry)) ⌝ }
+    ensures { λ r. ⌜ (fed (toldFeed (r .outcome)) (r .used) (r .next .progress) (now (buffer .exit))
+        ≡ feedOf (state .limit) (state .progress) (now (buffer .entry)) (now (bytes .entry))) × (r .next .limit ≡ state .limit) ⌝ }
 {
-    if state.is_ready(buffer.len()) {
-        run(state, buffer, bytes)
+    let progress = state.progress;
+    let limit = state.limit;
+    if progress.is_ready(limit, buffer.len()) {
+        run(progress, limit, buffer, bytes)
     } else {
         Fed {
             outcome: FeedOutcome::Refused(Refusal::BadStateOrBuffer),

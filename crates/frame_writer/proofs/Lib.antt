@@ -1,1 +1,2 @@
 pub mod Escaping
+pub mod Sending

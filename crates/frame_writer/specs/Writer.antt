@@ -2,19 +2,21 @@
 use Prim.Native.Nat.{ℕ, _+_, _≤_}
 use mathlib.Core.Path.{_≡_}
 use mathlib.Core.List.{List, [], _∷_}
-use mathlib.Core.Bool.{_||_}
+use mathlib.Core.Bool.{not, _||_}
 use lib.ListN.{length, drop}
 use lib.Seq.{sets}
 use lib.Dec.{ltb}
 use Rattle.wire.specs.Told.{Told, given, refused, line, Written, writes}
+use Rattle.wire.specs.Limit.{limitFits}
 use Rattle.framing.specs.Mark.{isMark}
 use Rattle.framing.specs.Frame.{escapedOf, frameOf}
 use Rattle.frame_writer.specs.declared.writer.Refusal.{Refusal}
-use Rattle.frame_writer.specs.declared.writer.Refusal.the-variants.{BadArgument, NoRoom}
+use Rattle.frame_writer.specs.declared.writer.Refusal.the-variants.{BadLimit, BadArgument, NoRoom}
 use Rattle.frame_writer.specs.declared.writer.WriteOutcome.{WriteOutcome}
 use Rattle.frame_writer.specs.declared.writer.WriteOutcome.the-variants.{Frame, Refused}
 
 abbrev pub numberOf : Refusal → ℕ
+numberOf BadLimit = 17
 numberOf BadArgument = 15
 numberOf NoRoom = 14
 
@@ -27,7 +29,8 @@ told (Refused r) = refused (numberOf r)
 abbrev pub writeOf : ℕ → ℕ → List ℕ → List ℕ → Written ℕ
 writeOf limit sequence payload out =
     writes
-    (line 15 (isMark sequence || ltb limit (length payload))
+    (line 17 (not (limitFits limit))
+    ∷ line 15 (isMark sequence || ltb limit (length payload))
     ∷ line 14 (ltb (length out) (length (frameOf sequence payload)))
     ∷ [])
     (length (frameOf sequence payload)) out (sets out 0 (frameOf sequence payload))

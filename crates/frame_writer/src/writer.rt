@@ -9,21 +9,24 @@ use framing::mark::Mark;
 use framing::mark::START_CODE;
 use framing::mark::is_mark;
 use framing::mark::kind_of;
-use wire::MESSAGE_LIMIT;
+use wire::limit::limit_fits;
 use wire::scan::copy_clear;
 ghost use mathlib.Core.Path.{_≡_};
+ghost use mathlib.Core.Bool.{true};
 ghost use mathlib.Core.List.{[], _∷_, _++_};
 ghost use Prim.Native.Nat.{_+_, _-_, _≤_, _<_};
 ghost use lib.ListN.{length, drop};
 ghost use lib.Dec.{leb};
 ghost use lib.Seq.{sets};
 ghost use Rattle.wire.specs.Told.{written};
+ghost use Rattle.wire.specs.Limit.{limitFits};
 ghost use Rattle.framing.specs.Mark.{escapeMark, kindOf};
 ghost use Rattle.framing.specs.Frame.{escapedBy, escapedOf, headerOf, framed};
 ghost use Rattle.frame_writer.specs.Writer.{numberOf, told, writeOf, Left};
 
-// Refusals 15 and 14.
+// Refusals 17, 15 and 14.
 pub enum Refusal {
+    BadLimit,
     BadArgument,
     NoRoom,
 }
@@ -33,6 +36,7 @@ impl Refusal {
         ensures { λ r. ⌜ r ≡ numberOf self ⌝ }
     {
         match self {
+            Refusal::BadLimit => 17,
             Refusal::BadArgument => 15,
             Refusal::NoRoom => 14,
         }
@@ -172,15 +176,16 @@ fn has_room(sequence: u8, payload: &[u8], high: u8, low: u8, room: usize) -> boo
     5 + escaped_size(payload) + width(high) + width(low) <= room
 }
 
-// Writes the frame of a payload.
-pub fn write_frame(sequence: u8, payload: &[u8], out: &mut [u8]) -> WriteOutcome
+// Writes the frame of a payload, for a link with a limit in its range.
+fn write_within(sequence: u8, limit: usize, payload: &[u8], out: &mut [u8]) -> WriteOutcome
+    requires { ⌜ limitFits limit ≡ true ⌝ }
     ensures { λ r. ⌜ written (told r) (now (out .exit))
-        ≡ writeOf 4096 sequence (now (payload .entry)) (now (out .entry)) ⌝ }
+        ≡ writeOf limit sequence (now (payload .entry)) (now (out .entry)) ⌝ }
 {
     if is_mark(sequence) {
         return WriteOutcome::Refused(Refusal::BadArgument);
     }
-    if MESSAGE_LIMIT < payload.len() {
+    if limit < payload.len() {
         return WriteOutcome::Refused(Refusal::BadArgument);
     }
     let sum = checksum(payload);
@@ -190,5 +195,17 @@ pub fn write_frame(sequence: u8, payload: &[u8], out: &mut [u8]) -> WriteOutcome
         WriteOutcome::Frame(put_frame(out, sequence, payload, high, low))
     } else {
         WriteOutcome::Refused(Refusal::NoRoom)
+    }
+}
+
+// Writes the frame of a payload, for a link with a limit.
+pub fn write_frame(sequence: u8, limit: usize, payload: &[u8], out: &mut [u8]) -> WriteOutcome
+    ensures { λ r. ⌜ written (told r) (now (out .exit))
+        ≡ writeOf limit sequence (now (payload .entry)) (now (out .entry)) ⌝ }
+{
+    if limit_fits(limit) {
+        write_within(sequence, limit, payload, out)
+    } else {
+        WriteOutcome::Refused(Refusal::BadLimit)
     }
 }

@@ -1,8 +1,9 @@
 // Lists the frames of a Classic byte stream from standard input.
 use extractor::outcome::Refusal;
+use extractor::state::CHECKSUM;
 use extractor::state::Extractor;
 use extractor::state::Phase;
-use extractor::state::ROOM;
+use extractor::state::Progress;
 use feed::many::Fed;
 use feed::many::FeedOutcome;
 use feed::many::feed;
@@ -11,6 +12,12 @@ use libc::STDIN_FILENO;
 use libc::STDOUT_FILENO;
 use std::num::wrapping_add_u64;
 use std::num::wrapping_sub_u64;
+
+// The limit of the link that is listed.
+const LIMIT: usize = 4096;
+
+// The bytes of the extractor's buffer.
+const ROOM: usize = LIMIT + CHECKSUM;
 
 // The bytes read at once.
 const BLOCK: usize = 65536;
@@ -62,15 +69,16 @@ fn say_end(listing: Listing) {
     say(b"\nend ");
     say_number(listing.used);
     let state = listing.state;
-    if is_outside(state) {
+    let progress = state.progress;
+    if is_outside(progress) {
         say(b" outside\n");
     } else {
         say(b" inside\n");
     }
 }
 
-fn is_outside(state: Extractor) -> bool {
-    let phase = state.phase;
+fn is_outside(progress: Progress) -> bool {
+    let phase = progress.phase;
     match phase {
         Phase::Outside => true,
         Phase::PacketId => false,
@@ -83,7 +91,8 @@ fn is_outside(state: Extractor) -> bool {
 
 // The bytes of one call that were skipped: outside of a frame, those before a start mark.
 fn skipped_in(state: Extractor, bytes: &[u8]) -> usize {
-    if !is_outside(state) {
+    let progress = state.progress;
+    if !is_outside(progress) {
         return 0;
     }
     let mut i = 0;
@@ -132,7 +141,7 @@ fn list_block(listing: Listing, buffer: &mut [u8], bytes: &[u8]) -> Listing {
 // Lists what standard input holds. Nothing says that it ends, so the loop counts down from a number that no run uses up.
 fn list_all(buffer: &mut [u8]) {
     let mut bytes = [0u8; BLOCK];
-    let state = Extractor::outside();
+    let state = Extractor::outside(LIMIT);
     let mut listing = Listing {
         state,
         used: 0,

@@ -5,6 +5,7 @@ use mathlib.Core.Bool.{Bool, true, false, false≢true}
 use mathlib.Core.List.{[], _∷_}
 use Rattle.wire.specs.Told.{Told, given, refused}
 use Rattle.wire.specs.declared.stream.Stream.the-variants.{Control, Ota}
+use Rattle.wire.specs.Limit.{limitFits}
 use Rattle.wire.specs.Stream.{isStream, streamOf}
 use Rattle.packet.specs.Reader.{fieldsOf, contentOf, lines, readOf}
 use Rattle.slot.specs.declared.answer.Accepted.{Accepted}
@@ -16,14 +17,14 @@ use Rattle.lanes.specs.Lanes.{Both, bothOf, Handed}
 use Rattle.lanes.specs.Instance.{limit, empty, control, slots, buffer, Same, late, rest, ack, end, full, unknown, Computed, other, ByFirstBytes, OneStream, controlOpen, otaOpen}
 
 law : lawful limit slots ≡ true
-unfolding isStream streamOf fieldsOf contentOf lines readOf lawfulSlot lawful finish hold dropBy firstStep nextStep ready acceptOf
+unfolding limitFits isStream streamOf fieldsOf contentOf lines readOf lawfulSlot lawful finish hold dropBy firstStep nextStep ready acceptOf
 law = refl
 
 handed : Handed limit slots buffer late end
 handed = record { law = law; size = refl; filled = (omega arith, omega arith); streams = λ e. omega arith }
 
 pub computed : Computed
-unfolding isStream streamOf fieldsOf contentOf lines readOf lawfulSlot lawful finish hold dropBy firstStep nextStep ready acceptOf
+unfolding limitFits isStream streamOf fieldsOf contentOf lines readOf lawfulSlot lawful finish hold dropBy firstStep nextStep ready acceptOf
 computed =
     record {
       handed = handed;
@@ -46,11 +47,11 @@ replaces (refused n) = false
 
 -- what is told of the first packet says which of the two orders it was
 needed : ByFirstBytes → ⊥
-unfolding isStream streamOf fieldsOf contentOf lines readOf lawfulSlot lawful finish hold dropBy firstStep nextStep ready acceptOf
+unfolding limitFits isStream streamOf fieldsOf contentOf lines readOf lawfulSlot lawful finish hold dropBy firstStep nextStep ready acceptOf
 needed claim =
     let e = claim limit idles empty control other idle-law refl (omega arith) (omega arith) (λ e. omega arith) in
     false≢true (ap (λ (b : Both). replaces (b .first)) e)
 
 pub one-stream : OneStream
-unfolding isStream streamOf fieldsOf contentOf lines readOf lawfulSlot lawful finish hold dropBy firstStep nextStep ready acceptOf
+unfolding limitFits isStream streamOf fieldsOf contentOf lines readOf lawfulSlot lawful finish hold dropBy firstStep nextStep ready acceptOf
 one-stream = record { in-order = refl; in-the-other = refl; needed = needed }

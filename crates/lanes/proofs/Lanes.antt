@@ -10,6 +10,7 @@ use lib.ListN.{length, getD, set}
 use lib.Seq.{sets, set-comm}
 use lib.Dec.{ltb}
 use borrow.Author.Tests.{ltb-true, ltb-false}
+use Rattle.wire.specs.Limit.{limitFits}
 use Rattle.wire.specs.Told.{Told, given, refused}
 use Rattle.wire.specs.declared.stream.Stream.{Stream}
 use Rattle.wire.proofs.Streams.{other-stream}
@@ -23,9 +24,9 @@ use Rattle.slot.specs.Step.{Act, still, step}
 use Rattle.slot.specs.Fit.{ActFits}
 use Rattle.slot.proofs.Slots.{open-lawful, idle-lawful, lawful-three}
 use Rattle.slot.proofs.Lanes.{place-other, act-other}
-use Rattle.receiver.specs.Buffer.{partStart, pieceBytes}
+use Rattle.receiver.specs.Buffer.{partStart, payloadBytes}
 use Rattle.receiver.specs.Receiver.{Result, actIn, acted, acceptOf}
-use Rattle.receiver.proofs.Accepting.{Fits, accept-ready, ready-next, in-fits, piece-length}
+use Rattle.receiver.proofs.Accepting.{Fits, accept-ready, limit-refused, ready-next, in-fits, payload-length}
 use Rattle.lanes.specs.Lanes.{Both, bothOf, turned, streamField, Handed, EitherOrder, InRules, HandedAll, PartsApart}
 
 -- ---- runs that lie apart
@@ -91,9 +92,9 @@ module _ (limit : ℕ) (slots : List Slot) (bytes p q : List ℕ) (x y : Packet)
         act-other a b slots i (s .slot) y other (fx .within) ∙ ey,
         act-other b a slots j (t .slot) x (λ e. other (sym e)) (fy .within) ∙ ex,
         set-comm slots (laneStart a + i) (laneStart b + j) (s .slot) (t .slot) apart,
-        parts-apart limit (laneStart a + i) (laneStart b + j) (s .piece .at) (t .piece .at) bytes (pieceBytes p (s .piece)) (pieceBytes q (t .piece)) apart
-            (piece-length limit (length p) p (s .piece) (fx .inside))
-            (piece-length limit (length q) q (t .piece) (fy .inside)),
+        parts-apart limit (laneStart a + i) (laneStart b + j) (s .payload .at) (t .payload .at) bytes (payloadBytes p (s .payload)) (payloadBytes q (t .payload)) apart
+            (payload-length limit (length p) p (s .payload) (fx .inside))
+            (payload-length limit (length q) q (t .payload) (fy .inside)),
       )
 
 turned-read : (limit m n : ℕ) (slots : List Slot) (bytes p q : List ℕ) (t u : Told Packet) → Fits limit slots bytes → m ≢ n
@@ -106,12 +107,19 @@ turned-read limit m n slots bytes p q (given x) (given y) r d o k =
     turned-act limit slots bytes p q x y (λ e. other-stream m n (o .known) (k .known) d (sym (o .named) ∙ e ∙ k .named)) (actIn slots x) (actIn slots y) refl refl
     (in-fits limit (length p) m slots x (r .law) o) (in-fits limit (length q) n slots y (r .law) k)
 
-pub either-order : EitherOrder
-either-order limit slots bytes p q h =
-    let r : Fits limit slots bytes = record { law = h .law; size = h .size } in
+-- with a limit out of its range both are refused by 1, and leave all
+order-by : (limit : ℕ) (slots : List Slot) (bytes p q : List ℕ) (b : Bool) → limitFits limit ≡ b → Handed limit slots bytes p q
+    → bothOf limit slots bytes p q ≡ turned (bothOf limit slots bytes q p)
+order-by limit slots bytes p q false e h =
+    rw (limit-refused limit slots bytes p e, limit-refused limit slots bytes q e, limit-refused limit slots bytes p e)
+order-by limit slots bytes p q true e h =
+    let r : Fits limit slots bytes = record { range = e; law = h .law; size = h .size } in
     both-read limit slots bytes p q r
     ∙ turned-read limit (streamField p) (streamField q) slots bytes p q (readOf limit p) (readOf limit q) r (h .streams) (read-passes limit p) (read-passes limit q)
     ∙ ap turned (sym (both-read limit slots bytes q p r))
+
+pub either-order : EitherOrder
+either-order limit slots bytes p q h = order-by limit slots bytes p q (limitFits limit) refl h
 
 -- ---- what is asked for
 

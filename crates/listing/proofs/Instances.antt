@@ -6,7 +6,8 @@ use mathlib.Core.List.{List, [], _∷_, _++_}
 use native.Mathlib.Omega.{arith}
 use lib.ListN.{take}
 use Rattle.wire.specs.Stream.{isStream}
-use Rattle.outbox.specs.Format.{Format, numberOf}
+use Rattle.outbox.specs.declared.format.Format.{Format}
+use Rattle.outbox.specs.Format.{numberOf}
 use Rattle.outbox.specs.Reader.{otherVersion, badPlace, badLength, cutShort, badStream, recordAt, readOf, readings, readAll, walkOf}
 use Rattle.outbox_claims.specs.Claims.{recordsOf, allMoved, fromPlace}
 use Rattle.listing.specs.Listing.{listed, listedOf, carried, carryOf}

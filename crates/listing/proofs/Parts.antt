@@ -10,9 +10,11 @@ use lib.Seq.{sets, length-take-le, take-take, take-append-seam, drop-append-le, 
 use lib.Dec.{eqb}
 use borrow.Author.Tests.{eqb-true, not-false}
 use Rattle.wire.proofs.Stores.{sets-step, sets-end, part-stored}
-use Rattle.outbox.specs.Format.{Format, versionOne, headSize, newBytes, firstPlace}
+use Rattle.outbox.specs.declared.format.Format.{Format}
+use Rattle.outbox.specs.Format.{Known, isOne, formatOf, headSize, newBytes, firstPlace}
 use Rattle.outbox.specs.Reader.{Answer, Handed, given, refused, refusedAt, otherVersion, readAll, firstRefusal, walkOf}
 use Rattle.outbox_claims.specs.Claims.{usable, recordsOf, allMoved, fromPlace, ReadsAsAlone}
+use Rattle.outbox.proofs.Versions.{known-small}
 use Rattle.outbox.proofs.Record.{clash}
 use Rattle.outbox.proofs.Walk.{other-version-walk}
 use Rattle.outbox.proofs.Place.{found-within, version-more}
@@ -131,6 +133,10 @@ last fmt part = by-walk (walkOf fmt part)
     by-walk (refused n) = refl
     by-walk (refusedAt n p) = ends-last (eqb n 41)
 
+version : (b : ℕ) (part file : List ℕ) → formatOf (b ∷ part) ≡ formatOf (b ∷ file)
+unfolding formatOf isOne
+version b part file = refl
+
 -- the first byte of an outbox is its version
 version-byte : (fmt : Format) (file : List ℕ) → otherVersion fmt file ≡ false → take firstPlace file ≡ newBytes fmt
 unfolding otherVersion
@@ -216,6 +222,7 @@ module _ (buffer : List ℕ) (place held : ℕ) (first : firstPlace ≤ place) (
 pub lists-as-whole : ListsAsWhole
 lists-as-whole =
     record {
+      version = version;
       over = over;
       goes-on = goes-on;
       carries = λ fmt buffer more held fits unfinished.
@@ -225,6 +232,8 @@ lists-as-whole =
           let inside : place ≤ held = omega (arith, within .1, length-take-le held buffer fits) in
           carries buffer place held (within .0) inside fits fmt more (more-version fmt false part unfinished);
       further = further;
-      full = λ part size unfinished. further (versionOne 4096) part (omega (arith, size)) unfinished;
+      full = λ fmt known part size unfinished.
+          let small = known-small fmt known in
+          further fmt part (omega (arith, size, small .1, small .2)) unfinished;
       last = last;
     }

@@ -2,18 +2,19 @@
 use Prim.Native.Nat.{ℕ, _+_, _-_, _≤_, _<_}
 use mathlib.Core.Path.{_≡_}
 use mathlib.Core.Bool.{Bool, true, false, not, _&&_}
-use mathlib.Core.List.{List, _++_}
+use mathlib.Core.List.{List, _∷_, _++_}
 use lib.Dec.{eqb}
 use lib.ListN.{length, take, drop}
 use lib.Seq.{sets}
-use Rattle.outbox.specs.Format.{Format, versionOne, headSize, firstPlace}
+use Rattle.outbox.specs.declared.format.Format.{Format}
+use Rattle.outbox.specs.Format.{Known, formatOf, headSize, firstPlace}
 use Rattle.outbox.specs.Reader.{Answer, given, refused, refusedAt, readAll, walkOf}
 use Rattle.outbox_claims.specs.Claims.{usable, recordsOf, allMoved, fromPlace}
 use Rattle.listing.specs.declared.Listed.{Listed}
 
 -- the bytes of the buffer that a file passes through
 abbrev pub bufferSize : ℕ
-bufferSize = 8192
+bufferSize = 65541
 
 -- a refusal ends the listing, but for a record that is cut short before the last part: it may go on in the next
 abbrev pub endsBy : Bool → ℕ → Bool
@@ -46,6 +47,8 @@ carryOf buffer place held = carried (firstPlace + (held - place)) (sets buffer f
 
 -- listing part by part gives what the whole file gives
 pub record ListsAsWhole : Type 0 where
+  -- a part is judged by the version of the file, whose first byte it has
+  pub version : (b : ℕ) (part file : List ℕ) → formatOf (b ∷ part) ≡ formatOf (b ∷ file)
   -- where the listing is over before the last part, what follows makes no difference
   pub over : (fmt : Format) (part more : List ℕ) → 1 ≤ length part → listedOf fmt false part .over ≡ true → readAll fmt (part ++ more) ≡ readAll fmt part
   -- where it is not, what follows the part's records is what the next part gives, from the place on
@@ -63,7 +66,7 @@ pub record ListsAsWhole : Type 0 where
   pub further : (fmt : Format) (part : List ℕ) → firstPlace + (headSize fmt + fmt .limit) ≤ length part → listedOf fmt false part .over ≡ false
       → firstPlace < listedOf fmt false part .place
   -- a full buffer has that room
-  pub full : (part : List ℕ) → length part ≡ bufferSize → listedOf (versionOne 4096) false part .over ≡ false
-      → firstPlace < listedOf (versionOne 4096) false part .place
+  pub full : (fmt : Format) → Known fmt → (part : List ℕ) → length part ≡ bufferSize → listedOf fmt false part .over ≡ false
+      → firstPlace < listedOf fmt false part .place
   -- the last part ends the listing
   pub last : (fmt : Format) (part : List ℕ) → listedOf fmt true part .over ≡ true

@@ -1,5 +1,5 @@
 // Lists the records of an outbox file on standard output, for the crew: what a box kept. The file may be of any size: it
-// passes through one small buffer that holds the version byte and the bytes from a record's place on.
+// passes through one buffer that holds the version byte and the bytes from a record's place on.
 use libc::STDIN_FILENO;
 use libc::STDOUT_FILENO;
 use outbox::format::FIRST_PLACE;
@@ -12,12 +12,12 @@ ghost use mathlib.Core.Path.{_≡_};
 ghost use Prim.Native.Nat.{_≤_};
 ghost use lib.Dec.{eqb};
 ghost use lib.ListN.{length, take};
-ghost use Rattle.outbox.specs.Format.{versionOne, firstPlace};
+ghost use Rattle.outbox.specs.Format.{formatOf, firstPlace};
 ghost use Rattle.outbox.specs.Reader.{faultNumber};
 ghost use Rattle.listing.specs.Listing.{bufferSize, endsBy, listed, listedOf, carried, carryOf, ListsAsWhole};
 
-// The bytes of a part: the version byte and the longest record fit twice.
-const ROOM: usize = 8192;
+// The bytes of a part: the version byte and the longest record of any version.
+const ROOM: usize = 65541;
 
 // How far the listing of a part of a file went, and whether the listing is over: it is at the end of the file or at a refusal.
 pub struct Listed {
@@ -103,7 +103,7 @@ fn list_refusal(fault: Fault, gone: u64, place: usize, last: bool) -> Listed
 
 // A line for each whole record of a part, and one for the end or the refusal where the listing is over.
 pub fn list_part(part: &[u8], gone: u64, last: bool) -> Listed
-    ensures { λ r. ⌜ r ≡ listedOf (versionOne 4096) last (now (part .entry)) ⌝ }
+    ensures { λ r. ⌜ r ≡ listedOf (formatOf (now (part .entry))) last (now (part .entry)) ⌝ }
 {
     let mut place = FIRST_PLACE;
     loop {

@@ -1,3 +1,4 @@
+pub mod Versions
 pub mod Number
 pub mod Record
 pub mod Place

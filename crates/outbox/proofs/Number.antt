@@ -1,9 +1,10 @@
 -- Laws of big-endian numbers, over the width of the field.
-use Prim.Native.Nat.{ℕ, zero, suc, _%_, _^_, _≤_, _<_}
-use mathlib.Core.Path.{_≡_, refl, ap}
+use Prim.Native.Nat.{ℕ, zero, suc, _+_, _*_, _/_, _%_, _^_, _≤_, _<_}
+use mathlib.Core.Path.{_≡_, refl, sym, ap}
 use mathlib.Core.List.{List, [], _∷_, _++_}
-use native.Mathlib.Nat.{mod-lt, one-le-pow, div-add-mod', div-one}
+use native.Mathlib.Nat.{mod-lt, one-le-pow, div-add-mod', div-one, div-div-eq-div-mul}
 use native.Mathlib.Omega.{arith}
+use lib.Arith.{mod-mul, digits-div, digits-mod}
 use lib.ListN.{length, getD}
 use Rattle.wire.specs.Bytes.{pairOf, pairBytes}
 use Rattle.outbox.specs.Format.{numberOf, bytesOf}
@@ -38,3 +39,22 @@ number-pair (a ∷ b ∷ l) = omega arith
 pub bytes-pair : (n : ℕ) → bytesOf 2 n ≡ pairBytes n
 unfolding bytesOf
 bytes-pair n = rw (div-one (n % 256))
+
+-- .. and one of four is two pairs
+pub number-pairs : (l : List ℕ) → numberOf 4 l ≡ pairOf (getD l 0 0) (getD l 1 0) * 65536 + pairOf (getD l 2 0) (getD l 3 0)
+unfolding numberOf
+number-pairs [] = refl
+number-pairs (a ∷ []) = omega arith
+number-pairs (a ∷ b ∷ []) = omega arith
+number-pairs (a ∷ b ∷ c ∷ []) = omega arith
+number-pairs (a ∷ b ∷ c ∷ d ∷ l) = omega arith
+
+pub bytes-pairs : (n : ℕ) → bytesOf 4 n ≡ pairBytes (n / 65536) ++ pairBytes (n % 65536)
+unfolding bytesOf
+bytes-pairs n =
+    let low : n % 65536 < 65536 = mod-lt n (omega arith) in
+    let high : n / 16777216 ≡ n / 65536 / 256 = sym (div-div-eq-div-mul n 65536 256) in
+    let digits : n % 16777216 ≡ (n / 65536 % 256) * 65536 + n % 65536 = mod-mul n {m = 256} {c = 65536} (omega arith) (omega arith) in
+    let second : n % 16777216 / 65536 ≡ n / 65536 % 256 = rw digits (digits-div (n / 65536 % 256) low) in
+    let rest : n % 16777216 % 65536 ≡ n % 65536 = rw digits (digits-mod (n / 65536 % 256) low) in
+    rw (high, second, rest, div-one (n % 65536 % 256))

@@ -1,12 +1,13 @@
 -- Laws of the walk over an outbox, for its loop.
 use Prim.Native.Nat.{ℕ, suc, _+_, _-_, _≤_, _<_}
 use mathlib.Core.Path.{_≡_, refl, sym, ap, _∙_}
-use mathlib.Core.Bool.{true, false}
+use mathlib.Core.Bool.{Bool, true, false}
 use mathlib.Core.List.{List}
 use native.Mathlib.Omega.{arith}
 use lib.ListN.{length, drop}
 use Rattle.outbox.specs.Format.{Format, firstPlace}
 use Rattle.outbox.specs.Reader.{Answer, Item, Found, given, refusedAt, found, end, otherVersion, recordAt, readOf, readings, readAll, onward, refusalOr, firstRefusal, walkOf}
+use Rattle.outbox.proofs.Record.{clash}
 use Rattle.outbox.proofs.Place.{opened, right-place, read-inside, read-end, read-within}
 
 -- from a place on, with turns for all that is left, what is read decides as all does
@@ -56,19 +57,29 @@ module _ (fmt : Format) (file : List ℕ) where
   unfolding readOf
   other-version-walk e = read-decides going-begins (refusedAt 40 0) (rw e)
 
+  -- a whole file has the version
+  pub whole-version : walkOf fmt file ≡ given tt → otherVersion fmt file ≡ false
+  whole-version e = by-version (otherVersion fmt file) refl
+    where
+      by-version : (b : Bool) → otherVersion fmt file ≡ b → otherVersion fmt file ≡ false
+      by-version true v = absurd (clash (cc (other-version-walk v)))
+      by-version false v = v
+
   pub walk-begins : otherVersion fmt file ≡ false → Walking fmt file firstPlace
   walk-begins e = record { version = e; first = omega arith; inside = opened fmt file e; going = going-begins }
 
   module _ {place : ℕ} (w : Walking fmt file place) where
-    pub walk-ends : length file ≤ place → walkOf fmt file ≡ given tt
-    walk-ends h = read-decides (w .going) (given end) (read-end fmt file place (w .version) (w .first) (omega (arith, w .inside)))
+    pub walk-ends : length file ≤ place → walkOf fmt file ≡ refusalOr (readOf fmt file place) (given tt)
+    walk-ends h =
+        let here : readOf fmt file place ≡ given end = read-end fmt file place (w .version) (w .first) (omega (arith, w .inside)) in
+        read-decides (w .going) (given end) here ∙ ap (λ a. refusalOr a (given tt)) (sym here)
 
     module _ (h : place < length file) where
       here : readOf fmt file place ≡ recordAt fmt place (drop place file)
       here = read-inside fmt file place (w .version) (right-place file place (w .first) (w .inside)) (omega arith)
 
-      pub walk-stops : (n : ℕ) → recordAt fmt place (drop place file) ≡ refusedAt n place → walkOf fmt file ≡ refusedAt n place
-      walk-stops n e = read-decides (w .going) (refusedAt n place) (here ∙ e)
+      pub walk-stops : (n : ℕ) → recordAt fmt place (drop place file) ≡ refusedAt n place → walkOf fmt file ≡ refusalOr (readOf fmt file place) (given tt)
+      walk-stops n e = read-decides (w .going) (refusedAt n place) (here ∙ e) ∙ ap (λ a. refusalOr a (given tt)) (sym (here ∙ e))
 
       pub walk-goes : (f : Found) → recordAt fmt place (drop place file) ≡ given (found f) → Walking fmt file (f .next)
       walk-goes f e =
@@ -79,3 +90,17 @@ module _ (fmt : Format) (file : List ℕ) where
             inside = within .1;
             going = read-goes (w .going) f (here ∙ e);
           }
+
+  -- an outbox that has its version byte alone
+  pub alone-whole : otherVersion fmt file ≡ false → length file ≡ firstPlace → walkOf fmt file ≡ given tt
+  alone-whole v h =
+      let w = walk-begins v in
+      walk-ends w (omega arith) ∙ ap (λ a. refusalOr a (given tt)) (read-end fmt file firstPlace v (omega arith) (sym h))
+
+  -- where what is read at a place decides
+  module _ (v : otherVersion fmt file ≡ false) (place : ℕ) (first : firstPlace ≤ place) (d : walkOf fmt file ≡ refusalOr (readOf fmt file place) (given tt)) where
+    pub decided-end : place ≡ length file → walkOf fmt file ≡ given tt
+    decided-end h = d ∙ ap (λ a. refusalOr a (given tt)) (read-end fmt file place v first h)
+
+    pub decided-here : place < length file → (a : Answer Item) → recordAt fmt place (drop place file) ≡ a → walkOf fmt file ≡ refusalOr a (given tt)
+    decided-here h a e = d ∙ ap (λ x. refusalOr x (given tt)) (read-inside fmt file place v (right-place file place first (omega arith)) (omega arith) ∙ e)

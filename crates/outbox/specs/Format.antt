@@ -1,17 +1,30 @@
 -- The outbox file of docs/FORMATS.md: a version byte, then records. A record is its length, a stream byte and a payload.
 use Prim.Native.Nat.{ℕ, zero, suc, _+_, _*_, _/_, _%_, _^_}
+use mathlib.Core.Bool.{Bool, cond}
 use mathlib.Core.List.{List, [], _∷_, _++_}
-use lib.ListN.{length}
+use lib.Dec.{eqb}
+use lib.ListN.{length, getD}
+pub use Rattle.outbox.specs.declared.format.Format.{Format}
 
--- a version of the format: its first byte, how many bytes a record's length has, the largest payload
-pub record Format : Type 0 where
-  pub version : ℕ
-  pub width : ℕ
-  pub limit : ℕ
+-- version 01: lengths of two bytes, payloads of up to 4,096
+abbrev pub versionOne : Format
+versionOne = record { version = 1; width = 2; limit = 4096 }
 
--- version 01: lengths of two bytes
-abbrev pub versionOne : ℕ → Format
-versionOne limit = record { version = 1; width = 2; limit = limit }
+-- version 02: lengths of four bytes, payloads of up to 65,535
+abbrev pub versionTwo : Format
+versionTwo = record { version = 2; width = 4; limit = 65535 }
+
+-- the versions that there are
+pub data Known : Format → Type 0 where
+  one : Known versionOne
+  two : Known versionTwo
+
+-- the version that a file is judged by: 01 where that is its first byte, and 02 where it is any other or none, which 02 refuses (40)
+unfoldable pub isOne : List ℕ → Bool
+isOne file = eqb (getD file 0 0) 1
+
+unfoldable pub formatOf : List ℕ → Format
+formatOf file = cond (isOne file) versionOne versionTwo
 
 -- the number of the first `width` bytes, big-endian; a byte that is not there counts as 0
 unfoldable pub numberOf : ℕ → List ℕ → ℕ

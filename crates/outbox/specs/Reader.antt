@@ -9,7 +9,7 @@ use Rattle.wire.specs.Stream.{isStream}
 use Rattle.outbox.specs.Format.{Format, numberOf, headSize, firstPlace}
 use Rattle.outbox.specs.declared.reader.Fault.{Fault}
 use Rattle.outbox.specs.declared.reader.Fault.the-variants.{Version, Length, Cut, Stream}
-use Rattle.outbox.specs.declared.reader.Judged.{Judged}
+use Rattle.outbox.specs.declared.judging.Judged.{Judged}
 use Rattle.outbox.specs.declared.reader.Reading.{Reading}
 use Rattle.outbox.specs.declared.reader.Walked.{Walked}
 

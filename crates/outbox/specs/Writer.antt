@@ -8,7 +8,7 @@ use lib.Seq.{sets}
 use Rattle.wire.specs.Told.{line, table}
 use Rattle.wire.specs.Stream.{isStream}
 use Rattle.outbox.specs.Format.{Format, recordBytes, newBytes}
-use Rattle.outbox.specs.Reader.{Answer, given, refused, refusedAt, faultNumber, walkOf}
+use Rattle.outbox.specs.Reader.{Answer, given, refused, refusedAt, faultNumber, otherVersion, walkOf}
 use Rattle.outbox.specs.declared.writer.Created.{Created}
 use Rattle.outbox.specs.declared.writer.Appended.{Appended}
 
@@ -42,16 +42,21 @@ ifWhole (given whole) buffer after = after
 ifWhole (refused n) buffer after = stored (refused n) buffer
 ifWhole (refusedAt n place) buffer after = stored (refusedAt n place) buffer
 
--- a record after the used bytes: 1, 15, 14, then the used bytes' own refusal
+-- a record after the used bytes: 1, 40, 15, 14, then the used bytes' own refusal
 unfoldable pub appendOf : Format → List ℕ → ℕ → ℕ → List ℕ → Stored
 appendOf fmt buffer used stream payload =
     table
-    (line 1 (ltb (length buffer) used)
-    ∷ line 15 (badRecord fmt stream (length payload))
+    (line 1 (ltb (length buffer) used) ∷ [])
+    (λ n. stored (refused n) buffer)
+    (table
+    (line 40 (otherVersion fmt (take used buffer)) ∷ [])
+    (λ n. stored (refusedAt n 0) buffer)
+    (table
+    (line 15 (badRecord fmt stream (length payload))
     ∷ line 14 (ltb (length buffer - used) (length (recordBytes fmt stream payload)))
     ∷ [])
     (λ n. stored (refused n) buffer)
-    (ifWhole (walkOf fmt (take used buffer)) buffer (storedAt buffer used (recordBytes fmt stream payload)))
+    (ifWhole (walkOf fmt (take used buffer)) buffer (storedAt buffer used (recordBytes fmt stream payload)))))
 
 -- ---- what the code's answers tell, in the numbers of docs/FORMATS.md
 

@@ -1,14 +1,51 @@
-// Version 01 of the outbox file: a version byte, then records. A record is its length, a stream byte and a payload.
-pub const VERSION: u8 = 1;
+// The outbox file: a version byte, then records. A record is its length, a stream byte and a payload.
+use wire::bytes::byte_at;
+use wire::logic::either;
+ghost use mathlib.Core.Path.{_≡_};
+ghost use Rattle.outbox.specs.Format.{versionOne, versionTwo, isOne};
+ghost use Rattle.outbox.specs.Reader.{otherVersion};
 
 // The place of the first record: after the version byte.
 pub const FIRST_PLACE: usize = 1;
 
-// The bytes of a record's length.
-pub const WIDTH: usize = 2;
+// A version: its byte, how many bytes a record's length has, the largest payload.
+pub struct Format {
+    pub version: u8,
+    pub width: usize,
+    pub limit: usize,
+}
 
-// The bytes before a record's payload: its length and its stream byte.
-pub const HEAD: usize = 3;
+impl Format {
+    pub fn one() -> Self
+        ensures { λ r. ⌜ r ≡ versionOne ⌝ }
+    {
+        Format {
+            version: 1,
+            width: 2,
+            limit: 4096,
+        }
+    }
 
-// The largest length: it counts the stream byte and the payload.
-pub const LONGEST: usize = wire::MESSAGE_LIMIT + 1;
+    pub fn two() -> Self
+        ensures { λ r. ⌜ r ≡ versionTwo ⌝ }
+    {
+        Format {
+            version: 2,
+            width: 4,
+            limit: 65535,
+        }
+    }
+}
+
+// Whether a file is judged by version 01; any other is by 02. Callers branch on it, so that each way has its numbers as constants.
+pub fn is_one(file: &[u8]) -> bool
+    ensures { λ r. ⌜ r ≡ isOne (now (file .entry)) ⌝ }
+{
+    byte_at(file, 0) == 1
+}
+
+pub fn other_version(file: &[u8], fmt: Format) -> bool
+    ensures { λ r. ⌜ r ≡ otherVersion fmt (now (file .entry)) ⌝ }
+{
+    either(file.len() == 0, byte_at(file, 0) != fmt.version)
+}

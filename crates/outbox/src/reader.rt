@@ -1,18 +1,15 @@
 // Reading an outbox: the record at a place, and whether all is whole.
-use crate::format::FIRST_PLACE;
-use crate::format::HEAD;
-use crate::format::LONGEST;
-use crate::format::VERSION;
-use crate::format::WIDTH;
-use wire::bytes::byte_at;
-use wire::bytes::pair;
+use crate::format::Format;
+use crate::format::is_one;
+use crate::format::other_version;
+use crate::judging::Judged;
+use crate::judging::judge;
+use crate::judging::walk_records;
 use wire::logic::either;
-use wire::stream::is_stream;
 ghost use mathlib.Core.Path.{_≡_};
-ghost use Prim.Native.Nat.{ℕ};
-ghost use Rattle.outbox.specs.Format.{versionOne};
-ghost use Rattle.outbox.specs.Reader.{otherVersion, badPlace, recordAt, readOf, walkOf};
-ghost use Rattle.outbox.specs.Reader.{faultNumber, numberIn, toldJudged, told, toldWalk};
+ghost use Rattle.outbox.specs.Format.{Known, formatOf};
+ghost use Rattle.outbox.specs.Reader.{badPlace, readOf, walkOf};
+ghost use Rattle.outbox.specs.Reader.{faultNumber, numberIn, told, toldWalk};
 
 // What is wrong with an outbox's bytes.
 pub enum Fault {
@@ -90,53 +87,17 @@ impl Walked {
     }
 }
 
-// The record at the front of some bytes.
-enum Judged {
-    Record { stream: u8, size: usize },
-    Broken(Fault),
-}
-
-fn other_version(file: &[u8]) -> bool
-    ensures { λ r. ⌜ r ≡ otherVersion (versionOne 4096) (now (file .entry)) ⌝ }
-{
-    either(file.len() == 0, byte_at(file, 0) != VERSION)
-}
-
 fn bad_place(file: &[u8], place: usize) -> bool
     ensures { λ r. ⌜ r ≡ badPlace (now (file .entry)) place ⌝ }
 {
     either(place == 0, file.len() < place)
 }
 
-// The length is judged once all its bytes are there; before that the record is cut short.
-fn judge(rest: &[u8]) -> Judged
-    ensures { λ r. ⌜ ((place : ℕ) → toldJudged (versionOne 4096) place r
-        ≡ recordAt (versionOne 4096) place (now (rest .entry))) ⌝ }
+fn read_by(file: &[u8], place: usize, fmt: Format) -> Reading
+    requires { ⌜ Known fmt ⌝ }
+    ensures { λ r. ⌜ told r ≡ readOf fmt (now (file .entry)) place ⌝ }
 {
-    if rest.len() < WIDTH {
-        return Judged::Broken(Fault::Cut);
-    }
-    let n = pair(rest[0], rest[1]);
-    if either(n == 0, LONGEST < n) {
-        return Judged::Broken(Fault::Length);
-    }
-    if rest.len() - WIDTH < n {
-        return Judged::Broken(Fault::Cut);
-    }
-    let stream = rest[WIDTH];
-    if is_stream(stream) {
-        let size = n - 1;
-        Judged::Record { stream, size }
-    } else {
-        Judged::Broken(Fault::Stream)
-    }
-}
-
-// Reads the record at a place of an outbox: 1, or a place told before.
-pub fn read(file: &[u8], place: usize) -> Reading
-    ensures { λ r. ⌜ told r ≡ readOf (versionOne 4096) (now (file .entry)) place ⌝ }
-{
-    if other_version(file) {
+    if other_version(file, fmt) {
         return Reading::Broken {
             fault: Fault::Version,
             place: 0,
@@ -148,9 +109,10 @@ pub fn read(file: &[u8], place: usize) -> Reading
     if place == file.len() {
         return Reading::End;
     }
-    match judge(&file[place..]) {
+    match judge(&file[place..], fmt) {
         Judged::Record { stream, size } => {
-            let start = place + HEAD;
+            let head = fmt.width + 1;
+            let start = place + head;
             let next = start + size;
             Reading::Record {
                 stream,
@@ -163,26 +125,37 @@ pub fn read(file: &[u8], place: usize) -> Reading
     }
 }
 
-// Whether an outbox is whole from its first byte to its last, or its first refusal.
-pub fn walk(file: &[u8]) -> Walked
-    ensures { λ r. ⌜ toldWalk r ≡ walkOf (versionOne 4096) (now (file .entry)) ⌝ }
+// Reads the record at a place of an outbox: 1, or a place told before.
+pub fn read(file: &[u8], place: usize) -> Reading
+    ensures { λ r. ⌜ told r ≡ readOf (formatOf (now (file .entry))) (now (file .entry)) place ⌝ }
 {
-    if other_version(file) {
+    if is_one(file) {
+        read_by(file, place, Format::one())
+    } else {
+        read_by(file, place, Format::two())
+    }
+}
+
+fn walk_by(file: &[u8], fmt: Format) -> Walked
+    requires { ⌜ Known fmt ⌝ }
+    ensures { λ r. ⌜ toldWalk r ≡ walkOf fmt (now (file .entry)) ⌝ }
+{
+    if other_version(file, fmt) {
         return Walked::Broken {
             fault: Fault::Version,
             place: 0,
         };
     }
-    let mut place = FIRST_PLACE;
-    while place < file.len() {
-        match judge(&file[place..]) {
-            Judged::Record { stream: _, size } => {
-                place = place + HEAD + size;
-            }
-            Judged::Broken(fault) => {
-                return Walked::Broken { fault, place };
-            }
-        }
+    walk_records(file, fmt)
+}
+
+// Whether an outbox is whole from its first byte to its last, or its first refusal.
+pub fn walk(file: &[u8]) -> Walked
+    ensures { λ r. ⌜ toldWalk r ≡ walkOf (formatOf (now (file .entry))) (now (file .entry)) ⌝ }
+{
+    if is_one(file) {
+        walk_by(file, Format::one())
+    } else {
+        walk_by(file, Format::two())
     }
-    Walked::Whole
 }

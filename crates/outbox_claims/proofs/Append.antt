@@ -7,7 +7,7 @@ use native.Mathlib.Omega.{arith}
 use lib.ListN.{length, take, drop, length-append, take-append-drop}
 use lib.Seq.{sets, sets-eq, take-at, take-append-le, length-take-le}
 use borrow.Author.Tests.{le-ltb}
-use Rattle.outbox.specs.Format.{Format}
+use Rattle.outbox.specs.declared.format.Format.{Format}
 use Rattle.outbox.specs.Reader.{Handed, given, otherVersion, readAll, firstRefusal, walkOf}
 use Rattle.outbox.specs.Writer.{storedAt, badRecord, appendOf}
 use Rattle.outbox_claims.specs.Claims.{Lawful, Entry, EntryTaken, after, expected, usable, recordsOf, Resumed}
@@ -58,7 +58,7 @@ module _ (fmt : Format) (left : List ℕ) (v : otherVersion fmt left ≡ false) 
   module _ (e : Entry) (t : EntryTaken fmt e) (room : List ℕ) (h : after fmt used e ≤ length (left ++ room)) where
     pub append-stored : appendOf fmt (left ++ room) used (e .stream) (e .payload) ≡ storedAt (left ++ room) used (entryBytes fmt e)
     append-stored =
-        append-judged fmt (e .stream) (e .payload) (left ++ room) used (omega arith) (takes-right fmt e t) (omega arith)
+        append-judged fmt (e .stream) (e .payload) (left ++ room) used (omega arith) (rw (take-append-le used left room (bounds .1)) version) (takes-right fmt e t) (omega arith)
         ∙ rw (take-append-le used left room (bounds .1), usable-whole)
 
   module _ (lawful : Lawful fmt) (e : Entry) (t : EntryTaken fmt e) where

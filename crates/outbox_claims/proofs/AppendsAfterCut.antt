@@ -5,7 +5,7 @@ use lib.ListN.{take}
 use Rattle.outbox.specs.Reader.{walkOf}
 use Rattle.outbox_claims.specs.Claims.{usable, AppendsAfterCut}
 use Rattle.outbox.proofs.Place.{version-kept}
-use Rattle.outbox_claims.proofs.Run.{whole-version}
+use Rattle.outbox.proofs.Walk.{whole-version}
 use Rattle.outbox_claims.proofs.Append.{append-resumes}
 
 pub appends-after-cut : AppendsAfterCut

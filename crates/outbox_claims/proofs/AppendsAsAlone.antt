@@ -5,11 +5,12 @@ use mathlib.Core.List.{List, [], _∷_, _++_}
 use native.Mathlib.Omega.{arith}
 use lib.ListN.{length, take, drop}
 use lib.Seq.{take-at}
-use Rattle.outbox.specs.Format.{Format, newBytes}
+use Rattle.outbox.specs.declared.format.Format.{Format}
+use Rattle.outbox.specs.Format.{newBytes}
 use Rattle.outbox.specs.Reader.{given, walkOf}
 use Rattle.outbox.specs.Writer.{appendOf}
 use Rattle.outbox_claims.specs.Claims.{Entry, EntryTaken, after, AppendsAsAlone}
-use Rattle.outbox_claims.proofs.Run.{whole-version}
+use Rattle.outbox.proofs.Walk.{whole-version}
 use Rattle.outbox_claims.proofs.Contents.{entryBytes, entry-ends}
 use Rattle.outbox_claims.proofs.RecordsReturn.{filled, append-one, new-whole, new-filled}
 

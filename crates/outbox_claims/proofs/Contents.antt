@@ -5,7 +5,8 @@ use mathlib.Core.List.{List, [], _∷_, _++_, append-assoc, append-nil}
 use native.Mathlib.Omega.{arith}
 use lib.ListN.{length, getD, take, drop, length-append}
 use lib.Seq.{getD-at, drop-at, take-at, drop-append-seam, drop-append-add, drop-append-le}
-use Rattle.outbox.specs.Format.{Format, headSize, bytesOf, recordBytes}
+use Rattle.outbox.specs.declared.format.Format.{Format}
+use Rattle.outbox.specs.Format.{headSize, bytesOf, recordBytes}
 use Rattle.outbox.specs.Reader.{given, found, foundAt, lengthIn, recordAt}
 use Rattle.outbox_claims.specs.Claims.{Lawful, Entry, EntryTaken, AllTaken, after, expected}
 use Rattle.outbox.proofs.Number.{length-bytes, number-bytes}

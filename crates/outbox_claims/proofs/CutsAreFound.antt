@@ -4,12 +4,13 @@ use mathlib.Core.Path.{_≡_, refl, sym, ap, _∙_}
 use mathlib.Core.List.{List, [], _∷_, _++_}
 use native.Mathlib.Omega.{arith}
 use lib.ListN.{length, take, drop, length-append, length-take, take-append-drop}
-use Rattle.outbox.specs.Format.{Format}
+use Rattle.outbox.specs.declared.format.Format.{Format}
 use Rattle.outbox.specs.Reader.{given, refusedAt, handed, otherVersion, readOf, readings, readAll, firstRefusal, walkOf}
 use Rattle.outbox.specs.Writer.{newOf}
 use Rattle.outbox_claims.specs.Claims.{Entry, after, expected, afterAll, appendAll, RecordsReturn, cutFrom, cutAt, CutsAreFound}
 use Rattle.outbox.proofs.Place.{version-kept}
-use Rattle.outbox_claims.proofs.Run.{Run, all-run, run-all, walk-is, whole-version}
+use Rattle.outbox.proofs.Walk.{whole-version}
+use Rattle.outbox_claims.proofs.Run.{Run, all-run, run-all, walk-is}
 use Rattle.outbox_claims.proofs.Cut.{cut-run}
 use Rattle.outbox_claims.proofs.RecordsReturn.{records-return}
 

@@ -4,7 +4,8 @@ use mathlib.Core.List.{List, [], _∷_, _++_}
 use Prim.Native.Nat.{ℕ}
 use lib.ListN.{take, drop}
 use Rattle.wire.specs.Stream.{isStream}
-use Rattle.outbox.specs.Format.{Format, numberOf, bytesOf, recordBytes}
+use Rattle.outbox.specs.declared.format.Format.{Format}
+use Rattle.outbox.specs.Format.{numberOf, bytesOf, recordBytes}
 use Rattle.outbox.specs.Reader.{Handed, given, refusedAt, found, end, handed, otherVersion, badPlace, badLength, cutShort, badStream, recordAt, readOf, readings, readAll, walkOf}
 use Rattle.outbox.specs.Writer.{stored, newOf, badRecord, appendOf}
 use Rattle.outbox_claims.specs.Claims.{Entry, expected, appendAll, cutAt, usable, moved, readAt}

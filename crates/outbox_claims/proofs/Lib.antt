@@ -9,5 +9,5 @@ pub mod AppendsAsAlone
 pub mod Moved
 pub mod ReadsAsAlone
 pub mod Stays
-pub mod VersionOne
+pub mod Versions
 pub mod Instances

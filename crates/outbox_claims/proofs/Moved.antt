@@ -10,7 +10,8 @@ use lib.ListN.{length, getD, take, drop, length-append, List·getD-append, take-
 use lib.Seq.{take-all, length-take-le, drop-append-add}
 use Rattle.wire.specs.Stream.{isStream}
 use Rattle.wire.specs.Told.{line, table}
-use Rattle.outbox.specs.Format.{Format, headSize}
+use Rattle.outbox.specs.declared.format.Format.{Format}
+use Rattle.outbox.specs.Format.{headSize}
 use Rattle.outbox.specs.Reader.{Found, Handed, given, refusedAt, found, foundAt, lengthIn, badLength, cutShort, badStream, recordAt}
 use Rattle.outbox_claims.specs.Claims.{movedFound, movedAnswer, allMoved}
 use Rattle.outbox.proofs.Number.{number-append}

@@ -7,7 +7,8 @@ use native.Mathlib.Decide.{decLt}
 use native.Mathlib.Omega.{arith}
 use lib.ListN.{length, take, drop, length-append, length-drop, length-take, take-append-drop}
 use lib.Seq.{length-take-le, take-take}
-use Rattle.outbox.specs.Format.{Format, headSize, recordBytes, newBytes}
+use Rattle.outbox.specs.declared.format.Format.{Format}
+use Rattle.outbox.specs.Format.{headSize, recordBytes, newBytes}
 use Rattle.outbox.specs.Reader.{Answer, Item, given, found, foundAt, handed, payloadIn, otherVersion, lengthIn, recordAt, readOf, readAll, walkOf}
 use Rattle.outbox_claims.specs.Claims.{Lawful, Entry, EntryTaken, usable, recordsOf, movedAnswer, moved, allMoved, readAt, fromPlace, ReadsAsAlone}
 use Rattle.outbox.proofs.Record.{View, whole, broken, view}

@@ -7,7 +7,8 @@ use native.Mathlib.Omega.{arith}
 use lib.ListN.{length, drop, length-append, length-drop}
 use lib.Seq.{sets-eq, take-length, take-append-seam, drop-append-add, drop-drop}
 use borrow.Author.Tests.{le-ltb, eq-eqb}
-use Rattle.outbox.specs.Format.{Format, newBytes}
+use Rattle.outbox.specs.declared.format.Format.{Format}
+use Rattle.outbox.specs.Format.{newBytes}
 use Rattle.outbox.specs.Reader.{given, otherVersion, readAll, walkOf}
 use Rattle.outbox.specs.Writer.{Stored, stored, newOf, appendOf}
 use Rattle.outbox_claims.specs.Claims.{Lawful, Entry, EntryTaken, AllTaken, after, afterAll, expected, usable, appendAll, Returned, RecordsReturn}

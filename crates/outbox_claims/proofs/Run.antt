@@ -6,7 +6,7 @@ use mathlib.Core.List.{List, [], _∷_}
 use native.Mathlib.Decide.{decLt}
 use native.Mathlib.Omega.{arith}
 use lib.ListN.{length, take, drop}
-use Rattle.outbox.specs.Format.{Format}
+use Rattle.outbox.specs.declared.format.Format.{Format}
 use Rattle.outbox.specs.Reader.{Answer, Item, Found, Handed, given, refusedAt, found, end, handed, payloadIn, onward, otherVersion, recordAt, readOf, readings, readAll, firstRefusal, walkOf}
 use Rattle.outbox.proofs.Record.{clash, View, whole, broken, view, front}
 use Rattle.outbox.proofs.Walk.{other-version-walk}
@@ -78,11 +78,3 @@ module _ (fmt : Format) (file : List ℕ) where
   pub walk-is : walkOf fmt file ≡ firstRefusal (readAll fmt file)
   unfolding walkOf
   walk-is = refl
-
-  -- a whole file has the version
-  pub whole-version : walkOf fmt file ≡ given tt → otherVersion fmt file ≡ false
-  whole-version e = by-version (otherVersion fmt file) refl
-    where
-      by-version : (b : Bool) → otherVersion fmt file ≡ b → otherVersion fmt file ≡ false
-      by-version true v = absurd (clash (cc (other-version-walk fmt file v)))
-      by-version false v = v

@@ -10,7 +10,7 @@ use lib.ListN.{length, getD, drop, length-append, List·getD-append}
 use lib.Seq.{drop-append-le}
 use borrow.Author.Tests.{eqb-false, ne-eqb}
 use Rattle.wire.specs.Stream.{isStream}
-use Rattle.outbox.specs.Format.{Format}
+use Rattle.outbox.specs.declared.format.Format.{Format}
 use Rattle.outbox.specs.Reader.{Handed, refusedAt, handed, lengthIn, otherVersion, recordAt, readOf, readings, readAll, firstRefusal}
 use Rattle.outbox.proofs.Number.{number-append}
 use Rattle.outbox.proofs.Record.{clash, found-spans, range-passed, field-cut-read, wrong-read, cut-read, strange-read, whole-read, record-more}

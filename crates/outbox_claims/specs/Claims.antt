@@ -6,7 +6,8 @@ use mathlib.Core.List.{List, [], _∷_, _++_}
 use lib.Dec.{eqb, leb}
 use lib.ListN.{length, take, drop}
 use Rattle.wire.specs.Stream.{isStream}
-use Rattle.outbox.specs.Format.{Format, headSize, recordBytes, newBytes, firstPlace}
+use Rattle.outbox.specs.declared.format.Format.{Format}
+use Rattle.outbox.specs.Format.{headSize, recordBytes, newBytes, firstPlace}
 use Rattle.outbox.specs.Reader.{Answer, given, refused, refusedAt, Item, Found, found, end, foundAt, otherVersion, Handed, handed, payloadIn, readOf, readAll, walkOf}
 use Rattle.outbox.specs.Writer.{Stored, stored, newOf, appendOf}
 

@@ -1,11 +1,11 @@
 // What is appended is read back, also after a cut at any byte. Each claim holds for every format whose lengths fit their field.
-ghost use Rattle.outbox.specs.Format.{versionOne};
-ghost use Rattle.outbox_claims.specs.VersionOne.{HoldInVersionOne};
+ghost use Rattle.outbox.specs.Format.{versionOne, versionTwo};
+ghost use Rattle.outbox_claims.specs.Versions.{HoldInEachVersion};
 ghost use Rattle.outbox_claims.specs.Claims.{Lawful, RecordsReturn, CutsAreFound, AppendsAfterCut, AppendsAsAlone, ReadsAsAlone};
 
-// The lengths of version 01 fit their field.
-pub fn version_one_is_lawful()
-    ensures { λ _. ⌜ Lawful (versionOne 4096) ⌝ }
+// The lengths of both versions fit their field.
+pub fn versions_are_lawful()
+    ensures { λ _. ⌜ Lawful versionOne × Lawful versionTwo ⌝ }
 {}
 
 // From a new outbox, any list of appends that fit, then reading place after place, gives those records in order, and the end.
@@ -35,7 +35,7 @@ pub fn reads_as_alone()
     ensures { λ _. ⌜ ReadsAsAlone ⌝ }
 {}
 
-// Each claim for version 01, with its premises in the words of docs/FORMATS.md.
-pub fn hold_in_version_one()
-    ensures { λ _. ⌜ HoldInVersionOne ⌝ }
+// Each claim for version 01 and for version 02, with its premises in the words of docs/FORMATS.md.
+pub fn hold_in_each_version()
+    ensures { λ _. ⌜ HoldInEachVersion ⌝ }
 {}

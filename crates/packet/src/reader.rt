@@ -197,9 +197,9 @@ fn fields_of(packet: &[u8]) -> Fields
 }
 
 // The table of refusals, in its order.
-fn judge(f: Fields) -> Verdict
+fn judge(limit: usize, f: Fields) -> Verdict
     requires { ⌜ (f .header < 8) × (f .len < 65536) ⌝ }
-    ensures { λ r. ⌜ Rules r (table (lines 4096 f) refused) ⌝ }
+    ensures { λ r. ⌜ Rules r (table (lines limit f) refused) ⌝ }
 {
     let first = f.kind == header::TYPE_FIRST;
     let control = f.kind == header::TYPE_CONTROL;
@@ -211,7 +211,7 @@ fn judge(f: Fields) -> Verdict
     let bad_control = both(control, !f.exact);
     let reserved = both(first, f.reserved != header::RESERVED);
     let wrong_length = both(!control, f.size != f.header + f.len);
-    let over = both(first, wire::MESSAGE_LIMIT < f.total);
+    let over = both(first, limit < f.total);
     let nothing_sent = both(first, f.total == 0);
     let empty = both(!control, both(f.len == 0, !nothing_sent));
     let above = both(first, f.total < f.len);
@@ -257,12 +257,12 @@ fn content_of(f: Fields) -> Packet
     }
 }
 
-// What one packet says, or why it is refused.
-pub fn read(packet: &[u8]) -> Answer
-    ensures { λ r. ⌜ told r ≡ readOf 4096 (now (packet .entry)) ⌝ }
+// What one packet says, or why it is refused; the limit is the largest total.
+pub fn read(limit: usize, packet: &[u8]) -> Answer
+    ensures { λ r. ⌜ told r ≡ readOf limit (now (packet .entry)) ⌝ }
 {
     let f = fields_of(packet);
-    let verdict = judge(f);
+    let verdict = judge(limit, f);
     match verdict {
         Verdict::Passed => Answer::Read(content_of(f)),
         Verdict::Stopped(why) => Answer::Refused(why),

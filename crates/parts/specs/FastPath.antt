@@ -9,7 +9,7 @@ use Rattle.framing.specs.declared.mark.Kind.{Kind}
 use Rattle.framing.specs.declared.mark.Kind.the-variants.{Start, End, Escape, Plain}
 use Rattle.framing.specs.Frame.{startCode, endCode, escapeCode}
 use Rattle.parts.specs.declared.state.Stage.the-variants as stage
-use Rattle.parts.specs.declared.state.PartWriter.{PartWriter}
+use Rattle.parts.specs.declared.state.Progress.{Progress}
 use Rattle.parts.specs.State.{ended}
 use Rattle.parts.specs.Fill.{Filled, fillOf}
 use Rattle.parts.specs.Writer.{Wrote, wrote, count}
@@ -22,7 +22,7 @@ codeBy Escape = escapeCode
 codeBy Plain = escapeCode
 
 -- in the payload, with nothing pending
-abbrev pub body : ℕ → ℕ → ℕ → ℕ → PartWriter
+abbrev pub body : ℕ → ℕ → ℕ → ℕ → Progress
 body sequence total taken sum = record { sequence = sequence; total = total; taken = taken; sum = sum; stage = stage.Payload; pending = Plain }
 
 -- what a call leaves that has taken and written some, and then fills the rest
@@ -31,7 +31,7 @@ resumed out taken at f =
     wrote (given (count (taken + f .taken) (at + length (f .bytes)) (ended (f .next)))) (f .next) (sets out at (f .bytes))
 
 -- writing bytes i to j at once loses nothing: what is left to be filled gives what was left before
-pub record Onward (payload : List ℕ) (s : PartWriter) (out : List ℕ) (taken i : ℕ) (s′ : PartWriter) (out′ : List ℕ) (taken′ j : ℕ) : Type 0 where
+pub record Onward (payload : List ℕ) (s : Progress) (out : List ℕ) (taken i : ℕ) (s′ : Progress) (out′ : List ℕ) (taken′ j : ℕ) : Type 0 where
   pub from : i ≤ j
   pub within : j ≤ length out
   pub offered : taken′ ≤ length payload

@@ -1,28 +1,34 @@
--- The state of a frame that is written by parts. `limit` is the largest payload.
+-- The state of a frame that is written by parts: its link's limit, which is the largest payload, and its progress.
 use Prim.Native.Nat.{ℕ, _-_}
 use mathlib.Core.Bool.{Bool, true, false, not, _&&_, _||_}
 use lib.ListN.{length}
 use lib.Dec.{leb, ltb}
+use Rattle.wire.specs.Limit.{limitFits}
 use Rattle.framing.specs.declared.mark.Kind.the-variants.{Plain}
 use Rattle.framing.specs.Mark.{isMark, isMarkKind}
 use Rattle.parts.specs.declared.state.Stage.{Stage}
 use Rattle.parts.specs.declared.state.Stage.the-variants as stage
+use Rattle.parts.specs.declared.state.Progress.{Progress}
 use Rattle.parts.specs.declared.state.PartWriter.{PartWriter}
 
 -- before the first byte of a frame: nothing is taken, and the checksum of nothing is 2
-abbrev pub startOf : ℕ → ℕ → PartWriter
+abbrev pub startOf : ℕ → ℕ → Progress
 startOf sequence total = record { sequence = sequence; total = total; taken = 0; sum = 2; stage = stage.Start; pending = Plain }
+
+-- .. for a link with a limit
+abbrev pub beginning : ℕ → ℕ → ℕ → PartWriter
+beginning limit sequence total = record { limit = limit; progress = startOf sequence total }
 
 -- a sequence that is a mark, or a total above the limit
 abbrev pub badStart : ℕ → ℕ → ℕ → Bool
 badStart limit sequence total = isMark sequence || ltb limit total
 
--- a lawful state has neither, and no more taken than told
-unfoldable pub lawful : ℕ → PartWriter → Bool
-lawful limit s = not (badStart limit (s .sequence) (s .total)) && leb (s .taken) (s .total)
+-- a lawful state has neither, a limit in its range, and no more taken than told
+unfoldable pub lawful : ℕ → Progress → Bool
+lawful limit s = limitFits limit && (not (badStart limit (s .sequence) (s .total)) && leb (s .taken) (s .total))
 
 -- the payload bytes still missing
-abbrev pub missing : PartWriter → ℕ
+abbrev pub missing : Progress → ℕ
 missing s = s .total - s .taken
 
 abbrev pub isPayload : Stage → Bool
@@ -46,9 +52,9 @@ isDone stage.End = false
 isDone stage.Done = true
 
 -- the next byte is the payload's, or the first of the checksum
-abbrev pub inPayload : PartWriter → Bool
+abbrev pub inPayload : Progress → Bool
 inPayload s = isPayload (s .stage) && not (isMarkKind (s .pending))
 
 -- all of the frame is written
-abbrev pub ended : PartWriter → Bool
+abbrev pub ended : Progress → Bool
 ended s = isDone (s .stage) && not (isMarkKind (s .pending))

@@ -6,12 +6,14 @@ use lib.ListN.{length}
 use lib.Dec.{eqb, ltb}
 use lib.Seq.{sets}
 use Rattle.wire.specs.Told.{Told, given, refused, line, table}
+use Rattle.wire.specs.Limit.{limitFits}
+use Rattle.parts.specs.declared.state.Progress.{Progress}
 use Rattle.parts.specs.declared.state.PartWriter.{PartWriter}
 use Rattle.parts.specs.declared.writer.Refusal.{Refusal}
 use Rattle.parts.specs.declared.writer.Refusal.the-variants.{Unlawful, TooMuch, NoRoom}
 use Rattle.parts.specs.declared.writer.Begun.{Begun}
 use Rattle.parts.specs.declared.writer.PartOutcome.{PartOutcome}
-use Rattle.parts.specs.State.{startOf, badStart, lawful, missing, ended}
+use Rattle.parts.specs.State.{beginning, badStart, lawful, missing, ended}
 use Rattle.parts.specs.Fill.{Filled, fillOf}
 
 -- payload bytes taken, output bytes written, and whether the frame has ended
@@ -26,10 +28,10 @@ count taken written over = record { taken = taken; written = written; ended = ov
 -- what a call leaves: what it tells, the next state and the lent output
 pub record Wrote : Type 0 where
   pub told : Told Count
-  pub next : PartWriter
+  pub next : Progress
   pub out : List ℕ
 
-abbrev pub wrote : Told Count → PartWriter → List ℕ → Wrote
+abbrev pub wrote : Told Count → Progress → List ℕ → Wrote
 wrote t s out = record { told = t; next = s; out = out }
 
 abbrev pub filled : List ℕ → Filled → Wrote
@@ -37,10 +39,15 @@ filled out f = wrote (given (count (f .taken) (length (f .bytes)) (ended (f .nex
 
 -- the start
 abbrev pub beginOf : ℕ → ℕ → ℕ → Told PartWriter
-beginOf limit sequence total = table (line 15 (badStart limit sequence total) ∷ []) refused (given (startOf sequence total))
+beginOf limit sequence total =
+    table
+    (line 17 (not (limitFits limit))
+    ∷ line 15 (badStart limit sequence total)
+    ∷ [])
+    refused (given (beginning limit sequence total))
 
 -- each later call
-abbrev pub partOf : ℕ → PartWriter → List ℕ → List ℕ → Wrote
+abbrev pub partOf : ℕ → Progress → List ℕ → List ℕ → Wrote
 partOf limit s offered out =
     table
     (line 1 (not (lawful limit s))
@@ -59,11 +66,13 @@ numberOf NoRoom = 14
 
 abbrev pub toldBegun : Begun → Told PartWriter
 toldBegun (Begun.Ready s) = given s
+toldBegun Begun.BadLimit = refused 17
 toldBegun Begun.BadArgument = refused 15
 
 -- 0 where the frame is begun
 abbrev pub begunNumber : Begun → ℕ
 begunNumber (Begun.Ready s) = 0
+begunNumber Begun.BadLimit = 17
 begunNumber Begun.BadArgument = 15
 
 abbrev pub told : PartOutcome → Told Count

@@ -1,5 +1,5 @@
 // The fast path over a payload: what writes bytes at once promises only that nothing is lost by it.
-use crate::state::PartWriter;
+use crate::state::Progress;
 use crate::state::Stage;
 use framing::checksum::add_all;
 use framing::checksum::add_byte;
@@ -24,7 +24,7 @@ ghost use Rattle.parts.specs.FastPath.{codeBy, body, Onward};
 
 // The state, the payload bytes taken and the bytes written so far.
 pub struct Passed {
-    pub next: PartWriter,
+    pub next: Progress,
     pub taken: usize,
     pub at: usize,
 }
@@ -41,13 +41,13 @@ fn code(b: u8) -> u8
     }
 }
 
-impl PartWriter {
+impl Progress {
     // The state in the payload with n more bytes taken.
     fn advanced(self, n: usize, sum: u16) -> Self
         requires { ⌜ n ≤ missing self ⌝ }
         ensures { λ r. ⌜ (r ≡ body (self .sequence) (self .total) (self .taken + n) sum) × (self .sum < 65536) ⌝ }
     {
-        PartWriter {
+        Progress {
             sequence: self.sequence,
             total: self.total,
             taken: self.taken + n,

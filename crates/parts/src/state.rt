@@ -1,7 +1,8 @@
-// The state of a frame that is written by parts: every value has a meaning, that of what is still to be written.
+// The state of a frame that is written by parts: its link's limit, and its progress. Every value has a meaning, that of what
+// is still to be written.
 use framing::mark::Kind;
 use framing::mark::is_mark;
-use wire::MESSAGE_LIMIT;
+use wire::limit::limit_fits;
 use wire::logic::both;
 use wire::logic::either;
 ghost use mathlib.Core.Path.{_≡_};
@@ -22,7 +23,7 @@ pub enum Stage {
 
 // The frame's sequence, its payload's length, the payload bytes taken and their checksum, the stage, and the mark of which
 // only F2 is written (plain: none): its code comes before the stage's byte.
-pub struct PartWriter {
+pub struct Progress {
     pub sequence: u8,
     pub total: usize,
     pub taken: usize,
@@ -31,10 +32,15 @@ pub struct PartWriter {
     pub pending: Kind,
 }
 
-pub fn bad_start(sequence: u8, total: usize) -> bool
-    ensures { λ r. ⌜ r ≡ badStart 4096 sequence total ⌝ }
+pub struct PartWriter {
+    pub limit: usize,
+    pub progress: Progress,
+}
+
+pub fn bad_start(limit: usize, sequence: u8, total: usize) -> bool
+    ensures { λ r. ⌜ r ≡ badStart limit sequence total ⌝ }
 {
-    either(is_mark(sequence), MESSAGE_LIMIT < total)
+    either(is_mark(sequence), limit < total)
 }
 
 fn is_payload(stage: Stage) -> bool
@@ -78,12 +84,12 @@ fn is_pending(kind: Kind) -> bool
     }
 }
 
-impl PartWriter {
+impl Progress {
     // Before the first byte of a frame.
     pub fn start(sequence: u8, total: usize) -> Self
         ensures { λ r. ⌜ r ≡ startOf sequence total ⌝ }
     {
-        PartWriter {
+        Progress {
             sequence,
             total,
             taken: 0,
@@ -93,13 +99,15 @@ impl PartWriter {
         }
     }
 
-    pub fn is_lawful(self) -> bool
-        ensures { λ r. ⌜ r ≡ lawful 4096 self ⌝ }
+    // Whether the limit is in its range, and the progress lawful for it.
+    pub fn is_lawful(self, limit: usize) -> bool
+        ensures { λ r. ⌜ r ≡ lawful limit self ⌝ }
     {
-        both(
-            !bad_start(self.sequence, self.total),
+        let told = both(
+            !bad_start(limit, self.sequence, self.total),
             self.taken <= self.total,
-        )
+        );
+        both(limit_fits(limit), told)
     }
 
     // The payload bytes still missing.

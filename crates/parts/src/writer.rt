@@ -1,7 +1,9 @@
 // The calls: a frame begun, and each part of it.
 use crate::byte::Emitted;
 use crate::state::PartWriter;
+use crate::state::Progress;
 use crate::state::bad_start;
+use wire::limit::limit_fits;
 ghost use mathlib.Core.Path.{_≡_};
 ghost use lib.ListN.{length};
 ghost use Rattle.parts.specs.declared.writer.PartOutcome.{PartOutcome};
@@ -16,9 +18,10 @@ pub enum Refusal {
     NoRoom,
 }
 
-// A writer before its first byte, or refusal 15.
+// A writer before its first byte, or refusal 17 or 15.
 pub enum Begun {
     Ready(PartWriter),
+    BadLimit,
     BadArgument,
 }
 
@@ -29,6 +32,7 @@ impl Begun {
     {
         match self {
             Begun::Ready(_) => 0,
+            Begun::BadLimit => 17,
             Begun::BadArgument => 15,
         }
     }
@@ -49,6 +53,12 @@ pub struct PartWritten {
     pub next: PartWriter,
 }
 
+// The same of the progress alone.
+struct Advanced {
+    outcome: PartOutcome,
+    next: Progress,
+}
+
 impl Refusal {
     pub fn number(self) -> u8
         ensures { λ r. ⌜ r ≡ numberOf self ⌝ }
@@ -62,20 +72,20 @@ impl Refusal {
 }
 
 // What a call answers that is refused.
-fn refuse(why: Refusal, next: PartWriter) -> PartWritten
+fn refuse(why: Refusal, next: Progress) -> Advanced
     ensures { λ r. ⌜ r ≡ record { outcome = PartOutcome.Refused why; next = next } ⌝ }
 {
-    PartWritten {
+    Advanced {
         outcome: PartOutcome::Refused(why),
         next,
     }
 }
 
 // What a call answers that stops in a state.
-fn stop(next: PartWriter, taken: usize, written: usize) -> PartWritten
+fn stop(next: Progress, taken: usize, written: usize) -> Advanced
     ensures { λ r. ⌜ r ≡ record { outcome = PartOutcome.Wrote taken written (ended next); next = next } ⌝ }
 {
-    PartWritten {
+    Advanced {
         outcome: PartOutcome::Wrote {
             taken,
             written,
@@ -85,19 +95,9 @@ fn stop(next: PartWriter, taken: usize, written: usize) -> PartWritten
     }
 }
 
-impl PartWriter {
-    // Begins a frame whose payload will have `total` bytes.
-    pub fn begin(sequence: u8, total: usize) -> Begun
-        ensures { λ r. ⌜ toldBegun r ≡ beginOf 4096 sequence total ⌝ }
-    {
-        if bad_start(sequence, total) {
-            return Begun::BadArgument;
-        }
-        Begun::Ready(PartWriter::start(sequence, total))
-    }
-
+impl Progress {
     // Fills an output as far as the frame and the payload offered go.
-    fn fill(self, payload: &[u8], out: &mut [u8]) -> PartWritten
+    fn fill(self, payload: &[u8], out: &mut [u8]) -> Advanced
         ensures { λ r. ⌜ wrote (told (r .outcome)) (r .next) (now (out .exit))
             ≡ filled (now (out .entry)) (fillOf (length (now (out .entry))) self (now (payload .entry))) ⌝ }
     {
@@ -130,12 +130,12 @@ impl PartWriter {
         }
     }
 
-    // Takes payload and writes the frame on into an output.
-    pub fn write(self, payload: &[u8], out: &mut [u8]) -> PartWritten
+    // Takes payload and writes the frame on, for any limit and any progress.
+    fn take_part(self, limit: usize, payload: &[u8], out: &mut [u8]) -> Advanced
         ensures { λ r. ⌜ wrote (told (r .outcome)) (r .next) (now (out .exit))
-            ≡ partOf 4096 self (now (payload .entry)) (now (out .entry)) ⌝ }
+            ≡ partOf limit self (now (payload .entry)) (now (out .entry)) ⌝ }
     {
-        if !self.is_lawful() {
+        if !self.is_lawful(limit) {
             return refuse(Refusal::Unlawful, self);
         }
         if self.missing() < payload.len() {
@@ -145,5 +145,39 @@ impl PartWriter {
             return refuse(Refusal::NoRoom, self);
         }
         self.fill(payload, out)
+    }
+}
+
+impl PartWriter {
+    // Begins a frame whose payload will have `total` bytes, for a link with a limit.
+    pub fn begin(sequence: u8, limit: usize, total: usize) -> Begun
+        ensures { λ r. ⌜ toldBegun r ≡ beginOf limit sequence total ⌝ }
+    {
+        if !limit_fits(limit) {
+            return Begun::BadLimit;
+        }
+        if bad_start(limit, sequence, total) {
+            return Begun::BadArgument;
+        }
+        let progress = Progress::start(sequence, total);
+        Begun::Ready(PartWriter { limit, progress })
+    }
+
+    // Takes payload and writes the frame on into an output.
+    pub fn write(self, payload: &[u8], out: &mut [u8]) -> PartWritten
+        ensures { λ r. ⌜ (wrote (told (r .outcome)) (r .next .progress) (now (out .exit))
+            ≡ partOf (self .limit) (self .progress) (now (payload .entry)) (now (out .entry))) × (r .next .limit ≡ self .limit) ⌝ }
+    {
+        let progress = self.progress;
+        let done = progress.take_part(self.limit, payload, out);
+        let outcome = done.outcome;
+        let progress = done.next;
+        PartWritten {
+            outcome,
+            next: PartWriter {
+                limit: self.limit,
+                progress,
+            },
+        }
     }
 }

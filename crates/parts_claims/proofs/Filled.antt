@@ -10,9 +10,10 @@ use lib.ListN.{length, take, drop, length-append, length-take}
 use lib.Dec.{ltb, eqb}
 use borrow.Author.Tests.{lt-ltb, le-ltb, le-leb, ne-eqb}
 use Rattle.wire.specs.Told.{given, refused}
+use Rattle.wire.specs.Limit.{limitFits}
 use Rattle.wire.proofs.Stores.{first-bytes}
 use Rattle.framing.specs.Mark.{isMark}
-use Rattle.parts.specs.declared.state.PartWriter.{PartWriter}
+use Rattle.parts.specs.declared.state.Progress.{Progress}
 use Rattle.parts.specs.State.{lawful, missing}
 use Rattle.parts.specs.Byte.{Byte}
 use Rattle.parts.specs.Fill.{Filled, andOn, fillOf}
@@ -21,23 +22,23 @@ use Rattle.parts_claims.specs.Run.{Call, part, beyond, offeredBy, lentBy
 use Rattle.parts_claims.proofs.Left.{leftOf, firstsIn, Fits, Same, Emits, ends, starves, own, takes, view}
 
 -- what was written and what is left afterwards is what was left before, and so are the first output bytes of the payload
-pub record Goes (s : PartWriter) (p bytes : List ℕ) (taken : ℕ) (next : PartWriter) : Type 0 where
+pub record Goes (s : Progress) (p bytes : List ℕ) (taken : ℕ) (next : Progress) : Type 0 where
   pub joins : leftOf s p ≡ bytes ++ leftOf next (drop taken p)
   pub fits : Fits next (drop taken p)
   pub same : Same next s
   pub firsts : (m : ℕ) → firstsIn (length bytes + m) s p ≡ taken + firstsIn m next (drop taken p)
 
-stays : (s : PartWriter) (p : List ℕ) → Fits s p → Goes s p [] 0 s
+stays : (s : Progress) (p : List ℕ) → Fits s p → Goes s p [] 0 s
 stays s p f = record { joins = refl; fits = f; same = (refl, refl); firsts = λ m. rw (zero-add, zero-add) }
 
 -- ---- an output filled
 
 abbrev Fills : ℕ → Type 0
 Fills room =
-    (n : ℕ) (s : PartWriter) (p : List ℕ) → Fits s p
+    (n : ℕ) (s : Progress) (p : List ℕ) → Fits s p
     → (let f = fillOf room s (take n p) in Goes s p (f .bytes) (f .taken) (f .next) × (length (f .bytes) ≤ room))
 
-turn : (room : ℕ) → Fills room → (n : ℕ) (s : PartWriter) (p : List ℕ) {x : Byte} → Fits s p → Emits s p n x
+turn : (room : ℕ) → Fills room → (n : ℕ) (s : Progress) (p : List ℕ) {x : Byte} → Fits s p → Emits s p n x
     → (let f = andOn s x (λ next k. fillOf room next (drop k (take n p))) in Goes s p (f .bytes) (f .taken) (f .next) × (length (f .bytes) ≤ suc room))
 turn room later n s p f (ends e) = (stays s [] f, zero-le)
 turn room later n s p f (starves {x} {xs}) = (stays s (x ∷ xs) f, zero-le)
@@ -71,10 +72,10 @@ fills (suc room) n s p f = turn room (fills room) n s p f (view s p n f)
 
 -- ---- a call
 
-abbrev Left : PartWriter → List ℕ → Wrote → Type 0
+abbrev Left : Progress → List ℕ → Wrote → Type 0
 Left s p w = Goes s p (writtenBy (w .told) (w .out)) (takenBy (w .told)) (w .next)
 
-part-goes : (limit : ℕ) (s : PartWriter) (p : List ℕ) (n : ℕ) (out : List ℕ) → Fits s p → Left s p (partOf limit s (take n p) out)
+part-goes : (limit : ℕ) (s : Progress) (p : List ℕ) (n : ℕ) (out : List ℕ) → Fits s p → Left s p (partOf limit s (take n p) out)
 part-goes limit s p n out f = go (not (lawful limit s)) (ltb (missing s) (length (take n p))) (eqb (length out) 0)
   where
     go : (a b c : Bool)
@@ -87,7 +88,7 @@ part-goes limit s p n out f = go (not (lawful limit s)) (ltb (missing s) (length
         rw (first-bytes out (fillOf (length out) s (take n p) .bytes) (r .1)) (r .0)
 
 -- more than is missing is refused
-beyond-goes : (limit : ℕ) (s : PartWriter) (p more : List ℕ) (b : ℕ) (out : List ℕ) → Fits s p → Left s p (partOf limit s (p ++ (b ∷ more)) out)
+beyond-goes : (limit : ℕ) (s : Progress) (p more : List ℕ) (b : ℕ) (out : List ℕ) → Fits s p → Left s p (partOf limit s (p ++ (b ∷ more)) out)
 beyond-goes limit s p more b out f =
     rw (lt-ltb (missing s) (length (p ++ (b ∷ more))) (rw length-append (omega (arith, f .told)))) (go (not (lawful limit s)))
   where
@@ -95,18 +96,19 @@ beyond-goes limit s p more b out f =
     go true = stays s p f
     go false = stays s p f
 
-pub call-goes : (limit : ℕ) (s : PartWriter) (p : List ℕ) (c : Call) → Fits s p → Left s p (partOf limit s (offeredBy c p) (lentBy c))
+pub call-goes : (limit : ℕ) (s : Progress) (p : List ℕ) (c : Call) → Fits s p → Left s p (partOf limit s (offeredBy c p) (lentBy c))
 call-goes limit s p (part n out) f = part-goes limit s p n out f
 call-goes limit s p (beyond b bs out) f = beyond-goes limit s p bs b out f
 
 -- ---- a call that is not refused
 
-pub call-filled : (limit : ℕ) (s : PartWriter) (offered out : List ℕ)
-    → isMark (s .sequence) ≡ false → s .total ≤ limit → s .taken + length offered ≤ s .total → 1 ≤ length out
+pub call-filled : (limit : ℕ) (s : Progress) (offered out : List ℕ)
+    → limitFits limit ≡ true → isMark (s .sequence) ≡ false → s .total ≤ limit → s .taken + length offered ≤ s .total → 1 ≤ length out
     → partOf limit s offered out ≡ filled out (fillOf (length out) s offered)
 unfolding lawful
-call-filled limit s offered out m t h o =
+call-filled limit s offered out range m t h o =
     rw (
+      range,
       m,
       le-ltb limit (s .total) t,
       le-leb (s .taken) (s .total) (omega arith),

@@ -10,28 +10,31 @@ use lib.Seq.{take-append-seam}
 use lib.Dec.{ltb, leb}
 use borrow.Author.Tests.{le-ltb, leb-true}
 use Rattle.wire.specs.Told.{given}
+use Rattle.wire.specs.Limit.{limitFits}
 use Rattle.wire.proofs.Stores.{first-bytes}
 use Rattle.wire.proofs.Tests.{and-left, and-right}
 use Rattle.framing.specs.Mark.{isMark}
 use Rattle.framing.specs.Frame.{frameOf}
-use Rattle.parts.specs.declared.state.PartWriter.{PartWriter}
+use Rattle.frame_writer.specs.Sending.{FrameToSend, Sendable}
+use Rattle.frame_writer.proofs.Sending.{sent-frame}
+use Rattle.parts.specs.declared.state.Progress.{Progress}
 use Rattle.parts.specs.State.{startOf, ended}
 use Rattle.parts.specs.Byte.{Byte}
 use Rattle.parts.specs.Fill.{andOn, fillOf}
 use Rattle.parts.specs.Writer.{partOf}
 use Rattle.parts_claims.specs.Run.{Call, part, beyond, offeredBy, lentBy, takenBy, writtenBy, Run, runOf, isFruitful, fruitful}
-use Rattle.parts_claims.specs.Joined.{Sending, Sendable, wholeOf, Joins, PartsJoin}
+use Rattle.parts_claims.specs.Joined.{Joins, PartsJoin}
 use Rattle.parts_claims.proofs.Left.{leftOf, firstsIn, firsts-none, Fits, Emits, ends, starves, own, takes, view, start-left, start-fits, start-firsts, left-ended, ended-left}
 use Rattle.parts_claims.proofs.Filled.{fills, call-goes, call-filled}
 
 -- ---- calls one after another
 
-pub record Went (s : PartWriter) (p : List ℕ) (run : Run) : Type 0 where
+pub record Went (s : Progress) (p : List ℕ) (run : Run) : Type 0 where
   pub left : List ℕ
   pub joins : leftOf s p ≡ run .bytes ++ leftOf (run .next) left
   pub firsts : (m : ℕ) → firstsIn (length (run .bytes) + m) s p ≡ run .taken + firstsIn m (run .next) left
 
-run-went : (limit : ℕ) (cs : List Call) (s : PartWriter) (p : List ℕ) → Fits s p → Went s p (runOf limit cs s p)
+run-went : (limit : ℕ) (cs : List Call) (s : Progress) (p : List ℕ) → Fits s p → Went s p (runOf limit cs s p)
 unfolding runOf
 run-went limit [] s p f = record { left = p; joins = refl; firsts = λ m. rw (zero-add, zero-add) }
 run-went limit (c ∷ cs) s p f =
@@ -51,14 +54,14 @@ run-went limit (c ∷ cs) s p f =
 
 -- ---- fruitful calls come to the end
 
-turn-nearer : (room n : ℕ) (s : PartWriter) (p : List ℕ) {x : Byte} → 1 ≤ n → Emits s p n x
+turn-nearer : (room n : ℕ) (s : Progress) (p : List ℕ) {x : Byte} → 1 ≤ n → Emits s p n x
     → (let f = andOn s x (λ next k. fillOf room next (drop k (take n p))) in 1 ≤ length (f .bytes) + (1 - length (leftOf s p)))
 turn-nearer room n s p h (ends e) = rw e (omega arith)
 turn-nearer room n s p h (starves) = absurd (omega arith)
 turn-nearer room n s p h (own b q next e fits same count) = omega arith
 turn-nearer room (suc n) s p h (takes b x xs next e fits same count) = omega arith
 
-fill-nearer : (room n : ℕ) (s : PartWriter) (p : List ℕ) → Fits s p → 1 ≤ room → 1 ≤ n → 1 ≤ length (fillOf room s (take n p) .bytes) + (1 - length (leftOf s p))
+fill-nearer : (room n : ℕ) (s : Progress) (p : List ℕ) → Fits s p → 1 ≤ room → 1 ≤ n → 1 ≤ length (fillOf room s (take n p) .bytes) + (1 - length (leftOf s p))
 unfolding fillOf
 fill-nearer zero n s p f r h = absurd (omega arith)
 fill-nearer (suc room) n s p f r h = turn-nearer room n s p h (view s p n f)
@@ -67,10 +70,10 @@ fill-nearer (suc room) n s p f r h = turn-nearer room n s p h (view s p n f)
 abbrev least : Call → ℕ
 least c = cond (isFruitful c) 1 0
 
-call-nearer : (limit : ℕ) (s : PartWriter) (p : List ℕ) (c : Call) → Fits s p → isMark (s .sequence) ≡ false → s .total ≤ limit
+call-nearer : (limit : ℕ) (s : Progress) (p : List ℕ) (c : Call) → Fits s p → limitFits limit ≡ true → isMark (s .sequence) ≡ false → s .total ≤ limit
     → (let w = partOf limit s (offeredBy c p) (lentBy c) in least c ≤ length (writtenBy (w .told) (w .out)) + (1 - length (leftOf s p)))
-call-nearer limit s p (beyond b bs out) f m t = omega arith
-call-nearer limit s p (part n out) f m t = go (leb 1 n && leb 1 (length out)) refl
+call-nearer limit s p (beyond b bs out) f range m t = omega arith
+call-nearer limit s p (part n out) f range m t = go (leb 1 n && leb 1 (length out)) refl
   where
     go : (b : Bool) → (leb 1 n && leb 1 (length out)) ≡ b
         → (let w = partOf limit s (take n p) out in cond b 1 0 ≤ length (writtenBy (w .told) (w .out)) + (1 - length (leftOf s p)))
@@ -79,31 +82,25 @@ call-nearer limit s p (part n out) f m t = go (leb 1 n && leb 1 (length out)) re
         let offers = leb-true 1 n (and-left (leb 1 n) (leb 1 (length out)) e) in
         let lends = leb-true 1 (length out) (and-right (leb 1 n) (leb 1 (length out)) e) in
         let most : s .taken + length (take n p) ≤ s .total = rw length-take (omega (arith, f .told)) in
-        rw (call-filled limit s (take n p) out m t most lends, first-bytes out (fillOf (length out) s (take n p) .bytes) (fills (length out) n s p f .1))
+        rw (call-filled limit s (take n p) out range m t most lends, first-bytes out (fillOf (length out) s (take n p) .bytes) (fills (length out) n s p f .1))
         (fill-nearer (length out) n s p f lends offers)
 
-ends-in : (limit : ℕ) (cs : List Call) (s : PartWriter) (p : List ℕ) → Fits s p → isMark (s .sequence) ≡ false → s .total ≤ limit
+ends-in : (limit : ℕ) → limitFits limit ≡ true → (cs : List Call) (s : Progress) (p : List ℕ) → Fits s p → isMark (s .sequence) ≡ false → s .total ≤ limit
     → length (leftOf s p) ≤ fruitful cs → ended (runOf limit cs s p .next) ≡ true
 unfolding runOf fruitful
-ends-in limit [] s p f m t h = left-ended s p (omega arith)
-ends-in limit (c ∷ cs) s p f m t h =
+ends-in limit range [] s p f m t h = left-ended s p (omega arith)
+ends-in limit range (c ∷ cs) s p f m t h =
     let w = partOf limit s (offeredBy c p) (lentBy c) in
     let g = call-goes limit s p c f in
     let bytes = writtenBy (w .told) (w .out) in
     let rest = leftOf (w .next) (drop (takenBy (w .told)) p) in
     let size : length (leftOf s p) ≡ length bytes + length rest = ap length (g .joins) ∙ length-append bytes rest in
-    let near = call-nearer limit s p c f m t in
-    ends-in limit cs (w .next) (drop (takenBy (w .told)) p) (g .fits) (ap isMark (g .same .0) ∙ m) (rw (g .same .1) t) (omega (arith, size, near, h))
+    let near = call-nearer limit s p c f range m t in
+    ends-in limit range cs (w .next) (drop (takenBy (w .told)) p) (g .fits) (ap isMark (g .same .0) ∙ m) (rw (g .same .1) t) (omega (arith, size, near, h))
 
 -- ---- the claim
 
-whole-frame : (limit : ℕ) (m : Sending) → Sendable limit m → wholeOf limit m ≡ frameOf (m .sequence) (m .payload)
-whole-frame limit m k =
-    let f = frameOf (m .sequence) (m .payload) in
-    rw (k .unmarked, le-ltb limit (length (m .payload)) (omega (arith, k .fits)), le-ltb (length (m .out)) (length f) (k .room))
-    (first-bytes (m .out) f (k .room))
-
-joins-frame : (limit : ℕ) (m : Sending) (calls : List Call) → Sendable limit m
+joins-frame : (limit : ℕ) (m : FrameToSend) (calls : List Call) → Sendable limit m
     → Joins (frameOf (m .sequence) (m .payload)) m calls (runOf limit calls (startOf (m .sequence) (length (m .payload))) (m .payload))
 joins-frame limit m calls k =
     let p = m .payload in
@@ -120,9 +117,9 @@ joins-frame limit m calls k =
       taken =
           sym (sym (start-firsts (length (run .bytes)) q (length p) p) ∙ ap (λ (n : ℕ). firstsIn n s p) (sym (add-zero (length (run .bytes)))) ∙ r .firsts 0
           ∙ ap (λ (n : ℕ). run .taken + n) (firsts-none (run .next) (r .left)) ∙ add-zero (run .taken));
-      ends = λ h. ends-in limit calls s p (start-fits q p) (k .unmarked) (omega (arith, k .fits)) (rw (start-left q (length p) p) h);
+      ends = λ h. ends-in limit (k .range) calls s p (start-fits q p) (k .unmarked) (omega (arith, k .fits)) (rw (start-left q (length p) p) h);
     }
 
 pub parts-join : PartsJoin
 parts-join limit m calls k =
-    (rw (k .unmarked, le-ltb limit (length (m .payload)) (omega (arith, k .fits))), whole-frame limit m k, rw (whole-frame limit m k) (joins-frame limit m calls k))
+    (rw (k .range, k .unmarked, le-ltb limit (length (m .payload)) (omega (arith, k .fits))), sent-frame limit m k, rw (sent-frame limit m k) (joins-frame limit m calls k))

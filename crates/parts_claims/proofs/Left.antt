@@ -16,7 +16,7 @@ use Rattle.framing.specs.Frame.{packetId, errorId, startCode, endCode, escapeCo
 use Rattle.frame_writer.proofs.Escaping.{frame-parts}
 use Rattle.parts.specs.declared.state.Stage.{Stage}
 use Rattle.parts.specs.declared.state.Stage.the-variants as stage
-use Rattle.parts.specs.declared.state.PartWriter.{PartWriter}
+use Rattle.parts.specs.declared.state.Progress.{Progress}
 use Rattle.parts.specs.State.{startOf, isDone, ended}
 use Rattle.parts.specs.Byte.{firstBy, took, Byte, nothing, byte, payloadByte, bodyByte, closing, stageByte, pendingByte, byteOf}
 use Rattle.parts_claims.specs.Joined.{firstsAmong, begunIn}
@@ -58,7 +58,7 @@ stageOf stage.Low sequence sum p = lowOf sum
 stageOf stage.End sequence sum p = endMark ∷ []
 stageOf stage.Done sequence sum p = []
 
-unfoldable pub leftOf : PartWriter → List ℕ → List ℕ
+unfoldable pub leftOf : Progress → List ℕ → List ℕ
 leftOf s p = codes (s .pending) ++ stageOf (s .stage) (s .sequence) (s .sum) p
 
 -- ---- the first output bytes of the payload left
@@ -75,7 +75,7 @@ lead stage.End = 0
 lead stage.Done = 0
 
 -- how many of them are among the next n
-unfoldable pub firstsIn : ℕ → PartWriter → List ℕ → ℕ
+unfoldable pub firstsIn : ℕ → Progress → List ℕ → ℕ
 firstsIn n s p = firstsAmong n (length (codes (s .pending)) + lead (s .stage)) p
 
 ltb-suc : (m n : ℕ) → ltb (suc m) (suc n) ≡ ltb m n
@@ -105,7 +105,7 @@ among-taken m x xs =
     let up : 1 + firstsAmong m (n + 0) xs ≡ suc (firstsAmong m (n + 0) xs) = omega arith in
     rw (lt-ltb 0 (suc m) (omega arith), size, among-shift m (n + 0) xs) up
 
-pub firsts-none : (s : PartWriter) (p : List ℕ) → firstsIn 0 s p ≡ 0
+pub firsts-none : (s : Progress) (p : List ℕ) → firstsIn 0 s p ≡ 0
 unfolding firstsIn
 firsts-none s p = among-none (length (codes (s .pending)) + lead (s .stage)) p
 
@@ -123,25 +123,25 @@ Closed stage.End p = p ≡ []
 Closed stage.Done p = p ≡ []
 
 -- a state and the payload that is left
-pub record Fits (s : PartWriter) (p : List ℕ) : Type 0 where
+pub record Fits (s : Progress) (p : List ℕ) : Type 0 where
   pub told : s .taken + length p ≡ s .total
   pub small : s .sum < 65536
   pub closed : Closed (s .stage) p
 
 -- sequence and total stay
-abbrev pub Same : PartWriter → PartWriter → Type 0
+abbrev pub Same : Progress → Progress → Type 0
 Same next s = (next .sequence ≡ s .sequence) × (next .total ≡ s .total)
 
 -- one output byte where n of the bytes left are offered: none, one that needs no payload, or the first of a payload byte
-pub data Emits (s : PartWriter) : List ℕ → ℕ → Byte → Type 0 where
+pub data Emits (s : Progress) : List ℕ → ℕ → Byte → Type 0 where
   ends : {n : ℕ} → leftOf s [] ≡ [] → Emits s [] n nothing
   starves : {x : ℕ} {xs : List ℕ} → Emits s (x ∷ xs) 0 nothing
-  own : {n : ℕ} (b : ℕ) (p : List ℕ) (next : PartWriter) → leftOf s p ≡ b ∷ leftOf next p → Fits next p → Same next s
+  own : {n : ℕ} (b : ℕ) (p : List ℕ) (next : Progress) → leftOf s p ≡ b ∷ leftOf next p → Fits next p → Same next s
       → ((m : ℕ) → firstsIn (suc m) s p ≡ firstsIn m next p) → Emits s p n (byte b next 0)
-  takes : {n : ℕ} (b x : ℕ) (xs : List ℕ) (next : PartWriter) → leftOf s (x ∷ xs) ≡ b ∷ leftOf next xs → Fits next xs → Same next s
+  takes : {n : ℕ} (b x : ℕ) (xs : List ℕ) (next : Progress) → leftOf s (x ∷ xs) ≡ b ∷ leftOf next xs → Fits next xs → Same next s
       → ((m : ℕ) → firstsIn (suc m) s (x ∷ xs) ≡ suc (firstsIn m next xs)) → Emits s (x ∷ xs) (suc n) (byte b next 1)
 
-abbrev state : Stage → Kind → ℕ → ℕ → ℕ → ℕ → PartWriter
+abbrev state : Stage → Kind → ℕ → ℕ → ℕ → ℕ → Progress
 state at k sequence total taken sum = record { sequence = sequence; total = total; taken = taken; sum = sum; stage = at; pending = k }
 
 sum-step : (c x rest : ℕ) → (c + (x + rest)) % 65536 ≡ ((c + x) % 65536 + rest) % 65536
@@ -210,7 +210,7 @@ module _ (q t h c : ℕ) where
   kind-view at Escape p n f = code-view at Escape p n escapeCode refl f
   kind-view at Plain p n f = stage-view at p n f
 
-pub view : (s : PartWriter) (p : List ℕ) (n : ℕ) → Fits s p → Emits s p n (byteOf s (take n p))
+pub view : (s : Progress) (p : List ℕ) (n : ℕ) → Fits s p → Emits s p n (byteOf s (take n p))
 unfolding byteOf
 view s p n f = kind-view (s .sequence) (s .total) (s .taken) (s .sum) (s .stage) (s .pending) p n f
 
@@ -246,7 +246,7 @@ kind-done End e = absurd (omega (arith, e))
 kind-done Escape e = absurd (omega (arith, e))
 kind-done Plain e = refl
 
-pub left-ended : (s : PartWriter) (p : List ℕ) → length (leftOf s p) ≡ 0 → ended s ≡ true
+pub left-ended : (s : Progress) (p : List ℕ) → length (leftOf s p) ≡ 0 → ended s ≡ true
 unfolding leftOf
 left-ended s p e =
     let rest = stageOf (s .stage) (s .sequence) (s .sum) p in
@@ -267,6 +267,6 @@ ended-state stage.Done End q c p e = absurd (false≢true e)
 ended-state stage.Done Escape q c p e = absurd (false≢true e)
 ended-state stage.Done Plain q c p e = refl
 
-pub ended-left : (s : PartWriter) (p : List ℕ) → ended s ≡ true → leftOf s p ≡ []
+pub ended-left : (s : Progress) (p : List ℕ) → ended s ≡ true → leftOf s p ≡ []
 unfolding leftOf
 ended-left s p e = ended-state (s .stage) (s .pending) (s .sequence) (s .sum) p e

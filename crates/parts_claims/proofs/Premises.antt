@@ -1,26 +1,19 @@
 -- The claim of specs/Premises.antt.
 use Prim.Native.Nat.{ℕ, _+_, _≤_}
 use mathlib.Core.Path.{_≡_, refl}
-use mathlib.Core.Bool.{false}
 use mathlib.Core.List.{List, [], _∷_}
 use native.Mathlib.Numerals.{one-add}
 use native.Mathlib.Omega.{arith}
 use lib.ListN.{length}
-use borrow.Author.Tests.{ne-eqb, le-leb}
-use Rattle.framing.specs.Mark.{kindOf, isMark}
+use borrow.Author.Tests.{le-leb}
+use Rattle.wire.proofs.Limits.{range-limit}
+use Rattle.frame_writer.proofs.Sending.{no-mark, sendable-when}
 use Rattle.parts_claims.specs.Run.{Call, part, beyond, fruitful}
-use Rattle.parts_claims.specs.Premises.{NoMark, SendableWhen, OfferingWhen, AllSome, FruitfulWhen, FactsSuffice}
-
-no-mark : (b : ℕ) → NoMark b → isMark b ≡ false
-unfolding kindOf
-no-mark b h = rw (ne-eqb b 0xF0 (h .0), ne-eqb b 0xF1 (h .1), ne-eqb b 0xF2 (h .2))
-
-sendable-when : SendableWhen
-sendable-when limit m byte plain fits room = record { unmarked = no-mark (m .sequence) plain; fits = omega arith; room = room }
+use Rattle.parts_claims.specs.Premises.{OfferingWhen, AllSome, FruitfulWhen, FactsSuffice}
 
 offering-when : OfferingWhen
-offering-when limit s offered out byte plain fits missing lends =
-    record { unmarked = no-mark (s .sequence) plain; fits = fits; missing = missing; lends = omega arith }
+offering-when limit s offered out some most byte plain fits missing lends =
+    record { range = range-limit limit some most; unmarked = no-mark (s .sequence) plain; fits = fits; missing = missing; lends = omega arith }
 
 fruitful-when : FruitfulWhen
 unfolding fruitful

@@ -7,18 +7,18 @@ use lib.ListN.{replicate}
 use Rattle.wire.specs.Told.{Told, given, refused}
 use Rattle.framing.specs.declared.mark.Kind.{Kind}
 use Rattle.framing.specs.declared.mark.Kind.the-variants.{Start, Escape, Plain}
+use Rattle.frame_writer.specs.Sending.{FrameToSend, Sendable, sent}
 use Rattle.parts.specs.declared.state.Stage.{Stage}
 use Rattle.parts.specs.declared.state.Stage.the-variants as stage
-use Rattle.parts.specs.declared.state.PartWriter.{PartWriter}
+use Rattle.parts.specs.declared.state.Progress.{Progress}
 use Rattle.parts.specs.State.{ended}
 use Rattle.parts.specs.Writer.{Count, count, wrote, beginOf, partOf}
 use Rattle.parts_claims.specs.Run.{Call, part, beyond, Run, runOf}
-use Rattle.parts_claims.specs.Joined.{Sending, Sendable, wholeOf, Joins}
 
 abbrev limit : ℕ
 limit = 8
 
-abbrev state : ℕ → ℕ → ℕ → ℕ → Stage → Kind → PartWriter
+abbrev state : ℕ → ℕ → ℕ → ℕ → Stage → Kind → Progress
 state sequence total taken sum at k = record { sequence = sequence; total = total; taken = taken; sum = sum; stage = at; pending = k }
 
 -- an output before a call
@@ -27,14 +27,14 @@ lent n = replicate n 0xEE
 
 -- a call: its state, what is offered and lent; what it tells, the state afterwards and the output
 pub record Row : Type 0 where
-  pub before : PartWriter
+  pub before : Progress
   pub offered : List ℕ
   pub out : ℕ
   pub told : Told Count
-  pub next : PartWriter
+  pub next : Progress
   pub after : List ℕ
 
-abbrev row : PartWriter → List ℕ → ℕ → Told Count → PartWriter → List ℕ → Row
+abbrev row : Progress → List ℕ → ℕ → Told Count → Progress → List ℕ → Row
 row before offered out told next after = record { before = before; offered = offered; out = out; told = told; next = next; after = after }
 
 abbrev pub Holds : List Row → Type 0
@@ -44,22 +44,22 @@ Holds (r ∷ rs) = (partOf limit (r .before) (r .offered) (lent (r .out)) ≡ wr
 -- ---- a frame of one byte F0 with sequence 5, begun, then written by eight calls
 
 -- at its start; after three bytes; before the payload byte; F2 of it is out; its code is out; the end
-abbrev s₀ : PartWriter
+abbrev s₀ : Progress
 s₀ = state 5 1 0 2 stage.Start Plain
 
-abbrev s₁ : PartWriter
+abbrev s₁ : Progress
 s₁ = state 5 1 0 2 stage.Sequence Plain
 
-abbrev s₂ : PartWriter
+abbrev s₂ : Progress
 s₂ = state 5 1 0 2 stage.Payload Plain
 
-abbrev s₃ : PartWriter
+abbrev s₃ : Progress
 s₃ = state 5 1 1 0xF2 stage.Payload Start
 
-abbrev s₄ : PartWriter
+abbrev s₄ : Progress
 s₄ = state 5 1 1 0xF2 stage.Payload Plain
 
-abbrev s₅ : PartWriter
+abbrev s₅ : Progress
 s₅ = state 5 1 1 0xF2 stage.Done Plain
 
 abbrev pub frame : List Row
@@ -99,7 +99,7 @@ states =
 
 -- ---- the first claim on the frame's calls
 
-abbrev sending : Sending
+abbrev sending : FrameToSend
 sending = record { sequence = 5; payload = 0xF0 ∷ []; out = lent 10 }
 
 -- the calls of the table, with one byte offered at the most and a byte beyond the payload where 26 is due
@@ -119,12 +119,15 @@ bytes = 0xF0 ∷ 0x02 ∷ 0x00 ∷ 0x05 ∷ 0xF2 ∷ 0x02 ∷ 0x00 ∷ 0xF2 ∷ 
 -- ---- the claim
 
 pub record PartsExample : Type 0 where
-  pub begun : beginOf limit 5 8 ≡ given (state 5 8 0 2 stage.Start Plain)
+  pub begun : beginOf limit 5 8 ≡ given (record { limit = limit; progress = state 5 8 0 2 stage.Start Plain })
+  pub limitOfNone : beginOf 0 0xF2 1 ≡ refused 17
+  pub limitAboveAll : beginOf 65536 5 1 ≡ refused 17
   pub markAsSequence : beginOf limit 0xF2 1 ≡ refused 15
   pub totalAboveLimit : beginOf limit 5 9 ≡ refused 15
+  pub unlawfulLimit : partOf 0 s₀ [] (lent 1) ≡ wrote (refused 1) s₀ (lent 1)
   pub frame : Holds frame
   pub states : Holds states
   pub premises : Sendable limit sending
-  pub whole : wholeOf limit sending ≡ bytes
+  pub whole : sent limit sending ≡ bytes
   pub joined : run calls ≡ record { bytes = bytes; taken = 1; next = s₅ }
   pub byOnes : run ones ≡ record { bytes = bytes; taken = 1; next = s₅ }

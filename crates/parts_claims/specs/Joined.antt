@@ -5,33 +5,13 @@ use mathlib.Core.Bool.{true, false, cond}
 use mathlib.Core.List.{List, [], _∷_}
 use lib.ListN.{length, take}
 use lib.Dec.{ltb}
-use Rattle.wire.specs.Told.{Told, given, refused}
-use Rattle.framing.specs.Mark.{kindOf, isMark}
+use Rattle.wire.specs.Told.{given}
+use Rattle.framing.specs.Mark.{kindOf}
 use Rattle.framing.specs.Frame.{escapedBy, headerOf, frameOf}
-use Rattle.frame_writer.specs.Writer.{writeOf}
-use Rattle.parts.specs.State.{startOf, ended}
+use Rattle.frame_writer.specs.Sending.{FrameToSend, Sendable, sent}
+use Rattle.parts.specs.State.{beginning, ended}
 use Rattle.parts.specs.Writer.{beginOf}
 use Rattle.parts_claims.specs.Run.{Call, Run, runOf, fruitful}
-
--- a frame, and an output for all of it
-pub record Sending : Type 0 where
-  pub sequence : ℕ
-  pub payload : List ℕ
-  pub out : List ℕ
-
--- what both writers have to take: a sequence that is no mark, a payload up to the limit; and for the whole writer room for the frame
-pub record Sendable (limit : ℕ) (m : Sending) : Type 0 where
-  pub unmarked : isMark (m .sequence) ≡ false
-  pub fits : length (m .payload) ≤ limit
-  pub room : length (frameOf (m .sequence) (m .payload)) ≤ length (m .out)
-
--- the bytes that the whole writer writes
-abbrev pub toldBytes : Told ℕ → List ℕ → List ℕ
-toldBytes (given n) out = take n out
-toldBytes (refused n) out = []
-
-abbrev pub wholeOf : ℕ → Sending → List ℕ
-wholeOf limit m = let w = writeOf limit (m .sequence) (m .payload) (m .out) in toldBytes (w .told) (w .out)
 
 -- of payload bytes whose first one's output begins at a place: how many have their first output byte among the first n
 unfoldable pub firstsAmong : ℕ → ℕ → List ℕ → ℕ
@@ -45,7 +25,7 @@ begunIn n sequence payload = firstsAmong n (length (headerOf sequence)) payload
 -- ---- the claim
 
 -- a frame, the calls that write it and what they wrote
-pub record Joins (frame : List ℕ) (m : Sending) (calls : List Call) (run : Run) : Type 0 where
+pub record Joins (frame : List ℕ) (m : FrameToSend) (calls : List Call) (run : Run) : Type 0 where
   -- a beginning of the frame, and all of it exactly when it has ended
   pub begins : run .bytes ≡ take (length (run .bytes)) frame
   pub whole : ended (run .next) ≡ true → run .bytes ≡ frame
@@ -59,9 +39,9 @@ pub record Joins (frame : List ℕ) (m : Sending) (calls : List Call) (run : Run
 -- frame that the whole writer writes
 abbrev pub PartsJoin : Type 0
 PartsJoin =
-    (limit : ℕ) (m : Sending) (calls : List Call)
+    (limit : ℕ) (m : FrameToSend) (calls : List Call)
     → Sendable limit m
-    → (let s = startOf (m .sequence) (length (m .payload)) in
+    → (let s = beginning limit (m .sequence) (length (m .payload)) in
     (beginOf limit (m .sequence) (length (m .payload)) ≡ given s)
-    × (wholeOf limit m ≡ frameOf (m .sequence) (m .payload))
-    × Joins (wholeOf limit m) m calls (runOf limit calls s (m .payload)))
+    × (sent limit m ≡ frameOf (m .sequence) (m .payload))
+    × Joins (sent limit m) m calls (runOf (s .limit) calls (s .progress) (m .payload)))

@@ -1,32 +1,19 @@
 -- The premises of the claims from the other side: each follows from the facts of docs/FORMATS.md, written out, so none of them asks for more.
 use Prim.Native.Nat.{ℕ, _+_, _≤_, _<_}
 use mathlib.Core.Path.{_≡_}
-use mathlib.Core.Logic.{_≢_}
 use mathlib.Core.List.{List, [], _∷_}
 use lib.ListN.{length}
-use Rattle.framing.specs.Frame.{frameOf}
-use Rattle.parts.specs.declared.state.PartWriter.{PartWriter}
+use Rattle.frame_writer.specs.Sending.{NoMark, SendableWhen}
+use Rattle.parts.specs.declared.state.Progress.{Progress}
 use Rattle.parts_claims.specs.Run.{Call, part, beyond, fruitful}
-use Rattle.parts_claims.specs.Joined.{Sending, Sendable}
 use Rattle.parts_claims.specs.Stopping.{Offering}
-
-abbrev pub NoMark : ℕ → Type 0
-NoMark b = (b ≢ 0xF0) × (b ≢ 0xF1) × (b ≢ 0xF2)
-
--- a sequence byte that is no mark, a payload of 0 to limit bytes, and for the whole writer an output that is at least as long as their frame
-abbrev pub SendableWhen : Type 0
-SendableWhen =
-    (limit : ℕ) (m : Sending)
-    → m .sequence < 256
-    → NoMark (m .sequence)
-    → length (m .payload) ≤ limit
-    → length (frameOf (m .sequence) (m .payload)) ≤ length (m .out)
-    → Sendable limit m
 
 -- a lawful state, at most as many bytes as are missing, an output of one byte or more
 abbrev pub OfferingWhen : Type 0
 OfferingWhen =
-    (limit : ℕ) (s : PartWriter) (offered out : List ℕ)
+    (limit : ℕ) (s : Progress) (offered out : List ℕ)
+    → 1 ≤ limit
+    → limit ≤ 65535
     → s .sequence < 256
     → NoMark (s .sequence)
     → s .total ≤ limit

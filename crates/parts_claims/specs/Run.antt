@@ -5,7 +5,7 @@ use mathlib.Core.List.{List, [], _∷_, _++_}
 use lib.ListN.{length, take, drop}
 use lib.Dec.{leb}
 use Rattle.wire.specs.Told.{Told, given, refused}
-use Rattle.parts.specs.declared.state.PartWriter.{PartWriter}
+use Rattle.parts.specs.declared.state.Progress.{Progress}
 use Rattle.parts.specs.Writer.{Count, partOf}
 
 -- a call and the output that is lent to it: the next n payload bytes are offered, or as many as are left; or all that are left and more
@@ -35,13 +35,13 @@ writtenBy (refused n) out = []
 pub record Run : Type 0 where
   pub bytes : List ℕ
   pub taken : ℕ
-  pub next : PartWriter
+  pub next : Progress
 
 abbrev pub joined : List ℕ → ℕ → Run → Run
 joined bytes taken later = record { bytes = bytes ++ later .bytes; taken = taken + later .taken; next = later .next }
 
 -- each call begins at the first payload byte not yet taken, with the state that the one before left
-unfoldable pub runOf : ℕ → List Call → PartWriter → List ℕ → Run
+unfoldable pub runOf : ℕ → List Call → Progress → List ℕ → Run
 runOf limit [] s left = record { bytes = []; taken = 0; next = s }
 runOf limit (c ∷ cs) s left =
     let w = partOf limit s (offeredBy c left) (lentBy c) in

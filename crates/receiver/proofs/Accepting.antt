@@ -4,11 +4,12 @@ use native.Mathlib.Omega.{arith}
 use mathlib.Core.Path.{_≡_, refl, sym, _∙_}
 use mathlib.Core.Logic.{_≢_}
 use mathlib.Core.List.{List, [], _∷_}
-use mathlib.Core.Bool.{true, false, not}
+use mathlib.Core.Bool.{true, false, not, _&&_}
 use lib.ListN.{length, getD, drop, length-take, length-drop}
 use lib.Seq.{length-sets}
 use lib.Dec.{eqb}
 use borrow.Author.Tests.{eq-eqb, eqb-true, eqb-false}
+use Rattle.wire.specs.Limit.{limitFits}
 use Rattle.wire.specs.Told.{Told, given, refused, line}
 use Rattle.wire.specs.declared.stream.Stream.{Stream}
 use Rattle.wire.specs.Stream.{isStream, streamOf}
@@ -20,7 +21,7 @@ use Rattle.packet.specs.Header.{streamBits, isOf}
 use Rattle.packet.specs.Reader.{headIn, readOf}
 use Rattle.packet.proofs.Reading.{Passes, IfGiven, read-passes, empty-refused}
 use Rattle.slot.specs.declared.Slot.{Slot}
-use Rattle.slot.specs.declared.step.Piece.{Piece}
+use Rattle.slot.specs.declared.step.Payload.{Payload}
 use Rattle.slot.specs.declared.answer.Accepted.{Accepted}
 use Rattle.slot.specs.Slot.{slotsEach, slotCount, laneStart, laneOf, lawful}
 use Rattle.slot.specs.Step.{Act, still, step}
@@ -28,29 +29,32 @@ use Rattle.slot.specs.Fit.{Inside, Fit, ActFits}
 use Rattle.slot.proofs.Slots.{lawful-lane, lawful-set}
 use Rattle.slot.proofs.Lanes.{place-other, lane-other}
 use Rattle.slot.proofs.Steps.{act-fits}
-use Rattle.receiver.specs.Buffer.{partOf, pieceBytes}
+use Rattle.receiver.specs.Buffer.{partOf, payloadBytes}
 use Rattle.receiver.specs.Receiver.{Result, result, applied, actIn, acted, ready, acceptOf}
 use Rattle.receiver.proofs.Parts.{part-elsewhere}
 
 -- ---- ready for a packet
 
--- a lawful state over a buffer of the right size
+-- a limit in its range, and a lawful state over a buffer of the right size
 pub record Fits (limit : ℕ) (slots : List Slot) (bytes : List ℕ) : Type 0 where
+  pub range : limitFits limit ≡ true
   pub law : lawful limit slots ≡ true
   pub size : length bytes ≡ slotCount * limit
 
 -- the test says so, both ways
-pub ready-says : (limit : ℕ) (slots : List Slot) (bytes : List ℕ) → ready limit slots bytes ≡ true → Fits limit slots bytes
+pub ready-says : (limit : ℕ) (slots : List Slot) (bytes : List ℕ) → ready limit slots (length bytes) ≡ true → Fits limit slots bytes
 unfolding ready
 ready-says limit slots bytes e =
+    let k = and-right (limitFits limit) (eqb (length bytes) (slotCount * limit) && lawful limit slots) e in
     record {
-      law = and-right (eqb (length bytes) (slotCount * limit)) _ e;
-      size = eqb-true (length bytes) (slotCount * limit) (and-left (eqb (length bytes) (slotCount * limit)) _ e);
+      range = and-left (limitFits limit) _ e;
+      law = and-right (eqb (length bytes) (slotCount * limit)) _ k;
+      size = eqb-true (length bytes) (slotCount * limit) (and-left (eqb (length bytes) (slotCount * limit)) _ k);
     }
 
-pub ready-holds : (limit : ℕ) (slots : List Slot) (bytes : List ℕ) → Fits limit slots bytes → ready limit slots bytes ≡ true
+pub ready-holds : (limit : ℕ) (slots : List Slot) (bytes : List ℕ) → Fits limit slots bytes → ready limit slots (length bytes) ≡ true
 unfolding ready
-ready-holds limit slots bytes r = rw (eq-eqb (length bytes) (slotCount * limit) (r .size)) (r .law)
+ready-holds limit slots bytes r = rw (r .range, eq-eqb (length bytes) (slotCount * limit) (r .size)) (r .law)
 
 -- what was read is acted on
 pub accept-ready : (limit : ℕ) (slots : List Slot) (bytes p : List ℕ) → Fits limit slots bytes
@@ -58,12 +62,17 @@ pub accept-ready : (limit : ℕ) (slots : List Slot) (bytes p : List ℕ) → Fi
 unfolding acceptOf
 accept-ready limit slots bytes p r = rw (ready-holds limit slots bytes r)
 
+-- with a limit out of its range every packet is refused by 1, and leaves all
+pub limit-refused : (limit : ℕ) (slots : List Slot) (bytes p : List ℕ) → limitFits limit ≡ false → acceptOf limit slots bytes p ≡ result (refused 1) slots bytes
+unfolding ready acceptOf
+limit-refused limit slots bytes p e = rw e
+
 -- a law of every packet: it holds where refusal 1 leaves all, and of what was read
 by-guard : (P : Result → Type 0) (limit : ℕ) (slots : List Slot) (bytes p : List ℕ) → ((n : ℕ) → P (result (refused n) slots bytes))
     → P (acted limit slots bytes p (readOf limit p)) → P (acceptOf limit slots bytes p)
 unfolding acceptOf
 by-guard P limit slots bytes p a b =
-    by-table P (line 1 (not (ready limit slots bytes)) ∷ []) (λ n. result (refused n) slots bytes) (acted limit slots bytes p (readOf limit p)) a (λ h. b)
+    by-table P (line 1 (not (ready limit slots (length bytes))) ∷ []) (λ n. result (refused n) slots bytes) (acted limit slots bytes p (readOf limit p)) a (λ h. b)
 
 -- ---- the buffer keeps its length
 
@@ -111,7 +120,7 @@ accept-lawful limit slots bytes p law =
 pub ready-next : (limit : ℕ) (slots : List Slot) (bytes p : List ℕ) → Fits limit slots bytes
     → Fits limit (acceptOf limit slots bytes p .slots) (acceptOf limit slots bytes p .bytes)
 ready-next limit slots bytes p r =
-    record { law = accept-lawful limit slots bytes p (r .law); size = accept-length limit slots bytes p ∙ r .size }
+    record { range = r .range; law = accept-lawful limit slots bytes p (r .law); size = accept-length limit slots bytes p ∙ r .size }
 
 -- ---- a packet of another stream
 
@@ -123,8 +132,8 @@ pub record Kept (limit : ℕ) (t : Stream) (slots : List Slot) (bytes : List ℕ
 kept-all : (limit : ℕ) (t : Stream) (slots : List Slot) (bytes : List ℕ) (told : Told Accepted) → Kept limit t slots bytes (result told slots bytes)
 kept-all limit t slots bytes told = record { same-lane = refl; same-part = λ place low. refl }
 
-pub piece-length : (limit k : ℕ) (p : List ℕ) (piece : Piece) → Inside limit k piece → piece .at + length (pieceBytes p piece) ≤ limit
-piece-length limit k p piece i = simp (length-take, length-drop) (omega arith)
+pub payload-length : (limit k : ℕ) (p : List ℕ) (payload : Payload) → Inside limit k payload → payload .at + length (payloadBytes p payload) ≤ limit
+payload-length limit k p payload i = simp (length-take, length-drop) (omega arith)
 
 applied-kept : (limit : ℕ) (a t : Stream) (slots : List Slot) (bytes p : List ℕ) (act : Act) → a ≢ t → ActFits limit (length p) act
     → Kept limit t slots bytes (applied limit slots bytes p (laneStart a) act)
@@ -133,8 +142,8 @@ applied-kept limit a t slots bytes p (step place s) d f =
     record {
       same-lane = lane-other a t slots place (s .slot) d (f .within);
       same-part = λ i low.
-          part-elsewhere limit (laneStart t + i) (laneStart a + place) (s .piece .at) bytes (pieceBytes p (s .piece))
-          (place-other t a i place (λ e. d (sym e)) low (f .within)) (piece-length limit (length p) p (s .piece) (f .inside));
+          part-elsewhere limit (laneStart t + i) (laneStart a + place) (s .payload .at) bytes (payloadBytes p (s .payload))
+          (place-other t a i place (λ e. d (sym e)) low (f .within)) (payload-length limit (length p) p (s .payload) (f .inside));
     }
 
 acted-other : (limit s n : ℕ) (slots : List Slot) (bytes p : List ℕ) (t : Told Packet) → lawful limit slots ≡ true → isStream s ≡ true → n ≢ s

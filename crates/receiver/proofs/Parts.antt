@@ -1,5 +1,5 @@
 -- Laws of the parts of the buffer: a run written in one leaves the others as they are.
-use Prim.Native.Nat.{ℕ, suc, _+_, _*_, _≤_}
+use Prim.Native.Nat.{ℕ, suc, _+_, _*_, _≤_, _<_}
 use native.Mathlib.Omega.{arith}
 use native.Mathlib.Nat.{suc-mul, mul-le-mul-right}
 use mathlib.Core.Path.{_≡_, refl, ap}
@@ -11,7 +11,14 @@ use lib.Seq.{sets}
 use lib.Dec.{ltb}
 use borrow.Author.Tests.{ltb-true, ltb-false}
 use Rattle.wire.proofs.Stores.{drop-sets, part-sets}
+use Rattle.slot.specs.Slot.{slotCount}
 use Rattle.receiver.specs.Buffer.{partStart, partOf}
+
+-- the part of a slot lies within the buffer
+pub part-inside : (limit place : ℕ) → place < slotCount → partStart limit place + limit ≤ slotCount * limit
+part-inside limit place low =
+    let u : suc place * limit ≤ slotCount * limit = mul-le-mul-right limit low in
+    omega (arith, suc-mul place limit)
 
 elsewhere-by : (limit i j at : ℕ) (d run : List ℕ) (b : Bool) → ltb i j ≡ b → i ≢ j → at + length run ≤ limit
     → partOf limit i (sets d (partStart limit j + at) run) ≡ partOf limit i d

@@ -2,15 +2,15 @@
 use wire::bytes::copy;
 use wire::stream::Stream;
 ghost use mathlib.Core.Path.{_≡_};
-ghost use Prim.Native.Nat.{_+_, _≤_, _<_};
+ghost use Prim.Native.Nat.{_+_, _*_, _≤_, _<_};
 ghost use lib.ListN.{length};
 ghost use lib.Seq.{sets};
-ghost use Rattle.slot.specs.Slot.{laneStart};
+ghost use Rattle.slot.specs.Slot.{slotCount, laneStart};
 ghost use Rattle.receiver.specs.Buffer.{partStart};
 
 // The place of a stream's slot and part.
 pub fn place_of(stream: Stream) -> usize
-    ensures { λ r. ⌜ (r ≡ laneStart stream) × (r < 3) ⌝ }
+    ensures { λ r. ⌜ (r ≡ laneStart stream) × (r < slotCount) ⌝ }
 {
     match stream {
         Stream::Control => 0,
@@ -19,15 +19,16 @@ pub fn place_of(stream: Stream) -> usize
     }
 }
 
-// Lends the part of a stream on to the writer of its piece.
-pub fn write_piece(buffer: &mut [u8], stream: Stream, at: usize, piece: &[u8])
-    requires { ⌜ (length (now buffer) ≡ 12288) × (at + length (now piece) ≤ 4096) ⌝ }
+// Lends the part of a slot on to the writer of a payload.
+pub fn write_payload(buffer: &mut [u8], limit: usize, place: usize, at: usize, payload: &[u8])
+    requires { ⌜ (limit ≤ 65535)
+        × (place < slotCount)
+        × (length (now buffer) ≡ slotCount * limit)
+        × (at + length (now payload) ≤ limit) ⌝ }
     ensures { λ _. ⌜ now (buffer .exit)
-        ≡ sets (now (buffer .entry)) (partStart 4096 (laneStart stream) + at) (now (piece .entry)) ⌝ }
+        ≡ sets (now (buffer .entry)) (partStart limit place + at) (now (payload .entry)) ⌝ }
 {
-    match stream {
-        Stream::Control => copy(&mut buffer[0..4096], at, piece),
-        Stream::Ota => copy(&mut buffer[4096..8192], at, piece),
-        Stream::Alexa => copy(&mut buffer[8192..12288], at, piece),
-    }
+    let start = place * limit;
+    let end = start + limit;
+    copy(&mut buffer[start..end], at, payload);
 }

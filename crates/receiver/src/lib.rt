@@ -10,6 +10,7 @@ use slot::are_lawful;
 use slot::step::Act;
 use slot::step::Step;
 use slot::step::act_on;
+use wire::limit::limit_fits;
 use wire::logic::both;
 use wire::stream::Stream;
 ghost use mathlib.Core.Path.{_≡_};
@@ -19,15 +20,22 @@ ghost use lib.ListN.{length, getD, set};
 ghost use Rattle.wire.specs.Told.{given};
 ghost use Rattle.packet.specs.Reader.{readOf};
 ghost use Rattle.slot.specs.declared.step.Act.the-variants.{Step as Stepped};
-ghost use Rattle.slot.specs.Slot.{idle, idles, laneStart};
+ghost use Rattle.slot.specs.Slot.{idle, slotCount, laneStart};
 ghost use Rattle.slot.specs.Answer.{told};
 ghost use Rattle.slot.specs.Step.{stepOf, actBy};
 ghost use Rattle.slot.specs.Fit.{Fit, ActFits};
-ghost use Rattle.receiver.specs.Receiver.{result, applied, acted, ready, acceptOf};
+ghost use Rattle.receiver.specs.Receiver.{empty, openOf, toldOpen, handed, result, applied, acted, ready, acceptOf};
 
-// A slot for each stream: control, OTA, Alexa.
+// The limit of the link, and a slot for each stream: control, OTA, Alexa.
 pub struct Receiver {
+    pub limit: usize,
     pub slots: [Slot; 3],
+}
+
+// Whether the limit was refused, by 17, and the state: the empty one, or one of limit 0, on which every call is refused by 1.
+pub struct Opened {
+    pub refused: bool,
+    pub state: Receiver,
 }
 
 // The answer to a packet, and the state afterwards.
@@ -36,47 +44,80 @@ pub struct Outcome {
     pub next: Receiver,
 }
 
-// A part of the lent buffer for each slot.
-pub const BUFFER_SIZE: usize = 3 * wire::MESSAGE_LIMIT;
+// The lent buffer has a part as long as the limit for each slot.
+pub const SLOT_COUNT: usize = 3;
 
 impl Receiver {
-    pub fn new() -> Self
-        ensures { λ r. ⌜ r .slots ≡ idles ⌝ }
+    pub fn idle(limit: usize) -> Self
+        ensures { λ r. ⌜ r ≡ empty limit ⌝ }
     {
         let none = Slot::idle();
         Receiver {
+            limit,
             slots: [none, none, none],
         }
     }
 
+    // A receiver for a link with a limit, in its empty state.
+    pub fn open(limit: usize) -> Opened
+        ensures { λ r. ⌜ (toldOpen r ≡ openOf limit) × (r .state ≡ handed (openOf limit)) ⌝ }
+    {
+        if limit_fits(limit) {
+            Opened {
+                refused: false,
+                state: Receiver::idle(limit),
+            }
+        } else {
+            Opened {
+                refused: true,
+                state: Receiver::idle(0),
+            }
+        }
+    }
+
+    // Whether the limit is in its range, the slots are lawful for it and a buffer of this size is the right one.
+    fn is_ready(self, size: usize) -> bool
+        ensures { λ r. ⌜ r ≡ ready (self .limit) (self .slots) size ⌝ }
+    {
+        let limit = self.limit;
+        let slots = self.slots;
+        if limit_fits(limit) {
+            both(size == SLOT_COUNT * limit, are_lawful(limit, slots))
+        } else {
+            false
+        }
+    }
+
     fn slot(self, place: usize) -> Slot
-        requires { ⌜ place < 3 ⌝ }
+        requires { ⌜ place < slotCount ⌝ }
         ensures { λ r. ⌜ r ≡ getD (self .slots) place idle ⌝ }
     {
         self.slots[place]
     }
 
     fn with_slot(mut self, place: usize, slot: Slot) -> Self
-        requires { ⌜ place < 3 ⌝ }
-        ensures { λ r. ⌜ r .slots ≡ set (self .slots) place slot ⌝ }
+        requires { ⌜ place < slotCount ⌝ }
+        ensures { λ r. ⌜ (r .slots ≡ set (self .slots) place slot) × (r .limit ≡ self .limit) ⌝ }
     {
         self.slots[place] = slot;
         self
     }
 
-    // A step of a stream's slot: its piece is written, and the slot replaced.
+    // A step of a stream's slot: its payload is written, and the slot replaced.
     fn store(self, buffer: &mut [u8], packet: &[u8], stream: Stream, step: Step) -> Outcome
-        requires { ⌜ (length (now buffer) ≡ 12288) × Fit 4096 (length (now packet)) 0 (stepOf step) ⌝ }
-        ensures { λ r. ⌜ result (told (r .answer)) (r .next .slots) (now (buffer .exit))
-            ≡ applied 4096 (self .slots) (now (buffer .entry)) (now (packet .entry)) (laneStart stream)
-            (actBy (Stepped step)) ⌝ }
+        requires { ⌜ (ready (self .limit) (self .slots) (length (now buffer)) ≡ true)
+            × Fit (self .limit) (length (now packet)) 0 (stepOf step) ⌝ }
+        ensures { λ r. ⌜ (result (told (r .answer)) (r .next .slots) (now (buffer .exit))
+            ≡ applied (self .limit) (self .slots) (now (buffer .entry)) (now (packet .entry)) (laneStart stream)
+            (actBy (Stepped step)))
+            × (r .next .limit ≡ self .limit) ⌝ }
     {
         let place = buffer::place_of(stream);
-        let piece = step.piece;
-        let at = piece.at;
-        let start = piece.start;
-        let end = start + piece.len;
-        buffer::write_piece(buffer, stream, at, &packet[start..end]);
+        let payload = step.payload;
+        let at = payload.at;
+        let start = payload.start;
+        let end = start + payload.len;
+        buffer::write_payload(buffer, self.limit, place, at, &packet[start..end]);
         let left = step.slot;
         let answer = step.answer;
         let next = self.with_slot(place, left);
@@ -85,9 +126,12 @@ impl Receiver {
 
     // What is done to a stream's slot and its part of the buffer.
     fn apply(self, buffer: &mut [u8], packet: &[u8], stream: Stream, act: Act) -> Outcome
-        requires { ⌜ (length (now buffer) ≡ 12288) × ActFits 4096 (length (now packet)) (actBy act) ⌝ }
-        ensures { λ r. ⌜ result (told (r .answer)) (r .next .slots) (now (buffer .exit))
-            ≡ applied 4096 (self .slots) (now (buffer .entry)) (now (packet .entry)) (laneStart stream) (actBy act) ⌝ }
+        requires { ⌜ (ready (self .limit) (self .slots) (length (now buffer)) ≡ true)
+            × ActFits (self .limit) (length (now packet)) (actBy act) ⌝ }
+        ensures { λ r. ⌜ (result (told (r .answer)) (r .next .slots) (now (buffer .exit))
+            ≡ applied (self .limit) (self .slots) (now (buffer .entry)) (now (packet .entry)) (laneStart stream)
+            (actBy act))
+            × (r .next .limit ≡ self .limit) ⌝ }
     {
         match act {
             Act::Still(answer) => Outcome { answer, next: self },
@@ -97,9 +141,11 @@ impl Receiver {
 
     // A packet that was read.
     fn accept_read(self, buffer: &mut [u8], packet: &[u8], read: Packet) -> Outcome
-        requires { ⌜ (ready 4096 (self .slots) (now buffer) ≡ true) × (readOf 4096 (now packet) ≡ given read) ⌝ }
-        ensures { λ r. ⌜ result (told (r .answer)) (r .next .slots) (now (buffer .exit))
-            ≡ acted 4096 (self .slots) (now (buffer .entry)) (now (packet .entry)) (given read) ⌝ }
+        requires { ⌜ (ready (self .limit) (self .slots) (length (now buffer)) ≡ true)
+            × (readOf (self .limit) (now packet) ≡ given read) ⌝ }
+        ensures { λ r. ⌜ (result (told (r .answer)) (r .next .slots) (now (buffer .exit))
+            ≡ acted (self .limit) (self .slots) (now (buffer .entry)) (now (packet .entry)) (given read))
+            × (r .next .limit ≡ self .limit) ⌝ }
     {
         let head = read.head();
         let stream = head.stream;
@@ -111,11 +157,13 @@ impl Receiver {
 
     // A packet under a lawful state and a buffer of the right size.
     fn process(self, buffer: &mut [u8], packet: &[u8]) -> Outcome
-        requires { ⌜ ready 4096 (self .slots) (now buffer) ≡ true ⌝ }
-        ensures { λ r. ⌜ result (told (r .answer)) (r .next .slots) (now (buffer .exit))
-            ≡ acted 4096 (self .slots) (now (buffer .entry)) (now (packet .entry)) (readOf 4096 (now (packet .entry))) ⌝ }
+        requires { ⌜ ready (self .limit) (self .slots) (length (now buffer)) ≡ true ⌝ }
+        ensures { λ r. ⌜ (result (told (r .answer)) (r .next .slots) (now (buffer .exit))
+            ≡ acted (self .limit) (self .slots) (now (buffer .entry)) (now (packet .entry))
+            (readOf (self .limit) (now (packet .entry))))
+            × (r .next .limit ≡ self .limit) ⌝ }
     {
-        let answer = reader::read(packet);
+        let answer = reader::read(self.limit, packet);
         match answer {
             reader::Answer::Refused(why) => Outcome {
                 answer: Answer::Refused(Refusal::OfPacket(why)),
@@ -127,17 +175,17 @@ impl Receiver {
 
     // The answer to one packet; a finished message stands first in its stream's part of the buffer.
     pub fn accept(self, buffer: &mut [u8], packet: &[u8]) -> Outcome
-        ensures { λ r. ⌜ result (told (r .answer)) (r .next .slots) (now (buffer .exit))
-            ≡ acceptOf 4096 (self .slots) (now (buffer .entry)) (now (packet .entry)) ⌝ }
+        ensures { λ r. ⌜ (result (told (r .answer)) (r .next .slots) (now (buffer .exit))
+            ≡ acceptOf (self .limit) (self .slots) (now (buffer .entry)) (now (packet .entry)))
+            × (r .next .limit ≡ self .limit) ⌝ }
     {
-        let slots = self.slots;
-        let ready = both(buffer.len() == BUFFER_SIZE, are_lawful(slots));
-        if !ready {
-            return Outcome {
+        if self.is_ready(buffer.len()) {
+            self.process(buffer, packet)
+        } else {
+            Outcome {
                 answer: Answer::Refused(Refusal::BadStateOrBuffer),
                 next: self,
-            };
+            }
         }
-        self.process(buffer, packet)
     }
 }

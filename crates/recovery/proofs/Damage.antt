@@ -12,7 +12,7 @@ use borrow.Author.Tests.{ne-eqb}
 use Rattle.framing.specs.declared.mark.Kind.the-variants.{Plain}
 use Rattle.framing.specs.Mark.{endMark, kindOf}
 use Rattle.framing.specs.Frame.{escapedOf}
-use Rattle.extractor.specs.declared.state.Extractor.{Extractor}
+use Rattle.extractor.specs.declared.state.Progress.{Progress}
 use Rattle.extractor.specs.declared.state.Phase.{Phase}
 use Rattle.extractor.specs.declared.action.Action.the-variants.{Refuse}
 use Rattle.extractor.specs.declared.outcome.Refusal.the-variants.{BadEscape}
@@ -63,7 +63,7 @@ module _ (limit : ℕ) where
   -- ---- inside
 
   -- a header byte that is not the one wanted
-  pub header-lost : (s : Extractor) (l : List ℕ) (v wanted : ℕ) (next : Phase) (bytes : List ℕ) → kindOf v ≡ Plain → v ≢ wanted
+  pub header-lost : (s : Progress) (l : List ℕ) (v wanted : ℕ) (next : Phase) (bytes : List ℕ) → kindOf v ≡ Plain → v ≢ wanted
       → (let r = performOf limit s l v (headerBy (kindOf v) wanted next v) in handedBy (r .report) (r .buffer) ++ framesOf limit (r .next) (r .buffer) bytes)
       ≡ framesOf limit outside l bytes
   header-lost s l v wanted next bytes e o = rw (e, ne-eqb v wanted o)

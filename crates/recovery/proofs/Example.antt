@@ -2,6 +2,7 @@
 use mathlib.Core.Path.{refl}
 use native.Mathlib.Omega.{arith}
 use lib.Dec.{lit<, lit≤}
+use Rattle.wire.specs.Limit.{limitFits}
 use Rattle.framing.specs.Mark.{kindOf}
 use Rattle.framing.specs.Frame.{escapedOf, sumOf, framed, checked}
 use Rattle.extractor.specs.Action.{codeOf}
@@ -13,18 +14,18 @@ use Rattle.recovery.specs.Recovery.{bytesOf, undamaged}
 use Rattle.recovery.specs.Example.{DamageExample}
 
 pub damage-example : DamageExample
-unfolding kindOf escapedOf sumOf framed codeOf lawful ready storeOf checked endOf advanceOf feedFrom callOf runOf handedOut bytesOf undamaged
+unfolding limitFits kindOf escapedOf sumOf framed codeOf lawful ready storeOf checked endOf advanceOf feedFrom callOf runOf handedOut bytesOf undamaged
 damage-example =
     record {
-      lawful = refl;
-      size = refl;
+      standing = record { range = refl; state = refl; size = refl };
       premises = (
-        record { unmarked = refl; fits = lit≤ tt; bytes = (lit< tt, (lit< tt, tt)); room = lit≤ tt },
+        record { range = refl; unmarked = refl; fits = lit≤ tt; room = lit≤ tt },
         (
-          record { unmarked = refl; fits = lit≤ tt; bytes = (lit< tt, (lit< tt, tt)); room = lit≤ tt },
+          record { range = refl; unmarked = refl; fits = lit≤ tt; room = lit≤ tt },
+          (lit< tt, (lit< tt, tt)),
           omega arith,
           record { inside = lit< tt; wasPlain = refl; isPlain = refl; byte = lit< tt; other = omega arith },
-          (record { unmarked = refl; fits = lit≤ tt; bytes = tt; room = lit≤ tt }, tt),
+          (record { range = refl; unmarked = refl; fits = lit≤ tt; room = lit≤ tt }, tt),
         ),
       );
       written = refl;

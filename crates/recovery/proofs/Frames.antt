@@ -8,7 +8,7 @@ use lib.ListN.{length}
 use borrow.Author.Tests.{lt-ltb, le-ltb}
 use Rattle.framing.specs.declared.mark.Kind.the-variants.{Start}
 use Rattle.framing.specs.Mark.{startMark, endMark, kindOf}
-use Rattle.extractor.specs.declared.state.Extractor.{Extractor}
+use Rattle.extractor.specs.declared.state.Progress.{Progress}
 use Rattle.extractor.specs.declared.state.Phase.{Phase}
 use Rattle.extractor.specs.declared.state.Phase.the-variants.{Outside, PacketId, ErrorId, Sequence, Body, Escaped}
 use Rattle.extractor.specs.Action.{actionBy}
@@ -18,14 +18,14 @@ use Rattle.recovery.specs.Run.{Given, handedBy}
 use Rattle.recovery.proofs.Ready.{advance-ready}
 use Rattle.recovery.proofs.Cut.{since}
 
-unfoldable pub framesOf : ℕ → Extractor → List ℕ → List ℕ → List Given
+unfoldable pub framesOf : ℕ → Progress → List ℕ → List ℕ → List Given
 framesOf limit s l [] = []
 framesOf limit s l (b ∷ bs) =
     let r = advanceOf limit s l b in
     handedBy (r .report) (r .buffer) ++ framesOf limit (r .next) (r .buffer) bs
 
 module _ (limit : ℕ) where
-  begin-by : (p : Phase) (s : Extractor) (l rest : List ℕ)
+  begin-by : (p : Phase) (s : Progress) (l rest : List ℕ)
       → (let r = performOf limit s l startMark (actionBy p Start startMark) in handedBy (r .report) (r .buffer) ++ framesOf limit (r .next) (r .buffer) rest)
       ≡ framesOf limit begun l rest
   begin-by Outside s l rest = refl
@@ -36,7 +36,7 @@ module _ (limit : ℕ) where
   begin-by Escaped s l rest = refl
 
   -- F0 in any state begins a frame
-  pub frame-begins : (s : Extractor) (l rest : List ℕ) → framesOf limit s l (startMark ∷ rest) ≡ framesOf limit begun l rest
+  pub frame-begins : (s : Progress) (l rest : List ℕ) → framesOf limit s l (startMark ∷ rest) ≡ framesOf limit begun l rest
   unfolding framesOf advanceOf kindOf
   frame-begins s l rest = begin-by (s .phase) s l rest
 
@@ -50,13 +50,13 @@ module _ (limit : ℕ) where
 
 -- what is handed out is what the bytes hand out from some lawful state and some buffer of the right size
 pub record Later (limit : ℕ) (bytes : List ℕ) (gs : List Given) : Type 0 where
-  pub state : Extractor
+  pub state : Progress
   pub buffer : List ℕ
   pub lawful : ready limit state (length buffer) ≡ true
   pub same : gs ≡ framesOf limit state buffer bytes
 
 module _ (limit from : ℕ) where
-  since-all : (bytes : List ℕ) (n : ℕ) (s : Extractor) (l : List ℕ) → from ≤ n → since limit from n s l bytes ≡ framesOf limit s l bytes
+  since-all : (bytes : List ℕ) (n : ℕ) (s : Progress) (l : List ℕ) → from ≤ n → since limit from n s l bytes ≡ framesOf limit s l bytes
   unfolding since framesOf
   since-all [] n s l h = refl
   since-all (b ∷ bs) n s l h =
@@ -64,7 +64,7 @@ module _ (limit from : ℕ) where
       rw (lt-ltb from (n + 1) (omega arith))
       (ap (λ (gs : List Given). handedBy (r .report) (r .buffer) ++ gs) (since-all bs (n + 1) (r .next) (r .buffer) (omega arith)))
 
-  pub since-later : (before bytes : List ℕ) (n : ℕ) (s : Extractor) (l : List ℕ) → ready limit s (length l) ≡ true → n + length before ≡ from
+  pub since-later : (before bytes : List ℕ) (n : ℕ) (s : Progress) (l : List ℕ) → ready limit s (length l) ≡ true → n + length before ≡ from
       → Later limit bytes (since limit from n s l (before ++ bytes))
   unfolding since
   since-later [] bytes n s l h e = record { state = s; buffer = l; lawful = h; same = since-all bytes n s l (omega arith) }

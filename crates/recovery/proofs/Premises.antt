@@ -7,30 +7,24 @@ use native.Mathlib.Omega.{arith}
 use lib.ListN.{length, take, drop, getD, length-drop}
 use borrow.Author.Tests.{eq-eqb, ne-eqb, le-leb}
 use Rattle.wire.specs.Bytes.{AllBytes}
+use Rattle.wire.proofs.Limits.{range-limit}
 use Rattle.framing.specs.Mark.{kindOf, isMark}
-use Rattle.extractor.specs.declared.state.Extractor.{Extractor}
+use Rattle.frame_writer.specs.Sending.{NoMark}
+use Rattle.frame_writer.proofs.Sending.{no-mark, sendable-when, sent-frame}
+use Rattle.extractor.specs.declared.state.Progress.{Progress}
 use Rattle.extractor.specs.declared.state.Phase.{Phase}
 use Rattle.extractor.specs.declared.state.Phase.the-variants.{Outside, PacketId, ErrorId, Sequence, Body, Escaped}
 use Rattle.extractor.specs.State.{sequenceRead, lawfulBefore, lawfulAfter, lawful, ready}
 use Rattle.extractor.specs.Step.{advanceOf}
 use Rattle.feed.specs.Feed.{Feed, decides, feedFrom}
 use Rattle.recovery.specs.Run.{callOf, runOf}
-use Rattle.recovery.specs.Premises.{NoMark, LawfulIn, asking, SendableWhen, TurnedWhen, ClosingWhen, LawfulWhen, AllUsedWhen, FactsSuffice}
+use Rattle.recovery.specs.Premises.{LawfulIn, asking, TurnedWhen, ClosingWhen, StandingWhen, AllUsedWhen, FactsSuffice}
 use Rattle.recovery.proofs.Ready.{of-cond, is-ready, feed-ready}
 use Rattle.recovery.proofs.Cut.{feed-later, call-keeps}
-use Rattle.recovery.proofs.Recovery.{sent-frame}
-
-no-mark : (b : ℕ) → NoMark b → isMark b ≡ false
-unfolding kindOf
-no-mark b h = rw (ne-eqb b 0xF0 (h .0), ne-eqb b 0xF1 (h .1), ne-eqb b 0xF2 (h .2))
 
 all-bytes : (l : List ℕ) → ((i : ℕ) → i < length l → getD l i 0 < 256) → AllBytes l
 all-bytes [] h = tt
 all-bytes (x ∷ xs) h = (h 0 (omega arith), all-bytes xs (λ i k. h (suc i) (omega arith)))
-
-sendable-when : SendableWhen
-sendable-when limit m byte plain fits bytes room =
-    record { unmarked = no-mark (m .sequence) plain; fits = fits; bytes = all-bytes (m .payload) bytes; room = room }
 
 turned-when : TurnedWhen
 turned-when bytes place new inside was byte is other =
@@ -41,7 +35,7 @@ closing-when =
     record {
       none = λ limit. tt;
       whole-first = λ limit m is w c. (w, c);
-      damaged-first = λ limit m place new is w o t c. (w, o, rw (sent-frame limit m w) t, c);
+      damaged-first = λ limit m place new is w b o t c. (w, all-bytes (m .payload) b, o, rw (sent-frame limit m w) t, c);
     }
 
 -- ---- lawful states
@@ -61,27 +55,27 @@ lawful-in Sequence limit sequence held h = lawful-before sequence held h
 lawful-in Body limit sequence held h = lawful-after limit sequence held h
 lawful-in Escaped limit sequence held h = lawful-after limit sequence held h
 
-lawful-when : LawfulWhen
+standing-when : StandingWhen
 unfolding lawful
-lawful-when limit s byte h = lawful-in (s .phase) limit (s .sequence) (s .held) h
+standing-when limit s l low high byte h n = record { range = range-limit limit low high; state = lawful-in (s .phase) limit (s .sequence) (s .held) h; size = n }
 
 -- ---- calls that use all bytes
 
 module _ (limit : ℕ) where
-  feed-uses : (s : Extractor) (l : List ℕ) (b : ℕ) (bs : List ℕ) → 1 ≤ feedFrom limit 0 s l (b ∷ bs) .used
+  feed-uses : (s : Progress) (l : List ℕ) (b : ℕ) (bs : List ℕ) → 1 ≤ feedFrom limit 0 s l (b ∷ bs) .used
   unfolding feedFrom
   feed-uses s l b bs =
       let r = advanceOf limit s l b in
       of-cond (λ (f : Feed). 1 ≤ f .used) (decides (r .report)) (omega arith) (rw (feed-later limit bs 1 (r .next) (r .buffer)) (omega arith))
 
   -- a call that asks for a byte uses one, if there is one
-  call-uses : (n : ℕ) (s : Extractor) (l : List ℕ) (b : ℕ) (bs : List ℕ) → ready limit s (length l) ≡ true
+  call-uses : (n : ℕ) (s : Progress) (l : List ℕ) (b : ℕ) (bs : List ℕ) → ready limit s (length l) ≡ true
       → 1 ≤ callOf limit (asking n) s l (b ∷ bs) .used
   unfolding callOf
   call-uses zero s l b bs h = omega arith
   call-uses (suc n) s l b bs h = rw (feed-ready limit s l (b ∷ take n bs) h) (feed-uses s l b (take n bs))
 
-  left : (n k : ℕ) (s : Extractor) (l bytes : List ℕ) → ready limit s (length l) ≡ true → length bytes ≤ suc k
+  left : (n k : ℕ) (s : Progress) (l bytes : List ℕ) → ready limit s (length l) ≡ true → length bytes ≤ suc k
       → length (drop (callOf limit (asking n) s l bytes .used) bytes) ≤ k
   left n k s l [] h m = simp length-drop (omega arith)
   left n k s l (b ∷ bs) h m = simp length-drop (omega (arith, call-uses n s l b bs h))
@@ -90,7 +84,7 @@ module _ (limit : ℕ) where
   none-left [] h = refl
   none-left (b ∷ bs) h = absurd (omega arith)
 
-  calls-use : (sizes : List ℕ) (n : ℕ) (s : Extractor) (l bytes : List ℕ) → ready limit s (length l) ≡ true → length bytes ≤ length sizes
+  calls-use : (sizes : List ℕ) (n : ℕ) (s : Progress) (l bytes : List ℕ) → ready limit s (length l) ≡ true → length bytes ≤ length sizes
       → runOf limit (map asking sizes) n s l bytes .unused ≡ []
   unfolding runOf
   calls-use [] n s l bytes h k = none-left bytes k
@@ -99,7 +93,7 @@ module _ (limit : ℕ) where
       calls-use zs (n + f .used) (f .next) (f .buffer) (drop (f .used) bytes) (call-keeps limit (asking z) s l bytes h) (left z (length zs) s l bytes h k)
 
 all-used-when : AllUsedWhen
-all-used-when limit s l bytes sizes h n k = calls-use limit sizes 0 s l bytes (is-ready limit s l h n) k
+all-used-when limit s l bytes sizes a k = calls-use limit sizes 0 s l bytes (is-ready limit s l (a .range) (a .state) (a .size)) k
 
 pub facts-suffice : FactsSuffice
-facts-suffice = record { sendable = sendable-when; turned = turned-when; closing = closing-when; lawful = lawful-when; used = all-used-when }
+facts-suffice = record { sendable = sendable-when; turned = turned-when; closing = closing-when; standing = standing-when; used = all-used-when }

@@ -7,12 +7,13 @@ use native.Mathlib.Numerals.{add-one}
 use lib.ListN.{length, length-set}
 use lib.Dec.{eqb, ltb, leb·zero}
 use borrow.Author.Tests.{eq-eqb, eqb-true}
+use Rattle.wire.specs.Limit.{limitFits}
 use Rattle.wire.proofs.Tests.{and-left, and-right}
 use Rattle.framing.specs.declared.mark.Kind.{Kind}
 use Rattle.framing.specs.declared.mark.Kind.the-variants.{Start, End, Escape, Plain}
 use Rattle.framing.specs.Mark.{kindOf, isMark}
 use Rattle.framing.specs.Frame.{packetId, errorId, startCode, endCode, escapeCode}
-use Rattle.extractor.specs.declared.state.Extractor.{Extractor}
+use Rattle.extractor.specs.declared.state.Progress.{Progress}
 use Rattle.extractor.specs.declared.state.Phase.{Phase}
 use Rattle.extractor.specs.declared.state.Phase.the-variants.{Outside, PacketId, ErrorId, Sequence, Body, Escaped}
 use Rattle.extractor.specs.declared.action.Action.{Action}
@@ -77,7 +78,7 @@ module _ (limit : ℕ) where
     pub state : lawful limit (r .next) ≡ true
     pub size : length (r .buffer) ≡ length l
 
-  module _ (s : Extractor) (l : List ℕ) where
+  module _ (s : Progress) (l : List ℕ) where
     store-keeps : (x : ℕ) → lawfulAfter limit (s .sequence) (s .held) ≡ true → Keeps l (storeOf limit s l x)
     unfolding storeOf lawful
     store-keeps x h = go (ltb (s .held) (limit + 2)) refl
@@ -106,8 +107,9 @@ module _ (limit : ℕ) where
         → (let r = advanceOf limit s l b in ready limit (r .next) (length (r .buffer)) ≡ true)
     unfolding ready advanceOf
     advance-ready b h =
-        let k = perform-keeps b (actionOf (s .phase) b) (apt-by b (s .phase) (kindOf b) refl) (and-right (eqb (length l) (limit + 2)) _ h) in
-        rw (k .size, and-left (eqb (length l) (limit + 2)) _ h, k .state)
+        let held = and-right (limitFits limit) _ h in
+        let k = perform-keeps b (actionOf (s .phase) b) (apt-by b (s .phase) (kindOf b) refl) (and-right (eqb (length l) (limit + 2)) _ held) in
+        rw (k .size, and-left (limitFits limit) _ h, and-left (eqb (length l) (limit + 2)) _ held, k .state)
 
     pub step-ready : (b : ℕ) → ready limit s (length l) ≡ true → byteStepOf limit s l b ≡ advanceOf limit s l b
     step-ready b h = rw h
@@ -115,16 +117,16 @@ module _ (limit : ℕ) where
     pub feed-ready : (bytes : List ℕ) → ready limit s (length l) ≡ true → feedOf limit s l bytes ≡ feedFrom limit 0 s l bytes
     feed-ready bytes h = rw h
 
-    pub is-ready : lawful limit s ≡ true → length l ≡ limit + 2 → ready limit s (length l) ≡ true
+    pub is-ready : limitFits limit ≡ true → lawful limit s ≡ true → length l ≡ limit + 2 → ready limit s (length l) ≡ true
     unfolding ready
-    is-ready h n = rw (eq-eqb _ _ n) h
+    is-ready f h n = rw (f, eq-eqb _ _ n) h
 
     pub ready-size : ready limit s (length l) ≡ true → length l ≡ limit + 2
     unfolding ready
-    ready-size h = eqb-true _ _ (and-left (eqb (length l) (limit + 2)) _ h)
+    ready-size h = eqb-true _ _ (and-left (eqb (length l) (limit + 2)) _ (and-right (limitFits limit) _ h))
 
   -- many bytes leave such a state and such a buffer
-  pub feed-keeps : (bytes : List ℕ) (n : ℕ) (s : Extractor) (l : List ℕ) → ready limit s (length l) ≡ true
+  pub feed-keeps : (bytes : List ℕ) (n : ℕ) (s : Progress) (l : List ℕ) → ready limit s (length l) ≡ true
       → (let f = feedFrom limit n s l bytes in ready limit (f .next) (length (f .buffer)) ≡ true)
   unfolding feedFrom
   feed-keeps [] n s l h = h

@@ -8,20 +8,20 @@ use native.Mathlib.Omega.{arith}
 use native.Mathlib.Nat.{zero-add}
 use lib.ListN.{length, set, length-append}
 use lib.Seq.{sets, length-sets}
-use borrow.Author.Tests.{le-ltb}
-use Rattle.wire.specs.Bytes.{pairBytes}
-use Rattle.wire.proofs.Stores.{first-bytes}
+use Rattle.wire.specs.Bytes.{pairBytes, AllBytes}
 use Rattle.framing.specs.declared.mark.Kind.the-variants.{Plain}
 use Rattle.framing.specs.Mark.{endMark, kindOf}
 use Rattle.framing.specs.Frame.{packetId, errorId, escapedOf, checksumOf, contentOf, headerOf, framed, frameOf}
-use Rattle.extractor.specs.declared.state.Extractor.{Extractor}
+use Rattle.frame_writer.specs.Sending.{FrameToSend, Sendable}
+use Rattle.frame_writer.proofs.Sending.{sent-frame}
+use Rattle.extractor.specs.declared.state.Progress.{Progress}
 use Rattle.extractor.specs.declared.state.Phase.the-variants.{ErrorId, Sequence}
 use Rattle.extractor.specs.Outcome.{frame}
 use Rattle.extractor.specs.State.{outside, begun, body, lawful}
 use Rattle.extractor.specs.Step.{advanceOf}
 use Rattle.feed.specs.Feed.{fed, feedFrom}
 use Rattle.recovery.specs.Run.{Given}
-use Rattle.recovery.specs.Recovery.{FrameToSend, Sendable, sent, givenOf, sequencePlace, Turned, ClosingFrame, whole, damaged, bytesOf, undamaged, Closing, DamageEnds, FrameReturns}
+use Rattle.recovery.specs.Recovery.{givenOf, sequencePlace, Turned, ClosingFrame, whole, damaged, bytesOf, undamaged, Closing, DamageEnds, FrameReturns}
 use Rattle.recovery.proofs.Ready.{is-ready, ready-size, feed-ready}
 use Rattle.recovery.proofs.Cut.{calls-cut}
 use Rattle.recovery.proofs.Frames.{framesOf, frame-begins, frame-ends, since-later}
@@ -29,17 +29,6 @@ use Rattle.framing.proofs.Marks.{unmarked-plain}
 use Rattle.recovery.proofs.TakesBytes.{fresh, header, TakesBytes, more, takes-then, takes-frames, takes-feed, header-taken, store-all}
 use Rattle.recovery.proofs.Checksum.{handed-first, whole-report, spoilt-report}
 use Rattle.recovery.proofs.Damage.{spelled, header-lost, turned-plain, turned-tail, outside-plain, rest-skipped, Hit, lost, changed, body-hit}
-
--- what our writer writes is the frame
-pub sent-frame : (limit : ℕ) (m : FrameToSend) → Sendable limit m → sent limit m ≡ frameOf (m .sequence) (m .payload)
-sent-frame limit m w =
-    let f = frameOf (m .sequence) (m .payload) in
-    rw (
-      w .unmarked,
-      le-ltb limit (length (m .payload)) (omega arith),
-      le-ltb (length (m .out)) (length f) (omega arith),
-      first-bytes (m .out) f (omega arith),
-    )
 
 -- a frame hands out `given`, and what comes behind it finds the extractor outside, with a buffer of the same size
 record Ends (limit : ℕ) (rest : List ℕ) (gs given : List Given) : Type 0 where
@@ -64,7 +53,7 @@ module _ (limit : ℕ) (m : FrameToSend) (w : Sendable limit m) (l : List ℕ) (
   content-taken = rw zero-add at (store-all limit (contentOf p) q 0 l (omega (arith, size)))
 
   module _ (rest : List ℕ) where
-    whole-ends : (s : Extractor) → Ends limit rest (framesOf limit s l (frameOf q p ++ rest)) (givenOf m ∷ [])
+    whole-ends : (s : Progress) → Ends limit rest (framesOf limit s l (frameOf q p ++ rest)) (givenOf m ∷ [])
     unfolding framed
     whole-ends s =
         let after = sets l 0 (contentOf p) in
@@ -79,9 +68,9 @@ module _ (limit : ℕ) (m : FrameToSend) (w : Sendable limit m) (l : List ℕ) (
               (ap (λ (gs : List Given). gs ++ framesOf limit outside after rest) (handed-first p l (omega arith) q));
         }
 
-    hit-ends : {gs : List Given} → Hit limit q rest 0 (contentOf p) l gs → Ends limit rest gs []
-    hit-ends (lost after k e) = record { after = after; size = k ∙ n; same = e }
-    hit-ends (changed i x h small other e) =
+    hit-ends : AllBytes p → {gs : List Given} → Hit limit q rest 0 (contentOf p) l gs → Ends limit rest gs []
+    hit-ends bytes (lost after k e) = record { after = after; size = k ∙ n; same = e }
+    hit-ends bytes (changed i x h small other e) =
         let c = set (contentOf p) i x in
         record {
           after = sets l 0 c;
@@ -89,7 +78,7 @@ module _ (limit : ℕ) (m : FrameToSend) (w : Sendable limit m) (l : List ℕ) (
           same =
               rw zero-add at e
               ∙ frame-ends limit q (length (contentOf p)) (sets l 0 c) rest
-              ∙ rw (spoilt-report p l (omega arith) q i x (w .bytes) h small other);
+              ∙ rw (spoilt-report p l (omega arith) q i x bytes h small other);
         }
 
     -- a frame that is lost before its sequence byte
@@ -101,20 +90,20 @@ module _ (limit : ℕ) (m : FrameToSend) (w : Sendable limit m) (l : List ℕ) (
           same = e ∙ outside-plain limit l q (spelled (contentOf p) ++ rest) plain ∙ rest-skipped limit (contentOf p) l rest;
         }
 
-    damaged-ends : (s : Extractor) (k v : ℕ) → k ≢ sequencePlace → Turned (frameOf q p) k v
+    damaged-ends : AllBytes p → (s : Progress) (k v : ℕ) → k ≢ sequencePlace → Turned (frameOf q p) k v
         → Ends limit rest (framesOf limit s l (set (frameOf q p) k v ++ rest)) []
     unfolding framed kindOf advanceOf framesOf
-    damaged-ends s zero v o t = absurd (true≢false (t .wasPlain))
-    damaged-ends s (suc zero) v o t =
+    damaged-ends bytes s zero v o t = absurd (true≢false (t .wasPlain))
+    damaged-ends bytes s (suc zero) v o t =
         let behind = q ∷ (spelled (contentOf p) ++ rest) in
         lost-early (frame-begins limit s l (v ∷ errorId ∷ behind) ∙ header-lost limit begun l v packetId ErrorId (errorId ∷ behind) (turned-plain t) (t .other))
-    damaged-ends s (suc (suc zero)) v o t =
+    damaged-ends bytes s (suc (suc zero)) v o t =
         let behind = q ∷ (spelled (contentOf p) ++ rest) in
         lost-early (frame-begins limit s l (packetId ∷ v ∷ behind) ∙ header-lost limit (fresh ErrorId) l v errorId Sequence behind (turned-plain t) (t .other))
-    damaged-ends s (suc (suc (suc zero))) v o t = absurd (o refl)
-    damaged-ends s (suc (suc (suc (suc j)))) v o t =
+    damaged-ends bytes s (suc (suc (suc zero))) v o t = absurd (o refl)
+    damaged-ends bytes s (suc (suc (suc (suc j)))) v o t =
         rw (header limit q l plain s (set (spelled (contentOf p)) j v ++ rest))
-        (hit-ends (body-hit limit q rest (contentOf p) l 0 j v (omega (arith, size)) (turned-tail (turned-tail (turned-tail (turned-tail t))))))
+        (hit-ends bytes (body-hit limit q rest (contentOf p) l 0 j v (omega (arith, size)) (turned-tail (turned-tail (turned-tail (turned-tail t))))))
 
   -- a whole frame in one call for many bytes
   frame-taken : TakesBytes limit outside l (headerOf q ++ escapedOf (contentOf p)) (body q (length (contentOf p))) (sets l 0 (contentOf p))
@@ -129,7 +118,7 @@ module _ (limit : ℕ) (m : FrameToSend) (w : Sendable limit m) (l : List ℕ) (
 
 -- ---- the claims
 
-closing-ends : (limit : ℕ) (is : List ClosingFrame) (s : Extractor) (l : List ℕ) → length l ≡ limit + 2 → Closing limit is
+closing-ends : (limit : ℕ) (is : List ClosingFrame) (s : Progress) (l : List ℕ) → length l ≡ limit + 2 → Closing limit is
     → framesOf limit s l (bytesOf limit is) ≡ undamaged is
 unfolding bytesOf undamaged framesOf
 closing-ends limit [] s l n c = refl
@@ -137,12 +126,12 @@ closing-ends limit (whole m ∷ is) s l n c =
     let e = whole-ends limit m (c .0) l n (bytesOf limit is) s in
     rw (sent-frame limit m (c .0)) (e .same ∙ ap (λ (gs : List Given). givenOf m ∷ gs) (closing-ends limit is outside (e .after) (e .size) (c .1)))
 closing-ends limit (damaged m k v ∷ is) s l n c =
-    let e = damaged-ends limit m (c .0) l n (bytesOf limit is) s k v (omega arith) (rw (sent-frame limit m (c .0)) at (c .2)) in
-    rw (sent-frame limit m (c .0)) (e .same ∙ closing-ends limit is outside (e .after) (e .size) (c .3))
+    let e = damaged-ends limit m (c .0) l n (bytesOf limit is) (c .1) s k v (omega (arith, c .2)) (rw (sent-frame limit m (c .0)) at (c .3)) in
+    rw (sent-frame limit m (c .0)) (e .same ∙ closing-ends limit is outside (e .after) (e .size) (c .4))
 
 pub damage-ends : DamageEnds
-damage-ends limit s l before closing calls h n c e =
-    let r = is-ready limit s l h n in
+damage-ends limit s l before closing calls a c e =
+    let r = is-ready limit s l (a .range) (a .state) (a .size) in
     let k = since-later limit (length before) before (bytesOf limit closing) 0 s l r (zero-add (length before)) in
     calls-cut limit (length before) calls 0 s l (before ++ bytesOf limit closing) r e
     ∙ k .same
@@ -151,5 +140,5 @@ damage-ends limit s l before closing calls h n c e =
 pub frame-returns : FrameReturns
 unfolding lawful
 frame-returns limit m l w n =
-    rw (sent-frame limit m w, feed-ready limit outside l (frameOf (m .sequence) (m .payload)) (is-ready limit outside l refl n), frame-fed limit m w l n)
+    rw (sent-frame limit m w, feed-ready limit outside l (frameOf (m .sequence) (m .payload)) (is-ready limit outside l (w .range) refl n), frame-fed limit m w l n)
     (handed-first (m .payload) l (omega arith) (m .sequence), refl)

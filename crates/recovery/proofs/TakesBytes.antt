@@ -11,7 +11,7 @@ use borrow.Author.Tests.{lt-ltb}
 use Rattle.framing.specs.declared.mark.Kind.the-variants.{Plain}
 use Rattle.framing.specs.Mark.{kindOf}
 use Rattle.framing.specs.Frame.{packetId, errorId, escapedOf, headerOf}
-use Rattle.extractor.specs.declared.state.Extractor.{Extractor}
+use Rattle.extractor.specs.declared.state.Progress.{Progress}
 use Rattle.extractor.specs.declared.state.Phase.{Phase}
 use Rattle.extractor.specs.declared.state.Phase.the-variants.{Sequence, Escaped}
 use Rattle.extractor.specs.Outcome.{taken}
@@ -22,36 +22,36 @@ use Rattle.recovery.proofs.Frames.{framesOf, frame-begins}
 use Rattle.recovery.proofs.Spelling.{Code, Spelt, itself, coded, spelt}
 
 -- before the sequence byte is read
-abbrev pub fresh : Phase → Extractor
+abbrev pub fresh : Phase → Progress
 fresh p = record { phase = p; sequence = 0; held = 0 }
 
 -- after F2 in the body
-abbrev pub escaping : ℕ → ℕ → Extractor
+abbrev pub escaping : ℕ → ℕ → Progress
 escaping q h = record { phase = Escaped; sequence = q; held = h }
 
 module _ (limit : ℕ) where
   -- bytes that are all taken lead from a state and a buffer to others
-  pub data TakesBytes : Extractor → List ℕ → List ℕ → Extractor → List ℕ → Type 0 where
-    none : {s : Extractor} {l : List ℕ} → TakesBytes s l [] s l
-    more : {s s₁ s₂ : Extractor} {l l₁ l₂ : List ℕ} {b : ℕ} {bs : List ℕ}
+  pub data TakesBytes : Progress → List ℕ → List ℕ → Progress → List ℕ → Type 0 where
+    none : {s : Progress} {l : List ℕ} → TakesBytes s l [] s l
+    more : {s s₁ s₂ : Progress} {l l₁ l₂ : List ℕ} {b : ℕ} {bs : List ℕ}
         → advanceOf limit s l b ≡ step taken s₁ l₁ → TakesBytes s₁ l₁ bs s₂ l₂ → TakesBytes s l (b ∷ bs) s₂ l₂
 
-  single : {s s₁ : Extractor} {l l₁ : List ℕ} {b : ℕ} → advanceOf limit s l b ≡ step taken s₁ l₁ → TakesBytes s l (b ∷ []) s₁ l₁
+  single : {s s₁ : Progress} {l l₁ : List ℕ} {b : ℕ} → advanceOf limit s l b ≡ step taken s₁ l₁ → TakesBytes s l (b ∷ []) s₁ l₁
   single e = more e none
 
-  pub takes-then : {s s₁ s₂ : Extractor} {l l₁ l₂ xs ys : List ℕ} → TakesBytes s l xs s₁ l₁ → TakesBytes s₁ l₁ ys s₂ l₂ → TakesBytes s l (xs ++ ys) s₂ l₂
+  pub takes-then : {s s₁ s₂ : Progress} {l l₁ l₂ xs ys : List ℕ} → TakesBytes s l xs s₁ l₁ → TakesBytes s₁ l₁ ys s₂ l₂ → TakesBytes s l (xs ++ ys) s₂ l₂
   takes-then none k = k
   takes-then (more e j) k = more e (takes-then j k)
 
   -- they hand out nothing
-  pub takes-frames : {s s₁ : Extractor} {l l₁ xs : List ℕ} → TakesBytes s l xs s₁ l₁ → (ys : List ℕ)
+  pub takes-frames : {s s₁ : Progress} {l l₁ xs : List ℕ} → TakesBytes s l xs s₁ l₁ → (ys : List ℕ)
       → framesOf limit s l (xs ++ ys) ≡ framesOf limit s₁ l₁ ys
   unfolding framesOf
   takes-frames none ys = refl
   takes-frames (more e k) ys = rw e (takes-frames k ys)
 
   -- a call for many bytes goes on behind them
-  pub takes-feed : {s s₁ : Extractor} {l l₁ xs : List ℕ} → TakesBytes s l xs s₁ l₁ → (n : ℕ) (ys : List ℕ)
+  pub takes-feed : {s s₁ : Progress} {l l₁ xs : List ℕ} → TakesBytes s l xs s₁ l₁ → (n : ℕ) (ys : List ℕ)
       → feedFrom limit n s l (xs ++ ys) ≡ feedFrom limit (n + length xs) s₁ l₁ ys
   unfolding feedFrom
   takes-feed none n ys = rw add-zero
@@ -69,7 +69,7 @@ module _ (limit : ℕ) where
   header-taken l q e = more refl (more refl (sequence-taken l q e))
 
   -- a header in any state
-  pub header : (q : ℕ) (l : List ℕ) → kindOf q ≡ Plain → (s : Extractor) (rest : List ℕ)
+  pub header : (q : ℕ) (l : List ℕ) → kindOf q ≡ Plain → (s : Progress) (rest : List ℕ)
       → framesOf limit s l (headerOf q ++ rest) ≡ framesOf limit (body q 0) l rest
   header q l plain s rest = frame-begins limit s l (packetId ∷ errorId ∷ q ∷ rest) ∙ takes-frames (header-taken l q plain) rest
 

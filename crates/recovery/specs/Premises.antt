@@ -2,30 +2,15 @@
 use Prim.Native.Nat.{ℕ, zero, suc, _+_, _≤_, _<_}
 use mathlib.Core.Path.{_≡_}
 use mathlib.Core.Logic.{_≢_}
-use mathlib.Core.Bool.{true}
 use mathlib.Core.List.{List, [], _∷_, map}
 use lib.ListN.{length, getD}
 use Rattle.framing.specs.Frame.{frameOf}
-use Rattle.extractor.specs.declared.state.Extractor.{Extractor}
+use Rattle.frame_writer.specs.Sending.{FrameToSend, Sendable, NoMark, SendableWhen}
+use Rattle.extractor.specs.declared.state.Progress.{Progress}
 use Rattle.extractor.specs.declared.state.Phase.{Phase}
 use Rattle.extractor.specs.declared.state.Phase.the-variants.{Outside, PacketId, ErrorId, Sequence, Body, Escaped}
-use Rattle.extractor.specs.State.{lawful}
 use Rattle.recovery.specs.Run.{Call, one, many, runOf}
-use Rattle.recovery.specs.Recovery.{FrameToSend, Sendable, Turned, ClosingFrame, whole, damaged, Closing}
-
-abbrev pub NoMark : ℕ → Type 0
-NoMark b = (b ≢ 0xF0) × (b ≢ 0xF1) × (b ≢ 0xF2)
-
--- a sequence byte that is no mark, a payload of 0 to limit bytes, and an output that is at least as long as their frame
-abbrev pub SendableWhen : Type 0
-SendableWhen =
-    (limit : ℕ) (m : FrameToSend)
-    → m .sequence < 256
-    → NoMark (m .sequence)
-    → length (m .payload) ≤ limit
-    → ((i : ℕ) → i < length (m .payload) → getD (m .payload) i 0 < 256)
-    → length (frameOf (m .sequence) (m .payload)) ≤ length (m .out)
-    → Sendable limit m
+use Rattle.recovery.specs.Recovery.{Turned, ClosingFrame, whole, damaged, Closing, Standing}
 
 -- a byte that is no mark, and another one that is none
 abbrev pub TurnedWhen : Type 0
@@ -44,6 +29,7 @@ pub record ClosingWhen : Type 0 where
   pub whole-first : (limit : ℕ) (m : FrameToSend) (is : List ClosingFrame) → Sendable limit m → Closing limit is → Closing limit (whole m ∷ is)
   pub damaged-first : (limit : ℕ) (m : FrameToSend) (place new : ℕ) (is : List ClosingFrame)
       → Sendable limit m
+      → ((i : ℕ) → i < length (m .payload) → getD (m .payload) i 0 < 256)
       → place ≢ 3
       → Turned (frameOf (m .sequence) (m .payload)) place new
       → Closing limit is
@@ -58,8 +44,16 @@ LawfulIn Sequence limit sequence held = (sequence ≡ 0) × (held ≡ 0)
 LawfulIn Body limit sequence held = NoMark sequence × (held ≤ limit + 2)
 LawfulIn Escaped limit sequence held = NoMark sequence × (held ≤ limit + 2)
 
-abbrev pub LawfulWhen : Type 0
-LawfulWhen = (limit : ℕ) (s : Extractor) → s .sequence < 256 → LawfulIn (s .phase) limit (s .sequence) (s .held) → lawful limit s ≡ true
+-- a limit of 1 to 65,535, a lawful state, a buffer of limit + 2 bytes
+abbrev pub StandingWhen : Type 0
+StandingWhen =
+    (limit : ℕ) (s : Progress) (buffer : List ℕ)
+    → 1 ≤ limit
+    → limit ≤ 65535
+    → s .sequence < 256
+    → LawfulIn (s .phase) limit (s .sequence) (s .held)
+    → length buffer ≡ limit + 2
+    → Standing limit s buffer
 
 -- a call that asks for a byte: a step for 0, and a call for n bytes for any other n
 abbrev pub asking : ℕ → Call
@@ -69,9 +63,8 @@ asking (suc n) = many (suc n)
 -- as many such calls as there are bytes use them all
 abbrev pub AllUsedWhen : Type 0
 AllUsedWhen =
-    (limit : ℕ) (s : Extractor) (buffer bytes sizes : List ℕ)
-    → lawful limit s ≡ true
-    → length buffer ≡ limit + 2
+    (limit : ℕ) (s : Progress) (buffer bytes sizes : List ℕ)
+    → Standing limit s buffer
     → length bytes ≤ length sizes
     → runOf limit (map asking sizes) 0 s buffer bytes .unused ≡ []
 
@@ -81,5 +74,5 @@ pub record FactsSuffice : Type 0 where
   pub sendable : SendableWhen
   pub turned : TurnedWhen
   pub closing : ClosingWhen
-  pub lawful : LawfulWhen
+  pub standing : StandingWhen
   pub used : AllUsedWhen

@@ -4,40 +4,15 @@ use mathlib.Core.Path.{_≡_}
 use mathlib.Core.Logic.{_≢_}
 use mathlib.Core.Bool.{true, false}
 use mathlib.Core.List.{List, [], _∷_, _++_}
-use lib.ListN.{length, getD, set, take}
-use Rattle.wire.specs.Told.{Told, given, refused}
+use lib.ListN.{length, getD, set}
 use Rattle.wire.specs.Bytes.{AllBytes}
+use Rattle.wire.specs.Limit.{limitFits}
 use Rattle.framing.specs.Mark.{isMark}
-use Rattle.framing.specs.Frame.{frameOf}
-use Rattle.extractor.specs.declared.state.Extractor.{Extractor}
+use Rattle.extractor.specs.declared.state.Progress.{Progress}
 use Rattle.extractor.specs.State.{outside, lawful}
 use Rattle.feed.specs.Feed.{feedOf}
-use Rattle.frame_writer.specs.Writer.{writeOf}
+use Rattle.frame_writer.specs.Sending.{FrameToSend, Sendable, sent}
 use Rattle.recovery.specs.Run.{Call, runOf, Given, handedBy, handedOut}
-
--- ---- the frames of our writer
-
--- a call of the frame writer: its sequence and payload, and the output that is lent to it
-pub record FrameToSend : Type 0 where
-  pub sequence : ℕ
-  pub payload : List ℕ
-  pub out : List ℕ
-
--- what the writer has to take: a sequence that is no mark, and bytes up to the limit, with room for their frame
-pub record Sendable (limit : ℕ) (m : FrameToSend) : Type 0 where
-  pub unmarked : isMark (m .sequence) ≡ false
-  pub fits : length (m .payload) ≤ limit
-  pub bytes : AllBytes (m .payload)
-  pub room : length (frameOf (m .sequence) (m .payload)) ≤ length (m .out)
-
--- the first bytes of an output, as many as the writer tells
-abbrev pub toldBytes : Told ℕ → List ℕ → List ℕ
-toldBytes (given n) out = take n out
-toldBytes (refused n) out = []
-
--- the bytes that our writer writes
-abbrev pub sent : ℕ → FrameToSend → List ℕ
-sent limit m = let w = writeOf limit (m .sequence) (m .payload) (m .out) in toldBytes (w .told) (w .out)
 
 -- what an extractor has to hand out of a frame
 abbrev pub givenOf : FrameToSend → Given
@@ -74,11 +49,18 @@ undamaged [] = []
 undamaged (whole m ∷ is) = givenOf m ∷ undamaged is
 undamaged (damaged m place new ∷ is) = undamaged is
 
--- each frame is one that the writer has to take, and the byte that turned is not the sequence byte
+-- each frame is one that the writer has to take; one that is damaged has bytes for its payload, and the byte that turned is not the sequence byte
 abbrev pub Closing : ℕ → List ClosingFrame → Type 0
 Closing limit [] = Unit {0}
 Closing limit (whole m ∷ is) = Sendable limit m × Closing limit is
-Closing limit (damaged m place new ∷ is) = Sendable limit m × (place ≢ sequencePlace) × Turned (sent limit m) place new × Closing limit is
+Closing limit (damaged m place new ∷ is) =
+    Sendable limit m × AllBytes (m .payload) × (place ≢ sequencePlace) × Turned (sent limit m) place new × Closing limit is
+
+-- what an extractor and its buffer have to be: of a limit in its range, lawful, and of the size that goes with it
+pub record Standing (limit : ℕ) (s : Progress) (buffer : List ℕ) : Type 0 where
+  pub range : limitFits limit ≡ true
+  pub state : lawful limit s ≡ true
+  pub size : length buffer ≡ limit + 2
 
 -- ---- the claims
 
@@ -86,9 +68,8 @@ Closing limit (damaged m place new ∷ is) = Sendable limit m × (place ≢ sequ
 -- closing part are the undamaged ones of it, one each, in order
 abbrev pub DamageEnds : Type 0
 DamageEnds =
-    (limit : ℕ) (s : Extractor) (buffer before : List ℕ) (closing : List ClosingFrame) (calls : List Call)
-    → lawful limit s ≡ true
-    → length buffer ≡ limit + 2
+    (limit : ℕ) (s : Progress) (buffer before : List ℕ) (closing : List ClosingFrame) (calls : List Call)
+    → Standing limit s buffer
     → Closing limit closing
     → (let run = runOf limit calls 0 s buffer (before ++ bytesOf limit closing) in
     run .unused ≡ [] → handedOut (length before) (run .events) ≡ undamaged closing)

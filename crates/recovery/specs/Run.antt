@@ -4,7 +4,7 @@ use mathlib.Core.List.{List, [], _∷_, _++_}
 use mathlib.Core.Bool.{cond}
 use lib.ListN.{take, drop}
 use lib.Dec.{ltb}
-use Rattle.extractor.specs.declared.state.Extractor.{Extractor}
+use Rattle.extractor.specs.declared.state.Progress.{Progress}
 use Rattle.extractor.specs.Outcome.{Report, skipped, taken, allUsed, frame, refused}
 use Rattle.extractor.specs.Step.{byteStepOf}
 use Rattle.feed.specs.Feed.{Feed, fed, feedOf}
@@ -15,7 +15,7 @@ pub data Call : Type 0 where
   many : ℕ → Call
 
 -- what a call leaves; a step wants a byte: where none is left nothing is called, and nothing is decided
-unfoldable pub callOf : ℕ → Call → Extractor → List ℕ → List ℕ → Feed
+unfoldable pub callOf : ℕ → Call → Progress → List ℕ → List ℕ → Feed
 callOf limit one s l [] = fed allUsed 0 s l
 callOf limit one s l (b ∷ bs) = let r = byteStepOf limit s l b in fed (r .report) 1 (r .next) (r .buffer)
 callOf limit (many n) s l bytes = feedOf limit s l (take n bytes)
@@ -35,7 +35,7 @@ abbrev pub noted : Event → Run → Run
 noted e later = record { events = e ∷ later .events; unused = later .unused }
 
 -- each call begins at the first byte not yet used, with the state and the buffer that the one before left; n bytes are used so far
-unfoldable pub runOf : ℕ → List Call → ℕ → Extractor → List ℕ → List ℕ → Run
+unfoldable pub runOf : ℕ → List Call → ℕ → Progress → List ℕ → List ℕ → Run
 runOf limit [] n s l bytes = record { events = []; unused = bytes }
 runOf limit (c ∷ cs) n s l bytes =
     let r = callOf limit c s l bytes in

@@ -7,12 +7,13 @@ use lib.ListN.{length, take, drop}
 use lib.Seq.{sets}
 use lib.Dec.{ltb, leb, eqb}
 use Rattle.wire.specs.Bytes.{pairBytes}
+use Rattle.wire.specs.Limit.{limitFits}
 use Rattle.wire.specs.Told.{Told, given, refused, Line, line, table, Written, writes}
 use Rattle.packet.specs.Header.{fourBits, inRange, reservedByte, typeFirst, typeContinuation, typeLast, headerSize, firstByte, secondByte, sequenceAfter}
 use Rattle.sender.specs.declared.piece.Piece.{Piece}
 use Rattle.sender.specs.declared.writer.Sending.{Sending}
 use Rattle.sender.specs.declared.writer.Refusal.{Refusal}
-use Rattle.sender.specs.declared.writer.Refusal.the-variants.{Room, Argument, Output}
+use Rattle.sender.specs.declared.writer.Refusal.the-variants.{Room, Limit, Argument, Output}
 use Rattle.sender.specs.declared.writer.Answer.{Answer}
 use Rattle.sender.specs.declared.writer.Answer.the-variants.{Refused, More, Last}
 use Rattle.sender.specs.declared.writer.Decision.{Decision}
@@ -58,9 +59,10 @@ packetsOf w m = map (packetOf w m) (piecesOf (w .room) (length m))
 
 -- ---- the refusals
 
--- room out of range; another argument out of range; output smaller than the room
+-- room out of range; limit out of range; another argument out of range; output smaller than the room
 abbrev pub numberOf : Refusal → ℕ
 numberOf Room = 13
+numberOf Limit = 17
 numberOf Argument = 15
 numberOf Output = 14
 
@@ -85,6 +87,7 @@ foundAt w length place = pieceAt place (piecesOf (w .room) length)
 abbrev pub lines : ℕ → Sending → ℕ → Option Piece → ℕ → List Line
 lines limit w length found space =
     line 13 (not (roomFits (w .room)))
+    ∷ line 17 (not (limitFits limit))
     ∷ line 15 (not (argumentsFit limit w length && begins found))
     ∷ line 14 (ltb space (w .room))
     ∷ []

@@ -8,6 +8,7 @@ use crate::piece::piece_at;
 use packet::header;
 use wire::bytes::copy;
 use wire::bytes::put_pair;
+use wire::limit::limit_fits;
 use wire::logic::both;
 ghost use mathlib.Core.Path.{_≡_};
 ghost use Prim.Native.Nat.{_+_, _≤_, _<_};
@@ -29,6 +30,7 @@ pub struct Sending {
 
 pub enum Refusal {
     Room,
+    Limit,
     Argument,
     Output,
 }
@@ -39,6 +41,7 @@ impl Refusal {
     {
         match self {
             Refusal::Room => 13,
+            Refusal::Limit => 17,
             Refusal::Argument => 15,
             Refusal::Output => 14,
         }
@@ -64,23 +67,26 @@ fn room_fits(room: usize) -> bool
     both(LEAST_ROOM <= room, room <= LARGEST_ROOM)
 }
 
-fn arguments_fit(how: Sending, length: usize) -> bool
-    ensures { λ r. ⌜ r ≡ argumentsFit 4096 how length ⌝ }
+fn arguments_fit(how: Sending, limit: usize, length: usize) -> bool
+    ensures { λ r. ⌜ r ≡ argumentsFit limit how length ⌝ }
 {
     let in_range = header::in_range(how.stream, how.id, how.sequence);
-    both(in_range, length <= wire::MESSAGE_LIMIT)
+    both(in_range, length <= limit)
 }
 
 // The table of refusals, from the top.
-fn decide(how: Sending, length: usize, place: usize, space: usize) -> Decision
-    ensures { λ r. ⌜ (decisionOf r ≡ decided 4096 how length place space)
+fn decide(how: Sending, limit: usize, length: usize, place: usize, space: usize) -> Decision
+    ensures { λ r. ⌜ (decisionOf r ≡ decided limit how length place space)
         × WritesGiven how length space (decisionOf r) ⌝ }
 {
     let room = how.room;
     if !room_fits(room) {
         return Decision::Refuse(Refusal::Room);
     }
-    if !arguments_fit(how, length) {
+    if !limit_fits(limit) {
+        return Decision::Refuse(Refusal::Limit);
+    }
+    if !arguments_fit(how, limit, length) {
         return Decision::Refuse(Refusal::Argument);
     }
     let found = piece_at(room, length, place);
@@ -186,12 +192,18 @@ fn write_piece(how: Sending, message: &[u8], piece: Piece, out: &mut [u8]) -> An
     answer_for(last, header + size, end)
 }
 
-// Writes the packet of the message whose piece begins at the place.
-pub fn write_packet(how: Sending, message: &[u8], place: usize, out: &mut [u8]) -> Answer
+// Writes the packet of the message whose piece begins at the place, for a link with a limit.
+pub fn write_packet(
+    how: Sending,
+    limit: usize,
+    message: &[u8],
+    place: usize,
+    out: &mut [u8],
+) -> Answer
     ensures { λ r. ⌜ written (told r) (now (out .exit))
-        ≡ writtenOf 4096 how (now (message .entry)) place (now (out .entry)) ⌝ }
+        ≡ writtenOf limit how (now (message .entry)) place (now (out .entry)) ⌝ }
 {
-    let decision = decide(how, message.len(), place, out.len());
+    let decision = decide(how, limit, message.len(), place, out.len());
     match decision {
         Decision::Refuse(why) => Answer::Refused(why),
         Decision::Write(piece) => write_piece(how, message, piece, out),

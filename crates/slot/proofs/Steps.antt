@@ -16,7 +16,7 @@ use Rattle.packet.specs.declared.reader.Packet.the-variants.{First, Next, Ack, 
 use Rattle.packet.specs.Reader.{lenIn}
 use Rattle.packet.proofs.Reading.{HeadLow, Within}
 use Rattle.slot.specs.declared.Slot.{Slot}
-use Rattle.slot.specs.declared.step.Piece.{Piece}
+use Rattle.slot.specs.declared.step.Payload.{Payload}
 use Rattle.slot.specs.Slot.{idle, isOpen, lawfulSlot, allLawful, slotsEach}
 use Rattle.slot.specs.Step.{Step, Act, still, step, finish, hold, dropBy, firstStep, offTotal, lines, nextStep, further, placeWhere, atPlace, actOf}
 use Rattle.slot.specs.Fit.{Inside, Fit, ActFits}
@@ -60,15 +60,15 @@ module _ (limit k place : ℕ) (low : place < slotsEach) where
   unfolding dropBy
   drop-fits n = record { within = low; inside = (omega arith, omega arith); left = idle-lawful limit }
 
-  finish-fits : (h : Head) (wanted : Bool) (total : ℕ) (replaced : Bool) (piece : Piece) → Inside limit k piece
-      → Fit limit k place (finish h wanted total replaced piece)
+  finish-fits : (h : Head) (wanted : Bool) (total : ℕ) (replaced : Bool) (payload : Payload) → Inside limit k payload
+      → Fit limit k place (finish h wanted total replaced payload)
   unfolding finish
-  finish-fits h wanted total replaced piece i = record { within = low; inside = i; left = idle-lawful limit }
+  finish-fits h wanted total replaced payload i = record { within = low; inside = i; left = idle-lawful limit }
 
-  hold-fits : (h : Head) (wanted : Bool) (total : ℕ) (replaced : Bool) (piece : Piece) → Inside limit k piece → HeadLow h → total ≤ limit
-      → 1 ≤ piece .at + piece .len → piece .at + piece .len < total → Fit limit k place (hold h wanted total replaced piece)
+  hold-fits : (h : Head) (wanted : Bool) (total : ℕ) (replaced : Bool) (payload : Payload) → Inside limit k payload → HeadLow h → total ≤ limit
+      → 1 ≤ payload .at + payload .len → payload .at + payload .len < total → Fit limit k place (hold h wanted total replaced payload)
   unfolding hold
-  hold-fits h wanted total replaced piece i head t sent below =
+  hold-fits h wanted total replaced payload i head t sent below =
       record {
         within = low;
         inside = i;

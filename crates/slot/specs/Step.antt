@@ -11,7 +11,7 @@ use Rattle.packet.specs.declared.reader.Packet.{Packet}
 use Rattle.packet.specs.declared.reader.Packet.the-variants.{First, Next, Ack, Nack}
 use Rattle.packet.specs.Header.{sequenceAfter}
 use Rattle.slot.specs.declared.Slot.{Slot}
-use Rattle.slot.specs.declared.step.Piece.{Piece}
+use Rattle.slot.specs.declared.step.Payload.{Payload}
 use Rattle.slot.specs.declared.answer.Accepted.{Accepted}
 use Rattle.slot.specs.declared.answer.Accepted.the-variants.{Taken, Finished, Acked, Nacked}
 use Rattle.slot.specs.declared.step.Step as code
@@ -20,11 +20,11 @@ use Rattle.slot.specs.declared.step.Act.the-variants.{Still, Step as Ste
 use Rattle.slot.specs.Slot.{idle, isOpen}
 use Rattle.slot.specs.Answer as answer
 
--- what is told, the slot afterwards, and the piece that is written
+-- what is told, the slot afterwards, and the payload that is written
 pub record Step : Type 0 where
   pub told : Told Accepted
   pub slot : Slot
-  pub piece : Piece
+  pub payload : Payload
 
 -- what is done with a packet: an answer that leaves all, or a step of the slot at a place among its stream's
 pub data Act : Type 0 where
@@ -34,26 +34,26 @@ pub data Act : Type 0 where
 -- ---- a step of one slot
 
 -- no bytes
-abbrev pub nothing : Piece
+abbrev pub nothing : Payload
 nothing = record { at = 0; start = 0; len = 0 }
 
 -- the transaction is finished: its wish for an ACK is told, and its slot idle
-unfoldable pub finish : Head → Bool → ℕ → Bool → Piece → Step
-finish head wanted total replaced piece =
-    record { told = given (Finished (head .stream) (head .id) total wanted replaced); slot = idle; piece = piece }
+unfoldable pub finish : Head → Bool → ℕ → Bool → Payload → Step
+finish head wanted total replaced payload =
+    record { told = given (Finished (head .stream) (head .id) total wanted replaced); slot = idle; payload = payload }
 
--- more is to come: the slot holds all up to the piece's end, and remembers the wish
-unfoldable pub hold : Head → Bool → ℕ → Bool → Piece → Step
-hold head wanted total replaced piece =
+-- more is to come: the slot holds all up to the payload's end, and remembers the wish
+unfoldable pub hold : Head → Bool → ℕ → Bool → Payload → Step
+hold head wanted total replaced payload =
     record {
       told = given (Taken (head .stream) (head .id) replaced);
-      slot = record { opened = true; id = head .id; total = total; held = piece .at + piece .len; sequence = head .sequence; wanted = wanted };
-      piece = piece;
+      slot = record { opened = true; id = head .id; total = total; held = payload .at + payload .len; sequence = head .sequence; wanted = wanted };
+      payload = payload;
     }
 
 -- the transaction is dropped: its slot is idle, its wish forgotten, and nothing is written
 unfoldable pub dropBy : ℕ → Step
-dropBy n = record { told = refused n; slot = idle; piece = nothing }
+dropBy n = record { told = refused n; slot = idle; payload = nothing }
 
 -- a first packet replaces what is open, its wish too; one whose payload equals its total finishes at once
 unfoldable pub firstStep : Slot → Head → Bool → ℕ → ℕ → ℕ → Step
@@ -107,7 +107,7 @@ actOf lane (Nack head) = still (given (Nacked head))
 -- ---- what the code decides, for a stream of one slot
 
 unfoldable pub stepOf : code.Step → Step
-stepOf s = record { told = answer.told (s .answer); slot = s .slot; piece = s .piece }
+stepOf s = record { told = answer.told (s .answer); slot = s .slot; payload = s .payload }
 
 abbrev pub actBy : acts.Act → Act
 actBy (Still told) = still (answer.told told)

@@ -30,11 +30,11 @@ impl Slot {
         }
     }
 
-    fn open_law(self) -> bool
-        ensures { λ r. ⌜ r ≡ openLaw 4096 self ⌝ }
+    fn open_law(self, limit: usize) -> bool
+        ensures { λ r. ⌜ r ≡ openLaw limit self ⌝ }
     {
         let begun = both(1 <= self.held, self.held < self.total);
-        let counts = both(self.total <= wire::MESSAGE_LIMIT, begun);
+        let counts = both(self.total <= limit, begun);
         let low = both(self.sequence < header::FOUR_BITS, counts);
         both(self.id < header::FOUR_BITS, low)
     }
@@ -54,23 +54,23 @@ impl Slot {
         both(self.opened, self.id == id)
     }
 
-    pub fn is_lawful(self) -> bool
-        ensures { λ r. ⌜ r ≡ lawfulSlot 4096 self ⌝ }
+    pub fn is_lawful(self, limit: usize) -> bool
+        ensures { λ r. ⌜ r ≡ lawfulSlot limit self ⌝ }
     {
         if self.opened {
-            self.open_law()
+            self.open_law(limit)
         } else {
             self.idle_law()
         }
     }
 }
 
-// Whether a state is lawful: each of its slots is.
-pub fn are_lawful(slots: [Slot; 3]) -> bool
-    ensures { λ r. ⌜ r ≡ lawful 4096 slots ⌝ }
+// Whether a state is lawful for a limit: each of its slots is.
+pub fn are_lawful(limit: usize, slots: [Slot; 3]) -> bool
+    ensures { λ r. ⌜ r ≡ lawful limit slots ⌝ }
 {
-    let control = slots[0].is_lawful();
-    let ota = slots[1].is_lawful();
-    let alexa = slots[2].is_lawful();
+    let control = slots[0].is_lawful(limit);
+    let ota = slots[1].is_lawful(limit);
+    let alexa = slots[2].is_lawful(limit);
     both(control, both(ota, alexa))
 }

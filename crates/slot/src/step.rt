@@ -15,18 +15,18 @@ ghost use Rattle.packet.specs.declared.reader.Packet.the-variants.{Next};
 ghost use Rattle.slot.specs.Answer.{numberOf};
 ghost use Rattle.slot.specs.Step.{stepOf, actBy, finish, hold, dropBy, firstStep, offTotal, nextStep, actOf};
 
-// The bytes of the packet that are written, from start on, and their place in the slot's part of the buffer.
-pub struct Piece {
+// The payload that is written: from start on in its packet, and its place in the slot's part of the buffer.
+pub struct Payload {
     pub at: usize,
     pub start: usize,
     pub len: usize,
 }
 
-// The answer, the slot afterwards, and the piece that is written.
+// The answer, the slot afterwards, and the payload that is written.
 pub struct Step {
     pub answer: Answer,
     pub slot: Slot,
-    pub piece: Piece,
+    pub payload: Payload,
 }
 
 // An answer that leaves all, or a step of the slot.
@@ -36,8 +36,8 @@ pub enum Act {
 }
 
 // The transaction is finished: its wish for an ACK is told, and its slot idle.
-fn finish(head: Head, wanted: bool, total: usize, replaced: bool, piece: Piece) -> Step
-    ensures { λ r. ⌜ stepOf r ≡ finish head wanted total replaced piece ⌝ }
+fn finish(head: Head, wanted: bool, total: usize, replaced: bool, payload: Payload) -> Step
+    ensures { λ r. ⌜ stepOf r ≡ finish head wanted total replaced payload ⌝ }
 {
     let stream = head.stream;
     let slot = Slot::idle();
@@ -50,17 +50,17 @@ fn finish(head: Head, wanted: bool, total: usize, replaced: bool, piece: Piece) 
             replaced,
         }),
         slot,
-        piece,
+        payload,
     }
 }
 
-// More is to come: the slot holds all up to the piece's end, and remembers the wish.
-fn hold(head: Head, wanted: bool, total: usize, replaced: bool, piece: Piece) -> Step
-    requires { ⌜ (piece .at < 2 ^ 63) × (piece .len < 2 ^ 63) ⌝ }
-    ensures { λ r. ⌜ stepOf r ≡ hold head wanted total replaced piece ⌝ }
+// More is to come: the slot holds all up to the payload's end, and remembers the wish.
+fn hold(head: Head, wanted: bool, total: usize, replaced: bool, payload: Payload) -> Step
+    requires { ⌜ (payload .at < 2 ^ 63) × (payload .len < 2 ^ 63) ⌝ }
+    ensures { λ r. ⌜ stepOf r ≡ hold head wanted total replaced payload ⌝ }
 {
     let stream = head.stream;
-    let held = piece.at + piece.len;
+    let held = payload.at + payload.len;
     Step {
         answer: Answer::Given(Accepted::Taken {
             stream,
@@ -75,7 +75,7 @@ fn hold(head: Head, wanted: bool, total: usize, replaced: bool, piece: Piece) ->
             sequence: head.sequence,
             wanted,
         },
-        piece,
+        payload,
     }
 }
 
@@ -87,7 +87,7 @@ fn drop_by(why: Refusal) -> Step
     Step {
         answer: Answer::Refused(why),
         slot,
-        piece: Piece {
+        payload: Payload {
             at: 0,
             start: 0,
             len: 0,
@@ -101,11 +101,11 @@ fn on_first(slot: Slot, head: Head, ack: bool, total: usize, start: usize, len: 
     ensures { λ r. ⌜ stepOf r ≡ firstStep slot head ack total start len ⌝ }
 {
     let replaced = slot.opened;
-    let piece = Piece { at: 0, start, len };
+    let payload = Payload { at: 0, start, len };
     if len == total {
-        return finish(head, ack, total, replaced, piece);
+        return finish(head, ack, total, replaced, payload);
     }
-    hold(head, ack, total, replaced, piece)
+    hold(head, ack, total, replaced, payload)
 }
 
 // Whether type 1 reaches or passes the total, or type 2 misses it.
@@ -130,11 +130,11 @@ fn on_next(slot: Slot, head: Head, ack: bool, last: bool, start: usize, len: usi
         return drop_by(Refusal::Amount);
     }
     let wanted = either(slot.wanted, ack);
-    let piece = Piece { at, start, len };
+    let payload = Payload { at, start, len };
     if last {
-        return finish(head, wanted, total, false, piece);
+        return finish(head, wanted, total, false, payload);
     }
-    hold(head, wanted, total, false, piece)
+    hold(head, wanted, total, false, payload)
 }
 
 // A packet that follows: what it does where its transaction is open.

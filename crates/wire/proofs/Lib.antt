@@ -4,3 +4,4 @@ pub mod Runs
 pub mod Tests
 pub mod Tables
 pub mod Streams
+pub mod Limits

@@ -2,3 +2,4 @@ pub mod Told
 pub mod Bytes
 pub mod Scan
 pub mod Stream
+pub mod Limit

@@ -1,8 +1,6 @@
 // What every format of the link shares: bytes and numbers, runs of bytes, tests, streams.
 pub mod bytes;
+pub mod limit;
 pub mod logic;
 pub mod scan;
 pub mod stream;
-
-// The largest message, in bytes.
-pub const MESSAGE_LIMIT: usize = 4096;

@@ -2,6 +2,7 @@
 use mathlib.Core.Path.{_≡_, refl, ap, sym, _∙_}
 use mathlib.Core.List.{List, map, List·Memᴰ, List·Memᴰ·head, List·Memᴰ·tail}
 use Rattle.wire.specs.Stream.{isStream, streamOf}
+use Rattle.wire.specs.Limit.{limitFits}
 use Rattle.framing.specs.Mark.{kindOf}
 use Rattle.framing.specs.Frame.{escapedOf, sumOf, framed}
 use Rattle.packet.specs.Header.{inRange}
@@ -12,7 +13,7 @@ use Rattle.sender.specs.Writer.{headerBytes, packetOf, roomFits, argumentsFit, 
 use Rattle.delivery.specs.Calls.{callsFrom}
 use Rattle.slot.specs.Slot.{lawfulSlot, lawful}
 use Rattle.slot.specs.Step.{finish, hold, dropBy, firstStep, nextStep}
-use Rattle.receiver.specs.Receiver.{ready, acceptOf}
+use Rattle.receiver.specs.Receiver.{openOf, ready, acceptOf}
 use Rattle.field.specs.Varint.{varintAt}
 use Rattle.field_writer.specs.Varint.{varintBytes}
 use Rattle.field.specs.Tag.{badTag, tagAt}
@@ -22,8 +23,9 @@ use Rattle.walk.specs.Schema.{roleOf}
 use Rattle.walk.specs.Walk.{judged, addedAt, readAt, fieldAt, fieldsFrom}
 use Rattle.control.specs.Response.{responseFrom}
 use Rattle.control.specs.Envelope.{payloadOf, envelopeOf, envelopeWritten}
-use Rattle.outbox.specs.Format.{numberOf}
+use Rattle.outbox.specs.Format.{isOne, formatOf, numberOf, bytesOf, recordBytes}
 use Rattle.outbox.specs.Reader as outbox
+use Rattle.outbox.specs.Writer.{badRecord, appendOf}
 use Rattle.worked.specs.Question.{answerTo}
 use Rattle.worked.specs.Cases.{Case, cases, WorkedCases}
 
@@ -34,7 +36,7 @@ agree f g same a (List·Memᴰ·tail {x = x} {xs = xs} there) = let t : map f xs
 
 -- the whole table, computed
 holds : map (λ (c : Case). answerTo (c .question)) cases ≡ map (λ (c : Case). c .expected) cases
-unfolding answerTo cases isStream streamOf kindOf escapedOf sumOf framed inRange fieldsOf contentOf lines readOf ackOf sizeFor headerBytes packetOf roomFits argumentsFit writtenOf callsFrom lawfulSlot lawful finish hold dropBy firstStep nextStep ready acceptOf varintAt varintBytes badTag tagAt valueAt tagBytes headBytes partBytes fieldBytes roleOf judged addedAt readAt fieldAt fieldsFrom responseFrom payloadOf envelopeOf envelopeWritten numberOf outbox.otherVersion outbox.badPlace outbox.badLength outbox.cutShort outbox.badStream outbox.recordAt outbox.readOf
+unfolding answerTo cases limitFits isStream streamOf kindOf escapedOf sumOf framed inRange fieldsOf contentOf lines readOf ackOf sizeFor headerBytes packetOf roomFits argumentsFit writtenOf callsFrom lawfulSlot lawful finish hold dropBy firstStep nextStep openOf ready acceptOf varintAt varintBytes badTag tagAt valueAt tagBytes headBytes partBytes fieldBytes roleOf judged addedAt readAt fieldAt fieldsFrom responseFrom payloadOf envelopeOf envelopeWritten isOne formatOf numberOf outbox.otherVersion outbox.badPlace outbox.badLength outbox.cutShort outbox.badStream outbox.recordAt outbox.readOf outbox.readings outbox.readAll outbox.walkOf bytesOf recordBytes badRecord appendOf
 holds = refl
 
 pub worked-cases : WorkedCases

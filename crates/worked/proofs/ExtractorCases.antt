@@ -1,17 +1,18 @@
 -- The extractor's table holds: computed over the whole table, then turned into the rule at each row.
 use mathlib.Core.Path.{_≡_, refl}
 use mathlib.Core.List.{map}
+use Rattle.wire.specs.Limit.{limitFits}
 use Rattle.framing.specs.Mark.{kindOf}
 use Rattle.framing.specs.Frame.{sumOf, checked}
 use Rattle.extractor.specs.Action.{codeOf}
-use Rattle.extractor.specs.State.{lawful, ready}
+use Rattle.extractor.specs.State.{lawful, ready, openOf}
 use Rattle.extractor.specs.Step.{storeOf, endOf, advanceOf}
 use Rattle.feed.specs.Feed.{feedFrom}
 use Rattle.worked.specs.ExtractorCases.{stepsOf, feedsOf, answerTo, Case, cases, ExtractorCases}
 use Rattle.worked.proofs.Cases.{agree}
 
 holds : map (λ (c : Case). answerTo (c .question)) cases ≡ map (λ (c : Case). c .expected) cases
-unfolding answerTo cases stepsOf feedsOf kindOf sumOf codeOf lawful ready storeOf checked endOf advanceOf feedFrom
+unfolding answerTo cases stepsOf feedsOf limitFits kindOf sumOf codeOf lawful ready openOf storeOf checked endOf advanceOf feedFrom
 holds = refl
 
 pub extractor-cases : ExtractorCases

@@ -1,4 +1,4 @@
--- The worked cases of docs/FORMATS.md, P1 to P12 and No. 2: one table, and the one statement that each of its rows holds.
+-- The worked cases of docs/FORMATS.md, P1 to P12, and those of No. 2 and No. 6: one table, and the one statement that each of its rows holds.
 use Prim.Native.Nat.{ℕ}
 use mathlib.Core.Path.{_≡_}
 use mathlib.Core.Bool.{Bool, true, false}
@@ -11,14 +11,17 @@ use Rattle.sender.specs.declared.writer.Sending.{Sending}
 use Rattle.slot.specs.declared.Slot.{Slot}
 use Rattle.slot.specs.declared.answer.Accepted.the-variants.{Taken, Finished}
 use Rattle.slot.specs.Slot.{idle, idles}
+use Rattle.receiver.specs.Receiver.{empty}
+use Rattle.sender.specs.Writer.{last}
 use Rattle.control.specs.declared.envelope.Envelope.{Envelope}
 use Rattle.control.specs.declared.envelope.Payload.the-variants as Payload
 use Rattle.control.specs.declared.envelope.EnvelopePayload.the-variants.{Response}
 use Rattle.control.specs.declared.response.ResponsePayload.the-variants.{None}
 use Rattle.walk.specs.Gathered.{noPart}
 use Rattle.outbox.specs.Reader as outbox
-use Rattle.worked.specs.Question.{Question, writeFrame, nextSequenceByte, writePackets, readPieces, acceptPacket, writeAcknowledgement, writeEnvelope, readEnvelope, readRecord}
-use Rattle.worked.specs.Question.{Answer, bytes, sequenceByte, packets, pieces, accepted, envelope, reading, plain, extended, zeros, answerTo}
+use Rattle.outbox.specs.Writer.{stored}
+use Rattle.worked.specs.Question.{Question, writeFrame, writeFrameWithin, nextSequenceByte, writePackets, readPieces, writePacketWithin, openReceiver, acceptPacket, acceptPacketWithin, writeAcknowledgement, writeEnvelope, readEnvelope, readRecord, appendRecord}
+use Rattle.worked.specs.Question.{Answer, bytes, sequenceByte, packets, pieces, sent, opened, accepted, envelope, reading, appended, plain, extended, zeros, answerTo}
 
 -- a row: what is asked, and what comes back
 pub record Case : Type 0 where
@@ -61,6 +64,12 @@ cases =
     case (writeFrame 0 []) (bytes (given (0xF0 ∷ 0x02 ∷ 0x00 ∷ 0x00 ∷ 0x00 ∷ 0x02 ∷ 0xF1 ∷ [])))
     -- P2 payload F0, sequence 5
     ∷ case (writeFrame 5 (0xF0 ∷ [])) (bytes (given (0xF0 ∷ 0x02 ∷ 0x00 ∷ 0x05 ∷ 0xF2 ∷ 0x02 ∷ 0x00 ∷ 0xF2 ∷ 0x00 ∷ 0xF1 ∷ [])))
+    -- 17 before 15, 15 before 14; a payload of as many bytes as the limit
+    ∷ case (writeFrameWithin 0 0xF0 []) (bytes (refused 17))
+    ∷ case (writeFrameWithin 65536 5 []) (bytes (refused 17))
+    ∷ case (writeFrameWithin 65535 0xF0 (zeros 33)) (bytes (refused 15))
+    ∷ case (writeFrameWithin 1 5 (0x41 ∷ 0x42 ∷ [])) (bytes (refused 15))
+    ∷ case (writeFrameWithin 1 5 (0x41 ∷ [])) (bytes (given (0xF0 ∷ 0x02 ∷ 0x00 ∷ 0x05 ∷ 0x41 ∷ 0x00 ∷ 0x43 ∷ 0xF1 ∷ [])))
     -- P3 sequence bytes after EF, FF, 00
     ∷ case (nextSequenceByte 0xEF) (sequenceByte 0xF3)
     ∷ case (nextSequenceByte 0xFF) (sequenceByte 0x00)
@@ -77,6 +86,21 @@ cases =
     -- P6 300 bytes, rooms 262 and 263
     ∷ case (readPieces (inRoom 262) (zeros 300)) (pieces (given (plain 255) ∷ given (plain 45) ∷ []))
     ∷ case (readPieces (inRoom 263) (zeros 300)) (pieces (given (extended 256) ∷ given (plain 44) ∷ []))
+    -- 13 before 17, 17 before 15; a message of as many bytes as the limit
+    ∷ case (writePacketWithin 0 (sending 19 6 1 0 false) []) (sent (refused 13))
+    ∷ case (writePacketWithin 0 (sending 20 9 1 0 false) []) (sent (refused 17))
+    ∷ case (writePacketWithin 65536 (sending 20 6 1 0 false) []) (sent (refused 17))
+    ∷ case (writePacketWithin 1 (sending 20 6 1 0 false) (zeros 2)) (sent (refused 15))
+    ∷ case (writePacketWithin 2 (sending 20 6 1 0 false) (zeros 2)) (sent (given (last 8)))
+    -- an opening: 17 where the limit is 0 or above 65,535
+    ∷ case (openReceiver 0) (opened (refused 17))
+    ∷ case (openReceiver 1) (opened (given (empty 1)))
+    ∷ case (openReceiver 65535) (opened (given (empty 65535)))
+    ∷ case (openReceiver 65536) (opened (refused 17))
+    -- a total of the limit, and one above it; a state whose limit is 0
+    ∷ case (acceptPacketWithin 2 idles (0x61 ∷ 0x02 ∷ 0x00 ∷ 0x00 ∷ 0x02 ∷ 0x01 ∷ 0xAA ∷ [])) (accepted (given (Taken Alexa 1 false)) asking)
+    ∷ case (acceptPacketWithin 1 idles (0x61 ∷ 0x02 ∷ 0x00 ∷ 0x00 ∷ 0x02 ∷ 0x01 ∷ 0xAA ∷ [])) (accepted (refused 6) idles)
+    ∷ case (acceptPacketWithin 0 idles (zeros 6)) (accepted (refused 1) idles)
     -- P7 after sequence 15: a continuation of one byte with sequence 0, which is held, and one with sequence 10, which leaves the slot idle
     ∷ case (acceptPacket (holding 1 15) (0x00 ∷ 0x04 ∷ 0x01 ∷ 0x00 ∷ [])) (accepted (given (Taken Control 0 false)) (holding 2 0))
     ∷ case (acceptPacket (holding 1 15) (0x00 ∷ 0xA4 ∷ 0x01 ∷ 0x00 ∷ [])) (accepted (refused 10) idles)
@@ -102,6 +126,22 @@ cases =
     (reading (outbox.given (outbox.found (record { stream = 6; start = 4; size = 2; next = 6 }))))
     ∷ case (readRecord (0x01 ∷ 0x00 ∷ 0x03 ∷ 0x06 ∷ 0x41 ∷ 0x42 ∷ []) 6) (reading (outbox.given outbox.end))
     ∷ case (readRecord (take 5 (0x01 ∷ 0x00 ∷ 0x03 ∷ 0x06 ∷ 0x41 ∷ 0x42 ∷ [])) 1) (reading (outbox.refusedAt 41 1))
+    -- No. 6: a record of version 02; a cut length, a length of 65,537, one of 65,536 with nothing behind it; another version, and none
+    ∷ case (readRecord (0x02 ∷ 0x00 ∷ 0x00 ∷ 0x00 ∷ 0x03 ∷ 0x06 ∷ 0x41 ∷ 0x42 ∷ []) 1)
+    (reading (outbox.given (outbox.found (record { stream = 6; start = 6; size = 2; next = 8 }))))
+    ∷ case (readRecord (0x02 ∷ 0x00 ∷ 0x00 ∷ 0x00 ∷ []) 1) (reading (outbox.refusedAt 41 1))
+    ∷ case (readRecord (0x02 ∷ 0x00 ∷ 0x01 ∷ 0x00 ∷ 0x01 ∷ []) 1) (reading (outbox.refusedAt 42 1))
+    ∷ case (readRecord (0x02 ∷ 0x00 ∷ 0x01 ∷ 0x00 ∷ 0x00 ∷ []) 1) (reading (outbox.refusedAt 41 1))
+    ∷ case (readRecord (0x03 ∷ []) 1) (reading (outbox.refusedAt 40 0))
+    ∷ case (readRecord [] 1) (reading (outbox.refusedAt 40 0))
+    -- appending: 1 before 40, 40 before 15, then 15; a record in each version
+    ∷ case (appendRecord (0x03 ∷ []) 2 9 []) (appended (stored (outbox.refused 1) (0x03 ∷ [])))
+    ∷ case (appendRecord (0x03 ∷ []) 1 9 []) (appended (stored (outbox.refusedAt 40 0) (0x03 ∷ [])))
+    ∷ case (appendRecord (0x02 ∷ []) 1 9 []) (appended (stored (outbox.refused 15) (0x02 ∷ [])))
+    ∷ case (appendRecord (0x02 ∷ zeros 8) 1 6 (0x41 ∷ 0x42 ∷ []))
+    (appended (stored (outbox.given 8) (0x02 ∷ 0x00 ∷ 0x00 ∷ 0x00 ∷ 0x03 ∷ 0x06 ∷ 0x41 ∷ 0x42 ∷ 0x00 ∷ [])))
+    ∷ case (appendRecord (0x01 ∷ zeros 6) 1 6 (0x41 ∷ 0x42 ∷ []))
+    (appended (stored (outbox.given 6) (0x01 ∷ 0x00 ∷ 0x03 ∷ 0x06 ∷ 0x41 ∷ 0x42 ∷ 0x00 ∷ [])))
     ∷ []
 
 -- every row of the table holds

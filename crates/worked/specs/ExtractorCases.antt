@@ -3,11 +3,14 @@ use Prim.Native.Nat.{ℕ, zero, suc}
 use mathlib.Core.Path.{_≡_}
 use mathlib.Core.List.{List, [], _∷_, List·Memᴰ}
 use lib.ListN.{drop}
+use Rattle.wire.specs.Told as told
+use Rattle.wire.specs.Told.{Told}
+use Rattle.extractor.specs.declared.state.Progress.{Progress}
 use Rattle.extractor.specs.declared.state.Extractor.{Extractor}
 use Rattle.extractor.specs.declared.state.Phase.{Phase}
 use Rattle.extractor.specs.declared.state.Phase.the-variants.{Outside, ErrorId, Sequence, Escaped}
 use Rattle.extractor.specs.Outcome.{Report, skipped, taken, allUsed, frame, refused}
-use Rattle.extractor.specs.State.{outside, begun, body}
+use Rattle.extractor.specs.State.{outside, begun, body, empty, openOf}
 use Rattle.extractor.specs.Step.{Step, step, byteStepOf}
 use Rattle.feed.specs.Feed.{Feed, fed, feedOf}
 
@@ -17,29 +20,36 @@ limit = 2
 
 -- what is asked of an extractor in a state, over a lent buffer
 pub data Question : Type 0 where
+  -- an opening with a limit
+  openWith : ℕ → Question
+  -- a step with a byte, in a state with another limit
+  stepWithin : ℕ → Progress → List ℕ → ℕ → Question
   -- a step with a byte
-  stepWith : Extractor → List ℕ → ℕ → Question
+  stepWith : Progress → List ℕ → ℕ → Question
   -- a step with each of some bytes
-  stepEach : Extractor → List ℕ → List ℕ → Question
+  stepEach : Progress → List ℕ → List ℕ → Question
   -- a call for many bytes
-  feedWith : Extractor → List ℕ → List ℕ → Question
+  feedWith : Progress → List ℕ → List ℕ → Question
   -- so many calls for many bytes, each with all that the ones before left
-  feedEach : ℕ → Extractor → List ℕ → List ℕ → Question
+  feedEach : ℕ → Progress → List ℕ → List ℕ → Question
 
 -- what each step or call leaves: its report, the number used by a call, the next state and the lent buffer
 pub data Answer : Type 0 where
+  opened : Told Extractor → Answer
   stepped : List Step → Answer
   called : List Feed → Answer
 
-unfoldable pub stepsOf : Extractor → List ℕ → List ℕ → List Step
+unfoldable pub stepsOf : Progress → List ℕ → List ℕ → List Step
 stepsOf s l [] = []
 stepsOf s l (b ∷ bs) = let r = byteStepOf limit s l b in r ∷ stepsOf (r .next) (r .buffer) bs
 
-unfoldable pub feedsOf : ℕ → Extractor → List ℕ → List ℕ → List Feed
+unfoldable pub feedsOf : ℕ → Progress → List ℕ → List ℕ → List Feed
 feedsOf zero s l bytes = []
 feedsOf (suc n) s l bytes = let r = feedOf limit s l bytes in r ∷ feedsOf n (r .next) (r .buffer) (drop (r .used) bytes)
 
 unfoldable pub answerTo : Question → Answer
+answerTo (openWith n) = opened (openOf n)
+answerTo (stepWithin n s l b) = stepped (byteStepOf n s l b ∷ [])
 answerTo (stepWith s l b) = stepped (byteStepOf limit s l b ∷ [])
 answerTo (stepEach s l bytes) = stepped (stepsOf s l bytes)
 answerTo (feedWith s l bytes) = called (feedOf limit s l bytes ∷ [])
@@ -54,21 +64,21 @@ abbrev case : Question → Answer → Case
 case q a = record { question = q; expected = a }
 
 -- a step with a byte in a state leaves a report and the next state, and the buffer as it was
-abbrev leaves : Extractor → List ℕ → ℕ → Report → Extractor → Case
+abbrev leaves : Progress → List ℕ → ℕ → Report → Progress → Case
 leaves s l b r next = case (stepWith s l b) (stepped (step r next l ∷ []))
 
 -- inside a frame before its sequence byte is read, and after F2 in its body
-abbrev header : Phase → Extractor
+abbrev header : Phase → Progress
 header p = record { phase = p; sequence = 0; held = 0 }
 
-abbrev escaped : ℕ → ℕ → Extractor
+abbrev escaped : ℕ → ℕ → Progress
 escaped sequence held = record { phase = Escaped; sequence = sequence; held = held }
 
 -- a count held outside, and a sequence before it is read: unlawful
-abbrev heldOutside : Extractor
+abbrev heldOutside : Progress
 heldOutside = record { phase = Outside; sequence = 0; held = 1 }
 
-abbrev numberedEarly : Extractor
+abbrev numberedEarly : Progress
 numberedEarly = record { phase = Sequence; sequence = 7; held = 0 }
 
 abbrev four : ℕ → ℕ → ℕ → ℕ → List ℕ
@@ -90,8 +100,13 @@ twenty =
 
 unfoldable pub cases : List Case
 cases =
+    -- an opening: 17 where the limit is 0 or above 65,535
+    case (openWith 0) (opened (told.refused 17))
+    ∷ case (openWith 1) (opened (told.given (empty 1)))
+    ∷ case (openWith 65535) (opened (told.given (empty 65535)))
+    ∷ case (openWith 65536) (opened (told.refused 17))
     -- the twenty bytes, one by one
-    case (stepEach outside lent twenty)
+    ∷ case (stepEach outside lent twenty)
     (stepped
     (step skipped outside lent
     ∷ step taken begun lent
@@ -130,6 +145,8 @@ cases =
     ∷ leaves numberedEarly lent 0x07 (refused 1) numberedEarly
     ∷ leaves outside (0xEE ∷ lent) 0xF0 (refused 1) outside
     ∷ leaves outside (drop 1 lent) 0xF0 (refused 1) outside
+    -- .. and a limit out of its range
+    ∷ case (stepWithin 0 outside (drop 2 lent) 0xF0) (stepped (step (refused 1) outside (drop 2 lent) ∷ []))
     ∷ case (feedWith (body 0xF1 1) lent twenty) (called (fed (refused 1) 0 (body 0xF1 1) lent ∷ []))
     ∷ case (feedWith outside (drop 1 lent) twenty) (called (fed (refused 1) 0 outside (drop 1 lent) ∷ []))
     -- outside every byte but F0 is skipped

@@ -11,18 +11,21 @@ use Rattle.packet.specs.Header.{extenderBit}
 use Rattle.packet.specs.Reader.{readOf, lenIn}
 use Rattle.acknowledgement.specs.Acknowledgement.{ackOf}
 use Rattle.sender.specs.declared.writer.Sending.{Sending}
+use Rattle.sender.specs.Writer.{Sent, writtenOf}
 use Rattle.delivery.specs.Calls.{callsOf}
 use Rattle.slot.specs.declared.Slot.{Slot}
 use Rattle.slot.specs.declared.answer.Accepted.{Accepted}
 use Rattle.slot.specs.Slot.{slotCount}
-use Rattle.receiver.specs.Receiver.{Result, acceptOf}
+use Rattle.receiver.specs.declared.Receiver.{Receiver}
+use Rattle.receiver.specs.Receiver.{openOf, Result, acceptOf}
 use Rattle.control.specs.declared.envelope.Envelope.{Envelope}
 use Rattle.control.specs.declared.envelope.EnvelopePayload.{EnvelopePayload}
 use Rattle.control.specs.Envelope.{envelopeOf, envelopeWritten}
-use Rattle.outbox.specs.Format.{versionOne}
+use Rattle.outbox.specs.Format.{formatOf}
 use Rattle.outbox.specs.Reader as outbox
+use Rattle.outbox.specs.Writer.{Stored, appendOf}
 
--- the limit of docs/FORMATS.md
+-- the limit of P1 to P12
 abbrev pub limit : ℕ
 limit = 4096
 
@@ -34,14 +37,22 @@ zeros n = replicate n 0
 pub data Question : Type 0 where
   -- the frame with a sequence byte and a payload
   writeFrame : ℕ → List ℕ → Question
+  -- .. for a link with another limit
+  writeFrameWithin : ℕ → ℕ → List ℕ → Question
   -- the sequence byte after one
   nextSequenceByte : ℕ → Question
   -- the packets of a message, place after place
   writePackets : Sending → List ℕ → Question
   -- the same, and each of them read
   readPieces : Sending → List ℕ → Question
+  -- the packet of a message at its first place, for a link with another limit
+  writePacketWithin : ℕ → Sending → List ℕ → Question
+  -- a receiver, opened with a limit
+  openReceiver : ℕ → Question
   -- a packet, given to a receiver with these slots
   acceptPacket : List Slot → List ℕ → Question
+  -- .. with another limit
+  acceptPacketWithin : ℕ → List Slot → List ℕ → Question
   -- an ACK, or a NACK where it is not positive, for a stream and an id, with a sequence
   writeAcknowledgement : ℕ → ℕ → ℕ → Bool → Question
   -- an envelope with a command and a payload that has no bytes of its own
@@ -49,6 +60,8 @@ pub data Question : Type 0 where
   readEnvelope : List ℕ → Question
   -- the record of an outbox at a place
   readRecord : List ℕ → ℕ → Question
+  -- a record of a stream with a payload, after so many used bytes of a buffer
+  appendRecord : List ℕ → ℕ → ℕ → List ℕ → Question
 
 -- what a packet carries: so many bytes, their number in one byte or extended
 pub data PieceLength : Type 0 where
@@ -60,10 +73,15 @@ pub data Answer : Type 0 where
   sequenceByte : ℕ → Answer
   packets : List (List ℕ) → Answer
   pieces : List (Told PieceLength) → Answer
+  -- what is told of a packet that was written
+  sent : Told Sent → Answer
+  opened : Told Receiver → Answer
   -- what is told of a packet, and the slots afterwards
   accepted : Told Accepted → List Slot → Answer
   envelope : Told Envelope → Answer
   reading : outbox.Answer outbox.Item → Answer
+  -- what an append tells, and the buffer afterwards
+  appended : Stored → Answer
 
 -- the bytes that a writer wrote: so many, first in the lent output
 abbrev pub bytesOf : Written ℕ → Told (List ℕ)
@@ -87,11 +105,16 @@ packetsOf w m = callsOf limit w m (zeros (w .room))
 
 unfoldable pub answerTo : Question → Answer
 answerTo (writeFrame sequence payload) = bytes (bytesOf (frame.writeOf limit sequence payload output))
+answerTo (writeFrameWithin limit sequence payload) = bytes (bytesOf (frame.writeOf limit sequence payload output))
 answerTo (nextSequenceByte sequence) = sequenceByte (nextSequence sequence)
 answerTo (writePackets w m) = packets (packetsOf w m)
 answerTo (readPieces w m) = pieces (map pieceLengthOf (packetsOf w m))
+answerTo (writePacketWithin limit w m) = sent (writtenOf limit w m 0 (zeros (w .room)) .told)
+answerTo (openReceiver limit) = opened (openOf limit)
+answerTo (acceptPacketWithin limit slots p) = acceptedBy (acceptOf limit slots (zeros (slotCount * limit)) p)
 answerTo (acceptPacket slots p) = acceptedBy (acceptOf limit slots (zeros (slotCount * limit)) p)
 answerTo (writeAcknowledgement stream id sequence positive) = bytes (bytesOf (ackOf stream id sequence positive output))
 answerTo (writeEnvelope command payload) = bytes (bytesOf (envelopeWritten command payload [] output))
 answerTo (readEnvelope m) = envelope (envelopeOf m)
-answerTo (readRecord file place) = reading (outbox.readOf (versionOne limit) file place)
+answerTo (readRecord file place) = reading (outbox.readOf (formatOf file) file place)
+answerTo (appendRecord buffer used stream payload) = appended (appendOf (formatOf (take used buffer)) buffer used stream payload)

@@ -16,8 +16,9 @@
 //! A line `written: room R, stream S, id I, sequence Q, ACK A` says that our writer gives the
 //! packets of the message just finished; `written: sequence Q` that it gives the frame just ended.
 
+use super::packets;
 use super::worked::{bytes, written};
-use crate::classic;
+use crate::classic::{self, LIMIT};
 use crate::comparison::{hex, Compared, Comparison, Difference};
 use crate::implementation::{Call, Operation};
 use crate::low_energy::{self, Stream};
@@ -139,7 +140,9 @@ impl Script<'_> {
 }
 
 fn low_energy(c: &mut Comparison<'_>, capture: &Capture, script: &mut Script<'_>) -> Compared<()> {
-    let mut call = Call::new(Operation::ReceiverAccept).lent(vec![0xCC; low_energy::BUFFER]);
+    let mut call = Call::new(Operation::ReceiverAccept)
+        .state(&packets::idle(LIMIT))
+        .lent(vec![0xCC; low_energy::buffer(LIMIT)]);
     // The packets of each stream since its last first packet.
     let mut since: [Vec<Vec<u8>>; 16] = Default::default();
     for packet in &capture.chunks {
@@ -162,7 +165,7 @@ fn low_energy(c: &mut Comparison<'_>, capture: &Capture, script: &mut Script<'_>
         let who = format!("stream {number}, id {id}");
         match outcome {
             0 => {
-                let [_, _, total, held, _, _] = call.state[6 * slot..][..6] else {
+                let [_, _, total, held, _, _] = call.state[1 + 6 * slot..][..6] else {
                     panic!("six numbers")
                 };
                 script.next(&format!("held: {who}, {held} of {total} bytes{noted}"))?;
@@ -174,7 +177,7 @@ fn low_energy(c: &mut Comparison<'_>, capture: &Capture, script: &mut Script<'_>
                     "no ACK wanted"
                 };
                 script.next(&format!("finished: {who}, {total} bytes, {wish}{noted}"))?;
-                let start = slot * low_energy::MESSAGE;
+                let start = slot * LIMIT as usize;
                 let message = call.lent[start..start + total as usize].to_vec();
                 script.next(format!("message: {}", hex(&message)).trim_end())?;
                 if let Some((line, numbers)) = script.written() {
@@ -198,7 +201,11 @@ fn low_energy(c: &mut Comparison<'_>, capture: &Capture, script: &mut Script<'_>
 
 fn classic(c: &mut Comparison<'_>, capture: &Capture, script: &mut Script<'_>) -> Compared<()> {
     let stream = capture.chunks.concat();
-    let mut feed = Call::new(Operation::ExtractorFeed).lent(vec![0xCC; classic::BUFFER]);
+    let empty = [LIMIT, 0, 0, 0];
+    let buffer = vec![0xCC; classic::buffer(LIMIT)];
+    let mut feed = Call::new(Operation::ExtractorFeed)
+        .state(&empty)
+        .lent(buffer.clone());
     let mut place = 0;
     // What feeds decide, to be met again in steps.
     let mut decided = Vec::new();
@@ -218,7 +225,8 @@ fn classic(c: &mut Comparison<'_>, capture: &Capture, script: &mut Script<'_>) -
             let line = told(returned, place - 1, sequence, &feed.lent[..length as usize]);
             script.next(&line)?;
             decided.push(line);
-            if let Some((line, numbers)) = script.written() {
+            if let Some((line, mut numbers)) = script.written() {
+                numbers.push(LIMIT);
                 let payload = &feed.lent[..length as usize];
                 let mut writer = Call::new(Operation::FrameWrite)
                     .numbers(&numbers)
@@ -231,7 +239,7 @@ fn classic(c: &mut Comparison<'_>, capture: &Capture, script: &mut Script<'_>) -
                 }
             }
         }
-        let side = if feed.state[0] == 0 {
+        let side = if feed.state[1] == 0 {
             "outside"
         } else {
             "inside"
@@ -239,7 +247,9 @@ fn classic(c: &mut Comparison<'_>, capture: &Capture, script: &mut Script<'_>) -
         script.next(&format!("flushed: {side}"))?;
     }
     // The same bytes one by one decide the same.
-    let mut step = Call::new(Operation::ExtractorStep).lent(vec![0xCC; classic::BUFFER]);
+    let mut step = Call::new(Operation::ExtractorStep)
+        .state(&empty)
+        .lent(buffer);
     let mut again = Script {
         name: script.name,
         left: &decided,

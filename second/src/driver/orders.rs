@@ -1,6 +1,6 @@
 //! "Two packets whose stream fields differ, given in either order over the same buffer, get the same
 //! two answers, end in the same state and leave the same buffer": pairs of such packets, from lawful
-//! states, two thirds of them as the packets before left them.
+//! states, two thirds of them as the packets before left them, on links with several limits.
 
 use super::{packets, Plan};
 use crate::comparison::{hex, Compared, Comparison};
@@ -8,24 +8,37 @@ use crate::implementation::{Call, Operation};
 use crate::low_energy;
 use crate::rng::Rng;
 
+/// The limits that are tried, each with its number of pairs.
+const LIMITS: &[(u64, u64)] = &[
+    (4_096, 100_000),
+    (1, 5_000),
+    (2, 5_000),
+    (20, 5_000),
+    (256, 5_000),
+    (65_535, 60),
+];
+
 pub fn run(c: &mut Comparison<'_>, rng: &mut Rng, plan: Plan) -> Compared<()> {
-    let idle = Call::new(Operation::ReceiverAccept).lent(rng.bytes(low_energy::BUFFER));
-    let mut call = idle.clone();
-    for number in 0..plan.times(100_000) {
-        if number % 256 == 0 {
-            c.at = format!("packets of two streams, pair {number}");
+    for &(limit, pairs) in LIMITS {
+        let mut call = Call::new(Operation::ReceiverAccept)
+            .state(&packets::idle(limit))
+            .lent(rng.bytes(low_energy::buffer(limit)));
+        for number in 0..plan.times(pairs) {
+            if number % 256 == 0 {
+                c.at = format!("packets of two streams at limit {limit}, pair {number}");
+            }
+            match rng.below(30) {
+                0 => call.state = packets::idle(limit),
+                1..=10 => call.state = packets::lawful(rng, limit),
+                _ => {}
+            }
+            for _ in 0..rng.index(3) {
+                call.inputs[0] = packets::directed(rng, &call.state);
+                c.run(&mut call)?;
+            }
+            let (one, other) = pair(rng, &call.state);
+            either_order(c, &mut call, one, other)?;
         }
-        match rng.below(30) {
-            0 => call.state.clone_from(&idle.state),
-            1..=10 => call.state = packets::lawful(rng),
-            _ => {}
-        }
-        for _ in 0..rng.index(3) {
-            call.inputs[0] = packets::directed(rng, &call.state);
-            c.run(&mut call)?;
-        }
-        let (one, other) = pair(rng, &call.state);
-        either_order(c, &mut call, one, other)?;
     }
     Ok(())
 }

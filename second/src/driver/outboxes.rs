@@ -1,8 +1,10 @@
-//! Outboxes: built record by record, damaged, cut at every byte, walked, and appended to after.
+//! Outboxes of both versions: built record by record, damaged, cut at every byte, walked, and
+//! appended to after.
 
 use super::{edge, Plan};
 use crate::comparison::{Compared, Comparison};
 use crate::implementation::{Call, Operation};
+use crate::outbox::{Version, ONE, TWO};
 use crate::rng::Rng;
 
 pub fn run(c: &mut Comparison<'_>, rng: &mut Rng, plan: Plan) -> Compared<()> {
@@ -11,17 +13,20 @@ pub fn run(c: &mut Comparison<'_>, rng: &mut Rng, plan: Plan) -> Compared<()> {
         if number % 256 == 0 {
             c.at = format!("outbox {number}");
         }
-        let file = desk.build(c, rng, 0)?;
+        let version = *rng.pick(&[ONE, TWO]);
+        let file = desk.build(c, rng, version, 0)?;
         desk.cut_everywhere(c, rng, &file, 1)?;
         let broken = broken(rng, file);
         desk.cut_everywhere(c, rng, &broken, 1)?;
     }
     c.at = "outboxes with long records".to_string();
     for _ in 0..plan.times(20) {
-        let file = desk.build(c, rng, 1)?;
-        desk.cut_everywhere(c, rng, &file, 7)?;
-        let broken = broken(rng, file);
-        desk.cut_everywhere(c, rng, &broken, 7)?;
+        for (version, stride) in [(ONE, 7), (TWO, 997)] {
+            let file = desk.build(c, rng, version, 1)?;
+            desk.cut_everywhere(c, rng, &file, stride)?;
+            let broken = broken(rng, file);
+            desk.cut_everywhere(c, rng, &broken, stride)?;
+        }
     }
     Ok(())
 }
@@ -29,25 +34,31 @@ pub fn run(c: &mut Comparison<'_>, rng: &mut Rng, plan: Plan) -> Compared<()> {
 /// The same outbox with one or two wrong bytes, in versions, lengths and streams above all.
 fn broken(rng: &mut Rng, mut file: Vec<u8>) -> Vec<u8> {
     for _ in 0..rng.between(1, 2) {
+        let width = Version::of(&file).map_or(2, |version| version.width);
         // The places of the lengths, as long as the bytes are whole.
         let mut places = vec![1];
-        while let Some(&[high, low]) = file
+        while let Some(field) = file
             .get(places[places.len() - 1]..)
-            .and_then(|rest| rest.first_chunk())
+            .and_then(|rest| rest.get(..width))
         {
-            let length = usize::from(high) << 8 | usize::from(low);
-            places.push(places[places.len() - 1] + 2 + length);
+            let length = field
+                .iter()
+                .fold(0, |number, byte| number << 8 | usize::from(*byte));
+            places.push(places[places.len() - 1] + width + length);
         }
         places.pop();
         match (rng.below(6), places.is_empty()) {
-            (0, _) if !file.is_empty() => file[0] = *rng.pick(&[0, 2, 1, 0xFF]),
+            (0, _) if !file.is_empty() => file[0] = *rng.pick(&[0, 1, 2, 3, 0xFF]),
             (1 | 2, false) => {
                 let place = *rng.pick(&places);
-                let length: u16 = *rng.pick(&[0, 1, 2, 4_096, 4_097, 4_098, 0xFFFF, 0x0100]);
-                file[place..place + 2].copy_from_slice(&length.to_be_bytes());
+                let lengths = [
+                    0, 1, 2, 4_096, 4_097, 4_098, 0xFFFF, 0x1_0000, 0x1_0001, 0x0100, 0x0100_0000,
+                ];
+                let length: u32 = *rng.pick(&lengths);
+                file[place..place + width].copy_from_slice(&length.to_be_bytes()[4 - width..]);
             }
             (3 | 4, false) => {
-                let place = *rng.pick(&places) + 2;
+                let place = *rng.pick(&places) + width;
                 if let Some(stream) = file.get_mut(place) {
                     *stream = *rng.pick(&[1, 3, 4, 5, 7, 8, 0x16, 0x60, 0xFF]);
                 }
@@ -80,12 +91,19 @@ impl Desk {
         }
     }
 
-    /// A whole outbox of a few records, made by the calls; some of them long.
-    fn build(&mut self, c: &mut Comparison<'_>, rng: &mut Rng, long: usize) -> Compared<Vec<u8>> {
+    /// A whole outbox of a few records, made by the calls; some of them long. One of version 01 is
+    /// begun by hand: the calls begin none.
+    fn build(
+        &mut self,
+        c: &mut Comparison<'_>,
+        rng: &mut Rng,
+        version: Version,
+        long: usize,
+    ) -> Compared<Vec<u8>> {
         let records: Vec<(u64, Vec<u8>)> = (0..rng.index(5) + long)
             .map(|number| {
                 let size = if number < long {
-                    rng.between(4_094, 4_096)
+                    version.payload - rng.index(3)
                 } else if rng.once_in(4) {
                     0
                 } else {
@@ -94,21 +112,28 @@ impl Desk {
                 (*rng.pick(&[0, 2, 6]), rng.bytes(size))
             })
             .collect();
-        let size: usize = records.iter().map(|(_, payload)| payload.len() + 3).sum();
+        let head = version.width + 1;
+        let size: usize = records
+            .iter()
+            .map(|(_, payload)| payload.len() + head)
+            .sum();
         let spare = rng.index(4);
         self.new.lent = rng.bytes(1 + size + spare);
         c.expect(&mut self.new, 0, |call| {
-            call.answer == [1] && call.lent[0] == 1
+            call.answer == [1] && call.lent[0] == 2
         })?;
         self.append.lent.clone_from(&self.new.lent);
+        if version == ONE {
+            self.append.lent[0] = 1;
+        }
         let mut used = 1;
         for (stream, payload) in &records {
             self.append.numbers = vec![used, *stream];
             self.append.inputs[0].clone_from(payload);
-            used += payload.len() as u64 + 3;
+            used += (payload.len() + head) as u64;
             c.expect(&mut self.append, 0, |call| call.answer == [used, 0])?;
         }
-        self.walk(c, &records, used as usize)?;
+        self.walk(c, &records, head, used as usize)?;
         Ok(self.append.lent[..used as usize].to_vec())
     }
 
@@ -117,6 +142,7 @@ impl Desk {
         &mut self,
         c: &mut Comparison<'_>,
         records: &[(u64, Vec<u8>)],
+        head: usize,
         used: usize,
     ) -> Compared<()> {
         let file = self.append.lent[..used].to_vec();
@@ -134,7 +160,7 @@ impl Desk {
                 outcome == 1
                     && told == *stream
                     && part == payload
-                    && next == place + payload.len() as u64 + 3
+                    && next == place + (payload.len() + head) as u64
                     && cut == 0
             })?;
             place = self.record.answer[4];
@@ -153,7 +179,10 @@ impl Desk {
         stride: usize,
     ) -> Compared<()> {
         for end in 0..=file.len() {
-            let near = end < 40 || end + 40 > file.len() || (end > 4_090 && end < 4_110);
+            let near = end < 40
+                || end + 40 > file.len()
+                || (4_090..4_110).contains(&end)
+                || (65_530..65_550).contains(&end);
             if near || end % stride == 0 {
                 self.cut(c, rng, file, end)?;
             }
@@ -196,12 +225,16 @@ impl Desk {
         c.run(&mut self.record)?;
 
         // Appended to: the bytes after the cut are whatever stood there.
-        let size = match rng.below(24) {
+        let version = Version::of(bytes).unwrap_or(TWO);
+        let size = match rng.below(48) {
             0 => 4_096,
             1 => 4_097,
-            2 => 0,
+            2 if end < 40 => version.payload,
+            3 if end < 40 => version.payload + 1,
+            4 | 5 => 0,
             _ => rng.index(9),
         };
+        let record = size + version.width + 1;
         let payload = rng.bytes(size);
         let stream = if rng.once_in(10) {
             edge(rng)
@@ -209,10 +242,10 @@ impl Desk {
             *rng.pick(&[0, 2, 6])
         };
         let free = match rng.below(6) {
-            0 => rng.index(size + 3),
-            1 => size + 2,
-            2 => size + 3,
-            _ => size + 3 + rng.index(8),
+            0 => rng.index(record),
+            1 => record - 1,
+            2 => record,
+            _ => record + rng.index(8),
         };
         self.append.lent.clear();
         self.append.lent.extend_from_slice(file);

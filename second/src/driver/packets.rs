@@ -1,7 +1,8 @@
 //! Packets in interleaved lists: the three streams' messages mixed, in pieces of our writer and of
 //! other makers', with lost, doubled, damaged and foreign packets among them, from idle, random
-//! lawful and unlawful states.
+//! lawful and unlawful states, on links with several limits.
 
+use super::streams::near;
 use super::{damage, edge, Plan};
 use crate::comparison::{Compared, Comparison};
 use crate::implementation::{Call, Operation};
@@ -9,34 +10,60 @@ use crate::low_energy::{self, Stream, Wish};
 use crate::rng::Rng;
 use std::collections::VecDeque;
 
+/// The limits that are tried: each with how many packets and how many unlawful states it gets.
+/// Every lent byte is compared at every call, so a large buffer is dear.
+const LIMITS: &[(u64, [u64; 2])] = &[
+    (4_096, [1_000_000, 30_000]),
+    (1, [60_000, 3_000]),
+    (2, [60_000, 3_000]),
+    (19, [60_000, 3_000]),
+    (20, [60_000, 3_000]),
+    (255, [60_000, 3_000]),
+    (256, [60_000, 3_000]),
+    (20_000, [4_000, 200]),
+    (65_535, [1_000, 60]),
+];
+
 pub fn run(c: &mut Comparison<'_>, rng: &mut Rng, plan: Plan) -> Compared<()> {
-    let mut call = Call::new(Operation::ReceiverAccept).lent(rng.bytes(low_energy::BUFFER));
-    let wanted = plan.times(1_000_000);
-    let mut given = 0;
-    let mut lists = 0u64;
-    while given < wanted {
-        if lists.is_multiple_of(256) {
-            c.at = format!("packet list {lists}");
+    for &(limit, [packets, states]) in LIMITS {
+        c.at = format!("a receiver opened with {limit}");
+        let mut open = Call::new(Operation::ReceiverOpen).numbers(&[limit]);
+        c.expect(&mut open, 0, |call| call.state == idle(limit))?;
+        let lent = rng.bytes(low_energy::buffer(limit));
+        let mut call = Call::new(Operation::ReceiverAccept).lent(lent);
+        let wanted = plan.times(packets);
+        let mut given = 0;
+        let mut lists = 0u64;
+        while given < wanted {
+            if lists.is_multiple_of(256) {
+                c.at = format!("packet list {lists} at limit {limit}");
+            }
+            lists += 1;
+            given += list(c, rng, &mut call, limit)?;
         }
-        lists += 1;
-        given += list(c, rng, &mut call)?;
-    }
-    c.at = "unlawful receiver states".to_string();
-    for _ in 0..plan.times(30_000) {
-        call.state = unlawful(rng);
-        call.inputs[0] = directed(rng, &call.state);
-        c.run(&mut call)?;
+        c.at = format!("unlawful receiver states at limit {limit}");
+        for _ in 0..plan.times(states) {
+            call.state = unlawful(rng, limit);
+            call.inputs[0] = directed(rng, &call.state);
+            c.run(&mut call)?;
+        }
     }
     Ok(())
 }
 
-/// A slot's six numbers, open and lawful.
-fn open_slot(rng: &mut Rng) -> [u64; 6] {
+/// The empty state of a link with a limit.
+pub(super) fn idle(limit: u64) -> Vec<u64> {
+    [&[limit][..], &[0; 18]].concat()
+}
+
+/// A slot's six numbers, open and lawful; with a limit of 1 none is.
+fn open_slot(rng: &mut Rng, limit: u64) -> [u64; 6] {
+    let most = limit as usize;
     let total = match rng.below(4) {
-        0 => rng.between(2, 5),
-        1 => rng.between(2, 600),
-        2 => rng.between(4_090, 4_096),
-        _ => rng.between(2, 4_096),
+        0 => rng.between(2, most.min(5)),
+        1 => rng.between(2, most.min(600)),
+        2 => near(rng, limit, 6, 0).max(2),
+        _ => rng.between(2, most),
     };
     let held = match rng.below(4) {
         0 => 1,
@@ -55,27 +82,25 @@ fn open_slot(rng: &mut Rng) -> [u64; 6] {
 }
 
 /// A lawful state, each slot idle or open.
-pub(super) fn lawful(rng: &mut Rng) -> Vec<u64> {
-    (0..3)
-        .flat_map(|_| {
-            if rng.once_in(3) {
-                [0; 6]
-            } else {
-                open_slot(rng)
-            }
-        })
-        .collect()
+pub(super) fn lawful(rng: &mut Rng, limit: u64) -> Vec<u64> {
+    let mut state = idle(limit);
+    for slot in state[1..].chunks_mut(6) {
+        if limit > 1 && !rng.once_in(3) {
+            slot.copy_from_slice(&open_slot(rng, limit));
+        }
+    }
+    state
 }
 
 /// A state with a number or two that it may not have (or by chance may).
-fn unlawful(rng: &mut Rng) -> Vec<u64> {
-    let mut state = lawful(rng);
+fn unlawful(rng: &mut Rng, limit: u64) -> Vec<u64> {
+    let mut state = lawful(rng, limit);
     for _ in 0..rng.between(1, 2) {
-        let place = rng.index(18);
+        let place = rng.index(19);
         state[place] = match rng.below(5) {
             // Held at or past its total, total at or under what is held.
-            0 => {
-                let slot = place / 6 * 6;
+            0 if place > 0 => {
+                let slot = (place - 1) / 6 * 6 + 1;
                 state[slot + 2 + rng.index(2)]
                     .wrapping_add(rng.below(3))
                     .wrapping_sub(1)
@@ -176,7 +201,10 @@ pub(super) fn acknowledgement(rng: &mut Rng) -> Vec<u8> {
 /// otherwise.
 pub(super) fn directed(rng: &mut Rng, state: &[u64]) -> Vec<u8> {
     let stream = *rng.pick(&Stream::ALL);
-    let slot = &state[stream.slot() * 6..stream.slot() * 6 + 6];
+    // As long as a message may be, and a little longer; no longer than its total can say.
+    let limit = state[0].min(65_535) as usize;
+    let longest = (limit + 104).min(65_535);
+    let slot = &state[1 + stream.slot() * 6..][..6];
     let [open, id, total, held, sequence, _] = slot else {
         panic!("six numbers")
     };
@@ -195,26 +223,32 @@ pub(super) fn directed(rng: &mut Rng, state: &[u64]) -> Vec<u8> {
     } else {
         (sequence.wrapping_add(1) % 16) as u8
     };
-    let left = total.saturating_sub(*held).min(4_200) as usize;
+    let left = total.saturating_sub(*held).min(longest as u64) as usize;
     let aim = match kind {
-        // As long as a message may be, and longer.
-        0 if rng.once_in(20) => *rng.pick(&[4_090, 4_096, 4_097, 4_098, 4_200]),
+        0 if rng.once_in(20) => *rng.pick(&[
+            limit.saturating_sub(6),
+            limit,
+            limit + 1,
+            limit + 2,
+            longest,
+        ]),
         0 => rng.index(20),
         1 if rng.once_in(5) => left,
         1 => rng
             .index(left.max(1))
-            .min(if rng.once_in(8) { 4_096 } else { 60 }),
+            .min(if rng.once_in(8) { limit } else { 60 }),
         _ => left,
     };
     let size = match rng.below(12) {
         0 => aim + 1,
         1 => aim.saturating_sub(1),
         _ => aim,
-    };
+    }
+    .min(65_535);
     let total = match rng.below(8) {
         0 => size,
         1 => size.saturating_sub(1),
-        2 => rng.between(4_095, 4_098),
+        2 => rng.between(limit.saturating_sub(1), limit + 2),
         3 => 0,
         4 => rng.index(65_536),
         _ => size + rng.index(60),
@@ -237,13 +271,16 @@ pub(super) fn directed(rng: &mut Rng, state: &[u64]) -> Vec<u8> {
 }
 
 /// The packets of one message on this stream.
-fn message_packets(rng: &mut Rng, stream: Stream) -> VecDeque<Vec<u8>> {
+fn message_packets(rng: &mut Rng, stream: Stream, limit: u64) -> VecDeque<Vec<u8>> {
     let size = match rng.below(20) {
         0 => 0,
-        1 => rng.between(4_000, 4_096),
+        1 => near(rng, limit, 96, 0),
         2 => rng.between(200, 900),
         _ => rng.index(90),
-    };
+    }
+    // At a small limit some are longer.
+    .min(near(rng, limit, 0, 2))
+    .min(65_535);
     let wish = Wish {
         stream,
         id: rng.below(16) as u8,
@@ -266,11 +303,11 @@ fn message_packets(rng: &mut Rng, stream: Stream) -> VecDeque<Vec<u8>> {
 }
 
 /// One list; gives the number of packets.
-fn list(c: &mut Comparison<'_>, rng: &mut Rng, call: &mut Call) -> Compared<u64> {
+fn list(c: &mut Comparison<'_>, rng: &mut Rng, call: &mut Call, limit: u64) -> Compared<u64> {
     call.state = if rng.once_in(3) {
-        lawful(rng)
+        lawful(rng, limit)
     } else {
-        vec![0; 18]
+        idle(limit)
     };
     let damaging = *rng.pick(&[0, 0, 20, 8, 4]);
     let directing = *rng.pick(&[0, 0, 8, 2, 1]);
@@ -285,7 +322,7 @@ fn list(c: &mut Comparison<'_>, rng: &mut Rng, call: &mut Call) -> Compared<u64>
             let stream = *rng.pick(&Stream::ALL);
             let queue = &mut queues[stream.slot()];
             if queue.is_empty() || rng.once_in(60) {
-                *queue = message_packets(rng, stream);
+                *queue = message_packets(rng, stream, limit);
             }
             let mut packet = queue.pop_front().expect("a message has a packet");
             if damaging > 0 && rng.once_in(damaging) {

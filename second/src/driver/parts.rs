@@ -1,31 +1,47 @@
 //! Frames by parts: payload and output cut at any places, refused calls among the others, and calls
-//! from any state.
+//! from any state, on links with several limits.
 
-use super::streams::{byte, payload, sequence};
+use super::streams::{byte, near, payload, sequence};
 use super::{edge, Plan};
 use crate::classic::{self, escaped};
 use crate::comparison::{Compared, Comparison};
 use crate::implementation::{Call, Operation};
 use crate::rng::Rng;
 
+/// The limits that are tried: each with how many frames it gets, any and long ones.
+const LIMITS: &[(u64, [u64; 2])] = &[
+    (4_096, [200_000, 300]),
+    (1, [10_000, 1_000]),
+    (2, [10_000, 1_000]),
+    (19, [10_000, 1_000]),
+    (20, [10_000, 1_000]),
+    (255, [10_000, 300]),
+    (256, [10_000, 300]),
+    (20_000, [10_000, 30]),
+    (65_535, [10_000, 10]),
+];
+
 pub fn run(c: &mut Comparison<'_>, rng: &mut Rng, plan: Plan) -> Compared<()> {
     let mut call = Call::new(Operation::FramePart);
-    for number in 0..plan.times(200_000) {
-        if number % 4_096 == 0 {
-            c.at = format!("frame by parts {number}");
+    for &(limit, [any, long]) in LIMITS {
+        for number in 0..plan.times(any) {
+            if number % 4_096 == 0 {
+                c.at = format!("frame by parts {number} at limit {limit}");
+            }
+            let mut payload = payload(rng);
+            payload.truncate(limit as usize);
+            frame(c, rng, &mut call, limit, &payload)?;
         }
-        let payload = payload(rng);
-        frame(c, rng, &mut call, &payload)?;
-    }
-    c.at = "long frames by parts".to_string();
-    for _ in 0..plan.times(300) {
-        let size = rng.between(4_000, 4_096);
-        let payload: Vec<u8> = match rng.below(3) {
-            0 => vec![*rng.pick(&[0xFF, 0xF0, 0xF2, 0x00]); size],
-            1 => rng.bytes(size),
-            _ => (0..size).map(|_| byte(rng)).collect(),
-        };
-        frame(c, rng, &mut call, &payload)?;
+        c.at = format!("long frames by parts at limit {limit}");
+        for _ in 0..plan.times(long) {
+            let size = near(rng, limit, 96, 0);
+            let payload: Vec<u8> = match rng.below(3) {
+                0 => vec![*rng.pick(&[0xFF, 0xF0, 0xF2, 0x00]); size],
+                1 => rng.bytes(size),
+                _ => (0..size).map(|_| byte(rng)).collect(),
+            };
+            frame(c, rng, &mut call, limit, &payload)?;
+        }
     }
     c.at = "parts from any state".to_string();
     for _ in 0..plan.times(400_000) {
@@ -33,7 +49,8 @@ pub fn run(c: &mut Comparison<'_>, rng: &mut Rng, plan: Plan) -> Compared<()> {
     }
     c.at = "frames begun".to_string();
     for _ in 0..plan.times(20_000) {
-        let mut begin = Call::new(Operation::FrameBegin).numbers(&[edge(rng), edge(rng)]);
+        let numbers = [edge(rng), edge(rng), edge(rng)];
+        let mut begin = Call::new(Operation::FrameBegin).numbers(&numbers);
         rng.fill_row(&mut begin.state);
         c.run(&mut begin)?;
     }
@@ -53,11 +70,17 @@ fn firsts(payload: &[u8]) -> Vec<usize> {
 }
 
 /// A frame, cut in one way. Calls that are refused stand among the others, and calls after its end.
-fn frame(c: &mut Comparison<'_>, rng: &mut Rng, call: &mut Call, payload: &[u8]) -> Compared<()> {
+fn frame(
+    c: &mut Comparison<'_>,
+    rng: &mut Rng,
+    call: &mut Call,
+    limit: u64,
+    payload: &[u8],
+) -> Compared<()> {
     let sequence = sequence(rng);
     let whole = classic::frame(sequence, payload);
-    let mut begin =
-        Call::new(Operation::FrameBegin).numbers(&[u64::from(sequence), payload.len() as u64]);
+    let numbers = [u64::from(sequence), limit, payload.len() as u64];
+    let mut begin = Call::new(Operation::FrameBegin).numbers(&numbers);
     c.expect(&mut begin, 0, |_| true)?;
     call.state.clone_from(&begin.state);
     let most_offered = *rng.pick(&[0, 1, 2, 7, 64, payload.len()]);
@@ -115,9 +138,11 @@ fn frame(c: &mut Comparison<'_>, rng: &mut Rng, call: &mut Call, payload: &[u8])
 
 /// A state of any numbers, mostly lawful ones, with any part and output.
 fn any_state(c: &mut Comparison<'_>, rng: &mut Rng, call: &mut Call) -> Compared<()> {
-    let total = *rng.pick(&[0, 1, 2, 5, 4_095, 4_096]);
+    let limit = rng.pick(LIMITS).0;
+    let total = *rng.pick(&[0, 1, 2, 5, limit - 1, limit]);
     let near = |rng: &mut Rng| total - rng.below(4).min(total);
     call.state = vec![
+        limit,
         u64::from(sequence(rng)),
         total,
         near(rng),
@@ -129,7 +154,7 @@ fn any_state(c: &mut Comparison<'_>, rng: &mut Rng, call: &mut Call) -> Compared
         rng.below(4),
     ];
     if rng.once_in(8) {
-        let place = rng.index(6);
+        let place = rng.index(7);
         call.state[place] = edge(rng);
     }
     let offered = rng.index(6);

@@ -1,7 +1,9 @@
 //! Messages at rooms: all of 0 to 64 bytes at all rooms, boundary sizes to 4,096 at all rooms. Each
-//! message is written place after place, and its packets go through the receiver.
+//! message is written place after place, and its packets go through the receiver. Then messages as
+//! long as other limits.
 
-use super::Plan;
+use super::{packets, Plan};
+use crate::classic::LIMIT;
 use crate::comparison::{Compared, Comparison};
 use crate::implementation::{Call, Operation};
 use crate::low_energy::{self, Stream};
@@ -10,8 +12,40 @@ use crate::rng::Rng;
 /// Rooms at which a piece gets its second byte of length, and the smallest and largest.
 const EDGES: [usize; 11] = [20, 21, 244, 258, 259, 260, 261, 262, 263, 511, 512];
 
+/// The other limits, each with the smallest of those rooms at which it is tried: many packets of a
+/// long message, with every lent byte compared at each, are dear.
+const LIMITS: &[(u64, usize)] = &[
+    (1, 20),
+    (2, 20),
+    (19, 20),
+    (20, 20),
+    (255, 20),
+    (256, 20),
+    (20_000, 244),
+    (65_535, 511),
+];
+
 pub fn run(c: &mut Comparison<'_>, rng: &mut Rng, plan: Plan) -> Compared<()> {
-    let mut desk = Desk::new(rng);
+    at_rooms(c, rng, plan)?;
+    for &(limit, least) in LIMITS {
+        let mut desk = Desk::new(rng, limit);
+        for room in EDGES.into_iter().filter(|&room| room >= least) {
+            c.at = format!("messages at room {room} and limit {limit}");
+            for size in [limit as usize - 1, limit as usize] {
+                desk.message(c, rng, room, size)?;
+            }
+            // One byte too many is 15.
+            desk.writer.inputs[0].push(0);
+            let returned = desk.write(c, rng, room, 0)?;
+            c.hold(returned == 15, "15 above the limit", &desk.writer)?;
+        }
+    }
+    Ok(())
+}
+
+/// All rooms at the limit of the worked cases.
+fn at_rooms(c: &mut Comparison<'_>, rng: &mut Rng, plan: Plan) -> Compared<()> {
+    let mut desk = Desk::new(rng, LIMIT);
     // Below scale 1 only some rooms are run, so that a short run stays short; above it all of them
     // several times, with other messages.
     let stride = (1.0 / plan.scale).clamp(1.0, 97.0) as usize;
@@ -62,15 +96,22 @@ fn boundaries(room: usize) -> Vec<usize> {
 
 /// One writer and one receiver, kept over many messages.
 struct Desk {
+    limit: u64,
     writer: Call,
     receiver: Call,
 }
 
 impl Desk {
-    fn new(rng: &mut Rng) -> Desk {
+    fn new(rng: &mut Rng, limit: u64) -> Desk {
         let writer = Call::new(Operation::PacketWrite);
-        let receiver = Call::new(Operation::ReceiverAccept).lent(rng.bytes(low_energy::BUFFER));
-        Desk { writer, receiver }
+        let receiver = Call::new(Operation::ReceiverAccept)
+            .state(&packets::idle(limit))
+            .lent(rng.bytes(low_energy::buffer(limit)));
+        Desk {
+            limit,
+            writer,
+            receiver,
+        }
     }
 
     /// A new message of this size, written and received whole.
@@ -90,7 +131,7 @@ impl Desk {
             rng.below(16),
             rng.below(2),
         ];
-        self.writer.numbers = [&[room as u64], &wish[..], &[0]].concat();
+        self.writer.numbers = [&[room as u64, self.limit], &wish[..], &[0]].concat();
         let mut place = 0;
         loop {
             let returned = self.write(c, rng, room, place)?;
@@ -101,7 +142,7 @@ impl Desk {
             self.receiver.inputs[0].clear();
             let packet = self.writer.lent.iter().take(written as usize);
             self.receiver.inputs[0].extend(packet);
-            let third = stream.slot() * low_energy::MESSAGE;
+            let third = stream.slot() * self.limit as usize;
             let message = &self.writer.inputs[0];
             let expected = [
                 u64::from(last),
@@ -135,7 +176,7 @@ impl Desk {
         room: usize,
         place: u64,
     ) -> Compared<u64> {
-        self.writer.numbers[5] = place;
+        self.writer.numbers[6] = place;
         let spare = if rng.once_in(4) { rng.index(9) } else { 0 };
         self.writer.lent.resize(room + spare, 0x3C);
         c.run(&mut self.writer)

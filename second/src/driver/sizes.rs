@@ -2,7 +2,7 @@
 //! and too long, each argument at and past its edges, alone and several at once, so that the order
 //! of the refusals shows.
 
-use super::{edge, firmware, Plan, EDGES};
+use super::{edge, firmware, packets, Plan, EDGES};
 use crate::classic;
 use crate::comparison::{Compared, Comparison};
 use crate::implementation::{Call, Operation};
@@ -25,11 +25,12 @@ pub fn run(c: &mut Comparison<'_>, rng: &mut Rng, plan: Plan) -> Compared<()> {
     for byte in 0..=255 {
         c.run(&mut Call::new(Operation::NextSequence).numbers(&[byte]))?;
         let mut call = Call::new(Operation::FrameWrite)
-            .numbers(&[byte])
+            .numbers(&[byte, classic::LIMIT])
             .inputs(&[&[byte as u8]])
             .lent(vec![0; 16]);
         c.run(&mut call)?;
-        c.run(&mut Call::new(Operation::FrameBegin).numbers(&[byte, 1]))?;
+        let numbers = [byte, classic::LIMIT, 1];
+        c.run(&mut Call::new(Operation::FrameBegin).numbers(&numbers))?;
     }
     c.at = "every byte in every state of the extractor".to_string();
     every_byte(c, rng)?;
@@ -43,19 +44,26 @@ fn ordinary(rng: &mut Rng, operation: Operation) -> Call {
     let stream = *rng.pick(&[0, 2, 6]);
     let size = rng.index(30);
     let text = rng.bytes(size);
+    let limit = *rng.pick(&[33, 4_096, 4_096, 65_535]);
     match operation {
+        Operation::ExtractorOpen => call.numbers(&[limit]),
         Operation::ExtractorStep => call
+            .state(&[classic::LIMIT, 0, 0, 0])
             .numbers(&[rng.below(256)])
-            .lent(rng.bytes(classic::BUFFER)),
-        Operation::ExtractorFeed => call.inputs(&[&text]).lent(rng.bytes(classic::BUFFER)),
+            .lent(rng.bytes(classic::buffer(classic::LIMIT))),
+        Operation::ExtractorFeed => call
+            .state(&[classic::LIMIT, 0, 0, 0])
+            .inputs(&[&text])
+            .lent(rng.bytes(classic::buffer(classic::LIMIT))),
         Operation::FrameWrite => call
-            .numbers(&[rng.below(240)])
+            .numbers(&[rng.below(240), limit])
             .inputs(&[&text])
             .lent(rng.bytes(80)),
-        Operation::FrameBegin => call.numbers(&[rng.below(240), rng.below(4_097)]),
+        Operation::FrameBegin => call.numbers(&[rng.below(240), limit, rng.below(limit + 1)]),
         Operation::FramePart => {
             let total = size as u64 + rng.below(4);
-            call.state(&[rng.below(240), total, 0, 2, rng.below(8), rng.below(4)])
+            let (stage, pending) = (rng.below(8), rng.below(4));
+            call.state(&[limit, rng.below(240), total, 0, 2, stage, pending])
                 .inputs(&[&text])
                 .lent(rng.bytes(80))
         }
@@ -64,6 +72,7 @@ fn ordinary(rng: &mut Rng, operation: Operation) -> Call {
             let room = rng.between(20, 512);
             call.numbers(&[
                 room as u64,
+                limit,
                 stream,
                 rng.below(16),
                 rng.below(16),
@@ -76,9 +85,12 @@ fn ordinary(rng: &mut Rng, operation: Operation) -> Call {
         Operation::AckWrite => call
             .numbers(&[stream, rng.below(16), rng.below(16), rng.below(2)])
             .lent(rng.bytes(6)),
+        Operation::ReceiverOpen => call.numbers(&[limit]),
         Operation::ReceiverAccept => {
             let packet = low_energy::acknowledgement(low_energy::Stream::Ota, 3, 9, true);
-            call.inputs(&[&packet]).lent(rng.bytes(low_energy::BUFFER))
+            call.state(&packets::idle(classic::LIMIT))
+                .inputs(&[&packet])
+                .lent(rng.bytes(low_energy::buffer(classic::LIMIT)))
         }
         Operation::EnvelopeRead | Operation::ResponseRead => call.inputs(&[&[0x08, 0x05]]),
         Operation::InformationRead | Operation::FeaturesRead => call.inputs(&[&[]]),
@@ -219,26 +231,37 @@ fn each_edge(c: &mut Comparison<'_>, rng: &mut Rng) -> Compared<()> {
     let states: [(Operation, &[&[u64]]); 4] = [
         (
             Operation::ExtractorStep,
-            &[&[0, 0, 0], &[3, 0, 0], &[4, 7, 3], &[5, 7, 4_098]],
+            &[
+                &[4_096, 0, 0, 0],
+                &[4_096, 3, 0, 0],
+                &[4_096, 4, 7, 3],
+                &[4_096, 5, 7, 4_098],
+            ],
         ),
         (
             Operation::ExtractorFeed,
-            &[&[0, 0, 0], &[3, 0, 0], &[4, 7, 3], &[5, 7, 4_098]],
+            &[
+                &[4_096, 0, 0, 0],
+                &[4_096, 3, 0, 0],
+                &[4_096, 4, 7, 3],
+                &[4_096, 5, 7, 4_098],
+            ],
         ),
         (
             Operation::FramePart,
             &[
-                &[7, 30, 0, 2, 0, 0],
-                &[7, 4_096, 4_000, 0xF0F1, 4, 3],
-                &[7, 30, 0, 2, 7, 0],
+                &[4_096, 7, 30, 0, 2, 0, 0],
+                &[4_096, 7, 4_096, 4_000, 0xF0F1, 4, 3],
+                &[30, 7, 30, 0, 2, 7, 0],
+                &[65_535, 7, 65_535, 65_500, 0xF0F1, 4, 3],
             ],
         ),
         (
             Operation::ReceiverAccept,
             &[
-                &[0; 18],
+                &[4_096, 0, 0, 0, 0, 0, 0, 0, 0, 0, 0, 0, 0, 0, 0, 0, 0, 0, 0],
                 &[
-                    1, 3, 9, 2, 7, 0, 1, 0, 2, 1, 0, 1, 1, 15, 4_096, 4_095, 15, 1,
+                    4_096, 1, 3, 9, 2, 7, 0, 1, 0, 2, 1, 0, 1, 1, 15, 4_096, 4_095, 15, 1,
                 ],
             ],
         ),
@@ -281,17 +304,22 @@ fn each_edge(c: &mut Comparison<'_>, rng: &mut Rng) -> Compared<()> {
 
 /// Every byte, as a step and as a feed, in each state that differs.
 fn every_byte(c: &mut Comparison<'_>, rng: &mut Rng) -> Compared<()> {
-    let mut states = vec![[0, 0, 0], [1, 0, 0], [2, 0, 0], [3, 0, 0]];
-    for place in [4, 5] {
-        for held in [0, 1, 2, 3, 4_096, 4_097, 4_098] {
-            states.push([place, 0x11, held]);
+    let mut states = Vec::new();
+    for limit in [1, 2, 4_096] {
+        for phase in 0..=3 {
+            states.push([limit, phase, 0, 0]);
+        }
+        for phase in [4, 5] {
+            for held in [0, 1, 2, 3, limit, limit + 1, limit + 2] {
+                states.push([limit, phase, 0x11, held]);
+            }
         }
     }
     for state in states {
         for byte in 0..=255u8 {
             for right in [false, true] {
-                let mut lent = rng.bytes(classic::BUFFER);
-                let held = state[2] as usize;
+                let mut lent = rng.bytes(classic::buffer(state[0]));
+                let held = state[3] as usize;
                 if let (true, Some((payload, sum))) = (right, lent[..held].split_last_chunk_mut()) {
                     *sum = classic::checksum(payload).to_be_bytes();
                 }
@@ -314,8 +342,11 @@ fn every_byte(c: &mut Comparison<'_>, rng: &mut Rng) -> Compared<()> {
 /// Every byte 0 and byte 1 of a packet, over a state with two open slots, one that wants an ACK, at
 /// several lengths.
 fn every_pair(c: &mut Comparison<'_>, rng: &mut Rng) -> Compared<()> {
-    let state = [1, 3, 9, 2, 7, 1, 0, 0, 0, 0, 0, 0, 1, 12, 5, 4, 15, 0];
-    let mut call = Call::new(Operation::ReceiverAccept).lent(rng.bytes(low_energy::BUFFER));
+    let state = [
+        4_096, 1, 3, 9, 2, 7, 1, 0, 0, 0, 0, 0, 0, 1, 12, 5, 4, 15, 0,
+    ];
+    let lent = rng.bytes(low_energy::buffer(classic::LIMIT));
+    let mut call = Call::new(Operation::ReceiverAccept).lent(lent);
     for zeroth in 0..=255u8 {
         for first in 0..=255u8 {
             let tail: &[&[u8]] = match first >> 2 & 3 {

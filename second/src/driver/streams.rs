@@ -1,5 +1,5 @@
 //! Streams for the extractor: random, damaged and cut, with many marks and nearly valid frames,
-//! given in steps and feeds mixed, from lawful and unlawful states.
+//! given in steps and feeds mixed, from lawful and unlawful states, on links with several limits.
 
 use super::{damage, edge, Plan};
 use crate::classic::{self, checksum, escaped, is_mark, ESCAPE, START};
@@ -7,23 +7,45 @@ use crate::comparison::{Compared, Comparison};
 use crate::implementation::{Call, Operation};
 use crate::rng::Rng;
 
+/// The limits that are tried: each with how many streams, long frames and frames written it gets.
+/// Every lent byte is compared at every call, so a large buffer is dear.
+const LIMITS: &[(u64, [u64; 3])] = &[
+    (4_096, [1_000_000, 400, 60_000]),
+    (1, [60_000, 2_000, 6_000]),
+    (2, [60_000, 2_000, 6_000]),
+    (19, [60_000, 2_000, 6_000]),
+    (20, [60_000, 2_000, 6_000]),
+    (255, [60_000, 2_000, 6_000]),
+    (256, [60_000, 2_000, 6_000]),
+    (20_000, [2_000, 40, 400]),
+    (65_535, [600, 20, 200]),
+];
+
 pub fn run(c: &mut Comparison<'_>, rng: &mut Rng, plan: Plan) -> Compared<()> {
-    let mut desk = Desk::new(rng);
-    for number in 0..plan.times(1_000_000) {
-        if number % 4_096 == 0 {
-            c.at = format!("extractor stream {number}");
+    for &(limit, [streams, long, written]) in LIMITS {
+        let mut desk = Desk::open(c, rng, limit)?;
+        for number in 0..plan.times(streams) {
+            if number % 4_096 == 0 {
+                c.at = format!("extractor stream {number} at limit {limit}");
+            }
+            desk.stream(c, rng)?;
         }
-        desk.stream(c, rng)?;
-    }
-    c.at = "long frames".to_string();
-    for _ in 0..plan.times(400) {
-        desk.long(c, rng)?;
-    }
-    c.at = "frames written and read".to_string();
-    for _ in 0..plan.times(60_000) {
-        desk.written(c, rng)?;
+        c.at = format!("long frames at limit {limit}");
+        for _ in 0..plan.times(long) {
+            desk.long(c, rng)?;
+        }
+        c.at = format!("frames written and read at limit {limit}");
+        for _ in 0..plan.times(written) {
+            desk.written(c, rng)?;
+        }
     }
     Ok(())
+}
+
+/// A size around a limit.
+pub fn near(rng: &mut Rng, limit: u64, below: usize, above: usize) -> usize {
+    let limit = limit as usize;
+    rng.between(limit.saturating_sub(below), limit + above)
 }
 
 /// A byte that matters often.
@@ -132,18 +154,34 @@ pub fn stream(rng: &mut Rng) -> Vec<u8> {
 /// One step call and one feed call over the same extractor; which of them holds the state and the
 /// buffer changes from call to call.
 struct Desk {
+    limit: u64,
     step: Call,
     feed: Call,
     writer: Call,
 }
 
 impl Desk {
-    fn new(rng: &mut Rng) -> Desk {
-        Desk {
-            step: Call::new(Operation::ExtractorStep).lent(rng.bytes(classic::BUFFER)),
-            feed: Call::new(Operation::ExtractorFeed).lent(rng.bytes(classic::BUFFER)),
+    fn open(c: &mut Comparison<'_>, rng: &mut Rng, limit: u64) -> Compared<Desk> {
+        c.at = format!("an extractor opened with {limit}");
+        let mut open = Call::new(Operation::ExtractorOpen).numbers(&[limit]);
+        rng.fill_row(&mut open.state);
+        c.expect(&mut open, 0, |call| call.state == [limit, 0, 0, 0])?;
+        let room = classic::buffer(limit);
+        Ok(Desk {
+            limit,
+            step: Call::new(Operation::ExtractorStep)
+                .state(&open.state)
+                .lent(rng.bytes(room)),
+            feed: Call::new(Operation::ExtractorFeed)
+                .state(&open.state)
+                .lent(rng.bytes(room)),
             writer: Call::new(Operation::FrameWrite),
-        }
+        })
+    }
+
+    /// The empty state.
+    fn reset(&mut self) {
+        self.step.state = vec![self.limit, 0, 0, 0];
     }
 
     /// One byte; the state and buffer of `step` are the true ones before and after.
@@ -213,12 +251,13 @@ impl Desk {
             let lent = &mut self.step.lent;
             rng.fill(lent);
         }
-        self.step.state.fill(0);
+        self.reset();
+        let room = classic::buffer(self.limit);
         match rng.below(40) {
             0..=25 => stream(rng),
             26 => {
                 // Waits for a byte of the header.
-                self.step.state[0] = rng.below(3) + 1;
+                self.step.state[1] = rng.below(3) + 1;
                 let mut bytes = stream(rng);
                 if rng.once_in(2) {
                     bytes.drain(..bytes.len().min(rng.between(1, 3)));
@@ -228,23 +267,24 @@ impl Desk {
             27..=37 => {
                 let held = match rng.below(4) {
                     0 => rng.index(4),
-                    1 => rng.index(classic::BUFFER + 1),
-                    _ => rng.between(classic::BUFFER - 6, classic::BUFFER),
+                    1 => rng.index(room + 1),
+                    _ => rng.between(room.saturating_sub(6), room),
                 };
+                let held = held.min(room);
                 let escape = rng.once_in(4);
-                self.step.state[0] = 4 + u64::from(escape);
-                self.step.state[1] = u64::from(sequence(rng));
-                self.step.state[2] = held as u64;
+                self.step.state[1] = 4 + u64::from(escape);
+                self.step.state[2] = u64::from(sequence(rng));
+                self.step.state[3] = held as u64;
                 self.rest_of_frame(rng, held, escape)
             }
             _ => {
                 // Numbers that a state may not have.
-                self.step.state[0] = rng.below(6);
+                self.step.state[1] = rng.below(6);
                 if rng.once_in(2) {
-                    self.step.state[1] = u64::from(sequence(rng));
-                    self.step.state[2] = rng.below(5_000);
+                    self.step.state[2] = u64::from(sequence(rng));
+                    self.step.state[3] = rng.below(room as u64 + 900);
                 }
-                let place = rng.index(3);
+                let place = rng.index(4);
                 self.step.state[place] = edge(rng);
                 stream(rng)
             }
@@ -256,9 +296,10 @@ impl Desk {
     fn rest_of_frame(&mut self, rng: &mut Rng, held: usize, escape: bool) -> Vec<u8> {
         let mut bytes = Vec::new();
         let mut more: Vec<u8> = (0..rng.index(4)).map(|_| byte(rng)).collect();
-        if held + 2 <= classic::BUFFER && rng.once_in(2) {
+        let room = classic::buffer(self.limit);
+        if held + 2 <= room && rng.once_in(2) {
             // Exactly full at the end.
-            let left = classic::BUFFER - 2 - held;
+            let left = room - 2 - held;
             if left < 8 {
                 more = (0..left).map(|_| byte(rng)).collect();
             }
@@ -308,8 +349,8 @@ impl Desk {
 
     /// A frame around the largest size, whole or nearly, and a frame after it.
     fn long(&mut self, c: &mut Comparison<'_>, rng: &mut Rng) -> Compared<()> {
-        self.step.state.fill(0);
-        let size = rng.between(4_090, 4_100);
+        self.reset();
+        let size = near(rng, self.limit, 6, 4).max(1);
         let mut body = match rng.below(3) {
             0 => vec![*rng.pick(&[0xFF, 0xF0, 0xF2, 0x00]); size],
             1 => rng.bytes(size),
@@ -324,14 +365,19 @@ impl Desk {
             damage(rng, &mut bytes, byte);
         }
         bytes.extend(nearly(rng));
-        let way = if rng.once_in(8) { rng.below(3) } else { 1 };
+        // A large buffer is compared at few calls only.
+        let way = if rng.once_in(8) && self.limit <= 4_096 {
+            rng.below(3)
+        } else {
+            1
+        };
         self.give(c, rng, &bytes, way)
     }
 
     /// A frame written, with an output that is sometimes too small, and read again.
     fn written(&mut self, c: &mut Comparison<'_>, rng: &mut Rng) -> Compared<()> {
         let body = if rng.once_in(300) {
-            let size = rng.between(4_090, 4_098);
+            let size = near(rng, self.limit, 6, 2);
             (0..size).map(|_| byte(rng)).collect()
         } else {
             payload(rng)
@@ -344,18 +390,23 @@ impl Desk {
             2 => frame.len(),
             _ => frame.len() + rng.index(20),
         };
-        self.writer.numbers[0] = u64::from(sequence);
-        self.writer.inputs[0] = body;
+        let limit = if rng.once_in(20) {
+            edge(rng)
+        } else {
+            self.limit
+        };
+        self.writer.numbers = vec![u64::from(sequence), limit];
+        self.writer.inputs[0].clone_from(&body);
         self.writer.lent.resize(size, 0x5A);
         let returned = c.run(&mut self.writer)?;
-        if returned == 0 {
-            self.step.state.fill(0);
+        if returned == 0 && body.len() as u64 <= self.limit {
+            self.reset();
             let written = self.writer.answer[0] as usize;
             let frame = self.writer.lent[..written].to_vec();
-            let way = rng.below(3);
+            let way = if self.limit > 4_096 { 1 } else { rng.below(3) };
             self.give(c, rng, &frame, way)?;
-            let body = &self.writer.inputs[0];
-            let holds = self.step.lent.starts_with(body) && self.step.state == [0, 0, 0];
+            let empty = [self.limit, 0, 0, 0];
+            let holds = self.step.lent.starts_with(&body) && self.step.state == empty;
             c.hold(holds, "a frame of the writer is read", &self.step)?;
         }
         Ok(())

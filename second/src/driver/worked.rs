@@ -1,7 +1,7 @@
 //! "Worked by hand": P1 to P12, the slips that the paper names, and the cases of the change requests.
 
-use super::Plan;
-use crate::classic;
+use super::{packets as lists, Plan};
+use crate::classic::{self, LIMIT};
 use crate::comparison::{Compared, Comparison};
 use crate::implementation::{Call, Operation};
 use crate::low_energy;
@@ -29,6 +29,7 @@ pub(super) fn wrote(call: &Call, made: &[u8]) -> bool {
 pub fn run(c: &mut Comparison<'_>, _: &mut Rng, _: Plan) -> Compared<()> {
     frames(c)?;
     parts(c)?;
+    limits(c)?;
     packets(c)?;
     messages(c)?;
     outbox(c)?;
@@ -39,7 +40,9 @@ pub fn run(c: &mut Comparison<'_>, _: &mut Rng, _: Plan) -> Compared<()> {
 /// Feeds a stream whole, call after call, and holds it to what each call has to tell: the number
 /// returned, then outcome, used, sequence and length.
 fn feeds(c: &mut Comparison<'_>, stream: &[u8], told: &[(u64, [u64; 4])]) -> Compared<Call> {
-    let mut call = Call::new(Operation::ExtractorFeed).lent(blank(classic::BUFFER));
+    let mut call = Call::new(Operation::ExtractorFeed)
+        .state(&[LIMIT, 0, 0, 0])
+        .lent(blank(classic::buffer(LIMIT)));
     let mut rest = stream;
     for (returned, answer) in told {
         call.inputs[0] = rest.to_vec();
@@ -59,7 +62,7 @@ fn frames(c: &mut Comparison<'_>) -> Compared<()> {
         c.at = format!("P{}", case + 1);
         let (payload, frame) = (bytes(payload), bytes(frame));
         let mut call = Call::new(Operation::FrameWrite)
-            .numbers(&[sequence])
+            .numbers(&[sequence, LIMIT])
             .inputs(&[&payload])
             .lent(blank(40));
         c.expect(&mut call, 0, |call| wrote(call, &frame))?;
@@ -84,8 +87,9 @@ fn frames(c: &mut Comparison<'_>) -> Compared<()> {
 /// bytes taken and what was written.
 fn parts(c: &mut Comparison<'_>) -> Compared<()> {
     c.at = "a frame by parts".to_string();
-    let mut begin = Call::new(Operation::FrameBegin).numbers(&[5, 1]);
-    c.expect(&mut begin, 0, |call| call.state == [5, 1, 0, 2, 0, 0])?;
+    let mut begin = Call::new(Operation::FrameBegin).numbers(&[5, LIMIT, 1]);
+    let begun = [LIMIT, 5, 1, 0, 2, 0, 0];
+    c.expect(&mut begin, 0, |call| call.state == begun)?;
     let calls: [(&str, usize, u64, u64, &str); 10] = [
         ("", 3, 0, 0, "F0 02 00"),
         ("", 9, 0, 0, "05"),
@@ -115,6 +119,43 @@ fn parts(c: &mut Comparison<'_>) -> Compared<()> {
     Ok(())
 }
 
+/// No. 6 on Classic: 17 in openings and first in the writers, and 1 for a state whose limit is none.
+fn limits(c: &mut Comparison<'_>) -> Compared<()> {
+    c.at = "limits of Classic".to_string();
+    let mark = u64::from(classic::END);
+    for (limit, returned) in [(0, 17), (1, 0), (65_535, 0), (65_536, 17), (u64::MAX, 17)] {
+        let mut open = Call::new(Operation::ExtractorOpen).numbers(&[limit]);
+        let state = [if returned == 0 { limit } else { 0 }, 0, 0, 0];
+        c.expect(&mut open, returned, |call| call.state == state)?;
+        let bad = if returned == 0 { 15 } else { returned };
+        let mut write = Call::new(Operation::FrameWrite).numbers(&[mark, limit]);
+        c.expect(&mut write, bad, |_| true)?;
+        let mut begin = Call::new(Operation::FrameBegin).numbers(&[mark, limit, 1]);
+        c.expect(&mut begin, bad, |call| call.state == [0; 7])?;
+    }
+    for size in [0, 1, 2, 4_098] {
+        let mut step = Call::new(Operation::ExtractorStep).lent(blank(size));
+        c.expect(&mut step, 1, |call| call.state == [0; 4])?;
+    }
+    let mut part = Call::new(Operation::FramePart).lent(blank(9));
+    c.expect(&mut part, 1, |call| call.state == [0; 7])?;
+    // A payload of as many bytes as the limit, and one more.
+    for (payload, returned) in [("41", 0), ("41 42", 15)] {
+        let mut write = Call::new(Operation::FrameWrite)
+            .numbers(&[5, 1])
+            .inputs(&[&bytes(payload)])
+            .lent(blank(20));
+        c.expect(&mut write, returned, |_| true)?;
+    }
+    let mut feed = Call::new(Operation::ExtractorFeed)
+        .state(&[1, 0, 0, 0])
+        .lent(blank(3));
+    feed.inputs[0] = bytes("F0 02 00 05 41 00 43 F1 F0 02 00 05 41 42 00 85 F1");
+    c.expect(&mut feed, 0, |call| call.answer == [2, 8, 5, 1])?;
+    feed.inputs[0].drain(..8);
+    c.expect(&mut feed, 24, |call| call.answer == [0, 8, 0, 0])
+}
+
 /// Writes a message place after place; gives the packets.
 pub fn written(
     c: &mut Comparison<'_>,
@@ -128,7 +169,7 @@ pub fn written(
     let [stream, id, sequence, ack] = wish;
     loop {
         call.lent = blank(room as usize);
-        call.numbers = vec![room, stream, id, sequence, ack, place];
+        call.numbers = vec![room, LIMIT, stream, id, sequence, ack, place];
         c.expect(&mut call, 0, |_| true)?;
         packets.push(call.lent[..call.answer[0] as usize].to_vec());
         place = call.answer[1];
@@ -147,10 +188,10 @@ fn counting(size: usize) -> Vec<u8> {
 fn receiver(state: &[u64]) -> Call {
     Call::new(Operation::ReceiverAccept)
         .state(state)
-        .lent(blank(low_energy::BUFFER))
+        .lent(blank(low_energy::buffer(LIMIT)))
 }
 
-const IDLE: [u64; 18] = [0; 18];
+const IDLE: [u64; 19] = [LIMIT, 0, 0, 0, 0, 0, 0, 0, 0, 0, 0, 0, 0, 0, 0, 0, 0, 0, 0];
 
 fn packets(c: &mut Comparison<'_>) -> Compared<()> {
     c.at = "P4".to_string();
@@ -174,7 +215,7 @@ fn packets(c: &mut Comparison<'_>) -> Compared<()> {
     for (packet, (answer, slot)) in made.iter().zip(answers) {
         call.inputs[0] = packet.clone();
         c.expect(&mut call, 0, |call| {
-            call.answer == answer && call.state[12..] == slot
+            call.answer == answer && call.state[13..] == slot
         })?;
     }
     let kept = call.lent[8_192..8_227] == message
@@ -193,7 +234,7 @@ fn packets(c: &mut Comparison<'_>) -> Compared<()> {
         let mut place = 0;
         for (index, piece) in pieces.iter().enumerate() {
             let mut call = Call::new(Operation::PacketWrite)
-                .numbers(&[room, 0, 0, 0, 0, place as u64])
+                .numbers(&[room, LIMIT, 0, 0, 0, 0, place as u64])
                 .inputs(&[&message])
                 .lent(blank(room as usize));
             let header = if index == 0 { 6 } else { 3 } + usize::from(*piece > 255);
@@ -209,11 +250,11 @@ fn packets(c: &mut Comparison<'_>) -> Compared<()> {
 
     c.at = "P7".to_string();
     // OTA is open with id 4, total 9, one byte held, last sequence 15.
-    let open = [0, 0, 0, 0, 0, 0, 1, 4, 9, 1, 15, 0, 0, 0, 0, 0, 0, 0];
+    let open = [LIMIT, 0, 0, 0, 0, 0, 0, 1, 4, 9, 1, 15, 0, 0, 0, 0, 0, 0, 0];
     let mut call = receiver(&open).inputs(&[&bytes("24 04 02 AA BB")]);
     c.expect(&mut call, 0, |call| {
         call.answer == [0, 2, 4, 0, 0, 0, 0]
-            && call.state == [0, 0, 0, 0, 0, 0, 1, 4, 9, 3, 0, 0, 0, 0, 0, 0, 0, 0]
+            && call.state == [LIMIT, 0, 0, 0, 0, 0, 0, 1, 4, 9, 3, 0, 0, 0, 0, 0, 0, 0, 0]
             && call.lent[4_096..4_100] == [0xCC, 0xAA, 0xBB, 0xCC]
     })?;
     let mut call = receiver(&open).inputs(&[&bytes("24 A4 02 AA BB")]);
@@ -241,6 +282,7 @@ fn packets(c: &mut Comparison<'_>) -> Compared<()> {
         })?;
     }
 
+    packet_limits(c)?;
     c.at = "P9".to_string();
     let made = written(c, 20, [0, 0, 0, 0], &[])?;
     let mut call = receiver(&IDLE).inputs(&[&[0; 6]]);
@@ -248,6 +290,45 @@ fn packets(c: &mut Comparison<'_>) -> Compared<()> {
     c.expect(&mut call, 0, |call| {
         call.answer == [1, 0, 0, 0, 0, 0, 0] && call.state == IDLE
     })
+}
+
+/// No. 6: 13 before 17, 17 before 15, a message and a total as long as the limit, and a state whose
+/// limit is none.
+fn packet_limits(c: &mut Comparison<'_>) -> Compared<()> {
+    c.at = "Low Energy at a limit".to_string();
+    let cases = [
+        (19, 0, 9, 0, 13),
+        (20, 0, 9, 0, 17),
+        (20, 65_536, 6, 0, 17),
+        (20, u64::MAX, 6, 0, 17),
+        (20, 65_535, 9, 0, 15),
+        (20, 1, 6, 2, 15),
+        (20, 2, 6, 2, 0),
+    ];
+    for (room, limit, stream, size, number) in cases {
+        let mut call = Call::new(Operation::PacketWrite)
+            .numbers(&[room, limit, stream, 1, 0, 0, 0])
+            .inputs(&[&counting(size)])
+            .lent(blank(20));
+        c.expect(&mut call, number, |_| true)?;
+    }
+    for (limit, number) in [(0, 17), (1, 0), (65_535, 0), (65_536, 17), (u64::MAX, 17)] {
+        let mut call = Call::new(Operation::ReceiverOpen).numbers(&[limit]);
+        let left = if number == 0 { limit } else { 0 };
+        c.expect(&mut call, number, |call| {
+            call.state[0] == left && call.state[1..].iter().all(|&number| number == 0)
+        })?;
+    }
+    // The first of two bytes on the Alexa stream.
+    let packet = bytes("61 00 00 00 02 01 AA");
+    for (limit, number, open) in [(2, 0, [1, 1, 2, 1, 0, 0]), (1, 6, [0; 6]), (0, 1, [0; 6])] {
+        let mut call = receiver(&lists::idle(limit)).inputs(&[&packet]);
+        call.lent = blank(low_energy::buffer(limit));
+        c.expect(&mut call, number, |call| {
+            call.state[0] == limit && call.state[13..] == open
+        })?;
+    }
+    Ok(())
 }
 
 fn messages(c: &mut Comparison<'_>) -> Compared<()> {
@@ -292,8 +373,6 @@ fn outbox(c: &mut Comparison<'_>) -> Compared<()> {
     c.expect(&mut call, 41, |call| call.answer == [0, 0, 0, 0, 0, 1])?;
     let mut call = Call::new(Operation::OutboxWhole).inputs(&[&file[..5]]);
     c.expect(&mut call, 41, |call| call.answer == [1])?;
-    let mut call = Call::new(Operation::OutboxNew).lent(blank(2));
-    c.expect(&mut call, 0, |call| wrote(call, &[1]))?;
     let mut lent = blank(8);
     lent[0] = 1;
     let mut call = Call::new(Operation::OutboxAppend)
@@ -302,7 +381,44 @@ fn outbox(c: &mut Comparison<'_>) -> Compared<()> {
         .lent(lent);
     c.expect(&mut call, 0, |call| {
         call.answer == [6, 0] && call.lent.starts_with(&file) && call.lent[6..] == [0xCC, 0xCC]
-    })
+    })?;
+
+    c.at = "version 02".to_string();
+    let mut call = Call::new(Operation::OutboxNew).lent(blank(2));
+    c.expect(&mut call, 0, |call| wrote(call, &[2]))?;
+    let file = bytes("02 00 00 00 03 06 41 42");
+    let mut call = Call::new(Operation::OutboxRecord)
+        .numbers(&[1])
+        .inputs(&[&file]);
+    c.expect(&mut call, 0, |call| call.answer == [1, 6, 6, 2, 8, 0])?;
+    let mut lent = blank(9);
+    lent[0] = 2;
+    let mut call = Call::new(Operation::OutboxAppend)
+        .numbers(&[1, 6])
+        .inputs(&[b"AB"])
+        .lent(lent);
+    c.expect(&mut call, 0, |call| {
+        call.answer == [8, 0] && call.lent.starts_with(&file) && call.lent[8..] == [0xCC]
+    })?;
+    for (file, number, place) in [
+        ("02 00 00 00", 41, 1),
+        ("02 00 01 00 01", 42, 0),
+        ("02 00 01 00 00", 41, 1),
+        ("03", 40, 0),
+        ("", 40, 0),
+    ] {
+        let mut call = Call::new(Operation::OutboxWhole).inputs(&[&bytes(file)]);
+        c.expect(&mut call, number, |call| call.answer == [place])?;
+    }
+    for (first, number) in [(3, 40), (2, 15), (1, 15)] {
+        let mut lent = blank(9);
+        lent[0] = first;
+        let mut call = Call::new(Operation::OutboxAppend)
+            .numbers(&[1, 9])
+            .lent(lent);
+        c.expect(&mut call, number, |call| call.answer == [0, 0])?;
+    }
+    Ok(())
 }
 
 /// "Slips we have seen".
@@ -321,7 +437,7 @@ fn slips(c: &mut Comparison<'_>) -> Compared<()> {
     c.at = "slip: leaving the checksum unescaped".to_string();
     // 2 + EE is F0, which stands escaped in the checksum.
     let mut call = Call::new(Operation::FrameWrite)
-        .numbers(&[1])
+        .numbers(&[1, LIMIT])
         .inputs(&[&[0xEE]])
         .lent(blank(20));
     let right = bytes("F0 02 00 01 EE 00 F2 02 F1");
@@ -337,12 +453,14 @@ fn slips(c: &mut Comparison<'_>) -> Compared<()> {
     c.expect(&mut call, 0, |call| {
         call.answer == [1, 6, 5, 0, 200, 0, 0] && call.lent[8_192..8_392] == piece
     })?;
-    let open = [0, 0, 0, 0, 0, 0, 0, 0, 0, 0, 0, 0, 1, 5, 300, 7, 3, 0];
+    let open = [
+        LIMIT, 0, 0, 0, 0, 0, 0, 0, 0, 0, 0, 0, 0, 1, 5, 300, 7, 3, 0,
+    ];
     let packet = [bytes("65 45 00 C8"), piece.clone()].concat();
     let mut call = receiver(&open).inputs(&[&packet]);
     c.expect(&mut call, 0, |call| {
         call.answer == [0, 6, 5, 0, 0, 0, 0]
-            && call.state[12..] == [1, 5, 300, 207, 4, 0]
+            && call.state[13..] == [1, 5, 300, 207, 4, 0]
             && call.lent[8_199..8_399] == piece
     })?;
 
@@ -350,7 +468,7 @@ fn slips(c: &mut Comparison<'_>) -> Compared<()> {
     let packet = [bytes("61 02 00 00 23 0E"), counting(14)].concat();
     let mut call = receiver(&IDLE).inputs(&[&packet]);
     c.expect(&mut call, 0, |call| {
-        call.answer == [0, 6, 1, 0, 0, 0, 0] && call.state[12..] == [1, 1, 35, 14, 0, 1]
+        call.answer == [0, 6, 1, 0, 0, 0, 0] && call.state[13..] == [1, 1, 35, 14, 0, 1]
     })
 }
 
@@ -359,7 +477,7 @@ fn requests(c: &mut Comparison<'_>) -> Compared<()> {
     c.at = "No. 2: the flag on the first packet only".to_string();
     let mut call = receiver(&IDLE).inputs(&[&bytes("61 02 00 00 02 01 AA")]);
     c.expect(&mut call, 0, |call| {
-        call.answer == [0, 6, 1, 0, 0, 0, 0] && call.state[12..] == [1, 1, 2, 1, 0, 1]
+        call.answer == [0, 6, 1, 0, 0, 0, 0] && call.state[13..] == [1, 1, 2, 1, 0, 1]
     })?;
     call.inputs[0] = bytes("61 18 01 BB");
     c.expect(&mut call, 0, |call| {
@@ -371,9 +489,9 @@ fn requests(c: &mut Comparison<'_>) -> Compared<()> {
         for (open, wanted, returned) in [(0, 1, 1), (0, 2, 1), (1, 0, 2), (1, 1, 2), (1, 2, 1)] {
             let mut state = IDLE;
             if open == 1 {
-                state[6 * slot..][..5].copy_from_slice(&[1, 3, 9, 2, 7]);
+                state[1 + 6 * slot..][..5].copy_from_slice(&[1, 3, 9, 2, 7]);
             }
-            state[6 * slot + 5] = wanted;
+            state[6 * slot + 6] = wanted;
             // One byte: 2, unless the state is unlawful.
             let mut call = receiver(&state).inputs(&[&[0]]);
             c.expect(&mut call, returned, |call| call.state == state)?;

@@ -39,8 +39,9 @@ add-end : tie.Need-add-end Inv-loop μ-loop
 add-end c =
     let f = c .before .before .before in
     let k = f .before .before .before .before .before .loop in
-    let w = used-fits (k .now .state) (k .buffer) (f .before .before .before .before .before .before .before .before .args .bytes .now) (k .at) (k .inv .0) (f .feed .ensures) in
-    omega (arith, w)
+    let s = f .before .before .before .before .before .before .before .before in
+    let w = used-fits (k .now .state .limit) (k .now .state .progress) (k .buffer) (s .args .bytes .now) (k .at) (k .inv .0) (f .feed .ensures .0) in
+    omega (arith, w, s .good .1 .1 .0 .1)
 
 sub-list-call : tie.Need-sub-list-call Inv-loop μ-loop
 sub-list-call c = search needs
@@ -52,7 +53,7 @@ part-list-call-end : tie.Need-part-list-call-end Inv-loop μ-loop
 part-list-call-end c =
     let f = c .before .before .before in
     let k = f .before .before .before .before .before .loop in
-    let w = used-fits (k .now .state) (k .buffer) (f .before .before .before .before .before .before .before .before .args .bytes .now) (k .at) (k .inv .0) (f .feed .ensures) in
+    let w = used-fits (k .now .state .limit) (k .now .state .progress) (k .buffer) (f .before .before .before .before .before .before .before .before .args .bytes .now) (k .at) (k .inv .0) (f .feed .ensures .0) in
     omega (arith, w)
 
 list-call-requires : tie.Need-list-call-requires Inv-loop μ-loop
@@ -62,14 +63,14 @@ loop-less : tie.Need-loop-less Inv-loop μ-loop
 loop-less c =
     let f = c .before .before .before .before .before in
     let k = f .before .before .before .before .before .loop in
-    let w = used-fits (k .now .state) (k .buffer) (f .before .before .before .before .before .before .before .before .args .bytes .now) (k .at) (k .inv .0) (f .feed .ensures) in
+    let w = used-fits (k .now .state .limit) (k .now .state .progress) (k .buffer) (f .before .before .before .before .before .before .before .before .args .bytes .now) (k .at) (k .inv .0) (f .feed .ensures .0) in
     omega (arith, w)
 
 loop-again : tie.Need-loop-again Inv-loop μ-loop
 loop-again c =
     let f = c .before .before .before .before .before in
     let k = f .before .before .before .before .before .loop in
-    let w = used-fits (k .now .state) (k .buffer) (f .before .before .before .before .before .before .before .before .args .bytes .now) (k .at) (k .inv .0) (f .feed .ensures) in
+    let w = used-fits (k .now .state .limit) (k .now .state .progress) (k .buffer) (f .before .before .before .before .before .before .before .before .args .bytes .now) (k .at) (k .inv .0) (f .feed .ensures .0) in
     (omega (arith, w), f .feed .kept .1 .0 ∙ k .inv .1)
 
 same-length-2 : tie.Need-same-length-2 Inv-loop μ-loop

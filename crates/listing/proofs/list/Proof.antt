@@ -1,10 +1,10 @@
 use Prim.Native.Nat.{_≤_}
 use mathlib.Core.Path.{_≡_, sym}
 use native.Mathlib.Omega.{arith}
-use lib.ListN.{length}
+use lib.ListN.{length, take}
 use lib.Seq.{length-take-le}
 use borrow.Author.Needs.{needs}
-use Rattle.outbox.specs.Format.{versionOne}
+use Rattle.outbox.specs.Format.{formatOf}
 use Rattle.listing.proofs.Parts.{told-within, carried-within}
 use Rattle.listing.proofs.list.Statement.{statement}
 use Rattle.listing.proofs.list.Tie as tie
@@ -43,7 +43,7 @@ returns c = search needs
 within : (c : tie.Else1 Inv-loop μ-loop) → (1 ≤ c .before .list-part .result .place) × (c .before .list-part .result .place ≤ c .before .before .before .before .loop .held)
 within c =
     let l = c .before .before .before .before in
-    told-within (versionOne 4096) _ (l .loop .buffer) (l .loop .held) (l .loop .inv .0) (c .before .list-part .ensures) (c .if1 .left)
+    told-within (formatOf (take (l .loop .held) (l .loop .buffer))) _ (l .loop .buffer) (l .loop .held) (l .loop .inv .0) (c .before .list-part .ensures) (c .if1 .left)
 
 sub-wrapping-add-u64 : tie.Need-sub-wrapping-add-u64 Inv-loop μ-loop
 sub-wrapping-add-u64 c = within c .0

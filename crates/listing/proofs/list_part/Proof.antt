@@ -4,7 +4,7 @@ use native.Mathlib.Omega.{arith}
 use lib.ListN.{length}
 use borrow.Author.Needs.{needs}
 use denote.Ref.{now}
-use Rattle.outbox.specs.Format.{versionOne}
+use Rattle.outbox.specs.Format.{formatOf}
 use Rattle.outbox.specs.Reader.{told}
 use Rattle.outbox.proofs.Place.{read-within, read-at-end}
 use Rattle.outbox.proofs.Walk.{Going, going-begins, read-decides, read-goes}
@@ -13,13 +13,13 @@ use Rattle.listing.proofs.list_part.Statement.{statement}
 use Rattle.listing.proofs.list_part.Tie as tie
 
 abbrev Inv-loop : tie.InvT-loop
-Inv-loop part gone last place₀ place = Going (versionOne 4096) part place
+Inv-loop part gone last place₀ place = Going (formatOf part) part place
 
 abbrev μ-loop : tie.MeasureT-loop
 μ-loop part gone last place₀ place = length part - place
 
 loop-holds : tie.Need-loop-holds Inv-loop μ-loop
-loop-holds c = going-begins (versionOne 4096) (now (c .before .args .part))
+loop-holds c = going-begins (formatOf (now (c .before .args .part))) (now (c .before .args .part))
 
 read-requires : tie.Need-read-requires Inv-loop μ-loop
 read-requires c κs = search needs
@@ -34,14 +34,14 @@ loop-less : tie.Need-loop-less Inv-loop μ-loop
 loop-less c =
     let m = c .before .before in
     let r = m .before .before in
-    let ends = read-within (versionOne 4096) _ (r .before .loop .place) _ (sym (r .read .ensures) ∙ ap told (m .reading .given .1)) in
+    let ends = read-within _ _ (r .before .loop .place) _ (sym (r .read .ensures) ∙ ap told (m .reading .given .1)) in
     omega (arith, ends .0, ends .1)
 
 loop-again : tie.Need-loop-again Inv-loop μ-loop
 loop-again c =
     let m = c .before .before in
     let r = m .before .before in
-    read-goes (versionOne 4096) _ (r .before .loop .inv) _ (sym (r .read .ensures) ∙ ap told (m .reading .given .1))
+    read-goes _ _ (r .before .loop .inv) _ (sym (r .read .ensures) ∙ ap told (m .reading .given .1))
 
 enum-told : tie.Need-enum-told Inv-loop μ-loop
 enum-told c = search needs
@@ -56,7 +56,7 @@ returns c =
     let r = m .before .before in
     let e = sym (r .read .ensures) ∙ ap told (m .enum-told .given .1) in
     c .list-end .ensures
-    ∙ rw (read-decides (versionOne 4096) _ (r .before .loop .inv) _ e) (ap (listed _) (read-at-end (versionOne 4096) _ (r .before .loop .place) e))
+    ∙ rw (read-decides _ _ (r .before .loop .inv) _ e) (ap (listed _) (read-at-end _ _ (r .before .loop .place) e))
 
 enum-told-2 : tie.Need-enum-told-2 Inv-loop μ-loop
 enum-told-2 c = search needs
@@ -72,7 +72,7 @@ unfolding listedOf
 returns-2 c =
     let m = c .before .before in
     let r = m .before .before in
-    rw (read-decides (versionOne 4096) _ (r .before .loop .inv) _ (sym (r .read .ensures) ∙ ap told (m .enum-told2 .given .1)))
+    rw (read-decides _ _ (r .before .loop .inv) _ (sym (r .read .ensures) ∙ ap told (m .enum-told2 .given .1)))
 
 enum-known-reading-2 : tie.Need-enum-known-reading-2 Inv-loop μ-loop
 enum-known-reading-2 c = search needs
@@ -86,7 +86,7 @@ returns-3 c =
     let m = c .before .before in
     let r = m .before .before in
     c .list-refusal .ensures
-    ∙ rw (read-decides (versionOne 4096) _ (r .before .loop .inv) _ (sym (r .read .ensures) ∙ ap told (m .reading2 .given .1)))
+    ∙ rw (read-decides _ _ (r .before .loop .inv) _ (sym (r .read .ensures) ∙ ap told (m .reading2 .given .1)))
 
 pub list-part-spec : {M : Type 1} → statement M
 list-part-spec =

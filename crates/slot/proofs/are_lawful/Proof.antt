@@ -30,7 +30,7 @@ both-requires-2 c κs = search needs
 returns : tie.Need-returns
 returns c =
     let s = c .before .before .before .before .before .before .before .before in
-    cc (lawful-three 4096 (s .args .t1) (s .good .0 .1 .0 .1))
+    cc (lawful-three (s .args .limit) (s .args .t2) (s .good .1 .0 .1 .0 .1))
 
 pub are-lawful-spec : {M : Type 1} → statement M
 are-lawful-spec =

@@ -45,10 +45,11 @@ returns c =
     let done = told .before .before .before in
     rw (
       ← (done .before .before .extractor-of .ensures),
-      ← (done .feed .ensures),
+      ← (done .feed .ensures .0),
       c .before .before .write-row .ensures,
       kept .put .ensures,
       kept .before .before .before .extractor-row .ensures,
+      done .feed .ensures .1,
       told .feed-reply .ensures,
     )
 

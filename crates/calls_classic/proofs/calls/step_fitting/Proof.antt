@@ -45,10 +45,11 @@ returns c =
     let done = told .before .before .before in
     rw (
       ← (done .before .before .extractor-of .ensures),
-      ← (done .step .ensures),
+      ← (done .step .ensures .0),
       c .before .before .put2 .ensures,
       kept .put .ensures,
       kept .before .before .before .extractor-row .ensures,
+      done .step .ensures .1,
       told .step-reply .ensures,
     )
 

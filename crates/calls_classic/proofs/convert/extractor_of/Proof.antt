@@ -6,23 +6,26 @@ use Rattle.calls_classic.proofs.convert.extractor_of.Statement.{stateme
 use Rattle.calls_classic.proofs.convert.extractor_of.Tie as tie
 
 shared-slice-read-phase-of : tie.Need-shared-slice-read-phase-of
-shared-slice-read-phase-of c = omega (arith, state-long (c .before .before .args .row .now) (c .before .before .pre))
+shared-slice-read-phase-of c = let s = c .before .before in omega (arith, state-long (s .args .row .now) (s .pre))
 
 phase-of-requires : tie.Need-phase-of-requires
 phase-of-requires c κs = search needs
 
-shared-slice-read-t4 : tie.Need-shared-slice-read-t4
-shared-slice-read-t4 c = omega (arith, state-long (c .before .before .before .before .args .row .now) (c .before .before .before .before .pre))
+shared-slice-read-sequence : tie.Need-shared-slice-read-sequence
+shared-slice-read-sequence c = let s = c .before .before .before .before in omega (arith, state-long (s .args .row .now) (s .pre))
 
-cast-t6 : tie.Need-cast-t6
-cast-t6 c = record { fits = sequence-small (c .before .before .before .before .args .row .now) (c .before .before .before .before .pre) }
+cast-sequence : tie.Need-cast-sequence
+cast-sequence c = let s = c .before .before .before .before in record { fits = sequence-small (s .args .row .now) (s .pre) }
 
-shared-slice-read-t8 : tie.Need-shared-slice-read-t8
-shared-slice-read-t8 c = omega (arith, state-long (c .before .before .before .before .before .args .row .now) (c .before .before .before .before .before .pre))
+shared-slice-read-held : tie.Need-shared-slice-read-held
+shared-slice-read-held c = let s = c .before .before .before .before .before in omega (arith, state-long (s .args .row .now) (s .pre))
+
+shared-slice-read-limit : tie.Need-shared-slice-read-limit
+shared-slice-read-limit c = let s = c .before .before .before .before .before .before in omega (arith, state-long (s .args .row .now) (s .pre))
 
 returns : tie.Need-returns
 unfolding extractorOf
-returns c = rw (c .before .before .phase-of .ensures)
+returns c = rw (c .before .before .before .phase-of .ensures)
 
 pub extractor-of-spec : {M : Type 1} → statement M
 extractor-of-spec =
@@ -30,7 +33,8 @@ extractor-of-spec =
     (tie.spec
     shared-slice-read-phase-of
     phase-of-requires
-    shared-slice-read-t4
-    cast-t6
-    shared-slice-read-t8
+    shared-slice-read-sequence
+    cast-sequence
+    shared-slice-read-held
+    shared-slice-read-limit
     returns)

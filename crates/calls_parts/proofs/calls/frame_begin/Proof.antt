@@ -35,6 +35,15 @@ number-requires c κs = search needs
 wide64-requires : tie.Need-wide64-requires
 wide64-requires c κs = search needs
 
+enum-told-2 : tie.Need-enum-told-2
+enum-told-2 c = search needs
+
+number-requires-2 : tie.Need-number-requires-2
+number-requires-2 c κs = search needs
+
+wide64-requires-2 : tie.Need-wide64-requires-2
+wide64-requires-2 c κs = search needs
+
 same-length : tie.Need-same-length
 same-length c = search needs
 
@@ -65,6 +74,19 @@ returns-3 c =
       c .before .before .enum-told .given .1,
     )
 
+returns-4 : tie.Need-returns-4
+unfolding frameBeginOf
+returns-4 c =
+    let done = c .before .before .before .before in
+    rw (
+      eq-eqb _ _ (done .before .before .if1 .left),
+      ← (done .before .byte-or .ensures),
+      ← (done .begin .ensures),
+      c .wide642 .ensures .0,
+      c .before .number2 .ensures,
+      c .before .before .enum-told2 .given .1,
+    )
+
 pub frame-begin-spec : {M : Type 1} → statement M
 frame-begin-spec =
     tie.close
@@ -79,6 +101,10 @@ frame-begin-spec =
     enum-told
     number-requires
     wide64-requires
+    enum-told-2
+    number-requires-2
+    wide64-requires-2
     same-length
     returns-2
-    returns-3)
+    returns-3
+    returns-4)

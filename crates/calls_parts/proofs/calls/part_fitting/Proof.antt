@@ -44,10 +44,11 @@ returns c =
     let done = told .before .before .before in
     rw (
       ← (done .before .before .state-of .ensures),
-      ← (done .write .ensures),
+      ← (done .write .ensures .0),
       c .before .before .put .ensures,
       kept .keep .ensures,
       row .state-row .ensures,
+      done .write .ensures .1,
       told .part-reply .ensures,
     )
 

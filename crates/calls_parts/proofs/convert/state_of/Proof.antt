@@ -6,38 +6,41 @@ use Rattle.calls_parts.proofs.convert.state_of.Statement.{statement}
 use Rattle.calls_parts.proofs.convert.state_of.Tie as tie
 
 shared-slice-read-stage-of : tie.Need-shared-slice-read-stage-of
-shared-slice-read-stage-of c = omega (arith, state-long (c .before .before .args .row .now) (c .before .before .pre))
+shared-slice-read-stage-of c = let s = c .before .before in omega (arith, state-long (s .args .row .now) (s .pre))
 
 stage-of-requires : tie.Need-stage-of-requires
 stage-of-requires c κs = search needs
 
 shared-slice-read-pending-of : tie.Need-shared-slice-read-pending-of
-shared-slice-read-pending-of c = omega (arith, state-long (c .before .before .before .before .args .row .now) (c .before .before .before .before .pre))
+shared-slice-read-pending-of c = let s = c .before .before .before .before in omega (arith, state-long (s .args .row .now) (s .pre))
 
 pending-of-requires : tie.Need-pending-of-requires
 pending-of-requires c κs = search needs
 
-shared-slice-read-t5 : tie.Need-shared-slice-read-t5
-shared-slice-read-t5 c = omega (arith, state-long (c .before .before .before .before .before .before .args .row .now) (c .before .before .before .before .before .before .pre))
+shared-slice-read-sequence : tie.Need-shared-slice-read-sequence
+shared-slice-read-sequence c = let s = c .before .before .before .before .before .before in omega (arith, state-long (s .args .row .now) (s .pre))
 
-cast-t8 : tie.Need-cast-t8
-cast-t8 c = record { fits = sequence-small (c .before .before .before .before .before .before .args .row .now) (c .before .before .before .before .before .before .pre) }
+cast-sequence : tie.Need-cast-sequence
+cast-sequence c = let s = c .before .before .before .before .before .before in record { fits = sequence-small (s .args .row .now) (s .pre) }
 
-shared-slice-read-t10 : tie.Need-shared-slice-read-t10
-shared-slice-read-t10 c = omega (arith, state-long (c .before .before .before .before .before .before .before .args .row .now) (c .before .before .before .before .before .before .before .pre))
+shared-slice-read-total : tie.Need-shared-slice-read-total
+shared-slice-read-total c = let s = c .before .before .before .before .before .before .before in omega (arith, state-long (s .args .row .now) (s .pre))
 
-shared-slice-read-t13 : tie.Need-shared-slice-read-t13
-shared-slice-read-t13 c = omega (arith, state-long (c .before .before .before .before .before .before .before .before .args .row .now) (c .before .before .before .before .before .before .before .before .pre))
+shared-slice-read-taken : tie.Need-shared-slice-read-taken
+shared-slice-read-taken c = let s = c .before .before .before .before .before .before .before .before in omega (arith, state-long (s .args .row .now) (s .pre))
 
-shared-slice-read-t16 : tie.Need-shared-slice-read-t16
-shared-slice-read-t16 c = omega (arith, state-long (c .before .before .before .before .before .before .before .before .before .args .row .now) (c .before .before .before .before .before .before .before .before .before .pre))
+shared-slice-read-sum : tie.Need-shared-slice-read-sum
+shared-slice-read-sum c = let s = c .before .before .before .before .before .before .before .before .before in omega (arith, state-long (s .args .row .now) (s .pre))
 
-cast-t17 : tie.Need-cast-t17
-cast-t17 c = record { fits = sum-small (c .before .before .before .before .before .before .before .before .before .args .row .now) (c .before .before .before .before .before .before .before .before .before .pre) }
+cast-sum : tie.Need-cast-sum
+cast-sum c = let s = c .before .before .before .before .before .before .before .before .before in record { fits = sum-small (s .args .row .now) (s .pre) }
+
+shared-slice-read-limit : tie.Need-shared-slice-read-limit
+shared-slice-read-limit c = let s = c .before .before .before .before .before .before .before .before .before .before in omega (arith, state-long (s .args .row .now) (s .pre))
 
 returns : tie.Need-returns
 unfolding stateOf
-returns c = rw (c .before .before .before .before .before .before .stage-of .ensures, c .before .before .before .before .pending-of .ensures)
+returns c = rw (c .before .before .before .before .before .before .before .stage-of .ensures, c .before .before .before .before .before .pending-of .ensures)
 
 pub state-of-spec : {M : Type 1} → statement M
 state-of-spec =
@@ -47,10 +50,11 @@ state-of-spec =
     stage-of-requires
     shared-slice-read-pending-of
     pending-of-requires
-    shared-slice-read-t5
-    cast-t8
-    shared-slice-read-t10
-    shared-slice-read-t13
-    shared-slice-read-t16
-    cast-t17
+    shared-slice-read-sequence
+    cast-sequence
+    shared-slice-read-total
+    shared-slice-read-taken
+    shared-slice-read-sum
+    cast-sum
+    shared-slice-read-limit
     returns)

@@ -5,8 +5,8 @@ use Rattle.calls_parts.proofs.convert.state_row.Tie as tie
 wide64-requires : tie.Need-wide64-requires
 wide64-requires c κs = search needs
 
-cast-t7 : tie.Need-cast-t7
-cast-t7 c = search needs
+cast-t9 : tie.Need-cast-t9
+cast-t9 c = search needs
 
 stage-number-requires : tie.Need-stage-number-requires
 stage-number-requires c κs = search needs
@@ -20,4 +20,4 @@ returns c = rw (c .before .before .before .wide64 .ensures .0, c .before .stage-
 pub state-row-spec : {M : Type 1} → statement M
 state-row-spec =
     tie.close
-    (tie.spec wide64-requires cast-t7 stage-number-requires pending-number-requires returns)
+    (tie.spec wide64-requires cast-t9 stage-number-requires pending-number-requires returns)

@@ -40,12 +40,14 @@ returns c =
     let told = c .before .before .before .before .before .before .before .before .before .before .before .before in
     let done = told .before .before .before in
     rw (
-      ← (done .before .before .receiver-of .ensures),
-      ← (done .accept .ensures),
+      ← (done .before .before .receiver-of .ensures .0),
+      ← (done .before .before .receiver-of .ensures .1),
+      ← (done .accept .ensures .0),
       c .before .before .put .ensures,
       c .before .before .before .before .before .before .before .put-slots .ensures,
       told .answer-number .ensures,
       c .before .before .before .before .before .before .before .before .before .before .before .answer-row .ensures,
+      done .before .before .receiver-of .ensures .0,
     )
 
 pub accept-fitting-spec : {M : Type 1} → statement M

@@ -5,6 +5,9 @@ use Rattle.extractor.proofs.state.lawful_after.Tie as tie
 is-mark-requires : tie.Need-is-mark-requires
 is-mark-requires c κs = search needs
 
+add-both : tie.Need-add-both
+add-both c = search needs
+
 both-requires : tie.Need-both-requires
 both-requires c κs = search needs
 
@@ -12,4 +15,4 @@ returns : tie.Need-returns
 returns c = rw (← (c .before .is-mark .ensures)) (c .both .ensures)
 
 pub lawful-after-spec : {M : Type 1} → statement M
-lawful-after-spec = tie.close (tie.spec is-mark-requires both-requires returns)
+lawful-after-spec = tie.close (tie.spec is-mark-requires add-both both-requires returns)

@@ -25,11 +25,11 @@ add-at c = search needs
 header-at-requires : tie.Need-header-at-requires
 header-at-requires c κs = search needs
 
-add-t15 : tie.Need-add-t15
-add-t15 c = search needs
+add-sequence : tie.Need-add-sequence
+add-sequence c = search needs
 
-shared-slice-read-t17 : tie.Need-shared-slice-read-t17
-shared-slice-read-t17 c =
+shared-slice-read-sequence : tie.Need-shared-slice-read-sequence
+shared-slice-read-sequence c =
     let q = c .before .before .before in
     let s = q .before .before .before .before in
     let on = onward-outside (s .args .bytes .now) (s .args .i) (length (s .args .bytes .now)) (q .before-start .result) (s .pre .0) (s .pre .1 .1) (search needs) (search needs) (q .before-start .ensures) in
@@ -75,8 +75,8 @@ find-frame-spec =
     before-start-requires
     add-at
     header-at-requires
-    add-t15
-    shared-slice-read-t17
+    add-sequence
+    shared-slice-read-sequence
     add-take-body
     take-body-requires
     same-length

@@ -9,10 +9,10 @@ use Rattle.feed.proofs.fast_path.take_body.Statement.{statement}
 use Rattle.feed.proofs.fast_path.take_body.Tie as tie
 
 abbrev Inv-loop : tie.InvT-loop
-Inv-loop buffer₀ bytes i here₀ at₀ buffer here at = (length buffer ≡ length buffer₀) × (Onward 4096 bytes here₀ buffer₀ i here buffer at) × (here .phase ≡ Body)
+Inv-loop limit buffer₀ bytes i here₀ at₀ buffer here at = (length buffer ≡ length buffer₀) × (Onward limit bytes here₀ buffer₀ i here buffer at) × (here .phase ≡ Body)
 
 abbrev μ-loop : tie.MeasureT-loop
-μ-loop buffer₀ bytes i here₀ at₀ buffer here at = length bytes - at
+μ-loop limit buffer₀ bytes i here₀ at₀ buffer here at = length bytes - at
 
 loop-holds : tie.Need-loop-holds Inv-loop μ-loop
 loop-holds c =
@@ -33,7 +33,7 @@ same-length c =
     let g = c .before .before .before .before .before .before .before .before .before in
     let h = c .before .before .before .before in
     let k = g .before .before .loop .inv in
-    h .take-pair .kept .1 .0 ∙ g .take-run .kept .1 .0 ∙ k .0
+    h .take-pair .kept .1 .1 .0 ∙ g .take-run .kept .1 .1 .0 ∙ k .0
 
 returns : tie.Need-returns Inv-loop μ-loop
 returns c =
@@ -55,7 +55,7 @@ loop-again c =
     let g = c .before .before .before .before .before .before .before .before .before in
     let h = c .before .before .before .before in
     let k = g .before .before .loop .inv in
-    (h .take-pair .kept .1 .0 ∙ g .take-run .kept .1 .0 ∙ k .0, onward-then (onward-then (k .1) (g .take-run .ensures .0)) (h .take-pair .ensures .0), h .take-pair .ensures .1)
+    (h .take-pair .kept .1 .1 .0 ∙ g .take-run .kept .1 .1 .0 ∙ k .0, onward-then (onward-then (k .1) (g .take-run .ensures .0)) (h .take-pair .ensures .0), h .take-pair .ensures .1)
 
 pub take-body-spec : {M : Type 1} → statement M
 take-body-spec =

@@ -10,14 +10,17 @@ mark-at-requires c κs = search needs
 returns : tie.Need-returns
 returns c = search needs
 
+add-room : tie.Need-add-room
+add-room c = search needs
+
 slice-write-buffer : tie.Need-slice-write-buffer
 slice-write-buffer c = search needs
 
-add-t11 : tie.Need-add-t11
-add-t11 c = search needs
+add-count : tie.Need-add-count
+add-count c = search needs
 
-add-t13 : tie.Need-add-t13
-add-t13 c = search needs
+add-after : tie.Need-add-after
+add-after c = search needs
 
 same-length : tie.Need-same-length
 same-length c = search needs
@@ -37,9 +40,10 @@ take-pair-spec =
     (tie.spec
     mark-at-requires
     returns
+    add-room
     slice-write-buffer
-    add-t11
-    add-t13
+    add-count
+    add-after
     same-length
     returns-2
     returns-3)

@@ -6,6 +6,9 @@ use borrow.Author.Needs.{needs}
 use Rattle.feed.proofs.fast_path.take_plain.Statement.{statement}
 use Rattle.feed.proofs.fast_path.take_plain.Tie as tie
 
+add-room : tie.Need-add-room
+add-room c = search needs
+
 sub-smaller : tie.Need-sub-smaller
 sub-smaller c = search needs
 
@@ -30,11 +33,11 @@ part-copy-clear-end c = search needs
 copy-clear-requires : tie.Need-copy-clear-requires
 copy-clear-requires c κs = search needs
 
-add-t11 : tie.Need-add-t11
-add-t11 c = search needs
+add-count : tie.Need-add-count
+add-count c = search needs
 
-add-t8 : tie.Need-add-t8
-add-t8 c = search needs
+add-after : tie.Need-add-after
+add-after c = search needs
 
 same-length : tie.Need-same-length
 same-length c = search needs
@@ -52,6 +55,7 @@ pub take-plain-spec : {M : Type 1} → statement M
 take-plain-spec =
     tie.close
     (tie.spec
+    add-room
     sub-smaller
     sub-smaller-2
     smaller-requires
@@ -60,7 +64,7 @@ take-plain-spec =
     part-copy-clear-start
     part-copy-clear-end
     copy-clear-requires
-    add-t11
-    add-t8
+    add-count
+    add-after
     same-length
     returns)

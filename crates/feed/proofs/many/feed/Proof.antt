@@ -1,4 +1,4 @@
-use mathlib.Core.Path.{sym, _∙_}
+use mathlib.Core.Path.{refl, sym, _∙_}
 use Rattle.extractor.proofs.States.{ready-fits}
 use borrow.Author.Needs.{needs}
 use Rattle.feed.proofs.many.feed.Statement.{statement}
@@ -19,7 +19,7 @@ returns c =
     rw (sym (a .before .before .before .is-ready .ensures) ∙ a .before .before .if1 .taken) (a .run .ensures)
 
 returns-2 : tie.Need-returns-2
-returns-2 c = rw (sym (c .before .is-ready .ensures) ∙ c .if1 .left)
+returns-2 c = (rw (sym (c .before .is-ready .ensures) ∙ c .if1 .left), refl)
 
 pub feed-spec : {M : Type 1} → statement M
 feed-spec = tie.close (tie.spec is-ready-requires run-requires same-length returns returns-2)

@@ -9,10 +9,10 @@ use Rattle.feed.proofs.many.run.Statement.{statement}
 use Rattle.feed.proofs.many.run.Tie as tie
 
 abbrev Inv-loop : tie.InvT-loop
-Inv-loop buffer₀ bytes state₀ i₀ buffer state i = Running 4096 bytes buffer₀ state₀ buffer state i
+Inv-loop limit buffer₀ bytes state₀ i₀ buffer state i = Running limit bytes buffer₀ state₀ buffer state i
 
 abbrev μ-loop : tie.MeasureT-loop
-μ-loop buffer₀ bytes state₀ i₀ buffer state i = length bytes - i
+μ-loop limit buffer₀ bytes state₀ i₀ buffer state i = length bytes - i
 
 loop-holds : tie.Need-loop-holds Inv-loop μ-loop
 loop-holds c = record { within = search needs; fits = c .before .before .pre; same = refl; rest = refl }
@@ -26,14 +26,14 @@ rebuilt-requires c κs = search needs
 same-length : tie.Need-same-length Inv-loop μ-loop
 same-length c =
     let g = c .before .before .before .before .before in
-    let on = running-on (g .before .before .loop .inv) (g .pass .ensures) (g .pass .kept .1 .0) (c .before .rebuilt .ensures) in
+    let on = running-on (g .before .before .loop .inv) (g .pass .ensures) (g .pass .kept .1 .1 .0) (c .before .rebuilt .ensures) in
     on .same
 
 returns : tie.Need-returns Inv-loop μ-loop
 returns c =
     let g = c .before .before .before .before .before in
-    let on = running-on (g .before .before .loop .inv) (g .pass .ensures) (g .pass .kept .1 .0) (c .before .rebuilt .ensures) in
-    running-end on (search needs)
+    let on = running-on (g .before .before .loop .inv) (g .pass .ensures) (g .pass .kept .1 .1 .0) (c .before .rebuilt .ensures) in
+    (running-end on (search needs), refl)
 
 shared-slice-read-fast-step : tie.Need-shared-slice-read-fast-step Inv-loop μ-loop
 shared-slice-read-fast-step c = search needs
@@ -41,13 +41,13 @@ shared-slice-read-fast-step c = search needs
 fast-step-requires : tie.Need-fast-step-requires Inv-loop μ-loop
 fast-step-requires c κs =
     let g = c .before .before .before .before .before .before .before in
-    let on = running-on (g .before .before .loop .inv) (g .pass .ensures) (g .pass .kept .1 .0) (c .before .before .before .rebuilt .ensures) in
+    let on = running-on (g .before .before .loop .inv) (g .pass .ensures) (g .pass .kept .1 .1 .0) (c .before .before .before .rebuilt .ensures) in
     on .fits
 
 add-i : tie.Need-add-i Inv-loop μ-loop
 add-i c =
     let g = c .before .before .before .before .before .before .before .before .before .before in
-    let on = running-on (g .before .before .loop .inv) (g .pass .ensures) (g .pass .kept .1 .0) (c .before .before .before .before .before .before .rebuilt .ensures) in
+    let on = running-on (g .before .before .loop .inv) (g .pass .ensures) (g .pass .kept .1 .1 .0) (c .before .before .before .before .before .before .rebuilt .ensures) in
     omega (arith, on .within)
 
 rebuilt-requires-2 : tie.Need-rebuilt-requires-2 Inv-loop μ-loop
@@ -62,15 +62,17 @@ feed-outcome-requires c κs = search needs
 same-length-2 : tie.Need-same-length-2 Inv-loop μ-loop
 same-length-2 c =
     let g = c .before .before .before .before .before .before .before .before .before .before .before .before .before .before .before in
-    let on = running-on (g .before .before .loop .inv) (g .pass .ensures) (g .pass .kept .1 .0) (c .before .before .before .before .before .before .before .before .before .before .before .rebuilt .ensures) in
-    c .before .before .before .before .before .before .before .fast-step .kept .1 .0 ∙ on .same
+    let on = running-on (g .before .before .loop .inv) (g .pass .ensures) (g .pass .kept .1 .1 .0) (c .before .before .before .before .before .before .before .before .before .before .before .rebuilt .ensures) in
+    c .before .before .before .before .before .before .before .fast-step .kept .1 .1 .0 ∙ on .same
 
 returns-2 : tie.Need-returns-2 Inv-loop μ-loop
 returns-2 c =
     let g = c .before .before .before .before .before .before .before .before .before .before .before .before .before .before .before in
-    let on = running-on (g .before .before .loop .inv) (g .pass .ensures) (g .pass .kept .1 .0) (c .before .before .before .before .before .before .before .before .before .before .before .rebuilt .ensures) in
-    rw (c .feed-outcome .ensures)
-    (running-stop on (c .before .before .before .before .before .before .before .fast-step .ensures) (search needs) (c .before .before .before .rebuilt2 .ensures) (sym (c .before .before .is-decided .ensures) ∙ c .before .if2 .taken))
+    let on = running-on (g .before .before .loop .inv) (g .pass .ensures) (g .pass .kept .1 .1 .0) (c .before .before .before .before .before .before .before .before .before .before .before .rebuilt .ensures) in (
+      rw (c .feed-outcome .ensures)
+          (running-stop on (c .before .before .before .before .before .before .before .fast-step .ensures) (c .before .before .before .before .before .before .before .before .before .before .if1 .left) (c .before .before .before .rebuilt2 .ensures) (sym (c .before .before .is-decided .ensures) ∙ c .before .if2 .taken)),
+      refl,
+    )
 
 loop-less : tie.Need-loop-less Inv-loop μ-loop
 loop-less c = omega (arith, c .before .before .before .before .before .before .before .before .before .before .before .before .before .before .pass .ensures .from)
@@ -78,8 +80,8 @@ loop-less c = omega (arith, c .before .before .before .before .before .before .b
 loop-again : tie.Need-loop-again Inv-loop μ-loop
 loop-again c =
     let g = c .before .before .before .before .before .before .before .before .before .before .before .before .before .before in
-    let on = running-on (g .before .before .loop .inv) (g .pass .ensures) (g .pass .kept .1 .0) (c .before .before .before .before .before .before .before .before .before .before .rebuilt .ensures) in
-    running-more on (c .before .before .before .before .before .before .fast-step .ensures) (search needs) (c .before .before .rebuilt2 .ensures) (sym (c .before .is-decided .ensures) ∙ c .if2 .left) (c .before .before .before .before .before .before .fast-step .kept .1 .0)
+    let on = running-on (g .before .before .loop .inv) (g .pass .ensures) (g .pass .kept .1 .1 .0) (c .before .before .before .before .before .before .before .before .before .before .rebuilt .ensures) in
+    running-more on (c .before .before .before .before .before .before .fast-step .ensures) (search needs) (c .before .before .rebuilt2 .ensures) (sym (c .before .is-decided .ensures) ∙ c .if2 .left) (c .before .before .before .before .before .before .fast-step .kept .1 .1 .0)
 
 pub run-spec : {M : Type 1} → statement M
 run-spec =

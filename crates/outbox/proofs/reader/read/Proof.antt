@@ -1,138 +1,43 @@
-use Prim.Native.Nat.{_+_, _≤_}
-use mathlib.Core.Path.{_≡_, sym, ap, _∙_}
-use native.Mathlib.Omega.{arith}
-use lib.ListN.{length, drop}
+use mathlib.Core.Path.{sym, ap, _∙_}
 use borrow.Author.Needs.{needs}
-use borrow.Author.Tests.{eq-eqb}
 use denote.Ref.{now}
-use Rattle.outbox.specs.Format.{versionOne}
-use Rattle.outbox.specs.Reader.{recordAt, readOf, toldJudged}
-use Rattle.outbox.proofs.Place.{place-within, rest-lent, read-inside, found-within}
+use Rattle.outbox.specs.Reader.{readOf}
+use Rattle.outbox.proofs.Versions.{format-one, format-two, known-one, known-two}
 use Rattle.outbox.proofs.reader.read.Statement.{statement}
 use Rattle.outbox.proofs.reader.read.Tie as tie
 
-other-version-requires : tie.Need-other-version-requires
-other-version-requires c κs = search needs
+is-one-requires : tie.Need-is-one-requires
+is-one-requires c κs = search needs
+
+one-requires : tie.Need-one-requires
+one-requires c κs = search needs
+
+read-by-requires : tie.Need-read-by-requires
+read-by-requires c κs = known-one (c .one .result) (c .one .ensures)
+
+two-requires : tie.Need-two-requires
+two-requires c κs = search needs
+
+read-by-requires-2 : tie.Need-read-by-requires-2
+read-by-requires-2 c κs = known-two (c .two .result) (c .two .ensures)
 
 returns : tie.Need-returns
-unfolding readOf
-returns c = rw (sym (c .before .other-version .ensures) ∙ c .if1 .taken)
-
-bad-place-requires : tie.Need-bad-place-requires
-bad-place-requires c κs = search needs
+returns c =
+    let t = c .before .before in
+    let s = t .before .before .before in
+    let file = now (s .args .file) in
+    c .read-by .ensures
+    ∙ ap (λ fmt. readOf fmt file (s .args .place)) (c .before .one .ensures ∙ sym (format-one file (sym (t .before .is-one .ensures) ∙ t .if1 .taken)))
 
 returns-2 : tie.Need-returns-2
-unfolding readOf
 returns-2 c =
-    rw (
-      sym (c .before .before .before .other-version .ensures) ∙ c .before .before .if1 .left,
-      sym (c .before .bad-place .ensures) ∙ c .if2 .taken,
-    )
-
-returns-3 : tie.Need-returns-3
-unfolding readOf
-returns-3 c =
-    let d = c .before in
-    rw (
-      sym (d .before .before .before .other-version .ensures) ∙ d .before .before .if1 .left,
-      sym (d .before .bad-place .ensures) ∙ d .if2 .left,
-      eq-eqb _ _ (c .if3 .taken),
-    )
-
-sub-judge : tie.Need-sub-judge
-sub-judge c = let d = c .before in place-within (now (c .before .before .before .before .before .before .args .file)) _ (sym (d .before .bad-place .ensures) ∙ d .if2 .left) .1
-
-part-judge-start : tie.Need-part-judge-start
-part-judge-start c = sub-judge c
-
-part-judge-end : tie.Need-part-judge-end
-part-judge-end c = search needs
-
-judge-requires : tie.Need-judge-requires
-judge-requires c κs = search needs
-
-enum-known-stream : tie.Need-enum-known-stream
-enum-known-stream c = search needs
-
--- what was judged is what is read
-judged : (c : tie.After-judge)
-    → toldJudged (versionOne 4096) (c .before .before .before .before .before .before .before .before .args .place) (c .judge .result)
-    ≡ recordAt
-    (versionOne 4096)
-    (c .before .before .before .before .before .before .before .before .args .place)
-    (drop
-    (c .before .before .before .before .before .before .before .before .args .place)
-    (now (c .before .before .before .before .before .before .before .before .args .file)))
-judged c =
-    let s = c .before .before .before .before .before .before .before .before in
-    c .judge .ensures (s .args .place) ∙ ap (recordAt (versionOne 4096) (s .args .place)) (rest-lent (now (s .args .file)) (s .args .place))
-
-read-there : (c : tie.Else3)
-    → readOf (versionOne 4096) (now (c .before .before .before .before .before .before .args .file)) (c .before .before .before .before .before .before .args .place)
-    ≡ recordAt
-    (versionOne 4096)
-    (c .before .before .before .before .before .before .args .place)
-    (drop (c .before .before .before .before .before .before .args .place) (now (c .before .before .before .before .before .before .args .file)))
-read-there c =
-    let d = c .before in
-    read-inside
-    (versionOne 4096)
-    (now (d .before .before .before .before .before .args .file))
-    (d .before .before .before .before .before .args .place)
-    (sym (d .before .before .before .other-version .ensures) ∙ d .before .before .if1 .left)
-    (sym (d .before .bad-place .ensures) ∙ d .if2 .left)
-    (c .if3 .left)
-
--- a record ends within the file
-within : (c : tie.After-known-told)
-    → c .before .before .before .before .before .before .before .before .before .before .before .args .place + 3 + c .before .stream .given .0 .1 .0
-    ≤ length (now (c .before .before .before .before .before .before .before .before .before .before .before .args .file))
-within c =
-    let j = c .before .before .before in
-    let e = j .before .before in
-    let s = e .before .before .before .before .before .before in
-    let told = toldJudged (versionOne 4096) (s .args .place) in
-    found-within (versionOne 4096) (now (s .args .file)) (s .args .place) _ (sub-judge e) (sym (judged j) ∙ ap told (c .before .stream .given .1)) .1
-
-add-start : tie.Need-add-start
-add-start c = omega (arith, within c)
-
-add-next : tie.Need-add-next
-add-next c = omega (arith, within c)
-
-enum-known-fault : tie.Need-enum-known-fault
-enum-known-fault c = search needs
-
-returns-4 : tie.Need-returns-4
-returns-4 c =
-    let j = c .before .before .before in
-    let e = j .before .before in
-    let told = toldJudged (versionOne 4096) (e .before .before .before .before .before .before .args .place) in
-    sym (ap told (c .before .stream .given .1)) ∙ judged j ∙ sym (read-there e)
-
-returns-5 : tie.Need-returns-5
-returns-5 c =
-    let j = c .before .before .before in
-    let e = j .before .before in
-    let told = toldJudged (versionOne 4096) (e .before .before .before .before .before .before .args .place) in
-    sym (ap told (c .before .fault .given .1)) ∙ judged j ∙ sym (read-there e)
+    let t = c .before .before in
+    let s = t .before .before .before in
+    let file = now (s .args .file) in
+    c .read-by2 .ensures
+    ∙ ap (λ fmt. readOf fmt file (s .args .place)) (c .before .two .ensures ∙ sym (format-two file (sym (t .before .is-one .ensures) ∙ t .if1 .left)))
 
 pub read-spec : {M : Type 1} → statement M
 read-spec =
     tie.close
-    (tie.spec
-    other-version-requires
-    returns
-    bad-place-requires
-    returns-2
-    returns-3
-    sub-judge
-    part-judge-start
-    part-judge-end
-    judge-requires
-    enum-known-stream
-    add-start
-    add-next
-    enum-known-fault
-    returns-4
-    returns-5)
+    (tie.spec is-one-requires one-requires read-by-requires two-requires read-by-requires-2 returns returns-2)

@@ -1,13 +1,11 @@
-use mathlib.Core.Path.{_≡_, sym, _∙_}
-use native.Mathlib.Omega.{arith}
+use mathlib.Core.Path.{sym, ap, _∙_}
+use lib.ListN.{take}
 use lib.Seq.{length-take-le}
 use borrow.Author.Needs.{needs}
-use borrow.Author.Tests.{lt-ltb, le-ltb}
+use borrow.Author.Tests.{lt-ltb}
 use denote.Ref.{now}
-use Rattle.outbox.specs.Format.{versionOne, recordBytes}
-use Rattle.outbox.specs.Reader.{toldWalk}
-use Rattle.outbox.specs.Writer.{storedAt, ifWhole, appendOf}
-use Rattle.outbox.proofs.Stored.{length-record, within-limit, append-no-room, append-judged}
+use Rattle.outbox.specs.Writer.{appendOf}
+use Rattle.outbox.proofs.Versions.{format-one, format-two, known-one, known-two}
 use Rattle.outbox.proofs.writer.append.Statement.{statement}
 use Rattle.outbox.proofs.writer.append.Tie as tie
 
@@ -15,121 +13,64 @@ returns : tie.Need-returns
 unfolding appendOf
 returns c = rw (lt-ltb _ _ (c .if1 .taken))
 
-bad-record-requires : tie.Need-bad-record-requires
-bad-record-requires c κs = search needs
+slice-reshare-prefix-is-one : tie.Need-slice-reshare-prefix-is-one
+slice-reshare-prefix-is-one c = search needs
 
-returns-2 : tie.Need-returns-2
-unfolding appendOf
-returns-2 c = rw (le-ltb _ _ (c .before .before .if1 .left), sym (c .before .bad-record .ensures) ∙ c .if2 .taken)
+slice-aggregate-is-one : tie.Need-slice-aggregate-is-one
+slice-aggregate-is-one c = sym (length-take-le _ _ (c .before .if1 .left))
 
-add-size : tie.Need-add-size
-add-size c = search needs
+is-one-requires : tie.Need-is-one-requires
+is-one-requires c κs = search needs
 
-sub-if3 : tie.Need-sub-if3
-sub-if3 c = search needs
+one-requires : tie.Need-one-requires
+one-requires c κs = search needs
 
-returns-3 : tie.Need-returns-3
-returns-3 c =
-    let d = c .before in
-    sym
-    (append-no-room
-    (versionOne 4096)
-    _
-    _
-    _
-    _
-    (d .before .before .if1 .left)
-    (sym (d .before .bad-record .ensures) ∙ d .if2 .left)
-    (c .if3 .taken))
+append-in-requires : tie.Need-append-in-requires
+append-in-requires c κs = (known-one (c .one .result) (c .one .ensures), c .before .before .before .before .before .if1 .left)
 
-slice-reshare-prefix-walk : tie.Need-slice-reshare-prefix-walk
-slice-reshare-prefix-walk c = search needs
+two-requires : tie.Need-two-requires
+two-requires c κs = search needs
 
-slice-aggregate-walk : tie.Need-slice-aggregate-walk
-slice-aggregate-walk c = sym (length-take-le _ _ (c .before .before .before .before .if1 .left))
-
-walk-requires : tie.Need-walk-requires
-walk-requires c κs = search needs
-
-enum-told : tie.Need-enum-told
-enum-told c = search needs
-
--- past the three tests the used bytes decide
-decided : (c : tie.After-walk)
-    → appendOf
-    (versionOne 4096)
-    (now (c .before .before .before .before .before .before .before .before .args .buffer))
-    (c .before .before .before .before .before .before .before .before .args .used)
-    (c .before .before .before .before .before .before .before .before .args .stream)
-    (now (c .before .before .before .before .before .before .before .before .args .payload))
-    ≡ ifWhole
-    (toldWalk (c .walk .result))
-    (now (c .before .before .before .before .before .before .before .before .args .buffer))
-    (storedAt
-    (now (c .before .before .before .before .before .before .before .before .args .buffer))
-    (c .before .before .before .before .before .before .before .before .args .used)
-    (recordBytes (versionOne 4096) (c .before .before .before .before .before .before .before .before .args .stream) (now (c .before .before .before .before .before .before .before .before .args .payload))))
-decided c =
-    let e = c .before .before in
-    let d = e .before in
-    rw (c .walk .ensures)
-    (append-judged
-    (versionOne 4096)
-    _
-    _
-    _
-    _
-    (d .before .before .if1 .left)
-    (sym (d .before .bad-record .ensures) ∙ d .if2 .left)
-    (omega arith))
-
-put-record-requires : tie.Need-put-record-requires
-put-record-requires c κs =
-    let d = c .before .before .before .before .before .before in
-    (omega arith, within-limit (versionOne 4096) (d .before .before .before .before .before .args .stream) (now (d .before .before .before .before .before .args .payload)) (sym (d .before .bad-record .ensures) ∙ d .if2 .left))
-
-add-end : tie.Need-add-end
-add-end c = search needs
-
-enum-known-fault : tie.Need-enum-known-fault
-enum-known-fault c = search needs
+append-in-requires-2 : tie.Need-append-in-requires-2
+append-in-requires-2 c κs = (known-two (c .two .result) (c .two .ensures), c .before .before .before .before .before .if1 .left)
 
 same-length : tie.Need-same-length
 same-length c = search needs
 
-returns-4 : tie.Need-returns-4
-returns-4 c =
-    let e = c .before .before .before .before in
-    let w = e .before .before in
-    let s = w .before .before .before .before .before .before .before .before in
-    sym
-    (decided w
-    ∙ rw (e .enum-told .given .1, length-record (versionOne 4096) (s .args .stream) (now (s .args .payload)), sym (c .before .before .put-record .ensures)))
+returns-2 : tie.Need-returns-2
+returns-2 c =
+    let t = c .before .before .before .before .before in
+    let s = t .before .before .before .before .before .before in
+    let file = take (s .args .used) (now (s .args .buffer)) in
+    c .before .before .append-in .ensures
+    ∙ ap (λ fmt. appendOf fmt (now (s .args .buffer)) (s .args .used) (s .args .stream) (now (s .args .payload)))
+    (c .before .before .before .one .ensures ∙ sym (format-one file (sym (t .before .is-one .ensures) ∙ t .if2 .taken)))
 
 same-length-2 : tie.Need-same-length-2
 same-length-2 c = search needs
 
-returns-5 : tie.Need-returns-5
-returns-5 c = sym (decided (c .before .before .before) ∙ rw (c .before .fault .given .1))
+returns-3 : tie.Need-returns-3
+returns-3 c =
+    let t = c .before .before .before .before .before in
+    let s = t .before .before .before .before .before .before in
+    let file = take (s .args .used) (now (s .args .buffer)) in
+    c .before .before .append-in2 .ensures
+    ∙ ap (λ fmt. appendOf fmt (now (s .args .buffer)) (s .args .used) (s .args .stream) (now (s .args .payload)))
+    (c .before .before .before .two .ensures ∙ sym (format-two file (sym (t .before .is-one .ensures) ∙ t .if2 .left)))
 
 pub append-spec : {M : Type 1} → statement M
 append-spec =
     tie.close
     (tie.spec
     returns
-    bad-record-requires
-    returns-2
-    add-size
-    sub-if3
-    returns-3
-    slice-reshare-prefix-walk
-    slice-aggregate-walk
-    walk-requires
-    enum-told
-    put-record-requires
-    add-end
-    enum-known-fault
+    slice-reshare-prefix-is-one
+    slice-aggregate-is-one
+    is-one-requires
+    one-requires
+    append-in-requires
+    two-requires
+    append-in-requires-2
     same-length
-    returns-4
+    returns-2
     same-length-2
-    returns-5)
+    returns-3)

@@ -11,7 +11,7 @@ either-requires c κs = search needs
 
 returns : tie.Need-returns
 unfolding badRecord
-returns c = rw (c .either .ensures, c .before .is-stream .ensures)
+returns c = rw (c .either .ensures, c .before .before .is-stream .ensures)
 
 pub bad-record-spec : {M : Type 1} → statement M
 bad-record-spec = tie.close (tie.spec is-stream-requires either-requires returns)

@@ -1,43 +1,28 @@
-use Rattle.receiver.specs.Receiver.{ready, acceptOf}
-use borrow.Author.Tests.{not-false}
-use denote.Ref.{now}
-use mathlib.Core.Path.{_≡_, _∙_}
+use mathlib.Core.Path.{refl, sym, _∙_}
 use borrow.Author.Needs.{needs}
+use Rattle.receiver.specs.Receiver.{acceptOf}
 use Rattle.receiver.proofs.Receiver.accept.Statement.{statement}
 use Rattle.receiver.proofs.Receiver.accept.Tie as tie
 
-are-lawful-requires : tie.Need-are-lawful-requires
-are-lawful-requires c κs = search needs
-
-both-requires : tie.Need-both-requires
-both-requires c κs = search needs
-
-returns : tie.Need-returns
-unfolding ready acceptOf
-returns c =
-    let a = c .before .before .before .before .before .before .args in
-    let e : ready 4096 (a .self .slots) (now (a .buffer)) ≡ c .before .both .result = cc in
-    rw (e, c .if1 .taken)
+is-ready-requires : tie.Need-is-ready-requires
+is-ready-requires c κs = search needs
 
 process-requires : tie.Need-process-requires
-unfolding ready
-process-requires c κs =
-    let a = c .before .before .before .before .before .before .before .args in
-    let e : ready 4096 (a .self .slots) (now (a .buffer)) ≡ c .before .before .both .result = cc in
-    e ∙ not-false (c .before .before .both .result) (c .before .if1 .left)
+process-requires c κs = sym (c .before .before .is-ready .ensures) ∙ c .before .if1 .taken
 
 same-length : tie.Need-same-length
 same-length c = search needs
 
+returns : tie.Need-returns
+unfolding acceptOf
+returns c =
+    let t = c .before .before .before .before in
+    rw (sym (t .before .is-ready .ensures) ∙ t .if1 .taken) (c .before .before .process .ensures)
+
 returns-2 : tie.Need-returns-2
-unfolding ready acceptOf
-returns-2 c =
-    let s = c .before .before .before .before in
-    let a = s .before .before .before .before .before .before .args in
-    let e : ready 4096 (a .self .slots) (now (a .buffer)) ≡ s .before .both .result = cc in
-    rw (e, s .if1 .left) (c .before .before .process .ensures)
+unfolding acceptOf
+returns-2 c = (rw (sym (c .before .is-ready .ensures) ∙ c .if1 .left), refl)
 
 pub accept-spec : {M : Type 1} → statement M
 accept-spec =
-    tie.close
-    (tie.spec are-lawful-requires both-requires returns process-requires same-length returns-2)
+    tie.close (tie.spec is-ready-requires process-requires same-length returns returns-2)

@@ -1,3 +1,4 @@
+use mathlib.Core.Path.{refl}
 use borrow.Author.Needs.{needs}
 use Rattle.receiver.proofs.Receiver.apply.Statement.{statement}
 use Rattle.receiver.proofs.Receiver.apply.Tie as tie
@@ -14,7 +15,7 @@ store-requires c κs =
     (s .before .before .before .before .pre .0, rw (s .act2 .given .1) at (s .before .before .before .before .pre .1))
 
 returns : tie.Need-returns
-returns c = rw (c .before .act .given .1)
+returns c = (rw (c .before .act .given .1), refl)
 
 same-length : tie.Need-same-length
 same-length c = search needs

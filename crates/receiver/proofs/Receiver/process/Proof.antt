@@ -1,5 +1,5 @@
 use Rattle.packet.specs.Reader as reader
-use mathlib.Core.Path.{sym, ap, _∙_}
+use mathlib.Core.Path.{refl, sym, ap, _∙_}
 use borrow.Author.Needs.{needs}
 use Rattle.receiver.proofs.Receiver.process.Statement.{statement}
 use Rattle.receiver.proofs.Receiver.process.Tie as tie
@@ -19,7 +19,7 @@ accept-read-requires c κs =
     (s .before .before .before .before .before .pre, sym (s .before .before .read .ensures) ∙ ap reader.told (s .answer2 .given .1))
 
 returns : tie.Need-returns
-returns c = rw (← c .before .before .before .read .ensures, c .before .answer .given .1)
+returns c = (rw (← c .before .before .before .read .ensures, c .before .answer .given .1), refl)
 
 same-length : tie.Need-same-length
 same-length c = search needs

@@ -5,9 +5,15 @@ use mathlib.Core.Path.{_≡_}
 use native.Mathlib.Nat.{add-sub-cancel-left}
 use native.Mathlib.Omega.{arith}
 use Prim.Native.Nat.{_+_}
+use denote.Ref.{now}
 use borrow.Author.Needs.{needs}
+use Rattle.wire.proofs.Limits.{limit-range}
+use Rattle.receiver.proofs.Accepting.{Fits, ready-says}
 use Rattle.receiver.proofs.Receiver.store.Statement.{statement}
 use Rattle.receiver.proofs.Receiver.store.Tie as tie
+
+ready-at : (c : tie.Start) → Fits (c .args .self .limit) (c .args .self .slots) (now (c .args .buffer))
+ready-at c = ready-says (c .args .self .limit) (c .args .self .slots) (now (c .args .buffer)) (c .pre .0)
 
 place-of-requires : tie.Need-place-of-requires
 place-of-requires c κs = search needs
@@ -16,22 +22,27 @@ add-end : tie.Need-add-end
 unfolding stepOf
 add-end c = let i = c .before .before .before .before .before .pre .1 .inside in omega arith
 
-sub-write-piece : tie.Need-sub-write-piece
-sub-write-piece c = search needs
+sub-write-payload : tie.Need-sub-write-payload
+sub-write-payload c = search needs
 
-part-write-piece-start : tie.Need-part-write-piece-start
-part-write-piece-start c = search needs
+part-write-payload-start : tie.Need-part-write-payload-start
+part-write-payload-start c = search needs
 
-part-write-piece-end : tie.Need-part-write-piece-end
+part-write-payload-end : tie.Need-part-write-payload-end
 unfolding stepOf
-part-write-piece-end c = let i = c .before .before .before .before .before .before .pre .1 .inside in omega arith
+part-write-payload-end c = let i = c .before .before .before .before .before .before .pre .1 .inside in omega arith
 
-write-piece-requires : tie.Need-write-piece-requires
+write-payload-requires : tie.Need-write-payload-requires
 unfolding stepOf
-write-piece-requires c κs =
+write-payload-requires c κs =
     let s = c .before .before .before .before .before .before .before in
     let i = s .pre .1 .inside in
-    (s .pre .0, simp (length-take, length-drop, add-sub-cancel-left) (omega arith))
+    let r = ready-at s in (
+      limit-range _ (r .range) .1,
+      c .before .before .before .before .place-of .ensures .1,
+      r .size,
+      simp (length-take, length-drop, add-sub-cancel-left) (omega arith),
+    )
 
 with-slot-requires : tie.Need-with-slot-requires
 with-slot-requires c κs = search needs
@@ -43,9 +54,11 @@ returns : tie.Need-returns
 unfolding stepOf
 returns c =
     let t = c .before .before .before .before .before .before .before .before .before in
-    let first : laneStart (t .before .before .before .args .stream) + 0 ≡ laneStart (t .before .before .before .args .stream) = omega arith in
-    rw first
-    (simp (c .with-slot .ensures, c .before .before .before .before .write-piece .ensures, t .place-of .ensures .0, add-sub-cancel-left))
+    let first : laneStart (t .before .before .before .args .stream) + 0 ≡ laneStart (t .before .before .before .args .stream) = omega arith in (
+      rw first
+          (simp (c .with-slot .ensures .0, c .before .before .before .before .write-payload .ensures, t .place-of .ensures .0, add-sub-cancel-left)),
+      c .with-slot .ensures .1,
+    )
 
 pub store-spec : {M : Type 1} → statement M
 store-spec =
@@ -53,10 +66,10 @@ store-spec =
     (tie.spec
     place-of-requires
     add-end
-    sub-write-piece
-    part-write-piece-start
-    part-write-piece-end
-    write-piece-requires
+    sub-write-payload
+    part-write-payload-start
+    part-write-payload-end
+    write-payload-requires
     with-slot-requires
     same-length
     returns)

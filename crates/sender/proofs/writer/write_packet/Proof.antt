@@ -21,7 +21,7 @@ returns : tie.Need-returns
 returns c =
     let d = c .before .before .before in
     let a = d .before .before .before .args in
-    rw (written-done 4096 (a .how) (now (a .message)) (a .place) (now (a .out)), ← (d .decide .ensures .0), c .before .decision .given .1)
+    rw (written-done (a .limit) (a .how) (now (a .message)) (a .place) (now (a .out)), ← (d .decide .ensures .0), c .before .decision .given .1)
 
 same-length : tie.Need-same-length
 same-length c = search needs
@@ -30,7 +30,7 @@ returns-2 : tie.Need-returns-2
 returns-2 c =
     let d = c .before .before .before .before .before .before .before in
     let a = d .before .before .before .args in
-    rw (written-done 4096 (a .how) (now (a .message)) (a .place) (now (a .out)), ← (d .decide .ensures .0), c .before .before .before .before .before .decision2 .given .1)
+    rw (written-done (a .limit) (a .how) (now (a .message)) (a .place) (now (a .out)), ← (d .decide .ensures .0), c .before .before .before .before .before .decision2 .given .1)
     (c .before .before .write-piece .ensures)
 
 pub write-packet-spec : {M : Type 1} → statement M

@@ -1,30 +1,16 @@
-use mathlib.Core.Path.{sym, _∙_}
-use Rattle.extractor.proofs.States.{ready-fits}
+use mathlib.Core.Path.{refl}
 use borrow.Author.Needs.{needs}
 use Rattle.extractor.proofs.state.Extractor.step.Statement.{statement}
 use Rattle.extractor.proofs.state.Extractor.step.Tie as tie
 
-is-ready-requires : tie.Need-is-ready-requires
-is-ready-requires c κs = search needs
-
-advance-requires : tie.Need-advance-requires
-advance-requires c κs = ready-fits (sym (c .before .before .is-ready .ensures) ∙ c .before .if1 .taken)
-
-refuse-requires : tie.Need-refuse-requires
-refuse-requires c κs = search needs
+take-requires : tie.Need-take-requires
+take-requires c κs = search needs
 
 same-length : tie.Need-same-length
 same-length c = search needs
 
 returns : tie.Need-returns
-returns c =
-    let a = c .before .before in
-    rw (sym (a .before .before .before .is-ready .ensures) ∙ a .before .before .if1 .taken) (a .advance .ensures)
-
-returns-2 : tie.Need-returns-2
-returns-2 c = rw (sym (c .before .before .is-ready .ensures) ∙ c .before .if1 .left, c .refuse .ensures)
+returns c = (c .before .before .before .take .ensures, refl)
 
 pub step-spec : {M : Type 1} → statement M
-step-spec =
-    tie.close
-    (tie.spec is-ready-requires advance-requires refuse-requires same-length returns returns-2)
+step-spec = tie.close (tie.spec take-requires same-length returns)

@@ -1,0 +1,65 @@
+use native.Mathlib.Omega.{arith}
+use mathlib.Core.Path.{sym, _∙_}
+use lib.Seq.{getD-set-same}
+use denote.Ref.{now}
+use borrow.Author.Tests.{eq-eqb, ne-eqb, not-true, not-false}
+use Rattle.wire.specs.Limit.{limitFits}
+use Rattle.receiver.specs.Receiver.{openOf}
+use Rattle.receiver.proofs.Opening.{opened-by}
+use Rattle.calls_receiving.specs.Calls.{receiverOpenOf}
+use borrow.Author.Needs.{needs}
+use Rattle.calls_receiving.proofs.calls.receiver_open.Statement.{statement}
+use Rattle.calls_receiving.proofs.calls.receiver_open.Tie as tie
+
+returns : tie.Need-returns
+unfolding receiverOpenOf
+returns c = rw (ne-eqb _ _ (c .if1 .taken))
+
+open-requires : tie.Need-open-requires
+open-requires c κs = search needs
+
+returns-2 : tie.Need-returns-2
+unfolding receiverOpenOf openOf
+returns-2 c =
+    let o = c .before .«open» in
+    let limit = c .before .before .before .before .args .limit in
+    rw (eq-eqb _ _ (c .before .before .if1 .left), sym (opened-by limit (o .result) (o .ensures .0)) ∙ c .if2 .taken)
+
+put-limit-requires : tie.Need-put-limit-requires
+put-limit-requires c κs = search needs
+
+put-slots-requires : tie.Need-put-slots-requires
+put-slots-requires c κs = search needs
+
+same-length : tie.Need-same-length
+same-length c = search needs
+
+returns-3 : tie.Need-returns-3
+unfolding receiverOpenOf openOf
+returns-3 c =
+    let written = c .before .before .before .before .before .before in
+    let o = written .before .before .before .before .before .«open» in
+    let fit = written .before .before .before .before .before .before in
+    let a = fit .before .before .args in
+    let fits = not-false (limitFits (a .limit)) (sym (opened-by (a .limit) (o .result) (o .ensures .0)) ∙ written .before .before .before .before .if2 .left) in
+    rw (
+      eq-eqb _ _ (fit .if1 .left),
+      fits,
+      c .before .before .put-slots .ensures,
+      written .put-limit .ensures,
+      getD-set-same (now (a .state)) 0 (a .limit) 0 (omega (arith, fit .if1 .left)),
+      o .ensures .1,
+      fits,
+    )
+
+pub receiver-open-spec : {M : Type 1} → statement M
+receiver-open-spec =
+    tie.close
+    (tie.spec
+    returns
+    open-requires
+    returns-2
+    put-limit-requires
+    put-slots-requires
+    same-length
+    returns-3)

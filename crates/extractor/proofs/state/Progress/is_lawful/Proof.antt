@@ -1,0 +1,32 @@
+use mathlib.Core.Path.{sym, _∙_}
+use Rattle.extractor.specs.State.{lawful}
+use borrow.Author.Needs.{needs}
+use Rattle.extractor.proofs.state.Progress.is_lawful.Statement.{statement}
+use Rattle.extractor.proofs.state.Progress.is_lawful.Tie as tie
+
+sequence-read-requires : tie.Need-sequence-read-requires
+sequence-read-requires c κs = search needs
+
+lawful-after-requires : tie.Need-lawful-after-requires
+lawful-after-requires c κs = search needs
+
+lawful-before-requires : tie.Need-lawful-before-requires
+lawful-before-requires c κs = search needs
+
+returns : tie.Need-returns
+unfolding lawful
+returns c = rw (sym (c .before .before .sequence-read .ensures) ∙ c .before .if1 .taken) (c .lawful-after .ensures)
+
+returns-2 : tie.Need-returns-2
+unfolding lawful
+returns-2 c = rw (sym (c .before .before .sequence-read .ensures) ∙ c .before .if1 .left) (c .lawful-before .ensures)
+
+pub is-lawful-spec : {M : Type 1} → statement M
+is-lawful-spec =
+    tie.close
+    (tie.spec
+    sequence-read-requires
+    lawful-after-requires
+    lawful-before-requires
+    returns
+    returns-2)

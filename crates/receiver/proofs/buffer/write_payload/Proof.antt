@@ -1,0 +1,58 @@
+use Prim.Native.Nat.{_+_, _-_, _*_, _≤_}
+use Rattle.wire.proofs.Parts.{sets-part}
+use Rattle.slot.specs.Slot.{slotCount}
+use Rattle.receiver.specs.Buffer.{partStart}
+use Rattle.receiver.proofs.Parts.{part-inside}
+use borrow.Rule.Slice.PartMut.{putMid}
+use denote.Ref.{now}
+use mathlib.Core.Path.{ap, _∙_}
+use native.Mathlib.Omega.{arith}
+use borrow.Author.Needs.{needs}
+use Rattle.receiver.proofs.buffer.write_payload.Statement.{statement}
+use Rattle.receiver.proofs.buffer.write_payload.Tie as tie
+
+-- the part that is lent lies within the buffer
+inside : (c : tie.Start) → partStart (c .args .limit) (c .args .place) + c .args .limit ≤ slotCount * c .args .limit
+inside c = part-inside (c .args .limit) (c .args .place) (c .pre .1)
+
+mul-start : tie.Need-mul-start
+mul-start c = let s = c .before .before in omega (arith, s .pre .0, inside s)
+
+add-end : tie.Need-add-end
+add-end c = let s = c .before .before in omega (arith, s .pre .0, inside s)
+
+sub-copy : tie.Need-sub-copy
+sub-copy c = search needs
+
+part-copy-start : tie.Need-part-copy-start
+part-copy-start c = search needs
+
+part-copy-end : tie.Need-part-copy-end
+part-copy-end c = let s = c .before .before in omega (arith, s .pre .2, inside s)
+
+copy-requires : tie.Need-copy-requires
+copy-requires c κs = search needs
+
+same-length : tie.Need-same-length
+same-length c = search needs
+
+returns : tie.Need-returns
+returns c =
+    let s = c .before .before .before .before .before .before in
+    let start = s .args .place * s .args .limit in
+    let size = start + s .args .limit - start in
+    ap (putMid start size (now (s .args .buffer))) (c .before .before .copy .ensures)
+    ∙ sets-part (now (s .args .buffer)) start size (s .args .at) (now (s .args .payload)) (omega (arith, s .pre .2, inside s)) (omega (arith, s .pre .3))
+
+pub write-payload-spec : {M : Type 1} → statement M
+write-payload-spec =
+    tie.close
+    (tie.spec
+    mul-start
+    add-end
+    sub-copy
+    part-copy-start
+    part-copy-end
+    copy-requires
+    same-length
+    returns)
