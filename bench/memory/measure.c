@@ -120,12 +120,11 @@ static size_t make_frame(void)
     return damage(bytes, count);
 }
 
-/* The state stays where the limit is none. */
 static void open_extractor(uint64_t *state)
 {
-    CALL(pito_extractor_open, any_limit(), A(state), length(PITO_EXTRACTOR_STATE));
-    if (state[PITO_EXTRACTOR_LIMIT] != LIMIT)
-        CALL(pito_extractor_open, LIMIT, A(state), PITO_EXTRACTOR_STATE);
+    do
+        CALL(pito_extractor_open, any_limit(), A(state), length(PITO_EXTRACTOR_STATE));
+    while (state[PITO_EXTRACTOR_LIMIT] != LIMIT);
 }
 
 static void feed_frame(size_t count)
@@ -167,20 +166,19 @@ static void classic(void)
     }
 }
 
+static uint64_t receiver[PITO_RECEIVER_STATE];
+
 static void open_receiver(uint64_t *state)
 {
-    CALL(pito_receiver_open, any_limit(), A(state), length(PITO_RECEIVER_STATE));
-    if (state[PITO_RECEIVER_LIMIT] != LIMIT)
-        CALL(pito_receiver_open, LIMIT, A(state), PITO_RECEIVER_STATE);
+    do
+        CALL(pito_receiver_open, any_limit(), A(state), length(PITO_RECEIVER_STATE));
+    while (state[PITO_RECEIVER_LIMIT] != LIMIT);
 }
 
 static void accept(const uint8_t *packet, size_t count)
 {
-    static uint64_t state[PITO_RECEIVER_STATE];
     static uint8_t buffer[PITO_RECEIVER_BUFFER(LIMIT)];
-    if (state[PITO_RECEIVER_LIMIT] == 0 || once_in(200))
-        open_receiver(state);
-    CALL(pito_receiver_accept, A(state), PITO_RECEIVER_STATE, A(buffer), length(sizeof buffer), A(packet), count,
+    CALL(pito_receiver_accept, A(receiver), PITO_RECEIVER_STATE, A(buffer), length(sizeof buffer), A(packet), count,
          A(answer), PITO_ACCEPT_ANSWER);
 }
 
@@ -199,6 +197,8 @@ static void send_message(void)
                  A(answer), length(PITO_PACKET_WRITE_ANSWER)) != 0)
             return;
         next = answer[1];
+        /* Another type now and then: a message that ends too early. */
+        bytes[1] ^= !clean && once_in(4) ? 0x0C : 0;
         accept(bytes, clean ? answer[0] : damage(bytes, answer[0]));
         if (!clean && once_in(4)) {
             fill(bytes, 8);
@@ -210,7 +210,9 @@ static void send_message(void)
 
 static void low_energy(void)
 {
+    static uint64_t other[PITO_RECEIVER_STATE];
     for (int round = 0; round < ROUNDS; round++) {
+        open_receiver(round == 0 ? receiver : other);
         send_message();
         if (CALL(pito_ack_write, any_stream(), below(17), below(17), below(3), A(bytes), once_in(20) ? 5 : 6,
                  A(answer), length(PITO_ACK_WRITE_ANSWER)) == 0)
@@ -347,7 +349,7 @@ static void messages(void)
 
 static void read_outbox(size_t used)
 {
-    uint64_t place = once_in(40) ? below(used + 3) : 1;
+    uint64_t place = once_in(40) ? below(used + 3) : !once_in(40);
     CALL(pito_outbox_whole, A(bytes), used, A(answer), length(PITO_OUTBOX_WHOLE_ANSWER));
     while (CALL(pito_outbox_record, A(bytes), used, place, A(answer), length(PITO_OUTBOX_RECORD_ANSWER)) == 0 &&
            answer[0] == PITO_RECORD)
@@ -361,6 +363,9 @@ static void outbox(void)
         size_t count = any_length(LIMIT + once_in(40));
         if (used == 0 || once_in(10))
             used = CALL(pito_outbox_new, A(bytes), !once_in(40), A(answer), length(PITO_OUTBOX_NEW_ANSWER)) == 0;
+        /* Version 01. */
+        if (used == 1 && once_in(2))
+            bytes[0] = 1;
         CALL(pito_outbox_new, A(payload), below(3), A(answer), length(PITO_OUTBOX_NEW_ANSWER));
         fill(payload, count);
         if (CALL(pito_outbox_append, A(bytes), MOST_BYTES, once_in(60) ? MOST_BYTES + 1 : used, any_stream(),

@@ -4,53 +4,30 @@
  *   sizes parts
  *   sizes sum DEEPEST_STACK
  *
- * rows.inc has ROW(NAME) for each row that the header names, answers.inc for each answer row; bench/memory/run makes them.
+ * rows.inc has ROW(NAME) for each row that the header names; bench/memory/run makes it.
  */
 #include <stdio.h>
 #include <stdlib.h>
 #include <string.h>
 
-#include "pitokaenge.h"
+/* The box of the sum: both links, frames written whole, no message buffer. */
+#define LIMIT 4096
+#define CLASSIC 1
+#define LOW_ENERGY 1
+#define BY_PARTS 0
+#define MESSAGE 0
+#include "box.h"
 
 #define ALL_A_BOX_HAS 32768
-/* The limit of both links. */
-#define LIMIT 4096
-
-#define LONGEST_FRAME PITO_FRAME_SIZE(LIMIT)
-#define SERIAL_INPUT 256
-#define SMALL_PIPE 64
 
 #define ROW(name) uint64_t name##_row[name];
 union any_row {
 #include "rows.inc"
 };
-union any_answer {
-#include "answers.inc"
-};
 #undef ROW
 
-/* In the order of the table; the rows come first, so that only the end has padding. */
-static struct box {
-    uint64_t extractor[PITO_EXTRACTOR_STATE];
-    uint64_t receiver[PITO_RECEIVER_STATE];
-    union any_answer answer;
-    uint64_t transports[PITO_MOST_TRANSPORTS];
-    uint8_t extractor_buffer[PITO_EXTRACTOR_BUFFER(LIMIT)];
-    uint8_t receiver_buffer[PITO_RECEIVER_BUFFER(LIMIT)];
-    uint8_t frame[LONGEST_FRAME];
-    uint8_t outbox[PITO_ONE_RECORD(LIMIT)];
-    uint8_t packet_out[PITO_LARGEST_ROOM];
-    uint8_t ack[PITO_ACK_SIZE];
-    uint8_t serial_in[SERIAL_INPUT];
-    uint8_t packet_in[PITO_LARGEST_ROOM];
-} box;
-
-/* In place of the frame's bytes, where it is written by parts. */
-static struct small_pipe {
-    uint64_t state[PITO_PARTS_STATE];
-    uint8_t output[SMALL_PIPE];
-} pipe;
-
+static struct box box;
+static struct small_pipe pipe;
 static long together;
 
 /* A number with commas; up to four of them live at once. */
@@ -84,15 +61,15 @@ static void buffer(const char *what, const char *why, size_t bytes)
 
 static void print_buffers(void)
 {
-    printf("| buffer | why this size | bytes |\n|---|---|--:|\n");
+    printf("| buffer | why this size | bytes at 4,096 |\n|---|---|--:|\n");
     buffer("extractor's", "`PITO_EXTRACTOR_BUFFER(limit)`, exactly: limit + 2", sizeof box.extractor_buffer);
     buffer("receiver's", "`PITO_RECEIVER_BUFFER(limit)`, exactly: 3 * limit", sizeof box.receiver_buffer);
-    buffer("outgoing frame", "4 + 2 * 4,096 + 2 * 2 + 1, all escaped", sizeof box.frame);
+    buffer("outgoing frame", "`PITO_FRAME_SIZE(limit)`, all escaped: 4 + 2 * limit + 2 * 2 + 1", sizeof box.frame);
     buffer("outgoing frame by parts", "any size from 1 on, here the radio module's", sizeof pipe.output);
     buffer("outgoing packet", "the largest room; from 20 on", sizeof box.packet_out);
     buffer("packet that came", "the largest room of the other side", sizeof box.packet_in);
     buffer("ACK", "exactly", sizeof box.ack);
-    buffer("outbox of one record", "1 + 2 + 1 + 4,096, as in examples/c/box.c", sizeof box.outbox);
+    buffer("outbox of one record", "`PITO_ONE_RECORD(limit)`, as in examples/c/box.c: 1 + 4 + 1 + limit", sizeof box.outbox);
     buffer("serial input", "any size from 1 on, here that of examples/c/box.c", sizeof box.serial_in);
     printf("\n");
 }

@@ -17,9 +17,7 @@ pub damage-example : DamageExample
 unfolding limitFits kindOf escapedOf sumOf framed codeOf lawful ready storeOf checked endOf advanceOf feedFrom callOf runOf handedOut bytesOf undamaged
 damage-example =
     record {
-      range = refl;
-      lawful = refl;
-      size = refl;
+      standing = record { range = refl; state = refl; size = refl };
       premises = (
         record { range = refl; unmarked = refl; fits = lit≤ tt; room = lit≤ tt },
         (

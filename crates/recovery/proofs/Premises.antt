@@ -18,7 +18,7 @@ use Rattle.extractor.specs.State.{sequenceRead, lawfulBefore, lawfulAfter, lawf
 use Rattle.extractor.specs.Step.{advanceOf}
 use Rattle.feed.specs.Feed.{Feed, decides, feedFrom}
 use Rattle.recovery.specs.Run.{callOf, runOf}
-use Rattle.recovery.specs.Premises.{LawfulIn, asking, TurnedWhen, ClosingWhen, LawfulWhen, AllUsedWhen, FactsSuffice}
+use Rattle.recovery.specs.Premises.{LawfulIn, asking, TurnedWhen, ClosingWhen, StandingWhen, AllUsedWhen, FactsSuffice}
 use Rattle.recovery.proofs.Ready.{of-cond, is-ready, feed-ready}
 use Rattle.recovery.proofs.Cut.{feed-later, call-keeps}
 
@@ -55,9 +55,9 @@ lawful-in Sequence limit sequence held h = lawful-before sequence held h
 lawful-in Body limit sequence held h = lawful-after limit sequence held h
 lawful-in Escaped limit sequence held h = lawful-after limit sequence held h
 
-lawful-when : LawfulWhen
+standing-when : StandingWhen
 unfolding lawful
-lawful-when limit s byte h = lawful-in (s .phase) limit (s .sequence) (s .held) h
+standing-when limit s l low high byte h n = record { range = range-limit limit low high; state = lawful-in (s .phase) limit (s .sequence) (s .held) h; size = n }
 
 -- ---- calls that use all bytes
 
@@ -93,7 +93,7 @@ module _ (limit : ℕ) where
       calls-use zs (n + f .used) (f .next) (f .buffer) (drop (f .used) bytes) (call-keeps limit (asking z) s l bytes h) (left z (length zs) s l bytes h k)
 
 all-used-when : AllUsedWhen
-all-used-when limit s l bytes sizes f h n k = calls-use limit sizes 0 s l bytes (is-ready limit s l f h n) k
+all-used-when limit s l bytes sizes a k = calls-use limit sizes 0 s l bytes (is-ready limit s l (a .range) (a .state) (a .size)) k
 
 pub facts-suffice : FactsSuffice
-facts-suffice = record { range = range-limit; sendable = sendable-when; turned = turned-when; closing = closing-when; lawful = lawful-when; used = all-used-when }
+facts-suffice = record { sendable = sendable-when; turned = turned-when; closing = closing-when; standing = standing-when; used = all-used-when }

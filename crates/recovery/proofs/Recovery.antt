@@ -130,8 +130,8 @@ closing-ends limit (damaged m k v ∷ is) s l n c =
     rw (sent-frame limit m (c .0)) (e .same ∙ closing-ends limit is outside (e .after) (e .size) (c .4))
 
 pub damage-ends : DamageEnds
-damage-ends limit s l before closing calls f h n c e =
-    let r = is-ready limit s l f h n in
+damage-ends limit s l before closing calls a c e =
+    let r = is-ready limit s l (a .range) (a .state) (a .size) in
     let k = since-later limit (length before) before (bytesOf limit closing) 0 s l r (zero-add (length before)) in
     calls-cut limit (length before) calls 0 s l (before ++ bytesOf limit closing) r e
     ∙ k .same

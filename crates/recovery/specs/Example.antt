@@ -1,16 +1,13 @@
 -- That damage ends, with every byte written out, at a limit of 8: other bytes, then a damaged frame between two whole ones, cut in three ways.
-use Prim.Native.Nat.{ℕ, _+_}
+use Prim.Native.Nat.{ℕ}
 use mathlib.Core.Path.{_≡_}
-use mathlib.Core.Bool.{true}
 use mathlib.Core.List.{List, [], _∷_, _++_}
 use lib.ListN.{length, replicate}
-use Rattle.wire.specs.Limit.{limitFits}
 use Rattle.frame_writer.specs.Sending.{FrameToSend}
 use Rattle.extractor.specs.declared.state.Progress.{Progress}
 use Rattle.extractor.specs.declared.state.Phase.the-variants.{Escaped}
-use Rattle.extractor.specs.State.{lawful}
 use Rattle.recovery.specs.Run.{Call, one, many, Run, runOf, Given, handedOut}
-use Rattle.recovery.specs.Recovery.{ClosingFrame, whole, damaged, bytesOf, undamaged, Closing}
+use Rattle.recovery.specs.Recovery.{ClosingFrame, whole, damaged, bytesOf, undamaged, Closing, Standing}
 
 abbrev limit : ℕ
 limit = 8
@@ -59,9 +56,7 @@ pub record Cut (calls : List Call) : Type 0 where
 -- ---- the claim
 
 pub record DamageExample : Type 0 where
-  pub range : limitFits limit ≡ true
-  pub lawful : lawful limit state ≡ true
-  pub size : length buffer ≡ limit + 2
+  pub standing : Standing limit state buffer
   pub premises : Closing limit closing
   pub written : bytesOf limit closing ≡ bytes
   pub undamaged : undamaged closing ≡ frames

@@ -2,22 +2,15 @@
 use Prim.Native.Nat.{ℕ, zero, suc, _+_, _≤_, _<_}
 use mathlib.Core.Path.{_≡_}
 use mathlib.Core.Logic.{_≢_}
-use mathlib.Core.Bool.{true}
 use mathlib.Core.List.{List, [], _∷_, map}
 use lib.ListN.{length, getD}
-use Rattle.wire.specs.Limit.{limitFits}
 use Rattle.framing.specs.Frame.{frameOf}
 use Rattle.frame_writer.specs.Sending.{FrameToSend, Sendable, NoMark, SendableWhen}
 use Rattle.extractor.specs.declared.state.Progress.{Progress}
 use Rattle.extractor.specs.declared.state.Phase.{Phase}
 use Rattle.extractor.specs.declared.state.Phase.the-variants.{Outside, PacketId, ErrorId, Sequence, Body, Escaped}
-use Rattle.extractor.specs.State.{lawful}
 use Rattle.recovery.specs.Run.{Call, one, many, runOf}
-use Rattle.recovery.specs.Recovery.{Turned, ClosingFrame, whole, damaged, Closing}
-
--- a limit of 1 to 65,535
-abbrev pub RangeWhen : Type 0
-RangeWhen = (limit : ℕ) → 1 ≤ limit → limit ≤ 65535 → limitFits limit ≡ true
+use Rattle.recovery.specs.Recovery.{Turned, ClosingFrame, whole, damaged, Closing, Standing}
 
 -- a byte that is no mark, and another one that is none
 abbrev pub TurnedWhen : Type 0
@@ -51,8 +44,16 @@ LawfulIn Sequence limit sequence held = (sequence ≡ 0) × (held ≡ 0)
 LawfulIn Body limit sequence held = NoMark sequence × (held ≤ limit + 2)
 LawfulIn Escaped limit sequence held = NoMark sequence × (held ≤ limit + 2)
 
-abbrev pub LawfulWhen : Type 0
-LawfulWhen = (limit : ℕ) (s : Progress) → s .sequence < 256 → LawfulIn (s .phase) limit (s .sequence) (s .held) → lawful limit s ≡ true
+-- a limit of 1 to 65,535, a lawful state, a buffer of limit + 2 bytes
+abbrev pub StandingWhen : Type 0
+StandingWhen =
+    (limit : ℕ) (s : Progress) (buffer : List ℕ)
+    → 1 ≤ limit
+    → limit ≤ 65535
+    → s .sequence < 256
+    → LawfulIn (s .phase) limit (s .sequence) (s .held)
+    → length buffer ≡ limit + 2
+    → Standing limit s buffer
 
 -- a call that asks for a byte: a step for 0, and a call for n bytes for any other n
 abbrev pub asking : ℕ → Call
@@ -63,18 +64,15 @@ asking (suc n) = many (suc n)
 abbrev pub AllUsedWhen : Type 0
 AllUsedWhen =
     (limit : ℕ) (s : Progress) (buffer bytes sizes : List ℕ)
-    → limitFits limit ≡ true
-    → lawful limit s ≡ true
-    → length buffer ≡ limit + 2
+    → Standing limit s buffer
     → length bytes ≤ length sizes
     → runOf limit (map asking sizes) 0 s buffer bytes .unused ≡ []
 
 -- ---- the claim
 
 pub record FactsSuffice : Type 0 where
-  pub range : RangeWhen
   pub sendable : SendableWhen
   pub turned : TurnedWhen
   pub closing : ClosingWhen
-  pub lawful : LawfulWhen
+  pub standing : StandingWhen
   pub used : AllUsedWhen

@@ -56,6 +56,12 @@ Closing limit (whole m ∷ is) = Sendable limit m × Closing limit is
 Closing limit (damaged m place new ∷ is) =
     Sendable limit m × AllBytes (m .payload) × (place ≢ sequencePlace) × Turned (sent limit m) place new × Closing limit is
 
+-- what an extractor and its buffer have to be: of a limit in its range, lawful, and of the size that goes with it
+pub record Standing (limit : ℕ) (s : Progress) (buffer : List ℕ) : Type 0 where
+  pub range : limitFits limit ≡ true
+  pub state : lawful limit s ≡ true
+  pub size : length buffer ≡ limit + 2
+
 -- ---- the claims
 
 -- Damage ends: from every lawful state, whatever bytes come before and wherever calls that use all bytes cut them, the frames decided in the
@@ -63,9 +69,7 @@ Closing limit (damaged m place new ∷ is) =
 abbrev pub DamageEnds : Type 0
 DamageEnds =
     (limit : ℕ) (s : Progress) (buffer before : List ℕ) (closing : List ClosingFrame) (calls : List Call)
-    → limitFits limit ≡ true
-    → lawful limit s ≡ true
-    → length buffer ≡ limit + 2
+    → Standing limit s buffer
     → Closing limit closing
     → (let run = runOf limit calls 0 s buffer (before ++ bytesOf limit closing) in
     run .unused ≡ [] → handedOut (length before) (run .events) ≡ undamaged closing)
