@@ -69,21 +69,21 @@ fn copy_file(file: &[u8], out: &mut [u8]) -> Moved
 }
 
 // Writes the records of a file in another version.
-fn rewrite(file: &[u8], fmt: Format, out: &mut [u8]) -> Moved
-    requires { ⌜ Known fmt ⌝ }
+fn rewrite(file: &[u8], own: Format, fmt: Format, out: &mut [u8]) -> Moved
+    requires { ⌜ Known own × Known fmt ⌝ }
     ensures { λ r. ⌜ stored (told r) (now (out .exit))
         ≡ ifWhole
-        (overFrom (fmt .limit) firstPlace (readAll (formatOf (now (file .entry))) (now (file .entry))))
+        (overFrom (fmt .limit) firstPlace (readAll own (now (file .entry))))
         (now (out .entry))
-        (placed (now (out .entry)) (newBytes fmt ++ recordsIn fmt (readAll (formatOf (now (file .entry))) (now (file .entry))))) ⌝ }
+        (placed (now (out .entry)) (newBytes fmt ++ recordsIn fmt (readAll own (now (file .entry))))) ⌝ }
 {
-    match count(file, fmt) {
+    match count(file, own, fmt) {
         Counted::TooLong(place) => Moved::TooLong(place),
         Counted::Size(n) => {
             if out.len() < n {
                 return Moved::NoRoom;
             }
-            write_records(file, fmt, out);
+            write_records(file, own, fmt, out);
             Moved::Written(n)
         }
     }
@@ -96,7 +96,7 @@ fn move_whole(file: &[u8], fmt: Format, out: &mut [u8]) -> Moved
     if byte_at(file, 0) == fmt.version {
         copy_file(file, out)
     } else {
-        rewrite(file, fmt, out)
+        rewrite(file, Format::of(file), fmt, out)
     }
 }
 

@@ -2,14 +2,14 @@
 use outbox::format::FIRST_PLACE;
 use outbox::format::Format;
 use outbox::reader::Reading;
-use outbox::reader::read;
+use outbox::reader::read_by;
 use outbox::writer::put_record;
 ghost use mathlib.Core.Path.{_≡_};
 ghost use mathlib.Core.List.{_++_};
 ghost use Prim.Native.Nat.{_+_, _≤_};
 ghost use lib.ListN.{length};
 ghost use lib.Seq.{sets};
-ghost use Rattle.outbox.specs.Format.{Known, formatOf, newBytes, firstPlace};
+ghost use Rattle.outbox.specs.Format.{Known, newBytes, firstPlace};
 ghost use Rattle.outbox.specs.Reader.{given, readOf, readAll};
 ghost use Rattle.moving.specs.Moves.{recordOnly, recordsIn, overFrom, countOf, toldNext, toldCount};
 
@@ -24,10 +24,11 @@ pub enum Next {
     Nothing,
 }
 
-fn record_at(file: &[u8], place: usize) -> Next
-    ensures { λ r. ⌜ toldNext r ≡ recordOnly (readOf (formatOf (now (file .entry))) (now (file .entry)) place) ⌝ }
+fn record_at(file: &[u8], place: usize, own: Format) -> Next
+    requires { ⌜ Known own ⌝ }
+    ensures { λ r. ⌜ toldNext r ≡ recordOnly (readOf own (now (file .entry)) place) ⌝ }
 {
-    match read(file, place) {
+    match read_by(file, place, own) {
         Reading::Record {
             stream,
             start,
@@ -51,15 +52,15 @@ pub enum Counted {
     TooLong(usize),
 }
 
-pub fn count(file: &[u8], fmt: Format) -> Counted
-    requires { ⌜ Known fmt ⌝ }
+pub fn count(file: &[u8], own: Format, fmt: Format) -> Counted
+    requires { ⌜ Known own × Known fmt ⌝ }
     ensures { λ r. ⌜ toldCount r
-        ≡ countOf fmt firstPlace firstPlace (readAll (formatOf (now (file .entry))) (now (file .entry))) ⌝ }
+        ≡ countOf fmt firstPlace firstPlace (readAll own (now (file .entry))) ⌝ }
 {
     let mut place = FIRST_PLACE;
     let mut total = FIRST_PLACE;
     loop {
-        match record_at(file, place) {
+        match record_at(file, place, own) {
             Next::Record {
                 stream: _,
                 start: _,
@@ -81,18 +82,19 @@ pub fn count(file: &[u8], fmt: Format) -> Counted
 }
 
 // Writes the version byte and each record of a file, whose number of bytes was counted.
-pub fn write_records(file: &[u8], fmt: Format, out: &mut [u8])
-    requires { ⌜ Known fmt
-        × (overFrom (fmt .limit) firstPlace (readAll (formatOf (now file)) (now file)) ≡ given tt)
-        × (firstPlace + length (recordsIn fmt (readAll (formatOf (now file)) (now file))) ≤ length (now out)) ⌝ }
+pub fn write_records(file: &[u8], own: Format, fmt: Format, out: &mut [u8])
+    requires { ⌜ Known own
+        × Known fmt
+        × (overFrom (fmt .limit) firstPlace (readAll own (now file)) ≡ given tt)
+        × (firstPlace + length (recordsIn fmt (readAll own (now file))) ≤ length (now out)) ⌝ }
     ensures { λ _. ⌜ now (out .exit)
-        ≡ sets (now (out .entry)) 0 (newBytes fmt ++ recordsIn fmt (readAll (formatOf (now (file .entry))) (now (file .entry)))) ⌝ }
+        ≡ sets (now (out .entry)) 0 (newBytes fmt ++ recordsIn fmt (readAll own (now (file .entry)))) ⌝ }
 {
     out[0] = fmt.version;
     let mut place = FIRST_PLACE;
     let mut at = FIRST_PLACE;
     loop {
-        match record_at(file, place) {
+        match record_at(file, place, own) {
             Next::Record {
                 stream,
                 start,

@@ -55,3 +55,11 @@ FilesMove =
     (wished : Format) (head limit : ℕ) → Version wished head limit → (file out : List ℕ) → Movable limit file
     → 1 + sizeOf head (recordsOf file) ≤ length out
     → Moves wished file (1 + sizeOf head (recordsOf file)) (moveOf wished file out)
+
+-- ---- the premise from the other side, from the facts of docs/FORMATS.md
+pub record MovableWhen : Type 0 where
+  -- every whole file goes to 02, and every one of 01 stays as it is
+  pub to-two : (file : List ℕ) → AllBytes file → walkOf (formatOf file) file ≡ given tt → Movable 65535 file
+  pub one-stays : (file : List ℕ) → AllBytes file → walkOf (formatOf file) file ≡ given tt → formatOf file ≡ versionOne → Movable 4096 file
+  -- one of 02 goes to 01 if no payload has more than 4,096 bytes
+  pub to-one : (file : List ℕ) → AllBytes file → walkOf (formatOf file) file ≡ given tt → AllShort 4096 (recordsOf file) → Movable 4096 file

@@ -4,7 +4,6 @@ use lib.ListN.{length}
 use borrow.Author.Needs.{needs}
 use borrow.Author.Tests.{lt-ltb, le-ltb}
 use denote.Ref.{now}
-use Rattle.outbox.specs.Format.{formatOf}
 use Rattle.outbox.specs.Reader.{readAll}
 use Rattle.moving.specs.Moves.{toldCount}
 use Rattle.moving.proofs.Deciding.{counted, counted-size}
@@ -28,7 +27,7 @@ returns c =
     let file = now (s .args .file) in
     let out = now (s .args .out) in
     sym
-    (counted (s .args .fmt) (readAll (formatOf file) file) out _ (sym (j .count .ensures) ∙ ap toldCount (m .n .given .1))
+    (counted (s .args .fmt) (readAll (s .args .own) file) out _ (sym (j .count .ensures) ∙ ap toldCount (m .n .given .1))
     ∙ rw (lt-ltb (length out) (m .n .given .0 .0) (c .if1 .taken)))
 
 write-records-requires : tie.Need-write-records-requires
@@ -38,8 +37,8 @@ write-records-requires c κs =
     let j = m .before .before in
     let s = j .before .before .before in
     let file = now (s .args .file) in
-    let size = counted-size (s .args .fmt) (readAll (formatOf file) file) (m .n .given .0 .0) (sym (j .count .ensures) ∙ ap toldCount (m .n .given .1)) in
-    (s .pre, size .0, omega (arith, size .1, d .if1 .left))
+    let size = counted-size (s .args .fmt) (readAll (s .args .own) file) (m .n .given .0 .0) (sym (j .count .ensures) ∙ ap toldCount (m .n .given .1)) in
+    (s .pre .0, s .pre .1, size .0, omega (arith, size .1, d .if1 .left))
 
 returns-2 : tie.Need-returns-2
 returns-2 c =
@@ -47,7 +46,7 @@ returns-2 c =
     let j = m .before .before in
     let s = j .before .before .before in
     let file = now (s .args .file) in
-    sym (counted (s .args .fmt) (readAll (formatOf file) file) (now (s .args .out)) _ (sym (j .count .ensures) ∙ ap toldCount (m .place .given .1)))
+    sym (counted (s .args .fmt) (readAll (s .args .own) file) (now (s .args .out)) _ (sym (j .count .ensures) ∙ ap toldCount (m .place .given .1)))
 
 same-length : tie.Need-same-length
 same-length c = search needs
@@ -63,7 +62,7 @@ returns-3 c =
     let out = now (s .args .out) in
     rw (w .write-records .ensures)
     (sym
-    (counted (s .args .fmt) (readAll (formatOf file) file) out _ (sym (j .count .ensures) ∙ ap toldCount (m .n .given .1))
+    (counted (s .args .fmt) (readAll (s .args .own) file) out _ (sym (j .count .ensures) ∙ ap toldCount (m .n .given .1))
     ∙ rw (le-ltb (length out) (m .n .given .0 .0) (d .if1 .left))))
 
 pub rewrite-spec : {M : Type 1} → statement M

@@ -4,7 +4,7 @@ use native.Mathlib.Omega.{arith}
 use lib.ListN.{length, length-set}
 use borrow.Author.Needs.{needs}
 use denote.Ref.{now}
-use Rattle.outbox.specs.Format.{formatOf, headSize}
+use Rattle.outbox.specs.Format.{headSize}
 use Rattle.outbox.specs.Reader.{Found, given, found, readOf}
 use Rattle.outbox.proofs.Versions.{known-small}
 use Rattle.moving.specs.Moves.{recordOnly, toldNext}
@@ -13,10 +13,10 @@ use Rattle.moving.proofs.passes.write_records.Statement.{statement}
 use Rattle.moving.proofs.passes.write_records.Tie as tie
 
 abbrev Inv-loop : tie.InvT-loop
-Inv-loop file fmt out₀ place₀ at₀ out place at = Writing fmt (formatOf file) file out₀ place at out
+Inv-loop file own fmt out₀ place₀ at₀ out place at = Writing fmt own file out₀ place at out
 
 abbrev μ-loop : tie.MeasureT-loop
-μ-loop file fmt out₀ place₀ at₀ out place at = length file - place
+μ-loop file own fmt out₀ place₀ at₀ out place at = length file - place
 
 slice-write-out : tie.Need-slice-write-out Inv-loop μ-loop
 slice-write-out c = search needs
@@ -25,7 +25,7 @@ loop-holds : tie.Need-loop-holds Inv-loop μ-loop
 loop-holds c =
     let s = c .before .before in
     let file = now (s .args .file) in
-    writing-begins (s .args .fmt) (formatOf file) file _ (s .pre .1) (rw length-set (s .pre .2))
+    writing-begins (s .args .fmt) (s .args .own) file _ (s .pre .2) (rw length-set (s .pre .3))
 
 record-at-requires : tie.Need-record-at-requires Inv-loop μ-loop
 record-at-requires c κs = search needs
@@ -41,19 +41,22 @@ it k =
 
 stood : (k : tie.After-known-told Inv-loop μ-loop)
     → let l = k .before .before .before .before in
-    let file = now (l .before .before .before .args .file) in
-    recordOnly (readOf (formatOf file) file (l .loop .place)) ≡ given (found (it k))
+    let s = l .before .before .before in
+    let file = now (s .args .file) in
+    recordOnly (readOf (s .args .own) file (l .loop .place)) ≡ given (found (it k))
 stood k = sym (k .before .before .before .record-at .ensures) ∙ ap toldNext (k .before .stream .given .1)
 
 lies : (k : tie.After-known-told Inv-loop μ-loop)
     → let l = k .before .before .before .before in
-    let file = now (l .before .before .before .args .file) in
+    let s = l .before .before .before in
+    let file = now (s .args .file) in
     (it k .start ≤ it k .next) × (l .loop .place < it k .next) × (it k .next ≤ length file)
 lies k =
     let l = k .before .before .before .before in
-    let file = now (l .before .before .before .args .file) in
-    let within = ends (formatOf file) file (l .loop .place) (it k) (stood k) in
-    (omega (arith, spans (formatOf file) file (l .loop .place) (it k) (stood k)), within .0, within .1)
+    let s = l .before .before .before in
+    let file = now (s .args .file) in
+    let within = ends (s .args .own) file (l .loop .place) (it k) (stood k) in
+    (omega (arith, spans (s .args .own) file (l .loop .place) (it k) (stood k)), within .0, within .1)
 
 sub-put-record : tie.Need-sub-put-record Inv-loop μ-loop
 sub-put-record c = lies (c .before) .0
@@ -70,15 +73,15 @@ put-record-requires c κs =
     let l = k .before .before .before .before in
     let s = l .before .before .before in
     let file = now (s .args .file) in (
-      s .pre .0,
-      record-room (s .args .fmt) (formatOf file) file _ (l .loop .inv) (it k) (stood k),
-      payload-short (s .args .fmt) (formatOf file) file _ (l .loop .inv) (it k) (stood k),
+      s .pre .1,
+      record-room (s .args .fmt) (s .args .own) file _ (l .loop .inv) (it k) (stood k),
+      payload-short (s .args .fmt) (s .args .own) file _ (l .loop .inv) (it k) (stood k),
     )
 
 add-head : tie.Need-add-head Inv-loop μ-loop
 add-head c =
     let s = c .before .before .before .before .before .before .before .before .before .before .before .before .before in
-    omega (arith, known-small (s .args .fmt) (s .pre .0) .1)
+    omega (arith, known-small (s .args .fmt) (s .pre .1) .1)
 
 -- where the next record goes
 fits : (k : tie.After-known-told Inv-loop μ-loop)
@@ -93,8 +96,8 @@ fits k =
       arith,
       l .loop .inv .long,
       length-set (now (s .args .out)) 0 (s .args .fmt .version),
-      record-room (s .args .fmt) (formatOf file) file _ (l .loop .inv) (it k) (stood k),
-      payload-size (s .args .fmt) (formatOf file) file _ (l .loop .inv) (it k) (stood k),
+      record-room (s .args .fmt) (s .args .own) file _ (l .loop .inv) (it k) (stood k),
+      payload-size (s .args .fmt) (s .args .own) file _ (l .loop .inv) (it k) (stood k),
     )
 
 add-at : tie.Need-add-at Inv-loop μ-loop
@@ -112,7 +115,7 @@ loop-again c =
     let l = k .before .before .before .before in
     let s = l .before .before .before in
     let file = now (s .args .file) in
-    rw (c .before .before .before .put-record .ensures) (writing-goes (s .args .fmt) (formatOf file) file _ (l .loop .inv) (it k) (stood k))
+    rw (c .before .before .before .put-record .ensures) (writing-goes (s .args .fmt) (s .args .own) file _ (l .loop .inv) (it k) (stood k))
 
 enum-told : tie.Need-enum-told Inv-loop μ-loop
 enum-told c = search needs
@@ -129,7 +132,7 @@ returns c =
     let l = r .before in
     let s = l .before .before .before in
     let file = now (s .args .file) in
-    writing-ends (s .args .fmt) (formatOf file) file _ (l .loop .inv) (sym (r .record-at .ensures) ∙ ap toldNext (c .enum-told .given .1))
+    writing-ends (s .args .fmt) (s .args .own) file _ (l .loop .inv) (sym (r .record-at .ensures) ∙ ap toldNext (c .enum-told .given .1))
 
 pub write-records-spec : {M : Type 1} → statement M
 write-records-spec =
