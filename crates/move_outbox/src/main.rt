@@ -65,11 +65,17 @@ fn argument() -> Asked {
     Asked::Neither
 }
 
+fn write_out(bytes: &[u8]) {
+    if !io::write_all(STDOUT_FILENO, bytes) {
+        complain(b"the output could not be written\n");
+    }
+}
+
 fn move_to(file: &[u8], wished: Wished, output: &mut [u8]) {
     let moved = move_file(file, wished, output);
     match moved {
         Moved::Written(n) => {
-            io::write_all(STDOUT_FILENO, &output[..n]);
+            write_out(&output[..n]);
         }
         Moved::NoRoom => complain(b"refused 14\n"),
         Moved::TooLong(place) => complain_at(moved.number(), place),

@@ -14,15 +14,21 @@ pub fn run(c: &mut Comparison<'_>, rng: &mut Rng, plan: Plan) -> Compared<()> {
             c.at = format!("outbox {number}");
         }
         let version = *rng.pick(&[ONE, TWO]);
-        let file = desk.build(c, rng, version, 0)?;
+        let file = desk.build(c, rng, version, &[])?;
         desk.cut_everywhere(c, rng, &file, 1)?;
         let broken = broken(rng, file);
         desk.cut_everywhere(c, rng, &broken, 1)?;
     }
     c.at = "outboxes with long records".to_string();
     for _ in 0..plan.times(20) {
-        for (version, stride) in [(ONE, 7), (TWO, 997)] {
-            let file = desk.build(c, rng, version, 1)?;
+        // As long as each version allows, and of 02 some that 01 just allows or does not.
+        let kinds = [
+            (ONE, 7, vec![ONE.payload - rng.index(3)]),
+            (TWO, 997, vec![TWO.payload - rng.index(3)]),
+            (TWO, 97, vec![4_095 + rng.index(4), 4_095 + rng.index(4)]),
+        ];
+        for (version, stride, long) in kinds {
+            let file = desk.build(c, rng, version, &long)?;
             desk.cut_everywhere(c, rng, &file, stride)?;
             let broken = broken(rng, file);
             desk.cut_everywhere(c, rng, &broken, stride)?;
@@ -106,26 +112,23 @@ impl Desk {
         }
     }
 
-    /// A whole outbox of a few records, made by the calls; some of them long. One of version 01 is
-    /// begun by hand: the calls begin none.
+    /// A whole outbox of a few records, made by the calls, with long ones of these sizes among them.
+    /// One of version 01 is begun by hand: the calls begin none.
     fn build(
         &mut self,
         c: &mut Comparison<'_>,
         rng: &mut Rng,
         version: Version,
-        long: usize,
+        long: &[usize],
     ) -> Compared<Vec<u8>> {
-        let records: Vec<(u64, Vec<u8>)> = (0..rng.index(5) + long)
-            .map(|number| {
-                let size = if number < long {
-                    version.payload - rng.index(3)
-                } else if rng.once_in(4) {
-                    0
-                } else {
-                    rng.index(12)
-                };
-                (*rng.pick(&[0, 2, 6]), rng.bytes(size))
-            })
+        let mut sizes = long.to_vec();
+        for _ in 0..rng.index(5) {
+            let size = if rng.once_in(4) { 0 } else { rng.index(12) };
+            sizes.insert(rng.index(sizes.len() + 1), size);
+        }
+        let records: Vec<(u64, Vec<u8>)> = sizes
+            .iter()
+            .map(|size| (*rng.pick(&[0, 2, 6]), rng.bytes(*size)))
             .collect();
         let head = version.width + 1;
         let size: usize = records

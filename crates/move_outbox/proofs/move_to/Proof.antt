@@ -26,14 +26,14 @@ fits c =
     let inside = written-fits (formatFor (s .args .wished)) (now (s .args .file)) (now (s .args .output)) _ (ap (λ s. s .told) (sym (m .move-file .ensures)) ∙ ap told (c .before .moved .given .1)) in
     omega (arith, inside, m .move-file .kept .1 .1 .0)
 
-slice-reshare-prefix-write-all : tie.Need-slice-reshare-prefix-write-all
-slice-reshare-prefix-write-all c = fits c
+slice-reshare-prefix-write-out : tie.Need-slice-reshare-prefix-write-out
+slice-reshare-prefix-write-out c = fits c
 
-slice-aggregate-write-all : tie.Need-slice-aggregate-write-all
-slice-aggregate-write-all c = sym (length-take-le _ _ (fits (c .before)))
+slice-aggregate-write-out : tie.Need-slice-aggregate-write-out
+slice-aggregate-write-out c = sym (length-take-le _ _ (fits (c .before)))
 
-write-all-requires : tie.Need-write-all-requires
-write-all-requires c κs = search needs
+write-out-requires : tie.Need-write-out-requires
+write-out-requires c κs = search needs
 
 enum-told : tie.Need-enum-told
 enum-told c = search needs
@@ -92,9 +92,9 @@ move-to-spec =
     (tie.spec
     move-file-requires
     enum-known-moved
-    slice-reshare-prefix-write-all
-    slice-aggregate-write-all
-    write-all-requires
+    slice-reshare-prefix-write-out
+    slice-aggregate-write-out
+    write-out-requires
     enum-told
     slice-aggregate-complain
     complain-requires
