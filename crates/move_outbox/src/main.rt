@@ -48,6 +48,9 @@ fn complain_at(number: u8, place: usize) {
 }
 
 fn argument() -> Asked {
+    if os::arg_count() != 2 {
+        return Asked::Neither;
+    }
     let mut word = [0u8; 3];
     let n = os::arg(1, &mut word);
     if n != 2 {
@@ -83,21 +86,21 @@ fn move_to(file: &[u8], wished: Wished, output: &mut [u8]) {
     }
 }
 
-fn move_input(input: &mut [u8], output: &mut [u8]) {
+fn move_input(wished: Wished, input: &mut [u8], output: &mut [u8]) {
     let held = io::read_full(STDIN_FILENO, input);
     if held == input.len() {
         complain(b"the file has 1,048,576 bytes or more\n");
         return;
     }
-    match argument() {
-        Asked::One => move_to(&input[..held], Wished::One, output),
-        Asked::Two => move_to(&input[..held], Wished::Two, output),
-        Asked::Neither => complain(b"the argument must be 01 or 02\n"),
-    }
+    move_to(&input[..held], wished, output);
 }
 
 fn main() {
     let mut input = input_room();
     let mut output = output_room();
-    move_input(&mut input, &mut output);
+    match argument() {
+        Asked::One => move_input(Wished::One, &mut input, &mut output),
+        Asked::Two => move_input(Wished::Two, &mut input, &mut output),
+        Asked::Neither => complain(b"one argument is needed, 01 or 02\n"),
+    }
 }

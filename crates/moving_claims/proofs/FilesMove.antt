@@ -19,14 +19,14 @@ use Rattle.outbox.proofs.Place.{opened}
 use Rattle.outbox.proofs.Walk.{whole-version}
 use Rattle.outbox.proofs.Versions.{format-known}
 use Rattle.outbox_claims.specs.Claims.{Lawful, Entry, AllTaken}
-use Rattle.outbox_claims.specs.Versions.{sizeOf}
+use Rattle.outbox_claims.specs.Versions.{Version, one, two, sizeOf}
 use Rattle.outbox_claims.proofs.Run.{Run, all-run, walk-is}
 use Rattle.outbox_claims.proofs.Contents.{contents}
 use Rattle.outbox_claims.proofs.Versions.{lawful-one, lawful-two}
 use Rattle.outbox_claims.proofs.ReadsAsAlone.{own-version}
 use Rattle.moving.specs.Moves.{recordsIn, overFrom, movedTo, moveOf}
 use Rattle.moving.proofs.Deciding.{first-is, known-same}
-use Rattle.moving_claims.specs.Claims.{Version, one, two, entriesOf, recordsOf, AllShort, Movable, Moves, FilesMove}
+use Rattle.moving_claims.specs.Claims.{entriesOf, recordsOf, AllShort, Movable, Moves, FilesMove}
 use Rattle.moving_claims.proofs.Rebuilt.{written, contents-long, rebuilt, taken, within, own-short, made-whole, made-entries}
 
 -- a call on a whole file that can make the journey, with room
@@ -124,7 +124,7 @@ mine-two l = refl
 
 pub files-move : FilesMove
 unfolding FilesMove
-files-move wished head limit one file out m h =
+files-move wished byte head limit one file out m h =
     moves versionOne (formatOf file) format.one (format-known file) lawful-one mine-one file refl (m .bytes) (m .whole) (m .short) out h
-files-move wished head limit two file out m h =
+files-move wished byte head limit two file out m h =
     moves versionTwo (formatOf file) format.two (format-known file) lawful-two mine-two file refl (m .bytes) (m .whole) (m .short) out h

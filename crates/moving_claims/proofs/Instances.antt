@@ -9,8 +9,9 @@ use Rattle.outbox.specs.declared.format.Format.{Format}
 use Rattle.outbox.specs.Format.{versionOne, versionTwo, isOne, formatOf, numberOf, bytesOf, recordBytes}
 use Rattle.outbox.specs.Reader.{given, refused, refusedAt, otherVersion, badPlace, badLength, cutShort, badStream, recordAt, readOf, readings, readAll, walkOf}
 use Rattle.outbox.specs.Writer.{stored, storedAt}
+use Rattle.outbox_claims.specs.Versions.{two}
 use Rattle.moving.specs.Moves.{movedTo, moveOf}
-use Rattle.moving_claims.specs.Claims.{Version, one, two, Movable, Moves, FilesMove}
+use Rattle.moving_claims.specs.Claims.{Movable, Moves, FilesMove}
 use Rattle.moving_claims.proofs.FilesMove.{files-move}
 
 abbrev oneRecord : List ℕ
@@ -56,7 +57,7 @@ movable =
 -- just room for it
 claimed : Moves versionTwo oneRecord 8 (moveOf versionTwo oneRecord (replicate 8 7))
 unfolding FilesMove isOne formatOf readAll readings readOf otherVersion badPlace recordAt badLength cutShort badStream numberOf isStream
-claimed = files-move versionTwo 5 65535 two oneRecord (replicate 8 7) movable (omega arith)
+claimed = files-move versionTwo 2 5 65535 two oneRecord (replicate 8 7) movable (omega arith)
 
 -- .. and for the way back
 claimed-back : moveOf versionOne oneRecordTwo (replicate 6 7) ≡ storedAt (replicate 6 7) 0 oneRecord

@@ -5,17 +5,12 @@ use mathlib.Core.List.{List, [], _∷_, _++_}
 use lib.ListN.{length, take}
 use Rattle.wire.specs.Bytes.{AllBytes}
 use Rattle.outbox.specs.declared.format.Format.{Format}
-use Rattle.outbox.specs.Format.{versionOne, versionTwo, formatOf}
+use Rattle.outbox.specs.Format.{versionOne, formatOf}
 use Rattle.outbox.specs.Reader.{Answer, given, refused, refusedAt, Item, found, end, Handed, readAll, walkOf}
 use Rattle.outbox.specs.Writer.{Stored, storedAt}
 use Rattle.outbox_claims.specs.Claims.{Entry}
-use Rattle.outbox_claims.specs.Versions.{sizeOf}
+use Rattle.outbox_claims.specs.Versions.{Version, sizeOf}
 use Rattle.moving.specs.Moves.{moveOf}
-
--- the wished version in numbers: the bytes before a payload, the largest payload
-pub data Version : Format → ℕ → ℕ → Type 0 where
-  one : Version versionOne 3 4096
-  two : Version versionTwo 5 65535
 
 -- a record that was read, as its sender had it
 abbrev pub entryOf : List ℕ → Answer Item → List Entry
@@ -52,7 +47,7 @@ pub record Moves (wished : Format) (file : List ℕ) (size : ℕ) (s : Stored) :
 
 unfoldable pub FilesMove : Type 0
 FilesMove =
-    (wished : Format) (head limit : ℕ) → Version wished head limit → (file out : List ℕ) → Movable limit file
+    (wished : Format) (byte head limit : ℕ) → Version wished byte head limit → (file out : List ℕ) → Movable limit file
     → 1 + sizeOf head (recordsOf file) ≤ length out
     → Moves wished file (1 + sizeOf head (recordsOf file)) (moveOf wished file out)
 
