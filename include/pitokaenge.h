@@ -15,8 +15,8 @@
  *
  * NUMBERS. Each function returns 0 or the number of a refusal, PITO_REFUSED_.. below.
  * After every call that does not return 1 the whole answer row is written. After a refusal it is 0 throughout, but
- * for what is said below (the number of bytes used by pito_extractor_feed, the place that goes with 41, the field and
- * the place that go with 36, the field that goes with 50).
+ * for what is said below (the number of bytes used by pito_extractor_feed, the place that goes with 41, and
+ * with 40 to 43 and 46 where an outbox is moved, the field and the place that go with 36, the field that goes with 50).
  * A refusal leaves state and lent bytes as they were, except that 20 to 25 leave the extractor outside a frame (20:
  * at the begin of the new one), 10 and 11 leave the slot of the stream idle, and pito_extractor_feed has by then
  * stored what came before the refused byte, in state and buffer as single steps would have.
@@ -112,6 +112,7 @@ enum {
     PITO_REFUSED_RECORD_CUT = 41,    /* record cut short */
     PITO_REFUSED_RECORD_LENGTH = 42, /* record length 0 or over its version's: 4,097 in 01, 65,536 in 02 */
     PITO_REFUSED_RECORD_STREAM = 43, /* record's stream not 0, 2, 6 */
+    PITO_REFUSED_RECORD_LONG = 46,   /* payload over 4,096 on the way to version 01 */
 
     /* The profile. */
     PITO_REFUSED_PROFILE = 50 /* a profile rule of a segment broken, told with its field */
@@ -637,6 +638,21 @@ PITO_CALL uint64_t pito_outbox_record(const uint8_t *bytes, size_t bytes_len, ui
  */
 enum { PITO_OUTBOX_WHOLE_CUT_PLACE, PITO_OUTBOX_WHOLE_ANSWER };
 PITO_CALL uint64_t pito_outbox_whole(const uint8_t *bytes, size_t bytes_len, uint64_t *answer, size_t answer_len);
+
+/*
+ * Writes an outbox as version 01, or as version 02: the same records in the same order. One that has the version already
+ * is copied. From 01 to 02 each record grows by 2 bytes; what comes back is, byte for byte, what went. bytes_len is
+ * enough output to 01 and for a copy, 2 * bytes_len to 02.
+ * Answer: the number of bytes written; the place goes with 40 to 43 and 46, and is where the record begins that the
+ * refusal is of (0 with 40).
+ * Returns 0, 1, the outbox's first refusal (40, 42, 41, 43), then 46 (to version 01: a payload over 4,096), then 14.
+ */
+enum { PITO_OUTBOX_TO_01_SIZE, PITO_OUTBOX_TO_01_PLACE, PITO_OUTBOX_TO_01_ANSWER };
+PITO_CALL uint64_t pito_outbox_to_01(const uint8_t *bytes, size_t bytes_len, uint8_t *output, size_t output_len,
+                                     uint64_t *answer, size_t answer_len);
+enum { PITO_OUTBOX_TO_02_SIZE, PITO_OUTBOX_TO_02_PLACE, PITO_OUTBOX_TO_02_ANSWER };
+PITO_CALL uint64_t pito_outbox_to_02(const uint8_t *bytes, size_t bytes_len, uint8_t *output, size_t output_len,
+                                     uint64_t *answer, size_t answer_len);
 
 #ifdef __cplusplus
 }

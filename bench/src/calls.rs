@@ -59,6 +59,7 @@ calls! {
         answer: *mut u64, answers: usize);
     OutboxRecord(bytes: *const u8, length: usize, place: u64, answer: *mut u64, answers: usize);
     OutboxWhole(bytes: *const u8, length: usize, answer: *mut u64, answers: usize);
+    OutboxTo(bytes: *const u8, length: usize, output: *mut u8, size: usize, answer: *mut u64, answers: usize);
 }
 
 // What nanopb and protobuf-c write is filled ahead, and what they read stands in structs of their own.

@@ -1,8 +1,8 @@
 //! Loops over outboxes.
 
-use crate::calls::{OutboxAppend, OutboxRecord, OutboxWhole};
+use crate::calls::{OutboxAppend, OutboxRecord, OutboxTo, OutboxWhole};
 use crate::digest::Digest;
-use second::outbox;
+use second::outbox::{self, Version};
 use std::hint::black_box;
 
 const ALEXA: u64 = 6;
@@ -122,5 +122,48 @@ pub fn whole_own<const WHOLE: bool>(bytes: &[u8], rounds: usize) -> u64 {
             Err(broken) => digest.row(&[broken.refusal.number(), broken.place.unwrap_or(0) as u64]),
         }
     }
+    digest.value()
+}
+
+/// The outbox written as another version, as often as is said.
+pub fn moved<const WHOLE: bool>(
+    moved: OutboxTo,
+    bytes: &[u8],
+    output: &mut [u8],
+    rounds: usize,
+) -> u64 {
+    let moved = black_box(moved);
+    let mut digest = Digest::<WHOLE>::new();
+    let mut answer = [0; 2];
+    for _ in 0..rounds {
+        let number = unsafe {
+            moved(
+                bytes.as_ptr(),
+                bytes.len(),
+                output.as_mut_ptr(),
+                output.len(),
+                answer.as_mut_ptr(),
+                answer.len(),
+            )
+        };
+        digest.number(number);
+        digest.row(&answer);
+    }
+    digest.lent(output);
+    digest.value()
+}
+
+pub fn moved_own<const WHOLE: bool>(
+    wished: Version,
+    bytes: &[u8],
+    output: &mut [u8],
+    rounds: usize,
+) -> u64 {
+    let mut digest = Digest::<WHOLE>::new();
+    for _ in 0..rounds {
+        let size = outbox::write_as(wished, bytes, output).expect("a whole outbox");
+        digest.row(&[0, size as u64, 0]);
+    }
+    digest.lent(output);
     digest.value()
 }

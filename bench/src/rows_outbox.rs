@@ -3,7 +3,7 @@
 use crate::calls::*;
 use crate::job::{share, with_copy, Job, Row, Subject};
 use crate::{inputs, outbox, rust, work};
-use second::outbox::{ONE, TWO};
+use second::outbox::{Version, ONE, TWO};
 
 /// The payload of each record.
 const PAYLOAD: usize = 100;
@@ -41,6 +41,14 @@ pub fn rows() -> Vec<Row> {
         line("version 02, whole, 1,000 records cut in the last", || {
             whole_job(cut(inputs::outbox(TWO, 1_000, PAYLOAD)), 4)
         }),
+        line(
+            "1,000 records of 100 bytes, version 01 written as 02",
+            || moved_job(inputs::outbox(ONE, 1_000, PAYLOAD), TWO, 4),
+        ),
+        line(
+            "1,000 records of 100 bytes, version 02 written as 01",
+            || moved_job(inputs::outbox(TWO, 1_000, PAYLOAD), ONE, 4),
+        ),
     ]
 }
 
@@ -103,4 +111,30 @@ pub fn whole_job(bytes: Vec<u8>, rounds: usize) -> Job {
             work!(outbox::whole(rust::outbox_whole, &b, rounds)),
         )
         .with(Subject::Own, work!(outbox::whole_own(&c, rounds)))
+}
+
+/// The whole outbox written as another version, as often as is said.
+pub fn moved_job(bytes: Vec<u8>, wished: Version, rounds: usize) -> Job {
+    let records = inputs::records(&bytes);
+    let room = || vec![0; 2 * bytes.len()];
+    let [mut x, mut y, mut z] = [room(), room(), room()];
+    let (archive, plain): (OutboxTo, OutboxTo) = if wished == ONE {
+        (pito_outbox_to_01, rust::outbox_to_01)
+    } else {
+        (pito_outbox_to_02, rust::outbox_to_02)
+    };
+    let [a, b, c] = share(bytes);
+    Job::of("record", records * rounds)
+        .with(
+            Subject::Archive,
+            work!(outbox::moved(archive, &a, &mut x, rounds)),
+        )
+        .with(
+            Subject::Rust,
+            work!(outbox::moved(plain, &b, &mut y, rounds)),
+        )
+        .with(
+            Subject::Own,
+            work!(outbox::moved_own(wished, &c, &mut z, rounds)),
+        )
 }

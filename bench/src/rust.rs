@@ -2,6 +2,7 @@
 //! slices.
 
 use second::face::{self, firmware};
+use second::outbox::{ONE, TWO};
 use std::slice;
 
 unsafe fn lent<'a, T>(start: *mut T, length: usize) -> &'a mut [T] {
@@ -76,4 +77,8 @@ shims! {
     outbox_record(bytes: *const u8, length: usize, place: u64) told
         face::outbox_record(given(bytes, length), place, told);
     outbox_whole(bytes: *const u8, length: usize) told face::outbox_whole(given(bytes, length), told);
+    outbox_to_01(bytes: *const u8, length: usize, output: *mut u8, size: usize) told
+        face::outbox_write_as(ONE, given(bytes, length), lent(output, size), told);
+    outbox_to_02(bytes: *const u8, length: usize, output: *mut u8, size: usize) told
+        face::outbox_write_as(TWO, given(bytes, length), lent(output, size), told);
 }

@@ -17,7 +17,7 @@ use crate::classic::{self, Decided, Extractor, Next, Outcome, Parts, Standing};
 use crate::control::{self, Envelope, Features, Given, Information, Member, Payload, Response};
 use crate::implementation::{Implementation, Operation};
 use crate::low_energy::{self, Accepted, Open, Receiver, Slots, Stream, Wish};
-use crate::outbox::{self, Broken, Record};
+use crate::outbox::{self, Broken, Record, Version, ONE, TWO};
 use crate::refusal::{self, Refusal};
 use std::ops::Range;
 
@@ -100,6 +100,8 @@ impl Implementation for Model {
             }
             Operation::OutboxRecord => outbox_record(&inputs[0], numbers[0], answer),
             Operation::OutboxWhole => outbox_whole(&inputs[0], answer),
+            Operation::OutboxTo01 => outbox_write_as(ONE, &inputs[0], lent, answer),
+            Operation::OutboxTo02 => outbox_write_as(TWO, &inputs[0], lent, answer),
         }
     }
 }
@@ -706,5 +708,18 @@ pub fn outbox_whole(bytes: &[u8], answer: &mut [u64]) -> u64 {
     ask(answer, || {
         outbox::whole(bytes).map_err(broken_out::<1>)?;
         Ok([0])
+    })
+}
+
+/// Answer `size, place`.
+pub fn outbox_write_as(
+    wished: Version,
+    bytes: &[u8],
+    output: &mut [u8],
+    answer: &mut [u64],
+) -> u64 {
+    ask(answer, || {
+        let size = outbox::write_as(wished, bytes, output).map_err(broken_out::<2>)?;
+        Ok([wide(size), 0])
     })
 }

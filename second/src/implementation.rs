@@ -33,6 +33,8 @@ pub enum Operation {
     OutboxAppend,
     OutboxRecord,
     OutboxWhole,
+    OutboxTo01,
+    OutboxTo02,
 }
 
 /// The rows of an operation, for building calls and for printing them.
@@ -222,7 +224,7 @@ const MESSAGE_READ: &[u64] = &[0, 1, 30, 31, 32, 33, 34];
 const STRINGS_READ: &[u64] = &[0, 1, 30, 31, 32, 33, 34, 36];
 
 impl Operation {
-    pub const ALL: [Operation; 28] = [
+    pub const ALL: [Operation; 30] = [
         Operation::ExtractorOpen,
         Operation::ExtractorStep,
         Operation::ExtractorFeed,
@@ -251,6 +253,8 @@ impl Operation {
         Operation::OutboxAppend,
         Operation::OutboxRecord,
         Operation::OutboxWhole,
+        Operation::OutboxTo01,
+        Operation::OutboxTo02,
     ];
 
     pub fn shape(self) -> Shape {
@@ -523,6 +527,23 @@ impl Operation {
                 inputs: &["bytes"],
                 answer: &["cut place"],
                 returns: &[0, 1, 40, 41, 42, 43],
+                ..empty
+            },
+            Operation::OutboxTo01 => Shape {
+                name: "outbox to 01",
+                inputs: &["bytes"],
+                answer: &["size", "place"],
+                lent: "output",
+                returns: &[0, 1, 14, 40, 41, 42, 43, 46],
+                ..empty
+            },
+            Operation::OutboxTo02 => Shape {
+                name: "outbox to 02",
+                inputs: &["bytes"],
+                answer: &["size", "place"],
+                lent: "output",
+                // Every payload of 01 is short enough for 02.
+                returns: &[0, 1, 14, 40, 41, 42, 43],
                 ..empty
             },
         }

@@ -149,6 +149,14 @@ impl Implementation for Library {
                     let (outbox, length) = input(0);
                     pito_outbox_whole(outbox, length, told, tells)
                 }
+                Operation::OutboxTo01 => {
+                    let (outbox, length) = input(0);
+                    pito_outbox_to_01(outbox, length, bytes, size, told, tells)
+                }
+                Operation::OutboxTo02 => {
+                    let (outbox, length) = input(0);
+                    pito_outbox_to_02(outbox, length, bytes, size, told, tells)
+                }
             }
         }
     }

@@ -143,3 +143,42 @@ pub fn append(buffer: &mut [u8], used: u64, stream: u64, payload: &[u8]) -> Resu
     deliver(&made, free)?;
     Ok(before.len() + made.len())
 }
+
+/// "Write a version 01 file as version 02, and the other way. Records, streams and order stay". "A
+/// file already in the wished version is copied. Refusals: the file's own first refusal (40 to 43);
+/// then 46 .. told with the first such record's place; then 14 no room." Here each refusal of the
+/// file has its place, 0 with 40.
+pub fn write_as(wished: Version, bytes: &[u8], output: &mut [u8]) -> Result<usize, Broken> {
+    let version = Version::of(bytes).map_err(|refusal| Broken {
+        refusal,
+        place: Some(0),
+    })?;
+    let mut made = vec![if wished == ONE { 0x01 } else { 0x02 }];
+    let mut long = None;
+    let mut place = 1;
+    while place < bytes.len() {
+        let read = record(bytes, place as u64).map_err(|broken| Broken {
+            refusal: broken.refusal,
+            place: Some(place),
+        })?;
+        let record = read.expect("the end is not here");
+        if record.length > wished.payload && long.is_none() {
+            long = Some(place);
+        }
+        let length = (record.length as u32 + 1).to_be_bytes();
+        made.extend_from_slice(&length[length.len() - wished.width..]);
+        made.push(record.stream.number());
+        made.extend_from_slice(&bytes[record.start..record.next]);
+        place = record.next;
+    }
+    if version == wished {
+        return Ok(deliver(bytes, output)?);
+    }
+    if long.is_some() {
+        return Err(Broken {
+            refusal: Refusal::RecordLong,
+            place: long,
+        });
+    }
+    Ok(deliver(&made, output)?)
+}

@@ -74,6 +74,8 @@ pub enum Refusal {
     RecordLength = 42,
     /// "record's stream not 0, 2, 6"
     RecordStream = 43,
+    /// "a payload over 4,096 on the way to 01, told with the first such record's place" (No. 7)
+    RecordLong = 46,
     /// "a profile rule broken, told with the lowest field number" (No. 1)
     Profile = 50,
 }

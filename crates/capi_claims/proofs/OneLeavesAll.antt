@@ -50,8 +50,11 @@ use Rattle.firmware.specs.Segment.{brokenField}
 use Rattle.firmware_writer.specs.Segment.{segmentStrings, segmentFields, segmentFilled, segmentWritten}
 use Rattle.firmware_writer.specs.Information.{badFirmware, firmwareStrings}
 use Rattle.firmware_writer.specs.Apply.{applyFields, applyWritten}
-use Rattle.outbox.specs.Format.{versionTwo, formatOf, newBytes, recordBytes}
-use Rattle.outbox.specs.Reader.{Answer, otherVersion, walkOf, numberIn}
+use Rattle.outbox.specs.declared.format.Format.{Format}
+use Rattle.outbox.specs.Format.{versionTwo, formatOf, newBytes, recordBytes, firstPlace}
+use Rattle.outbox.specs.Reader.{Answer, otherVersion, readAll, walkOf, numberIn}
+use Rattle.moving.specs.Moves.{overFrom, movedTo, moveOf}
+use Rattle.calls_moving.specs.Calls.{movedRow, outboxMoveOf}
 use Rattle.outbox.specs.Reader as outbox
 use Rattle.outbox.specs.Writer.{Stored, stored, storedAt, newOf, badRecord, appendOf, ifWhole}
 use Rattle.rows.specs.Row.{numberTold, byteOr, outOfRange}
@@ -324,6 +327,23 @@ append-keeps used stream payload buffer answer =
     by-table (StoredKeeps buffer) lines (λ n. stored (outbox.refused n) buffer) walked (λ n e. refl)
     (λ h. whole-keeps (walkOf fmt (take used buffer)) buffer (after .buffer) (used + length (recordBytes fmt known payload))))))
 
+ifwhole-keeps : (a : Answer (Unit {0})) (out : List ℕ) (s : Stored) → StoredKeeps out s → StoredKeeps out (ifWhole a out s)
+unfolding StoredKeeps
+ifwhole-keeps (outbox.given whole) out s k = k
+ifwhole-keeps (outbox.refused n) out s k = λ e. refl
+ifwhole-keeps (outbox.refusedAt n place) out s k = λ e. refl
+
+move-keeps : (wished : Format) (file out answer : List ℕ) → Keeps [] out answer (outboxMoveOf wished file out answer)
+unfolding outboxMoveOf moveOf StoredKeeps
+move-keeps wished file out answer =
+    let fmt = formatOf file in
+    let s = moveOf wished file out in
+    let bytes = movedTo wished fmt file in
+    keeps-answers 2 (numberIn (s .told)) out answer (s .buffer) (movedRow (s .told))
+    (ifwhole-keeps (walkOf fmt file) out _
+    (ifwhole-keeps (overFrom (wished .limit) firstPlace (readAll fmt file)) out _
+    (by-table (StoredKeeps out) (line 14 (ltb (length out) (length bytes)) ∷ []) (λ n. stored (outbox.refused n) out) (storedAt out 0 bytes) (λ n e. refl) (λ h. never))))
+
 pub one-leaves-all : OneLeavesAll
 unfolding nextSequenceOf envelopeReadOf responseReadOf informationReadOf featuresReadOf segmentReadOf applyReadOf fieldReadOf outboxRecordOf outboxWholeOf
 one-leaves-all = record {
@@ -355,4 +375,5 @@ one-leaves-all = record {
   outbox-append = append-keeps;
   outbox-record = λ place file answer. keeps-answers 6 _ [] answer _ _ (λ e. refl);
   outbox-whole = λ file answer. keeps-answers 1 _ [] answer _ _ (λ e. refl);
+  outbox-move = move-keeps;
 }

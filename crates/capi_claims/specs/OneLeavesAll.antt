@@ -13,6 +13,8 @@ use Rattle.calls_receiving.specs.Calls.{receiverOpenOf, receiverAcceptOf}
 use Rattle.calls_messages.specs.Calls.{envelopeReadOf, envelopeWriteOf, responseReadOf, responseWriteOf, informationReadOf, informationWriteOf, featuresReadOf, featuresWriteOf}
 use Rattle.calls_firmware.specs.Calls.{segmentReadOf, segmentWriteOf, applyReadOf, applyWriteOf, fieldReadOf}
 use Rattle.calls_outbox.specs.Calls.{outboxNewOf, outboxAppendOf, outboxRecordOf, outboxWholeOf}
+use Rattle.outbox.specs.declared.format.Format.{Format}
+use Rattle.calls_moving.specs.Calls.{outboxMoveOf}
 
 -- if it returns 1, state row, lent bytes and answer row are what they were
 abbrev pub Keeps : List ℕ → List ℕ → List ℕ → Called → Type 0
@@ -51,3 +53,4 @@ pub record OneLeavesAll : Type 0 where
   pub outbox-append : (used stream : ℕ) (payload buffer answer : List ℕ) → Keeps [] buffer answer (outboxAppendOf buffer used stream payload answer)
   pub outbox-record : (place : ℕ) (file answer : List ℕ) → Keeps [] [] answer (outboxRecordOf file place answer)
   pub outbox-whole : (file answer : List ℕ) → Keeps [] [] answer (outboxWholeOf file answer)
+  pub outbox-move : (wished : Format) (file out answer : List ℕ) → Keeps [] out answer (outboxMoveOf wished file out answer)

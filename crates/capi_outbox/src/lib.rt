@@ -1,5 +1,7 @@
 // The outbox for C: every capability on numbers and slices only, as its crates give it. include/pitokaenge.h describes
 // each function for its callers.
+use calls_moving::outbox_to_one;
+use calls_moving::outbox_to_two;
 use calls_outbox::calls::outbox_append;
 use calls_outbox::calls::outbox_new;
 use calls_outbox::calls::outbox_record;
@@ -7,6 +9,8 @@ use calls_outbox::calls::outbox_whole;
 ghost use mathlib.Core.Path.{_≡_};
 ghost use mathlib.Core.List.{[]};
 ghost use Rattle.rows.specs.Called.{called};
+ghost use Rattle.outbox.specs.Format.{versionOne, versionTwo};
+ghost use Rattle.calls_moving.specs.Calls.{outboxMoveOf};
 ghost use Rattle.calls_outbox.specs.Calls.{outboxNewOf, outboxAppendOf, outboxRecordOf, outboxWholeOf};
 
 // Begins a new outbox.
@@ -49,4 +53,22 @@ pub extern "C" fn pito_outbox_whole(bytes: &[u8], answer: &mut [u64]) -> u64
         ≡ outboxWholeOf (now (bytes .entry)) (now (answer .entry)) ⌝ }
 {
     outbox_whole(bytes, answer)
+}
+
+// Writes an outbox as version 01.
+#[no_mangle]
+pub extern "C" fn pito_outbox_to_01(bytes: &[u8], output: &mut [u8], answer: &mut [u64]) -> u64
+    ensures { λ r. ⌜ called r [] (now (output .exit)) (now (answer .exit))
+        ≡ outboxMoveOf versionOne (now (bytes .entry)) (now (output .entry)) (now (answer .entry)) ⌝ }
+{
+    outbox_to_one(bytes, output, answer)
+}
+
+// Writes an outbox as version 02.
+#[no_mangle]
+pub extern "C" fn pito_outbox_to_02(bytes: &[u8], output: &mut [u8], answer: &mut [u64]) -> u64
+    ensures { λ r. ⌜ called r [] (now (output .exit)) (now (answer .exit))
+        ≡ outboxMoveOf versionTwo (now (bytes .entry)) (now (output .entry)) (now (answer .entry)) ⌝ }
+{
+    outbox_to_two(bytes, output, answer)
 }

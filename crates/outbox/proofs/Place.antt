@@ -96,6 +96,16 @@ module _ (fmt : Format) (file : List ℕ) (place : ℕ) where
       (λ h e. absurd (clash (cc)))
       (λ h e. found-within fmt file place f h e)
 
+  -- .. and stands there
+  pub read-record : (f : Found) → readOf fmt file place ≡ given (found f) → recordAt fmt place (drop place file) ≡ given (found f)
+  read-record f =
+      read-cases
+      (λ a. a ≡ given (found f) → recordAt fmt place (drop place file) ≡ given (found f))
+      (λ e. absurd (clash (cc)))
+      (λ e. absurd (clash (cc)))
+      (λ h e. absurd (clash (cc)))
+      (λ h e. e)
+
   -- the end is read at the end only
   pub read-at-end : readOf fmt file place ≡ given end → place ≡ length file
   read-at-end =

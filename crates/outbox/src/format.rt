@@ -2,7 +2,7 @@
 use wire::bytes::byte_at;
 use wire::logic::either;
 ghost use mathlib.Core.Path.{_≡_};
-ghost use Rattle.outbox.specs.Format.{versionOne, versionTwo, isOne};
+ghost use Rattle.outbox.specs.Format.{versionOne, versionTwo, isOne, formatOf};
 ghost use Rattle.outbox.specs.Reader.{otherVersion};
 
 // The place of the first record: after the version byte.
@@ -33,6 +33,17 @@ impl Format {
             version: 2,
             width: 4,
             limit: 65535,
+        }
+    }
+
+    // The version that a file is judged by.
+    pub fn of(file: &[u8]) -> Self
+        ensures { λ r. ⌜ r ≡ formatOf (now (file .entry)) ⌝ }
+    {
+        if is_one(file) {
+            Format::one()
+        } else {
+            Format::two()
         }
     }
 }

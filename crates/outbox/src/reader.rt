@@ -93,7 +93,8 @@ fn bad_place(file: &[u8], place: usize) -> bool
     either(place == 0, file.len() < place)
 }
 
-fn read_by(file: &[u8], place: usize, fmt: Format) -> Reading
+// Reads by a version. For callers that go through a whole file: with them, `read` would no longer be compiled into its own callers.
+pub fn read_by(file: &[u8], place: usize, fmt: Format) -> Reading
     requires { ⌜ Known fmt ⌝ }
     ensures { λ r. ⌜ told r ≡ readOf fmt (now (file .entry)) place ⌝ }
 {

@@ -93,7 +93,7 @@ fn put_length(buffer: &mut [u8], at: usize, fmt: Format, n: usize)
 }
 
 // Writes a record at a place.
-fn put_record(buffer: &mut [u8], at: usize, fmt: Format, stream: u8, payload: &[u8])
+pub fn put_record(buffer: &mut [u8], at: usize, fmt: Format, stream: u8, payload: &[u8])
     requires { ⌜ Known fmt
         × (at + (headSize fmt + length (now payload)) ≤ length (now buffer))
         × (length (now payload) ≤ fmt .limit) ⌝ }

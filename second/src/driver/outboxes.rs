@@ -14,15 +14,21 @@ pub fn run(c: &mut Comparison<'_>, rng: &mut Rng, plan: Plan) -> Compared<()> {
             c.at = format!("outbox {number}");
         }
         let version = *rng.pick(&[ONE, TWO]);
-        let file = desk.build(c, rng, version, 0)?;
+        let file = desk.build(c, rng, version, &[])?;
         desk.cut_everywhere(c, rng, &file, 1)?;
         let broken = broken(rng, file);
         desk.cut_everywhere(c, rng, &broken, 1)?;
     }
     c.at = "outboxes with long records".to_string();
     for _ in 0..plan.times(20) {
-        for (version, stride) in [(ONE, 7), (TWO, 997)] {
-            let file = desk.build(c, rng, version, 1)?;
+        // As long as each version allows, and of 02 some that 01 just allows or does not.
+        let kinds = [
+            (ONE, 7, vec![ONE.payload - rng.index(3)]),
+            (TWO, 997, vec![TWO.payload - rng.index(3)]),
+            (TWO, 97, vec![4_095 + rng.index(4), 4_095 + rng.index(4)]),
+        ];
+        for (version, stride, long) in kinds {
+            let file = desk.build(c, rng, version, &long)?;
             desk.cut_everywhere(c, rng, &file, stride)?;
             let broken = broken(rng, file);
             desk.cut_everywhere(c, rng, &broken, stride)?;
@@ -52,7 +58,17 @@ fn broken(rng: &mut Rng, mut file: Vec<u8>) -> Vec<u8> {
             (1 | 2, false) => {
                 let place = *rng.pick(&places);
                 let lengths = [
-                    0, 1, 2, 4_096, 4_097, 4_098, 0xFFFF, 0x1_0000, 0x1_0001, 0x0100, 0x0100_0000,
+                    0,
+                    1,
+                    2,
+                    4_096,
+                    4_097,
+                    4_098,
+                    0xFFFF,
+                    0x1_0000,
+                    0x1_0001,
+                    0x0100,
+                    0x0100_0000,
                 ];
                 let length: u32 = *rng.pick(&lengths);
                 file[place..place + width].copy_from_slice(&length.to_be_bytes()[4 - width..]);
@@ -79,6 +95,7 @@ struct Desk {
     append: Call,
     record: Call,
     whole: Call,
+    moves: [Call; 2],
 }
 
 impl Desk {
@@ -88,29 +105,30 @@ impl Desk {
             append: Call::new(Operation::OutboxAppend),
             record: Call::new(Operation::OutboxRecord),
             whole: Call::new(Operation::OutboxWhole),
+            moves: [
+                Call::new(Operation::OutboxTo01),
+                Call::new(Operation::OutboxTo02),
+            ],
         }
     }
 
-    /// A whole outbox of a few records, made by the calls; some of them long. One of version 01 is
-    /// begun by hand: the calls begin none.
+    /// A whole outbox of a few records, made by the calls, with long ones of these sizes among them.
+    /// One of version 01 is begun by hand: the calls begin none.
     fn build(
         &mut self,
         c: &mut Comparison<'_>,
         rng: &mut Rng,
         version: Version,
-        long: usize,
+        long: &[usize],
     ) -> Compared<Vec<u8>> {
-        let records: Vec<(u64, Vec<u8>)> = (0..rng.index(5) + long)
-            .map(|number| {
-                let size = if number < long {
-                    version.payload - rng.index(3)
-                } else if rng.once_in(4) {
-                    0
-                } else {
-                    rng.index(12)
-                };
-                (*rng.pick(&[0, 2, 6]), rng.bytes(size))
-            })
+        let mut sizes = long.to_vec();
+        for _ in 0..rng.index(5) {
+            let size = if rng.once_in(4) { 0 } else { rng.index(12) };
+            sizes.insert(rng.index(sizes.len() + 1), size);
+        }
+        let records: Vec<(u64, Vec<u8>)> = sizes
+            .iter()
+            .map(|size| (*rng.pick(&[0, 2, 6]), rng.bytes(*size)))
             .collect();
         let head = version.width + 1;
         let size: usize = records
@@ -201,6 +219,7 @@ impl Desk {
         self.whole.inputs[0].clear();
         self.whole.inputs[0].extend_from_slice(bytes);
         c.run(&mut self.whole)?;
+        self.moved(c, rng, bytes)?;
 
         // The places told, one after the other, and some that nobody told.
         self.record.inputs[0].clear();
@@ -260,6 +279,37 @@ impl Desk {
             let used = self.append.answer[0] as usize;
             self.whole.inputs[0] = self.append.lent[..used].to_vec();
             c.expect(&mut self.whole, 0, |call| call.answer == [0])?;
+        }
+        Ok(())
+    }
+
+    /// Writes the bytes as each version; what came out whole goes back to the same bytes.
+    fn moved(&mut self, c: &mut Comparison<'_>, rng: &mut Rng, bytes: &[u8]) -> Compared<()> {
+        for there in 0..2 {
+            let call = &mut self.moves[there];
+            call.inputs[0].clear();
+            call.inputs[0].extend_from_slice(bytes);
+            let room = match rng.below(4) {
+                0 => rng.index(bytes.len() + 2),
+                1 => bytes.len(),
+                _ => 2 * bytes.len() + 2,
+            };
+            call.lent = rng.bytes(room);
+            if c.run(call)? != 0 {
+                continue;
+            }
+            let size = call.answer[0] as usize;
+            let made = call.lent[..size].to_vec();
+            // Just the room that it takes, and one byte less.
+            call.lent = rng.bytes(size);
+            c.expect(call, 0, |call| call.lent == made)?;
+            call.lent = rng.bytes(size - 1);
+            c.expect(call, 14, |call| call.answer == [0, 0])?;
+            let own = usize::from(bytes[0] == 2);
+            let call = &mut self.moves[own];
+            call.inputs[0] = made;
+            call.lent = rng.bytes(bytes.len());
+            c.expect(call, 0, |call| call.lent == bytes)?;
         }
         Ok(())
     }

@@ -131,6 +131,8 @@ fn ordinary(rng: &mut Rng, operation: Operation) -> Call {
         }
         Operation::OutboxRecord => call.numbers(&[1]).inputs(&[&[1, 0, 2, 6, 9]]),
         Operation::OutboxWhole => call.inputs(&[&[1, 0, 2, 6, 9]]),
+        Operation::OutboxTo01 => call.inputs(&[&[2, 0, 0, 0, 2, 6, 9]]).lent(rng.bytes(8)),
+        Operation::OutboxTo02 => call.inputs(&[&[1, 0, 2, 6, 9]]).lent(rng.bytes(8)),
     }
 }
 

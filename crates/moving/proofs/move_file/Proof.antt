@@ -1,0 +1,60 @@
+use mathlib.Core.Path.{sym, ap, _∙_}
+use borrow.Author.Needs.{needs}
+use denote.Ref.{now}
+use Rattle.outbox.specs.Reader.{faultNumber, toldWalk}
+use Rattle.moving.specs.Moves.{formatFor, moveOf}
+use Rattle.moving.proofs.Deciding.{broken, known-for}
+use Rattle.moving.proofs.move_file.Statement.{statement}
+use Rattle.moving.proofs.move_file.Tie as tie
+
+walk-requires : tie.Need-walk-requires
+walk-requires c κs = search needs
+
+enum-told : tie.Need-enum-told
+enum-told c = search needs
+
+format-requires : tie.Need-format-requires
+format-requires c κs = search needs
+
+move-whole-requires : tie.Need-move-whole-requires
+move-whole-requires c κs =
+    let f = c .before in
+    let t = f .before in
+    let w = t .before .before in
+    let s = w .before .before .before in
+    (rw (f .format .ensures) (known-for (s .args .wished)), sym (w .walk .ensures) ∙ ap toldWalk (t .enum-told .given .1))
+
+enum-known-fault : tie.Need-enum-known-fault
+enum-known-fault c = search needs
+
+same-length : tie.Need-same-length
+same-length c = search needs
+
+returns : tie.Need-returns
+returns c =
+    let m = c .before .before in
+    let f = m .before .before in
+    let s = f .before .before .before .before .before .before in
+    m .move-whole .ensures ∙ ap (λ w. moveOf w (now (s .args .file)) (now (s .args .out))) (f .format .ensures)
+
+returns-2 : tie.Need-returns-2
+returns-2 c =
+    let m = c .before in
+    let w = m .before .before in
+    let s = w .before .before .before in
+    sym
+    (broken (formatFor (s .args .wished)) (now (s .args .file)) (now (s .args .out)) (faultNumber (m .fault .given .0 .0)) (m .fault .given .0 .1 .0)
+    (sym (w .walk .ensures) ∙ ap toldWalk (m .fault .given .1)))
+
+pub move-file-spec : {M : Type 1} → statement M
+move-file-spec =
+    tie.close
+    (tie.spec
+    walk-requires
+    enum-told
+    format-requires
+    move-whole-requires
+    enum-known-fault
+    same-length
+    returns
+    returns-2)

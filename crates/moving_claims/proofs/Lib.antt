@@ -1,0 +1,5 @@
+pub mod Numbers
+pub mod Rebuilt
+pub mod FilesMove
+pub mod Premises
+mod Instances
