@@ -1,3 +1,4 @@
 pub mod Question
 pub mod Cases
 pub mod ExtractorCases
+pub mod LimitEnds
