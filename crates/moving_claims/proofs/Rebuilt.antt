@@ -82,7 +82,7 @@ taken wished fmt file (ends place e) o = tt
 taken wished fmt file (stops place inside e) o = tt
 taken wished fmt file (goes place {f = f} inside e p r) o =
     let s = found-stands fmt place (drop place file) f e in
-    (record { known = rw (s .1) (s .0 .known); short = o .0 }, taken wished fmt file r (o .1))
+    (record { known = rw (s .1) (s .0 .known); short = omega (arith, o .0) }, taken wished fmt file r (o .1))
 
 -- .. and are not over it
 pub within : (limit : ℕ) (fmt : Format) (file : List ℕ) {place : ℕ} {hs : List Handed} → Run fmt file place hs → AllShort limit (entriesOf hs)
