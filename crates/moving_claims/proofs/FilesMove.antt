@@ -125,6 +125,6 @@ mine-two l = refl
 pub files-move : FilesMove
 unfolding FilesMove
 files-move wished byte head limit one file out m h =
-    moves versionOne (formatOf file) format.one (format-known file) lawful-one mine-one file refl (m .bytes) (m .whole) (m .short) out h
+    moves versionOne (formatOf file) format.one (format-known file) lawful-one mine-one file refl (m .bytes) (m .whole) (m .short) out (omega (arith, h))
 files-move wished byte head limit two file out m h =
-    moves versionTwo (formatOf file) format.two (format-known file) lawful-two mine-two file refl (m .bytes) (m .whole) (m .short) out h
+    moves versionTwo (formatOf file) format.two (format-known file) lawful-two mine-two file refl (m .bytes) (m .whole) (m .short) out (omega (arith, h))

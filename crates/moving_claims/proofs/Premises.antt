@@ -9,9 +9,9 @@ use Rattle.outbox.specs.Reader.{given, readAll, walkOf}
 use Rattle.outbox.proofs.Walk.{whole-version}
 use Rattle.outbox.proofs.Versions.{format-known}
 use Rattle.outbox_claims.specs.Claims.{Entry}
-use Rattle.outbox_claims.proofs.Run.{all-run}
+use Rattle.outbox_claims.proofs.Run.{Run, all-run}
 use Rattle.moving_claims.specs.Claims.{recordsOf, AllShort, MovableWhen}
-use Rattle.moving_claims.proofs.Rebuilt.{own-short}
+use Rattle.moving_claims.proofs.Rebuilt.{own-short, not-over}
 
 longest : (fmt : Format) → Known fmt → fmt .limit ≤ 65535
 longest fmt one = omega arith
@@ -21,9 +21,12 @@ short-more : (least most : ℕ) → least ≤ most → (es : List Entry) → All
 short-more least most h [] s = tt
 short-more least most h (e ∷ es) s = (omega (arith, s .0), short-more least most h es (s .1))
 
+run : (file : List ℕ) → walkOf (formatOf file) file ≡ given tt → Run (formatOf file) file 1 (readAll (formatOf file) file)
+run file w = all-run (formatOf file) file (whole-version (formatOf file) file w)
+
 -- a whole file's records are within its own limit
 own : (file : List ℕ) → walkOf (formatOf file) file ≡ given tt → AllShort (formatOf file .limit) (recordsOf file)
-own file w = own-short (formatOf file) file (all-run (formatOf file) file (whole-version (formatOf file) file w))
+own file w = own-short (formatOf file) file (run file w)
 
 pub movable-when : MovableWhen
 movable-when =
@@ -32,5 +35,5 @@ movable-when =
           record { bytes = b; whole = w; short = short-more (formatOf file .limit) 65535 (longest (formatOf file) (format-known file)) (recordsOf file) (own file w) };
       one-stays = λ file b w v.
           record { bytes = b; whole = w; short = short-more (formatOf file .limit) 4096 (omega (arith, ap (λ (f : Format). f .limit) v)) (recordsOf file) (own file w) };
-      to-one = λ file b w s. record { bytes = b; whole = w; short = s };
+      to-one = λ file b w o. record { bytes = b; whole = w; short = not-over 4096 (formatOf file) file (run file w) o };
     }

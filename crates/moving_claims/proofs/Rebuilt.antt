@@ -5,7 +5,9 @@ use mathlib.Core.List.{List, [], _∷_, _++_, append-assoc}
 use native.Mathlib.Omega.{arith}
 use lib.ListN.{length, take, drop, getD, length-append, length-drop, take-append-drop, drop-of-length-le}
 use lib.Seq.{drop-cons, drop-drop, length-take-le}
-use borrow.Author.Tests.{le-ltb}
+use borrow.Author.Tests.{le-ltb, ltb-false}
+use mathlib.Core.Bool.{Bool, true, false, cond}
+use lib.Dec.{ltb}
 use Rattle.wire.specs.Bytes.{AllBytes}
 use Rattle.wire.specs.Stream.{isStream}
 use Rattle.outbox.specs.declared.format.Format.{Format}
@@ -82,7 +84,7 @@ taken wished fmt file (ends place e) o = tt
 taken wished fmt file (stops place inside e) o = tt
 taken wished fmt file (goes place {f = f} inside e p r) o =
     let s = found-stands fmt place (drop place file) f e in
-    (record { known = rw (s .1) (s .0 .known); short = o .0 }, taken wished fmt file r (o .1))
+    (record { known = rw (s .1) (s .0 .known); short = omega (arith, o .0) }, taken wished fmt file r (o .1))
 
 -- .. and are not over it
 pub within : (limit : ℕ) (fmt : Format) (file : List ℕ) {place : ℕ} {hs : List Handed} → Run fmt file place hs → AllShort limit (entriesOf hs)
@@ -125,3 +127,19 @@ module _ (fmt : Format) (lawful : Lawful fmt) (es : List Entry) (all : AllTaken 
 
   pub made-entries : entriesOf (readAll fmt made) ≡ es
   made-entries = rw made-read (expected-entries fmt 1 es)
+
+-- a file that is not 46 has no payload over the limit
+passed : (t : Bool) (a : Answer (Unit {0})) (place : ℕ) → cond t (refusedAt 46 place) a ≡ given tt → (t ≡ false) × (a ≡ given tt)
+passed true a place e = absurd (clash (cc))
+passed false a place e = (refl, e)
+
+pub not-over : (limit : ℕ) (fmt : Format) (file : List ℕ) {place : ℕ} {hs : List Handed} → Run fmt file place hs → overFrom limit place hs ≡ given tt
+    → AllShort limit (entriesOf hs)
+not-over limit fmt file (ends place e) o = tt
+not-over limit fmt file (stops place inside e) o = tt
+not-over limit fmt file (goes place {f = f} {payload = payload} {hs = hs} inside e p r) o =
+    let span = found-spans fmt place (drop place file) f e in
+    let ends-in = found-within fmt file place f (omega arith) e in
+    let size : length payload ≡ f .size = rw p (length-take-le (f .size) (drop (f .start) file) (rw length-drop (omega (arith, span, ends-in .1)))) in
+    let both = passed (ltb limit (f .size)) (overFrom limit (f .next) hs) place o in
+    (omega (arith, size, ltb-false limit (f .size) (both .0)), not-over limit fmt file r (both .1))

@@ -5,12 +5,12 @@ use mathlib.Core.List.{List, [], _∷_, _++_}
 use lib.ListN.{length, take}
 use Rattle.wire.specs.Bytes.{AllBytes}
 use Rattle.outbox.specs.declared.format.Format.{Format}
-use Rattle.outbox.specs.Format.{versionOne, formatOf}
+use Rattle.outbox.specs.Format.{versionOne, formatOf, firstPlace}
 use Rattle.outbox.specs.Reader.{Answer, given, refused, refusedAt, Item, found, end, Handed, readAll, walkOf}
 use Rattle.outbox.specs.Writer.{Stored, storedAt}
 use Rattle.outbox_claims.specs.Claims.{Entry}
 use Rattle.outbox_claims.specs.Versions.{Version, sizeOf}
-use Rattle.moving.specs.Moves.{moveOf}
+use Rattle.moving.specs.Moves.{overFrom, moveOf}
 
 -- a record that was read, as its sender had it
 abbrev pub entryOf : List ℕ → Answer Item → List Entry
@@ -56,5 +56,5 @@ pub record MovableWhen : Type 0 where
   -- every whole file goes to 02, and every one of 01 stays as it is
   pub to-two : (file : List ℕ) → AllBytes file → walkOf (formatOf file) file ≡ given tt → Movable 65535 file
   pub one-stays : (file : List ℕ) → AllBytes file → walkOf (formatOf file) file ≡ given tt → formatOf file ≡ versionOne → Movable 4096 file
-  -- one of 02 goes to 01 if no payload has more than 4,096 bytes
-  pub to-one : (file : List ℕ) → AllBytes file → walkOf (formatOf file) file ≡ given tt → AllShort 4096 (recordsOf file) → Movable 4096 file
+  -- one of 02 goes to 01 if no record is refused by 46
+  pub to-one : (file : List ℕ) → AllBytes file → walkOf (formatOf file) file ≡ given tt → overFrom 4096 firstPlace (readAll (formatOf file) file) ≡ given tt → Movable 4096 file
