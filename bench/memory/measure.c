@@ -356,6 +356,14 @@ static void read_outbox(size_t used)
         place = answer[4];
 }
 
+static void move_outbox(size_t used)
+{
+    static uint8_t moved[2 * MOST_BYTES];
+    size_t room = once_in(40) ? below(used + 2) : sizeof moved;
+    CALL(pito_outbox_to_01, A(bytes), used, A(moved), room, A(answer), length(PITO_OUTBOX_TO_01_ANSWER));
+    CALL(pito_outbox_to_02, A(bytes), used, A(moved), room, A(answer), length(PITO_OUTBOX_TO_02_ANSWER));
+}
+
 static void outbox(void)
 {
     uint64_t used = 0;
@@ -372,6 +380,7 @@ static void outbox(void)
                  A(payload), count, A(answer), length(PITO_OUTBOX_APPEND_ANSWER)) == 0)
             used = answer[0];
         read_outbox(used);
+        move_outbox(used);
         if (once_in(10))
             used = damage(bytes, used);
         if (once_in(40) && used > 3)

@@ -163,7 +163,8 @@ fn fill_information(
 
 // The first string that is not well formed.
 fn information_fault(serial_number: &[u8], name: &[u8], device_type: &[u8]) -> Fault
-    ensures { λ r. ⌜ r ≡ firstFault (informationStrings (now («serial_number» .entry)) (now (name .entry)) (now («device_type» .entry))) ⌝ }
+    ensures { λ r. ⌜ r
+        ≡ firstFault (informationStrings (now («serial_number» .entry)) (now (name .entry)) (now («device_type» .entry))) ⌝ }
 {
     Fault::None
         .or_text(SERIAL_NUMBER, serial_number)

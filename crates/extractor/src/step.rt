@@ -75,7 +75,8 @@ impl Progress {
     fn perform(self, buffer: &mut [u8], b: u8, action: Action) -> Advanced
         requires { ⌜ self .held ≤ length (now buffer) ⌝ }
         ensures { λ r. ⌜ ((limit : ℕ) → length (now (buffer .entry)) ≡ limit + 2
-            → step (told (r .outcome)) (r .next) (now (buffer .exit)) ≡ performOf limit self (now (buffer .entry)) b action) ⌝ }
+            → step (told (r .outcome)) (r .next) (now (buffer .exit))
+            ≡ performOf limit self (now (buffer .entry)) b action) ⌝ }
     {
         match action {
             Action::Skip => Advanced {

@@ -104,7 +104,8 @@ fn run(start: Progress, limit: usize, buffer: &mut [u8], bytes: &[u8]) -> Fed
 // Many bytes, up to the first frame or refusal.
 pub fn feed(state: Extractor, buffer: &mut [u8], bytes: &[u8]) -> Fed
     ensures { λ r. ⌜ (fed (toldFeed (r .outcome)) (r .used) (r .next .progress) (now (buffer .exit))
-        ≡ feedOf (state .limit) (state .progress) (now (buffer .entry)) (now (bytes .entry))) × (r .next .limit ≡ state .limit) ⌝ }
+        ≡ feedOf (state .limit) (state .progress) (now (buffer .entry)) (now (bytes .entry)))
+        × (r .next .limit ≡ state .limit) ⌝ }
 {
     let progress = state.progress;
     let limit = state.limit;

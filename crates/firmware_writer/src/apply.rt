@@ -60,7 +60,8 @@ fn fill_apply(out: &mut [u8], apply: ApplyFirmware, texts: &[u8]) -> Wrote
 
 // Writes ApplyFirmware. Its strings are parts of the lent texts.
 pub fn write_apply(out: &mut [u8], apply: ApplyFirmware, texts: &[u8]) -> TextWrote
-    ensures { λ r. ⌜ written (toldTextWrote r) (now (out .exit)) ≡ applyWritten apply (now (texts .entry)) (now (out .entry)) ⌝ }
+    ensures { λ r. ⌜ written (toldTextWrote r) (now (out .exit))
+        ≡ applyWritten apply (now (texts .entry)) (now (out .entry)) ⌝ }
 {
     let information = apply.firmware_information;
     if bad_firmware(texts, information) {

@@ -112,7 +112,8 @@ fn fill_segment(
 
 // The first string that is not well formed.
 fn segment_fault(component_name: &[u8], segment_signature: &[u8]) -> Fault
-    ensures { λ r. ⌜ r ≡ firstFault (segmentStrings (now («component_name» .entry)) (now («segment_signature» .entry))) ⌝ }
+    ensures { λ r. ⌜ r
+        ≡ firstFault (segmentStrings (now («component_name» .entry)) (now («segment_signature» .entry))) ⌝ }
 {
     Fault::None
         .or_text(COMPONENT_NAME, component_name)

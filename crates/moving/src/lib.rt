@@ -102,7 +102,8 @@ fn move_whole(file: &[u8], fmt: Format, out: &mut [u8]) -> Moved
 
 // Writes a file in the wished version into a lent output.
 pub fn move_file(file: &[u8], wished: Wished, out: &mut [u8]) -> Moved
-    ensures { λ r. ⌜ stored (told r) (now (out .exit)) ≡ moveOf (formatFor wished) (now (file .entry)) (now (out .entry)) ⌝ }
+    ensures { λ r. ⌜ stored (told r) (now (out .exit))
+        ≡ moveOf (formatFor wished) (now (file .entry)) (now (out .entry)) ⌝ }
 {
     match walk(file) {
         Walked::Whole => move_whole(file, wished.format(), out),

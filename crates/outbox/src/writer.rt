@@ -135,7 +135,8 @@ fn append_by(buffer: &mut [u8], used: usize, fmt: Format, stream: u8, payload: &
 // The same where the version is not judged yet.
 fn append_in(buffer: &mut [u8], used: usize, fmt: Format, stream: u8, payload: &[u8]) -> Appended
     requires { ⌜ Known fmt × (used ≤ length (now buffer)) ⌝ }
-    ensures { λ r. ⌜ stored (told r) (now (buffer .exit)) ≡ appendOf fmt (now (buffer .entry)) used stream (now (payload .entry)) ⌝ }
+    ensures { λ r. ⌜ stored (told r) (now (buffer .exit))
+        ≡ appendOf fmt (now (buffer .entry)) used stream (now (payload .entry)) ⌝ }
 {
     if other_version(&buffer[..used], fmt) {
         return Appended::Broken {
@@ -148,7 +149,8 @@ fn append_in(buffer: &mut [u8], used: usize, fmt: Format, stream: u8, payload: &
 
 // Appends a record right after the used bytes of a lent buffer, which must be a whole outbox.
 pub fn append(buffer: &mut [u8], used: usize, stream: u8, payload: &[u8]) -> Appended
-    ensures { λ r. ⌜ stored (told r) (now (buffer .exit)) ≡ appendOf (formatOf (take used (now (buffer .entry)))) (now (buffer .entry)) used stream (now (payload .entry)) ⌝ }
+    ensures { λ r. ⌜ stored (told r) (now (buffer .exit))
+        ≡ appendOf (formatOf (take used (now (buffer .entry)))) (now (buffer .entry)) used stream (now (payload .entry)) ⌝ }
 {
     if buffer.len() < used {
         return Appended::BeyondBuffer;

@@ -166,7 +166,8 @@ impl PartWriter {
     // Takes payload and writes the frame on into an output.
     pub fn write(self, payload: &[u8], out: &mut [u8]) -> PartWritten
         ensures { λ r. ⌜ (wrote (told (r .outcome)) (r .next .progress) (now (out .exit))
-            ≡ partOf (self .limit) (self .progress) (now (payload .entry)) (now (out .entry))) × (r .next .limit ≡ self .limit) ⌝ }
+            ≡ partOf (self .limit) (self .progress) (now (payload .entry)) (now (out .entry)))
+            × (r .next .limit ≡ self .limit) ⌝ }
     {
         let progress = self.progress;
         let done = progress.take_part(self.limit, payload, out);

@@ -98,7 +98,8 @@ fn fill_components(row: &mut [u64], components: [FirmwareComponent; 8])
 // Writes the whole row, part by part, unless the call is refused by 1.
 pub fn put_apply(row: &mut [u64], number: u64, verdict: Verdict, apply: ApplyFirmware)
     requires { ⌜ length (now row) ≡ answerSize ⌝ }
-    ensures { λ _. ⌜ now (row .exit) ≡ afterwards number (now (row .entry)) (wholeRow apply ++ faultRow (toldVerdict verdict)) ⌝ }
+    ensures { λ _. ⌜ now (row .exit)
+        ≡ afterwards number (now (row .entry)) (wholeRow apply ++ faultRow (toldVerdict verdict)) ⌝ }
 {
     if number != UNFIT {
         let head = head_row(apply);
