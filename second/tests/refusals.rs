@@ -783,7 +783,11 @@ fn outboxes_read() {
         ("", 0, Err((40, None))),
         ("", 1, Err((40, None))),
         ("00", 9, Err((40, None))),
-        ("02 00 01 00", 1, Err((40, None))),
+        ("03 00 01 00", 1, Err((40, None))),
+        ("02 00 01 00", 1, Err((41, Some(1)))),
+        ("02 00 01 00 01", 1, Err((42, None))),
+        ("02 00 01 00 00", 1, Err((41, Some(1)))),
+        ("02 00 00 00 01 06", 1, Ok(true)),
         ("01", 0, Err((15, None))),
         ("01", 2, Err((15, None))),
         ("01", u64::MAX, Err((15, None))),
@@ -816,13 +820,15 @@ fn outboxes_appended_to() {
         assert_eq!(buffer, before);
         (broken.refusal.number(), broken.place)
     };
-    // 1, 15, 14, then those of the bytes.
+    // 1, 40, 15 by the version's limit, 14, then those of the bytes.
     assert_eq!(refusal("00", 4, 5, 1, &[0; 4_097]), (1, None));
-    assert_eq!(refusal("00", 4, 4, 1, &[]), (15, None));
-    assert_eq!(refusal("00", 4, 4, 0, &[0; 4_097]), (15, None));
-    assert_eq!(refusal("00", 4, 2, 0, &[]), (14, None));
-    assert_eq!(refusal("00", 4, 1, 0, &[]), (40, None));
-    assert_eq!(refusal("01", 4, 0, 0, &[]), (40, None));
+    assert_eq!(refusal("00", 4, 4, 1, &[0; 4_097]), (40, None));
+    assert_eq!(refusal("01", 4, 0, 1, &[0; 4_097]), (40, None));
+    assert_eq!(refusal("01 00", 4, 2, 1, &[]), (15, None));
+    assert_eq!(refusal("01 00", 4, 2, 0, &[0; 4_097]), (15, None));
+    assert_eq!(refusal("02 00", 4, 2, 0, &[0; 4_097]), (14, None));
+    assert_eq!(refusal("02 00", 4, 2, 0, &[0; 65_536]), (15, None));
+    assert_eq!(refusal("01 00", 4, 2, 0, &[]), (14, None));
     assert_eq!(refusal("01 00 01", 9, 3, 0, &[]), (41, Some(1)));
     assert_eq!(refusal("01 00 01 06 00", 9, 5, 0, &[]), (41, Some(4)));
     assert_eq!(refusal("01 00 00", 9, 3, 0, &[]), (42, None));
