@@ -264,6 +264,11 @@ fn outboxes_come_back() {
     for _ in 0..500 {
         let mut buffer = rng.bytes(5_000);
         let mut used = outbox::new(&mut buffer).unwrap();
+        // A record's length and stream byte, in each version.
+        let head = *rng.pick(&[3, 5]);
+        if head == 3 {
+            buffer[0] = 0x01;
+        }
         let mut expected = Vec::new();
         for _ in 0..rng.index(6) {
             let stream = *rng.pick(&Stream::ALL);
@@ -272,11 +277,11 @@ fn outboxes_come_back() {
             let number = u64::from(stream.number());
             match outbox::append(&mut buffer, used as u64, number, &payload) {
                 Ok(after) => {
-                    assert_eq!(after, used + 3 + payload.len());
+                    assert_eq!(after, used + head + payload.len());
                     used = after;
                     expected.push((stream, payload));
                 }
-                Err(_) => assert!(used + 3 + payload.len() > 5_000),
+                Err(_) => assert!(used + head + payload.len() > 5_000),
             }
         }
         let got: Vec<(Stream, Vec<u8>)> = outbox::whole(&buffer[..used])
