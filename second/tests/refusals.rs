@@ -783,7 +783,8 @@ fn outboxes_read() {
         ("", 0, Err((40, None))),
         ("", 1, Err((40, None))),
         ("00", 9, Err((40, None))),
-        ("02 00 01 00", 1, Err((40, None))),
+        ("03 00 01 00", 1, Err((40, None))),
+        ("02 00 01 00", 1, Err((41, Some(1)))),
         ("01", 0, Err((15, None))),
         ("01", 2, Err((15, None))),
         ("01", u64::MAX, Err((15, None))),
@@ -816,11 +817,12 @@ fn outboxes_appended_to() {
         assert_eq!(buffer, before);
         (broken.refusal.number(), broken.place)
     };
-    // 1, 15, 14, then those of the bytes.
+    // 1, 40, 15, 14, then those of the records.
     assert_eq!(refusal("00", 4, 5, 1, &[0; 4_097]), (1, None));
-    assert_eq!(refusal("00", 4, 4, 1, &[]), (15, None));
-    assert_eq!(refusal("00", 4, 4, 0, &[0; 4_097]), (15, None));
-    assert_eq!(refusal("00", 4, 2, 0, &[]), (14, None));
+    assert_eq!(refusal("00", 4, 4, 1, &[]), (40, None));
+    assert_eq!(refusal("01", 4, 4, 1, &[]), (15, None));
+    assert_eq!(refusal("01", 4, 4, 0, &[0; 4_097]), (15, None));
+    assert_eq!(refusal("01", 4, 2, 0, &[]), (14, None));
     assert_eq!(refusal("00", 4, 1, 0, &[]), (40, None));
     assert_eq!(refusal("01", 4, 0, 0, &[]), (40, None));
     assert_eq!(refusal("01 00 01", 9, 3, 0, &[]), (41, Some(1)));

@@ -272,11 +272,11 @@ fn outboxes_come_back() {
             let number = u64::from(stream.number());
             match outbox::append(&mut buffer, used as u64, number, &payload) {
                 Ok(after) => {
-                    assert_eq!(after, used + 3 + payload.len());
+                    assert_eq!(after, used + 5 + payload.len());
                     used = after;
                     expected.push((stream, payload));
                 }
-                Err(_) => assert!(used + 3 + payload.len() > 5_000),
+                Err(_) => assert!(used + 5 + payload.len() > 5_000),
             }
         }
         let got: Vec<(Stream, Vec<u8>)> = outbox::whole(&buffer[..used])
