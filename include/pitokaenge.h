@@ -304,13 +304,16 @@ PITO_CALL uint64_t pito_receiver_open(uint64_t limit, uint64_t *state, size_t st
 #define PITO_NACKED 3      /* a NACK */
 
 /*
- * One packet.
+ * One packet, with the sequence and the buffer for the ACK that it may want. A packet that finishes a transaction which
+ * wants an ACK writes its PITO_ACK_SIZE bytes first in the answer buffer, to be sent as they are; every other outcome leaves
+ * all of it.
  * Answer:
  *   sequence    an ACK's or NACK's own, else 0
  *   total       the length of a finished message, else 0
- *   ACK wanted  1 if a message is finished and any packet of its transaction asked for an ACK, else 0
+ *   ACK wanted  1 if a message is finished and any packet of its transaction asked for an ACK, which was written; else 0
  *   replaced    1 if a first packet replaced an open transaction of its stream, else 0
- * Returns 0, or the first of 1, 2, 3, 12, 4, 5, 6, 7, 8, 9, 10, 11 that holds.
+ * Returns 0, or the first of 1, 15 (answer sequence above 15), 14 (answer buffer under six bytes), 2, 3, 12, 4, 5, 6, 7, 8,
+ * 9, 10, 11 that holds; 15 and 14 are given before the packet is looked at.
  */
 enum {
     PITO_ACCEPT_OUTCOME,
@@ -323,7 +326,8 @@ enum {
     PITO_ACCEPT_ANSWER
 };
 PITO_CALL uint64_t pito_receiver_accept(uint64_t *state, size_t state_len, uint8_t *buffer, size_t buffer_len,
-                                        const uint8_t *packet, size_t packet_len, uint64_t *answer, size_t answer_len);
+                                        const uint8_t *packet, size_t packet_len, uint64_t sequence, uint8_t *out,
+                                        size_t out_len, uint64_t *answer, size_t answer_len);
 
 /* ------------------------------------------------------------------------------------------------------------
  * Control messages

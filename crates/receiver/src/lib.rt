@@ -1,6 +1,9 @@
 // Puts the messages of the three streams together from Low Energy packets.
+mod ack;
 mod buffer;
 
+use packet::control;
+use packet::header;
 use packet::reader;
 use packet::reader::Packet;
 use slot::Slot;
@@ -15,7 +18,7 @@ use wire::logic::both;
 use wire::stream::Stream;
 ghost use mathlib.Core.Path.{_≡_};
 ghost use mathlib.Core.Bool.{true};
-ghost use Prim.Native.Nat.{_<_};
+ghost use Prim.Native.Nat.{_≤_, _<_};
 ghost use lib.ListN.{length, getD, set};
 ghost use Rattle.wire.specs.Told.{given};
 ghost use Rattle.packet.specs.Reader.{readOf};
@@ -24,7 +27,7 @@ ghost use Rattle.slot.specs.Slot.{idle, slotCount, laneStart};
 ghost use Rattle.slot.specs.Answer.{told};
 ghost use Rattle.slot.specs.Step.{stepOf, actBy};
 ghost use Rattle.slot.specs.Fit.{Fit, ActFits};
-ghost use Rattle.receiver.specs.Receiver.{empty, openOf, toldOpen, handed, result, applied, acted, ready, acceptOf};
+ghost use Rattle.receiver.specs.Receiver.{empty, openOf, toldOpen, handed, result, applied, acted, ready, call, left, leaves, acceptOf};
 
 // The limit of the link, and a slot for each stream: control, OTA, Alexa.
 pub struct Receiver {
@@ -139,12 +142,22 @@ impl Receiver {
         }
     }
 
-    // A packet that was read.
-    fn accept_read(self, buffer: &mut [u8], packet: &[u8], read: Packet) -> Outcome
+    // A packet that was read: what it does, and the ACK where it finishes a transaction that wants one.
+    fn accept_read(
+        self,
+        buffer: &mut [u8],
+        packet: &[u8],
+        read: Packet,
+        sequence: u8,
+        out: &mut [u8],
+    ) -> Outcome
         requires { ⌜ (ready (self .limit) (self .slots) (length (now buffer)) ≡ true)
-            × (readOf (self .limit) (now packet) ≡ given read) ⌝ }
-        ensures { λ r. ⌜ (result (told (r .answer)) (r .next .slots) (now (buffer .exit))
-            ≡ acted (self .limit) (self .slots) (now (buffer .entry)) (now (packet .entry)) (given read))
+            × (readOf (self .limit) (now packet) ≡ given read)
+            × (sequence < 16)
+            × (6 ≤ length (now out)) ⌝ }
+        ensures { λ r. ⌜ (left (told (r .answer)) (r .next .slots) (now (buffer .exit)) (now (out .exit))
+            ≡ leaves sequence (now (out .entry))
+            (acted (self .limit) (self .slots) (now (buffer .entry)) (now (packet .entry)) (given read)))
             × (r .next .limit ≡ self .limit) ⌝ }
     {
         let head = read.head();
@@ -152,15 +165,22 @@ impl Receiver {
         let place = buffer::place_of(stream);
         let slot = self.slot(place);
         let act = act_on(slot, read);
-        self.apply(buffer, packet, stream, act)
+        let done = self.apply(buffer, packet, stream, act);
+        let answer = done.answer;
+        let next = done.next;
+        ack::acknowledge(answer, sequence, out);
+        Outcome { answer, next }
     }
 
-    // A packet under a lawful state and a buffer of the right size.
-    fn process(self, buffer: &mut [u8], packet: &[u8]) -> Outcome
-        requires { ⌜ ready (self .limit) (self .slots) (length (now buffer)) ≡ true ⌝ }
-        ensures { λ r. ⌜ (result (told (r .answer)) (r .next .slots) (now (buffer .exit))
-            ≡ acted (self .limit) (self .slots) (now (buffer .entry)) (now (packet .entry))
-            (readOf (self .limit) (now (packet .entry))))
+    // A packet under a lawful state and a buffer of the right size, with what an ACK needs.
+    fn process(self, buffer: &mut [u8], packet: &[u8], sequence: u8, out: &mut [u8]) -> Outcome
+        requires { ⌜ (ready (self .limit) (self .slots) (length (now buffer)) ≡ true)
+            × (sequence < 16)
+            × (6 ≤ length (now out)) ⌝ }
+        ensures { λ r. ⌜ (left (told (r .answer)) (r .next .slots) (now (buffer .exit)) (now (out .exit))
+            ≡ leaves sequence (now (out .entry))
+            (acted (self .limit) (self .slots) (now (buffer .entry)) (now (packet .entry))
+            (readOf (self .limit) (now (packet .entry)))))
             × (r .next .limit ≡ self .limit) ⌝ }
     {
         let answer = reader::read(self.limit, packet);
@@ -169,23 +189,36 @@ impl Receiver {
                 answer: Answer::Refused(Refusal::OfPacket(why)),
                 next: self,
             },
-            reader::Answer::Read(read) => self.accept_read(buffer, packet, read),
+            reader::Answer::Read(read) => self.accept_read(buffer, packet, read, sequence, out),
         }
     }
 
-    // The answer to one packet; a finished message stands first in its stream's part of the buffer.
-    pub fn accept(self, buffer: &mut [u8], packet: &[u8]) -> Outcome
-        ensures { λ r. ⌜ (result (told (r .answer)) (r .next .slots) (now (buffer .exit))
-            ≡ acceptOf (self .limit) (self .slots) (now (buffer .entry)) (now (packet .entry)))
+    // The answer to one packet. A finished message stands first in its stream's part of the buffer, and the ACK that it wants, with the
+    // caller's sequence, first in the answer buffer.
+    pub fn accept(self, buffer: &mut [u8], packet: &[u8], sequence: u8, out: &mut [u8]) -> Outcome
+        ensures { λ r. ⌜ (left (told (r .answer)) (r .next .slots) (now (buffer .exit)) (now (out .exit))
+            ≡ acceptOf (self .limit) (self .slots) (now (buffer .entry))
+            (call (now (packet .entry)) sequence (now (out .entry))))
             × (r .next .limit ≡ self .limit) ⌝ }
     {
-        if self.is_ready(buffer.len()) {
-            self.process(buffer, packet)
-        } else {
-            Outcome {
+        if !self.is_ready(buffer.len()) {
+            return Outcome {
                 answer: Answer::Refused(Refusal::BadStateOrBuffer),
                 next: self,
-            }
+            };
         }
+        if header::FOUR_BITS <= sequence {
+            return Outcome {
+                answer: Answer::Refused(Refusal::Argument),
+                next: self,
+            };
+        }
+        if out.len() < control::ACK_SIZE {
+            return Outcome {
+                answer: Answer::Refused(Refusal::Output),
+                next: self,
+            };
+        }
+        self.process(buffer, packet, sequence, out)
     }
 }

@@ -17,7 +17,7 @@ answer-row-requires c κs = search needs
 
 put-slots-requires : tie.Need-put-slots-requires
 put-slots-requires c κs =
-    let start = c .before .before .before .before .before .before .before .before .before .before .before .before .before .before .before in
+    let start = c .before .before .before .before .before .before .before .before .before .before .before .before .before .before .before .before .before .before .before in
     slots-long _ (start .pre .0)
 
 slice-aggregate-put : tie.Need-slice-aggregate-put
@@ -35,19 +35,22 @@ same-length-2 c = search needs
 same-length-3 : tie.Need-same-length-3
 same-length-3 c = search needs
 
+same-length-4 : tie.Need-same-length-4
+same-length-4 c = search needs
+
 returns : tie.Need-returns
 returns c =
     let told = c .before .before .before .before .before .before .before .before .before .before .before .before in
-    let done = told .before .before .before in
+    let done = told .before .before .before .before .before in
     rw (
-      ← (done .before .before .receiver-of .ensures .0),
-      ← (done .before .before .receiver-of .ensures .1),
+      ← (done .before .before .before .receiver-of .ensures .0),
+      ← (done .before .before .before .receiver-of .ensures .1),
       ← (done .accept .ensures .0),
       c .before .before .put .ensures,
       c .before .before .before .before .before .before .before .put-slots .ensures,
       told .answer-number .ensures,
       c .before .before .before .before .before .before .before .before .before .before .before .answer-row .ensures,
-      done .before .before .receiver-of .ensures .0,
+      done .before .before .before .receiver-of .ensures .0,
     )
 
 pub accept-fitting-spec : {M : Type 1} → statement M
@@ -64,4 +67,5 @@ accept-fitting-spec =
     same-length
     same-length-2
     same-length-3
+    same-length-4
     returns)

@@ -15,8 +15,9 @@ enum-known-answer-2 c = search needs
 
 accept-read-requires : tie.Need-accept-read-requires
 accept-read-requires c κs =
-    let s = c .before .before in
-    (s .before .before .before .before .before .pre, sym (s .before .before .read .ensures) ∙ ap reader.told (s .answer2 .given .1))
+    let s = c .before .before .before in
+    let pre = s .before .before .before .before .before .before .pre in
+    (pre .0, sym (s .before .before .read .ensures) ∙ ap reader.told (s .answer2 .given .1), pre .1, pre .2)
 
 returns : tie.Need-returns
 returns c = (rw (← c .before .before .before .read .ensures, c .before .answer .given .1), refl)
@@ -24,10 +25,13 @@ returns c = (rw (← c .before .before .before .read .ensures, c .before .answer
 same-length : tie.Need-same-length
 same-length c = search needs
 
+same-length-2 : tie.Need-same-length-2
+same-length-2 c = search needs
+
 returns-2 : tie.Need-returns-2
 returns-2 c =
-    let s = c .before .before .before .before in
-    rw (← s .before .before .before .read .ensures, s .before .answer2 .given .1) (c .before .before .accept-read .ensures)
+    let s = c .before .before .before .before .before .before .before in
+    rw (← s .before .before .before .read .ensures, s .before .answer2 .given .1) (c .before .before .before .before .accept-read .ensures)
 
 pub process-spec : {M : Type 1} → statement M
 process-spec =
@@ -39,4 +43,5 @@ process-spec =
     accept-read-requires
     returns
     same-length
+    same-length-2
     returns-2)
