@@ -10,6 +10,7 @@ struct Left {
     returned: u64,
     state: Vec<u64>,
     lent: Vec<u8>,
+    reply: Vec<u8>,
     answer: Vec<u64>,
 }
 
@@ -90,13 +91,14 @@ impl<'i> Comparison<'i> {
         for (one, left) in self.implementations.iter().zip(&mut self.left) {
             left.state.clone_from(&call.state);
             left.lent.clone_from(&call.lent);
+            left.reply.clone_from(&call.reply);
             left.answer.clone_from(&call.answer);
             left.returned = one.call(
                 call.operation,
                 &call.numbers,
                 &call.inputs,
                 &mut left.state,
-                &mut left.lent,
+                [&mut left.lent, &mut left.reply],
                 &mut left.answer,
             );
         }
@@ -106,6 +108,7 @@ impl<'i> Comparison<'i> {
         }
         std::mem::swap(&mut call.state, &mut first.state);
         std::mem::swap(&mut call.lent, &mut first.lent);
+        std::mem::swap(&mut call.reply, &mut first.reply);
         std::mem::swap(&mut call.answer, &mut first.answer);
         let returned = first.returned;
         count(&mut self.met[call.operation as usize], returned);
@@ -140,6 +143,7 @@ impl<'i> Comparison<'i> {
             returned: got,
             state: call.state.clone(),
             lent: call.lent.clone(),
+            reply: call.reply.clone(),
             answer: call.answer.clone(),
         };
         describe_left(&before, &left, "all", &mut text);
@@ -251,13 +255,11 @@ fn describe(call: &Call, text: &mut String) {
         let _ = writeln!(text, "  {name}, {} bytes: {}", bytes.len(), hex(bytes));
     }
     let _ = writeln!(text, "  state before, {}", row(shape.state, &call.state));
-    let _ = writeln!(
-        text,
-        "  {} before, {} bytes: {}",
-        shape.lent,
-        call.lent.len(),
-        hex(&call.lent)
-    );
+    let lent = [(shape.lent, &call.lent), (shape.reply, &call.reply)];
+    for (name, bytes) in lent.into_iter().filter(|(name, _)| *name != "nothing") {
+        let (size, bytes) = (bytes.len(), hex(bytes));
+        let _ = writeln!(text, "  {name} before, {size} bytes: {bytes}");
+    }
     let _ = writeln!(text, "  answer before, {}", row(shape.answer, &call.answer));
 }
 
@@ -266,21 +268,28 @@ fn describe_left(before: &Call, left: &Left, who: &str, text: &mut String) {
     let _ = writeln!(text, "  {who}: returned {}", left.returned);
     let _ = writeln!(text, "    state {}", row(shape.state, &left.state));
     let _ = writeln!(text, "    answer {}", row(shape.answer, &left.answer));
-    let changed: Vec<usize> = (0..left.lent.len())
-        .filter(|&place| before.lent.get(place) != Some(&left.lent[place]))
-        .collect();
-    match (changed.first(), changed.last()) {
-        (Some(&first), Some(&last)) => {
-            let _ = writeln!(
-                text,
-                "    {}: {} bytes changed, all from {first} to {last}: {}",
-                shape.lent,
-                changed.len(),
-                hex(&left.lent[first..=last])
-            );
-        }
-        _ => {
-            let _ = writeln!(text, "    {}: unchanged", shape.lent);
+    for (name, before, left) in [
+        (shape.lent, &before.lent, &left.lent),
+        (shape.reply, &before.reply, &left.reply),
+    ] {
+        if name != "nothing" {
+            describe_bytes(name, before, left, text);
         }
     }
+}
+
+/// What changed of lent bytes.
+fn describe_bytes(name: &str, before: &[u8], left: &[u8], text: &mut String) {
+    let changed: Vec<usize> = (0..left.len())
+        .filter(|&place| before.get(place) != Some(&left[place]))
+        .collect();
+    let _ = match (changed.first(), changed.last()) {
+        (Some(&first), Some(&last)) => writeln!(
+            text,
+            "    {name}: {} bytes changed, all from {first} to {last}: {}",
+            changed.len(),
+            hex(&left[first..=last])
+        ),
+        _ => writeln!(text, "    {name}: unchanged"),
+    };
 }

@@ -16,7 +16,7 @@
 use crate::classic::{self, Decided, Extractor, Next, Outcome, Parts, Standing};
 use crate::control::{self, Envelope, Features, Given, Information, Member, Payload, Response};
 use crate::implementation::{Implementation, Operation};
-use crate::low_energy::{self, Accepted, Open, Receiver, Slots, Stream, Wish};
+use crate::low_energy::{self, Accepted, Open, Receiver, Reply, Slots, Stream, Wish};
 use crate::outbox::{self, Broken, Record, Version, ONE, TWO};
 use crate::refusal::{self, Refusal};
 use std::ops::Range;
@@ -37,7 +37,7 @@ impl Implementation for Model {
         numbers: &[u64],
         inputs: &[Vec<u8>],
         state: &mut [u64],
-        lent: &mut [u8],
+        [lent, reply]: [&mut [u8]; 2],
         answer: &mut [u64],
     ) -> u64 {
         match operation {
@@ -62,7 +62,13 @@ impl Implementation for Model {
                 ack_write([*stream, *id, *sequence, *positive], lent, answer)
             }
             Operation::ReceiverOpen => receiver_open(numbers[0], state),
-            Operation::ReceiverAccept => receiver_accept(state, lent, &inputs[0], answer),
+            Operation::ReceiverAccept => {
+                let reply = Reply {
+                    sequence: numbers[0],
+                    buffer: reply,
+                };
+                receiver_accept(state, lent, &inputs[0], reply, answer)
+            }
             Operation::EnvelopeRead => envelope_read(&inputs[0], answer),
             Operation::EnvelopeWrite => {
                 let [command, payload, error_code, field] = numbers else {
@@ -443,11 +449,12 @@ pub fn receiver_accept(
     state: &mut [u64],
     buffer: &mut [u8],
     packet: &[u8],
+    reply: Reply,
     answer: &mut [u64],
 ) -> u64 {
     ask(answer, || {
         let before = receiver_in(state).ok_or(Refusal::Lent)?;
-        let (after, told) = low_energy::accept(before, buffer, packet);
+        let (after, told) = low_energy::accept(before, buffer, packet, reply);
         state.copy_from_slice(&receiver_out(after));
         let of = |stream: Stream| u64::from(stream.number());
         Ok(match told? {
