@@ -177,9 +177,9 @@ static void open_receiver(uint64_t *state)
 
 static void accept(const uint8_t *packet, size_t count)
 {
-    static uint8_t buffer[PITO_RECEIVER_BUFFER(LIMIT)];
+    static uint8_t buffer[PITO_RECEIVER_BUFFER(LIMIT)], ack[PITO_ACK_SIZE];
     CALL(pito_receiver_accept, A(receiver), PITO_RECEIVER_STATE, A(buffer), length(sizeof buffer), A(packet), count,
-         A(answer), PITO_ACCEPT_ANSWER);
+         below(once_in(60) ? 20 : 16), A(ack), length(sizeof ack), A(answer), PITO_ACCEPT_ANSWER);
 }
 
 /* All packets of a message, some of them damaged or followed by any bytes. */
