@@ -4,17 +4,17 @@ use native.Mathlib.Omega.{arith}
 use mathlib.Core.Path.{_≡_, refl, sym, _∙_}
 use mathlib.Core.Logic.{_≢_}
 use mathlib.Core.List.{List, [], _∷_}
-use mathlib.Core.Bool.{true, false, not, _&&_}
+use mathlib.Core.Bool.{Bool, true, false, not, cond, _&&_}
 use lib.ListN.{length, getD, drop, length-take, length-drop}
 use lib.Seq.{length-sets}
-use lib.Dec.{eqb}
-use borrow.Author.Tests.{eq-eqb, eqb-true, eqb-false}
+use lib.Dec.{ltb, eqb}
+use borrow.Author.Tests.{eq-eqb, eqb-true, eqb-false, ltb-true, ltb-false, not-false}
 use Rattle.wire.specs.Limit.{limitFits}
-use Rattle.wire.specs.Told.{Told, given, refused, line}
+use Rattle.wire.specs.Told.{Told, given, refused, line, table}
 use Rattle.wire.specs.declared.stream.Stream.{Stream}
 use Rattle.wire.specs.Stream.{isStream, streamOf}
 use Rattle.wire.proofs.Tests.{and-left, and-right}
-use Rattle.wire.proofs.Tables.{by-table}
+use Rattle.wire.proofs.Tables.{NoneHolds, by-table}
 use Rattle.wire.proofs.Streams.{other-stream}
 use Rattle.packet.specs.declared.reader.Packet.{Packet}
 use Rattle.packet.specs.Header.{streamBits, isOf}
@@ -30,7 +30,7 @@ use Rattle.slot.proofs.Slots.{lawful-lane, lawful-set}
 use Rattle.slot.proofs.Lanes.{place-other, lane-other}
 use Rattle.slot.proofs.Steps.{act-fits}
 use Rattle.receiver.specs.Buffer.{partOf, payloadBytes}
-use Rattle.receiver.specs.Receiver.{Result, result, applied, actIn, acted, ready, Call, call, Left, left, leaves, answerLines, readIn, acceptOf}
+use Rattle.receiver.specs.Receiver.{Result, result, applied, actIn, acted, ready, Call, call, Left, left, leaves, answerLines, readIn, heardOf, acceptOf}
 use Rattle.receiver.proofs.Parts.{part-elsewhere}
 
 -- ---- ready for a packet
@@ -61,6 +61,43 @@ pub accept-ready : (limit : ℕ) (slots : List Slot) (bytes : List ℕ) (c : Cal
     → acceptOf limit slots bytes c ≡ leaves (c .sequence) (c .out) (acted limit slots bytes (c .packet) (readIn limit c))
 unfolding acceptOf
 accept-ready limit slots bytes c r = rw (ready-holds limit slots bytes r)
+
+heard-by : (b : Bool) (n : ℕ) (t : Told Packet) (sequence limit : ℕ) (slots : List Slot) (bytes packet out : List ℕ)
+    → cond b (left (refused n) slots bytes out) (leaves sequence out (acted limit slots bytes packet t))
+    ≡ leaves sequence out (acted limit slots bytes packet (cond b (refused n) t))
+heard-by true n t sequence limit slots bytes packet out = refl
+heard-by false n t sequence limit slots bytes packet out = refl
+
+-- what was heard is acted on, and answered: 1 leaves all, as every refusal of a packet does
+pub accept-heard : (limit : ℕ) (slots : List Slot) (bytes : List ℕ) (c : Call)
+    → acceptOf limit slots bytes c ≡ leaves (c .sequence) (c .out) (acted limit slots bytes (c .packet) (heardOf limit slots (length bytes) c))
+unfolding acceptOf heardOf
+accept-heard limit slots bytes c =
+    heard-by (not (ready limit slots (length bytes))) 1 (readIn limit c) (c .sequence) limit slots bytes (c .packet) (c .out)
+
+-- what is true of a call whose packet was read
+pub record Heeded (limit : ℕ) (slots : List Slot) (size : ℕ) (c : Call) (x : Packet) : Type 0 where
+  pub fits : ready limit slots size ≡ true
+  pub read : readOf limit (c .packet) ≡ given x
+  pub low : c .sequence < 16
+  pub room : 6 ≤ length (c .out)
+
+pub heard-says : (limit : ℕ) (slots : List Slot) (size : ℕ) (c : Call) → IfGiven (Heeded limit slots size c) (heardOf limit slots size c)
+unfolding heardOf readIn
+heard-says limit slots size c =
+    by-table (IfGiven (Heeded limit slots size c)) (line 1 (not (ready limit slots size)) ∷ []) refused (table (answerLines c) refused (readOf limit (c .packet))) (λ n. tt) (λ one.
+    by-table (IfGiven (Heeded limit slots size c)) (answerLines c) refused (readOf limit (c .packet)) (λ n. tt) (λ two.
+    go one two (readOf limit (c .packet)) refl))
+  where
+    go : NoneHolds (line 1 (not (ready limit slots size)) ∷ []) → NoneHolds (answerLines c) → (t : Told Packet) → readOf limit (c .packet) ≡ t → IfGiven (Heeded limit slots size c) t
+    go one two (refused n) e = tt
+    go one two (given x) e =
+        record {
+          fits = not-false (ready limit slots size) (one .0);
+          read = e;
+          low = ltb-true (c .sequence) 16 (not-false (ltb (c .sequence) 16) (two .0));
+          room = ltb-false (length (c .out)) 6 (two .1 .0);
+        }
 
 -- with a limit out of its range every packet is refused by 1, and leaves all
 pub limit-refused : (limit : ℕ) (slots : List Slot) (bytes : List ℕ) (c : Call) → limitFits limit ≡ false

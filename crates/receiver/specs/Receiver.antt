@@ -17,9 +17,12 @@ use Rattle.slot.specs.declared.Slot.{Slot}
 use Rattle.slot.specs.declared.answer.Accepted.{Accepted}
 use Rattle.slot.specs.declared.answer.Accepted.the-variants.{Taken, Finished, Acked, Nacked}
 use Rattle.slot.specs.Slot.{idles, slotCount, laneStart, laneOf, lawful}
+use Rattle.slot.specs.Answer.{numberOf}
 use Rattle.slot.specs.Step.{Step, Act, still, step, actOf}
 use Rattle.receiver.specs.declared.Receiver.{Receiver}
 use Rattle.receiver.specs.declared.Opened.{Opened}
+use Rattle.receiver.specs.declared.Heard.{Heard}
+use Rattle.receiver.specs.declared.Heard.the-variants.{Refused, Read}
 use Rattle.receiver.specs.Buffer.{stored}
 
 -- the empty state of a link with a limit: all slots idle
@@ -107,6 +110,14 @@ answerLines c = line 15 (not (ltb (c .sequence) fourBits)) ∷ line 14 (ltb (len
 -- what is told of a call's packet: 15 and 14 before it is looked at
 unfoldable pub readIn : ℕ → Call → Told Packet
 readIn limit c = table (answerLines c) refused (readOf limit (c .packet))
+
+-- what is told of a call before anything is done: 1 first
+unfoldable pub heardOf : ℕ → List Slot → ℕ → Call → Told Packet
+heardOf limit slots size c = table (line 1 (not (ready limit slots size)) ∷ []) refused (readIn limit c)
+
+abbrev pub toldHeard : Heard → Told Packet
+toldHeard (Refused why) = refused (numberOf why)
+toldHeard (Read x) = given x
 
 -- a packet given to the receiver
 unfoldable pub acceptOf : ℕ → List Slot → List ℕ → Call → Left
