@@ -307,7 +307,8 @@ PITO_CALL uint64_t pito_receiver_open(uint64_t limit, uint64_t *state, size_t st
  * One packet, accepted and answered at once.
  *   packet    as it came, any bytes
  *   sequence  the ACK's own, if one is written, 0 to 15: any will do, and it has nothing to do with the packet's
- *   out       where the ACK goes: at least PITO_ACK_SIZE bytes, of which no more than the first PITO_ACK_SIZE are written
+ *   out       where the ACK goes: at least PITO_ACK_SIZE bytes, of which no more than the first PITO_ACK_SIZE are written;
+ *             not the packet's own bytes
  * A packet that finishes a transaction which wants an ACK writes the ACK first in out: a whole packet, to be sent as it is
  * once the message is safe. Every other outcome and every refusal leaves all of out. NACKs are written by request, with
  * pito_ack_write; no call sends anything.
