@@ -444,7 +444,8 @@ pub fn receiver_open(limit: u64, state: &mut [u64]) -> u64 {
 
 /// Answer `outcome, stream, id, sequence, total, ack wanted, replaced` with outcome 0 a piece held and
 /// more to come, 1 finished, 2 ACK, 3 NACK. The sequence is the packet's own and told with 2 and 3
-/// only, total and ACK wanted with 1 only, replaced with 0 and 1 only; else they are 0.
+/// only, total and ACK wanted with 1 only, replaced with 0 and 1 only; else they are 0. An answer
+/// sequence of any size above 15 is 15.
 pub fn receiver_accept(
     state: &mut [u64],
     buffer: &mut [u8],
