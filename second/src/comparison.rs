@@ -32,8 +32,8 @@ pub struct Comparison<'i> {
     left: Vec<Left>,
     /// For each operation how often each number was returned.
     met: Vec<[u64; NUMBERS]>,
-    /// For each operation how often each kind of success was told.
-    outcomes: Vec<[u64; NUMBERS]>,
+    /// For each operation how often each kind of success was told, in the order of `kinds`.
+    outcomes: Vec<Vec<[u64; NUMBERS]>>,
     calls: u64,
     /// What the driver is at, for the text of a difference.
     pub at: String,
@@ -42,18 +42,33 @@ pub struct Comparison<'i> {
 /// More than any refusal number.
 const NUMBERS: usize = 64;
 
-/// Operations whose first answer is a small number that tells the kind of success.
-fn kinds(operation: Operation) -> Option<(usize, &'static [&'static str])> {
+/// The places in an answer row of small numbers that tell the kind of success, each with the names
+/// of its kinds.
+type Kinds = &'static [(usize, &'static [&'static str])];
+
+fn kinds(operation: Operation) -> Kinds {
     match operation {
-        Operation::ExtractorStep => Some((0, &["skipped", "taken", "frame"])),
-        Operation::ExtractorFeed => Some((0, &["all used", "", "frame"])),
-        Operation::FramePart => Some((2, &["open", "ended"])),
-        Operation::ReceiverAccept => Some((0, &["held", "finished", "ACK", "NACK"])),
-        Operation::EnvelopeRead => Some((1, &["no payload", "response", "other member"])),
-        Operation::FieldRead => Some((0, &["end", "field"])),
-        Operation::OutboxRecord => Some((0, &["end", "record"])),
-        _ => None,
+        Operation::ExtractorStep => &[(0, &["skipped", "taken", "frame"])],
+        Operation::ExtractorFeed => &[(0, &["all used", "", "frame"])],
+        Operation::FramePart => &[(2, &["open", "ended"])],
+        Operation::ReceiverAccept => &[
+            (0, &["held", "finished", "ACK", "NACK"]),
+            (5, &["", "answered"]),
+        ],
+        Operation::EnvelopeRead => &[(1, &["no payload", "response", "other member"])],
+        Operation::FieldRead => &[(0, &["end", "field"])],
+        Operation::OutboxRecord => &[(0, &["end", "record"])],
+        _ => &[],
     }
+}
+
+/// The kinds of an operation by name, each with how often it was told.
+fn told_kinds(operation: Operation, told: &[[u64; NUMBERS]]) -> Vec<(&'static str, u64)> {
+    let named = kinds(operation).iter().zip(told);
+    named
+        .flat_map(|((_, names), counts)| names.iter().copied().zip(counts.iter().copied()))
+        .filter(|(name, _)| !name.is_empty())
+        .collect()
 }
 
 impl<'i> Comparison<'i> {
@@ -63,7 +78,10 @@ impl<'i> Comparison<'i> {
             implementations: implementations.to_vec(),
             left: vec![Left::default(); implementations.len()],
             met: vec![[0; NUMBERS]; Operation::ALL.len()],
-            outcomes: vec![[0; NUMBERS]; Operation::ALL.len()],
+            outcomes: Operation::ALL
+                .iter()
+                .map(|&operation| vec![[0; NUMBERS]; kinds(operation).len()])
+                .collect(),
             calls: 0,
             at: String::new(),
         }
@@ -113,11 +131,9 @@ impl<'i> Comparison<'i> {
         let returned = first.returned;
         count(&mut self.met[call.operation as usize], returned);
         if returned == 0 {
-            if let Some((cell, _)) = kinds(call.operation) {
-                count(
-                    &mut self.outcomes[call.operation as usize],
-                    call.answer[cell],
-                );
+            let told = &mut self.outcomes[call.operation as usize];
+            for ((cell, _), counts) in kinds(call.operation).iter().zip(told) {
+                count(counts, call.answer[*cell]);
             }
         }
         Ok(returned)
@@ -180,11 +196,9 @@ impl<'i> Comparison<'i> {
                     missing.push(format!("{} {number}", shape.name));
                 }
             }
-            if let Some((_, names)) = kinds(operation) {
-                for (kind, name) in names.iter().enumerate() {
-                    if !name.is_empty() && self.outcomes[operation as usize][kind] == 0 {
-                        missing.push(format!("{} {name}", shape.name));
-                    }
+            for (name, count) in told_kinds(operation, &self.outcomes[operation as usize]) {
+                if count == 0 {
+                    missing.push(format!("{} {name}", shape.name));
                 }
             }
         }
@@ -202,14 +216,11 @@ impl<'i> Comparison<'i> {
                 .map(|(number, count)| format!("{number}: {count}"))
                 .collect();
             let _ = write!(text, "  {}  {}", operation.shape().name, counts.join(", "));
-            if let Some((_, names)) = kinds(operation) {
-                let told = &self.outcomes[operation as usize];
-                let counts: Vec<String> = names
-                    .iter()
-                    .enumerate()
-                    .filter(|(_, name)| !name.is_empty())
-                    .map(|(kind, name)| format!("{name}: {}", told[kind]))
-                    .collect();
+            let counts: Vec<String> = told_kinds(operation, &self.outcomes[operation as usize])
+                .iter()
+                .map(|(name, count)| format!("{name}: {count}"))
+                .collect();
+            if !counts.is_empty() {
                 let _ = write!(text, " ({})", counts.join(", "));
             }
             text.push('\n');
