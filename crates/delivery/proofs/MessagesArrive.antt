@@ -12,15 +12,15 @@ use Rattle.packet.specs.Header.{fourBits}
 use Rattle.packet.proofs.Headers.{stream-back}
 use Rattle.slot.specs.declared.Slot.{Slot}
 use Rattle.receiver.specs.Receiver.{Call, call, Left, acceptOf}
-use Rattle.receiver.proofs.Accepting.{Fits, ready-next}
+use Rattle.receiver.proofs.Accepting.{SlotsFit, ready-next}
 use Rattle.sender.specs.declared.piece.Piece.{Piece}
 use Rattle.sender.specs.declared.writer.Sending.{Sending}
 use Rattle.sender.specs.Piece.{leastRoom, isFirst, sizeFor, piecesFrom, piecesOf}
 use Rattle.sender.specs.Writer.{headerBytes, packetOf, packetsOf}
 use Rattle.sender.proofs.Largest.{size-le, size-some}
-use Rattle.sender.proofs.Guard.{InRange, room-low, range-facts}
+use Rattle.sender.proofs.Guard.{SendingInRange, room-low, range-facts}
 use Rattle.delivery.proofs.CallsGiveAll.{calls-are}
-use Rattle.delivery.specs.Delivery.{Reply, runOf, those, ours, packetsIn, Shown, shown, shownIn, shownTo, answerable, allAnswerable, atLast, MessagesArrive, RoundTrip, MessageAsked}
+use Rattle.delivery.specs.Delivery.{PacketReply, runOf, those, ours, packetsIn, Shown, shown, shownIn, shownTo, answerable, allAnswerable, atLast, MessagesArrive, RoundTrip, MessageAsked}
 use Rattle.wire.proofs.Tests.{and-left, and-right}
 use Rattle.delivery.proofs.Steps.{gives, Holding, Awaits, start, within, holding-kept, pieceFor, last-step, more-step}
 
@@ -87,7 +87,7 @@ more-come w m c cs zero index place rest l e = absurd (omega arith)
 more-come w m c [] (suc fuel) index place rest l e = let z = ap length e in absurd (omega arith)
 more-come w m c (d ∷ cs) (suc fuel) index place rest l e = refl
 
-module _ (limit : ℕ) (w : Sending) (m : List ℕ) (room : leastRoom ≤ w .room) (ok : InRange limit w (length m)) where
+module _ (limit : ℕ) (w : Sending) (m : List ℕ) (room : leastRoom ≤ w .room) (ok : SendingInRange limit w (length m)) where
   abbrev packetsFrom : ℕ → ℕ → ℕ → ℕ → List (List ℕ)
   packetsFrom fuel index place rest = map (packetOf w m) (piecesFrom fuel (w .room) index place rest)
 
@@ -162,7 +162,7 @@ module _ (limit : ℕ) (w : Sending) (m : List ℕ) (room : leastRoom ≤ w .roo
       rest-by q ds (rest-shown ds) (ours w q) refl fuel index place rest slots bytes h t f s e each
 
   -- the first packet comes, and later the others
-  all-shown : (first : Call) (later : List Call) (slots : List Slot) (bytes : List ℕ) → Fits limit slots bytes
+  all-shown : (first : Call) (later : List Call) (slots : List Slot) (bytes : List ℕ) → SlotsFit limit slots bytes
       → first .packet ≡ getD (packetsOf w m) 0 [] → packetsIn (those (ours w) later) ≡ drop 1 (packetsOf w m)
       → allAnswerable (first ∷ those (ours w) later) ≡ true
       → shownTo limit w (runOf limit slots bytes (first ∷ later)) ≡ atLast w m first (those (ours w) later)
@@ -180,13 +180,13 @@ module _ (limit : ℕ) (w : Sending) (m : List ℕ) (room : leastRoom ≤ w .roo
 -- ---- whatever came before, whatever comes after
 
 -- a ready receiver, from which the rest of the run goes on
-record Later (limit : ℕ) (replies : List Reply) (rest : List Call) : Type 0 where
+record Later (limit : ℕ) (replies : List PacketReply) (rest : List Call) : Type 0 where
   pub slots : List Slot
   pub bytes : List ℕ
-  pub is-ready : Fits limit slots bytes
+  pub is-ready : SlotsFit limit slots bytes
   pub same : replies ≡ runOf limit slots bytes rest
 
-later-on : (limit : ℕ) (slots : List Slot) (bytes : List ℕ) (before rest : List Call) → Fits limit slots bytes
+later-on : (limit : ℕ) (slots : List Slot) (bytes : List ℕ) (before rest : List Call) → SlotsFit limit slots bytes
     → Later limit (drop (length before) (runOf limit slots bytes (before ++ rest))) rest
 unfolding runOf
 later-on limit slots bytes [] rest o = record { slots = slots; bytes = bytes; is-ready = o; same = refl }
@@ -199,13 +199,13 @@ unfolding runOf
 run-cut limit slots bytes [] after = refl
 run-cut limit slots bytes (q ∷ ds) after = rw (run-cut limit (acceptOf limit slots bytes q .slots) (acceptOf limit slots bytes q .bytes) ds after)
 
-during-shown : (limit : ℕ) (first : Call) (later after : List Call) (w : Sending) (m : List ℕ) (replies : List Reply)
-    → leastRoom ≤ w .room → InRange limit w (length m) → first .packet ≡ getD (packetsOf w m) 0 []
+during-shown : (limit : ℕ) (first : Call) (later after : List Call) (w : Sending) (m : List ℕ) (replies : List PacketReply)
+    → leastRoom ≤ w .room → SendingInRange limit w (length m) → first .packet ≡ getD (packetsOf w m) 0 []
     → packetsIn (those (ours w) later) ≡ drop 1 (packetsOf w m) → allAnswerable (first ∷ those (ours w) later) ≡ true
     → Later limit replies ((first ∷ later) ++ after)
     → shownTo limit w (take (length (first ∷ later)) replies) ≡ atLast w m first (those (ours w) later)
 during-shown limit first later after w m replies room ok begins e each l =
-    ap (λ (rs : List Reply). shownTo limit w (take (length (first ∷ later)) rs)) (l .same)
+    ap (λ (rs : List PacketReply). shownTo limit w (take (length (first ∷ later)) rs)) (l .same)
     ∙ ap (shownTo limit w) (run-cut limit (l .slots) (l .bytes) (first ∷ later) after)
     ∙ all-shown limit w m room ok first later (l .slots) (l .bytes) (l .is-ready) begins e each
 
@@ -234,7 +234,7 @@ all-ours w m (c ∷ cs) (p ∷ ps) l e =
     rw (call-ours w m c p l head, all-ours w m cs ps l tail)
 
 replies-ours : (limit : ℕ) (slots : List Slot) (bytes : List ℕ) (w : Sending) (m : List ℕ) (cs : List Call) (ps : List Piece) → w .id < fourBits
-    → packetsIn cs ≡ map (packetOf w m) ps → those (λ (r : Reply). ours w (r .call)) (runOf limit slots bytes cs) ≡ runOf limit slots bytes cs
+    → packetsIn cs ≡ map (packetOf w m) ps → those (λ (r : PacketReply). ours w (r .call)) (runOf limit slots bytes cs) ≡ runOf limit slots bytes cs
 unfolding runOf
 replies-ours limit slots bytes w m [] ps l e = refl
 replies-ours limit slots bytes w m (c ∷ cs) [] l e = let z = ap length e in absurd (omega arith)

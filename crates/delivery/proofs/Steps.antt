@@ -20,7 +20,7 @@ use Rattle.packet.specs.Header.{fourBits, headerSize, sequenceAfter}
 use Rattle.packet.specs.Control.{ackSize, ackBytes}
 use Rattle.packet.specs.Reader.{headIn, readOf}
 use Rattle.slot.specs.declared.Slot.{Slot}
-use Rattle.slot.specs.declared.step.Payload.{Payload}
+use Rattle.slot.specs.declared.step.PayloadPlace.{PayloadPlace}
 use Rattle.slot.specs.Slot.{idle, isOpen, slotCount, laneStart, laneOf}
 use Rattle.slot.specs.Step.{Step, step, finish, hold, firstStep, offTotal, nextStep, placeWhere}
 use Rattle.slot.proofs.Slots.{lawful-count}
@@ -28,12 +28,12 @@ use Rattle.slot.proofs.Lanes.{place-low, lane-set, lane-one}
 use Rattle.receiver.specs.Buffer.{partStart, partOf, stored}
 use Rattle.receiver.specs.Receiver.{Result, applied, actIn, Call, call, Left, leaves, readIn, acceptOf}
 use Rattle.receiver.proofs.Parts.{part-inside}
-use Rattle.receiver.proofs.Accepting.{Fits, accept-ready, ready-next, accept-other}
+use Rattle.receiver.proofs.Accepting.{SlotsFit, accept-ready, ready-next, accept-other}
 use Rattle.sender.specs.declared.piece.Piece.{Piece}
 use Rattle.sender.specs.declared.writer.Sending.{Sending}
 use Rattle.sender.specs.Piece.{extended, isFirst}
 use Rattle.sender.specs.Writer.{isLast, packetOf}
-use Rattle.sender.proofs.Guard.{InRange}
+use Rattle.sender.proofs.Guard.{SendingInRange}
 use Rattle.delivery.specs.Delivery.{Message, givenBy, ours, messageOf, answerable, lastOut}
 use Rattle.delivery.proofs.Reading.{headFor, first-read, next-read, payload-read}
 use Rattle.delivery.proofs.Growing.{part-grows}
@@ -49,7 +49,7 @@ read-answerable limit c a =
       le-ltb (length (c .out)) ackSize (leb-true ackSize (length (c .out)) (and-right (ltb (c .sequence) fourBits) _ a)),
     )
 
-accept-read : (limit : ℕ) (slots : List Slot) (bytes : List ℕ) (c : Call) (x : Packet) → Fits limit slots bytes → answerable c ≡ true
+accept-read : (limit : ℕ) (slots : List Slot) (bytes : List ℕ) (c : Call) (x : Packet) → SlotsFit limit slots bytes → answerable c ≡ true
     → readOf limit (c .packet) ≡ given x
     → acceptOf limit slots bytes c ≡ leaves (c .sequence) (c .out) (applied limit slots bytes (c .packet) (laneStart (headIn x .stream)) (actIn slots x))
 accept-read limit slots bytes c x o a e = accept-ready limit slots bytes c o ∙ rw (read-answerable limit c a, e)
@@ -73,7 +73,7 @@ openSlot w m index place =
 
 -- The packets up to the one with this index have come, and none of the stream since: `place` bytes are held, and the part begins with them.
 pub record Holding (limit : ℕ) (w : Sending) (m : List ℕ) (index place : ℕ) (slots : List Slot) (bytes : List ℕ) : Type 0 where
-  pub is-ready : Fits limit slots bytes
+  pub is-ready : SlotsFit limit slots bytes
   pub slot : getD (laneOf (streamFor w) slots) 0 idle ≡ openSlot w m index place
   pub held : take place (partOf limit (placeFor w) bytes) ≡ take place m
 
@@ -100,10 +100,10 @@ abbrev pub pieceFor : ℕ → ℕ → ℕ → Piece
 pieceFor index place n = record { index = index; place = place; size = n }
 
 -- where its bytes are and go
-abbrev payloadFor : Piece → Payload
+abbrev payloadFor : Piece → PayloadPlace
 payloadFor p = record { at = p .place; start = headerSize (isFirst (p .index)) (extended (p .size)); len = p .size }
 
-module _ (limit : ℕ) (w : Sending) (m : List ℕ) (ok : InRange limit w (length m)) (slots : List Slot) (bytes : List ℕ) (o : Fits limit slots bytes) where
+module _ (limit : ℕ) (w : Sending) (m : List ℕ) (ok : SendingInRange limit w (length m)) (slots : List Slot) (bytes : List ℕ) (o : SlotsFit limit slots bytes) where
   inside : partStart limit (placeFor w) + limit ≤ length bytes
   inside = rw (o .size) (part-inside limit (placeFor w) (place-low (streamFor w) 0 (omega arith)))
 
@@ -131,7 +131,7 @@ module _ (limit : ℕ) (w : Sending) (m : List ℕ) (ok : InRange limit w (lengt
               rw f (ap (λ (n : ℕ). cond (w .ack) (sets out 0 (ackBytes n (w .id) sequence true)) out) (number-back (w .stream) (ok .known)));
         }
 
-    more-holds : Fits limit (l .slots) (l .bytes)
+    more-holds : SlotsFit limit (l .slots) (l .bytes)
         → l ≡ leaves sequence out (applied limit slots bytes (packetOf w m p) (laneStart (streamFor w)) (step 0 (hold (headFor w p) false (length m) replaced (payloadFor p))))
         → More limit w m (p .index) (p .place + p .size) out l
     unfolding hold
@@ -149,7 +149,7 @@ module _ (limit : ℕ) (w : Sending) (m : List ℕ) (ok : InRange limit w (lengt
 
 -- ---- the first packet
 
-module _ (limit : ℕ) (w : Sending) (m : List ℕ) (ok : InRange limit w (length m)) (slots : List Slot) (bytes : List ℕ) (o : Fits limit slots bytes)
+module _ (limit : ℕ) (w : Sending) (m : List ℕ) (ok : SendingInRange limit w (length m)) (slots : List Slot) (bytes : List ℕ) (o : SlotsFit limit slots bytes)
     (n : ℕ) (small : n ≤ length m) (filled : n ≡ 0 → length m ≡ 0) (sequence : ℕ) (out : List ℕ) where
   abbrev piece : Piece
   piece = pieceFor 0 0 n
@@ -197,7 +197,7 @@ first-found : (test : Slot → Bool) (lane : List Slot) → test idle ≡ false 
 first-found test [] refuses passes = absurd (false≢true (sym refuses ∙ passes))
 first-found test (s ∷ lane) refuses passes = rw passes
 
-module _ (limit : ℕ) (w : Sending) (m : List ℕ) (ok : InRange limit w (length m)) (slots : List Slot) (bytes : List ℕ) (index place n : ℕ)
+module _ (limit : ℕ) (w : Sending) (m : List ℕ) (ok : SendingInRange limit w (length m)) (slots : List Slot) (bytes : List ℕ) (index place n : ℕ)
     (h : Holding limit w m index place slots bytes) (some-left : 1 ≤ n) (small : place + n ≤ length m) (sequence : ℕ) (out : List ℕ) where
   abbrev following : Piece
   following = pieceFor (suc index) place n
@@ -241,7 +241,7 @@ module _ (limit : ℕ) (w : Sending) (m : List ℕ) (ok : InRange limit w (lengt
 -- The next packet of the message is the one with this index, and its piece begins at this place: nothing is known but that the receiver
 -- is ready, or it holds what came before.
 pub data Awaits (limit : ℕ) (w : Sending) (m : List ℕ) (slots : List Slot) (bytes : List ℕ) : ℕ → ℕ → Type 0 where
-  start : Fits limit slots bytes → Awaits limit w m slots bytes 0 0
+  start : SlotsFit limit slots bytes → Awaits limit w m slots bytes 0 0
   within : {index place : ℕ} → Holding limit w m index place slots bytes → place < length m → Awaits limit w m slots bytes (suc index) place
 
 -- packets of other streams change nothing of what is held
@@ -256,7 +256,7 @@ holding-kept {limit} {w} {m} {slots} {bytes} {index} {place} q known e h =
       held = ap (take place) (k .same-part 0 (omega arith)) ∙ h .held;
     }
 
-module _ (limit : ℕ) (w : Sending) (m : List ℕ) (ok : InRange limit w (length m)) (slots : List Slot) (bytes : List ℕ) (n sequence : ℕ) (out : List ℕ) where
+module _ (limit : ℕ) (w : Sending) (m : List ℕ) (ok : SendingInRange limit w (length m)) (slots : List Slot) (bytes : List ℕ) (n sequence : ℕ) (out : List ℕ) where
   abbrev callFor : ℕ → ℕ → Call
   callFor index place = call (packetOf w m (pieceFor index place n)) sequence out
 

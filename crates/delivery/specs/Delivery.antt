@@ -25,21 +25,21 @@ use Rattle.delivery.specs.Calls.{callsOf, Takes}
 
 -- a packet that was handed in with its answer sequence and answer buffer, what was told of it, and the lent buffer and the answer buffer
 -- as that call returns
-pub record Reply : Type 0 where
+pub record PacketReply : Type 0 where
   pub call : Call
   pub told : Told Accepted
   pub bytes : List ℕ
   pub out : List ℕ
 
 -- each packet meets the slots and the buffer that the call before it left
-unfoldable pub runOf : ℕ → List Slot → List ℕ → List Call → List Reply
+unfoldable pub runOf : ℕ → List Slot → List ℕ → List Call → List PacketReply
 runOf limit slots bytes [] = []
 runOf limit slots bytes (c ∷ cs) =
     record { call = c; told = acceptOf limit slots bytes c .told; bytes = acceptOf limit slots bytes c .bytes; out = acceptOf limit slots bytes c .out }
     ∷ runOf limit (acceptOf limit slots bytes c .slots) (acceptOf limit slots bytes c .bytes) cs
 
 -- the replies to the packets `during`
-abbrev pub repliesTo : ℕ → List Slot → List ℕ → List Call → List Call → List Call → List Reply
+abbrev pub repliesTo : ℕ → List Slot → List ℕ → List Call → List Call → List Call → List PacketReply
 repliesTo limit slots bytes before during after =
     take (length during) (drop (length before) (runOf limit slots bytes (before ++ during ++ after)))
 
@@ -83,12 +83,12 @@ abbrev pub shown : Option Message → List ℕ → Shown
 shown message out = record { message = message; out = out }
 
 -- what replies show, one each
-abbrev pub shownIn : ℕ → List Reply → List Shown
-shownIn limit replies = map (λ (r : Reply). shown (givenBy limit (r .told) (r .bytes)) (r .out)) replies
+abbrev pub shownIn : ℕ → List PacketReply → List Shown
+shownIn limit replies = map (λ (r : PacketReply). shown (givenBy limit (r .told) (r .bytes)) (r .out)) replies
 
 -- what the replies to the stream's own packets show
-abbrev pub shownTo : ℕ → Sending → List Reply → List Shown
-shownTo limit w replies = shownIn limit (those (λ (r : Reply). ours w (r .call)) replies)
+abbrev pub shownTo : ℕ → Sending → List PacketReply → List Shown
+shownTo limit w replies = shownIn limit (those (λ (r : PacketReply). ours w (r .call)) replies)
 
 -- ---- the claims
 

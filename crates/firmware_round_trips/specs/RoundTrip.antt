@@ -27,8 +27,8 @@ abbrev pub Refusal : Type 0
 Refusal = ℕ × List ℕ
 
 -- neither a writer that refuses with more than a number reads back, nor anything by a reader that does
-unfoldable pub NoneRefused : Type 0
-NoneRefused =
+unfoldable pub NoFirmwareRefused : Type 0
+NoFirmwareRefused =
     ((n : Refusal) (out : List ℕ) (read : List ℕ → ToldMore (List ℕ)) (a : List ℕ) → ReadsBack (written (refused n) out) read a → ⊥)
     × ((w : WrittenOf Refusal ℕ) (n : Refusal) (a : List ℕ) → ReadsBack w (λ s. refused n) a → ⊥)
 

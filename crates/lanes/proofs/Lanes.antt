@@ -17,7 +17,7 @@ use Rattle.wire.proofs.Streams.{other-stream}
 use Rattle.packet.specs.declared.reader.Packet.{Packet}
 use Rattle.packet.specs.Reader.{headIn}
 use Rattle.packet.proofs.Headers.{stream-back}
-use Rattle.packet.proofs.Reading.{Passes, IfGiven}
+use Rattle.packet.proofs.Reading.{LinesPass, IfGiven}
 use Rattle.slot.specs.declared.Slot.{Slot}
 use Rattle.slot.specs.Slot.{idle, laneStart, lawfulSlot}
 use Rattle.slot.specs.Step.{Act, still, step}
@@ -26,8 +26,8 @@ use Rattle.slot.proofs.Slots.{open-lawful, idle-lawful, lawful-three}
 use Rattle.slot.proofs.Lanes.{place-other, act-other}
 use Rattle.receiver.specs.Buffer.{partStart, payloadBytes}
 use Rattle.receiver.specs.Receiver.{Result, actIn, acted, Call, answered, readIn, acceptOf}
-use Rattle.receiver.proofs.Accepting.{Fits, accept-ready, limit-refused, in-passes, ready-next, in-fits, payload-length}
-use Rattle.lanes.specs.Lanes.{Both, bothOf, turned, streamField, Handed, EitherOrder, InRules, HandedAll, PartsApart}
+use Rattle.receiver.proofs.Accepting.{SlotsFit, accept-ready, limit-refused, in-passes, ready-next, in-fits, payload-length}
+use Rattle.lanes.specs.Lanes.{Both, bothOf, turned, streamField, HandedPair, EitherOrder, InRules, HandedAll, PartsApart}
 
 -- ---- runs that lie apart
 
@@ -72,7 +72,7 @@ bothBy limit slots bytes c d t u =
       second-out = answered (d .sequence) (s .told) (d .out);
     }
 
-both-read : (limit : ℕ) (slots : List Slot) (bytes : List ℕ) (c d : Call) → Fits limit slots bytes
+both-read : (limit : ℕ) (slots : List Slot) (bytes : List ℕ) (c d : Call) → SlotsFit limit slots bytes
     → bothOf limit slots bytes c d ≡ bothBy limit slots bytes c d (readIn limit c) (readIn limit d)
 both-read limit slots bytes c d r =
     let later = accept-ready limit (acceptOf limit slots bytes c .slots) (acceptOf limit slots bytes c .bytes) d (ready-next limit slots bytes c r) in
@@ -104,8 +104,8 @@ module _ (limit : ℕ) (slots : List Slot) (bytes : List ℕ) (c d : Call) (x y 
             (payload-length limit (length (d .packet)) (d .packet) (t .payload) (fy .inside)),
       )
 
-turned-read : (limit m n : ℕ) (slots : List Slot) (bytes : List ℕ) (c d : Call) (t u : Told Packet) → Fits limit slots bytes → m ≢ n
-    → IfGiven (Passes limit (length (c .packet)) m) t → IfGiven (Passes limit (length (d .packet)) n) u
+turned-read : (limit m n : ℕ) (slots : List Slot) (bytes : List ℕ) (c d : Call) (t u : Told Packet) → SlotsFit limit slots bytes → m ≢ n
+    → IfGiven (LinesPass limit (length (c .packet)) m) t → IfGiven (LinesPass limit (length (d .packet)) n) u
     → bothBy limit slots bytes c d t u ≡ turned (bothBy limit slots bytes d c u t)
 turned-read limit m n slots bytes c d (refused a) (refused b) r e o k = refl
 turned-read limit m n slots bytes c d (refused a) (given y) r e o k = refl
@@ -115,12 +115,12 @@ turned-read limit m n slots bytes c d (given x) (given y) r e o k =
     (in-fits limit (length (c .packet)) m slots x (r .law) o) (in-fits limit (length (d .packet)) n slots y (r .law) k)
 
 -- with a limit out of its range both are refused by 1, and leave all
-order-by : (limit : ℕ) (slots : List Slot) (bytes : List ℕ) (c d : Call) (b : Bool) → limitFits limit ≡ b → Handed limit slots bytes c d
+order-by : (limit : ℕ) (slots : List Slot) (bytes : List ℕ) (c d : Call) (b : Bool) → limitFits limit ≡ b → HandedPair limit slots bytes c d
     → bothOf limit slots bytes c d ≡ turned (bothOf limit slots bytes d c)
 order-by limit slots bytes c d false e h =
     rw (limit-refused limit slots bytes c e, limit-refused limit slots bytes d e, limit-refused limit slots bytes c e)
 order-by limit slots bytes c d true e h =
-    let r : Fits limit slots bytes = record { range = e; law = h .law; size = h .size } in
+    let r : SlotsFit limit slots bytes = record { range = e; law = h .law; size = h .size } in
     both-read limit slots bytes c d r
     ∙ turned-read limit (streamField (c .packet)) (streamField (d .packet)) slots bytes c d (readIn limit c) (readIn limit d) r (h .streams) (in-passes limit c) (in-passes limit d)
     ∙ ap turned (sym (both-read limit slots bytes d c r))

@@ -53,7 +53,7 @@ abbrev pub streamField : List ℕ → ℕ
 streamField p = streamBits (getD p 0 0)
 
 -- what the claim asks for
-pub record Handed (limit : ℕ) (slots : List Slot) (bytes : List ℕ) (c d : Call) : Type 0 where
+pub record HandedPair (limit : ℕ) (slots : List Slot) (bytes : List ℕ) (c d : Call) : Type 0 where
   pub law : lawful limit slots ≡ true
   -- a buffer of the right size
   pub size : length bytes ≡ slotCount * limit
@@ -67,7 +67,7 @@ pub record Handed (limit : ℕ) (slots : List Slot) (bytes : List ℕ) (c d : Ca
 abbrev pub EitherOrder : Type 0
 EitherOrder =
     (limit : ℕ) (slots : List Slot) (bytes : List ℕ) (c d : Call)
-    → Handed limit slots bytes c d
+    → HandedPair limit slots bytes c d
     → bothOf limit slots bytes c d ≡ turned (bothOf limit slots bytes d c)
 
 -- ---- what is asked for, in the numbers of docs/FORMATS.md
@@ -90,7 +90,7 @@ HandedAll =
     → i ≤ 15
     → j ≤ 15
     → m ≢ n
-    → Handed limit (control ∷ ota ∷ alexa ∷ []) bytes (call ((m * 16 + i) ∷ p) a x) (call ((n * 16 + j) ∷ q) b y)
+    → HandedPair limit (control ∷ ota ∷ alexa ∷ []) bytes (call ((m * 16 + i) ∷ p) a x) (call ((n * 16 + j) ∷ q) b y)
 
 -- ---- the parts of the buffer
 

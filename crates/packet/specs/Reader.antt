@@ -34,7 +34,7 @@ abbrev pub isAcknowledgement : List ℕ → Bool → Bool → Bool
 isAcknowledgement p ack extended = not extended && sameBytes (drop startSize p) (ackTail ack)
 
 -- the fields of a packet; exact: an ACK or NACK, if it is of type 3
-pub record Fields : Type 0 where
+pub record PacketFields : Type 0 where
   pub size : ℕ
   pub stream : ℕ
   pub head : Head
@@ -47,7 +47,7 @@ pub record Fields : Type 0 where
   pub exact : Bool
 
 -- the fields of a packet, by what its bytes 0 and 1 say
-abbrev pub fieldsBy : List ℕ → ℕ → ℕ → ℕ → ℕ → Bool → Bool → Fields
+abbrev pub fieldsBy : List ℕ → ℕ → ℕ → ℕ → ℕ → Bool → Bool → PacketFields
 fieldsBy p stream id sequence kind ack extended =
     record {
       size = length p;
@@ -63,18 +63,18 @@ fieldsBy p stream id sequence kind ack extended =
     }
 
 -- the fields of a packet; a byte that it does not have counts as 0
-unfoldable pub fieldsOf : List ℕ → Fields
+unfoldable pub fieldsOf : List ℕ → PacketFields
 fieldsOf p =
     fieldsBy p (streamBits (getD p 0 0)) (idBits (getD p 0 0)) (sequenceBits (getD p 1 0)) (typeBits (getD p 1 0)) (ackBit (getD p 1 0)) (extenderBit (getD p 1 0))
 
-abbrev pub isFirst : Fields → Bool
+abbrev pub isFirst : PacketFields → Bool
 isFirst f = eqb (f .kind) typeFirst
 
-abbrev pub isControl : Fields → Bool
+abbrev pub isControl : PacketFields → Bool
 isControl f = eqb (f .kind) typeControl
 
 -- what a packet says that passes the table
-unfoldable pub contentOf : Fields → Packet
+unfoldable pub contentOf : PacketFields → Packet
 contentOf f =
     cond (isControl f) (cond (f .ack) (Ack (f .head)) (Nack (f .head)))
     (cond (isFirst f) (First (f .head) (f .ack) (f .total) (f .header) (f .len))
@@ -95,7 +95,7 @@ lenIn (Ack head) = 0
 lenIn (Nack head) = 0
 
 -- the table of docs/FORMATS.md for a packet by itself; limit is the largest total
-unfoldable pub lines : ℕ → Fields → List Line
+unfoldable pub lines : ℕ → PacketFields → List Line
 lines limit f =
     line 2 (ltb (f .size) startSize || (not (isControl f) && ltb (f .size) (f .header)))
     ∷ line 3 (not (isStream (f .stream)))
@@ -108,7 +108,7 @@ lines limit f =
     ∷ []
 
 -- what is told of the fields of a packet
-abbrev pub judged : ℕ → Fields → Told Packet
+abbrev pub judged : ℕ → PacketFields → Told Packet
 judged limit f = table (lines limit f) refused (given (contentOf f))
 
 -- what is told of a packet
@@ -145,5 +145,5 @@ startOf first second =
 abbrev pub headOf : Start → Head
 headOf s = record { stream = streamOf (s .stream); id = s .id; sequence = s .sequence }
 
-abbrev pub fieldsFrom : List ℕ → ℕ → Start → Fields
+abbrev pub fieldsFrom : List ℕ → ℕ → Start → PacketFields
 fieldsFrom p kind s = fieldsBy p (s .stream) (s .id) (s .sequence) kind (s .ack) (s .extended)

@@ -10,9 +10,9 @@ use Rattle.packet.specs.declared.reader.Head.{Head}
 use Rattle.packet.specs.declared.reader.Packet.{Packet}
 use Rattle.packet.specs.declared.reader.Packet.the-variants.{First, Next, Ack, Nack}
 use Rattle.packet.specs.Header.{fourBits}
-use Rattle.packet.proofs.Reading.{Within}
+use Rattle.packet.proofs.Reading.{PayloadWithin}
 use Rattle.slot.specs.declared.Slot.{Slot}
-use Rattle.slot.specs.declared.step.Payload.{Payload}
+use Rattle.slot.specs.declared.step.PayloadPlace.{PayloadPlace}
 use Rattle.slot.specs.Slot.{idle, isOpen}
 use Rattle.slot.specs.Step.{Step, Act, still, step, finish, hold, dropBy, firstStep, lines, nextStep, placeWhere, atPlace, actOf}
 use Rattle.receiver.specs.Receiver.{applied}
@@ -25,11 +25,11 @@ abbrev pub ActLow : Act → Type 0
 ActLow (still t) = IdLow t
 ActLow (step place s) = StepLow s
 
-finish-low : (h : Head) (wanted : Bool) (total : ℕ) (replaced : Bool) (payload : Payload) → h .id < fourBits → StepLow (finish h wanted total replaced payload)
+finish-low : (h : Head) (wanted : Bool) (total : ℕ) (replaced : Bool) (payload : PayloadPlace) → h .id < fourBits → StepLow (finish h wanted total replaced payload)
 unfolding finish
 finish-low h wanted total replaced payload low = low
 
-hold-low : (h : Head) (wanted : Bool) (total : ℕ) (replaced : Bool) (payload : Payload) → StepLow (hold h wanted total replaced payload)
+hold-low : (h : Head) (wanted : Bool) (total : ℕ) (replaced : Bool) (payload : PayloadPlace) → StepLow (hold h wanted total replaced payload)
 unfolding hold
 hold-low h wanted total replaced payload = tt
 
@@ -57,7 +57,7 @@ at-low n f none each = tt
 at-low n f (some place) each = each place
 
 -- what a packet that was read does
-pub act-low : (limit k : ℕ) (lane : List Slot) (x : Packet) → Within limit k x → ActLow (actOf lane x)
+pub act-low : (limit k : ℕ) (lane : List Slot) (x : Packet) → PayloadWithin limit k x → ActLow (actOf lane x)
 act-low limit k lane (First h ack total start len) w = first-low (getD lane 0 idle) h ack total start len (w .4 .0)
 act-low limit k lane (Next h ack last start len) w =
     at-low 9 (λ place. nextStep (getD lane place idle) h ack last start len) (placeWhere (isOpen (h .id)) lane) (λ place.

@@ -20,7 +20,7 @@ use Rattle.slot.specs.Slot.{idles, slotCount, laneStart, laneOf, lawful}
 use Rattle.slot.specs.Answer.{numberOf}
 use Rattle.slot.specs.Step.{Step, Act, still, step, actOf}
 use Rattle.receiver.specs.declared.Receiver.{Receiver}
-use Rattle.receiver.specs.declared.Opened.{Opened}
+use Rattle.receiver.specs.declared.OpenedReceiver.{OpenedReceiver}
 use Rattle.receiver.specs.declared.Heard.{Heard}
 use Rattle.receiver.specs.declared.Heard.the-variants.{Refused, Read}
 use Rattle.receiver.specs.Buffer.{stored}
@@ -34,7 +34,7 @@ unfoldable pub openOf : ℕ → Told Receiver
 openOf limit = table (line 17 (not (limitFits limit)) ∷ []) refused (given (empty limit))
 
 -- what an opening tells
-abbrev pub toldOpen : Opened → Told Receiver
+abbrev pub toldOpen : OpenedReceiver → Told Receiver
 toldOpen o = cond (o .refused) (refused 17) (given (o .state))
 
 -- the state that it hands back: a refused one's has limit 0
