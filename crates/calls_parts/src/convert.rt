@@ -1,7 +1,7 @@
 // The state of a frame that is written by parts, and what a call answers, as rows.
 use framing::mark::Kind;
-use parts::state::PartWriter;
 use parts::state::PartProgress;
+use parts::state::PartWriter;
 use parts::state::Stage;
 use parts::writer::PartOutcome;
 use rows::row::BYTES;

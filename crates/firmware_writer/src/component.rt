@@ -86,7 +86,11 @@ pub(crate) fn text_part_fault(fault: TextFault, texts: &[u8], field: u64, part: 
 }
 
 // A component's strings are judged, unless a fault was found before.
-pub(crate) fn component_fault(fault: TextFault, texts: &[u8], component: FirmwareComponent) -> TextFault
+pub(crate) fn component_fault(
+    fault: TextFault,
+    texts: &[u8],
+    component: FirmwareComponent,
+) -> TextFault
     requires { ⌜ badComponent (now texts) component ≡ false ⌝ }
     ensures { λ r. ⌜ r ≡ faultFrom fault (componentStrings (now (texts .entry)) component) ⌝ }
 {

@@ -1,7 +1,7 @@
 // The calls: a frame begun, and each part of it.
 use crate::byte::Emitted;
-use crate::state::PartWriter;
 use crate::state::PartProgress;
+use crate::state::PartWriter;
 use crate::state::bad_start;
 use wire::limit::limit_fits;
 ghost use mathlib.Core.Path.{_≡_};
