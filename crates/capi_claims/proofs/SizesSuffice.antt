@@ -17,10 +17,12 @@ use Rattle.wire.proofs.Limits.{range-limit}
 use Rattle.field.specs.Signed.{signedOf, extended}
 use Rattle.field.specs.Tag.{varintType, lengthType, lastField}
 use Rattle.field_writer.specs.Writer.{Field, messageBytes}
-use Rattle.framing.specs.Mark.{startMark, endMark, escapeMark, kindOf, isMark}
+use Rattle.framing.specs.Mark.{startMark, isMark}
 use Rattle.framing.specs.Frame.{frameOf, checksumOf}
+use Rattle.frame_writer.specs.Sending.{NoMark}
 use Rattle.frame_writer.specs.Writer.{writeOf}
 use Rattle.frame_writer.proofs.Escaping.{frame-most}
+use Rattle.frame_writer.proofs.Sending.{no-mark}
 use Rattle.packet.specs.Header.{inRange}
 use Rattle.packet.specs.Control.{ackSize, ackBytes}
 use Rattle.packet.proofs.Headers.{in-range}
@@ -59,6 +61,7 @@ use Rattle.outbox.specs.Writer.{newOf, badRecord, appendOf}
 use Rattle.outbox.proofs.Versions.{known-small, format-known}
 use Rattle.outbox.proofs.Walk.{whole-version}
 use Rattle.outbox.proofs.Stored.{length-record}
+use Rattle.round_trips.specs.RoundTrip.{MemberNumber}
 use Rattle.round_trips.specs.Premises.{InSigned32, AllInSigned32}
 use Rattle.round_trips.proofs.Premises.{signed}
 use Rattle.round_trips.proofs.Values.{signed-trip}
@@ -72,7 +75,7 @@ use Rattle.calls_messages.specs.Calls.{envelopeWriteOf, responseWriteOf, inform
 use Rattle.rows_firmware.specs.Apply.{applyAt}
 use Rattle.calls_firmware.specs.Calls.{segmentStored, segmentWriteOf, applyStored, applyWriteOf}
 use Rattle.calls_outbox.specs.Calls.{outboxNewOf, outboxAppendOf}
-use Rattle.capi_claims.specs.SizesSuffice.{Done, StreamNumber, NoMark, MemberNumber, PayloadField, RowFits, stringsOf, SizesSuffice, frameSize, envelopeSize, responseSize, informationSize, featuresSize, segmentSize, applySize, recordSize}
+use Rattle.capi_claims.specs.SizesSuffice.{Done, StreamNumber, PayloadField, RowFits, stringsOf, SizesSuffice, frameSize, envelopeSize, responseSize, informationSize, featuresSize, segmentSize, applySize, recordSize}
 use Rattle.capi_claims.proofs.Sizes.{scalar-most, text-most, nested-most, packed-most, tag-most, tag-small}
 use Rattle.capi_claims.proofs.Applies.{not-wide, low-same, row-fine, firmware-fine, strings-fine, apply-most}
 
@@ -109,10 +112,6 @@ byte-is : (other n : ℕ) → n < 256 → byteOr other n ≡ n
 unfolding byteOr
 byte-is other n h = rw (lt-ltb n 256 h)
 
-unmarked : (b : ℕ) → NoMark b → isMark b ≡ false
-unfolding kindOf
-unmarked b none = rw (ne-eqb b startMark (none .0), ne-eqb b endMark (none .1), ne-eqb b escapeMark (none .2))
-
 frame-done : (limit sequence : ℕ) (payload out answer : List ℕ) → length answer ≡ 1
     → 1 ≤ limit → limit ≤ 65535 → sequence < 256 → NoMark sequence → length payload ≤ limit → frameSize (length payload) ≤ length out
     → Done (frameWriteOf limit sequence payload out answer)
@@ -123,7 +122,7 @@ frame-done limit sequence payload out answer l some most b m n h =
     (rw (range-limit limit some most)
     (done-two (isMark sequence || ltb limit (length payload)) (length (frameOf sequence payload)) out
     (length (frameOf sequence payload)) (sets out 0 (frameOf sequence payload))
-    (rw (unmarked sequence m, le-ltb limit (length payload) n))
+    (rw (no-mark sequence m, le-ltb limit (length payload) n))
     (omega (arith, frame-most sequence payload (checksumOf payload / 256) (checksumOf payload % 256))))))
 
 stream-byte : (n : ℕ) → StreamNumber n → n < 256

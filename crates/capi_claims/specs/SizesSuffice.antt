@@ -8,6 +8,7 @@ use mathlib.Core.List.{List, _∷_, map}
 use lib.IntN.{ℤ}
 use lib.ListN.{length, take, getD}
 use Rattle.packet.specs.Control.{ackSize}
+use Rattle.frame_writer.specs.Sending.{NoMark}
 use Rattle.sender.specs.Writer.{begins, foundAt}
 use Rattle.field.specs.Signed.{extended}
 use Rattle.field.specs.Value.{bytesOf}
@@ -15,6 +16,7 @@ use Rattle.text.specs.WellFormed.{WellFormed}
 use Rattle.outbox.specs.declared.format.Format.{Format}
 use Rattle.outbox.specs.Format.{Known, formatOf, headSize}
 use Rattle.outbox.specs.Reader.{given, walkOf}
+use Rattle.round_trips.specs.RoundTrip.{MemberNumber}
 use Rattle.round_trips.specs.Premises.{InSigned32, AllInSigned32}
 use Rattle.firmware_round_trips.specs.RoundTrip.{Unsigned32}
 use Rattle.firmware_round_trips.specs.Premises.{Digits}
@@ -66,14 +68,7 @@ Done c = c .number ≡ 0
 abbrev pub StreamNumber : ℕ → Type 0
 StreamNumber n = (n ≡ 0) ⊎ (n ≡ 2) ⊎ (n ≡ 6)
 
--- none of F0, F1 and F2
-abbrev pub NoMark : ℕ → Type 0
-NoMark n = (n ≡ 240 → ⊥) × (n ≡ 241 → ⊥) × (n ≡ 242 → ⊥)
-
--- a member's number, and 0 or one for a response's payload
-abbrev pub MemberNumber : ℕ → Type 0
-MemberNumber n = (2 ≤ n) × (n ≤ 536870911)
-
+-- 0, or the number of a response's payload
 abbrev pub PayloadField : ℕ → Type 0
 PayloadField n = (n ≡ 0) ⊎ MemberNumber n
 

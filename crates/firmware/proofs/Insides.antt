@@ -34,14 +34,14 @@ pub record Gathers (s : List ℕ) (g : Gathered) : Type 0 where
   pub most : g .count ≤ mostRepeated
   pub texts : AllText s (g .texts)
 
-gathers : (schema : Schema) (s : List ℕ) (at : ℕ) → Sat (Gathers s) (fieldsFrom schema s at)
+pub gathers : (schema : Schema) (s : List ℕ) (at : ℕ) → Sat (Gathers s) (fieldsFrom schema s at)
 gathers schema s at = by-told (fieldsFrom schema s at) refl
   where
     by-told : (r : ToldMore Gathered) → fieldsFrom schema s at ≡ r → Sat (Gathers s) r
     by-told (given g) e = let w = fields-within schema s at g e in record { parts = w .0; most = w .1; texts = w .2 }
     by-told (refused n) e = tt
 
-text-within : (s : List ℕ) (g : Gathered) (i : ℕ) → Gathers s g → getD (g .texts) i noPart .start + getD (g .texts) i noPart .len ≤ length s
+pub text-within : (s : List ℕ) (g : Gathered) (i : ℕ) → Gathers s g → getD (g .texts) i noPart .start + getD (g .texts) i noPart .len ≤ length s
 text-within s g i w = within-get s (g .texts) i noPart zero-le (w .parts .1)
 
 -- ---- components
