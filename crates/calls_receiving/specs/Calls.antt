@@ -6,7 +6,7 @@ use lib.ListN.{length}
 use lib.Dec.{eqb}
 use Rattle.wire.specs.Told.{Told, given, refused}
 use Rattle.receiver.specs.declared.Receiver.{Receiver}
-use Rattle.receiver.specs.Receiver.{openOf, call, Left, acceptOf}
+use Rattle.receiver.specs.Receiver.{openOf, call, PacketLeft, acceptOf}
 use Rattle.rows.specs.Row.{afterwards, numberTold, byteOr, outOfRange}
 use Rattle.calls_receiving.specs.Convert.{isReceiver, limitOf, slotsOf, receiverRow, answerRow}
 use Rattle.rows.specs.Called.{Called, called, ifFit}
@@ -28,7 +28,7 @@ abbrev pub replied : Called → List ℕ → Replied
 replied c out = record { call = c; out = out }
 
 -- rows and lent bytes after a packet; the limit stays
-abbrev pub accepted : List ℕ → List ℕ → Left → Replied
+abbrev pub accepted : List ℕ → List ℕ → PacketLeft → Replied
 accepted state answer l =
     let n = numberTold (l .told) in
     replied

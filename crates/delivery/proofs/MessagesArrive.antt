@@ -11,7 +11,7 @@ use borrow.Author.Tests.{eqb-true, eqb-false, eq-eqb}
 use Rattle.packet.specs.Header.{fourBits}
 use Rattle.packet.proofs.Headers.{stream-back}
 use Rattle.slot.specs.declared.Slot.{Slot}
-use Rattle.receiver.specs.Receiver.{Call, call, Left, acceptOf}
+use Rattle.receiver.specs.Receiver.{PacketCall, call, PacketLeft, acceptOf}
 use Rattle.receiver.proofs.Accepting.{SlotsFit, ready-next}
 use Rattle.sender.specs.declared.piece.Piece.{Piece}
 use Rattle.sender.specs.declared.writer.Sending.{Sending}
@@ -20,13 +20,13 @@ use Rattle.sender.specs.Writer.{headerBytes, packetOf, packetsOf}
 use Rattle.sender.proofs.Largest.{size-le, size-some}
 use Rattle.sender.proofs.Guard.{SendingInRange, room-low, range-facts}
 use Rattle.delivery.proofs.CallsGiveAll.{calls-are}
-use Rattle.delivery.specs.Delivery.{PacketReply, runOf, those, ours, packetsIn, Shown, shown, shownIn, shownTo, answerable, allAnswerable, atLast, MessagesArrive, RoundTrip, MessageAsked}
+use Rattle.delivery.specs.Delivery.{PacketReply, runOf, those, ours, packetsIn, CallShown, shown, shownIn, shownTo, answerable, allAnswerable, atLast, MessagesArrive, RoundTrip, MessageAsked}
 use Rattle.wire.proofs.Tests.{and-left, and-right}
 use Rattle.delivery.proofs.Steps.{gives, Holding, Awaits, start, within, holding-kept, pieceFor, last-step, more-step}
 
 -- ---- one packet of a run
 
-module _ (limit : ℕ) (w : Sending) (slots : List Slot) (bytes : List ℕ) (q : Call) (ds : List Call) where
+module _ (limit : ℕ) (w : Sending) (slots : List Slot) (bytes : List ℕ) (q : PacketCall) (ds : List PacketCall) where
   skipped : ours w q ≡ false
       → shownTo limit w (runOf limit slots bytes (q ∷ ds))
       ≡ shownTo limit w (runOf limit (acceptOf limit slots bytes q .slots) (acceptOf limit slots bytes q .bytes) ds)
@@ -47,17 +47,17 @@ put-in : {A : Type 0} (test : A → Bool) (x : A) (xs : List A) → test x ≡ t
 put-in test x xs e = rw e
 
 -- a list without packets of the stream shows nothing
-abbrev Quiet : ℕ → Sending → List Call → Type 0
+abbrev Quiet : ℕ → Sending → List PacketCall → Type 0
 Quiet limit w ds = (slots : List Slot) (bytes : List ℕ) → those (ours w) ds ≡ [] → shownTo limit w (runOf limit slots bytes ds) ≡ []
 
-quiet-by : (limit : ℕ) (w : Sending) (q : Call) (ds : List Call) (b : Bool) → ours w q ≡ b → Quiet limit w ds → Quiet limit w (q ∷ ds)
+quiet-by : (limit : ℕ) (w : Sending) (q : PacketCall) (ds : List PacketCall) (b : Bool) → ours w q ≡ b → Quiet limit w ds → Quiet limit w (q ∷ ds)
 quiet-by limit w q ds true f later slots bytes e =
     let z : 0 ≡ suc (length (those (ours w) ds)) = ap length (sym e ∙ put-in (ours w) q ds f) in
     absurd (omega arith)
 quiet-by limit w q ds false f later slots bytes e =
     skipped limit w slots bytes q ds f ∙ later _ _ (sym (left-out (ours w) q ds f) ∙ e)
 
-quiet : (limit : ℕ) (w : Sending) (ds : List Call) → Quiet limit w ds
+quiet : (limit : ℕ) (w : Sending) (ds : List PacketCall) → Quiet limit w ds
 unfolding runOf
 quiet limit w [] slots bytes e = refl
 quiet limit w (q ∷ ds) slots bytes e = quiet-by limit w q ds (ours w q) refl (quiet limit w ds) slots bytes e
@@ -70,17 +70,17 @@ unfolding packetOf headerBytes
 packet-ours w m p sequence out l = eq-eqb _ _ (stream-back (w .stream) (w .id) l)
 
 -- calls without packets are none
-no-calls : (cs : List Call) → packetsIn cs ≡ [] → cs ≡ []
+no-calls : (cs : List PacketCall) → packetsIn cs ≡ [] → cs ≡ []
 no-calls [] e = refl
 no-calls (c ∷ cs) e = let z = ap length e in absurd (omega arith)
 
 -- what calls show that are all of a message's from one on
-abbrev fromNext : Sending → List ℕ → List Call → List Shown
+abbrev fromNext : Sending → List ℕ → List PacketCall → List CallShown
 fromNext w m [] = []
 fromNext w m (c ∷ cs) = atLast w m c cs
 
 -- where packets are still to come, a call shows nothing
-more-come : (w : Sending) (m : List ℕ) (c : Call) (cs : List Call) (fuel index place rest : ℕ) → 1 ≤ fuel
+more-come : (w : Sending) (m : List ℕ) (c : PacketCall) (cs : List PacketCall) (fuel index place rest : ℕ) → 1 ≤ fuel
     → packetsIn cs ≡ map (packetOf w m) (piecesFrom fuel (w .room) index place rest)
     → atLast w m c cs ≡ shown none (c .out) ∷ fromNext w m cs
 more-come w m c cs zero index place rest l e = absurd (omega arith)
@@ -96,14 +96,14 @@ module _ (limit : ℕ) (w : Sending) (m : List ℕ) (room : leastRoom ≤ w .roo
   packetsAfter last fuel index place rest n = map (packetOf w m) (cond last [] (piecesFrom fuel (w .room) (suc index) (place + n) (rest - n)))
 
   -- what is held is all before a place, and the packets of the pieces from there on are all that come of the stream in ds, each answerable
-  abbrev Rest : List Call → Type 0
+  abbrev Rest : List PacketCall → Type 0
   Rest ds =
       (fuel index place rest : ℕ) (slots : List Slot) (bytes : List ℕ) → Holding limit w m index place slots bytes → place + rest ≡ length m → rest < fuel
       → 1 ≤ rest → packetsIn (those (ours w) ds) ≡ packetsFrom fuel (suc index) place rest → allAnswerable (those (ours w) ds) ≡ true
       → shownTo limit w (runOf limit slots bytes ds) ≡ fromNext w m (those (ours w) ds)
 
   -- the awaited packet comes
-  awaited : (ds : List Call) → Rest ds → (fuel index place rest n sequence : ℕ) (out : List ℕ) (slots : List Slot) (bytes : List ℕ)
+  awaited : (ds : List PacketCall) → Rest ds → (fuel index place rest n sequence : ℕ) (out : List ℕ) (slots : List Slot) (bytes : List ℕ)
       → Awaits limit w m slots bytes index place
       → place + rest ≡ length m → rest < suc fuel → n ≡ sizeFor (w .room) (isFirst index) rest
       → answerable (call (packetOf w m (pieceFor index place n)) sequence out) ≡ true → allAnswerable (those (ours w) ds) ≡ true
@@ -111,15 +111,15 @@ module _ (limit : ℕ) (w : Sending) (m : List ℕ) (room : leastRoom ≤ w .roo
       → shownTo limit w (runOf limit slots bytes (call (packetOf w m (pieceFor index place n)) sequence out ∷ ds))
       ≡ atLast w m (call (packetOf w m (pieceFor index place n)) sequence out) (those (ours w) ds)
   awaited ds later fuel index place rest n sequence out slots bytes a t f en can each true b e =
-      let c : Call = call (packetOf w m (pieceFor index place n)) sequence out in
+      let c : PacketCall = call (packetOf w m (pieceFor index place n)) sequence out in
       let nr : n ≡ rest = eqb-true n rest b in
       let none-left : those (ours w) ds ≡ [] = no-calls (those (ours w) ds) e in
       let ends = last-step limit w m ok slots bytes n sequence out a can (omega arith) in
       looked-at limit w slots bytes c ds (packet-ours w m (pieceFor index place n) sequence out (ok .id))
       ∙ rw (ends .message, ends .answer, quiet limit w ds (acceptOf limit slots bytes c .slots) (acceptOf limit slots bytes c .bytes) none-left, none-left)
   awaited ds later fuel index place rest n sequence out slots bytes a t f en can each false b e =
-      let c : Call = call (packetOf w m (pieceFor index place n)) sequence out in
-      let l : Left = acceptOf limit slots bytes c in
+      let c : PacketCall = call (packetOf w m (pieceFor index place n)) sequence out in
+      let l : PacketLeft = acceptOf limit slots bytes c in
       let d : (n ≡ rest → ⊥) = eqb-false n rest b in
       let s2 : n ≤ rest = rw en (size-le (w .room) (isFirst index) room rest) in
       let s1 : 1 ≤ n = rw en (size-some (w .room) (isFirst index) room rest (omega arith)) in
@@ -132,7 +132,7 @@ module _ (limit : ℕ) (w : Sending) (m : List ℕ) (room : leastRoom ≤ w .roo
       )
       (sym (more-come w m c (those (ours w) ds) fuel (suc index) (place + n) (rest - n) (omega arith) e))
 
-  rest-by : (q : Call) (ds : List Call) → Rest ds → (b : Bool) → ours w q ≡ b → Rest (q ∷ ds)
+  rest-by : (q : PacketCall) (ds : List PacketCall) → Rest ds → (b : Bool) → ours w q ≡ b → Rest (q ∷ ds)
   rest-by q ds later b g zero index place rest slots bytes h t f s e each = absurd (omega arith)
   rest-by q ds later true g (suc fuel) index place rest slots bytes h t f s e each =
       let n : ℕ = sizeFor (w .room) (isFirst (suc index)) rest in
@@ -145,9 +145,9 @@ module _ (limit : ℕ) (w : Sending) (m : List ℕ) (room : leastRoom ≤ w .roo
       let can : (answerable q && allAnswerable (those (ours w) ds)) ≡ true = ap allAnswerable (sym (put-in (ours w) q ds g)) ∙ each in
       let now-can : answerable (call p (q .sequence) (q .out)) ≡ true = ap answerable (sym same) ∙ and-left (answerable q) _ can in
       let later-can : allAnswerable (those (ours w) ds) ≡ true = and-right (answerable q) _ can in
-      ap (λ (c : Call). shownTo limit w (runOf limit slots bytes (c ∷ ds))) same
+      ap (λ (c : PacketCall). shownTo limit w (runOf limit slots bytes (c ∷ ds))) same
       ∙ awaited ds later fuel (suc index) place rest n (q .sequence) (q .out) slots bytes (within h (omega arith)) t f refl now-can later-can (eqb n rest) refl tail
-      ∙ ap (λ (c : Call). atLast w m c (those (ours w) ds)) (sym same)
+      ∙ ap (λ (c : PacketCall). atLast w m c (those (ours w) ds)) (sym same)
       ∙ ap (fromNext w m) (sym (put-in (ours w) q ds g))
   rest-by q ds later false g (suc fuel) index place rest slots bytes h t f s e each =
       skipped limit w slots bytes q ds g
@@ -155,14 +155,14 @@ module _ (limit : ℕ) (w : Sending) (m : List ℕ) (room : leastRoom ≤ w .roo
       (ap allAnswerable (sym (left-out (ours w) q ds g)) ∙ each)
       ∙ ap (fromNext w m) (sym (left-out (ours w) q ds g))
 
-  rest-shown : (ds : List Call) → Rest ds
+  rest-shown : (ds : List PacketCall) → Rest ds
   rest-shown [] zero index place rest slots bytes h t f s e each = absurd (omega arith)
   rest-shown [] (suc fuel) index place rest slots bytes h t f s e each = let z = ap length e in absurd (omega arith)
   rest-shown (q ∷ ds) fuel index place rest slots bytes h t f s e each =
       rest-by q ds (rest-shown ds) (ours w q) refl fuel index place rest slots bytes h t f s e each
 
   -- the first packet comes, and later the others
-  all-shown : (first : Call) (later : List Call) (slots : List Slot) (bytes : List ℕ) → SlotsFit limit slots bytes
+  all-shown : (first : PacketCall) (later : List PacketCall) (slots : List Slot) (bytes : List ℕ) → SlotsFit limit slots bytes
       → first .packet ≡ getD (packetsOf w m) 0 [] → packetsIn (those (ours w) later) ≡ drop 1 (packetsOf w m)
       → allAnswerable (first ∷ those (ours w) later) ≡ true
       → shownTo limit w (runOf limit slots bytes (first ∷ later)) ≡ atLast w m first (those (ours w) later)
@@ -172,34 +172,34 @@ module _ (limit : ℕ) (w : Sending) (m : List ℕ) (room : leastRoom ≤ w .roo
       let same : first ≡ call p (first .sequence) (first .out) = ap (λ (bs : List ℕ). call bs (first .sequence) (first .out)) begins in
       let now-can : answerable (call p (first .sequence) (first .out)) ≡ true = ap answerable (sym same) ∙ and-left (answerable first) _ each in
       let later-can : allAnswerable (those (ours w) later) ≡ true = and-right (answerable first) _ each in
-      ap (λ (c : Call). shownTo limit w (runOf limit slots bytes (c ∷ later))) same
+      ap (λ (c : PacketCall). shownTo limit w (runOf limit slots bytes (c ∷ later))) same
       ∙ awaited later (rest-shown later) (length m) 0 0 (length m) n (first .sequence) (first .out) slots bytes (start o) (omega arith) (omega arith) refl
       now-can later-can (eqb n (length m)) refl e
-      ∙ ap (λ (c : Call). atLast w m c (those (ours w) later)) (sym same)
+      ∙ ap (λ (c : PacketCall). atLast w m c (those (ours w) later)) (sym same)
 
 -- ---- whatever came before, whatever comes after
 
 -- a ready receiver, from which the rest of the run goes on
-record Later (limit : ℕ) (replies : List PacketReply) (rest : List Call) : Type 0 where
+record Later (limit : ℕ) (replies : List PacketReply) (rest : List PacketCall) : Type 0 where
   pub slots : List Slot
   pub bytes : List ℕ
   pub is-ready : SlotsFit limit slots bytes
   pub same : replies ≡ runOf limit slots bytes rest
 
-later-on : (limit : ℕ) (slots : List Slot) (bytes : List ℕ) (before rest : List Call) → SlotsFit limit slots bytes
+later-on : (limit : ℕ) (slots : List Slot) (bytes : List ℕ) (before rest : List PacketCall) → SlotsFit limit slots bytes
     → Later limit (drop (length before) (runOf limit slots bytes (before ++ rest))) rest
 unfolding runOf
 later-on limit slots bytes [] rest o = record { slots = slots; bytes = bytes; is-ready = o; same = refl }
 later-on limit slots bytes (q ∷ qs) rest o =
     later-on limit (acceptOf limit slots bytes q .slots) (acceptOf limit slots bytes q .bytes) qs rest (ready-next limit slots bytes q o)
 
-run-cut : (limit : ℕ) (slots : List Slot) (bytes : List ℕ) (ds after : List Call)
+run-cut : (limit : ℕ) (slots : List Slot) (bytes : List ℕ) (ds after : List PacketCall)
     → take (length ds) (runOf limit slots bytes (ds ++ after)) ≡ runOf limit slots bytes ds
 unfolding runOf
 run-cut limit slots bytes [] after = refl
 run-cut limit slots bytes (q ∷ ds) after = rw (run-cut limit (acceptOf limit slots bytes q .slots) (acceptOf limit slots bytes q .bytes) ds after)
 
-during-shown : (limit : ℕ) (first : Call) (later after : List Call) (w : Sending) (m : List ℕ) (replies : List PacketReply)
+during-shown : (limit : ℕ) (first : PacketCall) (later after : List PacketCall) (w : Sending) (m : List ℕ) (replies : List PacketReply)
     → leastRoom ≤ w .room → SendingInRange limit w (length m) → first .packet ≡ getD (packetsOf w m) 0 []
     → packetsIn (those (ours w) later) ≡ drop 1 (packetsOf w m) → allAnswerable (first ∷ those (ours w) later) ≡ true
     → Later limit replies ((first ∷ later) ++ after)
@@ -220,11 +220,11 @@ messages-arrive limit slots bytes before first later after w m out law size t be
 -- ---- nothing before or between
 
 -- a call of one of the writer's packets is of its stream
-call-ours : (w : Sending) (m : List ℕ) (c : Call) (p : Piece) → w .id < fourBits → c .packet ≡ packetOf w m p → ours w c ≡ true
+call-ours : (w : Sending) (m : List ℕ) (c : PacketCall) (p : Piece) → w .id < fourBits → c .packet ≡ packetOf w m p → ours w c ≡ true
 call-ours w m c p l e =
     ap (λ (bytes : List ℕ). ours w (call bytes (c .sequence) (c .out))) e ∙ packet-ours w m p (c .sequence) (c .out) l
 
-all-ours : (w : Sending) (m : List ℕ) (cs : List Call) (ps : List Piece) → w .id < fourBits → packetsIn cs ≡ map (packetOf w m) ps
+all-ours : (w : Sending) (m : List ℕ) (cs : List PacketCall) (ps : List Piece) → w .id < fourBits → packetsIn cs ≡ map (packetOf w m) ps
     → those (ours w) cs ≡ cs
 all-ours w m [] ps l e = refl
 all-ours w m (c ∷ cs) [] l e = let z = ap length e in absurd (omega arith)
@@ -233,7 +233,7 @@ all-ours w m (c ∷ cs) (p ∷ ps) l e =
     let tail : packetsIn cs ≡ map (packetOf w m) ps = cc in
     rw (call-ours w m c p l head, all-ours w m cs ps l tail)
 
-replies-ours : (limit : ℕ) (slots : List Slot) (bytes : List ℕ) (w : Sending) (m : List ℕ) (cs : List Call) (ps : List Piece) → w .id < fourBits
+replies-ours : (limit : ℕ) (slots : List Slot) (bytes : List ℕ) (w : Sending) (m : List ℕ) (cs : List PacketCall) (ps : List Piece) → w .id < fourBits
     → packetsIn cs ≡ map (packetOf w m) ps → those (λ (r : PacketReply). ours w (r .call)) (runOf limit slots bytes cs) ≡ runOf limit slots bytes cs
 unfolding runOf
 replies-ours limit slots bytes w m [] ps l e = refl
@@ -258,7 +258,7 @@ round-trip limit slots bytes first later w m out law size t begins e each =
     let own : those (ours w) later ≡ later = all-ours w m later (drop 1 (piecesOf (w .room) (length m))) (ok .id) tail in
     ap (shownIn limit) (sym (replies-ours limit slots bytes w m (first ∷ later) (piecesOf (w .room) (length m)) (ok .id) whole))
     ∙ all-shown limit w m (room-low (w .room) (t .room)) ok first later slots bytes (record { range = t .range; law = law; size = size }) head
-    (ap packetsIn own ∙ tail) (ap (λ (cs : List Call). allAnswerable (first ∷ cs)) own ∙ each)
+    (ap packetsIn own ∙ tail) (ap (λ (cs : List PacketCall). allAnswerable (first ∷ cs)) own ∙ each)
     ∙ ap (atLast w m first) own
 
 -- ---- the message is asked for

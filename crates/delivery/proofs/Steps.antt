@@ -26,7 +26,7 @@ use Rattle.slot.specs.Step.{Step, step, finish, hold, firstStep, offTotal, next
 use Rattle.slot.proofs.Slots.{lawful-count}
 use Rattle.slot.proofs.Lanes.{place-low, lane-set, lane-one}
 use Rattle.receiver.specs.Buffer.{partStart, partOf, stored}
-use Rattle.receiver.specs.Receiver.{Result, applied, actIn, Call, call, Left, leaves, readIn, acceptOf}
+use Rattle.receiver.specs.Receiver.{Result, applied, actIn, PacketCall, call, PacketLeft, leaves, readIn, acceptOf}
 use Rattle.receiver.proofs.Parts.{part-inside}
 use Rattle.receiver.proofs.Accepting.{SlotsFit, accept-ready, ready-next, accept-other}
 use Rattle.sender.specs.declared.piece.Piece.{Piece}
@@ -41,7 +41,7 @@ use Rattle.delivery.proofs.Growing.{part-grows}
 -- ---- a ready receiver
 
 -- it does what was read, where neither 15 nor 14 is given
-read-answerable : (limit : ℕ) (c : Call) → answerable c ≡ true → readIn limit c ≡ readOf limit (c .packet)
+read-answerable : (limit : ℕ) (c : PacketCall) → answerable c ≡ true → readIn limit c ≡ readOf limit (c .packet)
 unfolding readIn
 read-answerable limit c a =
     rw (
@@ -49,13 +49,13 @@ read-answerable limit c a =
       le-ltb (length (c .out)) ackSize (leb-true ackSize (length (c .out)) (and-right (ltb (c .sequence) fourBits) _ a)),
     )
 
-accept-read : (limit : ℕ) (slots : List Slot) (bytes : List ℕ) (c : Call) (x : Packet) → SlotsFit limit slots bytes → answerable c ≡ true
+accept-read : (limit : ℕ) (slots : List Slot) (bytes : List ℕ) (c : PacketCall) (x : Packet) → SlotsFit limit slots bytes → answerable c ≡ true
     → readOf limit (c .packet) ≡ given x
     → acceptOf limit slots bytes c ≡ leaves (c .sequence) (c .out) (applied limit slots bytes (c .packet) (laneStart (headIn x .stream)) (actIn slots x))
 accept-read limit slots bytes c x o a e = accept-ready limit slots bytes c o ∙ rw (read-answerable limit c a, e)
 
 -- what its answer gives
-abbrev pub gives : ℕ → Left → Option Message
+abbrev pub gives : ℕ → PacketLeft → Option Message
 gives limit l = givenBy limit (l .told) (l .bytes)
 
 -- ---- the state between the packets of a message
@@ -78,13 +78,13 @@ pub record Holding (limit : ℕ) (w : Sending) (m : List ℕ) (index place : ℕ
   pub held : take place (partOf limit (placeFor w) bytes) ≡ take place m
 
 -- what a packet that more follow does
-pub record More (limit : ℕ) (w : Sending) (m : List ℕ) (index place : ℕ) (out : List ℕ) (l : Left) : Type 0 where
+pub record More (limit : ℕ) (w : Sending) (m : List ℕ) (index place : ℕ) (out : List ℕ) (l : PacketLeft) : Type 0 where
   pub nothing : gives limit l ≡ none
   pub same-out : l .out ≡ out
   pub holding : Holding limit w m index place (l .slots) (l .bytes)
 
 -- what the last packet does
-pub record Ends (limit : ℕ) (w : Sending) (m : List ℕ) (c : Call) (l : Left) : Type 0 where
+pub record MessageEnds (limit : ℕ) (w : Sending) (m : List ℕ) (c : PacketCall) (l : PacketLeft) : Type 0 where
   pub message : gives limit l ≡ some (messageOf w m)
   pub answer : l .out ≡ lastOut w c
 
@@ -107,18 +107,18 @@ module _ (limit : ℕ) (w : Sending) (m : List ℕ) (ok : SendingInRange limit w
   inside : partStart limit (placeFor w) + limit ≤ length bytes
   inside = rw (o .size) (part-inside limit (placeFor w) (place-low (streamFor w) 0 (omega arith)))
 
-  module _ (p : Piece) (within : p .place + p .size ≤ length m) (before : take (p .place) (partOf limit (placeFor w) bytes) ≡ take (p .place) m) (replaced : Bool) (sequence : ℕ) (out : List ℕ) (l : Left) where
+  module _ (p : Piece) (within : p .place + p .size ≤ length m) (before : take (p .place) (partOf limit (placeFor w) bytes) ≡ take (p .place) m) (replaced : Bool) (sequence : ℕ) (out : List ℕ) (l : PacketLeft) where
     -- the piece stands behind what was held
     stores : take (p .place + p .size) (partOf limit (placeFor w) (stored limit (placeFor w) bytes (packetOf w m p) (payloadFor p))) ≡ take (p .place + p .size) m
     stores = rw (payload-read w m p) (part-grows limit (placeFor w) (p .place) (p .size) bytes m inside within (ok .within) before)
 
     -- the call of its packet
-    abbrev handed : Call
+    abbrev handed : PacketCall
     handed = call (packetOf w m p) sequence out
 
     last-gives : p .place + p .size ≡ length m
         → l ≡ leaves sequence out (applied limit slots bytes (packetOf w m p) (laneStart (streamFor w)) (step 0 (finish (headFor w p) (w .ack) (length m) replaced (payloadFor p))))
-        → Ends limit w m handed l
+        → MessageEnds limit w m handed l
     unfolding finish
     last-gives e f =
         let same : laneStart (streamFor w) ≡ placeFor w = omega arith in
@@ -154,7 +154,7 @@ module _ (limit : ℕ) (w : Sending) (m : List ℕ) (ok : SendingInRange limit w
   abbrev piece : Piece
   piece = pieceFor 0 0 n
 
-  abbrev begun : Call
+  abbrev begun : PacketCall
   begun = call (packetOf w m piece) sequence out
 
   -- what the stream's slot was
@@ -169,7 +169,7 @@ module _ (limit : ℕ) (w : Sending) (m : List ℕ) (ok : SendingInRange limit w
   first-is a =
       accept-read limit slots bytes begun _ o a (first-read limit w m piece (ok .known) (ok .id) (omega arith) refl (ok .within) filled)
 
-  first-last : answerable begun ≡ true → n ≡ length m → Ends limit w m begun (acceptOf limit slots bytes begun)
+  first-last : answerable begun ≡ true → n ≡ length m → MessageEnds limit w m begun (acceptOf limit slots bytes begun)
   unfolding firstStep
   first-last a e =
       last-gives limit w m ok slots bytes o piece (omega arith) refl (was .opened) sequence out _ (omega arith)
@@ -202,7 +202,7 @@ module _ (limit : ℕ) (w : Sending) (m : List ℕ) (ok : SendingInRange limit w
   abbrev following : Piece
   following = pieceFor (suc index) place n
 
-  abbrev continued : Call
+  abbrev continued : PacketCall
   continued = call (packetOf w m following) sequence out
 
   not-first : isFirst (suc index) ≡ false
@@ -225,7 +225,7 @@ module _ (limit : ℕ) (w : Sending) (m : List ℕ) (ok : SendingInRange limit w
       (ap (λ (s : Step). leaves sequence out (applied limit slots bytes (packetOf w m following) (laneStart (streamFor w)) (step 0 s)))
       (next-passes (openSlot w m index place) (headFor w following) (last && w .ack) last (headerSize false (extended n)) n (omega arith) t))
 
-  next-last : answerable continued ≡ true → place + n ≡ length m → Ends limit w m continued (acceptOf limit slots bytes continued)
+  next-last : answerable continued ≡ true → place + n ≡ length m → MessageEnds limit w m continued (acceptOf limit slots bytes continued)
   next-last a e =
       let t = eq-eqb (place + n) (length m) e in
       last-gives limit w m ok slots bytes (h .is-ready) following small (h .held) false sequence out _ e (next-is a true t (rw t))
@@ -245,7 +245,7 @@ pub data Awaits (limit : ℕ) (w : Sending) (m : List ℕ) (slots : List Slot) (
   within : {index place : ℕ} → Holding limit w m index place slots bytes → place < length m → Awaits limit w m slots bytes (suc index) place
 
 -- packets of other streams change nothing of what is held
-pub holding-kept : {limit : ℕ} {w : Sending} {m : List ℕ} {slots : List Slot} {bytes : List ℕ} {index place : ℕ} (q : Call) → isStream (w .stream) ≡ true
+pub holding-kept : {limit : ℕ} {w : Sending} {m : List ℕ} {slots : List Slot} {bytes : List ℕ} {index place : ℕ} (q : PacketCall) → isStream (w .stream) ≡ true
     → ours w q ≡ false → Holding limit w m index place slots bytes
     → Holding limit w m index place (acceptOf limit slots bytes q .slots) (acceptOf limit slots bytes q .bytes)
 holding-kept {limit} {w} {m} {slots} {bytes} {index} {place} q known e h =
@@ -257,12 +257,12 @@ holding-kept {limit} {w} {m} {slots} {bytes} {index} {place} q known e h =
     }
 
 module _ (limit : ℕ) (w : Sending) (m : List ℕ) (ok : SendingInRange limit w (length m)) (slots : List Slot) (bytes : List ℕ) (n sequence : ℕ) (out : List ℕ) where
-  abbrev callFor : ℕ → ℕ → Call
+  abbrev callFor : ℕ → ℕ → PacketCall
   callFor index place = call (packetOf w m (pieceFor index place n)) sequence out
 
   -- the last packet gives the message, and its ACK
   pub last-step : {index place : ℕ} → Awaits limit w m slots bytes index place → answerable (callFor index place) ≡ true → place + n ≡ length m
-      → Ends limit w m (callFor index place) (acceptOf limit slots bytes (callFor index place))
+      → MessageEnds limit w m (callFor index place) (acceptOf limit slots bytes (callFor index place))
   last-step (start o) a e = first-last limit w m ok slots bytes o n (omega arith) (λ z. omega arith) sequence out a (omega arith)
   last-step (within {index} {place} h l) a e = next-last limit w m ok slots bytes index place n h (omega arith) (omega arith) sequence out a e
 

@@ -17,7 +17,7 @@ use Rattle.slot.specs.declared.answer.Accepted.{Accepted}
 use Rattle.slot.specs.declared.answer.Accepted.the-variants.{Taken, Finished, Acked, Nacked}
 use Rattle.slot.specs.Slot.{slotCount, laneStart, lawful}
 use Rattle.receiver.specs.Buffer.{partOf}
-use Rattle.receiver.specs.Receiver.{Call, acceptOf}
+use Rattle.receiver.specs.Receiver.{PacketCall, acceptOf}
 use Rattle.sender.specs.declared.writer.Sending.{Sending}
 use Rattle.delivery.specs.Calls.{callsOf, Takes}
 
@@ -26,20 +26,20 @@ use Rattle.delivery.specs.Calls.{callsOf, Takes}
 -- a packet that was handed in with its answer sequence and answer buffer, what was told of it, and the lent buffer and the answer buffer
 -- as that call returns
 pub record PacketReply : Type 0 where
-  pub call : Call
+  pub call : PacketCall
   pub told : Told Accepted
   pub bytes : List ℕ
   pub out : List ℕ
 
 -- each packet meets the slots and the buffer that the call before it left
-unfoldable pub runOf : ℕ → List Slot → List ℕ → List Call → List PacketReply
+unfoldable pub runOf : ℕ → List Slot → List ℕ → List PacketCall → List PacketReply
 runOf limit slots bytes [] = []
 runOf limit slots bytes (c ∷ cs) =
     record { call = c; told = acceptOf limit slots bytes c .told; bytes = acceptOf limit slots bytes c .bytes; out = acceptOf limit slots bytes c .out }
     ∷ runOf limit (acceptOf limit slots bytes c .slots) (acceptOf limit slots bytes c .bytes) cs
 
 -- the replies to the packets `during`
-abbrev pub repliesTo : ℕ → List Slot → List ℕ → List Call → List Call → List Call → List PacketReply
+abbrev pub repliesTo : ℕ → List Slot → List ℕ → List PacketCall → List PacketCall → List PacketCall → List PacketReply
 repliesTo limit slots bytes before during after =
     take (length during) (drop (length before) (runOf limit slots bytes (before ++ during ++ after)))
 
@@ -67,27 +67,27 @@ those test [] = []
 those test (x ∷ xs) = cond (test x) (x ∷ those test xs) (those test xs)
 
 -- a packet of the message's stream; all others may come between
-abbrev pub ours : Sending → Call → Bool
+abbrev pub ours : Sending → PacketCall → Bool
 ours w c = isOf (w .stream) (c .packet)
 
 -- the packets of calls
-abbrev pub packetsIn : List Call → List (List ℕ)
-packetsIn cs = map (λ (c : Call). c .packet) cs
+abbrev pub packetsIn : List PacketCall → List (List ℕ)
+packetsIn cs = map (λ (c : PacketCall). c .packet) cs
 
 -- what a call shows: the message that it gives, if any, and its answer buffer afterwards
-pub record Shown : Type 0 where
+pub record CallShown : Type 0 where
   pub message : Option Message
   pub out : List ℕ
 
-abbrev pub shown : Option Message → List ℕ → Shown
+abbrev pub shown : Option Message → List ℕ → CallShown
 shown message out = record { message = message; out = out }
 
 -- what replies show, one each
-abbrev pub shownIn : ℕ → List PacketReply → List Shown
+abbrev pub shownIn : ℕ → List PacketReply → List CallShown
 shownIn limit replies = map (λ (r : PacketReply). shown (givenBy limit (r .told) (r .bytes)) (r .out)) replies
 
 -- what the replies to the stream's own packets show
-abbrev pub shownTo : ℕ → Sending → List PacketReply → List Shown
+abbrev pub shownTo : ℕ → Sending → List PacketReply → List CallShown
 shownTo limit w replies = shownIn limit (those (λ (r : PacketReply). ours w (r .call)) replies)
 
 -- ---- the claims
@@ -97,19 +97,19 @@ abbrev pub messageOf : Sending → List ℕ → Message
 messageOf w m = record { stream = streamOf (w .stream); id = w .id; total = length m; ack = w .ack; payload = m }
 
 -- an answer sequence up to 15 and an answer buffer of six bytes or more: neither 15 nor 14
-abbrev pub answerable : Call → Bool
+abbrev pub answerable : PacketCall → Bool
 answerable c = ltb (c .sequence) fourBits && leb ackSize (length (c .out))
 
-abbrev pub allAnswerable : List Call → Bool
+abbrev pub allAnswerable : List PacketCall → Bool
 allAnswerable [] = true
 allAnswerable (c ∷ cs) = answerable c && allAnswerable cs
 
 -- the answer buffer of the last call: it begins with the ACK exactly if the writer's wish was one
-abbrev pub lastOut : Sending → Call → List ℕ
+abbrev pub lastOut : Sending → PacketCall → List ℕ
 lastOut w c = cond (w .ack) (sets (c .out) 0 (ackBytes (w .stream) (w .id) (c .sequence) true)) (c .out)
 
 -- each call but the last gives nothing and leaves its answer buffer, and the last gives the message
-abbrev pub atLast : Sending → List ℕ → Call → List Call → List Shown
+abbrev pub atLast : Sending → List ℕ → PacketCall → List PacketCall → List CallShown
 atLast w m c [] = shown (some (messageOf w m)) (lastOut w c) ∷ []
 atLast w m c (d ∷ later) = shown none (c .out) ∷ atLast w m d later
 
@@ -119,7 +119,7 @@ atLast w m c (d ∷ later) = shown none (c .out) ∷ atLast w m d later
 -- answer buffer begins with the ACK exactly if the wish was one; no other of them gives any or touches its answer buffer.
 abbrev pub MessagesArrive : Type 0
 MessagesArrive =
-    (limit : ℕ) (slots : List Slot) (bytes : List ℕ) (before : List Call) (first : Call) (later after : List Call) (w : Sending) (m out : List ℕ)
+    (limit : ℕ) (slots : List Slot) (bytes : List ℕ) (before : List PacketCall) (first : PacketCall) (later after : List PacketCall) (w : Sending) (m out : List ℕ)
     → lawful limit slots ≡ true
     → length bytes ≡ slotCount * limit
     → Takes limit w m out
@@ -131,7 +131,7 @@ MessagesArrive =
 -- With nothing before or between: the writer's packets alone give the message, at the last of them.
 abbrev pub RoundTrip : Type 0
 RoundTrip =
-    (limit : ℕ) (slots : List Slot) (bytes : List ℕ) (first : Call) (later : List Call) (w : Sending) (m out : List ℕ)
+    (limit : ℕ) (slots : List Slot) (bytes : List ℕ) (first : PacketCall) (later : List PacketCall) (w : Sending) (m out : List ℕ)
     → lawful limit slots ≡ true
     → length bytes ≡ slotCount * limit
     → Takes limit w m out
@@ -145,10 +145,10 @@ abbrev pub givenWith : Option Message → List Message → List Message
 givenWith none messages = messages
 givenWith (some message) messages = message ∷ messages
 
-abbrev pub givenOnly : List Shown → List Message
+abbrev pub givenOnly : List CallShown → List Message
 givenOnly [] = []
 givenOnly (s ∷ ss) = givenWith (s .message) (givenOnly ss)
 
 -- Whatever packets a writer's calls give, none at all too, both claims ask for the message, and once: no writer that refuses meets them.
 abbrev pub MessageAsked : Type 0
-MessageAsked = (w : Sending) (m : List ℕ) (first : Call) (later : List Call) → givenOnly (atLast w m first later) ≡ messageOf w m ∷ []
+MessageAsked = (w : Sending) (m : List ℕ) (first : PacketCall) (later : List PacketCall) → givenOnly (atLast w m first later) ≡ messageOf w m ∷ []

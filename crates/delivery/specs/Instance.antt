@@ -10,7 +10,7 @@ use Rattle.slot.specs.declared.Slot.{Slot}
 use Rattle.slot.specs.Slot.{idle, slotCount, lawful}
 use Rattle.sender.specs.declared.writer.Sending.{Sending}
 use Rattle.delivery.specs.Calls.{callsOf, Takes}
-use Rattle.receiver.specs.Receiver.{Call, call}
+use Rattle.receiver.specs.Receiver.{PacketCall, call}
 use Rattle.delivery.specs.Delivery.{repliesTo, those, ours, packetsIn, shown, shownTo, allAnswerable, atLast, MessagesArrive}
 
 -- small, so that the buffer is
@@ -45,18 +45,18 @@ abbrev pub eight : List ℕ
 eight = replicate 8 0xEE
 
 -- a transaction of the same stream and id is begun; a control message, whole
-abbrev pub before : List Call
+abbrev pub before : List PacketCall
 before =
     call (0x61 ∷ 0x50 ∷ 0x00 ∷ 0x00 ∷ 0x04 ∷ 0x01 ∷ 0xEE ∷ []) 5 eight
     ∷ call (0x01 ∷ 0x00 ∷ 0x00 ∷ 0x00 ∷ 0x02 ∷ 0x02 ∷ 0x08 ∷ 0x5E ∷ []) 6 eight
     ∷ []
 
 -- P4's first packet
-abbrev pub first : Call
+abbrev pub first : PacketCall
 first = call (0x61 ∷ 0x00 ∷ 0x00 ∷ 0x00 ∷ 0x23 ∷ 0x0E ∷ from 1 14) 7 eight
 
 -- the two after it, and among them packets of other streams, with answer sequences and buffers that are refused too
-abbrev pub later : List Call
+abbrev pub later : List PacketCall
 later =
     -- the open OTA transaction goes on
     call (0x23 ∷ 0x04 ∷ 0x02 ∷ 0xAA ∷ 0xBB ∷ []) 0 eight
@@ -75,7 +75,7 @@ later =
     ∷ []
 
 -- the last packet again
-abbrev pub after : List Call
+abbrev pub after : List PacketCall
 after = call (0x61 ∷ 0x2A ∷ 0x04 ∷ from 32 4) 9 eight ∷ []
 
 -- All that the claim asks for is there, the message is given, at the third packet, with its ACK, and the claim says so.

@@ -25,7 +25,7 @@ use Rattle.slot.specs.Fit.{ActFits}
 use Rattle.slot.proofs.Slots.{open-lawful, idle-lawful, lawful-three}
 use Rattle.slot.proofs.Lanes.{place-other, act-other}
 use Rattle.receiver.specs.Buffer.{partStart, payloadBytes}
-use Rattle.receiver.specs.Receiver.{Result, actIn, acted, Call, answered, readIn, acceptOf}
+use Rattle.receiver.specs.Receiver.{Result, actIn, acted, PacketCall, answered, readIn, acceptOf}
 use Rattle.receiver.proofs.Accepting.{SlotsFit, accept-ready, limit-refused, in-passes, ready-next, in-fits, payload-length}
 use Rattle.lanes.specs.Lanes.{Both, bothOf, turned, streamField, HandedPair, EitherOrder, InRules, HandedAll, PartsApart}
 
@@ -59,7 +59,7 @@ parts-apart limit i j at bt bytes xs ys other hx hy = apart-by limit i j at bt b
 
 -- ---- two packets, by what was read of them
 
-abbrev bothBy : ℕ → List Slot → List ℕ → Call → Call → Told Packet → Told Packet → Both
+abbrev bothBy : ℕ → List Slot → List ℕ → PacketCall → PacketCall → Told Packet → Told Packet → Both
 bothBy limit slots bytes c d t u =
     let r : Result = acted limit slots bytes (c .packet) t in
     let s : Result = acted limit (r .slots) (r .bytes) (d .packet) u in
@@ -72,14 +72,14 @@ bothBy limit slots bytes c d t u =
       second-out = answered (d .sequence) (s .told) (d .out);
     }
 
-both-read : (limit : ℕ) (slots : List Slot) (bytes : List ℕ) (c d : Call) → SlotsFit limit slots bytes
+both-read : (limit : ℕ) (slots : List Slot) (bytes : List ℕ) (c d : PacketCall) → SlotsFit limit slots bytes
     → bothOf limit slots bytes c d ≡ bothBy limit slots bytes c d (readIn limit c) (readIn limit d)
 both-read limit slots bytes c d r =
     let later = accept-ready limit (acceptOf limit slots bytes c .slots) (acceptOf limit slots bytes c .bytes) d (ready-next limit slots bytes c r) in
     rw (later, accept-ready limit slots bytes c r)
 
 -- packets of different streams, by what each does to its own stream's slots
-module _ (limit : ℕ) (slots : List Slot) (bytes : List ℕ) (c d : Call) (x y : Packet) (other : headIn x .stream ≢ headIn y .stream) where
+module _ (limit : ℕ) (slots : List Slot) (bytes : List ℕ) (c d : PacketCall) (x y : Packet) (other : headIn x .stream ≢ headIn y .stream) where
   abbrev a : Stream
   a = headIn x .stream
 
@@ -104,7 +104,7 @@ module _ (limit : ℕ) (slots : List Slot) (bytes : List ℕ) (c d : Call) (x y 
             (payload-length limit (length (d .packet)) (d .packet) (t .payload) (fy .inside)),
       )
 
-turned-read : (limit m n : ℕ) (slots : List Slot) (bytes : List ℕ) (c d : Call) (t u : Told Packet) → SlotsFit limit slots bytes → m ≢ n
+turned-read : (limit m n : ℕ) (slots : List Slot) (bytes : List ℕ) (c d : PacketCall) (t u : Told Packet) → SlotsFit limit slots bytes → m ≢ n
     → IfGiven (LinesPass limit (length (c .packet)) m) t → IfGiven (LinesPass limit (length (d .packet)) n) u
     → bothBy limit slots bytes c d t u ≡ turned (bothBy limit slots bytes d c u t)
 turned-read limit m n slots bytes c d (refused a) (refused b) r e o k = refl
@@ -115,7 +115,7 @@ turned-read limit m n slots bytes c d (given x) (given y) r e o k =
     (in-fits limit (length (c .packet)) m slots x (r .law) o) (in-fits limit (length (d .packet)) n slots y (r .law) k)
 
 -- with a limit out of its range both are refused by 1, and leave all
-order-by : (limit : ℕ) (slots : List Slot) (bytes : List ℕ) (c d : Call) (b : Bool) → limitFits limit ≡ b → HandedPair limit slots bytes c d
+order-by : (limit : ℕ) (slots : List Slot) (bytes : List ℕ) (c d : PacketCall) (b : Bool) → limitFits limit ≡ b → HandedPair limit slots bytes c d
     → bothOf limit slots bytes c d ≡ turned (bothOf limit slots bytes d c)
 order-by limit slots bytes c d false e h =
     rw (limit-refused limit slots bytes c e, limit-refused limit slots bytes d e, limit-refused limit slots bytes c e)

@@ -11,7 +11,7 @@ use Rattle.slot.specs.declared.Slot.{Slot}
 use Rattle.slot.specs.declared.answer.Accepted.{Accepted}
 use Rattle.slot.specs.declared.answer.Accepted.the-variants.{Taken, Finished, Acked}
 use Rattle.slot.specs.Slot.{idles, slotCount, lawful}
-use Rattle.receiver.specs.Receiver.{Call, call, acceptOf}
+use Rattle.receiver.specs.Receiver.{PacketCall, call, acceptOf}
 use Rattle.lanes.specs.Lanes.{Both, bothOf, turned, HandedPair, EitherOrder}
 
 -- small, so that the buffer is
@@ -33,10 +33,10 @@ five = replicate 5 0xEE
 
 -- ---- two open transactions: control has 1 of 3 bytes, OTA 2 of 4
 
-abbrev pub control : Call
+abbrev pub control : PacketCall
 control = call (0x01 ∷ 0x00 ∷ 0x00 ∷ 0x00 ∷ 0x03 ∷ 0x01 ∷ 0xAA ∷ []) 0 six
 
-abbrev pub ota : Call
+abbrev pub ota : PacketCall
 ota = call (0x23 ∷ 0xF0 ∷ 0x00 ∷ 0x00 ∷ 0x04 ∷ 0x02 ∷ 0x11 ∷ 0x22 ∷ []) 0 six
 
 -- control alone is open; OTA alone
@@ -59,38 +59,38 @@ buffer =
 -- ---- four pairs
 
 -- both orders of a pair come to this
-abbrev pub Same : Call → Call → Both → Type 0
+abbrev pub Same : PacketCall → PacketCall → Both → Type 0
 Same c d b = (bothOf limit slots buffer c d ≡ b) × (turned (bothOf limit slots buffer d c) ≡ b)
 
 -- control: sequence 2 where 1 is awaited
-abbrev pub late : Call
+abbrev pub late : PacketCall
 late = call (0x01 ∷ 0x24 ∷ 0x01 ∷ 0xBB ∷ []) 3 six
 
 -- control: the last two bytes
-abbrev pub rest : Call
+abbrev pub rest : PacketCall
 rest = call (0x01 ∷ 0x18 ∷ 0x02 ∷ 0xBB ∷ 0xCC ∷ []) 15 six
 
 -- control: an ACK for the open transaction's id
-abbrev pub ack : Call
+abbrev pub ack : PacketCall
 ack = call (0x01 ∷ 0x0E ∷ 0x00 ∷ 0x02 ∷ 0x01 ∷ 0x00 ∷ []) 0 six
 
 -- OTA: the last two bytes, up to the end of its part; sequence 0 follows 15
-abbrev pub end : Call
+abbrev pub end : PacketCall
 end = call (0x23 ∷ 0x0A ∷ 0x02 ∷ 0x33 ∷ 0x44 ∷ []) 9 eight
 
 -- OTA: the same as a continuation, which may not reach the total
-abbrev pub full : Call
+abbrev pub full : PacketCall
 full = call (0x23 ∷ 0x04 ∷ 0x02 ∷ 0x33 ∷ 0x44 ∷ []) 1 eight
 
 -- the last bytes of both, of control with an answer sequence above 15 and of OTA with an answer buffer under six bytes
-abbrev pub restUnlawful : Call
+abbrev pub restUnlawful : PacketCall
 restUnlawful = call (rest .packet) 16 eight
 
-abbrev pub endUnlawful : Call
+abbrev pub endUnlawful : PacketCall
 endUnlawful = call (end .packet) 9 five
 
 -- a stream that there is not
-abbrev pub unknown : Call
+abbrev pub unknown : PacketCall
 unknown = call (0x51 ∷ 0x24 ∷ 0x01 ∷ 0xDD ∷ []) 2 six
 
 pub record Computed : Type 0 where
@@ -134,13 +134,13 @@ pub record Computed : Type 0 where
 -- ---- one stream
 
 -- the first packet of another control transaction, with another id
-abbrev pub other : Call
+abbrev pub other : PacketCall
 other = call (0x02 ∷ 0x00 ∷ 0x00 ∷ 0x00 ∷ 0x03 ∷ 0x01 ∷ 0xEE ∷ []) 0 six
 
 -- The claim with less asked for: that the first bytes differ, not the stream fields.
 abbrev pub ByFirstBytes : Type 0
 ByFirstBytes =
-    (limit : ℕ) (slots : List Slot) (bytes : List ℕ) (c d : Call)
+    (limit : ℕ) (slots : List Slot) (bytes : List ℕ) (c d : PacketCall)
     → lawful limit slots ≡ true
     → length bytes ≡ slotCount * limit
     → 1 ≤ length (c .packet)

@@ -13,7 +13,7 @@ use Rattle.slot.specs.declared.Slot.{Slot}
 use Rattle.slot.specs.declared.answer.Accepted.{Accepted}
 use Rattle.slot.specs.Slot.{idle, slotCount, lawful}
 use Rattle.receiver.specs.Buffer.{partStart}
-use Rattle.receiver.specs.Receiver.{Call, call, Left, acceptOf}
+use Rattle.receiver.specs.Receiver.{PacketCall, call, PacketLeft, acceptOf}
 
 -- ---- two packets, one after the other
 
@@ -27,7 +27,7 @@ pub record Both : Type 0 where
   pub second-out : List ℕ
 
 -- the second packet meets the slots and the buffer that the first left
-abbrev pub bothFrom : ℕ → Left → Call → Both
+abbrev pub bothFrom : ℕ → PacketLeft → PacketCall → Both
 bothFrom limit l d =
     record {
       first = l .told;
@@ -38,7 +38,7 @@ bothFrom limit l d =
       second-out = acceptOf limit (l .slots) (l .bytes) d .out;
     }
 
-abbrev pub bothOf : ℕ → List Slot → List ℕ → Call → Call → Both
+abbrev pub bothOf : ℕ → List Slot → List ℕ → PacketCall → PacketCall → Both
 bothOf limit slots bytes c d = bothFrom limit (acceptOf limit slots bytes c) d
 
 -- the same with the answers exchanged: each stands again with its own packet where the packets are exchanged
@@ -53,7 +53,7 @@ abbrev pub streamField : List ℕ → ℕ
 streamField p = streamBits (getD p 0 0)
 
 -- what the claim asks for
-pub record HandedPair (limit : ℕ) (slots : List Slot) (bytes : List ℕ) (c d : Call) : Type 0 where
+pub record HandedPair (limit : ℕ) (slots : List Slot) (bytes : List ℕ) (c d : PacketCall) : Type 0 where
   pub law : lawful limit slots ≡ true
   -- a buffer of the right size
   pub size : length bytes ≡ slotCount * limit
@@ -66,7 +66,7 @@ pub record HandedPair (limit : ℕ) (slots : List Slot) (bytes : List ℕ) (c d 
 -- the same buffer and each its own answer buffer the same in either order.
 abbrev pub EitherOrder : Type 0
 EitherOrder =
-    (limit : ℕ) (slots : List Slot) (bytes : List ℕ) (c d : Call)
+    (limit : ℕ) (slots : List Slot) (bytes : List ℕ) (c d : PacketCall)
     → HandedPair limit slots bytes c d
     → bothOf limit slots bytes c d ≡ turned (bothOf limit slots bytes d c)
 

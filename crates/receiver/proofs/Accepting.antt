@@ -30,7 +30,7 @@ use Rattle.slot.proofs.Slots.{lawful-lane, lawful-set}
 use Rattle.slot.proofs.Lanes.{place-other, lane-other}
 use Rattle.slot.proofs.Steps.{act-fits}
 use Rattle.receiver.specs.Buffer.{partOf, payloadBytes}
-use Rattle.receiver.specs.Receiver.{Result, result, applied, actIn, acted, ready, Call, call, Left, left, leaves, answerLines, readIn, heardOf, acceptOf}
+use Rattle.receiver.specs.Receiver.{Result, result, applied, actIn, acted, ready, PacketCall, call, PacketLeft, left, leaves, answerLines, readIn, heardOf, acceptOf}
 use Rattle.receiver.proofs.Parts.{part-elsewhere}
 
 -- ---- ready for a packet
@@ -57,7 +57,7 @@ unfolding ready
 ready-holds limit slots bytes r = rw (r .range, eq-eqb (length bytes) (slotCount * limit) (r .size)) (r .law)
 
 -- what was read is acted on, and answered
-pub accept-ready : (limit : ℕ) (slots : List Slot) (bytes : List ℕ) (c : Call) → SlotsFit limit slots bytes
+pub accept-ready : (limit : ℕ) (slots : List Slot) (bytes : List ℕ) (c : PacketCall) → SlotsFit limit slots bytes
     → acceptOf limit slots bytes c ≡ leaves (c .sequence) (c .out) (acted limit slots bytes (c .packet) (readIn limit c))
 unfolding acceptOf
 accept-ready limit slots bytes c r = rw (ready-holds limit slots bytes r)
@@ -69,20 +69,20 @@ heard-by true n t sequence limit slots bytes packet out = refl
 heard-by false n t sequence limit slots bytes packet out = refl
 
 -- what was heard is acted on, and answered: 1 leaves all, as every refusal of a packet does
-pub accept-heard : (limit : ℕ) (slots : List Slot) (bytes : List ℕ) (c : Call)
+pub accept-heard : (limit : ℕ) (slots : List Slot) (bytes : List ℕ) (c : PacketCall)
     → acceptOf limit slots bytes c ≡ leaves (c .sequence) (c .out) (acted limit slots bytes (c .packet) (heardOf limit slots (length bytes) c))
 unfolding acceptOf heardOf
 accept-heard limit slots bytes c =
     heard-by (not (ready limit slots (length bytes))) 1 (readIn limit c) (c .sequence) limit slots bytes (c .packet) (c .out)
 
 -- what is true of a call whose packet was read
-pub record Heeded (limit : ℕ) (slots : List Slot) (size : ℕ) (c : Call) (x : Packet) : Type 0 where
+pub record Heeded (limit : ℕ) (slots : List Slot) (size : ℕ) (c : PacketCall) (x : Packet) : Type 0 where
   pub fits : ready limit slots size ≡ true
   pub read : readOf limit (c .packet) ≡ given x
   pub low : c .sequence < 16
   pub room : 6 ≤ length (c .out)
 
-pub heard-says : (limit : ℕ) (slots : List Slot) (size : ℕ) (c : Call) → IfGiven (Heeded limit slots size c) (heardOf limit slots size c)
+pub heard-says : (limit : ℕ) (slots : List Slot) (size : ℕ) (c : PacketCall) → IfGiven (Heeded limit slots size c) (heardOf limit slots size c)
 unfolding heardOf readIn
 heard-says limit slots size c =
     by-table (IfGiven (Heeded limit slots size c)) (line 1 (not (ready limit slots size)) ∷ []) refused (table (answerLines c) refused (readOf limit (c .packet))) (λ n. tt) (λ one.
@@ -100,25 +100,25 @@ heard-says limit slots size c =
         }
 
 -- with a limit out of its range every packet is refused by 1, and leaves all
-pub limit-refused : (limit : ℕ) (slots : List Slot) (bytes : List ℕ) (c : Call) → limitFits limit ≡ false
+pub limit-refused : (limit : ℕ) (slots : List Slot) (bytes : List ℕ) (c : PacketCall) → limitFits limit ≡ false
     → acceptOf limit slots bytes c ≡ left (refused 1) slots bytes (c .out)
 unfolding ready acceptOf
 limit-refused limit slots bytes c e = rw e
 
 -- what is told of a call's packet is told of the packet, or 15 or 14
-pub in-passes : (limit : ℕ) (c : Call) → IfGiven (LinesPass limit (length (c .packet)) (streamBits (getD (c .packet) 0 0))) (readIn limit c)
+pub in-passes : (limit : ℕ) (c : PacketCall) → IfGiven (LinesPass limit (length (c .packet)) (streamBits (getD (c .packet) 0 0))) (readIn limit c)
 unfolding readIn
 in-passes limit c =
     by-table (IfGiven (LinesPass limit (length (c .packet)) (streamBits (getD (c .packet) 0 0)))) (answerLines c) refused (readOf limit (c .packet)) (λ n. tt)
     (λ h. read-passes limit (c .packet))
 
 -- a law of every packet: it holds where refusal 1 leaves all, and of what was read
-by-guard : (P : List Slot → List ℕ → Type 0) (limit : ℕ) (slots : List Slot) (bytes : List ℕ) (c : Call) → P slots bytes
+by-guard : (P : List Slot → List ℕ → Type 0) (limit : ℕ) (slots : List Slot) (bytes : List ℕ) (c : PacketCall) → P slots bytes
     → P (acted limit slots bytes (c .packet) (readIn limit c) .slots) (acted limit slots bytes (c .packet) (readIn limit c) .bytes)
     → P (acceptOf limit slots bytes c .slots) (acceptOf limit slots bytes c .bytes)
 unfolding acceptOf
 by-guard P limit slots bytes c a b =
-    by-table (λ (l : Left). P (l .slots) (l .bytes)) (line 1 (not (ready limit slots (length bytes))) ∷ []) (λ n. left (refused n) slots bytes (c .out))
+    by-table (λ (l : PacketLeft). P (l .slots) (l .bytes)) (line 1 (not (ready limit slots (length bytes))) ∷ []) (λ n. left (refused n) slots bytes (c .out))
     (leaves (c .sequence) (c .out) (acted limit slots bytes (c .packet) (readIn limit c))) (λ n. a) (λ h. b)
 
 -- ---- the buffer keeps its length
@@ -132,7 +132,7 @@ acted-length : (limit : ℕ) (slots : List Slot) (bytes p : List ℕ) (t : Told 
 acted-length limit slots bytes p (refused n) = refl
 acted-length limit slots bytes p (given x) = applied-length limit (laneStart (headIn x .stream)) slots bytes p (actIn slots x)
 
-pub accept-length : (limit : ℕ) (slots : List Slot) (bytes : List ℕ) (c : Call) → length (acceptOf limit slots bytes c .bytes) ≡ length bytes
+pub accept-length : (limit : ℕ) (slots : List Slot) (bytes : List ℕ) (c : PacketCall) → length (acceptOf limit slots bytes c .bytes) ≡ length bytes
 accept-length limit slots bytes c =
     by-guard (λ (ss : List Slot) (bs : List ℕ). length bs ≡ length bytes) limit slots bytes c refl (acted-length limit slots bytes (c .packet) (readIn limit c))
 
@@ -157,14 +157,14 @@ acted-lawful limit n slots bytes p (refused m) law o = law
 acted-lawful limit n slots bytes p (given x) law o =
     applied-lawful limit (length p) (laneStart (headIn x .stream)) slots bytes p (actIn slots x) law (in-fits limit (length p) n slots x law o)
 
-pub accept-lawful : (limit : ℕ) (slots : List Slot) (bytes : List ℕ) (c : Call) → lawful limit slots ≡ true
+pub accept-lawful : (limit : ℕ) (slots : List Slot) (bytes : List ℕ) (c : PacketCall) → lawful limit slots ≡ true
     → lawful limit (acceptOf limit slots bytes c .slots) ≡ true
 accept-lawful limit slots bytes c law =
     by-guard (λ (ss : List Slot) (bs : List ℕ). lawful limit ss ≡ true) limit slots bytes c law
     (acted-lawful limit (streamBits (getD (c .packet) 0 0)) slots bytes (c .packet) (readIn limit c) law (in-passes limit c))
 
 -- what is ready for a packet is ready for the next
-pub ready-next : (limit : ℕ) (slots : List Slot) (bytes : List ℕ) (c : Call) → SlotsFit limit slots bytes
+pub ready-next : (limit : ℕ) (slots : List Slot) (bytes : List ℕ) (c : PacketCall) → SlotsFit limit slots bytes
     → SlotsFit limit (acceptOf limit slots bytes c .slots) (acceptOf limit slots bytes c .bytes)
 ready-next limit slots bytes c r =
     record { range = r .range; law = accept-lawful limit slots bytes c (r .law); size = accept-length limit slots bytes c ∙ r .size }
@@ -220,7 +220,7 @@ other-by limit s sequence slots bytes (b ∷ p) out r known o =
     acted-other limit s (streamBits b) slots bytes (b ∷ p) (readIn limit (call (b ∷ p) sequence out)) (r .law) known (eqb-false (streamBits b) s o)
     (in-passes limit (call (b ∷ p) sequence out))
 
-pub accept-other : (limit s : ℕ) (slots : List Slot) (bytes : List ℕ) (c : Call) → SlotsFit limit slots bytes → isStream s ≡ true
+pub accept-other : (limit s : ℕ) (slots : List Slot) (bytes : List ℕ) (c : PacketCall) → SlotsFit limit slots bytes → isStream s ≡ true
     → isOf s (c .packet) ≡ false
     → KeptSlots limit (streamOf s) slots bytes (acceptOf limit slots bytes c .slots) (acceptOf limit slots bytes c .bytes)
 accept-other limit s slots bytes c r known o =

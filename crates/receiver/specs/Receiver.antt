@@ -74,22 +74,22 @@ ready limit slots size = limitFits limit && (eqb size (slotCount * limit) && law
 -- ---- the ACK
 
 -- a packet as it is handed in, with the answer sequence and the answer buffer
-pub record Call : Type 0 where
+pub record PacketCall : Type 0 where
   pub packet : List ℕ
   pub sequence : ℕ
   pub out : List ℕ
 
-abbrev pub call : List ℕ → ℕ → List ℕ → Call
+abbrev pub call : List ℕ → ℕ → List ℕ → PacketCall
 call packet sequence out = record { packet = packet; sequence = sequence; out = out }
 
 -- what a call leaves
-pub record Left : Type 0 where
+pub record PacketLeft : Type 0 where
   pub told : Told Accepted
   pub slots : List Slot
   pub bytes : List ℕ
   pub out : List ℕ
 
-abbrev pub left : Told Accepted → List Slot → List ℕ → List ℕ → Left
+abbrev pub left : Told Accepted → List Slot → List ℕ → List ℕ → PacketLeft
 left t slots bytes out = record { told = t; slots = slots; bytes = bytes; out = out }
 
 -- a finished transaction that wants an ACK writes it first in the answer buffer; every other answer leaves all of it
@@ -100,19 +100,19 @@ answered sequence (given (Acked head)) out = out
 answered sequence (given (Nacked head)) out = out
 answered sequence (refused n) out = out
 
-abbrev pub leaves : ℕ → List ℕ → Result → Left
+abbrev pub leaves : ℕ → List ℕ → Result → PacketLeft
 leaves sequence out r = left (r .told) (r .slots) (r .bytes) (answered sequence (r .told) out)
 
 -- an answer sequence above 15 and an answer buffer under six bytes
-abbrev pub answerLines : Call → List Line
+abbrev pub answerLines : PacketCall → List Line
 answerLines c = line 15 (not (ltb (c .sequence) fourBits)) ∷ line 14 (ltb (length (c .out)) ackSize) ∷ []
 
 -- what is told of a call's packet: 15 and 14 before it is looked at
-unfoldable pub readIn : ℕ → Call → Told Packet
+unfoldable pub readIn : ℕ → PacketCall → Told Packet
 readIn limit c = table (answerLines c) refused (readOf limit (c .packet))
 
 -- what is told of a call before anything is done: 1 first
-unfoldable pub heardOf : ℕ → List Slot → ℕ → Call → Told Packet
+unfoldable pub heardOf : ℕ → List Slot → ℕ → PacketCall → Told Packet
 heardOf limit slots size c = table (line 1 (not (ready limit slots size)) ∷ []) refused (readIn limit c)
 
 abbrev pub toldHeard : Heard → Told Packet
@@ -120,7 +120,7 @@ toldHeard (Refused why) = refused (numberOf why)
 toldHeard (Read x) = given x
 
 -- a packet given to the receiver
-unfoldable pub acceptOf : ℕ → List Slot → List ℕ → Call → Left
+unfoldable pub acceptOf : ℕ → List Slot → List ℕ → PacketCall → PacketLeft
 acceptOf limit slots bytes c =
     table (line 1 (not (ready limit slots (length bytes))) ∷ []) (λ n. left (refused n) slots bytes (c .out))
     (leaves (c .sequence) (c .out) (acted limit slots bytes (c .packet) (readIn limit c)))

@@ -49,7 +49,7 @@ pub enum Heard {
 }
 
 // The answer to a packet that was read, and its stream's slot afterwards.
-pub struct Done {
+pub struct PacketDone {
     pub answer: Answer,
     pub slot: Slot,
 }
@@ -120,7 +120,7 @@ impl Receiver {
     }
 
     // A step of a stream's slot: its payload is written.
-    fn store(self, buffer: &mut [u8], packet: &[u8], stream: Stream, step: Step) -> Done
+    fn store(self, buffer: &mut [u8], packet: &[u8], stream: Stream, step: Step) -> PacketDone
         requires { ⌜ (ready (self .limit) (self .slots) (length (now buffer)) ≡ true)
             × Fit (self .limit) (length (now packet)) 0 (stepOf step) ⌝ }
         ensures { λ r. ⌜ result (told (r .answer)) (set (self .slots) (laneStart stream) (r .slot)) (now (buffer .exit))
@@ -135,11 +135,18 @@ impl Receiver {
         buffer::write_payload(buffer, self.limit, place, at, &packet[start..end]);
         let answer = step.answer;
         let slot = step.slot;
-        Done { answer, slot }
+        PacketDone { answer, slot }
     }
 
     // What is done to a stream's slot and its part of the buffer.
-    fn apply(self, slot: Slot, buffer: &mut [u8], packet: &[u8], stream: Stream, act: Act) -> Done
+    fn apply(
+        self,
+        slot: Slot,
+        buffer: &mut [u8],
+        packet: &[u8],
+        stream: Stream,
+        act: Act,
+    ) -> PacketDone
         requires { ⌜ (ready (self .limit) (self .slots) (length (now buffer)) ≡ true)
             × ActFits (self .limit) (length (now packet)) (actBy act)
             × (slot ≡ getD (self .slots) (laneStart stream) idle) ⌝ }
@@ -147,7 +154,7 @@ impl Receiver {
             ≡ applied (self .limit) (self .slots) (now (buffer .entry)) (now (packet .entry)) (laneStart stream) (actBy act) ⌝ }
     {
         match act {
-            Act::Still(answer) => Done { answer, slot },
+            Act::Still(answer) => PacketDone { answer, slot },
             Act::Step(step) => self.store(buffer, packet, stream, step),
         }
     }
@@ -182,7 +189,7 @@ impl Receiver {
         read: Packet,
         sequence: u8,
         out: &mut [u8],
-    ) -> Done
+    ) -> PacketDone
         requires { ⌜ (ready (self .limit) (self .slots) (length (now buffer)) ≡ true)
             × (readOf (self .limit) (now packet) ≡ given read)
             × (slot ≡ getD (self .slots) (laneStart (headIn read .stream)) idle)

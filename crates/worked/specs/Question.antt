@@ -17,7 +17,7 @@ use Rattle.slot.specs.declared.Slot.{Slot}
 use Rattle.slot.specs.declared.answer.Accepted.{Accepted}
 use Rattle.slot.specs.Slot.{slotCount}
 use Rattle.receiver.specs.declared.Receiver.{Receiver}
-use Rattle.receiver.specs.Receiver.{openOf, call, Left, acceptOf}
+use Rattle.receiver.specs.Receiver.{openOf, call, PacketLeft, acceptOf}
 use Rattle.control.specs.declared.envelope.Envelope.{Envelope}
 use Rattle.control.specs.declared.envelope.EnvelopePayload.{EnvelopePayload}
 use Rattle.control.specs.Envelope.{envelopeOf, envelopeWritten}
@@ -96,10 +96,10 @@ abbrev pub pieceLengthOf : List ℕ → Told PieceLength
 pieceLengthOf p = andThen (readOf limit p) (λ x. given (cond (extenderBit (getD p 1 0)) (extended (lenIn x)) (plain (lenIn x))))
 
 -- what a receiver answers, and the slots afterwards
-abbrev pub acceptedBy : Left → Answer
+abbrev pub acceptedBy : PacketLeft → Answer
 acceptedBy l = accepted (l .told) (l .slots)
 
-abbrev pub answeredBy : Left → Answer
+abbrev pub answeredBy : PacketLeft → Answer
 answeredBy l = answered (l .told) (l .slots) (l .out)
 
 -- the output lent to a writer: more than any case needs
