@@ -9,9 +9,7 @@ use captures::other_version;
 use sender::writer::room_fits;
 use wire::limit::limit_fits;
 ghost use mathlib.Core.Path.{_≡_};
-ghost use Prim.Native.Nat.{_≤_};
 ghost use Rattle.wire.specs.Told.{given};
-ghost use Rattle.sender.specs.Piece.{leastRoom};
 ghost use Rattle.judge.specs.Capture.{goneOn, walkedOf, tracedOf, answerIn, answerOf, judgedOf, numberOf, numberIn, traceTold, told};
 
 // Long is the program's: a capture that is longer than it reads.
@@ -72,7 +70,6 @@ impl Answer {
 
 // One packet more, whose length stands at a place.
 fn go_on(verdict: Verdict, packet: &[u8], room: usize, limit: usize, at: usize) -> Verdict
-    requires { ⌜ leastRoom ≤ room ⌝ }
     ensures { λ r. ⌜ r ≡ goneOn room limit at verdict (now (packet .entry)) ⌝ }
 {
     match verdict {
@@ -89,7 +86,6 @@ fn go_on(verdict: Verdict, packet: &[u8], room: usize, limit: usize, at: usize) 
 
 // The capture, packet after packet.
 fn walk(capture: &[u8], room: usize, limit: usize) -> Traced
-    requires { ⌜ leastRoom ≤ room ⌝ }
     ensures { λ r. ⌜ traceTold r ≡ walkedOf room limit (now (capture .entry)) ⌝ }
 {
     if other_version(capture) {

@@ -10,9 +10,7 @@ use wire::logic::both;
 use wire::logic::either;
 use wire::stream::Stream;
 ghost use mathlib.Core.Path.{_≡_};
-ghost use Prim.Native.Nat.{_≤_};
 ghost use Rattle.packet.specs.declared.reader.Packet.the-variants.{First, Next};
-ghost use Rattle.sender.specs.Piece.{leastRoom};
 ghost use Rattle.wire.specs.Told.{given};
 ghost use Rattle.judge.specs.Step.{same, fitsPiece, slotFor, firstStep, nextFits, nextStep, slotStep, placed, stepBy, stepOf};
 ghost use Rattle.judge.specs.Step.{movedTo, stepped};
@@ -57,7 +55,6 @@ fn slot_for(id: u8, left: usize, sequence: u8) -> Slot
 
 // A first packet where nothing is open.
 fn begin(room: usize, head: Head, ack: bool, total: usize, start: usize, len: usize) -> Moved
-    requires { ⌜ leastRoom ≤ room ⌝ }
     ensures { λ r. ⌜ movedTo r ≡ firstStep room head ack total start len ⌝ }
 {
     if !fits_piece(room, true, total, ack, start, len) {
@@ -80,7 +77,6 @@ fn next_fits(
     start: usize,
     len: usize,
 ) -> bool
-    requires { ⌜ leastRoom ≤ room ⌝ }
     ensures { λ r. ⌜ r ≡ nextFits room id left sequence head ack last start len ⌝ }
 {
     let fits = fits_piece(room, false, left, ack, start, len);
@@ -99,7 +95,6 @@ fn follow(
     start: usize,
     len: usize,
 ) -> Moved
-    requires { ⌜ leastRoom ≤ room ⌝ }
     ensures { λ r. ⌜ movedTo r ≡ nextStep room id left sequence head ack last start len ⌝ }
 {
     if !next_fits(room, id, left, sequence, head, ack, last, start, len) {
@@ -119,7 +114,6 @@ fn on_first(
     start: usize,
     len: usize,
 ) -> Moved
-    requires { ⌜ leastRoom ≤ room ⌝ }
     ensures { λ r. ⌜ movedTo r ≡ slotStep room slot (First head ack total start len) ⌝ }
 {
     match slot {
@@ -141,7 +135,6 @@ fn on_next(
     start: usize,
     len: usize,
 ) -> Moved
-    requires { ⌜ leastRoom ≤ room ⌝ }
     ensures { λ r. ⌜ movedTo r ≡ slotStep room slot (Next head ack last start len) ⌝ }
 {
     match slot {
@@ -172,7 +165,6 @@ fn placed(state: State, stream: Stream, moved: Moved) -> Stepped
 
 // What was read, judged.
 fn step(room: usize, state: State, read: Packet) -> Stepped
-    requires { ⌜ leastRoom ≤ room ⌝ }
     ensures { λ r. ⌜ stepped r ≡ stepBy room state (given read) ⌝ }
 {
     match read {
@@ -213,7 +205,6 @@ fn step(room: usize, state: State, read: Packet) -> Stepped
 
 // A packet judged by what is open.
 pub(crate) fn judge_packet(packet: &[u8], room: usize, limit: usize, state: State) -> Stepped
-    requires { ⌜ leastRoom ≤ room ⌝ }
     ensures { λ r. ⌜ stepped r ≡ stepOf room limit state (now (packet .entry)) ⌝ }
 {
     let answer = reader::read(limit, packet);

@@ -21,6 +21,14 @@ largest-is test zero k l t f = omega arith
 largest-is test (suc n) k l t f =
     largest-by test n k (eqb k (suc n)) refl l t f (λ l2. largest-is test n k l2 t (λ j a b. f j a (omega arith)))
 
+either-le : (n m : ℕ) (b : Bool) → m ≤ n → cond b (suc n) m ≤ suc n
+either-le n m true l = omega arith
+either-le n m false l = omega arith
+
+pub largest-le : (test : ℕ → Bool) (n : ℕ) → largest test n ≤ n
+largest-le test zero = omega arith
+largest-le test (suc n) = either-le n (largest test n) (test (suc n)) (largest-le test n)
+
 -- nothing passes
 pub largest-none : (test : ℕ → Bool) (n : ℕ) → ((j : ℕ) → j ≤ n → test j ≡ false) → largest test n ≡ 0
 largest-none test zero f = refl

@@ -1,7 +1,4 @@
-use mathlib.Core.Path.{sym, _∙_}
-use borrow.Author.Tests.{not-true, not-false}
 use borrow.Author.Needs.{needs}
-use Rattle.sender.proofs.Guard.{room-low}
 use Rattle.judge.specs.Capture.{tracedOf}
 use Rattle.judge.proofs.capture.trace.Statement.{statement}
 use Rattle.judge.proofs.capture.trace.Tie as tie
@@ -23,9 +20,7 @@ returns-2 c =
     rw (← (i .before .room-fits .ensures), i .if1 .left, ← (c .before .limit-fits .ensures), c .if2 .taken)
 
 walk-requires : tie.Need-walk-requires
-walk-requires c κs =
-    let i = c .before .before in
-    room-low _ (sym (i .before .room-fits .ensures) ∙ not-false (i .before .room-fits .result) (i .if1 .left))
+walk-requires c κs = search needs
 
 returns-3 : tie.Need-returns-3
 unfolding tracedOf

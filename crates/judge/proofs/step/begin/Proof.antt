@@ -20,7 +20,7 @@ sub-left : tie.Need-sub-left
 sub-left c =
     let s = c .before .before in
     let a = s .before .args in
-    fits-small (a .room) (a .total) (a .start) (a .len) true (a .ack) (s .before .pre) (rw (s .fits-piece .ensures) at (not-false (s .fits-piece .result) (c .before .if1 .left)))
+    fits-small (a .room) (a .total) (a .start) (a .len) true (a .ack) (rw (s .fits-piece .ensures) at (not-false (s .fits-piece .result) (c .before .if1 .left)))
 
 slot-for-requires : tie.Need-slot-for-requires
 slot-for-requires c κs = search needs

@@ -19,7 +19,7 @@ sub-rest : tie.Need-sub-rest
 sub-rest c =
     let s = c .before .before in
     let a = s .before .args in
-    next-small (a .room) (a .id) (a .left) (a .sequence) (a .head) (a .ack) (a .last) (a .start) (a .len) (s .before .pre) (rw (s .next-fits .ensures) at (not-false (s .next-fits .result) (c .before .if1 .left)))
+    next-small (a .room) (a .id) (a .left) (a .sequence) (a .head) (a .ack) (a .last) (a .start) (a .len) (rw (s .next-fits .ensures) at (not-false (s .next-fits .result) (c .before .if1 .left)))
 
 slot-for-requires : tie.Need-slot-for-requires
 slot-for-requires c κs = search needs
