@@ -13,8 +13,8 @@ use Rattle.captures.specs.Capture.{width, located, frontOf, before, packetsFrom
 use Rattle.captures.proofs.Walking as captures
 use Rattle.captures.proofs.Walking.{front-within, packets-cons, packets-nil, before-then, packets-begin, some-byte}
 use Rattle.judge.specs.declared.State.{State}
-use Rattle.judge.specs.declared.capture.Verdict.{Verdict}
-use Rattle.judge.specs.declared.capture.Verdict.the-variants.{Going, Stopped}
+use Rattle.judge.specs.declared.capture.Judgement.{Judgement}
+use Rattle.judge.specs.declared.capture.Judgement.the-variants.{Going, Stopped}
 use Rattle.judge.specs.Step.{idle}
 use Rattle.judge.specs.Capture.{goneOn, verdictFrom, walkedOf}
 
@@ -30,7 +30,7 @@ drop-smaller bytes n false e =
     rw m
 
 -- from a place on, the packets that are left and what is known so far decide as all do
-pub record Judging (room limit : ℕ) (bytes : List ℕ) (at : ℕ) (v : Verdict) : Type 0 where
+pub record Judging (room limit : ℕ) (bytes : List ℕ) (at : ℕ) (v : Judgement) : Type 0 where
   pub inside : at ≤ length bytes
   pub turns : ℕ
   pub enough : length bytes ≤ at + turns
@@ -46,7 +46,7 @@ module _ (room limit : ℕ) (bytes : List ℕ) where
   judging-begins e s i =
       record { inside = some-byte bytes e; turns = length bytes; enough = omega arith; decides = rw (i, packets-begin bytes e) }
 
-  module _ {at : ℕ} {v : Verdict} (j : Judging room limit bytes at v) where
+  module _ {at : ℕ} {v : Judgement} (j : Judging room limit bytes at v) where
     pub judging-ends : length bytes ≤ at → walkedOf room limit bytes ≡ given v
     unfolding verdictFrom
     judging-ends h = sym (j .decides) ∙ rw (drop-of-length-le bytes h, packets-nil (j .turns) at)
@@ -71,7 +71,7 @@ module _ (room limit : ℕ) (bytes : List ℕ) where
       unfolding verdictFrom
       step-is p ps = refl
 
-      pub judging-goes : (n : ℕ) (p : List ℕ) (w : Verdict) → frontOf (drop at bytes) ≡ given n → p ≡ take n (drop (at + width) bytes) → w ≡ goneOn room limit at v p
+      pub judging-goes : (n : ℕ) (p : List ℕ) (w : Judgement) → frontOf (drop at bytes) ≡ given n → p ≡ take n (drop (at + width) bytes) → w ≡ goneOn room limit at v p
           → Judging room limit bytes (at + width + n) w
       judging-goes n p w e pe we =
           let k : width + n ≤ length (drop at bytes) = front-within (drop at bytes) n e .0 in

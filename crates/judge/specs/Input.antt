@@ -6,7 +6,7 @@ use lib.Dec.{ltb}
 use Rattle.wire.specs.Bytes.{pairOf}
 use Rattle.wire.specs.Told.{refused, line, table}
 use Rattle.captures.specs.Capture.{ToldAt}
-use Rattle.judge.specs.declared.capture.Verdict.{Verdict}
+use Rattle.judge.specs.declared.capture.Judgement.{Judgement}
 use Rattle.judge.specs.Capture.{tracedOf, Answer, answerOf}
 
 -- the bytes of room and limit
@@ -24,7 +24,7 @@ abbrev pub limitIn : List ℕ → ℕ
 limitIn bytes = pairOf (getD bytes 2 0) (getD bytes 3 0)
 
 -- first of all 1 for a longer capture
-unfoldable pub inputTraced : List ℕ → ToldAt Verdict
+unfoldable pub inputTraced : List ℕ → ToldAt Judgement
 inputTraced bytes =
     table (line 1 (ltb (settings + largestCapture) (length bytes)) ∷ []) (λ n. refused (n, 0)) (tracedOf (roomIn bytes) (limitIn bytes) (drop settings bytes))
 

@@ -13,13 +13,13 @@ use Rattle.packet.specs.declared.reader.Packet.the-variants.{First, Next, Ack, 
 use Rattle.packet.specs.Header.{headerSize, sequenceAfter}
 use Rattle.packet.specs.Reader.{readOf}
 use Rattle.sender.specs.Piece.{extended, sizeFor}
-use Rattle.judge.specs.declared.Slot.{Slot}
-use Rattle.judge.specs.declared.Slot.the-variants.{Idle, Open}
+use Rattle.judge.specs.declared.SenderSlot.{SenderSlot}
+use Rattle.judge.specs.declared.SenderSlot.the-variants.{Idle, Open}
 use Rattle.judge.specs.declared.State.{State}
-use Rattle.judge.specs.declared.step.Moved.{Moved}
-use Rattle.judge.specs.declared.step.Moved.the-variants.{Nowhere, To}
-use Rattle.judge.specs.declared.step.Stepped.{Stepped}
-use Rattle.judge.specs.declared.step.Stepped.the-variants.{Stopped, Goes}
+use Rattle.judge.specs.declared.step.SlotAfter.{SlotAfter}
+use Rattle.judge.specs.declared.step.SlotAfter.the-variants.{Nowhere, To}
+use Rattle.judge.specs.declared.step.StateAfter.{StateAfter}
+use Rattle.judge.specs.declared.step.StateAfter.the-variants.{Stopped, Goes}
 
 -- ---- one packet of a stream
 
@@ -34,11 +34,11 @@ fitsPiece room first left ack start len =
     eqb len (sizeFor room first left) && (eqb start (headerSize first (extended len)) && (not ack || eqb len left))
 
 -- what is open when so many bytes are still to come
-abbrev pub slotFor : ℕ → ℕ → ℕ → Slot
+abbrev pub slotFor : ℕ → ℕ → ℕ → SenderSlot
 slotFor id left sequence = cond (eqb left 0) Idle (Open id left sequence)
 
 -- a first packet where nothing is open
-unfoldable pub firstStep : ℕ → Head → Bool → ℕ → ℕ → ℕ → Option Slot
+unfoldable pub firstStep : ℕ → Head → Bool → ℕ → ℕ → ℕ → Option SenderSlot
 firstStep room head ack total start len =
     cond (fitsPiece room true total ack start len) (some (slotFor (head .id) (total - len) (sequenceAfter (head .sequence) 1))) none
 
@@ -47,12 +47,12 @@ unfoldable pub nextFits : ℕ → ℕ → ℕ → ℕ → Head → Bool → Bool
 nextFits room id left sequence head ack last start len =
     eqb (head .id) id && (eqb (head .sequence) sequence && (fitsPiece room false left ack start len && same last (eqb len left)))
 
-unfoldable pub nextStep : ℕ → ℕ → ℕ → ℕ → Head → Bool → Bool → ℕ → ℕ → Option Slot
+unfoldable pub nextStep : ℕ → ℕ → ℕ → ℕ → Head → Bool → Bool → ℕ → ℕ → Option SenderSlot
 nextStep room id left sequence head ack last start len =
     cond (nextFits room id left sequence head ack last start len) (some (slotFor id (left - len) (sequenceAfter sequence 1))) none
 
 -- the slot after a packet that our writer would write now; none where it would not
-abbrev pub slotStep : ℕ → Slot → Packet → Option Slot
+abbrev pub slotStep : ℕ → SenderSlot → Packet → Option SenderSlot
 slotStep room Idle (First head ack total start len) = firstStep room head ack total start len
 slotStep room Idle (Next head ack last start len) = none
 slotStep room Idle (Ack head) = some Idle
@@ -64,12 +64,12 @@ slotStep room (Open id left sequence) (Nack head) = some (Open id left sequence)
 
 -- ---- the three streams
 
-abbrev pub slotIn : State → Stream → Slot
+abbrev pub slotIn : State → Stream → SenderSlot
 slotIn s Control = s .control
 slotIn s Ota = s .ota
 slotIn s Alexa = s .alexa
 
-abbrev pub withSlot : State → Stream → Slot → State
+abbrev pub withSlot : State → Stream → SenderSlot → State
 withSlot s Control slot = record { control = slot; ota = s .ota; alexa = s .alexa }
 withSlot s Ota slot = record { control = s .control; ota = slot; alexa = s .alexa }
 withSlot s Alexa slot = record { control = s .control; ota = s .ota; alexa = slot }
@@ -77,14 +77,14 @@ withSlot s Alexa slot = record { control = s .control; ota = s .ota; alexa = slo
 abbrev pub idle : State
 idle = record { control = Idle; ota = Idle; alexa = Idle }
 
-abbrev pub isIdle : Slot → Bool
+abbrev pub isIdle : SenderSlot → Bool
 isIdle Idle = true
 isIdle (Open id left sequence) = false
 
 abbrev pub allIdle : State → Bool
 allIdle s = isIdle (s .control) && (isIdle (s .ota) && isIdle (s .alexa))
 
-abbrev pub placed : State → Stream → Option Slot → Option State
+abbrev pub placed : State → Stream → Option SenderSlot → Option State
 placed s stream none = none
 placed s stream (some slot) = some (withSlot s stream slot)
 
@@ -108,10 +108,10 @@ after (some s) no-state go = go s
 
 -- ---- what the code tells
 
-abbrev pub movedTo : Moved → Option Slot
+abbrev pub movedTo : SlotAfter → Option SenderSlot
 movedTo Nowhere = none
 movedTo (To slot) = some slot
 
-abbrev pub stepped : Stepped → Option State
+abbrev pub stepped : StateAfter → Option State
 stepped Stopped = none
 stepped (Goes s) = some s

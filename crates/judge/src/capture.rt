@@ -1,6 +1,6 @@
 // A capture judged: walked to its end, so that its own refusals come first.
 use crate::State;
-use crate::step::Stepped;
+use crate::step::StateAfter;
 use crate::step::judge_packet;
 use captures::Front;
 use captures::WIDTH;
@@ -35,7 +35,7 @@ impl Refusal {
 
 // What the packets so far say: what is open after them; or the place of the length of the first one after which nothing could be
 // lawful, and what was open before it.
-pub enum Verdict {
+pub enum Judgement {
     Going(State),
     Stopped { at: usize, state: State },
 }
@@ -43,7 +43,7 @@ pub enum Verdict {
 // A refusal tells a place in the capture: that of the length of the packet which it is about, and otherwise 0.
 pub enum Traced {
     Barred { why: Refusal, at: usize },
-    Ended(Verdict),
+    Ended(Judgement),
 }
 
 // Lawful; or open, where the capture ends inside a transaction; or the place of that packet's length.
@@ -69,18 +69,18 @@ impl Answer {
 }
 
 // One packet more, whose length stands at a place.
-fn go_on(verdict: Verdict, packet: &[u8], room: usize, limit: usize, at: usize) -> Verdict
+fn go_on(verdict: Judgement, packet: &[u8], room: usize, limit: usize, at: usize) -> Judgement
     ensures { λ r. ⌜ r ≡ goneOn room limit at verdict (now (packet .entry)) ⌝ }
 {
     match verdict {
-        Verdict::Going(state) => {
+        Judgement::Going(state) => {
             let step = judge_packet(packet, room, limit, state);
             match step {
-                Stepped::Stopped => Verdict::Stopped { at, state },
-                Stepped::Goes(next) => Verdict::Going(next),
+                StateAfter::Stopped => Judgement::Stopped { at, state },
+                StateAfter::Goes(next) => Judgement::Going(next),
             }
         }
-        Verdict::Stopped { at: place, state } => Verdict::Stopped { at: place, state },
+        Judgement::Stopped { at: place, state } => Judgement::Stopped { at: place, state },
     }
 }
 
@@ -95,7 +95,7 @@ fn walk(capture: &[u8], room: usize, limit: usize) -> Traced
         };
     }
     let mut at = 1;
-    let mut verdict = Verdict::Going(State::new());
+    let mut verdict = Judgement::Going(State::new());
     while at < capture.len() {
         let found = front_of(&capture[at..]);
         match found {
@@ -136,18 +136,18 @@ pub fn trace(capture: &[u8], room: usize, limit: usize) -> Traced
 }
 
 // The answer at the end.
-fn answer_in(verdict: Verdict) -> Answer
+fn answer_in(verdict: Judgement) -> Answer
     ensures { λ r. ⌜ told r ≡ given (answerIn verdict) ⌝ }
 {
     match verdict {
-        Verdict::Going(state) => {
+        Judgement::Going(state) => {
             if state.is_idle() {
                 Answer::Lawful
             } else {
                 Answer::Open
             }
         }
-        Verdict::Stopped { at, state: _ } => Answer::Unlawful(at),
+        Judgement::Stopped { at, state: _ } => Answer::Unlawful(at),
     }
 }
 

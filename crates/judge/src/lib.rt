@@ -9,18 +9,18 @@ use wire::logic::both;
 use wire::stream::Stream;
 
 // What is open on a stream: nothing, or a transaction with its id, the bytes still to come and the next sequence.
-pub enum Slot {
+pub enum SenderSlot {
     Idle,
     Open { id: u8, left: usize, sequence: u8 },
 }
 
-impl Slot {
+impl SenderSlot {
     fn is_idle(self) -> bool
         ensures { λ r. ⌜ r ≡ isIdle self ⌝ }
     {
         match self {
-            Slot::Idle => true,
-            Slot::Open {
+            SenderSlot::Idle => true,
+            SenderSlot::Open {
                 id: _,
                 left: _,
                 sequence: _,
@@ -31,9 +31,9 @@ impl Slot {
 
 // A slot for each stream.
 pub struct State {
-    pub control: Slot,
-    pub ota: Slot,
-    pub alexa: Slot,
+    pub control: SenderSlot,
+    pub ota: SenderSlot,
+    pub alexa: SenderSlot,
 }
 
 impl State {
@@ -41,13 +41,13 @@ impl State {
         ensures { λ r. ⌜ r ≡ idle ⌝ }
     {
         State {
-            control: Slot::Idle,
-            ota: Slot::Idle,
-            alexa: Slot::Idle,
+            control: SenderSlot::Idle,
+            ota: SenderSlot::Idle,
+            alexa: SenderSlot::Idle,
         }
     }
 
-    fn slot(self, stream: Stream) -> Slot
+    fn slot(self, stream: Stream) -> SenderSlot
         ensures { λ r. ⌜ r ≡ slotIn self stream ⌝ }
     {
         match stream {
@@ -57,7 +57,7 @@ impl State {
         }
     }
 
-    fn with_slot(self, stream: Stream, slot: Slot) -> Self
+    fn with_slot(self, stream: Stream, slot: SenderSlot) -> Self
         ensures { λ r. ⌜ r ≡ withSlot self stream slot ⌝ }
     {
         let control = self.control;

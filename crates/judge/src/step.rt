@@ -1,5 +1,5 @@
 // One packet judged: whether our writer would write it now.
-use crate::Slot;
+use crate::SenderSlot;
 use crate::State;
 use packet::header;
 use packet::reader;
@@ -16,13 +16,13 @@ ghost use Rattle.judge.specs.Step.{same, fitsPiece, slotFor, firstStep, 
 ghost use Rattle.judge.specs.Step.{movedTo, stepped};
 
 // The slot of a stream after a packet, where our writer would write it now.
-enum Moved {
+enum SlotAfter {
     Nowhere,
-    To(Slot),
+    To(SenderSlot),
 }
 
 // The state after a packet, where our writer would write it now.
-pub(crate) enum Stepped {
+pub(crate) enum StateAfter {
     Stopped,
     Goes(State),
 }
@@ -44,25 +44,25 @@ fn fits_piece(room: usize, first: bool, left: usize, ack: bool, start: usize, le
     both(len == size, both(start == header, flagged))
 }
 
-fn slot_for(id: u8, left: usize, sequence: u8) -> Slot
+fn slot_for(id: u8, left: usize, sequence: u8) -> SenderSlot
     ensures { λ r. ⌜ r ≡ slotFor id left sequence ⌝ }
 {
     if left == 0 {
-        return Slot::Idle;
+        return SenderSlot::Idle;
     }
-    Slot::Open { id, left, sequence }
+    SenderSlot::Open { id, left, sequence }
 }
 
 // A first packet where nothing is open.
-fn begin(room: usize, head: Head, ack: bool, total: usize, start: usize, len: usize) -> Moved
+fn begin(room: usize, head: Head, ack: bool, total: usize, start: usize, len: usize) -> SlotAfter
     ensures { λ r. ⌜ movedTo r ≡ firstStep room head ack total start len ⌝ }
 {
     if !fits_piece(room, true, total, ack, start, len) {
-        return Moved::Nowhere;
+        return SlotAfter::Nowhere;
     }
     let sequence = header::sequence_after(head.sequence, 1);
     let left = total - len;
-    Moved::To(slot_for(head.id, left, sequence))
+    SlotAfter::To(slot_for(head.id, left, sequence))
 }
 
 // Whether a packet that follows is the next of what is open.
@@ -94,52 +94,52 @@ fn follow(
     last: bool,
     start: usize,
     len: usize,
-) -> Moved
+) -> SlotAfter
     ensures { λ r. ⌜ movedTo r ≡ nextStep room id left sequence head ack last start len ⌝ }
 {
     if !next_fits(room, id, left, sequence, head, ack, last, start, len) {
-        return Moved::Nowhere;
+        return SlotAfter::Nowhere;
     }
     let after = header::sequence_after(sequence, 1);
     let rest = left - len;
-    Moved::To(slot_for(id, rest, after))
+    SlotAfter::To(slot_for(id, rest, after))
 }
 
 fn on_first(
     room: usize,
-    slot: Slot,
+    slot: SenderSlot,
     head: Head,
     ack: bool,
     total: usize,
     start: usize,
     len: usize,
-) -> Moved
+) -> SlotAfter
     ensures { λ r. ⌜ movedTo r ≡ slotStep room slot (First head ack total start len) ⌝ }
 {
     match slot {
-        Slot::Idle => begin(room, head, ack, total, start, len),
-        Slot::Open {
+        SenderSlot::Idle => begin(room, head, ack, total, start, len),
+        SenderSlot::Open {
             id: _,
             left: _,
             sequence: _,
-        } => Moved::Nowhere,
+        } => SlotAfter::Nowhere,
     }
 }
 
 fn on_next(
     room: usize,
-    slot: Slot,
+    slot: SenderSlot,
     head: Head,
     ack: bool,
     last: bool,
     start: usize,
     len: usize,
-) -> Moved
+) -> SlotAfter
     ensures { λ r. ⌜ movedTo r ≡ slotStep room slot (Next head ack last start len) ⌝ }
 {
     match slot {
-        Slot::Idle => Moved::Nowhere,
-        Slot::Open { id, left, sequence } => follow(
+        SenderSlot::Idle => SlotAfter::Nowhere,
+        SenderSlot::Open { id, left, sequence } => follow(
             room,
             id,
             left,
@@ -154,17 +154,17 @@ fn on_next(
 }
 
 // A slot put back.
-fn placed(state: State, stream: Stream, moved: Moved) -> Stepped
+fn placed(state: State, stream: Stream, moved: SlotAfter) -> StateAfter
     ensures { λ r. ⌜ stepped r ≡ placed state stream (movedTo moved) ⌝ }
 {
     match moved {
-        Moved::Nowhere => Stepped::Stopped,
-        Moved::To(slot) => Stepped::Goes(state.with_slot(stream, slot)),
+        SlotAfter::Nowhere => StateAfter::Stopped,
+        SlotAfter::To(slot) => StateAfter::Goes(state.with_slot(stream, slot)),
     }
 }
 
 // What was read, judged.
-fn step(room: usize, state: State, read: Packet) -> Stepped
+fn step(room: usize, state: State, read: Packet) -> StateAfter
     ensures { λ r. ⌜ stepped r ≡ stepBy room state (given read) ⌝ }
 {
     match read {
@@ -198,18 +198,18 @@ fn step(room: usize, state: State, read: Packet) -> Stepped
                 on_next(room, slot, head, ack, last, start, len),
             )
         }
-        Packet::Ack(_) => Stepped::Goes(state),
-        Packet::Nack(_) => Stepped::Goes(state),
+        Packet::Ack(_) => StateAfter::Goes(state),
+        Packet::Nack(_) => StateAfter::Goes(state),
     }
 }
 
 // A packet judged by what is open.
-pub(crate) fn judge_packet(packet: &[u8], room: usize, limit: usize, state: State) -> Stepped
+pub(crate) fn judge_packet(packet: &[u8], room: usize, limit: usize, state: State) -> StateAfter
     ensures { λ r. ⌜ stepped r ≡ stepOf room limit state (now (packet .entry)) ⌝ }
 {
     let answer = reader::read(limit, packet);
     match answer {
-        reader::Answer::Refused(_) => Stepped::Stopped,
+        reader::Answer::Refused(_) => StateAfter::Stopped,
         reader::Answer::Read(read) => step(room, state, read),
     }
 }

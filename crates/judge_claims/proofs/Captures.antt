@@ -15,8 +15,8 @@ use Rattle.captures.proofs.Walking.{of-packets}
 use Rattle.sender.specs.Writer.{roomFits}
 use Rattle.sender_claims.proofs.CallsGiveAll.{takes-all}
 use Rattle.judge.specs.declared.State.{State}
-use Rattle.judge.specs.declared.capture.Verdict.{Verdict}
-use Rattle.judge.specs.declared.capture.Verdict.the-variants.{Going, Stopped}
+use Rattle.judge.specs.declared.capture.Judgement.{Judgement}
+use Rattle.judge.specs.declared.capture.Judgement.the-variants.{Going, Stopped}
 use Rattle.judge.specs.Step.{idle, allIdle, stepOf, after}
 use Rattle.judge.specs.Capture.{goneOn, verdictFrom, verdictOf, walkedOf, tracedOf, Answer, lawful, open·ended, unlawful, answerIn, judgedOf}
 use Rattle.judge_claims.specs.Lawful.{WritableAll}

@@ -29,8 +29,8 @@ use Rattle.sender.specs.Piece.{leastRoom, largestRoom, extended, sizeFor}
 use Rattle.sender.specs.Writer.{roomFits}
 use Rattle.sender.proofs.Largest.{size-le, size-fits}
 use Rattle.sender.proofs.Guard.{room-low}
-use Rattle.judge.specs.declared.Slot.{Slot}
-use Rattle.judge.specs.declared.Slot.the-variants.{Idle, Open}
+use Rattle.judge.specs.declared.SenderSlot.{SenderSlot}
+use Rattle.judge.specs.declared.SenderSlot.the-variants.{Idle, Open}
 use Rattle.judge.specs.declared.State.{State}
 use Rattle.judge.specs.Step.{fitsPiece, slotFor, firstStep, nextFits, nextStep, slotStep, slotIn, withSlot, idle, stepOf, after, same}
 use Rattle.judge_claims.specs.Lawful.{acknowledges}
@@ -86,7 +86,7 @@ later-bytes room s id ack f ni (suc fuel) sequence rest nq b =
 
 -- ---- the states that the judge comes to
 
-abbrev pub Good : Slot → Type 0
+abbrev pub Good : SenderSlot → Type 0
 Good Idle = Unit {0}
 Good (Open id left sequence) = (id < 16) × (sequence < 16) × (1 ≤ left)
 
@@ -100,7 +100,7 @@ good-by id left sequence false e li ls = let d : (left ≡ 0 → ⊥) = eqb-fals
 good-for : (id left sequence : ℕ) → id < 16 → Good (slotFor id left (sequenceAfter sequence 1))
 good-for id left sequence li = good-by id left (sequenceAfter sequence 1) (eqb left 0) refl li (omega arith)
 
-slot-good : (room limit : ℕ) (p : List ℕ) (x : Packet) → readOf limit p ≡ given x → acknowledges (given x) ≡ false → (slot next : Slot) → Good slot → slotStep room slot x ≡ some next → Good next
+slot-good : (room limit : ℕ) (p : List ℕ) (x : Packet) → readOf limit p ≡ given x → acknowledges (given x) ≡ false → (slot next : SenderSlot) → Good slot → slotStep room slot x ≡ some next → Good next
 unfolding firstStep nextStep nextFits
 slot-good room limit p (First h ack total start len) e na Idle next g st =
     let c = chosen (fitsPiece room true total ack start len) _ next st in
@@ -146,7 +146,7 @@ with-idle st Control e = λ i. record { control = e i; ota = st .ota; alexa = st
 with-idle st Ota e = λ i. record { control = st .control; ota = e i; alexa = st .alexa }
 with-idle st Alexa e = λ i. record { control = st .control; ota = st .ota; alexa = e i }
 
-with-twice : (st : State) (s : Stream) (a b : Slot) → withSlot (withSlot st s a) s b ≡ withSlot st s b
+with-twice : (st : State) (s : Stream) (a b : SenderSlot) → withSlot (withSlot st s a) s b ≡ withSlot st s b
 with-twice st Control a b = refl
 with-twice st Ota a b = refl
 with-twice st Alexa a b = refl
@@ -165,13 +165,13 @@ module _ (room limit : ℕ) (fits : InRange room limit) where
       ∙ rest-runs s qs (withSlot st s (t .next)) (rw (slot-same st (t .next) s) (t .rest))
       ∙ ap some (with-twice st s (t .next) Idle)
 
-  pub record Ending (s : Stream) (slot : Slot) : Type 0 where
+  pub record Ending (s : Stream) (slot : SenderSlot) : Type 0 where
     pub more : List (List ℕ)
     pub more-bytes : Packets more
     pub more-rest : Rest room limit s slot more
     pub only-open : slot ≡ Idle → more ≡ []
 
-  pub ending : (s : Stream) (slot : Slot) → Good slot → Ending s slot
+  pub ending : (s : Stream) (slot : SenderSlot) → Good slot → Ending s slot
   ending s Idle g = record { more = []; more-bytes = tt; more-rest = done refl; only-open = λ e. refl }
   ending s (Open id left sequence) g =
       record {

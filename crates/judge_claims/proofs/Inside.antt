@@ -26,8 +26,8 @@ use Rattle.sender.specs.Writer.{argumentsFit}
 use Rattle.sender_claims.specs.Calls.{callsOf}
 use Rattle.sender.proofs.Largest.{size-le, size-some}
 use Rattle.sender.proofs.Guard.{room-low}
-use Rattle.judge.specs.declared.Slot.{Slot}
-use Rattle.judge.specs.declared.Slot.the-variants.{Idle, Open}
+use Rattle.judge.specs.declared.SenderSlot.{SenderSlot}
+use Rattle.judge.specs.declared.SenderSlot.the-variants.{Idle, Open}
 use Rattle.judge.specs.declared.State.{State}
 use Rattle.judge.specs.Step.{slotIn, idle, isIdle, allIdle}
 use Rattle.judge_claims.specs.Lawful.{Transaction, Writable, AllWritable, packetsIn, carries, AllKnown, Lawful, Viable}
@@ -234,7 +234,7 @@ module _ (room limit : ℕ) (fits : InRange room limit) (ps : List (List ℕ)) (
     all-sound = sound room limit fits tailsOf t (λ s. ending room limit fits s (slotIn t s) (good s) .more-rest) ps bytes idle runs
 
     -- a stream's packets are cut where its slot is open
-    record Came (s : Stream) (slot : Slot) : Type 0 where
+    record Came (s : Stream) (slot : SenderSlot) : Type 0 where
       side : WholeOrCut room limit s (mine s)
       cut-when : isCut side ≡ not (isIdle slot)
 
@@ -242,7 +242,7 @@ module _ (room limit : ℕ) (fits : InRange room limit) (ps : List (List ℕ)) (
     came-open s tail id left sequence r (between w o) = absurd (conflict room limit low-room s tail id left sequence o r)
     came-open s tail id left sequence r (inside c) = record { side = cut c; cut-when = refl }
 
-    came-by : (s : Stream) (slot : Slot) (tail : List (List ℕ)) → Rest room limit s slot tail → (slot ≡ Idle → tail ≡ []) → SentAs room limit s (mine s ++ tail) → Came s slot
+    came-by : (s : Stream) (slot : SenderSlot) (tail : List (List ℕ)) → Rest room limit s slot tail → (slot ≡ Idle → tail ≡ []) → SentAs room limit s (mine s ++ tail) → Came s slot
     came-by s Idle tail r z sent =
         record {
           side = whole (record { sent = sent .sent; writable = sent .writable; packets-are = rw (z refl, append-nil) at (sent .packets-are) });

@@ -33,8 +33,8 @@ use Rattle.sender_claims.specs.Calls.{callsOf, Takes}
 use Rattle.sender.proofs.Largest.{size-le, size-some}
 use Rattle.sender.proofs.Guard.{room-low, range-facts}
 use Rattle.sender_claims.proofs.CallsGiveAll.{calls-are}
-use Rattle.judge.specs.declared.Slot.{Slot}
-use Rattle.judge.specs.declared.Slot.the-variants.{Idle, Open}
+use Rattle.judge.specs.declared.SenderSlot.{SenderSlot}
+use Rattle.judge.specs.declared.SenderSlot.the-variants.{Idle, Open}
 use Rattle.judge.specs.declared.State.{State}
 use Rattle.judge.specs.Step.{same, fitsPiece, slotFor, firstStep, nextFits, nextStep, slotStep, slotIn, withSlot, isIdle, stepOf}
 use Rattle.judge_claims.specs.Lawful.{Transaction, Writable, acknowledges}
@@ -73,7 +73,7 @@ pub record InRange (room limit : ℕ) : Type 0 where
 
 -- ---- what may still come
 
-pub data Rest (room limit : ℕ) (s : Stream) : Slot → List (List ℕ) → Type 0 where
+pub data Rest (room limit : ℕ) (s : Stream) : SenderSlot → List (List ℕ) → Type 0 where
   done : {qs : List (List ℕ)} → qs ≡ [] → Rest room limit s Idle qs
   begins : {qs : List (List ℕ)} (t : Transaction) (others : List (List ℕ)) → Writable room limit s t → Rest room limit s Idle others
       → qs ≡ callsOf limit (t .how) (t .payload) (t .out) ++ others → Rest room limit s Idle qs
@@ -107,8 +107,8 @@ isFirstRead (given (Nack head)) = false
 isFirstRead (refused n) = false
 
 -- the packet is taken, whatever the other streams hold, and what may come after it comes
-pub record Taken (room limit : ℕ) (s : Stream) (slot : Slot) (p : List ℕ) (qs : List (List ℕ)) : Type 0 where
-  pub next : Slot
+pub record Taken (room limit : ℕ) (s : Stream) (slot : SenderSlot) (p : List ℕ) (qs : List (List ℕ)) : Type 0 where
+  pub next : SenderSlot
   pub first-or-not : isFirstRead (readOf limit p) ≡ isIdle slot
   pub takes : (st : State) → slotIn st s ≡ slot → stepOf room limit st p ≡ some (withSlot st s next)
   pub rest : Rest room limit s next qs
@@ -221,14 +221,14 @@ module _ (room limit : ℕ) (low : leastRoom ≤ room) (s : Stream) where
         rest = rw tail (rest-after id sequence left n fuel ack (drop n rest) others (bytes-drop n rest b) li (length-drop n rest ∙ omega arith) k (omega arith) o (eqb n left) refl);
       }
 
-  pub advance : {slot : Slot} {all : List (List ℕ)} (p : List ℕ) (qs : List (List ℕ)) → Rest room limit s slot all → all ≡ p ∷ qs → Taken room limit s slot p qs
+  pub advance : {slot : SenderSlot} {all : List (List ℕ)} (p : List ℕ) (qs : List (List ℕ)) → Rest room limit s slot all → all ≡ p ∷ qs → Taken room limit s slot p qs
   advance p qs (done d) e = let z : 0 ≡ suc (length qs) = ap length (sym d ∙ e) in absurd (omega arith)
   advance p qs (begins t others w o d) e = first-taken t p qs others w o (sym e ∙ d)
   advance p qs (within {id = id} {left = left} {sequence = sequence} fuel ack rest others b li ls r sl f o d) e =
       next-taken id left sequence fuel ack rest p qs others b li ls r sl f o (sym e ∙ d)
 
   -- nothing may be missing where nothing is open
-  empty-by : {slot : Slot} {all : List (List ℕ)} → Rest room limit s slot all → all ≡ [] → slot ≡ Idle
+  empty-by : {slot : SenderSlot} {all : List (List ℕ)} → Rest room limit s slot all → all ≡ [] → slot ≡ Idle
   unfolding later
   empty-by (done d) e = refl
   empty-by (begins t others w o d) e = refl
@@ -236,7 +236,7 @@ module _ (room limit : ℕ) (low : leastRoom ≤ room) (s : Stream) where
   empty-by (within {id = id} {left = left} {sequence = sequence} (suc fuel) ack rest others b li ls r sl f o d) e =
       let z = ap length (sym e ∙ d) in absurd (omega arith)
 
-  pub rest-empty : {slot : Slot} → Rest room limit s slot [] → slot ≡ Idle
+  pub rest-empty : {slot : SenderSlot} → Rest room limit s slot [] → slot ≡ Idle
   rest-empty r = empty-by r refl
 
 -- ---- backwards: before a packet that was taken
@@ -450,7 +450,7 @@ never-some y e = let z : _≡_ {A = ℕ} 0 1 = cc in absurd (omega arith)
 
 -- before a packet that a slot took, what may come is the packet and what may come after it
 pub step-back : (room limit : ℕ) (fits-room : InRange room limit) (s : Stream) (p : List ℕ) → AllBytes p → (x : Packet) → readOf limit p ≡ given x → headIn x .stream ≡ s
-    → acknowledges (given x) ≡ false → (slot next : Slot) (qs : List (List ℕ)) → slotStep room slot x ≡ some next → Rest room limit s next qs → Rest room limit s slot (p ∷ qs)
+    → acknowledges (given x) ≡ false → (slot next : SenderSlot) (qs : List (List ℕ)) → slotStep room slot x ≡ some next → Rest room limit s next qs → Rest room limit s slot (p ∷ qs)
 unfolding firstStep nextStep nextFits
 step-back room limit fits-room s p bytes (First h ack total start len) e os na Idle next qs st r =
     let c = chosen (fitsPiece room true total ack start len) _ next st in

@@ -8,8 +8,8 @@ use mathlib.Core.List.{List, [], _∷_, _++_}
 use mathlib.Core.Bool.{Bool, true, false, cond, _&&_, false≢true}
 use mathlib.Core.Option.{Option, none, some}
 use lib.ListN.{take}
-use Rattle.judge.specs.declared.Slot.{Slot}
-use Rattle.judge.specs.declared.Slot.the-variants.{Idle, Open}
+use Rattle.judge.specs.declared.SenderSlot.{SenderSlot}
+use Rattle.judge.specs.declared.SenderSlot.the-variants.{Idle, Open}
 use Rattle.judge.specs.declared.State.{State}
 use Rattle.captures.specs.Capture.{Packets}
 use Rattle.judge.specs.Step.{idle, isIdle, allIdle, stepOf, after}
@@ -31,7 +31,7 @@ answerOf room limit ps = answerFrom room limit idle 0 ps
 -- it is what the run says
 
 -- nothing is open
-idle-by : (c o a : Slot) → (isIdle c && (isIdle o && isIdle a)) ≡ true → _≡_ {A = State} (record { control = c; ota = o; alexa = a }) idle
+idle-by : (c o a : SenderSlot) → (isIdle c && (isIdle o && isIdle a)) ≡ true → _≡_ {A = State} (record { control = c; ota = o; alexa = a }) idle
 idle-by Idle Idle Idle e = refl
 idle-by Idle Idle (Open id left sequence) e = absurd (false≢true e)
 idle-by Idle (Open id left sequence) a e = absurd (false≢true e)

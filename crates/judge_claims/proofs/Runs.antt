@@ -26,8 +26,8 @@ use Rattle.packet.proofs.Reading.{Passes, read-passes, empty-refused}
 use Rattle.sender.specs.Piece.{leastRoom}
 use Rattle.sender_claims.specs.Calls.{callsOf}
 use Rattle.sender.proofs.Guard.{room-low}
-use Rattle.judge.specs.declared.Slot.{Slot}
-use Rattle.judge.specs.declared.Slot.the-variants.{Idle, Open}
+use Rattle.judge.specs.declared.SenderSlot.{SenderSlot}
+use Rattle.judge.specs.declared.SenderSlot.the-variants.{Idle, Open}
 use Rattle.judge.specs.declared.State.{State}
 use Rattle.judge.specs.Step.{slotStep, slotIn, withSlot, idle, placed, stepBy, stepOf, after}
 use Rattle.judge_claims.specs.Lawful.{Transaction, Writable, AllWritable, packetsIn, acknowledges, isAck, carries, known, AllKnown, Lawful}
@@ -59,7 +59,7 @@ by-stream P Alexa p q Control = q Control (λ e. omega arith)
 by-stream P Alexa p q Ota = q Ota (λ e. omega arith)
 by-stream P Alexa p q Alexa = p
 
-module _ (st : State) (next : Slot) where
+module _ (st : State) (next : SenderSlot) where
   pub slot-same : (s : Stream) → slotIn (withSlot st s next) s ≡ next
   slot-same Control = refl
   slot-same Ota = refl
@@ -194,15 +194,15 @@ piece-carries limit p x e a = rw (e, a) (piece-of limit p x e)
 -- what a step that was taken did
 pub data Stepped (room limit : ℕ) (st : State) (p : List ℕ) (t : State) : Type 0 where
   was-ack : isAck limit p ≡ true → t ≡ st → Stepped room limit st p t
-  was-piece : (x : Packet) (next : Slot) → readOf limit p ≡ given x → acknowledges (given x) ≡ false → slotStep room (slotIn st (headIn x .stream)) x ≡ some next
+  was-piece : (x : Packet) (next : SenderSlot) → readOf limit p ≡ given x → acknowledges (given x) ≡ false → slotStep room (slotIn st (headIn x .stream)) x ≡ some next
       → t ≡ withSlot st (headIn x .stream) next → Stepped room limit st p t
 
-record Placed (st : State) (s : Stream) (o : Option Slot) (t : State) : Type 0 where
-  next : Slot
+record Placed (st : State) (s : Stream) (o : Option SenderSlot) (t : State) : Type 0 where
+  next : SenderSlot
   is-some : o ≡ some next
   is-state : t ≡ withSlot st s next
 
-placed-by : (st t : State) (s : Stream) (o : Option Slot) → placed st s o ≡ some t → Placed st s o t
+placed-by : (st t : State) (s : Stream) (o : Option SenderSlot) → placed st s o ≡ some t → Placed st s o t
 placed-by st t s none e = let z : _≡_ {A = ℕ} 0 1 = cc in absurd (omega arith)
 placed-by st t s (some next) e = record { next = next; is-some = refl; is-state = cc }
 
@@ -265,7 +265,7 @@ pub record SentAs (room limit : ℕ) (s : Stream) (qs : List (List ℕ)) : Type 
   pub packets-are : qs ≡ packetsIn limit sent
 
 -- all that comes where nothing is open are transactions
-pub sent-of : {room limit : ℕ} {s : Stream} {slot : Slot} {qs : List (List ℕ)} → Rest room limit s slot qs → slot ≡ Idle → SentAs room limit s qs
+pub sent-of : {room limit : ℕ} {s : Stream} {slot : SenderSlot} {qs : List (List ℕ)} → Rest room limit s slot qs → slot ≡ Idle → SentAs room limit s qs
 sent-of (done e) i = record { sent = []; writable = tt; packets-are = e }
 sent-of {room} {limit} {s} (begins t others w o e) i =
     let later = sent-of o i in

@@ -10,17 +10,17 @@ use Rattle.packet.specs.declared.reader.Packet.the-variants.{First, Next, Ack, 
 use Rattle.packet.specs.Header.{headerSize, sequenceAfter}
 use Rattle.sender.specs.Piece.{extended, sizeFor}
 use Rattle.sender.specs.Writer.{typeFor, roomFits}
-use Rattle.judge.specs.declared.Slot.{Slot}
-use Rattle.judge.specs.declared.Slot.the-variants.{Idle, Open}
+use Rattle.judge.specs.declared.SenderSlot.{SenderSlot}
+use Rattle.judge.specs.declared.SenderSlot.the-variants.{Idle, Open}
 use Rattle.judge.specs.Step.{same, fitsPiece, slotFor, firstStep, nextFits, nextStep}
 use Rattle.next_packet.specs.NextPacket.{nextIn, nextOf}
 use Rattle.next_packet.specs.Expected.{isTaken, ExpectedIsTaken}
 
-next-in : (room : ℕ) (slot : Slot) (total : ℕ) → roomFits room ≡ true → nextOf room slot total ≡ nextIn room slot total
+next-in : (room : ℕ) (slot : SenderSlot) (total : ℕ) → roomFits room ≡ true → nextOf room slot total ≡ nextIn room slot total
 unfolding nextOf
 next-in room slot total e = rw e
 
-taken-by : (b : Bool) (slot : Slot) → isTaken (cond b (some slot) none) ≡ b
+taken-by : (b : Bool) (slot : SenderSlot) → isTaken (cond b (some slot) none) ≡ b
 taken-by true slot = refl
 taken-by false slot = refl
 

@@ -9,7 +9,7 @@ use Rattle.packet.specs.declared.reader.Packet.{Packet}
 use Rattle.packet.specs.declared.reader.Packet.the-variants.{First, Next, Ack, Nack}
 use Rattle.packet.specs.Header.{headerSize}
 use Rattle.sender.specs.Writer.{roomFits}
-use Rattle.judge.specs.declared.Slot.{Slot}
+use Rattle.judge.specs.declared.SenderSlot.{SenderSlot}
 use Rattle.judge.specs.Step.{slotStep}
 use Rattle.next_packet.specs.declared.NextPacket.{NextPacket}
 use Rattle.next_packet.specs.NextPacket.{nextOf}
@@ -22,15 +22,15 @@ heldTo n kind head ack start len =
     && ((eqb len (n .len) && (eqb start (headerSize (eqb kind 0) (n .extended)) && (not ack || n .last))) && eqb kind (n .kind)))
 
 -- a packet that was read is the one that is expected, where ACKs may always come
-abbrev pub isExpected : ℕ → Slot → Packet → Bool
+abbrev pub isExpected : ℕ → SenderSlot → Packet → Bool
 isExpected room slot (First head ack total start len) = heldTo (nextOf room slot total) 0 head ack start len
 isExpected room slot (Next head ack last start len) = heldTo (nextOf room slot 0) (cond last 2 1) head ack start len
 isExpected room slot (Ack head) = true
 isExpected room slot (Nack head) = true
 
-abbrev pub isTaken : Option Slot → Bool
+abbrev pub isTaken : Option SenderSlot → Bool
 isTaken none = false
 isTaken (some slot) = true
 
 abbrev pub ExpectedIsTaken : Type 0
-ExpectedIsTaken = (room : ℕ) (slot : Slot) (p : Packet) → roomFits room ≡ true → isTaken (slotStep room slot p) ≡ isExpected room slot p
+ExpectedIsTaken = (room : ℕ) (slot : SenderSlot) (p : Packet) → roomFits room ≡ true → isTaken (slotStep room slot p) ≡ isExpected room slot p

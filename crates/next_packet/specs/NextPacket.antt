@@ -4,8 +4,8 @@ use mathlib.Core.Bool.{Bool, true, false, cond, not}
 use lib.Dec.{eqb}
 use Rattle.sender.specs.Piece.{extended, sizeFor}
 use Rattle.sender.specs.Writer.{typeFor, roomFits}
-use Rattle.judge.specs.declared.Slot.{Slot}
-use Rattle.judge.specs.declared.Slot.the-variants.{Idle, Open}
+use Rattle.judge.specs.declared.SenderSlot.{SenderSlot}
+use Rattle.judge.specs.declared.SenderSlot.the-variants.{Idle, Open}
 use Rattle.next_packet.specs.declared.NextPacket.{NextPacket}
 
 -- of so many bytes that are left, a piece of this length
@@ -22,10 +22,10 @@ nextBy opened id sequence left len =
     }
 
 -- where nothing is open, the first packet of a message of this total, with any id and sequence
-abbrev pub nextIn : ℕ → Slot → ℕ → NextPacket
+abbrev pub nextIn : ℕ → SenderSlot → ℕ → NextPacket
 nextIn room Idle total = nextBy false 0 0 total (sizeFor room true total)
 nextIn room (Open id left sequence) total = nextBy true id sequence left (sizeFor room false left)
 
 -- a room out of range has none: all is 0
-unfoldable pub nextOf : ℕ → Slot → ℕ → NextPacket
+unfoldable pub nextOf : ℕ → SenderSlot → ℕ → NextPacket
 nextOf room slot total = cond (roomFits room) (nextIn room slot total) (nextBy false 0 0 0 0)

@@ -1,5 +1,5 @@
 // What our writer would write next on a stream, by what is open there: what a packet that is not lawful is held to.
-use judge::Slot;
+use judge::SenderSlot;
 use packet::header;
 use sender::piece;
 use sender::writer::room_fits;
@@ -50,15 +50,15 @@ fn next_by(opened: bool, id: u8, sequence: u8, left: usize, len: usize) -> NextP
 }
 
 // The total is that of the first packet that came, where nothing is open.
-pub fn next_packet(room: usize, slot: Slot, total: usize) -> NextPacket
+pub fn next_packet(room: usize, slot: SenderSlot, total: usize) -> NextPacket
     ensures { λ r. ⌜ r ≡ nextOf room slot total ⌝ }
 {
     if !room_fits(room) {
         return next_by(false, 0, 0, 0, 0);
     }
     match slot {
-        Slot::Idle => next_by(false, 0, 0, total, piece::size_for(room, true, total)),
-        Slot::Open { id, left, sequence } => next_by(
+        SenderSlot::Idle => next_by(false, 0, 0, total, piece::size_for(room, true, total)),
+        SenderSlot::Open { id, left, sequence } => next_by(
             true,
             id,
             sequence,

@@ -1,11 +1,11 @@
 // Says why a sender is not lawful: the same input as `lawful`, its line, with 41 and 42 their place too, and then of the packet that
 // decides what was expected and what came, or what is still open at the end.
 use captures::WIDTH;
-use judge::Slot;
+use judge::SenderSlot;
 use judge::State;
+use judge::capture::Judgement;
 use judge::capture::Refusal;
 use judge::capture::Traced;
-use judge::capture::Verdict;
 use judge::input::LARGEST_CAPTURE;
 use judge::input::SETTINGS;
 use judge::input::limit_in;
@@ -68,16 +68,16 @@ fn say_expected(next: NextPacket) {
 }
 
 // Where nothing is open, the length depends on a total, which only a first packet has.
-fn say_expected_by(room: usize, slot: Slot, total: usize, first: bool) {
+fn say_expected_by(room: usize, slot: SenderSlot, total: usize, first: bool) {
     match slot {
-        Slot::Idle => {
+        SenderSlot::Idle => {
             if first {
                 say_expected(next_packet(room, slot, total));
             } else {
                 say(b"expected: any id, any sequence, type 0\n");
             }
         }
-        Slot::Open {
+        SenderSlot::Open {
             id: _,
             left: _,
             sequence: _,
@@ -131,7 +131,7 @@ fn say_refused_packet(packet: &[u8], why: reader::Refusal) {
     words(why);
 }
 
-fn slot_of(state: State, stream: Stream) -> Slot {
+fn slot_of(state: State, stream: Stream) -> SenderSlot {
     match stream {
         Stream::Control => state.control,
         Stream::Ota => state.ota,
@@ -140,7 +140,7 @@ fn slot_of(state: State, stream: Stream) -> Slot {
 }
 
 // What was expected, and what was read.
-fn say_read(packet: &[u8], room: usize, slot: Slot, read: Packet) {
+fn say_read(packet: &[u8], room: usize, slot: SenderSlot, read: Packet) {
     match read {
         Packet::First {
             head: _,
@@ -194,10 +194,10 @@ fn say_front(rest: &[u8], room: usize, limit: usize, state: State) {
     say_packet(&rest[start..start + size], room, limit, state);
 }
 
-fn say_open(stream: Stream, slot: Slot) {
+fn say_open(stream: Stream, slot: SenderSlot) {
     match slot {
-        Slot::Idle => {}
-        Slot::Open { id, left, sequence } => {
+        SenderSlot::Idle => {}
+        SenderSlot::Open { id, left, sequence } => {
             say_number(b"stream ", wide(stream.number()));
             say_number(b": id ", wide(id));
             say_number(b", ", left);
@@ -236,8 +236,8 @@ fn explain(input: &[u8]) {
     match traced {
         Traced::Barred { why, at } => say_refused(why, at),
         Traced::Ended(verdict) => match verdict {
-            Verdict::Going(state) => say_end(state),
-            Verdict::Stopped { at, state } => {
+            Judgement::Going(state) => say_end(state),
+            Judgement::Stopped { at, state } => {
                 say_number(b"unlawful at ", at);
                 say(b"\n");
                 let start = smaller(input.len(), SETTINGS);
