@@ -1,6 +1,8 @@
 // Says why a sender is not lawful: the same input as `lawful`, its line, with 41 and 42 their place too, and then of the packet that
 // decides what was expected and what came, or what is still open at the end.
+use captures::Front;
 use captures::WIDTH;
+use captures::front_of;
 use judge::SenderSlot;
 use judge::State;
 use judge::capture::Judgement;
@@ -19,7 +21,6 @@ use packet::header;
 use packet::reader;
 use packet::reader::Packet;
 use wire::bytes::byte_at;
-use wire::bytes::pair;
 use wire::bytes::smaller;
 use wire::bytes::wide;
 use wire::stream::Stream;
@@ -188,10 +189,15 @@ fn say_packet(packet: &[u8], room: usize, limit: usize, state: State) {
 
 // The packet whose length stands at the front of some bytes.
 fn say_front(rest: &[u8], room: usize, limit: usize, state: State) {
-    let n = pair(byte_at(rest, 0), byte_at(rest, 1));
-    let start = smaller(rest.len(), WIDTH);
-    let size = smaller(rest.len() - start, n);
-    say_packet(&rest[start..start + size], room, limit, state);
+    let front = front_of(rest);
+    match front {
+        Front::Broken(_) => {}
+        Front::Whole(n) => {
+            let start = smaller(rest.len(), WIDTH);
+            let size = smaller(rest.len() - start, n);
+            say_packet(&rest[start..start + size], room, limit, state);
+        }
+    }
 }
 
 fn say_open(stream: Stream, slot: SenderSlot) {
