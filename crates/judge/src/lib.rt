@@ -47,7 +47,7 @@ impl State {
         }
     }
 
-    fn slot(self, stream: Stream) -> SenderSlot
+    pub fn slot(self, stream: Stream) -> SenderSlot
         ensures { λ r. ⌜ r ≡ slotIn self stream ⌝ }
     {
         match stream {

@@ -132,14 +132,6 @@ fn say_refused_packet(packet: &[u8], why: reader::Refusal) {
     words(why);
 }
 
-fn slot_of(state: State, stream: Stream) -> SenderSlot {
-    match stream {
-        Stream::Control => state.control,
-        Stream::Ota => state.ota,
-        Stream::Alexa => state.alexa,
-    }
-}
-
 // What was expected, and what was read.
 fn say_read(packet: &[u8], room: usize, slot: SenderSlot, read: Packet) {
     match read {
@@ -174,7 +166,7 @@ fn say_packet(packet: &[u8], room: usize, limit: usize, state: State) {
     let number = header::stream_bits(byte_at(packet, 0));
     say_number(b"stream ", wide(number));
     say(b"\n");
-    let slot = slot_of(state, stream_of(number));
+    let slot = state.slot(stream_of(number));
     let answer = reader::read(limit, packet);
     match answer {
         reader::Answer::Refused(why) => {
@@ -200,7 +192,8 @@ fn say_front(rest: &[u8], room: usize, limit: usize, state: State) {
     }
 }
 
-fn say_open(stream: Stream, slot: SenderSlot) {
+fn say_open(state: State, stream: Stream) {
+    let slot = state.slot(stream);
     match slot {
         SenderSlot::Idle => {}
         SenderSlot::Open { id, left, sequence } => {
@@ -219,12 +212,9 @@ fn say_end(state: State) {
         return;
     }
     say(b"open\n");
-    let control = state.control;
-    let ota = state.ota;
-    let alexa = state.alexa;
-    say_open(Stream::Control, control);
-    say_open(Stream::Ota, ota);
-    say_open(Stream::Alexa, alexa);
+    say_open(state, Stream::Control);
+    say_open(state, Stream::Ota);
+    say_open(state, Stream::Alexa);
 }
 
 fn say_refused(why: Refusal, at: usize) {
