@@ -202,7 +202,8 @@ static void accept(const uint8_t *packet, size_t count)
 static void judge(uint64_t room, uint64_t limit)
 {
     captured = once_in(20) ? damage(capture, captured) : captured;
-    CALL(pito_capture_judge, A(capture), captured, room, limit, A(answer), length(PITO_CAPTURE_JUDGE_ANSWER));
+    CALL(pito_capture_judge, A(capture), captured, once_in(20) ? below(600) : room, once_in(20) ? any_number() : limit,
+         A(answer), length(PITO_CAPTURE_JUDGE_ANSWER));
     captured = 0;
 }
 
