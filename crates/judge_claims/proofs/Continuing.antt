@@ -23,7 +23,7 @@ use Rattle.packet.specs.declared.reader.Packet.the-variants.{First, Next, Ack, 
 use Rattle.packet.specs.Header.{fourBits, typeContinuation, typeLast, bit, firstByte, secondByte, sequenceAfter}
 use Rattle.packet.specs.Reader.{headIn, readOf}
 use Rattle.packet.proofs.Headers.{bit-low}
-use Rattle.packet.proofs.Reading.{lengthIn, Passes, read-passes}
+use Rattle.packet.proofs.Reading.{lengthIn, LinesPass, read-passes}
 use Rattle.packet.proofs.Written.{nextPacket}
 use Rattle.sender.specs.Piece.{leastRoom, largestRoom, extended, sizeFor}
 use Rattle.sender.specs.Writer.{roomFits}
@@ -36,7 +36,7 @@ use Rattle.judge.specs.Step.{fitsPiece, slotFor, firstStep, nextFits, nextStep,
 use Rattle.judge_claims.specs.Lawful.{acknowledges}
 use Rattle.sender.proofs.Later.{nextSize, nextLast, later}
 use Rattle.judge_claims.proofs.Rest.{InRange, Rest, done, within, advance, rest-empty, Chosen, chosen, never-some}
-use Rattle.judge_claims.proofs.Runs.{runOf, run-step, by-stream, slot-same, slot-other, Others, Stepped, was-ack, was-piece, stepped}
+use Rattle.judge_claims.proofs.Runs.{runOf, run-step, by-stream, slot-same, slot-other, Others, StepTaken, was-ack, was-piece, stepped}
 
 -- ---- the packets are bytes
 
@@ -116,7 +116,7 @@ slot-good room limit p (Next h ack last start len) e na (Open id left sequence) 
 slot-good room limit p (Ack h) e na (Open id left sequence) next g st = absurd (false≢true (sym na))
 slot-good room limit p (Nack h) e na (Open id left sequence) next g st = absurd (false≢true (sym na))
 
-step-good : (room limit : ℕ) (st t : State) (p : List ℕ) → Stepped room limit st p t → AllGood st → AllGood t
+step-good : (room limit : ℕ) (st t : State) (p : List ℕ) → StepTaken room limit st p t → AllGood st → AllGood t
 step-good room limit st t p (was-ack a e) g = rw e g
 step-good room limit st t p (was-piece x next r a q e) g =
     let s : Stream = headIn x .stream in

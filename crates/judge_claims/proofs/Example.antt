@@ -25,7 +25,7 @@ use Rattle.sender_claims.specs.Calls.{callsFrom}
 use Rattle.judge.specs.Step.{fitsPiece, firstStep, nextFits, nextStep, stepOf}
 use Rattle.judge.specs.Capture.{verdictFrom, walkedOf, tracedOf, lawful, judgedOf}
 use Rattle.judge.specs.Input.{inputTraced, inputOf}
-use Rattle.judge_claims.specs.Lawful.{Writable, AllWritable, packetsIn, carries, AllKnown, Lawful}
+use Rattle.judge_claims.specs.Lawful.{Writable, AllWritable, packetsIn, carries, AllKnown, LawfulPackets}
 use Rattle.judge_claims.specs.Right.{CaptureIsRight}
 use Rattle.judge_claims.specs.Example.{from, RowsHold, mixed, sent, JudgedByHand}
 use Rattle.judge_claims.proofs.Captures.{writable-all}
@@ -73,7 +73,7 @@ computed : judgedOf 20 35 (captured mixed) ≡ given lawful
 unfolding isStream streamOf limitFits fieldsOf contentOf lines readOf frontOf packetsFrom otherVersion packetsOf sizeFor roomFits fitsPiece firstStep nextFits nextStep stepOf verdictFrom walkedOf tracedOf judgedOf
 computed = refl
 
-by-hand : Lawful 20 35 mixed
+by-hand : LawfulPackets 20 35 mixed
 by-hand = record { sent = sent; writable = writable; packets-are = same-packets; all-known = all-known }
 
 claimed : CaptureIsRight → judgedOf 20 35 (captured mixed) ≡ given lawful

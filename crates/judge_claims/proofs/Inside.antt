@@ -30,7 +30,7 @@ use Rattle.judge.specs.declared.SenderSlot.{SenderSlot}
 use Rattle.judge.specs.declared.SenderSlot.the-variants.{Idle, Open}
 use Rattle.judge.specs.declared.State.{State}
 use Rattle.judge.specs.Step.{slotIn, idle, isIdle, allIdle}
-use Rattle.judge_claims.specs.Lawful.{Transaction, Writable, AllWritable, packetsIn, carries, AllKnown, Lawful, Viable}
+use Rattle.judge_claims.specs.Lawful.{Transaction, Writable, AllWritable, packetsIn, carries, AllKnown, LawfulPackets, Viable}
 use Rattle.judge_claims.specs.Inside.{WholeOnes, CutInside, WholeOrCut, whole, cut, isCut, EndsInside, OpenIsInside}
 use Rattle.sender.proofs.Later.{nextSize, nextLast, later}
 use Rattle.judge_claims.proofs.Rest.{InRange, Rest, done, begins, within, advance, rest-empty, isFirstRead, first-then}
@@ -206,7 +206,7 @@ module _ (room limit : ℕ) (fits : InRange room limit) (ps : List (List ℕ)) (
   mine s = those (carries limit s) ps
 
   -- one that ends inside a transaction can go on, and is not lawful
-  inside-open : EndsInside room limit ps → Viable room limit ps × ¬ (Lawful room limit ps)
+  inside-open : EndsInside room limit ps → Viable room limit ps × ¬ (LawfulPackets room limit ps)
   inside-open e =
       let tails : Tails = λ s. lacks room limit s (mine s) (e .each-stream s) in
       let r = complete room limit low-room tails ps idle (e .all-known) (λ s. rw (idle-slot s) (lacks-rest room limit s (mine s) (e .each-stream s))) in (
@@ -277,7 +277,7 @@ module _ (room limit : ℕ) (fits : InRange room limit) (ps : List (List ℕ)) (
           is-cut = came (o .stream) .cut-when ∙ rw (o .is-open);
         }
 
-    ends-by : (b : Bool) → allIdle t ≡ b → ¬ (Lawful room limit ps) → EndsInside room limit ps
+    ends-by : (b : Bool) → allIdle t ≡ b → ¬ (LawfulPackets room limit ps) → EndsInside room limit ps
     ends-by true e n = absurd (n (runs-lawful room limit fits ps bytes (rw (idle-when t e) at runs)))
     ends-by false e n = open-inside e
 

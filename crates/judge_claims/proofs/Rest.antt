@@ -25,7 +25,7 @@ use Rattle.packet.specs.Header.{fourBits, inRange, headerSize, sequenceAfter}
 use Rattle.packet.specs.Reader.{headIn, readOf}
 use Rattle.packet.proofs.Headers.{in-range-low}
 use Rattle.packet.proofs.Written.{firstPacket, nextPacket, WrittenAs, read-written}
-use Rattle.packet.proofs.Reading.{Within, HeadLow, Passes, IfGiven, read-passes, first-read, next-read}
+use Rattle.packet.proofs.Reading.{PayloadWithin, HeadLow, LinesPass, IfGiven, read-passes, first-read, next-read}
 use Rattle.sender.specs.declared.writer.Sending.{Sending}
 use Rattle.sender.specs.Piece.{leastRoom, extended, sizeFor}
 use Rattle.sender.specs.Writer.{roomFits, argumentsFit}

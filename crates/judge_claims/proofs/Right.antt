@@ -14,7 +14,7 @@ use Rattle.judge.specs.declared.State.{State}
 use Rattle.captures.specs.Capture.{Packets}
 use Rattle.judge.specs.Step.{idle, isIdle, allIdle, stepOf, after}
 use Rattle.judge.specs.Capture.{Answer, lawful, open·ended, unlawful}
-use Rattle.judge_claims.specs.Lawful.{Lawful, Viable}
+use Rattle.judge_claims.specs.Lawful.{LawfulPackets, Viable}
 use Rattle.judge_claims.proofs.Rest.{InRange, never-some}
 use Rattle.judge_claims.proofs.Runs.{runOf, lawful-runs, runs-lawful}
 use Rattle.judge_claims.proofs.Continuing.{run-append, Ends, taken-ends, packets-both}
@@ -158,20 +158,20 @@ module _ (room limit : ℕ) (fits : InRange room limit) where
     comes : Comes
     comes = comes-by (runOf room limit idle ps) refl
 
-    answer-lawful : Lawful room limit ps → answerOf room limit ps ≡ lawful
+    answer-lawful : LawfulPackets room limit ps → answerOf room limit ps ≡ lawful
     answer-lawful l = end-is room limit ps idle 0 idle (lawful-runs room limit fits ps l)
 
-    lawful-by : Comes → answerOf room limit ps ≡ lawful → Lawful room limit ps
+    lawful-by : Comes → answerOf room limit ps ≡ lawful → LawfulPackets room limit ps
     lawful-by (to-end e a) q = runs-lawful room limit fits ps bytes e
     lawful-by (to-open t e i a) q = let z : _≡_ {A = ℕ} 0 1 = cc in absurd (omega arith)
     lawful-by (to-stop k t a e f g) q = let z : _≡_ {A = ℕ} 0 1 = cc in absurd (omega arith)
 
-    open-by : Comes → answerOf room limit ps ≡ open·ended → Viable room limit ps × ¬ (Lawful room limit ps)
+    open-by : Comes → answerOf room limit ps ≡ open·ended → Viable room limit ps × ¬ (LawfulPackets room limit ps)
     open-by (to-end e a) q = let z : _≡_ {A = ℕ} 0 1 = cc in absurd (omega arith)
     open-by (to-open t e i a) q = (goes-viable ps bytes t e, λ l. let u = answer-lawful l in let z : _≡_ {A = ℕ} 0 1 = cc in omega arith)
     open-by (to-stop k t a e f g) q = let z : _≡_ {A = ℕ} 0 1 = cc in absurd (omega arith)
 
-    answer-open : Comes → Viable room limit ps → ¬ (Lawful room limit ps) → answerOf room limit ps ≡ open·ended
+    answer-open : Comes → Viable room limit ps → ¬ (LawfulPackets room limit ps) → answerOf room limit ps ≡ open·ended
     answer-open (to-end e a) v n = absurd (n (runs-lawful room limit fits ps bytes e))
     answer-open (to-open t e i a) v n = a
     answer-open (to-stop k t a e f g) v n = let h = viable-goes ps v in never-some (h .state) (sym g ∙ h .goes)
@@ -197,8 +197,8 @@ module _ (room limit : ℕ) (fits : InRange room limit) where
         ∙ ap unlawful (omega arith)
 
 pub judge-is-right : (room limit : ℕ) (ps : List (List ℕ)) → InRange room limit → Packets ps
-    → (answerOf room limit ps ≡ lawful ↔ Lawful room limit ps)
-    × (answerOf room limit ps ≡ open·ended ↔ (Viable room limit ps × ¬ (Lawful room limit ps)))
+    → (answerOf room limit ps ≡ lawful ↔ LawfulPackets room limit ps)
+    × (answerOf room limit ps ≡ open·ended ↔ (Viable room limit ps × ¬ (LawfulPackets room limit ps)))
     × ((k : ℕ) → answerOf room limit ps ≡ unlawful k ↔ (Viable room limit (take k ps) × ¬ (Viable room limit (take (suc k) ps))))
 judge-is-right room limit ps fits bytes = (
   (lawful-by room limit fits ps bytes (comes room limit fits ps bytes), answer-lawful room limit fits ps bytes),

@@ -22,7 +22,7 @@ use Rattle.packet.specs.declared.reader.Packet.{Packet}
 use Rattle.packet.specs.declared.reader.Packet.the-variants.{First, Next, Ack, Nack}
 use Rattle.packet.specs.Header.{fourBits, streamBits, isOf}
 use Rattle.packet.specs.Reader.{headIn, readOf}
-use Rattle.packet.proofs.Reading.{Passes, read-passes, empty-refused}
+use Rattle.packet.proofs.Reading.{LinesPass, read-passes, empty-refused}
 use Rattle.sender.specs.Piece.{leastRoom}
 use Rattle.sender_claims.specs.Calls.{callsOf}
 use Rattle.sender.proofs.Guard.{room-low}
@@ -30,7 +30,7 @@ use Rattle.judge.specs.declared.SenderSlot.{SenderSlot}
 use Rattle.judge.specs.declared.SenderSlot.the-variants.{Idle, Open}
 use Rattle.judge.specs.declared.State.{State}
 use Rattle.judge.specs.Step.{slotStep, slotIn, withSlot, idle, placed, stepBy, stepOf, after}
-use Rattle.judge_claims.specs.Lawful.{Transaction, Writable, AllWritable, packetsIn, acknowledges, isAck, carries, known, AllKnown, Lawful}
+use Rattle.judge_claims.specs.Lawful.{Transaction, Writable, AllWritable, packetsIn, acknowledges, isAck, carries, known, AllKnown, LawfulPackets}
 use Rattle.judge_claims.proofs.Rest.{InRange, Rest, done, begins, within, Taken, advance, step-back, rest-empty}
 
 -- ---- a run
@@ -192,10 +192,10 @@ piece-carries : (limit : ℕ) (p : List ℕ) (x : Packet) → readOf limit p ≡
 piece-carries limit p x e a = rw (e, a) (piece-of limit p x e)
 
 -- what a step that was taken did
-pub data Stepped (room limit : ℕ) (st : State) (p : List ℕ) (t : State) : Type 0 where
-  was-ack : isAck limit p ≡ true → t ≡ st → Stepped room limit st p t
+pub data StepTaken (room limit : ℕ) (st : State) (p : List ℕ) (t : State) : Type 0 where
+  was-ack : isAck limit p ≡ true → t ≡ st → StepTaken room limit st p t
   was-piece : (x : Packet) (next : SenderSlot) → readOf limit p ≡ given x → acknowledges (given x) ≡ false → slotStep room (slotIn st (headIn x .stream)) x ≡ some next
-      → t ≡ withSlot st (headIn x .stream) next → Stepped room limit st p t
+      → t ≡ withSlot st (headIn x .stream) next → StepTaken room limit st p t
 
 record Placed (st : State) (s : Stream) (o : Option SenderSlot) (t : State) : Type 0 where
   next : SenderSlot
@@ -206,7 +206,7 @@ placed-by : (st t : State) (s : Stream) (o : Option SenderSlot) → placed st s 
 placed-by st t s none e = let z : _≡_ {A = ℕ} 0 1 = cc in absurd (omega arith)
 placed-by st t s (some next) e = record { next = next; is-some = refl; is-state = cc }
 
-stepped-by : (room limit : ℕ) (st t : State) (p : List ℕ) (r : Told Packet) → readOf limit p ≡ r → stepBy room st r ≡ some t → Stepped room limit st p t
+stepped-by : (room limit : ℕ) (st t : State) (p : List ℕ) (r : Told Packet) → readOf limit p ≡ r → stepBy room st r ≡ some t → StepTaken room limit st p t
 stepped-by room limit st t p (refused n) r e = let z : _≡_ {A = ℕ} 0 1 = cc in absurd (omega arith)
 stepped-by room limit st t p (given (First h ack total start len)) r e =
     let q = placed-by st t (h .stream) (slotStep room (slotIn st (h .stream)) (First h ack total start len)) e in
@@ -217,7 +217,7 @@ stepped-by room limit st t p (given (Next h ack last start len)) r e =
 stepped-by room limit st t p (given (Ack h)) r e = was-ack (rw r) (cc)
 stepped-by room limit st t p (given (Nack h)) r e = was-ack (rw r) (cc)
 
-pub stepped : (room limit : ℕ) (st t : State) (p : List ℕ) → stepOf room limit st p ≡ some t → Stepped room limit st p t
+pub stepped : (room limit : ℕ) (st t : State) (p : List ℕ) → stepOf room limit st p ≡ some t → StepTaken room limit st p t
 unfolding stepOf
 stepped room limit st t p e = stepped-by room limit st t p (readOf limit p) refl e
 
@@ -226,7 +226,7 @@ module _ (room limit : ℕ) (fits : InRange room limit) (tails : Tails) where
     pub all-known : AllKnown limit ps
     pub awaits : (s : Stream) → Rest room limit s (slotIn st s) (those (carries limit s) ps ++ tails s)
 
-  sound-step : (st t : State) (p : List ℕ) (ps : List (List ℕ)) → AllBytes p → Stepped room limit st p t → Sound t ps → Sound st (p ∷ ps)
+  sound-step : (st t : State) (p : List ℕ) (ps : List (List ℕ)) → AllBytes p → StepTaken room limit st p t → Sound t ps → Sound st (p ∷ ps)
   sound-step st t p ps bytes (was-ack a e) later =
       record {
         all-known = (rw a, later .all-known);
@@ -291,7 +291,7 @@ idle-done room limit Ota = done refl
 idle-done room limit Alexa = done refl
 
 module _ (room limit : ℕ) (fits : InRange room limit) (ps : List (List ℕ)) where
-  pub lawful-runs : Lawful room limit ps → runOf room limit idle ps ≡ some idle
+  pub lawful-runs : LawfulPackets room limit ps → runOf room limit idle ps ≡ some idle
   lawful-runs l =
       let low = room-low room (fits .room-fits) in
       let r =
@@ -299,7 +299,7 @@ module _ (room limit : ℕ) (fits : InRange room limit) (ps : List (List ℕ)) w
       (λ s. rw (idle-slot s, append-nil, l .packets-are s) (sent-rest room limit s (l .sent s) (l .writable s))) in
       r .runs ∙ ap some (idle-is (r .state) (λ s. rest-empty room limit low s (r .rests s)))
 
-  pub runs-lawful : Packets ps → runOf room limit idle ps ≡ some idle → Lawful room limit ps
+  pub runs-lawful : Packets ps → runOf room limit idle ps ≡ some idle → LawfulPackets room limit ps
   runs-lawful bytes e =
       let h = sound room limit fits nothing idle (idle-done room limit) ps bytes idle e in
       let qs : Tails = λ s. those (carries limit s) ps in

@@ -12,7 +12,7 @@ use Rattle.captures.specs.Capture.{ToldAt, packetsOf}
 use Rattle.captures.specs.Captured.{captured}
 use Rattle.judge.specs.Capture.{Answer, lawful, open·ended, unlawful, judgedOf}
 use Rattle.judge.specs.Input.{inputOf}
-use Rattle.judge_claims.specs.Lawful.{Transaction, Lawful}
+use Rattle.judge_claims.specs.Lawful.{Transaction, LawfulPackets}
 use Rattle.judge_claims.specs.Right.{CaptureIsRight}
 
 -- ---- the worked inputs
@@ -52,14 +52,14 @@ nack = 0x21 ∷ 0x0C ∷ 0x00 ∷ 0x02 ∷ 0x01 ∷ 0x03 ∷ []
 abbrev input : ℕ → ℕ → List (List ℕ) → List ℕ
 input room limit ps = pairBytes room ++ pairBytes limit ++ captured ps
 
-pub record Row : Type 0 where
+pub record InputRow : Type 0 where
   pub bytes : List ℕ
   pub told : ToldAt Answer
 
-abbrev row : List ℕ → ToldAt Answer → Row
+abbrev row : List ℕ → ToldAt Answer → InputRow
 row b t = record { bytes = b; told = t }
 
-abbrev pub rows : List Row
+abbrev pub rows : List InputRow
 rows =
     row (input 20 35 (first ∷ second ∷ third ∷ [])) (given lawful)
     -- the total is above the limit
@@ -103,7 +103,7 @@ rows =
 
 -- each row is what is told of its bytes
 abbrev pub RowsHold : Type 0
-RowsHold = map (λ (r : Row). inputOf (r .bytes)) rows ≡ map (λ (r : Row). r .told) rows
+RowsHold = map (λ (r : InputRow). inputOf (r .bytes)) rows ≡ map (λ (r : InputRow). r .told) rows
 
 -- ---- one that is lawful, with something between
 
@@ -120,7 +120,7 @@ sent Alexa = record { how = record { room = 20; stream = 6; id = 1; sequence = 0
 -- The claim's words hold of it by computation, and the claim says what is computed. A writer that refuses gives no packets: then
 -- nothing that holds one of another kind than an ACK is lawful, and this falls.
 pub record JudgedByHand : Type 0 where
-  pub by-hand : Lawful 20 35 mixed
+  pub by-hand : LawfulPackets 20 35 mixed
   pub is-sent : (s : Stream) → by-hand .sent s ≡ sent s
   pub had : packetsOf (captured mixed) ≡ given mixed
   pub computed : judgedOf 20 35 (captured mixed) ≡ given lawful

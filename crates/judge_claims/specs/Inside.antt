@@ -11,7 +11,7 @@ use Rattle.wire.specs.declared.stream.Stream.{Stream}
 use Rattle.captures.specs.Capture.{Packets}
 use Rattle.sender.specs.Writer.{roomFits}
 use Rattle.sender_claims.specs.Calls.{callsOf}
-use Rattle.judge_claims.specs.Lawful.{Transaction, Writable, AllWritable, packetsIn, carries, AllKnown, Lawful, Viable}
+use Rattle.judge_claims.specs.Lawful.{Transaction, Writable, AllWritable, packetsIn, carries, AllKnown, LawfulPackets, Viable}
 
 -- transactions one after another, and nothing else
 pub record WholeOnes (room limit : ℕ) (s : Stream) (qs : List (List ℕ)) : Type 0 where
@@ -49,4 +49,4 @@ pub record EndsInside (room limit : ℕ) (ps : List (List ℕ)) : Type 0 where
 abbrev pub OpenIsInside : Type 0
 OpenIsInside =
     (room limit : ℕ) (ps : List (List ℕ)) → roomFits room ≡ true → limitFits limit ≡ true → Packets ps
-    → ((Viable room limit ps × ¬ (Lawful room limit ps)) ↔ EndsInside room limit ps)
+    → ((Viable room limit ps × ¬ (LawfulPackets room limit ps)) ↔ EndsInside room limit ps)

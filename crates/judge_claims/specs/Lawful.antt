@@ -86,7 +86,7 @@ AllKnown limit (p ∷ ps) = (known limit p ≡ true) × AllKnown limit ps
 -- ---- lawful, or could be
 
 -- for each stream there are transactions whose packets, one after another, are those of the stream in the capture
-pub record Lawful (room limit : ℕ) (ps : List (List ℕ)) : Type 0 where
+pub record LawfulPackets (room limit : ℕ) (ps : List (List ℕ)) : Type 0 where
   pub sent : Stream → List Transaction
   pub writable : (s : Stream) → AllWritable room limit s (sent s)
   pub packets-are : (s : Stream) → those (carries limit s) ps ≡ packetsIn limit (sent s)
@@ -96,4 +96,4 @@ pub record Lawful (room limit : ℕ) (ps : List (List ℕ)) : Type 0 where
 pub record Viable (room limit : ℕ) (ps : List (List ℕ)) : Type 0 where
   pub more : List (List ℕ)
   pub more-bytes : Packets more
-  pub lawful-then : Lawful room limit (ps ++ more)
+  pub lawful-then : LawfulPackets room limit (ps ++ more)

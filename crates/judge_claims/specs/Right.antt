@@ -11,7 +11,7 @@ use Rattle.wire.specs.Told.{given}
 use Rattle.captures.specs.Capture.{ToldAt, packetsOf, placeOf}
 use Rattle.sender.specs.Writer.{roomFits}
 use Rattle.judge.specs.Capture.{Answer, lawful, open·ended, unlawful, judgedOf}
-use Rattle.judge_claims.specs.Lawful.{Lawful, Viable}
+use Rattle.judge_claims.specs.Lawful.{LawfulPackets, Viable}
 
 -- at this place stands the length of the first packet after which no continuation could be lawful
 pub record FirstUnlawful (room limit : ℕ) (ps : List (List ℕ)) (at : ℕ) : Type 0 where
@@ -23,8 +23,8 @@ pub record FirstUnlawful (room limit : ℕ) (ps : List (List ℕ)) (at : ℕ) : 
 -- lawful where the packets are; open where they are not, and a continuation could be; else the place of that packet's length
 abbrev pub Right : ℕ → ℕ → List (List ℕ) → ToldAt Answer → Type 0
 Right room limit ps told =
-    (told ≡ given lawful ↔ Lawful room limit ps)
-    × (told ≡ given open·ended ↔ (Viable room limit ps × ¬ (Lawful room limit ps)))
+    (told ≡ given lawful ↔ LawfulPackets room limit ps)
+    × (told ≡ given open·ended ↔ (Viable room limit ps × ¬ (LawfulPackets room limit ps)))
     × ((at : ℕ) → told ≡ given (unlawful at) ↔ FirstUnlawful room limit ps at)
 
 -- Of every capture whose packets can be had, at a room and limit in range.

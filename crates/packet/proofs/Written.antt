@@ -116,18 +116,18 @@ module _ (p : List ℕ) (bytes : AllBytes p) (ext : Bool) (ext-is : extenderBit 
 -- ---- through the table
 
 -- the packet is the one that is written from what was read of it, and its payload as long as was read
-pub record Written (p : List ℕ) (len start : ℕ) (whole : List ℕ) : Type 0 where
+pub record WrittenBack (p : List ℕ) (len start : ℕ) (whole : List ℕ) : Type 0 where
   pub same-bytes : p ≡ whole
   pub same-size : length (drop start p) ≡ len
 
 abbrev pub WrittenAs : List ℕ → Packet → Type 0
 WrittenAs p (First h ack total start len) =
     (extended : Bool) → start ≡ headerSize true extended
-    → Written p len start (firstPacket (streamNumber (h .stream)) (h .id) (h .sequence) ack extended total (drop start p))
+    → WrittenBack p len start (firstPacket (streamNumber (h .stream)) (h .id) (h .sequence) ack extended total (drop start p))
 WrittenAs p (Next h ack last start len) =
     (1 ≤ len)
     × ((extended : Bool) → start ≡ headerSize false extended
-    → Written p len start (nextPacket (streamNumber (h .stream)) (h .id) (h .sequence) last ack extended (drop start p)))
+    → WrittenBack p len start (nextPacket (streamNumber (h .stream)) (h .id) (h .sequence) last ack extended (drop start p)))
 WrittenAs p (Ack h) = Unit {0}
 WrittenAs p (Nack h) = Unit {0}
 
