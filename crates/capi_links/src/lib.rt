@@ -1,6 +1,5 @@
 // The two links for C: every capability on numbers and slices only, as its crates give it. include/pitokaenge.h describes
 // each function for its callers.
-use calls_captures::calls::capture_judge;
 use calls_classic::calls::extractor_feed;
 use calls_classic::calls::extractor_open;
 use calls_classic::calls::extractor_step;
@@ -20,7 +19,6 @@ ghost use Rattle.calls_parts.specs.Calls.{frameBeginOf, framePartOf};
 ghost use Rattle.calls_sending.specs.Calls.{packetWriteOf, ackWriteOf};
 ghost use Rattle.calls_sending.specs.Convert.{sendingOf};
 ghost use Rattle.calls_receiving.specs.Calls.{receiverOpenOf, receiverAcceptOf};
-ghost use Rattle.calls_captures.specs.Calls.{captureJudgeOf};
 
 // ---- Classic: the extractor and the frame writer, whole and by parts
 
@@ -177,20 +175,4 @@ pub extern "C" fn pito_receiver_accept(
         ≡ receiverAcceptOf (now (state .entry)) (now (buffer .entry)) (now (packet .entry)) (now (answer .entry)) ⌝ }
 {
     receiver_accept(state, buffer, packet, answer)
-}
-
-// ---- Low Energy: another sender
-
-// Whether a capture is such as our writer would write, at a room and a limit.
-#[no_mangle]
-pub extern "C" fn pito_capture_judge(
-    capture: &[u8],
-    room: u64,
-    limit: u64,
-    answer: &mut [u64],
-) -> u64
-    ensures { λ r. ⌜ called r [] [] (now (answer .exit))
-        ≡ captureJudgeOf (now (capture .entry)) room limit (now (answer .entry)) ⌝ }
-{
-    capture_judge(capture, room, limit, answer)
 }
