@@ -48,6 +48,8 @@ shims! {
         face::ack_write([stream, id, sequence, positive], lent(output, size), told);
     receiver_accept(state: *mut u64, states: usize, buffer: *mut u8, size: usize, packet: *const u8, length: usize) told
         face::receiver_accept(lent(state, states), lent(buffer, size), given(packet, length), told);
+    capture_judge(capture: *const u8, length: usize, room: u64, limit: u64) told
+        face::capture_judge(given(capture, length), room, limit, told);
     envelope_read(message: *const u8, length: usize) told face::envelope_read(given(message, length), told);
     response_read(message: *const u8, length: usize) told face::response_read(given(message, length), told);
     information_read(message: *const u8, length: usize) told face::information_read(given(message, length), told);

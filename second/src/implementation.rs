@@ -16,6 +16,7 @@ pub enum Operation {
     AckWrite,
     ReceiverOpen,
     ReceiverAccept,
+    CaptureJudge,
     EnvelopeRead,
     EnvelopeWrite,
     ResponseRead,
@@ -224,7 +225,7 @@ const MESSAGE_READ: &[u64] = &[0, 1, 30, 31, 32, 33, 34];
 const STRINGS_READ: &[u64] = &[0, 1, 30, 31, 32, 33, 34, 36];
 
 impl Operation {
-    pub const ALL: [Operation; 30] = [
+    pub const ALL: [Operation; 31] = [
         Operation::ExtractorOpen,
         Operation::ExtractorStep,
         Operation::ExtractorFeed,
@@ -236,6 +237,7 @@ impl Operation {
         Operation::AckWrite,
         Operation::ReceiverOpen,
         Operation::ReceiverAccept,
+        Operation::CaptureJudge,
         Operation::EnvelopeRead,
         Operation::EnvelopeWrite,
         Operation::ResponseRead,
@@ -372,6 +374,14 @@ impl Operation {
                 ],
                 lent: "buffer",
                 returns: &[0, 1, 2, 3, 4, 5, 6, 7, 8, 9, 10, 11, 12],
+                ..empty
+            },
+            Operation::CaptureJudge => Shape {
+                name: "capture judge",
+                numbers: &["room", "limit"],
+                inputs: &["capture"],
+                answer: &["outcome", "place"],
+                returns: &[0, 1, 13, 17, 40, 41, 42],
                 ..empty
             },
             Operation::EnvelopeRead => Shape {

@@ -75,6 +75,10 @@ impl Implementation for Library {
                     let (packet, length) = input(0);
                     pito_receiver_accept(row, rows, bytes, size, packet, length, told, tells)
                 }
+                Operation::CaptureJudge => {
+                    let (capture, length) = input(0);
+                    pito_capture_judge(capture, length, numbers[0], numbers[1], told, tells)
+                }
                 Operation::EnvelopeRead => {
                     let (message, length) = input(0);
                     pito_envelope_read(message, length, told, tells)
