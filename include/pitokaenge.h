@@ -15,8 +15,9 @@
  *
  * NUMBERS. Each function returns 0 or the number of a refusal, PITO_REFUSED_.. below.
  * After every call that does not return 1 the whole answer row is written. After a refusal it is 0 throughout, but
- * for what is said below (the number of bytes used by pito_extractor_feed, the place that goes with 41, and
- * with 40 to 43 and 46 where an outbox is moved, the field and the place that go with 36, the field that goes with 50).
+ * for what is said below (the number of bytes used by pito_extractor_feed, the place that goes with 41, of a capture
+ * with 42 too, and with 40 to 43 and 46 where an outbox is moved, the field and the place that go with 36, the field
+ * that goes with 50).
  * A refusal leaves state and lent bytes as they were, except that 20 to 25 leave the extractor outside a frame (20:
  * at the begin of the new one), 10 and 11 leave the slot of the stream idle, and pito_extractor_feed has by then
  * stored what came before the refused byte, in state and buffer as single steps would have.
@@ -108,9 +109,9 @@ enum {
     PITO_REFUSED_TEXT = 36,        /* a string not well-formed UTF-8, told with its field and the place in it */
 
     /* The outbox. */
-    PITO_REFUSED_VERSION = 40,       /* outbox empty, or version neither 01 nor 02 */
-    PITO_REFUSED_RECORD_CUT = 41,    /* record cut short */
-    PITO_REFUSED_RECORD_LENGTH = 42, /* record length 0 or over its version's: 4,097 in 01, 65,536 in 02 */
+    PITO_REFUSED_VERSION = 40,       /* outbox empty, or version neither 01 nor 02; capture empty, or version not 01 */
+    PITO_REFUSED_RECORD_CUT = 41,    /* record, or packet of a capture, cut short */
+    PITO_REFUSED_RECORD_LENGTH = 42, /* record length 0 or over its version's: 4,097 in 01, 65,536 in 02; packet length 0 in a capture */
     PITO_REFUSED_RECORD_STREAM = 43, /* record's stream not 0, 2, 6 */
     PITO_REFUSED_RECORD_LONG = 46,   /* payload over 4,096 on the way to version 01 */
 
@@ -339,6 +340,25 @@ enum {
 PITO_CALL uint64_t pito_receiver_accept(uint64_t *state, size_t state_len, uint8_t *buffer, size_t buffer_len,
                                         const uint8_t *packet, size_t packet_len, uint64_t sequence, uint8_t *out,
                                         size_t out_len, uint64_t *answer, size_t answer_len);
+
+/* Outcomes; a capture that is refused has none, and 0 stands there. */
+#define PITO_LAWFUL 1   /* our writer writes these packets, for some transactions */
+#define PITO_OPEN 2     /* the capture ends inside a transaction */
+#define PITO_UNLAWFUL 3 /* no continuation could be lawful */
+
+/*
+ * Judges another sender by a capture of one direction: the byte 01, then each packet with its length of two bytes,
+ * big-endian, before it. Lawful are the packets that our writer writes at this room for some transactions of up to the
+ * limit, those of each stream one after another, the streams mixed in any way, with ACKs and NACKs anywhere. A capture
+ * may have any length: the 65,536 bytes are the program's.
+ * Answer:
+ *   place  unlawful: where the length of the first packet stands after which no continuation could be lawful; 41 and 42:
+ *          where the length of the packet stands; else 0. The byte 01 has place 0.
+ * Returns 0, 1, 13, 17, or, before any packet is judged, 40, 42 (a length of 0), 41.
+ */
+enum { PITO_CAPTURE_JUDGE_OUTCOME, PITO_CAPTURE_JUDGE_PLACE, PITO_CAPTURE_JUDGE_ANSWER };
+PITO_CALL uint64_t pito_capture_judge(const uint8_t *capture, size_t capture_len, uint64_t room, uint64_t limit,
+                                      uint64_t *answer, size_t answer_len);
 
 /* ------------------------------------------------------------------------------------------------------------
  * Control messages

@@ -90,6 +90,14 @@ extern "C" {
         answer: *mut u64,
         answer_len: usize,
     ) -> u64;
+    pub fn pito_capture_judge(
+        capture: *const u8,
+        capture_len: usize,
+        room: u64,
+        limit: u64,
+        answer: *mut u64,
+        answer_len: usize,
+    ) -> u64;
     pub fn pito_envelope_read(
         message: *const u8,
         message_len: usize,

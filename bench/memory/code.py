@@ -9,6 +9,7 @@ import sys
 GROUPS = {
     "Classic": ("extractor", "frame", "next"),
     "Low Energy": ("receiver", "packet", "ack"),
+    "captures": ("capture",),
     "control messages": ("envelope", "response", "information", "features"),
     "firmware messages and fields": ("segment", "apply", "field"),
     "outbox": ("outbox",),

@@ -175,11 +175,36 @@ static void open_receiver(uint64_t *state)
     while (state[PITO_RECEIVER_LIMIT] != LIMIT);
 }
 
+/* A capture of what was accepted since the last judgement. */
+static uint8_t capture[1 << 16];
+static size_t captured;
+
+static void add_to_capture(const uint8_t *packet, size_t count)
+{
+    if (captured == 0)
+        capture[captured++] = 1;
+    if (captured + 2 + count > sizeof capture)
+        return;
+    capture[captured++] = (uint8_t)(count >> 8);
+    capture[captured++] = (uint8_t)count;
+    memcpy(capture + captured, packet, count);
+    captured += count;
+}
+
 static void accept(const uint8_t *packet, size_t count)
 {
     static uint8_t buffer[PITO_RECEIVER_BUFFER(LIMIT)], ack[PITO_ACK_SIZE];
     CALL(pito_receiver_accept, A(receiver), PITO_RECEIVER_STATE, A(buffer), length(sizeof buffer), A(packet), count,
          below(once_in(60) ? 20 : 16), A(ack), length(sizeof ack), A(answer), PITO_ACCEPT_ANSWER);
+    add_to_capture(packet, count);
+}
+
+static void judge(uint64_t room, uint64_t limit)
+{
+    captured = once_in(20) ? damage(capture, captured) : captured;
+    CALL(pito_capture_judge, A(capture), captured, once_in(20) ? below(600) : room, once_in(20) ? any_number() : limit,
+         A(answer), length(PITO_CAPTURE_JUDGE_ANSWER));
+    captured = 0;
 }
 
 /* All packets of a message, some of them damaged or followed by any bytes. */
@@ -206,6 +231,7 @@ static void send_message(void)
         }
         place = once_in(100) ? place + 1 : next;
     } while (place < count);
+    judge(room, limit);
 }
 
 static void low_energy(void)

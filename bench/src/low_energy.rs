@@ -1,6 +1,6 @@
 //! Loops over Low Energy packets.
 
-use crate::calls::{AckWrite, PacketWrite, ReceiverAccept};
+use crate::calls::{AckWrite, CaptureJudge, PacketWrite, ReceiverAccept};
 use crate::digest::Digest;
 use second::classic::LIMIT;
 use second::low_energy::{
@@ -150,6 +150,26 @@ pub fn accept<const WHOLE: bool>(
     }
     digest.row(&state);
     digest.lent(buffer);
+    digest.value()
+}
+
+/// A capture judged, in one call.
+pub fn judge<const WHOLE: bool>(judge: CaptureJudge, capture: &[u8], room: usize) -> u64 {
+    let judge = black_box(judge);
+    let mut digest = Digest::<WHOLE>::new();
+    let mut answer = [0; 2];
+    let number = unsafe {
+        judge(
+            capture.as_ptr(),
+            capture.len(),
+            room as u64,
+            LIMIT,
+            answer.as_mut_ptr(),
+            answer.len(),
+        )
+    };
+    digest.number(number);
+    digest.row(&answer);
     digest.value()
 }
 

@@ -4,6 +4,7 @@ use crate::calls::*;
 use crate::job::{share, with_copy, Job, Row, Subject};
 use crate::low_energy::BUFFER;
 use crate::{inputs, low_energy, rust, work};
+use second::driver::judged::capture;
 
 /// Messages by their size in bytes.
 const SIZES: [(usize, &str); 2] = [(4_096, "4,096"), (100, "100")];
@@ -40,6 +41,18 @@ pub fn rows() -> Vec<Row> {
         accept_job(inputs::acks(ACKS))
     }));
     rows.extend(refused_rows());
+    for (size, name) in SIZES {
+        for room in ROOMS {
+            rows.push(Row::new(
+                "captures judged",
+                format!("{name} bytes, room {room}"),
+                move || judge_job(inputs::packets(&inputs::messages(65_536, size), room), room),
+            ));
+        }
+    }
+    rows.push(Row::new("captures judged", "ACK and NACK", || {
+        judge_job(inputs::acks(ACKS), 20)
+    }));
     rows
 }
 
@@ -86,6 +99,21 @@ fn write_acks_job() -> Job {
             work!(low_energy::write_acks(rust::ack_write, ACKS)),
         )
         .with(Subject::Own, work!(low_energy::write_acks_own(ACKS)))
+}
+
+/// A capture of packets judged at a room.
+pub fn judge_job(packets: Vec<Vec<u8>>, room: usize) -> Job {
+    let count = packets.len();
+    let [a, b] = share(capture(&packets));
+    Job::of("packet", count)
+        .with(
+            Subject::Archive,
+            work!(low_energy::judge(pito_capture_judge, &a, room)),
+        )
+        .with(
+            Subject::Rust,
+            work!(low_energy::judge(rust::capture_judge, &b, room)),
+        )
 }
 
 /// The receiver over packets, with every subject.

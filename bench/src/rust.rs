@@ -51,6 +51,8 @@ shims! {
         sequence: u64, out: *mut u8, room: usize) told
         face::receiver_accept(lent(state, states), lent(buffer, size), given(packet, length),
             Reply { sequence, buffer: lent(out, room) }, told);
+    capture_judge(capture: *const u8, length: usize, room: u64, limit: u64) told
+        face::capture_judge(given(capture, length), room, limit, told);
     envelope_read(message: *const u8, length: usize) told face::envelope_read(given(message, length), told);
     response_read(message: *const u8, length: usize) told face::response_read(given(message, length), told);
     information_read(message: *const u8, length: usize) told face::information_read(given(message, length), told);

@@ -16,6 +16,7 @@
 use crate::classic::{self, Decided, Extractor, Next, Outcome, Parts, Standing};
 use crate::control::{self, Envelope, Features, Given, Information, Member, Payload, Response};
 use crate::implementation::{Implementation, Operation};
+use crate::judge;
 use crate::low_energy::{self, Accepted, Open, Receiver, Reply, Slots, Stream, Wish};
 use crate::outbox::{self, Broken, Record, Version, ONE, TWO};
 use crate::refusal::{self, Refusal};
@@ -69,6 +70,7 @@ impl Implementation for Model {
                 };
                 receiver_accept(state, lent, &inputs[0], reply, answer)
             }
+            Operation::CaptureJudge => capture_judge(&inputs[0], numbers[0], numbers[1], answer),
             Operation::EnvelopeRead => envelope_read(&inputs[0], answer),
             Operation::EnvelopeWrite => {
                 let [command, payload, error_code, field] = numbers else {
@@ -716,6 +718,19 @@ pub fn outbox_whole(bytes: &[u8], answer: &mut [u64]) -> u64 {
     ask(answer, || {
         outbox::whole(bytes).map_err(broken_out::<1>)?;
         Ok([0])
+    })
+}
+
+/// Answer `outcome, place` with outcome 1 lawful, 2 open, 3 unlawful; the place goes with 3, 41 and 42.
+pub fn capture_judge(capture: &[u8], room: u64, limit: u64, answer: &mut [u64]) -> u64 {
+    ask(answer, || {
+        let judged = judge::judge(capture, room, limit)
+            .map_err(|(refusal, place)| Refused(refusal, vec![(1, wide(place))]))?;
+        Ok(match judged {
+            judge::Answer::Lawful => [1, 0],
+            judge::Answer::Open => [2, 0],
+            judge::Answer::Unlawful(place) => [3, wide(place)],
+        })
     })
 }
 

@@ -16,6 +16,7 @@ pub enum Operation {
     AckWrite,
     ReceiverOpen,
     ReceiverAccept,
+    CaptureJudge,
     EnvelopeRead,
     EnvelopeWrite,
     ResponseRead,
@@ -226,7 +227,7 @@ const MESSAGE_READ: &[u64] = &[0, 1, 30, 31, 32, 33, 34];
 const STRINGS_READ: &[u64] = &[0, 1, 30, 31, 32, 33, 34, 36];
 
 impl Operation {
-    pub const ALL: [Operation; 30] = [
+    pub const ALL: [Operation; 31] = [
         Operation::ExtractorOpen,
         Operation::ExtractorStep,
         Operation::ExtractorFeed,
@@ -238,6 +239,7 @@ impl Operation {
         Operation::AckWrite,
         Operation::ReceiverOpen,
         Operation::ReceiverAccept,
+        Operation::CaptureJudge,
         Operation::EnvelopeRead,
         Operation::EnvelopeWrite,
         Operation::ResponseRead,
@@ -377,6 +379,14 @@ impl Operation {
                 lent: "buffer",
                 reply: "answer buffer",
                 returns: &[0, 1, 2, 3, 4, 5, 6, 7, 8, 9, 10, 11, 12, 14, 15],
+                ..empty
+            },
+            Operation::CaptureJudge => Shape {
+                name: "capture judge",
+                numbers: &["room", "limit"],
+                inputs: &["capture"],
+                answer: &["outcome", "place"],
+                returns: &[0, 1, 13, 17, 40, 41, 42],
                 ..empty
             },
             Operation::EnvelopeRead => Shape {

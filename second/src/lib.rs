@@ -9,6 +9,7 @@ pub mod face;
 pub mod field;
 pub mod firmware;
 pub mod implementation;
+pub mod judge;
 #[cfg(feature = "library")]
 pub mod library;
 pub mod low_energy;

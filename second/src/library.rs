@@ -78,6 +78,10 @@ impl Implementation for Library {
                         row, rows, bytes, size, packet, length, numbers[0], out, room, told, tells,
                     )
                 }
+                Operation::CaptureJudge => {
+                    let (capture, length) = input(0);
+                    pito_capture_judge(capture, length, numbers[0], numbers[1], told, tells)
+                }
                 Operation::EnvelopeRead => {
                     let (message, length) = input(0);
                     pito_envelope_read(message, length, told, tells)

@@ -3,9 +3,10 @@
 
 use second::classic;
 use second::comparison::{Compared, Comparison};
-use second::driver::{captures, listing, run_part, Plan, PARTS};
+use second::driver::{captures, judged, listing, run_part, Plan, PARTS};
 use second::face::Model;
 use second::implementation::Implementation;
+use second::judge;
 use std::io::{Read, Write};
 use std::path::PathBuf;
 use std::process::ExitCode;
@@ -15,14 +16,17 @@ use std::time::Instant;
 const SCALE: f64 = 5.0;
 
 const USAGE: &str = "\
-usage: second [--seed N] [--scale K] [--captures FOLDER] [--frames PROGRAM] [--only WORD] [--tally]
+usage: second [--seed N] [--scale K] [--captures FOLDER] [--frames PROGRAM] [--lawful PROGRAM]
+              [--only WORD] [--tally]
        second frames < BYTES
+       second lawful < ROOM, LIMIT, CAPTURE
 
   --seed N           the generators' seed (default 1)
   --scale K          how many cases they make; 1 is a million streams, a million packets and a
                      million control messages; K may be a fraction (default 5)
   --captures FOLDER  where the captures stand (default: the folder beside the program's sources)
   --frames PROGRAM   also holds what this program lists of streams to `second frames`
+  --lawful PROGRAM   also holds what this program says of captures to `second lawful`
   --only WORD        only the parts whose name has this word
   --tally            how often each call returned each number
 ";
@@ -32,6 +36,7 @@ struct Wanted {
     plan: Plan,
     captures: PathBuf,
     frames: Option<PathBuf>,
+    lawful: Option<PathBuf>,
     only: String,
     tally: bool,
 }
@@ -44,6 +49,7 @@ fn wanted(mut words: impl Iterator<Item = String>) -> Result<Wanted, String> {
         },
         captures: [env!("CARGO_MANIFEST_DIR"), "captures"].iter().collect(),
         frames: None,
+        lawful: None,
         only: String::new(),
         tally: false,
     };
@@ -62,6 +68,7 @@ fn wanted(mut words: impl Iterator<Item = String>) -> Result<Wanted, String> {
             }
             "--captures" => wanted.captures = next()?.into(),
             "--frames" => wanted.frames = Some(next()?.into()),
+            "--lawful" => wanted.lawful = Some(next()?.into()),
             "--only" => wanted.only = next()?,
             "--tally" => wanted.tally = true,
             other => return Err(format!("unknown word {other}")),
@@ -72,8 +79,10 @@ fn wanted(mut words: impl Iterator<Item = String>) -> Result<Wanted, String> {
 
 fn main() -> ExitCode {
     let mut words = std::env::args().skip(1).peekable();
-    if words.peek().is_some_and(|word| word == "frames") {
-        return frames();
+    match words.peek().map(String::as_str) {
+        Some("frames") => return filter(classic::listing),
+        Some("lawful") => return filter(judge::line),
+        _ => {}
     }
     let wanted = match wanted(words) {
         Ok(wanted) => wanted,
@@ -89,14 +98,9 @@ fn main() -> ExitCode {
             return ExitCode::from(2);
         }
     };
-    if let Some(program) = &wanted.frames {
-        match listing::run(program, &captures, wanted.plan) {
-            Ok(count) => println!("frames: {count} streams listed, no difference"),
-            Err(problem) => {
-                eprintln!("{problem}\nFAILED, with --seed {}", wanted.plan.seed);
-                return ExitCode::FAILURE;
-            }
-        }
+    if let Err(problem) = programs(&wanted, &captures) {
+        eprintln!("{problem}\nFAILED, with --seed {}", wanted.plan.seed);
+        return ExitCode::FAILURE;
     }
     let implementations: Vec<&dyn Implementation> = vec![
         &Model,
@@ -113,6 +117,19 @@ fn main() -> ExitCode {
             ExitCode::FAILURE
         }
     }
+}
+
+/// Holds the programs that were named to what the model prints.
+fn programs(wanted: &Wanted, captures: &[captures::Capture]) -> Result<(), String> {
+    if let Some(program) = &wanted.frames {
+        let count = listing::run(program, captures, wanted.plan)?;
+        println!("frames: {count} streams listed, no difference");
+    }
+    if let Some(program) = &wanted.lawful {
+        let count = judged::run_program(program, captures, wanted.plan)?;
+        println!("lawful: {count} inputs judged, no difference");
+    }
+    Ok(())
 }
 
 fn run(
@@ -179,12 +196,12 @@ fn finish(comparison: &Comparison<'_>, wanted: &Wanted) -> ExitCode {
     ExitCode::SUCCESS
 }
 
-/// The listing of standard input.
-fn frames() -> ExitCode {
-    let mut stream = Vec::new();
+/// What is said of standard input.
+fn filter(say: impl Fn(&[u8]) -> String) -> ExitCode {
+    let mut input = Vec::new();
     let done = std::io::stdin()
-        .read_to_end(&mut stream)
-        .and_then(|_| std::io::stdout().write_all(classic::listing(&stream).as_bytes()));
+        .read_to_end(&mut input)
+        .and_then(|_| std::io::stdout().write_all(say(&input).as_bytes()));
     match done {
         Ok(()) => ExitCode::SUCCESS,
         Err(error) => {

@@ -74,6 +74,7 @@ use Rattle.calls_receiving.specs.Calls.{replied, accepted, receiverOpenOf, rece
 use Rattle.calls_receiving.specs.Calls as receiving
 use Rattle.calls_messages.specs.Calls.{envelopeReadOf, envelopeWriteOf, responseReadOf, responseWriteOf, informationReadOf, informationWriteOf, featuresReadOf, featuresWriteOf}
 use Rattle.calls_firmware.specs.Calls.{segmentReadOf, segmentStored, segmentWriteOf, applyReadOf, applyStored, applyWriteOf, fieldReadOf}
+use Rattle.calls_captures.specs.Calls.{captureJudgeOf}
 use Rattle.calls_outbox.specs.Calls.{outboxNewOf, outboxAppendOf, outboxRecordOf, outboxWholeOf}
 use Rattle.capi_claims.specs.OneLeavesAll.{Keeps, KeepsBoth, OneLeavesAll}
 use Rattle.capi_claims.proofs.Rows.{keeps-if, keeps-rows, keeps-answers, writes-keeps, keeps-writer, keeps-text}
@@ -356,7 +357,7 @@ move-keeps wished file out answer =
     (by-table (StoredKeeps out) (line 14 (ltb (length out) (length bytes)) ∷ []) (λ n. stored (outbox.refused n) out) (storedAt out 0 bytes) (λ n e. refl) (λ h. never))))
 
 pub one-leaves-all : OneLeavesAll
-unfolding nextSequenceOf envelopeReadOf responseReadOf informationReadOf featuresReadOf segmentReadOf applyReadOf fieldReadOf outboxRecordOf outboxWholeOf
+unfolding nextSequenceOf captureJudgeOf envelopeReadOf responseReadOf informationReadOf featuresReadOf segmentReadOf applyReadOf fieldReadOf outboxRecordOf outboxWholeOf
 one-leaves-all = record {
   extractor-open = open-keeps;
   extractor-step = step-keeps;
@@ -369,6 +370,7 @@ one-leaves-all = record {
   ack-write = ack-keeps;
   receiver-open = receiver-open-keeps;
   receiver-accept = accept-keeps;
+  capture-judge = λ room limit capture answer. keeps-answers 2 _ [] answer _ _ (λ e. refl);
   envelope-read = λ message answer. keeps-answers 6 _ [] answer _ _ (λ e. refl);
   envelope-write = envelope-keeps;
   response-read = λ message answer. keeps-answers 4 _ [] answer _ _ (λ e. refl);

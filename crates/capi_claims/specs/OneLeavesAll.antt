@@ -10,6 +10,7 @@ use Rattle.calls_classic.specs.Calls.{noneUsed, extractorOpenOf, extractorStepO
 use Rattle.calls_parts.specs.Calls.{frameBeginOf, framePartOf}
 use Rattle.calls_sending.specs.Calls.{packetWriteOf, ackWriteOf}
 use Rattle.calls_receiving.specs.Calls.{Replied, replied, receiverOpenOf, receiverAcceptOf}
+use Rattle.calls_captures.specs.Calls.{captureJudgeOf}
 use Rattle.calls_messages.specs.Calls.{envelopeReadOf, envelopeWriteOf, responseReadOf, responseWriteOf, informationReadOf, informationWriteOf, featuresReadOf, featuresWriteOf}
 use Rattle.calls_firmware.specs.Calls.{segmentReadOf, segmentWriteOf, applyReadOf, applyWriteOf, fieldReadOf}
 use Rattle.calls_outbox.specs.Calls.{outboxNewOf, outboxAppendOf, outboxRecordOf, outboxWholeOf}
@@ -37,6 +38,7 @@ pub record OneLeavesAll : Type 0 where
   pub ack-write : (stream id sequence positive : ℕ) (out answer : List ℕ) → Keeps [] out answer (ackWriteOf stream id sequence positive out answer)
   pub receiver-open : (limit : ℕ) (state : List ℕ) → Keeps state [] [] (receiverOpenOf limit state)
   pub receiver-accept : (sequence : ℕ) (packet state lent out answer : List ℕ) → KeepsBoth state lent out answer (receiverAcceptOf state lent packet sequence out answer)
+  pub capture-judge : (room limit : ℕ) (capture answer : List ℕ) → Keeps [] [] answer (captureJudgeOf capture room limit answer)
   pub envelope-read : (message answer : List ℕ) → Keeps [] [] answer (envelopeReadOf message answer)
   pub envelope-write : (command : ℕ) (payload : EnvelopePayload) (bytes out answer : List ℕ)
       → Keeps [] out answer (envelopeWriteOf command payload bytes out answer)

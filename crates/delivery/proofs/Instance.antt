@@ -6,6 +6,7 @@ use mathlib.Core.Option.{none, some}
 use mathlib.Core.List.{[], _∷_}
 use mathlib.Core.Bool.{true}
 use lib.ListN.{getD, drop}
+use Rattle.wire.specs.Those.{those}
 use Rattle.wire.specs.declared.stream.Stream.the-variants.{Alexa}
 use Rattle.wire.specs.Limit.{limitFits}
 use Rattle.wire.specs.Stream.{isStream, streamOf}
@@ -16,9 +17,9 @@ use Rattle.slot.specs.Step.{finish, hold, dropBy, firstStep, nextStep}
 use Rattle.receiver.specs.Receiver.{ready, readIn, acceptOf}
 use Rattle.sender.specs.Piece.{sizeFor}
 use Rattle.sender.specs.Writer.{headerBytes, packetOf, roomFits, argumentsFit, writtenOf}
-use Rattle.delivery.specs.Calls.{callsFrom, callsOf, Takes}
-use Rattle.delivery.proofs.CallsGiveAll.{takes-all}
-use Rattle.delivery.specs.Delivery.{runOf, repliesTo, those, ours, packetsIn, shown, shownTo, allAnswerable}
+use Rattle.sender_claims.specs.Calls.{callsFrom, callsOf, Takes}
+use Rattle.sender_claims.proofs.CallsGiveAll.{takes-all}
+use Rattle.delivery.specs.Delivery.{runOf, repliesTo, ours, packetsIn, shown, shownTo, allAnswerable}
 use Rattle.delivery.specs.Instance.{limit, how, message, output, slots, buffer, eight, before, first, later, after, Arrives}
 
 law : lawful limit slots ≡ true

@@ -1,5 +1,4 @@
 pub mod AcknowledgementsReturn
-pub mod CallsGiveAll
 pub mod Reading
 pub mod Growing
 pub mod Steps

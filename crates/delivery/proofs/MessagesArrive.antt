@@ -8,6 +8,7 @@ use mathlib.Core.Bool.{Bool, true, false, cond, _&&_}
 use lib.ListN.{length, getD, take, drop}
 use lib.Dec.{eqb}
 use borrow.Author.Tests.{eqb-true, eqb-false, eq-eqb}
+use Rattle.wire.specs.Those.{those}
 use Rattle.packet.specs.Header.{fourBits}
 use Rattle.packet.proofs.Headers.{stream-back}
 use Rattle.slot.specs.declared.Slot.{Slot}
@@ -19,9 +20,9 @@ use Rattle.sender.specs.Piece.{leastRoom, isFirst, sizeFor, piecesFrom, piecesO
 use Rattle.sender.specs.Writer.{headerBytes, packetOf, packetsOf}
 use Rattle.sender.proofs.Largest.{size-le, size-some}
 use Rattle.sender.proofs.Guard.{SendingInRange, room-low, range-facts}
-use Rattle.delivery.proofs.CallsGiveAll.{calls-are}
-use Rattle.delivery.specs.Delivery.{PacketReply, runOf, those, ours, packetsIn, CallShown, shown, shownIn, shownTo, answerable, allAnswerable, atLast, MessagesArrive, RoundTrip, MessageAsked}
 use Rattle.wire.proofs.Tests.{and-left, and-right}
+use Rattle.sender_claims.proofs.CallsGiveAll.{calls-are}
+use Rattle.delivery.specs.Delivery.{PacketReply, runOf, ours, packetsIn, CallShown, shown, shownIn, shownTo, answerable, allAnswerable, atLast, MessagesArrive, RoundTrip, MessageAsked}
 use Rattle.delivery.proofs.Steps.{gives, Holding, Awaits, start, within, holding-kept, pieceFor, last-step, more-step}
 
 -- ---- one packet of a run

@@ -7,6 +7,7 @@ use mathlib.Core.Bool.{Bool, true, cond, _&&_}
 use lib.ListN.{length, getD, take, drop}
 use lib.Dec.{leb, ltb}
 use lib.Seq.{sets}
+use Rattle.wire.specs.Those.{those}
 use Rattle.wire.specs.Told.{Told, given, refused}
 use Rattle.wire.specs.declared.stream.Stream.{Stream}
 use Rattle.wire.specs.Stream.{streamOf}
@@ -19,7 +20,7 @@ use Rattle.slot.specs.Slot.{slotCount, laneStart, lawful}
 use Rattle.receiver.specs.Buffer.{partOf}
 use Rattle.receiver.specs.Receiver.{PacketCall, acceptOf}
 use Rattle.sender.specs.declared.writer.Sending.{Sending}
-use Rattle.delivery.specs.Calls.{callsOf, Takes}
+use Rattle.sender_claims.specs.Calls.{callsOf, Takes}
 
 -- ---- a run of the receiver
 
@@ -60,11 +61,6 @@ givenBy limit (given (Taken stream id replaced)) bytes = none
 givenBy limit (given (Acked head)) bytes = none
 givenBy limit (given (Nacked head)) bytes = none
 givenBy limit (refused n) bytes = none
-
--- those of a list that pass a test, in order
-abbrev pub those : {A : Type 0} → (A → Bool) → List A → List A
-those test [] = []
-those test (x ∷ xs) = cond (test x) (x ∷ those test xs) (those test xs)
 
 -- a packet of the message's stream; all others may come between
 abbrev pub ours : Sending → PacketCall → Bool

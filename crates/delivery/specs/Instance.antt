@@ -5,13 +5,14 @@ use mathlib.Core.Option.{none, some}
 use mathlib.Core.List.{List, [], _∷_}
 use mathlib.Core.Bool.{true}
 use lib.ListN.{length, getD, drop, replicate}
+use Rattle.wire.specs.Those.{those}
 use Rattle.wire.specs.declared.stream.Stream.the-variants.{Alexa}
 use Rattle.slot.specs.declared.Slot.{Slot}
 use Rattle.slot.specs.Slot.{idle, slotCount, lawful}
 use Rattle.sender.specs.declared.writer.Sending.{Sending}
-use Rattle.delivery.specs.Calls.{callsOf, Takes}
 use Rattle.receiver.specs.Receiver.{PacketCall, call}
-use Rattle.delivery.specs.Delivery.{repliesTo, those, ours, packetsIn, shown, shownTo, allAnswerable, atLast, MessagesArrive}
+use Rattle.sender_claims.specs.Calls.{callsOf, Takes}
+use Rattle.delivery.specs.Delivery.{repliesTo, ours, packetsIn, shown, shownTo, allAnswerable, atLast, MessagesArrive}
 
 -- small, so that the buffer is
 abbrev pub limit : ℕ

@@ -1,4 +1,3 @@
 pub mod AcknowledgementsReturn
-pub mod Calls
 pub mod Delivery
 pub mod Instance

@@ -1,17 +1,11 @@
 // The claims of Low Energy, from the writer to the receiver. Their words are in specs/; these functions do nothing.
 ghost use Rattle.delivery.specs.AcknowledgementsReturn.{TakesEveryAck, AcknowledgementsReturn};
-ghost use Rattle.delivery.specs.Calls.{TakesAll, CallsGiveAll};
 ghost use Rattle.delivery.specs.Delivery.{MessagesArrive, RoundTrip, MessageAsked};
 ghost use Rattle.delivery.specs.Instance.{Arrives};
 
 // Each ACK and NACK of the ranges of docs/FORMATS.md is read as it was written.
 pub fn acknowledgements_return()
     ensures { λ _. ⌜ TakesEveryAck × AcknowledgementsReturn ⌝ }
-{}
-
-// Calls of the writer, place after place, give all packets of a message of the ranges of docs/FORMATS.md.
-pub fn calls_give_all()
-    ensures { λ _. ⌜ TakesAll × CallsGiveAll ⌝ }
 {}
 
 // A message whose packets all come, in order, is given at the last of them, whatever comes before, after, and of other streams between.

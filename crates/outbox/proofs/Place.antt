@@ -1,5 +1,5 @@
 -- Laws of reading at a place.
-use Prim.Native.Nat.{ℕ, zero, suc, _-_, _≤_, _<_}
+use Prim.Native.Nat.{ℕ, zero, suc, _≤_, _<_}
 use mathlib.Core.Path.{_≡_, refl}
 use mathlib.Core.Bool.{Bool, true, false, not, cond}
 use mathlib.Core.List.{List, [], _∷_, _++_}
@@ -7,7 +7,6 @@ use mathlib.Mathlib.Data.Bool.Basic.{or-eq-false-eq-eq-false-and-eq-false}
 use native.Mathlib.Omega.{arith}
 use lib.Dec.{eqb, ltb}
 use lib.ListN.{length, getD, take, drop, length-drop}
-use lib.Seq.{take-all}
 use borrow.Author.Tests.{ltb-false, eqb-true, eqb-false, ne-eqb, eq-eqb, le-ltb}
 use Rattle.wire.specs.Told.{line, table}
 use Rattle.outbox.specs.Format.{Format}
@@ -47,10 +46,6 @@ version-kept fmt (b ∷ file) (suc k) h e = first-byte fmt b file (take k file) 
 pub version-more : (fmt : Format) (file more : List ℕ) → otherVersion fmt file ≡ false → otherVersion fmt (file ++ more) ≡ false
 version-more fmt [] more e = absurd (omega (arith, opened fmt [] e))
 version-more fmt (b ∷ file) more e = first-byte fmt b file (file ++ more) e
-
--- the part of the bytes from a place on, as it is lent
-pub rest-lent : (file : List ℕ) (place : ℕ) → take (length file - place) (drop place file) ≡ drop place file
-rest-lent file place = take-all (length file - place) (drop place file) (simp length-drop (omega arith))
 
 -- before the end, reading is judging what stands there
 pub read-inside : (fmt : Format) (file : List ℕ) (place : ℕ)

@@ -36,7 +36,7 @@ id-back stream id l = omega arith
 
 -- ---- byte 1, read back
 
-bit-low : (b : Bool) → bit b < 2
+pub bit-low : (b : Bool) → bit b < 2
 bit-low true = omega arith
 bit-low false = omega arith
 

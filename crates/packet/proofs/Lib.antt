@@ -1,3 +1,4 @@
 pub mod Headers
 pub mod Controls
 pub mod Reading
+pub mod Written

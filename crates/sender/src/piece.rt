@@ -3,7 +3,7 @@ use packet::header;
 use wire::bytes::smaller;
 ghost use mathlib.Core.Path.{_≡_};
 ghost use Prim.Native.Nat.{_≤_, _<_};
-ghost use Rattle.sender.specs.Piece.{leastRoom, fullSize, piecesOf, pieceAt, foundOf};
+ghost use Rattle.sender.specs.Piece.{leastRoom, sizeFor, fullSize, piecesOf, pieceAt, foundOf};
 
 // The rooms: the largest whole packet, in bytes.
 pub const LEAST_ROOM: usize = 20;
@@ -25,17 +25,27 @@ pub(crate) enum Found {
     At(Piece),
 }
 
+// The size of a piece, of so many bytes that are left: as many as fit the room together with the header.
+pub fn size_for(room: usize, first: bool, rest: usize) -> usize
+    ensures { λ r. ⌜ r ≡ sizeFor room first rest ⌝ }
+{
+    let least = header::least_header(first);
+    if room < least {
+        return 0;
+    }
+    let plain = room - least;
+    if plain <= ONE_BYTE_LENGTH {
+        return smaller(rest, plain);
+    }
+    smaller(rest, plain - 1)
+}
+
 // The size of a piece that fills the room together with its header.
 fn full_size(room: usize, first: bool) -> usize
     requires { ⌜ leastRoom ≤ room ⌝ }
     ensures { λ r. ⌜ (r ≡ fullSize room first) × (0 < r) ⌝ }
 {
-    let plain = room - header::least_header(first);
-    if plain <= ONE_BYTE_LENGTH {
-        plain
-    } else {
-        plain - 1
-    }
+    size_for(room, first, room)
 }
 
 // The piece of a message of that length which begins at the place, if one does: the pieces before it are full.

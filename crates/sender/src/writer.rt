@@ -61,7 +61,7 @@ enum Decision {
     Write(Piece),
 }
 
-fn room_fits(room: usize) -> bool
+pub fn room_fits(room: usize) -> bool
     ensures { λ r. ⌜ r ≡ roomFits room ⌝ }
 {
     both(LEAST_ROOM <= room, room <= LARGEST_ROOM)

@@ -5,3 +5,4 @@ pub mod Tests
 pub mod Tables
 pub mod Streams
 pub mod Limits
+pub mod ByteLists

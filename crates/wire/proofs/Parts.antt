@@ -1,16 +1,20 @@
 -- Laws of a part of a list: how long it is, and that it is lent on and comes back.
-use Prim.Native.Nat.{ℕ, _+_, _≤_}
+use Prim.Native.Nat.{ℕ, _+_, _-_, _≤_}
 use native.Mathlib.Omega.{arith}
 use native.Mathlib.Nat.{add-assoc}
 use mathlib.Core.Path.{_≡_, sym, ap, _∙_}
 use mathlib.Core.List.{List, _++_, append-assoc}
 use lib.ListN.{length, take, drop, length-take, length-drop, take-append-drop}
-use lib.Seq.{sets, sets-eq, take-take, drop-drop, take-add, length-take-le, drop-append-le}
+use lib.Seq.{sets, sets-eq, take-all, take-take, drop-drop, take-add, length-take-le, drop-append-le}
 use borrow.Rule.Slice.PartMut.{midOf, putMid}
 
 -- k elements from place a on are k, where there are so many
 pub length-part : (l : List ℕ) (a k : ℕ) → a + k ≤ length l → length (take k (drop a l)) ≡ k
 length-part l a k h = simp (length-take, length-drop) (omega arith)
+
+-- all that follows a place, lent
+pub rest-lent : (l : List ℕ) (a : ℕ) → take (length l - a) (drop a l) ≡ drop a l
+rest-lent l a = take-all (length l - a) (drop a l) (omega (arith, length-drop a l))
 
 -- what follows place m in the first k elements, and the rest
 after : (x : List ℕ) (m k : ℕ) → m ≤ k → k ≤ length x → drop m (take k x) ++ drop k x ≡ drop m x

@@ -31,7 +31,20 @@ number-back n k = number-by n (eqb n 0) (eqb n 2) refl refl k
 pub other-stream : (n m : ℕ) → isStream n ≡ true → isStream m ≡ true → n ≢ m → streamOf n ≢ streamOf m
 other-stream n m kn km d e = d (sym (number-back n kn) ∙ ap streamNumber e ∙ number-back m km)
 
-number-low : (s : Stream) → streamNumber s < 16
+-- a stream's number is known, and says the stream
+pub stream-known : (s : Stream) → isStream (streamNumber s) ≡ true
+unfolding isStream
+stream-known Control = refl
+stream-known Ota = refl
+stream-known Alexa = refl
+
+pub stream-back : (s : Stream) → streamOf (streamNumber s) ≡ s
+unfolding streamOf
+stream-back Control = refl
+stream-back Ota = refl
+stream-back Alexa = refl
+
+pub number-low : (s : Stream) → streamNumber s < 16
 number-low Control = omega arith
 number-low Ota = omega arith
 number-low Alexa = omega arith

@@ -3,3 +3,4 @@ pub mod Bytes
 pub mod Scan
 pub mod Stream
 pub mod Limit
+pub mod Those

@@ -10,7 +10,7 @@ use Rattle.packet.specs.Reader.{fieldsOf, contentOf, lines, readOf}
 use Rattle.acknowledgement.specs.Acknowledgement.{ackOf}
 use Rattle.sender.specs.Piece.{sizeFor}
 use Rattle.sender.specs.Writer.{headerBytes, packetOf, roomFits, argumentsFit, writtenOf}
-use Rattle.delivery.specs.Calls.{callsFrom}
+use Rattle.sender_claims.specs.Calls.{callsFrom}
 use Rattle.slot.specs.Slot.{lawfulSlot, lawful}
 use Rattle.slot.specs.Step.{finish, hold, dropBy, firstStep, nextStep}
 use Rattle.receiver.specs.Receiver.{openOf, ready, readIn, acceptOf}

@@ -12,7 +12,7 @@ use Rattle.packet.specs.Reader.{readOf, lenIn}
 use Rattle.acknowledgement.specs.Acknowledgement.{ackOf}
 use Rattle.sender.specs.declared.writer.Sending.{Sending}
 use Rattle.sender.specs.Writer.{Sent, writtenOf}
-use Rattle.delivery.specs.Calls.{callsOf}
+use Rattle.sender_claims.specs.Calls.{callsOf}
 use Rattle.slot.specs.declared.Slot.{Slot}
 use Rattle.slot.specs.declared.answer.Accepted.{Accepted}
 use Rattle.slot.specs.Slot.{slotCount}

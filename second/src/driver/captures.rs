@@ -18,6 +18,7 @@
 //! A line `written: room R, stream S, id I, sequence Q, ACK A` says that our writer gives the
 //! packets of the message just finished; `written: sequence Q` that it gives the frame just ended.
 
+use super::judged;
 use super::packets;
 use super::worked::{bytes, written};
 use crate::classic::{self, LIMIT};
@@ -56,6 +57,11 @@ impl Capture {
             chunks: lines(hex).iter().map(|line| bytes(line)).collect(),
             expected: lines(expected),
         }
+    }
+
+    /// Whether its chunks are packets.
+    pub fn is_low_energy(&self) -> bool {
+        self.expected.first().is_some_and(|kind| kind == "low energy")
     }
 }
 
@@ -97,6 +103,7 @@ pub fn run(c: &mut Comparison<'_>, capture: &Capture) -> Compared<()> {
         other => return Err(script.wrong("low energy, or classic", other)),
     }
     match script.left {
+        [] if capture.is_low_energy() => judged::judge_capture(c, capture),
         [] => Ok(()),
         [line, ..] => Err(script.wrong(line, "no more answers")),
     }

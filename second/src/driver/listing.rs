@@ -21,7 +21,7 @@ end 20 outside
 ";
 
 /// What the program prints for a stream on its standard input.
-fn printed(program: &Path, stream: &[u8]) -> Result<Vec<u8>, String> {
+pub fn printed(program: &Path, stream: &[u8]) -> Result<Vec<u8>, String> {
     let failed = |error: std::io::Error| format!("{}: {error}", program.display());
     let mut child = Command::new(program)
         .stdin(Stdio::piped())

@@ -3,6 +3,7 @@
 pub mod captures;
 pub mod control;
 pub mod firmware;
+pub mod judged;
 pub mod listing;
 pub mod orders;
 pub mod outboxes;
@@ -67,6 +68,10 @@ pub const PARTS: &[Part] = &[
     Part {
         name: "packets of two streams in either order",
         run: orders::run,
+    },
+    Part {
+        name: "captures judged",
+        run: judged::run,
     },
     Part {
         name: "strings",

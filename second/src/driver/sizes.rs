@@ -101,6 +101,7 @@ fn ordinary(rng: &mut Rng, operation: Operation) -> Call {
                 .lent(rng.bytes(low_energy::buffer(classic::LIMIT)))
                 .reply(rng.bytes(room))
         }
+        Operation::CaptureJudge => call.numbers(&[20, 300]).inputs(&[&[1, 0, 1, 9]]),
         Operation::EnvelopeRead | Operation::ResponseRead => call.inputs(&[&[0x08, 0x05]]),
         Operation::InformationRead | Operation::FeaturesRead => call.inputs(&[&[]]),
         Operation::EnvelopeWrite => call

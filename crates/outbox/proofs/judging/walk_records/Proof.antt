@@ -3,7 +3,7 @@ use native.Mathlib.Omega.{arith}
 use borrow.Author.Needs.{needs}
 use denote.Ref.{now}
 use Rattle.outbox.specs.Reader.{Answer, Item, given, recordAt, refusalOr, walkOf, toldJudged}
-use Rattle.outbox.proofs.Place.{rest-lent}
+use Rattle.wire.proofs.Parts.{rest-lent}
 use Rattle.outbox.proofs.Walk.{decided-end, decided-here}
 use Rattle.outbox.proofs.judging.walk_records.Statement.{statement}
 use Rattle.outbox.proofs.judging.walk_records.Tie as tie

@@ -5,7 +5,8 @@ use lib.ListN.{length, drop}
 use borrow.Author.Needs.{needs}
 use denote.Ref.{now}
 use Rattle.outbox.specs.Reader.{given, found, foundAt, recordAt, toldJudged}
-use Rattle.outbox.proofs.Place.{rest-lent, found-within}
+use Rattle.wire.proofs.Parts.{rest-lent}
+use Rattle.outbox.proofs.Place.{found-within}
 use Rattle.outbox.proofs.Walk.{Walking, walk-begins, walk-ends, walk-stops, walk-goes}
 use Rattle.outbox.proofs.judging.whole_up_to.Statement.{statement}
 use Rattle.outbox.proofs.judging.whole_up_to.Tie as tie

@@ -7,7 +7,8 @@ use borrow.Author.Tests.{eq-eqb}
 use denote.Ref.{now}
 use Rattle.outbox.specs.Format.{headSize}
 use Rattle.outbox.specs.Reader.{recordAt, readOf, toldJudged}
-use Rattle.outbox.proofs.Place.{place-within, rest-lent, read-inside, found-within}
+use Rattle.wire.proofs.Parts.{rest-lent}
+use Rattle.outbox.proofs.Place.{place-within, read-inside, found-within}
 use Rattle.outbox.proofs.reader.read_by.Statement.{statement}
 use Rattle.outbox.proofs.reader.read_by.Tie as tie
 

@@ -21,18 +21,13 @@ use Rattle.sender.specs.Writer.{packetOf, packetsOf, isLast, roomFits, argument
 use Rattle.sender.proofs.Largest.{size-le, size-some, size-fits}
 use Rattle.sender.proofs.Packets.{packet-length}
 use Rattle.sender.proofs.Guard.{room-low, done}
-use Rattle.delivery.specs.Calls.{packetsBy, callsFrom, callsOf, Takes, TakesAll, CallsGiveAll}
+use Rattle.sender.proofs.Later.{last-by}
+use Rattle.sender_claims.specs.Calls.{packetsBy, callsFrom, callsOf, Takes, TakesAll, CallsGiveAll}
 
 told-by : (out : List ℕ) (later : ℕ → List (List ℕ)) (b : Bool) (n next : ℕ)
     → packetsBy out later (given (sentFor b n next)) ≡ take n out ∷ cond b [] (later next)
 told-by out later true n next = refl
 told-by out later false n next = refl
-
--- a piece is the last where it takes all the rest
-last-by : (place n rest length : ℕ) (b : Bool) → eqb n rest ≡ b → place + rest ≡ length → eqb (place + n) length ≡ b
-last-by place n rest length true e t = let s = eqb-true n rest e in eq-eqb (place + n) length (omega arith)
-last-by place n rest length false e t =
-    let d : (n ≡ rest → ⊥) = eqb-false n rest e in ne-eqb (place + n) length (λ s. d (omega arith))
 
 module _ (limit : ℕ) (w : Sending) (m : List ℕ) (range : limitFits limit ≡ true) (fits : roomFits (w .room) ≡ true) (fit : argumentsFit limit w (length m) ≡ true) where
   -- the next piece, where so many bytes are left from a place on

@@ -1,0 +1,91 @@
+-- Laws of the walk over a capture, for its loop.
+use Prim.Native.Nat.{ℕ, suc, _+_, _-_, _≤_, _<_, min}
+use native.Mathlib.Omega.{arith}
+use mathlib.Core.Path.{_≡_, refl, sym, ap, _∙_}
+use mathlib.Core.List.{List, [], _∷_}
+use mathlib.Core.Bool.{Bool, true, false}
+use lib.ListN.{length, take, drop, length-take, length-drop, drop-of-length-le}
+use lib.Seq.{drop-drop}
+use lib.Dec.{ltb}
+use borrow.Author.Tests.{ltb-true, ltb-false}
+use Rattle.wire.specs.Told.{Told, given, refused, andThen}
+use Rattle.captures.specs.Capture.{width, located, frontOf, before, packetsFrom, otherVersion}
+use Rattle.captures.proofs.Walking as captures
+use Rattle.captures.proofs.Walking.{front-within, packets-cons, packets-nil, before-then, packets-begin, some-byte}
+use Rattle.judge.specs.declared.State.{State}
+use Rattle.judge.specs.declared.capture.Judgement.{Judgement}
+use Rattle.judge.specs.declared.capture.Judgement.the-variants.{Going, Stopped}
+use Rattle.judge.specs.Step.{idle}
+use Rattle.judge.specs.Capture.{goneOn, verdictFrom, walkedOf}
+
+-- what follows a place, or nothing
+pub drop-smaller : (bytes : List ℕ) (n : ℕ) (b : Bool) → ltb (length bytes) n ≡ b → drop (min (length bytes) n) bytes ≡ drop n bytes
+drop-smaller bytes n true e =
+    let l : length bytes < n = ltb-true (length bytes) n e in
+    let m : min (length bytes) n ≡ length bytes = omega arith in
+    rw m (drop-of-length-le bytes {i = length bytes} (omega arith) ∙ sym (drop-of-length-le bytes {i = n} (omega arith)))
+drop-smaller bytes n false e =
+    let l : n ≤ length bytes = ltb-false (length bytes) n e in
+    let m : min (length bytes) n ≡ n = omega arith in
+    rw m
+
+-- from a place on, the packets that are left and what is known so far decide as all do
+pub record Judging (room limit : ℕ) (bytes : List ℕ) (at : ℕ) (v : Judgement) : Type 0 where
+  pub inside : at ≤ length bytes
+  pub turns : ℕ
+  pub enough : length bytes ≤ at + turns
+  pub decides : andThen (packetsFrom turns at (drop at bytes)) (λ ps. given (verdictFrom room limit at v ps)) ≡ walkedOf room limit bytes
+
+module _ (room limit : ℕ) (bytes : List ℕ) where
+  pub other-refused : otherVersion bytes ≡ true → walkedOf room limit bytes ≡ refused (40, 0)
+  unfolding walkedOf
+  other-refused e = rw (captures.other-refused bytes e)
+
+  pub judging-begins : otherVersion bytes ≡ false → (s : State) → s ≡ idle → Judging room limit bytes 1 (Going s)
+  unfolding walkedOf
+  judging-begins e s i =
+      record { inside = some-byte bytes e; turns = length bytes; enough = omega arith; decides = rw (i, packets-begin bytes e) }
+
+  module _ {at : ℕ} {v : Judgement} (j : Judging room limit bytes at v) where
+    pub judging-ends : length bytes ≤ at → walkedOf room limit bytes ≡ given v
+    unfolding verdictFrom
+    judging-ends h = sym (j .decides) ∙ rw (drop-of-length-le bytes h, packets-nil (j .turns) at)
+
+    module _ (h : at < length bytes) where
+      turn : walkedOf room limit bytes
+          ≡ andThen (andThen (located at (frontOf (drop at bytes)))
+          (λ n. before (take n (drop width (drop at bytes))) (packetsFrom (j .turns - 1) (at + width + n) (drop (width + n) (drop at bytes)))))
+          (λ ps. given (verdictFrom room limit at v ps))
+      turn =
+          let count : j .turns ≡ suc (j .turns - 1) = omega (arith, j .enough) in
+          let some-left : 1 ≤ length (drop at bytes) = omega (arith, length-drop at bytes) in
+          sym (j .decides)
+          ∙ ap (λ (n : ℕ). andThen (packetsFrom n at (drop at bytes)) (λ ps. given (verdictFrom room limit at v ps))) count
+          ∙ rw (packets-cons (j .turns - 1) at (drop at bytes) some-left)
+
+      pub judging-stops : (n : ℕ) → frontOf (drop at bytes) ≡ refused n → walkedOf room limit bytes ≡ refused (n, at)
+      judging-stops n e = turn ∙ rw e
+
+      -- one packet more
+      step-is : (p : List ℕ) (ps : List (List ℕ)) → verdictFrom room limit at v (p ∷ ps) ≡ verdictFrom room limit (at + width + length p) (goneOn room limit at v p) ps
+      unfolding verdictFrom
+      step-is p ps = refl
+
+      pub judging-goes : (n : ℕ) (p : List ℕ) (w : Judgement) → frontOf (drop at bytes) ≡ given n → p ≡ take n (drop (at + width) bytes) → w ≡ goneOn room limit at v p
+          → Judging room limit bytes (at + width + n) w
+      judging-goes n p w e pe we =
+          let k : width + n ≤ length (drop at bytes) = front-within (drop at bytes) n e .0 in
+          let l : length (drop at bytes) ≡ length bytes - at = length-drop at bytes in
+          let q : take n (drop width (drop at bytes)) ≡ p = ap (take n) (drop-drop width at bytes) ∙ sym pe in
+          let size : length p ≡ n = rw pe (length-take n (drop (at + width) bytes) ∙ omega (arith, length-drop (at + width) bytes)) in
+          let z : at + (width + n) ≡ at + width + n = omega arith in
+          record {
+            inside = omega arith;
+            turns = j .turns - 1;
+            enough = omega (arith, j .enough);
+            decides =
+                sym
+                (turn
+                ∙ rw (e, q, drop-drop (width + n) at bytes, z)
+                (before-then p (packetsFrom (j .turns - 1) (at + width + n) (drop (at + width + n) bytes)) _ _ (λ ps. ap given (step-is p ps ∙ rw (size, ← we)))));
+          }

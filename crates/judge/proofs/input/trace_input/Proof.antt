@@ -1,0 +1,72 @@
+use Prim.Native.Nat.{ℕ, _+_}
+use mathlib.Core.Path.{refl, _∙_}
+use mathlib.Core.List.{List}
+use lib.Dec.{ltb}
+use lib.ListN.{length}
+use denote.Ref.{now}
+use borrow.Author.Tests.{lt-ltb, le-ltb}
+use Rattle.wire.proofs.Parts.{rest-lent}
+use Rattle.judge.specs.Input.{settings, largestCapture, inputTraced}
+use Rattle.judge.proofs.Walking.{drop-smaller}
+use borrow.Author.Needs.{needs}
+use Rattle.judge.proofs.input.trace_input.Statement.{statement}
+use Rattle.judge.proofs.input.trace_input.Tie as tie
+
+add-if1 : tie.Need-add-if1
+add-if1 c = search needs
+
+returns : tie.Need-returns
+unfolding inputTraced
+returns c = rw (lt-ltb _ _ (c .if1 .taken))
+
+room-in-requires : tie.Need-room-in-requires
+room-in-requires c κs = search needs
+
+limit-in-requires : tie.Need-limit-in-requires
+limit-in-requires c κs = search needs
+
+smaller-requires : tie.Need-smaller-requires
+smaller-requires c κs = search needs
+
+sub-trace : tie.Need-sub-trace
+sub-trace c = search needs
+
+part-trace-start : tie.Need-part-trace-start
+part-trace-start c = search needs
+
+part-trace-end : tie.Need-part-trace-end
+part-trace-end c = search needs
+
+trace-requires : tie.Need-trace-requires
+trace-requires c κs = search needs
+
+returns-2 : tie.Need-returns-2
+unfolding inputTraced
+returns-2 c =
+    let s = c .before .before in
+    let a = s .before .before .before in
+    let bytes : List ℕ = now (a .before .before .args .input) in
+    c .trace .ensures
+    ∙ rw (
+      rest-lent bytes (s .smaller .result),
+      s .smaller .ensures .0,
+      drop-smaller bytes settings (ltb (length bytes) settings) refl,
+      s .before .limit-in .ensures,
+      s .before .before .room-in .ensures,
+      le-ltb (settings + largestCapture) (length bytes) (a .if1 .left),
+    )
+
+pub trace-input-spec : {M : Type 1} → statement M
+trace-input-spec =
+    tie.close
+    (tie.spec
+    add-if1
+    returns
+    room-in-requires
+    limit-in-requires
+    smaller-requires
+    sub-trace
+    part-trace-start
+    part-trace-end
+    trace-requires
+    returns-2)

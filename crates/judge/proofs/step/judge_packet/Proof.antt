@@ -1,0 +1,33 @@
+use Rattle.judge.specs.Step.{stepOf}
+use borrow.Author.Needs.{needs}
+use Rattle.judge.proofs.step.judge_packet.Statement.{statement}
+use Rattle.judge.proofs.step.judge_packet.Tie as tie
+
+read-requires : tie.Need-read-requires
+read-requires c κs = search needs
+
+enum-told : tie.Need-enum-told
+enum-told c = search needs
+
+enum-known-answer : tie.Need-enum-known-answer
+enum-known-answer c = search needs
+
+step-requires : tie.Need-step-requires
+step-requires c κs = search needs
+
+returns : tie.Need-returns
+unfolding stepOf
+returns c =
+    let s = c .before .before in
+    rw (← (s .read .ensures), c .enum-told .given .1)
+
+returns-2 : tie.Need-returns-2
+unfolding stepOf
+returns-2 c =
+    let s = c .before .before .before .before in
+    rw (← (s .read .ensures), c .before .before .answer .given .1) (c .step .ensures)
+
+pub judge-packet-spec : {M : Type 1} → statement M
+judge-packet-spec =
+    tie.close
+    (tie.spec read-requires enum-told enum-known-answer step-requires returns returns-2)

@@ -1,0 +1,4 @@
+pub mod Lawful
+pub mod Right
+pub mod Inside
+pub mod Example

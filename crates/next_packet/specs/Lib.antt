@@ -1,0 +1,2 @@
+pub mod NextPacket
+pub mod Expected

@@ -1,0 +1,145 @@
+//! Document 02, No. 8, "Is their sender lawful?": a capture of one direction, and whether our writer would write its
+//! packets. Every packet is held to the one that the model's writer writes for it.
+
+use crate::low_energy::{acknowledgement, packet, pieces, Piece, Stream, Wish};
+use crate::refusal::{limit_in, Refusal};
+
+/// "version byte 01".
+const VERSION: u8 = 1;
+/// "a capture of up to 65,536 bytes from standard input".
+pub const LARGEST: usize = 65_536;
+
+/// "say yes exactly when there is a list of transactions ..", "A no tells the place of the length of the first packet
+/// after which no continuation could be lawful, or that the capture ends inside a transaction."
+#[derive(Clone, Copy, Debug, PartialEq, Eq)]
+pub enum Answer {
+    Lawful,
+    Open,
+    Unlawful(usize),
+}
+
+/// A refusal, and the place that it is about: that of a length for 41 and 42, and else 0.
+pub type Refused = (Refusal, usize);
+
+/// "then each packet with a two-byte big-endian length before it": the packets with the places of their lengths.
+fn packets(capture: &[u8]) -> Result<Vec<(usize, &[u8])>, Refused> {
+    let Some((&VERSION, mut rest)) = capture.split_first() else {
+        return Err((Refusal::Version, 0));
+    };
+    let mut found = Vec::new();
+    while !rest.is_empty() {
+        let place = capture.len() - rest.len();
+        let cut = (Refusal::RecordCut, place);
+        let (length, after) = rest.split_first_chunk::<2>().ok_or(cut)?;
+        let length = usize::from(u16::from_be_bytes(*length));
+        if length == 0 {
+            return Err((Refusal::RecordLength, place));
+        }
+        let (packet, after) = after.split_at_checked(length).ok_or(cut)?;
+        found.push((place, packet));
+        rest = after;
+    }
+    Ok(found)
+}
+
+/// A transaction some of whose packets have come: what its first packet told, and the bytes so far.
+struct Transaction {
+    wish: Wish,
+    message: Vec<u8>,
+    pieces: Vec<Piece>,
+    come: usize,
+}
+
+impl Transaction {
+    /// The only transaction that a first packet can begin: "id, first sequence .. and payload within the limit".
+    fn begun_by(first: &[u8], stream: Stream, room: usize, limit: usize) -> Option<Transaction> {
+        let &[zeroth, second, _, high, low, ..] = first else {
+            return None;
+        };
+        let total = usize::from(u16::from_be_bytes([high, low]));
+        (total <= limit).then(|| Transaction {
+            wish: Wish {
+                stream,
+                id: zeroth & 15,
+                sequence: second >> 4,
+                ack: false,
+            },
+            message: vec![0; total],
+            pieces: pieces(total, room).collect(),
+            come: 0,
+        })
+    }
+
+    /// With the next packet, if it is the one that our writer writes, for one of the two wishes.
+    fn with(mut self, bytes: &[u8]) -> Option<Transaction> {
+        let piece = self.pieces[self.come];
+        let start = bytes.len().checked_sub(piece.size)?;
+        self.message[piece.place..piece.place + piece.size].copy_from_slice(&bytes[start..]);
+        self.come += 1;
+        let written = [false, true].into_iter().any(|ack| {
+            let wish = Wish { ack, ..self.wish };
+            packet(wish, &self.message, piece) == bytes
+        });
+        written.then_some(self)
+    }
+
+    fn is_whole(&self) -> bool {
+        self.come == self.pieces.len()
+    }
+}
+
+/// "ACK packets may stand anywhere."
+fn is_acknowledgement(bytes: &[u8], stream: Stream) -> bool {
+    let &[zeroth, first, ..] = bytes else {
+        return false;
+    };
+    [false, true]
+        .into_iter()
+        .any(|positive| acknowledgement(stream, zeroth & 15, first >> 4, positive) == bytes)
+}
+
+/// "Refusals: 13, then 17, then before any packet is judged 40 (for 02 too), 42 .. and 41".
+pub fn judge(capture: &[u8], room: u64, limit: u64) -> Result<Answer, Refused> {
+    if !(20..=512).contains(&room) {
+        return Err((Refusal::Room, 0));
+    }
+    let limit = limit_in(limit).map_err(|refusal| (refusal, 0))?;
+    let mut open: [Option<Transaction>; 3] = [None, None, None];
+    for (place, bytes) in packets(capture)? {
+        let Some(stream) = Stream::of(u64::from(bytes[0] >> 4)) else {
+            return Ok(Answer::Unlawful(place));
+        };
+        if is_acknowledgement(bytes, stream) {
+            continue;
+        }
+        let slot = &mut open[stream.slot()];
+        let begun = slot
+            .take()
+            .or_else(|| Transaction::begun_by(bytes, stream, room as usize, limit));
+        let Some(taken) = begun.and_then(|transaction| transaction.with(bytes)) else {
+            return Ok(Answer::Unlawful(place));
+        };
+        *slot = (!taken.is_whole()).then_some(taken);
+    }
+    Ok(if open.iter().all(Option::is_none) {
+        Answer::Lawful
+    } else {
+        Answer::Open
+    })
+}
+
+/// "A program reads room and limit, two bytes each, big-endian, absent bytes 0, then a capture", and what it prints.
+pub fn line(input: &[u8]) -> String {
+    let byte = |place: usize| u64::from(input.get(place).copied().unwrap_or(0));
+    let capture = input.get(4..).unwrap_or(&[]);
+    if capture.len() > LARGEST {
+        return format!("refused {}\n", Refusal::Lent);
+    }
+    let (room, limit) = (byte(0) << 8 | byte(1), byte(2) << 8 | byte(3));
+    match judge(capture, room, limit) {
+        Ok(Answer::Lawful) => "lawful\n".to_string(),
+        Ok(Answer::Open) => "open\n".to_string(),
+        Ok(Answer::Unlawful(place)) => format!("unlawful at {place}\n"),
+        Err((refusal, _)) => format!("refused {refusal}\n"),
+    }
+}
