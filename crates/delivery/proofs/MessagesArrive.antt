@@ -7,9 +7,10 @@ use mathlib.Core.List.{List, [], _∷_, _++_, map, append-assoc}
 use mathlib.Core.Bool.{Bool, true, false, cond, _&&_}
 use lib.ListN.{length, getD, take, drop}
 use lib.Dec.{eqb}
-use borrow.Author.Tests.{eqb-true, eqb-false, eq-eqb}
+use borrow.Author.Tests.{eqb-true, eqb-false, eq-eqb, lt-ltb, le-leb}
 use Rattle.wire.specs.Those.{those}
 use Rattle.packet.specs.Header.{fourBits}
+use Rattle.packet.specs.Control.{ackSize}
 use Rattle.packet.proofs.Headers.{stream-back}
 use Rattle.slot.specs.declared.Slot.{Slot}
 use Rattle.receiver.specs.Receiver.{PacketCall, call, PacketLeft, acceptOf}
@@ -22,8 +23,11 @@ use Rattle.sender.proofs.Largest.{size-le, size-some}
 use Rattle.sender.proofs.Guard.{SendingInRange, room-low, range-facts}
 use Rattle.wire.proofs.Tests.{and-left, and-right}
 use Rattle.sender_claims.proofs.CallsGiveAll.{calls-are}
-use Rattle.delivery.specs.Delivery.{PacketReply, runOf, ours, packetsIn, CallShown, shown, shownIn, shownTo, answerable, allAnswerable, atLast, MessagesArrive, RoundTrip, MessageAsked}
+use Rattle.delivery.specs.Delivery.{PacketReply, runOf, ours, packetsIn, CallShown, shown, shownIn, shownTo, answerable, allAnswerable, AnswerableAll, atLast, MessagesArrive, RoundTrip, MessageAsked}
 use Rattle.delivery.proofs.Steps.{gives, Holding, Awaits, start, within, holding-kept, pieceFor, last-step, more-step}
+
+pub answerable-all : AnswerableAll
+answerable-all c low room = rw (lt-ltb (c .sequence) fourBits (omega arith), le-leb ackSize (length (c .out)) room)
 
 -- ---- one packet of a run
 

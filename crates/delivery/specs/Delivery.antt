@@ -1,5 +1,5 @@
 -- Low Energy, writer to receiver: a message whose packets all come, in order, is given. A claim about whole lists of packets.
-use Prim.Native.Nat.{ℕ, _*_}
+use Prim.Native.Nat.{ℕ, _*_, _≤_}
 use mathlib.Core.Path.{_≡_}
 use mathlib.Core.Option.{Option, none, some}
 use mathlib.Core.List.{List, [], _∷_, _++_, map}
@@ -99,6 +99,10 @@ answerable c = ltb (c .sequence) fourBits && leb ackSize (length (c .out))
 abbrev pub allAnswerable : List PacketCall → Bool
 allAnswerable [] = true
 allAnswerable (c ∷ cs) = answerable c && allAnswerable cs
+
+-- The ranges of docs/FORMATS.md, and nothing else: no premise of the claims asks for more of a call.
+abbrev pub AnswerableAll : Type 0
+AnswerableAll = (c : Call) → c .sequence ≤ 15 → 6 ≤ length (c .out) → answerable c ≡ true
 
 -- the answer buffer of the last call: it begins with the ACK exactly if the writer's wish was one
 abbrev pub lastOut : Sending → PacketCall → List ℕ

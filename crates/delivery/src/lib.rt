@@ -1,6 +1,6 @@
 // The claims of Low Energy, from the writer to the receiver. Their words are in specs/; these functions do nothing.
 ghost use Rattle.delivery.specs.AcknowledgementsReturn.{TakesEveryAck, AcknowledgementsReturn};
-ghost use Rattle.delivery.specs.Delivery.{MessagesArrive, RoundTrip, MessageAsked};
+ghost use Rattle.delivery.specs.Delivery.{AnswerableAll, MessagesArrive, RoundTrip, MessageAsked};
 ghost use Rattle.delivery.specs.Instance.{Arrives};
 
 // Each ACK and NACK of the ranges of docs/FORMATS.md is read as it was written.
@@ -10,7 +10,7 @@ pub fn acknowledgements_return()
 
 // A message whose packets all come, in order, is given at the last of them, whatever comes before, after, and of other streams between.
 pub fn messages_arrive()
-    ensures { λ _. ⌜ MessagesArrive ⌝ }
+    ensures { λ _. ⌜ AnswerableAll × MessagesArrive ⌝ }
 {}
 
 // The same with nothing before or between: what was written returns.

@@ -8,7 +8,7 @@ use Rattle.wire.specs.Told.{Told, given, refused, Line, line, table}
 use Rattle.wire.specs.Bytes.{pairOf}
 use Rattle.wire.specs.Stream.{isStream, streamOf}
 use Rattle.packet.specs.declared.reader.Head.{Head}
-use Rattle.packet.specs.declared.reader.Start.{Start}
+use Rattle.packet.specs.declared.reader.StartBits.{StartBits}
 use Rattle.packet.specs.declared.reader.Packet.{Packet}
 use Rattle.packet.specs.declared.reader.Packet.the-variants.{First, Next, Ack, Nack}
 use Rattle.packet.specs.declared.reader.Refusal.{Refusal}
@@ -132,8 +132,8 @@ told (Read packet) = given packet
 
 -- ---- what the code reads of bytes 0 and 1, but for the type
 
-abbrev pub startOf : ℕ → ℕ → Start
-startOf first second =
+abbrev pub startBitsOf : ℕ → ℕ → StartBits
+startBitsOf first second =
     record {
       stream = streamBits first;
       id = idBits first;
@@ -142,8 +142,8 @@ startOf first second =
       extended = extenderBit second;
     }
 
-abbrev pub headOf : Start → Head
-headOf s = record { stream = streamOf (s .stream); id = s .id; sequence = s .sequence }
+abbrev pub headBy : StartBits → Head
+headBy s = record { stream = streamOf (s .stream); id = s .id; sequence = s .sequence }
 
-abbrev pub fieldsFrom : List ℕ → ℕ → Start → PacketFields
-fieldsFrom p kind s = fieldsBy p (s .stream) (s .id) (s .sequence) kind (s .ack) (s .extended)
+abbrev pub fieldsOn : List ℕ → ℕ → StartBits → PacketFields
+fieldsOn p kind s = fieldsBy p (s .stream) (s .id) (s .sequence) kind (s .ack) (s .extended)

@@ -14,7 +14,7 @@ ghost use Prim.Native.Nat.{ℕ, _≤_, _<_};
 ghost use lib.ListN.{length};
 ghost use Rattle.wire.specs.Stream.{isStream};
 ghost use Rattle.packet.specs.Header.{headerSize};
-ghost use Rattle.packet.specs.Reader.{lengthAt, isAcknowledgement, headOf, startOf, fieldsFrom, headIn, judged, readOf, numberOf, told};
+ghost use Rattle.packet.specs.Reader.{lengthAt, isAcknowledgement, headBy, startBitsOf, fieldsOn, headIn, judged, readOf, numberOf, told};
 
 pub struct Head {
     pub stream: Stream,
@@ -23,7 +23,7 @@ pub struct Head {
 }
 
 // What bytes 0 and 1 say of a packet, but for its type.
-struct Start {
+struct StartBits {
     stream: u8,
     id: u8,
     sequence: u8,
@@ -31,9 +31,9 @@ struct Start {
     extended: bool,
 }
 
-impl Start {
+impl StartBits {
     fn head(self) -> Head
-        ensures { λ r. ⌜ r ≡ headOf self ⌝ }
+        ensures { λ r. ⌜ r ≡ headBy self ⌝ }
     {
         let stream = stream_of(self.stream);
         Head {
@@ -150,10 +150,10 @@ fn is_acknowledgement(packet: &[u8], ack: bool, extended: bool) -> bool
     both(!extended, exact)
 }
 
-fn start_of(first: u8, second: u8) -> Start
-    ensures { λ r. ⌜ r ≡ startOf first second ⌝ }
+fn start_bits(first: u8, second: u8) -> StartBits
+    ensures { λ r. ⌜ r ≡ startBitsOf first second ⌝ }
 {
-    Start {
+    StartBits {
         stream: header::stream_bits(first),
         id: header::id_bits(first),
         sequence: header::sequence_bits(second),
@@ -164,9 +164,9 @@ fn start_of(first: u8, second: u8) -> Start
 
 // ---- the table of refusals, in its order: what is left of it for each type, where 2 and 3 were passed
 
-fn read_control(packet: &[u8], s: Start) -> Answer
+fn read_control(packet: &[u8], s: StartBits) -> Answer
     requires { ⌜ (2 ≤ length (now packet)) × (isStream (s .stream) ≡ true) ⌝ }
-    ensures { λ r. ⌜ ((limit : ℕ) → told r ≡ judged limit (fieldsFrom (now (packet .entry)) 3 s)) ⌝ }
+    ensures { λ r. ⌜ ((limit : ℕ) → told r ≡ judged limit (fieldsOn (now (packet .entry)) 3 s)) ⌝ }
 {
     let exact = is_acknowledgement(packet, s.ack, s.extended);
     if !exact {
@@ -179,9 +179,9 @@ fn read_control(packet: &[u8], s: Start) -> Answer
     Answer::Read(Packet::Nack(head))
 }
 
-fn read_first(limit: usize, packet: &[u8], s: Start) -> Answer
+fn read_first(limit: usize, packet: &[u8], s: StartBits) -> Answer
     requires { ⌜ (headerSize true (s .extended) ≤ length (now packet)) × (isStream (s .stream) ≡ true) ⌝ }
-    ensures { λ r. ⌜ told r ≡ judged limit (fieldsFrom (now (packet .entry)) 0 s) ⌝ }
+    ensures { λ r. ⌜ told r ≡ judged limit (fieldsOn (now (packet .entry)) 0 s) ⌝ }
 {
     let reserved = byte_at(packet, 2);
     if reserved != header::RESERVED {
@@ -213,9 +213,9 @@ fn read_first(limit: usize, packet: &[u8], s: Start) -> Answer
 }
 
 // Last, or a continuation.
-fn read_next(packet: &[u8], s: Start, last: bool) -> Answer
+fn read_next(packet: &[u8], s: StartBits, last: bool) -> Answer
     requires { ⌜ (headerSize false (s .extended) ≤ length (now packet)) × (isStream (s .stream) ≡ true) ⌝ }
-    ensures { λ r. ⌜ ((limit : ℕ) → told r ≡ judged limit (fieldsFrom (now (packet .entry)) (cond last 2 1) s)) ⌝ }
+    ensures { λ r. ⌜ ((limit : ℕ) → told r ≡ judged limit (fieldsOn (now (packet .entry)) (cond last 2 1) s)) ⌝ }
 {
     let start = header::header_size(false, s.extended);
     let len = length_at(packet, header::length_place(false), s.extended);
@@ -243,7 +243,7 @@ pub fn read(limit: usize, packet: &[u8]) -> Answer
         return Answer::Refused(Refusal::Short);
     }
     let second = byte_at(packet, 1);
-    let s = start_of(byte_at(packet, 0), second);
+    let s = start_bits(byte_at(packet, 0), second);
     let kind = header::type_bits(second);
     let size = header::header_size(kind == header::TYPE_FIRST, s.extended);
     if both(kind != header::TYPE_CONTROL, packet.len() < size) {

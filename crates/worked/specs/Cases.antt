@@ -121,7 +121,8 @@ cases =
     ∷ case (answerPacket idles (0x61 ∷ 0x02 ∷ 0x00 ∷ 0x00 ∷ 0x02 ∷ 0x01 ∷ 0xAA ∷ []) 9 eight) (answered (given (Taken Alexa 1 false)) asking eight)
     ∷ case (answerPacket asking (0x61 ∷ 0x18 ∷ 0x01 ∷ 0xBB ∷ []) 9 eight)
     (answered (given (Finished Alexa 1 2 true false)) idles (0x61 ∷ 0x9E ∷ 0x00 ∷ 0x02 ∷ 0x01 ∷ 0x00 ∷ 0xEE ∷ 0xEE ∷ []))
-    -- 15 before 14, and both before the packet's own 2
+    -- 1 (no byte is held) before 15, 15 before 14, and both before the packet's own 2
+    ∷ case (answerPacket (holding 0 0) [] 16 []) (answered (refused 1) (holding 0 0) [])
     ∷ case (answerPacket asking [] 16 []) (answered (refused 15) asking [])
     ∷ case (answerPacket asking [] 15 (zeros 5)) (answered (refused 14) asking (zeros 5))
     ∷ case (answerPacket asking [] 15 (zeros 6)) (answered (refused 2) asking (zeros 6))

@@ -10,7 +10,7 @@ use Rattle.wire.specs.Bytes.{pairOf}
 use Rattle.wire.specs.Told.{given, refused, line, table}
 use Rattle.packet.specs.declared.reader.Packet.the-variants.{First}
 use Rattle.packet.specs.Header.{reservedByte, typeFirst}
-use Rattle.packet.specs.Reader.{judged, headOf, fieldsFrom}
+use Rattle.packet.specs.Reader.{judged, headBy, fieldsOn}
 use Rattle.packet.proofs.Reading.{first-judged}
 use borrow.Author.Needs.{needs}
 use Rattle.packet.proofs.reader.read_first.Statement.{statement}
@@ -20,7 +20,7 @@ use Rattle.packet.proofs.reader.read_first.Tie as tie
 table-at : (c : tie.After-length-at) {total : ℕ}
     → (let t = c .before .before .before .before .before .before in
     total ≡ pairOf (getD (now (t .args .packet)) 3 0) (getD (now (t .args .packet)) 4 0)
-    → judged (t .args .limit) (fieldsFrom (now (t .args .packet)) typeFirst (t .args .s))
+    → judged (t .args .limit) (fieldsOn (now (t .args .packet)) typeFirst (t .args .s))
     ≡ table
     (line 4 (not (eqb (c .before .before .before .before .byte-at .result) reservedByte))
     ∷ line 5 (not (eqb (length (now (t .args .packet))) (c .before .before .header-size .result + c .length-at .result)))
@@ -29,7 +29,7 @@ table-at : (c : tie.After-length-at) {total : ℕ}
     ∷ line 8 (ltb total (c .length-at .result))
     ∷ [])
     refused
-    (given (First (headOf (t .args .s)) (t .args .s .ack) total (c .before .before .header-size .result) (c .length-at .result))))
+    (given (First (headBy (t .args .s)) (t .args .s .ack) total (c .before .before .header-size .result) (c .length-at .result))))
 table-at c e =
     let t = c .before .before .before .before .before .before in
     first-judged (t .args .limit) (now (t .args .packet)) (t .args .s) (c .before .before .before .before .byte-at .ensures) (c .before .before .header-size .ensures .0) (rw (c .before .length-place .ensures .0) at (c .length-at .ensures .0)) e (t .pre .0) (t .pre .1)

@@ -1,6 +1,6 @@
 use borrow.Author.Needs.{needs}
-use Rattle.packet.proofs.reader.start_of.Statement.{statement}
-use Rattle.packet.proofs.reader.start_of.Tie as tie
+use Rattle.packet.proofs.reader.start_bits.Statement.{statement}
+use Rattle.packet.proofs.reader.start_bits.Tie as tie
 
 stream-bits-requires : tie.Need-stream-bits-requires
 stream-bits-requires c κs = search needs
@@ -27,8 +27,8 @@ returns c =
       c .extender-bit .ensures,
     )
 
-pub start-of-spec : {M : Type 1} → statement M
-start-of-spec =
+pub start-bits-spec : {M : Type 1} → statement M
+start-bits-spec =
     tie.close
     (tie.spec
     stream-bits-requires

@@ -1,6 +1,6 @@
 use borrow.Author.Needs.{needs}
-use Rattle.packet.proofs.reader.Start.head.Statement.{statement}
-use Rattle.packet.proofs.reader.Start.head.Tie as tie
+use Rattle.packet.proofs.reader.StartBits.head.Statement.{statement}
+use Rattle.packet.proofs.reader.StartBits.head.Tie as tie
 
 stream-of-requires : tie.Need-stream-of-requires
 stream-of-requires c κs = search needs
