@@ -143,7 +143,7 @@ accept-keeps sequence packet state lent out answer = fits (eqb (length answer) 7
     limit : ℕ
     limit = limitOf state
 
-    c : receiver.Call
+    c : receiver.PacketCall
     c = receiver.call packet (byteOr outOfRange sequence) out
 
     go : (t : Bool) → KeepsBoth state lent out answer

@@ -102,7 +102,7 @@ allAnswerable (c ∷ cs) = answerable c && allAnswerable cs
 
 -- The ranges of docs/FORMATS.md, and nothing else: no premise of the claims asks for more of a call.
 abbrev pub AnswerableAll : Type 0
-AnswerableAll = (c : Call) → c .sequence ≤ 15 → 6 ≤ length (c .out) → answerable c ≡ true
+AnswerableAll = (c : PacketCall) → c .sequence ≤ 15 → 6 ≤ length (c .out) → answerable c ≡ true
 
 -- the answer buffer of the last call: it begins with the ACK exactly if the writer's wish was one
 abbrev pub lastOut : Sending → PacketCall → List ℕ
