@@ -1,0 +1,4 @@
+pub mod Moving
+pub mod Pieces
+pub mod Counting
+pub mod Joining
