@@ -2,3 +2,4 @@ pub mod Moving
 pub mod Pieces
 pub mod Counting
 pub mod Joining
+pub mod Guards

@@ -1,11 +1,14 @@
 // The packets of a message, joined in one output in which the message itself stands.
 use packet::header;
+use packet::header::FOUR_BITS;
+use sender::piece::LEAST_ROOM;
 use sender::piece::ONE_BYTE_LENGTH;
 use sender::piece::Piece;
 use sender::piece::full_size;
 use sender::writer::Sending;
 use sender::writer::put_header;
 use wire::bytes::smaller;
+use wire::logic::both;
 ghost use mathlib.Core.Path.{_≡_};
 ghost use mathlib.Core.List.{_++_};
 ghost use Prim.Native.Nat.{_+_, _≤_, _<_};
@@ -13,7 +16,7 @@ ghost use lib.ListN.{length, take, drop};
 ghost use lib.Seq.{sets};
 ghost use Rattle.sender.specs.Piece.{leastRoom, isFirst, sizeFor, piecesOf};
 ghost use Rattle.sender.specs.Writer.{headerBytes};
-ghost use Rattle.joining.specs.Joined.{joinedOf, sizes, Places, Placed, messageIn, Joins};
+ghost use Rattle.joining.specs.Joined.{joinedOf, sizes, countable, joinedLength, Places, Placed, messageIn, Joins, isExact, joinedOver};
 
 // Moves n bytes to an earlier place.
 fn move_down(out: &mut [u8], to: usize, from: usize, n: usize)
@@ -58,8 +61,8 @@ fn put_packet(
     start + size
 }
 
-// The length of all packets of a message together.
-pub fn joined_len(room: usize, total: usize) -> usize
+// Counts the bytes of all packets of a message together.
+fn count_bytes(room: usize, total: usize) -> usize
     requires { ⌜ (leastRoom ≤ room) × (total < 65536) ⌝ }
     ensures { λ r. ⌜ r ≡ sizes (piecesOf room total) ⌝ }
 {
@@ -79,9 +82,38 @@ pub fn joined_len(room: usize, total: usize) -> usize
     sum
 }
 
-// Joins the packets of the message that stands at the end of the output. A packet's end never passes the bytes that
-// are still to be moved: each packet behind it has at least as many bytes as it carries.
-pub fn join(out: &mut [u8], how: Sending, total: usize)
+// Whether a message of this length has packets at this room.
+fn countable(room: usize, total: usize) -> bool
+    ensures { λ r. ⌜ r ≡ countable room total ⌝ }
+{
+    both(LEAST_ROOM <= room, total < 65536)
+}
+
+// The length of all packets of a message together; 0 where it has none.
+pub fn joined_len(room: usize, total: usize) -> usize
+    ensures { λ r. ⌜ r ≡ joinedLength room total ⌝ }
+{
+    if countable(room, total) {
+        return count_bytes(room, total);
+    }
+    0
+}
+
+// Whether a message can be joined in so much output: it is exactly as long as its packets.
+fn is_exact(how: Sending, total: usize, space: usize) -> bool
+    ensures { λ r. ⌜ r ≡ isExact how total space ⌝ }
+{
+    let room = how.room;
+    let low = both(how.stream < FOUR_BITS, how.id < FOUR_BITS);
+    if both(low, countable(room, total)) {
+        return space == count_bytes(room, total);
+    }
+    false
+}
+
+// The packets of the message that stands at the end of the output. A packet's end never passes the bytes that are
+// still to be moved: each packet behind it has at least as many bytes as it carries.
+fn put_packets(out: &mut [u8], how: Sending, total: usize)
     requires { ⌜ Joins how total (now out) ⌝ }
     ensures { λ _. ⌜ now (out .exit) ≡ joinedOf how (messageIn total (now (out .entry))) ⌝ }
 {
@@ -97,5 +129,14 @@ pub fn join(out: &mut [u8], how: Sending, total: usize)
         at = put_packet(out, at, how, total, piece, size == rest, end - rest);
         place += size;
         index += 1;
+    }
+}
+
+// Joins the packets of the message that stands at the end of the output, if it is exactly as long as they are.
+pub fn join(out: &mut [u8], how: Sending, total: usize)
+    ensures { λ _. ⌜ now (out .exit) ≡ joinedOver how total (now (out .entry)) ⌝ }
+{
+    if is_exact(how, total, out.len()) {
+        put_packets(out, how, total);
     }
 }

@@ -10,6 +10,7 @@ use Rattle.wire.specs.Told.{given, written}
 use Rattle.sender.specs.Piece.{piecesOf}
 use Rattle.joining.specs.Joined.{joinedOf, sizes}
 use Rattle.joining.proofs.Pieces.{joined-long}
+use Rattle.joining.proofs.Guards.{joined-length}
 use Rattle.reply.specs.Front.{frontBytes}
 use Rattle.reply.specs.Reply.{sendingOf, bodyBy, Replied, sent}
 use Rattle.reply.proofs.Puts.{over-first, no-output, is-joined}
@@ -24,8 +25,7 @@ add-total : tie.Need-add-total
 add-total c = omega (arith, c .before .before .before .before .before .before .pre .1 .low-total, c .before .front-len .ensures .0)
 
 joined-len-requires : tie.Need-joined-len-requires
-joined-len-requires c κs =
-    let s = c .before .before .before .before .before .before in (s .pre .1 .room, omega (arith, s .pre .1 .low-total, c .before .front-len .ensures .0))
+joined-len-requires c κs = search needs
 
 returns : tie.Need-returns
 returns c =
@@ -38,8 +38,9 @@ returns c =
     let total : length m ≡ c .before .before .before .front-len .result + a .front .body =
     length-append (frontBytes (a .front)) body ∙ omega (arith, c .before .before .before .front-len .ensures .0, s .pre .1 .long) in
     let j : List ℕ = joinedOf (sendingOf l) m in
+    let counted = joined-length (l .room) (c .before .before .before .front-len .result + a .front .body) (s .pre .1 .room) (omega (arith, s .pre .1 .low-total, c .before .before .before .front-len .ensures .0)) in
     let long : length j ≡ c .before .joined-len .result =
-    joined-long (sendingOf l) m (s .pre .1 .room) ∙ ap (λ (n : ℕ). sizes (piecesOf (l .room) n)) total ∙ sym (c .before .joined-len .ensures) in
+    joined-long (sendingOf l) m (s .pre .1 .room) ∙ ap (λ (n : ℕ). sizes (piecesOf (l .room) n)) total ∙ sym (c .before .joined-len .ensures ∙ counted) in
     no-output (sendingOf l) m o (omega (arith, long, c .if1 .taken))
 
 sub-put-reply : tie.Need-sub-put-reply
@@ -54,7 +55,8 @@ part-put-reply-end c = search needs
 put-reply-requires : tie.Need-put-reply-requires
 put-reply-requires c κs =
     let s = c .before .before .before .before .before .before .before .before .before in
-    let head = c .before .before .before .before .front-len .ensures .0 in (
+    let head = c .before .before .before .before .front-len .ensures .0 in
+    let counted = joined-length (s .args .link .room) (c .before .before .before .before .front-len .result + s .args .front .body) (s .pre .1 .room) (omega (arith, s .pre .1 .low-total, head)) in (
       s .pre .0,
       record {
         fits = s .pre .1 .fits;
@@ -64,7 +66,7 @@ put-reply-requires c κs =
         low-id = s .pre .1 .low-id;
         low-total = omega (arith, head, s .pre .1 .low-total);
         room = s .pre .1 .room;
-        long = simp (length-take, length-drop) (omega (arith, c .before .before .joined-len .ensures, c .before .if1 .left));
+        long = simp (length-take, length-drop) (omega (arith, c .before .before .joined-len .ensures, counted, c .before .if1 .left));
       },
     )
 
@@ -82,8 +84,9 @@ returns-2 c =
     let total : length m ≡ c .before .before .before .before .before .before .before .front-len .result + a .front .body =
     length-append (frontBytes (a .front)) body ∙ omega (arith, c .before .before .before .before .before .before .before .front-len .ensures .0, s .pre .1 .long) in
     let j : List ℕ = joinedOf (sendingOf l) m in
+    let counted = joined-length (l .room) (c .before .before .before .before .before .before .before .front-len .result + a .front .body) (s .pre .1 .room) (omega (arith, s .pre .1 .low-total, c .before .before .before .before .before .before .before .front-len .ensures .0)) in
     let long : length j ≡ c .before .before .before .before .before .joined-len .result =
-    joined-long (sendingOf l) m (s .pre .1 .room) ∙ ap (λ (n : ℕ). sizes (piecesOf (l .room) n)) total ∙ sym (c .before .before .before .before .before .joined-len .ensures) in
+    joined-long (sendingOf l) m (s .pre .1 .room) ∙ ap (λ (n : ℕ). sizes (piecesOf (l .room) n)) total ∙ sym (c .before .before .before .before .before .joined-len .ensures ∙ counted) in
     let space : length j ≤ length o = omega (arith, long, c .before .before .before .before .if1 .left) in
     let k = c .before .before .before .before .before .joined-len .result in
     let e =
