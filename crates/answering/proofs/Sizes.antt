@@ -10,8 +10,8 @@ use lib.Dec.{ltb}
 use borrow.Author.Tests.{ltb-false}
 use Rattle.wire.specs.Told.{WrittenOf, given, refused, written}
 use Rattle.field_writer.specs.Writer.{Field, messageBytes}
-use Rattle.text_writer.specs.declared.Fault.{Fault}
-use Rattle.text_writer.specs.declared.Fault.the-variants.{None, At}
+use Rattle.text_writer.specs.declared.TextFault.{TextFault}
+use Rattle.text_writer.specs.declared.TextFault.the-variants.{None, At}
 use Rattle.text_writer.specs.declared.TextWrote.{TextWrote}
 use Rattle.text_writer.specs.declared.TextWrote.the-variants.{Done, Refused, BadText}
 use Rattle.text_writer.specs.Texts.{firstFault, faulted, aloneWritten, writesTexts, toldTextWrote, textWroteSize}
@@ -20,7 +20,7 @@ module _ (out l : List ℕ) (fields : List Field) where
   abbrev message : List ℕ
   message = messageBytes fields
 
-  text-done : (n : ℕ) (fault : Fault) (bad short : Bool) → ltb (length out) (length message) ≡ short
+  text-done : (n : ℕ) (fault : TextFault) (bad short : Bool) → ltb (length out) (length message) ≡ short
       → written {N = ℕ × List ℕ} (given n) l
       ≡ cond bad (written (refused (15, [])) out) (faulted fault out (aloneWritten (cond bad (written (refused 15) out) (cond short (written (refused 14) out) (written (given (length message)) (sets out 0 message))))))
       → n ≤ length l

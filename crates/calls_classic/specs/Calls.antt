@@ -9,7 +9,7 @@ use Rattle.framing.specs.Mark.{startMark}
 use Rattle.framing.specs.Frame.{nextSequence}
 use Rattle.extractor.specs.declared.state.Extractor.{Extractor}
 use Rattle.extractor.specs.State.{openOf}
-use Rattle.extractor.specs.Step.{Step, byteStepOf}
+use Rattle.extractor.specs.Step.{ByteStep, byteStepOf}
 use Rattle.feed.specs.Feed.{Feed, feedOf}
 use Rattle.frame_writer.specs.Writer.{writeOf}
 use Rattle.rows.specs.Row.{afterwards, byteOr}
@@ -25,7 +25,7 @@ unfoldable pub extractorOpenOf : ℕ → List ℕ → Called
 extractorOpenOf limit state = ifFit (eqb (length state) 4) state [] [] (opened state (openOf limit))
 
 -- rows and lent bytes after a step; the limit stays
-abbrev pub stepped : List ℕ → List ℕ → ℕ → Step → Called
+abbrev pub stepped : List ℕ → List ℕ → ℕ → ByteStep → Called
 stepped state answer limit s =
     let r = replyOf (s .report) in
     called (r .number) (afterwards (r .number) state (extractorRow limit (s .next))) (s .buffer) (afterwards (r .number) answer (stepRow r))

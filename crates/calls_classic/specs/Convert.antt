@@ -9,7 +9,7 @@ use Rattle.extractor.specs.declared.state.Phase.the-variants.{Outside, PacketId
 use Rattle.extractor.specs.declared.state.Progress.{Progress}
 use Rattle.extractor.specs.declared.state.Extractor.{Extractor}
 use Rattle.extractor.specs.Outcome.{Report, skipped, taken, allUsed, frame, refused}
-use Rattle.calls_classic.specs.declared.convert.Reply.{Reply}
+use Rattle.calls_classic.specs.declared.convert.ClassicAnswer.{ClassicAnswer}
 
 -- ---- the state row: limit, phase, sequence, held
 
@@ -40,11 +40,11 @@ extractorRow limit s = limit ∷ phaseNumber (s .phase) ∷ s .sequence ∷ s .h
 
 -- ---- the answer
 
-abbrev pub reply : ℕ → ℕ → ℕ → ℕ → Reply
+abbrev pub reply : ℕ → ℕ → ℕ → ℕ → ClassicAnswer
 reply number outcome sequence n = record { number = number; outcome = outcome; sequence = sequence; length = n }
 
 -- the number that a call returns, then outcome, sequence and length; outcomes: 0 skipped or all used, 1 taken, 2 a frame
-abbrev pub replyOf : Report → Reply
+abbrev pub replyOf : Report → ClassicAnswer
 replyOf skipped = reply 0 0 0 0
 replyOf taken = reply 0 1 0 0
 replyOf allUsed = reply 0 0 0 0
@@ -52,9 +52,9 @@ replyOf (frame sequence n) = reply 0 2 sequence n
 replyOf (refused n) = reply n 0 0 0
 
 -- outcome, sequence, length
-abbrev pub stepRow : Reply → List ℕ
+abbrev pub stepRow : ClassicAnswer → List ℕ
 stepRow r = r .outcome ∷ r .sequence ∷ r .length ∷ []
 
 -- outcome, used, sequence, length
-abbrev pub feedRow : ℕ → Reply → List ℕ
+abbrev pub feedRow : ℕ → ClassicAnswer → List ℕ
 feedRow used r = r .outcome ∷ used ∷ r .sequence ∷ r .length ∷ []

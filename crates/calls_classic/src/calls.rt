@@ -10,7 +10,7 @@ use crate::convert::frame_count;
 use crate::convert::is_extractor;
 use crate::convert::step_reply;
 use extractor::state::Extractor;
-use extractor::state::Opened;
+use extractor::state::OpenedExtractor;
 use feed::many::feed;
 use frame_writer::writer::write_frame;
 use framing::header;
@@ -42,12 +42,12 @@ pub fn extractor_open(limit: u64, state: &mut [u64]) -> u64
         return UNFIT;
     }
     match Extractor::open(limit as usize) {
-        Opened::Empty(next) => {
+        OpenedExtractor::Empty(next) => {
             let row = extractor_row(next);
             write_row(state, &row);
             DONE
         }
-        Opened::BadLimit => BAD_LIMIT,
+        OpenedExtractor::BadLimit => BAD_LIMIT,
     }
 }
 

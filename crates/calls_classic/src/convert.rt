@@ -44,7 +44,7 @@ const ALL_USED: u64 = 0;
 const NOTHING: u64 = 0;
 
 // What a call answers: the number that it returns, and what the row tells.
-pub struct Reply {
+pub struct ClassicAnswer {
     pub number: u64,
     pub outcome: u64,
     pub sequence: u64,
@@ -124,11 +124,11 @@ pub fn extractor_row(state: Extractor) -> [u64; 4]
     ]
 }
 
-impl Reply {
+impl ClassicAnswer {
     fn new(number: u64, outcome: u64, sequence: u8, len: usize) -> Self
         ensures { λ r. ⌜ r ≡ reply number outcome sequence len ⌝ }
     {
-        Reply {
+        ClassicAnswer {
             number,
             outcome,
             sequence: sequence as u64,
@@ -137,24 +137,24 @@ impl Reply {
     }
 }
 
-pub fn step_reply(outcome: StepOutcome) -> Reply
+pub fn step_reply(outcome: StepOutcome) -> ClassicAnswer
     ensures { λ r. ⌜ r ≡ replyOf (told outcome) ⌝ }
 {
     match outcome {
-        StepOutcome::Skipped => Reply::new(DONE, SKIPPED, 0, 0),
-        StepOutcome::Taken => Reply::new(DONE, TAKEN, 0, 0),
-        StepOutcome::Frame { sequence, len } => Reply::new(DONE, FRAME, sequence, len),
-        StepOutcome::Refused(why) => Reply::new(wide64(why.number()), NOTHING, 0, 0),
+        StepOutcome::Skipped => ClassicAnswer::new(DONE, SKIPPED, 0, 0),
+        StepOutcome::Taken => ClassicAnswer::new(DONE, TAKEN, 0, 0),
+        StepOutcome::Frame { sequence, len } => ClassicAnswer::new(DONE, FRAME, sequence, len),
+        StepOutcome::Refused(why) => ClassicAnswer::new(wide64(why.number()), NOTHING, 0, 0),
     }
 }
 
-pub fn feed_reply(outcome: FeedOutcome) -> Reply
+pub fn feed_reply(outcome: FeedOutcome) -> ClassicAnswer
     ensures { λ r. ⌜ r ≡ replyOf (toldFeed outcome) ⌝ }
 {
     match outcome {
-        FeedOutcome::AllUsed => Reply::new(DONE, ALL_USED, 0, 0),
-        FeedOutcome::Frame { sequence, len } => Reply::new(DONE, FRAME, sequence, len),
-        FeedOutcome::Refused(why) => Reply::new(wide64(why.number()), NOTHING, 0, 0),
+        FeedOutcome::AllUsed => ClassicAnswer::new(DONE, ALL_USED, 0, 0),
+        FeedOutcome::Frame { sequence, len } => ClassicAnswer::new(DONE, FRAME, sequence, len),
+        FeedOutcome::Refused(why) => ClassicAnswer::new(wide64(why.number()), NOTHING, 0, 0),
     }
 }
 

@@ -7,7 +7,7 @@ use lib.Dec.{eqb}
 use Rattle.wire.specs.Told.{Told, given, refused}
 use Rattle.framing.specs.Mark.{startMark}
 use Rattle.parts.specs.declared.state.PartWriter.{PartWriter}
-use Rattle.parts.specs.Writer.{Wrote, beginOf, partOf}
+use Rattle.parts.specs.Writer.{PartWrote, beginOf, partOf}
 use Rattle.rows.specs.Row.{afterwards, byteOr}
 use Rattle.rows.specs.Called.{Called, called, ifFit}
 use Rattle.calls_parts.specs.Convert.{isState, stateOf, stateRow, replyOf, partRow}
@@ -27,7 +27,7 @@ frameBeginOf limit sequence total state =
     ifFit (eqb (length state) 7) state [] [] (begun state (beginOf limit (byteOr startMark sequence) total))
 
 -- rows and output after a part; the limit stays
-abbrev pub parted : List ℕ → List ℕ → ℕ → Wrote → Called
+abbrev pub parted : List ℕ → List ℕ → ℕ → PartWrote → Called
 parted state answer limit w =
     let r = replyOf (w .told) in
     called (r .number) (kept (r .number) state (stateRow limit (w .next))) (w .out) (afterwards (r .number) answer (partRow r))

@@ -9,10 +9,10 @@ use Rattle.framing.specs.declared.mark.Kind.{Kind}
 use Rattle.framing.specs.declared.mark.Kind.the-variants as kind
 use Rattle.parts.specs.declared.state.Stage.{Stage}
 use Rattle.parts.specs.declared.state.Stage.the-variants.{Start, PacketId, ErrorId, Sequence, Payload, Low, End, Done}
-use Rattle.parts.specs.declared.state.Progress.{Progress}
+use Rattle.parts.specs.declared.state.PartProgress.{PartProgress}
 use Rattle.parts.specs.declared.state.PartWriter.{PartWriter}
-use Rattle.parts.specs.Writer.{Count}
-use Rattle.calls_parts.specs.declared.convert.Reply.{Reply}
+use Rattle.parts.specs.Writer.{PartCount}
+use Rattle.calls_parts.specs.declared.convert.PartAnswer.{PartAnswer}
 
 -- ---- the state row: limit, sequence, total, taken, sum, stage, pending
 
@@ -65,7 +65,7 @@ stateOf row =
           };
     }
 
-abbrev pub stateRow : ℕ → Progress → List ℕ
+abbrev pub stateRow : ℕ → PartProgress → List ℕ
 stateRow limit s = limit ∷ s .sequence ∷ s .total ∷ s .taken ∷ s .sum ∷ stageNumber (s .stage) ∷ pendingNumber (s .pending) ∷ []
 
 -- ---- the answer
@@ -73,13 +73,13 @@ stateRow limit s = limit ∷ s .sequence ∷ s .total ∷ s .taken ∷ s .sum �
 abbrev pub flag : Bool → ℕ
 flag b = cond b 1 0
 
-abbrev pub reply : ℕ → ℕ → ℕ → ℕ → Reply
+abbrev pub reply : ℕ → ℕ → ℕ → ℕ → PartAnswer
 reply number taken written over = record { number = number; taken = taken; written = written; ended = over }
 
 -- the number that a call returns, then taken, written and whether the frame has ended
-abbrev pub replyOf : Told Count → Reply
+abbrev pub replyOf : Told PartCount → PartAnswer
 replyOf (given c) = reply 0 (c .taken) (c .written) (flag (c .ended))
 replyOf (refused n) = reply n 0 0 0
 
-abbrev pub partRow : Reply → List ℕ
+abbrev pub partRow : PartAnswer → List ℕ
 partRow r = r .taken ∷ r .written ∷ r .ended ∷ []

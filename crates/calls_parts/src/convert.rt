@@ -1,7 +1,7 @@
 // The state of a frame that is written by parts, and what a call answers, as rows.
 use framing::mark::Kind;
+use parts::state::PartProgress;
 use parts::state::PartWriter;
-use parts::state::Progress;
 use parts::state::Stage;
 use parts::writer::PartOutcome;
 use rows::row::BYTES;
@@ -27,7 +27,7 @@ const PENDING: u64 = 4;
 pub const PART_ANSWER: usize = 3;
 
 // What a call answers: the number that it returns, and what the row tells.
-pub struct Reply {
+pub struct PartAnswer {
     pub number: u64,
     pub taken: u64,
     pub written: u64,
@@ -125,7 +125,7 @@ pub fn state_of(row: &[u64]) -> PartWriter
     let limit = row[0] as usize;
     PartWriter {
         limit,
-        progress: Progress {
+        progress: PartProgress {
             sequence,
             total,
             taken,
@@ -159,7 +159,7 @@ fn number(b: bool) -> u64
     if b { 1 } else { 0 }
 }
 
-pub fn part_reply(outcome: PartOutcome) -> Reply
+pub fn part_reply(outcome: PartOutcome) -> PartAnswer
     ensures { λ r. ⌜ r ≡ replyOf (told outcome) ⌝ }
 {
     match outcome {
@@ -167,13 +167,13 @@ pub fn part_reply(outcome: PartOutcome) -> Reply
             taken,
             written,
             ended,
-        } => Reply {
+        } => PartAnswer {
             number: DONE,
             taken: taken as u64,
             written: written as u64,
             ended: number(ended),
         },
-        PartOutcome::Refused(why) => Reply {
+        PartOutcome::Refused(why) => PartAnswer {
             number: wide64(why.number()),
             taken: 0,
             written: 0,

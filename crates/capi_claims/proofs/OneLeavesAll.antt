@@ -39,8 +39,8 @@ use Rattle.field_writer.specs.Message.{writesMessage}
 use Rattle.control.specs.Envelope.{badPayload, envelopeOf, envelopeFields, envelopeWritten}
 use Rattle.control.specs.Response.{badResponsePayload, responseFields, responseWritten}
 use Rattle.walk.specs.Refusal.{numberMore}
-use Rattle.text_writer.specs.declared.Fault.{Fault}
-use Rattle.text_writer.specs.declared.Fault.the-variants.{None, At}
+use Rattle.text_writer.specs.declared.TextFault.{TextFault}
+use Rattle.text_writer.specs.declared.TextFault.the-variants.{None, At}
 use Rattle.text_writer.specs.Texts.{firstFault, faulted, aloneWritten, writesTexts}
 use Rattle.device.specs.Information.{informationStrings, informationFields, informationWritten}
 use Rattle.device.specs.Features.{featuresFields, featuresWritten}
@@ -230,7 +230,7 @@ never : {A : Type 0} → _≡_ {A = ℕ} 0 1 → A
 never e = absurd (omega arith)
 
 -- .. and of messages with strings
-texts-kept : (bad short : Bool) (fault : Fault) (n : ℕ) (out after : List ℕ)
+texts-kept : (bad short : Bool) (fault : TextFault) (n : ℕ) (out after : List ℕ)
     → let w : WrittenOf (ℕ × List ℕ) ℕ =
     cond bad (written (refused (15, [])) out)
     (faulted fault out (aloneWritten (cond bad (written (refused 15) out) (cond short (written (refused 14) out) (written (given n) after))))) in
@@ -272,7 +272,7 @@ reply-keeps message serialNumber name deviceType transports features members lin
     keeps-answers 3 (numberMore (w .told)) out answer (w .out) (replyRow (w .told)) (replied-left b link out (envelopeOf message))
 
 -- writers of firmware messages
-segment-kept : (wide fine short : Bool) (fault : Fault) (field size : ℕ) (out after : List ℕ)
+segment-kept : (wide fine short : Bool) (fault : TextFault) (field size : ℕ) (out after : List ℕ)
     → let w : WrittenOf (ℕ × List ℕ) ℕ =
     cond wide (written (refused (15, [])) out)
     (faulted fault out (cond fine (cond short (written (refused (14, [])) out) (written (given size) after)) (written (refused (50, field ∷ [])) out))) in

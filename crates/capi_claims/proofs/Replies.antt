@@ -17,8 +17,8 @@ use Rattle.sender.specs.Piece.{leastRoom, oneByteLength, extended, sizeFor, ful
 use Rattle.sender.proofs.Largest.{size-is, size-le}
 use Rattle.field.specs.Signed as signed
 use Rattle.walk.specs.Refusal.{numberMore}
-use Rattle.text_writer.specs.declared.Fault.{Fault}
-use Rattle.text_writer.specs.declared.Fault.the-variants.{None, At}
+use Rattle.text_writer.specs.declared.TextFault.{TextFault}
+use Rattle.text_writer.specs.declared.TextFault.the-variants.{None, At}
 use Rattle.text_writer.specs.Texts.{firstFault}
 use Rattle.control.specs.declared.envelope.Envelope.{Envelope}
 use Rattle.joining.specs.Joined.{joinedOf, sizes}
@@ -31,7 +31,7 @@ use Rattle.reply.specs.Reply.{Box, sendingOf, kindOf, replyOf, linkLines, strin
 abbrev Left : List ℕ → WrittenOf (ℕ × List ℕ) Replied → Type 0
 Left out w = numberMore (w .told) ≡ 1 → w .out ≡ out
 
-carried-left : (long short : Bool) (fault : Fault) (n : ℕ) (out after : List ℕ)
+carried-left : (long short : Bool) (fault : TextFault) (n : ℕ) (out after : List ℕ)
     → Left out (cond long (refusing out 15) (faulted fault out (cond short (refusing out 14) (written (given (sent n)) after))))
 carried-left true short fault n out after = λ e. refl
 carried-left false short (At field place) n out after = λ e. refl

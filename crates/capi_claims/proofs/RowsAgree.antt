@@ -9,7 +9,7 @@ use lib.Seq.{getD-append-add}
 use lib.Dec.{leb, eqb, ltb}
 use borrow.Author.Tests.{le-ltb, eq-eqb}
 use Rattle.wire.specs.Told.{Told, given, refused, andThen}
-use Rattle.field.specs.declared.tag.Head.{Head}
+use Rattle.field.specs.declared.tag.FieldHead.{FieldHead}
 use Rattle.field.specs.declared.value.Value.{Value}
 use Rattle.field.specs.declared.value.Value.the-variants.{Number, Bytes, Skipped}
 use Rattle.field.specs.Unsigned.{unsignedOf}
@@ -135,7 +135,7 @@ module _ (a : ApplyFirmware) (version : Unsigned32 (a .«firmware_information» 
   apply-agrees texts out answer = rw (eq-eqb (length (wholeRow a)) 57 row-length, row-fine, row-again)
 
 -- ---- a field
-module _ (s : List ℕ) (h : Head) where
+module _ (s : List ℕ) (h : FieldHead) where
   -- as rowValue, by the two tests of the kind
   abbrev told : Bool → Bool → List ℕ → Standing
   told number bytes row =
@@ -186,7 +186,7 @@ field-agrees : (s : List ℕ) (at : ℕ) → andThen (fieldAt s at) (λ row. giv
 unfolding fieldAt foundAt
 field-agrees s at = go (leb (length s) at) (tagAt s at)
   where
-    go : (over : Bool) (t : Told Head)
+    go : (over : Bool) (t : Told FieldHead)
         → andThen (cond over (given (replicate 7 0)) (andThen t (λ h. andThen (valueAt s (h .next) (h .wire)) (λ v. given (fieldRow h (v .0) (v .1)))))) (λ row. given (rowStanding row))
         ≡ cond over (given end) (andThen t (λ h. andThen (valueAt s (h .next) (h .wire)) (λ v. given (field (h .field) (v .0) (v .1)))))
     go true t = refl

@@ -18,10 +18,12 @@ use Rattle.wire.proofs.Limits.{range-limit}
 use Rattle.field.specs.Signed.{signedOf, extended}
 use Rattle.field.specs.Tag.{varintType, lengthType, lastField}
 use Rattle.field_writer.specs.Writer.{Field, messageBytes}
-use Rattle.framing.specs.Mark.{startMark, endMark, escapeMark, kindOf, isMark}
+use Rattle.framing.specs.Mark.{startMark, isMark}
 use Rattle.framing.specs.Frame.{frameOf, checksumOf}
+use Rattle.frame_writer.specs.Sending.{NoMark}
 use Rattle.frame_writer.specs.Writer.{writeOf}
 use Rattle.frame_writer.proofs.Escaping.{frame-most}
+use Rattle.frame_writer.proofs.Sending.{no-mark}
 use Rattle.packet.specs.Header.{inRange}
 use Rattle.packet.specs.Control.{ackSize, ackBytes}
 use Rattle.packet.proofs.Headers.{in-range}
@@ -61,7 +63,8 @@ use Rattle.outbox.specs.Writer.{newOf, badRecord, appendOf}
 use Rattle.outbox.proofs.Versions.{known-small, format-known}
 use Rattle.outbox.proofs.Walk.{whole-version}
 use Rattle.outbox.proofs.Stored.{length-record}
-use Rattle.round_trips.specs.Premises.{Number32, Numbers32}
+use Rattle.round_trips.specs.RoundTrip.{MemberNumber}
+use Rattle.round_trips.specs.Premises.{InSigned32, AllInSigned32}
 use Rattle.round_trips.proofs.Premises.{signed}
 use Rattle.round_trips.proofs.Values.{signed-trip}
 use Rattle.rows.specs.Row.{numberTold, byteOr, outOfRange}
@@ -84,7 +87,7 @@ use Rattle.calls_reply.specs.Calls.{replyWriteOf}
 use Rattle.rows_firmware.specs.Apply.{applyAt}
 use Rattle.calls_firmware.specs.Calls.{segmentStored, segmentWriteOf, applyStored, applyWriteOf}
 use Rattle.calls_outbox.specs.Calls.{outboxNewOf, outboxAppendOf}
-use Rattle.capi_claims.specs.SizesSuffice.{Done, StreamNumber, NoMark, MemberNumber, PayloadField, RowFits, stringsOf, SizesSuffice, frameSize, envelopeSize, responseSize, informationSize, featuresSize, replySize, segmentSize, applySize, recordSize}
+use Rattle.capi_claims.specs.SizesSuffice.{Done, StreamNumber, PayloadField, RowFits, stringsOf, SizesSuffice, frameSize, envelopeSize, responseSize, informationSize, featuresSize, replySize, segmentSize, applySize, recordSize}
 use Rattle.capi_claims.proofs.Sizes.{scalar-most, text-most, nested-most, packed-most, tag-most, tag-small}
 use Rattle.capi_claims.proofs.Replies.{joined-most}
 use Rattle.capi_claims.proofs.Applies.{not-wide, low-same, row-fine, firmware-fine, strings-fine, apply-most}
@@ -122,10 +125,6 @@ byte-is : (other n : ℕ) → n < 256 → byteOr other n ≡ n
 unfolding byteOr
 byte-is other n h = rw (lt-ltb n 256 h)
 
-unmarked : (b : ℕ) → NoMark b → isMark b ≡ false
-unfolding kindOf
-unmarked b none = rw (ne-eqb b startMark (none .0), ne-eqb b endMark (none .1), ne-eqb b escapeMark (none .2))
-
 frame-done : (limit sequence : ℕ) (payload out answer : List ℕ) → length answer ≡ 1
     → 1 ≤ limit → limit ≤ 65535 → sequence < 256 → NoMark sequence → length payload ≤ limit → frameSize (length payload) ≤ length out
     → Done (frameWriteOf limit sequence payload out answer)
@@ -136,7 +135,7 @@ frame-done limit sequence payload out answer l some most b m n h =
     (rw (range-limit limit some most)
     (done-two (isMark sequence || ltb limit (length payload)) (length (frameOf sequence payload)) out
     (length (frameOf sequence payload)) (sets out 0 (frameOf sequence payload))
-    (rw (unmarked sequence m, le-ltb limit (length payload) n))
+    (rw (no-mark sequence m, le-ltb limit (length payload) n))
     (omega (arith, frame-most sequence payload (checksumOf payload / 256) (checksumOf payload % 256))))))
 
 stream-byte : (n : ℕ) → StreamNumber n → n < 256
@@ -205,11 +204,11 @@ envelope-most command (envelope.Member field) bytes =
     rw (length-append, length-append)
     (omega (arith, scalar-most commandField command, tag-small commandField varintType refl, nested-most field bytes, tag-most field lengthType))
 
-is-signed : (z : ℤ) → Number32 z → isSigned (extended z) ≡ true
+is-signed : (z : ℤ) → InSigned32 z → isSigned (extended z) ≡ true
 unfolding isSigned
 is-signed z h = eq-eqb _ _ (ap extended (signed-trip z (signed z h)))
 
-all-are-signed : (zs : List ℤ) → Numbers32 zs → allSigned (map extended zs) ≡ true
+all-are-signed : (zs : List ℤ) → AllInSigned32 zs → allSigned (map extended zs) ≡ true
 unfolding allSigned
 all-are-signed [] h = refl
 all-are-signed (z ∷ zs) h = rw (is-signed z (h .0), all-are-signed zs (h .1))
@@ -217,7 +216,7 @@ all-are-signed (z ∷ zs) h = rw (is-signed z (h .0), all-are-signed zs (h .1))
 member-fine : (field : ℕ) → MemberNumber field → badMember field ≡ false
 member-fine field h = rw (le-ltb field 2 (h .0), le-ltb lastField field (h .1))
 
-payload-fine : (code : ℤ) (field : ℕ) → Number32 code → PayloadField field → badResponsePayload (responsePayloadOf (extended code) field) ≡ false
+payload-fine : (code : ℤ) (field : ℕ) → InSigned32 code → PayloadField field → badResponsePayload (responsePayloadOf (extended code) field) ≡ false
 unfolding responsePayloadOf
 payload-fine code field h (inl e) = rw (is-signed code h, e)
 payload-fine code field h (inr m) = rw (is-signed code h, ne-eqb field 0 (λ e. absurd (omega (arith, m .0, e)))) (member-fine field m)
@@ -230,40 +229,40 @@ envelope-by command payload bytes out answer l b h =
     message-done (badPayload payload) (envelopeFields (extended (signedOf command)) payload bytes) out answer l b
     (omega (arith, envelope-most (extended (signedOf command)) payload bytes))
 
-none-fine : (command : ℤ) (code field : ℕ) → Number32 command → badPayload (payloadFor (extended command) 0 code field) ≡ false
+none-fine : (command : ℤ) (code field : ℕ) → InSigned32 command → badPayload (payloadFor (extended command) 0 code field) ≡ false
 unfolding payloadFor
 none-fine command code field c = rw (is-signed command c)
 
 envelope-none : (command : ℤ) (code field : ℕ) (bytes out answer : List ℕ) → length answer ≡ 1
-    → Number32 command → envelopeSize (length bytes) ≤ length out
+    → InSigned32 command → envelopeSize (length bytes) ≤ length out
     → Done (envelopeWriteOf (extended command) (payloadFor (extended command) 0 code field) bytes out answer)
 envelope-none command code field bytes out answer l c h =
     envelope-by (extended command) _ bytes out answer l (none-fine command code field c) h
 
-response-fine : (command code : ℤ) (field : ℕ) → Number32 command → Number32 code → PayloadField field
+response-fine : (command code : ℤ) (field : ℕ) → InSigned32 command → InSigned32 code → PayloadField field
     → badPayload (payloadFor (extended command) 1 (extended code) field) ≡ false
 unfolding payloadFor
 response-fine command code field c k f = rw (is-signed command c) (payload-fine code field k f)
 
 envelope-response : (command code : ℤ) (field : ℕ) (bytes out answer : List ℕ) → length answer ≡ 1
-    → Number32 command → Number32 code → PayloadField field → envelopeSize (length bytes) ≤ length out
+    → InSigned32 command → InSigned32 code → PayloadField field → envelopeSize (length bytes) ≤ length out
     → Done (envelopeWriteOf (extended command) (payloadFor (extended command) 1 (extended code) field) bytes out answer)
 envelope-response command code field bytes out answer l c k f h =
     envelope-by (extended command) _ bytes out answer l (response-fine command code field c k f) h
 
-other-fine : (command : ℤ) (code field : ℕ) → Number32 command → MemberNumber field → (field ≡ 9 → ⊥)
+other-fine : (command : ℤ) (code field : ℕ) → InSigned32 command → MemberNumber field → (field ≡ 9 → ⊥)
     → badPayload (payloadFor (extended command) 2 code field) ≡ false
 unfolding payloadFor
 other-fine command code field c m other = rw (is-signed command c, member-fine field m, ne-eqb field responseField other)
 
 envelope-member : (command : ℤ) (code field : ℕ) (bytes out answer : List ℕ) → length answer ≡ 1
-    → Number32 command → MemberNumber field → (field ≡ 9 → ⊥) → envelopeSize (length bytes) ≤ length out
+    → InSigned32 command → MemberNumber field → (field ≡ 9 → ⊥) → envelopeSize (length bytes) ≤ length out
     → Done (envelopeWriteOf (extended command) (payloadFor (extended command) 2 code field) bytes out answer)
 envelope-member command code field bytes out answer l c m other h =
     envelope-by (extended command) _ bytes out answer l (other-fine command code field c m other) h
 
 response-done : (code : ℤ) (field : ℕ) (bytes out answer : List ℕ) → length answer ≡ 1
-    → Number32 code → PayloadField field → responseSize (length bytes) ≤ length out
+    → InSigned32 code → PayloadField field → responseSize (length bytes) ≤ length out
     → Done (responseWriteOf (extended code) field bytes out answer)
 unfolding responseWriteOf responseWritten
 response-done code field bytes out answer l c f h =
@@ -307,7 +306,7 @@ information-most serialNumber name transports deviceType h =
     ))
 
 information-done : (serialNumber name deviceType : List ℕ) (transports : List ℤ) (out answer : List ℕ) → length answer ≡ 3
-    → Numbers32 transports → length transports ≤ 8 → WellFormed serialNumber → WellFormed name → WellFormed deviceType
+    → AllInSigned32 transports → length transports ≤ 8 → WellFormed serialNumber → WellFormed name → WellFormed deviceType
     → informationSize (length serialNumber) (length name) (length deviceType) ≤ length out
     → Done (informationWriteOf serialNumber name deviceType (map extended transports) out answer)
 unfolding informationWriteOf informationWritten
@@ -345,7 +344,7 @@ carried-well serialNumber name deviceType Features s n t = tt
 carried-well serialNumber name deviceType Bare s n t = tt
 carried-well serialNumber name deviceType Other s n t = tt
 
-few-transports : (transports : List ℤ) → Numbers32 transports → length transports ≤ 8 → length (transportsFor (map extended transports)) ≤ mostTransports
+few-transports : (transports : List ℤ) → AllInSigned32 transports → length transports ≤ 8 → length (transportsFor (map extended transports)) ≤ mostTransports
 unfolding fewSigned
 few-transports transports e few =
     rw (
@@ -391,7 +390,7 @@ room-is room low high = rw (le-leb leastRoom room low, le-leb room largestRoom h
 reply-done : (message serialNumber name deviceType : List ℕ) (transports : List ℤ) (features : DeviceFeatures) (members : Members)
     (room limit id sequence : ℕ) (e : Envelope) (out answer : List ℕ) → length answer ≡ 3 → envelopeOf message ≡ given e
     → 20 ≤ room → room ≤ 512 → limit ≤ 65535 → id ≤ 15 → sequence ≤ 15 → MemberNumber (members .information) → MemberNumber (members .features)
-    → Numbers32 transports → length transports ≤ 8 → WellFormed serialNumber → WellFormed name → WellFormed deviceType
+    → AllInSigned32 transports → length transports ≤ 8 → WellFormed serialNumber → WellFormed name → WellFormed deviceType
     → envelopeSize (informationSize (length serialNumber) (length name) (length deviceType)) ≤ limit
     → replySize (length serialNumber) (length name) (length deviceType) ≤ length out
     → Done (replyWriteOf message serialNumber name deviceType (map extended transports) features members (linkOf room limit id sequence) out answer)

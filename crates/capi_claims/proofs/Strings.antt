@@ -25,7 +25,8 @@ use Rattle.firmware.specs.Segment.{segmentMade, segmentJudged, segmentOf, segme
 use Rattle.firmware.specs.Apply.{applyOf}
 use Rattle.firmware.proofs.Segments.{judged-within}
 use Rattle.firmware_round_trips.specs.RoundTrip.{ComponentsTake, FirmwareTakes}
-use Rattle.firmware_round_trips.proofs.Told.{Gathers, gathers, text-within, apply-takes}
+use Rattle.firmware.proofs.Insides.{Gathers, gathers, text-within}
+use Rattle.firmware_round_trips.proofs.Told.{apply-takes}
 use Rattle.rows.specs.Row.{afterwards}
 use Rattle.rows.specs.Called.{called, ifFit, answers}
 use Rattle.rows_messages.specs.Convert.{informationRow}
@@ -53,7 +54,7 @@ information-strings s =
     sat-then (Gathers s) (λ (i : DeviceInformation). Strings s (informationParts i)) (fieldsFrom Schema.Information s 0) _ (gathers Schema.Information s 0)
     (λ g w. (
       (text-within s g first w, (text-within s g second w, (text-within s g third w, tt))),
-      (text-get s (g .texts) first (w .2), (text-get s (g .texts) second (w .2), (text-get s (g .texts) third (w .2), tt))),
+      (text-get s (g .texts) first (w .texts), (text-get s (g .texts) second (w .texts), (text-get s (g .texts) third (w .texts), tt))),
     ))
 
 information-lies : (s : List ℕ) (t : ToldMore DeviceInformation) → Sat (λ (i : DeviceInformation). Strings s (informationParts i)) t
@@ -68,7 +69,7 @@ segment-strings s = by-gathered (fieldsFrom Schema.Segment s 0) (gathers Schema.
   where
     by-gathered : (r : ToldMore Gathered) → Sat (Gathers s) r → TellsStrings s segmentParts (andThen r (λ g. segmentJudged s (segmentMade g)))
     by-gathered (given g) w =
-        judged-within s (segmentMade g) (text-within s g first w, (text-within s g second w, tt)) (text-get s (g .texts) first (w .2), (text-get s (g .texts) second (w .2), tt))
+        judged-within s (segmentMade g) (text-within s g first w, (text-within s g second w, tt)) (text-get s (g .texts) first (w .texts), (text-get s (g .texts) second (w .texts), tt))
     by-gathered (refused why) w = tt
 
 segment-lies : (s : List ℕ) (t : ToldMore UpdateComponentSegment) → TellsStrings s segmentParts t → LiesAt s (segmentRow t) 0 × LiesAt s (segmentRow t) 4

@@ -9,6 +9,7 @@ use lib.IntN.{ℤ}
 use lib.ListN.{length, take, getD}
 use Rattle.wire.specs.Told as told
 use Rattle.packet.specs.Control.{ackSize}
+use Rattle.frame_writer.specs.Sending.{NoMark}
 use Rattle.sender.specs.Writer.{begins, foundAt}
 use Rattle.field.specs.Signed.{extended}
 use Rattle.field.specs.Value.{bytesOf}
@@ -20,7 +21,8 @@ use Rattle.reply.specs.declared.body.Members.{Members}
 use Rattle.outbox.specs.declared.format.Format.{Format}
 use Rattle.outbox.specs.Format.{Known, formatOf, headSize}
 use Rattle.outbox.specs.Reader.{given, walkOf}
-use Rattle.round_trips.specs.Premises.{Number32, Numbers32}
+use Rattle.round_trips.specs.RoundTrip.{MemberNumber}
+use Rattle.round_trips.specs.Premises.{InSigned32, AllInSigned32}
 use Rattle.firmware_round_trips.specs.RoundTrip.{Unsigned32}
 use Rattle.firmware_round_trips.specs.Premises.{Digits}
 use Rattle.rows.specs.Called.{Called}
@@ -77,14 +79,7 @@ Done c = c .number ≡ 0
 abbrev pub StreamNumber : ℕ → Type 0
 StreamNumber n = (n ≡ 0) ⊎ (n ≡ 2) ⊎ (n ≡ 6)
 
--- none of F0, F1 and F2
-abbrev pub NoMark : ℕ → Type 0
-NoMark n = (n ≡ 240 → ⊥) × (n ≡ 241 → ⊥) × (n ≡ 242 → ⊥)
-
--- a member's number, and 0 or one for a response's payload
-abbrev pub MemberNumber : ℕ → Type 0
-MemberNumber n = (2 ≤ n) × (n ≤ 536870911)
-
+-- 0, or the number of a response's payload
 abbrev pub PayloadField : ℕ → Type 0
 PayloadField n = (n ≡ 0) ⊎ MemberNumber n
 
@@ -135,19 +130,19 @@ pub record SizesSuffice : Type 0 where
       → Done (ackWriteOf stream id sequence positive out answer)
   -- no payload, whatever stands for it; a response; another member, which is not 9
   pub envelope-none : (command : ℤ) (code field : ℕ) (bytes out answer : List ℕ) → length answer ≡ 1
-      → Number32 command → envelopeSize (length bytes) ≤ length out
+      → InSigned32 command → envelopeSize (length bytes) ≤ length out
       → Done (envelopeWriteOf (extended command) (payloadFor (extended command) 0 code field) bytes out answer)
   pub envelope-response : (command code : ℤ) (field : ℕ) (bytes out answer : List ℕ) → length answer ≡ 1
-      → Number32 command → Number32 code → PayloadField field → envelopeSize (length bytes) ≤ length out
+      → InSigned32 command → InSigned32 code → PayloadField field → envelopeSize (length bytes) ≤ length out
       → Done (envelopeWriteOf (extended command) (payloadFor (extended command) 1 (extended code) field) bytes out answer)
   pub envelope-member : (command : ℤ) (code field : ℕ) (bytes out answer : List ℕ) → length answer ≡ 1
-      → Number32 command → MemberNumber field → (field ≡ 9 → ⊥) → envelopeSize (length bytes) ≤ length out
+      → InSigned32 command → MemberNumber field → (field ≡ 9 → ⊥) → envelopeSize (length bytes) ≤ length out
       → Done (envelopeWriteOf (extended command) (payloadFor (extended command) 2 code field) bytes out answer)
   pub response-write : (code : ℤ) (field : ℕ) (bytes out answer : List ℕ) → length answer ≡ 1
-      → Number32 code → PayloadField field → responseSize (length bytes) ≤ length out
+      → InSigned32 code → PayloadField field → responseSize (length bytes) ≤ length out
       → Done (responseWriteOf (extended code) field bytes out answer)
   pub information-write : (serialNumber name deviceType : List ℕ) (transports : List ℤ) (out answer : List ℕ) → length answer ≡ 3
-      → Numbers32 transports → length transports ≤ 8 → WellFormed serialNumber → WellFormed name → WellFormed deviceType
+      → AllInSigned32 transports → length transports ≤ 8 → WellFormed serialNumber → WellFormed name → WellFormed deviceType
       → informationSize (length serialNumber) (length name) (length deviceType) ≤ length out
       → Done (informationWriteOf serialNumber name deviceType (map extended transports) out answer)
   pub features-write : (features attributes : ℕ) (out answer : List ℕ) → length answer ≡ 1 → featuresSize ≤ length out
@@ -156,7 +151,7 @@ pub record SizesSuffice : Type 0 where
   pub reply-write : (message serialNumber name deviceType : List ℕ) (transports : List ℤ) (features : DeviceFeatures) (members : Members)
       (room limit id sequence : ℕ) (e : Envelope) (out answer : List ℕ) → length answer ≡ 3 → envelopeOf message ≡ told.given e
       → 20 ≤ room → room ≤ 512 → limit ≤ 65535 → id ≤ 15 → sequence ≤ 15 → MemberNumber (members .information) → MemberNumber (members .features)
-      → Numbers32 transports → length transports ≤ 8 → WellFormed serialNumber → WellFormed name → WellFormed deviceType
+      → AllInSigned32 transports → length transports ≤ 8 → WellFormed serialNumber → WellFormed name → WellFormed deviceType
       → envelopeSize (informationSize (length serialNumber) (length name) (length deviceType)) ≤ limit
       → replySize (length serialNumber) (length name) (length deviceType) ≤ length out
       → Done (replyWriteOf message serialNumber name deviceType (map extended transports) features members (linkOf room limit id sequence) out answer)

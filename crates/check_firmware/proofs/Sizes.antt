@@ -10,8 +10,8 @@ use lib.Dec.{eqb, ltb}
 use borrow.Author.Tests.{ltb-false}
 use Rattle.wire.specs.Told.{WrittenOf, given, refused, written}
 use Rattle.field_writer.specs.Writer.{messageBytes}
-use Rattle.text_writer.specs.declared.Fault.{Fault}
-use Rattle.text_writer.specs.declared.Fault.the-variants.{None, At}
+use Rattle.text_writer.specs.declared.TextFault.{TextFault}
+use Rattle.text_writer.specs.declared.TextFault.the-variants.{None, At}
 use Rattle.text_writer.specs.declared.TextWrote.{TextWrote}
 use Rattle.text_writer.specs.Texts.{firstFault, faulted, toldTextWrote, textWroteSize}
 use Rattle.firmware.specs.declared.apply.ApplyFirmware.{ApplyFirmware}
@@ -34,7 +34,7 @@ module _ (out l name : List ℕ) (offset size : ℕ) (signature : List ℕ) wher
   abbrev bytes : List ℕ
   bytes = messageBytes (segmentFields name offset size signature)
 
-  done : (n : ℕ) (fault : Fault) (whole short : Bool) → ltb (length out) (length bytes) ≡ short
+  done : (n : ℕ) (fault : TextFault) (whole short : Bool) → ltb (length out) (length bytes) ≡ short
       → written {N = ℕ × List ℕ} (given n) l
       ≡ faulted fault out (cond whole (cond short (written (refused (14, [])) out) (written (given (length bytes)) (sets out 0 bytes))) (written (refused (50, brokenField offset signature ∷ [])) out))
       → n ≤ length l

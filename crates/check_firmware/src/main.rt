@@ -15,7 +15,7 @@ use firmware_writer::apply::write_apply;
 use firmware_writer::segment::SegmentWrote;
 use firmware_writer::segment::write_segment;
 use libc::STDIN_FILENO;
-use walk::refusal::Verdict;
+use walk::refusal::WalkVerdict;
 ghost use Prim.Native.Nat.{_≤_};
 ghost use lib.ListN.{length};
 ghost use Rattle.firmware_writer.specs.Segment.{segmentWroteSize};
@@ -62,8 +62,8 @@ fn apply_again(message: &[u8], out: &mut [u8]) {
     let read = read_apply(message);
     let verdict = read.verdict;
     match verdict {
-        Verdict::Refused(e) => refuse(e.number()),
-        Verdict::Fine => {
+        WalkVerdict::Refused(e) => refuse(e.number()),
+        WalkVerdict::Fine => {
             let apply = read.apply;
             let wrote = write_apply(out, apply, message);
             show_text(wrote, out);

@@ -22,7 +22,7 @@ use device::features::write_features;
 use device::information::read_information;
 use device::information::write_information;
 use libc::STDIN_FILENO;
-use walk::refusal::Verdict;
+use walk::refusal::WalkVerdict;
 
 const ENVELOPE: u8 = b'E';
 
@@ -86,8 +86,8 @@ fn information_again(message: &[u8], out: &mut [u8]) {
     let read = read_information(message);
     let verdict = read.verdict;
     match verdict {
-        Verdict::Refused(e) => refuse(e.number()),
-        Verdict::Fine => {
+        WalkVerdict::Refused(e) => refuse(e.number()),
+        WalkVerdict::Fine => {
             let i = read.information;
             let serial_number = i.serial_number;
             let name = i.name;

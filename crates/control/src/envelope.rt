@@ -21,7 +21,7 @@ use field_writer::message::bad_member;
 use walk::gathered::Gathered;
 use walk::reader::read_fields;
 use walk::refusal::MessageRefusal;
-use walk::refusal::Verdict;
+use walk::refusal::WalkVerdict;
 use walk::schema::COMMAND;
 use walk::schema::FIRST;
 use walk::schema::RESPONSE;
@@ -102,8 +102,8 @@ pub fn read_envelope(message: &[u8]) -> EnvelopeRead
     let verdict = kept.verdict;
     let gathered = kept.gathered;
     match verdict {
-        Verdict::Refused(e) => EnvelopeRead::Refused(e),
-        Verdict::Fine => match read_payload(message, gathered) {
+        WalkVerdict::Refused(e) => EnvelopeRead::Refused(e),
+        WalkVerdict::Fine => match read_payload(message, gathered) {
             PayloadRead::Refused(e) => EnvelopeRead::Refused(e),
             PayloadRead::Read(payload) => EnvelopeRead::Read(Envelope {
                 command: low_signed(gathered.scalars[FIRST]),

@@ -11,7 +11,7 @@ use field_writer::message::Wrote;
 use field_writer::message::bad_member;
 use walk::reader::read_fields;
 use walk::refusal::MessageRefusal;
-use walk::refusal::Verdict;
+use walk::refusal::WalkVerdict;
 use walk::schema::ERROR_CODE;
 use walk::schema::FIRST;
 use walk::schema::Schema;
@@ -53,8 +53,8 @@ pub(crate) fn response_from(message: &[u8], at: usize) -> ResponseRead
     let verdict = kept.verdict;
     let gathered = kept.gathered;
     match verdict {
-        Verdict::Refused(e) => ResponseRead::Refused(e),
-        Verdict::Fine => {
+        WalkVerdict::Refused(e) => ResponseRead::Refused(e),
+        WalkVerdict::Fine => {
             let part = gathered.part;
             ResponseRead::Read(Response {
                 error_code: low_signed(gathered.scalars[FIRST]),

@@ -12,15 +12,15 @@ use Rattle.packet.specs.Header.{fourBits}
 use Rattle.packet.proofs.Headers.{stream-back}
 use Rattle.slot.specs.declared.Slot.{Slot}
 use Rattle.receiver.specs.Receiver.{Result, acceptOf}
-use Rattle.receiver.proofs.Accepting.{Fits, ready-next}
+use Rattle.receiver.proofs.Accepting.{SlotsFit, ready-next}
 use Rattle.sender.specs.declared.piece.Piece.{Piece}
 use Rattle.sender.specs.declared.writer.Sending.{Sending}
 use Rattle.sender.specs.Piece.{leastRoom, isFirst, sizeFor, piecesFrom, piecesOf}
 use Rattle.sender.specs.Writer.{headerBytes, packetOf, packetsOf}
 use Rattle.sender.proofs.Largest.{size-le, size-some}
-use Rattle.sender.proofs.Guard.{InRange, room-low, range-facts}
+use Rattle.sender.proofs.Guard.{SendingInRange, room-low, range-facts}
 use Rattle.delivery.proofs.CallsGiveAll.{calls-are}
-use Rattle.delivery.specs.Delivery.{Reply, runOf, Message, those, ours, givenIn, givenTo, messageOf, atLast, MessagesArrive, RoundTrip, MessageAsked}
+use Rattle.delivery.specs.Delivery.{PacketReply, runOf, Message, those, ours, givenIn, givenTo, messageOf, atLast, MessagesArrive, RoundTrip, MessageAsked}
 use Rattle.delivery.proofs.Steps.{gives, Holding, Awaits, start, within, holding-kept, pieceFor, last-step, more-step}
 
 -- ---- one packet of a run
@@ -75,7 +75,7 @@ last-later : (g : Message) (w : Sending) (m : List ℕ) (fuel index place rest :
 last-later g w m zero index place rest l = absurd (omega arith)
 last-later g w m (suc fuel) index place rest l = refl
 
-module _ (limit : ℕ) (w : Sending) (m : List ℕ) (room : leastRoom ≤ w .room) (ok : InRange limit w (length m)) where
+module _ (limit : ℕ) (w : Sending) (m : List ℕ) (room : leastRoom ≤ w .room) (ok : SendingInRange limit w (length m)) where
   abbrev packetsFrom : ℕ → ℕ → ℕ → ℕ → List (List ℕ)
   packetsFrom fuel index place rest = map (packetOf w m) (piecesFrom fuel (w .room) index place rest)
 
@@ -134,7 +134,7 @@ module _ (limit : ℕ) (w : Sending) (m : List ℕ) (room : leastRoom ≤ w .roo
   rest-given (q ∷ ds) fuel index place rest slots bytes h t f s e = rest-by q ds (rest-given ds) (ours w q) refl fuel index place rest slots bytes h t f s e
 
   -- the first packet comes, and later the others
-  all-given : (first : List ℕ) (later : List (List ℕ)) (slots : List Slot) (bytes : List ℕ) → Fits limit slots bytes
+  all-given : (first : List ℕ) (later : List (List ℕ)) (slots : List Slot) (bytes : List ℕ) → SlotsFit limit slots bytes
       → first ≡ getD (packetsOf w m) 0 [] → those (ours w) later ≡ drop 1 (packetsOf w m)
       → givenTo limit w (runOf limit slots bytes (first ∷ later)) ≡ atLast (messageOf w m) (drop 1 (packetsOf w m))
   all-given first later slots bytes o begins e =
@@ -145,13 +145,13 @@ module _ (limit : ℕ) (w : Sending) (m : List ℕ) (room : leastRoom ≤ w .roo
 -- ---- whatever came before, whatever comes after
 
 -- a ready receiver, from which the rest of the run goes on
-record Later (limit : ℕ) (replies : List Reply) (rest : List (List ℕ)) : Type 0 where
+record Later (limit : ℕ) (replies : List PacketReply) (rest : List (List ℕ)) : Type 0 where
   pub slots : List Slot
   pub bytes : List ℕ
-  pub is-ready : Fits limit slots bytes
+  pub is-ready : SlotsFit limit slots bytes
   pub same : replies ≡ runOf limit slots bytes rest
 
-later-on : (limit : ℕ) (slots : List Slot) (bytes : List ℕ) (before rest : List (List ℕ)) → Fits limit slots bytes
+later-on : (limit : ℕ) (slots : List Slot) (bytes : List ℕ) (before rest : List (List ℕ)) → SlotsFit limit slots bytes
     → Later limit (drop (length before) (runOf limit slots bytes (before ++ rest))) rest
 unfolding runOf
 later-on limit slots bytes [] rest o = record { slots = slots; bytes = bytes; is-ready = o; same = refl }
@@ -164,12 +164,12 @@ unfolding runOf
 run-cut limit slots bytes [] after = refl
 run-cut limit slots bytes (q ∷ ds) after = rw (run-cut limit (acceptOf limit slots bytes q .slots) (acceptOf limit slots bytes q .bytes) ds after)
 
-during-given : (limit : ℕ) (first : List ℕ) (later after : List (List ℕ)) (w : Sending) (m : List ℕ) (replies : List Reply)
-    → leastRoom ≤ w .room → InRange limit w (length m) → first ≡ getD (packetsOf w m) 0 [] → those (ours w) later ≡ drop 1 (packetsOf w m)
+during-given : (limit : ℕ) (first : List ℕ) (later after : List (List ℕ)) (w : Sending) (m : List ℕ) (replies : List PacketReply)
+    → leastRoom ≤ w .room → SendingInRange limit w (length m) → first ≡ getD (packetsOf w m) 0 [] → those (ours w) later ≡ drop 1 (packetsOf w m)
     → Later limit replies ((first ∷ later) ++ after)
     → givenTo limit w (take (length (first ∷ later)) replies) ≡ atLast (messageOf w m) (drop 1 (packetsOf w m))
 during-given limit first later after w m replies room ok begins e l =
-    ap (λ (rs : List Reply). givenTo limit w (take (length (first ∷ later)) rs)) (l .same)
+    ap (λ (rs : List PacketReply). givenTo limit w (take (length (first ∷ later)) rs)) (l .same)
     ∙ ap (givenTo limit w) (run-cut limit (l .slots) (l .bytes) (first ∷ later) after)
     ∙ all-given limit w m room ok first later (l .slots) (l .bytes) (l .is-ready) begins e
 
@@ -188,7 +188,7 @@ all-ours w m [] l = refl
 all-ours w m (p ∷ ps) l = rw (packet-ours w m p l, all-ours w m ps l)
 
 replies-ours : (limit : ℕ) (slots : List Slot) (bytes : List ℕ) (w : Sending) (m : List ℕ) (ps : List Piece) → w .id < fourBits
-    → those (λ (r : Reply). ours w (r .packet)) (runOf limit slots bytes (map (packetOf w m) ps)) ≡ runOf limit slots bytes (map (packetOf w m) ps)
+    → those (λ (r : PacketReply). ours w (r .packet)) (runOf limit slots bytes (map (packetOf w m) ps)) ≡ runOf limit slots bytes (map (packetOf w m) ps)
 unfolding runOf
 replies-ours limit slots bytes w m [] l = refl
 replies-ours limit slots bytes w m (p ∷ ps) l =

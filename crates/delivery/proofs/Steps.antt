@@ -16,7 +16,7 @@ use Rattle.packet.specs.declared.reader.Packet.{Packet}
 use Rattle.packet.specs.Header.{headerSize, sequenceAfter}
 use Rattle.packet.specs.Reader.{headIn, readOf}
 use Rattle.slot.specs.declared.Slot.{Slot}
-use Rattle.slot.specs.declared.step.Payload.{Payload}
+use Rattle.slot.specs.declared.step.PayloadPlace.{PayloadPlace}
 use Rattle.slot.specs.Slot.{idle, isOpen, slotCount, laneStart, laneOf}
 use Rattle.slot.specs.Step.{Step, step, finish, hold, firstStep, offTotal, nextStep, placeWhere}
 use Rattle.slot.proofs.Slots.{lawful-count}
@@ -24,12 +24,12 @@ use Rattle.slot.proofs.Lanes.{place-low, lane-set, lane-one}
 use Rattle.receiver.specs.Buffer.{partStart, partOf, stored}
 use Rattle.receiver.specs.Receiver.{Result, applied, actIn, acceptOf}
 use Rattle.receiver.proofs.Parts.{part-inside}
-use Rattle.receiver.proofs.Accepting.{Fits, accept-ready, ready-next, accept-other}
+use Rattle.receiver.proofs.Accepting.{SlotsFit, accept-ready, ready-next, accept-other}
 use Rattle.sender.specs.declared.piece.Piece.{Piece}
 use Rattle.sender.specs.declared.writer.Sending.{Sending}
 use Rattle.sender.specs.Piece.{extended, isFirst}
 use Rattle.sender.specs.Writer.{isLast, packetOf}
-use Rattle.sender.proofs.Guard.{InRange}
+use Rattle.sender.proofs.Guard.{SendingInRange}
 use Rattle.delivery.specs.Delivery.{Message, givenBy, ours, messageOf}
 use Rattle.delivery.proofs.Reading.{headFor, first-read, next-read, payload-read}
 use Rattle.delivery.proofs.Growing.{part-grows}
@@ -37,7 +37,7 @@ use Rattle.delivery.proofs.Growing.{part-grows}
 -- ---- a ready receiver
 
 -- it does what was read
-accept-read : (limit : ℕ) (slots : List Slot) (bytes p : List ℕ) (x : Packet) → Fits limit slots bytes → readOf limit p ≡ given x
+accept-read : (limit : ℕ) (slots : List Slot) (bytes p : List ℕ) (x : Packet) → SlotsFit limit slots bytes → readOf limit p ≡ given x
     → acceptOf limit slots bytes p ≡ applied limit slots bytes p (laneStart (headIn x .stream)) (actIn slots x)
 accept-read limit slots bytes p x o e = accept-ready limit slots bytes p o ∙ rw e
 
@@ -60,7 +60,7 @@ openSlot w m index place =
 
 -- The packets up to the one with this index have come, and none of the stream since: `place` bytes are held, and the part begins with them.
 pub record Holding (limit : ℕ) (w : Sending) (m : List ℕ) (index place : ℕ) (slots : List Slot) (bytes : List ℕ) : Type 0 where
-  pub is-ready : Fits limit slots bytes
+  pub is-ready : SlotsFit limit slots bytes
   pub slot : getD (laneOf (streamFor w) slots) 0 idle ≡ openSlot w m index place
   pub held : take place (partOf limit (placeFor w) bytes) ≡ take place m
 
@@ -81,10 +81,10 @@ abbrev pub pieceFor : ℕ → ℕ → ℕ → Piece
 pieceFor index place n = record { index = index; place = place; size = n }
 
 -- where its bytes are and go
-abbrev payloadFor : Piece → Payload
+abbrev payloadFor : Piece → PayloadPlace
 payloadFor p = record { at = p .place; start = headerSize (isFirst (p .index)) (extended (p .size)); len = p .size }
 
-module _ (limit : ℕ) (w : Sending) (m : List ℕ) (ok : InRange limit w (length m)) (slots : List Slot) (bytes : List ℕ) (o : Fits limit slots bytes) where
+module _ (limit : ℕ) (w : Sending) (m : List ℕ) (ok : SendingInRange limit w (length m)) (slots : List Slot) (bytes : List ℕ) (o : SlotsFit limit slots bytes) where
   inside : partStart limit (placeFor w) + limit ≤ length bytes
   inside = rw (o .size) (part-inside limit (placeFor w) (place-low (streamFor w) 0 (omega arith)))
 
@@ -104,7 +104,7 @@ module _ (limit : ℕ) (w : Sending) (m : List ℕ) (ok : InRange limit w (lengt
         = ap (λ (i : ℕ). take (length m) (partOf limit i left)) same ∙ rw e at stores ∙ take-length m in
         rw (f, all)
 
-    more-holds : Fits limit (r .slots) (r .bytes)
+    more-holds : SlotsFit limit (r .slots) (r .bytes)
         → r ≡ applied limit slots bytes (packetOf w m p) (laneStart (streamFor w)) (step 0 (hold (headFor w p) false (length m) replaced (payloadFor p)))
         → More limit w m (p .index) (p .place + p .size) r
     unfolding hold
@@ -121,7 +121,7 @@ module _ (limit : ℕ) (w : Sending) (m : List ℕ) (ok : InRange limit w (lengt
 
 -- ---- the first packet
 
-module _ (limit : ℕ) (w : Sending) (m : List ℕ) (ok : InRange limit w (length m)) (slots : List Slot) (bytes : List ℕ) (o : Fits limit slots bytes)
+module _ (limit : ℕ) (w : Sending) (m : List ℕ) (ok : SendingInRange limit w (length m)) (slots : List Slot) (bytes : List ℕ) (o : SlotsFit limit slots bytes)
     (n : ℕ) (small : n ≤ length m) (filled : n ≡ 0 → length m ≡ 0) where
   abbrev piece : Piece
   piece = pieceFor 0 0 n
@@ -164,7 +164,7 @@ first-found : (test : Slot → Bool) (lane : List Slot) → test idle ≡ false 
 first-found test [] refuses passes = absurd (false≢true (sym refuses ∙ passes))
 first-found test (s ∷ lane) refuses passes = rw passes
 
-module _ (limit : ℕ) (w : Sending) (m : List ℕ) (ok : InRange limit w (length m)) (slots : List Slot) (bytes : List ℕ) (index place n : ℕ)
+module _ (limit : ℕ) (w : Sending) (m : List ℕ) (ok : SendingInRange limit w (length m)) (slots : List Slot) (bytes : List ℕ) (index place n : ℕ)
     (h : Holding limit w m index place slots bytes) (some-left : 1 ≤ n) (small : place + n ≤ length m) where
   abbrev following : Piece
   following = pieceFor (suc index) place n
@@ -204,7 +204,7 @@ module _ (limit : ℕ) (w : Sending) (m : List ℕ) (ok : InRange limit w (lengt
 -- The next packet of the message is the one with this index, and its piece begins at this place: nothing is known but that the receiver
 -- is ready, or it holds what came before.
 pub data Awaits (limit : ℕ) (w : Sending) (m : List ℕ) (slots : List Slot) (bytes : List ℕ) : ℕ → ℕ → Type 0 where
-  start : Fits limit slots bytes → Awaits limit w m slots bytes 0 0
+  start : SlotsFit limit slots bytes → Awaits limit w m slots bytes 0 0
   within : {index place : ℕ} → Holding limit w m index place slots bytes → place < length m → Awaits limit w m slots bytes (suc index) place
 
 -- packets of other streams change nothing of what is held
@@ -219,7 +219,7 @@ holding-kept {limit} {w} {m} {slots} {bytes} {index} {place} q known e h =
       held = ap (take place) (k .same-part 0 (omega arith)) ∙ h .held;
     }
 
-module _ (limit : ℕ) (w : Sending) (m : List ℕ) (ok : InRange limit w (length m)) (slots : List Slot) (bytes : List ℕ) (n : ℕ) where
+module _ (limit : ℕ) (w : Sending) (m : List ℕ) (ok : SendingInRange limit w (length m)) (slots : List Slot) (bytes : List ℕ) (n : ℕ) where
   -- the last packet gives the message
   pub last-step : {index place : ℕ} → Awaits limit w m slots bytes index place → place + n ≡ length m
       → gives limit (acceptOf limit slots bytes (packetOf w m (pieceFor index place n))) ≡ some (messageOf w m)

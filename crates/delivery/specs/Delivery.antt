@@ -21,20 +21,20 @@ use Rattle.delivery.specs.Calls.{callsOf, Takes}
 -- ---- a run of the receiver
 
 -- a packet that was handed in, what was told of it, and the lent buffer as that call returns
-pub record Reply : Type 0 where
+pub record PacketReply : Type 0 where
   pub packet : List ℕ
   pub told : Told Accepted
   pub bytes : List ℕ
 
 -- each packet meets the slots and the buffer that the call before it left
-unfoldable pub runOf : ℕ → List Slot → List ℕ → List (List ℕ) → List Reply
+unfoldable pub runOf : ℕ → List Slot → List ℕ → List (List ℕ) → List PacketReply
 runOf limit slots bytes [] = []
 runOf limit slots bytes (p ∷ ps) =
     record { packet = p; told = acceptOf limit slots bytes p .told; bytes = acceptOf limit slots bytes p .bytes }
     ∷ runOf limit (acceptOf limit slots bytes p .slots) (acceptOf limit slots bytes p .bytes) ps
 
 -- the replies to the packets `during`
-abbrev pub repliesTo : ℕ → List Slot → List ℕ → List (List ℕ) → List (List ℕ) → List (List ℕ) → List Reply
+abbrev pub repliesTo : ℕ → List Slot → List ℕ → List (List ℕ) → List (List ℕ) → List (List ℕ) → List PacketReply
 repliesTo limit slots bytes before during after =
     take (length during) (drop (length before) (runOf limit slots bytes (before ++ during ++ after)))
 
@@ -66,12 +66,12 @@ abbrev pub ours : Sending → List ℕ → Bool
 ours w p = isOf (w .stream) p
 
 -- what replies give, one each
-abbrev pub givenIn : ℕ → List Reply → List (Option Message)
-givenIn limit replies = map (λ (r : Reply). givenBy limit (r .told) (r .bytes)) replies
+abbrev pub givenIn : ℕ → List PacketReply → List (Option Message)
+givenIn limit replies = map (λ (r : PacketReply). givenBy limit (r .told) (r .bytes)) replies
 
 -- what the replies to the stream's own packets give
-abbrev pub givenTo : ℕ → Sending → List Reply → List (Option Message)
-givenTo limit w replies = givenIn limit (those (λ (r : Reply). ours w (r .packet)) replies)
+abbrev pub givenTo : ℕ → Sending → List PacketReply → List (Option Message)
+givenTo limit w replies = givenIn limit (those (λ (r : PacketReply). ours w (r .packet)) replies)
 
 -- ---- the claims
 

@@ -5,7 +5,7 @@ use field_writer::message::WriteRefusal;
 use field_writer::message::Wrote;
 use walk::reader::read_fields;
 use walk::refusal::MessageRefusal;
-use walk::refusal::Verdict;
+use walk::refusal::WalkVerdict;
 use walk::schema::DEVICE_ATTRIBUTES;
 use walk::schema::FEATURES;
 use walk::schema::FIRST;
@@ -34,8 +34,8 @@ pub fn read_features(message: &[u8]) -> FeaturesRead
     let verdict = kept.verdict;
     let gathered = kept.gathered;
     match verdict {
-        Verdict::Refused(e) => FeaturesRead::Refused(e),
-        Verdict::Fine => FeaturesRead::Read(DeviceFeatures {
+        WalkVerdict::Refused(e) => FeaturesRead::Refused(e),
+        WalkVerdict::Fine => FeaturesRead::Read(DeviceFeatures {
             features: gathered.scalars[FIRST],
             device_attributes: gathered.scalars[SECOND],
         }),

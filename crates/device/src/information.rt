@@ -7,11 +7,11 @@ use field_writer::fields::text_len;
 use field_writer::message::Room;
 use field_writer::message::WriteRefusal;
 use field_writer::message::Wrote;
-use text_writer::Fault;
+use text_writer::TextFault;
 use text_writer::TextWrote;
 use walk::gathered::MOST_TRANSPORTS;
 use walk::reader::read_fields;
-use walk::refusal::Verdict;
+use walk::refusal::WalkVerdict;
 use walk::schema::DEVICE_TYPE;
 use walk::schema::FIRST;
 use walk::schema::NAME;
@@ -44,7 +44,7 @@ pub struct DeviceInformation {
 
 // The information stands beside the verdict: an enum cannot hold an array.
 pub struct InformationRead {
-    pub verdict: Verdict,
+    pub verdict: WalkVerdict,
     pub information: DeviceInformation,
 }
 
@@ -57,10 +57,10 @@ pub fn read_information(message: &[u8]) -> InformationRead
     let kept = read_fields(Schema::Information, message, 0);
     let verdict = kept.verdict;
     match verdict {
-        Verdict::Refused(e) => {
+        WalkVerdict::Refused(e) => {
             let none = Part { start: 0, len: 0 };
             InformationRead {
-                verdict: Verdict::Refused(e),
+                verdict: WalkVerdict::Refused(e),
                 information: DeviceInformation {
                     serial_number: none,
                     name: none,
@@ -70,14 +70,14 @@ pub fn read_information(message: &[u8]) -> InformationRead
                 },
             }
         }
-        Verdict::Fine => {
+        WalkVerdict::Fine => {
             let gathered = kept.gathered;
             let serial_number = gathered.texts[FIRST];
             let name = gathered.texts[SECOND];
             let transports = gathered.transports;
             let device_type = gathered.texts[THIRD];
             InformationRead {
-                verdict: Verdict::Fine,
+                verdict: WalkVerdict::Fine,
                 information: DeviceInformation {
                     serial_number,
                     name,
@@ -162,11 +162,11 @@ fn fill_information(
 }
 
 // The first string that is not well formed.
-pub fn information_fault(serial_number: &[u8], name: &[u8], device_type: &[u8]) -> Fault
+pub fn information_fault(serial_number: &[u8], name: &[u8], device_type: &[u8]) -> TextFault
     ensures { λ r. ⌜ r
         ≡ firstFault (informationStrings (now («serial_number» .entry)) (now (name .entry)) (now («device_type» .entry))) ⌝ }
 {
-    Fault::None
+    TextFault::None
         .or_text(SERIAL_NUMBER, serial_number)
         .or_text(NAME, name)
         .or_text(DEVICE_TYPE, device_type)
@@ -188,8 +188,8 @@ pub fn write_information(
         return TextWrote::Refused(WriteRefusal::BadArgument);
     }
     match information_fault(serial_number, name, device_type) {
-        Fault::At { field, place } => TextWrote::BadText { field, place },
-        Fault::None => {
+        TextFault::At { field, place } => TextWrote::BadText { field, place },
+        TextFault::None => {
             let wrote = fill_information(out, serial_number, name, transports, device_type);
             TextWrote::of(wrote)
         }

@@ -12,7 +12,7 @@ use Rattle.extractor.specs.declared.state.Phase.{Phase}
 use Rattle.extractor.specs.declared.state.Phase.the-variants.{Outside, PacketId, ErrorId, Sequence, Body, Escaped}
 use Rattle.extractor.specs.declared.state.Progress.{Progress}
 use Rattle.extractor.specs.declared.state.Extractor.{Extractor}
-use Rattle.extractor.specs.declared.state.Opened.{Opened}
+use Rattle.extractor.specs.declared.state.OpenedExtractor.{OpenedExtractor}
 
 -- outside a frame, after F0, and in the body
 abbrev pub outside : Progress
@@ -63,6 +63,6 @@ unfoldable pub openOf : ℕ → Told Extractor
 openOf limit = table (line 17 (not (limitFits limit)) ∷ []) refused (given (empty limit))
 
 -- what an opening tells
-abbrev pub toldOpen : Opened → Told Extractor
-toldOpen (Opened.Empty s) = given s
-toldOpen Opened.BadLimit = refused 17
+abbrev pub toldOpen : OpenedExtractor → Told Extractor
+toldOpen (OpenedExtractor.Empty s) = given s
+toldOpen OpenedExtractor.BadLimit = refused 17

@@ -14,16 +14,16 @@ use Rattle.extractor.specs.State.{outside, begun, body, ready}
 use Rattle.extractor.specs.Action.{actionOf}
 
 -- what a step leaves: its report, the next state and the lent buffer
-pub record Step : Type 0 where
+pub record ByteStep : Type 0 where
   pub report : Report
   pub next : Progress
   pub buffer : List ℕ
 
-abbrev pub step : Report → Progress → List ℕ → Step
+abbrev pub step : Report → Progress → List ℕ → ByteStep
 step r s l = record { report = r; next = s; buffer = l }
 
 -- an unescaped byte is stored at the count held, where there is room
-unfoldable pub storeOf : ℕ → Progress → List ℕ → ℕ → Step
+unfoldable pub storeOf : ℕ → Progress → List ℕ → ℕ → ByteStep
 storeOf limit s l x =
     cond (ltb (s .held) (limit + 2)) (step taken (body (s .sequence) (s .held + 1)) (set l (s .held) x)) (step (refused 24) outside l)
 
@@ -36,7 +36,7 @@ endOf s l =
     ∷ [])
     refused (frame (s .sequence) (s .held - 2))
 
-abbrev pub performOf : ℕ → Progress → List ℕ → ℕ → Action → Step
+abbrev pub performOf : ℕ → Progress → List ℕ → ℕ → Action → ByteStep
 performOf limit s l b Skip = step skipped s l
 performOf limit s l b Begin = step taken begun l
 performOf limit s l b Restart = step (refused 20) begun l
@@ -47,9 +47,9 @@ performOf limit s l b Finish = step (endOf s l) outside l
 performOf limit s l b (Refuse r) = step (refused (numberOf r)) outside l
 
 -- a byte, in a lawful state with a buffer of the right size
-unfoldable pub advanceOf : ℕ → Progress → List ℕ → ℕ → Step
+unfoldable pub advanceOf : ℕ → Progress → List ℕ → ℕ → ByteStep
 advanceOf limit s l b = performOf limit s l b (actionOf (s .phase) b)
 
 -- the step of one byte, on all inputs
-abbrev pub byteStepOf : ℕ → Progress → List ℕ → ℕ → Step
+abbrev pub byteStepOf : ℕ → Progress → List ℕ → ℕ → ByteStep
 byteStepOf limit s l b = table (line 1 (not (ready limit s (length l))) ∷ []) (λ n. step (refused n) s l) (advanceOf limit s l b)

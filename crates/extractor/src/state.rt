@@ -29,7 +29,7 @@ pub struct Extractor {
 }
 
 // An extractor in its empty state, or a limit that is none: refusal 17.
-pub enum Opened {
+pub enum OpenedExtractor {
     Empty(Extractor),
     BadLimit,
 }
@@ -92,13 +92,13 @@ impl Extractor {
     }
 
     // An extractor for a link with a limit, in its empty state.
-    pub fn open(limit: usize) -> Opened
+    pub fn open(limit: usize) -> OpenedExtractor
         ensures { λ r. ⌜ toldOpen r ≡ openOf limit ⌝ }
     {
         if limit_fits(limit) {
-            Opened::Empty(Extractor::outside(limit))
+            OpenedExtractor::Empty(Extractor::outside(limit))
         } else {
-            Opened::BadLimit
+            OpenedExtractor::BadLimit
         }
     }
 }

@@ -15,7 +15,7 @@ use Rattle.extractor.specs.declared.action.Action.the-variants.{Skip, Begin, Re
 use Rattle.extractor.specs.Action.{actionOf}
 use Rattle.extractor.specs.Outcome.{Report, refused, allUsed}
 use Rattle.extractor.specs.State.{ready, Fits}
-use Rattle.extractor.specs.Step.{Step, storeOf, performOf, advanceOf}
+use Rattle.extractor.specs.Step.{ByteStep, storeOf, performOf, advanceOf}
 use Rattle.feed.specs.Feed.{fed, decides, feedReport, feedFrom, feedOf}
 
 store-held : (limit : ℕ) (s : Progress) (l : List ℕ) (x : ℕ) → storeOf limit s l x .next .held ≤ limit + 2
@@ -56,7 +56,7 @@ module _ {limit : ℕ} {bytes l₀ : List ℕ} {s₀ : Progress} {l : List ℕ} 
   running-end h = rw (drop-of-length-le bytes h) at (inv .rest)
 
   -- one step, by what its contract says of it
-  module _ {a : Step} (step : a ≡ advanceOf limit s l (getD bytes i 0)) (inside : i < length bytes) where
+  module _ {a : ByteStep} (step : a ≡ advanceOf limit s l (getD bytes i 0)) (inside : i < length bytes) where
     module _ {next : Progress} (moved : next ≡ a .next) where
       pub running-stop : decides (a .report) ≡ true → fed (feedReport (a .report)) (i + 1) next (a .buffer) ≡ feedFrom limit 0 s₀ l₀ bytes
       unfolding feedFrom

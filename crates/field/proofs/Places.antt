@@ -8,7 +8,7 @@ use lib.Dec.{ltb, eqb}
 use borrow.Author.Tests.{ltb-false}
 use Rattle.wire.specs.Told.{Told, given, refused}
 use Rattle.field.specs.declared.fields.Found.{Found}
-use Rattle.field.specs.declared.tag.Head.{Head}
+use Rattle.field.specs.declared.tag.FieldHead.{FieldHead}
 use Rattle.field.specs.declared.value.Part.{Part}
 use Rattle.field.specs.declared.value.Value.{Value}
 use Rattle.field.specs.declared.value.Value.the-variants.{Number, Skipped}
@@ -19,11 +19,11 @@ use Rattle.field.specs.Fields.{foundAt, toldFound, standingParts}
 use Rattle.field.proofs.Told.{Sat, sat-cond, sat-then}
 use Rattle.field.proofs.Varints.{Ends, varint-ends}
 
-pub tag-ends : (s : List ℕ) (at : ℕ) → Sat (λ (h : Head). at < h .next) (tagAt s at)
+pub tag-ends : (s : List ℕ) (at : ℕ) → Sat (λ (h : FieldHead). at < h .next) (tagAt s at)
 unfolding tagAt
 tag-ends s at =
-    sat-then (Ends at (length s)) (λ (h : Head). at < h .next) (varintAt s at) headOf (varint-ends s at)
-    (λ p e. sat-cond (λ (h : Head). at < h .next) (badTag (p .0 / 8) (p .0 % 8)) (refused 32) _ (λ _. tt) (λ _. e .0))
+    sat-then (Ends at (length s)) (λ (h : FieldHead). at < h .next) (varintAt s at) headOf (varint-ends s at)
+    (λ p e. sat-cond (λ (h : FieldHead). at < h .next) (badTag (p .0 / 8) (p .0 % 8)) (refused 32) _ (λ _. tt) (λ _. e .0))
 
 -- a value ends at or after its place, and its part within the message
 abbrev pub Held : List ℕ → ℕ → Value × ℕ → Type 0

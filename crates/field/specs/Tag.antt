@@ -4,7 +4,7 @@ use mathlib.Core.Bool.{Bool, _||_, not}
 use mathlib.Core.List.{List, [], _∷_}
 use lib.Dec.{ltb, leb, eqb}
 use Rattle.wire.specs.Told.{Told, given, refused, andThen, line, table}
-use Rattle.field.specs.declared.tag.Head.{Head}
+use Rattle.field.specs.declared.tag.FieldHead.{FieldHead}
 use Rattle.field.specs.declared.tag.Tag.{Tag}
 use Rattle.field.specs.declared.tag.Tag.the-variants.{Tagged, Refused}
 use Rattle.field.specs.Refusal.{numberOf}
@@ -36,16 +36,16 @@ unfoldable pub badTag : ℕ → ℕ → Bool
 badTag field wire = eqb field 0 || ltb lastField field || not (leb wire lengthType || eqb wire fixed32Type)
 
 -- the tag of a varint's value, with the place after it
-abbrev pub headOf : ℕ × ℕ → Told Head
+abbrev pub headOf : ℕ × ℕ → Told FieldHead
 headOf p =
     table (line 32 (badTag (p .0 / wireTypes) (p .0 % wireTypes)) ∷ []) refused
     (given (record { field = p .0 / wireTypes; wire = p .0 % wireTypes; next = p .1 }))
 
 -- the tag at a place of a message
-unfoldable pub tagAt : List ℕ → ℕ → Told Head
+unfoldable pub tagAt : List ℕ → ℕ → Told FieldHead
 tagAt s at = andThen (varintAt s at) headOf
 
 -- the answers of read_tag
-abbrev pub toldTag : Tag → Told Head
+abbrev pub toldTag : Tag → Told FieldHead
 toldTag (Tagged h) = given h
 toldTag (Refused e) = refused (numberOf e)

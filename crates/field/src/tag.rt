@@ -23,14 +23,14 @@ pub const WIRE_TYPES: u64 = 8;
 const WIRE_BITS: u64 = 3;
 
 // A field's number, its wire type and the place after its tag.
-pub struct Head {
+pub struct FieldHead {
     pub field: u64,
     pub wire: u64,
     pub next: usize,
 }
 
 pub enum Tag {
-    Tagged(Head),
+    Tagged(FieldHead),
     Refused(Refusal),
 }
 
@@ -59,7 +59,7 @@ fn tag_of(value: u64, next: usize) -> Tag
     if bad_tag(field, wire) {
         return Tag::Refused(Refusal::BadTag);
     }
-    Tag::Tagged(Head { field, wire, next })
+    Tag::Tagged(FieldHead { field, wire, next })
 }
 
 // The tag at a place. Most have one byte, as in read_varint.

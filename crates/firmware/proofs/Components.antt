@@ -12,21 +12,21 @@ use Rattle.firmware.specs.declared.component.FirmwareComponent.{Firmware
 use Rattle.firmware.specs.Information.{partsFrom, componentIn, componentsIn, placed, componentsFrom}
 
 -- the loop's invariant: what was read, where it is kept, and what is still to be read
-pub record Reading (s : List ℕ) (from at : ℕ) (kept : List FirmwareComponent) (count : ℕ) : Type 0 where
+pub record ReadingComponents (s : List ℕ) (from at : ℕ) (kept : List FirmwareComponent) (count : ℕ) : Type 0 where
   pub done : List FirmwareComponent
   pub many : count ≡ length done
   pub stored : kept ≡ placed done
   pub whole : componentsIn s (partsFrom s from) ≡ andThen (componentsIn s (partsFrom s at)) (λ cs. given (done ++ cs))
   pub room : length done + length (partsFrom s at) ≤ mostRepeated
 
-pub reading-begins : (s : List ℕ) (from : ℕ) → length (partsFrom s from) ≤ mostRepeated → Reading s from from (placed []) 0
+pub reading-begins : (s : List ℕ) (from : ℕ) → length (partsFrom s from) ≤ mostRepeated → ReadingComponents s from from (placed []) 0
 reading-begins s from h = record { done = []; many = refl; stored = refl; whole = same (componentsIn s (partsFrom s from)); room = omega arith }
   where
     same : (r : ToldMore (List FirmwareComponent)) → r ≡ andThen r (λ cs. given ([] ++ cs))
     same (given cs) = refl
     same (refused n) = refl
 
-module _ {s : List ℕ} {from at : ℕ} {kept : List FirmwareComponent} {count : ℕ} (R : Reading s from at kept count) where
+module _ {s : List ℕ} {from at : ℕ} {kept : List FirmwareComponent} {count : ℕ} (R : ReadingComponents s from at kept count) where
   pub reading-ends : partsFrom s at ≡ [] → componentsFrom s from ≡ given kept
   unfolding componentsFrom
   reading-ends e =
@@ -46,7 +46,7 @@ module _ {s : List ℕ} {from at : ℕ} {kept : List FirmwareComponent} {count :
         R .whole ∙ ap (λ ps. andThen (componentsIn s ps) (λ cs. given (R .done ++ cs))) laid ∙ rw e in
         rw w
 
-    pub reading-next : (c : FirmwareComponent) → componentIn s p ≡ given c → Reading s from next (set kept count c) (count + 1)
+    pub reading-next : (c : FirmwareComponent) → componentIn s p ≡ given c → ReadingComponents s from next (set kept count c) (count + 1)
     reading-next c e =
         record {
           done = R .done ++ (c ∷ []);

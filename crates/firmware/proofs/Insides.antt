@@ -26,7 +26,7 @@ use Rattle.firmware.specs.declared.apply.ApplyRead.{ApplyRead}
 use Rattle.firmware.specs.Component.{noComponent, componentFrom, componentParts}
 use Rattle.firmware.specs.Information.{partsFrom, componentIn, componentsIn, componentsFrom, firmwareFrom, ownParts, Each}
 use Rattle.firmware.proofs.Steps.{component-cut}
-use Rattle.firmware.specs.Apply.{firmwareIn, applyOf, toldApply, withApply, Inside}
+use Rattle.firmware.specs.Apply.{firmwareIn, applyOf, toldApply, withApply, InsideMessage}
 
 -- ---- what was gathered
 pub record Gathers (s : List ℕ) (g : Gathered) : Type 0 where
@@ -34,14 +34,14 @@ pub record Gathers (s : List ℕ) (g : Gathered) : Type 0 where
   pub most : g .count ≤ mostRepeated
   pub texts : AllText s (g .texts)
 
-gathers : (schema : Schema) (s : List ℕ) (at : ℕ) → Sat (Gathers s) (fieldsFrom schema s at)
+pub gathers : (schema : Schema) (s : List ℕ) (at : ℕ) → Sat (Gathers s) (fieldsFrom schema s at)
 gathers schema s at = by-told (fieldsFrom schema s at) refl
   where
     by-told : (r : ToldMore Gathered) → fieldsFrom schema s at ≡ r → Sat (Gathers s) r
     by-told (given g) e = let w = fields-within schema s at g e in record { parts = w .0; most = w .1; texts = w .2 }
     by-told (refused n) e = tt
 
-text-within : (s : List ℕ) (g : Gathered) (i : ℕ) → Gathers s g → getD (g .texts) i noPart .start + getD (g .texts) i noPart .len ≤ length s
+pub text-within : (s : List ℕ) (g : Gathered) (i : ℕ) → Gathers s g → getD (g .texts) i noPart .start + getD (g .texts) i noPart .len ≤ length s
 text-within s g i w = within-get s (g .texts) i noPart zero-le (w .parts .1)
 
 -- ---- components
@@ -124,17 +124,17 @@ firmware-in-within s p =
     sat-weaken (Firm t) (Firm s) (firmwareFrom t (p .start)) (firmware-within t (p .start))
     (λ f h. (strings-first (p .start + p .len) s (ownParts f) (h .0), held-first (p .start + p .len) s (f .components) (h .1), h .2))
 
-pub apply-within : (s : List ℕ) → Sat (Inside s) (applyOf s)
+pub apply-within : (s : List ℕ) → Sat (InsideMessage s) (applyOf s)
 unfolding applyOf
 apply-within s =
-    sat-then (Gathers s) (Inside s) (fieldsFrom Schema.Apply s 0) _ (gathers Schema.Apply s 0)
-    (λ g w. sat-then (Firm s) (Inside s) (firmwareIn s (g .part)) _ (firmware-in-within s (g .part)) (λ f h. record { own = h .0; each = h .1; most = h .2 }))
+    sat-then (Gathers s) (InsideMessage s) (fieldsFrom Schema.Apply s 0) _ (gathers Schema.Apply s 0)
+    (λ g w. sat-then (Firm s) (InsideMessage s) (firmwareIn s (g .part)) _ (firmware-in-within s (g .part)) (λ f h. record { own = h .0; each = h .1; most = h .2 }))
 
 -- what is told, and what stands beside it
-pub told-inside : (s : List ℕ) (r : ApplyRead) → toldApply r ≡ withApply (applyOf s) → (toldApply r ≡ withApply (applyOf s)) × Inside s (r .apply)
+pub told-inside : (s : List ℕ) (r : ApplyRead) → toldApply r ≡ withApply (applyOf s) → (toldApply r ≡ withApply (applyOf s)) × InsideMessage s (r .apply)
 told-inside s r e = (e, rw (ap (λ q. q .1) e) (beside (applyOf s) (apply-within s)))
   where
-    beside : (t : ToldMore ApplyFirmware) → Sat (Inside s) t → Inside s (withApply t .1)
+    beside : (t : ToldMore ApplyFirmware) → Sat (InsideMessage s) t → InsideMessage s (withApply t .1)
     beside (given a) h = h
     beside (refused n) h = record { own = ((zero-le, (zero-le, (zero-le, tt))), (empty, (empty, (empty, tt)))); each = each-none (Held s) (none-held s) mostRepeated; most = zero-le }
 

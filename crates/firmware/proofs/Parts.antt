@@ -9,7 +9,7 @@ use lib.ListN.{length, length-append}
 use lib.Dec.{leb, eqb}
 use borrow.Author.Tests.{le-leb, lt-leb, leb-true, leb-false, ne-eqb}
 use Rattle.wire.specs.Told.{Told, ToldMore, alone, given, refused, andThen}
-use Rattle.field.specs.declared.tag.Head.{Head}
+use Rattle.field.specs.declared.tag.FieldHead.{FieldHead}
 use Rattle.field.specs.declared.value.Part.{Part}
 use Rattle.field.specs.declared.value.Value.{Value}
 use Rattle.field.specs.declared.value.Value.the-variants.{Number, Bytes, Skipped}
@@ -39,7 +39,7 @@ pub found-stands : (s : List ℕ) (at : ℕ) → Sat (Stands s at) (foundAt s at
 unfolding foundAt
 found-stands s at =
     sat-cond (Stands s at) (leb (length s) at) (given end) _ (λ _. tt)
-    (λ _. sat-then (λ (h : Head). at < h .next) (Stands s at) (tagAt s at) _ (tag-ends s at)
+    (λ _. sat-then (λ (h : FieldHead). at < h .next) (Stands s at) (tagAt s at) _ (tag-ends s at)
     (λ h l. sat-then (Held s (h .next)) (Stands s at) (valueAt s (h .next) (h .wire)) _ (value-held s (h .next) (h .wire)) (λ v k. (omega arith, k .1))))
 
 pub found-field : (s : List ℕ) (at number : ℕ) (value : Value) (next : ℕ) → foundAt s at ≡ given (field number value next) → (at < next) × Within s (valueParts value)
@@ -151,14 +151,14 @@ abbrev Counts : List ℕ → ℕ → ℕ → Gathered × ℕ → Type 0
 Counts s at count q = length (partsFrom s at) + count ≡ length (partsFrom s (q .1)) + q .0 .count
 
 -- what a field of firmware information adds, by its value
-abbrev adds : Head → Value × ℕ → Told (Added × ℕ)
+abbrev adds : FieldHead → Value × ℕ → Told (Added × ℕ)
 adds h x = given (valueAdded (roleOf Schema.Firmware (h .field)) (h .field) (x .0), x .1)
 
 field-counts : (s : List ℕ) (at : ℕ) (g : Gathered) → at < length s → Sat (Counts s at (g .count)) (fieldAt Schema.Firmware s at g)
 unfolding fieldAt readAt addedAt foundAt
 field-counts s at g inside = by-tag (tagAt s at) refl
   where
-    by-value : (h : Head) (u : Told (Unit {0})) (v : Told (Value × ℕ)) → tagAt s at ≡ given h → valueAt s (h .next) (h .wire) ≡ v
+    by-value : (h : FieldHead) (u : Told (Unit {0})) (v : Told (Value × ℕ)) → tagAt s at ≡ given h → valueAt s (h .next) (h .wire) ≡ v
         → Sat (Counts s at (g .count))
         (andThen (alone (andThen u (λ _. andThen v (adds h)))) (λ a. andThen (withAdded s (a .0) g) (placed (a .1))))
     by-value h (given u) (given x) e k =
@@ -169,7 +169,7 @@ field-counts s at g inside = by-tag (tagAt s at) refl
     by-value h (given u) (refused n) e k = tt
     by-value h (refused n) v e k = tt
 
-    by-tag : (t : Told Head) → tagAt s at ≡ t
+    by-tag : (t : Told FieldHead) → tagAt s at ≡ t
         → Sat (Counts s at (g .count))
         (andThen (alone (andThen t (λ h. andThen (judged (roleOf Schema.Firmware (h .field)) (h .wire) (g .field) (g .count)) (λ _. andThen (valueAt s (h .next) (h .wire)) (adds h)))))
         (λ a. andThen (withAdded s (a .0) g) (placed (a .1))))

@@ -43,7 +43,7 @@ withApply (given a) = (given a, a)
 withApply (refused n) = (refused n, noApply)
 
 -- all strings lie within the message and are well formed, and there are at most eight components
-pub record Inside (s : List ℕ) (a : ApplyFirmware) : Type 0 where
+pub record InsideMessage (s : List ℕ) (a : ApplyFirmware) : Type 0 where
   pub own : Strings s (ownParts (a .«firmware_information»))
   pub each : Each (λ c. Strings s (componentParts c)) (a .«firmware_information» .components)
   pub most : a .«firmware_information» .count ≤ mostRepeated

@@ -55,9 +55,9 @@ laid s (NextComponent.At p next) = p ∷ partsFrom s next
 laid s NextComponent.None = []
 
 -- the next component ends after the place, within the message
-abbrev pub Onward : List ℕ → ℕ → NextComponent → Type 0
-Onward s at (NextComponent.At p next) = (at < next) × (p .start + p .len ≤ length s)
-Onward s at NextComponent.None = Unit {0}
+abbrev pub ComponentOnward : List ℕ → ℕ → NextComponent → Type 0
+ComponentOnward s at (NextComponent.At p next) = (at < next) × (p .start + p .len ≤ length s)
+ComponentOnward s at NextComponent.None = Unit {0}
 
 -- a component within its part: what follows it in the message is not seen
 unfoldable pub componentIn : List ℕ → Part → ToldMore FirmwareComponent

@@ -5,14 +5,14 @@ use crate::information::firmware_from;
 use field::value::Part;
 use walk::reader::read_fields;
 use walk::refusal::MessageRefusal;
-use walk::refusal::Verdict;
+use walk::refusal::WalkVerdict;
 use walk::schema::FIRST;
 use walk::schema::Schema;
 ghost use mathlib.Core.Path.{_≡_};
 ghost use Prim.Native.Nat.{_+_, _≤_};
 ghost use lib.ListN.{length};
 ghost use Rattle.firmware.specs.Information.{toldFirmware, withFirmware};
-ghost use Rattle.firmware.specs.Apply.{firmwareIn, applyOf, noApply, toldApply, withApply, Inside};
+ghost use Rattle.firmware.specs.Apply.{firmwareIn, applyOf, noApply, toldApply, withApply, InsideMessage};
 
 pub struct ApplyFirmware {
     pub firmware_information: FirmwareInformation,
@@ -21,7 +21,7 @@ pub struct ApplyFirmware {
 
 // The message stands beside the verdict, and is the empty one where it is refused.
 pub struct ApplyRead {
-    pub verdict: Verdict,
+    pub verdict: WalkVerdict,
     pub apply: ApplyFirmware,
 }
 
@@ -38,23 +38,23 @@ fn firmware_in(message: &[u8], part: Part) -> FirmwareRead
 // ApplyFirmware. It is read through before its firmware information.
 pub fn read_apply(message: &[u8]) -> ApplyRead
     ensures { λ r. ⌜ toldApply r ≡ withApply (applyOf (now (message .entry))) ⌝ }
-    ensures { λ r. ⌜ Inside (now (message .entry)) (r .apply) ⌝ }
+    ensures { λ r. ⌜ InsideMessage (now (message .entry)) (r .apply) ⌝ }
 {
     let kept = read_fields(Schema::Apply, message, 0);
     let verdict = kept.verdict;
     let gathered = kept.gathered;
     match verdict {
-        Verdict::Refused(e) => refused_apply(e),
-        Verdict::Fine => {
+        WalkVerdict::Refused(e) => refused_apply(e),
+        WalkVerdict::Fine => {
             let part = gathered.part;
             let read = firmware_in(message, part);
             let judged = read.verdict;
             match judged {
-                Verdict::Refused(e) => refused_apply(e),
-                Verdict::Fine => {
+                WalkVerdict::Refused(e) => refused_apply(e),
+                WalkVerdict::Fine => {
                     let firmware_information = read.information;
                     ApplyRead {
-                        verdict: Verdict::Fine,
+                        verdict: WalkVerdict::Fine,
                         apply: ApplyFirmware {
                             firmware_information,
                             restart_required: gathered.scalars[FIRST] != 0,
@@ -68,11 +68,11 @@ pub fn read_apply(message: &[u8]) -> ApplyRead
 
 // A message that is refused is the empty one.
 fn refused_apply(e: MessageRefusal) -> ApplyRead
-    ensures { λ r. ⌜ r ≡ record { verdict = Verdict.Refused e; apply = noApply } ⌝ }
+    ensures { λ r. ⌜ r ≡ record { verdict = WalkVerdict.Refused e; apply = noApply } ⌝ }
 {
     let firmware_information = FirmwareInformation::none();
     ApplyRead {
-        verdict: Verdict::Refused(e),
+        verdict: WalkVerdict::Refused(e),
         apply: ApplyFirmware {
             firmware_information,
             restart_required: false,

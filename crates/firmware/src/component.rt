@@ -3,7 +3,7 @@ use field::unsigned::low_unsigned;
 use field::value::Part;
 use walk::reader::read_fields;
 use walk::refusal::MessageRefusal;
-use walk::refusal::Verdict;
+use walk::refusal::WalkVerdict;
 use walk::schema::FIRST;
 use walk::schema::SECOND;
 use walk::schema::Schema;
@@ -46,8 +46,8 @@ pub(crate) fn component_from(message: &[u8], at: usize) -> ComponentRead
     let verdict = kept.verdict;
     let gathered = kept.gathered;
     match verdict {
-        Verdict::Refused(e) => ComponentRead::Refused(e),
-        Verdict::Fine => {
+        WalkVerdict::Refused(e) => ComponentRead::Refused(e),
+        WalkVerdict::Fine => {
             let name = gathered.texts[FIRST];
             let signature = gathered.texts[SECOND];
             ComponentRead::Read(FirmwareComponent {

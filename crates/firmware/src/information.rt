@@ -10,7 +10,7 @@ use field::value::Value;
 use walk::gathered::Gathered;
 use walk::reader::read_fields;
 use walk::refusal::MessageRefusal;
-use walk::refusal::Verdict;
+use walk::refusal::WalkVerdict;
 use walk::schema::COMPONENTS;
 use walk::schema::FIRST;
 use walk::schema::SECOND;
@@ -21,7 +21,7 @@ ghost use Prim.Native.Nat.{_+_, _≤_};
 ghost use lib.ListN.{length};
 ghost use Rattle.walk.specs.Gathered.{mostRepeated};
 ghost use Rattle.firmware.specs.Component.{toldComponent};
-ghost use Rattle.firmware.specs.Information.{partOfComponent, partTold, partsFrom, laid, Onward, componentIn, componentsFrom, firmwareMade, firmwareFrom, noFirmware, toldComponents, toldFirmware, withFirmware};
+ghost use Rattle.firmware.specs.Information.{partOfComponent, partTold, partsFrom, laid, ComponentOnward, componentIn, componentsFrom, firmwareMade, firmwareFrom, noFirmware, toldComponents, toldFirmware, withFirmware};
 
 // Strings are parts of the lent message; of the components the first count are there.
 pub struct FirmwareInformation {
@@ -35,12 +35,12 @@ pub struct FirmwareInformation {
 
 // The components stand beside the verdict: an enum cannot hold an array.
 pub struct ComponentsRead {
-    pub verdict: Verdict,
+    pub verdict: WalkVerdict,
     pub components: [FirmwareComponent; 8],
 }
 
 pub struct FirmwareRead {
-    pub verdict: Verdict,
+    pub verdict: WalkVerdict,
     pub information: FirmwareInformation,
 }
 
@@ -73,7 +73,7 @@ fn component_part(number: u64, value: Value) -> ComponentPart
 // The next component from a place on.
 fn next_component(message: &[u8], from: usize) -> NextComponent
     ensures { λ r. ⌜ partsFrom (now (message .entry)) from ≡ laid (now (message .entry)) r ⌝ }
-    ensures { λ r. ⌜ Onward (now (message .entry)) from r ⌝ }
+    ensures { λ r. ⌜ ComponentOnward (now (message .entry)) from r ⌝ }
 {
     let mut at = from;
     while at < message.len() {
@@ -116,14 +116,14 @@ fn components_from(message: &[u8], from: usize) -> ComponentsRead
         match next_component(message, at) {
             NextComponent::None => {
                 return ComponentsRead {
-                    verdict: Verdict::Fine,
+                    verdict: WalkVerdict::Fine,
                     components,
                 };
             }
             NextComponent::At { part, next } => match component_in(message, part) {
                 ComponentRead::Refused(e) => {
                     return ComponentsRead {
-                        verdict: Verdict::Refused(e),
+                        verdict: WalkVerdict::Refused(e),
                         components,
                     };
                 }
@@ -174,11 +174,11 @@ fn firmware_made(gathered: Gathered, components: [FirmwareComponent; 8]) -> Firm
 
 // Information that is refused is the empty one.
 fn refused_firmware(e: MessageRefusal) -> FirmwareRead
-    ensures { λ r. ⌜ r ≡ record { verdict = Verdict.Refused e; information = noFirmware } ⌝ }
+    ensures { λ r. ⌜ r ≡ record { verdict = WalkVerdict.Refused e; information = noFirmware } ⌝ }
 {
     let information = FirmwareInformation::none();
     FirmwareRead {
-        verdict: Verdict::Refused(e),
+        verdict: WalkVerdict::Refused(e),
         information,
     }
 }
@@ -190,18 +190,18 @@ pub(crate) fn firmware_from(message: &[u8], at: usize) -> FirmwareRead
     let kept = read_fields(Schema::Firmware, message, at);
     let verdict = kept.verdict;
     match verdict {
-        Verdict::Refused(e) => refused_firmware(e),
-        Verdict::Fine => {
+        WalkVerdict::Refused(e) => refused_firmware(e),
+        WalkVerdict::Fine => {
             let found = components_from(message, at);
             let judged = found.verdict;
             match judged {
-                Verdict::Refused(e) => refused_firmware(e),
-                Verdict::Fine => {
+                WalkVerdict::Refused(e) => refused_firmware(e),
+                WalkVerdict::Fine => {
                     let gathered = kept.gathered;
                     let components = found.components;
                     let information = firmware_made(gathered, components);
                     FirmwareRead {
-                        verdict: Verdict::Fine,
+                        verdict: WalkVerdict::Fine,
                         information,
                     }
                 }

@@ -4,7 +4,7 @@ use field::value::Part;
 use walk::gathered::Gathered;
 use walk::reader::read_fields;
 use walk::refusal::MessageRefusal;
-use walk::refusal::Verdict;
+use walk::refusal::WalkVerdict;
 use walk::schema::COMPONENT_OFFSET;
 use walk::schema::FIRST;
 use walk::schema::SECOND;
@@ -135,8 +135,8 @@ pub fn read_segment(message: &[u8]) -> SegmentRead
     let verdict = kept.verdict;
     let gathered = kept.gathered;
     match verdict {
-        Verdict::Refused(e) => SegmentRead::Refused(e),
-        Verdict::Fine => {
+        WalkVerdict::Refused(e) => SegmentRead::Refused(e),
+        WalkVerdict::Fine => {
             let segment = segment_made(gathered);
             judge_segment(message, segment)
         }

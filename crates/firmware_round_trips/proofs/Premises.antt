@@ -26,7 +26,7 @@ use Rattle.firmware_writer.specs.Information.{present, badFirmware}
 use Rattle.firmware.specs.Apply.{firmwareIn, applyOf}
 use Rattle.firmware_writer.specs.Apply.{applyWritten}
 use Rattle.firmware_round_trips.specs.RoundTrip.{ComponentsTake}
-use Rattle.firmware_round_trips.specs.Premises.{Digit, decimal, upper, lower, Digits, SegmentsTaken, InRange, AppliesTaken, OneOfEach}
+use Rattle.firmware_round_trips.specs.Premises.{Digit, decimal, upper, lower, Digits, SegmentsTaken, ComponentsInRange, AppliesTaken, OneFirmwareOfEach}
 
 digit : (b : ℕ) → Digit b → isDigit b ≡ true
 unfolding isDigit
@@ -58,7 +58,7 @@ unfolding SegmentsTaken
 segments-taken name size sig out well n long d lent room =
     record { number = omega arith; digits = signature sig long d; strings = (well, (digits-well sig d, tt)); lent = omega arith; room = omega arith }
 
-components : (texts : List ℕ) (cs : List FirmwareComponent) → InRange texts cs → ComponentsTake texts cs
+components : (texts : List ℕ) (cs : List FirmwareComponent) → ComponentsInRange texts cs → ComponentsTake texts cs
 components texts [] h = tt
 components texts (c ∷ cs) h = ((omega (arith, h .0 .0), omega (arith, h .0 .1), ((h .0 .2 .0, (h .0 .3 .0, tt)), (h .0 .2 .1, (h .0 .3 .1, tt)))), components texts cs (h .1))
 
@@ -78,6 +78,6 @@ applies-taken a texts out version eight most name locale versionName cs lent roo
       room = omega arith;
     }
 
-pub one-of-each : OneOfEach
+pub one-of-each : OneFirmwareOfEach
 unfolding varintAt varintBytes badTag tagAt valueAt foundAt tagBytes headBytes partBytes fieldBytes roleOf judged addedAt readAt fieldAt fieldsFrom isDigit isSignature brokenField segmentOf segmentFilled segmentWritten componentFrom outside badComponent partsFrom componentIn componentsFrom firmwareFrom badFirmware firmwareIn applyOf applyWritten withString badPlace sequenceAt rowOf rows within
 one-of-each = record { segment = refl; apply = refl }

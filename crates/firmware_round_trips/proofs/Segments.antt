@@ -23,7 +23,7 @@ use Rattle.round_trips.specs.RoundTrip.{Gives, ReadsBack}
 use Rattle.round_trips.proofs.Values.{At, whole, front, behind}
 use Rattle.round_trips.proofs.Fields.{reads-end, reads-scalar, reads-text, textAt, fields-read, text-back}
 use Rattle.round_trips.proofs.RoundTrip.{done}
-use Rattle.firmware_round_trips.specs.RoundTrip.{Refusal, Unsigned32, segmentAgain, NoneRefused, SegmentRoundTrip}
+use Rattle.firmware_round_trips.specs.RoundTrip.{RefusalWithNumbers, Unsigned32, segmentAgain, NoFirmwareRefused, SegmentRoundTrip}
 
 pub unsigned-trip : (v : ℕ) → Unsigned32 v → unsignedOf v ≡ v
 unsigned-trip v h = omega arith
@@ -72,10 +72,10 @@ segment-round-trip name size signature out t =
     ∙ segment-read name size signature bytes (t .strings) (t .number) (t .digits) (omega (arith, t .lent)) (whole bytes)))
 
 -- what refuses reads nothing back
-pub none-refused : NoneRefused
-unfolding NoneRefused
+pub none-refused : NoFirmwareRefused
+unfolding NoFirmwareRefused
 none-refused = (λ n out read a h. h, λ w n a h. by-told n a (w .told) h)
   where
-    by-told : (n : Refusal) (a : List ℕ) (t : ToldMore ℕ) → Gives t (λ k. _≡_ {A = ToldMore (List ℕ)} (refused n) (given a)) → ⊥
+    by-told : (n : RefusalWithNumbers) (a : List ℕ) (t : ToldMore ℕ) → Gives t (λ k. _≡_ {A = ToldMore (List ℕ)} (refused n) (given a)) → ⊥
     by-told n a (given k) h = let z : _≡_ {A = ℕ} 0 1 = cc in omega arith
     by-told n a (refused k) h = h

@@ -13,16 +13,14 @@ use Rattle.field.specs.declared.value.Part.{Part}
 use Rattle.field.specs.Unsigned.{unsignedOf}
 use Rattle.field.specs.Value.{bytesOf, Within}
 use Rattle.field.proofs.Told.{Sat, sat-then, sat-weaken, sat-given}
-use Rattle.field.proofs.Places.{within-get}
 use Rattle.text.specs.WellFormed.{empty}
 use Rattle.field_writer.specs.Writer.{messageBytes}
 use Rattle.walk.specs.declared.gathered.Gathered.{Gathered}
 use Rattle.walk.specs.declared.schema.Schema.{Schema}
 use Rattle.walk.specs.declared.schema.Schema.the-variants as Schema
 use Rattle.walk.specs.Schema.{first, second, third}
-use Rattle.walk.specs.Gathered.{mostRepeated, noPart, partsGathered, AllText}
+use Rattle.walk.specs.Gathered.{mostRepeated}
 use Rattle.walk.specs.Walk.{fieldsFrom}
-use Rattle.walk.proofs.Steps.{fields-within}
 use Rattle.walk.proofs.Strings.{text-get, strings-first}
 use Rattle.text_writer.specs.Texts.{AllWellFormed}
 use Rattle.firmware.specs.declared.segment.UpdateComponentSegment.{UpdateComponentSegment}
@@ -34,6 +32,7 @@ use Rattle.firmware.specs.Component.{noComponent, componentFrom, componentParts
 use Rattle.firmware.specs.Information.{partsFrom, componentIn, componentsIn, componentsFrom, firmwareFrom}
 use Rattle.firmware_writer.specs.Information.{present}
 use Rattle.firmware.specs.Apply.{firmwareIn, applyOf}
+use Rattle.firmware.proofs.Insides.{Gathers, gathers, text-within}
 use Rattle.round_trips.specs.RoundTrip.{ReadsBack}
 use Rattle.firmware_round_trips.specs.RoundTrip.{Unsigned32, segmentAgain, SegmentRoundTrip, SegmentsToldTaken, ComponentTakes, ComponentsTake, FirmwareTakes, ApplyRoundTrip, AppliesToldTaken}
 use Rattle.firmware_round_trips.proofs.Segments.{segment-round-trip}
@@ -42,20 +41,6 @@ use Rattle.firmware_round_trips.proofs.Applies.{apply-round-trip}
 -- the low 32 bits
 unsigned-fits : (v : ℕ) → Unsigned32 (unsignedOf v)
 unsigned-fits v = omega arith
-
--- ---- what was gathered
-abbrev pub Gathers : List ℕ → Gathered → Type 0
-Gathers s g = Within s (partsGathered g) × (g .count ≤ mostRepeated) × AllText s (g .texts)
-
-pub gathers : (schema : Schema) (s : List ℕ) (at : ℕ) → Sat (Gathers s) (fieldsFrom schema s at)
-gathers schema s at = by-told (fieldsFrom schema s at) refl
-  where
-    by-told : (r : ToldMore Gathered) → fieldsFrom schema s at ≡ r → Sat (Gathers s) r
-    by-told (given g) e = fields-within schema s at g e
-    by-told (refused n) e = tt
-
-pub text-within : (s : List ℕ) (g : Gathered) (i : ℕ) → Gathers s g → getD (g .texts) i noPart .start + getD (g .texts) i noPart .len ≤ length s
-text-within s g i w = within-get s (g .texts) i noPart zero-le (w .0 .1)
 
 -- ---- the segment
 -- no field is broken: the offset is 0 and the signature is one
@@ -87,7 +72,7 @@ segment-judged s m e = by-gathered (fieldsFrom Schema.Segment s 0) (gathers Sche
         let same : segmentMade g ≡ m = cc in
         let u = unbroken (segmentMade g .«component_offset») (bytesOf s (segmentMade g .«segment_signature»)) t in
         subst (λ (x : UpdateComponentSegment). Judged s x) same
-        (record { begins = u .0; digits = u .1; number = unsigned-fits (getD (g .scalars) second 0); strings = (text-get s (g .texts) first (w .2), (text-get s (g .texts) second (w .2), tt)) })
+        (record { begins = u .0; digits = u .1; number = unsigned-fits (getD (g .scalars) second 0); strings = (text-get s (g .texts) first (w .texts), (text-get s (g .texts) second (w .texts), tt)) })
     by-test g w false t e = absurd (let z : _≡_ {A = ℕ} 0 1 = cc in omega arith)
 
     by-gathered : (r : ToldMore Gathered) → Sat (Gathers s) r → andThen r (λ g. segmentJudged s (segmentMade g)) ≡ given m → Judged s m
@@ -114,7 +99,7 @@ component-takes : (s : List ℕ) (at : ℕ) → Sat (ComponentTakes s) (componen
 unfolding componentFrom
 component-takes s at =
     sat-then (Gathers s) (ComponentTakes s) (fieldsFrom Schema.Component s at) _ (gathers Schema.Component s at)
-    (λ g w. (unsigned-fits (getD (g .scalars) first 0), unsigned-fits (getD (g .scalars) second 0), ((text-within s g first w, (text-within s g second w, tt)), (text-get s (g .texts) first (w .2), (text-get s (g .texts) second (w .2), tt)))))
+    (λ g w. (unsigned-fits (getD (g .scalars) first 0), unsigned-fits (getD (g .scalars) second 0), ((text-within s g first w, (text-within s g second w, tt)), (text-get s (g .texts) first (w .texts), (text-get s (g .texts) second (w .texts), tt)))))
 
 component-in-takes : (s : List ℕ) (p : Part) → Sat (ComponentTakes s) (componentIn s p)
 unfolding componentIn
@@ -165,9 +150,9 @@ firmware-takes s at =
     (λ g w. sat-then (Eight s) (FirmwareTakes s) (componentsFrom s at) _ (components-take s at)
     (λ cs h. record {
       number = unsigned-fits (getD (g .scalars) first 0);
-      strings = ((text-within s g first w, (text-within s g second w, (text-within s g third w, tt))), (text-get s (g .texts) first (w .2), (text-get s (g .texts) second (w .2), (text-get s (g .texts) third (w .2), tt))));
-      most = w .1;
-      there = omega (arith, w .1, h .0);
+      strings = ((text-within s g first w, (text-within s g second w, (text-within s g third w, tt))), (text-get s (g .texts) first (w .texts), (text-get s (g .texts) second (w .texts), (text-get s (g .texts) third (w .texts), tt))));
+      most = w .most;
+      there = omega (arith, w .most, h .0);
       components = first-take s (g .count) cs (h .1);
     }))
 

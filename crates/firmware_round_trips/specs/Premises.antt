@@ -22,8 +22,8 @@ use Rattle.round_trips.specs.Premises.{Lendable}
 use Rattle.firmware_round_trips.specs.RoundTrip.{SegmentTakes, segmentAgain, ApplyTakes, applyAgain}
 
 -- from 0 to 4,294,967,295
-abbrev pub Number32 : ℕ → Type 0
-Number32 n = n ≤ 4294967295
+abbrev pub InUnsigned32 : ℕ → Type 0
+InUnsigned32 n = n ≤ 4294967295
 
 -- 0 to 9, A to F, a to f
 pub data Digit (b : ℕ) : Type 0 where
@@ -38,23 +38,23 @@ Digits (b ∷ l) = Digit b × Digits l
 -- a segment with any name that is well formed, any size, and a signature of 64 hexadecimal digits
 unfoldable pub SegmentsTaken : Type 0
 SegmentsTaken =
-    (name : List ℕ) (size : ℕ) (signature out : List ℕ) → WellFormed name → Number32 size → length signature ≡ 64 → Digits signature → Lendable out
+    (name : List ℕ) (size : ℕ) (signature out : List ℕ) → WellFormed name → InUnsigned32 size → length signature ≡ 64 → Digits signature → Lendable out
     → length (messageBytes (segmentFields name 0 size signature)) ≤ length out → SegmentTakes name size signature out
 
 -- a part that lies within the texts, and is well formed
 abbrev pub Lies : List ℕ → Part → Type 0
 Lies texts p = (p .start + p .len ≤ length texts) × WellFormed (bytesOf texts p)
 
-abbrev pub InRange : List ℕ → List FirmwareComponent → Type 0
-InRange texts [] = Unit {0}
-InRange texts (c ∷ cs) = (Number32 (c .version) × Number32 (c .size) × Lies texts (c .name) × Lies texts (c .signature)) × InRange texts cs
+abbrev pub ComponentsInRange : List ℕ → List FirmwareComponent → Type 0
+ComponentsInRange texts [] = Unit {0}
+ComponentsInRange texts (c ∷ cs) = (InUnsigned32 (c .version) × InUnsigned32 (c .size) × Lies texts (c .name) × Lies texts (c .signature)) × ComponentsInRange texts cs
 
 -- ApplyFirmware with an array of eight components of which at most eight are there, whatever the others are
 unfoldable pub AppliesTaken : Type 0
 AppliesTaken =
-    (a : ApplyFirmware) (texts out : List ℕ) → Number32 (a .«firmware_information» .version) → length (a .«firmware_information» .components) ≡ 8
+    (a : ApplyFirmware) (texts out : List ℕ) → InUnsigned32 (a .«firmware_information» .version) → length (a .«firmware_information» .components) ≡ 8
     → a .«firmware_information» .count ≤ 8 → Lies texts (a .«firmware_information» .name) → Lies texts (a .«firmware_information» .locale)
-    → Lies texts (a .«firmware_information» .«version_name») → InRange texts (present (a .«firmware_information»)) → Lendable out
+    → Lies texts (a .«firmware_information» .«version_name») → ComponentsInRange texts (present (a .«firmware_information»)) → Lendable out
     → length (messageBytes (applyFields texts a)) ≤ length out → ApplyTakes a texts out
 
 -- ---- by computation
@@ -85,7 +85,7 @@ abbrev someApply : ApplyFirmware
 someApply = record { «firmware_information» = someFirmware; «restart_required» = true }
 
 -- each into an output of exactly its size: `0A 01 58 18 AC 02 22 40` and 64 digits, `0A 12 12 01 41 1A 08 08 05 12 01 42 18 AC 02 1A 00 22 01 43 10 01`
-pub record OneOfEach : Type 0 where
+pub record OneFirmwareOfEach : Type 0 where
   pub segment : ReadsBack (segmentWritten (88 ∷ []) 0 300 hash (output 72)) segmentAgain (88 ∷ [], 0, 300, hash)
   pub apply : ReadsBack (applyWritten someApply (65 ∷ 66 ∷ 67 ∷ []) (output 22)) applyAgain
       (true, (0, 65 ∷ [], 2, (5, 66 ∷ [], 300, []) ∷ (0, [], 0, []) ∷ [], 67 ∷ [], []))

@@ -23,14 +23,14 @@ use Rattle.firmware_writer.specs.Apply.{applyFields, applyWritten}
 use Rattle.round_trips.specs.RoundTrip.{Lent, ReadsBack}
 
 -- a refusal with its numbers
-abbrev pub Refusal : Type 0
-Refusal = ℕ × List ℕ
+abbrev pub RefusalWithNumbers : Type 0
+RefusalWithNumbers = ℕ × List ℕ
 
 -- neither a writer that refuses with more than a number reads back, nor anything by a reader that does
-unfoldable pub NoneRefused : Type 0
-NoneRefused =
-    ((n : Refusal) (out : List ℕ) (read : List ℕ → ToldMore (List ℕ)) (a : List ℕ) → ReadsBack (written (refused n) out) read a → ⊥)
-    × ((w : WrittenOf Refusal ℕ) (n : Refusal) (a : List ℕ) → ReadsBack w (λ s. refused n) a → ⊥)
+unfoldable pub NoFirmwareRefused : Type 0
+NoFirmwareRefused =
+    ((n : RefusalWithNumbers) (out : List ℕ) (read : List ℕ → ToldMore (List ℕ)) (a : List ℕ) → ReadsBack (written (refused n) out) read a → ⊥)
+    × ((w : WrittenOf RefusalWithNumbers ℕ) (n : RefusalWithNumbers) (a : List ℕ) → ReadsBack w (λ s. refused n) a → ⊥)
 
 -- a number of 32 bits
 abbrev pub Unsigned32 : ℕ → Type 0

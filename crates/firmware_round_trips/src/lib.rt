@@ -1,11 +1,11 @@
 // Reading a firmware message that was written gives back every number and the bytes of every string, and a writer takes what a reader tells. These functions do nothing: their contracts are the claims.
-ghost use Rattle.firmware_round_trips.specs.RoundTrip.{NoneRefused, SegmentRoundTrip, ApplyRoundTrip, SegmentsToldTaken, AppliesToldTaken};
-ghost use Rattle.firmware_round_trips.specs.Premises.{SegmentsTaken, AppliesTaken, OneOfEach};
+ghost use Rattle.firmware_round_trips.specs.RoundTrip.{NoFirmwareRefused, SegmentRoundTrip, ApplyRoundTrip, SegmentsToldTaken, AppliesToldTaken};
+ghost use Rattle.firmware_round_trips.specs.Premises.{SegmentsTaken, AppliesTaken, OneFirmwareOfEach};
 ghost use Rattle.firmware_round_trips.specs.Worked.{WorkedFirmware, ComponentsCounted};
 
 // A writer or a reader that refuses with more than a number makes none of them true.
 pub fn none_refused()
-    ensures { λ _. ⌜ NoneRefused ⌝ }
+    ensures { λ _. ⌜ NoFirmwareRefused ⌝ }
 {}
 
 pub fn segment()
@@ -36,7 +36,7 @@ pub fn applies_taken()
 
 // One message of each kind, by computation.
 pub fn one_of_each()
-    ensures { λ _. ⌜ OneOfEach ⌝ }
+    ensures { λ _. ⌜ OneFirmwareOfEach ⌝ }
 {}
 
 // The bytes worked by hand.

@@ -7,8 +7,8 @@ use lib.ListN.{length}
 use lib.Seq.{sets}
 use borrow.Author.Tests.{lt-ltb, le-ltb, eq-eqb, ne-eqb}
 use Rattle.wire.specs.Told.{given, refused, written, WrittenOf}
-use Rattle.text_writer.specs.declared.Fault.{Fault}
-use Rattle.text_writer.specs.declared.Fault.the-variants.{None, At}
+use Rattle.text_writer.specs.declared.TextFault.{TextFault}
+use Rattle.text_writer.specs.declared.TextFault.the-variants.{None, At}
 use Rattle.text_writer.specs.Texts.{firstFault, faulted}
 use Rattle.field_writer.specs.Put.{Put}
 use Rattle.field_writer.specs.Writer.{scalar, text, fieldBytes, messageBytes}
@@ -51,7 +51,7 @@ module _ (name : List ℕ) (offset size : ℕ) (signature out : List ℕ) (n : �
 
 -- ---- the writer, by its strings
 module _ (name : List ℕ) (offset size : ℕ) (signature out : List ℕ) where
-  by-fault : (f : Fault) → firstFault (segmentStrings name signature) ≡ f → segmentWritten name offset size signature out ≡ faulted f out (segmentFilled name offset size signature out)
+  by-fault : (f : TextFault) → firstFault (segmentStrings name signature) ≡ f → segmentWritten name offset size signature out ≡ faulted f out (segmentFilled name offset size signature out)
   unfolding segmentWritten
   by-fault f e = ap (λ x. faulted x out (segmentFilled name offset size signature out)) e
 

@@ -13,7 +13,7 @@ use Rattle.field.specs.Value.{bytesOf}
 use Rattle.field_writer.specs.Writer.{scalar, text, nested, headBytes, fieldBytes, messageBytes}
 use Rattle.field_writer.proofs.Runs.{message-length, joined-length}
 use Rattle.field_writer.proofs.Messages.{or-false}
-use Rattle.text_writer.specs.declared.Fault.{Fault}
+use Rattle.text_writer.specs.declared.TextFault.{TextFault}
 use Rattle.text_writer.specs.Texts.{orText, faultFrom}
 use Rattle.walk.specs.Schema.{firmwareVersionField, firmwareNameField, localeField, versionNameField, firmwareInformationField, restartRequiredField, firmwareComponentVersionField, firmwareComponentNameField, firmwareComponentSizeField, firmwareComponentSignatureField}
 use Rattle.firmware.specs.declared.component.FirmwareComponent.{FirmwareComponent}
@@ -102,6 +102,6 @@ apply-length texts a =
     omega (arith, message-length (nested firmwareInformationField l) (f₂ ∷ []), message-length f₂ [], nested-length firmwareInformationField l)
 
 -- ---- strings: some, and then others
-pub fault-append : (fault : Fault) (xs ys : List (ℕ × List ℕ)) → faultFrom fault (xs ++ ys) ≡ faultFrom (faultFrom fault xs) ys
+pub fault-append : (fault : TextFault) (xs ys : List (ℕ × List ℕ)) → faultFrom fault (xs ++ ys) ≡ faultFrom (faultFrom fault xs) ys
 fault-append fault [] ys = refl
 fault-append fault (t ∷ xs) ys = fault-append (orText (t .0) (t .1) fault) xs ys

@@ -11,7 +11,7 @@ use field_writer::message::Room;
 use field_writer::message::WriteRefusal;
 use field_writer::message::Wrote;
 use firmware::apply::ApplyFirmware;
-use text_writer::Fault;
+use text_writer::TextFault;
 use text_writer::TextWrote;
 use walk::schema::FIRMWARE_INFORMATION;
 use walk::schema::RESTART_REQUIRED;
@@ -68,8 +68,8 @@ pub fn write_apply(out: &mut [u8], apply: ApplyFirmware, texts: &[u8]) -> TextWr
         return TextWrote::Refused(WriteRefusal::BadArgument);
     }
     match firmware_fault(texts, information) {
-        Fault::At { field, place } => TextWrote::BadText { field, place },
-        Fault::None => {
+        TextFault::At { field, place } => TextWrote::BadText { field, place },
+        TextFault::None => {
             let wrote = fill_apply(out, apply, texts);
             TextWrote::of(wrote)
         }

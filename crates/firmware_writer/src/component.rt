@@ -8,7 +8,7 @@ use field_writer::fields::scalar_len;
 use field_writer::fields::text_len;
 use field_writer::message::Room;
 use firmware::component::FirmwareComponent;
-use text_writer::Fault;
+use text_writer::TextFault;
 use walk::schema::COMPONENTS;
 use walk::schema::FIRMWARE_COMPONENT_NAME;
 use walk::schema::FIRMWARE_COMPONENT_SIGNATURE;
@@ -76,7 +76,7 @@ pub(crate) fn put_text_part(
 }
 
 // A string that is a part of the texts is judged, unless a fault was found before.
-pub(crate) fn text_part_fault(fault: Fault, texts: &[u8], field: u64, part: Part) -> Fault
+pub(crate) fn text_part_fault(fault: TextFault, texts: &[u8], field: u64, part: Part) -> TextFault
     requires { ⌜ outside (now texts) part ≡ false ⌝ }
     ensures { λ r. ⌜ r ≡ orText field (bytesOf (now (texts .entry)) part) fault ⌝ }
 {
@@ -86,7 +86,11 @@ pub(crate) fn text_part_fault(fault: Fault, texts: &[u8], field: u64, part: Part
 }
 
 // A component's strings are judged, unless a fault was found before.
-pub(crate) fn component_fault(fault: Fault, texts: &[u8], component: FirmwareComponent) -> Fault
+pub(crate) fn component_fault(
+    fault: TextFault,
+    texts: &[u8],
+    component: FirmwareComponent,
+) -> TextFault
     requires { ⌜ badComponent (now texts) component ≡ false ⌝ }
     ensures { λ r. ⌜ r ≡ faultFrom fault (componentStrings (now (texts .entry)) component) ⌝ }
 {

@@ -12,7 +12,7 @@ use field_writer::fields::scalar_len;
 use field_writer::message::Room;
 use firmware::component::FirmwareComponent;
 use firmware::information::FirmwareInformation;
-use text_writer::Fault;
+use text_writer::TextFault;
 use walk::gathered::MOST_REPEATED;
 use walk::schema::FIRMWARE_NAME;
 use walk::schema::FIRMWARE_VERSION;
@@ -73,11 +73,11 @@ pub(crate) fn bad_firmware(texts: &[u8], information: FirmwareInformation) -> bo
 
 // The strings of the first components are judged, unless a fault was found before.
 fn components_fault(
-    fault: Fault,
+    fault: TextFault,
     texts: &[u8],
     components: [FirmwareComponent; 8],
     count: usize,
-) -> Fault
+) -> TextFault
     requires { ⌜ (count ≤ mostRepeated) × (badComponents (now texts) (take count components) ≡ false) ⌝ }
     ensures { λ r. ⌜ r ≡ faultFrom fault (componentsStrings (now (texts .entry)) (take count components)) ⌝ }
 {
@@ -92,7 +92,7 @@ fn components_fault(
 }
 
 // The first string of firmware information, in writing order, that is not well formed.
-pub(crate) fn firmware_fault(texts: &[u8], information: FirmwareInformation) -> Fault
+pub(crate) fn firmware_fault(texts: &[u8], information: FirmwareInformation) -> TextFault
     requires { ⌜ badFirmware (now texts) information ≡ false ⌝ }
     ensures { λ r. ⌜ r ≡ firstFault (firmwareStrings (now (texts .entry)) information) ⌝ }
 {
@@ -100,7 +100,7 @@ pub(crate) fn firmware_fault(texts: &[u8], information: FirmwareInformation) -> 
     let components = information.components;
     let locale = information.locale;
     let version_name = information.version_name;
-    let first = text_part_fault(Fault::None, texts, FIRMWARE_NAME, name);
+    let first = text_part_fault(TextFault::None, texts, FIRMWARE_NAME, name);
     let second = components_fault(first, texts, components, information.count);
     let third = text_part_fault(second, texts, LOCALE, locale);
     text_part_fault(third, texts, VERSION_NAME, version_name)

@@ -6,7 +6,7 @@ use field_writer::fields::text_len;
 use field_writer::message::Room;
 use firmware::segment::NO_FIELD;
 use firmware::segment::broken_field;
-use text_writer::Fault;
+use text_writer::TextFault;
 use walk::schema::COMPONENT_NAME;
 use walk::schema::SEGMENT_SIGNATURE;
 use walk::schema::SEGMENT_SIZE;
@@ -111,11 +111,11 @@ fn fill_segment(
 }
 
 // The first string that is not well formed.
-fn segment_fault(component_name: &[u8], segment_signature: &[u8]) -> Fault
+fn segment_fault(component_name: &[u8], segment_signature: &[u8]) -> TextFault
     ensures { λ r. ⌜ r
         ≡ firstFault (segmentStrings (now («component_name» .entry)) (now («segment_signature» .entry))) ⌝ }
 {
-    Fault::None
+    TextFault::None
         .or_text(COMPONENT_NAME, component_name)
         .or_text(SEGMENT_SIGNATURE, segment_signature)
 }
@@ -133,8 +133,8 @@ pub fn write_segment(
         (now («segment_signature» .entry)) (now (out .entry)) ⌝ }
 {
     match segment_fault(component_name, segment_signature) {
-        Fault::At { field, place } => SegmentWrote::BadText { field, place },
-        Fault::None => fill_segment(
+        TextFault::At { field, place } => SegmentWrote::BadText { field, place },
+        TextFault::None => fill_segment(
             out,
             component_name,
             component_offset,

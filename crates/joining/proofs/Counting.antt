@@ -11,7 +11,7 @@ use Rattle.sender.specs.Piece.{leastRoom, extended, isFirst, sizeFor, piecesOf}
 use Rattle.joining.specs.Joined.{sizes}
 use Rattle.joining.proofs.Pieces.{restFrom, rest-whole, size-low, size-one, pieces-last, pieces-more}
 
-pub record Counting (room total index place sum : ℕ) (going : Bool) : Type 0 where
+pub record CountingPackets (room total index place sum : ℕ) (going : Bool) : Type 0 where
   pub low : place ≤ total
   pub few : going ≡ true → index ≤ place
   pub some : index ≤ place + 1
@@ -19,12 +19,12 @@ pub record Counting (room total index place sum : ℕ) (going : Bool) : Type 0 w
   pub left : sum + sizes (cond going (restFrom room total index place) []) ≡ sizes (piecesOf room total)
 
 module _ (room total : ℕ) (enough : leastRoom ≤ room) where
-  pub counting-start : Counting room total 0 0 0 true
+  pub counting-start : CountingPackets room total 0 0 0 true
   counting-start = record { low = omega arith; few = λ e. omega arith; some = omega arith; bound = omega arith; left = omega (arith, ap sizes (rest-whole room total)) }
 
-  module _ (index place sum n h : ℕ) (c : Counting room total index place sum true) (en : n ≡ sizeFor room (isFirst index) (total - place))
+  module _ (index place sum n h : ℕ) (c : CountingPackets room total index place sum true) (en : n ≡ sizeFor room (isFirst index) (total - place))
       (eh : h ≡ headerSize (isFirst index) (extended n)) (lh : h < 8) where
-    counted : (b : Bool) → ltb n (total - place) ≡ b → Counting room total (index + 1) (place + n) (sum + (h + n)) b
+    counted : (b : Bool) → ltb n (total - place) ≡ b → CountingPackets room total (index + 1) (place + n) (sum + (h + n)) b
     counted true e =
         let x : n < total - place = ltb-true n (total - place) e in
         let few = c .few refl in
@@ -41,8 +41,8 @@ module _ (room total : ℕ) (enough : leastRoom ≤ room) where
         let l = c .left in
         record { low = omega arith; few = λ e. absurd (false≢true e); some = omega arith; bound = omega (arith, c .bound); left = omega arith }
 
-    pub counting-next : Counting room total (index + 1) (place + n) (sum + (h + n)) (ltb n (total - place))
+    pub counting-next : CountingPackets room total (index + 1) (place + n) (sum + (h + n)) (ltb n (total - place))
     counting-next = counted (ltb n (total - place)) refl
 
-  pub counting-end : (index place sum : ℕ) → Counting room total index place sum false → sum ≡ sizes (piecesOf room total)
+  pub counting-end : (index place sum : ℕ) → CountingPackets room total index place sum false → sum ≡ sizes (piecesOf room total)
   counting-end index place sum c = let l = c .left in omega arith

@@ -10,7 +10,7 @@ use Rattle.wire.proofs.Tests.{and-left, and-right}
 use Rattle.packet.specs.Header.{fourBits}
 use Rattle.sender.specs.declared.writer.Sending.{Sending}
 use Rattle.sender.specs.Piece.{leastRoom, piecesOf}
-use Rattle.joining.specs.Joined.{joinedOf, sizes, countable, joinedLength, messageIn, isExact, joinedOver, Joins}
+use Rattle.joining.specs.Joined.{joinedOf, sizes, countable, joinedLength, messageIn, isExact, joinedOver, JoinsExactly}
 
 pub countable-facts : (room total : ℕ) → countable room total ≡ true → (leastRoom ≤ room) × (total < 65536)
 unfolding countable
@@ -25,7 +25,7 @@ pub joined-length : (room total : ℕ) → leastRoom ≤ room → total < 65536 
 unfolding joinedLength
 joined-length room total low small = rw (is-countable room total low small)
 
-pub exact-joins : (w : Sending) (total : ℕ) (out : List ℕ) → isExact w total (length out) ≡ true → Joins w total out
+pub exact-joins : (w : Sending) (total : ℕ) (out : List ℕ) → isExact w total (length out) ≡ true → JoinsExactly w total out
 unfolding isExact
 exact-joins w total out e =
     let low = ltb (w .stream) fourBits && ltb (w .id) fourBits in
@@ -41,7 +41,7 @@ exact-joins w total out e =
       long = eqb-true (length out) (sizes (piecesOf (w .room) total)) (and-right (low && countable (w .room) total) long e);
     }
 
-joins-exact : (w : Sending) (total : ℕ) (out : List ℕ) → Joins w total out → isExact w total (length out) ≡ true
+joins-exact : (w : Sending) (total : ℕ) (out : List ℕ) → JoinsExactly w total out → isExact w total (length out) ≡ true
 unfolding isExact
 joins-exact w total out j =
     rw (
@@ -51,7 +51,7 @@ joins-exact w total out j =
       eq-eqb (length out) (sizes (piecesOf (w .room) total)) (j .long),
     )
 
-pub joined-over : (w : Sending) (total : ℕ) (out : List ℕ) → Joins w total out → joinedOver w total out ≡ joinedOf w (messageIn total out)
+pub joined-over : (w : Sending) (total : ℕ) (out : List ℕ) → JoinsExactly w total out → joinedOver w total out ≡ joinedOf w (messageIn total out)
 joined-over w total out j = rw (joins-exact w total out j)
 
 pub not-joined : (w : Sending) (total : ℕ) (out : List ℕ) → isExact w total (length out) ≡ false → joinedOver w total out ≡ out

@@ -16,7 +16,7 @@ use Rattle.sender.specs.declared.writer.Sending.{Sending}
 use Rattle.sender.specs.Piece.{leastRoom, extended, isFirst, sizeFor, piecesOf}
 use Rattle.sender.specs.Writer.{headerBytes, packetOf}
 use Rattle.sender.proofs.Packets.{header-length, packet-length, header-some}
-use Rattle.joining.specs.Joined.{concat, joinedOf, sizes, Places, Placed, messageIn, Joins}
+use Rattle.joining.specs.Joined.{concat, joinedOf, sizes, Places, Placed, messageIn, JoinsExactly}
 use Rattle.joining.proofs.Pieces.{restFrom, pieceFor, rest-whole, size-low, size-one, pieces-last, pieces-more, some-left, sizes-rest}
 
 -- ---- stores, and what stands before and after them
@@ -47,7 +47,7 @@ placed w total p last out out₁ out₂ at from h r f eh e₁ e₂ er =
       stored = e₂ ∙ rw (same, s₁) (sets-then out at (at + h) header (take (p .size) (drop from out)) (omega arith));
     }
 
-pub record Going (w : Sending) (m : List ℕ) (total end : ℕ) (out : List ℕ) (index place at : ℕ) : Type 0 where
+pub record StillJoining (w : Sending) (m : List ℕ) (total end : ℕ) (out : List ℕ) (index place at : ℕ) : Type 0 where
   pub low : place ≤ total
   pub few : index ≤ place
   pub size : at + sizes (restFrom (w .room) total index place) ≡ end
@@ -56,7 +56,7 @@ pub record Going (w : Sending) (m : List ℕ) (total end : ℕ) (out : List ℕ)
 
 pub data Joining (w : Sending) (m : List ℕ) (total end : ℕ) (out : List ℕ) (index place at : ℕ) : Type 0 where
   done : at ≡ end → out ≡ joinedOf w m → Joining w m total end out index place at
-  going : Going w m total end out index place at → Joining w m total end out index place at
+  going : StillJoining w m total end out index place at → Joining w m total end out index place at
 
 -- a piece is the last where it takes all the rest
 last-by : (place n total length : ℕ) (b : Bool) → eqb n (total - place) ≡ b → place ≤ total → length ≡ total → eqb (place + n) length ≡ b
@@ -65,13 +65,13 @@ last-by place n total length false e l t =
     let d : (n ≡ total - place → ⊥) = eqb-false n (total - place) e in ne-eqb (place + n) length (λ s. d (omega arith))
 
 module _ (w : Sending) (m : List ℕ) (total end : ℕ) (enough : leastRoom ≤ w .room) (len : length m ≡ total) where
-  pub left-fits : {out : List ℕ} {index place at : ℕ} → Going w m total end out index place at → at + (total - place) ≤ end
+  pub left-fits : {out : List ℕ} {index place at : ℕ} → StillJoining w m total end out index place at → at + (total - place) ≤ end
   left-fits {out} {index} {place} {at} g =
       let few = g .few in
       let s = sizes-rest (suc (total - index)) (w .room) index place (total - place) enough (omega arith) in
       omega (arith, g .size)
 
-  module _ (out : List ℕ) (index place at n : ℕ) (long : length out ≡ end) (g : Going w m total end out index place at)
+  module _ (out : List ℕ) (index place at n : ℕ) (long : length out ≡ end) (g : StillJoining w m total end out index place at)
       (en : n ≡ sizeFor (w .room) (isFirst index) (total - place)) where
     abbrev p : Piece
     p = pieceFor index place n
@@ -170,7 +170,7 @@ module _ (w : Sending) (m : List ℕ) (total end : ℕ) (enough : leastRoom ≤ 
       joining-next = joined-by (eqb n (total - place)) refl
 
 -- the start: the message stands at the end of the output
-module _ (w : Sending) (total : ℕ) (out : List ℕ) (j : Joins w total out) where
+module _ (w : Sending) (total : ℕ) (out : List ℕ) (j : JoinsExactly w total out) where
   pub message-fits : total ≤ length out
   message-fits = let s = sizes-rest (suc total) (w .room) 0 0 total (j .room) (omega arith) in omega (arith, j .long)
 
@@ -190,7 +190,7 @@ module _ (w : Sending) (total : ℕ) (out : List ℕ) (j : Joins w total out) wh
       })
 
 -- before the end it goes on, at the end it is done
-pub going-on : {w : Sending} {m : List ℕ} {total end : ℕ} {out : List ℕ} {index place at : ℕ} → Joining w m total end out index place at → at < end → Going w m total end out index place at
+pub going-on : {w : Sending} {m : List ℕ} {total end : ℕ} {out : List ℕ} {index place at : ℕ} → Joining w m total end out index place at → at < end → StillJoining w m total end out index place at
 going-on (done e f) l = absurd (omega arith)
 going-on (going g) l = g
 

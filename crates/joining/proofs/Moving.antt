@@ -12,17 +12,17 @@ use Rattle.wire.proofs.Parts.{length-part}
 abbrev pub runIn : List ℕ → ℕ → ℕ → List ℕ
 runIn out from n = take n (drop from out)
 
-pub record Moving (out₀ : List ℕ) (to from n : ℕ) (out : List ℕ) (i : ℕ) : Type 0 where
+pub record MovingDown (out₀ : List ℕ) (to from n : ℕ) (out : List ℕ) (i : ℕ) : Type 0 where
   pub inside : i ≤ n
   pub long : length out ≡ length out₀
   pub target : sets out (to + i) (drop i (runIn out₀ from n)) ≡ sets out₀ to (runIn out₀ from n)
   pub later : drop (from + i) out ≡ drop (from + i) out₀
 
 module _ (out₀ : List ℕ) (to from n : ℕ) (earlier : to ≤ from) (within : from + n ≤ length out₀) where
-  pub moving-start : Moving out₀ to from n out₀ 0
+  pub moving-start : MovingDown out₀ to from n out₀ 0
   moving-start = record { inside = omega arith; long = refl; target = rw add-zero; later = refl }
 
-  module _ (out : List ℕ) (i : ℕ) (m : Moving out₀ to from n out i) where
+  module _ (out : List ℕ) (i : ℕ) (m : MovingDown out₀ to from n out i) where
     first-of : (l : List ℕ) (k : ℕ) → getD (drop k l) 0 0 ≡ getD l k 0
     first-of l k = getD-drop k l 0 0 ∙ ap (λ (x : ℕ). getD l x 0) (add-zero k)
 
@@ -34,7 +34,7 @@ module _ (out₀ : List ℕ) (to from n : ℕ) (earlier : to ≤ from) (within :
     one-less : (l : List ℕ) → drop (from + (i + 1)) l ≡ drop 1 (drop (from + i) l)
     one-less l = let e : from + (i + 1) ≡ from + i + 1 = omega arith in rw e (sym (drop-drop 1 (from + i) l))
 
-    pub moving-next : i < n → Moving out₀ to from n (set out (to + i) (getD out (from + i) 0)) (i + 1)
+    pub moving-next : i < n → MovingDown out₀ to from n (set out (to + i) (getD out (from + i) 0)) (i + 1)
     moving-next h =
         let r = length-part out₀ from n within in
         record {

@@ -64,7 +64,7 @@ pub record Placed (before : List ℕ) (at : ℕ) (bytes : List ℕ) (next : ℕ)
   pub stored : after ≡ sets before at bytes
 
 -- a message can be joined: the output is exactly as long as its packets
-pub record Joins (w : Sending) (total : ℕ) (out : List ℕ) : Type 0 where
+pub record JoinsExactly (w : Sending) (total : ℕ) (out : List ℕ) : Type 0 where
   pub low-stream : w .stream < fourBits
   pub low-id : w .id < fourBits
   pub low-total : total < 65536

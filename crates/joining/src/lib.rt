@@ -16,7 +16,7 @@ ghost use lib.ListN.{length, take, drop};
 ghost use lib.Seq.{sets};
 ghost use Rattle.sender.specs.Piece.{leastRoom, isFirst, sizeFor, piecesOf};
 ghost use Rattle.sender.specs.Writer.{headerBytes};
-ghost use Rattle.joining.specs.Joined.{joinedOf, sizes, countable, joinedLength, Places, Placed, messageIn, Joins, isExact, joinedOver};
+ghost use Rattle.joining.specs.Joined.{joinedOf, sizes, countable, joinedLength, Places, Placed, messageIn, JoinsExactly, isExact, joinedOver};
 
 // Moves n bytes to an earlier place.
 fn move_down(out: &mut [u8], to: usize, from: usize, n: usize)
@@ -114,7 +114,7 @@ fn is_exact(how: Sending, total: usize, space: usize) -> bool
 // The packets of the message that stands at the end of the output. A packet's end never passes the bytes that are
 // still to be moved: each packet behind it has at least as many bytes as it carries.
 fn put_packets(out: &mut [u8], how: Sending, total: usize)
-    requires { ⌜ Joins how total (now out) ⌝ }
+    requires { ⌜ JoinsExactly how total (now out) ⌝ }
     ensures { λ _. ⌜ now (out .exit) ≡ joinedOf how (messageIn total (now (out .entry))) ⌝ }
 {
     let end = out.len();

@@ -13,14 +13,14 @@ use Rattle.slot.specs.declared.answer.Accepted.the-variants.{Taken, Finished, A
 use Rattle.slot.specs.Slot.{idles, lawfulSlot, lawful}
 use Rattle.slot.specs.Step.{finish, hold, dropBy, firstStep, nextStep}
 use Rattle.receiver.specs.Receiver.{ready, acceptOf}
-use Rattle.lanes.specs.Lanes.{Both, bothOf, Handed}
+use Rattle.lanes.specs.Lanes.{Both, bothOf, HandedPair}
 use Rattle.lanes.specs.Instance.{limit, empty, control, slots, buffer, Same, late, rest, ack, end, full, unknown, Computed, other, ByFirstBytes, OneStream, controlOpen, otaOpen}
 
 law : lawful limit slots ≡ true
 unfolding limitFits isStream streamOf fieldsOf contentOf lines readOf lawfulSlot lawful finish hold dropBy firstStep nextStep ready acceptOf
 law = refl
 
-handed : Handed limit slots buffer late end
+handed : HandedPair limit slots buffer late end
 handed = record { law = law; size = refl; filled = (omega arith, omega arith); streams = λ e. omega arith }
 
 pub computed : Computed

@@ -17,7 +17,7 @@ use Rattle.wire.proofs.Streams.{other-stream}
 use Rattle.packet.specs.declared.reader.Packet.{Packet}
 use Rattle.packet.specs.Reader.{headIn, readOf}
 use Rattle.packet.proofs.Headers.{stream-back}
-use Rattle.packet.proofs.Reading.{Passes, IfGiven, read-passes}
+use Rattle.packet.proofs.Reading.{LinesPass, IfGiven, read-passes}
 use Rattle.slot.specs.declared.Slot.{Slot}
 use Rattle.slot.specs.Slot.{idle, laneStart, lawfulSlot}
 use Rattle.slot.specs.Step.{Act, still, step}
@@ -26,8 +26,8 @@ use Rattle.slot.proofs.Slots.{open-lawful, idle-lawful, lawful-three}
 use Rattle.slot.proofs.Lanes.{place-other, act-other}
 use Rattle.receiver.specs.Buffer.{partStart, payloadBytes}
 use Rattle.receiver.specs.Receiver.{Result, actIn, acted, acceptOf}
-use Rattle.receiver.proofs.Accepting.{Fits, accept-ready, limit-refused, ready-next, in-fits, payload-length}
-use Rattle.lanes.specs.Lanes.{Both, bothOf, turned, streamField, Handed, EitherOrder, InRules, HandedAll, PartsApart}
+use Rattle.receiver.proofs.Accepting.{SlotsFit, accept-ready, limit-refused, ready-next, in-fits, payload-length}
+use Rattle.lanes.specs.Lanes.{Both, bothOf, turned, streamField, HandedPair, EitherOrder, InRules, HandedAll, PartsApart}
 
 -- ---- runs that lie apart
 
@@ -65,7 +65,7 @@ bothBy limit slots bytes p q t u =
     let s : Result = acted limit (r .slots) (r .bytes) q u in
     record { first = r .told; second = s .told; slots = s .slots; bytes = s .bytes }
 
-both-read : (limit : ℕ) (slots : List Slot) (bytes p q : List ℕ) → Fits limit slots bytes
+both-read : (limit : ℕ) (slots : List Slot) (bytes p q : List ℕ) → SlotsFit limit slots bytes
     → bothOf limit slots bytes p q ≡ bothBy limit slots bytes p q (readOf limit p) (readOf limit q)
 both-read limit slots bytes p q r =
     let later = accept-ready limit (acceptOf limit slots bytes p .slots) (acceptOf limit slots bytes p .bytes) q (ready-next limit slots bytes p r) in
@@ -97,8 +97,8 @@ module _ (limit : ℕ) (slots : List Slot) (bytes p q : List ℕ) (x y : Packet)
             (payload-length limit (length q) q (t .payload) (fy .inside)),
       )
 
-turned-read : (limit m n : ℕ) (slots : List Slot) (bytes p q : List ℕ) (t u : Told Packet) → Fits limit slots bytes → m ≢ n
-    → IfGiven (Passes limit (length p) m) t → IfGiven (Passes limit (length q) n) u
+turned-read : (limit m n : ℕ) (slots : List Slot) (bytes p q : List ℕ) (t u : Told Packet) → SlotsFit limit slots bytes → m ≢ n
+    → IfGiven (LinesPass limit (length p) m) t → IfGiven (LinesPass limit (length q) n) u
     → bothBy limit slots bytes p q t u ≡ turned (bothBy limit slots bytes q p u t)
 turned-read limit m n slots bytes p q (refused a) (refused b) r d o k = refl
 turned-read limit m n slots bytes p q (refused a) (given y) r d o k = refl
@@ -108,12 +108,12 @@ turned-read limit m n slots bytes p q (given x) (given y) r d o k =
     (in-fits limit (length p) m slots x (r .law) o) (in-fits limit (length q) n slots y (r .law) k)
 
 -- with a limit out of its range both are refused by 1, and leave all
-order-by : (limit : ℕ) (slots : List Slot) (bytes p q : List ℕ) (b : Bool) → limitFits limit ≡ b → Handed limit slots bytes p q
+order-by : (limit : ℕ) (slots : List Slot) (bytes p q : List ℕ) (b : Bool) → limitFits limit ≡ b → HandedPair limit slots bytes p q
     → bothOf limit slots bytes p q ≡ turned (bothOf limit slots bytes q p)
 order-by limit slots bytes p q false e h =
     rw (limit-refused limit slots bytes p e, limit-refused limit slots bytes q e, limit-refused limit slots bytes p e)
 order-by limit slots bytes p q true e h =
-    let r : Fits limit slots bytes = record { range = e; law = h .law; size = h .size } in
+    let r : SlotsFit limit slots bytes = record { range = e; law = h .law; size = h .size } in
     both-read limit slots bytes p q r
     ∙ turned-read limit (streamField p) (streamField q) slots bytes p q (readOf limit p) (readOf limit q) r (h .streams) (read-passes limit p) (read-passes limit q)
     ∙ ap turned (sym (both-read limit slots bytes q p r))

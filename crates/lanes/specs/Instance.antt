@@ -12,7 +12,7 @@ use Rattle.slot.specs.declared.answer.Accepted.{Accepted}
 use Rattle.slot.specs.declared.answer.Accepted.the-variants.{Taken, Finished, Acked}
 use Rattle.slot.specs.Slot.{idles, slotCount, lawful}
 use Rattle.receiver.specs.Receiver.{acceptOf}
-use Rattle.lanes.specs.Lanes.{Both, bothOf, turned, Handed, EitherOrder}
+use Rattle.lanes.specs.Lanes.{Both, bothOf, turned, HandedPair, EitherOrder}
 
 -- small, so that the buffer is
 abbrev pub limit : ℕ
@@ -77,7 +77,7 @@ abbrev pub unknown : List ℕ
 unknown = 0x51 ∷ 0x24 ∷ 0x01 ∷ 0xDD ∷ []
 
 pub record Computed : Type 0 where
-  pub handed : Handed limit slots buffer late end
+  pub handed : HandedPair limit slots buffer late end
   -- 10 makes its own slot idle, and the other stream's message is finished
   pub dropped : Same late end
       (record {

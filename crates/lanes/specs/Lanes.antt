@@ -47,7 +47,7 @@ abbrev pub streamField : List ℕ → ℕ
 streamField p = streamBits (getD p 0 0)
 
 -- what the claim asks for
-pub record Handed (limit : ℕ) (slots : List Slot) (bytes p q : List ℕ) : Type 0 where
+pub record HandedPair (limit : ℕ) (slots : List Slot) (bytes p q : List ℕ) : Type 0 where
   pub law : lawful limit slots ≡ true
   -- a buffer of the right size
   pub size : length bytes ≡ slotCount * limit
@@ -60,7 +60,7 @@ pub record Handed (limit : ℕ) (slots : List Slot) (bytes p q : List ℕ) : Typ
 abbrev pub EitherOrder : Type 0
 EitherOrder =
     (limit : ℕ) (slots : List Slot) (bytes p q : List ℕ)
-    → Handed limit slots bytes p q
+    → HandedPair limit slots bytes p q
     → bothOf limit slots bytes p q ≡ turned (bothOf limit slots bytes q p)
 
 -- ---- what is asked for, in the numbers of docs/FORMATS.md
@@ -82,7 +82,7 @@ HandedAll =
     → i ≤ 15
     → j ≤ 15
     → m ≢ n
-    → Handed limit (control ∷ ota ∷ alexa ∷ []) bytes ((m * 16 + i) ∷ p) ((n * 16 + j) ∷ q)
+    → HandedPair limit (control ∷ ota ∷ alexa ∷ []) bytes ((m * 16 + i) ∷ p) ((n * 16 + j) ∷ q)
 
 -- ---- the parts of the buffer
 

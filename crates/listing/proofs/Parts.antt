@@ -12,13 +12,13 @@ use borrow.Author.Tests.{eqb-true, not-false}
 use Rattle.wire.proofs.Stores.{sets-step, sets-end, part-stored}
 use Rattle.outbox.specs.declared.format.Format.{Format}
 use Rattle.outbox.specs.Format.{Known, isOne, formatOf, headSize, newBytes, firstPlace}
-use Rattle.outbox.specs.Reader.{Answer, Handed, given, refused, refusedAt, otherVersion, readAll, firstRefusal, walkOf}
+use Rattle.outbox.specs.Reader.{Answer, HandedRecord, given, refused, refusedAt, otherVersion, readAll, firstRefusal, walkOf}
 use Rattle.outbox_claims.specs.Claims.{usable, recordsOf, allMoved, fromPlace, ReadsAsAlone}
 use Rattle.outbox.proofs.Versions.{known-small}
 use Rattle.outbox.proofs.Record.{clash}
 use Rattle.outbox.proofs.Walk.{other-version-walk}
 use Rattle.outbox.proofs.Place.{found-within, version-more}
-use Rattle.outbox_claims.proofs.Run.{Run, ends, stops, goes, all-run, run-all, walk-is}
+use Rattle.outbox_claims.proofs.Run.{RecordRun, ends, stops, goes, all-run, run-all, walk-is}
 use Rattle.outbox_claims.proofs.Cut.{run-usable}
 use Rattle.outbox_claims.proofs.Append.{bounds}
 use Rattle.outbox_claims.proofs.Moved.{never-cut}
@@ -37,7 +37,7 @@ ends-uncut true e = absurd (clash (cc))
 ends-uncut false e = refl
 
 -- what is refused in reading place after place has its place
-run-never-refused : (fmt : Format) (file : List ℕ) {place : ℕ} {hs : List Handed} → Run fmt file place hs → (n : ℕ) → firstRefusal hs ≡ refused n → ⊥
+run-never-refused : (fmt : Format) (file : List ℕ) {place : ℕ} {hs : List HandedRecord} → RecordRun fmt file place hs → (n : ℕ) → firstRefusal hs ≡ refused n → ⊥
 run-never-refused fmt file (ends place e) n r = clash (cc)
 run-never-refused fmt file (stops place inside e) n r = clash (cc)
 run-never-refused fmt file (goes place inside e p later) n r = run-never-refused fmt file later n r
@@ -110,7 +110,7 @@ further fmt part enough unfinished = by-run (all-run fmt part version) (walk-is 
     version : otherVersion fmt part ≡ false
     version = more-version fmt false part unfinished
 
-    by-run : {hs : List Handed} → Run fmt part 1 hs → walkOf fmt part ≡ firstRefusal hs → 1 < usable (walkOf fmt part) part
+    by-run : {hs : List HandedRecord} → RecordRun fmt part 1 hs → walkOf fmt part ≡ firstRefusal hs → 1 < usable (walkOf fmt part) part
     by-run (ends place e) walked = absurd (omega arith)
     by-run (stops place {n = n} inside e) walked =
         let cut : n ≡ 41 = eqb-true n 41 (not-over (eqb n 41) (rw walked at unfinished)) in

@@ -12,7 +12,7 @@ use borrow.Author.Tests.{le-ltb, ltb-false, eqb-true, eq-eqb, ne-eqb, not-false}
 use Rattle.wire.specs.Told.{line, table}
 use Rattle.outbox.specs.declared.format.Format.{Format}
 use Rattle.outbox.specs.Format.{Known, one, two, formatOf, newBytes, firstPlace}
-use Rattle.outbox.specs.Reader.{Answer, given, refused, refusedAt, Item, Found, found, end, Handed, onward, otherVersion, readOf, readings, readAll, walkOf}
+use Rattle.outbox.specs.Reader.{Answer, given, refused, refusedAt, Item, FoundRecord, found, end, HandedRecord, onward, otherVersion, readOf, readings, readAll, walkOf}
 use Rattle.outbox.specs.Writer.{Stored, stored, storedAt, ifWhole}
 use Rattle.outbox.proofs.Record.{clash, found-stands}
 use Rattle.outbox.proofs.Place.{read-record}
@@ -95,7 +95,7 @@ size-told (given none) k n e = (refl, cc)
 size-told (refused m) k n e = absurd (clash (cc))
 size-told (refusedAt m place) k n e = absurd (clash (cc))
 
-module _ (fmt : Format) (hs : List Handed) where
+module _ (fmt : Format) (hs : List HandedRecord) where
   pub counted : (out : List ℕ) (a : Answer ℕ) → countOf fmt firstPlace firstPlace hs ≡ a
       → ifWhole (overFrom (fmt .limit) firstPlace hs) out (placed out (newBytes fmt ++ recordsIn fmt hs)) ≡ decided out (newBytes fmt ++ recordsIn fmt hs) a
   unfolding countOf

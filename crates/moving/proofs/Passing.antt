@@ -11,7 +11,7 @@ use borrow.Author.Tests.{lt-ltb, le-ltb, ltb-false}
 use Rattle.wire.proofs.Stores.{sets-append}
 use Rattle.outbox.specs.declared.format.Format.{Format}
 use Rattle.outbox.specs.Format.{Known, headSize, recordBytes, firstPlace}
-use Rattle.outbox.specs.Reader.{Answer, given, refused, refusedAt, Item, Found, found, end, Handed, handed, payloadIn, onward, recordAt, readOf, readings, readAll}
+use Rattle.outbox.specs.Reader.{Answer, given, refused, refusedAt, Item, FoundRecord, found, end, HandedRecord, handed, payloadIn, onward, recordAt, readOf, readings, readAll}
 use Rattle.outbox.proofs.Record.{clash, found-stands, found-spans}
 use Rattle.outbox.proofs.Place.{read-within, read-record}
 use Rattle.outbox.proofs.Stored.{length-record}
@@ -20,27 +20,27 @@ use Rattle.moving.specs.Moves.{recordOnly, recordsIn, overFrom, sizeUnle
 
 -- ---- the readings from a place on
 
-pub record Coming (fmt : Format) (file : List ℕ) (place : ℕ) (hs : List Handed) : Type 0 where
+pub record Coming (fmt : Format) (file : List ℕ) (place : ℕ) (hs : List HandedRecord) : Type 0 where
   pub turns : ℕ
   pub some : 1 ≤ turns
   pub enough : length file < place + turns
   pub same : readings turns fmt file place ≡ hs
 
-only-record : (a : Answer Item) (f : Found) → recordOnly a ≡ given (found f) → a ≡ given (found f)
+only-record : (a : Answer Item) (f : FoundRecord) → recordOnly a ≡ given (found f) → a ≡ given (found f)
 only-record (given (found g)) f e = e
 only-record (given end) f e = e
 only-record (refused n) f e = absurd (clash (cc))
 only-record (refusedAt n p) f e = absurd (clash (cc))
 
 -- where no record was read, none is left
-none-over : (limit place : ℕ) (a : Answer Item) (payload : List ℕ) (go : ℕ → List Handed) → recordOnly a ≡ given end
+none-over : (limit place : ℕ) (a : Answer Item) (payload : List ℕ) (go : ℕ → List HandedRecord) → recordOnly a ≡ given end
     → overFrom limit place (handed a payload ∷ onward a go) ≡ given tt
 none-over limit place (given (found g)) payload go e = absurd (clash (cc))
 none-over limit place (given end) payload go e = refl
 none-over limit place (refused n) payload go e = refl
 none-over limit place (refusedAt n p) payload go e = refl
 
-none-left : (fmt : Format) (a : Answer Item) (payload : List ℕ) (go : ℕ → List Handed) → recordOnly a ≡ given end
+none-left : (fmt : Format) (a : Answer Item) (payload : List ℕ) (go : ℕ → List HandedRecord) → recordOnly a ≡ given end
     → recordsIn fmt (handed a payload ∷ onward a go) ≡ []
 none-left fmt (given (found g)) payload go e = absurd (clash (cc))
 none-left fmt (given end) payload go e = refl
@@ -58,14 +58,14 @@ module _ (fmt : Format) (file : List ℕ) where
   turn place turns a e = rw e
 
   -- what is read, and what comes then
-  pub comes : {place : ℕ} {hs : List Handed} → (c : Coming fmt file place hs) → (a : Answer Item) → readOf fmt file place ≡ a
+  pub comes : {place : ℕ} {hs : List HandedRecord} → (c : Coming fmt file place hs) → (a : Answer Item) → readOf fmt file place ≡ a
       → hs ≡ handed a (payloadIn file a) ∷ onward a (λ next. readings (c .turns - 1) fmt file next)
   comes {place} c a e = sym (c .same) ∙ ap (λ n. readings n fmt file place) count ∙ turn place (c .turns - 1) a e
     where
       count : c .turns ≡ suc (c .turns - 1)
       count = omega (arith, c .some)
 
-  module _ (place : ℕ) (f : Found) (e : recordOnly (readOf fmt file place) ≡ given (found f)) where
+  module _ (place : ℕ) (f : FoundRecord) (e : recordOnly (readOf fmt file place) ≡ given (found f)) where
     pub was-read : readOf fmt file place ≡ given (found f)
     was-read = only-record (readOf fmt file place) f e
 
@@ -88,7 +88,7 @@ module _ (fmt : Format) (file : List ℕ) where
     pub payload-long : length (take (f .size) (drop (f .start) file)) ≡ f .size
     payload-long = length-take-le (f .size) (drop (f .start) file) (rw length-drop (omega (arith, spans, ends .1)))
 
-    pub coming-goes : {hs : List Handed} (c : Coming fmt file place hs) → Coming fmt file (f .next) (readings (c .turns - 1) fmt file (f .next))
+    pub coming-goes : {hs : List HandedRecord} (c : Coming fmt file place hs) → Coming fmt file (f .next) (readings (c .turns - 1) fmt file (f .next))
     coming-goes c =
         record {
           turns = c .turns - 1;
@@ -100,7 +100,7 @@ module _ (fmt : Format) (file : List ℕ) where
 -- ---- counting
 
 pub record Counting (wished fmt : Format) (file : List ℕ) (place total : ℕ) : Type 0 where
-  pub hs : List Handed
+  pub hs : List HandedRecord
   pub coming : Coming fmt file place hs
   pub small : total ≤ 2 * place
   pub counts : countOf wished place total hs ≡ countOf wished firstPlace firstPlace (readAll fmt file)
@@ -117,13 +117,13 @@ module _ (wished fmt : Format) (file : List ℕ) where
     unfolding countOf
     counting-ends e =
         let a = readOf fmt file place in
-        let go : ℕ → List Handed = λ next. readings (c .coming .turns - 1) fmt file next in
+        let go : ℕ → List HandedRecord = λ next. readings (c .coming .turns - 1) fmt file next in
         sym
         (ap (countOf wished place total) (comes fmt file (c .coming) a refl)
         ∙ counted-none _ _ total (none-over (wished .limit) place a (payloadIn file a) go e) (none-left wished a (payloadIn file a) go e))
         ∙ c .counts
 
-    module _ (f : Found) (e : recordOnly (readOf fmt file place) ≡ given (found f)) where
+    module _ (f : FoundRecord) (e : recordOnly (readOf fmt file place) ≡ given (found f)) where
       read : readOf fmt file place ≡ given (found f)
       read = was-read fmt file place f e
 
@@ -150,7 +150,7 @@ module _ (wished fmt : Format) (file : List ℕ) where
 -- ---- writing, from the first record's place on
 
 pub record Writing (wished fmt : Format) (file before : List ℕ) (place at : ℕ) (out : List ℕ) : Type 0 where
-  pub hs : List Handed
+  pub hs : List HandedRecord
   pub coming : Coming fmt file place hs
   pub fits : overFrom (wished .limit) place hs ≡ given tt
   pub room : at + length (recordsIn wished hs) ≤ length out
@@ -174,8 +174,8 @@ module _ (wished fmt : Format) (file before : List ℕ) where
         = ap (recordsIn wished) (comes fmt file (w .coming) a refl) ∙ none-left wished a (payloadIn file a) (λ next. readings (w .coming .turns - 1) fmt file next) e in
         ap (sets out at) (sym none) ∙ w .left
 
-    module _ (f : Found) (e : recordOnly (readOf fmt file place) ≡ given (found f)) where
-      abbrev rest : List Handed
+    module _ (f : FoundRecord) (e : recordOnly (readOf fmt file place) ≡ given (found f)) where
+      abbrev rest : List HandedRecord
       rest = readings (w .coming .turns - 1) fmt file (f .next)
 
       abbrev payload : List ℕ

@@ -7,7 +7,7 @@ use lib.ListN.{length}
 use Rattle.wire.specs.Told.{line, table}
 use Rattle.outbox.specs.declared.format.Format.{Format}
 use Rattle.outbox.specs.Format.{versionOne, versionTwo, formatOf, recordBytes, newBytes, firstPlace}
-use Rattle.outbox.specs.Reader.{Answer, given, refused, refusedAt, Item, found, end, Handed, readAll, walkOf, faultNumber}
+use Rattle.outbox.specs.Reader.{Answer, given, refused, refusedAt, Item, found, end, HandedRecord, readAll, walkOf, faultNumber}
 use Rattle.outbox.specs.Writer.{Stored, stored, storedAt, ifWhole}
 use Rattle.moving.specs.declared.Wished.{Wished}
 use Rattle.moving.specs.declared.Moved.{Moved}
@@ -26,7 +26,7 @@ recordIn fmt payload (refused n) = []
 recordIn fmt payload (refusedAt n place) = []
 
 -- .. of all records that were read, in order
-abbrev pub recordsIn : Format → List Handed → List ℕ
+abbrev pub recordsIn : Format → List HandedRecord → List ℕ
 recordsIn fmt [] = []
 recordsIn fmt (h ∷ hs) = recordIn fmt (h .payload) (h .answer) ++ recordsIn fmt hs
 
@@ -37,7 +37,7 @@ overBy limit place (given end) go = given tt
 overBy limit place (refused n) go = given tt
 overBy limit place (refusedAt n p) go = given tt
 
-abbrev pub overFrom : ℕ → ℕ → List Handed → Answer (Unit {0})
+abbrev pub overFrom : ℕ → ℕ → List HandedRecord → Answer (Unit {0})
 overFrom limit place [] = given tt
 overFrom limit place (h ∷ hs) = overBy limit place (h .answer) (λ next. overFrom limit next hs)
 
@@ -73,7 +73,7 @@ sizeUnless (refused n) k = refused n
 sizeUnless (refusedAt n place) k = refusedAt n place
 
 -- 46 from a place on, or so many bytes and those of the records
-unfoldable pub countOf : Format → ℕ → ℕ → List Handed → Answer ℕ
+unfoldable pub countOf : Format → ℕ → ℕ → List HandedRecord → Answer ℕ
 countOf wished place n hs = sizeUnless (overFrom (wished .limit) place hs) (n + length (recordsIn wished hs))
 
 -- ---- what the code's answers tell, in the numbers of docs/FORMATS.md

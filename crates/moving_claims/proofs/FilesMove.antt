@@ -20,7 +20,7 @@ use Rattle.outbox.proofs.Walk.{whole-version}
 use Rattle.outbox.proofs.Versions.{format-known}
 use Rattle.outbox_claims.specs.Claims.{Lawful, Entry, AllTaken}
 use Rattle.outbox_claims.specs.Versions.{Version, one, two, sizeOf}
-use Rattle.outbox_claims.proofs.Run.{Run, all-run, walk-is}
+use Rattle.outbox_claims.proofs.Run.{RecordRun, all-run, walk-is}
 use Rattle.outbox_claims.proofs.Contents.{contents}
 use Rattle.outbox_claims.proofs.Versions.{lawful-one, lawful-two}
 use Rattle.outbox_claims.proofs.ReadsAsAlone.{own-version}
@@ -60,7 +60,7 @@ module _ (wished fmt : Format) (kw : Known wished) (kf : Known fmt) (lawful : La
   abbrev made : List ℕ
   made = newBytes wished ++ contents wished es
 
-  run : Run fmt file 1 (readAll fmt file)
+  run : RecordRun fmt file 1 (readAll fmt file)
   run = all-run fmt file (whole-version fmt file w)
 
   all : AllTaken wished es
@@ -78,7 +78,7 @@ module _ (wished fmt : Format) (kw : Known wished) (kf : Known fmt) (lawful : La
   again : movedTo fmt wished made ≡ file
   again = moved-is fmt wished made es kf kw entries (λ q. ap (λ (x : Format). newBytes x ++ contents x es) (sym q)) ∙ same-file
 
-  made-run : Run wished made 1 (readAll wished made)
+  made-run : RecordRun wished made 1 (readAll wished made)
   made-run = all-run wished made (own-version wished (contents wished es))
 
   own : AllShort (fmt .limit) (entriesOf (readAll wished made))

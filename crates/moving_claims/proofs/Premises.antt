@@ -9,7 +9,7 @@ use Rattle.outbox.specs.Reader.{given, readAll, walkOf}
 use Rattle.outbox.proofs.Walk.{whole-version}
 use Rattle.outbox.proofs.Versions.{format-known}
 use Rattle.outbox_claims.specs.Claims.{Entry}
-use Rattle.outbox_claims.proofs.Run.{Run, all-run}
+use Rattle.outbox_claims.proofs.Run.{RecordRun, all-run}
 use Rattle.moving_claims.specs.Claims.{recordsOf, AllShort, MovableWhen}
 use Rattle.moving_claims.proofs.Rebuilt.{own-short, not-over}
 
@@ -21,7 +21,7 @@ short-more : (least most : ℕ) → least ≤ most → (es : List Entry) → All
 short-more least most h [] s = tt
 short-more least most h (e ∷ es) s = (omega (arith, s .0), short-more least most h es (s .1))
 
-run : (file : List ℕ) → walkOf (formatOf file) file ≡ given tt → Run (formatOf file) file 1 (readAll (formatOf file) file)
+run : (file : List ℕ) → walkOf (formatOf file) file ≡ given tt → RecordRun (formatOf file) file 1 (readAll (formatOf file) file)
 run file w = all-run (formatOf file) file (whole-version (formatOf file) file w)
 
 -- a whole file's records are within its own limit

@@ -12,13 +12,13 @@ use Rattle.wire.specs.Bytes.{AllBytes}
 use Rattle.wire.specs.Stream.{isStream}
 use Rattle.outbox.specs.declared.format.Format.{Format}
 use Rattle.outbox.specs.Format.{headSize, bytesOf, recordBytes, newBytes}
-use Rattle.outbox.specs.Reader.{Answer, Item, given, refused, refusedAt, found, end, Handed, lengthIn, recordAt, readAll, firstRefusal, walkOf}
+use Rattle.outbox.specs.Reader.{Answer, Item, given, refused, refusedAt, found, end, HandedRecord, lengthIn, recordAt, readAll, firstRefusal, walkOf}
 use Rattle.outbox_claims.specs.Claims.{Lawful, Entry, EntryTaken, AllTaken, after, expected}
 use Rattle.outbox_claims.specs.Versions.{sizeOf}
 use Rattle.outbox.proofs.Record.{clash, Stands, found-stands, found-spans}
 use Rattle.outbox.proofs.Place.{found-within}
 use Rattle.outbox.proofs.Stored.{length-record}
-use Rattle.outbox_claims.proofs.Run.{Run, ends, stops, goes, run-all, walk-is}
+use Rattle.outbox_claims.proofs.Run.{RecordRun, ends, stops, goes, run-all, walk-is}
 use Rattle.outbox_claims.proofs.Contents.{contents, contents-run}
 use Rattle.outbox_claims.proofs.CutsAreFound.{expected-passes}
 use Rattle.outbox_claims.proofs.ReadsAsAlone.{own-version}
@@ -28,14 +28,14 @@ use Rattle.moving_claims.proofs.Numbers.{bytes-number, bytes-drop}
 
 -- ---- the records' bytes
 
-written-record : (fmt : Format) (payload : List ℕ) (a : Answer Item) (hs : List Handed) → recordsIn fmt hs ≡ contents fmt (entriesOf hs)
+written-record : (fmt : Format) (payload : List ℕ) (a : Answer Item) (hs : List HandedRecord) → recordsIn fmt hs ≡ contents fmt (entriesOf hs)
     → recordsIn fmt (record { answer = a; payload = payload } ∷ hs) ≡ contents fmt (entriesOf (record { answer = a; payload = payload } ∷ hs))
 written-record fmt payload (given (found f)) hs e = ap (λ l. recordBytes fmt (f .stream) payload ++ l) e
 written-record fmt payload (given end) hs e = e
 written-record fmt payload (refused n) hs e = e
 written-record fmt payload (refusedAt n p) hs e = e
 
-pub written : (fmt : Format) (hs : List Handed) → recordsIn fmt hs ≡ contents fmt (entriesOf hs)
+pub written : (fmt : Format) (hs : List HandedRecord) → recordsIn fmt hs ≡ contents fmt (entriesOf hs)
 written fmt [] = refl
 written fmt (h ∷ hs) = written-record fmt (h .payload) (h .answer) hs (written fmt hs)
 
@@ -62,7 +62,7 @@ record-again fmt rest s b =
     next : (w : ℕ) → suc w ≡ w + 1
     next w = omega arith
 
-pub rebuilt : (fmt : Format) (file : List ℕ) → AllBytes file → {place : ℕ} {hs : List Handed} → Run fmt file place hs → firstRefusal hs ≡ given tt
+pub rebuilt : (fmt : Format) (file : List ℕ) → AllBytes file → {place : ℕ} {hs : List HandedRecord} → RecordRun fmt file place hs → firstRefusal hs ≡ given tt
     → drop place file ≡ contents fmt (entriesOf hs)
 rebuilt fmt file b (ends place e) w = drop-of-length-le file {i = place} (omega (arith, e))
 rebuilt fmt file b (stops place inside e) w = absurd (clash (cc))
@@ -78,7 +78,7 @@ rebuilt fmt file b (goes place {f = f} {payload = payload} {hs = hs} inside e p 
 
 -- ---- its records are such that a version with the limit takes them
 
-pub taken : (wished fmt : Format) (file : List ℕ) {place : ℕ} {hs : List Handed} → Run fmt file place hs → AllShort (wished .limit) (entriesOf hs)
+pub taken : (wished fmt : Format) (file : List ℕ) {place : ℕ} {hs : List HandedRecord} → RecordRun fmt file place hs → AllShort (wished .limit) (entriesOf hs)
     → AllTaken wished (entriesOf hs)
 taken wished fmt file (ends place e) o = tt
 taken wished fmt file (stops place inside e) o = tt
@@ -87,7 +87,7 @@ taken wished fmt file (goes place {f = f} inside e p r) o =
     (record { known = rw (s .1) (s .0 .known); short = omega (arith, o .0) }, taken wished fmt file r (o .1))
 
 -- .. and are not over it
-pub within : (limit : ℕ) (fmt : Format) (file : List ℕ) {place : ℕ} {hs : List Handed} → Run fmt file place hs → AllShort limit (entriesOf hs)
+pub within : (limit : ℕ) (fmt : Format) (file : List ℕ) {place : ℕ} {hs : List HandedRecord} → RecordRun fmt file place hs → AllShort limit (entriesOf hs)
     → overFrom limit place hs ≡ given tt
 within limit fmt file (ends place e) o = refl
 within limit fmt file (stops place inside e) o = refl
@@ -98,7 +98,7 @@ within limit fmt file (goes place {f = f} {payload = payload} inside e p r) o =
     rw (le-ltb limit (f .size) (omega (arith, size, o .0))) (within limit fmt file r (o .1))
 
 -- its own records are within its own limit
-pub own-short : (fmt : Format) (file : List ℕ) {place : ℕ} {hs : List Handed} → Run fmt file place hs → AllShort (fmt .limit) (entriesOf hs)
+pub own-short : (fmt : Format) (file : List ℕ) {place : ℕ} {hs : List HandedRecord} → RecordRun fmt file place hs → AllShort (fmt .limit) (entriesOf hs)
 own-short fmt file (ends place e) = tt
 own-short fmt file (stops place inside e) = tt
 own-short fmt file (goes place {f = f} {payload = payload} inside e p r) =
@@ -133,7 +133,7 @@ passed : (t : Bool) (a : Answer (Unit {0})) (place : ℕ) → cond t (refusedAt 
 passed true a place e = absurd (clash (cc))
 passed false a place e = (refl, e)
 
-pub not-over : (limit : ℕ) (fmt : Format) (file : List ℕ) {place : ℕ} {hs : List Handed} → Run fmt file place hs → overFrom limit place hs ≡ given tt
+pub not-over : (limit : ℕ) (fmt : Format) (file : List ℕ) {place : ℕ} {hs : List HandedRecord} → RecordRun fmt file place hs → overFrom limit place hs ≡ given tt
     → AllShort limit (entriesOf hs)
 not-over limit fmt file (ends place e) o = tt
 not-over limit fmt file (stops place inside e) o = tt

@@ -6,7 +6,7 @@ use lib.ListN.{length, take}
 use Rattle.wire.specs.Bytes.{AllBytes}
 use Rattle.outbox.specs.declared.format.Format.{Format}
 use Rattle.outbox.specs.Format.{versionOne, formatOf, firstPlace}
-use Rattle.outbox.specs.Reader.{Answer, given, refused, refusedAt, Item, found, end, Handed, readAll, walkOf}
+use Rattle.outbox.specs.Reader.{Answer, given, refused, refusedAt, Item, found, end, HandedRecord, readAll, walkOf}
 use Rattle.outbox.specs.Writer.{Stored, storedAt}
 use Rattle.outbox_claims.specs.Claims.{Entry}
 use Rattle.outbox_claims.specs.Versions.{Version, sizeOf}
@@ -19,7 +19,7 @@ entryOf payload (given end) = []
 entryOf payload (refused n) = []
 entryOf payload (refusedAt n place) = []
 
-abbrev pub entriesOf : List Handed → List Entry
+abbrev pub entriesOf : List HandedRecord → List Entry
 entriesOf [] = []
 entriesOf (h ∷ hs) = entryOf (h .payload) (h .answer) ++ entriesOf hs
 

@@ -11,7 +11,7 @@ use lib.Seq.{take-all}
 use borrow.Author.Tests.{ltb-false, eqb-true, eqb-false, ne-eqb, eq-eqb, le-ltb}
 use Rattle.wire.specs.Told.{line, table}
 use Rattle.outbox.specs.Format.{Format}
-use Rattle.outbox.specs.Reader.{Answer, Item, Found, given, refused, refusedAt, found, end, otherVersion, badPlace, recordAt, readOf}
+use Rattle.outbox.specs.Reader.{Answer, Item, FoundRecord, given, refused, refusedAt, found, end, otherVersion, badPlace, recordAt, readOf}
 use Rattle.outbox.proofs.Record.{clash, found-ends, never-end}
 
 -- a place that is judged right lies within the bytes
@@ -65,7 +65,7 @@ unfolding readOf
 read-end fmt file place v l e = rw (v, right-place file place l (omega arith), eq-eqb place (length file) e)
 
 -- a record ends after its place and within the bytes
-pub found-within : (fmt : Format) (file : List ℕ) (place : ℕ) (f : Found) → place ≤ length file
+pub found-within : (fmt : Format) (file : List ℕ) (place : ℕ) (f : FoundRecord) → place ≤ length file
     → recordAt fmt place (drop place file) ≡ given (found f) → (place < f .next) × (f .next ≤ length file)
 found-within fmt file place f h e =
     let ends = found-ends fmt place (drop place file) f e in
@@ -87,7 +87,7 @@ module _ (fmt : Format) (file : List ℕ) (place : ℕ) where
       by-tests false false false e t = inside (place-within file place e .1)
 
   -- a record that is read ends after its place and within the bytes
-  pub read-within : (f : Found) → readOf fmt file place ≡ given (found f) → (place < f .next) × (f .next ≤ length file)
+  pub read-within : (f : FoundRecord) → readOf fmt file place ≡ given (found f) → (place < f .next) × (f .next ≤ length file)
   read-within f =
       read-cases
       (λ a. a ≡ given (found f) → (place < f .next) × (f .next ≤ length file))
@@ -97,7 +97,7 @@ module _ (fmt : Format) (file : List ℕ) (place : ℕ) where
       (λ h e. found-within fmt file place f h e)
 
   -- .. and stands there
-  pub read-record : (f : Found) → readOf fmt file place ≡ given (found f) → recordAt fmt place (drop place file) ≡ given (found f)
+  pub read-record : (f : FoundRecord) → readOf fmt file place ≡ given (found f) → recordAt fmt place (drop place file) ≡ given (found f)
   read-record f =
       read-cases
       (λ a. a ≡ given (found f) → recordAt fmt place (drop place file) ≡ given (found f))

@@ -12,7 +12,7 @@ use borrow.Author.Tests.{ltb-false, eqb-false, le-leb, lt-leb, le-ltb, lt-ltb, n
 use Rattle.wire.specs.Stream.{isStream}
 use Rattle.wire.specs.Told.{line, table}
 use Rattle.outbox.specs.Format.{Format}
-use Rattle.outbox.specs.Reader.{Answer, Item, Found, given, refusedAt, found, end, foundAt, lengthIn, badLength, cutShort, badStream, recordAt}
+use Rattle.outbox.specs.Reader.{Answer, Item, FoundRecord, given, refusedAt, found, end, foundAt, lengthIn, badLength, cutShort, badStream, recordAt}
 use Rattle.outbox.proofs.Number.{number-append}
 
 -- two answers that differ, by `cc`
@@ -27,7 +27,7 @@ pub record Stands (fmt : Format) (rest : List ℕ) : Type 0 where
   pub known : isStream (getD rest (fmt .width) 0) ≡ true
 
 -- .. and what is read there
-abbrev pub front : Format → ℕ → List ℕ → Found
+abbrev pub front : Format → ℕ → List ℕ → FoundRecord
 front fmt place rest = foundAt fmt place (getD rest (fmt .width) 0) (lengthIn fmt rest - 1)
 
 -- what reading there can give
@@ -124,7 +124,7 @@ module _ (fmt : Format) (rest : List ℕ) where
   view place = by-tests place (badLength fmt rest) (cutShort fmt rest) (badStream fmt rest) refl refl refl
 
 -- a record that is read is the whole one that stands there
-pub found-stands : (fmt : Format) (place : ℕ) (rest : List ℕ) (f : Found) → recordAt fmt place rest ≡ given (found f)
+pub found-stands : (fmt : Format) (place : ℕ) (rest : List ℕ) (f : FoundRecord) → recordAt fmt place rest ≡ given (found f)
     → Stands fmt rest × (f ≡ front fmt place rest)
 found-stands fmt place rest f e = by-view (recordAt fmt place rest) (view fmt rest place) e
   where
@@ -133,18 +133,18 @@ found-stands fmt place rest f e = by-view (recordAt fmt place rest) (view fmt re
     by-view a (broken n) e = absurd (clash (cc))
 
 -- .. it ends after its place and within the bytes
-pub found-ends : (fmt : Format) (place : ℕ) (rest : List ℕ) (f : Found) → recordAt fmt place rest ≡ given (found f)
+pub found-ends : (fmt : Format) (place : ℕ) (rest : List ℕ) (f : FoundRecord) → recordAt fmt place rest ≡ given (found f)
     → (place < f .next) × (f .next ≤ place + length rest)
 found-ends fmt place rest f e =
     let r = found-stands fmt place rest f e in
     rw (r .1) (omega (arith, r .0 .positive, r .0 .inside), omega (arith, r .0 .positive, r .0 .inside))
 
 -- .. and its payload reaches to its end
-pub found-spans : (fmt : Format) (place : ℕ) (rest : List ℕ) (f : Found) → recordAt fmt place rest ≡ given (found f) → f .start + f .size ≡ f .next
+pub found-spans : (fmt : Format) (place : ℕ) (rest : List ℕ) (f : FoundRecord) → recordAt fmt place rest ≡ given (found f) → f .start + f .size ≡ f .next
 found-spans fmt place rest f e = rw (found-stands fmt place rest f e .1)
 
 -- .. which starts after its place
-pub found-starts : (fmt : Format) (place : ℕ) (rest : List ℕ) (f : Found) → recordAt fmt place rest ≡ given (found f) → place < f .start
+pub found-starts : (fmt : Format) (place : ℕ) (rest : List ℕ) (f : FoundRecord) → recordAt fmt place rest ≡ given (found f) → place < f .start
 found-starts fmt place rest f e = rw (found-stands fmt place rest f e .1) (omega arith)
 
 -- a record's place is never the end
@@ -201,7 +201,7 @@ module _ (fmt : Format) (rest more : List ℕ) where
           )
       by-field (no w) = field-cut fmt rest (omega arith)
 
-  module _ (place : ℕ) (f : Found) where
+  module _ (place : ℕ) (f : FoundRecord) where
     -- bytes after a whole record do not change it
     pub record-more : recordAt fmt place rest ≡ given (found f) → recordAt fmt place (rest ++ more) ≡ given (found f)
     record-more e =

@@ -6,7 +6,7 @@ use mathlib.Core.List.{List}
 use native.Mathlib.Omega.{arith}
 use lib.ListN.{length, drop}
 use Rattle.outbox.specs.Format.{Format, firstPlace}
-use Rattle.outbox.specs.Reader.{Answer, Item, Found, given, refusedAt, found, end, otherVersion, recordAt, readOf, readings, readAll, onward, refusalOr, firstRefusal, walkOf}
+use Rattle.outbox.specs.Reader.{Answer, Item, FoundRecord, given, refusedAt, found, end, otherVersion, recordAt, readOf, readings, readAll, onward, refusalOr, firstRefusal, walkOf}
 use Rattle.outbox.proofs.Record.{clash}
 use Rattle.outbox.proofs.Place.{opened, right-place, read-inside, read-end, read-within}
 
@@ -43,7 +43,7 @@ module _ (fmt : Format) (file : List ℕ) where
         count : g .turns ≡ suc (g .turns - 1)
         count = omega (arith, g .some)
 
-    pub read-goes : (f : Found) → readOf fmt file place ≡ given (found f) → Going fmt file (f .next)
+    pub read-goes : (f : FoundRecord) → readOf fmt file place ≡ given (found f) → Going fmt file (f .next)
     read-goes f e =
         let within = read-within fmt file place f e in
         record {
@@ -81,7 +81,7 @@ module _ (fmt : Format) (file : List ℕ) where
       pub walk-stops : (n : ℕ) → recordAt fmt place (drop place file) ≡ refusedAt n place → walkOf fmt file ≡ refusalOr (readOf fmt file place) (given tt)
       walk-stops n e = read-decides (w .going) (refusedAt n place) (here ∙ e) ∙ ap (λ a. refusalOr a (given tt)) (sym (here ∙ e))
 
-      pub walk-goes : (f : Found) → recordAt fmt place (drop place file) ≡ given (found f) → Walking fmt file (f .next)
+      pub walk-goes : (f : FoundRecord) → recordAt fmt place (drop place file) ≡ given (found f) → Walking fmt file (f .next)
       walk-goes f e =
           let within = read-within fmt file place f (here ∙ e) in
           record {

@@ -14,14 +14,14 @@ use Rattle.outbox.specs.declared.reader.Reading.{Reading}
 use Rattle.outbox.specs.declared.reader.Walked.{Walked}
 
 -- a record at a place: its stream, where its payload starts and how long that is, the next record's place
-pub record Found : Type 0 where
+pub record FoundRecord : Type 0 where
   pub stream : ℕ
   pub start : ℕ
   pub size : ℕ
   pub next : ℕ
 
 -- .. by its place, its stream and its payload's length
-abbrev pub foundAt : Format → ℕ → ℕ → ℕ → Found
+abbrev pub foundAt : Format → ℕ → ℕ → ℕ → FoundRecord
 foundAt fmt place stream size = record {
   stream = stream;
   start = place + headSize fmt;
@@ -31,7 +31,7 @@ foundAt fmt place stream size = record {
 
 -- what stands at a place
 pub data Item : Type 0 where
-  found : Found → Item
+  found : FoundRecord → Item
   end : Item
 
 -- what a call tells: what was asked for, a refusal, or a refusal of the file's own bytes with its place
@@ -90,7 +90,7 @@ readOf fmt file place =
     (cond (eqb place (length file)) (given end) (recordAt fmt place (drop place file))))
 
 -- what a reading hands out: its answer, and the bytes that it points to
-pub record Handed : Type 0 where
+pub record HandedRecord : Type 0 where
   pub answer : Answer Item
   pub payload : List ℕ
 
@@ -101,25 +101,25 @@ payloadIn file (given end) = []
 payloadIn file (refused n) = []
 payloadIn file (refusedAt n place) = []
 
-abbrev pub handed : Answer Item → List ℕ → Handed
+abbrev pub handed : Answer Item → List ℕ → HandedRecord
 handed answer payload = record { answer = answer; payload = payload }
 
 -- only a record is followed by another reading, at the next place
-abbrev pub onward : Answer Item → (ℕ → List Handed) → List Handed
+abbrev pub onward : Answer Item → (ℕ → List HandedRecord) → List HandedRecord
 onward (given (found f)) go = go (f .next)
 onward (given end) go = []
 onward (refused n) go = []
 onward (refusedAt n place) go = []
 
 -- reading place after place, at most so many times
-unfoldable pub readings : ℕ → Format → List ℕ → ℕ → List Handed
+unfoldable pub readings : ℕ → Format → List ℕ → ℕ → List HandedRecord
 readings zero fmt file place = []
 readings (suc turns) fmt file place =
     let answer = readOf fmt file place in
     handed answer (payloadIn file answer) ∷ onward answer (λ next. readings turns fmt file next)
 
 -- .. from the first record on, to the end or a refusal: there are no more records than bytes
-unfoldable pub readAll : Format → List ℕ → List Handed
+unfoldable pub readAll : Format → List ℕ → List HandedRecord
 readAll fmt file = readings (suc (length file)) fmt file firstPlace
 
 -- a refusal, or what follows
@@ -129,7 +129,7 @@ refusalOr (refused n) rest = refused n
 refusalOr (refusedAt n place) rest = refusedAt n place
 
 -- the first refusal among the answers, or that there is none
-abbrev pub firstRefusal : List Handed → Answer (Unit {0})
+abbrev pub firstRefusal : List HandedRecord → Answer (Unit {0})
 firstRefusal [] = given tt
 firstRefusal (h ∷ hs) = refusalOr (h .answer) (firstRefusal hs)
 

@@ -8,11 +8,11 @@ use lib.ListN.{length, take, drop, length-append, take-append-drop}
 use lib.Seq.{sets, sets-eq, take-at, take-append-le, length-take-le}
 use borrow.Author.Tests.{le-ltb}
 use Rattle.outbox.specs.declared.format.Format.{Format}
-use Rattle.outbox.specs.Reader.{Handed, given, otherVersion, readAll, firstRefusal, walkOf}
+use Rattle.outbox.specs.Reader.{HandedRecord, given, otherVersion, readAll, firstRefusal, walkOf}
 use Rattle.outbox.specs.Writer.{storedAt, badRecord, appendOf}
 use Rattle.outbox_claims.specs.Claims.{Lawful, Entry, EntryTaken, after, expected, usable, recordsOf, Resumed}
 use Rattle.outbox.proofs.Place.{version-kept, version-more}
-use Rattle.outbox_claims.proofs.Run.{Run, ends, all-run, run-all, walk-is}
+use Rattle.outbox_claims.proofs.Run.{RecordRun, ends, all-run, run-all, walk-is}
 use Rattle.outbox_claims.proofs.Cut.{run-usable, run-onward, records-pass}
 use Rattle.outbox.proofs.Stored.{length-record, append-judged}
 use Rattle.outbox_claims.proofs.Contents.{entryBytes, contents-run}
@@ -41,12 +41,12 @@ module _ (fmt : Format) (left : List ℕ) (v : otherVersion fmt left ≡ false) 
   long = length-take-le used left (bounds .1)
 
   -- other bytes after what is usable
-  pub onward : (other : List ℕ) {later : List Handed} → Run fmt (take used left ++ other) used later
-      → Run fmt (take used left ++ other) 1 (recordsOf (readAll fmt left) ++ later)
+  pub onward : (other : List ℕ) {later : List HandedRecord} → RecordRun fmt (take used left ++ other) used later
+      → RecordRun fmt (take used left ++ other) 1 (recordsOf (readAll fmt left) ++ later)
   onward other {later} r =
-      let split : Run fmt (take used left ++ drop used left) 1 (readAll fmt left) = rw take-append-drop (all-run fmt left v) in
+      let split : RecordRun fmt (take used left ++ drop used left) 1 (readAll fmt left) = rw take-append-drop (all-run fmt left v) in
       let at-end : usable (firstRefusal (readAll fmt left)) (take used left ++ drop used left) ≡ length (take used left) = rw (take-append-drop, long) stop in
-      let there : Run fmt (take used left ++ other) (length (take used left)) later = rw long r in
+      let there : RecordRun fmt (take used left ++ other) (length (take used left)) later = rw long r in
       run-onward fmt (take used left) (drop used left) other split at-end there
 
   -- what is usable is whole
@@ -65,7 +65,7 @@ module _ (fmt : Format) (left : List ℕ) (v : otherVersion fmt left ≡ false) 
     -- .. and so it is with a record after it
     grown-read : readAll fmt (take used left ++ entryBytes fmt e) ≡ recordsOf (readAll fmt left) ++ expected fmt used (e ∷ [])
     grown-read =
-        let new : Run fmt (take used left ++ entryBytes fmt e) used (expected fmt used (e ∷ []))
+        let new : RecordRun fmt (take used left ++ entryBytes fmt e) used (expected fmt used (e ∷ []))
         = rw (append-nil, long) at (contents-run fmt lawful (e ∷ []) (t, tt) (take used left)) in
         run-all fmt (take used left ++ entryBytes fmt e) (version-more fmt (take used left) (entryBytes fmt e) version) (onward (entryBytes fmt e) new)
 

@@ -12,7 +12,7 @@ use Rattle.outbox_claims.specs.Claims.{Lawful, Entry, EntryTaken, AllTak
 use Rattle.outbox.proofs.Number.{length-bytes, number-bytes}
 use Rattle.outbox.proofs.Record.{Stands, stands-read, record-more}
 use Rattle.outbox.proofs.Stored.{length-record}
-use Rattle.outbox_claims.proofs.Run.{Run, ends, goes}
+use Rattle.outbox_claims.proofs.Run.{RecordRun, ends, goes}
 
 -- the bytes of an entry, and of some one after another
 abbrev pub entryBytes : Format → Entry → List ℕ
@@ -82,7 +82,7 @@ module _ (fmt : Format) (e : Entry) where
 
 -- records that were written are read, one after another, to the end
 pub contents-run : (fmt : Format) → Lawful fmt → (es : List Entry) → AllTaken fmt es → (file : List ℕ)
-    → Run fmt (file ++ contents fmt es) (length file) (expected fmt (length file) es)
+    → RecordRun fmt (file ++ contents fmt es) (length file) (expected fmt (length file) es)
 contents-run fmt lawful [] all file = ends (length file) (rw append-nil)
 contents-run fmt lawful (e ∷ es) all file =
     goes (length file) (omega (arith, long)) (entry-read fmt e file (contents fmt es) lawful (all .0)) (entry-payload fmt e file (contents fmt es))

@@ -9,11 +9,11 @@ use lib.ListN.{length, take, drop, length-append, length-drop}
 use lib.Seq.{take-append-le, drop-append-le}
 use borrow.Author.Tests.{leb-true, leb-false, eqb-true, eqb-false}
 use Rattle.outbox.specs.declared.format.Format.{Format}
-use Rattle.outbox.specs.Reader.{Answer, Item, Handed, given, refused, refusedAt, found, end, handed, recordAt, firstRefusal}
+use Rattle.outbox.specs.Reader.{Answer, Item, HandedRecord, given, refused, refusedAt, found, end, handed, recordAt, firstRefusal}
 use Rattle.outbox_claims.specs.Claims.{cutFrom, usable, recordOf, recordsOf}
 use Rattle.outbox.proofs.Record.{clash, found-spans, record-more, record-kept, record-cut}
 use Rattle.outbox.proofs.Place.{found-within}
-use Rattle.outbox_claims.proofs.Run.{Run, ends, stops, goes}
+use Rattle.outbox_claims.proofs.Run.{RecordRun, ends, stops, goes}
 
 -- a part of the first bytes
 pub part-same : (first more : List ℕ) (start size : ℕ) → start + size ≤ length first → take size (drop start (first ++ more)) ≡ take size (drop start first)
@@ -22,8 +22,8 @@ part-same first more start size h =
 
 module _ (fmt : Format) (first more : List ℕ) (kept : ℕ) (is : length first ≡ min kept (length first + length more)) where
   -- a whole run, when only the first bytes are kept
-  pub cut-run : {place : ℕ} {hs : List Handed} → Run fmt (first ++ more) place hs → firstRefusal hs ≡ given tt → place ≤ kept
-      → Run fmt first place (cutFrom kept place hs)
+  pub cut-run : {place : ℕ} {hs : List HandedRecord} → RecordRun fmt (first ++ more) place hs → firstRefusal hs ≡ given tt → place ≤ kept
+      → RecordRun fmt first place (cutFrom kept place hs)
   cut-run (ends place e) whole h = ends place (omega (arith, simp length-append at e))
   cut-run (stops place inside e) whole h = absurd (clash (cc))
   cut-run (goes place {f = f} {payload = payload} {hs = hs} inside e p r) whole h =
@@ -42,14 +42,14 @@ module _ (fmt : Format) (first more : List ℕ) (kept : ℕ) (is : length first 
       left = length-drop place first
 
       by-begin : (b : Bool) → eqb place kept ≡ b → kept < f .next
-          → Run fmt first place (handed (cond b (given end) (refusedAt 41 place)) [] ∷ [])
+          → RecordRun fmt first place (handed (cond b (given end) (refusedAt 41 place)) [] ∷ [])
       by-begin true t k = ends place (omega (arith, all, within .1, eqb-true place kept t))
       by-begin false t k =
           stops place (omega (arith, all, within .1, eqb-false place kept t))
           (record-cut fmt (drop place first) more place f stands (omega (arith, all, left, within .1, within .0)))
 
-      by-keep : (b : Bool) → leb (f .next) kept ≡ b → (f .next ≤ kept → Run fmt first (f .next) (cutFrom kept (f .next) hs))
-          → Run fmt first place
+      by-keep : (b : Bool) → leb (f .next) kept ≡ b → (f .next ≤ kept → RecordRun fmt first (f .next) (cutFrom kept (f .next) hs))
+          → RecordRun fmt first place
           (cond b (handed (given (found f)) payload ∷ cutFrom kept (f .next) hs) (handed (cond (eqb place kept) (given end) (refusedAt 41 place)) [] ∷ []))
       by-keep true t later =
           let k = leb-true (f .next) kept t in
@@ -62,7 +62,7 @@ module _ (fmt : Format) (first more : List ℕ) (kept : ℕ) (is : length first 
       by-keep false t later = by-begin (eqb place kept) refl (leb-false (f .next) kept t)
 
 -- a run stops, at its end or a refusal, at its place or after it and within the file
-pub run-usable : (fmt : Format) (file : List ℕ) {place : ℕ} {hs : List Handed} → Run fmt file place hs
+pub run-usable : (fmt : Format) (file : List ℕ) {place : ℕ} {hs : List HandedRecord} → RecordRun fmt file place hs
     → (place ≤ usable (firstRefusal hs) file) × (usable (firstRefusal hs) file ≤ length file)
 run-usable fmt file (ends place e) = (omega arith, omega arith)
 run-usable fmt file (stops place inside e) = (omega arith, omega arith)
@@ -71,9 +71,9 @@ run-usable fmt file (goes place {f = f} inside e p r) =
     (omega (arith, later .0, found-within fmt file place f (omega arith) e .0), later .1)
 
 -- other bytes in place of those at which a run stops
-pub run-onward : (fmt : Format) (first more other : List ℕ) {place : ℕ} {hs later : List Handed} → Run fmt (first ++ more) place hs
-    → usable (firstRefusal hs) (first ++ more) ≡ length first → Run fmt (first ++ other) (length first) later
-    → Run fmt (first ++ other) place (recordsOf hs ++ later)
+pub run-onward : (fmt : Format) (first more other : List ℕ) {place : ℕ} {hs later : List HandedRecord} → RecordRun fmt (first ++ more) place hs
+    → usable (firstRefusal hs) (first ++ more) ≡ length first → RecordRun fmt (first ++ other) (length first) later
+    → RecordRun fmt (first ++ other) place (recordsOf hs ++ later)
 run-onward fmt first more other (ends place e) stop later = rw (e ∙ stop) later
 run-onward fmt first more other (stops place inside e) stop later = rw stop later
 run-onward fmt first more other (goes place {f = f} inside e p r) stop later =
@@ -90,7 +90,7 @@ run-onward fmt first more other (goes place {f = f} inside e p r) stop later =
     (run-onward fmt first more other r stop later)
 
 -- records are no refusals
-pub records-pass : (hs later : List Handed) → firstRefusal (recordsOf hs ++ later) ≡ firstRefusal later
+pub records-pass : (hs later : List HandedRecord) → firstRefusal (recordsOf hs ++ later) ≡ firstRefusal later
 records-pass [] later = refl
 records-pass (h ∷ hs) later = by-answer (h .answer) refl (records-pass hs later)
   where

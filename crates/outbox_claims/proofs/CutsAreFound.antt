@@ -10,7 +10,7 @@ use Rattle.outbox.specs.Writer.{newOf}
 use Rattle.outbox_claims.specs.Claims.{Entry, after, expected, afterAll, appendAll, RecordsReturn, cutFrom, cutAt, CutsAreFound}
 use Rattle.outbox.proofs.Place.{version-kept}
 use Rattle.outbox.proofs.Walk.{whole-version}
-use Rattle.outbox_claims.proofs.Run.{Run, all-run, run-all, walk-is}
+use Rattle.outbox_claims.proofs.Run.{RecordRun, all-run, run-all, walk-is}
 use Rattle.outbox_claims.proofs.Cut.{cut-run}
 use Rattle.outbox_claims.proofs.RecordsReturn.{records-return}
 
@@ -28,7 +28,7 @@ kept-length kept file =
 some-kept : (fmt : Format) (file : List ℕ) (k : ℕ) → walkOf fmt file ≡ given tt → readAll fmt (take (suc k) file) ≡ cutFrom (suc k) 1 (readAll fmt file)
 some-kept fmt file k whole =
     let v = whole-version fmt file whole in
-    let run : Run fmt (take (suc k) file ++ drop (suc k) file) 1 (readAll fmt file) = rw take-append-drop (all-run fmt file v) in
+    let run : RecordRun fmt (take (suc k) file ++ drop (suc k) file) 1 (readAll fmt file) = rw take-append-drop (all-run fmt file v) in
     run-all fmt (take (suc k) file) (version-kept fmt file (suc k) (omega arith) v)
     (cut-run fmt (take (suc k) file) (drop (suc k) file) (suc k) (kept-length (suc k) file)
     run (sym (walk-is fmt file) ∙ whole) (omega arith))

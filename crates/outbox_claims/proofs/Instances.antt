@@ -6,7 +6,7 @@ use lib.ListN.{take, drop}
 use Rattle.wire.specs.Stream.{isStream}
 use Rattle.outbox.specs.declared.format.Format.{Format}
 use Rattle.outbox.specs.Format.{numberOf, bytesOf, recordBytes}
-use Rattle.outbox.specs.Reader.{Handed, given, refusedAt, found, end, handed, otherVersion, badPlace, badLength, cutShort, badStream, recordAt, readOf, readings, readAll, walkOf}
+use Rattle.outbox.specs.Reader.{HandedRecord, given, refusedAt, found, end, handed, otherVersion, badPlace, badLength, cutShort, badStream, recordAt, readOf, readings, readAll, walkOf}
 use Rattle.outbox.specs.Writer.{stored, newOf, badRecord, appendOf}
 use Rattle.outbox_claims.specs.Claims.{Entry, expected, appendAll, cutAt, usable, moved, readAt}
 
@@ -24,7 +24,7 @@ ota = record { stream = 2; payload = 7 ∷ 8 ∷ 9 ∷ [] }
 abbrev file : List ℕ
 file = 1 ∷ 0 ∷ 3 ∷ 6 ∷ 65 ∷ 66 ∷ 0 ∷ 4 ∷ 2 ∷ 7 ∷ 8 ∷ 9 ∷ []
 
-abbrev record-at : ℕ → ℕ → ℕ → ℕ → List ℕ → Handed
+abbrev record-at : ℕ → ℕ → ℕ → ℕ → List ℕ → HandedRecord
 record-at stream start size next payload = handed (given (found (record { stream = stream; start = start; size = size; next = next }))) payload
 
 -- the records return
@@ -32,7 +32,7 @@ appended : appendAll small (newOf small (3 ∷ 3 ∷ 3 ∷ 3 ∷ 3 ∷ 3 ∷ 3 �
 unfolding newOf appendOf badRecord isStream walkOf readAll readings readOf otherVersion badPlace recordAt badLength cutShort badStream numberOf bytesOf recordBytes
 appended = refl
 
-abbrev both : List Handed
+abbrev both : List HandedRecord
 both = record-at 6 4 2 6 (65 ∷ 66 ∷ []) ∷ record-at 2 9 3 12 (7 ∷ 8 ∷ 9 ∷ []) ∷ handed (given end) [] ∷ []
 
 returned : (readAll small file ≡ both) × (expected small 1 (ab ∷ ota ∷ []) ≡ both)
@@ -40,7 +40,7 @@ unfolding isStream readAll readings readOf otherVersion badPlace recordAt badLen
 returned = (refl, refl)
 
 -- the cut is found: of the second record two bytes are kept
-abbrev one : List Handed
+abbrev one : List HandedRecord
 one = record-at 6 4 2 6 (65 ∷ 66 ∷ []) ∷ handed (refusedAt 41 6) [] ∷ []
 
 cut : (readAll small (take 8 file) ≡ one) × (cutAt 8 both ≡ one)

@@ -12,22 +12,22 @@ use Rattle.wire.specs.Stream.{isStream}
 use Rattle.wire.specs.Told.{line, table}
 use Rattle.outbox.specs.declared.format.Format.{Format}
 use Rattle.outbox.specs.Format.{headSize}
-use Rattle.outbox.specs.Reader.{Found, Handed, given, refusedAt, found, foundAt, lengthIn, badLength, cutShort, badStream, recordAt}
+use Rattle.outbox.specs.Reader.{FoundRecord, HandedRecord, given, refusedAt, found, foundAt, lengthIn, badLength, cutShort, badStream, recordAt}
 use Rattle.outbox_claims.specs.Claims.{movedFound, movedAnswer, allMoved}
 use Rattle.outbox.proofs.Number.{number-append}
 use Rattle.outbox.proofs.Record.{clash, found-starts, range-passed, wrong-read, strange-read, whole-read}
 use Rattle.outbox.proofs.Place.{found-within}
-use Rattle.outbox_claims.proofs.Run.{Run, ends, stops, goes}
+use Rattle.outbox_claims.proofs.Run.{RecordRun, ends, stops, goes}
 
 -- a record's places count from its own
 pub record-moved : (fmt : Format) (rest : List ℕ) (place d : ℕ) → recordAt fmt (place + d) rest ≡ movedAnswer d (recordAt fmt place rest)
 unfolding recordAt
 record-moved fmt rest place d = by-tests (badLength fmt rest) (cutShort fmt rest) (badStream fmt rest)
   where
-    here : Found
+    here : FoundRecord
     here = foundAt fmt place (getD rest (fmt .width) 0) (lengthIn fmt rest - 1)
 
-    there : Found
+    there : FoundRecord
     there = foundAt fmt (place + d) (getD rest (fmt .width) 0) (lengthIn fmt rest - 1)
 
     by-tests : (l c s : Bool)
@@ -114,7 +114,7 @@ module _ (fmt : Format) (own before rest : List ℕ) (d : ℕ) (longer : length 
       ∙ sym (drop-append-add own rest (place - length own))
       ∙ ap (λ n. drop n (own ++ rest)) here
 
-  pub run-moved : {place : ℕ} {hs : List Handed} → length own ≤ place → Run fmt (own ++ rest) place hs → Run fmt (before ++ rest) (place + d) (allMoved d hs)
+  pub run-moved : {place : ℕ} {hs : List HandedRecord} → length own ≤ place → RecordRun fmt (own ++ rest) place hs → RecordRun fmt (before ++ rest) (place + d) (allMoved d hs)
   run-moved h (ends place e) = ends (place + d) (omega (arith, length-append own rest, length-append before rest))
   run-moved h (stops place {n = n} inside e) =
       stops (place + d) {n = n} (omega (arith, length-append own rest, length-append before rest))

@@ -13,7 +13,7 @@ use Rattle.outbox.specs.Reader.{Answer, Item, given, found, foundAt, handed, pa
 use Rattle.outbox_claims.specs.Claims.{Lawful, Entry, EntryTaken, usable, recordsOf, movedAnswer, moved, allMoved, readAt, fromPlace, ReadsAsAlone}
 use Rattle.outbox.proofs.Record.{View, whole, broken, view}
 use Rattle.outbox.proofs.Place.{right-place, read-inside, read-end, version-kept, version-more}
-use Rattle.outbox_claims.proofs.Run.{Run, all-run, run-all}
+use Rattle.outbox_claims.proofs.Run.{RecordRun, all-run, run-all}
 use Rattle.outbox_claims.proofs.Cut.{part-same}
 use Rattle.outbox.proofs.Stored.{length-record}
 use Rattle.outbox_claims.proofs.Contents.{entry-read, entry-payload}
@@ -101,12 +101,12 @@ module _ (fmt : Format) (file : List ℕ) (v : otherVersion fmt file ≡ false) 
           let within = bounds fmt (take n file) kept place stop .1 in
           ap (λ l. l ++ drop place file) (take-take place n file (omega (arith, simp length-take at within))) ∙ take-append-drop place file
 
-      moved-on : Run fmt (take place file ++ drop place file) (1 + (place - 1)) (allMoved (place - 1) (readAll fmt (fromPlace fmt file place)))
+      moved-on : RecordRun fmt (take place file ++ drop place file) (1 + (place - 1)) (allMoved (place - 1) (readAll fmt (fromPlace fmt file place)))
       moved-on =
           run-moved fmt (newBytes fmt) (take place file) (drop place file) (place - 1) longer (omega arith)
           (all-run fmt (fromPlace fmt file place) (own-version fmt (drop place file)))
 
-      there : Run fmt (take place (take n file) ++ drop place file) place (allMoved (place - 1) (readAll fmt (fromPlace fmt file place)))
+      there : RecordRun fmt (take place (take n file) ++ drop place file) place (allMoved (place - 1) (readAll fmt (fromPlace fmt file place)))
       there = let at : 1 + (place - 1) ≡ place = omega arith in rw joined (rw (at, take-append-drop) at moved-on)
 
 pub reads-as-alone : ReadsAsAlone

@@ -7,37 +7,37 @@ use native.Mathlib.Decide.{decLt}
 use native.Mathlib.Omega.{arith}
 use lib.ListN.{length, take, drop}
 use Rattle.outbox.specs.declared.format.Format.{Format}
-use Rattle.outbox.specs.Reader.{Answer, Item, Found, Handed, given, refusedAt, found, end, handed, payloadIn, onward, otherVersion, recordAt, readOf, readings, readAll, firstRefusal, walkOf}
+use Rattle.outbox.specs.Reader.{Answer, Item, FoundRecord, HandedRecord, given, refusedAt, found, end, handed, payloadIn, onward, otherVersion, recordAt, readOf, readings, readAll, firstRefusal, walkOf}
 use Rattle.outbox.proofs.Record.{clash, View, whole, broken, view, front}
 use Rattle.outbox.proofs.Walk.{other-version-walk}
 use Rattle.outbox.proofs.Place.{opened, right-place, read-inside, read-end, found-within}
 
 -- what reading place after place hands out from a place on
-pub data Run (fmt : Format) (file : List ℕ) : ℕ → List Handed → Type 0 where
-  ends : (place : ℕ) → place ≡ length file → Run fmt file place (handed (given end) [] ∷ [])
+pub data RecordRun (fmt : Format) (file : List ℕ) : ℕ → List HandedRecord → Type 0 where
+  ends : (place : ℕ) → place ≡ length file → RecordRun fmt file place (handed (given end) [] ∷ [])
   stops : (place : ℕ) {n : ℕ} → place < length file → recordAt fmt place (drop place file) ≡ refusedAt n place
-      → Run fmt file place (handed (refusedAt n place) [] ∷ [])
-  goes : (place : ℕ) {f : Found} {payload : List ℕ} {hs : List Handed}
+      → RecordRun fmt file place (handed (refusedAt n place) [] ∷ [])
+  goes : (place : ℕ) {f : FoundRecord} {payload : List ℕ} {hs : List HandedRecord}
       → place < length file → recordAt fmt place (drop place file) ≡ given (found f) → payload ≡ take (f .size) (drop (f .start) file)
-      → Run fmt file (f .next) hs → Run fmt file place (handed (given (found f)) payload ∷ hs)
+      → RecordRun fmt file (f .next) hs → RecordRun fmt file place (handed (given (found f)) payload ∷ hs)
 
 module _ (fmt : Format) (file : List ℕ) (v : otherVersion fmt file ≡ false) where
   -- one reading, and a run from wherever it leads
   one-more : (turns place : ℕ) → 1 ≤ place → place ≤ length file
-      → ((f : Found) → place < f .next → f .next ≤ length file → Run fmt file (f .next) (readings turns fmt file (f .next)))
-      → Run fmt file place (readings (suc turns) fmt file place)
+      → ((f : FoundRecord) → place < f .next → f .next ≤ length file → RecordRun fmt file (f .next) (readings turns fmt file (f .next)))
+      → RecordRun fmt file place (readings (suc turns) fmt file place)
   unfolding readings
   one-more turns place first inside later = by-place (decLt place (length file))
     where
       by-view : (a : Answer Item) → View fmt place (drop place file) a → place < length file → recordAt fmt place (drop place file) ≡ a
-          → Run fmt file place (handed a (payloadIn file a) ∷ onward a (λ next. readings turns fmt file next))
+          → RecordRun fmt file place (handed a (payloadIn file a) ∷ onward a (λ next. readings turns fmt file next))
       by-view a (whole s) h e =
           let within = found-within fmt file place (front fmt place (drop place file)) inside e in
           goes place h e refl (later (front fmt place (drop place file)) (within .0) (within .1))
       by-view a (broken n) h e = stops place h e
 
       by-place : Dec (place < length file)
-          → Run fmt file place (handed (readOf fmt file place) (payloadIn file (readOf fmt file place)) ∷ onward (readOf fmt file place) (λ next. readings turns fmt file next))
+          → RecordRun fmt file place (handed (readOf fmt file place) (payloadIn file (readOf fmt file place)) ∷ onward (readOf fmt file place) (λ next. readings turns fmt file next))
       by-place (yes h) =
           rw (read-inside fmt file place v (right-place file place first inside) (omega arith))
           (by-view (recordAt fmt place (drop place file)) (view fmt (drop place file) place) h refl)
@@ -45,13 +45,13 @@ module _ (fmt : Format) (file : List ℕ) (v : otherVersion fmt file ≡ false) 
 
   -- with turns enough, the readings are a run
   pub readings-run : (turns place : ℕ) → 1 ≤ place → place ≤ length file → length file < place + turns
-      → Run fmt file place (readings turns fmt file place)
+      → RecordRun fmt file place (readings turns fmt file place)
   readings-run zero place first inside enough = absurd (omega arith)
   readings-run (suc turns) place first inside enough =
       one-more turns place first inside (λ f after before. readings-run turns (f .next) (omega arith) before (omega arith))
 
   -- .. and there is no other
-  pub run-readings : (turns : ℕ) {place : ℕ} {hs : List Handed} → 1 ≤ place → length file < place + turns → Run fmt file place hs
+  pub run-readings : (turns : ℕ) {place : ℕ} {hs : List HandedRecord} → 1 ≤ place → length file < place + turns → RecordRun fmt file place hs
       → readings turns fmt file place ≡ hs
   unfolding readings
   run-readings zero first enough (ends place e) = absurd (omega arith)
@@ -66,11 +66,11 @@ module _ (fmt : Format) (file : List ℕ) (v : otherVersion fmt file ≡ false) 
 
 -- reading all of a file is a run from the first record's place
 module _ (fmt : Format) (file : List ℕ) where
-  pub all-run : otherVersion fmt file ≡ false → Run fmt file 1 (readAll fmt file)
+  pub all-run : otherVersion fmt file ≡ false → RecordRun fmt file 1 (readAll fmt file)
   unfolding readAll
   all-run v = readings-run fmt file v (suc (length file)) 1 (omega arith) (opened fmt file v) (omega arith)
 
-  pub run-all : otherVersion fmt file ≡ false → {hs : List Handed} → Run fmt file 1 hs → readAll fmt file ≡ hs
+  pub run-all : otherVersion fmt file ≡ false → {hs : List HandedRecord} → RecordRun fmt file 1 hs → readAll fmt file ≡ hs
   unfolding readAll
   run-all v r = run-readings fmt file v (suc (length file)) (omega arith) (omega arith) r
 

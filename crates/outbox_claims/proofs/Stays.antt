@@ -11,11 +11,11 @@ use lib.Seq.{drop-append-le}
 use borrow.Author.Tests.{eqb-false, ne-eqb}
 use Rattle.wire.specs.Stream.{isStream}
 use Rattle.outbox.specs.declared.format.Format.{Format}
-use Rattle.outbox.specs.Reader.{Handed, refusedAt, handed, lengthIn, otherVersion, recordAt, readOf, readings, readAll, firstRefusal}
+use Rattle.outbox.specs.Reader.{HandedRecord, refusedAt, handed, lengthIn, otherVersion, recordAt, readOf, readings, readAll, firstRefusal}
 use Rattle.outbox.proofs.Number.{number-append}
 use Rattle.outbox.proofs.Record.{clash, found-spans, range-passed, field-cut-read, wrong-read, cut-read, strange-read, whole-read, record-more}
 use Rattle.outbox.proofs.Place.{found-within}
-use Rattle.outbox_claims.proofs.Run.{Run, ends, stops, goes}
+use Rattle.outbox_claims.proofs.Run.{RecordRun, ends, stops, goes}
 use Rattle.outbox_claims.proofs.Cut.{part-same}
 
 -- a record that is refused for its length or its stream
@@ -59,8 +59,8 @@ module _ (fmt : Format) (rest more : List ℕ) (place n : ℕ) (e : recordAt fmt
       by-field (no short) = absurd (not-cut (field-cut-read fmt rest place (omega arith)))
 
 -- a run that ends at such a refusal
-pub run-stays : (fmt : Format) (part more : List ℕ) (n p : ℕ) → eqb n 41 ≡ false → {place : ℕ} {hs : List Handed} → Run fmt part place hs → firstRefusal hs ≡ refusedAt n p
-    → Run fmt (part ++ more) place hs
+pub run-stays : (fmt : Format) (part more : List ℕ) (n p : ℕ) → eqb n 41 ≡ false → {place : ℕ} {hs : List HandedRecord} → RecordRun fmt part place hs → firstRefusal hs ≡ refusedAt n p
+    → RecordRun fmt (part ++ more) place hs
 run-stays fmt part more n p uncut (ends place e) refusal = absurd (clash (cc))
 run-stays fmt part more n p uncut (stops place {n = m} inside e) refusal =
     let same : m ≡ n = cc in

@@ -11,7 +11,7 @@ use Rattle.outbox.specs.Format.{versionOne, versionTwo, isOne, formatOf, headSi
 use Rattle.outbox.specs.Reader.{given, readAll, firstRefusal, walkOf}
 use Rattle.outbox.specs.Writer.{newOf}
 use Rattle.outbox_claims.specs.Claims.{Lawful, Entry, EntryTaken, AllTaken, after, afterAll, expected, appendAll, Returned, cutAt, usable, RecordsReturn, AppendsAfterCut, AppendsAsAlone, ReadsAsAlone}
-use Rattle.outbox_claims.specs.Versions.{Version, one, two, StreamByte, control, ota, alexa, Allowed, AllAllowed, sizeOf, fileOf, Fits, HoldIn, HoldInEachVersion}
+use Rattle.outbox_claims.specs.Versions.{Version, one, two, StreamByte, control, ota, alexa, Allowed, AllAllowed, sizeOf, fileOf, FileFits, HoldIn, HoldInEachVersion}
 use Rattle.outbox.proofs.Place.{version-kept}
 use Rattle.outbox_claims.proofs.Run.{walk-is}
 use Rattle.outbox_claims.proofs.Append.{bounds}
@@ -52,7 +52,7 @@ module _ (fmt : Format) where
       (within .0, omega (arith, within .1, length-take n file))
 
   module _ (lawful : Lawful fmt) where
-    module _ (buffer : List ℕ) (es : List Entry) (fits : Fits (headSize fmt) (fmt .limit) buffer es) where
+    module _ (buffer : List ℕ) (es : List Entry) (fits : FileFits (headSize fmt) (fmt .limit) buffer es) where
       room : afterAll fmt 1 es ≤ length buffer
       room = rw (size-is 1 es) (fits .room)
 

@@ -8,7 +8,7 @@ use lib.ListN.{length, take, drop}
 use Rattle.wire.specs.Stream.{isStream}
 use Rattle.outbox.specs.declared.format.Format.{Format}
 use Rattle.outbox.specs.Format.{headSize, recordBytes, newBytes, firstPlace}
-use Rattle.outbox.specs.Reader.{Answer, given, refused, refusedAt, Item, Found, found, end, foundAt, otherVersion, Handed, handed, payloadIn, readOf, readAll, walkOf}
+use Rattle.outbox.specs.Reader.{Answer, given, refused, refusedAt, Item, FoundRecord, found, end, foundAt, otherVersion, HandedRecord, handed, payloadIn, readOf, readAll, walkOf}
 use Rattle.outbox.specs.Writer.{Stored, stored, newOf, appendOf}
 
 -- every record's length fits its field
@@ -30,7 +30,7 @@ abbrev pub after : Format → ℕ → Entry → ℕ
 after fmt place e = place + headSize fmt + length (e .payload)
 
 -- what reading place after place owes for some records: each at its place with its payload, then the end
-abbrev pub expected : Format → ℕ → List Entry → List Handed
+abbrev pub expected : Format → ℕ → List Entry → List HandedRecord
 expected fmt place [] = handed (given end) [] ∷ []
 expected fmt place (e ∷ es) =
     handed (given (found (foundAt fmt place (e .stream) (length (e .payload))))) (e .payload)
@@ -74,7 +74,7 @@ RecordsReturn =
 
 -- a reading of a whole outbox when only some bytes are kept: a record that lies whole in them stays; at the first that does not
 -- stands the end where nothing of it is kept, and else 41 at its place
-abbrev pub cutBy : ℕ → ℕ → Handed → Answer Item → (ℕ → List Handed) → List Handed
+abbrev pub cutBy : ℕ → ℕ → HandedRecord → Answer Item → (ℕ → List HandedRecord) → List HandedRecord
 cutBy kept place h (given (found f)) go =
     cond (leb (f .next) kept)
     (h ∷ go (f .next))
@@ -84,12 +84,12 @@ cutBy kept place h (refused n) go = h ∷ []
 cutBy kept place h (refusedAt n p) go = h ∷ []
 
 -- the readings from a place on
-abbrev pub cutFrom : ℕ → ℕ → List Handed → List Handed
+abbrev pub cutFrom : ℕ → ℕ → List HandedRecord → List HandedRecord
 cutFrom kept place [] = []
 cutFrom kept place (h ∷ hs) = cutBy kept place h (h .answer) (λ next. cutFrom kept next hs)
 
 -- .. from the first record on; 40 where nothing is kept
-abbrev pub cutAt : ℕ → List Handed → List Handed
+abbrev pub cutAt : ℕ → List HandedRecord → List HandedRecord
 cutAt zero hs = handed (refusedAt 40 0) [] ∷ []
 cutAt (suc k) hs = cutFrom (suc k) firstPlace hs
 
@@ -110,19 +110,19 @@ usable (refused n) file = 0
 usable (refusedAt n place) file = place
 
 -- a reading that is a record's
-abbrev pub recordOf : Handed → Answer Item → List Handed
+abbrev pub recordOf : HandedRecord → Answer Item → List HandedRecord
 recordOf h (given (found f)) = h ∷ []
 recordOf h (given end) = []
 recordOf h (refused n) = []
 recordOf h (refusedAt n place) = []
 
 -- the records among the readings
-abbrev pub recordsOf : List Handed → List Handed
+abbrev pub recordsOf : List HandedRecord → List HandedRecord
 recordsOf [] = []
 recordsOf (h ∷ hs) = recordOf h (h .answer) ++ recordsOf hs
 
 -- a record appended: taken, all is whole, and after the records of before the new one is read, then the end
-pub record Resumed (fmt : Format) (before : List Handed) (used : ℕ) (e : Entry) (s : Stored) : Type 0 where
+pub record Resumed (fmt : Format) (before : List HandedRecord) (used : ℕ) (e : Entry) (s : Stored) : Type 0 where
   pub taken : s .told ≡ given (after fmt used e)
   pub whole : walkOf fmt (take (after fmt used e) (s .buffer)) ≡ given tt
   pub read : readAll fmt (take (after fmt used e) (s .buffer)) ≡ recordsOf before ++ expected fmt used (e ∷ [])
@@ -155,7 +155,7 @@ AppendsAsAlone =
 -- ---- (e) the bytes from a place on in an outbox of their own
 
 -- places told, so many bytes further on
-abbrev pub movedFound : ℕ → Found → Found
+abbrev pub movedFound : ℕ → FoundRecord → FoundRecord
 movedFound d f = record { stream = f .stream; start = f .start + d; size = f .size; next = f .next + d }
 
 abbrev pub movedAnswer : ℕ → Answer Item → Answer Item
@@ -164,15 +164,15 @@ movedAnswer d (given end) = given end
 movedAnswer d (refused n) = refused n
 movedAnswer d (refusedAt n place) = refusedAt n (place + d)
 
-abbrev pub moved : ℕ → Handed → Handed
+abbrev pub moved : ℕ → HandedRecord → HandedRecord
 moved d h = handed (movedAnswer d (h .answer)) (h .payload)
 
-abbrev pub allMoved : ℕ → List Handed → List Handed
+abbrev pub allMoved : ℕ → List HandedRecord → List HandedRecord
 allMoved d [] = []
 allMoved d (h ∷ hs) = moved d h ∷ allMoved d hs
 
 -- one reading: its answer, and the bytes that it points to
-unfoldable pub readAt : Format → List ℕ → ℕ → Handed
+unfoldable pub readAt : Format → List ℕ → ℕ → HandedRecord
 readAt fmt file place = handed (readOf fmt file place) (payloadIn file (readOf fmt file place))
 
 -- the version byte, and after it the bytes from a place on

@@ -39,7 +39,7 @@ abbrev pub fileOf : Format → ℕ → List ℕ → List Entry → List ℕ
 fileOf fmt head buffer es = take (1 + sizeOf head es) (appendAll fmt (newOf fmt buffer) es .buffer)
 
 -- a buffer with room for some records that an outbox holds
-pub record Fits (head limit : ℕ) (buffer : List ℕ) (es : List Entry) : Type 0 where
+pub record FileFits (head limit : ℕ) (buffer : List ℕ) (es : List Entry) : Type 0 where
   pub allowed : AllAllowed limit es
   pub room : 1 + sizeOf head es ≤ length buffer
 
@@ -47,15 +47,15 @@ pub record HoldIn (fmt : Format) (byte head limit : ℕ) : Type 0 where
   -- the calls judge a file with this first byte by this version
   pub judged-by : (rest : List ℕ) → formatOf (byte ∷ rest) ≡ fmt
   pub takes : (e : Entry) → Allowed limit e → EntryTaken fmt e
-  pub records-return : (buffer : List ℕ) (es : List Entry) → Fits head limit buffer es → Returned fmt (appendAll fmt (newOf fmt buffer) es) es
-  pub cuts-are-found : (buffer : List ℕ) (es : List Entry) → Fits head limit buffer es → (kept : ℕ)
+  pub records-return : (buffer : List ℕ) (es : List Entry) → FileFits head limit buffer es → Returned fmt (appendAll fmt (newOf fmt buffer) es) es
+  pub cuts-are-found : (buffer : List ℕ) (es : List Entry) → FileFits head limit buffer es → (kept : ℕ)
       → readAll fmt (take kept (fileOf fmt head buffer es)) ≡ cutAt kept (expected fmt 1 es)
-  pub appends-after-cut : (buffer : List ℕ) (es : List Entry) → Fits head limit buffer es → (kept : ℕ) → 1 ≤ kept → (room : List ℕ) (e : Entry) → Allowed limit e
+  pub appends-after-cut : (buffer : List ℕ) (es : List Entry) → FileFits head limit buffer es → (kept : ℕ) → 1 ≤ kept → (room : List ℕ) (e : Entry) → Allowed limit e
       → let left = take kept (fileOf fmt head buffer es) in
       let used = usable (walkOf fmt left) left in
       used + (head + length (e .payload)) ≤ length (left ++ room)
       → Resumed fmt (readAll fmt left) used e (appendOf fmt (left ++ room) used (e .stream) (e .payload))
-  pub appends-as-alone : (buffer : List ℕ) (es : List Entry) → Fits head limit buffer es → (room own : List ℕ) (e : Entry) → Allowed limit e
+  pub appends-as-alone : (buffer : List ℕ) (es : List Entry) → FileFits head limit buffer es → (room own : List ℕ) (e : Entry) → Allowed limit e
       → let file = fileOf fmt head buffer es in
       length file + (head + length (e .payload)) ≤ length (file ++ room) → 1 + (head + length (e .payload)) ≤ length own
       → SameBytes fmt file e (appendOf fmt (file ++ room) (length file) (e .stream) (e .payload)) (appendAll fmt (newOf fmt own) (e ∷ []))

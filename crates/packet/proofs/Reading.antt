@@ -14,7 +14,7 @@ use Rattle.wire.specs.Bytes.{pairBytes}
 use Rattle.wire.specs.Stream.{isStream, streamOf}
 use Rattle.wire.proofs.Tables.{by-table}
 use Rattle.packet.specs.declared.reader.Head.{Head}
-use Rattle.packet.specs.declared.reader.Fields.{Fields}
+use Rattle.packet.specs.declared.reader.PacketFields.{PacketFields}
 use Rattle.packet.specs.declared.reader.Packet.{Packet}
 use Rattle.packet.specs.declared.reader.Packet.the-variants.{First, Next, Ack, Nack}
 use Rattle.packet.specs.Header.{reservedByte, typeFirst, typeContinuation, typeLast, typeControl, headerSize, firstByte, secondByte, streamBits}
@@ -28,16 +28,16 @@ abbrev pub HeadLow : Head → Type 0
 HeadLow h = (h .id < 16) × (h .sequence < 16)
 
 -- the payload lies within a packet of k bytes, and the numbers within their bounds
-abbrev pub Within : ℕ → ℕ → Packet → Type 0
-Within limit k (First h ack total start len) =
+abbrev pub PayloadWithin : ℕ → ℕ → Packet → Type 0
+PayloadWithin limit k (First h ack total start len) =
     (start + len ≤ k) × (len ≤ total) × (total ≤ limit) × (len ≡ 0 → total ≡ 0) × HeadLow h
-Within limit k (Next h ack last start len) = (start + len ≤ k) × HeadLow h
-Within limit k (Ack h) = Unit {0}
-Within limit k (Nack h) = Unit {0}
+PayloadWithin limit k (Next h ack last start len) = (start + len ≤ k) × HeadLow h
+PayloadWithin limit k (Ack h) = Unit {0}
+PayloadWithin limit k (Nack h) = Unit {0}
 
 -- what is true of a packet that is told
-pub record Passes (limit k stream : ℕ) (x : Packet) : Type 0 where
-  pub within : Within limit k x
+pub record LinesPass (limit k stream : ℕ) (x : Packet) : Type 0 where
+  pub within : PayloadWithin limit k x
   pub known : isStream stream ≡ true
   pub named : headIn x .stream ≡ streamOf stream
 
@@ -53,13 +53,13 @@ exact : (size sum : ℕ) → not (eqb size sum) ≡ false → sum ≤ size
 exact size sum h = omega (arith, eqb-true size sum (not-false _ h))
 
 -- what the lines that do not hold say, by the type
-content-within : (limit : ℕ) (f : Fields) (control first ack : Bool)
+content-within : (limit : ℕ) (f : PacketFields) (control first ack : Bool)
     → isControl f ≡ control → isFirst f ≡ first → f .ack ≡ ack → HeadLow (f .head)
     → (not control && not (eqb (f .size) (f .header + f .len))) ≡ false
     → (first && ltb limit (f .total)) ≡ false
     → (not control && (eqb (f .len) 0 && not (first && eqb (f .total) 0))) ≡ false
     → (first && ltb (f .total) (f .len)) ≡ false
-    → Within limit (f .size) (contentOf f)
+    → PayloadWithin limit (f .size) (contentOf f)
 unfolding contentOf
 content-within limit f true first true ec ef ea low h5 h6 h7 h8 = rw (ec, ea) tt
 content-within limit f true first false ec ef ea low h5 h6 h7 h8 = rw (ec, ea) tt
@@ -68,18 +68,18 @@ content-within limit f false true ack ec ef ea low h5 h6 h7 h8 =
     (exact (f .size) (f .header + f .len) h5, ltb-false (f .total) (f .len) h8, ltb-false limit (f .total) h6, only-empty (f .len) (f .total) h7, low)
 content-within limit f false false ack ec ef ea low h5 h6 h7 h8 = rw (ec, ef) (exact (f .size) (f .header + f .len) h5, low)
 
-content-head : (f : Fields) (control first ack : Bool) → isControl f ≡ control → isFirst f ≡ first → f .ack ≡ ack → headIn (contentOf f) ≡ f .head
+content-head : (f : PacketFields) (control first ack : Bool) → isControl f ≡ control → isFirst f ≡ first → f .ack ≡ ack → headIn (contentOf f) ≡ f .head
 unfolding contentOf
 content-head f true first true ec ef ea = rw (ec, ea)
 content-head f true first false ec ef ea = rw (ec, ea)
 content-head f false true ack ec ef ea = rw (ec, ef)
 content-head f false false ack ec ef ea = rw (ec, ef)
 
-judged-passes : (limit : ℕ) (f : Fields) → HeadLow (f .head) → f .head .stream ≡ streamOf (f .stream)
-    → IfGiven (Passes limit (f .size) (f .stream)) (judged limit f)
+judged-passes : (limit : ℕ) (f : PacketFields) → HeadLow (f .head) → f .head .stream ≡ streamOf (f .stream)
+    → IfGiven (LinesPass limit (f .size) (f .stream)) (judged limit f)
 unfolding lines
 judged-passes limit f low named =
-    by-table (IfGiven (Passes limit (f .size) (f .stream))) (lines limit f) refused (given (contentOf f)) (λ n. tt) (λ h.
+    by-table (IfGiven (LinesPass limit (f .size) (f .stream))) (lines limit f) refused (given (contentOf f)) (λ n. tt) (λ h.
     let h3 = h .1 in
     let h5 = h3 .1 .1 .1 in
     let h6 = h5 .1 in
@@ -90,7 +90,7 @@ judged-passes limit f low named =
     })
 
 -- of every packet that is told
-pub read-passes : (limit : ℕ) (p : List ℕ) → IfGiven (Passes limit (length p) (streamBits (getD p 0 0))) (readOf limit p)
+pub read-passes : (limit : ℕ) (p : List ℕ) → IfGiven (LinesPass limit (length p) (streamBits (getD p 0 0))) (readOf limit p)
 unfolding readOf fieldsOf
 read-passes limit p = judged-passes limit (fieldsOf p) (omega arith, omega arith) refl
 
@@ -100,7 +100,7 @@ filled : (len total : ℕ) → (len ≡ 0 → total ≡ 0) → (b : Bool) → eq
 filled len total z true e = rw (e, eq-eqb total 0 (z (eqb-true len 0 e)))
 filled len total z false e = rw e
 
-passes-first : (limit : ℕ) (f : Fields) → f .kind ≡ typeFirst → isStream (f .stream) ≡ true → f .reserved ≡ 0 → f .size ≡ f .header + f .len → 2 ≤ f .header
+passes-first : (limit : ℕ) (f : PacketFields) → f .kind ≡ typeFirst → isStream (f .stream) ≡ true → f .reserved ≡ 0 → f .size ≡ f .header + f .len → 2 ≤ f .header
     → f .total ≤ limit → (f .len ≡ 0 → f .total ≡ 0) → f .len ≤ f .total
     → judged limit f ≡ given (First (f .head) (f .ack) (f .total) (f .header) (f .len))
 unfolding lines contentOf
@@ -117,7 +117,7 @@ passes-first limit f k known r x h t z n =
       le-ltb (f .total) (f .len) n,
     )
 
-passes-next : (limit : ℕ) (f : Fields) (last : Bool) → f .kind ≡ cond last typeLast typeContinuation → isStream (f .stream) ≡ true
+passes-next : (limit : ℕ) (f : PacketFields) (last : Bool) → f .kind ≡ cond last typeLast typeContinuation → isStream (f .stream) ≡ true
     → f .size ≡ f .header + f .len → 2 ≤ f .header → 1 ≤ f .len
     → judged limit f ≡ given (Next (f .head) (f .ack) last (f .header) (f .len))
 unfolding lines contentOf
@@ -140,7 +140,7 @@ passes-next limit f false k known x h n =
       ne-eqb (f .len) 0 (λ e. omega arith),
     )
 
-passes-control : (limit : ℕ) (f : Fields) → f .kind ≡ typeControl → isStream (f .stream) ≡ true → f .exact ≡ true → 2 ≤ f .size
+passes-control : (limit : ℕ) (f : PacketFields) → f .kind ≡ typeControl → isStream (f .stream) ≡ true → f .exact ≡ true → 2 ≤ f .size
     → judged limit f ≡ given (cond (f .ack) (Ack (f .head)) (Nack (f .head)))
 unfolding lines contentOf
 passes-control limit f k known s n = simp (k, known, s, le-ltb (f .size) 2 n)

@@ -9,13 +9,13 @@ use Rattle.wire.specs.Told.{Told, given, refused, Line, line, table}
 use Rattle.wire.specs.Bytes.{pairOf}
 use Rattle.wire.specs.Stream.{isStream, streamOf}
 use Rattle.packet.specs.declared.reader.Head.{Head}
-use Rattle.packet.specs.declared.reader.Fields.{Fields}
+use Rattle.packet.specs.declared.reader.PacketFields.{PacketFields}
 use Rattle.packet.specs.declared.reader.Packet.{Packet}
 use Rattle.packet.specs.declared.reader.Packet.the-variants.{First, Next, Ack, Nack}
 use Rattle.packet.specs.declared.reader.Refusal.{Refusal}
 use Rattle.packet.specs.declared.reader.Refusal.the-variants.{Short, UnknownStream, BadControl, Reserved, Length, TotalOver, Empty, AboveTotal}
-use Rattle.packet.specs.declared.reader.Verdict.{Verdict}
-use Rattle.packet.specs.declared.reader.Verdict.the-variants.{Passed, Stopped}
+use Rattle.packet.specs.declared.reader.Ruling.{Ruling}
+use Rattle.packet.specs.declared.reader.Ruling.the-variants.{Passed, Stopped}
 use Rattle.packet.specs.declared.reader.Answer.{Answer}
 use Rattle.packet.specs.declared.reader.Answer.the-variants.{Refused, Read}
 use Rattle.packet.specs.Header.{startSize, reservedByte, typeFirst, typeLast, typeControl, headerSize, lengthPlace, streamBits, idBits, sequenceBits, typeBits, ackBit, extenderBit}
@@ -37,7 +37,7 @@ abbrev pub isAcknowledgement : List ℕ → Bool → Bool → Bool
 isAcknowledgement p ack extended = not extended && sameBytes (drop startSize p) (ackTail ack)
 
 -- the fields of a packet, by what its bytes 0 and 1 say
-abbrev pub fieldsBy : List ℕ → ℕ → ℕ → ℕ → ℕ → Bool → Bool → Fields
+abbrev pub fieldsBy : List ℕ → ℕ → ℕ → ℕ → ℕ → Bool → Bool → PacketFields
 fieldsBy p stream id sequence kind ack extended =
     record {
       size = length p;
@@ -53,18 +53,18 @@ fieldsBy p stream id sequence kind ack extended =
     }
 
 -- the fields of a packet; a byte that it does not have counts as 0
-unfoldable pub fieldsOf : List ℕ → Fields
+unfoldable pub fieldsOf : List ℕ → PacketFields
 fieldsOf p =
     fieldsBy p (streamBits (getD p 0 0)) (idBits (getD p 0 0)) (sequenceBits (getD p 1 0)) (typeBits (getD p 1 0)) (ackBit (getD p 1 0)) (extenderBit (getD p 1 0))
 
-abbrev pub isFirst : Fields → Bool
+abbrev pub isFirst : PacketFields → Bool
 isFirst f = eqb (f .kind) typeFirst
 
-abbrev pub isControl : Fields → Bool
+abbrev pub isControl : PacketFields → Bool
 isControl f = eqb (f .kind) typeControl
 
 -- what a packet says that passes the table
-unfoldable pub contentOf : Fields → Packet
+unfoldable pub contentOf : PacketFields → Packet
 contentOf f =
     cond (isControl f) (cond (f .ack) (Ack (f .head)) (Nack (f .head)))
     (cond (isFirst f) (First (f .head) (f .ack) (f .total) (f .header) (f .len))
@@ -85,7 +85,7 @@ lenIn (Ack head) = 0
 lenIn (Nack head) = 0
 
 -- the table of docs/FORMATS.md for a packet by itself; limit is the largest total
-unfoldable pub lines : ℕ → Fields → List Line
+unfoldable pub lines : ℕ → PacketFields → List Line
 lines limit f =
     line 2 (ltb (f .size) startSize || (not (isControl f) && ltb (f .size) (f .header)))
     ∷ line 3 (not (isStream (f .stream)))
@@ -98,7 +98,7 @@ lines limit f =
     ∷ []
 
 -- what is told of the fields of a packet
-abbrev pub judged : ℕ → Fields → Told Packet
+abbrev pub judged : ℕ → PacketFields → Told Packet
 judged limit f = table (lines limit f) refused (given (contentOf f))
 
 -- what is told of a packet
@@ -121,10 +121,10 @@ told (Refused why) = refused (numberOf why)
 told (Read packet) = given packet
 
 -- the refusal of the line that stopped it, or what lies below the lines it passed
-abbrev pub ruled : Verdict → Told Packet → Told Packet
+abbrev pub ruled : Ruling → Told Packet → Told Packet
 ruled Passed below = below
 ruled (Stopped why) below = refused (numberOf why)
 
 -- a verdict says what a part of the table says, whatever lies below
-abbrev pub Rules : Verdict → (Told Packet → Told Packet) → Type 0
+abbrev pub Rules : Ruling → (Told Packet → Told Packet) → Type 0
 Rules v part = (below : Told Packet) → ruled v below ≡ part below

@@ -22,7 +22,7 @@ pub struct Head {
 }
 
 // The fields of a packet; a byte that it does not have counts as 0. Exact: an ACK or NACK, if it is of type 3.
-struct Fields {
+struct PacketFields {
     size: usize,
     stream: u8,
     head: Head,
@@ -115,25 +115,25 @@ pub enum Answer {
 }
 
 // The lines of the table that were looked at: all passed, or the first that held.
-enum Verdict {
+enum Ruling {
     Passed,
     Stopped(Refusal),
 }
 
-impl Verdict {
+impl Ruling {
     // The next line of the table.
     fn line(self, holds: bool, why: Refusal) -> Self
         ensures { λ r. ⌜ Rules r (λ below. ruled self (cond holds (refused (numberOf why)) below)) ⌝ }
     {
         match self {
-            Verdict::Passed => {
+            Ruling::Passed => {
                 if holds {
-                    Verdict::Stopped(why)
+                    Ruling::Stopped(why)
                 } else {
-                    Verdict::Passed
+                    Ruling::Passed
                 }
             }
-            Verdict::Stopped(before) => Verdict::Stopped(before),
+            Ruling::Stopped(before) => Ruling::Stopped(before),
         }
     }
 }
@@ -165,7 +165,7 @@ fn is_acknowledgement(packet: &[u8], ack: bool, extended: bool) -> bool
     both(!extended, exact)
 }
 
-fn fields_of(packet: &[u8]) -> Fields
+fn fields_of(packet: &[u8]) -> PacketFields
     ensures { λ r. ⌜ (r ≡ fieldsOf (now (packet .entry))) × (r .header < 8) × (r .len < 65536) ⌝ }
 {
     let first = byte_at(packet, 0);
@@ -178,7 +178,7 @@ fn fields_of(packet: &[u8]) -> Fields
     let ack = header::ack_bit(second);
     let extended = header::extender_bit(second);
     let is_first = kind == header::TYPE_FIRST;
-    Fields {
+    PacketFields {
         size: packet.len(),
         stream: number,
         head: Head {
@@ -197,7 +197,7 @@ fn fields_of(packet: &[u8]) -> Fields
 }
 
 // The table of refusals, in its order.
-fn judge(limit: usize, f: Fields) -> Verdict
+fn judge(limit: usize, f: PacketFields) -> Ruling
     requires { ⌜ (f .header < 8) × (f .len < 65536) ⌝ }
     ensures { λ r. ⌜ Rules r (table (lines limit f) refused) ⌝ }
 {
@@ -215,7 +215,7 @@ fn judge(limit: usize, f: Fields) -> Verdict
     let nothing_sent = both(first, f.total == 0);
     let empty = both(!control, both(f.len == 0, !nothing_sent));
     let above = both(first, f.total < f.len);
-    Verdict::Passed
+    Ruling::Passed
         .line(short, Refusal::Short)
         .line(unknown, Refusal::UnknownStream)
         .line(bad_control, Refusal::BadControl)
@@ -227,7 +227,7 @@ fn judge(limit: usize, f: Fields) -> Verdict
 }
 
 // What the fields say of a packet that passed.
-fn content_of(f: Fields) -> Packet
+fn content_of(f: PacketFields) -> Packet
     ensures { λ r. ⌜ r ≡ contentOf f ⌝ }
 {
     let head = f.head;
@@ -264,7 +264,7 @@ pub fn read(limit: usize, packet: &[u8]) -> Answer
     let f = fields_of(packet);
     let verdict = judge(limit, f);
     match verdict {
-        Verdict::Passed => Answer::Read(content_of(f)),
-        Verdict::Stopped(why) => Answer::Refused(why),
+        Ruling::Passed => Answer::Read(content_of(f)),
+        Ruling::Stopped(why) => Answer::Refused(why),
     }
 }

@@ -21,20 +21,20 @@ use Rattle.framing.specs.Frame.{sumOf}
 use Rattle.framing.proofs.Marks.{clear-plain, unmarked-plain}
 use Rattle.parts.specs.declared.state.Stage.{Stage}
 use Rattle.parts.specs.declared.state.Stage.the-variants as stage
-use Rattle.parts.specs.declared.state.Progress.{Progress}
+use Rattle.parts.specs.declared.state.PartProgress.{PartProgress}
 use Rattle.parts.specs.State.{missing, isPayload, inPayload}
 use Rattle.parts.specs.Byte.{bodyByte, byteOf}
 use Rattle.parts.specs.Fill.{Filled, fillOf}
-use Rattle.parts.specs.FastPath.{codeBy, body, resumed, Onward}
+use Rattle.parts.specs.FastPath.{codeBy, body, resumed, PartOnward}
 
 -- ---- bytes that are passed
 
 module _ {payload : List ℕ} where
-  pub onward-here : {s : Progress} {out : List ℕ} {taken i : ℕ} → taken ≤ length payload → i ≤ length out → Onward payload s out taken i s out taken i
+  pub onward-here : {s : PartProgress} {out : List ℕ} {taken i : ℕ} → taken ≤ length payload → i ≤ length out → PartOnward payload s out taken i s out taken i
   onward-here h k = record { from = omega arith; within = k; offered = h; same = refl; rest = refl }
 
-  pub onward-then : {s₀ : Progress} {o₀ : List ℕ} {t₀ i₀ : ℕ} {s₁ : Progress} {o₁ : List ℕ} {t₁ i₁ : ℕ} {s₂ : Progress} {o₂ : List ℕ} {t₂ i₂ : ℕ}
-      → Onward payload s₀ o₀ t₀ i₀ s₁ o₁ t₁ i₁ → Onward payload s₁ o₁ t₁ i₁ s₂ o₂ t₂ i₂ → Onward payload s₀ o₀ t₀ i₀ s₂ o₂ t₂ i₂
+  pub onward-then : {s₀ : PartProgress} {o₀ : List ℕ} {t₀ i₀ : ℕ} {s₁ : PartProgress} {o₁ : List ℕ} {t₁ i₁ : ℕ} {s₂ : PartProgress} {o₂ : List ℕ} {t₂ i₂ : ℕ}
+      → PartOnward payload s₀ o₀ t₀ i₀ s₁ o₁ t₁ i₁ → PartOnward payload s₁ o₁ t₁ i₁ s₂ o₂ t₂ i₂ → PartOnward payload s₀ o₀ t₀ i₀ s₂ o₂ t₂ i₂
   onward-then x y =
       record {
         from = omega (arith, x .from, y .from);
@@ -56,7 +56,7 @@ is-payload stage.Low e = absurd (false≢true e)
 is-payload stage.End e = absurd (false≢true e)
 is-payload stage.Done e = absurd (false≢true e)
 
-body-state : (s : Progress) → inPayload s ≡ true → s ≡ body (s .sequence) (s .total) (s .taken) (s .sum)
+body-state : (s : PartProgress) → inPayload s ≡ true → s ≡ body (s .sequence) (s .total) (s .taken) (s .sum)
 body-state s e =
     let at = is-payload (s .stage) (and-left (isPayload (s .stage)) (not (isMarkKind (s .pending))) e) in
     let none = unmarked-plain (s .pending) (not-true (isMarkKind (s .pending)) (and-right (isPayload (s .stage)) (not (isMarkKind (s .pending))) e)) in
@@ -115,18 +115,18 @@ module _ (q t : ℕ) where
 
 -- ---- the fast path, by what it stored
 
-module _ (payload : List ℕ) (s : Progress) (out : List ℕ) (taken i : ℕ) (here : taken ≤ length payload) (room : i ≤ length out) (in-payload : inPayload s ≡ true) where
+module _ (payload : List ℕ) (s : PartProgress) (out : List ℕ) (taken i : ℕ) (here : taken ≤ length payload) (room : i ≤ length out) (in-payload : inPayload s ≡ true) where
   -- w bytes are written, and n of the payload's are taken
-  onward-by : (xs : List ℕ) (w n : ℕ) (s′ : Progress) (out′ : List ℕ) → length xs ≡ w → out′ ≡ sets out i xs → n ≤ length payload - taken → w ≤ length out - i
+  onward-by : (xs : List ℕ) (w n : ℕ) (s′ : PartProgress) (out′ : List ℕ) → length xs ≡ w → out′ ≡ sets out i xs → n ≤ length payload - taken → w ≤ length out - i
       → fillOf (w + (length out - (i + w))) (body (s .sequence) (s .total) (s .taken) (s .sum)) (drop taken payload)
       ≡ prefixed xs n (fillOf (length out - (i + w)) s′ (drop (taken + n) payload))
-      → Onward payload s out taken i s′ out′ (taken + n) (i + w)
+      → PartOnward payload s out taken i s′ out′ (taken + n) (i + w)
   onward-by xs w n s′ out′ size stored most fits e =
       let rest = length out - (i + w) in
       let left : length out - i ≡ w + rest = omega arith in
       let f = fillOf rest s′ (drop (taken + n) payload) in
       let all : fillOf (length out - i) s (drop taken payload) ≡ prefixed xs n f
-      = ap (λ (k : ℕ). fillOf k s (drop taken payload)) left ∙ ap (λ (x : Progress). fillOf (w + rest) x (drop taken payload)) (body-state s in-payload) ∙ e in
+      = ap (λ (k : ℕ). fillOf k s (drop taken payload)) left ∙ ap (λ (x : PartProgress). fillOf (w + rest) x (drop taken payload)) (body-state s in-payload) ∙ e in
       let here-on : resumed (sets out i xs) (taken + n) (i + w) f ≡ resumed out taken i (prefixed xs n f)
       = ap (λ (k : ℕ). resumed (sets out i xs) (taken + n) (i + k) f) (sym size) ∙ resumed-run out xs n taken i f in
       record {
@@ -140,7 +140,7 @@ module _ (payload : List ℕ) (s : Progress) (out : List ℕ) (taken i : ℕ) (h
   -- plain bytes up to e, by what copying promises
   pub onward-plain : (e : ℕ) → taken ≤ e → e ≤ length payload → e - taken ≤ length out - i → e - taken ≤ missing s → s .sum < 65536
       → {n : ℕ} {out′ : List ℕ} → Copied startMark escapeMark (take (e - taken) (drop taken payload)) i out n out′
-      → Onward payload s out taken i (body (s .sequence) (s .total) (s .taken + n) ((s .sum + sumOf (take n (drop taken payload))) % 65536)) out′ (taken + n) (i + n)
+      → PartOnward payload s out taken i (body (s .sequence) (s .total) (s .taken + n) ((s .sum + sumOf (take n (drop taken payload))) % 65536)) out′ (taken + n) (i + n)
   onward-plain e from most fits lacks small {n} {out′} copied =
       let clear = copied .clear in
       let run = take n (drop taken payload) in
@@ -159,7 +159,7 @@ module _ (payload : List ℕ) (s : Progress) (out : List ℕ) (taken i : ℕ) (h
 
   -- a mark, with its code
   pub onward-pair : (b : ℕ) → b ≡ getD payload taken 0 → isMark b ≡ true → s .taken < s .total → 2 ≤ length out - i
-      → Onward payload s out taken i (body (s .sequence) (s .total) (s .taken + 1) ((s .sum + b) % 65536)) (set (set out i escapeMark) (i + 1) (codeBy (kindOf b))) (taken + 1) (i + 2)
+      → PartOnward payload s out taken i (body (s .sequence) (s .total) (s .taken + 1) ((s .sum + b) % 65536)) (set (set out i escapeMark) (i + 1) (codeBy (kindOf b))) (taken + 1) (i + 2)
   onward-pair b at mark lacks fits =
       let rest = length out - (i + 2) in
       let before = body (s .sequence) (s .total) (s .taken) (s .sum) in

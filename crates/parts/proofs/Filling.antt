@@ -14,18 +14,18 @@ use Rattle.framing.specs.declared.mark.Kind.{Kind}
 use Rattle.framing.specs.declared.mark.Kind.the-variants.{Start, End, Escape, Plain}
 use Rattle.parts.specs.declared.state.Stage.{Stage}
 use Rattle.parts.specs.declared.state.Stage.the-variants as stage
-use Rattle.parts.specs.declared.state.Progress.{Progress}
+use Rattle.parts.specs.declared.state.PartProgress.{PartProgress}
 use Rattle.parts.specs.State.{ended}
 use Rattle.parts.specs.Byte.{Byte, nothing, byte, closing, payloadByte, bodyByte, stageByte, pendingByte, byteOf}
 use Rattle.parts.specs.Fill.{Filled, stopped, andOn, fillOf}
 use Rattle.parts.specs.Writer.{filled, wrote, count}
-use Rattle.parts.specs.FastPath.{resumed, Onward}
+use Rattle.parts.specs.FastPath.{resumed, PartOnward}
 
 -- a stage, and a pending code, that are known
-pub payload-stage : (s : Progress) (l : List ℕ) → s .stage ≡ stage.Payload → stageByte (s .stage) s l ≡ bodyByte s l
+pub payload-stage : (s : PartProgress) (l : List ℕ) → s .stage ≡ stage.Payload → stageByte (s .stage) s l ≡ bodyByte s l
 payload-stage s l e = ap (λ (at : Stage). stageByte at s l) e
 
-pub plain-pending : (s : Progress) (l : List ℕ) → s .pending ≡ Plain → byteOf s l ≡ stageByte (s .stage) s l
+pub plain-pending : (s : PartProgress) (l : List ℕ) → s .pending ≡ Plain → byteOf s l ≡ stageByte (s .stage) s l
 unfolding byteOf
 plain-pending s l e = ap (λ (k : Kind). pendingByte k s l) e
 
@@ -35,11 +35,11 @@ abbrev takes : Byte → ℕ
 takes nothing = 0
 takes (byte b next k) = k
 
-offered-takes : (s : Progress) (l : List ℕ) → takes (payloadByte s l) ≤ length l
+offered-takes : (s : PartProgress) (l : List ℕ) → takes (payloadByte s l) ≤ length l
 offered-takes s [] = zero-le
 offered-takes s (b ∷ bs) = omega arith
 
-body-takes : (s : Progress) (l : List ℕ) → takes (bodyByte s l) ≤ length l
+body-takes : (s : PartProgress) (l : List ℕ) → takes (bodyByte s l) ≤ length l
 unfolding bodyByte
 body-takes s l = go (ltb (s .taken) (s .total))
   where
@@ -47,7 +47,7 @@ body-takes s l = go (ltb (s .taken) (s .total))
     go true = offered-takes s l
     go false = zero-le
 
-stage-takes : (at : Stage) (s : Progress) (l : List ℕ) → takes (stageByte at s l) ≤ length l
+stage-takes : (at : Stage) (s : PartProgress) (l : List ℕ) → takes (stageByte at s l) ≤ length l
 stage-takes stage.Start s l = zero-le
 stage-takes stage.PacketId s l = zero-le
 stage-takes stage.ErrorId s l = zero-le
@@ -57,45 +57,45 @@ stage-takes stage.Low s l = zero-le
 stage-takes stage.End s l = zero-le
 stage-takes stage.Done s l = zero-le
 
-pending-takes : (k : Kind) (s : Progress) (l : List ℕ) → takes (pendingByte k s l) ≤ length l
+pending-takes : (k : Kind) (s : PartProgress) (l : List ℕ) → takes (pendingByte k s l) ≤ length l
 pending-takes Start s l = zero-le
 pending-takes End s l = zero-le
 pending-takes Escape s l = zero-le
 pending-takes Plain s l = stage-takes (s .stage) s l
 
-pub byte-takes : (s : Progress) (l : List ℕ) {b : ℕ} {next : Progress} {k : ℕ} → byte b next k ≡ byteOf s l → k ≤ length l
+pub byte-takes : (s : PartProgress) (l : List ℕ) {b : ℕ} {next : PartProgress} {k : ℕ} → byte b next k ≡ byteOf s l → k ≤ length l
 unfolding byteOf
 byte-takes s l e = rw (← e) at (pending-takes (s .pending) s l)
 
 -- ---- one turn
 
-fill-none : (s : Progress) (l : List ℕ) → fillOf 0 s l ≡ stopped s
+fill-none : (s : PartProgress) (l : List ℕ) → fillOf 0 s l ≡ stopped s
 unfolding fillOf
 fill-none s l = refl
 
-fill-byte : (n : ℕ) (s : Progress) (l : List ℕ) {x : Byte} → x ≡ byteOf s l → fillOf (suc n) s l ≡ andOn s x (λ s′ j. fillOf n s′ (drop j l))
+fill-byte : (n : ℕ) (s : PartProgress) (l : List ℕ) {x : Byte} → x ≡ byteOf s l → fillOf (suc n) s l ≡ andOn s x (λ s′ j. fillOf n s′ (drop j l))
 unfolding fillOf
 fill-byte n s l e = rw e
 
-fill-nothing : (n : ℕ) (s : Progress) (l : List ℕ) → nothing ≡ byteOf s l → fillOf n s l ≡ stopped s
+fill-nothing : (n : ℕ) (s : PartProgress) (l : List ℕ) → nothing ≡ byteOf s l → fillOf n s l ≡ stopped s
 unfolding fillOf
 fill-nothing zero s l e = refl
 fill-nothing (suc n) s l e = rw (← e)
 
 -- ---- the loop: what is left to be filled gives what all gives
 
-pub record Filling (payload out₀ : List ℕ) (s₀ : Progress) (out : List ℕ) (s : Progress) (taken i : ℕ) : Type 0 where
+pub record Filling (payload out₀ : List ℕ) (s₀ : PartProgress) (out : List ℕ) (s : PartProgress) (taken i : ℕ) : Type 0 where
   pub within : i ≤ length out₀
   pub same : length out ≡ length out₀
   pub offered : taken ≤ length payload
   pub rest : resumed out taken i (fillOf (length out₀ - i) s (drop taken payload)) ≡ filled out₀ (fillOf (length out₀) s₀ payload)
 
-pub filling-begins : (payload out : List ℕ) (s : Progress) → Filling payload out s out s 0 0
+pub filling-begins : (payload out : List ℕ) (s : PartProgress) → Filling payload out s out s 0 0
 filling-begins payload out s = record { within = zero-le; same = refl; offered = zero-le; rest = simp (sub-zero, zero-add) }
 
-module _ {payload out₀ : List ℕ} {s₀ : Progress} {out : List ℕ} {s : Progress} {taken i : ℕ} (inv : Filling payload out₀ s₀ out s taken i) where
+module _ {payload out₀ : List ℕ} {s₀ : PartProgress} {out : List ℕ} {s : PartProgress} {taken i : ℕ} (inv : Filling payload out₀ s₀ out s taken i) where
   -- the fast path keeps what holds at the test of the loop
-  pub filling-on : {s′ : Progress} {out′ : List ℕ} {taken′ j : ℕ} → Onward payload s out taken i s′ out′ taken′ j → Filling payload out₀ s₀ out′ s′ taken′ j
+  pub filling-on : {s′ : PartProgress} {out′ : List ℕ} {taken′ j : ℕ} → PartOnward payload s out taken i s′ out′ taken′ j → Filling payload out₀ s₀ out′ s′ taken′ j
   filling-on on =
       record {
         within = omega (arith, on .within, inv .same);
@@ -105,11 +105,11 @@ module _ {payload out₀ : List ℕ} {s₀ : Progress} {out : List ℕ} {s : Pro
       }
 
   -- the byte takes no more than is left of the payload
-  pub filling-taken : {b : ℕ} {next : Progress} {k : ℕ} → byte b next k ≡ byteOf s (drop taken payload) → taken + k ≤ length payload
+  pub filling-taken : {b : ℕ} {next : PartProgress} {k : ℕ} → byte b next k ≡ byteOf s (drop taken payload) → taken + k ≤ length payload
   filling-taken e = omega (arith, byte-takes s (drop taken payload) e, length-drop taken payload, inv .offered)
 
   -- a byte is written
-  pub filling-byte : {b : ℕ} {next : Progress} {k : ℕ} → byte b next k ≡ byteOf s (drop taken payload) → i < length out₀
+  pub filling-byte : {b : ℕ} {next : PartProgress} {k : ℕ} → byte b next k ≡ byteOf s (drop taken payload) → i < length out₀
       → Filling payload out₀ s₀ (set out i b) next (taken + k) (i + 1)
   filling-byte {b} {next} {k} e h =
       record {

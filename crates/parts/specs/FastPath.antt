@@ -9,10 +9,10 @@ use Rattle.framing.specs.declared.mark.Kind.{Kind}
 use Rattle.framing.specs.declared.mark.Kind.the-variants.{Start, End, Escape, Plain}
 use Rattle.framing.specs.Frame.{startCode, endCode, escapeCode}
 use Rattle.parts.specs.declared.state.Stage.the-variants as stage
-use Rattle.parts.specs.declared.state.Progress.{Progress}
+use Rattle.parts.specs.declared.state.PartProgress.{PartProgress}
 use Rattle.parts.specs.State.{ended}
 use Rattle.parts.specs.Fill.{Filled, fillOf}
-use Rattle.parts.specs.Writer.{Wrote, wrote, count}
+use Rattle.parts.specs.Writer.{PartWrote, wrote, count}
 
 -- what follows F2 for a mark
 abbrev pub codeBy : Kind → ℕ
@@ -22,16 +22,16 @@ codeBy Escape = escapeCode
 codeBy Plain = escapeCode
 
 -- in the payload, with nothing pending
-abbrev pub body : ℕ → ℕ → ℕ → ℕ → Progress
+abbrev pub body : ℕ → ℕ → ℕ → ℕ → PartProgress
 body sequence total taken sum = record { sequence = sequence; total = total; taken = taken; sum = sum; stage = stage.Payload; pending = Plain }
 
 -- what a call leaves that has taken and written some, and then fills the rest
-abbrev pub resumed : List ℕ → ℕ → ℕ → Filled → Wrote
+abbrev pub resumed : List ℕ → ℕ → ℕ → Filled → PartWrote
 resumed out taken at f =
     wrote (given (count (taken + f .taken) (at + length (f .bytes)) (ended (f .next)))) (f .next) (sets out at (f .bytes))
 
 -- writing bytes i to j at once loses nothing: what is left to be filled gives what was left before
-pub record Onward (payload : List ℕ) (s : Progress) (out : List ℕ) (taken i : ℕ) (s′ : Progress) (out′ : List ℕ) (taken′ j : ℕ) : Type 0 where
+pub record PartOnward (payload : List ℕ) (s : PartProgress) (out : List ℕ) (taken i : ℕ) (s′ : PartProgress) (out′ : List ℕ) (taken′ j : ℕ) : Type 0 where
   pub from : i ≤ j
   pub within : j ≤ length out
   pub offered : taken′ ≤ length payload

@@ -8,11 +8,11 @@ use Rattle.framing.specs.declared.mark.Kind.the-variants.{Plain}
 use Rattle.framing.specs.Mark.{isMark, isMarkKind}
 use Rattle.parts.specs.declared.state.Stage.{Stage}
 use Rattle.parts.specs.declared.state.Stage.the-variants as stage
-use Rattle.parts.specs.declared.state.Progress.{Progress}
+use Rattle.parts.specs.declared.state.PartProgress.{PartProgress}
 use Rattle.parts.specs.declared.state.PartWriter.{PartWriter}
 
 -- before the first byte of a frame: nothing is taken, and the checksum of nothing is 2
-abbrev pub startOf : ℕ → ℕ → Progress
+abbrev pub startOf : ℕ → ℕ → PartProgress
 startOf sequence total = record { sequence = sequence; total = total; taken = 0; sum = 2; stage = stage.Start; pending = Plain }
 
 -- .. for a link with a limit
@@ -24,11 +24,11 @@ abbrev pub badStart : ℕ → ℕ → ℕ → Bool
 badStart limit sequence total = isMark sequence || ltb limit total
 
 -- a lawful state has neither, a limit in its range, and no more taken than told
-unfoldable pub lawful : ℕ → Progress → Bool
+unfoldable pub lawful : ℕ → PartProgress → Bool
 lawful limit s = limitFits limit && (not (badStart limit (s .sequence) (s .total)) && leb (s .taken) (s .total))
 
 -- the payload bytes still missing
-abbrev pub missing : Progress → ℕ
+abbrev pub missing : PartProgress → ℕ
 missing s = s .total - s .taken
 
 abbrev pub isPayload : Stage → Bool
@@ -52,9 +52,9 @@ isDone stage.End = false
 isDone stage.Done = true
 
 -- the next byte is the payload's, or the first of the checksum
-abbrev pub inPayload : Progress → Bool
+abbrev pub inPayload : PartProgress → Bool
 inPayload s = isPayload (s .stage) && not (isMarkKind (s .pending))
 
 -- all of the frame is written
-abbrev pub ended : Progress → Bool
+abbrev pub ended : PartProgress → Bool
 ended s = isDone (s .stage) && not (isMarkKind (s .pending))

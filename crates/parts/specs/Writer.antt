@@ -7,7 +7,7 @@ use lib.Dec.{eqb, ltb}
 use lib.Seq.{sets}
 use Rattle.wire.specs.Told.{Told, given, refused, line, table}
 use Rattle.wire.specs.Limit.{limitFits}
-use Rattle.parts.specs.declared.state.Progress.{Progress}
+use Rattle.parts.specs.declared.state.PartProgress.{PartProgress}
 use Rattle.parts.specs.declared.state.PartWriter.{PartWriter}
 use Rattle.parts.specs.declared.writer.Refusal.{Refusal}
 use Rattle.parts.specs.declared.writer.Refusal.the-variants.{Unlawful, TooMuch, NoRoom}
@@ -17,24 +17,24 @@ use Rattle.parts.specs.State.{beginning, badStart, lawful, missing, ende
 use Rattle.parts.specs.Fill.{Filled, fillOf}
 
 -- payload bytes taken, output bytes written, and whether the frame has ended
-pub record Count : Type 0 where
+pub record PartCount : Type 0 where
   pub taken : ℕ
   pub written : ℕ
   pub ended : Bool
 
-abbrev pub count : ℕ → ℕ → Bool → Count
+abbrev pub count : ℕ → ℕ → Bool → PartCount
 count taken written over = record { taken = taken; written = written; ended = over }
 
 -- what a call leaves: what it tells, the next state and the lent output
-pub record Wrote : Type 0 where
-  pub told : Told Count
-  pub next : Progress
+pub record PartWrote : Type 0 where
+  pub told : Told PartCount
+  pub next : PartProgress
   pub out : List ℕ
 
-abbrev pub wrote : Told Count → Progress → List ℕ → Wrote
+abbrev pub wrote : Told PartCount → PartProgress → List ℕ → PartWrote
 wrote t s out = record { told = t; next = s; out = out }
 
-abbrev pub filled : List ℕ → Filled → Wrote
+abbrev pub filled : List ℕ → Filled → PartWrote
 filled out f = wrote (given (count (f .taken) (length (f .bytes)) (ended (f .next)))) (f .next) (sets out 0 (f .bytes))
 
 -- the start
@@ -47,7 +47,7 @@ beginOf limit sequence total =
     refused (given (beginning limit sequence total))
 
 -- each later call
-abbrev pub partOf : ℕ → Progress → List ℕ → List ℕ → Wrote
+abbrev pub partOf : ℕ → PartProgress → List ℕ → List ℕ → PartWrote
 partOf limit s offered out =
     table
     (line 1 (not (lawful limit s))
@@ -75,6 +75,6 @@ begunNumber (Begun.Ready s) = 0
 begunNumber Begun.BadLimit = 17
 begunNumber Begun.BadArgument = 15
 
-abbrev pub told : PartOutcome → Told Count
+abbrev pub told : PartOutcome → Told PartCount
 told (PartOutcome.Wrote taken written over) = given (count taken written over)
 told (PartOutcome.Refused r) = refused (numberOf r)

@@ -1,5 +1,5 @@
 // One output byte: a pure decision by the state and the payload bytes that are offered.
-use crate::state::Progress;
+use crate::state::PartProgress;
 use crate::state::Stage;
 use framing::checksum::add_byte;
 use framing::header::ERROR_ID;
@@ -21,7 +21,7 @@ pub enum Emitted {
     Nothing,
     Byte {
         value: u8,
-        next: Progress,
+        next: PartProgress,
         taken: usize,
     },
 }
@@ -38,14 +38,14 @@ fn first(b: u8) -> u8
     }
 }
 
-impl Progress {
+impl PartProgress {
     // A mark, a header byte or a code, and the stage after it.
     fn own(self, value: u8, stage: Stage) -> Emitted
         ensures { λ r. ⌜ toldByte r ≡ own self value stage ⌝ }
     {
         Emitted::Byte {
             value,
-            next: Progress {
+            next: PartProgress {
                 sequence: self.sequence,
                 total: self.total,
                 taken: self.taken,
@@ -63,7 +63,7 @@ impl Progress {
     {
         Emitted::Byte {
             value: first(b),
-            next: Progress {
+            next: PartProgress {
                 sequence: self.sequence,
                 total: self.total,
                 taken: self.taken,
@@ -81,7 +81,7 @@ impl Progress {
         ensures { λ r. ⌜ r ≡ took self b ⌝ }
     {
         let stage = self.stage;
-        Progress {
+        PartProgress {
             sequence: self.sequence,
             total: self.total,
             taken: self.taken + 1,

@@ -1,5 +1,5 @@
 // The fast path over a payload: what writes bytes at once promises only that nothing is lost by it.
-use crate::state::Progress;
+use crate::state::PartProgress;
 use crate::state::Stage;
 use framing::checksum::add_all;
 use framing::checksum::add_byte;
@@ -20,11 +20,11 @@ ghost use Prim.Native.Nat.{_+_, _≤_, _<_};
 ghost use lib.ListN.{length};
 ghost use Rattle.framing.specs.Mark.{kindOf};
 ghost use Rattle.parts.specs.State.{missing, inPayload};
-ghost use Rattle.parts.specs.FastPath.{codeBy, body, Onward};
+ghost use Rattle.parts.specs.FastPath.{codeBy, body, PartOnward};
 
 // The state, the payload bytes taken and the bytes written so far.
-pub struct Passed {
-    pub next: Progress,
+pub struct PartPassed {
+    pub next: PartProgress,
     pub taken: usize,
     pub at: usize,
 }
@@ -41,13 +41,13 @@ fn code(b: u8) -> u8
     }
 }
 
-impl Progress {
+impl PartProgress {
     // The state in the payload with n more bytes taken.
     fn advanced(self, n: usize, sum: u16) -> Self
         requires { ⌜ n ≤ missing self ⌝ }
         ensures { λ r. ⌜ (r ≡ body (self .sequence) (self .total) (self .taken + n) sum) × (self .sum < 65536) ⌝ }
     {
-        Progress {
+        PartProgress {
             sequence: self.sequence,
             total: self.total,
             taken: self.taken + n,
@@ -65,11 +65,11 @@ impl Progress {
     }
 
     // Writes the plain payload bytes from a place on, as far as there is room for them.
-    fn take_plain(self, payload: &[u8], taken: usize, out: &mut [u8], at: usize) -> Passed
+    fn take_plain(self, payload: &[u8], taken: usize, out: &mut [u8], at: usize) -> PartPassed
         requires { ⌜ taken ≤ length (now payload) ⌝ }
         requires { ⌜ at ≤ length (now out) ⌝ }
         requires { ⌜ inPayload self ≡ true ⌝ }
-        ensures { λ r. ⌜ (Onward (now (payload .entry)) self (now (out .entry)) taken at (r .next) (now (out .exit))
+        ensures { λ r. ⌜ (PartOnward (now (payload .entry)) self (now (out .entry)) taken at (r .next) (now (out .exit))
             (r .taken) (r .at))
             × (inPayload (r .next) ≡ true) ⌝ }
     {
@@ -78,7 +78,7 @@ impl Progress {
         let after = taken + n;
         let sum = add_all(self.sum, &payload[taken..after]);
         let next = self.advanced(n, sum);
-        Passed {
+        PartPassed {
             next,
             taken: after,
             at: at + n,
@@ -86,16 +86,16 @@ impl Progress {
     }
 
     // The same, where the next payload byte is no mark.
-    fn take_run(self, payload: &[u8], taken: usize, out: &mut [u8], at: usize) -> Passed
+    fn take_run(self, payload: &[u8], taken: usize, out: &mut [u8], at: usize) -> PartPassed
         requires { ⌜ taken ≤ length (now payload) ⌝ }
         requires { ⌜ at ≤ length (now out) ⌝ }
         requires { ⌜ inPayload self ≡ true ⌝ }
-        ensures { λ r. ⌜ (Onward (now (payload .entry)) self (now (out .entry)) taken at (r .next) (now (out .exit))
+        ensures { λ r. ⌜ (PartOnward (now (payload .entry)) self (now (out .entry)) taken at (r .next) (now (out .exit))
             (r .taken) (r .at))
             × (inPayload (r .next) ≡ true) ⌝ }
     {
         if is_mark(byte_at(payload, taken)) {
-            return Passed {
+            return PartPassed {
                 next: self,
                 taken,
                 at,
@@ -105,11 +105,11 @@ impl Progress {
     }
 
     // Writes F2 and the code of a mark at a place of the payload, where there is room for both.
-    fn take_pair(self, payload: &[u8], taken: usize, out: &mut [u8], at: usize) -> Passed
+    fn take_pair(self, payload: &[u8], taken: usize, out: &mut [u8], at: usize) -> PartPassed
         requires { ⌜ taken ≤ length (now payload) ⌝ }
         requires { ⌜ at ≤ length (now out) ⌝ }
         requires { ⌜ inPayload self ≡ true ⌝ }
-        ensures { λ r. ⌜ (Onward (now (payload .entry)) self (now (out .entry)) taken at (r .next) (now (out .exit))
+        ensures { λ r. ⌜ (PartOnward (now (payload .entry)) self (now (out .entry)) taken at (r .next) (now (out .exit))
             (r .taken) (r .at))
             × (inPayload (r .next) ≡ true) ⌝ }
     {
@@ -119,13 +119,13 @@ impl Progress {
             out[at] = Mark::ESCAPE;
             out[at + 1] = code(b);
             let sum = add_byte(self.sum, b);
-            Passed {
+            PartPassed {
                 next: self.advanced(1, sum),
                 taken: taken + 1,
                 at: at + 2,
             }
         } else {
-            Passed {
+            PartPassed {
                 next: self,
                 taken,
                 at,
@@ -134,11 +134,11 @@ impl Progress {
     }
 
     // Writes payload bytes, plain and escaped ones, up to what wants a decision of its own.
-    fn take_body(self, payload: &[u8], taken: usize, out: &mut [u8], at: usize) -> Passed
+    fn take_body(self, payload: &[u8], taken: usize, out: &mut [u8], at: usize) -> PartPassed
         requires { ⌜ taken ≤ length (now payload) ⌝ }
         requires { ⌜ at ≤ length (now out) ⌝ }
         requires { ⌜ inPayload self ≡ true ⌝ }
-        ensures { λ r. ⌜ Onward (now (payload .entry)) self (now (out .entry)) taken at (r .next) (now (out .exit))
+        ensures { λ r. ⌜ PartOnward (now (payload .entry)) self (now (out .entry)) taken at (r .next) (now (out .exit))
             (r .taken) (r .at) ⌝ }
     {
         let mut here = self;
@@ -153,7 +153,7 @@ impl Progress {
             got = pair.taken;
             place = pair.at;
             if place == end {
-                return Passed {
+                return PartPassed {
                     next: here,
                     taken: got,
                     at: place,
@@ -163,16 +163,16 @@ impl Progress {
     }
 
     // Writes bytes that need no decision of their own.
-    pub fn pass(self, payload: &[u8], taken: usize, out: &mut [u8], at: usize) -> Passed
+    pub fn pass(self, payload: &[u8], taken: usize, out: &mut [u8], at: usize) -> PartPassed
         requires { ⌜ taken ≤ length (now payload) ⌝ }
         requires { ⌜ at ≤ length (now out) ⌝ }
-        ensures { λ r. ⌜ Onward (now (payload .entry)) self (now (out .entry)) taken at (r .next) (now (out .exit))
+        ensures { λ r. ⌜ PartOnward (now (payload .entry)) self (now (out .entry)) taken at (r .next) (now (out .exit))
             (r .taken) (r .at) ⌝ }
     {
         if self.is_in_payload() {
             self.take_body(payload, taken, out, at)
         } else {
-            Passed {
+            PartPassed {
                 next: self,
                 taken,
                 at,

@@ -23,7 +23,7 @@ pub enum Stage {
 
 // The frame's sequence, its payload's length, the payload bytes taken and their checksum, the stage, and the mark of which
 // only F2 is written (plain: none): its code comes before the stage's byte.
-pub struct Progress {
+pub struct PartProgress {
     pub sequence: u8,
     pub total: usize,
     pub taken: usize,
@@ -34,7 +34,7 @@ pub struct Progress {
 
 pub struct PartWriter {
     pub limit: usize,
-    pub progress: Progress,
+    pub progress: PartProgress,
 }
 
 pub fn bad_start(limit: usize, sequence: u8, total: usize) -> bool
@@ -84,12 +84,12 @@ fn is_pending(kind: Kind) -> bool
     }
 }
 
-impl Progress {
+impl PartProgress {
     // Before the first byte of a frame.
     pub fn start(sequence: u8, total: usize) -> Self
         ensures { λ r. ⌜ r ≡ startOf sequence total ⌝ }
     {
-        Progress {
+        PartProgress {
             sequence,
             total,
             taken: 0,

@@ -1,7 +1,7 @@
 // The calls: a frame begun, and each part of it.
 use crate::byte::Emitted;
+use crate::state::PartProgress;
 use crate::state::PartWriter;
-use crate::state::Progress;
 use crate::state::bad_start;
 use wire::limit::limit_fits;
 ghost use mathlib.Core.Path.{_≡_};
@@ -54,9 +54,9 @@ pub struct PartWritten {
 }
 
 // The same of the progress alone.
-struct Advanced {
+struct PartAdvanced {
     outcome: PartOutcome,
-    next: Progress,
+    next: PartProgress,
 }
 
 impl Refusal {
@@ -72,20 +72,20 @@ impl Refusal {
 }
 
 // What a call answers that is refused.
-fn refuse(why: Refusal, next: Progress) -> Advanced
+fn refuse(why: Refusal, next: PartProgress) -> PartAdvanced
     ensures { λ r. ⌜ r ≡ record { outcome = PartOutcome.Refused why; next = next } ⌝ }
 {
-    Advanced {
+    PartAdvanced {
         outcome: PartOutcome::Refused(why),
         next,
     }
 }
 
 // What a call answers that stops in a state.
-fn stop(next: Progress, taken: usize, written: usize) -> Advanced
+fn stop(next: PartProgress, taken: usize, written: usize) -> PartAdvanced
     ensures { λ r. ⌜ r ≡ record { outcome = PartOutcome.Wrote taken written (ended next); next = next } ⌝ }
 {
-    Advanced {
+    PartAdvanced {
         outcome: PartOutcome::Wrote {
             taken,
             written,
@@ -95,9 +95,9 @@ fn stop(next: Progress, taken: usize, written: usize) -> Advanced
     }
 }
 
-impl Progress {
+impl PartProgress {
     // Fills an output as far as the frame and the payload offered go.
-    fn fill(self, payload: &[u8], out: &mut [u8]) -> Advanced
+    fn fill(self, payload: &[u8], out: &mut [u8]) -> PartAdvanced
         ensures { λ r. ⌜ wrote (told (r .outcome)) (r .next) (now (out .exit))
             ≡ filled (now (out .entry)) (fillOf (length (now (out .entry))) self (now (payload .entry))) ⌝ }
     {
@@ -131,7 +131,7 @@ impl Progress {
     }
 
     // Takes payload and writes the frame on, for any limit and any progress.
-    fn take_part(self, limit: usize, payload: &[u8], out: &mut [u8]) -> Advanced
+    fn take_part(self, limit: usize, payload: &[u8], out: &mut [u8]) -> PartAdvanced
         ensures { λ r. ⌜ wrote (told (r .outcome)) (r .next) (now (out .exit))
             ≡ partOf limit self (now (payload .entry)) (now (out .entry)) ⌝ }
     {
@@ -159,7 +159,7 @@ impl PartWriter {
         if bad_start(limit, sequence, total) {
             return Begun::BadArgument;
         }
-        let progress = Progress::start(sequence, total);
+        let progress = PartProgress::start(sequence, total);
         Begun::Ready(PartWriter { limit, progress })
     }
 

@@ -13,32 +13,32 @@ use Rattle.wire.specs.Told.{given, refused}
 use Rattle.wire.specs.Limit.{limitFits}
 use Rattle.wire.proofs.Stores.{first-bytes}
 use Rattle.framing.specs.Mark.{isMark}
-use Rattle.parts.specs.declared.state.Progress.{Progress}
+use Rattle.parts.specs.declared.state.PartProgress.{PartProgress}
 use Rattle.parts.specs.State.{lawful, missing}
 use Rattle.parts.specs.Byte.{Byte}
 use Rattle.parts.specs.Fill.{Filled, andOn, fillOf}
-use Rattle.parts.specs.Writer.{Wrote, wrote, filled, partOf}
-use Rattle.parts_claims.specs.Run.{Call, part, beyond, offeredBy, lentBy, takenBy, writtenBy}
-use Rattle.parts_claims.proofs.Left.{leftOf, firstsIn, Fits, Same, Emits, ends, starves, own, takes, view}
+use Rattle.parts.specs.Writer.{PartWrote, wrote, filled, partOf}
+use Rattle.parts_claims.specs.Run.{PartCall, part, beyond, offeredBy, lentBy, takenBy, writtenBy}
+use Rattle.parts_claims.proofs.Left.{leftOf, firstsIn, PartFits, SameFrame, Emits, ends, starves, own, takes, view}
 
 -- what was written and what is left afterwards is what was left before, and so are the first output bytes of the payload
-pub record Goes (s : Progress) (p bytes : List ℕ) (taken : ℕ) (next : Progress) : Type 0 where
+pub record Goes (s : PartProgress) (p bytes : List ℕ) (taken : ℕ) (next : PartProgress) : Type 0 where
   pub joins : leftOf s p ≡ bytes ++ leftOf next (drop taken p)
-  pub fits : Fits next (drop taken p)
-  pub same : Same next s
+  pub fits : PartFits next (drop taken p)
+  pub same : SameFrame next s
   pub firsts : (m : ℕ) → firstsIn (length bytes + m) s p ≡ taken + firstsIn m next (drop taken p)
 
-stays : (s : Progress) (p : List ℕ) → Fits s p → Goes s p [] 0 s
+stays : (s : PartProgress) (p : List ℕ) → PartFits s p → Goes s p [] 0 s
 stays s p f = record { joins = refl; fits = f; same = (refl, refl); firsts = λ m. rw (zero-add, zero-add) }
 
 -- ---- an output filled
 
 abbrev Fills : ℕ → Type 0
 Fills room =
-    (n : ℕ) (s : Progress) (p : List ℕ) → Fits s p
+    (n : ℕ) (s : PartProgress) (p : List ℕ) → PartFits s p
     → (let f = fillOf room s (take n p) in Goes s p (f .bytes) (f .taken) (f .next) × (length (f .bytes) ≤ room))
 
-turn : (room : ℕ) → Fills room → (n : ℕ) (s : Progress) (p : List ℕ) {x : Byte} → Fits s p → Emits s p n x
+turn : (room : ℕ) → Fills room → (n : ℕ) (s : PartProgress) (p : List ℕ) {x : Byte} → PartFits s p → Emits s p n x
     → (let f = andOn s x (λ next k. fillOf room next (drop k (take n p))) in Goes s p (f .bytes) (f .taken) (f .next) × (length (f .bytes) ≤ suc room))
 turn room later n s p f (ends e) = (stays s [] f, zero-le)
 turn room later n s p f (starves {x} {xs}) = (stays s (x ∷ xs) f, zero-le)
@@ -72,10 +72,10 @@ fills (suc room) n s p f = turn room (fills room) n s p f (view s p n f)
 
 -- ---- a call
 
-abbrev Left : Progress → List ℕ → Wrote → Type 0
+abbrev Left : PartProgress → List ℕ → PartWrote → Type 0
 Left s p w = Goes s p (writtenBy (w .told) (w .out)) (takenBy (w .told)) (w .next)
 
-part-goes : (limit : ℕ) (s : Progress) (p : List ℕ) (n : ℕ) (out : List ℕ) → Fits s p → Left s p (partOf limit s (take n p) out)
+part-goes : (limit : ℕ) (s : PartProgress) (p : List ℕ) (n : ℕ) (out : List ℕ) → PartFits s p → Left s p (partOf limit s (take n p) out)
 part-goes limit s p n out f = go (not (lawful limit s)) (ltb (missing s) (length (take n p))) (eqb (length out) 0)
   where
     go : (a b c : Bool)
@@ -88,7 +88,7 @@ part-goes limit s p n out f = go (not (lawful limit s)) (ltb (missing s) (length
         rw (first-bytes out (fillOf (length out) s (take n p) .bytes) (r .1)) (r .0)
 
 -- more than is missing is refused
-beyond-goes : (limit : ℕ) (s : Progress) (p more : List ℕ) (b : ℕ) (out : List ℕ) → Fits s p → Left s p (partOf limit s (p ++ (b ∷ more)) out)
+beyond-goes : (limit : ℕ) (s : PartProgress) (p more : List ℕ) (b : ℕ) (out : List ℕ) → PartFits s p → Left s p (partOf limit s (p ++ (b ∷ more)) out)
 beyond-goes limit s p more b out f =
     rw (lt-ltb (missing s) (length (p ++ (b ∷ more))) (rw length-append (omega (arith, f .told)))) (go (not (lawful limit s)))
   where
@@ -96,13 +96,13 @@ beyond-goes limit s p more b out f =
     go true = stays s p f
     go false = stays s p f
 
-pub call-goes : (limit : ℕ) (s : Progress) (p : List ℕ) (c : Call) → Fits s p → Left s p (partOf limit s (offeredBy c p) (lentBy c))
+pub call-goes : (limit : ℕ) (s : PartProgress) (p : List ℕ) (c : PartCall) → PartFits s p → Left s p (partOf limit s (offeredBy c p) (lentBy c))
 call-goes limit s p (part n out) f = part-goes limit s p n out f
 call-goes limit s p (beyond b bs out) f = beyond-goes limit s p bs b out f
 
 -- ---- a call that is not refused
 
-pub call-filled : (limit : ℕ) (s : Progress) (offered out : List ℕ)
+pub call-filled : (limit : ℕ) (s : PartProgress) (offered out : List ℕ)
     → limitFits limit ≡ true → isMark (s .sequence) ≡ false → s .total ≤ limit → s .taken + length offered ≤ s .total → 1 ≤ length out
     → partOf limit s offered out ≡ filled out (fillOf (length out) s offered)
 unfolding lawful

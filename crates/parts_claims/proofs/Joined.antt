@@ -17,24 +17,24 @@ use Rattle.framing.specs.Mark.{isMark}
 use Rattle.framing.specs.Frame.{frameOf}
 use Rattle.frame_writer.specs.Sending.{FrameToSend, Sendable}
 use Rattle.frame_writer.proofs.Sending.{sent-frame}
-use Rattle.parts.specs.declared.state.Progress.{Progress}
+use Rattle.parts.specs.declared.state.PartProgress.{PartProgress}
 use Rattle.parts.specs.State.{startOf, ended}
 use Rattle.parts.specs.Byte.{Byte}
 use Rattle.parts.specs.Fill.{andOn, fillOf}
 use Rattle.parts.specs.Writer.{partOf}
-use Rattle.parts_claims.specs.Run.{Call, part, beyond, offeredBy, lentBy, takenBy, writtenBy, Run, runOf, isFruitful, fruitful}
+use Rattle.parts_claims.specs.Run.{PartCall, part, beyond, offeredBy, lentBy, takenBy, writtenBy, PartRun, runOf, isFruitful, fruitful}
 use Rattle.parts_claims.specs.Joined.{Joins, PartsJoin}
-use Rattle.parts_claims.proofs.Left.{leftOf, firstsIn, firsts-none, Fits, Emits, ends, starves, own, takes, view, start-left, start-fits, start-firsts, left-ended, ended-left}
+use Rattle.parts_claims.proofs.Left.{leftOf, firstsIn, firsts-none, PartFits, Emits, ends, starves, own, takes, view, start-left, start-fits, start-firsts, left-ended, ended-left}
 use Rattle.parts_claims.proofs.Filled.{fills, call-goes, call-filled}
 
 -- ---- calls one after another
 
-pub record Went (s : Progress) (p : List ℕ) (run : Run) : Type 0 where
+pub record Went (s : PartProgress) (p : List ℕ) (run : PartRun) : Type 0 where
   pub left : List ℕ
   pub joins : leftOf s p ≡ run .bytes ++ leftOf (run .next) left
   pub firsts : (m : ℕ) → firstsIn (length (run .bytes) + m) s p ≡ run .taken + firstsIn m (run .next) left
 
-run-went : (limit : ℕ) (cs : List Call) (s : Progress) (p : List ℕ) → Fits s p → Went s p (runOf limit cs s p)
+run-went : (limit : ℕ) (cs : List PartCall) (s : PartProgress) (p : List ℕ) → PartFits s p → Went s p (runOf limit cs s p)
 unfolding runOf
 run-went limit [] s p f = record { left = p; joins = refl; firsts = λ m. rw (zero-add, zero-add) }
 run-went limit (c ∷ cs) s p f =
@@ -54,23 +54,23 @@ run-went limit (c ∷ cs) s p f =
 
 -- ---- fruitful calls come to the end
 
-turn-nearer : (room n : ℕ) (s : Progress) (p : List ℕ) {x : Byte} → 1 ≤ n → Emits s p n x
+turn-nearer : (room n : ℕ) (s : PartProgress) (p : List ℕ) {x : Byte} → 1 ≤ n → Emits s p n x
     → (let f = andOn s x (λ next k. fillOf room next (drop k (take n p))) in 1 ≤ length (f .bytes) + (1 - length (leftOf s p)))
 turn-nearer room n s p h (ends e) = rw e (omega arith)
 turn-nearer room n s p h (starves) = absurd (omega arith)
 turn-nearer room n s p h (own b q next e fits same count) = omega arith
 turn-nearer room (suc n) s p h (takes b x xs next e fits same count) = omega arith
 
-fill-nearer : (room n : ℕ) (s : Progress) (p : List ℕ) → Fits s p → 1 ≤ room → 1 ≤ n → 1 ≤ length (fillOf room s (take n p) .bytes) + (1 - length (leftOf s p))
+fill-nearer : (room n : ℕ) (s : PartProgress) (p : List ℕ) → PartFits s p → 1 ≤ room → 1 ≤ n → 1 ≤ length (fillOf room s (take n p) .bytes) + (1 - length (leftOf s p))
 unfolding fillOf
 fill-nearer zero n s p f r h = absurd (omega arith)
 fill-nearer (suc room) n s p f r h = turn-nearer room n s p h (view s p n f)
 
 -- what a call writes at least, unless nothing is left
-abbrev least : Call → ℕ
+abbrev least : PartCall → ℕ
 least c = cond (isFruitful c) 1 0
 
-call-nearer : (limit : ℕ) (s : Progress) (p : List ℕ) (c : Call) → Fits s p → limitFits limit ≡ true → isMark (s .sequence) ≡ false → s .total ≤ limit
+call-nearer : (limit : ℕ) (s : PartProgress) (p : List ℕ) (c : PartCall) → PartFits s p → limitFits limit ≡ true → isMark (s .sequence) ≡ false → s .total ≤ limit
     → (let w = partOf limit s (offeredBy c p) (lentBy c) in least c ≤ length (writtenBy (w .told) (w .out)) + (1 - length (leftOf s p)))
 call-nearer limit s p (beyond b bs out) f range m t = omega arith
 call-nearer limit s p (part n out) f range m t = go (leb 1 n && leb 1 (length out)) refl
@@ -85,7 +85,7 @@ call-nearer limit s p (part n out) f range m t = go (leb 1 n && leb 1 (length ou
         rw (call-filled limit s (take n p) out range m t most lends, first-bytes out (fillOf (length out) s (take n p) .bytes) (fills (length out) n s p f .1))
         (fill-nearer (length out) n s p f lends offers)
 
-ends-in : (limit : ℕ) → limitFits limit ≡ true → (cs : List Call) (s : Progress) (p : List ℕ) → Fits s p → isMark (s .sequence) ≡ false → s .total ≤ limit
+ends-in : (limit : ℕ) → limitFits limit ≡ true → (cs : List PartCall) (s : PartProgress) (p : List ℕ) → PartFits s p → isMark (s .sequence) ≡ false → s .total ≤ limit
     → length (leftOf s p) ≤ fruitful cs → ended (runOf limit cs s p .next) ≡ true
 unfolding runOf fruitful
 ends-in limit range [] s p f m t h = left-ended s p (omega arith)
@@ -100,7 +100,7 @@ ends-in limit range (c ∷ cs) s p f m t h =
 
 -- ---- the claim
 
-joins-frame : (limit : ℕ) (m : FrameToSend) (calls : List Call) → Sendable limit m
+joins-frame : (limit : ℕ) (m : FrameToSend) (calls : List PartCall) → Sendable limit m
     → Joins (frameOf (m .sequence) (m .payload)) m calls (runOf limit calls (startOf (m .sequence) (length (m .payload))) (m .payload))
 joins-frame limit m calls k =
     let p = m .payload in

@@ -16,7 +16,7 @@ use Rattle.framing.specs.Frame.{packetId, errorId, startCode, endCode, escapeCo
 use Rattle.frame_writer.proofs.Escaping.{frame-parts}
 use Rattle.parts.specs.declared.state.Stage.{Stage}
 use Rattle.parts.specs.declared.state.Stage.the-variants as stage
-use Rattle.parts.specs.declared.state.Progress.{Progress}
+use Rattle.parts.specs.declared.state.PartProgress.{PartProgress}
 use Rattle.parts.specs.State.{startOf, isDone, ended}
 use Rattle.parts.specs.Byte.{firstBy, took, Byte, nothing, byte, payloadByte, bodyByte, closing, stageByte, pendingByte, byteOf}
 use Rattle.parts_claims.specs.Joined.{firstsAmong, begunIn}
@@ -58,7 +58,7 @@ stageOf stage.Low sequence sum p = lowOf sum
 stageOf stage.End sequence sum p = endMark ∷ []
 stageOf stage.Done sequence sum p = []
 
-unfoldable pub leftOf : Progress → List ℕ → List ℕ
+unfoldable pub leftOf : PartProgress → List ℕ → List ℕ
 leftOf s p = codes (s .pending) ++ stageOf (s .stage) (s .sequence) (s .sum) p
 
 -- ---- the first output bytes of the payload left
@@ -75,7 +75,7 @@ lead stage.End = 0
 lead stage.Done = 0
 
 -- how many of them are among the next n
-unfoldable pub firstsIn : ℕ → Progress → List ℕ → ℕ
+unfoldable pub firstsIn : ℕ → PartProgress → List ℕ → ℕ
 firstsIn n s p = firstsAmong n (length (codes (s .pending)) + lead (s .stage)) p
 
 ltb-suc : (m n : ℕ) → ltb (suc m) (suc n) ≡ ltb m n
@@ -105,7 +105,7 @@ among-taken m x xs =
     let up : 1 + firstsAmong m (n + 0) xs ≡ suc (firstsAmong m (n + 0) xs) = omega arith in
     rw (lt-ltb 0 (suc m) (omega arith), size, among-shift m (n + 0) xs) up
 
-pub firsts-none : (s : Progress) (p : List ℕ) → firstsIn 0 s p ≡ 0
+pub firsts-none : (s : PartProgress) (p : List ℕ) → firstsIn 0 s p ≡ 0
 unfolding firstsIn
 firsts-none s p = among-none (length (codes (s .pending)) + lead (s .stage)) p
 
@@ -123,32 +123,32 @@ Closed stage.End p = p ≡ []
 Closed stage.Done p = p ≡ []
 
 -- a state and the payload that is left
-pub record Fits (s : Progress) (p : List ℕ) : Type 0 where
+pub record PartFits (s : PartProgress) (p : List ℕ) : Type 0 where
   pub told : s .taken + length p ≡ s .total
   pub small : s .sum < 65536
   pub closed : Closed (s .stage) p
 
 -- sequence and total stay
-abbrev pub Same : Progress → Progress → Type 0
-Same next s = (next .sequence ≡ s .sequence) × (next .total ≡ s .total)
+abbrev pub SameFrame : PartProgress → PartProgress → Type 0
+SameFrame next s = (next .sequence ≡ s .sequence) × (next .total ≡ s .total)
 
 -- one output byte where n of the bytes left are offered: none, one that needs no payload, or the first of a payload byte
-pub data Emits (s : Progress) : List ℕ → ℕ → Byte → Type 0 where
+pub data Emits (s : PartProgress) : List ℕ → ℕ → Byte → Type 0 where
   ends : {n : ℕ} → leftOf s [] ≡ [] → Emits s [] n nothing
   starves : {x : ℕ} {xs : List ℕ} → Emits s (x ∷ xs) 0 nothing
-  own : {n : ℕ} (b : ℕ) (p : List ℕ) (next : Progress) → leftOf s p ≡ b ∷ leftOf next p → Fits next p → Same next s
+  own : {n : ℕ} (b : ℕ) (p : List ℕ) (next : PartProgress) → leftOf s p ≡ b ∷ leftOf next p → PartFits next p → SameFrame next s
       → ((m : ℕ) → firstsIn (suc m) s p ≡ firstsIn m next p) → Emits s p n (byte b next 0)
-  takes : {n : ℕ} (b x : ℕ) (xs : List ℕ) (next : Progress) → leftOf s (x ∷ xs) ≡ b ∷ leftOf next xs → Fits next xs → Same next s
+  takes : {n : ℕ} (b x : ℕ) (xs : List ℕ) (next : PartProgress) → leftOf s (x ∷ xs) ≡ b ∷ leftOf next xs → PartFits next xs → SameFrame next s
       → ((m : ℕ) → firstsIn (suc m) s (x ∷ xs) ≡ suc (firstsIn m next xs)) → Emits s (x ∷ xs) (suc n) (byte b next 1)
 
-abbrev state : Stage → Kind → ℕ → ℕ → ℕ → ℕ → Progress
+abbrev state : Stage → Kind → ℕ → ℕ → ℕ → ℕ → PartProgress
 state at k sequence total taken sum = record { sequence = sequence; total = total; taken = taken; sum = sum; stage = at; pending = k }
 
 sum-step : (c x rest : ℕ) → (c + (x + rest)) % 65536 ≡ ((c + x) % 65536 + rest) % 65536
 sum-step c x rest = sym (mod-add-mod (c + x) 65536 rest ∙ ap (λ (n : ℕ). n % 65536) (add-assoc c x rest))
 
 module _ (q t h c : ℕ) where
-  code-view : (to : Stage) (k : Kind) (p : List ℕ) (n b : ℕ) → codes k ≡ b ∷ [] → Fits (state to k q t h c) p
+  code-view : (to : Stage) (k : Kind) (p : List ℕ) (n b : ℕ) → codes k ≡ b ∷ [] → PartFits (state to k q t h c) p
       → Emits (state to k q t h c) p n (byte b (state to Plain q t h c) 0)
   unfolding leftOf firstsIn
   code-view to k p n b e f =
@@ -156,7 +156,7 @@ module _ (q t h c : ℕ) where
       (λ m. rw (e, one-add, zero-add) (among-shift m (lead to) p))
 
   -- a payload byte is taken
-  takes-view : (x : ℕ) (xs : List ℕ) (n : ℕ) → Fits (state stage.Payload Plain q t h c) (x ∷ xs)
+  takes-view : (x : ℕ) (xs : List ℕ) (n : ℕ) → PartFits (state stage.Payload Plain q t h c) (x ∷ xs)
       → Emits (state stage.Payload Plain q t h c) (x ∷ xs) (suc n) (byte (firstBy (kindOf x) x) (took (state stage.Payload Plain q t h c) x) 1)
   unfolding leftOf escapedOf sumOf firstsIn
   takes-view x xs n f =
@@ -167,7 +167,7 @@ module _ (q t h c : ℕ) where
       (λ m. among-taken m x xs)
 
   -- the high byte of the checksum
-  high-view : (n : ℕ) → Fits (state stage.Payload Plain q t h c) []
+  high-view : (n : ℕ) → PartFits (state stage.Payload Plain q t h c) []
       → Emits (state stage.Payload Plain q t h c) [] n (closing (state stage.Payload Plain q t h c) (c / 256) stage.Low)
   unfolding leftOf escapedOf sumOf highOf firstsIn firstsAmong
   high-view n f =
@@ -175,7 +175,7 @@ module _ (q t h c : ℕ) where
       (rw (add-zero, mod-eq-of-lt (f .small), split-unit (kindOf (c / 256)) (c / 256)))
       (record { told = f .told; small = f .small; closed = refl }) (refl, refl) (λ m. refl)
 
-  body-view : (p : List ℕ) (n : ℕ) (b : Bool) → ltb h t ≡ b → Fits (state stage.Payload Plain q t h c) p
+  body-view : (p : List ℕ) (n : ℕ) (b : Bool) → ltb h t ≡ b → PartFits (state stage.Payload Plain q t h c) p
       → (let s = state stage.Payload Plain q t h c in Emits s p n (cond b (payloadByte s (take n p)) (closing s (c / 256) stage.Low)))
   body-view [] n true e f = absurd (omega (arith, f .told, ltb-true h t e))
   body-view (x ∷ xs) zero true e f = starves
@@ -188,7 +188,7 @@ module _ (q t h c : ℕ) where
   unfolding firstsAmong
   none-left m a b p e = rw e
 
-  stage-view : (at : Stage) (p : List ℕ) (n : ℕ) → Fits (state at Plain q t h c) p
+  stage-view : (at : Stage) (p : List ℕ) (n : ℕ) → PartFits (state at Plain q t h c) p
       → (let s = state at Plain q t h c in Emits s p n (stageByte at s (take n p)))
   unfolding leftOf bodyByte lowOf firstsIn
   stage-view stage.Start p n f = own _ p _ refl (record { told = f .told; small = f .small; closed = tt }) (refl, refl) (λ m. among-shift m 3 p)
@@ -203,14 +203,14 @@ module _ (q t h c : ℕ) where
       own endMark p (state stage.Done Plain q t h c) refl (record { told = f .told; small = f .small; closed = f .closed }) (refl, refl) (λ m. none-left m _ _ p (f .closed))
   stage-view stage.Done p n f = rw (f .closed) (ends refl)
 
-  kind-view : (at : Stage) (k : Kind) (p : List ℕ) (n : ℕ) → Fits (state at k q t h c) p
+  kind-view : (at : Stage) (k : Kind) (p : List ℕ) (n : ℕ) → PartFits (state at k q t h c) p
       → (let s = state at k q t h c in Emits s p n (pendingByte k s (take n p)))
   kind-view at Start p n f = code-view at Start p n startCode refl f
   kind-view at End p n f = code-view at End p n endCode refl f
   kind-view at Escape p n f = code-view at Escape p n escapeCode refl f
   kind-view at Plain p n f = stage-view at p n f
 
-pub view : (s : Progress) (p : List ℕ) (n : ℕ) → Fits s p → Emits s p n (byteOf s (take n p))
+pub view : (s : PartProgress) (p : List ℕ) (n : ℕ) → PartFits s p → Emits s p n (byteOf s (take n p))
 unfolding byteOf
 view s p n f = kind-view (s .sequence) (s .total) (s .taken) (s .sum) (s .stage) (s .pending) p n f
 
@@ -220,7 +220,7 @@ pub start-left : (sequence n : ℕ) (p : List ℕ) → leftOf (startOf sequence 
 unfolding leftOf highOf lowOf
 start-left sequence n p = sym (frame-parts sequence p (checksumOf p / 256) (checksumOf p % 256))
 
-pub start-fits : (sequence : ℕ) (p : List ℕ) → Fits (startOf sequence (length p)) p
+pub start-fits : (sequence : ℕ) (p : List ℕ) → PartFits (startOf sequence (length p)) p
 start-fits sequence p = record { told = zero-add (length p); small = omega arith; closed = tt }
 
 pub start-firsts : (m sequence n : ℕ) (p : List ℕ) → firstsIn m (startOf sequence n) p ≡ begunIn m sequence p
@@ -246,7 +246,7 @@ kind-done End e = absurd (omega (arith, e))
 kind-done Escape e = absurd (omega (arith, e))
 kind-done Plain e = refl
 
-pub left-ended : (s : Progress) (p : List ℕ) → length (leftOf s p) ≡ 0 → ended s ≡ true
+pub left-ended : (s : PartProgress) (p : List ℕ) → length (leftOf s p) ≡ 0 → ended s ≡ true
 unfolding leftOf
 left-ended s p e =
     let rest = stageOf (s .stage) (s .sequence) (s .sum) p in
@@ -267,6 +267,6 @@ ended-state stage.Done End q c p e = absurd (false≢true e)
 ended-state stage.Done Escape q c p e = absurd (false≢true e)
 ended-state stage.Done Plain q c p e = refl
 
-pub ended-left : (s : Progress) (p : List ℕ) → ended s ≡ true → leftOf s p ≡ []
+pub ended-left : (s : PartProgress) (p : List ℕ) → ended s ≡ true → leftOf s p ≡ []
 unfolding leftOf
 ended-left s p e = ended-state (s .stage) (s .pending) (s .sequence) (s .sum) p e

@@ -8,8 +8,8 @@ use lib.ListN.{length}
 use borrow.Author.Tests.{le-leb}
 use Rattle.wire.proofs.Limits.{range-limit}
 use Rattle.frame_writer.proofs.Sending.{no-mark, sendable-when}
-use Rattle.parts_claims.specs.Run.{Call, part, beyond, fruitful}
-use Rattle.parts_claims.specs.Premises.{OfferingWhen, AllSome, FruitfulWhen, FactsSuffice}
+use Rattle.parts_claims.specs.Run.{PartCall, part, beyond, fruitful}
+use Rattle.parts_claims.specs.Premises.{OfferingWhen, AllSome, FruitfulWhen, PartFactsSuffice}
 
 offering-when : OfferingWhen
 offering-when limit s offered out some most byte plain fits missing lends =
@@ -21,5 +21,5 @@ fruitful-when [] h = refl
 fruitful-when (part n out ∷ cs) h = rw (le-leb 1 n (h .0), le-leb 1 (length out) (h .1), one-add, fruitful-when cs (h .2))
 fruitful-when (beyond b bs out ∷ cs) h = absurd h
 
-pub facts-suffice : FactsSuffice
+pub facts-suffice : PartFactsSuffice
 facts-suffice = record { sendable = sendable-when; offering = offering-when; fruitful = fruitful-when }

@@ -12,11 +12,11 @@ use Rattle.framing.specs.declared.mark.Kind.the-variants.{Start, End, Escape, P
 use Rattle.framing.specs.Mark.{isMarkKind}
 use Rattle.parts.specs.declared.state.Stage.{Stage}
 use Rattle.parts.specs.declared.state.Stage.the-variants as stage
-use Rattle.parts.specs.declared.state.Progress.{Progress}
+use Rattle.parts.specs.declared.state.PartProgress.{PartProgress}
 use Rattle.parts.specs.State.{isPayload, isDone, inPayload, ended}
 use Rattle.parts.specs.Byte.{Byte, nothing, byte, payloadByte, bodyByte, closing, stageByte, pendingByte, byteOf}
 use Rattle.parts.specs.Fill.{Filled, stopped, andOn, fillOf}
-use Rattle.parts.specs.Writer.{Count, count, filled}
+use Rattle.parts.specs.Writer.{PartCount, count, filled}
 use Rattle.parts.proofs.Filling.{byte-takes}
 use Rattle.parts_claims.specs.Stopping.{Offering, Stops, full, over, wants, Stopped, PartsStop}
 use Rattle.parts_claims.proofs.Filled.{call-filled}
@@ -27,11 +27,11 @@ abbrev isNothing : Byte → Bool
 isNothing nothing = true
 isNothing (byte b next k) = false
 
-data Why (s : Progress) (l : List ℕ) : Type 0 where
+data Why (s : PartProgress) (l : List ℕ) : Type 0 where
   done : ended s ≡ true → Why s l
   starved : l ≡ [] → inPayload s ≡ true → s .taken < s .total → Why s l
 
-module _ (s : Progress) where
+module _ (s : PartProgress) where
   body-why : (l : List ℕ) (b : Bool) → ltb (s .taken) (s .total) ≡ b → inPayload s ≡ true
       → isNothing (cond b (payloadByte s l) (closing s (s .sum / 256) stage.Low)) ≡ true → Why s l
   body-why [] true t i e = starved refl i (ltb-true (s .taken) (s .total) t)
@@ -61,7 +61,7 @@ module _ (s : Progress) where
 
 -- ---- why an output is not filled further
 
-abbrev counted : Filled → Count
+abbrev counted : Filled → PartCount
 counted f = count (f .taken) (length (f .bytes)) (ended (f .next))
 
 later-stops : {out l : List ℕ} (f : Filled) (v k : ℕ) → k ≤ length l → Stops (drop k l) out (counted f) (f .next)
@@ -70,7 +70,7 @@ later-stops f v k h (full e) = full (ap suc e)
 later-stops f v k h (over e) = over e
 later-stops {out} {l} f v k h (wants e i q) = wants (omega (arith, e, length-drop k l)) i q
 
-stops : (out : List ℕ) (s : Progress) (l : List ℕ) → (let f = fillOf (length out) s l in Stops l out (counted f) (f .next))
+stops : (out : List ℕ) (s : PartProgress) (l : List ℕ) → (let f = fillOf (length out) s l in Stops l out (counted f) (f .next))
 unfolding fillOf
 stops [] s l = full refl
 stops (v ∷ out) s l = go (byteOf s l) refl (λ next k. stops out next (drop k l))
@@ -80,7 +80,7 @@ stops (v ∷ out) s l = go (byteOf s l) refl (λ next k. stops out next (drop k 
     stop (starved e i q) = wants (rw e) i q
 
     go : (x : Byte) → x ≡ byteOf s l
-        → ((next : Progress) (k : ℕ) → (let f = fillOf (length out) next (drop k l) in Stops (drop k l) out (counted f) (f .next)))
+        → ((next : PartProgress) (k : ℕ) → (let f = fillOf (length out) next (drop k l) in Stops (drop k l) out (counted f) (f .next)))
         → (let f = andOn s x (λ next k. fillOf (length out) next (drop k l)) in Stops l (v ∷ out) (counted f) (f .next))
     go nothing e later = stop (why s l e)
     go (byte b next k) e later = later-stops (fillOf (length out) next (drop k l)) v k (byte-takes s l e) (later next k)

@@ -10,15 +10,15 @@ use Rattle.framing.specs.declared.mark.Kind.the-variants.{Start, Escape, Plain}
 use Rattle.frame_writer.specs.Sending.{FrameToSend, Sendable, sent}
 use Rattle.parts.specs.declared.state.Stage.{Stage}
 use Rattle.parts.specs.declared.state.Stage.the-variants as stage
-use Rattle.parts.specs.declared.state.Progress.{Progress}
+use Rattle.parts.specs.declared.state.PartProgress.{PartProgress}
 use Rattle.parts.specs.State.{ended}
-use Rattle.parts.specs.Writer.{Count, count, wrote, beginOf, partOf}
-use Rattle.parts_claims.specs.Run.{Call, part, beyond, Run, runOf}
+use Rattle.parts.specs.Writer.{PartCount, count, wrote, beginOf, partOf}
+use Rattle.parts_claims.specs.Run.{PartCall, part, beyond, PartRun, runOf}
 
 abbrev limit : ℕ
 limit = 8
 
-abbrev state : ℕ → ℕ → ℕ → ℕ → Stage → Kind → Progress
+abbrev state : ℕ → ℕ → ℕ → ℕ → Stage → Kind → PartProgress
 state sequence total taken sum at k = record { sequence = sequence; total = total; taken = taken; sum = sum; stage = at; pending = k }
 
 -- an output before a call
@@ -26,43 +26,43 @@ abbrev lent : ℕ → List ℕ
 lent n = replicate n 0xEE
 
 -- a call: its state, what is offered and lent; what it tells, the state afterwards and the output
-pub record Row : Type 0 where
-  pub before : Progress
+pub record PartRow : Type 0 where
+  pub before : PartProgress
   pub offered : List ℕ
   pub out : ℕ
-  pub told : Told Count
-  pub next : Progress
+  pub told : Told PartCount
+  pub next : PartProgress
   pub after : List ℕ
 
-abbrev row : Progress → List ℕ → ℕ → Told Count → Progress → List ℕ → Row
+abbrev row : PartProgress → List ℕ → ℕ → Told PartCount → PartProgress → List ℕ → PartRow
 row before offered out told next after = record { before = before; offered = offered; out = out; told = told; next = next; after = after }
 
-abbrev pub Holds : List Row → Type 0
+abbrev pub Holds : List PartRow → Type 0
 Holds [] = Unit {0}
 Holds (r ∷ rs) = (partOf limit (r .before) (r .offered) (lent (r .out)) ≡ wrote (r .told) (r .next) (r .after)) × Holds rs
 
 -- ---- a frame of one byte F0 with sequence 5, begun, then written by eight calls
 
 -- at its start; after three bytes; before the payload byte; F2 of it is out; its code is out; the end
-abbrev s₀ : Progress
+abbrev s₀ : PartProgress
 s₀ = state 5 1 0 2 stage.Start Plain
 
-abbrev s₁ : Progress
+abbrev s₁ : PartProgress
 s₁ = state 5 1 0 2 stage.Sequence Plain
 
-abbrev s₂ : Progress
+abbrev s₂ : PartProgress
 s₂ = state 5 1 0 2 stage.Payload Plain
 
-abbrev s₃ : Progress
+abbrev s₃ : PartProgress
 s₃ = state 5 1 1 0xF2 stage.Payload Start
 
-abbrev s₄ : Progress
+abbrev s₄ : PartProgress
 s₄ = state 5 1 1 0xF2 stage.Payload Plain
 
-abbrev s₅ : Progress
+abbrev s₅ : PartProgress
 s₅ = state 5 1 1 0xF2 stage.Done Plain
 
-abbrev pub frame : List Row
+abbrev pub frame : List PartRow
 frame =
     row s₀ [] 3 (given (count 0 3 false)) s₁ (0xF0 ∷ 0x02 ∷ 0x00 ∷ [])
     -- the sequence byte, and then a byte is needed
@@ -82,7 +82,7 @@ frame =
 
 -- ---- refusal 1, and states that no frame comes to but that are lawful
 
-abbrev pub states : List Row
+abbrev pub states : List PartRow
 states =
     -- each of the three facts, before 26 and 14
     row (state 0xF1 1 0 2 stage.Start Plain) (0 ∷ 0 ∷ []) 0 (refused 1) (state 0xF1 1 0 2 stage.Start Plain) []
@@ -103,14 +103,14 @@ abbrev sending : FrameToSend
 sending = record { sequence = 5; payload = 0xF0 ∷ []; out = lent 10 }
 
 -- the calls of the table, with one byte offered at the most and a byte beyond the payload where 26 is due
-abbrev calls : List Call
+abbrev calls : List PartCall
 calls = part 0 (lent 3) ∷ part 0 (lent 4) ∷ part 1 (lent 1) ∷ part 0 (lent 1) ∷ beyond 0 [] (lent 1) ∷ part 0 [] ∷ part 0 (lent 5) ∷ part 0 (lent 2) ∷ []
 
 -- one byte at a time
-abbrev ones : List Call
+abbrev ones : List PartCall
 ones = replicate 10 (part 1 (lent 1))
 
-abbrev run : List Call → Run
+abbrev run : List PartCall → PartRun
 run cs = runOf limit cs s₀ (0xF0 ∷ [])
 
 abbrev bytes : List ℕ

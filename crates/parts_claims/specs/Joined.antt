@@ -11,7 +11,7 @@ use Rattle.framing.specs.Frame.{escapedBy, headerOf, frameOf}
 use Rattle.frame_writer.specs.Sending.{FrameToSend, Sendable, sent}
 use Rattle.parts.specs.State.{beginning, ended}
 use Rattle.parts.specs.Writer.{beginOf}
-use Rattle.parts_claims.specs.Run.{Call, Run, runOf, fruitful}
+use Rattle.parts_claims.specs.Run.{PartCall, PartRun, runOf, fruitful}
 
 -- of payload bytes whose first one's output begins at a place: how many have their first output byte among the first n
 unfoldable pub firstsAmong : ℕ → ℕ → List ℕ → ℕ
@@ -25,7 +25,7 @@ begunIn n sequence payload = firstsAmong n (length (headerOf sequence)) payload
 -- ---- the claim
 
 -- a frame, the calls that write it and what they wrote
-pub record Joins (frame : List ℕ) (m : FrameToSend) (calls : List Call) (run : Run) : Type 0 where
+pub record Joins (frame : List ℕ) (m : FrameToSend) (calls : List PartCall) (run : PartRun) : Type 0 where
   -- a beginning of the frame, and all of it exactly when it has ended
   pub begins : run .bytes ≡ take (length (run .bytes)) frame
   pub whole : ended (run .next) ≡ true → run .bytes ≡ frame
@@ -39,7 +39,7 @@ pub record Joins (frame : List ℕ) (m : FrameToSend) (calls : List Call) (run :
 -- frame that the whole writer writes
 abbrev pub PartsJoin : Type 0
 PartsJoin =
-    (limit : ℕ) (m : FrameToSend) (calls : List Call)
+    (limit : ℕ) (m : FrameToSend) (calls : List PartCall)
     → Sendable limit m
     → (let s = beginning limit (m .sequence) (length (m .payload)) in
     (beginOf limit (m .sequence) (length (m .payload)) ≡ given s)

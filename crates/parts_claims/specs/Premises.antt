@@ -4,14 +4,14 @@ use mathlib.Core.Path.{_≡_}
 use mathlib.Core.List.{List, [], _∷_}
 use lib.ListN.{length}
 use Rattle.frame_writer.specs.Sending.{NoMark, SendableWhen}
-use Rattle.parts.specs.declared.state.Progress.{Progress}
-use Rattle.parts_claims.specs.Run.{Call, part, beyond, fruitful}
+use Rattle.parts.specs.declared.state.PartProgress.{PartProgress}
+use Rattle.parts_claims.specs.Run.{PartCall, part, beyond, fruitful}
 use Rattle.parts_claims.specs.Stopping.{Offering}
 
 -- a lawful state, at most as many bytes as are missing, an output of one byte or more
 abbrev pub OfferingWhen : Type 0
 OfferingWhen =
-    (limit : ℕ) (s : Progress) (offered out : List ℕ)
+    (limit : ℕ) (s : PartProgress) (offered out : List ℕ)
     → 1 ≤ limit
     → limit ≤ 65535
     → s .sequence < 256
@@ -22,18 +22,18 @@ OfferingWhen =
     → Offering limit s offered out
 
 -- calls that each offer and lend a byte
-abbrev pub AllSome : List Call → Type 0
+abbrev pub AllSome : List PartCall → Type 0
 AllSome [] = Unit {0}
 AllSome (part n out ∷ cs) = (1 ≤ n) × (1 ≤ length out) × AllSome cs
 AllSome (beyond b bs out ∷ cs) = ⊥
 
 -- .. are fruitful, all of them
 abbrev pub FruitfulWhen : Type 0
-FruitfulWhen = (calls : List Call) → AllSome calls → fruitful calls ≡ length calls
+FruitfulWhen = (calls : List PartCall) → AllSome calls → fruitful calls ≡ length calls
 
 -- ---- the claim
 
-pub record FactsSuffice : Type 0 where
+pub record PartFactsSuffice : Type 0 where
   pub sendable : SendableWhen
   pub offering : OfferingWhen
   pub fruitful : FruitfulWhen

@@ -1,7 +1,7 @@
 // The claims for frames that are written by parts, as contracts of functions that do nothing.
 ghost use Rattle.parts_claims.specs.Joined.{PartsJoin};
 ghost use Rattle.parts_claims.specs.Stopping.{PartsStop};
-ghost use Rattle.parts_claims.specs.Premises.{FactsSuffice};
+ghost use Rattle.parts_claims.specs.Premises.{PartFactsSuffice};
 ghost use Rattle.parts_claims.specs.Example.{PartsExample};
 
 // However calls cut payload and output, what they write, joined, is the whole writer's frame.
@@ -16,7 +16,7 @@ pub fn parts_stop()
 
 // The facts of docs/FORMATS.md are all that the two claims ask for.
 pub fn facts_suffice()
-    ensures { λ _. ⌜ FactsSuffice ⌝ }
+    ensures { λ _. ⌜ PartFactsSuffice ⌝ }
 {}
 
 // Calls with every byte and state written out, and the first claim on them.

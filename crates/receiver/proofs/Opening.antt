@@ -5,7 +5,7 @@ use mathlib.Core.Bool.{Bool, true, false, cond, not}
 use Rattle.wire.specs.Told.{Told, given, refused}
 use Rattle.wire.specs.Limit.{limitFits}
 use Rattle.receiver.specs.declared.Receiver.{Receiver}
-use Rattle.receiver.specs.declared.Opened.{Opened}
+use Rattle.receiver.specs.declared.OpenedReceiver.{OpenedReceiver}
 use Rattle.receiver.specs.Receiver.{empty, openOf, toldOpen}
 
 abbrev isRefused : Told Receiver → Bool
@@ -17,6 +17,6 @@ refused-by true s = refl
 refused-by false s = refl
 
 -- what is told says whether the limit is in its range
-pub opened-by : (limit : ℕ) (o : Opened) → toldOpen o ≡ openOf limit → o .refused ≡ not (limitFits limit)
+pub opened-by : (limit : ℕ) (o : OpenedReceiver) → toldOpen o ≡ openOf limit → o .refused ≡ not (limitFits limit)
 unfolding openOf
 opened-by limit o e = sym (refused-by (o .refused) (o .state)) ∙ ap isRefused e ∙ refused-by (not (limitFits limit)) (empty limit)

@@ -3,7 +3,7 @@ use Prim.Native.Nat.{ℕ, _+_, _*_}
 use mathlib.Core.List.{List}
 use lib.ListN.{take, drop}
 use lib.Seq.{sets}
-use Rattle.slot.specs.declared.step.Payload.{Payload}
+use Rattle.slot.specs.declared.step.PayloadPlace.{PayloadPlace}
 
 -- where the part of a slot begins
 abbrev pub partStart : ℕ → ℕ → ℕ
@@ -14,9 +14,9 @@ abbrev pub partOf : ℕ → ℕ → List ℕ → List ℕ
 partOf limit place bytes = take limit (drop (partStart limit place) bytes)
 
 -- the bytes of a payload in its packet
-abbrev pub payloadBytes : List ℕ → Payload → List ℕ
+abbrev pub payloadBytes : List ℕ → PayloadPlace → List ℕ
 payloadBytes packet payload = take (payload .len) (drop (payload .start) packet)
 
 -- the payload is written in the part of a slot, and no other byte changes
-abbrev pub stored : ℕ → ℕ → List ℕ → List ℕ → Payload → List ℕ
+abbrev pub stored : ℕ → ℕ → List ℕ → List ℕ → PayloadPlace → List ℕ
 stored limit place bytes packet payload = sets bytes (partStart limit place + payload .at) (payloadBytes packet payload)

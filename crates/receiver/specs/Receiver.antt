@@ -13,7 +13,7 @@ use Rattle.slot.specs.declared.answer.Accepted.{Accepted}
 use Rattle.slot.specs.Slot.{idles, slotCount, laneStart, laneOf, lawful}
 use Rattle.slot.specs.Step.{Step, Act, still, step, actOf}
 use Rattle.receiver.specs.declared.Receiver.{Receiver}
-use Rattle.receiver.specs.declared.Opened.{Opened}
+use Rattle.receiver.specs.declared.OpenedReceiver.{OpenedReceiver}
 use Rattle.receiver.specs.Buffer.{stored}
 
 -- the empty state of a link with a limit: all slots idle
@@ -25,7 +25,7 @@ unfoldable pub openOf : ℕ → Told Receiver
 openOf limit = table (line 17 (not (limitFits limit)) ∷ []) refused (given (empty limit))
 
 -- what an opening tells
-abbrev pub toldOpen : Opened → Told Receiver
+abbrev pub toldOpen : OpenedReceiver → Told Receiver
 toldOpen o = cond (o .refused) (refused 17) (given (o .state))
 
 -- the state that it hands back: a refused one's has limit 0

@@ -33,7 +33,7 @@ pub struct Receiver {
 }
 
 // Whether the limit was refused, by 17, and the state: the empty one, or one of limit 0, on which every call is refused by 1.
-pub struct Opened {
+pub struct OpenedReceiver {
     pub refused: bool,
     pub state: Receiver,
 }
@@ -59,16 +59,16 @@ impl Receiver {
     }
 
     // A receiver for a link with a limit, in its empty state.
-    pub fn open(limit: usize) -> Opened
+    pub fn open(limit: usize) -> OpenedReceiver
         ensures { λ r. ⌜ (toldOpen r ≡ openOf limit) × (r .state ≡ handed (openOf limit)) ⌝ }
     {
         if limit_fits(limit) {
-            Opened {
+            OpenedReceiver {
                 refused: false,
                 state: Receiver::idle(limit),
             }
         } else {
-            Opened {
+            OpenedReceiver {
                 refused: true,
                 state: Receiver::idle(0),
             }

@@ -20,7 +20,7 @@ use Rattle.extractor.specs.declared.action.Action.{Action}
 use Rattle.extractor.specs.declared.action.Action.the-variants.{Skip, Begin, Restart, Go, Number, Store, Finish, Refuse}
 use Rattle.extractor.specs.Action.{codeOf, actionBy, actionOf}
 use Rattle.extractor.specs.State.{sequenceRead, lawfulAfter, lawful, ready}
-use Rattle.extractor.specs.Step.{Step, storeOf, performOf, advanceOf, byteStepOf}
+use Rattle.extractor.specs.Step.{ByteStep, storeOf, performOf, advanceOf, byteStepOf}
 use Rattle.feed.specs.Feed.{Feed, decides, feedFrom, feedOf}
 
 -- ---- tests
@@ -74,7 +74,7 @@ apt-by b Escaped Plain e =
 
 module _ (limit : ℕ) where
   -- a step that leaves a lawful state and a buffer as long as it was
-  record Keeps (l : List ℕ) (r : Step) : Type 0 where
+  record Keeps (l : List ℕ) (r : ByteStep) : Type 0 where
     pub state : lawful limit (r .next) ≡ true
     pub size : length (r .buffer) ≡ length l
 

@@ -7,7 +7,7 @@ use Rattle.frame_writer.specs.Sending.{FrameToSend}
 use Rattle.extractor.specs.declared.state.Progress.{Progress}
 use Rattle.extractor.specs.declared.state.Phase.the-variants.{Escaped}
 use Rattle.recovery.specs.Run.{Call, one, many, Run, runOf, Given, handedOut}
-use Rattle.recovery.specs.Recovery.{ClosingFrame, whole, damaged, bytesOf, undamaged, Closing, Standing}
+use Rattle.recovery.specs.Recovery.{ClosingFrame, whole, damaged, bytesOf, undamaged, Closing, LawfulExtractor}
 
 abbrev limit : ℕ
 limit = 8
@@ -56,7 +56,7 @@ pub record Cut (calls : List Call) : Type 0 where
 -- ---- the claim
 
 pub record DamageExample : Type 0 where
-  pub standing : Standing limit state buffer
+  pub standing : LawfulExtractor limit state buffer
   pub premises : Closing limit closing
   pub written : bytesOf limit closing ≡ bytes
   pub undamaged : undamaged closing ≡ frames

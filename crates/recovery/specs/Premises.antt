@@ -10,7 +10,7 @@ use Rattle.extractor.specs.declared.state.Progress.{Progress}
 use Rattle.extractor.specs.declared.state.Phase.{Phase}
 use Rattle.extractor.specs.declared.state.Phase.the-variants.{Outside, PacketId, ErrorId, Sequence, Body, Escaped}
 use Rattle.recovery.specs.Run.{Call, one, many, runOf}
-use Rattle.recovery.specs.Recovery.{Turned, ClosingFrame, whole, damaged, Closing, Standing}
+use Rattle.recovery.specs.Recovery.{Turned, ClosingFrame, whole, damaged, Closing, LawfulExtractor}
 
 -- a byte that is no mark, and another one that is none
 abbrev pub TurnedWhen : Type 0
@@ -53,7 +53,7 @@ StandingWhen =
     → s .sequence < 256
     → LawfulIn (s .phase) limit (s .sequence) (s .held)
     → length buffer ≡ limit + 2
-    → Standing limit s buffer
+    → LawfulExtractor limit s buffer
 
 -- a call that asks for a byte: a step for 0, and a call for n bytes for any other n
 abbrev pub asking : ℕ → Call
@@ -64,7 +64,7 @@ asking (suc n) = many (suc n)
 abbrev pub AllUsedWhen : Type 0
 AllUsedWhen =
     (limit : ℕ) (s : Progress) (buffer bytes sizes : List ℕ)
-    → Standing limit s buffer
+    → LawfulExtractor limit s buffer
     → length bytes ≤ length sizes
     → runOf limit (map asking sizes) 0 s buffer bytes .unused ≡ []
 

@@ -57,7 +57,7 @@ Closing limit (damaged m place new ∷ is) =
     Sendable limit m × AllBytes (m .payload) × (place ≢ sequencePlace) × Turned (sent limit m) place new × Closing limit is
 
 -- what an extractor and its buffer have to be: of a limit in its range, lawful, and of the size that goes with it
-pub record Standing (limit : ℕ) (s : Progress) (buffer : List ℕ) : Type 0 where
+pub record LawfulExtractor (limit : ℕ) (s : Progress) (buffer : List ℕ) : Type 0 where
   pub range : limitFits limit ≡ true
   pub state : lawful limit s ≡ true
   pub size : length buffer ≡ limit + 2
@@ -69,7 +69,7 @@ pub record Standing (limit : ℕ) (s : Progress) (buffer : List ℕ) : Type 0 wh
 abbrev pub DamageEnds : Type 0
 DamageEnds =
     (limit : ℕ) (s : Progress) (buffer before : List ℕ) (closing : List ClosingFrame) (calls : List Call)
-    → Standing limit s buffer
+    → LawfulExtractor limit s buffer
     → Closing limit closing
     → (let run = runOf limit calls 0 s buffer (before ++ bytesOf limit closing) in
     run .unused ≡ [] → handedOut (length before) (run .events) ≡ undamaged closing)

@@ -66,7 +66,7 @@ body-within v k m body none =
 
 -- ---- the reply, counted
 
-pub record Counted (v : ℕ) (k : Kind) (m : Members) (body : List ℕ) (limit left : ℕ) (f : Front) : Type 0 where
+pub record CountedReply (v : ℕ) (k : Kind) (m : Members) (body : List ℕ) (limit left : ℕ) (f : Front) : Type 0 where
   pub under : left ≤ limit
   pub long : f .body ≡ length body
   pub low : f .body ≤ limit
@@ -74,7 +74,7 @@ pub record Counted (v : ℕ) (k : Kind) (m : Members) (body : List ℕ) (limit l
   pub total : length (replyBy v k m body) ≡ length (frontBytes f) + (limit - left)
 
 pub counted : (v : ℕ) (k : Kind) (m : Members) (body : List ℕ) (limit left : ℕ) (f : Front) → Whole (memberOf m k) body
-    → lessRoom (length body) (Left limit) ≡ Left left → FrontFor v k m (limit - left) f → Counted v k m body limit left f
+    → lessRoom (length body) (Left limit) ≡ Left left → FrontFor v k m (limit - left) f → CountedReply v k m body limit left f
 counted v k m body limit left f none er h =
     let q = left-is limit (length body) left er in
     let n : f .body ≡ length body = omega (arith, q .0, q .1, h .body) in

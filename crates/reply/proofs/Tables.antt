@@ -6,7 +6,7 @@ use mathlib.Core.List.{List, [], _∷_}
 use lib.ListN.{length}
 use borrow.Author.Tests.{lt-ltb, le-ltb}
 use Rattle.wire.specs.Told.{ToldMore, given, refused, Line, table, WrittenOf, written}
-use Rattle.text_writer.specs.declared.Fault.the-variants.{None, At}
+use Rattle.text_writer.specs.declared.TextFault.the-variants.{None, At}
 use Rattle.text_writer.specs.Texts.{firstFault}
 use Rattle.reply.specs.declared.body.Kind.{Kind}
 use Rattle.reply.specs.declared.Link.{Link}

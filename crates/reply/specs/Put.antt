@@ -74,7 +74,7 @@ pub record FrontFor (v : ℕ) (kind : Kind) (m : Members) (n : ℕ) (f : Front) 
   pub body : f .body ≡ n
 
 -- it and the member's bytes are the reply, which is within the limit
-pub record Within (f : Front) (body reply : List ℕ) (limit : ℕ) : Type 0 where
+pub record ReplyWithin (f : Front) (body reply : List ℕ) (limit : ℕ) : Type 0 where
   pub fits : FrontFits f
   pub long : f .body ≡ length body
   pub whole : frontBytes f ++ body ≡ reply
@@ -83,7 +83,7 @@ pub record Within (f : Front) (body reply : List ℕ) (limit : ℕ) : Type 0 whe
 -- a reply whose member has these bytes is above the limit, or has this front
 abbrev pub MeasuredAs : ℕ → Kind → Members → List ℕ → ℕ → Measured → Type 0
 MeasuredAs v kind m body limit TooLong = limit < length (replyBy v kind m body)
-MeasuredAs v kind m body limit (Fits f) = Within f body (replyBy v kind m body) limit
+MeasuredAs v kind m body limit (Fits f) = ReplyWithin f body (replyBy v kind m body) limit
 
 -- ---- the reply, written
 

@@ -15,8 +15,8 @@ use Rattle.joining.specs.Joined.{joinedOf}
 use Rattle.field.specs.Signed.{extended}
 use Rattle.field_writer.specs.Writer.{messageBytes}
 use Rattle.field_writer.specs.Message.{badMember}
-use Rattle.text_writer.specs.declared.Fault.{Fault}
-use Rattle.text_writer.specs.declared.Fault.the-variants.{None, At}
+use Rattle.text_writer.specs.declared.TextFault.{TextFault}
+use Rattle.text_writer.specs.declared.TextFault.the-variants.{None, At}
 use Rattle.text_writer.specs.Texts.{firstFault}
 use Rattle.walk.specs.Gathered.{mostTransports}
 use Rattle.control.specs.declared.response.ResponsePayload.{ResponsePayload}
@@ -134,7 +134,7 @@ abbrev pub refusing : List ℕ → ℕ → WrittenOf (ℕ × List ℕ) Replied
 refusing out n = written (refused (n, [])) out
 
 -- 36 with the field and the place, or what is left to judge
-abbrev pub faulted : Fault → List ℕ → WrittenOf (ℕ × List ℕ) Replied → WrittenOf (ℕ × List ℕ) Replied
+abbrev pub faulted : TextFault → List ℕ → WrittenOf (ℕ × List ℕ) Replied → WrittenOf (ℕ × List ℕ) Replied
 faulted None out rest = rest
 faulted (At field place) out rest = written (refused (36, field ∷ place ∷ [])) out
 

@@ -6,7 +6,7 @@ use device::information::put_information;
 use field_writer::fields::put_scalar;
 use field_writer::fields::scalar_len;
 use field_writer::message::Room;
-use text_writer::Fault;
+use text_writer::TextFault;
 use walk::schema::DEVICE_ATTRIBUTES;
 use walk::schema::FEATURES;
 ghost use mathlib.Core.Path.{_≡_};
@@ -65,15 +65,20 @@ pub(crate) fn code_of(kind: Kind) -> u64
 }
 
 // The first string that is carried and not well formed.
-pub(crate) fn fault_of(kind: Kind, serial_number: &[u8], name: &[u8], device_type: &[u8]) -> Fault
+pub(crate) fn fault_of(
+    kind: Kind,
+    serial_number: &[u8],
+    name: &[u8],
+    device_type: &[u8],
+) -> TextFault
     ensures { λ r. ⌜ r
         ≡ firstFault (stringsBy (now («serial_number» .entry)) (now (name .entry)) (now («device_type» .entry)) kind) ⌝ }
 {
     match kind {
         Kind::Information => information_fault(serial_number, name, device_type),
-        Kind::Features => Fault::None,
-        Kind::Bare => Fault::None,
-        Kind::Other => Fault::None,
+        Kind::Features => TextFault::None,
+        Kind::Bare => TextFault::None,
+        Kind::Other => TextFault::None,
     }
 }
 

@@ -25,7 +25,7 @@ use joining::joined_len;
 use packet::header;
 use sender::writer::Sending;
 use sender::writer::room_fits;
-use text_writer::Fault;
+use text_writer::TextFault;
 use walk::gathered::MOST_TRANSPORTS;
 use walk::refusal::MessageRefusal;
 use wire::limit::limit_fits;
@@ -295,8 +295,8 @@ fn carry(
     ) {
         Measured::TooLong => Reply::Refused(Refusal::Argument),
         Measured::Fits(front) => match fault_of(kind, serial_number, name, device_type) {
-            Fault::At { field, place } => Reply::Refused(Refusal::BadText { field, place }),
-            Fault::None => fill(
+            TextFault::At { field, place } => Reply::Refused(Refusal::BadText { field, place }),
+            TextFault::None => fill(
                 out,
                 front,
                 link,

@@ -33,7 +33,7 @@ use Rattle.delivery.specs.Delivery.{runOf, those, ours, givenTo, repliesTo}
 use Rattle.reply.specs.Reply.{sendingOf, kindOf, replyBy, joinedIn, carriedOf, sentOf, repliedOf}
 use Rattle.reply_claims.specs.Cut.{saidLength, cutApart}
 use Rattle.reply_claims.specs.Answers.{Answers, packetsIn}
-use Rattle.reply_claims.specs.Instance.{asked, answered, ByHand, box, link, information, first, reply, slots, buffer, output, before, later, after, Arrives}
+use Rattle.reply_claims.specs.Instance.{asked, answered, ByHand, box, link, information, first, reply, slots, buffer, output, before, later, after, OneReplyArrives}
 
 pub by-hand : ByHand
 unfolding asked answered repliedOf sentOf carriedOf joinedIn replyBy kindOf limitFits isStream inRange sizeFor headerBytes packetOf roomFits varintAt varintBytes badTag tagAt valueAt tagBytes headBytes partBytes fieldBytes roleOf judged addedAt readAt fieldAt fieldsFrom responseFrom payloadOf envelopeOf badPlace sequenceAt rowOf rows within
@@ -75,7 +75,7 @@ arrived : givenTo 40 (sendingOf (link 20 40)) (repliesTo 40 slots buffer before 
 unfolding limitFits isStream streamOf fieldsOf contentOf lines readOf lawfulSlot lawful finish hold dropBy firstStep nextStep ready acceptOf runOf
 arrived = refl
 
-pub arrives : Arrives
+pub arrives : OneReplyArrives
 arrives =
     record {
       law = law;

@@ -17,7 +17,7 @@ use Rattle.packet.specs.Header.{inRange}
 use Rattle.sender.specs.Writer.{roomFits}
 use Rattle.reply.specs.declared.Link.{Link}
 use Rattle.reply.specs.Reply.{Box, kindOf, badCarried, stringsOf}
-use Rattle.reply_claims.specs.Answers.{Answers, Asked, AnswersAll}
+use Rattle.reply_claims.specs.Answers.{Answers, AskedInRange, AnswersAll}
 
 room-fits : (room : ℕ) → 20 ≤ room → room ≤ 512 → roomFits room ≡ true
 unfolding roomFits
@@ -27,7 +27,7 @@ in-range : (id sequence : ℕ) → id ≤ 15 → sequence ≤ 15 → inRange 0 i
 unfolding inRange isStream
 in-range id sequence i s = rw (lt-ltb id 16 (omega arith), lt-ltb sequence 16 (omega arith))
 
-answers-by : (b : Box) (l : Link) (message : List ℕ) (c : ℤ) (out : List ℕ) → Asked b l message c out
+answers-by : (b : Box) (l : Link) (message : List ℕ) (c : ℤ) (out : List ℕ) → AskedInRange b l message c out
     → badCarried (b .members) (length (b .transports)) (kindOf (extended c)) ≡ false
     → AllWellFormed (stringsOf b (kindOf (extended c)))
     → Answers b l message c out

@@ -42,7 +42,7 @@ pub record Answers (b : Box) (l : Link) (message : List ℕ) (c : ℤ) (out : Li
   pub space : length (joinedOf (sendingOf l) (replyOf b (extended c))) ≤ length out
 
 -- the facts of docs/FORMATS.md that hold for each command
-pub record Asked (b : Box) (l : Link) (message : List ℕ) (c : ℤ) (out : List ℕ) : Type 0 where
+pub record AskedInRange (b : Box) (l : Link) (message : List ℕ) (c : ℤ) (out : List ℕ) : Type 0 where
   pub payload : Payload
   pub reads : envelopeOf message ≡ given (record { command = c; payload = payload })
   pub question : isResponse payload ≡ false
@@ -57,16 +57,16 @@ pub record Asked (b : Box) (l : Link) (message : List ℕ) (c : ℤ) (out : List
 
 -- Those, and of what the reply carries its own ranges, and nothing else: no premise asks for more.
 pub record AnswersAll : Type 0 where
-  pub information : (b : Box) (l : Link) (message out : List ℕ) → Asked b l message (pos 20) out
+  pub information : (b : Box) (l : Link) (message out : List ℕ) → AskedInRange b l message (pos 20) out
       → 2 ≤ b .members .information → b .members .information ≤ 536870911 → length (b .transports) ≤ 8
       → WellFormed (b .serialNumber) → WellFormed (b .name) → WellFormed (b .deviceType)
       → Answers b l message (pos 20) out
-  pub features : (b : Box) (l : Link) (message out : List ℕ) → Asked b l message (pos 28) out
+  pub features : (b : Box) (l : Link) (message out : List ℕ) → AskedInRange b l message (pos 28) out
       → 2 ≤ b .members .features → b .members .features ≤ 536870911
       → Answers b l message (pos 28) out
-  pub segment : (b : Box) (l : Link) (message out : List ℕ) → Asked b l message (pos 94) out → Answers b l message (pos 94) out
-  pub apply : (b : Box) (l : Link) (message out : List ℕ) → Asked b l message (pos 95) out → Answers b l message (pos 95) out
-  pub other : (b : Box) (l : Link) (message : List ℕ) (c : ℤ) (out : List ℕ) → Asked b l message c out
+  pub segment : (b : Box) (l : Link) (message out : List ℕ) → AskedInRange b l message (pos 94) out → Answers b l message (pos 94) out
+  pub apply : (b : Box) (l : Link) (message out : List ℕ) → AskedInRange b l message (pos 95) out → Answers b l message (pos 95) out
+  pub other : (b : Box) (l : Link) (message : List ℕ) (c : ℤ) (out : List ℕ) → AskedInRange b l message c out
       → (extended c ≡ 20 → ⊥) → (extended c ≡ 28 → ⊥) → (extended c ≡ 94 → ⊥) → (extended c ≡ 95 → ⊥)
       → Answers b l message c out
 

@@ -161,7 +161,7 @@ abbrev pub after : List (List ℕ)
 after = second ∷ []
 
 -- All that the claim asks for is there, the reply is given, at its second packet, and the claim says so.
-pub record Arrives : Type 0 where
+pub record OneReplyArrives : Type 0 where
   pub law : lawful 40 slots ≡ true
   pub size : length buffer ≡ slotCount * 40
   pub answers : Answers box (link 20 40) information (pos 20) output

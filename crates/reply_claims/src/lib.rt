@@ -1,7 +1,7 @@
 // The claims of the reply to the handshake. Their words are in specs/; these functions do nothing.
 ghost use Rattle.reply_claims.specs.Cut.{JoinedCutApart};
 ghost use Rattle.reply_claims.specs.Answers.{AnswersAll, ReplyWritten, ReplyArrives};
-ghost use Rattle.reply_claims.specs.Instance.{Arrives, ByHand};
+ghost use Rattle.reply_claims.specs.Instance.{OneReplyArrives, ByHand};
 
 // Cut apart by their own headers, joined packets are the writer's packets.
 pub fn joined_cut_apart()
@@ -20,7 +20,7 @@ pub fn reply_arrives()
 
 // The same once, by computation.
 pub fn instance_arrives()
-    ensures { λ _. ⌜ Arrives ⌝ }
+    ensures { λ _. ⌜ OneReplyArrives ⌝ }
 {}
 
 // Replies worked by hand, each with the whole output afterwards.

@@ -20,13 +20,13 @@ use Rattle.text.specs.WellFormed.{sequenceAt, badPlace}
 use Rattle.device.specs.Information.{informationOf, informationWritten}
 use Rattle.device.specs.Features.{featuresOf, featuresWritten}
 use Rattle.round_trips.specs.RoundTrip.{AllSigned32}
-use Rattle.round_trips.specs.Premises.{Number32, Numbers32, ResponsesTaken, EnvelopesTaken, InformationTaken, FeaturesTaken, OneOfEach}
+use Rattle.round_trips.specs.Premises.{InSigned32, AllInSigned32, ResponsesTaken, EnvelopesTaken, InformationTaken, FeaturesTaken, OneOfEach}
 
-pub signed : (z : ℤ) → Number32 z → SFits w32 z
+pub signed : (z : ℤ) → InSigned32 z → SFits w32 z
 signed (pos n) h = record { sfits = omega arith }
 signed (negsuc n) h = record { sfits = omega arith }
 
-all-signed : (zs : List ℤ) → Numbers32 zs → AllSigned32 zs
+all-signed : (zs : List ℤ) → AllInSigned32 zs → AllSigned32 zs
 all-signed [] h = tt
 all-signed (z ∷ zs) h = (signed z (h .0), all-signed zs (h .1))
 

@@ -17,13 +17,13 @@ use Rattle.device.specs.Features.{featuresFields, featuresWritten, featuresOf}
 use Rattle.round_trips.specs.RoundTrip.{ReadsBack, ResponseTakes, responseAgain, EnvelopeTakes, envelopeAgain, InformationTakes, informationAgain, FeaturesTakes}
 
 -- from -2,147,483,648 to 2,147,483,647: negsuc n is -n - 1
-abbrev pub Number32 : ℤ → Type 0
-Number32 (pos n) = n ≤ 2147483647
-Number32 (negsuc n) = n ≤ 2147483647
+abbrev pub InSigned32 : ℤ → Type 0
+InSigned32 (pos n) = n ≤ 2147483647
+InSigned32 (negsuc n) = n ≤ 2147483647
 
-abbrev pub Numbers32 : List ℤ → Type 0
-Numbers32 [] = Unit {0}
-Numbers32 (z ∷ zs) = Number32 z × Numbers32 zs
+abbrev pub AllInSigned32 : List ℤ → Type 0
+AllInSigned32 [] = Unit {0}
+AllInSigned32 (z ∷ zs) = InSigned32 z × AllInSigned32 zs
 
 -- what a 64-bit machine can lend
 abbrev pub Lendable : List ℕ → Type 0
@@ -31,28 +31,28 @@ Lendable out = length out ≤ 18446744073709551615
 
 -- a response with no payload, and with a member's number of 2 to 536,870,911
 pub record ResponsesTaken : Type 0 where
-  pub none : (code : ℤ) (body out : List ℕ) → Number32 code → Lendable out → length (messageBytes (responseFields (extended code) Inner.None body)) ≤ length out
+  pub none : (code : ℤ) (body out : List ℕ) → InSigned32 code → Lendable out → length (messageBytes (responseFields (extended code) Inner.None body)) ≤ length out
       → ResponseTakes code Inner.None body out
-  pub member : (code : ℤ) (field : ℕ) (body out : List ℕ) → Number32 code → 2 ≤ field → field ≤ 536870911 → Lendable out
+  pub member : (code : ℤ) (field : ℕ) (body out : List ℕ) → InSigned32 code → 2 ≤ field → field ≤ 536870911 → Lendable out
       → length (messageBytes (responseFields (extended code) (Inner.Member field) body)) ≤ length out → ResponseTakes code (Inner.Member field) body out
 
 -- an envelope with no payload, with each response, and with another member's number, which is not 9
 pub record EnvelopesTaken : Type 0 where
-  pub none : (command : ℤ) (body out : List ℕ) → Number32 command → Lendable out
+  pub none : (command : ℤ) (body out : List ℕ) → InSigned32 command → Lendable out
       → length (messageBytes (envelopeFields (extended command) Sent.None body)) ≤ length out → EnvelopeTakes command Sent.None body out
-  pub response : (command code : ℤ) (body out : List ℕ) → Number32 command → Number32 code → Lendable out
+  pub response : (command code : ℤ) (body out : List ℕ) → InSigned32 command → InSigned32 code → Lendable out
       → length (messageBytes (envelopeFields (extended command) (Sent.Response code Inner.None) body)) ≤ length out
       → EnvelopeTakes command (Sent.Response code Inner.None) body out
-  pub response-member : (command code : ℤ) (field : ℕ) (body out : List ℕ) → Number32 command → Number32 code → 2 ≤ field → field ≤ 536870911 → Lendable out
+  pub response-member : (command code : ℤ) (field : ℕ) (body out : List ℕ) → InSigned32 command → InSigned32 code → 2 ≤ field → field ≤ 536870911 → Lendable out
       → length (messageBytes (envelopeFields (extended command) (Sent.Response code (Inner.Member field)) body)) ≤ length out
       → EnvelopeTakes command (Sent.Response code (Inner.Member field)) body out
-  pub member : (command : ℤ) (field : ℕ) (body out : List ℕ) → Number32 command → 2 ≤ field → field ≤ 536870911 → (field ≡ 9 → ⊥) → Lendable out
+  pub member : (command : ℤ) (field : ℕ) (body out : List ℕ) → InSigned32 command → 2 ≤ field → field ≤ 536870911 → (field ≡ 9 → ⊥) → Lendable out
       → length (messageBytes (envelopeFields (extended command) (Sent.Member field) body)) ≤ length out → EnvelopeTakes command (Sent.Member field) body out
 
 -- device information with any strings that are well formed and at most eight transports
 unfoldable pub InformationTaken : Type 0
 InformationTaken =
-    (serialNumber name : List ℕ) (transports : List ℤ) (deviceType out : List ℕ) → Numbers32 transports → length transports ≤ 8
+    (serialNumber name : List ℕ) (transports : List ℤ) (deviceType out : List ℕ) → AllInSigned32 transports → length transports ≤ 8
     → WellFormed serialNumber → WellFormed name → WellFormed deviceType → Lendable out
     → length (messageBytes (informationFields serialNumber name transports deviceType)) ≤ length out
     → InformationTakes serialNumber name transports deviceType out

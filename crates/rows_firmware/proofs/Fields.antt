@@ -6,23 +6,23 @@ use mathlib.Core.List.{List}
 use lib.ListN.{length, replicate}
 use lib.Dec.{leb}
 use Rattle.wire.specs.Told.{Told, given, refused, andThen}
-use Rattle.field.specs.declared.tag.Head.{Head}
+use Rattle.field.specs.declared.tag.FieldHead.{FieldHead}
 use Rattle.field.specs.declared.value.Value.{Value}
 use Rattle.field.specs.declared.value.Value.the-variants.{Number, Bytes, Skipped}
 use Rattle.field.specs.Tag.{tagAt}
 use Rattle.field.specs.Value.{valueAt}
 use Rattle.rows_firmware.specs.FieldRow.{fieldRow, fieldAt, rowTold}
 
-row-length : (h : Head) (value : Value) (next : ℕ) → length (fieldRow h value next) ≡ 7
+row-length : (h : FieldHead) (value : Value) (next : ℕ) → length (fieldRow h value next) ≡ 7
 row-length h (Number v) next = refl
 row-length h (Bytes p) next = refl
 row-length h Skipped next = refl
 
-value-length : (h : Head) (t : Told (Value × ℕ)) → length (rowTold (andThen t (λ v. given (fieldRow h (v .0) (v .1))))) ≡ 7
+value-length : (h : FieldHead) (t : Told (Value × ℕ)) → length (rowTold (andThen t (λ v. given (fieldRow h (v .0) (v .1))))) ≡ 7
 value-length h (given v) = row-length h (v .0) (v .1)
 value-length h (refused n) = refl
 
-tag-length : (s : List ℕ) (t : Told Head)
+tag-length : (s : List ℕ) (t : Told FieldHead)
     → length (rowTold (andThen t (λ h. andThen (valueAt s (h .next) (h .wire)) (λ v. given (fieldRow h (v .0) (v .1)))))) ≡ 7
 tag-length s (given h) = value-length h (valueAt s (h .next) (h .wire))
 tag-length s (refused n) = refl

@@ -2,8 +2,8 @@
 use mathlib.Core.Path.{_≡_, refl, ap, _∙_}
 use mathlib.Core.List.{_++_}
 use Rattle.wire.specs.Told.{ToldMore, given, refused}
-use Rattle.walk.specs.declared.refusal.Verdict.{Verdict}
-use Rattle.walk.specs.declared.refusal.Verdict.the-variants.{Fine, Refused}
+use Rattle.walk.specs.declared.refusal.WalkVerdict.{WalkVerdict}
+use Rattle.walk.specs.declared.refusal.WalkVerdict.the-variants.{Fine, Refused}
 use Rattle.walk.specs.Refusal.{numberMore, judgedAs, toldVerdict}
 use Rattle.firmware.specs.declared.apply.ApplyFirmware.{ApplyFirmware}
 use Rattle.firmware.specs.Apply.{withApply}
@@ -11,11 +11,11 @@ use Rattle.rows_messages.specs.Convert.{faultRow}
 use Rattle.rows_firmware.specs.Apply.{wholeRow, applyRow}
 
 -- the number of a verdict, whatever it is on
-verdict-number : (v : Verdict) (a : ApplyFirmware) → numberMore (toldVerdict v) ≡ numberMore (judgedAs v a)
+verdict-number : (v : WalkVerdict) (a : ApplyFirmware) → numberMore (toldVerdict v) ≡ numberMore (judgedAs v a)
 verdict-number Fine a = refl
 verdict-number (Refused why) a = refl
 
-verdict-fault : (v : Verdict) (a : ApplyFirmware) → faultRow (toldVerdict v) ≡ faultRow (judgedAs v a)
+verdict-fault : (v : WalkVerdict) (a : ApplyFirmware) → faultRow (toldVerdict v) ≡ faultRow (judgedAs v a)
 verdict-fault Fine a = refl
 verdict-fault (Refused why) a = refl
 
@@ -27,7 +27,7 @@ given-row : (t : ToldMore ApplyFirmware) → wholeRow (withApply t .1) ++ faultR
 given-row (given a) = refl
 given-row (refused n) = refl
 
-module _ (v : Verdict) (a : ApplyFirmware) (t : ToldMore ApplyFirmware) (e : (judgedAs v a, a) ≡ withApply t) where
+module _ (v : WalkVerdict) (a : ApplyFirmware) (t : ToldMore ApplyFirmware) (e : (judgedAs v a, a) ≡ withApply t) where
   pub read-number : numberMore (toldVerdict v) ≡ numberMore t
   read-number = verdict-number v a ∙ ap (λ (p : ToldMore ApplyFirmware × ApplyFirmware). numberMore (p .0)) e ∙ given-number t
 

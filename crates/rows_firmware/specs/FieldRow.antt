@@ -5,7 +5,7 @@ use mathlib.Core.List.{List, [], _∷_, _++_}
 use lib.ListN.{length, replicate}
 use lib.Dec.{leb, eqb}
 use Rattle.wire.specs.Told.{Told, given, refused, andThen}
-use Rattle.field.specs.declared.tag.Head.{Head}
+use Rattle.field.specs.declared.tag.FieldHead.{FieldHead}
 use Rattle.field.specs.declared.value.Value.{Value}
 use Rattle.field.specs.declared.value.Value.the-variants.{Number, Bytes, Skipped}
 use Rattle.field.specs.Tag.{fixed64Type, tagAt}
@@ -19,13 +19,13 @@ unfoldable pub fixedSize : ℕ → ℕ
 fixedSize wire = cond (eqb wire fixed64Type) 8 4
 
 -- value, start, length: a number has no bytes of its own; other bytes stand right after the tag
-abbrev pub contentRow : Head → Value → List ℕ
+abbrev pub contentRow : FieldHead → Value → List ℕ
 contentRow h (Number v) = v ∷ 0 ∷ 0 ∷ []
 contentRow h (Bytes p) = 0 ∷ partRow p
 contentRow h Skipped = 0 ∷ h .next ∷ fixedSize (h .wire) ∷ []
 
 -- outcome 1, number, kind; then the content, and the place after it
-abbrev pub fieldRow : Head → Value → ℕ → List ℕ
+abbrev pub fieldRow : FieldHead → Value → ℕ → List ℕ
 fieldRow h value next = 1 ∷ h .field ∷ h .wire ∷ (contentRow h value ++ (next ∷ []))
 
 -- what stands at a place; all 0 at the end of the message

@@ -10,7 +10,7 @@ use rows::row::fill;
 use rows::row::number_at;
 use rows_messages::convert::verdict_fault;
 use walk::gathered::MOST_REPEATED;
-use walk::refusal::Verdict;
+use walk::refusal::WalkVerdict;
 use wire::logic::either;
 ghost use mathlib.Core.Path.{_≡_};
 ghost use mathlib.Core.List.{_++_};
@@ -96,7 +96,7 @@ fn fill_components(row: &mut [u64], components: [FirmwareComponent; 8])
 }
 
 // Writes the whole row, part by part, unless the call is refused by 1.
-pub fn put_apply(row: &mut [u64], number: u64, verdict: Verdict, apply: ApplyFirmware)
+pub fn put_apply(row: &mut [u64], number: u64, verdict: WalkVerdict, apply: ApplyFirmware)
     requires { ⌜ length (now row) ≡ answerSize ⌝ }
     ensures { λ _. ⌜ now (row .exit)
         ≡ afterwards number (now (row .entry)) (wholeRow apply ++ faultRow (toldVerdict verdict)) ⌝ }

@@ -1,7 +1,7 @@
 // The field at a place of any message, as a row.
 use field::Refusal;
 use field::tag::FIXED64;
-use field::tag::Head;
+use field::tag::FieldHead;
 use field::tag::Tag;
 use field::tag::read_tag;
 use field::value::Value;
@@ -42,7 +42,7 @@ fn fixed_size(wire: u64) -> u64
     if wire == FIXED64 { 8 } else { 4 }
 }
 
-fn field_row(head: Head, value: Value, next: usize) -> [u64; 7]
+fn field_row(head: FieldHead, value: Value, next: usize) -> [u64; 7]
     ensures { λ r. ⌜ r ≡ fieldRow head value next ⌝ }
 {
     let field = head.field;

@@ -7,19 +7,19 @@ use lib.ListN.{length, length-map}
 use borrow.Author.Tests.{lt-ltb}
 use Rattle.wire.specs.Told.{ToldMore, given, refused, written}
 use Rattle.field.specs.Signed.{signedOf}
-use Rattle.walk.specs.declared.refusal.Verdict.{Verdict}
-use Rattle.walk.specs.declared.refusal.Verdict.the-variants.{Fine, Refused}
+use Rattle.walk.specs.declared.refusal.WalkVerdict.{WalkVerdict}
+use Rattle.walk.specs.declared.refusal.WalkVerdict.the-variants.{Fine, Refused}
 use Rattle.device.specs.declared.information.DeviceInformation.{DeviceInformation}
 use Rattle.walk.specs.Refusal.{numberMore, judgedAs, toldVerdict}
 use Rattle.device.specs.Information.{withInformation, informationWritten}
 use Rattle.rows_messages.specs.Convert.{partsRow, transportsRow, faultRow, informationRow}
 
 -- the number of a verdict, whatever it is on
-verdict-number : (v : Verdict) (i : DeviceInformation) → numberMore (toldVerdict v) ≡ numberMore (judgedAs v i)
+verdict-number : (v : WalkVerdict) (i : DeviceInformation) → numberMore (toldVerdict v) ≡ numberMore (judgedAs v i)
 verdict-number Fine i = refl
 verdict-number (Refused why) i = refl
 
-verdict-fault : (v : Verdict) (i : DeviceInformation) → faultRow (toldVerdict v) ≡ faultRow (judgedAs v i)
+verdict-fault : (v : WalkVerdict) (i : DeviceInformation) → faultRow (toldVerdict v) ≡ faultRow (judgedAs v i)
 verdict-fault Fine i = refl
 verdict-fault (Refused why) i = refl
 
@@ -35,7 +35,7 @@ given-row : (t : ToldMore DeviceInformation) → partsRow (withInformation t .1)
 given-row (given i) = refl
 given-row (refused n) = refl
 
-module _ (v : Verdict) (i : DeviceInformation) (t : ToldMore DeviceInformation) (e : (judgedAs v i, i) ≡ withInformation t) where
+module _ (v : WalkVerdict) (i : DeviceInformation) (t : ToldMore DeviceInformation) (e : (judgedAs v i, i) ≡ withInformation t) where
   pub read-number : numberMore (toldVerdict v) ≡ numberMore t
   read-number = verdict-number v i ∙ ap (λ (p : ToldMore DeviceInformation × DeviceInformation). numberMore (p .0)) e ∙ given-number t
 

@@ -17,7 +17,7 @@ use rows::row::put;
 use text_writer::TextWrote;
 use walk::gathered::MOST_TRANSPORTS;
 use walk::refusal::MessageRefusal;
-use walk::refusal::Verdict;
+use walk::refusal::WalkVerdict;
 ghost use mathlib.Core.Path.{_≡_};
 ghost use mathlib.Core.List.{_++_, map};
 ghost use Prim.Native.Nat.{_≤_};
@@ -256,12 +256,12 @@ pub fn features_row(read: FeaturesRead) -> [u64; 2]
 
 // ---- device information
 
-pub fn verdict_number(verdict: Verdict) -> u64
+pub fn verdict_number(verdict: WalkVerdict) -> u64
     ensures { λ r. ⌜ r ≡ numberMore (toldVerdict verdict) ⌝ }
 {
     match verdict {
-        Verdict::Fine => DONE,
-        Verdict::Refused(why) => refusal_number(why),
+        WalkVerdict::Fine => DONE,
+        WalkVerdict::Refused(why) => refusal_number(why),
     }
 }
 
@@ -275,12 +275,12 @@ pub fn fault_of(why: MessageRefusal) -> [u64; 2]
     }
 }
 
-pub fn verdict_fault(verdict: Verdict) -> [u64; 2]
+pub fn verdict_fault(verdict: WalkVerdict) -> [u64; 2]
     ensures { λ r. ⌜ r ≡ faultRow (toldVerdict verdict) ⌝ }
 {
     match verdict {
-        Verdict::Fine => [0u64; 2],
-        Verdict::Refused(why) => fault_of(why),
+        WalkVerdict::Fine => [0u64; 2],
+        WalkVerdict::Refused(why) => fault_of(why),
     }
 }
 
@@ -321,7 +321,7 @@ fn transports_row(list: &[i32]) -> [u64; 8]
 pub fn put_information(
     row: &mut [u64],
     number: u64,
-    verdict: Verdict,
+    verdict: WalkVerdict,
     information: DeviceInformation,
 )
     requires { ⌜ length (now row) ≡ 17 ⌝ }

@@ -27,13 +27,13 @@ pub room-low : (room : ℕ) → roomFits room ≡ true → leastRoom ≤ room
 unfolding roomFits
 room-low room e = leb-true leastRoom room (and-left (leb leastRoom room) _ e)
 
-pub record InRange (limit : ℕ) (w : Sending) (length : ℕ) : Type 0 where
+pub record SendingInRange (limit : ℕ) (w : Sending) (length : ℕ) : Type 0 where
   pub known : isStream (w .stream) ≡ true
   pub stream : w .stream < fourBits
   pub id : w .id < fourBits
   pub within : length ≤ limit
 
-pub range-facts : (limit : ℕ) (w : Sending) (length : ℕ) → argumentsFit limit w length ≡ true → InRange limit w length
+pub range-facts : (limit : ℕ) (w : Sending) (length : ℕ) → argumentsFit limit w length ≡ true → SendingInRange limit w length
 unfolding argumentsFit inRange
 range-facts limit w length e =
     let h = and-left (inRange (w .stream) (w .id) (w .sequence)) _ e in
@@ -51,7 +51,7 @@ abbrev WritesFound : Sending → ℕ → ℕ → Option Piece → Type 0
 WritesFound w length space none = Unit {0}
 WritesFound w length space (some p) = Writes w length space p
 
-module _ (limit : ℕ) (w : Sending) (length space : ℕ) (small : limit < 65536) (room : leastRoom ≤ w .room) (range : InRange limit w length)
+module _ (limit : ℕ) (w : Sending) (length space : ℕ) (small : limit < 65536) (room : leastRoom ≤ w .room) (range : SendingInRange limit w length)
     (enough : w .room ≤ space) where
   head-writes : (index place rest : ℕ) → place + rest ≤ length
       → Writes w length space (record { index = index; place = place; size = sizeFor (w .room) (isFirst index) rest })

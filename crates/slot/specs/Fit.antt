@@ -2,18 +2,18 @@
 use Prim.Native.Nat.{ℕ, _+_, _≤_, _<_}
 use mathlib.Core.Path.{_≡_}
 use mathlib.Core.Bool.{true}
-use Rattle.slot.specs.declared.step.Payload.{Payload}
+use Rattle.slot.specs.declared.step.PayloadPlace.{PayloadPlace}
 use Rattle.slot.specs.Slot.{slotsEach, lawfulSlot}
 use Rattle.slot.specs.Step.{Step, Act, still, step}
 
 -- a payload lies within a packet of k bytes, and where it is written within a part
-abbrev pub Inside : ℕ → ℕ → Payload → Type 0
-Inside limit k payload = (payload .start + payload .len ≤ k) × (payload .at + payload .len ≤ limit)
+abbrev pub InsidePart : ℕ → ℕ → PayloadPlace → Type 0
+InsidePart limit k payload = (payload .start + payload .len ≤ k) × (payload .at + payload .len ≤ limit)
 
 -- a step is at one of its stream's places, its payload keeps within bounds, and it leaves its slot lawful
 pub record Fit (limit k place : ℕ) (s : Step) : Type 0 where
   pub within : place < slotsEach
-  pub inside : Inside limit k (s .payload)
+  pub inside : InsidePart limit k (s .payload)
   pub left : lawfulSlot limit (s .slot) ≡ true
 
 abbrev pub ActFits : ℕ → ℕ → Act → Type 0

@@ -11,7 +11,7 @@ use Rattle.packet.specs.declared.reader.Packet.{Packet}
 use Rattle.packet.specs.declared.reader.Packet.the-variants.{First, Next, Ack, Nack}
 use Rattle.packet.specs.Header.{sequenceAfter}
 use Rattle.slot.specs.declared.Slot.{Slot}
-use Rattle.slot.specs.declared.step.Payload.{Payload}
+use Rattle.slot.specs.declared.step.PayloadPlace.{PayloadPlace}
 use Rattle.slot.specs.declared.answer.Accepted.{Accepted}
 use Rattle.slot.specs.declared.answer.Accepted.the-variants.{Taken, Finished, Acked, Nacked}
 use Rattle.slot.specs.declared.step.Step as code
@@ -24,7 +24,7 @@ use Rattle.slot.specs.Answer as answer
 pub record Step : Type 0 where
   pub told : Told Accepted
   pub slot : Slot
-  pub payload : Payload
+  pub payload : PayloadPlace
 
 -- what is done with a packet: an answer that leaves all, or a step of the slot at a place among its stream's
 pub data Act : Type 0 where
@@ -34,16 +34,16 @@ pub data Act : Type 0 where
 -- ---- a step of one slot
 
 -- no bytes
-abbrev pub nothing : Payload
+abbrev pub nothing : PayloadPlace
 nothing = record { at = 0; start = 0; len = 0 }
 
 -- the transaction is finished: its wish for an ACK is told, and its slot idle
-unfoldable pub finish : Head → Bool → ℕ → Bool → Payload → Step
+unfoldable pub finish : Head → Bool → ℕ → Bool → PayloadPlace → Step
 finish head wanted total replaced payload =
     record { told = given (Finished (head .stream) (head .id) total wanted replaced); slot = idle; payload = payload }
 
 -- more is to come: the slot holds all up to the payload's end, and remembers the wish
-unfoldable pub hold : Head → Bool → ℕ → Bool → Payload → Step
+unfoldable pub hold : Head → Bool → ℕ → Bool → PayloadPlace → Step
 hold head wanted total replaced payload =
     record {
       told = given (Taken (head .stream) (head .id) replaced);

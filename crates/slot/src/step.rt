@@ -16,7 +16,7 @@ ghost use Rattle.slot.specs.Answer.{numberOf};
 ghost use Rattle.slot.specs.Step.{stepOf, actBy, finish, hold, dropBy, firstStep, offTotal, nextStep, actOf};
 
 // The payload that is written: from start on in its packet, and its place in the slot's part of the buffer.
-pub struct Payload {
+pub struct PayloadPlace {
     pub at: usize,
     pub start: usize,
     pub len: usize,
@@ -26,7 +26,7 @@ pub struct Payload {
 pub struct Step {
     pub answer: Answer,
     pub slot: Slot,
-    pub payload: Payload,
+    pub payload: PayloadPlace,
 }
 
 // An answer that leaves all, or a step of the slot.
@@ -36,7 +36,7 @@ pub enum Act {
 }
 
 // The transaction is finished: its wish for an ACK is told, and its slot idle.
-fn finish(head: Head, wanted: bool, total: usize, replaced: bool, payload: Payload) -> Step
+fn finish(head: Head, wanted: bool, total: usize, replaced: bool, payload: PayloadPlace) -> Step
     ensures { λ r. ⌜ stepOf r ≡ finish head wanted total replaced payload ⌝ }
 {
     let stream = head.stream;
@@ -55,7 +55,7 @@ fn finish(head: Head, wanted: bool, total: usize, replaced: bool, payload: Paylo
 }
 
 // More is to come: the slot holds all up to the payload's end, and remembers the wish.
-fn hold(head: Head, wanted: bool, total: usize, replaced: bool, payload: Payload) -> Step
+fn hold(head: Head, wanted: bool, total: usize, replaced: bool, payload: PayloadPlace) -> Step
     requires { ⌜ (payload .at < 2 ^ 63) × (payload .len < 2 ^ 63) ⌝ }
     ensures { λ r. ⌜ stepOf r ≡ hold head wanted total replaced payload ⌝ }
 {
@@ -87,7 +87,7 @@ fn drop_by(why: Refusal) -> Step
     Step {
         answer: Answer::Refused(why),
         slot,
-        payload: Payload {
+        payload: PayloadPlace {
             at: 0,
             start: 0,
             len: 0,
@@ -101,7 +101,7 @@ fn on_first(slot: Slot, head: Head, ack: bool, total: usize, start: usize, len: 
     ensures { λ r. ⌜ stepOf r ≡ firstStep slot head ack total start len ⌝ }
 {
     let replaced = slot.opened;
-    let payload = Payload { at: 0, start, len };
+    let payload = PayloadPlace { at: 0, start, len };
     if len == total {
         return finish(head, ack, total, replaced, payload);
     }
@@ -130,7 +130,7 @@ fn on_next(slot: Slot, head: Head, ack: bool, last: bool, start: usize, len: usi
         return drop_by(Refusal::Amount);
     }
     let wanted = either(slot.wanted, ack);
-    let payload = Payload { at, start, len };
+    let payload = PayloadPlace { at, start, len };
     if last {
         return finish(head, wanted, total, false, payload);
     }

@@ -10,7 +10,7 @@ use Rattle.text.specs.WellFormed.{WellFormed, badPlace}
 use Rattle.text.proofs.Places.{well-formed-whole}
 use Rattle.field_writer.specs.Writer.{Field}
 use Rattle.field_writer.specs.Message.{writesMessage}
-use Rattle.text_writer.specs.declared.Fault.the-variants.{None, At}
+use Rattle.text_writer.specs.declared.TextFault.the-variants.{None, At}
 use Rattle.text_writer.specs.Texts.{orText, firstFault, AllWellFormed, faulted, aloneWritten, writesTexts}
 
 -- no fault is found in strings that are well formed

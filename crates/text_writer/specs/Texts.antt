@@ -8,22 +8,22 @@ use Rattle.wire.specs.Told.{ToldMore, alone, given, refused, Written, WrittenOf
 use Rattle.text.specs.WellFormed.{WellFormed, badPlace}
 use Rattle.field_writer.specs.Writer.{Field}
 use Rattle.field_writer.specs.Message.{numberOf, writesMessage}
-use Rattle.text_writer.specs.declared.Fault.{Fault}
-use Rattle.text_writer.specs.declared.Fault.the-variants.{None, At}
+use Rattle.text_writer.specs.declared.TextFault.{TextFault}
+use Rattle.text_writer.specs.declared.TextFault.the-variants.{None, At}
 use Rattle.text_writer.specs.declared.TextWrote.{TextWrote}
 use Rattle.text_writer.specs.declared.TextWrote.the-variants.{Done, Refused, BadText}
 
 -- a fault that was found stays; where none was, a string is judged
-abbrev pub orText : ℕ → List ℕ → Fault → Fault
+abbrev pub orText : ℕ → List ℕ → TextFault → TextFault
 orText field s None = cond (eqb (badPlace s) (length s)) None (At field (badPlace s))
 orText field s (At found place) = At found place
 
-abbrev pub faultFrom : Fault → List (ℕ × List ℕ) → Fault
+abbrev pub faultFrom : TextFault → List (ℕ × List ℕ) → TextFault
 faultFrom fault [] = fault
 faultFrom fault (t ∷ ts) = faultFrom (orText (t .0) (t .1) fault) ts
 
 -- the first of these strings, each with its field, that is not well formed
-abbrev pub firstFault : List (ℕ × List ℕ) → Fault
+abbrev pub firstFault : List (ℕ × List ℕ) → TextFault
 firstFault strings = faultFrom None strings
 
 -- all of them are well formed
@@ -32,7 +32,7 @@ AllWellFormed [] = Unit {0}
 AllWellFormed (t ∷ ts) = WellFormed (t .1) × AllWellFormed ts
 
 -- 36 with the field and the place, or what is left to judge
-abbrev pub faulted : Fault → List ℕ → WrittenOf (ℕ × List ℕ) ℕ → WrittenOf (ℕ × List ℕ) ℕ
+abbrev pub faulted : TextFault → List ℕ → WrittenOf (ℕ × List ℕ) ℕ → WrittenOf (ℕ × List ℕ) ℕ
 faulted None out rest = rest
 faulted (At field place) out rest = written (refused (36, field ∷ place ∷ [])) out
 

@@ -7,31 +7,31 @@ ghost use Rattle.wire.specs.Told.{alone};
 ghost use Rattle.field_writer.specs.Message.{toldWrote};
 ghost use Rattle.text_writer.specs.Texts.{orText, toldTextWrote};
 
-pub enum Fault {
+pub enum TextFault {
     None,
     // The field of a string, and the place in it where the first bad sequence begins.
     At { field: u64, place: usize },
 }
 
-impl Fault {
+impl TextFault {
     // A fault that was found stays; where none was, this string is judged.
-    pub fn or_text(self, field: u64, string: &[u8]) -> Fault
+    pub fn or_text(self, field: u64, string: &[u8]) -> TextFault
         ensures { λ r. ⌜ r ≡ orText field (now (string .entry)) self ⌝ }
     {
         match self {
-            Fault::At {
+            TextFault::At {
                 field: found,
                 place,
-            } => Fault::At {
+            } => TextFault::At {
                 field: found,
                 place,
             },
-            Fault::None => {
+            TextFault::None => {
                 let place = bad_place(string);
                 if place == string.len() {
-                    return Fault::None;
+                    return TextFault::None;
                 }
-                Fault::At { field, place }
+                TextFault::At { field, place }
             }
         }
     }

@@ -8,7 +8,7 @@ use lib.Dec.{leb, eqb}
 use lib.ListN.{length, take}
 use borrow.Author.Tests.{leb-false, eqb-true}
 use Rattle.wire.specs.Told.{Told, alone, given, refused, andThen}
-use Rattle.field.specs.declared.tag.Head.{Head}
+use Rattle.field.specs.declared.tag.FieldHead.{FieldHead}
 use Rattle.field.specs.declared.value.Part.{Part}
 use Rattle.field.specs.declared.value.Value.{Value}
 use Rattle.field.specs.declared.value.Value.the-variants.{Number, Bytes, Skipped}
@@ -123,7 +123,7 @@ read-adds : (schema : Schema) (s : List ℕ) (at member count : ℕ) → Sat (Ad
 unfolding readAt addedAt
 read-adds schema s at member count =
     let Q = Adds s at count in
-    sat-then (λ (h : Head). at < h .next) Q (tagAt s at) _ (tag-ends s at)
+    sat-then (λ (h : FieldHead). at < h .next) Q (tagAt s at) _ (tag-ends s at)
     (λ h l. sat-then (λ (u : Unit {0}). isRepeated (roleOf schema (h .field)) ≡ true → count < mostRepeated) Q (judged (roleOf schema (h .field)) (h .wire) member count) _
     (judged-counts (roleOf schema (h .field)) (h .wire) member count)
     (λ u w. sat-then (Held s (h .next)) Q (valueAt s (h .next) (h .wire)) _ (value-held s (h .next) (h .wire))

@@ -9,8 +9,8 @@ use Rattle.walk.specs.declared.gathered.Gathered.{Gathered}
 use Rattle.walk.specs.Gathered.{AllText}
 use Rattle.walk.specs.declared.refusal.MessageRefusal.{MessageRefusal}
 use Rattle.walk.specs.declared.refusal.MessageRefusal.the-variants.{Field, BadText}
-use Rattle.walk.specs.declared.refusal.Verdict.{Verdict}
-use Rattle.walk.specs.declared.refusal.Verdict.the-variants.{Fine, Refused}
+use Rattle.walk.specs.declared.refusal.WalkVerdict.{WalkVerdict}
+use Rattle.walk.specs.declared.refusal.WalkVerdict.the-variants.{Fine, Refused}
 use Rattle.walk.specs.declared.refusal.Kept.{Kept}
 
 -- 36 goes with the string's field and the place in it
@@ -40,11 +40,11 @@ TellsStrings s parts (given a) = Strings s (parts a)
 TellsStrings s parts (refused why) = Unit {0}
 
 -- a verdict on a
-abbrev pub judgedAs : {A : Type 0} → Verdict → A → ToldMore A
+abbrev pub judgedAs : {A : Type 0} → WalkVerdict → A → ToldMore A
 judgedAs Fine a = given a
 judgedAs (Refused e) a = refused (whyOf e)
 
-abbrev pub toldVerdict : Verdict → ToldMore (Unit {0})
+abbrev pub toldVerdict : WalkVerdict → ToldMore (Unit {0})
 toldVerdict v = judgedAs v tt
 
 abbrev pub toldKept : Kept → ToldMore Gathered

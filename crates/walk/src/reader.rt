@@ -5,7 +5,7 @@ use crate::gathered::Grown;
 use crate::gathered::MOST_REPEATED;
 use crate::refusal::Kept;
 use crate::refusal::MessageRefusal;
-use crate::refusal::Verdict;
+use crate::refusal::WalkVerdict;
 use crate::schema::Role;
 use crate::schema::Schema;
 use crate::schema::fits_role;
@@ -217,30 +217,30 @@ fn text_place(message: &[u8], part: Part) -> usize
 }
 
 fn fine(gathered: Gathered) -> Kept
-    ensures { λ r. ⌜ r ≡ record { verdict = Verdict.Fine; gathered = gathered } ⌝ }
+    ensures { λ r. ⌜ r ≡ record { verdict = WalkVerdict.Fine; gathered = gathered } ⌝ }
 {
     Kept {
-        verdict: Verdict::Fine,
+        verdict: WalkVerdict::Fine,
         gathered,
     }
 }
 
 fn stop(e: Refusal, gathered: Gathered) -> Kept
-    ensures { λ r. ⌜ r ≡ record { verdict = Verdict.Refused (MessageRefusal.Field e); gathered = gathered } ⌝ }
+    ensures { λ r. ⌜ r ≡ record { verdict = WalkVerdict.Refused (MessageRefusal.Field e); gathered = gathered } ⌝ }
 {
     let why = MessageRefusal::Field(e);
     Kept {
-        verdict: Verdict::Refused(why),
+        verdict: WalkVerdict::Refused(why),
         gathered,
     }
 }
 
 fn stop_text(field: u64, place: usize, gathered: Gathered) -> Kept
-    ensures { λ r. ⌜ r ≡ record { verdict = Verdict.Refused (MessageRefusal.BadText field place); gathered = gathered } ⌝ }
+    ensures { λ r. ⌜ r ≡ record { verdict = WalkVerdict.Refused (MessageRefusal.BadText field place); gathered = gathered } ⌝ }
 {
     let why = MessageRefusal::BadText { field, place };
     Kept {
-        verdict: Verdict::Refused(why),
+        verdict: WalkVerdict::Refused(why),
         gathered,
     }
 }

@@ -23,13 +23,13 @@ impl MessageRefusal {
     }
 }
 
-pub enum Verdict {
+pub enum WalkVerdict {
     Fine,
     Refused(MessageRefusal),
 }
 
 // What was gathered stands beside the verdict: an enum cannot hold an array.
 pub struct Kept {
-    pub verdict: Verdict,
+    pub verdict: WalkVerdict,
     pub gathered: Gathered,
 }

@@ -11,7 +11,7 @@ use Rattle.extractor.specs.declared.state.Phase.{Phase}
 use Rattle.extractor.specs.declared.state.Phase.the-variants.{Outside, ErrorId, Sequence, Escaped}
 use Rattle.extractor.specs.Outcome.{Report, skipped, taken, allUsed, frame, refused}
 use Rattle.extractor.specs.State.{outside, begun, body, empty, openOf}
-use Rattle.extractor.specs.Step.{Step, step, byteStepOf}
+use Rattle.extractor.specs.Step.{ByteStep, step, byteStepOf}
 use Rattle.feed.specs.Feed.{Feed, fed, feedOf}
 
 -- the lent buffer has 4 bytes
@@ -36,10 +36,10 @@ pub data Question : Type 0 where
 -- what each step or call leaves: its report, the number used by a call, the next state and the lent buffer
 pub data Answer : Type 0 where
   opened : Told Extractor → Answer
-  stepped : List Step → Answer
+  stepped : List ByteStep → Answer
   called : List Feed → Answer
 
-unfoldable pub stepsOf : Progress → List ℕ → List ℕ → List Step
+unfoldable pub stepsOf : Progress → List ℕ → List ℕ → List ByteStep
 stepsOf s l [] = []
 stepsOf s l (b ∷ bs) = let r = byteStepOf limit s l b in r ∷ stepsOf (r .next) (r .buffer) bs
 

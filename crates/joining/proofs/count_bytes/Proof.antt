@@ -2,12 +2,12 @@ use Prim.Native.Nat.{suc, _-_}
 use native.Mathlib.Omega.{arith}
 use borrow.Author.Needs.{needs}
 use Rattle.joining.proofs.Pieces.{size-low}
-use Rattle.joining.proofs.Counting.{Counting, counting-start, counting-next, counting-end}
+use Rattle.joining.proofs.Counting.{CountingPackets, counting-start, counting-next, counting-end}
 use Rattle.joining.proofs.count_bytes.Statement.{statement}
 use Rattle.joining.proofs.count_bytes.Tie as tie
 
 abbrev Inv-loop : tie.InvT-loop
-Inv-loop room total index₀ place₀ sum₀ going₀ index place sum going = Counting room total index place sum going
+Inv-loop room total index₀ place₀ sum₀ going₀ index place sum going = CountingPackets room total index place sum going
 
 abbrev μ-loop : tie.MeasureT-loop
 μ-loop room total index₀ place₀ sum₀ going₀ index place sum going = suc (suc total) - index

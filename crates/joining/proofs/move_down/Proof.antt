@@ -2,12 +2,12 @@ use Prim.Native.Nat.{_-_}
 use native.Mathlib.Omega.{arith}
 use denote.Ref.{now}
 use borrow.Author.Needs.{needs}
-use Rattle.joining.proofs.Moving.{Moving, moving-start, moving-next, moving-end}
+use Rattle.joining.proofs.Moving.{MovingDown, moving-start, moving-next, moving-end}
 use Rattle.joining.proofs.move_down.Statement.{statement}
 use Rattle.joining.proofs.move_down.Tie as tie
 
 abbrev Inv-loop : tie.InvT-loop
-Inv-loop out₀ to from n i₀ out i = Moving out₀ to from n out i
+Inv-loop out₀ to from n i₀ out i = MovingDown out₀ to from n out i
 
 abbrev μ-loop : tie.MeasureT-loop
 μ-loop out₀ to from n i₀ out i = n - i

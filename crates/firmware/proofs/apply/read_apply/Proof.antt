@@ -8,7 +8,7 @@ use lib.ListN.{getD}
 use Rattle.walk.specs.Schema.{first}
 use Rattle.firmware.specs.Apply.{isTrue, toldApply, withApply}
 use Rattle.firmware.specs.declared.apply.ApplyFirmware.{ApplyFirmware}
-use Rattle.walk.specs.declared.refusal.Verdict.the-variants.{Fine}
+use Rattle.walk.specs.declared.refusal.WalkVerdict.the-variants.{Fine}
 use Rattle.firmware.proofs.Steps.{firmware-told, apply-stops, apply-halts, apply-tells}
 use Rattle.firmware.proofs.Insides.{told-inside, part-inside}
 use borrow.Author.Needs.{needs}

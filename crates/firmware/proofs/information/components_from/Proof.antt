@@ -6,13 +6,13 @@ use denote.Ref.{now}
 use lib.ListN.{length}
 use Rattle.firmware.specs.Component.{toldComponent}
 use Rattle.firmware.specs.Information.{partsFrom, laid}
-use Rattle.firmware.proofs.Components.{Reading, reading-begins, reading-ends, reading-room, reading-stops, reading-next}
+use Rattle.firmware.proofs.Components.{ReadingComponents, reading-begins, reading-ends, reading-room, reading-stops, reading-next}
 use borrow.Author.Needs.{needs}
 use Rattle.firmware.proofs.information.components_from.Statement.{statement}
 use Rattle.firmware.proofs.information.components_from.Tie as tie
 
 abbrev Inv-loop : tie.InvT-loop
-Inv-loop message from components₀ count₀ at₀ components count at = Reading message from at components count
+Inv-loop message from components₀ count₀ at₀ components count at = ReadingComponents message from at components count
 
 abbrev μ-loop : tie.MeasureT-loop
 μ-loop message from components₀ count₀ at₀ components count at = length (partsFrom message at)

@@ -3,7 +3,7 @@ use mathlib.Core.List.{[], _∷_}
 use denote.Ref.{now}
 use Rattle.field.specs.Value.{bytesOf}
 use Rattle.walk.specs.Schema.{firmwareNameField, localeField, versionNameField}
-use Rattle.text_writer.specs.declared.Fault.the-variants.{None}
+use Rattle.text_writer.specs.declared.TextFault.the-variants.{None}
 use Rattle.text_writer.specs.Texts.{orText}
 use Rattle.firmware_writer.specs.Information.{present, componentsStrings}
 use Rattle.firmware_writer.proofs.Texts.{firmware-fine, fault-append}

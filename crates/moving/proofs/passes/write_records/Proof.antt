@@ -5,7 +5,7 @@ use lib.ListN.{length, length-set}
 use borrow.Author.Needs.{needs}
 use denote.Ref.{now}
 use Rattle.outbox.specs.Format.{headSize}
-use Rattle.outbox.specs.Reader.{Found, given, found, readOf}
+use Rattle.outbox.specs.Reader.{FoundRecord, given, found, readOf}
 use Rattle.outbox.proofs.Versions.{known-small}
 use Rattle.moving.specs.Moves.{recordOnly, toldNext}
 use Rattle.moving.proofs.Passing.{Writing, writing-begins, writing-ends, writing-goes, record-room, payload-short, payload-size, ends, spans}
@@ -34,7 +34,7 @@ enum-known-stream : tie.Need-enum-known-stream Inv-loop μ-loop
 enum-known-stream c = search needs
 
 -- the record of this turn
-abbrev it : tie.After-known-told Inv-loop μ-loop → Found
+abbrev it : tie.After-known-told Inv-loop μ-loop → FoundRecord
 it k =
     let g = k .before .stream .given .0 in
     record { stream = g .0; start = g .1 .0; size = g .1 .1 .0; next = g .1 .1 .1 .0 }

@@ -2,13 +2,13 @@ use Rattle.slot.proofs.Steps.{len-low}
 use Rattle.slot.proofs.Slots.{lawful-count, lawful-at, held-low}
 use Rattle.slot.proofs.Lanes.{lane-one}
 use Rattle.wire.proofs.Limits.{limit-range}
-use Rattle.receiver.proofs.Accepting.{Fits, ready-says, in-fits}
+use Rattle.receiver.proofs.Accepting.{SlotsFit, ready-says, in-fits}
 use Rattle.slot.specs.Step.{actBy}
 use Rattle.slot.specs.Slot.{lawfulSlot, laneOf}
 use Rattle.slot.specs.Fit.{ActFits}
 use Rattle.packet.specs.Header.{streamBits}
 use Rattle.packet.specs.Reader.{headIn}
-use Rattle.packet.proofs.Reading.{Passes, read-passes}
+use Rattle.packet.proofs.Reading.{LinesPass, read-passes}
 use denote.Ref.{now}
 use lib.ListN.{length, getD}
 use mathlib.Core.Bool.{true}
@@ -19,11 +19,11 @@ use borrow.Author.Needs.{needs}
 use Rattle.receiver.proofs.Receiver.accept_read.Statement.{statement}
 use Rattle.receiver.proofs.Receiver.accept_read.Tie as tie
 
-ready-at : (c : tie.Start) → Fits (c .args .self .limit) (c .args .self .slots) (now (c .args .buffer))
+ready-at : (c : tie.Start) → SlotsFit (c .args .self .limit) (c .args .self .slots) (now (c .args .buffer))
 ready-at c = ready-says (c .args .self .limit) (c .args .self .slots) (now (c .args .buffer)) (c .pre .0)
 
 -- what was read keeps to its packet
-passes-at : (c : tie.Start) → Passes (c .args .self .limit) (length (now (c .args .packet))) (streamBits (getD (now (c .args .packet)) 0 0)) (c .args .read)
+passes-at : (c : tie.Start) → LinesPass (c .args .self .limit) (length (now (c .args .packet))) (streamBits (getD (now (c .args .packet)) 0 0)) (c .args .read)
 passes-at c = rw (c .pre .1) at (read-passes (c .args .self .limit) (now (c .args .packet)))
 
 -- the slot that was taken is its stream's

@@ -8,11 +8,11 @@ use Prim.Native.Nat.{_+_}
 use denote.Ref.{now}
 use borrow.Author.Needs.{needs}
 use Rattle.wire.proofs.Limits.{limit-range}
-use Rattle.receiver.proofs.Accepting.{Fits, ready-says}
+use Rattle.receiver.proofs.Accepting.{SlotsFit, ready-says}
 use Rattle.receiver.proofs.Receiver.store.Statement.{statement}
 use Rattle.receiver.proofs.Receiver.store.Tie as tie
 
-ready-at : (c : tie.Start) → Fits (c .args .self .limit) (c .args .self .slots) (now (c .args .buffer))
+ready-at : (c : tie.Start) → SlotsFit (c .args .self .limit) (c .args .self .slots) (now (c .args .buffer))
 ready-at c = ready-says (c .args .self .limit) (c .args .self .slots) (now (c .args .buffer)) (c .pre .0)
 
 place-of-requires : tie.Need-place-of-requires
