@@ -6,12 +6,10 @@ use lib.Seq.{length-sets}
 use denote.Ref.{now}
 use borrow.Rule.Slice.PartMut.{putMid}
 use Rattle.wire.proofs.Parts.{sets-part}
-use Rattle.joining.specs.Joined.{joinedOf}
 use Rattle.reply.specs.Front.{frontBytes}
 use Rattle.reply.specs.Reply.{bodyBy}
 use Rattle.joining.proofs.Pieces.{total-fits}
-use Rattle.joining.proofs.Guards.{joined-over}
-use Rattle.reply.proofs.Puts.{reply-stored}
+use Rattle.reply.proofs.Puts.{reply-joined}
 use borrow.Author.Needs.{needs}
 use Rattle.reply.proofs.put_reply.Statement.{statement}
 use Rattle.reply.proofs.put_reply.Tie as tie
@@ -75,19 +73,9 @@ returns c =
     let middle = length o - a .front .body in
     let e₁ = ap (putMid start (length o - start) o) (f .ensures .stored) ∙ sets-part o start (length o - start) 0 front (omega (arith, s .pre .1 .long, t)) (omega (arith, s .pre .1 .long, t, s .pre .1 .long-total)) in
     let l₁ = ap length e₁ ∙ length-sets o (start + 0) front in
-    let e₂ = ap (putMid middle (length o - middle) _) (g .ensures) ∙ sets-part _ middle (length o - middle) 0 body (omega (arith, l₁, s .pre .1 .long, s .pre .1 .long-total, t)) (omega (arith, s .pre .1 .long, s .pre .1 .long-body, s .pre .1 .long-total, t)) in
-    let l₂ = ap length e₂ ∙ length-sets _ (middle + 0) body ∙ l₁ in
-    c .before .before .join .ensures
-    ∙ joined-over (a .how) (a .total) _
-    (record {
-      low-stream = s .pre .1 .low-stream;
-      low-id = s .pre .1 .low-id;
-      low-total = s .pre .1 .low-total;
-      room = s .pre .1 .room;
-      long = l₂ ∙ s .pre .1 .long;
-    })
-    ∙ ap (joinedOf (a .how))
-    (reply-stored o _ _ front body (a .total) (a .front .body) (s .pre .1 .long-total) (s .pre .1 .long-body) (omega (arith, s .pre .1 .long, t)) e₁ e₂)
+    reply-joined (a .front) (a .how) o _ _ _ body (a .total) (s .pre .1) e₁
+    (ap (putMid middle (length o - middle) _) (g .ensures) ∙ sets-part _ middle (length o - middle) 0 body (omega (arith, l₁, s .pre .1 .long, s .pre .1 .long-total, t)) (omega (arith, s .pre .1 .long, s .pre .1 .long-body, s .pre .1 .long-total, t)))
+    (c .before .before .join .ensures)
 
 pub put-reply-spec : {M : Type 1} → statement M
 put-reply-spec =
