@@ -1,0 +1,4 @@
+pub mod CutApart
+pub mod Arrives
+pub mod Premises
+pub mod Instance

@@ -1,0 +1,3 @@
+pub mod Cut
+pub mod Answers
+pub mod Instance
