@@ -30,13 +30,13 @@ use Rattle.slot.specs.Slot.{lawfulSlot, lawful}
 use Rattle.slot.specs.Step.{finish, hold, dropBy, firstStep, nextStep}
 use Rattle.receiver.specs.Receiver.{ready, acceptOf}
 use Rattle.delivery.specs.Delivery.{runOf, those, ours, givenTo, repliesTo}
-use Rattle.reply.specs.Reply.{sendingOf, kindOf, replyBy, joinedIn, carriedOf, sentOf, repliedOf}
+use Rattle.reply.specs.Reply.{sendingOf, kindOfCommand, replyBy, joinedIn, carriedOf, sentOf, repliedOf}
 use Rattle.reply_claims.specs.Cut.{saidLength, cutApart}
 use Rattle.reply_claims.specs.Answers.{Answers, packetsIn}
 use Rattle.reply_claims.specs.Instance.{asked, answered, ByHand, box, link, information, first, reply, slots, buffer, output, before, later, after, OneReplyArrives}
 
 pub by-hand : ByHand
-unfolding asked answered repliedOf sentOf carriedOf joinedIn replyBy kindOf limitFits isStream inRange sizeFor headerBytes packetOf roomFits varintAt varintBytes badTag tagAt valueAt tagBytes headBytes partBytes fieldBytes roleOf judged addedAt readAt fieldAt fieldsFrom responseFrom payloadOf envelopeOf badPlace sequenceAt rowOf rows within
+unfolding asked answered repliedOf sentOf carriedOf joinedIn replyBy kindOfCommand limitFits isStream inRange sizeFor headerBytes packetOf roomFits varintAt varintBytes badTag tagAt valueAt tagBytes headBytes partBytes fieldBytes roleOf judged addedAt readAt fieldAt fieldsFrom responseFrom payloadOf envelopeOf badPlace sequenceAt rowOf rows within
 by-hand = refl
 
 law : lawful 40 slots ≡ true
@@ -47,7 +47,7 @@ letter : (b : ℕ) → described (b ∷ []) ≡ true → WellFormed (b ∷ [])
 letter b e = more (b ∷ []) [] refl e empty
 
 answers : Answers box (link 20 40) information (pos 20) output
-unfolding replyBy kindOf limitFits isStream inRange sizeFor headerBytes packetOf roomFits varintAt varintBytes badTag tagAt valueAt tagBytes headBytes partBytes fieldBytes roleOf judged addedAt readAt fieldAt fieldsFrom responseFrom payloadOf envelopeOf described rows within
+unfolding replyBy kindOfCommand limitFits isStream inRange sizeFor headerBytes packetOf roomFits varintAt varintBytes badTag tagAt valueAt tagBytes headBytes partBytes fieldBytes roleOf judged addedAt readAt fieldAt fieldsFrom responseFrom payloadOf envelopeOf described rows within
 answers =
     record {
       payload = Payload.None;
@@ -63,11 +63,11 @@ answers =
     }
 
 begins : first ≡ getD (packetsIn (repliedOf box (link 20 40) information output)) 0 []
-unfolding repliedOf sentOf carriedOf joinedIn replyBy kindOf limitFits isStream inRange sizeFor headerBytes packetOf roomFits varintAt varintBytes badTag tagAt valueAt tagBytes headBytes partBytes fieldBytes roleOf judged addedAt readAt fieldAt fieldsFrom responseFrom payloadOf envelopeOf badPlace sequenceAt rowOf rows within saidLength cutApart
+unfolding repliedOf sentOf carriedOf joinedIn replyBy kindOfCommand limitFits isStream inRange sizeFor headerBytes packetOf roomFits varintAt varintBytes badTag tagAt valueAt tagBytes headBytes partBytes fieldBytes roleOf judged addedAt readAt fieldAt fieldsFrom responseFrom payloadOf envelopeOf badPlace sequenceAt rowOf rows within saidLength cutApart
 begins = refl
 
 sent : those (ours (sendingOf (link 20 40))) later ≡ drop 1 (packetsIn (repliedOf box (link 20 40) information output))
-unfolding repliedOf sentOf carriedOf joinedIn replyBy kindOf limitFits isStream inRange sizeFor headerBytes packetOf roomFits varintAt varintBytes badTag tagAt valueAt tagBytes headBytes partBytes fieldBytes roleOf judged addedAt readAt fieldAt fieldsFrom responseFrom payloadOf envelopeOf badPlace sequenceAt rowOf rows within saidLength cutApart
+unfolding repliedOf sentOf carriedOf joinedIn replyBy kindOfCommand limitFits isStream inRange sizeFor headerBytes packetOf roomFits varintAt varintBytes badTag tagAt valueAt tagBytes headBytes partBytes fieldBytes roleOf judged addedAt readAt fieldAt fieldsFrom responseFrom payloadOf envelopeOf badPlace sequenceAt rowOf rows within saidLength cutApart
 sent = refl
 
 arrived : givenTo 40 (sendingOf (link 20 40)) (repliesTo 40 slots buffer before (first ∷ later) after)
