@@ -24,7 +24,7 @@ use Rattle.control.specs.declared.envelope.Envelope.{Envelope}
 use Rattle.joining.specs.Joined.{joinedOf, sizes}
 use Rattle.joining.proofs.Pieces.{joined-long}
 use Rattle.reply.specs.declared.Link.{Link}
-use Rattle.reply.specs.Reply.{Box, sendingOf, kindOf, replyOf, linkLines, stringsOf, Replied, silent, sent, refusing, faulted, joinedIn, carriedOf, sentOf, isResponse, repliedBy}
+use Rattle.reply.specs.Reply.{Box, sendingOf, kindOfCommand, replyOf, linkLines, stringsOf, Replied, silent, sent, refusing, faulted, joinedIn, carriedOf, sentOf, isResponse, repliedBy}
 
 -- ---- under 1, which no reply tells, the output stays
 
@@ -42,8 +42,8 @@ sent-left : (b : Box) (l : Link) (v : ℕ) (out : List ℕ) → Left out (sentOf
 unfolding sentOf carriedOf joinedIn
 sent-left b l v out =
     let joined = joinedOf (sendingOf l) (replyOf b v) in
-    by-table (Left out) (linkLines l (b .members) (length (b .transports)) (kindOf v)) (refusing out) (carriedOf b l v (kindOf v) out) (λ n e. refl)
-    (λ h. carried-left (ltb (l .limit) (length (replyOf b v))) (ltb (length out) (length joined)) (firstFault (stringsOf b (kindOf v))) (length joined) out (sets out 0 joined))
+    by-table (Left out) (linkLines l (b .members) (length (b .transports)) (kindOfCommand v)) (refusing out) (carriedOf b l v (kindOfCommand v) out) (λ n e. refl)
+    (λ h. carried-left (ltb (l .limit) (length (replyOf b v))) (ltb (length out) (length joined)) (firstFault (stringsOf b (kindOfCommand v))) (length joined) out (sets out 0 joined))
 
 either-left : (response : Bool) (out : List ℕ) (w : WrittenOf (ℕ × List ℕ) Replied) → Left out w → Left out (cond response (written (given silent) out) w)
 either-left true out w k = λ e. refl

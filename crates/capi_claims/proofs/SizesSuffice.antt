@@ -78,8 +78,8 @@ use Rattle.walk.specs.Refusal.{numberMore}
 use Rattle.joining.specs.Joined.{joinedOf}
 use Rattle.reply.specs.declared.Link.{Link}
 use Rattle.reply.specs.declared.body.Members.{Members}
-use Rattle.reply.specs.declared.body.Kind.{Kind}
-use Rattle.reply.specs.declared.body.Kind.the-variants.{Information, Features, Bare, Other}
+use Rattle.reply.specs.declared.body.CommandKind.{CommandKind}
+use Rattle.reply.specs.declared.body.CommandKind.the-variants.{Information, Features, Bare, Other}
 use Rattle.reply.specs.Reply as reply
 use Rattle.reply.specs.Reply.{Box, boxOf, codeOf, memberOf, bodyBy, replyBy, replyOf, badCarried, stringsBy, Replied, silent, joinedIn, carriedOf, sentOf, isResponse, repliedOf}
 use Rattle.calls_reply.specs.Convert.{linkOf, fewSigned, transportsFor}
@@ -319,25 +319,25 @@ information-done serialNumber name deviceType transports out answer l e few well
 
 -- ---- the reply
 
-body-most : (serialNumber name : List ℕ) (transports : List ℤ) (deviceType : List ℕ) (f : DeviceFeatures) (kind : Kind) → length transports ≤ mostTransports
+body-most : (serialNumber name : List ℕ) (transports : List ℤ) (deviceType : List ℕ) (f : DeviceFeatures) (kind : CommandKind) → length transports ≤ mostTransports
     → length (bodyBy serialNumber name transports deviceType f kind) ≤ informationSize (length serialNumber) (length name) (length deviceType)
 body-most serialNumber name transports deviceType f Information few = information-most serialNumber name transports deviceType few
 body-most serialNumber name transports deviceType f Features few = omega (arith, features-most f)
 body-most serialNumber name transports deviceType f Bare few = omega arith
 body-most serialNumber name transports deviceType f Other few = omega arith
 
-reply-most : (v : ℕ) (kind : Kind) (m : Members) (body : List ℕ) → length (replyBy v kind m body) ≤ envelopeSize (length body)
+reply-most : (v : ℕ) (kind : CommandKind) (m : Members) (body : List ℕ) → length (replyBy v kind m body) ≤ envelopeSize (length body)
 unfolding replyBy
 reply-most v kind m body = envelope-most v (envelope.Response (codeOf kind) (memberOf m kind)) body
 
-carried-fine : (m : Members) (count : ℕ) (kind : Kind) → MemberNumber (m .information) → MemberNumber (m .features) → count ≤ mostTransports
+carried-fine : (m : Members) (count : ℕ) (kind : CommandKind) → MemberNumber (m .information) → MemberNumber (m .features) → count ≤ mostTransports
     → badCarried m count kind ≡ false
 carried-fine m count Information i f few = rw (member-fine (m .information) i, le-ltb mostTransports count few)
 carried-fine m count Features i f few = member-fine (m .features) f
 carried-fine m count Bare i f few = refl
 carried-fine m count Other i f few = refl
 
-carried-well : (serialNumber name deviceType : List ℕ) (kind : Kind) → WellFormed serialNumber → WellFormed name → WellFormed deviceType
+carried-well : (serialNumber name deviceType : List ℕ) (kind : CommandKind) → WellFormed serialNumber → WellFormed name → WellFormed deviceType
     → AllWellFormed (stringsBy serialNumber name deviceType kind)
 carried-well serialNumber name deviceType Information s n t = (s, (n, (t, tt)))
 carried-well serialNumber name deviceType Features s n t = tt
@@ -362,14 +362,14 @@ module _ (b : Box) (l : Link) (v : ℕ) (out : List ℕ) where
   unfolding joinedIn
   joined-done space = rw (le-ltb (length out) (length (joinedOf (reply.sendingOf l) (replyOf b v))) space)
 
-  carried-done : length (replyOf b v) ≤ l .limit → AllWellFormed (reply.stringsOf b (reply.kindOf v))
-      → length (joinedOf (reply.sendingOf l) (replyOf b v)) ≤ length out → numberMore (carriedOf b l v (reply.kindOf v) out .told) ≡ 0
+  carried-done : length (replyOf b v) ≤ l .limit → AllWellFormed (reply.stringsOf b (reply.kindOfCommand v))
+      → length (joinedOf (reply.sendingOf l) (replyOf b v)) ≤ length out → numberMore (carriedOf b l v (reply.kindOfCommand v) out .told) ≡ 0
   unfolding carriedOf
   carried-done within strings space =
-      rw (le-ltb (l .limit) (length (replyOf b v)) within, well-faultless (reply.stringsOf b (reply.kindOf v)) strings) (joined-done space)
+      rw (le-ltb (l .limit) (length (replyOf b v)) within, well-faultless (reply.stringsOf b (reply.kindOfCommand v)) strings) (joined-done space)
 
   sent-done : roomFits (l .room) ≡ true → limitFits (l .limit) ≡ true → inRange 0 (l .id) (l .sequence) ≡ true
-      → badCarried (b .members) (length (b .transports)) (reply.kindOf v) ≡ false → length (replyOf b v) ≤ l .limit → AllWellFormed (reply.stringsOf b (reply.kindOf v))
+      → badCarried (b .members) (length (b .transports)) (reply.kindOfCommand v) ≡ false → length (replyOf b v) ≤ l .limit → AllWellFormed (reply.stringsOf b (reply.kindOfCommand v))
       → length (joinedOf (reply.sendingOf l) (replyOf b v)) ≤ length out → numberMore (sentOf b l v out .told) ≡ 0
   unfolding sentOf
   sent-done room limit range carried within strings space = rw (room, limit, range, carried) (carried-done within strings space)
@@ -400,7 +400,7 @@ reply-done message serialNumber name deviceType transports features members room
     let b : Box = boxOf serialNumber name listed deviceType features members in
     let k : Link = record { room = room; limit = limit; id = id; sequence = sequence } in
     let v = extended (e .command) in
-    let kind = reply.kindOf v in
+    let kind = reply.kindOfCommand v in
     let fewer : length listed ≤ mostTransports = few-transports transports n few in
     let body = body-most serialNumber name listed deviceType features kind fewer in
     let whole = reply-most v kind members (reply.bodyOf b kind) in

@@ -21,8 +21,8 @@ use Rattle.walk.specs.Gathered.{mostTransports}
 use Rattle.control.specs.declared.response.ResponsePayload.{ResponsePayload}
 use Rattle.control.specs.Response.{badResponsePayload}
 use Rattle.device.specs.declared.features.DeviceFeatures.{DeviceFeatures}
-use Rattle.reply.specs.declared.body.Kind.{Kind}
-use Rattle.reply.specs.declared.body.Kind.the-variants.{Information, Features, Bare, Other}
+use Rattle.reply.specs.declared.body.CommandKind.{CommandKind}
+use Rattle.reply.specs.declared.body.CommandKind.the-variants.{Information, Features, Bare, Other}
 use Rattle.reply.specs.declared.body.Members.{Members}
 use Rattle.reply.specs.declared.front.Front.{Front}
 use Rattle.reply.specs.declared.Link.{Link}
@@ -35,7 +35,7 @@ use Rattle.reply.proofs.Fronts.{Whole, front-is}
 -- ---- the reply's bytes
 
 -- where there is no member there are no bytes
-pub whole-by : (serialNumber name : List ℕ) (transports : List ℤ) (deviceType : List ℕ) (features : DeviceFeatures) (m : Members) (k : Kind)
+pub whole-by : (serialNumber name : List ℕ) (transports : List ℤ) (deviceType : List ℕ) (features : DeviceFeatures) (m : Members) (k : CommandKind)
     → Whole (memberOf m k) (bodyBy serialNumber name transports deviceType features k)
 whole-by serialNumber name transports deviceType features m Information = tt
 whole-by serialNumber name transports deviceType features m Features = tt
@@ -45,7 +45,7 @@ whole-by serialNumber name transports deviceType features m Other = refl
 abbrev frontOf : ℕ → ℕ → ResponsePayload → ℕ → Front
 frontOf v c m n = record { value = v; code = c; member = m; body = n }
 
-reply-is : (v : ℕ) (k : Kind) (m : Members) (body : List ℕ) (f : Front) → FrontFor v k m (length body) f → Whole (memberOf m k) body
+reply-is : (v : ℕ) (k : CommandKind) (m : Members) (body : List ℕ) (f : Front) → FrontFor v k m (length body) f → Whole (memberOf m k) body
     → frontBytes f ++ body ≡ replyBy v k m body
 unfolding replyBy
 reply-is v k m body f h none =
@@ -57,7 +57,7 @@ reply-is v k m body f h none =
     rw e (front-is v (codeOf k) (memberOf m k) body none)
 
 -- the member's bytes are some of the reply's
-pub body-within : (v : ℕ) (k : Kind) (m : Members) (body : List ℕ) → Whole (memberOf m k) body → length body ≤ length (replyBy v k m body)
+pub body-within : (v : ℕ) (k : CommandKind) (m : Members) (body : List ℕ) → Whole (memberOf m k) body → length body ≤ length (replyBy v k m body)
 body-within v k m body none =
     let f : Front = frontOf v (extended (codeOf k)) (memberOf m k) (length body) in
     let e = ap length (reply-is v k m body f (record { value = refl; code = refl; member = refl; body = refl }) none) in
@@ -66,14 +66,14 @@ body-within v k m body none =
 
 -- ---- the reply, counted
 
-pub record CountedReply (v : ℕ) (k : Kind) (m : Members) (body : List ℕ) (limit left : ℕ) (f : Front) : Type 0 where
+pub record CountedReply (v : ℕ) (k : CommandKind) (m : Members) (body : List ℕ) (limit left : ℕ) (f : Front) : Type 0 where
   pub under : left ≤ limit
   pub long : f .body ≡ length body
   pub low : f .body ≤ limit
   pub whole : frontBytes f ++ body ≡ replyBy v k m body
   pub total : length (replyBy v k m body) ≡ length (frontBytes f) + (limit - left)
 
-pub counted : (v : ℕ) (k : Kind) (m : Members) (body : List ℕ) (limit left : ℕ) (f : Front) → Whole (memberOf m k) body
+pub counted : (v : ℕ) (k : CommandKind) (m : Members) (body : List ℕ) (limit left : ℕ) (f : Front) → Whole (memberOf m k) body
     → lessRoom (length body) (Left limit) ≡ Left left → FrontFor v k m (limit - left) f → CountedReply v k m body limit left f
 counted v k m body limit left f none er h =
     let q = left-is limit (length body) left er in
@@ -90,25 +90,25 @@ counted v k m body limit left f none er h =
 
 -- ---- what the table leaves
 
-pub member-fine : (m : Members) (n : ℕ) (k : Kind) → badCarried m n k ≡ false → badResponsePayload (memberOf m k) ≡ false
+pub member-fine : (m : Members) (n : ℕ) (k : CommandKind) → badCarried m n k ≡ false → badResponsePayload (memberOf m k) ≡ false
 member-fine m n Information e = or-false (badMember (m .information)) (ltb mostTransports n) e .0
 member-fine m n Features e = e
 member-fine m n Bare e = refl
 member-fine m n Other e = refl
 
-pub few-by : (m : Members) (t : List ℤ) (k : Kind) → badCarried m (length t) k ≡ false → FewCarried k t
+pub few-by : (m : Members) (t : List ℤ) (k : CommandKind) → badCarried m (length t) k ≡ false → FewCarried k t
 few-by m t Information e = ltb-false mostTransports (length t) (or-false (badMember (m .information)) (ltb mostTransports (length t)) e .1)
 few-by m t Features e = tt
 few-by m t Bare e = tt
 few-by m t Other e = tt
 
-fine-none : (l : Link) (m : Members) (n : ℕ) (k : Kind) → judgedOf l m n k ≡ given tt → NoneHolds (linkLines l m n k)
+fine-none : (l : Link) (m : Members) (n : ℕ) (k : CommandKind) → judgedOf l m n k ≡ given tt → NoneHolds (linkLines l m n k)
 unfolding judgedOf
 fine-none l m n k e =
     by-table (λ (t : ToldMore (Unit {0})). t ≡ given tt → NoneHolds (linkLines l m n k)) (linkLines l m n k) (λ (i : ℕ). refused (i, [])) (given tt)
     (λ i q. absurd (let z : _≡_ {A = ℕ} 0 1 = cc in omega arith)) (λ h q. h) e
 
-pub fine-carries : (kind : Kind) (m : Members) (t : List ℤ) (l : Link) → judgedOf l m (length t) kind ≡ given tt → Carries kind m t l
+pub fine-carries : (kind : CommandKind) (m : Members) (t : List ℤ) (l : Link) → judgedOf l m (length t) kind ≡ given tt → Carries kind m t l
 fine-carries kind m t l e =
     let h = fine-none l m (length t) kind e in
     record {

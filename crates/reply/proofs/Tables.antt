@@ -8,14 +8,14 @@ use borrow.Author.Tests.{lt-ltb, le-ltb}
 use Rattle.wire.specs.Told.{ToldMore, given, refused, Line, table, WrittenOf, written}
 use Rattle.text_writer.specs.declared.TextFault.the-variants.{None, At}
 use Rattle.text_writer.specs.Texts.{firstFault}
-use Rattle.reply.specs.declared.body.Kind.{Kind}
+use Rattle.reply.specs.declared.body.CommandKind.{CommandKind}
 use Rattle.reply.specs.declared.Link.{Link}
-use Rattle.reply.specs.Reply.{Box, sendingOf, kindOf, bodyOf, replyBy, stringsOf, linkLines, Replied, refusing, joinedIn, carriedOf, sentOf}
+use Rattle.reply.specs.Reply.{Box, sendingOf, kindOfCommand, bodyOf, replyBy, stringsOf, linkLines, Replied, refusing, joinedIn, carriedOf, sentOf}
 use Rattle.reply.specs.Put.{judgedOf}
 
 -- ---- what the reply's bytes decide
 
-module _ (b : Box) (l : Link) (v : ℕ) (k : Kind) (out : List ℕ) where
+module _ (b : Box) (l : Link) (v : ℕ) (k : CommandKind) (out : List ℕ) where
   abbrev reply : List ℕ
   reply = replyBy v k (b .members) (bodyOf b k)
 
@@ -49,18 +49,18 @@ module _ (out : List ℕ) (rest : WrittenOf (ℕ × List ℕ) Replied) where
   through [] = refl
   through (r ∷ rs) = through-line (r .holds) (r .number) _ _ (through rs)
 
-module _ (b : Box) (l : Link) (v : ℕ) (k : Kind) (out : List ℕ) (kind : k ≡ kindOf v) where
+module _ (b : Box) (l : Link) (v : ℕ) (k : CommandKind) (out : List ℕ) (kind : k ≡ kindOfCommand v) where
   abbrev rest : WrittenOf (ℕ × List ℕ) Replied
-  rest = carriedOf b l v (kindOf v) out
+  rest = carriedOf b l v (kindOfCommand v) out
 
   sent-by : (t : ToldMore (Unit {0})) → judgedOf l (b .members) (length (b .transports)) k ≡ t → after out rest t ≡ sentOf b l v out
   unfolding sentOf judgedOf
   sent-by t e =
       ap (after out rest) (sym e ∙ ap (judgedOf l (b .members) (length (b .transports))) kind)
-      ∙ sym (through out rest (linkLines l (b .members) (length (b .transports)) (kindOf v)))
+      ∙ sym (through out rest (linkLines l (b .members) (length (b .transports)) (kindOfCommand v)))
 
   pub is-refused : (why : ℕ × List ℕ) → judgedOf l (b .members) (length (b .transports)) k ≡ refused why → written (refused why) out ≡ sentOf b l v out
   is-refused why e = sent-by (refused why) e
 
   pub goes-on : judgedOf l (b .members) (length (b .transports)) k ≡ given tt → carriedOf b l v k out ≡ sentOf b l v out
-  goes-on e = ap (λ (x : Kind). carriedOf b l v x out) kind ∙ sent-by (given tt) e
+  goes-on e = ap (λ (x : CommandKind). carriedOf b l v x out) kind ∙ sent-by (given tt) e

@@ -15,8 +15,8 @@ use Rattle.joining.specs.Joined.{sizes}
 use Rattle.field.specs.Signed.{extended}
 use Rattle.walk.specs.Gathered.{mostTransports}
 use Rattle.walk.specs.Refusal.{messageNumber}
-use Rattle.reply.specs.declared.body.Kind.{Kind}
-use Rattle.reply.specs.declared.body.Kind.the-variants.{Information, Features, Bare, Other}
+use Rattle.reply.specs.declared.body.CommandKind.{CommandKind}
+use Rattle.reply.specs.declared.body.CommandKind.the-variants.{Information, Features, Bare, Other}
 use Rattle.reply.specs.declared.body.Members.{Members}
 use Rattle.reply.specs.declared.front.Front.{Front}
 use Rattle.reply.specs.declared.Link.{Link}
@@ -54,20 +54,20 @@ abbrev pub verdictOf : Verdict → ToldMore (Unit {0})
 verdictOf Verdict.Fine = given tt
 verdictOf (Verdict.Refused why) = refused (whyOf why)
 
-unfoldable pub judgedOf : Link → Members → ℕ → Kind → ToldMore (Unit {0})
+unfoldable pub judgedOf : Link → Members → ℕ → CommandKind → ToldMore (Unit {0})
 judgedOf l m count kind = table (linkLines l m count kind) (λ n. refused (n, [])) (given tt)
 
 -- ---- the reply, counted
 
 -- transports that are carried are at most eight
-abbrev pub FewCarried : Kind → List ℤ → Type 0
+abbrev pub FewCarried : CommandKind → List ℤ → Type 0
 FewCarried Information transports = length transports ≤ mostTransports
 FewCarried Features transports = Unit {0}
 FewCarried Bare transports = Unit {0}
 FewCarried Other transports = Unit {0}
 
 -- a front for a command of this value and kind, with a member of n bytes
-pub record FrontFor (v : ℕ) (kind : Kind) (m : Members) (n : ℕ) (f : Front) : Type 0 where
+pub record FrontFor (v : ℕ) (kind : CommandKind) (m : Members) (n : ℕ) (f : Front) : Type 0 where
   pub value : f .value ≡ v
   pub code : f .code ≡ extended (codeOf kind)
   pub member : f .member ≡ memberOf m kind
@@ -81,7 +81,7 @@ pub record ReplyWithin (f : Front) (body reply : List ℕ) (limit : ℕ) : Type 
   pub within : length reply ≤ limit
 
 -- a reply whose member has these bytes is above the limit, or has this front
-abbrev pub MeasuredAs : ℕ → Kind → Members → List ℕ → ℕ → Measured → Type 0
+abbrev pub MeasuredAs : ℕ → CommandKind → Members → List ℕ → ℕ → Measured → Type 0
 MeasuredAs v kind m body limit TooLong = limit < length (replyBy v kind m body)
 MeasuredAs v kind m body limit (Fits f) = ReplyWithin f body (replyBy v kind m body) limit
 
@@ -107,7 +107,7 @@ pub record Joinable (f : Front) (body : List ℕ) (l : Link) : Type 0 where
   pub low-id : l .id < fourBits
 
 -- no line of the table up to the reply holds
-pub record Carries (kind : Kind) (m : Members) (transports : List ℤ) (l : Link) : Type 0 where
+pub record Carries (kind : CommandKind) (m : Members) (transports : List ℤ) (l : Link) : Type 0 where
   pub room : roomFits (l .room) ≡ true
   pub limit : limitFits (l .limit) ≡ true
   pub range : inRange 0 (l .id) (l .sequence) ≡ true

@@ -29,8 +29,8 @@ use Rattle.control.specs.Envelope.{envelopeOf, envelopeFields}
 use Rattle.device.specs.declared.features.DeviceFeatures.{DeviceFeatures}
 use Rattle.device.specs.Information.{informationFields, informationStrings}
 use Rattle.device.specs.Features.{featuresFields}
-use Rattle.reply.specs.declared.body.Kind.{Kind}
-use Rattle.reply.specs.declared.body.Kind.the-variants.{Information, Features, Bare, Other}
+use Rattle.reply.specs.declared.body.CommandKind.{CommandKind}
+use Rattle.reply.specs.declared.body.CommandKind.the-variants.{Information, Features, Bare, Other}
 use Rattle.reply.specs.declared.body.Members.{Members}
 use Rattle.reply.specs.declared.Link.{Link}
 
@@ -57,64 +57,64 @@ sendingOf l = record { room = l .room; stream = 0; id = l .id; sequence = l .seq
 
 -- by the varint's value of the command: 20 asks for device information, 28 for features; 94 and 95 are answered by a bare success,
 -- any other command as not supported
-unfoldable pub kindOf : ℕ → Kind
-kindOf v =
+unfoldable pub kindOfCommand : ℕ → CommandKind
+kindOfCommand v =
     cond (eqb v 20) Information
     (cond (eqb v 28) Features
     (cond (eqb v 94 || eqb v 95) Bare Other))
 
 -- the error code: success, or that the command is not supported
-abbrev pub codeOf : Kind → ℤ
+abbrev pub codeOf : CommandKind → ℤ
 codeOf Information = pos 0
 codeOf Features = pos 0
 codeOf Bare = pos 0
 codeOf Other = pos 3
 
 -- the response's payload
-abbrev pub memberOf : Members → Kind → ResponsePayload
+abbrev pub memberOf : Members → CommandKind → ResponsePayload
 memberOf m Information = Inner.Member (m .information)
 memberOf m Features = Inner.Member (m .features)
 memberOf m Bare = Inner.None
 memberOf m Other = Inner.None
 
 -- the bytes of its member
-abbrev pub bodyBy : List ℕ → List ℕ → List ℤ → List ℕ → DeviceFeatures → Kind → List ℕ
+abbrev pub bodyBy : List ℕ → List ℕ → List ℤ → List ℕ → DeviceFeatures → CommandKind → List ℕ
 bodyBy serialNumber name transports deviceType features Information = messageBytes (informationFields serialNumber name transports deviceType)
 bodyBy serialNumber name transports deviceType features Features = messageBytes (featuresFields features)
 bodyBy serialNumber name transports deviceType features Bare = []
 bodyBy serialNumber name transports deviceType features Other = []
 
-abbrev pub bodyOf : Box → Kind → List ℕ
+abbrev pub bodyOf : Box → CommandKind → List ℕ
 bodyOf b kind = bodyBy (b .serialNumber) (b .name) (b .transports) (b .deviceType) (b .features) kind
 
 -- the bytes of a reply of a kind: an envelope of the same command with a response
-unfoldable pub replyBy : ℕ → Kind → Members → List ℕ → List ℕ
+unfoldable pub replyBy : ℕ → CommandKind → Members → List ℕ → List ℕ
 replyBy v kind m body = messageBytes (envelopeFields v (Sent.Response (codeOf kind) (memberOf m kind)) body)
 
 abbrev pub replyOf : Box → ℕ → List ℕ
-replyOf b v = replyBy v (kindOf v) (b .members) (bodyOf b (kindOf v))
+replyOf b v = replyBy v (kindOfCommand v) (b .members) (bodyOf b (kindOfCommand v))
 
 -- ---- the refusals: only what the reply carries is judged
 
 -- a member's number that is carried is out of its range, or more transports than eight are carried
-abbrev pub badCarried : Members → ℕ → Kind → Bool
+abbrev pub badCarried : Members → ℕ → CommandKind → Bool
 badCarried m count Information = badMember (m .information) || ltb mostTransports count
 badCarried m count Features = badMember (m .features)
 badCarried m count Bare = false
 badCarried m count Other = false
 
 -- the strings that are carried, in writing order
-abbrev pub stringsBy : List ℕ → List ℕ → List ℕ → Kind → List (ℕ × List ℕ)
+abbrev pub stringsBy : List ℕ → List ℕ → List ℕ → CommandKind → List (ℕ × List ℕ)
 stringsBy serialNumber name deviceType Information = informationStrings serialNumber name deviceType
 stringsBy serialNumber name deviceType Features = []
 stringsBy serialNumber name deviceType Bare = []
 stringsBy serialNumber name deviceType Other = []
 
-abbrev pub stringsOf : Box → Kind → List (ℕ × List ℕ)
+abbrev pub stringsOf : Box → CommandKind → List (ℕ × List ℕ)
 stringsOf b kind = stringsBy (b .serialNumber) (b .name) (b .deviceType) kind
 
 -- room, limit, then the arguments that do not look at the reply
-abbrev pub linkLines : Link → Members → ℕ → Kind → List Line
+abbrev pub linkLines : Link → Members → ℕ → CommandKind → List Line
 linkLines l m count kind =
     line 13 (not (roomFits (l .room)))
     ∷ line 17 (not (limitFits (l .limit)))
@@ -144,14 +144,14 @@ joinedIn w m out =
     cond (ltb (length out) (length (joinedOf w m))) (refusing out 14) (written (given (sent (length (joinedOf w m)))) (sets out 0 (joinedOf w m)))
 
 -- 15 for a reply above the limit, 36, 14
-unfoldable pub carriedOf : Box → Link → ℕ → Kind → List ℕ → WrittenOf (ℕ × List ℕ) Replied
+unfoldable pub carriedOf : Box → Link → ℕ → CommandKind → List ℕ → WrittenOf (ℕ × List ℕ) Replied
 carriedOf b l v kind out =
     cond (ltb (l .limit) (length (replyBy v kind (b .members) (bodyOf b kind)))) (refusing out 15)
     (faulted (firstFault (stringsOf b kind)) out (joinedIn (sendingOf l) (replyBy v kind (b .members) (bodyOf b kind)) out))
 
 -- the reply to a command: 13, 17, 15, and then those
 unfoldable pub sentOf : Box → Link → ℕ → List ℕ → WrittenOf (ℕ × List ℕ) Replied
-sentOf b l v out = table (linkLines l (b .members) (length (b .transports)) (kindOf v)) (refusing out) (carriedOf b l v (kindOf v) out)
+sentOf b l v out = table (linkLines l (b .members) (length (b .transports)) (kindOfCommand v)) (refusing out) (carriedOf b l v (kindOfCommand v) out)
 
 -- an envelope that is itself a response
 abbrev pub isResponse : Payload → Bool

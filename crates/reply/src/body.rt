@@ -16,7 +16,7 @@ ghost use lib.Seq.{sets};
 ghost use Rattle.field.specs.Signed.{extended};
 ghost use Rattle.field_writer.specs.Message.{lessRoom};
 ghost use Rattle.text_writer.specs.Texts.{firstFault};
-ghost use Rattle.reply.specs.Reply.{kindOf, codeOf, bodyBy, stringsBy};
+ghost use Rattle.reply.specs.Reply.{kindOfCommand, codeOf, bodyBy, stringsBy};
 ghost use Rattle.reply.specs.Put.{FewCarried};
 
 // The numbers of the response's members, from Amazon's schema.
@@ -26,7 +26,7 @@ pub struct Members {
 }
 
 // What a command asks for.
-pub(crate) enum Kind {
+pub enum CommandKind {
     Information,
     Features,
     Bare,
@@ -34,39 +34,39 @@ pub(crate) enum Kind {
 }
 
 // By the varint's value of the command.
-pub(crate) fn kind_of(value: u64) -> Kind
-    ensures { λ r. ⌜ r ≡ kindOf value ⌝ }
+pub(crate) fn kind_of_command(value: u64) -> CommandKind
+    ensures { λ r. ⌜ r ≡ kindOfCommand value ⌝ }
 {
     if value == 20 {
-        return Kind::Information;
+        return CommandKind::Information;
     }
     if value == 28 {
-        return Kind::Features;
+        return CommandKind::Features;
     }
     if value == 94 {
-        return Kind::Bare;
+        return CommandKind::Bare;
     }
     if value == 95 {
-        return Kind::Bare;
+        return CommandKind::Bare;
     }
-    Kind::Other
+    CommandKind::Other
 }
 
 // The varint's value of the error code.
-pub(crate) fn code_of(kind: Kind) -> u64
+pub(crate) fn code_of(kind: CommandKind) -> u64
     ensures { λ r. ⌜ r ≡ extended (codeOf kind) ⌝ }
 {
     match kind {
-        Kind::Information => 0,
-        Kind::Features => 0,
-        Kind::Bare => 0,
-        Kind::Other => 3,
+        CommandKind::Information => 0,
+        CommandKind::Features => 0,
+        CommandKind::Bare => 0,
+        CommandKind::Other => 3,
     }
 }
 
 // The first string that is carried and not well formed.
 pub(crate) fn fault_of(
-    kind: Kind,
+    kind: CommandKind,
     serial_number: &[u8],
     name: &[u8],
     device_type: &[u8],
@@ -75,17 +75,17 @@ pub(crate) fn fault_of(
         ≡ firstFault (stringsBy (now («serial_number» .entry)) (now (name .entry)) (now («device_type» .entry)) kind) ⌝ }
 {
     match kind {
-        Kind::Information => information_fault(serial_number, name, device_type),
-        Kind::Features => TextFault::None,
-        Kind::Bare => TextFault::None,
-        Kind::Other => TextFault::None,
+        CommandKind::Information => information_fault(serial_number, name, device_type),
+        CommandKind::Features => TextFault::None,
+        CommandKind::Bare => TextFault::None,
+        CommandKind::Other => TextFault::None,
     }
 }
 
 // The room that the member's bytes leave: what does not fit the limit is never added up.
 pub(crate) fn body_room(
     limit: usize,
-    kind: Kind,
+    kind: CommandKind,
     serial_number: &[u8],
     name: &[u8],
     transports: &[i32],
@@ -100,8 +100,14 @@ pub(crate) fn body_room(
         kind)) (Room.Left limit) ⌝ }
 {
     match kind {
-        Kind::Information => information_room(limit, serial_number, name, transports, device_type),
-        Kind::Features => {
+        CommandKind::Information => information_room(
+            limit,
+            serial_number,
+            name,
+            transports,
+            device_type,
+        ),
+        CommandKind::Features => {
             let n = scalar_len(FEATURES, features.features)
                 + scalar_len(DEVICE_ATTRIBUTES, features.device_attributes);
             if limit < n {
@@ -109,15 +115,15 @@ pub(crate) fn body_room(
             }
             Room::Left(limit - n)
         }
-        Kind::Bare => Room::Left(limit),
-        Kind::Other => Room::Left(limit),
+        CommandKind::Bare => Room::Left(limit),
+        CommandKind::Other => Room::Left(limit),
     }
 }
 
 // The member's bytes, written from the first byte on.
 pub(crate) fn put_body(
     out: &mut [u8],
-    kind: Kind,
+    kind: CommandKind,
     serial_number: &[u8],
     name: &[u8],
     transports: &[i32],
@@ -133,14 +139,14 @@ pub(crate) fn put_body(
         kind) ⌝ }
 {
     match kind {
-        Kind::Information => {
+        CommandKind::Information => {
             put_information(out, serial_number, name, transports, device_type);
         }
-        Kind::Features => {
+        CommandKind::Features => {
             let next = put_scalar(out, 0, FEATURES, features.features);
             put_scalar(out, next, DEVICE_ATTRIBUTES, features.device_attributes);
         }
-        Kind::Bare => {}
-        Kind::Other => {}
+        CommandKind::Bare => {}
+        CommandKind::Other => {}
     }
 }

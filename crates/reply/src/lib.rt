@@ -2,12 +2,12 @@
 pub mod body;
 pub mod front;
 
-use crate::body::Kind;
+use crate::body::CommandKind;
 use crate::body::Members;
 use crate::body::body_room;
 use crate::body::code_of;
 use crate::body::fault_of;
-use crate::body::kind_of;
+use crate::body::kind_of_command;
 use crate::body::put_body;
 use crate::front::Front;
 use crate::front::front_len;
@@ -80,31 +80,34 @@ enum Measured {
     Fits(Front),
 }
 
-fn member_of(kind: Kind, members: Members) -> ResponsePayload
+fn member_of(kind: CommandKind, members: Members) -> ResponsePayload
     ensures { λ r. ⌜ r ≡ memberOf members kind ⌝ }
 {
     match kind {
-        Kind::Information => ResponsePayload::Member(members.information),
-        Kind::Features => ResponsePayload::Member(members.features),
-        Kind::Bare => ResponsePayload::None,
-        Kind::Other => ResponsePayload::None,
+        CommandKind::Information => ResponsePayload::Member(members.information),
+        CommandKind::Features => ResponsePayload::Member(members.features),
+        CommandKind::Bare => ResponsePayload::None,
+        CommandKind::Other => ResponsePayload::None,
     }
 }
 
 // Whether what the reply carries is out of its range.
-fn bad_carried(kind: Kind, members: Members, count: usize) -> bool
+fn bad_carried(kind: CommandKind, members: Members, count: usize) -> bool
     ensures { λ r. ⌜ r ≡ badCarried members count kind ⌝ }
 {
     match kind {
-        Kind::Information => either(bad_member(members.information), MOST_TRANSPORTS < count),
-        Kind::Features => bad_member(members.features),
-        Kind::Bare => false,
-        Kind::Other => false,
+        CommandKind::Information => either(
+            bad_member(members.information),
+            MOST_TRANSPORTS < count,
+        ),
+        CommandKind::Features => bad_member(members.features),
+        CommandKind::Bare => false,
+        CommandKind::Other => false,
     }
 }
 
 // The table, from the top, up to what the reply's bytes decide.
-fn judge(link: Link, members: Members, count: usize, kind: Kind) -> Verdict
+fn judge(link: Link, members: Members, count: usize, kind: CommandKind) -> Verdict
     ensures { λ r. ⌜ verdictOf r ≡ judgedOf link members count kind ⌝ }
 {
     if !room_fits(link.room) {
@@ -123,7 +126,7 @@ fn judge(link: Link, members: Members, count: usize, kind: Kind) -> Verdict
 }
 
 // What stands before the member's bytes.
-fn front_for(value: u64, kind: Kind, members: Members, body: usize) -> Front
+fn front_for(value: u64, kind: CommandKind, members: Members, body: usize) -> Front
     ensures { λ r. ⌜ FrontFor value kind members body r ⌝ }
 {
     let code = code_of(kind);
@@ -139,7 +142,7 @@ fn front_for(value: u64, kind: Kind, members: Members, body: usize) -> Front
 // The front of the reply, if all of it is within the limit.
 fn measure(
     value: u64,
-    kind: Kind,
+    kind: CommandKind,
     limit: usize,
     serial_number: &[u8],
     name: &[u8],
@@ -183,7 +186,7 @@ fn put_reply(
     front: Front,
     total: usize,
     how: Sending,
-    kind: Kind,
+    kind: CommandKind,
     serial_number: &[u8],
     name: &[u8],
     transports: &[i32],
@@ -220,7 +223,7 @@ fn fill(
     out: &mut [u8],
     front: Front,
     link: Link,
-    kind: Kind,
+    kind: CommandKind,
     serial_number: &[u8],
     name: &[u8],
     transports: &[i32],
@@ -267,7 +270,7 @@ fn fill(
 fn carry(
     out: &mut [u8],
     value: u64,
-    kind: Kind,
+    kind: CommandKind,
     serial_number: &[u8],
     name: &[u8],
     transports: &[i32],
@@ -328,7 +331,7 @@ fn answer(
         (boxOf (now («serial_number» .entry)) (now (name .entry)) (now (transports .entry)) (now («device_type» .entry)) features
         members) link value (now (out .entry)) ⌝ }
 {
-    let kind = kind_of(value);
+    let kind = kind_of_command(value);
     match judge(link, members, transports.len(), kind) {
         Verdict::Refused(why) => Reply::Refused(why),
         Verdict::Fine => carry(

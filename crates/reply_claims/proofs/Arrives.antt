@@ -19,7 +19,7 @@ use Rattle.field.specs.Signed.{extended}
 use Rattle.text_writer.proofs.Texts.{well-faultless}
 use Rattle.joining.specs.Joined.{joinedOf}
 use Rattle.reply.specs.declared.Link.{Link}
-use Rattle.reply.specs.Reply.{Box, sendingOf, kindOf, replyOf, stringsOf, Replied, sent, joinedIn, carriedOf, sentOf, repliedOf}
+use Rattle.reply.specs.Reply.{Box, sendingOf, kindOfCommand, replyOf, stringsOf, Replied, sent, joinedIn, carriedOf, sentOf, repliedOf}
 use Rattle.reply_claims.specs.Cut.{cutApart}
 use Rattle.reply_claims.specs.Answers.{Answers, ReplyWritten, packetsCut, ReplyArrives}
 use Rattle.reply_claims.proofs.CutApart.{joined-cut-apart}
@@ -38,9 +38,9 @@ module _ (b : Box) (l : Link) (message : List ℕ) (c : ℤ) (out : List ℕ) (a
   unfolding joinedIn
   is-joined = rw (le-ltb (length out) (length (joinedOf w reply)) (a .space))
 
-  is-carried : carriedOf b l (extended c) (kindOf (extended c)) out ≡ whole
+  is-carried : carriedOf b l (extended c) (kindOfCommand (extended c)) out ≡ whole
   unfolding carriedOf
-  is-carried = rw (le-ltb (l .limit) (length reply) (a .within), well-faultless (stringsOf b (kindOf (extended c))) (a .strings)) is-joined
+  is-carried = rw (le-ltb (l .limit) (length reply) (a .within), well-faultless (stringsOf b (kindOfCommand (extended c))) (a .strings)) is-joined
 
   is-sent : sentOf b l (extended c) out ≡ whole
   unfolding sentOf

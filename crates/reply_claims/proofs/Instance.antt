@@ -31,13 +31,13 @@ use Rattle.slot.specs.Slot.{lawfulSlot, lawful}
 use Rattle.slot.specs.Step.{finish, hold, dropBy, firstStep, nextStep}
 use Rattle.receiver.specs.Receiver.{ready, readIn, acceptOf}
 use Rattle.delivery.specs.Delivery.{runOf, ours, packetsIn, shown, shownTo, repliesTo, allAnswerable}
-use Rattle.reply.specs.Reply.{sendingOf, kindOf, replyBy, joinedIn, carriedOf, sentOf, repliedOf}
+use Rattle.reply.specs.Reply.{sendingOf, kindOfCommand, replyBy, joinedIn, carriedOf, sentOf, repliedOf}
 use Rattle.reply_claims.specs.Cut.{saidLength, cutApart}
 use Rattle.reply_claims.specs.Answers.{Answers, packetsCut}
 use Rattle.reply_claims.specs.Instance.{asked, answered, ByHand, box, link, information, reply, slots, buffer, output, six, before, begun, later, after, OneReplyArrives}
 
 pub by-hand : ByHand
-unfolding asked answered repliedOf sentOf carriedOf joinedIn replyBy kindOf limitFits isStream inRange sizeFor headerBytes packetOf roomFits varintAt varintBytes badTag tagAt valueAt tagBytes headBytes partBytes fieldBytes roleOf judged addedAt readAt fieldAt fieldsFrom responseFrom payloadOf envelopeOf badPlace sequenceAt rowOf rows within
+unfolding asked answered repliedOf sentOf carriedOf joinedIn replyBy kindOfCommand limitFits isStream inRange sizeFor headerBytes packetOf roomFits varintAt varintBytes badTag tagAt valueAt tagBytes headBytes partBytes fieldBytes roleOf judged addedAt readAt fieldAt fieldsFrom responseFrom payloadOf envelopeOf badPlace sequenceAt rowOf rows within
 by-hand = refl
 
 law : lawful 40 slots ≡ true
@@ -48,7 +48,7 @@ letter : (b : ℕ) → described (b ∷ []) ≡ true → WellFormed (b ∷ [])
 letter b e = more (b ∷ []) [] refl e empty
 
 answers : Answers box (link 20 40) information (pos 20) output
-unfolding replyBy kindOf limitFits isStream inRange sizeFor headerBytes packetOf roomFits varintAt varintBytes badTag tagAt valueAt tagBytes headBytes partBytes fieldBytes roleOf judged addedAt readAt fieldAt fieldsFrom responseFrom payloadOf envelopeOf described rows within
+unfolding replyBy kindOfCommand limitFits isStream inRange sizeFor headerBytes packetOf roomFits varintAt varintBytes badTag tagAt valueAt tagBytes headBytes partBytes fieldBytes roleOf judged addedAt readAt fieldAt fieldsFrom responseFrom payloadOf envelopeOf described rows within
 answers =
     record {
       payload = Payload.None;
@@ -64,11 +64,11 @@ answers =
     }
 
 begins : begun .packet ≡ getD (packetsCut (repliedOf box (link 20 40) information output)) 0 []
-unfolding repliedOf sentOf carriedOf joinedIn replyBy kindOf limitFits isStream inRange sizeFor headerBytes packetOf roomFits varintAt varintBytes badTag tagAt valueAt tagBytes headBytes partBytes fieldBytes roleOf judged addedAt readAt fieldAt fieldsFrom responseFrom payloadOf envelopeOf badPlace sequenceAt rowOf rows within saidLength cutApart
+unfolding repliedOf sentOf carriedOf joinedIn replyBy kindOfCommand limitFits isStream inRange sizeFor headerBytes packetOf roomFits varintAt varintBytes badTag tagAt valueAt tagBytes headBytes partBytes fieldBytes roleOf judged addedAt readAt fieldAt fieldsFrom responseFrom payloadOf envelopeOf badPlace sequenceAt rowOf rows within saidLength cutApart
 begins = refl
 
 sent : packetsIn (those (ours (sendingOf (link 20 40))) later) ≡ drop 1 (packetsCut (repliedOf box (link 20 40) information output))
-unfolding repliedOf sentOf carriedOf joinedIn replyBy kindOf limitFits isStream inRange sizeFor headerBytes packetOf roomFits varintAt varintBytes badTag tagAt valueAt tagBytes headBytes partBytes fieldBytes roleOf judged addedAt readAt fieldAt fieldsFrom responseFrom payloadOf envelopeOf badPlace sequenceAt rowOf rows within saidLength cutApart
+unfolding repliedOf sentOf carriedOf joinedIn replyBy kindOfCommand limitFits isStream inRange sizeFor headerBytes packetOf roomFits varintAt varintBytes badTag tagAt valueAt tagBytes headBytes partBytes fieldBytes roleOf judged addedAt readAt fieldAt fieldsFrom responseFrom payloadOf envelopeOf badPlace sequenceAt rowOf rows within saidLength cutApart
 sent = refl
 
 answerable : allAnswerable (begun ∷ those (ours (sendingOf (link 20 40))) later) ≡ true

@@ -16,7 +16,7 @@ use Rattle.field_writer.specs.Message.{badMember}
 use Rattle.packet.specs.Header.{inRange}
 use Rattle.sender.specs.Writer.{roomFits}
 use Rattle.reply.specs.declared.Link.{Link}
-use Rattle.reply.specs.Reply.{Box, kindOf, badCarried, stringsOf}
+use Rattle.reply.specs.Reply.{Box, kindOfCommand, badCarried, stringsOf}
 use Rattle.reply_claims.specs.Answers.{Answers, AskedInRange, AnswersAll}
 
 room-fits : (room : ℕ) → 20 ≤ room → room ≤ 512 → roomFits room ≡ true
@@ -28,8 +28,8 @@ unfolding inRange isStream
 in-range id sequence i s = rw (lt-ltb id 16 (omega arith), lt-ltb sequence 16 (omega arith))
 
 answers-by : (b : Box) (l : Link) (message : List ℕ) (c : ℤ) (out : List ℕ) → AskedInRange b l message c out
-    → badCarried (b .members) (length (b .transports)) (kindOf (extended c)) ≡ false
-    → AllWellFormed (stringsOf b (kindOf (extended c)))
+    → badCarried (b .members) (length (b .transports)) (kindOfCommand (extended c)) ≡ false
+    → AllWellFormed (stringsOf b (kindOfCommand (extended c)))
     → Answers b l message c out
 answers-by b l message c out k carried strings =
     record {
@@ -49,12 +49,12 @@ fine-member : (field : ℕ) → 2 ≤ field → field ≤ 536870911 → badMembe
 fine-member field low high = rw (le-ltb field 2 low, le-ltb lastField field high)
 
 other-carried : (b : Box) (v : ℕ) → (v ≡ 20 → ⊥) → (v ≡ 28 → ⊥) → (v ≡ 94 → ⊥) → (v ≡ 95 → ⊥)
-    → (badCarried (b .members) (length (b .transports)) (kindOf v) ≡ false) × AllWellFormed (stringsOf b (kindOf v))
-unfolding kindOf
+    → (badCarried (b .members) (length (b .transports)) (kindOfCommand v) ≡ false) × AllWellFormed (stringsOf b (kindOfCommand v))
+unfolding kindOfCommand
 other-carried b v n20 n28 n94 n95 = rw (ne-eqb v 20 n20, ne-eqb v 28 n28, ne-eqb v 94 n94, ne-eqb v 95 n95) (refl, tt)
 
 pub answers-all : AnswersAll
-unfolding kindOf
+unfolding kindOfCommand
 answers-all =
     record {
       information = λ b l message out k low high few s n t.

@@ -22,7 +22,7 @@ use Rattle.control.specs.declared.envelope.Payload.{Payload}
 use Rattle.control.specs.Envelope.{envelopeOf}
 use Rattle.joining.specs.Joined.{joinedOf}
 use Rattle.reply.specs.declared.Link.{Link}
-use Rattle.reply.specs.Reply.{Box, sendingOf, kindOf, replyOf, badCarried, stringsOf, isResponse, Replied, silent, sent, repliedOf}
+use Rattle.reply.specs.Reply.{Box, sendingOf, kindOfCommand, replyOf, badCarried, stringsOf, isResponse, Replied, silent, sent, repliedOf}
 use Rattle.reply_claims.specs.Cut.{cutApart}
 
 -- ---- what is answered
@@ -37,8 +37,8 @@ pub record Answers (b : Box) (l : Link) (message : List ℕ) (c : ℤ) (out : Li
   pub limit : limitFits (l .limit) ≡ true
   pub range : inRange 0 (l .id) (l .sequence) ≡ true
   -- what the reply carries is in its ranges, and its strings are well formed
-  pub carried : badCarried (b .members) (length (b .transports)) (kindOf (extended c)) ≡ false
-  pub strings : AllWellFormed (stringsOf b (kindOf (extended c)))
+  pub carried : badCarried (b .members) (length (b .transports)) (kindOfCommand (extended c)) ≡ false
+  pub strings : AllWellFormed (stringsOf b (kindOfCommand (extended c)))
   -- the reply is within the limit, and the output holds all its packets
   pub within : length (replyOf b (extended c)) ≤ l .limit
   pub space : length (joinedOf (sendingOf l) (replyOf b (extended c))) ≤ length out

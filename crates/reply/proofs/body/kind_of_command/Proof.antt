@@ -1,22 +1,22 @@
 use borrow.Author.Tests.{eq-eqb, ne-eqb}
-use Rattle.reply.specs.Reply.{kindOf}
-use Rattle.reply.proofs.body.kind_of.Statement.{statement}
-use Rattle.reply.proofs.body.kind_of.Tie as tie
+use Rattle.reply.specs.Reply.{kindOfCommand}
+use Rattle.reply.proofs.body.kind_of_command.Statement.{statement}
+use Rattle.reply.proofs.body.kind_of_command.Tie as tie
 
 returns : tie.Need-returns
-unfolding kindOf
+unfolding kindOfCommand
 returns c = rw (eq-eqb _ _ (c .if1 .taken))
 
 returns-2 : tie.Need-returns-2
-unfolding kindOf
+unfolding kindOfCommand
 returns-2 c = rw (ne-eqb _ _ (c .before .if1 .left), eq-eqb _ _ (c .if2 .taken))
 
 returns-3 : tie.Need-returns-3
-unfolding kindOf
+unfolding kindOfCommand
 returns-3 c = rw (ne-eqb _ _ (c .before .before .if1 .left), ne-eqb _ _ (c .before .if2 .left), eq-eqb _ _ (c .if3 .taken))
 
 returns-4 : tie.Need-returns-4
-unfolding kindOf
+unfolding kindOfCommand
 returns-4 c =
     rw (
       ne-eqb _ _ (c .before .before .before .if1 .left),
@@ -26,7 +26,7 @@ returns-4 c =
     )
 
 returns-5 : tie.Need-returns-5
-unfolding kindOf
+unfolding kindOfCommand
 returns-5 c =
     rw (
       ne-eqb _ _ (c .before .before .before .if1 .left),
@@ -35,5 +35,5 @@ returns-5 c =
       ne-eqb _ _ (c .if4 .left),
     )
 
-pub kind-of-spec : {M : Type 1} → statement M
-kind-of-spec = tie.close (tie.spec returns returns-2 returns-3 returns-4 returns-5)
+pub kind-of-command-spec : {M : Type 1} → statement M
+kind-of-command-spec = tie.close (tie.spec returns returns-2 returns-3 returns-4 returns-5)
