@@ -1,14 +1,13 @@
 -- Laws of texts that are ASCII: each part of them is well formed.
-use Prim.Native.Nat.{ℕ, zero, suc, _+_, _<_, _≤_}
-use mathlib.Core.Path.{_≡_, refl, sym, ap, subst, _∙_}
+use Prim.Native.Nat.{ℕ, zero, suc, _+_, _<_}
+use mathlib.Core.Path.{_≡_, refl, ap, _∙_}
 use mathlib.Core.Bool.{Bool, true, false}
 use mathlib.Core.List.{List, [], _∷_, _++_}
 use native.Mathlib.Omega.{arith}
 use lib.ListN.{length, getD, take, drop}
-use lib.Dec.{eqb, ltb}
-use lib.Seq.{take-length}
+use lib.Dec.{ltb}
 use borrow.Author.Tests.{eq-eqb, ltb-true, leb-false}
-use Rattle.wire.specs.Scan.{inRange, anyInRange, Clear}
+use Rattle.wire.specs.Scan.{inRange, anyInRange}
 use Rattle.wire.proofs.Runs.{any-first}
 use Rattle.field.specs.declared.value.Part.{Part}
 use Rattle.field.specs.Value.{bytesOf}
