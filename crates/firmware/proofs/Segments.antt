@@ -43,19 +43,19 @@ pub digits-end : (l : List ℕ) (i : ℕ) → length l ≤ i → allDigits (drop
 digits-end l i h = rw (drop-of-length-le l h)
 
 -- the digits before place i were judged, and all of them are whole or not
-pub record Judging (l : List ℕ) (all : Bool) (i : ℕ) : Type 0 where
+pub record DigitsSeen (l : List ℕ) (all : Bool) (i : ℕ) : Type 0 where
   pub within : i ≤ length l
   pub rest : allDigits l ≡ (all && allDigits (drop i l))
 
-module _ {l : List ℕ} {all : Bool} {i : ℕ} (inv : Judging l all i) where
+module _ {l : List ℕ} {all : Bool} {i : ℕ} (inv : DigitsSeen l all i) where
   pub judging-end : length l ≤ i → all ≡ allDigits l
   judging-end h = sym (inv .rest ∙ rw (digits-end l i h) (and-true all))
 
   module _ {next : Bool} (h : i < length l) where
-    pub judging-other : isDigit (getD l i 0) ≡ false → next ≡ false → Judging l next (i + 1)
+    pub judging-other : isDigit (getD l i 0) ≡ false → next ≡ false → DigitsSeen l next (i + 1)
     judging-other e p = record { within = omega arith; rest = rw p (inv .rest ∙ rw (digits-here l i h, e) (and-false all)) }
 
-    pub judging-digit : isDigit (getD l i 0) ≡ true → next ≡ all → Judging l next (i + 1)
+    pub judging-digit : isDigit (getD l i 0) ≡ true → next ≡ all → DigitsSeen l next (i + 1)
     judging-digit e p = record { within = omega arith; rest = rw p (inv .rest ∙ rw (digits-here l i h, e)) }
 
 pub not-true : (b : Bool) → not b ≡ true → b ≡ false

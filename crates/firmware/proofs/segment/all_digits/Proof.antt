@@ -2,13 +2,13 @@ use Prim.Native.Nat.{_-_}
 use mathlib.Core.Path.{refl, sym, _∙_}
 use mathlib.Core.Logic.{⊎-elim}
 use lib.ListN.{length}
-use Rattle.firmware.proofs.Segments.{Judging, judging-other, judging-digit, judging-end, not-true, not-false}
+use Rattle.firmware.proofs.Segments.{DigitsSeen, judging-other, judging-digit, judging-end, not-true, not-false}
 use borrow.Author.Needs.{needs}
 use Rattle.firmware.proofs.segment.all_digits.Statement.{statement}
 use Rattle.firmware.proofs.segment.all_digits.Tie as tie
 
 abbrev Inv-loop : tie.InvT-loop
-Inv-loop bytes all₀ i₀ all i = Judging bytes all i
+Inv-loop bytes all₀ i₀ all i = DigitsSeen bytes all i
 
 abbrev μ-loop : tie.MeasureT-loop
 μ-loop bytes all₀ i₀ all i = length bytes - i
