@@ -14,7 +14,7 @@ use Rattle.field.specs.Value.{bytesOf}
 use Rattle.text.specs.WellFormed.{WellFormed, empty, more, badPlace}
 use Rattle.text.proofs.Sequences.{sequence-described, ascii-sequence}
 use Rattle.text.proofs.Places.{well-formed-whole}
-use Rattle.text_writer.specs.declared.Fault.the-variants.{None}
+use Rattle.text_writer.specs.declared.TextFault.the-variants.{None}
 use Rattle.text_writer.specs.Texts.{orText, faultFrom, firstFault}
 use Rattle.walk.specs.Schema.{firmwareNameField, localeField, versionNameField, firmwareComponentNameField, firmwareComponentSignatureField}
 use Rattle.firmware.specs.declared.component.FirmwareComponent.{FirmwareComponent}

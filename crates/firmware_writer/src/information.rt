@@ -116,7 +116,7 @@ pub(crate) fn firmware_fault(texts: &[u8], information: FirmwareInformation) -> 
     ensures { λ r. ⌜ r ≡ firstFault (firmwareStrings (now (texts .entry)) information) ⌝ }
 {
     if all_ascii(texts) {
-        return Fault::None;
+        return TextFault::None;
     }
     let name = information.name;
     let components = information.components;
