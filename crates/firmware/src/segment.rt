@@ -11,12 +11,12 @@ use walk::schema::SECOND;
 use walk::schema::SEGMENT_SIGNATURE;
 use walk::schema::Schema;
 use wire::logic::both;
-use wire::logic::either;
 ghost use mathlib.Core.Path.{_≡_};
+ghost use mathlib.Core.Bool.{cond};
 ghost use Prim.Native.Nat.{_+_, _≤_};
 ghost use lib.ListN.{length};
 ghost use Rattle.walk.specs.Refusal.{numberMore, TellsStrings};
-ghost use Rattle.firmware.specs.Segment.{isDigit, allDigits, isSignature, brokenField, segmentMade, segmentJudged, segmentOf, toldSegment, segmentParts};
+ghost use Rattle.firmware.specs.Segment.{between, isDigit, allDigits, isSignature, brokenField, segmentMade, segmentJudged, segmentOf, toldSegment, segmentParts};
 
 // The hexadecimal digits of a signature.
 const SIGNATURE_DIGITS: usize = 64;
@@ -51,28 +51,41 @@ impl SegmentRead {
     }
 }
 
-// Whether a byte is a hexadecimal digit.
+// 1 if a byte lies between two, 0 if not.
+fn one_between(byte: u8, low: u8, high: u8) -> u8
+    ensures { λ r. ⌜ (r ≡ cond (between low high byte) 1 0) × (r ≤ 1) ⌝ }
+{
+    if both(low <= byte, byte <= high) {
+        1
+    } else {
+        0
+    }
+}
+
+// Whether a byte is a hexadecimal digit. The ranges that it lies in are counted: of this the compiler makes a test of many bytes at once.
 fn is_digit(byte: u8) -> bool
     ensures { λ r. ⌜ r ≡ isDigit byte ⌝ }
 {
-    let decimal = both(b'0' <= byte, byte <= b'9');
-    let upper = both(b'A' <= byte, byte <= b'F');
-    let lower = both(b'a' <= byte, byte <= b'f');
-    either(decimal, either(upper, lower))
+    let decimal = one_between(byte, b'0', b'9');
+    let upper = one_between(byte, b'A', b'F');
+    let lower = one_between(byte, b'a', b'f');
+    let ranges = decimal + upper + lower;
+    ranges != 0
 }
 
-// Whether all bytes are hexadecimal digits.
+// Whether all bytes are hexadecimal digits. The loop has no other exit, as in wire's any_in_range.
 fn all_digits(bytes: &[u8]) -> bool
     ensures { λ r. ⌜ r ≡ allDigits (now (bytes .entry)) ⌝ }
 {
+    let mut all = true;
     let mut i = 0;
     while i < bytes.len() {
         if !is_digit(bytes[i]) {
-            return false;
+            all = false;
         }
         i += 1;
     }
-    true
+    all
 }
 
 fn is_signature(bytes: &[u8]) -> bool

@@ -1,4 +1,5 @@
 pub mod Fields
 pub mod Texts
+pub mod Ascii
 pub mod Listed
 pub mod Segments

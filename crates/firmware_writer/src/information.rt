@@ -18,11 +18,13 @@ use walk::schema::FIRMWARE_NAME;
 use walk::schema::FIRMWARE_VERSION;
 use walk::schema::LOCALE;
 use walk::schema::VERSION_NAME;
+use wire::scan::clear_run;
 ghost use mathlib.Core.Path.{_≡_};
-ghost use mathlib.Core.Bool.{false};
+ghost use mathlib.Core.Bool.{true, false};
 ghost use mathlib.Core.List.{map};
 ghost use Prim.Native.Nat.{_+_, _≤_};
 ghost use lib.ListN.{length, take};
+ghost use Rattle.wire.specs.Scan.{anyInRange};
 ghost use Rattle.field_writer.specs.Put.{Put};
 ghost use Rattle.field_writer.specs.Writer.{messageBytes};
 ghost use Rattle.walk.specs.Gathered.{mostRepeated};
@@ -30,6 +32,13 @@ ghost use Rattle.field_writer.specs.Message.{lessRoom};
 ghost use Rattle.firmware_writer.specs.Component.{componentField};
 ghost use Rattle.firmware_writer.specs.Information.{badComponents, badFirmware, componentsStrings, firmwareStrings, firmwareFields};
 ghost use Rattle.text_writer.specs.Texts.{faultFrom, firstFault};
+
+// The bytes above ASCII.
+const FIRST_ABOVE: u8 = 0x80;
+
+const LAST_ABOVE: u8 = 0xFF;
+// The most bytes of texts that are looked through at once.
+const MOST_LOOKED_THROUGH: usize = 1024;
 
 // Whether a part of the first components does not lie within the texts.
 fn bad_components(texts: &[u8], components: [FirmwareComponent; 8], count: usize) -> bool
@@ -91,11 +100,24 @@ fn components_fault(
     found
 }
 
+// Whether the texts are ASCII, so that each part of them is well formed. Longer ones are not looked through: they may be much more than their parts.
+fn all_ascii(texts: &[u8]) -> bool
+    ensures { λ r. ⌜ (r ≡ true → anyInRange 128 255 (now (texts .entry)) ≡ false) ⌝ }
+{
+    if MOST_LOOKED_THROUGH < texts.len() {
+        return false;
+    }
+    clear_run(texts, FIRST_ABOVE, LAST_ABOVE) == texts.len()
+}
+
 // The first string of firmware information, in writing order, that is not well formed.
 pub(crate) fn firmware_fault(texts: &[u8], information: FirmwareInformation) -> TextFault
     requires { ⌜ badFirmware (now texts) information ≡ false ⌝ }
     ensures { λ r. ⌜ r ≡ firstFault (firmwareStrings (now (texts .entry)) information) ⌝ }
 {
+    if all_ascii(texts) {
+        return TextFault::None;
+    }
     let name = information.name;
     let components = information.components;
     let locale = information.locale;

@@ -1,17 +1,18 @@
 -- Laws of the place of the first sequence that no row describes.
 use Prim.Native.Nat.{ℕ, zero, suc, _+_, _-_, _≤_, _<_, zero-le}
 use mathlib.Core.Path.{_≡_, refl, sym, ap, subst, _∙_}
-use mathlib.Core.Bool.{Bool, true, false, cond}
+use mathlib.Core.Bool.{Bool, true, false, cond, true≢false}
 use mathlib.Core.List.{List, [], _∷_, _++_, append-assoc, append-nil}
 use native.Mathlib.Numerals.{add-one}
 use native.Mathlib.Omega.{arith}
 use lib.ListN.{length, getD, take, drop, length-append, length-drop, take-append-drop, drop-of-length-le}
-use lib.Seq.{take-nil, take-length, drop-length, take-add, take-all, drop-drop, drop-cons, getD-drop, take-append-seam, drop-append-seam, length-take-le}
-use lib.Dec.{eqb, ltb}
-use borrow.Author.Tests.{eq-eqb, ne-eqb, eqb-true, eqb-false, ltb-true, leb-false}
+use lib.Seq.{take-nil, take-length, drop-length, take-add, take-all, take-take, drop-drop, drop-cons, getD-drop, take-append-seam, drop-append-seam, length-take-le}
+use lib.Dec.{eqb, ltb, leb}
+use lib.Bits.{bitAnd, bitOr, or-lt, or-add-and, and-le-l, and-le-r}
+use borrow.Author.Tests.{eq-eqb, ne-eqb, eqb-true, eqb-false, ltb-true, ltb-false, leb-true, leb-false, le-leb, lt-leb}
 use Rattle.wire.specs.Bytes.{AllBytes}
 use Rattle.wire.specs.Scan.{inRange, anyInRange, Clear}
-use Rattle.wire.proofs.Runs.{any-first}
+use Rattle.wire.proofs.Runs.{any-first, clear-block, Seeking, seek-hit, seek-miss}
 use Rattle.text.specs.Table.{described}
 use Rattle.text.specs.WellFormed.{WellFormed, empty, more, sequenceAt, badIn, badPlace, Passes}
 use Rattle.text.specs.Claims.{FirstBad, FindsFirstBad, OnlyOneFirstBad, WholeExactlyIfWellFormed}
@@ -127,6 +128,41 @@ not-above b h e = by (ltb b 128) refl
     by true k = ltb-true b 128 k
     by false k = absurd (omega (arith, leb-false b 255 (rw k at e)))
 
+-- .. and one that is
+above : (b : ℕ) → inRange 128 255 b ≡ true → 128 ≤ b
+unfolding inRange
+above b e = by (ltb b 128) refl e
+  where
+    by : (t : Bool) → ltb b 128 ≡ t → cond t false (leb b 255) ≡ true → 128 ≤ b
+    by true k r = absurd (true≢false (sym r))
+    by false k r = ltb-false b 128 k
+
+-- ---- bytes that are joined
+-- no less than each of them: o is both joined, a what they have in common
+joined-least : (m o a j b : ℕ) → o + a ≡ j + b → a ≤ j → m ≤ b → m ≤ o
+joined-least m o a j b e h k = omega (arith, e, h, k)
+
+join-above : (j b : ℕ) → 128 ≤ b → leb 128 (bitOr j b) ≡ true
+join-above j b h = le-leb 128 (bitOr j b) (joined-least 128 (bitOr j b) (bitAnd j b) j b (or-add-and j b) (and-le-l j b) h)
+
+join-ascii : (j b : ℕ) → b < 128 → leb 128 (bitOr j b) ≡ leb 128 j
+join-ascii j b h = by (leb 128 j) refl
+  where
+    swapped : (o a j b : ℕ) → o + a ≡ j + b → o + a ≡ b + j
+    swapped o a j b e = omega (arith, e)
+
+    by : (t : Bool) → leb 128 j ≡ t → leb 128 (bitOr j b) ≡ t
+    by true e = le-leb 128 (bitOr j b) (joined-least 128 (bitOr j b) (bitAnd j b) b j (swapped (bitOr j b) (bitAnd j b) j b (or-add-and j b)) (and-le-r j b) (leb-true 128 j e))
+    by false e = lt-leb 128 (bitOr j b) (or-lt 7 j b (leb-false 128 j e) h)
+
+-- one byte more is joined
+pub seek-joined : {l : List ℕ} {i : ℕ} (j : ℕ) → Seeking 128 255 l (leb 128 j) i → i < length l → getD l i 0 < 256 → Seeking 128 255 l (leb 128 (bitOr j (getD l i 0))) (i + 1)
+seek-joined {l} {i} j inv h byte = by (inRange 128 255 (getD l i 0)) refl
+  where
+    by : (t : Bool) → inRange 128 255 (getD l i 0) ≡ t → Seeking 128 255 l (leb 128 (bitOr j (getD l i 0))) (i + 1)
+    by true e = seek-hit inv h e (join-above j (getD l i 0) (above (getD l i 0) e))
+    by false e = seek-miss inv h e (join-ascii j (getD l i 0) (not-above (getD l i 0) byte e))
+
 -- a run of ASCII
 place-run : (q s : List ℕ) → AllBytes q → anyInRange 128 255 q ≡ false → badPlace (q ++ s) ≡ length q + badPlace s
 place-run [] s bytes e = omega arith
@@ -187,3 +223,19 @@ module _ (s : List ℕ) where
 
     pub place-end : length s ≤ at → at + badPlace (drop at s) ≡ at
     place-end h = rw (drop-of-length-le s h) (omega (arith, place-none [] nothing-first))
+
+  -- a string of ASCII alone
+  pub place-whole : (n : ℕ) → ((i : ℕ) → getD s i 0 < 256) → length s ≤ n → Clear 128 255 s n → n ≡ badPlace s
+  place-whole n bytes h k = sym (place-start n bytes k .1 ∙ place-end n h)
+
+  any-fewer : (m : ℕ) (q : List ℕ) → anyInRange 128 255 q ≡ false → anyInRange 128 255 (take m q) ≡ false
+  unfolding anyInRange
+  any-fewer zero q e = refl
+  any-fewer (suc m) [] e = refl
+  any-fewer (suc m) (b ∷ q) e = let r = any-first 128 255 b q e in rw (r .0) (any-fewer m q (r .1))
+
+  -- ASCII up to a place, and from one before it to the end
+  pub clear-whole : (at last : ℕ) → last ≤ at → Clear 128 255 s at → anyInRange 128 255 (take (length s - last) (drop last s)) ≡ false → Clear 128 255 s (length s)
+  clear-whole at last h k e =
+      let first : Clear 128 255 s last = record { within = omega (arith, k .within); none = rw (take-take last at s h) at (any-fewer last (take at s) (k .none)) } in
+      clear-block first (length s) (first .within) (omega arith) e

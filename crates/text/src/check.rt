@@ -5,8 +5,9 @@ use crate::table::row_of;
 use wire::bytes::byte_at;
 use wire::scan::clear_run;
 ghost use mathlib.Core.Path.{_≡_};
-ghost use Prim.Native.Nat.{_<_, _≤_};
+ghost use Prim.Native.Nat.{_+_, _<_, _≤_};
 ghost use lib.ListN.{length, take, drop};
+ghost use Rattle.wire.specs.Scan.{anyInRange};
 ghost use Rattle.text.specs.Table.{begins};
 ghost use Rattle.text.specs.WellFormed.{sequenceAt, badPlace, Passes};
 
@@ -14,6 +15,9 @@ ghost use Rattle.text.specs.WellFormed.{sequenceAt, badPlace, Passes};
 const FIRST_ABOVE: u8 = 0x80;
 
 const LAST_ABOVE: u8 = 0xFF;
+
+// Bytes that are tested at once.
+const BLOCK: usize = 16;
 
 // Whether the bytes begin with a sequence of this row.
 fn begins_with(bytes: &[u8], row: Row) -> bool
@@ -56,11 +60,12 @@ fn passed(string: &[u8], at: usize) -> usize
     }
 }
 
-// The place where the first sequence begins that no row describes; the length where there is none.
-pub fn bad_place(string: &[u8]) -> usize
+// The place where the first sequence begins that no row describes, from one on before which there is none; the length where there is none.
+fn place_from(string: &[u8], from: usize) -> usize
+    requires { ⌜ (from ≤ length (now string)) × (badPlace (now string) ≡ from + badPlace (drop from (now string))) ⌝ }
     ensures { λ r. ⌜ r ≡ badPlace (now (string .entry)) ⌝ }
 {
-    let mut at = clear_run(string, FIRST_ABOVE, LAST_ABOVE);
+    let mut at = from;
     while at < string.len() {
         let n = passed(string, at);
         if n == 0 {
@@ -69,4 +74,52 @@ pub fn bad_place(string: &[u8]) -> usize
         at += n;
     }
     at
+}
+
+// The same of a string that is shorter than a block.
+fn short_place(string: &[u8]) -> usize
+    ensures { λ r. ⌜ r ≡ badPlace (now (string .entry)) ⌝ }
+{
+    let run = clear_run(string, FIRST_ABOVE, LAST_ABOVE);
+    if string.len() <= run {
+        return run;
+    }
+    place_from(string, run)
+}
+
+// Whether any of these bytes lies above ASCII. Joined, they have the high bit if one of them has it, so that one test is enough.
+fn any_above(run: &[u8]) -> bool
+    ensures { λ r. ⌜ r ≡ anyInRange 0x80 0xFF (now (run .entry)) ⌝ }
+{
+    let mut joined = 0u8;
+    let mut i = 0;
+    while i < run.len() {
+        joined = joined | run[i];
+        i += 1;
+    }
+    FIRST_ABOVE <= joined
+}
+
+// The place where the first sequence begins that no row describes; the length where there is none. ASCII goes block by block, and what
+// is left of it by a last block that begins before. The table has a function of its own, with more callers than one: so the
+// compiler keeps it, and the registers that it takes, out of this one.
+pub fn bad_place(string: &[u8]) -> usize
+    ensures { λ r. ⌜ r ≡ badPlace (now (string .entry)) ⌝ }
+{
+    if string.len() < BLOCK {
+        return short_place(string);
+    }
+    let mut at = 0;
+    while BLOCK <= string.len() - at {
+        let end = at + BLOCK;
+        if any_above(&string[at..end]) {
+            return place_from(string, at);
+        }
+        at = end;
+    }
+    let last = string.len() - BLOCK;
+    if any_above(&string[last..]) {
+        return place_from(string, at);
+    }
+    string.len()
 }

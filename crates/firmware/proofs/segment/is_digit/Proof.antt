@@ -1,34 +1,38 @@
-use Rattle.firmware.specs.Segment.{isDigit}
+use Rattle.firmware.specs.Segment.{between, isDigit}
+use Rattle.firmware.proofs.Segments.{ranges-counted}
 use borrow.Author.Needs.{needs}
 use Rattle.firmware.proofs.segment.is_digit.Statement.{statement}
 use Rattle.firmware.proofs.segment.is_digit.Tie as tie
 
-both-requires : tie.Need-both-requires
-both-requires c κs = search needs
+one-between-requires : tie.Need-one-between-requires
+one-between-requires c κs = search needs
 
-both-requires-2 : tie.Need-both-requires-2
-both-requires-2 c κs = search needs
+one-between-requires-2 : tie.Need-one-between-requires-2
+one-between-requires-2 c κs = search needs
 
-both-requires-3 : tie.Need-both-requires-3
-both-requires-3 c κs = search needs
+one-between-requires-3 : tie.Need-one-between-requires-3
+one-between-requires-3 c κs = search needs
 
-either-requires : tie.Need-either-requires
-either-requires c κs = search needs
+add-ranges : tie.Need-add-ranges
+add-ranges c = search needs
 
-either-requires-2 : tie.Need-either-requires-2
-either-requires-2 c κs = search needs
+add-ranges-2 : tie.Need-add-ranges-2
+add-ranges-2 c = search needs
 
 returns : tie.Need-returns
 unfolding isDigit
-returns c = cc
+returns c =
+    let b = c .before .before .before .args .byte in
+    rw (c .before .before .one-between .ensures .0, c .before .one-between2 .ensures .0, c .one-between3 .ensures .0)
+    (ranges-counted (between 48 57 b) (between 65 70 b) (between 97 102 b))
 
 pub is-digit-spec : {M : Type 1} → statement M
 is-digit-spec =
     tie.close
     (tie.spec
-    both-requires
-    both-requires-2
-    both-requires-3
-    either-requires
-    either-requires-2
+    one-between-requires
+    one-between-requires-2
+    one-between-requires-3
+    add-ranges
+    add-ranges-2
     returns)
