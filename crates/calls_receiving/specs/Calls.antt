@@ -20,21 +20,21 @@ unfoldable pub receiverOpenOf : ℕ → List ℕ → Called
 receiverOpenOf limit state = ifFit (eqb (length state) 19) state [] [] (opened state (openOf limit))
 
 -- what a call leaves that has an answer buffer too
-pub record Replied : Type 0 where
+pub record AcceptCalled : Type 0 where
   pub call : Called
   pub out : List ℕ
 
-abbrev pub replied : Called → List ℕ → Replied
+abbrev pub replied : Called → List ℕ → AcceptCalled
 replied c out = record { call = c; out = out }
 
 -- rows and lent bytes after a packet; the limit stays
-abbrev pub accepted : List ℕ → List ℕ → PacketLeft → Replied
+abbrev pub accepted : List ℕ → List ℕ → PacketLeft → AcceptCalled
 accepted state answer l =
     let n = numberTold (l .told) in
     replied
     (called n (afterwards n state (receiverRow (limitOf state) (l .slots))) (l .bytes) (afterwards n answer (answerRow (l .told)))) (l .out)
 
-unfoldable pub receiverAcceptOf : List ℕ → List ℕ → List ℕ → ℕ → List ℕ → List ℕ → Replied
+unfoldable pub receiverAcceptOf : List ℕ → List ℕ → List ℕ → ℕ → List ℕ → List ℕ → AcceptCalled
 receiverAcceptOf state lent packet sequence out answer =
     cond (eqb (length answer) 7 && isReceiver state)
     (accepted state answer (acceptOf (limitOf state) (slotsOf state) lent (call packet (byteOr outOfRange sequence) out)))

@@ -9,7 +9,7 @@ use Rattle.rows.specs.Called.{Called, called}
 use Rattle.calls_classic.specs.Calls.{noneUsed, extractorOpenOf, extractorStepOf, extractorFeedOf, frameWriteOf, nextSequenceOf}
 use Rattle.calls_parts.specs.Calls.{frameBeginOf, framePartOf}
 use Rattle.calls_sending.specs.Calls.{packetWriteOf, ackWriteOf}
-use Rattle.calls_receiving.specs.Calls.{Replied, replied, receiverOpenOf, receiverAcceptOf}
+use Rattle.calls_receiving.specs.Calls.{AcceptCalled, replied, receiverOpenOf, receiverAcceptOf}
 use Rattle.calls_captures.specs.Calls.{captureJudgeOf}
 use Rattle.calls_messages.specs.Calls.{envelopeReadOf, envelopeWriteOf, responseReadOf, responseWriteOf, informationReadOf, informationWriteOf, featuresReadOf, featuresWriteOf}
 use Rattle.calls_firmware.specs.Calls.{segmentReadOf, segmentWriteOf, applyReadOf, applyWriteOf, fieldReadOf}
@@ -22,7 +22,7 @@ abbrev pub Keeps : List ℕ → List ℕ → List ℕ → Called → Type 0
 Keeps state lent answer c = c .number ≡ 1 → c ≡ called 1 state lent answer
 
 -- the same of a call with an answer buffer
-abbrev pub KeepsBoth : List ℕ → List ℕ → List ℕ → List ℕ → Replied → Type 0
+abbrev pub KeepsBoth : List ℕ → List ℕ → List ℕ → List ℕ → AcceptCalled → Type 0
 KeepsBoth state lent out answer r = r .call .number ≡ 1 → r ≡ replied (called 1 state lent answer) out
 
 pub record OneLeavesAll : Type 0 where
