@@ -201,15 +201,18 @@ fn reply_of(joined: &[u8]) -> Vec<u8> {
     cut(joined).into_iter().flat_map(payload).collect()
 }
 
-/// The packets are those of the packet writer on the control stream, no ACK wanted; a receiver of the limit takes each, and
-/// the last gives the reply.
+/// The packets are those of the packet writer on the control stream, no ACK wanted; a receiver of the limit takes each, writes
+/// no ACK, and the last gives the reply.
 fn arrives(c: &mut Comparison<'_>, rng: &mut Rng, asked: &Call, joined: &[u8]) -> Compared<()> {
     let reply = reply_of(joined);
     let [room, limit, id, sequence] = [ROOM, LIMIT, ID, SEQUENCE].map(|place| asked.numbers[place]);
     let mut writer = Call::new(Operation::PacketWrite).inputs(&[&reply]);
     // A receiver's buffer of a large limit is long to compare.
     let receives = limit <= 4_096 || rng.once_in(50);
-    let mut receiver = Call::new(Operation::ReceiverAccept).state(&packets::idle(limit));
+    let mut receiver = Call::new(Operation::ReceiverAccept)
+        .numbers(&[15])
+        .state(&packets::idle(limit))
+        .reply(vec![0xCC; 6]);
     if receives {
         receiver.lent = vec![0xCC; low_energy::buffer(limit)];
     }
@@ -226,7 +229,9 @@ fn arrives(c: &mut Comparison<'_>, rng: &mut Rng, asked: &Call, joined: &[u8]) -
             receiver.inputs[0] = packet.to_vec();
             let last = index + 1 == packets.len();
             c.expect(&mut receiver, 0, |call| {
-                call.answer[..3] == [u64::from(last), 0, id] && call.answer[5] == 0
+                call.answer[..3] == [u64::from(last), 0, id]
+                    && call.answer[5] == 0
+                    && call.reply == [0xCC; 6]
             })?;
         }
     }
