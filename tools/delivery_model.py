@@ -16,8 +16,9 @@ with each edit one has to be found for the statements named beside it, and none 
 
 An edit that stands in must-fail of the two crates has its name here; those in brackets show which statements a writer, receiver
 or reader that does nothing, or answers otherwise, meets. A writer's edit that leaves `delivery` true (a smaller piece arrives just
-as well) is ruled out by the contract alone, and so is a receiver that looks at the packet before 15 and 14. With an `atLast` that asks for nothing where there are no packets after the
-first, a writer that refuses all meets `delivery`: that is why `asked` is one."""
+as well) is ruled out by the contract alone, and so is a receiver that looks at the packet before 15 and 14. With an `atLast`
+that asks for nothing where there are no packets after the first, a writer that refuses all meets `delivery`: that is why
+`asked` is one."""
 import random
 import sys
 

@@ -1,4 +1,4 @@
--- The worked cases of docs/FORMATS.md, P1 to P12, and those of No. 2 and No. 6: one table, and the one statement that each of its rows holds.
+-- The worked cases of docs/FORMATS.md, P1 to P12, and those of No. 2, No. 6 and No. 9: one table, and the one statement that each of its rows holds.
 use Prim.Native.Nat.{ℕ}
 use mathlib.Core.Path.{_≡_}
 use mathlib.Core.Bool.{Bool, true, false}
