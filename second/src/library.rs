@@ -136,7 +136,7 @@ impl Implementation for Library {
                 Operation::FeaturesWrite => {
                     pito_features_write(numbers[0], numbers[1], bytes, size, told, tells)
                 }
-                Operation::ReplyWrite => reply(numbers, inputs, lent, answer),
+                Operation::ReplyWrite => write_reply(numbers, inputs, lent, answer),
                 Operation::SegmentRead
                 | Operation::SegmentWrite
                 | Operation::ApplyRead
@@ -171,7 +171,7 @@ impl Implementation for Library {
 }
 
 /// The reply to a finished control transaction.
-fn reply(numbers: &[u64], inputs: &[Vec<u8>], lent: &mut [u8], answer: &mut [u64]) -> u64 {
+fn write_reply(numbers: &[u64], inputs: &[Vec<u8>], lent: &mut [u8], answer: &mut [u64]) -> u64 {
     let ([message, serial_number, name, device_type], Some((numbers, transports))) =
         (inputs, numbers.split_first_chunk())
     else {
