@@ -13,10 +13,13 @@ use Rattle.text_writer.specs.Texts.{AllWellFormed}
 use Rattle.field.specs.Tag.{lastField}
 use Rattle.field.specs.Signed.{extended}
 use Rattle.field_writer.specs.Message.{badMember}
+use Rattle.control.specs.declared.response.Response.{Response}
+use Rattle.control.specs.declared.envelope.Payload.{Payload}
+use Rattle.control.specs.declared.envelope.Payload.the-variants as Payload
 use Rattle.packet.specs.Header.{inRange}
 use Rattle.sender.specs.Writer.{roomFits}
 use Rattle.reply.specs.declared.Link.{Link}
-use Rattle.reply.specs.Reply.{Box, kindOfCommand, badCarried, stringsOf}
+use Rattle.reply.specs.Reply.{Box, kindOfCommand, badCarried, stringsOf, isResponse}
 use Rattle.reply_claims.specs.Answers.{Answers, AskedInRange, AnswersAll}
 
 room-fits : (room : ℕ) → 20 ≤ room → room ≤ 512 → roomFits room ≡ true
@@ -27,6 +30,11 @@ in-range : (id sequence : ℕ) → id ≤ 15 → sequence ≤ 15 → inRange 0 i
 unfolding inRange isStream
 in-range id sequence i s = rw (lt-ltb id 16 (omega arith), lt-ltb sequence 16 (omega arith))
 
+no-response : (p : Payload) → ((r : Response) → p ≡ Payload.Response r → ⊥) → isResponse p ≡ false
+no-response Payload.None h = refl
+no-response (Payload.Response r) h = absurd (h r refl)
+no-response (Payload.Member field part) h = refl
+
 answers-by : (b : Box) (l : Link) (message : List ℕ) (c : ℤ) (out : List ℕ) → AskedInRange b l message c out
     → badCarried (b .members) (length (b .transports)) (kindOfCommand (extended c)) ≡ false
     → AllWellFormed (stringsOf b (kindOfCommand (extended c)))
@@ -35,7 +43,7 @@ answers-by b l message c out k carried strings =
     record {
       payload = k .payload;
       reads = k .reads;
-      question = k .question;
+      question = no-response (k .payload) (k .question);
       room = room-fits (l .room) (k .room-low) (k .room-high);
       limit = range-limit (l .limit) (k .limit-low) (k .limit-high);
       range = in-range (l .id) (l .sequence) (k .id) (k .sequence);

@@ -18,7 +18,9 @@ use Rattle.slot.specs.declared.Slot.{Slot}
 use Rattle.slot.specs.Slot.{slotCount, lawful}
 use Rattle.receiver.specs.Receiver.{PacketCall}
 use Rattle.delivery.specs.Delivery.{ours, packetsIn, shownTo, repliesTo, allAnswerable, atLast}
+use Rattle.control.specs.declared.response.Response.{Response}
 use Rattle.control.specs.declared.envelope.Payload.{Payload}
+use Rattle.control.specs.declared.envelope.Payload.the-variants as Payload
 use Rattle.control.specs.Envelope.{envelopeOf}
 use Rattle.joining.specs.Joined.{joinedOf}
 use Rattle.reply.specs.declared.Link.{Link}
@@ -47,7 +49,7 @@ pub record Answers (b : Box) (l : Link) (message : List ℕ) (c : ℤ) (out : Li
 pub record AskedInRange (b : Box) (l : Link) (message : List ℕ) (c : ℤ) (out : List ℕ) : Type 0 where
   pub payload : Payload
   pub reads : envelopeOf message ≡ given (record { command = c; payload = payload })
-  pub question : isResponse payload ≡ false
+  pub question : (r : Response) → payload ≡ Payload.Response r → ⊥
   pub room-low : 20 ≤ l .room
   pub room-high : l .room ≤ 512
   pub limit-low : 1 ≤ l .limit

@@ -19,24 +19,28 @@ use Rattle.reply_claims.specs.Answers.{Answers, packetsCut, ReplyArrives
 
 -- ---- the calls
 
--- a device's strings and transports; features 13 hex; members 3 and 28
-abbrev pub device : List ℕ → List ℤ → Box
-device name transports =
+-- a device's name, transports and attributes; features 13 hex; members 3 and 28
+abbrev pub device : List ℕ → List ℤ → ℕ → Box
+device name transports attributes =
     record {
       serialNumber = 0x53 ∷ [];
       name = name;
       transports = transports;
       deviceType = 0x54 ∷ [];
-      features = record { features = 0x13; «device_attributes» = 0 };
+      features = record { features = 0x13; «device_attributes» = attributes };
       members = record { information = 3; features = 28 };
     }
 
 abbrev pub box : Box
-box = device (0x4E ∷ []) (pos 0 ∷ [])
+box = device (0x4E ∷ []) (pos 0 ∷ []) 0
+
+-- two transports, and attributes
+abbrev full : Box
+full = device (0x4E ∷ []) (pos 0 ∷ pos 4 ∷ []) 300
 
 -- a name that is cut in the middle of a letter
 abbrev cutName : Box
-cutName = device (0x4E ∷ 0xC3 ∷ []) (pos 0 ∷ [])
+cutName = device (0x4E ∷ 0xC3 ∷ []) (pos 0 ∷ []) 0
 
 -- nine transports, and members that are out of range
 abbrev unfit : Box
@@ -52,6 +56,9 @@ unfit =
 
 abbrev pub link : ℕ → ℕ → Link
 link room limit = record { room = room; limit = limit; id = 1; sequence = 2 }
+
+abbrev numbered : ℕ → ℕ → Link
+numbered id sequence = record { room = 64; limit = 4096; id = id; sequence = sequence }
 
 -- a call over an output that held something
 abbrev ask : Box → Link → List ℕ → ℕ → WrittenOf (ℕ × List ℕ) Replied
@@ -70,6 +77,10 @@ information = 0x08 ∷ 0x14 ∷ []
 
 abbrev features : List ℕ
 features = 0x08 ∷ 0x1C ∷ []
+
+-- the varint of -1
+abbrev minusOne : List ℕ
+minusOne = replicate 9 0xFF ++ (0x01 ∷ [])
 
 -- one packet of so few bytes
 abbrev told : List ℕ → List ℕ
@@ -95,6 +106,19 @@ asked =
     ∷ ask box (link 64 4096) (0x08 ∷ 0x5E ∷ []) 10
     ∷ ask unfit (link 64 4096) (0x08 ∷ 0x5F ∷ []) 10
     ∷ ask unfit (link 64 4096) [] 10
+    -- any other command: 21, and -1
+    ∷ ask unfit (link 64 4096) (0x08 ∷ 0x15 ∷ []) 12
+    ∷ ask unfit (link 64 4096) (0x08 ∷ minusOne) 21
+    -- another member behind the command, and before it, whatever it holds
+    ∷ ask unfit (link 64 4096) (0x08 ∷ 0x5E ∷ 0x12 ∷ 0x00 ∷ []) 10
+    ∷ ask unfit (link 64 4096) (0x12 ∷ 0x01 ∷ 0xFF ∷ 0x08 ∷ 0x5E ∷ []) 10
+    -- all that device information and features have
+    ∷ ask full (link 64 4096) information 25
+    ∷ ask full (link 64 4096) features 18
+    -- the last id and sequence; one above
+    ∷ ask box (numbered 15 15) (0x08 ∷ 0x5E ∷ []) 10
+    ∷ ask box (numbered 16 15) (0x08 ∷ 0x5E ∷ []) 10
+    ∷ ask box (numbered 15 16) (0x08 ∷ 0x5E ∷ []) 10
     -- a response, whatever room there is; a broken one
     ∷ ask box (link 0 0) (0x08 ∷ 0x14 ∷ 0x4A ∷ 0x00 ∷ []) 3
     ∷ ask box (link 0 0) (0x08 ∷ 0x14 ∷ 0x4A ∷ 0x01 ∷ 0xFF ∷ []) 3
@@ -117,6 +141,17 @@ answered =
     ∷ wrote (told (0x08 ∷ 0x5E ∷ 0x4A ∷ 0x00 ∷ [])) 0
     ∷ wrote (told (0x08 ∷ 0x5F ∷ 0x4A ∷ 0x00 ∷ [])) 0
     ∷ wrote (told (0x4A ∷ 0x02 ∷ 0x08 ∷ 0x03 ∷ [])) 0
+    ∷ wrote (told (0x08 ∷ 0x15 ∷ 0x4A ∷ 0x02 ∷ 0x08 ∷ 0x03 ∷ [])) 0
+    ∷ wrote (told (0x08 ∷ (minusOne ++ (0x4A ∷ 0x02 ∷ 0x08 ∷ 0x03 ∷ [])))) 0
+    ∷ wrote (told (0x08 ∷ 0x5E ∷ 0x4A ∷ 0x00 ∷ [])) 0
+    ∷ wrote (told (0x08 ∷ 0x5E ∷ 0x4A ∷ 0x00 ∷ [])) 0
+    ∷ wrote
+    (told
+    (0x08 ∷ 0x14 ∷ 0x4A ∷ 0x0F ∷ 0x1A ∷ 0x0D ∷ 0x0A ∷ 0x01 ∷ 0x53 ∷ 0x12 ∷ 0x01 ∷ 0x4E ∷ 0x1A ∷ 0x02 ∷ 0x00 ∷ 0x04 ∷ 0x22 ∷ 0x01 ∷ 0x54 ∷ [])) 0
+    ∷ wrote (told (0x08 ∷ 0x1C ∷ 0x4A ∷ 0x08 ∷ 0xE2 ∷ 0x01 ∷ 0x05 ∷ 0x08 ∷ 0x13 ∷ 0x10 ∷ 0xAC ∷ 0x02 ∷ [])) 0
+    ∷ wrote (0x0F ∷ 0xF0 ∷ 0x00 ∷ 0x00 ∷ 0x04 ∷ 0x04 ∷ 0x08 ∷ 0x5E ∷ 0x4A ∷ 0x00 ∷ []) 0
+    ∷ leaves 15 10
+    ∷ leaves 15 10
     ∷ written (given silent) (replicate 3 0xEE)
     ∷ leaves 30 3
     ∷ leaves 13 0
