@@ -38,7 +38,7 @@ extern "C" {
 #endif
 
 /* The version of this interface: one more with each change that a caller has to follow. */
-#define PITO_VERSION 4
+#define PITO_VERSION 5
 
 /* The library is for 64-bit machines: a length is a number of 64 bits. */
 typedef char pito_size_t_has_64_bits[sizeof(size_t) == 8 ? 1 : -1];
@@ -85,7 +85,7 @@ enum {
     PITO_REFUSED_MISSES_TOTAL = 11,   /* total reached too early, passed, or missed */
     PITO_REFUSED_CONTROL_PACKET = 12, /* type 3 packet that is no ACK and no NACK */
 
-    /* Writers. */
+    /* Writers, and 14 and 15 of the ACK that a packet may want. */
     PITO_REFUSED_ROOM = 13,     /* room not 20 to 512 */
     PITO_REFUSED_OUTPUT = 14,   /* output too small */
     PITO_REFUSED_ARGUMENT = 15, /* an argument out of its range */
@@ -259,7 +259,7 @@ PITO_CALL uint64_t pito_packet_write(uint64_t room, uint64_t limit, uint64_t str
 
 /*
  * Writes the ACK (positive 1) or NACK (positive 0) of a request: six bytes, first in the output. Stream and id are
- * the request's; any sequence from 0 to 15.
+ * the request's; any sequence from 0 to 15. The ACK of a message that wants one is written by pito_receiver_accept.
  * Returns 0, 1, 15 (stream, id, sequence or positive out of range), 14.
  */
 #define PITO_ACK_SIZE 6
@@ -305,13 +305,27 @@ PITO_CALL uint64_t pito_receiver_open(uint64_t limit, uint64_t *state, size_t st
 #define PITO_NACKED 3      /* a NACK */
 
 /*
- * One packet.
+ * One packet, accepted and answered at once.
+ *   packet    as it came, any bytes
+ *   sequence  the ACK's own, if one is written, 0 to 15: any will do, and it has nothing to do with the packet's
+ *   out       where the ACK goes: at least PITO_ACK_SIZE bytes, of which no more than the first PITO_ACK_SIZE are written;
+ *             not the packet's own bytes
+ * A packet that finishes a transaction which wants an ACK writes the ACK first in out: a whole packet, to be sent as it is
+ * once the message is safe. Every other outcome and every refusal leaves all of out. NACKs are written by request, with
+ * pito_ack_write; no call sends anything.
+ * What an outcome leaves besides:
+ *   PITO_PIECE_TAKEN  the stream's slot open, the piece in the stream's part at the count that was held
+ *   PITO_FINISHED     the slot idle, the last piece likewise: the message stands first in the part
+ *   PITO_ACKED, PITO_NACKED  state and buffer as they were
  * Answer:
+ *   stream, id  the packet's
  *   sequence    an ACK's or NACK's own, else 0
  *   total       the length of a finished message, else 0
- *   ACK wanted  1 if a message is finished and any packet of its transaction asked for an ACK, else 0
+ *   ACK wanted  1 if a message is finished and any packet of its transaction asked for an ACK: out has it; else 0
  *   replaced    1 if a first packet replaced an open transaction of its stream, else 0
- * Returns 0, or the first of 1, 2, 3, 12, 4, 5, 6, 7, 8, 9, 10, 11 that holds.
+ * Returns 0, or the first that holds of: 1; 15, a sequence above 15, however large; 14, an out under PITO_ACK_SIZE bytes;
+ * then, and not before, the packet is looked at: 2, 3, 12, 4, 5, 6, 7, 8, 9, 10, 11. 15 and 14 are given whatever the packet
+ * is, and leave state and buffer too: the same packet can be given again.
  */
 enum {
     PITO_ACCEPT_OUTCOME,
@@ -324,7 +338,8 @@ enum {
     PITO_ACCEPT_ANSWER
 };
 PITO_CALL uint64_t pito_receiver_accept(uint64_t *state, size_t state_len, uint8_t *buffer, size_t buffer_len,
-                                        const uint8_t *packet, size_t packet_len, uint64_t *answer, size_t answer_len);
+                                        const uint8_t *packet, size_t packet_len, uint64_t sequence, uint8_t *out,
+                                        size_t out_len, uint64_t *answer, size_t answer_len);
 
 /* Outcomes; a capture that is refused has none, and 0 stands there. */
 #define PITO_LAWFUL 1   /* our writer writes these packets, for some transactions */

@@ -84,6 +84,9 @@ extern "C" {
         buffer_len: usize,
         packet: *const u8,
         packet_len: usize,
+        sequence: u64,
+        out: *mut u8,
+        out_len: usize,
         answer: *mut u64,
         answer_len: usize,
     ) -> u64;

@@ -8,14 +8,17 @@ with each edit one has to be found for the statements named beside it, and none 
   contract   the writer's answer and output are those of its definition, at any place (crate sender, `write_packet`): the
              largest pieces, one ACK flag, sequences modulo 16, 13, 15 and 14
   delivery   where a packet is the first of those that the writer's calls give for a message, after any packets, and those
-             of its stream after it are the others, among packets of other streams, the replies to them are `atLast` of the
-             message (`messages_arrive`)
+             of its stream after it are the others, among packets of other streams, each packet with an answer sequence and
+             an answer buffer, in their ranges for the message's own, what the replies to these show is `atLast` of the
+             message: it is given by the last, whose answer buffer has the ACK if the wish was one (`messages_arrive`)
   returning  the same with nothing before or between (`round_trip`)
   asked      `atLast` of a message has it once, whatever packets there are, none too (`message_asked`)
 
-An edit that stands in must-fail of the two crates has its name here; those in brackets show which statements a writer, receiver or reader that does nothing meets. A writer's edit that leaves `delivery` true (a smaller piece arrives just
-as well) is ruled out by the contract alone. With `atLast` as it was, asking for nothing where there are no packets, a writer
-that refuses all meets the claims: that is why `asked` is one."""
+An edit that stands in must-fail of the two crates has its name here; those in brackets show which statements a writer, receiver
+or reader that does nothing, or answers otherwise, meets. A writer's edit that leaves `delivery` true (a smaller piece arrives just
+as well) is ruled out by the contract alone, and so is a receiver that looks at the packet before 15 and 14. With an `atLast`
+that asks for nothing where there are no packets after the first, a writer that refuses all meets `delivery`: that is why
+`asked` is one."""
 import random
 import sys
 
@@ -31,13 +34,21 @@ EDITS = {
     "given_at_each": ("delivery returning asked", "each packet gives the message"),
     "part_of_control": ("delivery returning", "the message stands in the first part, whatever its stream"),
     "state_not_kept": ("delivery returning", "each packet meets the slots of the beginning"),
+    "ack_always": ("delivery returning", "the last packet's answer buffer begins with an ACK whatever the wish"),
     "nothing_asked": ("delivery returning asked", "after the last packet nothing is asked for"),
     "(refusing writer)": ("contract delivery returning", "the writer refuses all"),
-    "(refusing writer, nothing_asked)": ("contract asked", "both: the claims hold of it"),
+    "(refusing writer, nothing_asked)": ("contract returning asked", "both: `delivery` holds of it"),
     "(idle receiver)": ("delivery returning", "the receiver takes every packet and does nothing"),
     "(refusing reader)": ("delivery returning", "every packet that is read is refused"),
     "(replaced wish kept)": ("delivery returning", "a first packet adds its flag to the wish of what it replaces"),
     "(last flag alone)": ("", "the last packet's flag alone says whether an ACK is wanted"),
+    "(ack unasked)": ("delivery returning", "every finished transaction is answered"),
+    "(piece answered)": ("delivery returning", "every piece is answered"),
+    "(packet's sequence)": ("delivery returning", "the ACK has the last packet's sequence"),
+    "(nack)": ("delivery returning", "what is written is a NACK"),
+    "(no ack)": ("delivery returning", "nothing is answered"),
+    "(packet before 15 and 14)": ("", "a packet's own refusal comes before 15 and 14"),
+    "(own packets answerable or not)": ("delivery returning", "the message's own packets may get 15 and 14"),
 }
 STREAMS = [0, 2, 6]
 edit = None
@@ -144,7 +155,26 @@ def read(limit, p):
     return ("first", head, ack, total, p[header:]) if kind == 0 else ("next", head, ack, kind == 2, p[header:])
 
 
-def accept(limit, slots, buf, p):
+def acknowledgement(stream, ident, sequence, positive=True):
+    return [stream * 16 + ident, sequence * 16 + 12 + positive * 2, 0, 2, 1, 0 if positive else 3]
+
+
+def accept(limit, slots, buf, call):
+    """What is told of a packet with its answer sequence and answer buffer, and what it leaves: slots, buffer, answer buffer."""
+    p, sequence, out = call
+    first = read(limit, p) if edit == "(packet before 15 and 14)" else None
+    t, slots, buf = ((first, slots, buf) if isinstance(first, int) else (15, slots, buf) if sequence > 15
+                     else (14, slots, buf) if len(out) < 6 else take(limit, slots, buf, p))
+    if isinstance(t, int) or edit == "(no ack)":
+        return t, slots, buf, out
+    asked = t[0] == "finished" and (t[4] or edit == "(ack unasked)") or t[0] == "taken" and edit == "(piece answered)"
+    if asked:
+        own = p[1] // 16 if edit == "(packet's sequence)" else sequence
+        out = acknowledgement(p[0] // 16, p[0] % 16, own, edit != "(nack)") + out[6:]
+    return t, slots, buf, out
+
+
+def take(limit, slots, buf, p):
     if edit == "(idle receiver)":
         return ("taken",), slots, buf
     t = read(limit, p)
@@ -200,13 +230,17 @@ def given_by(limit, t, buf):
     return t[1:] + (buf[part:part + limit][:t[3]],)
 
 
-def run(limit, slots, buf, packets):
+def run(limit, slots, buf, handed):
     replies = []
-    for p in packets:
-        t, left, buf = accept(limit, slots, buf, p)
+    for call in handed:
+        t, left, buf, out = accept(limit, slots, buf, call)
         slots = slots if edit == "state_not_kept" else left
-        replies.append((p, t, buf))
+        replies.append((call, t, buf, out))
     return replies
+
+
+def shown(limit, replies):
+    return [(given_by(limit, t, buf), out) for call, t, buf, out in replies]
 
 
 def message_of(w, m):
@@ -214,10 +248,17 @@ def message_of(w, m):
     return stream, ident, len(m), True if edit == "another_ack_wish" else ack, m
 
 
-def at_last(message, later):
+def last_out(w, call):
+    room, stream, ident, sequence, ack = w
+    asked = ack or edit == "ack_always"
+    return acknowledgement(stream, ident, call[1]) + call[2][6:] if asked else call[2]
+
+
+def at_last(w, m, call, later):
+    message = message_of(w, m)
     if not later:
-        return [] if edit in ("nothing_asked", "(refusing writer, nothing_asked)") else [message]
-    return [message if edit == "given_at_each" else None] + at_last(message, later[1:])
+        return [] if edit in ("nothing_asked", "(refusing writer, nothing_asked)") else [(message, last_out(w, call))]
+    return [(message if edit == "given_at_each" else None, call[2])] + at_last(w, m, later[0], later[1:])
 
 
 def lawful_state(r, limit):
@@ -231,6 +272,20 @@ def any_packet(r, limit):
     return [] if kind < .1 else bytes_of(r, r.randint(1, 9)) if kind < .4 else packet(w, m, r.choice(pieces(20, len(m))), by_code=True)
 
 
+def answerable(r):
+    if edit == "(own packets answerable or not)":
+        return any_answer(r)
+    return r.randrange(16), bytes_of(r, r.randint(6, 9))
+
+
+def any_answer(r):
+    return r.choice([0, 15, 16, 255, r.randrange(16)]), bytes_of(r, r.randint(0, 9))
+
+
+def handed(r, packets, ours):
+    return [(p,) + (answerable(r) if ours(p) else any_answer(r)) for p in packets]
+
+
 def delivery(r):
     limit = r.choice([1, 20, 60, 300, 700])
     slots, buf = lawful_state(r, limit)
@@ -240,9 +295,12 @@ def delivery(r):
     others = lambda n: [p for p in (any_packet(r, limit) for _ in range(n)) if not ours(p)]
     before, after = ([any_packet(r, limit) for _ in range(r.randint(0, 4))] for _ in "ab")
     later = [q for p in sent[1:] for q in others(r.choice([0, 0, 1, 2])) + [p]] + others(r.randint(0, 2))
-    during = (sent[:1] or [[]]) + later
+    before, after = (handed(r, packets, lambda p: False) for packets in (before, after))
+    first, later = handed(r, sent[:1] or [[]], lambda p: True), handed(r, later, ours)
+    during = first + later
     replies = run(limit, slots, buf, before + during + after)[len(before):][:len(during)]
-    return [given_by(limit, t, b) for p, t, b in replies if ours(p)] == at_last(message_of(w, m), sent[1:])
+    own = [reply for reply in replies if ours(reply[0][0])]
+    return shown(limit, own) == at_last(w, m, first[0], [call for call in later if ours(call[0])])
 
 
 def returning(r):
@@ -250,12 +308,14 @@ def returning(r):
     slots, buf = lawful_state(r, limit)
     w, m = sending(r), bytes_of(r, r.randint(0, limit))
     sent = calls(limit, w, m, bytes_of(r, w[0]))
-    return [given_by(limit, t, b) for p, t, b in run(limit, slots, buf, sent)] == at_last(message_of(w, m), sent[1:])
+    calls_made = handed(r, sent or [[]], lambda p: True)
+    return shown(limit, run(limit, slots, buf, calls_made)) == at_last(w, m, calls_made[0], calls_made[1:])
 
 
 def asked(r):
-    message, packets = message_of(sending(r), bytes_of(r, 9)), [bytes_of(r, 3) for _ in range(r.randint(0, 3))]
-    return [g for g in at_last(message, packets) if g is not None] == [message]
+    w, m = sending(r), bytes_of(r, 9)
+    first, *later = handed(r, [bytes_of(r, 3) for _ in range(r.randint(1, 4))], lambda p: True)
+    return [g for g, out in at_last(w, m, first, later) if g is not None] == [message_of(w, m)]
 
 
 def tries(claim, n):

@@ -319,7 +319,7 @@ uint64_t plain_frame_part(uint64_t *state, size_t state_len, const uint8_t *payl
 }
 
 enum { OPEN, ID, TOTAL, HELD, LAST_SEQUENCE, WANTED, SLOT };
-enum { SLOTS = 3 };
+enum { SLOTS = 3, ACK_SIZE = 6 };
 enum type { FIRST, CONTINUATION, LAST, CONTROL };
 enum accepted { PIECE, FINISHED, ACKED, NACKED };
 
@@ -361,8 +361,19 @@ static uint64_t refuse_packet(uint64_t *answer, uint64_t number)
     return number;
 }
 
+static void put_ack(uint8_t *out, unsigned stream, unsigned id, uint64_t sequence)
+{
+    out[0] = (uint8_t)(stream << 4 | id);
+    out[1] = (uint8_t)(sequence << 4 | CONTROL << 2 | 1 << 1);
+    out[2] = 0;
+    out[3] = 2;
+    out[4] = 1;
+    out[5] = 0;
+}
+
 uint64_t plain_receiver_accept(uint64_t *state, size_t state_len, uint8_t *buffer, size_t buffer_len,
-                               const uint8_t *packet, size_t packet_len, uint64_t *answer, size_t answer_len)
+                               const uint8_t *packet, size_t packet_len, uint64_t answer_sequence, uint8_t *out,
+                               size_t out_len, uint64_t *answer, size_t answer_len)
 {
     if (answer_len != 7 || state_len != 1 + SLOTS * SLOT || !is_limit(state[0]) || buffer_len != SLOTS * state[0])
         return 1;
@@ -370,6 +381,10 @@ uint64_t plain_receiver_accept(uint64_t *state, size_t state_len, uint8_t *buffe
     for (size_t i = 0; i < SLOTS; i++)
         if (!is_lawful(state + i * SLOT, limit))
             return 1;
+    if (answer_sequence > 15)
+        return refuse_packet(answer, 15);
+    if (out_len < ACK_SIZE)
+        return refuse_packet(answer, 14);
     if (packet_len < 2)
         return refuse_packet(answer, 2);
 
@@ -383,7 +398,7 @@ uint64_t plain_receiver_accept(uint64_t *state, size_t state_len, uint8_t *buffe
     if (stream != 0 && stream != 2 && stream != 6)
         return refuse_packet(answer, 3);
     if (type == CONTROL) {
-        if (packet_len != 6 || extended || packet[2] != 0 || packet[3] != 2 || packet[4] != 1
+        if (packet_len != ACK_SIZE || extended || packet[2] != 0 || packet[3] != 2 || packet[4] != 1
             || packet[5] != (flag ? 0 : 3))
             return refuse_packet(answer, 12);
         return tell(answer, flag ? ACKED : NACKED, stream, id, sequence, 0, false, false);
@@ -429,6 +444,8 @@ uint64_t plain_receiver_accept(uint64_t *state, size_t state_len, uint8_t *buffe
     memcpy(buffer + index * limit + held, packet + header, length);
     if (held + length == total) {
         set_slot(slot, 0, 0, 0, 0, 0, false);
+        if (wanted)
+            put_ack(out, stream, id, answer_sequence);
         return tell(answer, FINISHED, stream, id, 0, total, wanted, replaced);
     }
     set_slot(slot, 1, id, total, held + length, sequence, wanted);

@@ -193,9 +193,9 @@ static void add_to_capture(const uint8_t *packet, size_t count)
 
 static void accept(const uint8_t *packet, size_t count)
 {
-    static uint8_t buffer[PITO_RECEIVER_BUFFER(LIMIT)];
+    static uint8_t buffer[PITO_RECEIVER_BUFFER(LIMIT)], ack[PITO_ACK_SIZE];
     CALL(pito_receiver_accept, A(receiver), PITO_RECEIVER_STATE, A(buffer), length(sizeof buffer), A(packet), count,
-         A(answer), PITO_ACCEPT_ANSWER);
+         below(once_in(60) ? 20 : 16), A(ack), length(sizeof ack), A(answer), PITO_ACCEPT_ANSWER);
     add_to_capture(packet, count);
 }
 

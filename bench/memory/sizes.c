@@ -68,7 +68,7 @@ static void print_buffers(void)
     buffer("outgoing frame by parts", "any size from 1 on, here the radio module's", sizeof pipe.output);
     buffer("outgoing packet", "the largest room; from 20 on", sizeof box.packet_out);
     buffer("packet that came", "the largest room of the other side", sizeof box.packet_in);
-    buffer("ACK", "exactly", sizeof box.ack);
+    buffer("ACK", "`PITO_ACK_SIZE` or more; lent with each packet that is accepted", sizeof box.ack);
     buffer("outbox of one record", "`PITO_ONE_RECORD(limit)`, as in examples/c/box.c: 1 + 4 + 1 + limit", sizeof box.outbox);
     buffer("serial input", "any size from 1 on, here that of examples/c/box.c", sizeof box.serial_in);
     printf("\n");
@@ -129,7 +129,8 @@ static void print_choices(void)
     printf("| instead | bytes | together | of 32,768 |\n|---|--:|--:|--:|\n");
     instead("as above", 0);
     instead("a message buffer of its own besides", message);
-    instead("packet and ACK are made in the frame's bytes, one thing sent at a time", one_at_a_time);
+    instead("packet and ACK are made in the frame's bytes, one thing sent at a time and no packet accepted meanwhile",
+            one_at_a_time);
     instead("a room of 20, both ways", 2 * (PITO_LEAST_ROOM - PITO_LARGEST_ROOM));
     instead("only payloads up to 2,048 bytes are sent as frames", 2 * (2048 - message));
     instead("the same, and a message buffer of 2,048", 2 * (2048 - message) + 2048);

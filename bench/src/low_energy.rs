@@ -4,12 +4,14 @@ use crate::calls::{AckWrite, CaptureJudge, PacketWrite, ReceiverAccept};
 use crate::digest::Digest;
 use second::classic::LIMIT;
 use second::low_energy::{
-    self, accept as accept_packet, acknowledgement, write_packet, Accepted, Open, Receiver, Stream,
-    Wish,
+    self, accept as accept_packet, acknowledgement, write_packet, Accepted, Open, Receiver, Reply,
+    Stream, Wish,
 };
 use std::hint::black_box;
 
 const FINISHED: u64 = 1;
+/// The sequence of every ACK that a packet wants.
+const ANSWER: u64 = 9;
 pub const BUFFER: usize = low_energy::buffer(LIMIT);
 /// What all packets of the bench share; the stream is Alexa's.
 pub const WISH: Wish = Wish {
@@ -113,7 +115,7 @@ pub fn write_acks_own<const WHOLE: bool>(count: usize) -> u64 {
     digest.value()
 }
 
-/// Every packet in order, from the state with no open transaction.
+/// Every packet in order, from the state with no open transaction, each with the buffer for its ACK.
 pub fn accept<const WHOLE: bool>(
     accept: ReceiverAccept,
     packets: &[Vec<u8>],
@@ -121,7 +123,7 @@ pub fn accept<const WHOLE: bool>(
 ) -> u64 {
     let accept = black_box(accept);
     let mut digest = Digest::<WHOLE>::new();
-    let (mut state, mut answer) = ([0; 19], [0; 7]);
+    let (mut state, mut answer, mut ack) = ([0; 19], [0; 7], [0; 6]);
     state[0] = LIMIT;
     for packet in packets {
         let number = unsafe {
@@ -132,6 +134,9 @@ pub fn accept<const WHOLE: bool>(
                 buffer.len(),
                 packet.as_ptr(),
                 packet.len(),
+                ANSWER,
+                ack.as_mut_ptr(),
+                ack.len(),
                 answer.as_mut_ptr(),
                 answer.len(),
             )
@@ -140,6 +145,7 @@ pub fn accept<const WHOLE: bool>(
         digest.row(&answer);
         if answer[0] == FINISHED {
             digest.bytes(third(buffer, answer[1], answer[4] as usize));
+            digest.bytes(&ack);
         }
     }
     digest.row(&state);
@@ -180,8 +186,13 @@ fn third(buffer: &[u8], stream: u64, total: usize) -> &[u8] {
 pub fn accept_own<const WHOLE: bool>(packets: &[Vec<u8>], buffer: &mut [u8]) -> u64 {
     let mut digest = Digest::<WHOLE>::new();
     let mut state = Receiver::open(LIMIT).expect("a limit");
+    let mut ack = [0; 6];
     for packet in packets {
-        let (after, told) = accept_packet(state, buffer, packet);
+        let reply = Reply {
+            sequence: ANSWER,
+            buffer: &mut ack,
+        };
+        let (after, told) = accept_packet(state, buffer, packet, reply);
         state = after;
         match told {
             Err(refusal) => digest.row(&[refusal.number(), 0, 0, 0, 0, 0, 0, 0]),
@@ -191,6 +202,7 @@ pub fn accept_own<const WHOLE: bool>(packets: &[Vec<u8>], buffer: &mut [u8]) -> 
                 digest.row(&row);
                 if row[0] == FINISHED {
                     digest.bytes(third(buffer, row[1], row[4] as usize));
+                    digest.bytes(&ack);
                 }
             }
         }

@@ -2,6 +2,7 @@
 //! slices.
 
 use second::face::{self, firmware};
+use second::low_energy::Reply;
 use second::outbox::{ONE, TWO};
 use std::slice;
 
@@ -46,8 +47,10 @@ shims! {
         face::packet_write([room, limit], [stream, id, sequence, ack], given(message, length), place, lent(output, size), told);
     ack_write(stream: u64, id: u64, sequence: u64, positive: u64, output: *mut u8, size: usize) told
         face::ack_write([stream, id, sequence, positive], lent(output, size), told);
-    receiver_accept(state: *mut u64, states: usize, buffer: *mut u8, size: usize, packet: *const u8, length: usize) told
-        face::receiver_accept(lent(state, states), lent(buffer, size), given(packet, length), told);
+    receiver_accept(state: *mut u64, states: usize, buffer: *mut u8, size: usize, packet: *const u8, length: usize,
+        sequence: u64, out: *mut u8, room: usize) told
+        face::receiver_accept(lent(state, states), lent(buffer, size), given(packet, length),
+            Reply { sequence, buffer: lent(out, room) }, told);
     capture_judge(capture: *const u8, length: usize, room: u64, limit: u64) told
         face::capture_judge(given(capture, length), room, limit, told);
     envelope_read(message: *const u8, length: usize) told face::envelope_read(given(message, length), told);

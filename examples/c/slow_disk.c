@@ -4,7 +4,8 @@
  * What a kill leaves of a file is otherwise all that was written, synced or not, since the system keeps it. On this
  * disk nothing reaches the file before its fsync, which then writes it in a few pieces and takes its time: a kill
  * loses what was not synced, and cuts what is just being synced. A write takes up to 1,000 bytes, and every third is
- * interrupted. Of a folder's fsync it says on standard error which folder that is: `synced folder INODE`.
+ * interrupted. What is no file (reports, notes, the radio) is written at once. Of a folder's fsync it says on standard error
+ * which folder that is: `synced folder INODE`.
  */
 #define _POSIX_C_SOURCE 200809L
 
@@ -30,7 +31,10 @@ int __wrap_fsync(int file);
 ssize_t __wrap_write(int to, const void *bytes, size_t length)
 {
     static unsigned writes;
-    if (to == STDOUT_FILENO || to == STDERR_FILENO)
+    struct stat is;
+    if (fstat(to, &is) != 0)
+        return -1;
+    if (!S_ISREG(is.st_mode))
         return __real_write(to, bytes, length);
     if (++writes % 3 == 0) {
         errno = EINTR;

@@ -10,6 +10,7 @@ struct Left {
     returned: u64,
     state: Vec<u64>,
     lent: Vec<u8>,
+    reply: Vec<u8>,
     answer: Vec<u64>,
 }
 
@@ -31,8 +32,8 @@ pub struct Comparison<'i> {
     left: Vec<Left>,
     /// For each operation how often each number was returned.
     met: Vec<[u64; NUMBERS]>,
-    /// For each operation how often each kind of success was told.
-    outcomes: Vec<[u64; NUMBERS]>,
+    /// For each operation how often each kind of success was told, in the order of `kinds`.
+    outcomes: Vec<Vec<[u64; NUMBERS]>>,
     calls: u64,
     /// What the driver is at, for the text of a difference.
     pub at: String,
@@ -41,18 +42,33 @@ pub struct Comparison<'i> {
 /// More than any refusal number.
 const NUMBERS: usize = 64;
 
-/// Operations whose first answer is a small number that tells the kind of success.
-fn kinds(operation: Operation) -> Option<(usize, &'static [&'static str])> {
+/// The places in an answer row of small numbers that tell the kind of success, each with the names
+/// of its kinds.
+type Kinds = &'static [(usize, &'static [&'static str])];
+
+fn kinds(operation: Operation) -> Kinds {
     match operation {
-        Operation::ExtractorStep => Some((0, &["skipped", "taken", "frame"])),
-        Operation::ExtractorFeed => Some((0, &["all used", "", "frame"])),
-        Operation::FramePart => Some((2, &["open", "ended"])),
-        Operation::ReceiverAccept => Some((0, &["held", "finished", "ACK", "NACK"])),
-        Operation::EnvelopeRead => Some((1, &["no payload", "response", "other member"])),
-        Operation::FieldRead => Some((0, &["end", "field"])),
-        Operation::OutboxRecord => Some((0, &["end", "record"])),
-        _ => None,
+        Operation::ExtractorStep => &[(0, &["skipped", "taken", "frame"])],
+        Operation::ExtractorFeed => &[(0, &["all used", "", "frame"])],
+        Operation::FramePart => &[(2, &["open", "ended"])],
+        Operation::ReceiverAccept => &[
+            (0, &["held", "finished", "ACK", "NACK"]),
+            (5, &["", "answered"]),
+        ],
+        Operation::EnvelopeRead => &[(1, &["no payload", "response", "other member"])],
+        Operation::FieldRead => &[(0, &["end", "field"])],
+        Operation::OutboxRecord => &[(0, &["end", "record"])],
+        _ => &[],
     }
+}
+
+/// The kinds of an operation by name, each with how often it was told.
+fn told_kinds(operation: Operation, told: &[[u64; NUMBERS]]) -> Vec<(&'static str, u64)> {
+    let named = kinds(operation).iter().zip(told);
+    named
+        .flat_map(|((_, names), counts)| names.iter().copied().zip(counts.iter().copied()))
+        .filter(|(name, _)| !name.is_empty())
+        .collect()
 }
 
 impl<'i> Comparison<'i> {
@@ -62,7 +78,10 @@ impl<'i> Comparison<'i> {
             implementations: implementations.to_vec(),
             left: vec![Left::default(); implementations.len()],
             met: vec![[0; NUMBERS]; Operation::ALL.len()],
-            outcomes: vec![[0; NUMBERS]; Operation::ALL.len()],
+            outcomes: Operation::ALL
+                .iter()
+                .map(|&operation| vec![[0; NUMBERS]; kinds(operation).len()])
+                .collect(),
             calls: 0,
             at: String::new(),
         }
@@ -90,13 +109,14 @@ impl<'i> Comparison<'i> {
         for (one, left) in self.implementations.iter().zip(&mut self.left) {
             left.state.clone_from(&call.state);
             left.lent.clone_from(&call.lent);
+            left.reply.clone_from(&call.reply);
             left.answer.clone_from(&call.answer);
             left.returned = one.call(
                 call.operation,
                 &call.numbers,
                 &call.inputs,
                 &mut left.state,
-                &mut left.lent,
+                [&mut left.lent, &mut left.reply],
                 &mut left.answer,
             );
         }
@@ -106,15 +126,14 @@ impl<'i> Comparison<'i> {
         }
         std::mem::swap(&mut call.state, &mut first.state);
         std::mem::swap(&mut call.lent, &mut first.lent);
+        std::mem::swap(&mut call.reply, &mut first.reply);
         std::mem::swap(&mut call.answer, &mut first.answer);
         let returned = first.returned;
         count(&mut self.met[call.operation as usize], returned);
         if returned == 0 {
-            if let Some((cell, _)) = kinds(call.operation) {
-                count(
-                    &mut self.outcomes[call.operation as usize],
-                    call.answer[cell],
-                );
+            let told = &mut self.outcomes[call.operation as usize];
+            for ((cell, _), counts) in kinds(call.operation).iter().zip(told) {
+                count(counts, call.answer[*cell]);
             }
         }
         Ok(returned)
@@ -140,6 +159,7 @@ impl<'i> Comparison<'i> {
             returned: got,
             state: call.state.clone(),
             lent: call.lent.clone(),
+            reply: call.reply.clone(),
             answer: call.answer.clone(),
         };
         describe_left(&before, &left, "all", &mut text);
@@ -176,11 +196,9 @@ impl<'i> Comparison<'i> {
                     missing.push(format!("{} {number}", shape.name));
                 }
             }
-            if let Some((_, names)) = kinds(operation) {
-                for (kind, name) in names.iter().enumerate() {
-                    if !name.is_empty() && self.outcomes[operation as usize][kind] == 0 {
-                        missing.push(format!("{} {name}", shape.name));
-                    }
+            for (name, count) in told_kinds(operation, &self.outcomes[operation as usize]) {
+                if count == 0 {
+                    missing.push(format!("{} {name}", shape.name));
                 }
             }
         }
@@ -198,14 +216,11 @@ impl<'i> Comparison<'i> {
                 .map(|(number, count)| format!("{number}: {count}"))
                 .collect();
             let _ = write!(text, "  {}  {}", operation.shape().name, counts.join(", "));
-            if let Some((_, names)) = kinds(operation) {
-                let told = &self.outcomes[operation as usize];
-                let counts: Vec<String> = names
-                    .iter()
-                    .enumerate()
-                    .filter(|(_, name)| !name.is_empty())
-                    .map(|(kind, name)| format!("{name}: {}", told[kind]))
-                    .collect();
+            let counts: Vec<String> = told_kinds(operation, &self.outcomes[operation as usize])
+                .iter()
+                .map(|(name, count)| format!("{name}: {count}"))
+                .collect();
+            if !counts.is_empty() {
                 let _ = write!(text, " ({})", counts.join(", "));
             }
             text.push('\n');
@@ -251,13 +266,11 @@ fn describe(call: &Call, text: &mut String) {
         let _ = writeln!(text, "  {name}, {} bytes: {}", bytes.len(), hex(bytes));
     }
     let _ = writeln!(text, "  state before, {}", row(shape.state, &call.state));
-    let _ = writeln!(
-        text,
-        "  {} before, {} bytes: {}",
-        shape.lent,
-        call.lent.len(),
-        hex(&call.lent)
-    );
+    let lent = [(shape.lent, &call.lent), (shape.reply, &call.reply)];
+    for (name, bytes) in lent.into_iter().filter(|(name, _)| *name != "nothing") {
+        let (size, bytes) = (bytes.len(), hex(bytes));
+        let _ = writeln!(text, "  {name} before, {size} bytes: {bytes}");
+    }
     let _ = writeln!(text, "  answer before, {}", row(shape.answer, &call.answer));
 }
 
@@ -266,21 +279,28 @@ fn describe_left(before: &Call, left: &Left, who: &str, text: &mut String) {
     let _ = writeln!(text, "  {who}: returned {}", left.returned);
     let _ = writeln!(text, "    state {}", row(shape.state, &left.state));
     let _ = writeln!(text, "    answer {}", row(shape.answer, &left.answer));
-    let changed: Vec<usize> = (0..left.lent.len())
-        .filter(|&place| before.lent.get(place) != Some(&left.lent[place]))
-        .collect();
-    match (changed.first(), changed.last()) {
-        (Some(&first), Some(&last)) => {
-            let _ = writeln!(
-                text,
-                "    {}: {} bytes changed, all from {first} to {last}: {}",
-                shape.lent,
-                changed.len(),
-                hex(&left.lent[first..=last])
-            );
-        }
-        _ => {
-            let _ = writeln!(text, "    {}: unchanged", shape.lent);
+    for (name, before, left) in [
+        (shape.lent, &before.lent, &left.lent),
+        (shape.reply, &before.reply, &left.reply),
+    ] {
+        if name != "nothing" {
+            describe_bytes(name, before, left, text);
         }
     }
+}
+
+/// What changed of lent bytes.
+fn describe_bytes(name: &str, before: &[u8], left: &[u8], text: &mut String) {
+    let changed: Vec<usize> = (0..left.len())
+        .filter(|&place| before.get(place) != Some(&left[place]))
+        .collect();
+    let _ = match (changed.first(), changed.last()) {
+        (Some(&first), Some(&last)) => writeln!(
+            text,
+            "    {name}: {} bytes changed, all from {first} to {last}: {}",
+            changed.len(),
+            hex(&left[first..=last])
+        ),
+        _ => writeln!(text, "    {name}: unchanged"),
+    };
 }

@@ -17,7 +17,7 @@ use crate::classic::{self, Decided, Extractor, Next, Outcome, Parts, Standing};
 use crate::control::{self, Envelope, Features, Given, Information, Member, Payload, Response};
 use crate::implementation::{Implementation, Operation};
 use crate::judge;
-use crate::low_energy::{self, Accepted, Open, Receiver, Slots, Stream, Wish};
+use crate::low_energy::{self, Accepted, Open, Receiver, Reply, Slots, Stream, Wish};
 use crate::outbox::{self, Broken, Record, Version, ONE, TWO};
 use crate::refusal::{self, Refusal};
 use std::ops::Range;
@@ -38,7 +38,7 @@ impl Implementation for Model {
         numbers: &[u64],
         inputs: &[Vec<u8>],
         state: &mut [u64],
-        lent: &mut [u8],
+        [lent, reply]: [&mut [u8]; 2],
         answer: &mut [u64],
     ) -> u64 {
         match operation {
@@ -63,7 +63,13 @@ impl Implementation for Model {
                 ack_write([*stream, *id, *sequence, *positive], lent, answer)
             }
             Operation::ReceiverOpen => receiver_open(numbers[0], state),
-            Operation::ReceiverAccept => receiver_accept(state, lent, &inputs[0], answer),
+            Operation::ReceiverAccept => {
+                let reply = Reply {
+                    sequence: numbers[0],
+                    buffer: reply,
+                };
+                receiver_accept(state, lent, &inputs[0], reply, answer)
+            }
             Operation::CaptureJudge => capture_judge(&inputs[0], numbers[0], numbers[1], answer),
             Operation::EnvelopeRead => envelope_read(&inputs[0], answer),
             Operation::EnvelopeWrite => {
@@ -440,16 +446,18 @@ pub fn receiver_open(limit: u64, state: &mut [u64]) -> u64 {
 
 /// Answer `outcome, stream, id, sequence, total, ack wanted, replaced` with outcome 0 a piece held and
 /// more to come, 1 finished, 2 ACK, 3 NACK. The sequence is the packet's own and told with 2 and 3
-/// only, total and ACK wanted with 1 only, replaced with 0 and 1 only; else they are 0.
+/// only, total and ACK wanted with 1 only, replaced with 0 and 1 only; else they are 0. An answer
+/// sequence of any size above 15 is 15.
 pub fn receiver_accept(
     state: &mut [u64],
     buffer: &mut [u8],
     packet: &[u8],
+    reply: Reply,
     answer: &mut [u64],
 ) -> u64 {
     ask(answer, || {
         let before = receiver_in(state).ok_or(Refusal::Lent)?;
-        let (after, told) = low_energy::accept(before, buffer, packet);
+        let (after, told) = low_energy::accept(before, buffer, packet, reply);
         state.copy_from_slice(&receiver_out(after));
         let of = |stream: Stream| u64::from(stream.number());
         Ok(match told? {

@@ -51,6 +51,8 @@ pub struct Shape {
     pub answer: &'static [&'static str],
     /// The bytes that are lent for writing.
     pub lent: &'static str,
+    /// The bytes that are lent for writing besides: where an ACK goes.
+    pub reply: &'static str,
     /// What the operation can return, 0 for success.
     pub returns: &'static [u64],
 }
@@ -267,6 +269,7 @@ impl Operation {
             state: &[],
             answer: &[],
             lent: "nothing",
+            reply: "nothing",
             returns: &[],
         };
         match self {
@@ -361,6 +364,7 @@ impl Operation {
             },
             Operation::ReceiverAccept => Shape {
                 name: "receiver accept",
+                numbers: &["answer sequence"],
                 inputs: &["packet"],
                 state: RECEIVER,
                 answer: &[
@@ -373,7 +377,8 @@ impl Operation {
                     "replaced",
                 ],
                 lent: "buffer",
-                returns: &[0, 1, 2, 3, 4, 5, 6, 7, 8, 9, 10, 11, 12],
+                reply: "answer buffer",
+                returns: &[0, 1, 2, 3, 4, 5, 6, 7, 8, 9, 10, 11, 12, 14, 15],
                 ..empty
             },
             Operation::CaptureJudge => Shape {
@@ -564,14 +569,15 @@ impl Operation {
 pub trait Implementation {
     fn name(&self) -> &str;
 
-    /// One call: returns 0 or the refusal number; `state`, `lent` and `answer` are what it left.
+    /// One call: returns 0 or the refusal number; `state`, the two lent buffers (the second is the
+    /// one for an ACK) and `answer` are what it left.
     fn call(
         &self,
         operation: Operation,
         numbers: &[u64],
         inputs: &[Vec<u8>],
         state: &mut [u64],
-        lent: &mut [u8],
+        lent: [&mut [u8]; 2],
         answer: &mut [u64],
     ) -> u64;
 }
@@ -584,6 +590,7 @@ pub struct Call {
     pub inputs: Vec<Vec<u8>>,
     pub state: Vec<u64>,
     pub lent: Vec<u8>,
+    pub reply: Vec<u8>,
     pub answer: Vec<u64>,
 }
 
@@ -597,6 +604,7 @@ impl Call {
             inputs: vec![Vec::new(); shape.inputs.len()],
             state: vec![0; shape.state.len()],
             lent: Vec::new(),
+            reply: Vec::new(),
             answer: vec![0; shape.answer.len()],
         }
     }
@@ -613,6 +621,11 @@ impl Call {
 
     pub fn lent(mut self, lent: Vec<u8>) -> Call {
         self.lent = lent;
+        self
+    }
+
+    pub fn reply(mut self, reply: Vec<u8>) -> Call {
+        self.reply = reply;
         self
     }
 

@@ -22,7 +22,7 @@ impl Implementation for Library {
         numbers: &[u64],
         inputs: &[Vec<u8>],
         state: &mut [u64],
-        lent: &mut [u8],
+        [lent, reply]: [&mut [u8]; 2],
         answer: &mut [u64],
     ) -> u64 {
         let (row, rows) = (state.as_mut_ptr(), state.len());
@@ -73,7 +73,10 @@ impl Implementation for Library {
                 Operation::ReceiverOpen => pito_receiver_open(numbers[0], row, rows),
                 Operation::ReceiverAccept => {
                     let (packet, length) = input(0);
-                    pito_receiver_accept(row, rows, bytes, size, packet, length, told, tells)
+                    let (out, room) = (reply.as_mut_ptr(), reply.len());
+                    pito_receiver_accept(
+                        row, rows, bytes, size, packet, length, numbers[0], out, room, told, tells,
+                    )
                 }
                 Operation::CaptureJudge => {
                     let (capture, length) = input(0);

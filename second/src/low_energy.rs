@@ -237,16 +237,47 @@ pub enum Accepted {
     },
 }
 
-/// One packet given to the receiver.
+/// What is lent for the ACK (No. 9): "a second lent buffer, with a sequence the caller gives".
+pub struct Reply<'a> {
+    pub sequence: u64,
+    pub buffer: &'a mut [u8],
+}
+
+/// One packet given to the receiver: "a packet that finishes a transaction wanting one also writes
+/// six bytes to a second lent buffer, with a sequence the caller gives; every other outcome leaves
+/// that buffer untouched". "after 1, 15 for an answer sequence above 15 and 14 for an answer buffer
+/// under six bytes, both before the packet is looked at".
 pub fn accept(
     state: Receiver,
     lent: &mut [u8],
     packet: &[u8],
+    reply: Reply,
 ) -> (Receiver, Result<Accepted, Refusal>) {
-    let Receiver { limit, slots } = state;
-    if !state.is_lawful() || lent.len() != buffer(limit) {
+    if !state.is_lawful() || lent.len() != buffer(state.limit) {
         return (state, Err(Refusal::Lent));
     }
+    if reply.sequence > 15 {
+        return (state, Err(Refusal::Argument));
+    }
+    let Some(room) = reply.buffer.first_chunk_mut() else {
+        return (state, Err(Refusal::Output));
+    };
+    let (after, told) = take(state, lent, packet);
+    if let Ok(Accepted::Finished {
+        stream,
+        id,
+        ack_wanted: true,
+        ..
+    }) = told
+    {
+        *room = acknowledgement(stream, id, reply.sequence as u8, true);
+    }
+    (after, told)
+}
+
+/// One packet, taken into a lawful state and a buffer of the right size.
+fn take(state: Receiver, lent: &mut [u8], packet: &[u8]) -> (Receiver, Result<Accepted, Refusal>) {
+    let Receiver { limit, slots } = state;
     let packet = match Packet::read(limit, packet) {
         Ok(packet) => packet,
         Err(refusal) => return (state, Err(refusal)),

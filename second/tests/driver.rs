@@ -67,8 +67,11 @@ fn a_wrong_line_of_a_capture_fails() {
     }
 }
 
+/// What a wrong implementation makes of what the right one returned and left.
+type Spoil = fn(&mut u64, &mut [u64], [&mut [u8]; 2], &mut [u64]);
+
 /// An implementation that is wrong in one operation, on some calls.
-struct Wrong(Operation, fn(&mut u64, &mut [u64], &mut [u8], &mut [u64]));
+struct Wrong(Operation, Spoil);
 
 impl Implementation for Wrong {
     fn name(&self) -> &str {
@@ -81,12 +84,13 @@ impl Implementation for Wrong {
         numbers: &[u64],
         inputs: &[Vec<u8>],
         state: &mut [u64],
-        lent: &mut [u8],
+        [lent, reply]: [&mut [u8]; 2],
         answer: &mut [u64],
     ) -> u64 {
-        let mut returned = Model.call(operation, numbers, inputs, state, lent, answer);
+        let both = [&mut *lent, &mut *reply];
+        let mut returned = Model.call(operation, numbers, inputs, state, both, answer);
         if operation == self.0 {
-            (self.1)(&mut returned, state, lent, answer);
+            (self.1)(&mut returned, state, [lent, reply], answer);
         }
         returned
     }
@@ -124,12 +128,20 @@ fn a_wrong_number_of_any_operation_is_found() {
             assert!(found(&state).is_some());
         }
         if shape.lent != "nothing" {
-            let lent = Wrong(operation, |_, _, lent, _| {
+            let lent = Wrong(operation, |_, _, [lent, _], _| {
                 if let Some(last) = lent.last_mut() {
                     *last ^= 1;
                 }
             });
             assert!(found(&lent).is_some());
+        }
+        if shape.reply != "nothing" {
+            let reply = Wrong(operation, |_, _, [_, reply], _| {
+                if let Some(last) = reply.last_mut() {
+                    *last ^= 1;
+                }
+            });
+            assert!(found(&reply).is_some());
         }
     }
 }
@@ -156,7 +168,7 @@ fn streams_that_are_not_apart_are_found() {
     });
     assert!(found(&idle));
     // One byte of the buffer is the last packet's, whatever its stream.
-    let byte = Wrong(Operation::ReceiverAccept, |returned, _, lent, _| {
+    let byte = Wrong(Operation::ReceiverAccept, |returned, _, [lent, _], _| {
         if let Some(last) = lent.last_mut() {
             *last = *returned as u8;
         }
@@ -169,11 +181,18 @@ fn streams_that_are_not_apart_are_found() {
         }
     });
     assert!(found(&answer));
+    // The ACK's last byte is a number of all slots.
+    let ack = Wrong(Operation::ReceiverAccept, |_, state, [_, reply], _| {
+        if let Some(code) = reply.get_mut(5) {
+            *code = state.iter().sum::<u64>() as u8;
+        }
+    });
+    assert!(found(&ack));
 }
 
 #[test]
 fn a_difference_tells_the_call_and_both_answers() {
-    let wrong = Wrong(Operation::FrameWrite, |_, _, lent, answer| {
+    let wrong = Wrong(Operation::FrameWrite, |_, _, [lent, _], answer| {
         lent[1] = 0x03;
         answer[0] += 1;
     });

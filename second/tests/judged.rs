@@ -78,7 +78,7 @@ impl Implementation for Wrong {
         numbers: &[u64],
         inputs: &[Vec<u8>],
         state: &mut [u64],
-        lent: &mut [u8],
+        lent: [&mut [u8]; 2],
         answer: &mut [u64],
     ) -> u64 {
         let (mut numbers, mut inputs) = (numbers.to_vec(), inputs.to_vec());

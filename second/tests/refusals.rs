@@ -7,7 +7,9 @@ use common::{accept, BUFFER};
 use second::classic::{self, Extractor, Next, Outcome, Parts, Standing};
 use second::control::{self, Envelope, Features, Given, Information, Payload, Response};
 use second::driver::worked::bytes;
-use second::low_energy::{self, write_packet, Accepted, Open, Receiver, Slots, Stream, Wish};
+use second::low_energy::{
+    self, write_packet, Accepted, Open, Receiver, Reply, Slots, Stream, Wish,
+};
 use second::outbox;
 use second::refusal::Refusal;
 
@@ -111,7 +113,11 @@ fn unlawful_states_and_buffers_come_first() {
     for limit in [0, 65_536] {
         let state = Receiver { limit, slots: IDLE };
         let mut buffer = vec![0; low_energy::buffer(limit)];
-        let (after, told) = low_energy::accept(state, &mut buffer, &packet);
+        let reply = Reply {
+            sequence: 16,
+            buffer: &mut [],
+        };
+        let (after, told) = low_energy::accept(state, &mut buffer, &packet, reply);
         assert_eq!((after, told), (state, Err(Refusal::Lent)));
     }
     let lawful = Open {
@@ -154,6 +160,39 @@ fn unlawful_states_and_buffers_come_first() {
         for open in unlawful {
             slots[slot] = Some(open);
             assert_eq!(packet_refusal(slots, &packet), 1);
+        }
+    }
+}
+
+/// "after 1, 15 for an answer sequence above 15 and 14 for an answer buffer under six bytes, both
+/// before the packet is looked at": whatever the packet, and nothing changes.
+#[test]
+fn the_answer_is_judged_before_the_packet() {
+    let slots = control_open(10, 3);
+    let state = Receiver {
+        limit: classic::LIMIT,
+        slots,
+    };
+    // Short, of no stream, out of order, and one that would finish and be answered.
+    for packet in ["", "00", "10 04 00", "01 64 01 AA", "61 02 00 00 01 01 AA"] {
+        let cases = [
+            (16, 6, Refusal::Argument),
+            (16, 5, Refusal::Argument),
+            (u64::MAX, 0, Refusal::Argument),
+            (15, 5, Refusal::Output),
+            (0, 0, Refusal::Output),
+        ];
+        for (sequence, size, refusal) in cases {
+            let mut buffer = vec![0xEE; BUFFER];
+            let mut answer = vec![0xDD; size];
+            let reply = Reply {
+                sequence,
+                buffer: &mut answer,
+            };
+            let got = low_energy::accept(state, &mut buffer, &bytes(packet), reply);
+            assert_eq!(got, (state, Err(refusal)), "{packet}");
+            assert!(answer.iter().all(|&byte| byte == 0xDD));
+            assert!(buffer.iter().all(|&byte| byte == 0xEE));
         }
     }
 }

@@ -32,7 +32,7 @@ pub enum Answer {
 }
 
 // The six bytes, first in the output.
-fn put(out: &mut [u8], stream: u8, id: u8, sequence: u8, positive: bool)
+pub fn put(out: &mut [u8], stream: u8, id: u8, sequence: u8, positive: bool)
     requires { ⌜ (6 ≤ length (now out)) × (stream < 16) × (id < 16) × (sequence < 16) ⌝ }
     ensures { λ _. ⌜ now (out .exit) ≡ sets (now (out .entry)) 0 (ackBytes stream id sequence positive) ⌝ }
 {

@@ -1,13 +1,13 @@
 -- Receiving over Low Energy for C: the calls that open a receiver and give it one packet.
 use Prim.Native.Nat.{ℕ}
-use mathlib.Core.Bool.{_&&_}
+use mathlib.Core.Bool.{cond, _&&_}
 use mathlib.Core.List.{List, []}
 use lib.ListN.{length}
 use lib.Dec.{eqb}
 use Rattle.wire.specs.Told.{Told, given, refused}
 use Rattle.receiver.specs.declared.Receiver.{Receiver}
-use Rattle.receiver.specs.Receiver.{openOf, Result, acceptOf}
-use Rattle.rows.specs.Row.{afterwards, numberTold}
+use Rattle.receiver.specs.Receiver.{openOf, call, PacketLeft, acceptOf}
+use Rattle.rows.specs.Row.{afterwards, numberTold, byteOr, outOfRange}
 use Rattle.calls_receiving.specs.Convert.{isReceiver, limitOf, slotsOf, receiverRow, answerRow}
 use Rattle.rows.specs.Called.{Called, called, ifFit}
 
@@ -19,12 +19,23 @@ opened state (refused n) = called n state [] []
 unfoldable pub receiverOpenOf : ℕ → List ℕ → Called
 receiverOpenOf limit state = ifFit (eqb (length state) 19) state [] [] (opened state (openOf limit))
 
--- rows and lent bytes after a packet; the limit stays
-abbrev pub accepted : List ℕ → List ℕ → Result → Called
-accepted state answer r =
-    let n = numberTold (r .told) in
-    called n (afterwards n state (receiverRow (limitOf state) (r .slots))) (r .bytes) (afterwards n answer (answerRow (r .told)))
+-- what a call leaves that has an answer buffer too
+pub record AcceptCalled : Type 0 where
+  pub call : Called
+  pub out : List ℕ
 
-unfoldable pub receiverAcceptOf : List ℕ → List ℕ → List ℕ → List ℕ → Called
-receiverAcceptOf state lent packet answer =
-    ifFit (eqb (length answer) 7 && isReceiver state) state lent answer (accepted state answer (acceptOf (limitOf state) (slotsOf state) lent packet))
+abbrev pub replied : Called → List ℕ → AcceptCalled
+replied c out = record { call = c; out = out }
+
+-- rows and lent bytes after a packet; the limit stays
+abbrev pub accepted : List ℕ → List ℕ → PacketLeft → AcceptCalled
+accepted state answer l =
+    let n = numberTold (l .told) in
+    replied
+    (called n (afterwards n state (receiverRow (limitOf state) (l .slots))) (l .bytes) (afterwards n answer (answerRow (l .told)))) (l .out)
+
+unfoldable pub receiverAcceptOf : List ℕ → List ℕ → List ℕ → ℕ → List ℕ → List ℕ → AcceptCalled
+receiverAcceptOf state lent packet sequence out answer =
+    cond (eqb (length answer) 7 && isReceiver state)
+    (accepted state answer (acceptOf (limitOf state) (slotsOf state) lent (call packet (byteOr outOfRange sequence) out)))
+    (replied (called 1 state lent answer) out)

@@ -5,6 +5,8 @@ use mathlib.Core.List.{List, [], _∷_, _++_}
 use lib.ListN.{length, getD, replicate}
 use lib.Dec.{ltb, eqb}
 use Rattle.wire.specs.Told.{Told, given, refused}
+use Rattle.wire.specs.declared.stream.Stream.{Stream}
+use Rattle.wire.specs.declared.stream.Stream.the-variants.{Control, Ota, Alexa}
 use Rattle.wire.specs.Stream.{streamNumber}
 use Rattle.packet.specs.Header.{bit}
 use Rattle.packet.specs.declared.reader.Head.{Head}
@@ -25,6 +27,12 @@ receiverRow limit slots = limit ∷ slotRow (getD slots 0 idle) ++ (slotRow (get
 -- numbers from a place on that a slot can have: open or not, wanted or not, and an id and a sequence of one byte each
 unfoldable pub isSlot : List ℕ → ℕ → Bool
 isSlot row at = (ltb (getD row at 0) 2 && ltb (getD row (at + 5) 0) 2) && (ltb (getD row (at + 1) 0) 256 && ltb (getD row (at + 4) 0) 256)
+
+-- where a stream's slot begins
+abbrev pub slotAt : Stream → ℕ
+slotAt Control = 1
+slotAt Ota = 7
+slotAt Alexa = 13
 
 abbrev pub slotOf : List ℕ → ℕ → Slot
 slotOf row at =

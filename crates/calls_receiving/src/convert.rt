@@ -21,7 +21,7 @@ ghost use lib.Seq.{sets};
 ghost use Rattle.wire.specs.Stream.{streamNumber};
 ghost use Rattle.slot.specs.Answer.{told};
 ghost use Rattle.rows.specs.Row.{afterwards, numberTold};
-ghost use Rattle.calls_receiving.specs.Convert.{isSlot, slotOf, isReceiver, limitOf, slotsOf, slotRow, receiverRow, headRow, acceptedRow, answerRow};
+ghost use Rattle.calls_receiving.specs.Convert.{isSlot, slotOf, slotAt, isReceiver, limitOf, slotsOf, slotRow, receiverRow, headRow, acceptedRow, answerRow};
 
 // The numbers of the state row: the limit, then the slots; and where those of each slot begin.
 pub const STATE: usize = 19;
@@ -65,7 +65,18 @@ fn is_slot(row: &[u64], at: usize) -> bool
     both(flags, bytes)
 }
 
-fn slot_of(row: &[u64], at: usize) -> Slot
+// Where the numbers of a stream's slot begin.
+pub fn slot_at(stream: Stream) -> usize
+    ensures { λ r. ⌜ r ≡ slotAt stream ⌝ }
+{
+    match stream {
+        Stream::Control => CONTROL,
+        Stream::Ota => OTA,
+        Stream::Alexa => ALEXA,
+    }
+}
+
+pub fn slot_of(row: &[u64], at: usize) -> Slot
     requires { ⌜ (at + 6 ≤ length (now row)) × (isSlot (now row) at ≡ true) ⌝ }
     ensures { λ r. ⌜ r ≡ slotOf (now (row .entry)) at ⌝ }
 {
@@ -131,16 +142,23 @@ pub fn put_limit(row: &mut [u64], limit: u64)
     row[0] = limit;
 }
 
-// Writes the slots of the state row, unless the call is refused by 1; the limit stays.
-pub fn put_slots(row: &mut [u64], number: u64, slots: [Slot; 3])
+// Writes the slots of the state row; the limit stays.
+pub fn put_slots(row: &mut [u64], slots: [Slot; 3])
     requires { ⌜ length (now row) ≡ 19 ⌝ }
-    ensures { λ _. ⌜ now (row .exit)
-        ≡ afterwards number (now (row .entry)) (receiverRow (limitOf (now (row .entry))) slots) ⌝ }
+    ensures { λ _. ⌜ now (row .exit) ≡ receiverRow (limitOf (now (row .entry))) slots ⌝ }
+{
+    put_slot(row, CONTROL, slots[0]);
+    put_slot(row, OTA, slots[1]);
+    put_slot(row, ALEXA, slots[2]);
+}
+
+// Writes a slot's numbers from a place of the state row on, unless the call is refused by 1.
+pub fn replace_slot(row: &mut [u64], number: u64, at: usize, slot: Slot)
+    requires { ⌜ at + 6 ≤ length (now row) ⌝ }
+    ensures { λ _. ⌜ now (row .exit) ≡ afterwards number (now (row .entry)) (sets (now (row .entry)) at (slotRow slot)) ⌝ }
 {
     if number != UNFIT {
-        put_slot(row, CONTROL, slots[0]);
-        put_slot(row, OTA, slots[1]);
-        put_slot(row, ALEXA, slots[2]);
+        put_slot(row, at, slot);
     }
 }
 

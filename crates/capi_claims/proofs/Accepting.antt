@@ -16,7 +16,8 @@ use Rattle.packet.specs.declared.reader.Packet.the-variants.{First, Next, Ack, 
 use Rattle.slot.specs.declared.Slot.{Slot}
 use Rattle.slot.specs.Slot.{idle, isOpen, laneStart, laneOf}
 use Rattle.slot.specs.Step.{Step, Act, still, step, nothing, finish, hold, dropBy, firstStep, lines, nextStep, placeWhere, atPlace, actOf}
-use Rattle.receiver.specs.Receiver.{applied, actIn, acted}
+use Rattle.slot.specs.declared.answer.Accepted.{Accepted}
+use Rattle.receiver.specs.Receiver.{applied, actIn, acted, answered}
 use Rattle.rows.specs.Row.{numberTold}
 
 -- a step that is refused by 1 writes nothing
@@ -62,3 +63,8 @@ pub acted-keeps : (limit : ℕ) (slots : List Slot) (bytes packet : List ℕ) (t
 acted-keeps limit slots bytes packet (refused n) e = refl
 acted-keeps limit slots bytes packet (given x) e =
     applied-keeps limit (laneStart (headIn x .stream)) slots bytes packet (actIn slots x) (act-none (laneOf (headIn x .stream) slots) x) e
+
+-- and the answer buffer
+pub answered-keeps : (sequence : ℕ) (out : List ℕ) (t : Told Accepted) → numberTold t ≡ 1 → answered sequence t out ≡ out
+answered-keeps sequence out (refused n) e = refl
+answered-keeps sequence out (given x) e = never e

@@ -30,7 +30,7 @@ use Rattle.acknowledgement.specs.Acknowledgement.{ackOf}
 use Rattle.packet.specs.Reader.{readOf}
 use Rattle.sender.specs.declared.writer.Sending.{Sending}
 use Rattle.sender.specs.Writer.{packetOf, foundAt, lines, sentOf, pieceOf, writtenOf}
-use Rattle.receiver.specs.Receiver.{result, acted, acceptOf}
+use Rattle.receiver.specs.Receiver.{acted, acceptOf}
 use Rattle.receiver.specs.Receiver as receiver
 use Rattle.control.specs.declared.envelope.EnvelopePayload.{EnvelopePayload}
 use Rattle.device.specs.declared.features.DeviceFeatures.{DeviceFeatures}
@@ -65,21 +65,21 @@ use Rattle.rows_messages.specs.Convert.{allSigned, responsePayloadOf}
 use Rattle.rows_firmware.specs.More.{isWide}
 use Rattle.rows_firmware.specs.Apply.{rowSize, answerSize, badRow, applyAt}
 use Rattle.calls_outbox.specs.Convert.{usedIn, usedRow}
-use Rattle.rows.specs.Called.{ifFit}
+use Rattle.rows.specs.Called.{called, ifFit}
 use Rattle.calls_classic.specs.Calls.{opened, stepped, fedCall, noneUsed, extractorOpenOf, extractorStepOf, extractorFeedOf, frameWriteOf, nextSequenceOf}
 use Rattle.calls_parts.specs.Convert.{isState, stateOf}
 use Rattle.calls_parts.specs.Calls.{begun, parted, frameBeginOf, framePartOf}
 use Rattle.calls_sending.specs.Calls.{packetWriteOf, ackWriteOf}
-use Rattle.calls_receiving.specs.Calls.{accepted, receiverOpenOf, receiverAcceptOf}
+use Rattle.calls_receiving.specs.Calls.{replied, accepted, receiverOpenOf, receiverAcceptOf}
 use Rattle.calls_receiving.specs.Calls as receiving
 use Rattle.calls_messages.specs.Calls.{envelopeReadOf, envelopeWriteOf, responseReadOf, responseWriteOf, informationReadOf, informationWriteOf, featuresReadOf, featuresWriteOf}
 use Rattle.calls_firmware.specs.Calls.{segmentReadOf, segmentStored, segmentWriteOf, applyReadOf, applyStored, applyWriteOf, fieldReadOf}
 use Rattle.calls_captures.specs.Calls.{captureJudgeOf}
 use Rattle.calls_outbox.specs.Calls.{outboxNewOf, outboxAppendOf, outboxRecordOf, outboxWholeOf}
-use Rattle.capi_claims.specs.OneLeavesAll.{Keeps, OneLeavesAll}
+use Rattle.capi_claims.specs.OneLeavesAll.{Keeps, KeepsBoth, OneLeavesAll}
 use Rattle.capi_claims.proofs.Rows.{keeps-if, keeps-rows, keeps-answers, writes-keeps, keeps-writer, keeps-text}
 use Rattle.capi_claims.proofs.Extracting.{advance-not-one, feed-not-one}
-use Rattle.capi_claims.proofs.Accepting.{acted-keeps}
+use Rattle.capi_claims.proofs.Accepting.{acted-keeps, answered-keeps}
 
 -- the extractor's opening is never 1; its step and feed are guarded, then never 1
 open-keeps : (limit : ℕ) (state : List ℕ) → Keeps state [] [] (extractorOpenOf limit state)
@@ -135,17 +135,28 @@ receiver-open-keeps limit state = keeps-if (eqb (length state) 19) state [] [] _
     go true = λ e. absurd (omega (arith, e))
     go false = λ e. absurd (omega (arith, e))
 
-accept-keeps : (packet state lent answer : List ℕ) → Keeps state lent answer (receiverAcceptOf state lent packet answer)
+accept-keeps : (sequence : ℕ) (packet state lent out answer : List ℕ)
+    → KeepsBoth state lent out answer (receiverAcceptOf state lent packet sequence out answer)
 unfolding receiverAcceptOf acceptOf
-accept-keeps packet state lent answer =
-    keeps-if (eqb (length answer) 7 && isReceiver state) state lent answer _ (go (not (receiver.ready limit (slotsOf state) (length lent))))
+accept-keeps sequence packet state lent out answer = fits (eqb (length answer) 7 && isReceiver state)
   where
     limit : ℕ
     limit = limitOf state
 
-    go : (t : Bool) → Keeps state lent answer (accepted state answer (cond t (result (refused 1) (slotsOf state) lent) (acted limit (slotsOf state) lent packet (readOf limit packet))))
+    c : receiver.PacketCall
+    c = receiver.call packet (byteOr outOfRange sequence) out
+
+    go : (t : Bool) → KeepsBoth state lent out answer
+        (accepted state answer
+        (cond t (receiver.left (refused 1) (slotsOf state) lent out)
+        (receiver.leaves (c .sequence) out (acted limit (slotsOf state) lent packet (receiver.readIn limit c)))))
     go true = λ e. refl
-    go false = keeps-rows _ state lent answer _ _ _ (acted-keeps limit (slotsOf state) lent packet (readOf limit packet))
+    go false = λ e.
+        rw (e, acted-keeps limit (slotsOf state) lent packet (receiver.readIn limit c) e, answered-keeps (c .sequence) out (acted limit (slotsOf state) lent packet (receiver.readIn limit c) .told) e)
+
+    fits : (fit : Bool) → KeepsBoth state lent out answer (cond fit (accepted state answer (acceptOf limit (slotsOf state) lent c)) (replied (called 1 state lent answer) out))
+    fits true = go (not (receiver.ready limit (slotsOf state) (length lent)))
+    fits false = λ e. refl
 
 -- writers, each by its table
 frame-keeps : (limit sequence : ℕ) (payload out answer : List ℕ) → Keeps [] out answer (frameWriteOf limit sequence payload out answer)

@@ -9,7 +9,7 @@ use Rattle.rows.specs.Called.{Called, called}
 use Rattle.calls_classic.specs.Calls.{noneUsed, extractorOpenOf, extractorStepOf, extractorFeedOf, frameWriteOf, nextSequenceOf}
 use Rattle.calls_parts.specs.Calls.{frameBeginOf, framePartOf}
 use Rattle.calls_sending.specs.Calls.{packetWriteOf, ackWriteOf}
-use Rattle.calls_receiving.specs.Calls.{receiverOpenOf, receiverAcceptOf}
+use Rattle.calls_receiving.specs.Calls.{AcceptCalled, replied, receiverOpenOf, receiverAcceptOf}
 use Rattle.calls_captures.specs.Calls.{captureJudgeOf}
 use Rattle.calls_messages.specs.Calls.{envelopeReadOf, envelopeWriteOf, responseReadOf, responseWriteOf, informationReadOf, informationWriteOf, featuresReadOf, featuresWriteOf}
 use Rattle.calls_firmware.specs.Calls.{segmentReadOf, segmentWriteOf, applyReadOf, applyWriteOf, fieldReadOf}
@@ -20,6 +20,10 @@ use Rattle.calls_moving.specs.Calls.{outboxMoveOf}
 -- if it returns 1, state row, lent bytes and answer row are what they were
 abbrev pub Keeps : List ℕ → List ℕ → List ℕ → Called → Type 0
 Keeps state lent answer c = c .number ≡ 1 → c ≡ called 1 state lent answer
+
+-- the same of a call with an answer buffer
+abbrev pub KeepsBoth : List ℕ → List ℕ → List ℕ → List ℕ → AcceptCalled → Type 0
+KeepsBoth state lent out answer r = r .call .number ≡ 1 → r ≡ replied (called 1 state lent answer) out
 
 pub record OneLeavesAll : Type 0 where
   pub extractor-open : (limit : ℕ) (state : List ℕ) → Keeps state [] [] (extractorOpenOf limit state)
@@ -33,7 +37,7 @@ pub record OneLeavesAll : Type 0 where
       → Keeps [] out answer (packetWriteOf limit how message place out answer)
   pub ack-write : (stream id sequence positive : ℕ) (out answer : List ℕ) → Keeps [] out answer (ackWriteOf stream id sequence positive out answer)
   pub receiver-open : (limit : ℕ) (state : List ℕ) → Keeps state [] [] (receiverOpenOf limit state)
-  pub receiver-accept : (packet state lent answer : List ℕ) → Keeps state lent answer (receiverAcceptOf state lent packet answer)
+  pub receiver-accept : (sequence : ℕ) (packet state lent out answer : List ℕ) → KeepsBoth state lent out answer (receiverAcceptOf state lent packet sequence out answer)
   pub capture-judge : (room limit : ℕ) (capture answer : List ℕ) → Keeps [] [] answer (captureJudgeOf capture room limit answer)
   pub envelope-read : (message answer : List ℕ) → Keeps [] [] answer (envelopeReadOf message answer)
   pub envelope-write : (command : ℕ) (payload : EnvelopePayload) (bytes out answer : List ℕ)

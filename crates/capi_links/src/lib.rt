@@ -18,7 +18,7 @@ ghost use Rattle.calls_classic.specs.Calls.{extractorOpenOf, extractorStepOf, e
 ghost use Rattle.calls_parts.specs.Calls.{frameBeginOf, framePartOf};
 ghost use Rattle.calls_sending.specs.Calls.{packetWriteOf, ackWriteOf};
 ghost use Rattle.calls_sending.specs.Convert.{sendingOf};
-ghost use Rattle.calls_receiving.specs.Calls.{receiverOpenOf, receiverAcceptOf};
+ghost use Rattle.calls_receiving.specs.Calls.{receiverOpenOf, replied, receiverAcceptOf};
 
 // ---- Classic: the extractor and the frame writer, whole and by parts
 
@@ -163,16 +163,19 @@ pub extern "C" fn pito_receiver_open(limit: u64, state: &mut [u64]) -> u64
     receiver_open(limit, state)
 }
 
-// One packet given to the receiver.
+// One packet given to the receiver; the ACK that it may want is written in the answer buffer.
 #[no_mangle]
 pub extern "C" fn pito_receiver_accept(
     state: &mut [u64],
     buffer: &mut [u8],
     packet: &[u8],
+    sequence: u64,
+    out: &mut [u8],
     answer: &mut [u64],
 ) -> u64
-    ensures { λ r. ⌜ called r (now (state .exit)) (now (buffer .exit)) (now (answer .exit))
-        ≡ receiverAcceptOf (now (state .entry)) (now (buffer .entry)) (now (packet .entry)) (now (answer .entry)) ⌝ }
+    ensures { λ r. ⌜ replied (called r (now (state .exit)) (now (buffer .exit)) (now (answer .exit))) (now (out .exit))
+        ≡ receiverAcceptOf (now (state .entry)) (now (buffer .entry)) (now (packet .entry)) sequence (now (out .entry))
+        (now (answer .entry)) ⌝ }
 {
-    receiver_accept(state, buffer, packet, answer)
+    receiver_accept(state, buffer, packet, sequence, out, answer)
 }

@@ -142,7 +142,8 @@ fn accept_packet(label: &[u8], control: Slot, alexa: Slot, packet: &[u8]) {
         limit: LIMIT,
         slots: [control, none, alexa],
     };
-    let outcome = state.accept(&mut buffer, packet);
+    let mut out = [0u8; OUTPUT];
+    let outcome = state.accept(&mut buffer, packet, 9, &mut out);
     let answer = outcome.answer;
     text(label);
     match answer {

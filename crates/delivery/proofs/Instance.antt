@@ -14,13 +14,13 @@ use Rattle.packet.specs.Header.{inRange}
 use Rattle.packet.specs.Reader.{fieldsOf, contentOf, lines, readOf}
 use Rattle.slot.specs.Slot.{lawfulSlot, lawful}
 use Rattle.slot.specs.Step.{finish, hold, dropBy, firstStep, nextStep}
-use Rattle.receiver.specs.Receiver.{ready, acceptOf}
+use Rattle.receiver.specs.Receiver.{ready, readIn, acceptOf}
 use Rattle.sender.specs.Piece.{sizeFor}
 use Rattle.sender.specs.Writer.{headerBytes, packetOf, roomFits, argumentsFit, writtenOf}
 use Rattle.sender_claims.specs.Calls.{callsFrom, callsOf, Takes}
 use Rattle.sender_claims.proofs.CallsGiveAll.{takes-all}
-use Rattle.delivery.specs.Delivery.{runOf, repliesTo, ours, givenTo}
-use Rattle.delivery.specs.Instance.{limit, how, message, output, slots, buffer, before, first, later, after, Arrives}
+use Rattle.delivery.specs.Delivery.{runOf, repliesTo, ours, packetsIn, shown, shownTo, allAnswerable}
+use Rattle.delivery.specs.Instance.{limit, how, message, output, slots, buffer, eight, before, first, later, after, Arrives}
 
 law : lawful limit slots ≡ true
 unfolding lawfulSlot lawful
@@ -29,17 +29,23 @@ law = refl
 takes : Takes limit how message output
 takes = takes-all limit how message output (omega arith) (omega arith) (omega arith) (omega arith) (inr (inr refl)) (omega arith) (omega arith) (omega arith) (omega arith)
 
-begins : first ≡ getD (callsOf limit how message output) 0 []
+begins : first .packet ≡ getD (callsOf limit how message output) 0 []
 unfolding limitFits isStream inRange sizeFor headerBytes packetOf roomFits argumentsFit writtenOf callsFrom
 begins = refl
 
-sent : those (ours how) later ≡ drop 1 (callsOf limit how message output)
+sent : packetsIn (those (ours how) later) ≡ drop 1 (callsOf limit how message output)
 unfolding limitFits isStream inRange sizeFor headerBytes packetOf roomFits argumentsFit writtenOf callsFrom
 sent = refl
 
-arrived : givenTo limit how (repliesTo limit slots buffer before (first ∷ later) after)
-    ≡ none ∷ none ∷ some (record { stream = Alexa; id = 1; total = 35; ack = true; payload = message }) ∷ []
-unfolding limitFits isStream streamOf fieldsOf contentOf lines readOf lawfulSlot lawful finish hold dropBy firstStep nextStep ready acceptOf runOf
+can-answer : allAnswerable (first ∷ those (ours how) later) ≡ true
+can-answer = refl
+
+arrived : shownTo limit how (repliesTo limit slots buffer before (first ∷ later) after)
+    ≡ shown none eight
+    ∷ shown none eight
+    ∷ shown (some (record { stream = Alexa; id = 1; total = 35; ack = true; payload = message })) (0x61 ∷ 0x9E ∷ 0x00 ∷ 0x02 ∷ 0x01 ∷ 0x00 ∷ 0xEE ∷ 0xEE ∷ [])
+    ∷ []
+unfolding limitFits isStream streamOf fieldsOf contentOf lines readOf lawfulSlot lawful finish hold dropBy firstStep nextStep ready readIn acceptOf runOf
 arrived = refl
 
 pub arrives : Arrives
@@ -50,6 +56,7 @@ arrives =
       takes = takes;
       begins = begins;
       sent = sent;
+      answerable = can-answer;
       arrived = arrived;
-      claimed = λ claim. claim limit slots buffer before first later after how message output law refl takes begins sent;
+      claimed = λ claim. claim limit slots buffer before first later after how message output law refl takes begins sent can-answer;
     }

@@ -4,15 +4,16 @@ use native.Mathlib.Omega.{arith}
 use mathlib.Core.Path.{_≡_, refl, sym, ap, _∙_}
 use mathlib.Core.Option.{none}
 use mathlib.Core.List.{List, [], _∷_, _++_, map, append-assoc}
-use mathlib.Core.Bool.{Bool, true, false, cond}
+use mathlib.Core.Bool.{Bool, true, false, cond, _&&_}
 use lib.ListN.{length, getD, take, drop}
 use lib.Dec.{eqb}
-use borrow.Author.Tests.{eqb-true, eqb-false, eq-eqb}
+use borrow.Author.Tests.{eqb-true, eqb-false, eq-eqb, lt-ltb, le-leb}
 use Rattle.wire.specs.Those.{those}
 use Rattle.packet.specs.Header.{fourBits}
+use Rattle.packet.specs.Control.{ackSize}
 use Rattle.packet.proofs.Headers.{stream-back}
 use Rattle.slot.specs.declared.Slot.{Slot}
-use Rattle.receiver.specs.Receiver.{Result, acceptOf}
+use Rattle.receiver.specs.Receiver.{PacketCall, call, PacketLeft, acceptOf}
 use Rattle.receiver.proofs.Accepting.{SlotsFit, ready-next}
 use Rattle.sender.specs.declared.piece.Piece.{Piece}
 use Rattle.sender.specs.declared.writer.Sending.{Sending}
@@ -20,23 +21,27 @@ use Rattle.sender.specs.Piece.{leastRoom, isFirst, sizeFor, piecesFrom, piecesO
 use Rattle.sender.specs.Writer.{headerBytes, packetOf, packetsOf}
 use Rattle.sender.proofs.Largest.{size-le, size-some}
 use Rattle.sender.proofs.Guard.{SendingInRange, room-low, range-facts}
+use Rattle.wire.proofs.Tests.{and-left, and-right}
 use Rattle.sender_claims.proofs.CallsGiveAll.{calls-are}
-use Rattle.delivery.specs.Delivery.{PacketReply, runOf, Message, ours, givenIn, givenTo, messageOf, atLast, MessagesArrive, RoundTrip, MessageAsked}
+use Rattle.delivery.specs.Delivery.{PacketReply, runOf, ours, packetsIn, CallShown, shown, shownIn, shownTo, answerable, allAnswerable, AnswerableAll, atLast, MessagesArrive, RoundTrip, MessageAsked}
 use Rattle.delivery.proofs.Steps.{gives, Holding, Awaits, start, within, holding-kept, pieceFor, last-step, more-step}
+
+pub answerable-all : AnswerableAll
+answerable-all c low room = rw (lt-ltb (c .sequence) fourBits (omega arith), le-leb ackSize (length (c .out)) room)
 
 -- ---- one packet of a run
 
-module _ (limit : ℕ) (w : Sending) (slots : List Slot) (bytes q : List ℕ) (ds : List (List ℕ)) where
+module _ (limit : ℕ) (w : Sending) (slots : List Slot) (bytes : List ℕ) (q : PacketCall) (ds : List PacketCall) where
   skipped : ours w q ≡ false
-      → givenTo limit w (runOf limit slots bytes (q ∷ ds))
-      ≡ givenTo limit w (runOf limit (acceptOf limit slots bytes q .slots) (acceptOf limit slots bytes q .bytes) ds)
+      → shownTo limit w (runOf limit slots bytes (q ∷ ds))
+      ≡ shownTo limit w (runOf limit (acceptOf limit slots bytes q .slots) (acceptOf limit slots bytes q .bytes) ds)
   unfolding runOf
   skipped e = rw e
 
   looked-at : ours w q ≡ true
-      → givenTo limit w (runOf limit slots bytes (q ∷ ds))
-      ≡ gives limit (acceptOf limit slots bytes q)
-      ∷ givenTo limit w (runOf limit (acceptOf limit slots bytes q .slots) (acceptOf limit slots bytes q .bytes) ds)
+      → shownTo limit w (runOf limit slots bytes (q ∷ ds))
+      ≡ shown (gives limit (acceptOf limit slots bytes q)) (acceptOf limit slots bytes q .out)
+      ∷ shownTo limit w (runOf limit (acceptOf limit slots bytes q .slots) (acceptOf limit slots bytes q .bytes) ds)
   unfolding runOf
   looked-at e = rw e
 
@@ -46,35 +51,46 @@ left-out test x xs e = rw e
 put-in : {A : Type 0} (test : A → Bool) (x : A) (xs : List A) → test x ≡ true → those test (x ∷ xs) ≡ x ∷ those test xs
 put-in test x xs e = rw e
 
--- a list without packets of the stream gives nothing
-abbrev Quiet : ℕ → Sending → List (List ℕ) → Type 0
-Quiet limit w ds = (slots : List Slot) (bytes : List ℕ) → those (ours w) ds ≡ [] → givenTo limit w (runOf limit slots bytes ds) ≡ []
+-- a list without packets of the stream shows nothing
+abbrev Quiet : ℕ → Sending → List PacketCall → Type 0
+Quiet limit w ds = (slots : List Slot) (bytes : List ℕ) → those (ours w) ds ≡ [] → shownTo limit w (runOf limit slots bytes ds) ≡ []
 
-quiet-by : (limit : ℕ) (w : Sending) (q : List ℕ) (ds : List (List ℕ)) (b : Bool) → ours w q ≡ b → Quiet limit w ds → Quiet limit w (q ∷ ds)
+quiet-by : (limit : ℕ) (w : Sending) (q : PacketCall) (ds : List PacketCall) (b : Bool) → ours w q ≡ b → Quiet limit w ds → Quiet limit w (q ∷ ds)
 quiet-by limit w q ds true f later slots bytes e =
     let z : 0 ≡ suc (length (those (ours w) ds)) = ap length (sym e ∙ put-in (ours w) q ds f) in
     absurd (omega arith)
 quiet-by limit w q ds false f later slots bytes e =
     skipped limit w slots bytes q ds f ∙ later _ _ (sym (left-out (ours w) q ds f) ∙ e)
 
-quiet : (limit : ℕ) (w : Sending) (ds : List (List ℕ)) → Quiet limit w ds
+quiet : (limit : ℕ) (w : Sending) (ds : List PacketCall) → Quiet limit w ds
 unfolding runOf
 quiet limit w [] slots bytes e = refl
 quiet limit w (q ∷ ds) slots bytes e = quiet-by limit w q ds (ours w q) refl (quiet limit w ds) slots bytes e
 
 -- ---- the packets of the message
 
--- the writer's packets are of its stream
-packet-ours : (w : Sending) (m : List ℕ) (p : Piece) → w .id < fourBits → ours w (packetOf w m p) ≡ true
+-- the writer's packets are of its stream, whatever they are handed in with
+packet-ours : (w : Sending) (m : List ℕ) (p : Piece) (sequence : ℕ) (out : List ℕ) → w .id < fourBits → ours w (call (packetOf w m p) sequence out) ≡ true
 unfolding packetOf headerBytes
-packet-ours w m p l = eq-eqb _ _ (stream-back (w .stream) (w .id) l)
+packet-ours w m p sequence out l = eq-eqb _ _ (stream-back (w .stream) (w .id) l)
 
--- where there are packets, the first of them gives nothing yet
-last-later : (g : Message) (w : Sending) (m : List ℕ) (fuel index place rest : ℕ) → 1 ≤ fuel
-    → atLast g (map (packetOf w m) (piecesFrom fuel (w .room) index place rest))
-    ≡ none ∷ atLast g (drop 1 (map (packetOf w m) (piecesFrom fuel (w .room) index place rest)))
-last-later g w m zero index place rest l = absurd (omega arith)
-last-later g w m (suc fuel) index place rest l = refl
+-- calls without packets are none
+no-calls : (cs : List PacketCall) → packetsIn cs ≡ [] → cs ≡ []
+no-calls [] e = refl
+no-calls (c ∷ cs) e = let z = ap length e in absurd (omega arith)
+
+-- what calls show that are all of a message's from one on
+abbrev fromNext : Sending → List ℕ → List PacketCall → List CallShown
+fromNext w m [] = []
+fromNext w m (c ∷ cs) = atLast w m c cs
+
+-- where packets are still to come, a call shows nothing
+more-come : (w : Sending) (m : List ℕ) (c : PacketCall) (cs : List PacketCall) (fuel index place rest : ℕ) → 1 ≤ fuel
+    → packetsIn cs ≡ map (packetOf w m) (piecesFrom fuel (w .room) index place rest)
+    → atLast w m c cs ≡ shown none (c .out) ∷ fromNext w m cs
+more-come w m c cs zero index place rest l e = absurd (omega arith)
+more-come w m c [] (suc fuel) index place rest l e = let z = ap length e in absurd (omega arith)
+more-come w m c (d ∷ cs) (suc fuel) index place rest l e = refl
 
 module _ (limit : ℕ) (w : Sending) (m : List ℕ) (room : leastRoom ≤ w .room) (ok : SendingInRange limit w (length m)) where
   abbrev packetsFrom : ℕ → ℕ → ℕ → ℕ → List (List ℕ)
@@ -84,130 +100,174 @@ module _ (limit : ℕ) (w : Sending) (m : List ℕ) (room : leastRoom ≤ w .roo
   abbrev packetsAfter : Bool → ℕ → ℕ → ℕ → ℕ → ℕ → List (List ℕ)
   packetsAfter last fuel index place rest n = map (packetOf w m) (cond last [] (piecesFrom fuel (w .room) (suc index) (place + n) (rest - n)))
 
-  -- what is held is all before a place, and the packets of the pieces from there on are all that come of the stream in ds
-  abbrev Rest : List (List ℕ) → Type 0
+  -- what is held is all before a place, and the packets of the pieces from there on are all that come of the stream in ds, each answerable
+  abbrev Rest : List PacketCall → Type 0
   Rest ds =
       (fuel index place rest : ℕ) (slots : List Slot) (bytes : List ℕ) → Holding limit w m index place slots bytes → place + rest ≡ length m → rest < fuel
-      → 1 ≤ rest → those (ours w) ds ≡ packetsFrom fuel (suc index) place rest
-      → givenTo limit w (runOf limit slots bytes ds) ≡ atLast (messageOf w m) (drop 1 (packetsFrom fuel (suc index) place rest))
+      → 1 ≤ rest → packetsIn (those (ours w) ds) ≡ packetsFrom fuel (suc index) place rest → allAnswerable (those (ours w) ds) ≡ true
+      → shownTo limit w (runOf limit slots bytes ds) ≡ fromNext w m (those (ours w) ds)
 
   -- the awaited packet comes
-  awaited : (ds : List (List ℕ)) → Rest ds → (fuel index place rest n : ℕ) (slots : List Slot) (bytes : List ℕ) → Awaits limit w m slots bytes index place
+  awaited : (ds : List PacketCall) → Rest ds → (fuel index place rest n sequence : ℕ) (out : List ℕ) (slots : List Slot) (bytes : List ℕ)
+      → Awaits limit w m slots bytes index place
       → place + rest ≡ length m → rest < suc fuel → n ≡ sizeFor (w .room) (isFirst index) rest
-      → (last : Bool) → eqb n rest ≡ last → those (ours w) ds ≡ packetsAfter last fuel index place rest n
-      → givenTo limit w (runOf limit slots bytes (packetOf w m (pieceFor index place n) ∷ ds))
-      ≡ atLast (messageOf w m) (packetsAfter last fuel index place rest n)
-  awaited ds later fuel index place rest n slots bytes a t f en true b e =
-      let p : List ℕ = packetOf w m (pieceFor index place n) in
+      → answerable (call (packetOf w m (pieceFor index place n)) sequence out) ≡ true → allAnswerable (those (ours w) ds) ≡ true
+      → (last : Bool) → eqb n rest ≡ last → packetsIn (those (ours w) ds) ≡ packetsAfter last fuel index place rest n
+      → shownTo limit w (runOf limit slots bytes (call (packetOf w m (pieceFor index place n)) sequence out ∷ ds))
+      ≡ atLast w m (call (packetOf w m (pieceFor index place n)) sequence out) (those (ours w) ds)
+  awaited ds later fuel index place rest n sequence out slots bytes a t f en can each true b e =
+      let c : PacketCall = call (packetOf w m (pieceFor index place n)) sequence out in
       let nr : n ≡ rest = eqb-true n rest b in
-      looked-at limit w slots bytes p ds (packet-ours w m (pieceFor index place n) (ok .id))
-      ∙ rw (last-step limit w m ok slots bytes n a (omega arith), quiet limit w ds (acceptOf limit slots bytes p .slots) (acceptOf limit slots bytes p .bytes) e)
-  awaited ds later fuel index place rest n slots bytes a t f en false b e =
-      let p : List ℕ = packetOf w m (pieceFor index place n) in
-      let r : Result = acceptOf limit slots bytes p in
+      let none-left : those (ours w) ds ≡ [] = no-calls (those (ours w) ds) e in
+      let ends = last-step limit w m ok slots bytes n sequence out a can (omega arith) in
+      looked-at limit w slots bytes c ds (packet-ours w m (pieceFor index place n) sequence out (ok .id))
+      ∙ rw (ends .message, ends .answer, quiet limit w ds (acceptOf limit slots bytes c .slots) (acceptOf limit slots bytes c .bytes) none-left, none-left)
+  awaited ds later fuel index place rest n sequence out slots bytes a t f en can each false b e =
+      let c : PacketCall = call (packetOf w m (pieceFor index place n)) sequence out in
+      let l : PacketLeft = acceptOf limit slots bytes c in
       let d : (n ≡ rest → ⊥) = eqb-false n rest b in
       let s2 : n ≤ rest = rw en (size-le (w .room) (isFirst index) room rest) in
       let s1 : 1 ≤ n = rw en (size-some (w .room) (isFirst index) room rest (omega arith)) in
-      let more = more-step limit w m ok slots bytes n a s1 (omega arith) in
-      looked-at limit w slots bytes p ds (packet-ours w m (pieceFor index place n) (ok .id))
+      let more = more-step limit w m ok slots bytes n sequence out a can s1 (omega arith) in
+      looked-at limit w slots bytes c ds (packet-ours w m (pieceFor index place n) sequence out (ok .id))
       ∙ rw (
         more .nothing,
-        later fuel index (place + n) (rest - n) (r .slots) (r .bytes) (more .holding) (omega arith) (omega arith) (omega arith) e,
+        more .same-out,
+        later fuel index (place + n) (rest - n) (l .slots) (l .bytes) (more .holding) (omega arith) (omega arith) (omega arith) e each,
       )
-      (sym (last-later (messageOf w m) w m fuel (suc index) (place + n) (rest - n) (omega arith)))
+      (sym (more-come w m c (those (ours w) ds) fuel (suc index) (place + n) (rest - n) (omega arith) e))
 
-  rest-by : (q : List ℕ) (ds : List (List ℕ)) → Rest ds → (b : Bool) → ours w q ≡ b → Rest (q ∷ ds)
-  rest-by q ds later b g zero index place rest slots bytes h t f s e = absurd (omega arith)
-  rest-by q ds later true g (suc fuel) index place rest slots bytes h t f s e =
+  rest-by : (q : PacketCall) (ds : List PacketCall) → Rest ds → (b : Bool) → ours w q ≡ b → Rest (q ∷ ds)
+  rest-by q ds later b g zero index place rest slots bytes h t f s e each = absurd (omega arith)
+  rest-by q ds later true g (suc fuel) index place rest slots bytes h t f s e each =
       let n : ℕ = sizeFor (w .room) (isFirst (suc index)) rest in
-      let both : q ∷ those (ours w) ds ≡ packetOf w m (pieceFor (suc index) place n) ∷ packetsAfter (eqb n rest) fuel (suc index) place rest n
-      = sym (put-in (ours w) q ds g) ∙ e in
-      let head : q ≡ packetOf w m (pieceFor (suc index) place n) = cc in
-      let tail : those (ours w) ds ≡ packetsAfter (eqb n rest) fuel (suc index) place rest n = cc in
-      rw head (awaited ds later fuel (suc index) place rest n slots bytes (within h (omega arith)) t f refl (eqb n rest) refl tail)
-  rest-by q ds later false g (suc fuel) index place rest slots bytes h t f s e =
+      let p : List ℕ = packetOf w m (pieceFor (suc index) place n) in
+      let both : q .packet ∷ packetsIn (those (ours w) ds) ≡ p ∷ packetsAfter (eqb n rest) fuel (suc index) place rest n
+      = ap packetsIn (sym (put-in (ours w) q ds g)) ∙ e in
+      let head : q .packet ≡ p = cc in
+      let tail : packetsIn (those (ours w) ds) ≡ packetsAfter (eqb n rest) fuel (suc index) place rest n = cc in
+      let same : q ≡ call p (q .sequence) (q .out) = ap (λ (bs : List ℕ). call bs (q .sequence) (q .out)) head in
+      let can : (answerable q && allAnswerable (those (ours w) ds)) ≡ true = ap allAnswerable (sym (put-in (ours w) q ds g)) ∙ each in
+      let now-can : answerable (call p (q .sequence) (q .out)) ≡ true = ap answerable (sym same) ∙ and-left (answerable q) _ can in
+      let later-can : allAnswerable (those (ours w) ds) ≡ true = and-right (answerable q) _ can in
+      ap (λ (c : PacketCall). shownTo limit w (runOf limit slots bytes (c ∷ ds))) same
+      ∙ awaited ds later fuel (suc index) place rest n (q .sequence) (q .out) slots bytes (within h (omega arith)) t f refl now-can later-can (eqb n rest) refl tail
+      ∙ ap (λ (c : PacketCall). atLast w m c (those (ours w) ds)) (sym same)
+      ∙ ap (fromNext w m) (sym (put-in (ours w) q ds g))
+  rest-by q ds later false g (suc fuel) index place rest slots bytes h t f s e each =
       skipped limit w slots bytes q ds g
-      ∙ later (suc fuel) index place rest _ _ (holding-kept q (ok .known) g h) t f s (sym (left-out (ours w) q ds g) ∙ e)
+      ∙ later (suc fuel) index place rest _ _ (holding-kept q (ok .known) g h) t f s (ap packetsIn (sym (left-out (ours w) q ds g)) ∙ e)
+      (ap allAnswerable (sym (left-out (ours w) q ds g)) ∙ each)
+      ∙ ap (fromNext w m) (sym (left-out (ours w) q ds g))
 
-  rest-given : (ds : List (List ℕ)) → Rest ds
-  rest-given [] zero index place rest slots bytes h t f s e = absurd (omega arith)
-  rest-given [] (suc fuel) index place rest slots bytes h t f s e = let z = ap length e in absurd (omega arith)
-  rest-given (q ∷ ds) fuel index place rest slots bytes h t f s e = rest-by q ds (rest-given ds) (ours w q) refl fuel index place rest slots bytes h t f s e
+  rest-shown : (ds : List PacketCall) → Rest ds
+  rest-shown [] zero index place rest slots bytes h t f s e each = absurd (omega arith)
+  rest-shown [] (suc fuel) index place rest slots bytes h t f s e each = let z = ap length e in absurd (omega arith)
+  rest-shown (q ∷ ds) fuel index place rest slots bytes h t f s e each =
+      rest-by q ds (rest-shown ds) (ours w q) refl fuel index place rest slots bytes h t f s e each
 
   -- the first packet comes, and later the others
-  all-given : (first : List ℕ) (later : List (List ℕ)) (slots : List Slot) (bytes : List ℕ) → SlotsFit limit slots bytes
-      → first ≡ getD (packetsOf w m) 0 [] → those (ours w) later ≡ drop 1 (packetsOf w m)
-      → givenTo limit w (runOf limit slots bytes (first ∷ later)) ≡ atLast (messageOf w m) (drop 1 (packetsOf w m))
-  all-given first later slots bytes o begins e =
+  all-shown : (first : PacketCall) (later : List PacketCall) (slots : List Slot) (bytes : List ℕ) → SlotsFit limit slots bytes
+      → first .packet ≡ getD (packetsOf w m) 0 [] → packetsIn (those (ours w) later) ≡ drop 1 (packetsOf w m)
+      → allAnswerable (first ∷ those (ours w) later) ≡ true
+      → shownTo limit w (runOf limit slots bytes (first ∷ later)) ≡ atLast w m first (those (ours w) later)
+  all-shown first later slots bytes o begins e each =
       let n : ℕ = sizeFor (w .room) (isFirst 0) (length m) in
-      rw begins
-      (awaited later (rest-given later) (length m) 0 0 (length m) n slots bytes (start o) (omega arith) (omega arith) refl (eqb n (length m)) refl e)
+      let p : List ℕ = packetOf w m (pieceFor 0 0 n) in
+      let same : first ≡ call p (first .sequence) (first .out) = ap (λ (bs : List ℕ). call bs (first .sequence) (first .out)) begins in
+      let now-can : answerable (call p (first .sequence) (first .out)) ≡ true = ap answerable (sym same) ∙ and-left (answerable first) _ each in
+      let later-can : allAnswerable (those (ours w) later) ≡ true = and-right (answerable first) _ each in
+      ap (λ (c : PacketCall). shownTo limit w (runOf limit slots bytes (c ∷ later))) same
+      ∙ awaited later (rest-shown later) (length m) 0 0 (length m) n (first .sequence) (first .out) slots bytes (start o) (omega arith) (omega arith) refl
+      now-can later-can (eqb n (length m)) refl e
+      ∙ ap (λ (c : PacketCall). atLast w m c (those (ours w) later)) (sym same)
 
 -- ---- whatever came before, whatever comes after
 
 -- a ready receiver, from which the rest of the run goes on
-record Later (limit : ℕ) (replies : List PacketReply) (rest : List (List ℕ)) : Type 0 where
+record Later (limit : ℕ) (replies : List PacketReply) (rest : List PacketCall) : Type 0 where
   pub slots : List Slot
   pub bytes : List ℕ
   pub is-ready : SlotsFit limit slots bytes
   pub same : replies ≡ runOf limit slots bytes rest
 
-later-on : (limit : ℕ) (slots : List Slot) (bytes : List ℕ) (before rest : List (List ℕ)) → SlotsFit limit slots bytes
+later-on : (limit : ℕ) (slots : List Slot) (bytes : List ℕ) (before rest : List PacketCall) → SlotsFit limit slots bytes
     → Later limit (drop (length before) (runOf limit slots bytes (before ++ rest))) rest
 unfolding runOf
 later-on limit slots bytes [] rest o = record { slots = slots; bytes = bytes; is-ready = o; same = refl }
 later-on limit slots bytes (q ∷ qs) rest o =
     later-on limit (acceptOf limit slots bytes q .slots) (acceptOf limit slots bytes q .bytes) qs rest (ready-next limit slots bytes q o)
 
-run-cut : (limit : ℕ) (slots : List Slot) (bytes : List ℕ) (ds after : List (List ℕ))
+run-cut : (limit : ℕ) (slots : List Slot) (bytes : List ℕ) (ds after : List PacketCall)
     → take (length ds) (runOf limit slots bytes (ds ++ after)) ≡ runOf limit slots bytes ds
 unfolding runOf
 run-cut limit slots bytes [] after = refl
 run-cut limit slots bytes (q ∷ ds) after = rw (run-cut limit (acceptOf limit slots bytes q .slots) (acceptOf limit slots bytes q .bytes) ds after)
 
-during-given : (limit : ℕ) (first : List ℕ) (later after : List (List ℕ)) (w : Sending) (m : List ℕ) (replies : List PacketReply)
-    → leastRoom ≤ w .room → SendingInRange limit w (length m) → first ≡ getD (packetsOf w m) 0 [] → those (ours w) later ≡ drop 1 (packetsOf w m)
+during-shown : (limit : ℕ) (first : PacketCall) (later after : List PacketCall) (w : Sending) (m : List ℕ) (replies : List PacketReply)
+    → leastRoom ≤ w .room → SendingInRange limit w (length m) → first .packet ≡ getD (packetsOf w m) 0 []
+    → packetsIn (those (ours w) later) ≡ drop 1 (packetsOf w m) → allAnswerable (first ∷ those (ours w) later) ≡ true
     → Later limit replies ((first ∷ later) ++ after)
-    → givenTo limit w (take (length (first ∷ later)) replies) ≡ atLast (messageOf w m) (drop 1 (packetsOf w m))
-during-given limit first later after w m replies room ok begins e l =
-    ap (λ (rs : List PacketReply). givenTo limit w (take (length (first ∷ later)) rs)) (l .same)
-    ∙ ap (givenTo limit w) (run-cut limit (l .slots) (l .bytes) (first ∷ later) after)
-    ∙ all-given limit w m room ok first later (l .slots) (l .bytes) (l .is-ready) begins e
+    → shownTo limit w (take (length (first ∷ later)) replies) ≡ atLast w m first (those (ours w) later)
+during-shown limit first later after w m replies room ok begins e each l =
+    ap (λ (rs : List PacketReply). shownTo limit w (take (length (first ∷ later)) rs)) (l .same)
+    ∙ ap (shownTo limit w) (run-cut limit (l .slots) (l .bytes) (first ∷ later) after)
+    ∙ all-shown limit w m room ok first later (l .slots) (l .bytes) (l .is-ready) begins e each
 
 pub messages-arrive : MessagesArrive
-messages-arrive limit slots bytes before first later after w m out law size t begins e =
+messages-arrive limit slots bytes before first later after w m out law size t begins e each =
     let s = calls-are limit w m out t in
-    rw (s, append-assoc)
-    (during-given limit first later after w m _ (room-low (w .room) (t .room)) (range-facts limit w (length m) (t .arguments))
-    (begins ∙ ap (λ (ps : List (List ℕ)). getD ps 0 []) s) (e ∙ ap (λ (ps : List (List ℕ)). drop 1 ps) s)
+    rw append-assoc
+    (during-shown limit first later after w m _ (room-low (w .room) (t .room)) (range-facts limit w (length m) (t .arguments))
+    (begins ∙ ap (λ (ps : List (List ℕ)). getD ps 0 []) s) (e ∙ ap (λ (ps : List (List ℕ)). drop 1 ps) s) each
     (later-on limit slots bytes before ((first ∷ later) ++ after) (record { range = t .range; law = law; size = size })))
 
 -- ---- nothing before or between
 
-all-ours : (w : Sending) (m : List ℕ) (ps : List Piece) → w .id < fourBits → those (ours w) (map (packetOf w m) ps) ≡ map (packetOf w m) ps
-all-ours w m [] l = refl
-all-ours w m (p ∷ ps) l = rw (packet-ours w m p l, all-ours w m ps l)
+-- a call of one of the writer's packets is of its stream
+call-ours : (w : Sending) (m : List ℕ) (c : PacketCall) (p : Piece) → w .id < fourBits → c .packet ≡ packetOf w m p → ours w c ≡ true
+call-ours w m c p l e =
+    ap (λ (bytes : List ℕ). ours w (call bytes (c .sequence) (c .out))) e ∙ packet-ours w m p (c .sequence) (c .out) l
 
-replies-ours : (limit : ℕ) (slots : List Slot) (bytes : List ℕ) (w : Sending) (m : List ℕ) (ps : List Piece) → w .id < fourBits
-    → those (λ (r : PacketReply). ours w (r .packet)) (runOf limit slots bytes (map (packetOf w m) ps)) ≡ runOf limit slots bytes (map (packetOf w m) ps)
+all-ours : (w : Sending) (m : List ℕ) (cs : List PacketCall) (ps : List Piece) → w .id < fourBits → packetsIn cs ≡ map (packetOf w m) ps
+    → those (ours w) cs ≡ cs
+all-ours w m [] ps l e = refl
+all-ours w m (c ∷ cs) [] l e = let z = ap length e in absurd (omega arith)
+all-ours w m (c ∷ cs) (p ∷ ps) l e =
+    let head : c .packet ≡ packetOf w m p = cc in
+    let tail : packetsIn cs ≡ map (packetOf w m) ps = cc in
+    rw (call-ours w m c p l head, all-ours w m cs ps l tail)
+
+replies-ours : (limit : ℕ) (slots : List Slot) (bytes : List ℕ) (w : Sending) (m : List ℕ) (cs : List PacketCall) (ps : List Piece) → w .id < fourBits
+    → packetsIn cs ≡ map (packetOf w m) ps → those (λ (r : PacketReply). ours w (r .call)) (runOf limit slots bytes cs) ≡ runOf limit slots bytes cs
 unfolding runOf
-replies-ours limit slots bytes w m [] l = refl
-replies-ours limit slots bytes w m (p ∷ ps) l =
-    let r : Result = acceptOf limit slots bytes (packetOf w m p) in
-    rw (packet-ours w m p l, replies-ours limit (r .slots) (r .bytes) w m ps l)
+replies-ours limit slots bytes w m [] ps l e = refl
+replies-ours limit slots bytes w m (c ∷ cs) [] l e = let z = ap length e in absurd (omega arith)
+replies-ours limit slots bytes w m (c ∷ cs) (p ∷ ps) l e =
+    let head : c .packet ≡ packetOf w m p = cc in
+    let tail : packetsIn cs ≡ map (packetOf w m) ps = cc in
+    rw (
+      call-ours w m c p l head,
+      replies-ours limit (acceptOf limit slots bytes c .slots) (acceptOf limit slots bytes c .bytes) w m cs ps l tail,
+    )
 
 pub round-trip : RoundTrip
-round-trip limit slots bytes w m out law size t =
+round-trip limit slots bytes first later w m out law size t begins e each =
+    let s = calls-are limit w m out t in
     let ok = range-facts limit w (length m) (t .arguments) in
-    let first : List ℕ = getD (packetsOf w m) 0 [] in
-    let later : List (List ℕ) = drop 1 (packetsOf w m) in
-    rw (calls-are limit w m out t)
-    (ap (givenIn limit) (sym (replies-ours limit slots bytes w m (piecesOf (w .room) (length m)) (ok .id)))
-    ∙ all-given limit w m (room-low (w .room) (t .room)) ok first later slots bytes (record { range = t .range; law = law; size = size }) refl
-    (all-ours w m (drop 1 (piecesOf (w .room) (length m))) (ok .id)))
+    let one : List ℕ = getD (packetsOf w m) 0 [] in
+    let head : first .packet ≡ one = begins ∙ ap (λ (ps : List (List ℕ)). getD ps 0 []) s in
+    let tail : packetsIn later ≡ drop 1 (packetsOf w m) = e ∙ ap (λ (ps : List (List ℕ)). drop 1 ps) s in
+    let whole : packetsIn (first ∷ later) ≡ packetsOf w m
+    = ap (λ (p : List ℕ). p ∷ packetsIn later) head ∙ ap (λ (ps : List (List ℕ)). one ∷ ps) tail in
+    let own : those (ours w) later ≡ later = all-ours w m later (drop 1 (piecesOf (w .room) (length m))) (ok .id) tail in
+    ap (shownIn limit) (sym (replies-ours limit slots bytes w m (first ∷ later) (piecesOf (w .room) (length m)) (ok .id) whole))
+    ∙ all-shown limit w m (room-low (w .room) (t .room)) ok first later slots bytes (record { range = t .range; law = law; size = size }) head
+    (ap packetsIn own ∙ tail) (ap (λ (cs : List PacketCall). allAnswerable (first ∷ cs)) own ∙ each)
+    ∙ ap (atLast w m first) own
 
 -- ---- the message is asked for
 
 pub message-asked : MessageAsked
-message-asked message [] = refl
-message-asked message (p ∷ later) = message-asked message later
+message-asked w m first [] = refl
+message-asked w m first (d ∷ later) = message-asked w m d later

@@ -6,14 +6,18 @@ use mathlib.Core.Option.{Option, none, some}
 use mathlib.Core.List.{List, [], _∷_}
 use mathlib.Core.Bool.{Bool, true, false, cond, _&&_, _||_, false≢true}
 use lib.ListN.{length, getD, set, take}
-use lib.Seq.{getD-set-same, take-length}
-use borrow.Author.Tests.{eq-eqb, ne-eqb, lt-leb}
+use lib.Seq.{sets, getD-set-same, take-length}
+use lib.Dec.{leb, ltb}
+use borrow.Author.Tests.{eq-eqb, ne-eqb, lt-leb, le-ltb, leb-true}
+use Rattle.wire.proofs.Tests.{and-left, and-right}
 use Rattle.wire.specs.declared.stream.Stream.{Stream}
-use Rattle.wire.specs.Stream.{isStream, streamOf}
+use Rattle.wire.specs.Stream.{streamNumber, isStream, streamOf}
+use Rattle.wire.proofs.Streams.{number-back}
 use Rattle.wire.specs.Told.{given}
 use Rattle.packet.specs.declared.reader.Head.{Head}
 use Rattle.packet.specs.declared.reader.Packet.{Packet}
-use Rattle.packet.specs.Header.{headerSize, sequenceAfter}
+use Rattle.packet.specs.Header.{fourBits, headerSize, sequenceAfter}
+use Rattle.packet.specs.Control.{ackSize, ackBytes}
 use Rattle.packet.specs.Reader.{headIn, readOf}
 use Rattle.slot.specs.declared.Slot.{Slot}
 use Rattle.slot.specs.declared.step.PayloadPlace.{PayloadPlace}
@@ -22,7 +26,7 @@ use Rattle.slot.specs.Step.{Step, step, finish, hold, firstStep, offTotal, next
 use Rattle.slot.proofs.Slots.{lawful-count}
 use Rattle.slot.proofs.Lanes.{place-low, lane-set, lane-one}
 use Rattle.receiver.specs.Buffer.{partStart, partOf, stored}
-use Rattle.receiver.specs.Receiver.{Result, applied, actIn, acceptOf}
+use Rattle.receiver.specs.Receiver.{Result, applied, actIn, PacketCall, call, PacketLeft, leaves, readIn, acceptOf}
 use Rattle.receiver.proofs.Parts.{part-inside}
 use Rattle.receiver.proofs.Accepting.{SlotsFit, accept-ready, ready-next, accept-other}
 use Rattle.sender.specs.declared.piece.Piece.{Piece}
@@ -30,20 +34,29 @@ use Rattle.sender.specs.declared.writer.Sending.{Sending}
 use Rattle.sender.specs.Piece.{extended, isFirst}
 use Rattle.sender.specs.Writer.{isLast, packetOf}
 use Rattle.sender.proofs.Guard.{SendingInRange}
-use Rattle.delivery.specs.Delivery.{Message, givenBy, ours, messageOf}
+use Rattle.delivery.specs.Delivery.{Message, givenBy, ours, messageOf, answerable, lastOut}
 use Rattle.delivery.proofs.Reading.{headFor, first-read, next-read, payload-read}
 use Rattle.delivery.proofs.Growing.{part-grows}
 
 -- ---- a ready receiver
 
--- it does what was read
-accept-read : (limit : ℕ) (slots : List Slot) (bytes p : List ℕ) (x : Packet) → SlotsFit limit slots bytes → readOf limit p ≡ given x
-    → acceptOf limit slots bytes p ≡ applied limit slots bytes p (laneStart (headIn x .stream)) (actIn slots x)
-accept-read limit slots bytes p x o e = accept-ready limit slots bytes p o ∙ rw e
+-- it does what was read, where neither 15 nor 14 is given
+read-answerable : (limit : ℕ) (c : PacketCall) → answerable c ≡ true → readIn limit c ≡ readOf limit (c .packet)
+unfolding readIn
+read-answerable limit c a =
+    rw (
+      and-left (ltb (c .sequence) fourBits) _ a,
+      le-ltb (length (c .out)) ackSize (leb-true ackSize (length (c .out)) (and-right (ltb (c .sequence) fourBits) _ a)),
+    )
+
+accept-read : (limit : ℕ) (slots : List Slot) (bytes : List ℕ) (c : PacketCall) (x : Packet) → SlotsFit limit slots bytes → answerable c ≡ true
+    → readOf limit (c .packet) ≡ given x
+    → acceptOf limit slots bytes c ≡ leaves (c .sequence) (c .out) (applied limit slots bytes (c .packet) (laneStart (headIn x .stream)) (actIn slots x))
+accept-read limit slots bytes c x o a e = accept-ready limit slots bytes c o ∙ rw (read-answerable limit c a, e)
 
 -- what its answer gives
-abbrev pub gives : ℕ → Result → Option Message
-gives limit r = givenBy limit (r .told) (r .bytes)
+abbrev pub gives : ℕ → PacketLeft → Option Message
+gives limit l = givenBy limit (l .told) (l .bytes)
 
 -- ---- the state between the packets of a message
 
@@ -65,9 +78,15 @@ pub record Holding (limit : ℕ) (w : Sending) (m : List ℕ) (index place : ℕ
   pub held : take place (partOf limit (placeFor w) bytes) ≡ take place m
 
 -- what a packet that more follow does
-pub record More (limit : ℕ) (w : Sending) (m : List ℕ) (index place : ℕ) (r : Result) : Type 0 where
-  pub nothing : gives limit r ≡ none
-  pub holding : Holding limit w m index place (r .slots) (r .bytes)
+pub record More (limit : ℕ) (w : Sending) (m : List ℕ) (index place : ℕ) (out : List ℕ) (l : PacketLeft) : Type 0 where
+  pub nothing : gives limit l ≡ none
+  pub same-out : l .out ≡ out
+  pub holding : Holding limit w m index place (l .slots) (l .bytes)
+
+-- what the last packet does
+pub record MessageEnds (limit : ℕ) (w : Sending) (m : List ℕ) (c : PacketCall) (l : PacketLeft) : Type 0 where
+  pub message : gives limit l ≡ some (messageOf w m)
+  pub answer : l .out ≡ lastOut w c
 
 -- a slot that is stored at a stream's first place is its first
 lane-stored : (t : Stream) (slots : List Slot) (s : Slot) → length slots ≡ slotCount → getD (laneOf t (set slots (laneStart t + 0) s)) 0 idle ≡ s
@@ -88,29 +107,38 @@ module _ (limit : ℕ) (w : Sending) (m : List ℕ) (ok : SendingInRange limit w
   inside : partStart limit (placeFor w) + limit ≤ length bytes
   inside = rw (o .size) (part-inside limit (placeFor w) (place-low (streamFor w) 0 (omega arith)))
 
-  module _ (p : Piece) (within : p .place + p .size ≤ length m) (before : take (p .place) (partOf limit (placeFor w) bytes) ≡ take (p .place) m) (replaced : Bool) (r : Result) where
+  module _ (p : Piece) (within : p .place + p .size ≤ length m) (before : take (p .place) (partOf limit (placeFor w) bytes) ≡ take (p .place) m) (replaced : Bool) (sequence : ℕ) (out : List ℕ) (l : PacketLeft) where
     -- the piece stands behind what was held
     stores : take (p .place + p .size) (partOf limit (placeFor w) (stored limit (placeFor w) bytes (packetOf w m p) (payloadFor p))) ≡ take (p .place + p .size) m
     stores = rw (payload-read w m p) (part-grows limit (placeFor w) (p .place) (p .size) bytes m inside within (ok .within) before)
 
+    -- the call of its packet
+    abbrev handed : PacketCall
+    handed = call (packetOf w m p) sequence out
+
     last-gives : p .place + p .size ≡ length m
-        → r ≡ applied limit slots bytes (packetOf w m p) (laneStart (streamFor w)) (step 0 (finish (headFor w p) (w .ack) (length m) replaced (payloadFor p)))
-        → gives limit r ≡ some (messageOf w m)
+        → l ≡ leaves sequence out (applied limit slots bytes (packetOf w m p) (laneStart (streamFor w)) (step 0 (finish (headFor w p) (w .ack) (length m) replaced (payloadFor p))))
+        → MessageEnds limit w m handed l
     unfolding finish
     last-gives e f =
         let same : laneStart (streamFor w) ≡ placeFor w = omega arith in
         let left : List ℕ = stored limit (placeFor w) bytes (packetOf w m p) (payloadFor p) in
         let all : take (length m) (partOf limit (laneStart (streamFor w)) left) ≡ m
         = ap (λ (i : ℕ). take (length m) (partOf limit i left)) same ∙ rw e at stores ∙ take-length m in
-        rw (f, all)
+        record {
+          message = rw (f, all);
+          answer =
+              rw f (ap (λ (n : ℕ). cond (w .ack) (sets out 0 (ackBytes n (w .id) sequence true)) out) (number-back (w .stream) (ok .known)));
+        }
 
-    more-holds : SlotsFit limit (r .slots) (r .bytes)
-        → r ≡ applied limit slots bytes (packetOf w m p) (laneStart (streamFor w)) (step 0 (hold (headFor w p) false (length m) replaced (payloadFor p)))
-        → More limit w m (p .index) (p .place + p .size) r
+    more-holds : SlotsFit limit (l .slots) (l .bytes)
+        → l ≡ leaves sequence out (applied limit slots bytes (packetOf w m p) (laneStart (streamFor w)) (step 0 (hold (headFor w p) false (length m) replaced (payloadFor p))))
+        → More limit w m (p .index) (p .place + p .size) out l
     unfolding hold
     more-holds ready f =
         record {
           nothing = rw f;
+          same-out = rw f;
           holding =
               record {
                 is-ready = ready;
@@ -122,31 +150,36 @@ module _ (limit : ℕ) (w : Sending) (m : List ℕ) (ok : SendingInRange limit w
 -- ---- the first packet
 
 module _ (limit : ℕ) (w : Sending) (m : List ℕ) (ok : SendingInRange limit w (length m)) (slots : List Slot) (bytes : List ℕ) (o : SlotsFit limit slots bytes)
-    (n : ℕ) (small : n ≤ length m) (filled : n ≡ 0 → length m ≡ 0) where
+    (n : ℕ) (small : n ≤ length m) (filled : n ≡ 0 → length m ≡ 0) (sequence : ℕ) (out : List ℕ) where
   abbrev piece : Piece
   piece = pieceFor 0 0 n
+
+  abbrev begun : PacketCall
+  begun = call (packetOf w m piece) sequence out
 
   -- what the stream's slot was
   abbrev was : Slot
   was = getD (laneOf (streamFor w) slots) 0 idle
 
-  first-is : acceptOf limit slots bytes (packetOf w m piece)
-      ≡ applied limit slots bytes (packetOf w m piece) (laneStart (streamFor w))
-      (step 0 (firstStep was (headFor w piece) (isLast (length m) piece && w .ack) (length m) (headerSize true (extended n)) n))
-  first-is =
-      accept-read limit slots bytes (packetOf w m piece) _ o (first-read limit w m piece (ok .known) (ok .id) (omega arith) refl (ok .within) filled)
+  first-is : answerable begun ≡ true
+      → acceptOf limit slots bytes begun
+      ≡ leaves sequence out
+      (applied limit slots bytes (packetOf w m piece) (laneStart (streamFor w))
+      (step 0 (firstStep was (headFor w piece) (isLast (length m) piece && w .ack) (length m) (headerSize true (extended n)) n)))
+  first-is a =
+      accept-read limit slots bytes begun _ o a (first-read limit w m piece (ok .known) (ok .id) (omega arith) refl (ok .within) filled)
 
-  first-last : n ≡ length m → gives limit (acceptOf limit slots bytes (packetOf w m piece)) ≡ some (messageOf w m)
+  first-last : answerable begun ≡ true → n ≡ length m → MessageEnds limit w m begun (acceptOf limit slots bytes begun)
   unfolding firstStep
-  first-last e =
-      last-gives limit w m ok slots bytes o piece (omega arith) refl (was .opened) _ (omega arith)
-      (first-is ∙ rw (eq-eqb n (length m) e, eq-eqb (0 + n) (length m) (omega arith)))
+  first-last a e =
+      last-gives limit w m ok slots bytes o piece (omega arith) refl (was .opened) sequence out _ (omega arith)
+      (first-is a ∙ rw (eq-eqb n (length m) e, eq-eqb (0 + n) (length m) (omega arith)))
 
-  first-more : n < length m → More limit w m 0 (0 + n) (acceptOf limit slots bytes (packetOf w m piece))
+  first-more : answerable begun ≡ true → n < length m → More limit w m 0 (0 + n) out (acceptOf limit slots bytes begun)
   unfolding firstStep
-  first-more l =
-      more-holds limit w m ok slots bytes o piece (omega arith) refl (was .opened) _
-      (ready-next limit slots bytes (packetOf w m piece) o) (first-is ∙ rw (ne-eqb n (length m) (λ e. omega arith), ne-eqb (0 + n) (length m) (λ e. omega arith)))
+  first-more a l =
+      more-holds limit w m ok slots bytes o piece (omega arith) refl (was .opened) sequence out _
+      (ready-next limit slots bytes begun o) (first-is a ∙ rw (ne-eqb n (length m) (λ e. omega arith), ne-eqb (0 + n) (length m) (λ e. omega arith)))
 
 -- ---- the packets after the first
 
@@ -165,9 +198,12 @@ first-found test [] refuses passes = absurd (false≢true (sym refuses ∙ passe
 first-found test (s ∷ lane) refuses passes = rw passes
 
 module _ (limit : ℕ) (w : Sending) (m : List ℕ) (ok : SendingInRange limit w (length m)) (slots : List Slot) (bytes : List ℕ) (index place n : ℕ)
-    (h : Holding limit w m index place slots bytes) (some-left : 1 ≤ n) (small : place + n ≤ length m) where
+    (h : Holding limit w m index place slots bytes) (some-left : 1 ≤ n) (small : place + n ≤ length m) (sequence : ℕ) (out : List ℕ) where
   abbrev following : Piece
   following = pieceFor (suc index) place n
+
+  abbrev continued : PacketCall
+  continued = call (packetOf w m following) sequence out
 
   not-first : isFirst (suc index) ≡ false
   not-first = ne-eqb (suc index) 0 (λ e. omega arith)
@@ -176,28 +212,29 @@ module _ (limit : ℕ) (w : Sending) (m : List ℕ) (ok : SendingInRange limit w
   found-at : placeWhere (isOpen (w .id)) (laneOf (streamFor w) slots) ≡ some 0
   found-at = first-found (isOpen (w .id)) (laneOf (streamFor w) slots) refl (ap (isOpen (w .id)) (h .slot) ∙ eq-eqb (w .id) (w .id) refl)
 
-  next-is : (last : Bool) → isLast (length m) following ≡ last → offTotal last (place + n) (length m) ≡ false
-      → acceptOf limit slots bytes (packetOf w m following)
-      ≡ applied limit slots bytes (packetOf w m following) (laneStart (streamFor w))
+  next-is : answerable continued ≡ true → (last : Bool) → isLast (length m) following ≡ last → offTotal last (place + n) (length m) ≡ false
+      → acceptOf limit slots bytes continued
+      ≡ leaves sequence out
+      (applied limit slots bytes (packetOf w m following) (laneStart (streamFor w))
       (step 0 (cond last (finish (headFor w following) (last && w .ack) (length m) false (payloadFor following))
-      (hold (headFor w following) (last && w .ack) (length m) false (payloadFor following))))
-  next-is last e t =
-      accept-read limit slots bytes (packetOf w m following) _ (h .is-ready)
+      (hold (headFor w following) (last && w .ack) (length m) false (payloadFor following)))))
+  next-is a last e t =
+      accept-read limit slots bytes continued _ (h .is-ready) a
       (next-read limit w m following (ok .known) (ok .id) small not-first some-left)
       ∙ rw (found-at, h .slot, e, not-first)
-      (ap (λ (s : Step). applied limit slots bytes (packetOf w m following) (laneStart (streamFor w)) (step 0 s))
+      (ap (λ (s : Step). leaves sequence out (applied limit slots bytes (packetOf w m following) (laneStart (streamFor w)) (step 0 s)))
       (next-passes (openSlot w m index place) (headFor w following) (last && w .ack) last (headerSize false (extended n)) n (omega arith) t))
 
-  next-last : place + n ≡ length m → gives limit (acceptOf limit slots bytes (packetOf w m following)) ≡ some (messageOf w m)
-  next-last e =
+  next-last : answerable continued ≡ true → place + n ≡ length m → MessageEnds limit w m continued (acceptOf limit slots bytes continued)
+  next-last a e =
       let t = eq-eqb (place + n) (length m) e in
-      last-gives limit w m ok slots bytes (h .is-ready) following small (h .held) false _ e (next-is true t (rw t))
+      last-gives limit w m ok slots bytes (h .is-ready) following small (h .held) false sequence out _ e (next-is a true t (rw t))
 
-  next-more : place + n < length m → More limit w m (suc index) (place + n) (acceptOf limit slots bytes (packetOf w m following))
-  next-more l =
-      more-holds limit w m ok slots bytes (h .is-ready) following small (h .held) false _
-      (ready-next limit slots bytes (packetOf w m following) (h .is-ready))
-      (next-is false (ne-eqb (place + n) (length m) (λ e. omega arith)) (lt-leb (length m) (place + n) l))
+  next-more : answerable continued ≡ true → place + n < length m → More limit w m (suc index) (place + n) out (acceptOf limit slots bytes continued)
+  next-more a l =
+      more-holds limit w m ok slots bytes (h .is-ready) following small (h .held) false sequence out _
+      (ready-next limit slots bytes continued (h .is-ready))
+      (next-is a false (ne-eqb (place + n) (length m) (λ e. omega arith)) (lt-leb (length m) (place + n) l))
 
 -- ---- any packet of the message
 
@@ -208,7 +245,7 @@ pub data Awaits (limit : ℕ) (w : Sending) (m : List ℕ) (slots : List Slot) (
   within : {index place : ℕ} → Holding limit w m index place slots bytes → place < length m → Awaits limit w m slots bytes (suc index) place
 
 -- packets of other streams change nothing of what is held
-pub holding-kept : {limit : ℕ} {w : Sending} {m : List ℕ} {slots : List Slot} {bytes : List ℕ} {index place : ℕ} (q : List ℕ) → isStream (w .stream) ≡ true
+pub holding-kept : {limit : ℕ} {w : Sending} {m : List ℕ} {slots : List Slot} {bytes : List ℕ} {index place : ℕ} (q : PacketCall) → isStream (w .stream) ≡ true
     → ours w q ≡ false → Holding limit w m index place slots bytes
     → Holding limit w m index place (acceptOf limit slots bytes q .slots) (acceptOf limit slots bytes q .bytes)
 holding-kept {limit} {w} {m} {slots} {bytes} {index} {place} q known e h =
@@ -219,15 +256,18 @@ holding-kept {limit} {w} {m} {slots} {bytes} {index} {place} q known e h =
       held = ap (take place) (k .same-part 0 (omega arith)) ∙ h .held;
     }
 
-module _ (limit : ℕ) (w : Sending) (m : List ℕ) (ok : SendingInRange limit w (length m)) (slots : List Slot) (bytes : List ℕ) (n : ℕ) where
-  -- the last packet gives the message
-  pub last-step : {index place : ℕ} → Awaits limit w m slots bytes index place → place + n ≡ length m
-      → gives limit (acceptOf limit slots bytes (packetOf w m (pieceFor index place n))) ≡ some (messageOf w m)
-  last-step (start o) e = first-last limit w m ok slots bytes o n (omega arith) (λ z. omega arith) (omega arith)
-  last-step (within {index} {place} h l) e = next-last limit w m ok slots bytes index place n h (omega arith) (omega arith) e
+module _ (limit : ℕ) (w : Sending) (m : List ℕ) (ok : SendingInRange limit w (length m)) (slots : List Slot) (bytes : List ℕ) (n sequence : ℕ) (out : List ℕ) where
+  abbrev callFor : ℕ → ℕ → PacketCall
+  callFor index place = call (packetOf w m (pieceFor index place n)) sequence out
 
-  -- any other gives nothing, and its piece is held
-  pub more-step : {index place : ℕ} → Awaits limit w m slots bytes index place → 1 ≤ n → place + n < length m
-      → More limit w m index (place + n) (acceptOf limit slots bytes (packetOf w m (pieceFor index place n)))
-  more-step (start o) s l = first-more limit w m ok slots bytes o n (omega arith) (λ y. omega arith) (omega arith)
-  more-step (within {index} {place} h u) s l = next-more limit w m ok slots bytes index place n h s (omega arith) l
+  -- the last packet gives the message, and its ACK
+  pub last-step : {index place : ℕ} → Awaits limit w m slots bytes index place → answerable (callFor index place) ≡ true → place + n ≡ length m
+      → MessageEnds limit w m (callFor index place) (acceptOf limit slots bytes (callFor index place))
+  last-step (start o) a e = first-last limit w m ok slots bytes o n (omega arith) (λ z. omega arith) sequence out a (omega arith)
+  last-step (within {index} {place} h l) a e = next-last limit w m ok slots bytes index place n h (omega arith) (omega arith) sequence out a e
+
+  -- any other gives nothing, leaves its answer buffer, and its piece is held
+  pub more-step : {index place : ℕ} → Awaits limit w m slots bytes index place → answerable (callFor index place) ≡ true → 1 ≤ n
+      → place + n < length m → More limit w m index (place + n) out (acceptOf limit slots bytes (callFor index place))
+  more-step (start o) a s l = first-more limit w m ok slots bytes o n (omega arith) (λ y. omega arith) sequence out a (omega arith)
+  more-step (within {index} {place} h u) a s l = next-more limit w m ok slots bytes index place n h s (omega arith) sequence out a l

@@ -1,41 +1,46 @@
 -- Low Energy, writer to receiver: a message whose packets all come, in order, is given. A claim about whole lists of packets.
-use Prim.Native.Nat.{ℕ, _*_}
+use Prim.Native.Nat.{ℕ, _*_, _≤_}
 use mathlib.Core.Path.{_≡_}
 use mathlib.Core.Option.{Option, none, some}
 use mathlib.Core.List.{List, [], _∷_, _++_, map}
-use mathlib.Core.Bool.{Bool, true}
+use mathlib.Core.Bool.{Bool, true, cond, _&&_}
 use lib.ListN.{length, getD, take, drop}
+use lib.Dec.{leb, ltb}
+use lib.Seq.{sets}
 use Rattle.wire.specs.Those.{those}
 use Rattle.wire.specs.Told.{Told, given, refused}
 use Rattle.wire.specs.declared.stream.Stream.{Stream}
 use Rattle.wire.specs.Stream.{streamOf}
-use Rattle.packet.specs.Header.{isOf}
+use Rattle.packet.specs.Header.{fourBits, isOf}
+use Rattle.packet.specs.Control.{ackSize, ackBytes}
 use Rattle.slot.specs.declared.Slot.{Slot}
 use Rattle.slot.specs.declared.answer.Accepted.{Accepted}
 use Rattle.slot.specs.declared.answer.Accepted.the-variants.{Taken, Finished, Acked, Nacked}
 use Rattle.slot.specs.Slot.{slotCount, laneStart, lawful}
 use Rattle.receiver.specs.Buffer.{partOf}
-use Rattle.receiver.specs.Receiver.{acceptOf}
+use Rattle.receiver.specs.Receiver.{PacketCall, acceptOf}
 use Rattle.sender.specs.declared.writer.Sending.{Sending}
 use Rattle.sender_claims.specs.Calls.{callsOf, Takes}
 
 -- ---- a run of the receiver
 
--- a packet that was handed in, what was told of it, and the lent buffer as that call returns
+-- a packet that was handed in with its answer sequence and answer buffer, what was told of it, and the lent buffer and the answer buffer
+-- as that call returns
 pub record PacketReply : Type 0 where
-  pub packet : List ℕ
+  pub call : PacketCall
   pub told : Told Accepted
   pub bytes : List ℕ
+  pub out : List ℕ
 
 -- each packet meets the slots and the buffer that the call before it left
-unfoldable pub runOf : ℕ → List Slot → List ℕ → List (List ℕ) → List PacketReply
+unfoldable pub runOf : ℕ → List Slot → List ℕ → List PacketCall → List PacketReply
 runOf limit slots bytes [] = []
-runOf limit slots bytes (p ∷ ps) =
-    record { packet = p; told = acceptOf limit slots bytes p .told; bytes = acceptOf limit slots bytes p .bytes }
-    ∷ runOf limit (acceptOf limit slots bytes p .slots) (acceptOf limit slots bytes p .bytes) ps
+runOf limit slots bytes (c ∷ cs) =
+    record { call = c; told = acceptOf limit slots bytes c .told; bytes = acceptOf limit slots bytes c .bytes; out = acceptOf limit slots bytes c .out }
+    ∷ runOf limit (acceptOf limit slots bytes c .slots) (acceptOf limit slots bytes c .bytes) cs
 
 -- the replies to the packets `during`
-abbrev pub repliesTo : ℕ → List Slot → List ℕ → List (List ℕ) → List (List ℕ) → List (List ℕ) → List PacketReply
+abbrev pub repliesTo : ℕ → List Slot → List ℕ → List PacketCall → List PacketCall → List PacketCall → List PacketReply
 repliesTo limit slots bytes before during after =
     take (length during) (drop (length before) (runOf limit slots bytes (before ++ during ++ after)))
 
@@ -58,16 +63,28 @@ givenBy limit (given (Nacked head)) bytes = none
 givenBy limit (refused n) bytes = none
 
 -- a packet of the message's stream; all others may come between
-abbrev pub ours : Sending → List ℕ → Bool
-ours w p = isOf (w .stream) p
+abbrev pub ours : Sending → PacketCall → Bool
+ours w c = isOf (w .stream) (c .packet)
 
--- what replies give, one each
-abbrev pub givenIn : ℕ → List PacketReply → List (Option Message)
-givenIn limit replies = map (λ (r : PacketReply). givenBy limit (r .told) (r .bytes)) replies
+-- the packets of calls
+abbrev pub packetsIn : List PacketCall → List (List ℕ)
+packetsIn cs = map (λ (c : PacketCall). c .packet) cs
 
--- what the replies to the stream's own packets give
-abbrev pub givenTo : ℕ → Sending → List PacketReply → List (Option Message)
-givenTo limit w replies = givenIn limit (those (λ (r : PacketReply). ours w (r .packet)) replies)
+-- what a call shows: the message that it gives, if any, and its answer buffer afterwards
+pub record CallShown : Type 0 where
+  pub message : Option Message
+  pub out : List ℕ
+
+abbrev pub shown : Option Message → List ℕ → CallShown
+shown message out = record { message = message; out = out }
+
+-- what replies show, one each
+abbrev pub shownIn : ℕ → List PacketReply → List CallShown
+shownIn limit replies = map (λ (r : PacketReply). shown (givenBy limit (r .told) (r .bytes)) (r .out)) replies
+
+-- what the replies to the stream's own packets show
+abbrev pub shownTo : ℕ → Sending → List PacketReply → List CallShown
+shownTo limit w replies = shownIn limit (those (λ (r : PacketReply). ours w (r .call)) replies)
 
 -- ---- the claims
 
@@ -75,39 +92,63 @@ givenTo limit w replies = givenIn limit (those (λ (r : PacketReply). ours w (r 
 abbrev pub messageOf : Sending → List ℕ → Message
 messageOf w m = record { stream = streamOf (w .stream); id = w .id; total = length m; ack = w .ack; payload = m }
 
--- nothing at the first packet and at each of those after it but the last, and there the message
-abbrev pub atLast : Message → List (List ℕ) → List (Option Message)
-atLast message [] = some message ∷ []
-atLast message (p ∷ later) = none ∷ atLast message later
+-- an answer sequence up to 15 and an answer buffer of six bytes or more: neither 15 nor 14
+abbrev pub answerable : PacketCall → Bool
+answerable c = ltb (c .sequence) fourBits && leb ackSize (length (c .out))
+
+abbrev pub allAnswerable : List PacketCall → Bool
+allAnswerable [] = true
+allAnswerable (c ∷ cs) = answerable c && allAnswerable cs
+
+-- The ranges of docs/FORMATS.md, and nothing else: no premise of the claims asks for more of a call.
+abbrev pub AnswerableAll : Type 0
+AnswerableAll = (c : PacketCall) → c .sequence ≤ 15 → 6 ≤ length (c .out) → answerable c ≡ true
+
+-- the answer buffer of the last call: it begins with the ACK exactly if the writer's wish was one
+abbrev pub lastOut : Sending → PacketCall → List ℕ
+lastOut w c = cond (w .ack) (sets (c .out) 0 (ackBytes (w .stream) (w .id) (c .sequence) true)) (c .out)
+
+-- each call but the last gives nothing and leaves its answer buffer, and the last gives the message
+abbrev pub atLast : Sending → List ℕ → PacketCall → List PacketCall → List CallShown
+atLast w m c [] = shown (some (messageOf w m)) (lastOut w c) ∷ []
+atLast w m c (d ∷ later) = shown none (c .out) ∷ atLast w m d later
 
 -- From every lawful state and buffer of the right size, whatever packets come before and after: where a packet is the first of those
 -- that the writer's calls give for a message, and those of its stream among the packets after it are exactly the others, in order,
--- with any packets of other streams between, the last of them gives the message, and no other of them gives any.
+-- with any packets of other streams between, and none of the message's own gets 15 or 14, the last of them gives the message, and its
+-- answer buffer begins with the ACK exactly if the wish was one; no other of them gives any or touches its answer buffer.
 abbrev pub MessagesArrive : Type 0
 MessagesArrive =
-    (limit : ℕ) (slots : List Slot) (bytes : List ℕ) (before : List (List ℕ)) (first : List ℕ) (later after : List (List ℕ)) (w : Sending) (m out : List ℕ)
+    (limit : ℕ) (slots : List Slot) (bytes : List ℕ) (before : List PacketCall) (first : PacketCall) (later after : List PacketCall) (w : Sending) (m out : List ℕ)
     → lawful limit slots ≡ true
     → length bytes ≡ slotCount * limit
     → Takes limit w m out
-    → first ≡ getD (callsOf limit w m out) 0 []
-    → those (ours w) later ≡ drop 1 (callsOf limit w m out)
-    → givenTo limit w (repliesTo limit slots bytes before (first ∷ later) after) ≡ atLast (messageOf w m) (drop 1 (callsOf limit w m out))
+    → first .packet ≡ getD (callsOf limit w m out) 0 []
+    → packetsIn (those (ours w) later) ≡ drop 1 (callsOf limit w m out)
+    → allAnswerable (first ∷ those (ours w) later) ≡ true
+    → shownTo limit w (repliesTo limit slots bytes before (first ∷ later) after) ≡ atLast w m first (those (ours w) later)
 
 -- With nothing before or between: the writer's packets alone give the message, at the last of them.
 abbrev pub RoundTrip : Type 0
 RoundTrip =
-    (limit : ℕ) (slots : List Slot) (bytes : List ℕ) (w : Sending) (m out : List ℕ)
+    (limit : ℕ) (slots : List Slot) (bytes : List ℕ) (first : PacketCall) (later : List PacketCall) (w : Sending) (m out : List ℕ)
     → lawful limit slots ≡ true
     → length bytes ≡ slotCount * limit
     → Takes limit w m out
-    → givenIn limit (runOf limit slots bytes (callsOf limit w m out)) ≡ atLast (messageOf w m) (drop 1 (callsOf limit w m out))
+    → first .packet ≡ getD (callsOf limit w m out) 0 []
+    → packetsIn later ≡ drop 1 (callsOf limit w m out)
+    → allAnswerable (first ∷ later) ≡ true
+    → shownIn limit (runOf limit slots bytes (first ∷ later)) ≡ atLast w m first later
 
 -- the messages that are given
-abbrev pub givenOnly : List (Option Message) → List Message
+abbrev pub givenWith : Option Message → List Message → List Message
+givenWith none messages = messages
+givenWith (some message) messages = message ∷ messages
+
+abbrev pub givenOnly : List CallShown → List Message
 givenOnly [] = []
-givenOnly (none ∷ os) = givenOnly os
-givenOnly (some message ∷ os) = message ∷ givenOnly os
+givenOnly (s ∷ ss) = givenWith (s .message) (givenOnly ss)
 
 -- Whatever packets a writer's calls give, none at all too, both claims ask for the message, and once: no writer that refuses meets them.
 abbrev pub MessageAsked : Type 0
-MessageAsked = (message : Message) (later : List (List ℕ)) → givenOnly (atLast message later) ≡ message ∷ []
+MessageAsked = (w : Sending) (m : List ℕ) (first : PacketCall) (later : List PacketCall) → givenOnly (atLast w m first later) ≡ messageOf w m ∷ []

@@ -10,8 +10,9 @@ use Rattle.wire.specs.declared.stream.Stream.the-variants.{Alexa}
 use Rattle.slot.specs.declared.Slot.{Slot}
 use Rattle.slot.specs.Slot.{idle, slotCount, lawful}
 use Rattle.sender.specs.declared.writer.Sending.{Sending}
+use Rattle.receiver.specs.Receiver.{PacketCall, call}
 use Rattle.sender_claims.specs.Calls.{callsOf, Takes}
-use Rattle.delivery.specs.Delivery.{repliesTo, ours, givenTo, messageOf, atLast, MessagesArrive}
+use Rattle.delivery.specs.Delivery.{repliesTo, ours, packetsIn, shown, shownTo, allAnswerable, atLast, MessagesArrive}
 
 -- small, so that the buffer is
 abbrev pub limit : ℕ
@@ -40,45 +41,56 @@ slots = idle ∷ record { opened = true; id = 3; total = 6; held = 2; sequence =
 abbrev pub buffer : List ℕ
 buffer = replicate (slotCount * limit) 0
 
+-- an answer buffer of eight bytes
+abbrev pub eight : List ℕ
+eight = replicate 8 0xEE
+
 -- a transaction of the same stream and id is begun; a control message, whole
-abbrev pub before : List (List ℕ)
-before = (0x61 ∷ 0x50 ∷ 0x00 ∷ 0x00 ∷ 0x04 ∷ 0x01 ∷ 0xEE ∷ []) ∷ (0x01 ∷ 0x00 ∷ 0x00 ∷ 0x00 ∷ 0x02 ∷ 0x02 ∷ 0x08 ∷ 0x5E ∷ []) ∷ []
+abbrev pub before : List PacketCall
+before =
+    call (0x61 ∷ 0x50 ∷ 0x00 ∷ 0x00 ∷ 0x04 ∷ 0x01 ∷ 0xEE ∷ []) 5 eight
+    ∷ call (0x01 ∷ 0x00 ∷ 0x00 ∷ 0x00 ∷ 0x02 ∷ 0x02 ∷ 0x08 ∷ 0x5E ∷ []) 6 eight
+    ∷ []
 
 -- P4's first packet
-abbrev pub first : List ℕ
-first = 0x61 ∷ 0x00 ∷ 0x00 ∷ 0x00 ∷ 0x23 ∷ 0x0E ∷ from 1 14
+abbrev pub first : PacketCall
+first = call (0x61 ∷ 0x00 ∷ 0x00 ∷ 0x00 ∷ 0x23 ∷ 0x0E ∷ from 1 14) 7 eight
 
--- the two after it, and among them packets of other streams
-abbrev pub later : List (List ℕ)
+-- the two after it, and among them packets of other streams, with answer sequences and buffers that are refused too
+abbrev pub later : List PacketCall
 later =
     -- the open OTA transaction goes on
-    (0x23 ∷ 0x04 ∷ 0x02 ∷ 0xAA ∷ 0xBB ∷ [])
-    -- an ACK
-    ∷ (0x01 ∷ 0x0E ∷ 0x00 ∷ 0x02 ∷ 0x01 ∷ 0x00 ∷ [])
-    ∷ (0x61 ∷ 0x14 ∷ 0x11 ∷ from 15 17)
+    call (0x23 ∷ 0x04 ∷ 0x02 ∷ 0xAA ∷ 0xBB ∷ []) 0 eight
+    -- an ACK, with an answer sequence above 15
+    ∷ call (0x01 ∷ 0x0E ∷ 0x00 ∷ 0x02 ∷ 0x01 ∷ 0x00 ∷ []) 16 eight
+    ∷ call (0x61 ∷ 0x14 ∷ 0x11 ∷ from 15 17) 8 eight
     -- a packet without bytes
-    ∷ []
+    ∷ call [] 0 eight
     -- a stream that there is not
-    ∷ (0x51 ∷ 0x24 ∷ 0x01 ∷ 0xCC ∷ [])
+    ∷ call (0x51 ∷ 0x24 ∷ 0x01 ∷ 0xCC ∷ []) 0 eight
     -- an OTA packet that is refused
-    ∷ (0x23 ∷ 0x54 ∷ 0x01 ∷ 0xDD ∷ [])
-    ∷ (0x61 ∷ 0x2A ∷ 0x04 ∷ from 32 4)
-    -- a NACK
-    ∷ (0x21 ∷ 0x0C ∷ 0x00 ∷ 0x02 ∷ 0x01 ∷ 0x03 ∷ [])
+    ∷ call (0x23 ∷ 0x54 ∷ 0x01 ∷ 0xDD ∷ []) 0 eight
+    ∷ call (0x61 ∷ 0x2A ∷ 0x04 ∷ from 32 4) 9 eight
+    -- a NACK, without an answer buffer
+    ∷ call (0x21 ∷ 0x0C ∷ 0x00 ∷ 0x02 ∷ 0x01 ∷ 0x03 ∷ []) 0 []
     ∷ []
 
 -- the last packet again
-abbrev pub after : List (List ℕ)
-after = (0x61 ∷ 0x2A ∷ 0x04 ∷ from 32 4) ∷ []
+abbrev pub after : List PacketCall
+after = call (0x61 ∷ 0x2A ∷ 0x04 ∷ from 32 4) 9 eight ∷ []
 
--- All that the claim asks for is there, the message is given, at the third packet, and the claim says so.
+-- All that the claim asks for is there, the message is given, at the third packet, with its ACK, and the claim says so.
 pub record Arrives : Type 0 where
   pub law : lawful limit slots ≡ true
   pub size : length buffer ≡ slotCount * limit
   pub takes : Takes limit how message output
-  pub begins : first ≡ getD (callsOf limit how message output) 0 []
-  pub sent : those (ours how) later ≡ drop 1 (callsOf limit how message output)
-  pub arrived : givenTo limit how (repliesTo limit slots buffer before (first ∷ later) after)
-      ≡ none ∷ none ∷ some (record { stream = Alexa; id = 1; total = 35; ack = true; payload = message }) ∷ []
+  pub begins : first .packet ≡ getD (callsOf limit how message output) 0 []
+  pub sent : packetsIn (those (ours how) later) ≡ drop 1 (callsOf limit how message output)
+  pub answerable : allAnswerable (first ∷ those (ours how) later) ≡ true
+  pub arrived : shownTo limit how (repliesTo limit slots buffer before (first ∷ later) after)
+      ≡ shown none eight
+      ∷ shown none eight
+      ∷ shown (some (record { stream = Alexa; id = 1; total = 35; ack = true; payload = message })) (0x61 ∷ 0x9E ∷ 0x00 ∷ 0x02 ∷ 0x01 ∷ 0x00 ∷ 0xEE ∷ 0xEE ∷ [])
+      ∷ []
   pub claimed : MessagesArrive
-      → givenTo limit how (repliesTo limit slots buffer before (first ∷ later) after) ≡ atLast (messageOf how message) (drop 1 (callsOf limit how message output))
+      → shownTo limit how (repliesTo limit slots buffer before (first ∷ later) after) ≡ atLast how message first (those (ours how) later)

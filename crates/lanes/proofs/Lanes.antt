@@ -15,9 +15,9 @@ use Rattle.wire.specs.Told.{Told, given, refused}
 use Rattle.wire.specs.declared.stream.Stream.{Stream}
 use Rattle.wire.proofs.Streams.{other-stream}
 use Rattle.packet.specs.declared.reader.Packet.{Packet}
-use Rattle.packet.specs.Reader.{headIn, readOf}
+use Rattle.packet.specs.Reader.{headIn}
 use Rattle.packet.proofs.Headers.{stream-back}
-use Rattle.packet.proofs.Reading.{LinesPass, IfGiven, read-passes}
+use Rattle.packet.proofs.Reading.{LinesPass, IfGiven}
 use Rattle.slot.specs.declared.Slot.{Slot}
 use Rattle.slot.specs.Slot.{idle, laneStart, lawfulSlot}
 use Rattle.slot.specs.Step.{Act, still, step}
@@ -25,8 +25,8 @@ use Rattle.slot.specs.Fit.{ActFits}
 use Rattle.slot.proofs.Slots.{open-lawful, idle-lawful, lawful-three}
 use Rattle.slot.proofs.Lanes.{place-other, act-other}
 use Rattle.receiver.specs.Buffer.{partStart, payloadBytes}
-use Rattle.receiver.specs.Receiver.{Result, actIn, acted, acceptOf}
-use Rattle.receiver.proofs.Accepting.{SlotsFit, accept-ready, limit-refused, ready-next, in-fits, payload-length}
+use Rattle.receiver.specs.Receiver.{Result, actIn, acted, PacketCall, answered, readIn, acceptOf}
+use Rattle.receiver.proofs.Accepting.{SlotsFit, accept-ready, limit-refused, in-passes, ready-next, in-fits, payload-length}
 use Rattle.lanes.specs.Lanes.{Both, bothOf, turned, streamField, HandedPair, EitherOrder, InRules, HandedAll, PartsApart}
 
 -- ---- runs that lie apart
@@ -59,28 +59,35 @@ parts-apart limit i j at bt bytes xs ys other hx hy = apart-by limit i j at bt b
 
 -- ---- two packets, by what was read of them
 
-abbrev bothBy : ℕ → List Slot → List ℕ → List ℕ → List ℕ → Told Packet → Told Packet → Both
-bothBy limit slots bytes p q t u =
-    let r : Result = acted limit slots bytes p t in
-    let s : Result = acted limit (r .slots) (r .bytes) q u in
-    record { first = r .told; second = s .told; slots = s .slots; bytes = s .bytes }
+abbrev bothBy : ℕ → List Slot → List ℕ → PacketCall → PacketCall → Told Packet → Told Packet → Both
+bothBy limit slots bytes c d t u =
+    let r : Result = acted limit slots bytes (c .packet) t in
+    let s : Result = acted limit (r .slots) (r .bytes) (d .packet) u in
+    record {
+      first = r .told;
+      second = s .told;
+      slots = s .slots;
+      bytes = s .bytes;
+      first-out = answered (c .sequence) (r .told) (c .out);
+      second-out = answered (d .sequence) (s .told) (d .out);
+    }
 
-both-read : (limit : ℕ) (slots : List Slot) (bytes p q : List ℕ) → SlotsFit limit slots bytes
-    → bothOf limit slots bytes p q ≡ bothBy limit slots bytes p q (readOf limit p) (readOf limit q)
-both-read limit slots bytes p q r =
-    let later = accept-ready limit (acceptOf limit slots bytes p .slots) (acceptOf limit slots bytes p .bytes) q (ready-next limit slots bytes p r) in
-    rw (later, accept-ready limit slots bytes p r)
+both-read : (limit : ℕ) (slots : List Slot) (bytes : List ℕ) (c d : PacketCall) → SlotsFit limit slots bytes
+    → bothOf limit slots bytes c d ≡ bothBy limit slots bytes c d (readIn limit c) (readIn limit d)
+both-read limit slots bytes c d r =
+    let later = accept-ready limit (acceptOf limit slots bytes c .slots) (acceptOf limit slots bytes c .bytes) d (ready-next limit slots bytes c r) in
+    rw (later, accept-ready limit slots bytes c r)
 
 -- packets of different streams, by what each does to its own stream's slots
-module _ (limit : ℕ) (slots : List Slot) (bytes p q : List ℕ) (x y : Packet) (other : headIn x .stream ≢ headIn y .stream) where
+module _ (limit : ℕ) (slots : List Slot) (bytes : List ℕ) (c d : PacketCall) (x y : Packet) (other : headIn x .stream ≢ headIn y .stream) where
   abbrev a : Stream
   a = headIn x .stream
 
   abbrev b : Stream
   b = headIn y .stream
 
-  turned-act : (ax ay : Act) → actIn slots x ≡ ax → actIn slots y ≡ ay → ActFits limit (length p) ax → ActFits limit (length q) ay
-      → bothBy limit slots bytes p q (given x) (given y) ≡ turned (bothBy limit slots bytes q p (given y) (given x))
+  turned-act : (ax ay : Act) → actIn slots x ≡ ax → actIn slots y ≡ ay → ActFits limit (length (c .packet)) ax → ActFits limit (length (d .packet)) ay
+      → bothBy limit slots bytes c d (given x) (given y) ≡ turned (bothBy limit slots bytes d c (given y) (given x))
   turned-act (still t) (still u) ex ey fx fy = rw (ex, ey, ex)
   turned-act (still t) (step j s) ex ey fx fy = rw (ex, ey, act-other b a slots j (s .slot) x (λ e. other (sym e)) (fy .within) ∙ ex)
   turned-act (step i s) (still u) ex ey fx fy = rw (ex, ey, act-other a b slots i (s .slot) y other (fx .within) ∙ ey, ex)
@@ -92,34 +99,34 @@ module _ (limit : ℕ) (slots : List Slot) (bytes p q : List ℕ) (x y : Packet)
         act-other a b slots i (s .slot) y other (fx .within) ∙ ey,
         act-other b a slots j (t .slot) x (λ e. other (sym e)) (fy .within) ∙ ex,
         set-comm slots (laneStart a + i) (laneStart b + j) (s .slot) (t .slot) apart,
-        parts-apart limit (laneStart a + i) (laneStart b + j) (s .payload .at) (t .payload .at) bytes (payloadBytes p (s .payload)) (payloadBytes q (t .payload)) apart
-            (payload-length limit (length p) p (s .payload) (fx .inside))
-            (payload-length limit (length q) q (t .payload) (fy .inside)),
+        parts-apart limit (laneStart a + i) (laneStart b + j) (s .payload .at) (t .payload .at) bytes (payloadBytes (c .packet) (s .payload)) (payloadBytes (d .packet) (t .payload)) apart
+            (payload-length limit (length (c .packet)) (c .packet) (s .payload) (fx .inside))
+            (payload-length limit (length (d .packet)) (d .packet) (t .payload) (fy .inside)),
       )
 
-turned-read : (limit m n : ℕ) (slots : List Slot) (bytes p q : List ℕ) (t u : Told Packet) → SlotsFit limit slots bytes → m ≢ n
-    → IfGiven (LinesPass limit (length p) m) t → IfGiven (LinesPass limit (length q) n) u
-    → bothBy limit slots bytes p q t u ≡ turned (bothBy limit slots bytes q p u t)
-turned-read limit m n slots bytes p q (refused a) (refused b) r d o k = refl
-turned-read limit m n slots bytes p q (refused a) (given y) r d o k = refl
-turned-read limit m n slots bytes p q (given x) (refused b) r d o k = refl
-turned-read limit m n slots bytes p q (given x) (given y) r d o k =
-    turned-act limit slots bytes p q x y (λ e. other-stream m n (o .known) (k .known) d (sym (o .named) ∙ e ∙ k .named)) (actIn slots x) (actIn slots y) refl refl
-    (in-fits limit (length p) m slots x (r .law) o) (in-fits limit (length q) n slots y (r .law) k)
+turned-read : (limit m n : ℕ) (slots : List Slot) (bytes : List ℕ) (c d : PacketCall) (t u : Told Packet) → SlotsFit limit slots bytes → m ≢ n
+    → IfGiven (LinesPass limit (length (c .packet)) m) t → IfGiven (LinesPass limit (length (d .packet)) n) u
+    → bothBy limit slots bytes c d t u ≡ turned (bothBy limit slots bytes d c u t)
+turned-read limit m n slots bytes c d (refused a) (refused b) r e o k = refl
+turned-read limit m n slots bytes c d (refused a) (given y) r e o k = refl
+turned-read limit m n slots bytes c d (given x) (refused b) r e o k = refl
+turned-read limit m n slots bytes c d (given x) (given y) r e o k =
+    turned-act limit slots bytes c d x y (λ same. other-stream m n (o .known) (k .known) e (sym (o .named) ∙ same ∙ k .named)) (actIn slots x) (actIn slots y) refl refl
+    (in-fits limit (length (c .packet)) m slots x (r .law) o) (in-fits limit (length (d .packet)) n slots y (r .law) k)
 
 -- with a limit out of its range both are refused by 1, and leave all
-order-by : (limit : ℕ) (slots : List Slot) (bytes p q : List ℕ) (b : Bool) → limitFits limit ≡ b → HandedPair limit slots bytes p q
-    → bothOf limit slots bytes p q ≡ turned (bothOf limit slots bytes q p)
-order-by limit slots bytes p q false e h =
-    rw (limit-refused limit slots bytes p e, limit-refused limit slots bytes q e, limit-refused limit slots bytes p e)
-order-by limit slots bytes p q true e h =
+order-by : (limit : ℕ) (slots : List Slot) (bytes : List ℕ) (c d : PacketCall) (b : Bool) → limitFits limit ≡ b → HandedPair limit slots bytes c d
+    → bothOf limit slots bytes c d ≡ turned (bothOf limit slots bytes d c)
+order-by limit slots bytes c d false e h =
+    rw (limit-refused limit slots bytes c e, limit-refused limit slots bytes d e, limit-refused limit slots bytes c e)
+order-by limit slots bytes c d true e h =
     let r : SlotsFit limit slots bytes = record { range = e; law = h .law; size = h .size } in
-    both-read limit slots bytes p q r
-    ∙ turned-read limit (streamField p) (streamField q) slots bytes p q (readOf limit p) (readOf limit q) r (h .streams) (read-passes limit p) (read-passes limit q)
-    ∙ ap turned (sym (both-read limit slots bytes q p r))
+    both-read limit slots bytes c d r
+    ∙ turned-read limit (streamField (c .packet)) (streamField (d .packet)) slots bytes c d (readIn limit c) (readIn limit d) r (h .streams) (in-passes limit c) (in-passes limit d)
+    ∙ ap turned (sym (both-read limit slots bytes d c r))
 
 pub either-order : EitherOrder
-either-order limit slots bytes p q h = order-by limit slots bytes p q (limitFits limit) refl h
+either-order limit slots bytes c d h = order-by limit slots bytes c d (limitFits limit) refl h
 
 -- ---- what is asked for
 
@@ -130,7 +137,7 @@ in-rules limit s (inr o) =
     (record { id-low = omega arith; sequence-low = omega arith; total-low = o .3; some-held = o .4; held-below = o .5 })
 
 pub handed-all : HandedAll
-handed-all limit control ota alexa bytes m i p n j q c o a size li lj d =
+handed-all limit control ota alexa bytes m i p n j q sa sb x y c o a size li lj d =
     record {
       law =
           lawful-three limit (control ∷ ota ∷ alexa ∷ []) refl ∙ rw (in-rules limit control c, in-rules limit ota o, in-rules limit alexa a) refl;

@@ -1,4 +1,5 @@
--- Two packets whose stream fields differ, handed in in either order. A claim about every pair of packets.
+-- Two packets whose stream fields differ, handed in in either order, each with its own answer sequence and answer buffer. A claim about
+-- every pair of packets.
 use Prim.Native.Nat.{ℕ, _+_, _*_, _≤_, _<_}
 use mathlib.Core.Path.{_≡_}
 use mathlib.Core.Logic.{_≢_, _⊎_}
@@ -12,33 +13,38 @@ use Rattle.slot.specs.declared.Slot.{Slot}
 use Rattle.slot.specs.declared.answer.Accepted.{Accepted}
 use Rattle.slot.specs.Slot.{idle, slotCount, lawful}
 use Rattle.receiver.specs.Buffer.{partStart}
-use Rattle.receiver.specs.Receiver.{Result, acceptOf}
+use Rattle.receiver.specs.Receiver.{PacketCall, call, PacketLeft, acceptOf}
 
 -- ---- two packets, one after the other
 
--- what is told of the packet that comes first and of the other, and what both leave
+-- what is told of the packet that comes first and of the other, what both leave, and the answer buffer of each
 pub record Both : Type 0 where
   pub first : Told Accepted
   pub second : Told Accepted
   pub slots : List Slot
   pub bytes : List ℕ
+  pub first-out : List ℕ
+  pub second-out : List ℕ
 
 -- the second packet meets the slots and the buffer that the first left
-abbrev pub bothFrom : ℕ → Result → List ℕ → Both
-bothFrom limit r q =
+abbrev pub bothFrom : ℕ → PacketLeft → PacketCall → Both
+bothFrom limit l d =
     record {
-      first = r .told;
-      second = acceptOf limit (r .slots) (r .bytes) q .told;
-      slots = acceptOf limit (r .slots) (r .bytes) q .slots;
-      bytes = acceptOf limit (r .slots) (r .bytes) q .bytes;
+      first = l .told;
+      second = acceptOf limit (l .slots) (l .bytes) d .told;
+      slots = acceptOf limit (l .slots) (l .bytes) d .slots;
+      bytes = acceptOf limit (l .slots) (l .bytes) d .bytes;
+      first-out = l .out;
+      second-out = acceptOf limit (l .slots) (l .bytes) d .out;
     }
 
-abbrev pub bothOf : ℕ → List Slot → List ℕ → List ℕ → List ℕ → Both
-bothOf limit slots bytes p q = bothFrom limit (acceptOf limit slots bytes p) q
+abbrev pub bothOf : ℕ → List Slot → List ℕ → PacketCall → PacketCall → Both
+bothOf limit slots bytes c d = bothFrom limit (acceptOf limit slots bytes c) d
 
 -- the same with the answers exchanged: each stands again with its own packet where the packets are exchanged
 abbrev pub turned : Both → Both
-turned b = record { first = b .second; second = b .first; slots = b .slots; bytes = b .bytes }
+turned b =
+    record { first = b .second; second = b .first; slots = b .slots; bytes = b .bytes; first-out = b .second-out; second-out = b .first-out }
 
 -- ---- the claim
 
@@ -47,21 +53,22 @@ abbrev pub streamField : List ℕ → ℕ
 streamField p = streamBits (getD p 0 0)
 
 -- what the claim asks for
-pub record HandedPair (limit : ℕ) (slots : List Slot) (bytes p q : List ℕ) : Type 0 where
+pub record HandedPair (limit : ℕ) (slots : List Slot) (bytes : List ℕ) (c d : PacketCall) : Type 0 where
   pub law : lawful limit slots ≡ true
   -- a buffer of the right size
   pub size : length bytes ≡ slotCount * limit
   -- each packet has at least one byte
-  pub filled : (1 ≤ length p) × (1 ≤ length q)
-  pub streams : streamField p ≢ streamField q
+  pub filled : (1 ≤ length (c .packet)) × (1 ≤ length (d .packet))
+  pub streams : streamField (c .packet) ≢ streamField (d .packet)
 
 -- From every lawful state and buffer of the right size, for every limit: two packets of at least one byte whose stream fields
--- differ, whatever else they are, get the same two answers and leave the same slots and the same buffer in either order.
+-- differ, whatever else they are, each with any answer sequence and answer buffer, get the same two answers and leave the same slots,
+-- the same buffer and each its own answer buffer the same in either order.
 abbrev pub EitherOrder : Type 0
 EitherOrder =
-    (limit : ℕ) (slots : List Slot) (bytes p q : List ℕ)
-    → HandedPair limit slots bytes p q
-    → bothOf limit slots bytes p q ≡ turned (bothOf limit slots bytes q p)
+    (limit : ℕ) (slots : List Slot) (bytes : List ℕ) (c d : PacketCall)
+    → HandedPair limit slots bytes c d
+    → bothOf limit slots bytes c d ≡ turned (bothOf limit slots bytes d c)
 
 -- ---- what is asked for, in the numbers of docs/FORMATS.md
 
@@ -71,10 +78,11 @@ InRules limit s =
     (s ≡ idle)
     ⊎ ((s .opened ≡ true) × (s .id ≤ 15) × (s .sequence ≤ 15) × (s .total ≤ limit) × (1 ≤ s .held) × (s .held < s .total))
 
--- Three such slots, a buffer of three times the limit, and packets whose first bytes have different upper halves, and nothing else.
+-- Three such slots, a buffer of three times the limit, and packets whose first bytes have different upper halves, with any
+-- answer sequences and answer buffers, and nothing else.
 abbrev pub HandedAll : Type 0
 HandedAll =
-    (limit : ℕ) (control ota alexa : Slot) (bytes : List ℕ) (m i : ℕ) (p : List ℕ) (n j : ℕ) (q : List ℕ)
+    (limit : ℕ) (control ota alexa : Slot) (bytes : List ℕ) (m i : ℕ) (p : List ℕ) (n j : ℕ) (q : List ℕ) (a b : ℕ) (x y : List ℕ)
     → InRules limit control
     → InRules limit ota
     → InRules limit alexa
@@ -82,7 +90,7 @@ HandedAll =
     → i ≤ 15
     → j ≤ 15
     → m ≢ n
-    → HandedPair limit (control ∷ ota ∷ alexa ∷ []) bytes ((m * 16 + i) ∷ p) ((n * 16 + j) ∷ q)
+    → HandedPair limit (control ∷ ota ∷ alexa ∷ []) bytes (call ((m * 16 + i) ∷ p) a x) (call ((n * 16 + j) ∷ q) b y)
 
 -- ---- the parts of the buffer
 

@@ -2,7 +2,7 @@
 ghost use Rattle.lanes.specs.Instance.{Computed, OneStream};
 ghost use Rattle.lanes.specs.Lanes.{HandedAll, EitherOrder, PartsApart};
 
-// Two packets whose stream fields differ get the same answers and leave the same slots and buffer in either order.
+// Two packets whose stream fields differ get the same answers and leave the same slots, buffer and answer buffers in either order.
 pub fn either_order()
     ensures { λ _. ⌜ HandedAll × EitherOrder ⌝ }
 {}
@@ -12,7 +12,7 @@ pub fn parts_apart()
     ensures { λ _. ⌜ PartsApart ⌝ }
 {}
 
-// Three pairs by computation: a packet refused by 10, an ACK, and a packet of no stream.
+// Four pairs by computation: a packet refused by 10, an ACK, two refused by 15 and 14, and a packet of no stream.
 pub fn instance_computed()
     ensures { λ _. ⌜ Computed ⌝ }
 {}

@@ -2,24 +2,24 @@
 use Prim.Native.Nat.{ℕ, _+_, _/_, _%_, _≤_, _<_}
 use native.Mathlib.Omega.{arith}
 use native.Mathlib.Nat.{div-add-mod'}
-use mathlib.Core.Path.{_≡_, refl}
+use mathlib.Core.Path.{_≡_, refl, _∙_}
 use mathlib.Core.Logic.{_≢_}
 use mathlib.Core.List.{List, [], _∷_, _++_}
-use mathlib.Core.Bool.{Bool, true, false, not, cond, _&&_}
+use mathlib.Core.Bool.{Bool, true, false, not, cond, _&&_, and-true}
 use lib.ListN.{length, getD}
 use lib.Dec.{ltb, eqb}
-use borrow.Author.Tests.{eq-eqb, ne-eqb, le-ltb, eqb-true, ltb-false, not-false}
-use Rattle.wire.specs.Told.{Told, given, refused}
-use Rattle.wire.specs.Bytes.{pairBytes}
+use borrow.Author.Tests.{eq-eqb, ne-eqb, lt-ltb, le-ltb, eqb-true, eqb-false, ltb-false, not-false}
+use Rattle.wire.specs.Told.{Told, given, refused, line, table}
+use Rattle.wire.specs.Bytes.{pairOf, pairBytes}
 use Rattle.wire.specs.Stream.{isStream, streamOf}
 use Rattle.wire.proofs.Tables.{by-table}
 use Rattle.packet.specs.declared.reader.Head.{Head}
-use Rattle.packet.specs.declared.reader.PacketFields.{PacketFields}
+use Rattle.packet.specs.declared.reader.StartBits.{StartBits}
 use Rattle.packet.specs.declared.reader.Packet.{Packet}
 use Rattle.packet.specs.declared.reader.Packet.the-variants.{First, Next, Ack, Nack}
-use Rattle.packet.specs.Header.{reservedByte, typeFirst, typeContinuation, typeLast, typeControl, headerSize, firstByte, secondByte, streamBits}
+use Rattle.packet.specs.Header.{reservedByte, typeFirst, typeContinuation, typeLast, typeControl, headerSize, lengthPlace, firstByte, secondByte, streamBits, typeBits}
 use Rattle.packet.specs.Control.{ackBytes}
-use Rattle.packet.specs.Reader.{fieldsBy, fieldsOf, isFirst, isControl, headIn, contentOf, lines, judged, readOf}
+use Rattle.packet.specs.Reader.{PacketFields, fieldsBy, fieldsOf, isAcknowledgement, lengthAt, isFirst, isControl, headIn, contentOf, lines, judged, readOf, startBitsOf, headBy, fieldsOn}
 use Rattle.packet.proofs.Headers.{stream-back, id-back, sequence-back, type-back, ack-back, extender-back}
 
 -- ---- a packet that passes
@@ -94,6 +94,102 @@ pub read-passes : (limit : ℕ) (p : List ℕ) → IfGiven (LinesPass limit (len
 unfolding readOf fieldsOf
 read-passes limit p = judged-passes limit (fieldsOf p) (omega arith, omega arith) refl
 
+-- ---- the table by type, for a packet that is not short and whose stream is known
+
+judged-control : (limit : ℕ) (f : PacketFields) → f .kind ≡ typeControl → isStream (f .stream) ≡ true → 2 ≤ f .size
+    → judged limit f ≡ table (line 12 (not (f .exact)) ∷ []) refused (given (cond (f .ack) (Ack (f .head)) (Nack (f .head))))
+unfolding lines contentOf
+judged-control limit f k known n = simp (k, known, le-ltb (f .size) 2 n)
+
+judged-first : (limit : ℕ) (f : PacketFields) → f .kind ≡ typeFirst → isStream (f .stream) ≡ true → 2 ≤ f .header → f .header ≤ f .size
+    → judged limit f
+    ≡ table
+    (line 4 (not (eqb (f .reserved) reservedByte))
+    ∷ line 5 (not (eqb (f .size) (f .header + f .len)))
+    ∷ line 6 (ltb limit (f .total))
+    ∷ line 7 (eqb (f .len) 0 && not (eqb (f .total) 0))
+    ∷ line 8 (ltb (f .total) (f .len))
+    ∷ [])
+    refused
+    (given (First (f .head) (f .ack) (f .total) (f .header) (f .len)))
+unfolding lines contentOf
+judged-first limit f k known h n = simp (k, known, le-ltb (f .size) 2 (omega arith), le-ltb (f .size) (f .header) n)
+
+judged-next : (limit : ℕ) (f : PacketFields) (last : Bool) → f .kind ≡ cond last typeLast typeContinuation → isStream (f .stream) ≡ true → 2 ≤ f .header → f .header ≤ f .size
+    → judged limit f
+    ≡ table (line 5 (not (eqb (f .size) (f .header + f .len))) ∷ line 7 (eqb (f .len) 0) ∷ []) refused (given (Next (f .head) (f .ack) last (f .header) (f .len)))
+unfolding lines contentOf
+judged-next limit f true k known h n = simp (k, known, and-true, le-ltb (f .size) 2 (omega arith), le-ltb (f .size) (f .header) n)
+judged-next limit f false k known h n = simp (k, known, and-true, le-ltb (f .size) 2 (omega arith), le-ltb (f .size) (f .header) n)
+
+-- ---- the same on what the code reads
+
+pub control-judged : (limit : ℕ) (p : List ℕ) (s : StartBits) → 2 ≤ length p → isStream (s .stream) ≡ true
+    → judged limit (fieldsOn p typeControl s)
+    ≡ table (line 12 (not (isAcknowledgement p (s .ack) (s .extended))) ∷ []) refused (given (cond (s .ack) (Ack (headBy s)) (Nack (headBy s))))
+control-judged limit p s n known = judged-control limit (fieldsOn p typeControl s) refl known n
+
+pub first-judged : (limit : ℕ) (p : List ℕ) (s : StartBits) {reserved start len total : ℕ}
+    → reserved ≡ getD p 2 0 → start ≡ headerSize true (s .extended) → len ≡ lengthAt p (lengthPlace true) (s .extended) → total ≡ pairOf (getD p 3 0) (getD p 4 0)
+    → headerSize true (s .extended) ≤ length p → isStream (s .stream) ≡ true
+    → judged limit (fieldsOn p typeFirst s)
+    ≡ table
+    (line 4 (not (eqb reserved reservedByte))
+    ∷ line 5 (not (eqb (length p) (start + len)))
+    ∷ line 6 (ltb limit total)
+    ∷ line 7 (eqb len 0 && not (eqb total 0))
+    ∷ line 8 (ltb total len)
+    ∷ [])
+    refused
+    (given (First (headBy s) (s .ack) total start len))
+first-judged limit p s er es el et n known = judged-first limit (fieldsOn p typeFirst s) refl known (omega arith) n ∙ rw (er, es, el, et)
+
+pub next-judged : (limit : ℕ) (p : List ℕ) (s : StartBits) (last : Bool) {start len : ℕ}
+    → start ≡ headerSize false (s .extended) → len ≡ lengthAt p (lengthPlace false) (s .extended)
+    → headerSize false (s .extended) ≤ length p → isStream (s .stream) ≡ true
+    → judged limit (fieldsOn p (cond last typeLast typeContinuation) s)
+    ≡ table (line 5 (not (eqb (length p) (start + len))) ∷ line 7 (eqb len 0) ∷ []) refused (given (Next (headBy s) (s .ack) last start len))
+next-judged limit p s true es el n known = judged-next limit (fieldsOn p typeLast s) true refl known (omega arith) n ∙ rw (es, el)
+next-judged limit p s false es el n known = judged-next limit (fieldsOn p typeContinuation s) false refl known (omega arith) n ∙ rw (es, el)
+
+-- two bytes say which fields are read
+pub read-from : (limit : ℕ) (p : List ℕ) (kind : ℕ) (s : StartBits) → kind ≡ typeBits (getD p 1 0) → s ≡ startBitsOf (getD p 0 0) (getD p 1 0)
+    → readOf limit p ≡ judged limit (fieldsOn p kind s)
+unfolding readOf fieldsOf
+read-from limit p kind s ek es = rw (ek, es)
+
+pub no-start : (limit : ℕ) (p : List ℕ) → length p < 2 → readOf limit p ≡ refused 2
+unfolding readOf fieldsOf lines
+no-start limit p l = rw (lt-ltb (length p) 2 l)
+
+-- too short for its header
+abbrev pub headless : ℕ → ℕ → StartBits → Bool
+headless size kind s = not (eqb kind typeControl) && ltb size (headerSize (eqb kind typeFirst) (s .extended))
+
+pub no-header : (limit : ℕ) (p : List ℕ) (kind : ℕ) (s : StartBits) → 2 ≤ length p → headless (length p) kind s ≡ true → judged limit (fieldsOn p kind s) ≡ refused 2
+unfolding lines
+no-header limit p kind s n h = rw (le-ltb (length p) 2 n, h)
+
+pub no-stream : (limit : ℕ) (p : List ℕ) (kind : ℕ) (s : StartBits) → 2 ≤ length p → headless (length p) kind s ≡ false → isStream (s .stream) ≡ false
+    → judged limit (fieldsOn p kind s) ≡ refused 3
+unfolding lines
+no-stream limit p kind s n h u = rw (le-ltb (length p) 2 n, h, u)
+
+pub first-long : (size kind : ℕ) (s : StartBits) → kind ≡ typeFirst → headless size kind s ≡ false → headerSize true (s .extended) ≤ size
+first-long size kind s k h = ltb-false size (headerSize true (s .extended)) (rw k at h)
+
+pub next-long : (size kind : ℕ) (s : StartBits) → kind ≢ typeControl → kind ≢ typeFirst → headless size kind s ≡ false → headerSize false (s .extended) ≤ size
+next-long size kind s c f h = ltb-false size (headerSize false (s .extended)) (rw (ne-eqb kind typeControl c, ne-eqb kind typeFirst f) at h)
+
+kind-by : (kind : ℕ) (b : Bool) → eqb kind typeLast ≡ b → kind < 4 → kind ≢ typeControl → kind ≢ typeFirst → cond b typeLast typeContinuation ≡ kind
+kind-by kind true e l c f = omega (arith, eqb-true kind typeLast e)
+kind-by kind false e l c f = omega (arith, eqb-false kind typeLast e, c, f)
+
+-- of the types that are neither control nor first
+pub kind-next : (second : ℕ) → typeBits second ≢ typeControl → typeBits second ≢ typeFirst
+    → cond (eqb (typeBits second) typeLast) typeLast typeContinuation ≡ typeBits second
+kind-next second c f = kind-by (typeBits second) (eqb (typeBits second) typeLast) refl (omega arith) c f
+
 -- ---- which packets pass
 
 filled : (len total : ℕ) → (len ≡ 0 → total ≡ 0) → (b : Bool) → eqb len 0 ≡ b → (eqb len 0 && not (eqb total 0)) ≡ false
@@ -103,15 +199,11 @@ filled len total z false e = rw e
 passes-first : (limit : ℕ) (f : PacketFields) → f .kind ≡ typeFirst → isStream (f .stream) ≡ true → f .reserved ≡ 0 → f .size ≡ f .header + f .len → 2 ≤ f .header
     → f .total ≤ limit → (f .len ≡ 0 → f .total ≡ 0) → f .len ≤ f .total
     → judged limit f ≡ given (First (f .head) (f .ack) (f .total) (f .header) (f .len))
-unfolding lines contentOf
 passes-first limit f k known r x h t z n =
-    simp (
-      k,
-      known,
+    judged-first limit f k known h (omega arith)
+    ∙ rw (
       r,
       eq-eqb (f .size) (f .header + f .len) x,
-      le-ltb (f .size) 2 (omega arith),
-      le-ltb (f .size) (f .header) (omega arith),
       le-ltb limit (f .total) t,
       filled (f .len) (f .total) z (eqb (f .len) 0) refl,
       le-ltb (f .total) (f .len) n,
@@ -120,30 +212,12 @@ passes-first limit f k known r x h t z n =
 passes-next : (limit : ℕ) (f : PacketFields) (last : Bool) → f .kind ≡ cond last typeLast typeContinuation → isStream (f .stream) ≡ true
     → f .size ≡ f .header + f .len → 2 ≤ f .header → 1 ≤ f .len
     → judged limit f ≡ given (Next (f .head) (f .ack) last (f .header) (f .len))
-unfolding lines contentOf
-passes-next limit f true k known x h n =
-    simp (
-      k,
-      known,
-      eq-eqb (f .size) (f .header + f .len) x,
-      le-ltb (f .size) 2 (omega arith),
-      le-ltb (f .size) (f .header) (omega arith),
-      ne-eqb (f .len) 0 (λ e. omega arith),
-    )
-passes-next limit f false k known x h n =
-    simp (
-      k,
-      known,
-      eq-eqb (f .size) (f .header + f .len) x,
-      le-ltb (f .size) 2 (omega arith),
-      le-ltb (f .size) (f .header) (omega arith),
-      ne-eqb (f .len) 0 (λ e. omega arith),
-    )
+passes-next limit f last k known x h n =
+    judged-next limit f last k known h (omega arith) ∙ rw (eq-eqb (f .size) (f .header + f .len) x, ne-eqb (f .len) 0 (λ e. omega arith))
 
 passes-control : (limit : ℕ) (f : PacketFields) → f .kind ≡ typeControl → isStream (f .stream) ≡ true → f .exact ≡ true → 2 ≤ f .size
     → judged limit f ≡ given (cond (f .ack) (Ack (f .head)) (Nack (f .head)))
-unfolding lines contentOf
-passes-control limit f k known s n = simp (k, known, s, le-ltb (f .size) 2 n)
+passes-control limit f k known s n = judged-control limit f k known n ∙ rw s
 
 -- byte 0 and byte 1 say what was written there
 fields-back : (stream id sequence kind : ℕ) (ack extended : Bool) (rest : List ℕ) → id < 16 → sequence < 16 → kind < 4

@@ -1,6 +1,5 @@
 -- One packet read: its fields, the table of refusals, and what is told of it.
 use Prim.Native.Nat.{ℕ, _+_}
-use mathlib.Core.Path.{_≡_}
 use mathlib.Core.List.{List, [], _∷_}
 use mathlib.Core.Bool.{Bool, true, false, not, cond, _&&_, _||_}
 use lib.ListN.{length, getD, drop}
@@ -9,13 +8,11 @@ use Rattle.wire.specs.Told.{Told, given, refused, Line, line, table}
 use Rattle.wire.specs.Bytes.{pairOf}
 use Rattle.wire.specs.Stream.{isStream, streamOf}
 use Rattle.packet.specs.declared.reader.Head.{Head}
-use Rattle.packet.specs.declared.reader.PacketFields.{PacketFields}
+use Rattle.packet.specs.declared.reader.StartBits.{StartBits}
 use Rattle.packet.specs.declared.reader.Packet.{Packet}
 use Rattle.packet.specs.declared.reader.Packet.the-variants.{First, Next, Ack, Nack}
 use Rattle.packet.specs.declared.reader.Refusal.{Refusal}
 use Rattle.packet.specs.declared.reader.Refusal.the-variants.{Short, UnknownStream, BadControl, Reserved, Length, TotalOver, Empty, AboveTotal}
-use Rattle.packet.specs.declared.reader.Ruling.{Ruling}
-use Rattle.packet.specs.declared.reader.Ruling.the-variants.{Passed, Stopped}
 use Rattle.packet.specs.declared.reader.Answer.{Answer}
 use Rattle.packet.specs.declared.reader.Answer.the-variants.{Refused, Read}
 use Rattle.packet.specs.Header.{startSize, reservedByte, typeFirst, typeLast, typeControl, headerSize, lengthPlace, streamBits, idBits, sequenceBits, typeBits, ackBit, extenderBit}
@@ -35,6 +32,19 @@ lengthAt p at extended = cond extended (pairOf (getD p at 0) (getD p (at + 1) 0)
 -- extender 0, then exactly what follows in an ACK or NACK
 abbrev pub isAcknowledgement : List ℕ → Bool → Bool → Bool
 isAcknowledgement p ack extended = not extended && sameBytes (drop startSize p) (ackTail ack)
+
+-- the fields of a packet; exact: an ACK or NACK, if it is of type 3
+pub record PacketFields : Type 0 where
+  pub size : ℕ
+  pub stream : ℕ
+  pub head : Head
+  pub kind : ℕ
+  pub ack : Bool
+  pub header : ℕ
+  pub reserved : ℕ
+  pub total : ℕ
+  pub len : ℕ
+  pub exact : Bool
 
 -- the fields of a packet, by what its bytes 0 and 1 say
 abbrev pub fieldsBy : List ℕ → ℕ → ℕ → ℕ → ℕ → Bool → Bool → PacketFields
@@ -120,11 +130,20 @@ abbrev pub told : Answer → Told Packet
 told (Refused why) = refused (numberOf why)
 told (Read packet) = given packet
 
--- the refusal of the line that stopped it, or what lies below the lines it passed
-abbrev pub ruled : Ruling → Told Packet → Told Packet
-ruled Passed below = below
-ruled (Stopped why) below = refused (numberOf why)
+-- ---- what the code reads of bytes 0 and 1, but for the type
 
--- a verdict says what a part of the table says, whatever lies below
-abbrev pub Rules : Ruling → (Told Packet → Told Packet) → Type 0
-Rules v part = (below : Told Packet) → ruled v below ≡ part below
+abbrev pub startBitsOf : ℕ → ℕ → StartBits
+startBitsOf first second =
+    record {
+      stream = streamBits first;
+      id = idBits first;
+      sequence = sequenceBits second;
+      ack = ackBit second;
+      extended = extenderBit second;
+    }
+
+abbrev pub headBy : StartBits → Head
+headBy s = record { stream = streamOf (s .stream); id = s .id; sequence = s .sequence }
+
+abbrev pub fieldsOn : List ℕ → ℕ → StartBits → PacketFields
+fieldsOn p kind s = fieldsBy p (s .stream) (s .id) (s .sequence) kind (s .ack) (s .extended)

@@ -1,19 +1,20 @@
-// Reads one packet: its fields first, then the table of refusals on the fields alone.
+// Reads one packet, by the table of refusals from the top.
 use crate::control;
 use crate::header;
 use wire::bytes::byte_at;
 use wire::bytes::pair;
 use wire::bytes::wide;
 use wire::logic::both;
-use wire::logic::either;
 use wire::stream::Stream;
 use wire::stream::is_stream;
 use wire::stream::stream_of;
 ghost use mathlib.Core.Path.{_≡_};
-ghost use mathlib.Core.Bool.{cond};
-ghost use Prim.Native.Nat.{_<_};
-ghost use Rattle.wire.specs.Told.{refused, table};
-ghost use Rattle.packet.specs.Reader.{lengthAt, isAcknowledgement, fieldsOf, contentOf, headIn, lines, readOf, numberOf, told, ruled, Rules};
+ghost use mathlib.Core.Bool.{true, false, cond};
+ghost use Prim.Native.Nat.{ℕ, _≤_, _<_};
+ghost use lib.ListN.{length};
+ghost use Rattle.wire.specs.Stream.{isStream};
+ghost use Rattle.packet.specs.Header.{headerSize};
+ghost use Rattle.packet.specs.Reader.{lengthAt, isAcknowledgement, headBy, startBitsOf, fieldsOn, headIn, judged, readOf, numberOf, told};
 
 pub struct Head {
     pub stream: Stream,
@@ -21,18 +22,26 @@ pub struct Head {
     pub sequence: u8,
 }
 
-// The fields of a packet; a byte that it does not have counts as 0. Exact: an ACK or NACK, if it is of type 3.
-struct PacketFields {
-    size: usize,
+// What bytes 0 and 1 say of a packet, but for its type.
+struct StartBits {
     stream: u8,
-    head: Head,
-    kind: u8,
+    id: u8,
+    sequence: u8,
     ack: bool,
-    header: usize,
-    reserved: u8,
-    total: usize,
-    len: usize,
-    exact: bool,
+    extended: bool,
+}
+
+impl StartBits {
+    fn head(self) -> Head
+        ensures { λ r. ⌜ r ≡ headBy self ⌝ }
+    {
+        let stream = stream_of(self.stream);
+        Head {
+            stream,
+            id: self.id,
+            sequence: self.sequence,
+        }
+    }
 }
 
 // What a packet says: start and len are its payload's place in the packet.
@@ -114,30 +123,6 @@ pub enum Answer {
     Read(Packet),
 }
 
-// The lines of the table that were looked at: all passed, or the first that held.
-enum Ruling {
-    Passed,
-    Stopped(Refusal),
-}
-
-impl Ruling {
-    // The next line of the table.
-    fn line(self, holds: bool, why: Refusal) -> Self
-        ensures { λ r. ⌜ Rules r (λ below. ruled self (cond holds (refused (numberOf why)) below)) ⌝ }
-    {
-        match self {
-            Ruling::Passed => {
-                if holds {
-                    Ruling::Stopped(why)
-                } else {
-                    Ruling::Passed
-                }
-            }
-            Ruling::Stopped(before) => Ruling::Stopped(before),
-        }
-    }
-}
-
 // The payload length: one byte, or two with the extender.
 fn length_at(packet: &[u8], at: usize, extended: bool) -> usize
     requires { ⌜ at < 6 ⌝ }
@@ -165,106 +150,113 @@ fn is_acknowledgement(packet: &[u8], ack: bool, extended: bool) -> bool
     both(!extended, exact)
 }
 
-fn fields_of(packet: &[u8]) -> PacketFields
-    ensures { λ r. ⌜ (r ≡ fieldsOf (now (packet .entry))) × (r .header < 8) × (r .len < 65536) ⌝ }
+fn start_bits(first: u8, second: u8) -> StartBits
+    ensures { λ r. ⌜ r ≡ startBitsOf first second ⌝ }
 {
-    let first = byte_at(packet, 0);
-    let second = byte_at(packet, 1);
-    let number = header::stream_bits(first);
-    let stream = stream_of(number);
-    let id = header::id_bits(first);
-    let sequence = header::sequence_bits(second);
-    let kind = header::type_bits(second);
-    let ack = header::ack_bit(second);
-    let extended = header::extender_bit(second);
-    let is_first = kind == header::TYPE_FIRST;
-    PacketFields {
-        size: packet.len(),
-        stream: number,
-        head: Head {
-            stream,
-            id,
-            sequence,
-        },
-        kind,
-        ack,
-        header: header::header_size(is_first, extended),
-        reserved: byte_at(packet, 2),
-        total: pair(byte_at(packet, 3), byte_at(packet, 4)),
-        len: length_at(packet, header::length_place(is_first), extended),
-        exact: is_acknowledgement(packet, ack, extended),
+    StartBits {
+        stream: header::stream_bits(first),
+        id: header::id_bits(first),
+        sequence: header::sequence_bits(second),
+        ack: header::ack_bit(second),
+        extended: header::extender_bit(second),
     }
 }
 
-// The table of refusals, in its order.
-fn judge(limit: usize, f: PacketFields) -> Ruling
-    requires { ⌜ (f .header < 8) × (f .len < 65536) ⌝ }
-    ensures { λ r. ⌜ Rules r (table (lines limit f) refused) ⌝ }
+// ---- the table of refusals, in its order: what is left of it for each type, where 2 and 3 were passed
+
+fn read_control(packet: &[u8], s: StartBits) -> Answer
+    requires { ⌜ (2 ≤ length (now packet)) × (isStream (s .stream) ≡ true) ⌝ }
+    ensures { λ r. ⌜ ((limit : ℕ) → told r ≡ judged limit (fieldsOn (now (packet .entry)) 3 s)) ⌝ }
 {
-    let first = f.kind == header::TYPE_FIRST;
-    let control = f.kind == header::TYPE_CONTROL;
-    let short = either(
-        f.size < header::START_SIZE,
-        both(!control, f.size < f.header),
-    );
-    let unknown = !is_stream(f.stream);
-    let bad_control = both(control, !f.exact);
-    let reserved = both(first, f.reserved != header::RESERVED);
-    let wrong_length = both(!control, f.size != f.header + f.len);
-    let over = both(first, limit < f.total);
-    let nothing_sent = both(first, f.total == 0);
-    let empty = both(!control, both(f.len == 0, !nothing_sent));
-    let above = both(first, f.total < f.len);
-    Ruling::Passed
-        .line(short, Refusal::Short)
-        .line(unknown, Refusal::UnknownStream)
-        .line(bad_control, Refusal::BadControl)
-        .line(reserved, Refusal::Reserved)
-        .line(wrong_length, Refusal::Length)
-        .line(over, Refusal::TotalOver)
-        .line(empty, Refusal::Empty)
-        .line(above, Refusal::AboveTotal)
+    let exact = is_acknowledgement(packet, s.ack, s.extended);
+    if !exact {
+        return Answer::Refused(Refusal::BadControl);
+    }
+    let head = s.head();
+    if s.ack {
+        return Answer::Read(Packet::Ack(head));
+    }
+    Answer::Read(Packet::Nack(head))
 }
 
-// What the fields say of a packet that passed.
-fn content_of(f: PacketFields) -> Packet
-    ensures { λ r. ⌜ r ≡ contentOf f ⌝ }
+fn read_first(limit: usize, packet: &[u8], s: StartBits) -> Answer
+    requires { ⌜ (headerSize true (s .extended) ≤ length (now packet)) × (isStream (s .stream) ≡ true) ⌝ }
+    ensures { λ r. ⌜ told r ≡ judged limit (fieldsOn (now (packet .entry)) 0 s) ⌝ }
 {
-    let head = f.head;
-    let ack = f.ack;
-    if f.kind == header::TYPE_CONTROL {
-        return if ack {
-            Packet::Ack(head)
-        } else {
-            Packet::Nack(head)
-        };
+    let reserved = byte_at(packet, 2);
+    if reserved != header::RESERVED {
+        return Answer::Refused(Refusal::Reserved);
     }
-    if f.kind == header::TYPE_FIRST {
-        return Packet::First {
-            head,
-            ack,
-            total: f.total,
-            start: f.header,
-            len: f.len,
-        };
+    let start = header::header_size(true, s.extended);
+    let len = length_at(packet, header::length_place(true), s.extended);
+    if packet.len() != start + len {
+        return Answer::Refused(Refusal::Length);
     }
-    Packet::Next {
+    let total = pair(byte_at(packet, 3), byte_at(packet, 4));
+    if limit < total {
+        return Answer::Refused(Refusal::TotalOver);
+    }
+    if both(len == 0, total != 0) {
+        return Answer::Refused(Refusal::Empty);
+    }
+    if total < len {
+        return Answer::Refused(Refusal::AboveTotal);
+    }
+    let head = s.head();
+    Answer::Read(Packet::First {
         head,
-        ack,
-        last: f.kind == header::TYPE_LAST,
-        start: f.header,
-        len: f.len,
+        ack: s.ack,
+        total,
+        start,
+        len,
+    })
+}
+
+// Last, or a continuation.
+fn read_next(packet: &[u8], s: StartBits, last: bool) -> Answer
+    requires { ⌜ (headerSize false (s .extended) ≤ length (now packet)) × (isStream (s .stream) ≡ true) ⌝ }
+    ensures { λ r. ⌜ ((limit : ℕ) → told r ≡ judged limit (fieldsOn (now (packet .entry)) (cond last 2 1) s)) ⌝ }
+{
+    let start = header::header_size(false, s.extended);
+    let len = length_at(packet, header::length_place(false), s.extended);
+    if packet.len() != start + len {
+        return Answer::Refused(Refusal::Length);
     }
+    if len == 0 {
+        return Answer::Refused(Refusal::Empty);
+    }
+    let head = s.head();
+    Answer::Read(Packet::Next {
+        head,
+        ack: s.ack,
+        last,
+        start,
+        len,
+    })
 }
 
 // What one packet says, or why it is refused; the limit is the largest total.
 pub fn read(limit: usize, packet: &[u8]) -> Answer
     ensures { λ r. ⌜ told r ≡ readOf limit (now (packet .entry)) ⌝ }
 {
-    let f = fields_of(packet);
-    let verdict = judge(limit, f);
-    match verdict {
-        Ruling::Passed => Answer::Read(content_of(f)),
-        Ruling::Stopped(why) => Answer::Refused(why),
+    if packet.len() < header::START_SIZE {
+        return Answer::Refused(Refusal::Short);
     }
+    let second = byte_at(packet, 1);
+    let s = start_bits(byte_at(packet, 0), second);
+    let kind = header::type_bits(second);
+    let size = header::header_size(kind == header::TYPE_FIRST, s.extended);
+    if both(kind != header::TYPE_CONTROL, packet.len() < size) {
+        return Answer::Refused(Refusal::Short);
+    }
+    if !is_stream(s.stream) {
+        return Answer::Refused(Refusal::UnknownStream);
+    }
+    if kind == header::TYPE_CONTROL {
+        return read_control(packet, s);
+    }
+    if kind == header::TYPE_FIRST {
+        return read_first(limit, packet, s);
+    }
+    read_next(packet, s, kind == header::TYPE_LAST)
 }

@@ -1,3 +1,4 @@
 pub mod Opening
 pub mod Parts
 pub mod Accepting
+pub mod Acks

@@ -1,19 +1,28 @@
--- The receiver of Low Energy: its opening, and one packet given to it: what is told, the slots and the lent buffer afterwards.
+-- The receiver of Low Energy: its opening, and one packet given to it with a sequence and a buffer for the ACK that it may want: what
+-- is told, the slots, the lent buffer and the answer buffer afterwards.
 use Prim.Native.Nat.{ℕ, _+_, _*_}
 use mathlib.Core.List.{List, [], _∷_}
-use mathlib.Core.Bool.{Bool, not, cond, _&&_}
+use mathlib.Core.Bool.{Bool, true, not, cond, _&&_}
 use lib.ListN.{length, set}
-use lib.Dec.{eqb}
-use Rattle.wire.specs.Told.{Told, given, refused, line, table}
+use lib.Dec.{ltb, eqb}
+use lib.Seq.{sets}
+use Rattle.wire.specs.Told.{Told, given, refused, Line, line, table}
 use Rattle.wire.specs.Limit.{limitFits}
+use Rattle.wire.specs.Stream.{streamNumber}
 use Rattle.packet.specs.declared.reader.Packet.{Packet}
+use Rattle.packet.specs.Header.{fourBits}
+use Rattle.packet.specs.Control.{ackSize, ackBytes}
 use Rattle.packet.specs.Reader.{headIn, readOf}
 use Rattle.slot.specs.declared.Slot.{Slot}
 use Rattle.slot.specs.declared.answer.Accepted.{Accepted}
+use Rattle.slot.specs.declared.answer.Accepted.the-variants.{Taken, Finished, Acked, Nacked}
 use Rattle.slot.specs.Slot.{idles, slotCount, laneStart, laneOf, lawful}
+use Rattle.slot.specs.Answer.{numberOf}
 use Rattle.slot.specs.Step.{Step, Act, still, step, actOf}
 use Rattle.receiver.specs.declared.Receiver.{Receiver}
 use Rattle.receiver.specs.declared.OpenedReceiver.{OpenedReceiver}
+use Rattle.receiver.specs.declared.Heard.{Heard}
+use Rattle.receiver.specs.declared.Heard.the-variants.{Refused, Read}
 use Rattle.receiver.specs.Buffer.{stored}
 
 -- the empty state of a link with a limit: all slots idle
@@ -62,8 +71,56 @@ acted limit slots bytes packet (given x) = applied limit slots bytes packet (lan
 unfoldable pub ready : ℕ → List Slot → ℕ → Bool
 ready limit slots size = limitFits limit && (eqb size (slotCount * limit) && lawful limit slots)
 
+-- ---- the ACK
+
+-- a packet as it is handed in, with the answer sequence and the answer buffer
+pub record PacketCall : Type 0 where
+  pub packet : List ℕ
+  pub sequence : ℕ
+  pub out : List ℕ
+
+abbrev pub call : List ℕ → ℕ → List ℕ → PacketCall
+call packet sequence out = record { packet = packet; sequence = sequence; out = out }
+
+-- what a call leaves
+pub record PacketLeft : Type 0 where
+  pub told : Told Accepted
+  pub slots : List Slot
+  pub bytes : List ℕ
+  pub out : List ℕ
+
+abbrev pub left : Told Accepted → List Slot → List ℕ → List ℕ → PacketLeft
+left t slots bytes out = record { told = t; slots = slots; bytes = bytes; out = out }
+
+-- a finished transaction that wants an ACK writes it first in the answer buffer; every other answer leaves all of it
+abbrev pub answered : ℕ → Told Accepted → List ℕ → List ℕ
+answered sequence (given (Finished stream id total ack replaced)) out = cond ack (sets out 0 (ackBytes (streamNumber stream) id sequence true)) out
+answered sequence (given (Taken stream id replaced)) out = out
+answered sequence (given (Acked head)) out = out
+answered sequence (given (Nacked head)) out = out
+answered sequence (refused n) out = out
+
+abbrev pub leaves : ℕ → List ℕ → Result → PacketLeft
+leaves sequence out r = left (r .told) (r .slots) (r .bytes) (answered sequence (r .told) out)
+
+-- an answer sequence above 15 and an answer buffer under six bytes
+abbrev pub answerLines : PacketCall → List Line
+answerLines c = line 15 (not (ltb (c .sequence) fourBits)) ∷ line 14 (ltb (length (c .out)) ackSize) ∷ []
+
+-- what is told of a call's packet: 15 and 14 before it is looked at
+unfoldable pub readIn : ℕ → PacketCall → Told Packet
+readIn limit c = table (answerLines c) refused (readOf limit (c .packet))
+
+-- what is told of a call before anything is done: 1 first
+unfoldable pub heardOf : ℕ → List Slot → ℕ → PacketCall → Told Packet
+heardOf limit slots size c = table (line 1 (not (ready limit slots size)) ∷ []) refused (readIn limit c)
+
+abbrev pub toldHeard : Heard → Told Packet
+toldHeard (Refused why) = refused (numberOf why)
+toldHeard (Read x) = given x
+
 -- a packet given to the receiver
-unfoldable pub acceptOf : ℕ → List Slot → List ℕ → List ℕ → Result
-acceptOf limit slots bytes packet =
-    table (line 1 (not (ready limit slots (length bytes))) ∷ []) (λ n. result (refused n) slots bytes)
-    (acted limit slots bytes packet (readOf limit packet))
+unfoldable pub acceptOf : ℕ → List Slot → List ℕ → PacketCall → PacketLeft
+acceptOf limit slots bytes c =
+    table (line 1 (not (ready limit slots (length bytes))) ∷ []) (λ n. left (refused n) slots bytes (c .out))
+    (leaves (c .sequence) (c .out) (acted limit slots bytes (c .packet) (readIn limit c)))

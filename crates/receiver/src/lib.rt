@@ -1,6 +1,9 @@
 // Puts the messages of the three streams together from Low Energy packets.
+mod ack;
 mod buffer;
 
+use packet::control;
+use packet::header;
 use packet::reader;
 use packet::reader::Packet;
 use slot::Slot;
@@ -15,16 +18,17 @@ use wire::logic::both;
 use wire::stream::Stream;
 ghost use mathlib.Core.Path.{_≡_};
 ghost use mathlib.Core.Bool.{true};
-ghost use Prim.Native.Nat.{_<_};
+ghost use mathlib.Core.List.{List};
+ghost use Prim.Native.Nat.{ℕ, _≤_, _<_};
 ghost use lib.ListN.{length, getD, set};
 ghost use Rattle.wire.specs.Told.{given};
-ghost use Rattle.packet.specs.Reader.{readOf};
+ghost use Rattle.packet.specs.Reader.{headIn, readOf};
 ghost use Rattle.slot.specs.declared.step.Act.the-variants.{Step as Stepped};
 ghost use Rattle.slot.specs.Slot.{idle, slotCount, laneStart};
 ghost use Rattle.slot.specs.Answer.{told};
 ghost use Rattle.slot.specs.Step.{stepOf, actBy};
 ghost use Rattle.slot.specs.Fit.{Fit, ActFits};
-ghost use Rattle.receiver.specs.Receiver.{empty, openOf, toldOpen, handed, result, applied, acted, ready, acceptOf};
+ghost use Rattle.receiver.specs.Receiver.{empty, openOf, toldOpen, handed, result, applied, acted, ready, call, left, leaves, toldHeard, heardOf, acceptOf};
 
 // The limit of the link, and a slot for each stream: control, OTA, Alexa.
 pub struct Receiver {
@@ -36,6 +40,18 @@ pub struct Receiver {
 pub struct OpenedReceiver {
     pub refused: bool,
     pub state: Receiver,
+}
+
+// What a packet says, or why it is refused before anything is done.
+pub enum Heard {
+    Refused(Refusal),
+    Read(Packet),
+}
+
+// The answer to a packet that was read, and its stream's slot afterwards.
+pub struct PacketDone {
+    pub answer: Answer,
+    pub slot: Slot,
 }
 
 // The answer to a packet, and the state afterwards.
@@ -103,14 +119,13 @@ impl Receiver {
         self
     }
 
-    // A step of a stream's slot: its payload is written, and the slot replaced.
-    fn store(self, buffer: &mut [u8], packet: &[u8], stream: Stream, step: Step) -> Outcome
+    // A step of a stream's slot: its payload is written.
+    fn store(self, buffer: &mut [u8], packet: &[u8], stream: Stream, step: Step) -> PacketDone
         requires { ⌜ (ready (self .limit) (self .slots) (length (now buffer)) ≡ true)
             × Fit (self .limit) (length (now packet)) 0 (stepOf step) ⌝ }
-        ensures { λ r. ⌜ (result (told (r .answer)) (r .next .slots) (now (buffer .exit))
+        ensures { λ r. ⌜ result (told (r .answer)) (set (self .slots) (laneStart stream) (r .slot)) (now (buffer .exit))
             ≡ applied (self .limit) (self .slots) (now (buffer .entry)) (now (packet .entry)) (laneStart stream)
-            (actBy (Stepped step)))
-            × (r .next .limit ≡ self .limit) ⌝ }
+            (actBy (Stepped step)) ⌝ }
     {
         let place = buffer::place_of(stream);
         let payload = step.payload;
@@ -118,74 +133,125 @@ impl Receiver {
         let start = payload.start;
         let end = start + payload.len;
         buffer::write_payload(buffer, self.limit, place, at, &packet[start..end]);
-        let left = step.slot;
         let answer = step.answer;
-        let next = self.with_slot(place, left);
-        Outcome { answer, next }
+        let slot = step.slot;
+        PacketDone { answer, slot }
     }
 
     // What is done to a stream's slot and its part of the buffer.
-    fn apply(self, buffer: &mut [u8], packet: &[u8], stream: Stream, act: Act) -> Outcome
+    fn apply(
+        self,
+        slot: Slot,
+        buffer: &mut [u8],
+        packet: &[u8],
+        stream: Stream,
+        act: Act,
+    ) -> PacketDone
         requires { ⌜ (ready (self .limit) (self .slots) (length (now buffer)) ≡ true)
-            × ActFits (self .limit) (length (now packet)) (actBy act) ⌝ }
-        ensures { λ r. ⌜ (result (told (r .answer)) (r .next .slots) (now (buffer .exit))
-            ≡ applied (self .limit) (self .slots) (now (buffer .entry)) (now (packet .entry)) (laneStart stream)
-            (actBy act))
-            × (r .next .limit ≡ self .limit) ⌝ }
+            × ActFits (self .limit) (length (now packet)) (actBy act)
+            × (slot ≡ getD (self .slots) (laneStart stream) idle) ⌝ }
+        ensures { λ r. ⌜ result (told (r .answer)) (set (self .slots) (laneStart stream) (r .slot)) (now (buffer .exit))
+            ≡ applied (self .limit) (self .slots) (now (buffer .entry)) (now (packet .entry)) (laneStart stream) (actBy act) ⌝ }
     {
         match act {
-            Act::Still(answer) => Outcome { answer, next: self },
+            Act::Still(answer) => PacketDone { answer, slot },
             Act::Step(step) => self.store(buffer, packet, stream, step),
         }
     }
 
-    // A packet that was read.
-    fn accept_read(self, buffer: &mut [u8], packet: &[u8], read: Packet) -> Outcome
+    // What is told of a call before anything is done: size is the buffer's, room the answer buffer's.
+    pub fn hear(self, size: usize, packet: &[u8], sequence: u8, room: usize) -> Heard
+        ensures { λ r. ⌜ ((out : List ℕ) → length out ≡ room
+            → toldHeard r ≡ heardOf (self .limit) (self .slots) size (call (now (packet .entry)) sequence out)) ⌝ }
+    {
+        if !self.is_ready(size) {
+            return Heard::Refused(Refusal::BadStateOrBuffer);
+        }
+        if header::FOUR_BITS <= sequence {
+            return Heard::Refused(Refusal::Argument);
+        }
+        if room < control::ACK_SIZE {
+            return Heard::Refused(Refusal::Output);
+        }
+        let answer = reader::read(self.limit, packet);
+        match answer {
+            reader::Answer::Refused(why) => Heard::Refused(Refusal::OfPacket(why)),
+            reader::Answer::Read(read) => Heard::Read(read),
+        }
+    }
+
+    // A packet that was read, on the slot of its stream: what it does, and the ACK where it finishes a transaction that wants one.
+    pub fn act(
+        self,
+        slot: Slot,
+        buffer: &mut [u8],
+        packet: &[u8],
+        read: Packet,
+        sequence: u8,
+        out: &mut [u8],
+    ) -> PacketDone
         requires { ⌜ (ready (self .limit) (self .slots) (length (now buffer)) ≡ true)
-            × (readOf (self .limit) (now packet) ≡ given read) ⌝ }
-        ensures { λ r. ⌜ (result (told (r .answer)) (r .next .slots) (now (buffer .exit))
-            ≡ acted (self .limit) (self .slots) (now (buffer .entry)) (now (packet .entry)) (given read))
+            × (readOf (self .limit) (now packet) ≡ given read)
+            × (slot ≡ getD (self .slots) (laneStart (headIn read .stream)) idle)
+            × (sequence < 16)
+            × (6 ≤ length (now out)) ⌝ }
+        ensures { λ r. ⌜ left (told (r .answer)) (set (self .slots) (laneStart (headIn read .stream)) (r .slot))
+            (now (buffer .exit)) (now (out .exit))
+            ≡ leaves sequence (now (out .entry))
+            (acted (self .limit) (self .slots) (now (buffer .entry)) (now (packet .entry)) (given read)) ⌝ }
+    {
+        let act = act_on(slot, read);
+        let head = read.head();
+        let stream = head.stream;
+        let done = self.apply(slot, buffer, packet, stream, act);
+        let answer = done.answer;
+        ack::acknowledge(answer, sequence, out);
+        done
+    }
+
+    // A packet that was read: its stream's slot is replaced.
+    fn accept_read(
+        self,
+        buffer: &mut [u8],
+        packet: &[u8],
+        read: Packet,
+        sequence: u8,
+        out: &mut [u8],
+    ) -> Outcome
+        requires { ⌜ (ready (self .limit) (self .slots) (length (now buffer)) ≡ true)
+            × (readOf (self .limit) (now packet) ≡ given read)
+            × (sequence < 16)
+            × (6 ≤ length (now out)) ⌝ }
+        ensures { λ r. ⌜ (left (told (r .answer)) (r .next .slots) (now (buffer .exit)) (now (out .exit))
+            ≡ leaves sequence (now (out .entry))
+            (acted (self .limit) (self .slots) (now (buffer .entry)) (now (packet .entry)) (given read)))
             × (r .next .limit ≡ self .limit) ⌝ }
     {
         let head = read.head();
         let stream = head.stream;
         let place = buffer::place_of(stream);
         let slot = self.slot(place);
-        let act = act_on(slot, read);
-        self.apply(buffer, packet, stream, act)
+        let done = self.act(slot, buffer, packet, read, sequence, out);
+        let answer = done.answer;
+        let next = self.with_slot(place, done.slot);
+        Outcome { answer, next }
     }
 
-    // A packet under a lawful state and a buffer of the right size.
-    fn process(self, buffer: &mut [u8], packet: &[u8]) -> Outcome
-        requires { ⌜ ready (self .limit) (self .slots) (length (now buffer)) ≡ true ⌝ }
-        ensures { λ r. ⌜ (result (told (r .answer)) (r .next .slots) (now (buffer .exit))
-            ≡ acted (self .limit) (self .slots) (now (buffer .entry)) (now (packet .entry))
-            (readOf (self .limit) (now (packet .entry))))
+    // The answer to one packet. A finished message stands first in its stream's part of the buffer, and the ACK that it wants, with the
+    // caller's sequence, first in the answer buffer.
+    pub fn accept(self, buffer: &mut [u8], packet: &[u8], sequence: u8, out: &mut [u8]) -> Outcome
+        ensures { λ r. ⌜ (left (told (r .answer)) (r .next .slots) (now (buffer .exit)) (now (out .exit))
+            ≡ acceptOf (self .limit) (self .slots) (now (buffer .entry))
+            (call (now (packet .entry)) sequence (now (out .entry))))
             × (r .next .limit ≡ self .limit) ⌝ }
     {
-        let answer = reader::read(self.limit, packet);
-        match answer {
-            reader::Answer::Refused(why) => Outcome {
-                answer: Answer::Refused(Refusal::OfPacket(why)),
+        let heard = self.hear(buffer.len(), packet, sequence, out.len());
+        match heard {
+            Heard::Refused(why) => Outcome {
+                answer: Answer::Refused(why),
                 next: self,
             },
-            reader::Answer::Read(read) => self.accept_read(buffer, packet, read),
-        }
-    }
-
-    // The answer to one packet; a finished message stands first in its stream's part of the buffer.
-    pub fn accept(self, buffer: &mut [u8], packet: &[u8]) -> Outcome
-        ensures { λ r. ⌜ (result (told (r .answer)) (r .next .slots) (now (buffer .exit))
-            ≡ acceptOf (self .limit) (self .slots) (now (buffer .entry)) (now (packet .entry)))
-            × (r .next .limit ≡ self .limit) ⌝ }
-    {
-        if self.is_ready(buffer.len()) {
-            self.process(buffer, packet)
-        } else {
-            Outcome {
-                answer: Answer::Refused(Refusal::BadStateOrBuffer),
-                next: self,
-            }
+            Heard::Read(read) => self.accept_read(buffer, packet, read, sequence, out),
         }
     }
 }

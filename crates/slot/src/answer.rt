@@ -24,9 +24,12 @@ pub enum Accepted {
     Nacked(Head),
 }
 
-// BadStateOrBuffer: the lent buffer has another size, or the state is unlawful.
+// BadStateOrBuffer: the lent buffer has another size, or the state is unlawful. Argument: the answer sequence is above 15. Output: the
+// answer buffer has under six bytes.
 pub enum Refusal {
     BadStateOrBuffer,
+    Argument,
+    Output,
     OfPacket(reader::Refusal),
     NoTransaction,
     Sequence,
@@ -40,6 +43,8 @@ impl Refusal {
     {
         match self {
             Refusal::BadStateOrBuffer => 1,
+            Refusal::Argument => 15,
+            Refusal::Output => 14,
             Refusal::OfPacket(why) => why.number(),
             Refusal::NoTransaction => 9,
             Refusal::Sequence => 10,

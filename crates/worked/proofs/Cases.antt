@@ -13,7 +13,7 @@ use Rattle.sender.specs.Writer.{headerBytes, packetOf, roomFits, argumentsFit, 
 use Rattle.sender_claims.specs.Calls.{callsFrom}
 use Rattle.slot.specs.Slot.{lawfulSlot, lawful}
 use Rattle.slot.specs.Step.{finish, hold, dropBy, firstStep, nextStep}
-use Rattle.receiver.specs.Receiver.{openOf, ready, acceptOf}
+use Rattle.receiver.specs.Receiver.{openOf, ready, readIn, acceptOf}
 use Rattle.field.specs.Varint.{varintAt}
 use Rattle.field_writer.specs.Varint.{varintBytes}
 use Rattle.field.specs.Tag.{badTag, tagAt}
@@ -36,7 +36,7 @@ agree f g same a (List·Memᴰ·tail {x = x} {xs = xs} there) = let t : map f xs
 
 -- the whole table, computed
 holds : map (λ (c : Case). answerTo (c .question)) cases ≡ map (λ (c : Case). c .expected) cases
-unfolding answerTo cases limitFits isStream streamOf kindOf escapedOf sumOf framed inRange fieldsOf contentOf lines readOf ackOf sizeFor headerBytes packetOf roomFits argumentsFit writtenOf callsFrom lawfulSlot lawful finish hold dropBy firstStep nextStep openOf ready acceptOf varintAt varintBytes badTag tagAt valueAt tagBytes headBytes partBytes fieldBytes roleOf judged addedAt readAt fieldAt fieldsFrom responseFrom payloadOf envelopeOf envelopeWritten isOne formatOf numberOf outbox.otherVersion outbox.badPlace outbox.badLength outbox.cutShort outbox.badStream outbox.recordAt outbox.readOf outbox.readings outbox.readAll outbox.walkOf bytesOf recordBytes badRecord appendOf
+unfolding answerTo cases limitFits isStream streamOf kindOf escapedOf sumOf framed inRange fieldsOf contentOf lines readOf ackOf sizeFor headerBytes packetOf roomFits argumentsFit writtenOf callsFrom lawfulSlot lawful finish hold dropBy firstStep nextStep openOf ready readIn acceptOf varintAt varintBytes badTag tagAt valueAt tagBytes headBytes partBytes fieldBytes roleOf judged addedAt readAt fieldAt fieldsFrom responseFrom payloadOf envelopeOf envelopeWritten isOne formatOf numberOf outbox.otherVersion outbox.badPlace outbox.badLength outbox.cutShort outbox.badStream outbox.recordAt outbox.readOf outbox.readings outbox.readAll outbox.walkOf bytesOf recordBytes badRecord appendOf
 holds = refl
 
 pub worked-cases : WorkedCases

@@ -1,4 +1,4 @@
--- The worked cases of docs/FORMATS.md, P1 to P12, and those of No. 2 and No. 6: one table, and the one statement that each of its rows holds.
+-- The worked cases of docs/FORMATS.md, P1 to P12, and those of No. 2, No. 6 and No. 9: one table, and the one statement that each of its rows holds.
 use Prim.Native.Nat.{ℕ}
 use mathlib.Core.Path.{_≡_}
 use mathlib.Core.Bool.{Bool, true, false}
@@ -20,8 +20,8 @@ use Rattle.control.specs.declared.response.ResponsePayload.the-variants.{None}
 use Rattle.walk.specs.Gathered.{noPart}
 use Rattle.outbox.specs.Reader as outbox
 use Rattle.outbox.specs.Writer.{stored}
-use Rattle.worked.specs.Question.{Question, writeFrame, writeFrameWithin, nextSequenceByte, writePackets, readPieces, writePacketWithin, openReceiver, acceptPacket, acceptPacketWithin, writeAcknowledgement, writeEnvelope, readEnvelope, readRecord, appendRecord}
-use Rattle.worked.specs.Question.{Answer, bytes, sequenceByte, packets, pieces, sent, opened, accepted, envelope, reading, appended, plain, extended, zeros, answerTo}
+use Rattle.worked.specs.Question.{Question, writeFrame, writeFrameWithin, nextSequenceByte, writePackets, readPieces, writePacketWithin, openReceiver, acceptPacket, answerPacket, acceptPacketWithin, writeAcknowledgement, writeEnvelope, readEnvelope, readRecord, appendRecord}
+use Rattle.worked.specs.Question.{Answer, bytes, sequenceByte, packets, pieces, sent, opened, accepted, answered, envelope, reading, appended, plain, extended, zeros, answerTo}
 
 -- a row: what is asked, and what comes back
 pub record Case : Type 0 where
@@ -57,6 +57,10 @@ unsupported = pos 3
 -- an envelope with a response that has no payload
 abbrev pub responseRead : ℕ → ℤ → Envelope
 responseRead command code = record { command = pos command; payload = Payload.Response (record { «error_code» = code; field = 0; part = noPart }) }
+
+-- an answer buffer of eight bytes
+abbrev eight : List ℕ
+eight = replicate 8 0xEE
 
 unfoldable pub cases : List Case
 cases =
@@ -113,6 +117,15 @@ cases =
     -- No. 2: the flag on the first packet only; an ACK is wanted
     ∷ case (acceptPacket idles (0x61 ∷ 0x02 ∷ 0x00 ∷ 0x00 ∷ 0x02 ∷ 0x01 ∷ 0xAA ∷ [])) (accepted (given (Taken Alexa 1 false)) asking)
     ∷ case (acceptPacket asking (0x61 ∷ 0x18 ∷ 0x01 ∷ 0xBB ∷ [])) (accepted (given (Finished Alexa 1 2 true false)) idles)
+    -- No. 9: the same two with answer sequence 9 and an answer buffer of 8: the first leaves it, the second writes the ACK first in it
+    ∷ case (answerPacket idles (0x61 ∷ 0x02 ∷ 0x00 ∷ 0x00 ∷ 0x02 ∷ 0x01 ∷ 0xAA ∷ []) 9 eight) (answered (given (Taken Alexa 1 false)) asking eight)
+    ∷ case (answerPacket asking (0x61 ∷ 0x18 ∷ 0x01 ∷ 0xBB ∷ []) 9 eight)
+    (answered (given (Finished Alexa 1 2 true false)) idles (0x61 ∷ 0x9E ∷ 0x00 ∷ 0x02 ∷ 0x01 ∷ 0x00 ∷ 0xEE ∷ 0xEE ∷ []))
+    -- 1 (no byte is held) before 15, 15 before 14, and both before the packet's own 2
+    ∷ case (answerPacket (holding 0 0) [] 16 []) (answered (refused 1) (holding 0 0) [])
+    ∷ case (answerPacket asking [] 16 []) (answered (refused 15) asking [])
+    ∷ case (answerPacket asking [] 15 (zeros 5)) (answered (refused 14) asking (zeros 5))
+    ∷ case (answerPacket asking [] 15 (zeros 6)) (answered (refused 2) asking (zeros 6))
     -- P10 command 94 with success, 20 with unsupported; and each read back
     ∷ case (writeEnvelope (pos 94) (Response success None)) (bytes (given (0x08 ∷ 0x5E ∷ 0x4A ∷ 0x00 ∷ [])))
     ∷ case (readEnvelope (0x08 ∷ 0x5E ∷ 0x4A ∷ 0x00 ∷ [])) (envelope (given (responseRead 94 success)))

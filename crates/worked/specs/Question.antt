@@ -17,7 +17,7 @@ use Rattle.slot.specs.declared.Slot.{Slot}
 use Rattle.slot.specs.declared.answer.Accepted.{Accepted}
 use Rattle.slot.specs.Slot.{slotCount}
 use Rattle.receiver.specs.declared.Receiver.{Receiver}
-use Rattle.receiver.specs.Receiver.{openOf, Result, acceptOf}
+use Rattle.receiver.specs.Receiver.{openOf, call, PacketLeft, acceptOf}
 use Rattle.control.specs.declared.envelope.Envelope.{Envelope}
 use Rattle.control.specs.declared.envelope.EnvelopePayload.{EnvelopePayload}
 use Rattle.control.specs.Envelope.{envelopeOf, envelopeWritten}
@@ -53,6 +53,8 @@ pub data Question : Type 0 where
   acceptPacket : List Slot → List ℕ → Question
   -- .. with another limit
   acceptPacketWithin : ℕ → List Slot → List ℕ → Question
+  -- .. with an answer sequence and an answer buffer
+  answerPacket : List Slot → List ℕ → ℕ → List ℕ → Question
   -- an ACK, or a NACK where it is not positive, for a stream and an id, with a sequence
   writeAcknowledgement : ℕ → ℕ → ℕ → Bool → Question
   -- an envelope with a command and a payload that has no bytes of its own
@@ -78,6 +80,8 @@ pub data Answer : Type 0 where
   opened : Told Receiver → Answer
   -- what is told of a packet, and the slots afterwards
   accepted : Told Accepted → List Slot → Answer
+  -- .. and the answer buffer
+  answered : Told Accepted → List Slot → List ℕ → Answer
   envelope : Told Envelope → Answer
   reading : outbox.Answer outbox.Item → Answer
   -- what an append tells, and the buffer afterwards
@@ -92,8 +96,11 @@ abbrev pub pieceLengthOf : List ℕ → Told PieceLength
 pieceLengthOf p = andThen (readOf limit p) (λ x. given (cond (extenderBit (getD p 1 0)) (extended (lenIn x)) (plain (lenIn x))))
 
 -- what a receiver answers, and the slots afterwards
-abbrev pub acceptedBy : Result → Answer
-acceptedBy r = accepted (r .told) (r .slots)
+abbrev pub acceptedBy : PacketLeft → Answer
+acceptedBy l = accepted (l .told) (l .slots)
+
+abbrev pub answeredBy : PacketLeft → Answer
+answeredBy l = answered (l .told) (l .slots) (l .out)
 
 -- the output lent to a writer: more than any case needs
 abbrev output : List ℕ
@@ -111,8 +118,9 @@ answerTo (writePackets w m) = packets (packetsOf w m)
 answerTo (readPieces w m) = pieces (map pieceLengthOf (packetsOf w m))
 answerTo (writePacketWithin limit w m) = sent (writtenOf limit w m 0 (zeros (w .room)) .told)
 answerTo (openReceiver limit) = opened (openOf limit)
-answerTo (acceptPacketWithin limit slots p) = acceptedBy (acceptOf limit slots (zeros (slotCount * limit)) p)
-answerTo (acceptPacket slots p) = acceptedBy (acceptOf limit slots (zeros (slotCount * limit)) p)
+answerTo (acceptPacketWithin limit slots p) = acceptedBy (acceptOf limit slots (zeros (slotCount * limit)) (call p 0 output))
+answerTo (acceptPacket slots p) = acceptedBy (acceptOf limit slots (zeros (slotCount * limit)) (call p 0 output))
+answerTo (answerPacket slots p sequence out) = answeredBy (acceptOf limit slots (zeros (slotCount * limit)) (call p sequence out))
 answerTo (writeAcknowledgement stream id sequence positive) = bytes (bytesOf (ackOf stream id sequence positive output))
 answerTo (writeEnvelope command payload) = bytes (bytesOf (envelopeWritten command payload [] output))
 answerTo (readEnvelope m) = envelope (envelopeOf m)

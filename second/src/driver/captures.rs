@@ -9,6 +9,8 @@
 //! `held: stream S, id I, H of T bytes` (H and T as the state has them), `finished: stream S, id I, T
 //! bytes, ACK wanted` (or `no ACK wanted`) and then `message: HEX`, `ACK: stream S, id I, sequence Q`,
 //! `NACK: stream S, id I, sequence Q`, or `refused: N`; a replaced transaction adds `, one replaced`.
+//! Where an ACK is wanted, `answered: HEX` follows the message: the ACK that was written, with the
+//! packet's place in the capture, modulo 16, for its sequence.
 //!
 //! Classic, in each flush: `frame: ends at P, sequence Q, payload HEX` and `refused: N at P`, with
 //! places counted over all flushes, and after the flush `flushed: inside` or `flushed: outside`.
@@ -152,14 +154,18 @@ fn low_energy(c: &mut Comparison<'_>, capture: &Capture, script: &mut Script<'_>
         .lent(vec![0xCC; low_energy::buffer(LIMIT)]);
     // The packets of each stream since its last first packet.
     let mut since: [Vec<Vec<u8>>; 16] = Default::default();
-    for packet in &capture.chunks {
+    for (place, packet) in capture.chunks.iter().enumerate() {
         let stream = packet.first().map_or(15, |&byte| usize::from(byte >> 4));
         if packet.get(1).is_some_and(|byte| byte >> 2 & 3 == 0) {
             since[stream].clear();
         }
         since[stream].push(packet.clone());
         call.inputs[0].clone_from(packet);
+        call.numbers[0] = place as u64 % 16;
+        call.reply = vec![0xCC; 8];
         let returned = c.run(&mut call)?;
+        let answered = call.reply != [0xCC; 8];
+        c.hold(!answered || returned == 0, "nothing is answered", &call)?;
         if returned != 0 {
             script.next(&format!("refused: {returned}"))?;
             continue;
@@ -168,6 +174,7 @@ fn low_energy(c: &mut Comparison<'_>, capture: &Capture, script: &mut Script<'_>
             panic!("seven numbers")
         };
         let slot = Stream::of(number).expect("a known stream").slot();
+        c.hold(answered == (ack == 1), "an ACK that is wanted", &call)?;
         let noted = if replaced == 1 { ", one replaced" } else { "" };
         let who = format!("stream {number}, id {id}");
         match outcome {
@@ -187,6 +194,11 @@ fn low_energy(c: &mut Comparison<'_>, capture: &Capture, script: &mut Script<'_>
                 let start = slot * LIMIT as usize;
                 let message = call.lent[start..start + total as usize].to_vec();
                 script.next(format!("message: {}", hex(&message)).trim_end())?;
+                if answered {
+                    let (ack, rest) = call.reply.split_at(6);
+                    c.hold(rest == [0xCC; 2], "six bytes are written", &call)?;
+                    script.next(&format!("answered: {}", hex(ack)))?;
+                }
                 if let Some((line, numbers)) = script.written() {
                     let [room, stream, id, sequence, ack] = numbers[..] else {
                         return Err(script.wrong(&line, "five numbers are needed"));

@@ -1,6 +1,7 @@
 //! "Two packets whose stream fields differ, given in either order over the same buffer, get the same
-//! two answers, end in the same state and leave the same buffer": pairs of such packets, from lawful
-//! states, two thirds of them as the packets before left them, on links with several limits.
+//! two answers, end in the same state and leave the same buffer", "each packet keeping its own answer
+//! sequence and answer buffer, which ends the same too": pairs of such packets, from lawful states,
+//! two thirds of them as the packets before left them, on links with several limits.
 
 use super::{packets, Plan};
 use crate::comparison::{hex, Compared, Comparison};
@@ -37,6 +38,7 @@ pub fn run(c: &mut Comparison<'_>, rng: &mut Rng, plan: Plan) -> Compared<()> {
             }
             for _ in 0..rng.index(3) {
                 call.inputs[0] = packets::directed(rng, &call.state);
+                (call.numbers[0], call.reply) = packets::answering(rng, 60);
                 c.run(&mut call)?;
             }
             let (one, other) = pair(rng, &call.state);
@@ -47,12 +49,7 @@ pub fn run(c: &mut Comparison<'_>, rng: &mut Rng, plan: Plan) -> Compared<()> {
 }
 
 /// Both orders, from the call's state and buffer; the call then holds what they left.
-fn either_order(
-    c: &mut Comparison<'_>,
-    call: &mut Call,
-    one: Vec<u8>,
-    other: Vec<u8>,
-) -> Compared<()> {
+fn either_order(c: &mut Comparison<'_>, call: &mut Call, one: Given, other: Given) -> Compared<()> {
     let mut turned = call.clone();
     let first = told(c, call, &one)?;
     let second = told(c, call, &other)?;
@@ -65,30 +62,51 @@ fn either_order(
     if same {
         return Ok(());
     }
-    let what = format!("{} and {} in either order", hex(&one), hex(&other));
+    let what = format!(
+        "{} and {} in either order",
+        hex(&one.packet),
+        hex(&other.packet)
+    );
     c.hold(false, &what, &turned)
 }
 
-/// What is told of a packet: the number returned, and the answer where it is 0.
-fn told(
-    c: &mut Comparison<'_>,
-    call: &mut Call,
-    packet: &[u8],
-) -> Compared<(u64, Option<Vec<u64>>)> {
-    call.inputs[0] = packet.to_vec();
+/// A packet with its own answer sequence and answer buffer.
+struct Given {
+    packet: Vec<u8>,
+    sequence: u64,
+    reply: Vec<u8>,
+}
+
+/// What is told of a packet: the number returned, the answer where it is 0, and the answer buffer.
+type Told = (u64, Option<Vec<u64>>, Vec<u8>);
+
+fn told(c: &mut Comparison<'_>, call: &mut Call, given: &Given) -> Compared<Told> {
+    call.inputs[0].clone_from(&given.packet);
+    call.numbers[0] = given.sequence;
+    call.reply.clone_from(&given.reply);
     let returned = c.run(call)?;
-    Ok((returned, (returned == 0).then(|| call.answer.clone())))
+    let answer = (returned == 0).then(|| call.answer.clone());
+    Ok((returned, answer, call.reply.clone()))
 }
 
 /// Two packets of at least one byte whose stream fields differ.
-fn pair(rng: &mut Rng, state: &[u64]) -> (Vec<u8>, Vec<u8>) {
+fn pair(rng: &mut Rng, state: &[u64]) -> (Given, Given) {
     loop {
-        let (one, other) = (packet(rng, state), packet(rng, state));
-        if let (Some(a), Some(b)) = (one.first(), other.first()) {
+        let (one, other) = (given(rng, state), given(rng, state));
+        if let (Some(a), Some(b)) = (one.packet.first(), other.packet.first()) {
             if a >> 4 != b >> 4 {
                 return (one, other);
             }
         }
+    }
+}
+
+fn given(rng: &mut Rng, state: &[u64]) -> Given {
+    let (sequence, reply) = packets::answering(rng, 8);
+    Given {
+        packet: packet(rng, state),
+        sequence,
+        reply,
     }
 }
 

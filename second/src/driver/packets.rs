@@ -1,6 +1,7 @@
 //! Packets in interleaved lists: the three streams' messages mixed, in pieces of our writer and of
 //! other makers', with lost, doubled, damaged and foreign packets among them, from idle, random
-//! lawful and unlawful states, on links with several limits.
+//! lawful and unlawful states, on links with several limits. Each packet comes with an answer
+//! sequence and an answer buffer of its own.
 
 use super::streams::near;
 use super::{damage, edge, Plan};
@@ -45,10 +46,27 @@ pub fn run(c: &mut Comparison<'_>, rng: &mut Rng, plan: Plan) -> Compared<()> {
         for _ in 0..plan.times(states) {
             call.state = unlawful(rng, limit);
             call.inputs[0] = directed(rng, &call.state);
+            (call.numbers[0], call.reply) = answering(rng, 8);
             c.run(&mut call)?;
         }
     }
     Ok(())
+}
+
+/// An answer sequence and an answer buffer: about once in `wrong` one of the two is out of range or
+/// too small, sometimes both.
+pub(super) fn answering(rng: &mut Rng, wrong: u64) -> (u64, Vec<u8>) {
+    let sequence = if rng.once_in(2 * wrong) {
+        edge(rng)
+    } else {
+        rng.below(16)
+    };
+    let size = if rng.once_in(2 * wrong) {
+        rng.index(6)
+    } else {
+        rng.between(6, 9)
+    };
+    (sequence, rng.bytes(size))
 }
 
 /// The empty state of a link with a limit.
@@ -343,6 +361,7 @@ fn list(c: &mut Comparison<'_>, rng: &mut Rng, call: &mut Call, limit: u64) -> C
             }
             call.inputs[0] = packet;
         }
+        (call.numbers[0], call.reply) = answering(rng, 60);
         c.run(call)?;
     }
     Ok(length)

@@ -155,10 +155,22 @@ impl Desk {
             ];
             // The writer's packets are always taken, and the last gives the message.
             c.hold(returned == 0, "a packet is written", &self.writer)?;
+            // Every sequence and size that are in range; the ACK comes with the last packet alone,
+            // and only if it was wished for.
+            let sequence = rng.below(16);
+            let size = rng.between(6, 9);
+            let mut reply = rng.bytes(size);
+            self.receiver.numbers[0] = sequence;
+            self.receiver.reply.clone_from(&reply);
+            if last && wish[3] == 1 {
+                let ack = low_energy::acknowledgement(stream, wish[1] as u8, sequence as u8, true);
+                reply[..6].copy_from_slice(&ack);
+            }
             let returned = c.run(&mut self.receiver)?;
             let part = third..third + next as usize;
             let holds = returned == 0
                 && self.receiver.answer == expected
+                && self.receiver.reply == reply
                 && self.receiver.lent[part] == message[..next as usize];
             c.hold(holds, "a packet of the writer is taken", &self.receiver)?;
             if last {

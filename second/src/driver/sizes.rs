@@ -87,10 +87,19 @@ fn ordinary(rng: &mut Rng, operation: Operation) -> Call {
             .lent(rng.bytes(6)),
         Operation::ReceiverOpen => call.numbers(&[limit]),
         Operation::ReceiverAccept => {
-            let packet = low_energy::acknowledgement(low_energy::Stream::Ota, 3, 9, true);
+            // An ACK, or a message that wants one.
+            let ack = low_energy::acknowledgement(low_energy::Stream::Ota, 3, 9, true);
+            let packet = if rng.once_in(2) {
+                &ack
+            } else {
+                &[0x61, 0x02, 0, 0, 1, 1, 0xAA][..]
+            };
+            let room = rng.between(6, 9);
             call.state(&packets::idle(classic::LIMIT))
-                .inputs(&[&packet])
+                .numbers(&[rng.below(16)])
+                .inputs(&[packet])
                 .lent(rng.bytes(low_energy::buffer(classic::LIMIT)))
+                .reply(rng.bytes(room))
         }
         Operation::CaptureJudge => call.numbers(&[20, 300]).inputs(&[&[1, 0, 1, 9]]),
         Operation::EnvelopeRead | Operation::ResponseRead => call.inputs(&[&[0x08, 0x05]]),
@@ -169,6 +178,13 @@ fn rows(c: &mut Comparison<'_>, rng: &mut Rng, operation: Operation) -> Compared
             call.lent.resize(size, 0x99);
             c.run(&mut call)?;
         }
+        if shape.reply != "nothing" {
+            for size in 0..10 {
+                let mut call = ordinary(rng, operation);
+                call.reply.resize(size, 0x99);
+                c.expect(&mut call, if size < 6 { 14 } else { 0 }, |_| true)?;
+            }
+        }
     }
     Ok(())
 }
@@ -206,6 +222,10 @@ fn disturb(rng: &mut Rng, call: &mut Call) {
                     _ => call.lent.len().saturating_sub(rng.index(8)),
                 };
                 call.lent.resize(size, 0x88);
+            }
+            7 if call.operation == Operation::ReceiverAccept && rng.once_in(2) => {
+                let size = rng.index(10);
+                call.reply.resize(size, 0x88);
             }
             7 if call.operation == Operation::InformationWrite => {
                 let count = rng.index(12);
@@ -350,6 +370,7 @@ fn every_pair(c: &mut Comparison<'_>, rng: &mut Rng) -> Compared<()> {
     ];
     let lent = rng.bytes(low_energy::buffer(classic::LIMIT));
     let mut call = Call::new(Operation::ReceiverAccept).lent(lent);
+    let reply = rng.bytes(7);
     for zeroth in 0..=255u8 {
         for first in 0..=255u8 {
             let tail: &[&[u8]] = match first >> 2 & 3 {
@@ -359,6 +380,8 @@ fn every_pair(c: &mut Comparison<'_>, rng: &mut Rng) -> Compared<()> {
             };
             for tail in tail {
                 call.state = state.to_vec();
+                call.numbers[0] = u64::from(zeroth ^ first) & 15;
+                call.reply.clone_from(&reply);
                 call.inputs[0] = [&[zeroth, first], *tail].concat();
                 c.run(&mut call)?;
             }

@@ -184,11 +184,13 @@ fn counting(size: usize) -> Vec<u8> {
     (0..size).map(|place| place as u8).collect()
 }
 
-/// A call of the receiver on a blank buffer.
+/// A call of the receiver on a blank buffer, with answer sequence 9 and a blank answer buffer.
 fn receiver(state: &[u64]) -> Call {
     Call::new(Operation::ReceiverAccept)
+        .numbers(&[9])
         .state(state)
         .lent(blank(low_energy::buffer(LIMIT)))
+        .reply(blank(8))
 }
 
 const IDLE: [u64; 19] = [LIMIT, 0, 0, 0, 0, 0, 0, 0, 0, 0, 0, 0, 0, 0, 0, 0, 0, 0, 0];
@@ -479,10 +481,17 @@ fn requests(c: &mut Comparison<'_>) -> Compared<()> {
     c.expect(&mut call, 0, |call| {
         call.answer == [0, 6, 1, 0, 0, 0, 0] && call.state[13..] == [1, 1, 2, 1, 0, 1]
     })?;
+    c.hold(call.reply == blank(8), "nothing is answered yet", &call)?;
     call.inputs[0] = bytes("61 18 01 BB");
     c.expect(&mut call, 0, |call| {
         call.answer == [1, 6, 1, 0, 2, 1, 0] && call.state == IDLE
     })?;
+    let ack = bytes("61 9E 00 02 01 00 CC CC");
+    c.hold(
+        call.reply == ack,
+        "No. 9: the ACK beside the message",
+        &call,
+    )?;
 
     c.at = "No. 2: what a slot remembers is 0 or 1, and 0 in an idle one".to_string();
     for slot in 0..3 {
@@ -496,6 +505,61 @@ fn requests(c: &mut Comparison<'_>) -> Compared<()> {
             let mut call = receiver(&state).inputs(&[&[0]]);
             c.expect(&mut call, returned, |call| call.state == state)?;
         }
+    }
+    answers(c)
+}
+
+/// No. 9: "after 1, 15 for an answer sequence above 15 and 14 for an answer buffer under six bytes,
+/// both before the packet is looked at"; "every other outcome leaves that buffer untouched".
+fn answers(c: &mut Comparison<'_>) -> Compared<()> {
+    let open = [LIMIT, 0, 0, 0, 0, 0, 0, 0, 0, 0, 0, 0, 0, 1, 1, 9, 3, 0, 1];
+    let unlawful = [LIMIT, 0, 0, 0, 0, 0, 1, 0, 0, 0, 0, 0, 0, 0, 0, 0, 0, 0, 0];
+    // One whole message that wants an ACK, one byte, and a last packet that would be refused by 10.
+    let (whole, short, late) = ("61 02 00 00 01 01 AA", "61", "61 28 06 A0 A1 A2 A3 A4 A5");
+    let cases: [(&[u64; 19], u64, usize, &str, u64); 14] = [
+        (&unlawful, 16, 5, short, 1),
+        (&unlawful, 0, 6, whole, 1),
+        (&open, 16, 5, short, 15),
+        (&open, 16, 6, whole, 15),
+        (&open, 255, 8, whole, 15),
+        (&open, 256, 8, whole, 15),
+        (&open, u64::MAX, 8, late, 15),
+        (&open, 15, 5, short, 14),
+        (&open, 15, 0, whole, 14),
+        (&open, 15, 5, late, 14),
+        (&open, 15, 6, short, 2),
+        (&open, 15, 6, late, 10),
+        (&open, 15, 6, whole, 0),
+        (&open, 0, 8, whole, 0),
+    ];
+    for (state, sequence, size, packet, returned) in cases {
+        c.at = format!("No. 9: answer sequence {sequence}, {size} bytes, packet {packet}");
+        let mut call = receiver(state).inputs(&[&bytes(packet)]).reply(blank(size));
+        call.numbers[0] = sequence;
+        let mut reply = blank(size);
+        if returned == 0 {
+            let ack = [0x61, (sequence as u8) << 4 | 0x0E, 0x00, 0x02, 0x01, 0x00];
+            reply[..6].copy_from_slice(&ack);
+        }
+        let after = match returned {
+            0 | 10 => &IDLE,
+            _ => state,
+        };
+        c.expect(&mut call, returned, |call| {
+            call.reply == reply
+                && call.state == *after
+                && (returned == 0 || call.lent == blank(low_energy::buffer(LIMIT)))
+        })?;
+    }
+
+    c.at = "No. 9: an ACK that arrives, and a message that wants none".to_string();
+    for packet in [
+        "61 0E 00 02 01 00",
+        "61 0C 00 02 01 03",
+        "61 00 00 00 01 01 AA",
+    ] {
+        let mut call = receiver(&IDLE).inputs(&[&bytes(packet)]);
+        c.expect(&mut call, 0, |call| call.reply == blank(8))?;
     }
     Ok(())
 }

@@ -24,9 +24,12 @@ returns-2 c =
       not-true (c .before .is-receiver .result) (c .if2 .taken),
     )
 
+byte-or-requires : tie.Need-byte-or-requires
+byte-or-requires c κs = search needs
+
 accept-fitting-requires : tie.Need-accept-fitting-requires
 accept-fitting-requires c κs =
-    let fit = c .before .before .before in
+    let fit = c .before .before .before .before .before in
     (sym (fit .before .is-receiver .ensures) ∙ not-false (fit .before .is-receiver .result) (fit .if2 .left), fit .before .before .before .if1 .left)
 
 same-length-2 : tie.Need-same-length-2
@@ -38,15 +41,20 @@ same-length-3 c = search needs
 same-length-4 : tie.Need-same-length-4
 same-length-4 c = search needs
 
+same-length-5 : tie.Need-same-length-5
+same-length-5 c = search needs
+
 returns-3 : tie.Need-returns-3
 unfolding receiverAcceptOf
 returns-3 c =
-    let done = c .before .before .before .before .before .before in
-    let fit = done .before .before .before .before in
+    let done = c .before .before .before .before .before .before .before .before in
+    let low = done .before .before .before .before .before in
+    let fit = low .before in
     rw (
       eq-eqb _ _ (fit .before .before .before .if1 .left),
       ← (fit .before .is-receiver .ensures),
       not-false (fit .before .is-receiver .result) (fit .if2 .left),
+      ← (low .byte-or .ensures),
     )
     (done .accept-fitting .ensures)
 
@@ -58,8 +66,10 @@ receiver-accept-spec =
     is-receiver-requires
     same-length
     returns-2
+    byte-or-requires
     accept-fitting-requires
     same-length-2
     same-length-3
     same-length-4
+    same-length-5
     returns-3)

@@ -2,7 +2,7 @@ use native.Mathlib.Omega.{arith}
 use mathlib.Core.Path.{sym, _∙_}
 use lib.Seq.{getD-set-same}
 use denote.Ref.{now}
-use borrow.Author.Tests.{eq-eqb, ne-eqb, not-true, not-false}
+use borrow.Author.Tests.{eq-eqb, ne-eqb, not-false}
 use Rattle.wire.specs.Limit.{limitFits}
 use Rattle.receiver.specs.Receiver.{openOf}
 use Rattle.receiver.proofs.Opening.{opened-by}

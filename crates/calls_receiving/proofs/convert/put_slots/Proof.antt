@@ -1,7 +1,6 @@
 use lib.ListN.{getD}
 use Rattle.slot.specs.Slot.{idle}
 use Rattle.calls_receiving.proofs.Slots.{slots-written}
-use borrow.Author.Tests.{eq-eqb, ne-eqb}
 use borrow.Author.Needs.{needs}
 use Rattle.calls_receiving.proofs.convert.put_slots.Statement.{statement}
 use Rattle.calls_receiving.proofs.convert.put_slots.Tie as tie
@@ -29,17 +28,13 @@ same-length c = search needs
 
 returns : tie.Need-returns
 returns c =
-    let a = c .before .before .before .before .before .before .before .before .before .before .before .before .before .before .before .before .before .args in
+    let s = c .before .before .before .before .before .before .before .before .before .before .before .before .before .before .before .before in
     rw (
-      ne-eqb _ _ (c .before .before .before .before .before .before .before .before .before .before .before .before .before .before .before .if1 .taken),
       c .before .before .put-slot3 .ensures,
       c .before .before .before .before .before .before .before .put-slot2 .ensures,
       c .before .before .before .before .before .before .before .before .before .before .before .before .put-slot .ensures,
     )
-    (slots-written (a .row .now) (getD (a .t3) 0 idle) (getD (a .t3) 1 idle) (getD (a .t3) 2 idle) (c .before .before .before .before .before .before .before .before .before .before .before .before .before .before .before .before .before .pre))
-
-returns-2 : tie.Need-returns-2
-returns-2 c = rw (eq-eqb _ _ (c .if1 .left))
+    (slots-written (s .args .row .now) (getD (s .args .t2) 0 idle) (getD (s .args .t2) 1 idle) (getD (s .args .t2) 2 idle) (s .pre))
 
 pub put-slots-spec : {M : Type 1} → statement M
 put-slots-spec =
@@ -52,5 +47,4 @@ put-slots-spec =
     array-copy-out-put-slot-3
     put-slot-requires-3
     same-length
-    returns
-    returns-2)
+    returns)

@@ -1,4 +1,5 @@
-use mathlib.Core.Path.{refl}
+use lib.Seq.{set-getD}
+use Rattle.slot.specs.Slot.{idle, laneStart}
 use borrow.Author.Needs.{needs}
 use Rattle.receiver.proofs.Receiver.apply.Statement.{statement}
 use Rattle.receiver.proofs.Receiver.apply.Tie as tie
@@ -15,7 +16,9 @@ store-requires c κs =
     (s .before .before .before .before .pre .0, rw (s .act2 .given .1) at (s .before .before .before .before .pre .1))
 
 returns : tie.Need-returns
-returns c = (rw (c .before .act .given .1), refl)
+returns c =
+    let s = c .before .before .before .before .before in
+    rw (c .before .act .given .1, s .pre .2, set-getD (s .args .self .slots) (laneStart (s .args .stream)) idle)
 
 same-length : tie.Need-same-length
 same-length c = search needs

@@ -44,21 +44,15 @@ write-payload-requires c κs =
       simp (length-take, length-drop, add-sub-cancel-left) (omega arith),
     )
 
-with-slot-requires : tie.Need-with-slot-requires
-with-slot-requires c κs = search needs
-
 same-length : tie.Need-same-length
 same-length c = search needs
 
 returns : tie.Need-returns
 unfolding stepOf
 returns c =
-    let t = c .before .before .before .before .before .before .before .before .before in
-    let first : laneStart (t .before .before .before .args .stream) + 0 ≡ laneStart (t .before .before .before .args .stream) = omega arith in (
-      rw first
-          (simp (c .with-slot .ensures .0, c .before .before .before .before .write-payload .ensures, t .place-of .ensures .0, add-sub-cancel-left)),
-      c .with-slot .ensures .1,
-    )
+    let t = c .before .before .before .before .before .before .before .before in
+    let first : laneStart (t .before .before .before .args .stream) + 0 ≡ laneStart (t .before .before .before .args .stream) = omega arith in
+    rw first (simp (c .before .before .before .write-payload .ensures, t .place-of .ensures .0, add-sub-cancel-left))
 
 pub store-spec : {M : Type 1} → statement M
 store-spec =
@@ -70,6 +64,5 @@ store-spec =
     part-write-payload-start
     part-write-payload-end
     write-payload-requires
-    with-slot-requires
     same-length
     returns)

@@ -1,0 +1,166 @@
+/*
+ * A Low Energy box's main loop over the library's C interface: takes packets from standard input, keeps each message that
+ * they finish as a record of an outbox file (outbox_file.h), and answers with an ACK where one is wanted.
+ *
+ *   low_energy_box OUTBOX_FILE RADIO < PACKETS
+ *
+ * PACKETS is what came over the air, RADIO the path of what takes the packets to be sent (a pipe or a device, which is
+ * there already): each packet with its length before it, two bytes, big-endian, and each one sent in one write.
+ *
+ * Standard output: `record PLACE LENGTH` for each record, as of box.c, and written after the record's fsync has come back.
+ * Standard error: `dropped PLACE` for a cut last record that was found at the start, `refused NUMBER` for each refused
+ * packet, `replaced STREAM` where a first packet replaced an open transaction, `too long LENGTH` for a packet that no
+ * radio sends, and what ended the program.
+ * Ends with 0 at the end of the input (a last packet that is cut is not taken); with 1 and with 2 as box.c does, with 1
+ * also where nothing can be sent any more.
+ *
+ * AN ACK GOES OUT LAST. It says SUCCESS, and a speaker that has it does not send the message again. So a message is on the
+ * disk and reported before its ACK is sent. A box that ends before then, however it ends, sends none, and the speaker sends
+ * the message again: none that was acknowledged is ever lost, and one that was not may be kept twice.
+ */
+#define _XOPEN_SOURCE 700
+
+#include <errno.h>
+#include <fcntl.h>
+#include <inttypes.h>
+#include <string.h>
+#include <sys/types.h>
+#include <unistd.h>
+
+#include "outbox_file.h"
+
+/* An ACK belongs to no transaction of ours: any sequence will do. */
+#define ACK_SEQUENCE 0
+
+/* Before each packet, both ways. */
+#define LENGTH_SIZE 2
+
+static uint64_t receiver[PITO_RECEIVER_STATE];
+static uint8_t buffer[PITO_RECEIVER_BUFFER(LIMIT)];
+static uint8_t packet[PITO_LARGEST_ROOM];
+static uint8_t ack[PITO_ACK_SIZE];
+
+static int radio;
+
+static void open_radio(const char *path)
+{
+    radio = open(path, O_WRONLY | O_APPEND | O_NOCTTY);
+    if (radio < 0)
+        fail("open the radio");
+}
+
+static void open_link(void)
+{
+    uint64_t number = pito_receiver_open(LIMIT, receiver, PITO_RECEIVER_STATE);
+    if (number != PITO_DONE)
+        fail_refused("pito_receiver_open", number);
+}
+
+static void send_packet(const uint8_t *bytes, size_t length)
+{
+    uint8_t sent[LENGTH_SIZE + PITO_LARGEST_ROOM];
+    sent[0] = (uint8_t)(length >> 8);
+    sent[1] = (uint8_t)length;
+    memcpy(sent + LENGTH_SIZE, bytes, length);
+    write_all(radio, sent, LENGTH_SIZE + length, "send a packet");
+}
+
+/*
+ * A message stands first in its stream's part of the buffer, and its ACK, if it wants one, in `ack`, until the next packet
+ * is taken. Every stream's messages are kept. A box that also answers what a message asks does it here, with the message
+ * kept and before the next packet; send_packet sends any packet.
+ */
+static void finish(const uint64_t *answer)
+{
+    uint64_t stream = answer[PITO_ACCEPT_STREAM];
+    keep(stream, buffer + PITO_RECEIVER_PART(stream, LIMIT), answer[PITO_ACCEPT_TOTAL]);
+    if (answer[PITO_ACCEPT_ACK_WANTED] == 1)
+        send_packet(ack, sizeof ack);
+}
+
+/* This box asks for no ACKs: those that come tell it nothing. */
+static void take(size_t length)
+{
+    uint64_t answer[PITO_ACCEPT_ANSWER];
+    uint64_t number = pito_receiver_accept(receiver, PITO_RECEIVER_STATE, buffer, sizeof buffer, packet, length,
+                                           ACK_SEQUENCE, ack, sizeof ack, answer, PITO_ACCEPT_ANSWER);
+    switch (number) {
+    case PITO_DONE:
+        break;
+    case PITO_REFUSED_UNFIT:
+    case PITO_REFUSED_ARGUMENT:
+    case PITO_REFUSED_OUTPUT:
+        /* Of this box's own making, not of the packet's. */
+        fail_refused("pito_receiver_accept", number);
+        break;
+    default:
+        note("refused %" PRIu64 "\n", number);
+        return;
+    }
+    if (answer[PITO_ACCEPT_REPLACED] == 1)
+        note("replaced %" PRIu64 "\n", answer[PITO_ACCEPT_STREAM]);
+    if (answer[PITO_ACCEPT_OUTCOME] == PITO_FINISHED)
+        finish(answer);
+}
+
+/* Answers how many bytes it has read, fewer than asked for only at the end of the input. */
+static size_t read_input(uint8_t *bytes, size_t length)
+{
+    size_t held = 0;
+    while (held < length) {
+        ssize_t count = read(STDIN_FILENO, bytes + held, length - held);
+        if (count < 0 && errno == EINTR)
+            continue;
+        if (count < 0)
+            fail("read the packets");
+        if (count == 0)
+            break;
+        held += (size_t)count;
+    }
+    return held;
+}
+
+/* Reads over a packet that is longer than any room. Answers 0 at the end of the input. */
+static int pass_over(size_t length)
+{
+    note("too long %zu\n", length);
+    while (length > 0) {
+        size_t part = length < sizeof packet ? length : sizeof packet;
+        if (read_input(packet, part) < part)
+            return 0;
+        length -= part;
+    }
+    return 1;
+}
+
+/* Reads one packet and takes it. Answers 0 at the end of the input. */
+static int take_next(void)
+{
+    uint8_t before[LENGTH_SIZE];
+    size_t length;
+    if (read_input(before, sizeof before) < sizeof before)
+        return 0;
+    length = (size_t)before[0] << 8 | before[1];
+    if (length > sizeof packet)
+        return pass_over(length);
+    if (read_input(packet, length) < length)
+        return 0;
+    take(length);
+    return 1;
+}
+
+int main(int words, char **word)
+{
+    ignore_write_signals();
+    if (words != 3) {
+        note("usage: low_energy_box OUTBOX_FILE RADIO < PACKETS\n");
+        return 2;
+    }
+    check_standard_streams();
+    open_radio(word[2]);
+    open_outbox(word[1]);
+    open_link();
+    while (take_next())
+        ;
+    return 0;
+}
