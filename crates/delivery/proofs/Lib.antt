@@ -1,4 +1,5 @@
 pub mod AcknowledgementsReturn
+pub mod Answering
 pub mod Reading
 pub mod Growing
 pub mod Steps

@@ -1,3 +1,4 @@
 pub mod AcknowledgementsReturn
+pub mod Answering
 pub mod Delivery
 pub mod Instance

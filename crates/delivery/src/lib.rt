@@ -1,11 +1,17 @@
 // The claims of Low Energy, from the writer to the receiver. Their words are in specs/; these functions do nothing.
 ghost use Rattle.delivery.specs.AcknowledgementsReturn.{TakesEveryAck, AcknowledgementsReturn};
+ghost use Rattle.delivery.specs.Answering.{AnsweredOnly};
 ghost use Rattle.delivery.specs.Delivery.{AnswerableAll, MessagesArrive, RoundTrip, MessageAsked};
 ghost use Rattle.delivery.specs.Instance.{Arrives};
 
 // Each ACK and NACK of the ranges of docs/FORMATS.md is read as it was written.
 pub fn acknowledgements_return()
     ensures { λ _. ⌜ TakesEveryAck × AcknowledgementsReturn ⌝ }
+{}
+
+// 1 comes first, then 15, then 14, all of them leave all; an ACK is written where one is wanted, and no other answer buffer is touched.
+pub fn answered_only()
+    ensures { λ _. ⌜ AnsweredOnly ⌝ }
 {}
 
 // A message whose packets all come, in order, is given at the last of them, whatever comes before, after, and of other streams between.
