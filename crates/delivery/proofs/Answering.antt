@@ -16,9 +16,9 @@ use Rattle.packet.proofs.Reading.{IfGiven}
 use Rattle.slot.specs.declared.Slot.{Slot}
 use Rattle.slot.specs.declared.answer.Accepted.{Accepted}
 use Rattle.slot.specs.declared.answer.Accepted.the-variants.{Taken, Finished, Acked, Nacked}
-use Rattle.receiver.specs.Receiver.{acted, ready, PacketCall, left, answered, readIn, heardOf, acceptOf}
+use Rattle.receiver.specs.Receiver.{acted, PacketCall, answered, readIn, heardOf, acceptOf}
 use Rattle.receiver.proofs.Accepting.{Heeded, accept-heard, heard-says}
-use Rattle.delivery.specs.Answering.{wantsAck, CallAnswers, AnsweredOnly}
+use Rattle.delivery.specs.Answering.{wantsAck, AnsweredOnly}
 
 -- an answer buffer that is touched has room for the ACK
 acted-room : (limit : ℕ) (slots : List Slot) (size : ℕ) (bytes : List ℕ) (c : PacketCall) (t : Told Packet)
@@ -42,19 +42,6 @@ others-leave sequence (given (Nacked head)) out e = refl
 others-leave sequence (refused n) out e = refl
 
 module _ (limit : ℕ) (slots : List Slot) (bytes : List ℕ) (c : PacketCall) where
-  one-first : ready limit slots (length bytes) ≡ false → acceptOf limit slots bytes c ≡ left (refused 1) slots bytes (c .out)
-  unfolding acceptOf
-  one-first e = rw e
-
-  fifteen-next : ready limit slots (length bytes) ≡ true → 16 ≤ c .sequence → acceptOf limit slots bytes c ≡ left (refused 15) slots bytes (c .out)
-  unfolding acceptOf readIn
-  fifteen-next e h = rw (e, le-ltb (c .sequence) 16 h)
-
-  fourteen-next : ready limit slots (length bytes) ≡ true → c .sequence ≤ 15 → length (c .out) ≤ 5
-      → acceptOf limit slots bytes c ≡ left (refused 14) slots bytes (c .out)
-  unfolding acceptOf readIn
-  fourteen-next e h k = rw (e, lt-ltb (c .sequence) 16 (omega arith), lt-ltb (length (c .out)) 6 (omega arith))
-
   -- what is told before anything is done
   abbrev heard : Told Packet
   heard = heardOf limit slots (length bytes) c
@@ -79,11 +66,12 @@ module _ (limit : ℕ) (slots : List Slot) (bytes : List ℕ) (c : PacketCall) w
       ap (λ l. l .out) all ∙ others-leave (c .sequence) toldOf (c .out) (sym (ap (λ l. wantsAck (l .told)) all) ∙ e)
 
 pub answered-only : AnsweredOnly
+unfolding acceptOf readIn
 answered-only limit slots bytes c =
     record {
-      one = one-first limit slots bytes c;
-      fifteen = fifteen-next limit slots bytes c;
-      fourteen = fourteen-next limit slots bytes c;
+      one = λ e. rw e;
+      fifteen = λ e h. rw (e, le-ltb (c .sequence) 16 h);
+      fourteen = λ e h k. rw (e, lt-ltb (c .sequence) 16 (omega arith), lt-ltb (length (c .out)) 6 (omega arith));
       ack = ack-written limit slots bytes c;
       others = others-kept limit slots bytes c;
     }
