@@ -1,4 +1,5 @@
 pub mod CutApart
 pub mod Arrives
 pub mod Premises
+pub mod ReadAgain
 pub mod Instance

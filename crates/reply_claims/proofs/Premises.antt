@@ -19,6 +19,7 @@ use Rattle.control.specs.declared.envelope.Payload.the-variants as Payload
 use Rattle.packet.specs.Header.{inRange}
 use Rattle.sender.specs.Writer.{roomFits}
 use Rattle.reply.specs.declared.Link.{Link}
+use Rattle.reply.specs.declared.body.CommandKind.the-variants.{Other}
 use Rattle.reply.specs.Reply.{Box, kindOfCommand, badCarried, stringsOf, isResponse}
 use Rattle.reply_claims.specs.Answers.{Answers, AskedInRange, AnswersAll}
 
@@ -53,13 +54,16 @@ answers-by b l message c out k carried strings =
       space = k .space;
     }
 
-fine-member : (field : ℕ) → 2 ≤ field → field ≤ 536870911 → badMember field ≡ false
+pub fine-member : (field : ℕ) → 2 ≤ field → field ≤ 536870911 → badMember field ≡ false
 fine-member field low high = rw (le-ltb field 2 low, le-ltb lastField field high)
+
+pub other-kind : (v : ℕ) → (v ≡ 20 → ⊥) → (v ≡ 28 → ⊥) → (v ≡ 94 → ⊥) → (v ≡ 95 → ⊥) → kindOfCommand v ≡ Other
+unfolding kindOfCommand
+other-kind v n20 n28 n94 n95 = rw (ne-eqb v 20 n20, ne-eqb v 28 n28, ne-eqb v 94 n94, ne-eqb v 95 n95)
 
 other-carried : (b : Box) (v : ℕ) → (v ≡ 20 → ⊥) → (v ≡ 28 → ⊥) → (v ≡ 94 → ⊥) → (v ≡ 95 → ⊥)
     → (badCarried (b .members) (length (b .transports)) (kindOfCommand v) ≡ false) × AllWellFormed (stringsOf b (kindOfCommand v))
-unfolding kindOfCommand
-other-carried b v n20 n28 n94 n95 = rw (ne-eqb v 20 n20, ne-eqb v 28 n28, ne-eqb v 94 n94, ne-eqb v 95 n95) (refl, tt)
+other-carried b v n20 n28 n94 n95 = rw (other-kind v n20 n28 n94 n95) (refl, tt)
 
 pub answers-all : AnswersAll
 unfolding kindOfCommand

@@ -19,17 +19,20 @@ use Rattle.reply_claims.specs.Answers.{Answers, packetsCut, ReplyArrives
 
 -- ---- the calls
 
--- a device's name, transports and attributes; features 13 hex; members 3 and 28
-abbrev pub device : List ℕ → List ℤ → ℕ → Box
-device name transports attributes =
+-- a device's name, transports and attributes; features 13 hex
+abbrev pub membered : ℕ → ℕ → List ℕ → List ℤ → ℕ → Box
+membered information features name transports attributes =
     record {
       serialNumber = 0x53 ∷ [];
       name = name;
       transports = transports;
       deviceType = 0x54 ∷ [];
       features = record { features = 0x13; «device_attributes» = attributes };
-      members = record { information = 3; features = 28 };
+      members = record { information = information; features = features };
     }
+
+abbrev pub device : List ℕ → List ℤ → ℕ → Box
+device name transports attributes = membered 3 28 name transports attributes
 
 abbrev pub box : Box
 box = device (0x4E ∷ []) (pos 0 ∷ []) 0
@@ -119,15 +122,24 @@ asked =
     ∷ ask box (numbered 15 15) (0x08 ∷ 0x5E ∷ []) 10
     ∷ ask box (numbered 16 15) (0x08 ∷ 0x5E ∷ []) 10
     ∷ ask box (numbered 15 16) (0x08 ∷ 0x5E ∷ []) 10
-    -- a response, whatever room there is; a broken one
+    -- a response, whatever room there is; one with a code and a payload; a broken one
     ∷ ask box (link 0 0) (0x08 ∷ 0x14 ∷ 0x4A ∷ 0x00 ∷ []) 3
+    ∷ ask box (link 64 4096) (0x08 ∷ 0x14 ∷ 0x4A ∷ 0x05 ∷ 0x08 ∷ 0x03 ∷ 0x12 ∷ 0x01 ∷ 0xFF ∷ []) 64
     ∷ ask box (link 0 0) (0x08 ∷ 0x14 ∷ 0x4A ∷ 0x01 ∷ 0xFF ∷ []) 3
     -- 13, 17, 15, 36, 14 in their order
-    ∷ ask unfit (link 19 0) information 0
-    ∷ ask unfit (link 64 0) information 0
-    ∷ ask unfit (link 64 65535) information 0
-    ∷ ask cutName (link 64 18) information 0
-    ∷ ask cutName (link 64 19) information 0
+    ∷ ask unfit (link 19 0) information 9
+    ∷ ask unfit (link 64 0) information 9
+    ∷ ask unfit (link 64 65535) information 9
+    ∷ ask cutName (link 64 18) information 9
+    ∷ ask cutName (link 64 19) information 9
+    -- each by itself: room, limit, transports, and the members' numbers
+    ∷ ask box (link 513 4096) information 64
+    ∷ ask box (link 64 65536) information 64
+    ∷ ask (device (0x4E ∷ []) (replicate 9 (pos 0)) 0) (link 64 4096) information 64
+    ∷ ask (membered 1 28 (0x4E ∷ []) [] 0) (link 64 4096) information 64
+    ∷ ask (membered 536870912 28 (0x4E ∷ []) [] 0) (link 64 4096) information 64
+    ∷ ask (membered 3 1 (0x4E ∷ []) [] 0) (link 64 4096) features 64
+    ∷ ask (membered 3 536870912 (0x4E ∷ []) [] 0) (link 64 4096) features 64
     ∷ ask box (link 64 17) information 24
     ∷ ask box (link 64 18) information 23
     -- two packets, in an output for exactly them
@@ -153,12 +165,20 @@ answered =
     ∷ leaves 15 10
     ∷ leaves 15 10
     ∷ written (given silent) (replicate 3 0xEE)
+    ∷ written (given silent) (replicate 64 0xEE)
     ∷ leaves 30 3
-    ∷ leaves 13 0
-    ∷ leaves 17 0
-    ∷ leaves 15 0
-    ∷ leaves 15 0
-    ∷ written (refused (36, 2 ∷ 1 ∷ [])) []
+    ∷ leaves 13 9
+    ∷ leaves 17 9
+    ∷ leaves 15 9
+    ∷ leaves 15 9
+    ∷ written (refused (36, 2 ∷ 1 ∷ [])) (replicate 9 0xEE)
+    ∷ leaves 13 64
+    ∷ leaves 17 64
+    ∷ leaves 15 64
+    ∷ leaves 15 64
+    ∷ leaves 15 64
+    ∷ leaves 15 64
+    ∷ leaves 15 64
     ∷ leaves 15 24
     ∷ leaves 14 23
     ∷ wrote (first ++ second) 0

@@ -1,3 +1,4 @@
 pub mod Cut
 pub mod Answers
+pub mod ReadAgain
 pub mod Instance

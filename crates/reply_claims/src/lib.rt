@@ -1,6 +1,7 @@
 // The claims of the reply to the handshake. Their words are in specs/; these functions do nothing.
 ghost use Rattle.reply_claims.specs.Cut.{JoinedCutApart};
 ghost use Rattle.reply_claims.specs.Answers.{AnswersAll, ReplyWritten, ReplyArrives};
+ghost use Rattle.reply_claims.specs.ReadAgain.{ReplyReads};
 ghost use Rattle.reply_claims.specs.Instance.{OneReplyArrives, ByHand};
 
 // Cut apart by their own headers, joined packets are the writer's packets.
@@ -11,6 +12,11 @@ pub fn joined_cut_apart()
 // Each question of the ranges of docs/FORMATS.md is answered.
 pub fn reply_written()
     ensures { λ _. ⌜ AnswersAll × ReplyWritten ⌝ }
+{}
+
+// Read again, it is an envelope of the same command with the response that was asked for.
+pub fn reply_reads()
+    ensures { λ _. ⌜ ReplyReads ⌝ }
 {}
 
 // A receiver of the link's limit gives exactly the reply.
