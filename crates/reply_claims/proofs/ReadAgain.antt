@@ -12,7 +12,7 @@ use Rattle.walk.specs.Schema.{responseField}
 use Rattle.control.specs.declared.response.ResponsePayload.{ResponsePayload}
 use Rattle.control.specs.declared.response.ResponsePayload.the-variants as Inner
 use Rattle.control.specs.declared.envelope.EnvelopePayload.the-variants as Sent
-use Rattle.control.specs.Response.{responseFields, badResponsePayload}
+use Rattle.control.specs.Response.{badResponsePayload}
 use Rattle.control.specs.Envelope.{envelopeFields}
 use Rattle.device.specs.Information.{informationFields}
 use Rattle.device.specs.Features.{featuresOf, featuresFields}

@@ -2,6 +2,7 @@
 ghost use Rattle.reply_claims.specs.Cut.{JoinedCutApart};
 ghost use Rattle.reply_claims.specs.Answers.{AnswersAll, ReplyWritten, ReplyArrives};
 ghost use Rattle.reply_claims.specs.ReadAgain.{ReplyReads};
+ghost use Rattle.reply_claims.specs.Untouched.{NothingWritten};
 ghost use Rattle.reply_claims.specs.Instance.{OneReplyArrives, ByHand};
 
 // Cut apart by their own headers, joined packets are the writer's packets.
@@ -17,6 +18,11 @@ pub fn reply_written()
 // Read again, it is an envelope of the same command with the response that was asked for.
 pub fn reply_reads()
     ensures { λ _. ⌜ ReplyReads ⌝ }
+{}
+
+// A refusal and a response leave the output as it was.
+pub fn nothing_written()
+    ensures { λ _. ⌜ NothingWritten ⌝ }
 {}
 
 // A receiver of the link's limit gives exactly the reply.
