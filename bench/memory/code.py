@@ -11,6 +11,7 @@ GROUPS = {
     "Low Energy": ("receiver", "packet", "ack"),
     "captures": ("capture",),
     "control messages": ("envelope", "response", "information", "features"),
+    "replies": ("reply",),
     "firmware messages and fields": ("segment", "apply", "field"),
     "outbox": ("outbox",),
 }
