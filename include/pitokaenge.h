@@ -609,6 +609,37 @@ PITO_CALL uint64_t pito_field_read(const uint8_t *message, size_t message_len, u
                                    size_t answer_len);
 
 /* ------------------------------------------------------------------------------------------------------------
+ * The reply to the handshake
+ */
+
+/*
+ * Writes the reply to a finished control transaction: what to send where pito_receiver_accept tells PITO_FINISHED on the
+ * control stream. Device information answers command 20, device features 28, a bare success 94 and 95, "unsupported"
+ * any other. The reply stands in the output as its packets, joined; each packet's own header says where it ends. A message
+ * that is itself a response gets no reply: 0 bytes written.
+ *   message             the transaction's payload
+ *   transports          at most eight signed 32-bit numbers, each in 64 bits
+ *   information_member  the response's member numbers from Amazon's schema, 2 to 536,870,911
+ *   features_member
+ *   room, limit         the link's, as in pito_packet_write
+ *   id, sequence        of the reply's own transaction, 0 to 15
+ * PITO_REPLY_SIZE(serial_number_len, name_len, device_type_len) bytes are enough at every room.
+ * Answer: field and place go with 36, as in reading device information.
+ * Only what the reply carries is judged. Returns 0, 1, 30 to 34 (the message's own), 13, 17, 15 (also a reply above the
+ * limit), 36, 14 (an output smaller than all the packets), the first that holds in this order.
+ */
+#define PITO_REPLY_SIZE(serial_number_len, name_len, device_type_len)                                                  \
+    (2 * ((serial_number_len) + (name_len) + (device_type_len)) + 360)
+enum { PITO_REPLY_WRITE_WRITTEN, PITO_REPLY_WRITE_FIELD, PITO_REPLY_WRITE_PLACE, PITO_REPLY_WRITE_ANSWER };
+PITO_CALL uint64_t pito_reply_write(const uint8_t *message, size_t message_len, const uint8_t *serial_number,
+                                    size_t serial_number_len, const uint8_t *name, size_t name_len,
+                                    const uint8_t *device_type, size_t device_type_len, const uint64_t *transports,
+                                    size_t transports_len, uint64_t features, uint64_t device_attributes,
+                                    uint64_t information_member, uint64_t features_member, uint64_t room,
+                                    uint64_t limit, uint64_t id, uint64_t sequence, uint8_t *output, size_t output_len,
+                                    uint64_t *answer, size_t answer_len);
+
+/* ------------------------------------------------------------------------------------------------------------
  * The outbox file: its bytes in a lent buffer, of which the first `used` are the file
  *
  * The first byte is the version. Version 01 has payloads of up to 4,096 bytes and lengths of two bytes, version 02

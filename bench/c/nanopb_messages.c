@@ -191,18 +191,24 @@ uint64_t nanopb_response_write(uint64_t error_code, uint64_t field, const uint8_
         memcpy((field).bytes, from, length); \
     } while (0)
 
-void nanopb_information_prepare(const uint8_t *serial_number, size_t serial_number_len, const uint8_t *name,
-                                size_t name_len, const uint8_t *device_type, size_t device_type_len,
-                                const uint64_t *transports, size_t transports_len)
+static void fill_information(DeviceInformation *information, const uint8_t *serial_number, size_t serial_number_len,
+                             const uint8_t *name, size_t name_len, const uint8_t *device_type, size_t device_type_len,
+                             const uint64_t *transports, size_t transports_len)
 {
-    DeviceInformation *information = &prepare()->information;
-
     FILL(information->serial_number, serial_number, serial_number_len);
     FILL(information->name, name, name_len);
     FILL(information->device_type, device_type, device_type_len);
     information->supported_transports_count = (pb_size_t)transports_len;
     for (size_t i = 0; i < transports_len; i++)
         information->supported_transports[i] = (Transport)transports[i];
+}
+
+void nanopb_information_prepare(const uint8_t *serial_number, size_t serial_number_len, const uint8_t *name,
+                                size_t name_len, const uint8_t *device_type, size_t device_type_len,
+                                const uint64_t *transports, size_t transports_len)
+{
+    fill_information(&prepare()->information, serial_number, serial_number_len, name, name_len, device_type,
+                     device_type_len, transports, transports_len);
 }
 
 uint64_t nanopb_information_write(const uint8_t *serial_number, size_t serial_number_len, const uint8_t *name,
@@ -213,6 +219,28 @@ uint64_t nanopb_information_write(const uint8_t *serial_number, size_t serial_nu
     (void)serial_number, (void)serial_number_len, (void)name, (void)name_len, (void)device_type;
     (void)device_type_len, (void)transports, (void)transports_len, (void)answer_len;
     return encode_next(DeviceInformation_fields, output, output_len, answer);
+}
+
+/* The reply to a question: an envelope with a response that carries device information or features. */
+void nanopb_reply_prepare(uint64_t command, const uint8_t *serial_number, size_t serial_number_len, const uint8_t *name,
+                          size_t name_len, const uint8_t *device_type, size_t device_type_len,
+                          const uint64_t *transports, size_t transports_len, uint64_t features,
+                          uint64_t device_attributes)
+{
+    ControlEnvelope *envelope = &prepare()->envelope;
+    Response *response = &envelope->payload.response;
+
+    envelope->command = (Command)command;
+    envelope->which_payload = ControlEnvelope_response_tag;
+    if (command == Command_GET_DEVICE_INFORMATION) {
+        response->which_payload = Response_information_tag;
+        fill_information(&response->payload.information, serial_number, serial_number_len, name, name_len, device_type,
+                         device_type_len, transports, transports_len);
+    } else {
+        response->which_payload = Response_features_tag;
+        response->payload.features.features = features;
+        response->payload.features.device_attributes = device_attributes;
+    }
 }
 
 void nanopb_features_prepare(uint64_t features, uint64_t device_attributes)

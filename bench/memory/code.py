@@ -3,6 +3,7 @@
 
     code.py ARCHIVE SCRATCH_FILE
 """
+import collections
 import subprocess
 import sys
 
@@ -11,6 +12,7 @@ GROUPS = {
     "Low Energy": ("receiver", "packet", "ack"),
     "captures": ("capture",),
     "control messages": ("envelope", "response", "information", "features"),
+    "replies": ("reply",),
     "firmware messages and fields": ("segment", "apply", "field"),
     "outbox": ("outbox",),
 }
@@ -21,8 +23,12 @@ def run(*words):
 
 
 def sections(file):
-    rows = (line.split() for line in run("size", "-A", file).splitlines())
-    return {row[0]: int(row[1]) for row in rows if len(row) == 3 and row[1].isdigit()}
+    """The bytes of each section; of one that several objects have, those of all together."""
+    sizes = collections.Counter()
+    for row in (line.split() for line in run("size", "-A", file).splitlines()):
+        if len(row) == 3 and row[1].isdigit():
+            sizes[row[0]] += int(row[1])
+    return sizes
 
 
 def total(sizes, kind):
@@ -52,6 +58,7 @@ def print_functions(archive, scratch, exported):
     print(f"| constants that several share | | {shared:,} | |")
     print(f"| **in all** | {total(sizes, '.text'):,} | {total(sizes, '.rodata'):,} | |")
     variables = total(sizes, ".data") + total(sizes, ".bss")
+    print("\nA function that two objects have stands here once, with the bytes of both.")
     print(f"\nVariables of the library's own (`.data`, `.bss`): {variables} bytes.\n")
 
 

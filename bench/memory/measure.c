@@ -414,12 +414,34 @@ static void outbox(void)
     }
 }
 
+/* Questions of every kind, now and then any message, answered on any link. */
+static void replies(void)
+{
+    static const uint8_t commands[] = {20, 28, 94, 95, 21};
+    uint8_t question[6] = {0x08, 0, 0x4A};
+    uint64_t transports[PITO_MOST_TRANSPORTS + 1];
+    for (int round = 0; round < ROUNDS; round++) {
+        size_t count = any_length(1000);
+        uint64_t room = once_in(40) ? below(600) : 20 + below(LARGEST_ROOM - 19), many = below(once_in(20) ? 10 : 9);
+        fill(payload, count);
+        question[1] = commands[below(sizeof commands)];
+        fill(question + 3, 3);
+        for (uint64_t i = 0; i < many; i++)
+            transports[i] = any_signed();
+        CALL(pito_reply_write, A(question), once_in(4) ? below(7) : 2, A(payload), count, A(payload), below(count + 1),
+             A(payload), below(count + 1), A(transports), many, any_number(), any_number(), any_field(), any_field(),
+             room, any_limit(), below(once_in(40) ? 20 : 16), below(once_in(40) ? 20 : 16), A(bytes),
+             room_for_message(), A(answer), length(PITO_REPLY_WRITE_ANSWER));
+    }
+}
+
 int main(void)
 {
     classic();
     low_energy();
     messages();
     outbox();
+    replies();
     print_depths();
     return 0;
 }

@@ -7,8 +7,8 @@
 
 #define STACK_SIZE 4096
 #define REGISTERS 6
-#define MOST_ARGUMENTS 16
-#define MOST_NAMES 32
+#define MOST_ARGUMENTS 24
+#define MOST_NAMES 40
 #define MOST_ANSWERS 64
 
 static _Alignas(16) uint8_t stack[STACK_SIZE];

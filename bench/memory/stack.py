@@ -14,6 +14,7 @@ import sys
 WORD = 8
 ENDS = ("ret", "jmp", "ud2")
 UNKNOWN = ("leave", "enter", "pushf", "popf", "notrack", "bnd")
+OBJECT = re.compile(r": +file format ")
 LABEL = re.compile(r"^[0-9a-f]+ <(.+)>:$")
 LINE = re.compile(r"^ *([0-9a-f]+):\t(\S+)(?: +([^#<]*))?")
 CALLEE = re.compile(r"R_X86_64_PLT32\s+(?:\.text\.)?(.+)-0x4$")
@@ -53,10 +54,14 @@ class Instruction:
 
 
 def functions(archive):
+    """The functions of each of the archive's objects: two objects may have one of the same name, each for itself."""
     listing = subprocess.run(["objdump", "-dr", "--no-show-raw-insn", archive], check=True, text=True,
                              capture_output=True).stdout
-    found, code = {}, None
+    objects, found, code = [], {}, None
     for line in listing.splitlines():
+        if OBJECT.search(line):
+            found = {}
+            objects.append(found)
         label, instruction, callee = LABEL.match(line), LINE.match(line), CALLEE.search(line)
         if label:
             if label.group(1) in found:
@@ -66,7 +71,7 @@ def functions(archive):
             code[-1].callee = callee.group(1)
         elif instruction and "R_X86_64" not in line:
             code.append(Instruction(int(instruction.group(1), 16), instruction.group(2), instruction.group(3) or ""))
-    return found
+    return objects
 
 
 def depths(name, code):
@@ -125,15 +130,15 @@ def bound(name, code_of, open_calls=()):
 
 
 def main(archive, measured, deepest_file):
-    code_of, deepest = functions(archive), 0
+    home, deepest = {name: found for found in functions(archive) for name in found if name.startswith("pito_")}, 0
     with open(measured, encoding="utf-8") as lines:
         rows = [line.split() for line in lines]
-    if {row[0] for row in rows} != {name for name in code_of if name.startswith("pito_")}:
+    if {row[0] for row in rows} != set(home):
         stop("not every function was measured")
     print("| function | by the code | measured | arguments in it | deepest through | calls | answers |")
     print("|---|--:|--:|--:|---|--:|---|")
     for name, most, calls, *answers in rows:
-        inside, path, arguments = bound(name, code_of)
+        inside, path, arguments = bound(name, home[name])
         if int(most) > inside + arguments:
             stop(f"{name}: measured {most}, above the bound {inside + arguments}")
         deepest = max(deepest, inside + arguments)

@@ -51,6 +51,11 @@ calls! {
         pbc_information_write;
     FeaturesWrite(features: u64, device_attributes: u64, output: *mut u8, size: usize, answer: *mut u64,
         answers: usize) nanopb_features_write pbc_features_write;
+    ReplyWrite(message: *const u8, length: usize, serial_number: *const u8, serial_number_length: usize,
+        name: *const u8, name_length: usize, device_type: *const u8, device_type_length: usize,
+        transports: *const u64, transports_length: usize, features: u64, device_attributes: u64,
+        information_member: u64, features_member: u64, room: u64, limit: u64, id: u64, sequence: u64,
+        output: *mut u8, size: usize, answer: *mut u64, answers: usize);
     SegmentWrite(name: *const u8, name_length: usize, offset: u64, segment_size: u64, signature: *const u8,
         signature_length: usize, output: *mut u8, size: usize, answer: *mut u64, answers: usize)
         nanopb_segment_write pbc_segment_write;
@@ -88,4 +93,20 @@ prepares! {
         nanopb_features_prepare nanopb_segment_prepare nanopb_apply_prepare;
     pbc_decoded pbc_forget pbc_envelope_prepare pbc_response_prepare pbc_information_prepare pbc_features_prepare
         pbc_segment_prepare pbc_apply_prepare;
+}
+
+extern "C" {
+    pub fn nanopb_reply_prepare(
+        command: u64,
+        serial_number: *const u8,
+        serial_number_length: usize,
+        name: *const u8,
+        name_length: usize,
+        device_type: *const u8,
+        device_type_length: usize,
+        transports: *const u64,
+        transports_length: usize,
+        features: u64,
+        device_attributes: u64,
+    );
 }

@@ -16,12 +16,14 @@ mod job;
 mod low_energy;
 mod measure;
 mod outbox;
+mod replies;
 mod rows;
 mod rows_classic;
 mod rows_control;
 mod rows_firmware;
 mod rows_low_energy;
 mod rows_outbox;
+mod rows_replies;
 mod rust;
 mod table;
 

@@ -69,6 +69,14 @@ shims! {
             given(device_type, device_type_length), given(transports, transports_length), lent(output, size), told);
     features_write(features: u64, device_attributes: u64, output: *mut u8, size: usize) told
         face::features_write(features, device_attributes, lent(output, size), told);
+    reply_write(message: *const u8, length: usize, serial_number: *const u8, serial_number_length: usize,
+        name: *const u8, name_length: usize, device_type: *const u8, device_type_length: usize,
+        transports: *const u64, transports_length: usize, features: u64, device_attributes: u64,
+        information_member: u64, features_member: u64, room: u64, limit: u64, id: u64, sequence: u64,
+        output: *mut u8, size: usize) told
+        face::reply_write([features, device_attributes, information_member, features_member, room, limit, id, sequence],
+            given(transports, transports_length), [given(message, length), given(serial_number, serial_number_length),
+            given(name, name_length), given(device_type, device_type_length)], lent(output, size), told);
     segment_read(message: *const u8, length: usize) told firmware::segment_read(given(message, length), told);
     apply_read(message: *const u8, length: usize) told firmware::apply_read(given(message, length), told);
     segment_write(name: *const u8, name_length: usize, offset: u64, segment_size: u64, signature: *const u8,

@@ -1,6 +1,7 @@
 /*
  * A Low Energy box's main loop over the library's C interface: takes packets from standard input, keeps each message that
- * they finish as a record of an outbox file (outbox_file.h), and answers with an ACK where one is wanted.
+ * they finish as a record of an outbox file (outbox_file.h), answers with an ACK where one is wanted, and replies to what
+ * control messages ask. Without the replies to its first two questions a speaker disconnects.
  *
  *   low_energy_box OUTBOX_FILE RADIO < PACKETS
  *
@@ -9,14 +10,15 @@
  *
  * Standard output: `record PLACE LENGTH` for each record, as of box.c, and written after the record's fsync has come back.
  * Standard error: `dropped PLACE` for a cut last record that was found at the start, `refused NUMBER` for each refused
- * packet, `replaced STREAM` where a first packet replaced an open transaction, `too long LENGTH` for a packet that no
- * radio sends, and what ended the program.
+ * packet, `replaced STREAM` where a first packet replaced an open transaction, `no envelope NUMBER` for a control message
+ * that is none, `too long LENGTH` for a packet that no radio sends, and what ended the program.
  * Ends with 0 at the end of the input (a last packet that is cut is not taken); with 1 and with 2 as box.c does, with 1
  * also where nothing can be sent any more.
  *
- * AN ACK GOES OUT LAST. It says SUCCESS, and a speaker that has it does not send the message again. So a message is on the
- * disk and reported before its ACK is sent. A box that ends before then, however it ends, sends none, and the speaker sends
- * the message again: none that was acknowledged is ever lost, and one that was not may be kept twice.
+ * AN ACK GOES OUT LAST, and after it only the reply. It says SUCCESS, and a speaker that has it does not send the message
+ * again. So a message is on the disk and reported before its ACK is sent. A box that ends before then, however it ends, sends
+ * none, and the speaker sends the message again: none that was acknowledged is ever lost, and one that was not may be kept
+ * twice.
  */
 #define _XOPEN_SOURCE 700
 
@@ -35,10 +37,32 @@
 /* Before each packet, both ways. */
 #define LENGTH_SIZE 2
 
+/* Replies: every link has the least room. One is sent whole before the next begins, so that id and sequence can stay. */
+#define ROOM PITO_LEAST_ROOM
+#define REPLY_ID 0
+#define REPLY_SEQUENCE 0
+
+/*
+ * What this box says of itself. The numbers of the response's members are those of tools/control.proto; a real box has
+ * Amazon's.
+ */
+#define SERIAL_NUMBER "K-0042"
+#define NAME "Kiln 3"
+#define DEVICE_TYPE "A3KILN"
+#define FEATURES 0x13
+#define ATTRIBUTES 0
+#define INFORMATION_MEMBER 3
+#define FEATURES_MEMBER 9
+static const uint64_t transports[] = {0};
+
+/* A text of this program, and its length. */
+#define TEXT(text) (const uint8_t *)(text), sizeof(text) - 1
+
 static uint64_t receiver[PITO_RECEIVER_STATE];
 static uint8_t buffer[PITO_RECEIVER_BUFFER(LIMIT)];
 static uint8_t packet[PITO_LARGEST_ROOM];
 static uint8_t ack[PITO_ACK_SIZE];
+static uint8_t reply[PITO_REPLY_SIZE(sizeof SERIAL_NUMBER - 1, sizeof NAME - 1, sizeof DEVICE_TYPE - 1)];
 
 static int radio;
 
@@ -65,17 +89,63 @@ static void send_packet(const uint8_t *bytes, size_t length)
     write_all(radio, sent, LENGTH_SIZE + length, "send a packet");
 }
 
+/* How long the first of joined packets is: a first packet has three bytes more, and one length byte more if bit 0 says so. */
+static size_t packet_length(const uint8_t *bytes)
+{
+    size_t place = (bytes[1] >> 2 & 3) == 0 ? 5 : 2;
+    if ((bytes[1] & 1) == 1)
+        return place + 2 + ((size_t)bytes[place] << 8 | bytes[place + 1]);
+    return place + 1 + bytes[place];
+}
+
+static void send_joined(const uint8_t *bytes, size_t length)
+{
+    while (length > 0) {
+        size_t one = packet_length(bytes);
+        send_packet(bytes, one);
+        bytes += one;
+        length -= one;
+    }
+}
+
+/* Sends the reply to a control message; one that is itself a response gets none, and so does what is no envelope. */
+static void answer_question(const uint8_t *message, size_t length)
+{
+    uint64_t answer[PITO_REPLY_WRITE_ANSWER];
+    uint64_t number = pito_reply_write(message, length, TEXT(SERIAL_NUMBER), TEXT(NAME), TEXT(DEVICE_TYPE), transports,
+                                       sizeof transports / sizeof *transports, FEATURES, ATTRIBUTES, INFORMATION_MEMBER,
+                                       FEATURES_MEMBER, ROOM, LIMIT, REPLY_ID, REPLY_SEQUENCE, reply, sizeof reply, answer,
+                                       PITO_REPLY_WRITE_ANSWER);
+    switch (number) {
+    case PITO_DONE:
+        send_joined(reply, answer[PITO_REPLY_WRITE_WRITTEN]);
+        break;
+    case PITO_REFUSED_MESSAGE_CUT:
+    case PITO_REFUSED_VARINT:
+    case PITO_REFUSED_TAG:
+    case PITO_REFUSED_WIRE_TYPE:
+    case PITO_REFUSED_TOO_MANY:
+        note("no envelope %" PRIu64 "\n", number);
+        break;
+    default:
+        /* Of this box's own making, not of the message's. */
+        fail_refused("pito_reply_write", number);
+    }
+}
+
 /*
  * A message stands first in its stream's part of the buffer, and its ACK, if it wants one, in `ack`, until the next packet
- * is taken. Every stream's messages are kept. A box that also answers what a message asks does it here, with the message
- * kept and before the next packet; send_packet sends any packet.
+ * is taken. Every stream's messages are kept.
  */
 static void finish(const uint64_t *answer)
 {
     uint64_t stream = answer[PITO_ACCEPT_STREAM];
-    keep(stream, buffer + PITO_RECEIVER_PART(stream, LIMIT), answer[PITO_ACCEPT_TOTAL]);
+    const uint8_t *message = buffer + PITO_RECEIVER_PART(stream, LIMIT);
+    keep(stream, message, answer[PITO_ACCEPT_TOTAL]);
     if (answer[PITO_ACCEPT_ACK_WANTED] == 1)
         send_packet(ack, sizeof ack);
+    if (stream == PITO_STREAM_CONTROL)
+        answer_question(message, answer[PITO_ACCEPT_TOTAL]);
 }
 
 /* This box asks for no ACKs: those that come tell it nothing. */

@@ -364,13 +364,8 @@ pub enum Given<'a> {
     },
 }
 
-/// Writes a ControlEnvelope: 15, then 14. "Its member numbers run from 2 to 536,870,911, not 9 in
-/// the envelope."
-pub fn write_envelope(
-    command: i32,
-    payload: Given<'_>,
-    output: &mut [u8],
-) -> Result<usize, Refusal> {
+/// "Its member numbers run from 2 to 536,870,911, not 9 in the envelope."
+pub(crate) fn envelope_bytes(command: i32, payload: Given<'_>) -> Result<Vec<u8>, Refusal> {
     let made = Making::default().signed(1, command);
     let made = match payload {
         Given::None => made,
@@ -380,7 +375,36 @@ pub fn write_envelope(
         Given::Other { field: 9, .. } => return Err(Refusal::Argument),
         Given::Other { field, bytes } => made.delimited(member_number(field)?, bytes),
     };
-    deliver(&made.0, output)
+    Ok(made.0)
+}
+
+/// Writes a ControlEnvelope: 15, then 14.
+pub fn write_envelope(
+    command: i32,
+    payload: Given<'_>,
+    output: &mut [u8],
+) -> Result<usize, Refusal> {
+    deliver(&envelope_bytes(command, payload)?, output)
+}
+
+/// A DeviceInformation's bytes, whatever its strings are.
+pub(crate) fn information_bytes(
+    serial_number: &[u8],
+    name: &[u8],
+    transports: &[i32],
+    device_type: &[u8],
+) -> Vec<u8> {
+    let list = transports
+        .iter()
+        .fold(Making::default(), |list, &transport| {
+            list.varint(extended(transport))
+        });
+    let made = Making::default()
+        .unless_empty(1, serial_number)
+        .unless_empty(2, name)
+        .unless_empty(3, &list.0)
+        .unless_empty(4, device_type);
+    made.0
 }
 
 /// Writes a DeviceInformation: 15 for more than eight transports, then 36, then 14.
@@ -397,23 +421,19 @@ pub fn write_information(
     text::judge(1, serial_number)?;
     text::judge(2, name)?;
     text::judge(4, device_type)?;
-    let list = transports
-        .iter()
-        .fold(Making::default(), |list, &transport| {
-            list.varint(extended(transport))
-        });
+    let made = information_bytes(serial_number, name, transports, device_type);
+    Ok(deliver(&made, output)?)
+}
+
+/// A DeviceFeatures' bytes.
+pub(crate) fn features_bytes(told: Features) -> Vec<u8> {
     let made = Making::default()
-        .unless_empty(1, serial_number)
-        .unless_empty(2, name)
-        .unless_empty(3, &list.0)
-        .unless_empty(4, device_type);
-    Ok(deliver(&made.0, output)?)
+        .number(1, told.features)
+        .number(2, told.device_attributes);
+    made.0
 }
 
 /// Writes a DeviceFeatures: 14 only.
 pub fn write_features(told: Features, output: &mut [u8]) -> Result<usize, Refusal> {
-    let made = Making::default()
-        .number(1, told.features)
-        .number(2, told.device_attributes);
-    deliver(&made.0, output)
+    deliver(&features_bytes(told), output)
 }

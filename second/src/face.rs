@@ -20,6 +20,7 @@ use crate::judge;
 use crate::low_energy::{self, Accepted, Open, Receiver, Reply, Slots, Stream, Wish};
 use crate::outbox::{self, Broken, Record, Version, ONE, TWO};
 use crate::refusal::{self, Refusal};
+use crate::reply::{self, Own};
 use std::ops::Range;
 
 pub mod firmware;
@@ -92,6 +93,15 @@ impl Implementation for Model {
             }
             Operation::FeaturesRead => features_read(&inputs[0], answer),
             Operation::FeaturesWrite => features_write(numbers[0], numbers[1], lent, answer),
+            Operation::ReplyWrite => {
+                let ([message, serial_number, name, device_type], Some((numbers, transports))) =
+                    (inputs, numbers.split_first_chunk())
+                else {
+                    panic!("four inputs, eight numbers and the transports")
+                };
+                let inputs = [message, serial_number, name, device_type].map(|bytes| &bytes[..]);
+                reply_write(*numbers, transports, inputs, lent, answer)
+            }
             Operation::SegmentRead => firmware::segment_read(&inputs[0], answer),
             Operation::SegmentWrite => {
                 let ([name, signature], [offset, size]) = (inputs, numbers) else {
@@ -661,6 +671,42 @@ pub fn features_write(
             device_attributes,
         };
         Ok([wide(control::write_features(told, output)?)])
+    })
+}
+
+/// Numbers `features, device_attributes, information member, features member, room, limit, id, sequence`; inputs `message,
+/// serial_number, name, device_type`; answer `written, field, place`, all 0 for no reply.
+pub fn reply_write(
+    numbers: [u64; 8],
+    transports: &[u64],
+    inputs: [&[u8]; 4],
+    output: &mut [u8],
+    answer: &mut [u64],
+) -> u64 {
+    let [features, device_attributes, information_member, features_member, ..] = numbers;
+    let [.., room, limit, id, sequence] = numbers;
+    let [message, serial_number, name, device_type] = inputs;
+    ask(answer, || {
+        let own = Own {
+            serial_number,
+            name,
+            device_type,
+            transports: transports
+                .iter()
+                .map(|&number| signed_in(number).ok())
+                .collect(),
+            features: Features {
+                features,
+                device_attributes,
+            },
+            information_member,
+            features_member,
+        };
+        // Stream 0 is control, and no ACK is wanted.
+        let wish = wish_row_in([0, id, sequence, 0]);
+        let written =
+            reply::write(message, &own, room, limit, wish, output).map_err(fault_out::<3>)?;
+        Ok([written.map_or(0, wide), 0, 0])
     })
 }
 

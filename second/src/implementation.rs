@@ -25,6 +25,7 @@ pub enum Operation {
     InformationWrite,
     FeaturesRead,
     FeaturesWrite,
+    ReplyWrite,
     SegmentRead,
     SegmentWrite,
     ApplyRead,
@@ -41,7 +42,7 @@ pub enum Operation {
 /// The rows of an operation, for building calls and for printing them.
 pub struct Shape {
     pub name: &'static str,
-    /// Numbers given by value (or as a row: the transports, of any length, and an ApplyFirmware).
+    /// Numbers given by value (or as a row: the transports, last and of any length, and an ApplyFirmware).
     pub numbers: &'static [&'static str],
     /// Bytes that are only read.
     pub inputs: &'static [&'static str],
@@ -227,7 +228,7 @@ const MESSAGE_READ: &[u64] = &[0, 1, 30, 31, 32, 33, 34];
 const STRINGS_READ: &[u64] = &[0, 1, 30, 31, 32, 33, 34, 36];
 
 impl Operation {
-    pub const ALL: [Operation; 31] = [
+    pub const ALL: [Operation; 32] = [
         Operation::ExtractorOpen,
         Operation::ExtractorStep,
         Operation::ExtractorFeed,
@@ -248,6 +249,7 @@ impl Operation {
         Operation::InformationWrite,
         Operation::FeaturesRead,
         Operation::FeaturesWrite,
+        Operation::ReplyWrite,
         Operation::SegmentRead,
         Operation::SegmentWrite,
         Operation::ApplyRead,
@@ -458,6 +460,25 @@ impl Operation {
                 answer: &["written"],
                 lent: "output",
                 returns: &[0, 1, 14],
+                ..empty
+            },
+            Operation::ReplyWrite => Shape {
+                name: "reply write",
+                numbers: &[
+                    "features",
+                    "device_attributes",
+                    "information member",
+                    "features member",
+                    "room",
+                    "limit",
+                    "id",
+                    "sequence",
+                    "transports...",
+                ],
+                inputs: &["message", "serial_number", "name", "device_type"],
+                answer: &["written", "field", "place"],
+                lent: "output",
+                returns: &[0, 1, 13, 14, 15, 17, 30, 31, 32, 33, 34, 36],
                 ..empty
             },
             Operation::SegmentRead => Shape {

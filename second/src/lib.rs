@@ -15,5 +15,6 @@ pub mod library;
 pub mod low_energy;
 pub mod outbox;
 pub mod refusal;
+pub mod reply;
 pub mod rng;
 pub mod text;

@@ -136,6 +136,7 @@ impl Implementation for Library {
                 Operation::FeaturesWrite => {
                     pito_features_write(numbers[0], numbers[1], bytes, size, told, tells)
                 }
+                Operation::ReplyWrite => write_reply(numbers, inputs, lent, answer),
                 Operation::SegmentRead
                 | Operation::SegmentWrite
                 | Operation::ApplyRead
@@ -166,5 +167,43 @@ impl Implementation for Library {
                 }
             }
         }
+    }
+}
+
+/// The reply to a finished control transaction.
+fn write_reply(numbers: &[u64], inputs: &[Vec<u8>], lent: &mut [u8], answer: &mut [u64]) -> u64 {
+    let ([message, serial_number, name, device_type], Some((numbers, transports))) =
+        (inputs, numbers.split_first_chunk())
+    else {
+        panic!("four inputs, eight numbers and the transports")
+    };
+    let [features, device_attributes, information, of_features, room, limit, id, sequence] =
+        *numbers;
+    // Every pointer comes from a slice that outlives the call, with that slice's length.
+    unsafe {
+        pito_reply_write(
+            message.as_ptr(),
+            message.len(),
+            serial_number.as_ptr(),
+            serial_number.len(),
+            name.as_ptr(),
+            name.len(),
+            device_type.as_ptr(),
+            device_type.len(),
+            transports.as_ptr(),
+            transports.len(),
+            features,
+            device_attributes,
+            information,
+            of_features,
+            room,
+            limit,
+            id,
+            sequence,
+            lent.as_mut_ptr(),
+            lent.len(),
+            answer.as_mut_ptr(),
+            answer.len(),
+        )
     }
 }

@@ -440,6 +440,14 @@ pub fn packet(wish: Wish, message: &[u8], piece: Piece) -> Vec<u8> {
     made
 }
 
+/// The room of a packet: 20 to 512 bytes, or 13.
+pub(crate) fn room_in(room: u64) -> Result<usize, Refusal> {
+    if !(20..=512).contains(&room) {
+        return Err(Refusal::Room);
+    }
+    Ok(room as usize)
+}
+
 /// The message packet writer of a link with a limit: 13, 17, 15, 14. "One packet is written at a time; a place in the message
 /// where no piece begins is 15." Gives the bytes written and the place after the piece.
 pub fn write_packet(
@@ -450,10 +458,7 @@ pub fn write_packet(
     place: u64,
     output: &mut [u8],
 ) -> Result<(usize, usize), Refusal> {
-    if !(20..=512).contains(&room) {
-        return Err(Refusal::Room);
-    }
-    let room = room as usize;
+    let room = room_in(room)?;
     let limit = limit_in(limit)?;
     let wish = wish.ok_or(Refusal::Argument)?;
     if message.len() > limit {

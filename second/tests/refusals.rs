@@ -12,6 +12,7 @@ use second::low_energy::{
 };
 use second::outbox;
 use second::refusal::Refusal;
+use second::reply::{self, Own};
 
 const IDLE: Slots = [None; 3];
 
@@ -808,6 +809,112 @@ fn messages_written() {
         control::write_features(features, &mut output[..10]),
         Err(Refusal::Output)
     );
+}
+
+fn own() -> Own<'static> {
+    Own {
+        serial_number: b"S",
+        name: b"N",
+        device_type: b"T",
+        transports: Some(vec![0]),
+        features: Features {
+            features: 0x13,
+            device_attributes: 0,
+        },
+        information_member: 3,
+        features_member: 28,
+    }
+}
+
+#[test]
+fn replies_written() {
+    let refusal = |message: &str, own: Own<'_>, [room, limit]: [u64; 2], wish, size| {
+        let mut output = vec![0xEE; size];
+        let told = reply::write(&bytes(message), &own, room, limit, wish, &mut output);
+        let broken = told.expect_err("a refusal");
+        assert!(output.iter().all(|&byte| byte == 0xEE));
+        (broken.refusal.number(), broken.field, broken.place)
+    };
+    let number = |message, own, link, wish, size| refusal(message, own, link, wish, size).0;
+    // The message's own before all others; then 13, 17, 15, 36, 14.
+    let bad = || Own {
+        name: b"N\xFF",
+        ..own()
+    };
+    let wide = || Own {
+        information_member: 1,
+        ..bad()
+    };
+    assert_eq!(number("08 14 4A 01 FF", wide(), [0, 0], None, 0), 30);
+    assert_eq!(number("08 14 12 00 1A 00", wide(), [0, 0], None, 0), 34);
+    assert_eq!(number("08 14", wide(), [19, 0], None, 0), 13);
+    assert_eq!(number("08 14", wide(), [513, 0], None, 0), 13);
+    assert_eq!(number("08 14", wide(), [20, 0], None, 0), 17);
+    assert_eq!(number("08 14", wide(), [20, 65_536], None, 0), 17);
+    assert_eq!(number("08 14", bad(), [20, 4_096], None, 0), 15);
+    assert_eq!(number("08 14", wide(), [20, 4_096], Some(wish()), 0), 15);
+    assert_eq!(number("08 14", bad(), [20, 18], Some(wish()), 0), 15);
+    let told = refusal("08 14", bad(), [20, 19], Some(wish()), 0);
+    assert_eq!(told, (36, Some(2), Some(1)));
+    assert_eq!(number("08 14", own(), [20, 18], Some(wish()), 26), 14);
+    // What is carried is 15 out of its range: 20 has member and transports, 28 has its member.
+    for transports in [None, Some(vec![0; 9])] {
+        let many = Own {
+            transports,
+            ..own()
+        };
+        assert_eq!(number("08 14", many, [20, 4_096], Some(wish()), 99), 15);
+    }
+    for features_member in [0, 1, 536_870_912] {
+        let wide = Own {
+            features_member,
+            ..own()
+        };
+        assert_eq!(number("08 1C", wide, [20, 4_096], Some(wish()), 99), 15);
+    }
+}
+
+#[test]
+fn what_a_reply_does_not_carry_is_not_judged() {
+    let free = || Own {
+        serial_number: b"\xFF",
+        transports: None,
+        information_member: 0,
+        features_member: 28,
+        ..own()
+    };
+    let written = |message: &str, own: Own<'_>, room, limit, wish| {
+        let mut output = vec![0xEE; 99];
+        let written = reply::write(&bytes(message), &own, room, limit, wish, &mut output);
+        let written = written.expect("no refusal");
+        assert!(output[written.unwrap_or(0)..]
+            .iter()
+            .all(|&byte| byte == 0xEE));
+        written.map(|written| output[..written].to_vec())
+    };
+    let control = Some(Wish {
+        id: 1,
+        sequence: 2,
+        ..wish()
+    });
+    let features = bytes("01 20 00 00 09 09 08 1C 4A 05 E2 01 02 08 13");
+    assert_eq!(written("08 1C", free(), 64, 9, control), Some(features));
+    let none = Own {
+        features_member: 0,
+        ..free()
+    };
+    let bare = bytes("01 20 00 00 04 04 08 5F 4A 00");
+    assert_eq!(written("08 5F", none, 64, 4, control), Some(bare));
+    // A negative command is answered with its own ten bytes.
+    let minus_one = "08 FF FF FF FF FF FF FF FF FF 01";
+    let unsupported = bytes(&format!("01 20 00 00 0F 0F {minus_one} 4A 02 08 03"));
+    assert_eq!(
+        written(minus_one, free(), 64, 15, control),
+        Some(unsupported)
+    );
+    // A response gets no reply, whatever else is given.
+    assert_eq!(written("08 14 4A 00", free(), 0, 0, None), None);
+    assert_eq!(written("4A 02 08 03", free(), 0, 0, None), None);
 }
 
 #[test]

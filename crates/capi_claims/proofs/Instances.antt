@@ -1,4 +1,4 @@
--- An instance of each field of SizesSuffice but ApplyFirmware's: the ends of its ranges, and just the output that the header names. The append also by computation.
+-- An instance of each field of SizesSuffice but ApplyFirmware's and the reply's: the ends of its ranges, and just the output that the header names. The append also by computation.
 use Prim.Native.Nat.{ℕ, zero, suc, _≤_, zero-le}
 use mathlib.Core.Path.{_≡_, refl}
 use mathlib.Core.Logic.{inl, inr}

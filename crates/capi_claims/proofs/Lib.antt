@@ -1,6 +1,7 @@
 mod Rows
 mod Extracting
 mod Accepting
+mod Replies
 mod OneLeavesAll
 mod Sizes
 mod Applies

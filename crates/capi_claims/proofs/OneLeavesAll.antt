@@ -36,7 +36,7 @@ use Rattle.control.specs.declared.envelope.EnvelopePayload.{EnvelopePayload}
 use Rattle.device.specs.declared.features.DeviceFeatures.{DeviceFeatures}
 use Rattle.walk.specs.Gathered.{mostTransports}
 use Rattle.field_writer.specs.Message.{writesMessage}
-use Rattle.control.specs.Envelope.{badPayload, envelopeFields, envelopeWritten}
+use Rattle.control.specs.Envelope.{badPayload, envelopeOf, envelopeFields, envelopeWritten}
 use Rattle.control.specs.Response.{badResponsePayload, responseFields, responseWritten}
 use Rattle.walk.specs.Refusal.{numberMore}
 use Rattle.text_writer.specs.declared.TextFault.{TextFault}
@@ -73,6 +73,11 @@ use Rattle.calls_sending.specs.Calls.{packetWriteOf, ackWriteOf}
 use Rattle.calls_receiving.specs.Calls.{replied, accepted, receiverOpenOf, receiverAcceptOf}
 use Rattle.calls_receiving.specs.Calls as receiving
 use Rattle.calls_messages.specs.Calls.{envelopeReadOf, envelopeWriteOf, responseReadOf, responseWriteOf, informationReadOf, informationWriteOf, featuresReadOf, featuresWriteOf}
+use Rattle.reply.specs.declared.Link.{Link}
+use Rattle.reply.specs.declared.body.Members.{Members}
+use Rattle.reply.specs.Reply.{boxOf, repliedOf}
+use Rattle.calls_reply.specs.Convert.{transportsFor, replyRow}
+use Rattle.calls_reply.specs.Calls.{replyWriteOf}
 use Rattle.calls_firmware.specs.Calls.{segmentReadOf, segmentStored, segmentWriteOf, applyReadOf, applyStored, applyWriteOf, fieldReadOf}
 use Rattle.calls_captures.specs.Calls.{captureJudgeOf}
 use Rattle.calls_outbox.specs.Calls.{outboxNewOf, outboxAppendOf, outboxRecordOf, outboxWholeOf}
@@ -80,6 +85,7 @@ use Rattle.capi_claims.specs.OneLeavesAll.{Keeps, KeepsBoth, OneLeavesAl
 use Rattle.capi_claims.proofs.Rows.{keeps-if, keeps-rows, keeps-answers, writes-keeps, keeps-writer, keeps-text}
 use Rattle.capi_claims.proofs.Extracting.{advance-not-one, feed-not-one}
 use Rattle.capi_claims.proofs.Accepting.{acted-keeps, answered-keeps}
+use Rattle.capi_claims.proofs.Replies.{replied-left}
 
 -- the extractor's opening is never 1; its step and feed are guarded, then never 1
 open-keeps : (limit : ℕ) (state : List ℕ) → Keeps state [] [] (extractorOpenOf limit state)
@@ -268,6 +274,15 @@ information-keeps serialNumber name deviceType transports out answer =
     (cond (allSigned transports) (informationWritten serialNumber name (map signedOf transports) deviceType out) (written (refused (15, [])) out))
     (transports-keep (allSigned transports) serialNumber name (map signedOf transports) deviceType out)
 
+-- the reply
+reply-keeps : (message serialNumber name deviceType transports : List ℕ) (features : DeviceFeatures) (members : Members) (link : Link)
+    (out answer : List ℕ) → Keeps [] out answer (replyWriteOf message serialNumber name deviceType transports features members link out answer)
+unfolding replyWriteOf repliedOf
+reply-keeps message serialNumber name deviceType transports features members link out answer =
+    let b = boxOf serialNumber name (transportsFor transports) deviceType features members in
+    let w = repliedOf b link message out in
+    keeps-answers 3 (numberMore (w .told)) out answer (w .out) (replyRow (w .told)) (replied-left b link out (envelopeOf message))
+
 -- writers of firmware messages
 segment-kept : (wide fine short : Bool) (fault : TextFault) (field size : ℕ) (out after : List ℕ)
     → let w : WrittenOf (ℕ × List ℕ) ℕ =
@@ -379,6 +394,7 @@ one-leaves-all = record {
   information-write = information-keeps;
   features-read = λ message answer. keeps-answers 2 _ [] answer _ _ (λ e. refl);
   features-write = features-keeps;
+  reply-write = reply-keeps;
   segment-read = λ message answer. keeps-answers 8 _ [] answer _ _ (λ e. refl);
   segment-write = segment-keeps;
   apply-read = λ message answer. keeps-answers answerSize _ [] answer _ _ (λ e. refl);

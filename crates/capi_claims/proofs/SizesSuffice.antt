@@ -2,7 +2,7 @@
 use Prim.Native.Nat.{ℕ, _+_, _-_, _/_, _%_, _≤_, _<_}
 use mathlib.Core.Path.{_≡_, refl, sym, ap, subst}
 use mathlib.Core.Logic.{inl, inr}
-use mathlib.Core.Bool.{Bool, true, false, not, _||_}
+use mathlib.Core.Bool.{Bool, true, false, cond, not, _||_}
 use mathlib.Core.List.{List, [], _∷_, map}
 use native.Mathlib.Nat.{zero-add}
 use native.Mathlib.Omega.{arith}
@@ -11,7 +11,8 @@ use lib.ListN.{length, take, getD, length-append, length-map}
 use lib.Seq.{sets}
 use lib.Dec.{eqb, ltb}
 use borrow.Author.Tests.{eq-eqb, ne-eqb, lt-ltb, le-ltb, le-leb}
-use Rattle.wire.specs.Told.{given, Written, WrittenOf, line, writes}
+use Rattle.wire.specs.Told.{given, Written, WrittenOf, written, line, writes}
+use Rattle.wire.specs.Limit.{limitFits}
 use Rattle.wire.proofs.Streams.{known-stream}
 use Rattle.wire.proofs.Limits.{range-limit}
 use Rattle.field.specs.Signed.{signedOf, extended}
@@ -41,7 +42,8 @@ use Rattle.field_writer.proofs.Messages.{wrote}
 use Rattle.text.specs.WellFormed.{WellFormed}
 use Rattle.text_writer.specs.Texts.{AllWellFormed, writesTexts}
 use Rattle.text_writer.proofs.Texts.{well-faultless, texts-wrote}
-use Rattle.control.specs.Envelope.{badPayload, envelopeFields, envelopeWritten}
+use Rattle.control.specs.declared.envelope.Envelope.{Envelope}
+use Rattle.control.specs.Envelope.{badPayload, envelopeOf, envelopeFields, envelopeWritten}
 use Rattle.control.specs.Response.{badResponsePayload, responseFields, responseWritten}
 use Rattle.device.specs.Information.{informationStrings, informationFields, informationWritten}
 use Rattle.device.specs.Features.{featuresFields, featuresWritten}
@@ -72,11 +74,22 @@ use Rattle.calls_sending.specs.Convert.{streamWith, sendingOf}
 use Rattle.calls_sending.specs.Calls.{packetWriteOf, ackWriteOf}
 use Rattle.rows_messages.specs.Convert.{isSigned, allSigned, responsePayloadOf, payloadFor, textCall}
 use Rattle.calls_messages.specs.Calls.{envelopeWriteOf, responseWriteOf, informationWriteOf, featuresWriteOf}
+use Rattle.walk.specs.Refusal.{numberMore}
+use Rattle.joining.specs.Joined.{joinedOf}
+use Rattle.reply.specs.declared.Link.{Link}
+use Rattle.reply.specs.declared.body.Members.{Members}
+use Rattle.reply.specs.declared.body.CommandKind.{CommandKind}
+use Rattle.reply.specs.declared.body.CommandKind.the-variants.{Information, Features, Bare, Other}
+use Rattle.reply.specs.Reply as reply
+use Rattle.reply.specs.Reply.{Box, boxOf, codeOf, memberOf, bodyBy, replyBy, replyOf, badCarried, stringsBy, Replied, silent, joinedIn, carriedOf, sentOf, isResponse, repliedOf}
+use Rattle.calls_reply.specs.Convert.{linkOf, fewSigned, transportsFor}
+use Rattle.calls_reply.specs.Calls.{replyWriteOf}
 use Rattle.rows_firmware.specs.Apply.{applyAt}
 use Rattle.calls_firmware.specs.Calls.{segmentStored, segmentWriteOf, applyStored, applyWriteOf}
 use Rattle.calls_outbox.specs.Calls.{outboxNewOf, outboxAppendOf}
-use Rattle.capi_claims.specs.SizesSuffice.{Done, StreamNumber, PayloadField, RowFits, stringsOf, SizesSuffice, frameSize, envelopeSize, responseSize, informationSize, featuresSize, segmentSize, applySize, recordSize}
+use Rattle.capi_claims.specs.SizesSuffice.{Done, StreamNumber, PayloadField, RowFits, stringsOf, SizesSuffice, frameSize, envelopeSize, responseSize, informationSize, featuresSize, replySize, segmentSize, applySize, recordSize}
 use Rattle.capi_claims.proofs.Sizes.{scalar-most, text-most, nested-most, packed-most, tag-most, tag-small}
+use Rattle.capi_claims.proofs.Replies.{joined-most}
 use Rattle.capi_claims.proofs.Applies.{not-wide, low-same, row-fine, firmware-fine, strings-fine, apply-most}
 
 -- an answer row of the right length
@@ -304,6 +317,100 @@ information-done serialNumber name deviceType transports out answer l e few well
     (texts-done (ltb mostTransports (length listed)) (informationStrings serialNumber name deviceType) (informationFields serialNumber name listed deviceType) out answer l
     (le-ltb mostTransports (length listed) most) (well₁, (well₂, (well₃, tt))) (omega (arith, information-most serialNumber name listed deviceType most)))
 
+-- ---- the reply
+
+body-most : (serialNumber name : List ℕ) (transports : List ℤ) (deviceType : List ℕ) (f : DeviceFeatures) (kind : CommandKind) → length transports ≤ mostTransports
+    → length (bodyBy serialNumber name transports deviceType f kind) ≤ informationSize (length serialNumber) (length name) (length deviceType)
+body-most serialNumber name transports deviceType f Information few = information-most serialNumber name transports deviceType few
+body-most serialNumber name transports deviceType f Features few = omega (arith, features-most f)
+body-most serialNumber name transports deviceType f Bare few = omega arith
+body-most serialNumber name transports deviceType f Other few = omega arith
+
+reply-most : (v : ℕ) (kind : CommandKind) (m : Members) (body : List ℕ) → length (replyBy v kind m body) ≤ envelopeSize (length body)
+unfolding replyBy
+reply-most v kind m body = envelope-most v (envelope.Response (codeOf kind) (memberOf m kind)) body
+
+carried-fine : (m : Members) (count : ℕ) (kind : CommandKind) → MemberNumber (m .information) → MemberNumber (m .features) → count ≤ mostTransports
+    → badCarried m count kind ≡ false
+carried-fine m count Information i f few = rw (member-fine (m .information) i, le-ltb mostTransports count few)
+carried-fine m count Features i f few = member-fine (m .features) f
+carried-fine m count Bare i f few = refl
+carried-fine m count Other i f few = refl
+
+carried-well : (serialNumber name deviceType : List ℕ) (kind : CommandKind) → WellFormed serialNumber → WellFormed name → WellFormed deviceType
+    → AllWellFormed (stringsBy serialNumber name deviceType kind)
+carried-well serialNumber name deviceType Information s n t = (s, (n, (t, tt)))
+carried-well serialNumber name deviceType Features s n t = tt
+carried-well serialNumber name deviceType Bare s n t = tt
+carried-well serialNumber name deviceType Other s n t = tt
+
+few-transports : (transports : List ℤ) → AllInSigned32 transports → length transports ≤ 8 → length (transportsFor (map extended transports)) ≤ mostTransports
+unfolding fewSigned
+few-transports transports e few =
+    rw (
+      length-map transports extended,
+      le-ltb mostTransports (length transports) few,
+      all-are-signed transports e,
+      length-map (map extended transports) signedOf,
+      length-map transports extended,
+    )
+    few
+
+-- a question in its ranges is answered
+module _ (b : Box) (l : Link) (v : ℕ) (out : List ℕ) where
+  joined-done : length (joinedOf (reply.sendingOf l) (replyOf b v)) ≤ length out → numberMore (joinedIn (reply.sendingOf l) (replyOf b v) out .told) ≡ 0
+  unfolding joinedIn
+  joined-done space = rw (le-ltb (length out) (length (joinedOf (reply.sendingOf l) (replyOf b v))) space)
+
+  carried-done : length (replyOf b v) ≤ l .limit → AllWellFormed (reply.stringsOf b (reply.kindOfCommand v))
+      → length (joinedOf (reply.sendingOf l) (replyOf b v)) ≤ length out → numberMore (carriedOf b l v (reply.kindOfCommand v) out .told) ≡ 0
+  unfolding carriedOf
+  carried-done within strings space =
+      rw (le-ltb (l .limit) (length (replyOf b v)) within, well-faultless (reply.stringsOf b (reply.kindOfCommand v)) strings) (joined-done space)
+
+  sent-done : roomFits (l .room) ≡ true → limitFits (l .limit) ≡ true → inRange 0 (l .id) (l .sequence) ≡ true
+      → badCarried (b .members) (length (b .transports)) (reply.kindOfCommand v) ≡ false → length (replyOf b v) ≤ l .limit → AllWellFormed (reply.stringsOf b (reply.kindOfCommand v))
+      → length (joinedOf (reply.sendingOf l) (replyOf b v)) ≤ length out → numberMore (sentOf b l v out .told) ≡ 0
+  unfolding sentOf
+  sent-done room limit range carried within strings space = rw (room, limit, range, carried) (carried-done within strings space)
+
+silent-done : (response : Bool) (out : List ℕ) (w : WrittenOf (ℕ × List ℕ) Replied) → numberMore (w .told) ≡ 0
+    → let x : WrittenOf (ℕ × List ℕ) Replied = cond response (written (given silent) out) w in numberMore (x .told) ≡ 0
+silent-done true out w k = refl
+silent-done false out w k = k
+
+link-is : (room limit id sequence : ℕ) → id ≤ 15 → sequence ≤ 15 → linkOf room limit id sequence ≡ record { room = room; limit = limit; id = id; sequence = sequence }
+unfolding linkOf
+link-is room limit id sequence i q = rw (byte-is outOfRange id (omega arith), byte-is outOfRange sequence (omega arith))
+
+room-is : (room : ℕ) → 20 ≤ room → room ≤ 512 → roomFits room ≡ true
+unfolding roomFits
+room-is room low high = rw (le-leb leastRoom room low, le-leb room largestRoom high)
+
+reply-done : (message serialNumber name deviceType : List ℕ) (transports : List ℤ) (features : DeviceFeatures) (members : Members)
+    (room limit id sequence : ℕ) (e : Envelope) (out answer : List ℕ) → length answer ≡ 3 → envelopeOf message ≡ given e
+    → 20 ≤ room → room ≤ 512 → limit ≤ 65535 → id ≤ 15 → sequence ≤ 15 → MemberNumber (members .information) → MemberNumber (members .features)
+    → AllInSigned32 transports → length transports ≤ 8 → WellFormed serialNumber → WellFormed name → WellFormed deviceType
+    → envelopeSize (informationSize (length serialNumber) (length name) (length deviceType)) ≤ limit
+    → replySize (length serialNumber) (length name) (length deviceType) ≤ length out
+    → Done (replyWriteOf message serialNumber name deviceType (map extended transports) features members (linkOf room limit id sequence) out answer)
+unfolding replyWriteOf repliedOf
+reply-done message serialNumber name deviceType transports features members room limit id sequence e out answer l reads low high most i q im fm n few s nm t within h =
+    let listed = transportsFor (map extended transports) in
+    let b : Box = boxOf serialNumber name listed deviceType features members in
+    let k : Link = record { room = room; limit = limit; id = id; sequence = sequence } in
+    let v = extended (e .command) in
+    let kind = reply.kindOfCommand v in
+    let fewer : length listed ≤ mostTransports = few-transports transports n few in
+    let body = body-most serialNumber name listed deviceType features kind fewer in
+    let whole = reply-most v kind members (reply.bodyOf b kind) in
+    let joined = joined-most (reply.sendingOf k) (replyOf b v) low in
+    fit-done 3 [] out answer _ l
+    (rw (link-is room limit id sequence i q, reads)
+    (silent-done (isResponse (e .payload)) out (sentOf b k v out)
+    (sent-done b k v out (room-is room low high) (range-limit limit (omega arith) most) (in-range 0 id sequence (inl refl) i q)
+    (carried-fine members (length listed) kind im fm fewer) (omega (arith, body, whole)) (carried-well serialNumber name deviceType kind s nm t) (omega (arith, body, whole, joined)))))
+
 segment-most : (name : List ℕ) (size : ℕ) (signature : List ℕ) → length signature ≡ 64
     → length (messageBytes (segmentFields name 0 size signature)) ≤ segmentSize (length name)
 segment-most name size signature h =
@@ -391,6 +498,7 @@ sizes-suffice = record {
   response-write = response-done;
   information-write = information-done;
   features-write = features-done;
+  reply-write = reply-done;
   segment-write = segment-done;
   apply-write = apply-done;
   outbox-new = new-done;

@@ -5,6 +5,9 @@ use mathlib.Core.Path.{_≡_}
 use mathlib.Core.List.{List, []}
 use Rattle.sender.specs.declared.writer.Sending.{Sending}
 use Rattle.control.specs.declared.envelope.EnvelopePayload.{EnvelopePayload}
+use Rattle.device.specs.declared.features.DeviceFeatures.{DeviceFeatures}
+use Rattle.reply.specs.declared.Link.{Link}
+use Rattle.reply.specs.declared.body.Members.{Members}
 use Rattle.rows.specs.Called.{Called, called}
 use Rattle.calls_classic.specs.Calls.{noneUsed, extractorOpenOf, extractorStepOf, extractorFeedOf, frameWriteOf, nextSequenceOf}
 use Rattle.calls_parts.specs.Calls.{frameBeginOf, framePartOf}
@@ -12,6 +15,7 @@ use Rattle.calls_sending.specs.Calls.{packetWriteOf, ackWriteOf}
 use Rattle.calls_receiving.specs.Calls.{AcceptCalled, replied, receiverOpenOf, receiverAcceptOf}
 use Rattle.calls_captures.specs.Calls.{captureJudgeOf}
 use Rattle.calls_messages.specs.Calls.{envelopeReadOf, envelopeWriteOf, responseReadOf, responseWriteOf, informationReadOf, informationWriteOf, featuresReadOf, featuresWriteOf}
+use Rattle.calls_reply.specs.Calls.{replyWriteOf}
 use Rattle.calls_firmware.specs.Calls.{segmentReadOf, segmentWriteOf, applyReadOf, applyWriteOf, fieldReadOf}
 use Rattle.calls_outbox.specs.Calls.{outboxNewOf, outboxAppendOf, outboxRecordOf, outboxWholeOf}
 use Rattle.outbox.specs.declared.format.Format.{Format}
@@ -49,6 +53,8 @@ pub record OneLeavesAll : Type 0 where
       → Keeps [] out answer (informationWriteOf serialNumber name deviceType transports out answer)
   pub features-read : (message answer : List ℕ) → Keeps [] [] answer (featuresReadOf message answer)
   pub features-write : (features attributes : ℕ) (out answer : List ℕ) → Keeps [] out answer (featuresWriteOf features attributes out answer)
+  pub reply-write : (message serialNumber name deviceType transports : List ℕ) (features : DeviceFeatures) (members : Members) (link : Link)
+      (out answer : List ℕ) → Keeps [] out answer (replyWriteOf message serialNumber name deviceType transports features members link out answer)
   pub segment-read : (message answer : List ℕ) → Keeps [] [] answer (segmentReadOf message answer)
   pub segment-write : (offset size : ℕ) (name signature out answer : List ℕ)
       → Keeps [] out answer (segmentWriteOf name offset size signature out answer)

@@ -7,12 +7,17 @@ use mathlib.Core.Bool.{true}
 use mathlib.Core.List.{List, _∷_, map}
 use lib.IntN.{ℤ}
 use lib.ListN.{length, take, getD}
+use Rattle.wire.specs.Told as told
 use Rattle.packet.specs.Control.{ackSize}
 use Rattle.frame_writer.specs.Sending.{NoMark}
 use Rattle.sender.specs.Writer.{begins, foundAt}
 use Rattle.field.specs.Signed.{extended}
 use Rattle.field.specs.Value.{bytesOf}
 use Rattle.text.specs.WellFormed.{WellFormed}
+use Rattle.control.specs.declared.envelope.Envelope.{Envelope}
+use Rattle.control.specs.Envelope.{envelopeOf}
+use Rattle.device.specs.declared.features.DeviceFeatures.{DeviceFeatures}
+use Rattle.reply.specs.declared.body.Members.{Members}
 use Rattle.outbox.specs.declared.format.Format.{Format}
 use Rattle.outbox.specs.Format.{Known, formatOf, headSize}
 use Rattle.outbox.specs.Reader.{given, walkOf}
@@ -26,6 +31,8 @@ use Rattle.calls_sending.specs.Convert.{sendingOf}
 use Rattle.calls_sending.specs.Calls.{packetWriteOf, ackWriteOf}
 use Rattle.rows_messages.specs.Convert.{payloadFor}
 use Rattle.calls_messages.specs.Calls.{envelopeWriteOf, responseWriteOf, informationWriteOf, featuresWriteOf}
+use Rattle.calls_reply.specs.Convert.{linkOf}
+use Rattle.calls_reply.specs.Calls.{replyWriteOf}
 use Rattle.calls_firmware.specs.Calls.{segmentWriteOf, applyWriteOf}
 use Rattle.calls_outbox.specs.Calls.{outboxNewOf, outboxAppendOf}
 
@@ -48,6 +55,10 @@ informationSize a b c = a + b + c + 124
 -- PITO_FEATURES_SIZE
 abbrev pub featuresSize : ℕ
 featuresSize = 22
+
+-- PITO_REPLY_SIZE
+abbrev pub replySize : ℕ → ℕ → ℕ → ℕ
+replySize a b c = 2 * (a + b + c) + 360
 
 -- PITO_SEGMENT_SIZE
 abbrev pub segmentSize : ℕ → ℕ
@@ -136,6 +147,14 @@ pub record SizesSuffice : Type 0 where
       → Done (informationWriteOf serialNumber name deviceType (map extended transports) out answer)
   pub features-write : (features attributes : ℕ) (out answer : List ℕ) → length answer ≡ 1 → featuresSize ≤ length out
       → Done (featuresWriteOf features attributes out answer)
+  -- to every envelope, at each room; the limit holds the longest reply
+  pub reply-write : (message serialNumber name deviceType : List ℕ) (transports : List ℤ) (features : DeviceFeatures) (members : Members)
+      (room limit id sequence : ℕ) (e : Envelope) (out answer : List ℕ) → length answer ≡ 3 → envelopeOf message ≡ told.given e
+      → 20 ≤ room → room ≤ 512 → limit ≤ 65535 → id ≤ 15 → sequence ≤ 15 → MemberNumber (members .information) → MemberNumber (members .features)
+      → AllInSigned32 transports → length transports ≤ 8 → WellFormed serialNumber → WellFormed name → WellFormed deviceType
+      → envelopeSize (informationSize (length serialNumber) (length name) (length deviceType)) ≤ limit
+      → replySize (length serialNumber) (length name) (length deviceType) ≤ length out
+      → Done (replyWriteOf message serialNumber name deviceType (map extended transports) features members (linkOf room limit id sequence) out answer)
   -- an offset of 0, and 64 hexadecimal digits
   pub segment-write : (name : List ℕ) (size : ℕ) (signature out answer : List ℕ) → length answer ≡ 3
       → WellFormed name → Unsigned32 size → length signature ≡ 64 → Digits signature → segmentSize (length name) ≤ length out

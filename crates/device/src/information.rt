@@ -91,7 +91,7 @@ pub fn read_information(message: &[u8]) -> InformationRead
 }
 
 // The room that device information leaves in an output of this length.
-fn information_room(
+pub fn information_room(
     len: usize,
     serial_number: &[u8],
     name: &[u8],
@@ -114,7 +114,7 @@ fn information_room(
 }
 
 // Device information, written from the first byte on; the answer is the place after it.
-fn put_information(
+pub fn put_information(
     out: &mut [u8],
     serial_number: &[u8],
     name: &[u8],
@@ -162,7 +162,7 @@ fn fill_information(
 }
 
 // The first string that is not well formed.
-fn information_fault(serial_number: &[u8], name: &[u8], device_type: &[u8]) -> TextFault
+pub fn information_fault(serial_number: &[u8], name: &[u8], device_type: &[u8]) -> TextFault
     ensures { λ r. ⌜ r
         ≡ firstFault (informationStrings (now («serial_number» .entry)) (now (name .entry)) (now («device_type» .entry))) ⌝ }
 {

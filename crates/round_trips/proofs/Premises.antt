@@ -26,7 +26,7 @@ pub signed : (z : ℤ) → InSigned32 z → SFits w32 z
 signed (pos n) h = record { sfits = omega arith }
 signed (negsuc n) h = record { sfits = omega arith }
 
-all-signed : (zs : List ℤ) → AllInSigned32 zs → AllSigned32 zs
+pub all-signed : (zs : List ℤ) → AllInSigned32 zs → AllSigned32 zs
 all-signed [] h = tt
 all-signed (z ∷ zs) h = (signed z (h .0), all-signed zs (h .1))
 

@@ -65,7 +65,7 @@ texts-back bad strings fields out read a b well h e =
 pub done : {s : List ℕ} {at : ℕ} (l : List ℕ) → At s at (l ++ []) [] → length s ≤ at + length l
 done l a = omega (arith, last (behind l [] a))
 
-features-read : (f : DeviceFeatures) (s : List ℕ) → f .features < 2 ^ 64 → f .«device_attributes» < 2 ^ 64 → At s 0 (messageBytes (featuresFields f)) [] → featuresOf s ≡ given f
+pub features-read : (f : DeviceFeatures) (s : List ℕ) → f .features < 2 ^ 64 → f .«device_attributes» < 2 ^ 64 → At s 0 (messageBytes (featuresFields f)) [] → featuresOf s ≡ given f
 unfolding featuresOf roleOf
 features-read f s h₁ h₂ a =
     let b₁ = fieldBytes (scalar featuresField (f .features)) in
@@ -83,7 +83,7 @@ features-round-trip f out t =
     (features-read f (messageBytes (featuresFields f)) (omega (arith, t .first)) (omega (arith, t .second)) (whole (messageBytes (featuresFields f))))
 
 -- ---- device information
-information-read : (serial name : List ℕ) (ts : List ℤ) (kind s : List ℕ) → AllWellFormed (informationStrings serial name kind) → AllSigned32 ts → length ts ≤ 8 → length s < 2 ^ 64
+pub information-read : (serial name : List ℕ) (ts : List ℤ) (kind s : List ℕ) → AllWellFormed (informationStrings serial name kind) → AllSigned32 ts → length ts ≤ 8 → length s < 2 ^ 64
     → At s 0 (messageBytes (informationFields serial name ts kind)) []
     → informationAgain s ≡ given (serial, name, ts, kind)
 unfolding informationOf roleOf
@@ -196,7 +196,7 @@ within-envelope z s (given x) code payload l e =
     ap (λ (y : ℤ × ResponsePayload × List ℕ). given (z, (Sent.Response (y .0) (y .1), y .2))) h
 within-envelope z s (refused n) code payload l e = absurd (let o : _≡_ {A = ℕ} 0 1 = cc in omega arith)
 
-envelope-read : (z : ℤ) (payload : EnvelopePayload) (body s : List ℕ) → Signed32 z → CodeSigned32 payload → badPayload payload ≡ false → length s < 2 ^ 64
+pub envelope-read : (z : ℤ) (payload : EnvelopePayload) (body s : List ℕ) → Signed32 z → CodeSigned32 payload → badPayload payload ≡ false → length s < 2 ^ 64
     → At s 0 (messageBytes (envelopeFields (extended z) payload body)) []
     → envelopeAgain s ≡ given (z, (payload, payloadBytes payload body))
 unfolding envelopeOf payloadOf roleOf judged

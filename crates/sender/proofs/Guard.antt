@@ -65,7 +65,6 @@ module _ (limit : ℕ) (w : Sending) (length space : ℕ) (small : limit < 65536
         low-total = omega arith;
         inside = omega arith;
         header-fits = omega arith;
-        enough = omega arith;
       }
 
   tail-by : (last : Bool) (q : ℕ) (ps : List Piece) → WritesFound w length space (pieceAt q ps) → WritesFound w length space (pieceAt q (cond last [] ps))

@@ -20,7 +20,14 @@ length-total : (first : Bool) (total : ℕ) → startSize + length (totalBytes f
 length-total true total = refl
 length-total false total = refl
 
-length-by : (first : Bool) (n : ℕ) (b : Bool) → extended n ≡ b → lengthPlace first + length (lengthBytes n) ≡ headerSize first (extended n)
+-- no header has fewer bytes than a following packet's
+pub header-some : (first e : Bool) → 3 ≤ headerSize first e
+header-some true true = omega arith
+header-some true false = omega arith
+header-some false true = omega arith
+header-some false false = omega arith
+
+pub length-by : (first : Bool) (n : ℕ) (b : Bool) → extended n ≡ b → lengthPlace first + length (lengthBytes n) ≡ headerSize first (extended n)
 length-by true n true e = rw e
 length-by true n false e = rw e
 length-by false n true e = rw e

@@ -144,7 +144,6 @@ pub record Writes (w : Sending) (length : ℕ) (space : ℕ) (p : Piece) : Type 
   pub low-total : length < 65536
   pub inside : p .place + p .size ≤ length
   pub header-fits : headerSize (isFirst (p .index)) (extended (p .size)) + p .size ≤ space
-  pub enough : leastRoom ≤ space
 
 -- the same of a decision to write
 abbrev pub WritesGiven : Sending → ℕ → ℕ → Told Piece → Type 0

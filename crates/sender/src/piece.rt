@@ -41,7 +41,7 @@ pub fn size_for(room: usize, first: bool, rest: usize) -> usize
 }
 
 // The size of a piece that fills the room together with its header.
-fn full_size(room: usize, first: bool) -> usize
+pub fn full_size(room: usize, first: bool) -> usize
     requires { ⌜ leastRoom ≤ room ⌝ }
     ensures { λ r. ⌜ (r ≡ fullSize room first) × (0 < r) ⌝ }
 {

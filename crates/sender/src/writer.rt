@@ -15,7 +15,7 @@ ghost use Prim.Native.Nat.{_+_, _≤_, _<_};
 ghost use lib.ListN.{length};
 ghost use lib.Seq.{sets};
 ghost use Rattle.wire.specs.Told.{given, written};
-ghost use Rattle.packet.specs.Header.{fourBits, startSize, headerSize};
+ghost use Rattle.packet.specs.Header.{fourBits, startSize, lengthPlace, headerSize};
 ghost use Rattle.sender.specs.Piece.{extended, isFirst};
 ghost use Rattle.sender.specs.Writer.{typeFor, startBytes, totalBytes, lengthBytes, headerBytes, packetOf, numberOf, roomFits, argumentsFit, sentFor, sentOf, told, decisionOf, decided, writtenOf, Writes, WritesGiven};
 
@@ -130,7 +130,7 @@ fn put_start(out: &mut [u8], how: Sending, piece: Piece, last: bool)
 
 // A first packet's reserved byte and total.
 fn put_total(out: &mut [u8], first: bool, total: usize)
-    requires { ⌜ (startSize + 3 ≤ length (now out)) × (total < 65536) ⌝ }
+    requires { ⌜ (lengthPlace first ≤ length (now out)) × (total < 65536) ⌝ }
     ensures { λ _. ⌜ now (out .exit) ≡ sets (now (out .entry)) startSize (totalBytes first total) ⌝ }
 {
     if first {
@@ -141,7 +141,7 @@ fn put_total(out: &mut [u8], first: bool, total: usize)
 
 // The payload length: one byte, or two with the extender.
 fn put_length(out: &mut [u8], at: usize, n: usize)
-    requires { ⌜ (at + 2 ≤ length (now out)) × (n < 65536) ⌝ }
+    requires { ⌜ (at + length (lengthBytes n) ≤ length (now out)) × (n < 65536) ⌝ }
     ensures { λ _. ⌜ now (out .exit) ≡ sets (now (out .entry)) at (lengthBytes n) ⌝ }
 {
     if ONE_BYTE_LENGTH < n {
@@ -152,7 +152,7 @@ fn put_length(out: &mut [u8], at: usize, n: usize)
 }
 
 // The header, and how long it is.
-fn put_header(out: &mut [u8], how: Sending, total: usize, piece: Piece, last: bool) -> usize
+pub fn put_header(out: &mut [u8], how: Sending, total: usize, piece: Piece, last: bool) -> usize
     requires { ⌜ Writes how total (length (now out)) piece ⌝ }
     ensures { λ r. ⌜ (now (out .exit) ≡ sets (now (out .entry)) 0 (headerBytes how total piece last))
         × (r ≡ headerSize (isFirst (piece .index)) (extended (piece .size)))

@@ -217,7 +217,7 @@ fn transports(rng: &mut Rng) -> Vec<u8> {
 }
 
 /// A message: mostly fields, sometimes anything, often damaged.
-fn message(rng: &mut Rng) -> Vec<u8> {
+pub(super) fn message(rng: &mut Rng) -> Vec<u8> {
     let mut message = match rng.below(20) {
         0 => {
             let size = rng.index(14);

@@ -9,6 +9,7 @@ pub mod orders;
 pub mod outboxes;
 pub mod packets;
 pub mod parts;
+pub mod replies;
 pub mod rooms;
 pub mod sizes;
 pub mod streams;
@@ -80,6 +81,10 @@ pub const PARTS: &[Part] = &[
     Part {
         name: "control messages",
         run: control::run,
+    },
+    Part {
+        name: "replies",
+        run: replies::run,
     },
     Part {
         name: "firmware messages",

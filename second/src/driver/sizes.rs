@@ -119,6 +119,16 @@ fn ordinary(rng: &mut Rng, operation: Operation) -> Call {
                 .lent(rng.bytes(160))
         }
         Operation::FeaturesWrite => call.numbers(&[rng.draw(), rng.draw()]).lent(rng.bytes(22)),
+        Operation::ReplyWrite => {
+            let message = *rng.pick(&[&[0x08, 0x14][..], &[0x08, 0x1C], &[0x08, 0x5E], &[]]);
+            let room = rng.below(493) + 20;
+            let mut numbers = vec![rng.draw(), rng.draw(), 3, 28, room, 4_096];
+            numbers.extend([rng.below(16), rng.below(16)]);
+            numbers.extend((0..rng.below(9)).map(|_| rng.below(2)));
+            call.numbers(&numbers)
+                .inputs(&[message, b"S", b"N", b"T"])
+                .lent(rng.bytes(80))
+        }
         Operation::SegmentRead => {
             let message = [&[0x18, 0x07, 0x22, 0x40][..], &firmware::digits(rng)].concat();
             call.inputs(&[&message])
@@ -230,6 +240,10 @@ fn disturb(rng: &mut Rng, call: &mut Call) {
             7 if call.operation == Operation::InformationWrite => {
                 let count = rng.index(12);
                 call.numbers.resize(count, 1);
+            }
+            7 if call.operation == Operation::ReplyWrite => {
+                let count = rng.index(12);
+                call.numbers.resize(8 + count, 1);
             }
             7 if call.operation == Operation::ApplyWrite && rng.once_in(4) => {
                 let length = rng.between(55, 59);

@@ -32,6 +32,7 @@ pub fn run(c: &mut Comparison<'_>, _: &mut Rng, _: Plan) -> Compared<()> {
     limits(c)?;
     packets(c)?;
     messages(c)?;
+    replies(c)?;
     outbox(c)?;
     slips(c)?;
     requests(c)
@@ -356,6 +357,81 @@ fn messages(c: &mut Comparison<'_>) -> Compared<()> {
         .numbers(&[u64::MAX, 0, 0, 0])
         .lent(blank(12));
     c.expect(&mut call, 0, |call| wrote(call, &message))
+}
+
+/// No. 13: S, N, T, transport 0, features 13 hex; members 3 and 28; limit 4,096, id 1, sequence 2.
+fn replies(c: &mut Comparison<'_>) -> Compared<()> {
+    c.at = "No. 13".to_string();
+    let ask = |message: &str, room: u64, size: usize| {
+        Call::new(Operation::ReplyWrite)
+            .numbers(&[0x13, 0, 3, 28, room, LIMIT, 1, 2, 0])
+            .inputs(&[&bytes(message), b"S", b"N", b"T"])
+            .lent(blank(size))
+    };
+    let information = "01 20 00 00 12 12 08 14 4A 0E 1A 0C 0A 01 53 12 01 4E 1A 01 00 22 01 54";
+    let sent = [
+        ("08 14", 64, information),
+        ("08 1C", 64, "01 20 00 00 09 09 08 1C 4A 05 E2 01 02 08 13"),
+        ("08 5E", 64, "01 20 00 00 04 04 08 5E 4A 00"),
+        ("", 64, "01 20 00 00 04 04 4A 02 08 03"),
+        // At room 20 the first packet has 14 of the 18 bytes.
+        (
+            "08 14",
+            20,
+            "01 20 00 00 12 0E 08 14 4A 0E 1A 0C 0A 01 53 12 01 4E 1A 01 01 38 04 00 22 01 54",
+        ),
+        // A response gets none, whatever the room is.
+        ("08 14 4A 00", 0, ""),
+    ];
+    for (message, room, joined) in sent {
+        let joined = bytes(joined);
+        let mut call = ask(message, room, 40);
+        c.expect(&mut call, 0, |call| {
+            wrote(call, &joined) && call.answer[1..] == [0, 0]
+        })?;
+        if let Some(less) = joined.len().checked_sub(1) {
+            let mut call = ask(message, room, less);
+            c.expect(&mut call, 14, |call| call.lent == blank(less))?;
+        }
+    }
+    // The number that is refused by, with the place in the numbers and what stands there.
+    let refused = [
+        ("08 14 4A 01 FF", 4, 0, 30),
+        ("08 14", 4, 19, 13),
+        ("08 14", 5, 0, 17),
+        ("08 14", 5, 17, 15),
+        ("08 14", 6, 16, 15),
+        ("08 14", 7, 16, 15),
+        ("08 14", 2, 1, 15),
+        ("08 1C", 3, 1, 15),
+        ("08 14", 8, 1 << 31, 15),
+        // What is not carried is not judged.
+        ("08 14", 3, 1, 0),
+        ("08 1C", 2, 1, 0),
+        ("08 5E", 2, 1, 0),
+        ("08 5E", 8, 1 << 31, 0),
+    ];
+    for (message, place, number, returned) in refused {
+        let mut call = ask(message, 64, 40);
+        call.numbers[place] = number;
+        c.expect(&mut call, returned, |call| {
+            returned == 0 || call.lent == blank(40)
+        })?;
+    }
+    // 36 after 15 and before 14, with field and place; not where the strings are not carried.
+    for (message, limit, returned, told) in [
+        ("08 14", LIMIT, 36, [2, 1]),
+        ("08 14", 18, 15, [0, 0]),
+        ("08 1C", LIMIT, 14, [0, 0]),
+    ] {
+        let mut call = ask(message, 64, 0);
+        call.numbers[5] = limit;
+        call.inputs[2] = bytes("4E FF");
+        c.expect(&mut call, returned, |call| {
+            call.answer[0] == 0 && call.answer[1..] == told
+        })?;
+    }
+    Ok(())
 }
 
 fn outbox(c: &mut Comparison<'_>) -> Compared<()> {

@@ -1,11 +1,18 @@
 use denote.Ref.{now}
 use borrow.Author.Needs.{needs}
-use Rattle.sender.proofs.Packets.{header-stored}
+use native.Mathlib.Omega.{arith}
+use mathlib.Core.Path.{refl}
+use Rattle.sender.specs.Piece.{extended, isFirst}
+use Rattle.sender.proofs.Packets.{header-some, length-by, header-stored}
 use Rattle.sender.proofs.writer.put_header.Statement.{statement}
 use Rattle.sender.proofs.writer.put_header.Tie as tie
 
 put-start-requires : tie.Need-put-start-requires
-put-start-requires c κs = search needs
+put-start-requires c κs =
+    let a = c .before .before .before in
+    let f = a .pre .header-fits in
+    let h = header-some (isFirst (a .args .piece .index)) (extended (a .args .piece .size)) in
+    (omega arith, a .pre .low-stream, a .pre .low-id)
 
 put-total-requires : tie.Need-put-total-requires
 put-total-requires c κs = search needs
@@ -14,7 +21,14 @@ length-place-requires : tie.Need-length-place-requires
 length-place-requires c κs = search needs
 
 put-length-requires : tie.Need-put-length-requires
-put-length-requires c κs = search needs
+put-length-requires c κs =
+    let a = c .before .before .before .before .before .before .before .before .before .before .before .before in
+    let l = length-by (isFirst (a .args .piece .index)) (a .args .piece .size) (extended (a .args .piece .size)) refl in
+    let e = c .length-place .ensures .0 in
+    let k1 = c .before .before .before .before .put-total .kept .0 in
+    let k2 = c .before .before .before .before .before .before .before .before .put-start .kept .0 in
+    let f = a .pre .header-fits in
+    (omega arith, omega (arith, a .pre .inside, a .pre .low-total))
 
 header-size-requires : tie.Need-header-size-requires
 header-size-requires c κs = search needs

@@ -1,16 +1,17 @@
+use native.Mathlib.Omega.{arith}
 use borrow.Author.Tests.{lt-ltb, le-ltb}
 use borrow.Author.Needs.{needs}
 use Rattle.sender.proofs.writer.put_length.Statement.{statement}
 use Rattle.sender.proofs.writer.put_length.Tie as tie
 
 put-pair-requires : tie.Need-put-pair-requires
-put-pair-requires c κs = search needs
+put-pair-requires c κs = (rw (lt-ltb _ _ (c .before .if1 .taken)) at (c .before .before .before .pre .0), c .before .before .before .pre .1)
 
 cast-out : tie.Need-cast-out
 cast-out c = search needs
 
 slice-write-out : tie.Need-slice-write-out
-slice-write-out c = search needs
+slice-write-out c = omega (arith, rw (le-ltb _ _ (c .if1 .left)) at (c .before .before .pre .0))
 
 same-length : tie.Need-same-length
 same-length c = search needs

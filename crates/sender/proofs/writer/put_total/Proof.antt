@@ -1,3 +1,4 @@
+use native.Mathlib.Omega.{arith}
 use mathlib.Core.Path.{ap, _∙_}
 use lib.Seq.{length-sets}
 use lib.ListN.{length, length-set}
@@ -6,13 +7,14 @@ use Rattle.sender.proofs.writer.put_total.Statement.{statement}
 use Rattle.sender.proofs.writer.put_total.Tie as tie
 
 slice-write-out : tie.Need-slice-write-out
-slice-write-out c = search needs
+slice-write-out c = omega (arith, rw (c .if1 .taken) at (c .before .before .pre .0))
 
 add-put-pair : tie.Need-add-put-pair
 add-put-pair c = search needs
 
 put-pair-requires : tie.Need-put-pair-requires
-put-pair-requires c κs = search needs
+put-pair-requires c κs =
+    let h = rw (c .before .if1 .taken) at (c .before .before .before .pre .0) in (simp length-set (omega arith), c .before .before .before .pre .1)
 
 same-length : tie.Need-same-length
 same-length c = ap length (c .before .before .put-pair .ensures) ∙ simp (length-sets, length-set)

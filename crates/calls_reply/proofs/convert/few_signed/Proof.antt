@@ -1,0 +1,19 @@
+use borrow.Author.Tests.{lt-ltb, le-ltb}
+use Rattle.calls_reply.specs.Convert.{fewSigned}
+use borrow.Author.Needs.{needs}
+use Rattle.calls_reply.proofs.convert.few_signed.Statement.{statement}
+use Rattle.calls_reply.proofs.convert.few_signed.Tie as tie
+
+returns : tie.Need-returns
+unfolding fewSigned
+returns c = rw (lt-ltb _ _ (c .if1 .taken))
+
+all-signed-requires : tie.Need-all-signed-requires
+all-signed-requires c κs = search needs
+
+returns-2 : tie.Need-returns-2
+unfolding fewSigned
+returns-2 c = rw (le-ltb _ _ (c .before .if1 .left)) (c .all-signed .ensures)
+
+pub few-signed-spec : {M : Type 1} → statement M
+few-signed-spec = tie.close (tie.spec returns all-signed-requires returns-2)

@@ -1,0 +1,67 @@
+use native.Mathlib.Omega.{arith}
+use mathlib.Core.Path.{refl, ap, _∙_}
+use lib.ListN.{length}
+use denote.Ref.{now}
+use borrow.Rule.Slice.PartMut.{putMid}
+use borrow.Author.Needs.{needs}
+use Prim.Native.Nat.{_-_}
+use Rattle.wire.proofs.Parts.{sets-part}
+use Rattle.sender.specs.Writer.{headerBytes}
+use Rattle.sender.proofs.Packets.{header-length}
+use Rattle.joining.proofs.Joining.{placed}
+use Rattle.joining.proofs.put_packet.Statement.{statement}
+use Rattle.joining.proofs.put_packet.Tie as tie
+
+sub-put-header : tie.Need-sub-put-header
+sub-put-header c = search needs
+
+part-put-header-start : tie.Need-part-put-header-start
+part-put-header-start c = search needs
+
+part-put-header-end : tie.Need-part-put-header-end
+part-put-header-end c = search needs
+
+put-header-requires : tie.Need-put-header-requires
+put-header-requires c κs = search needs
+
+add-start : tie.Need-add-start
+add-start c = search needs
+
+move-down-requires : tie.Need-move-down-requires
+move-down-requires c κs = search needs
+
+add-result : tie.Need-add-result
+add-result c = search needs
+
+same-length : tie.Need-same-length
+same-length c = search needs
+
+returns : tie.Need-returns
+returns c =
+    let m = c .before .before .move-down in
+    let h = c .before .before .before .before .before .before .put-header in
+    let s = c .before .before .before .before .before .before .before .before .before in
+    let a = s .args in
+    let f = s .pre in
+    let header = headerBytes (a .how) (a .total) (a .piece) (a .last) in
+    let l = header-length (a .how) (a .total) (a .piece) (a .last) in
+    let k = length (now (a .out)) - a .at in
+    placed (a .how) (a .total) (a .piece) (a .last) (now (a .out)) _ _ (a .at) (a .from) _ _ f
+    (h .ensures .1)
+    (ap (putMid (a .at) k (now (a .out))) (h .ensures .0) ∙ sets-part (now (a .out)) (a .at) k 0 header (omega (arith, f .earlier, f .within)) (omega (arith, l, f .earlier, f .within)))
+    (m .ensures)
+    refl
+
+pub put-packet-spec : {M : Type 1} → statement M
+put-packet-spec =
+    tie.close
+    (tie.spec
+    sub-put-header
+    part-put-header-start
+    part-put-header-end
+    put-header-requires
+    add-start
+    move-down-requires
+    add-result
+    same-length
+    returns)

@@ -1,0 +1,55 @@
+use mathlib.Core.Path.{sym, ap, _∙_}
+use denote.Ref.{now}
+use Rattle.reply.specs.Reply.{boxOf}
+use Rattle.reply.specs.Put.{verdictOf}
+use Rattle.reply.proofs.Replies.{fine-carries}
+use Rattle.reply.proofs.Tables.{is-refused, goes-on}
+use borrow.Author.Needs.{needs}
+use Rattle.reply.proofs.answer.Statement.{statement}
+use Rattle.reply.proofs.answer.Tie as tie
+
+kind-of-command-requires : tie.Need-kind-of-command-requires
+kind-of-command-requires c κs = search needs
+
+judge-requires : tie.Need-judge-requires
+judge-requires c κs = search needs
+
+enum-known-why : tie.Need-enum-known-why
+enum-known-why c = search needs
+
+enum-told : tie.Need-enum-told
+enum-told c = search needs
+
+carry-requires : tie.Need-carry-requires
+carry-requires c κs =
+    let a = c .before .before .before .before .before .before .before .before .before .args in
+    fine-carries (c .before .before .before .before .kind-of-command .result) (a .members) (now (a .transports)) (a .link) (sym (c .before .before .before .judge .ensures) ∙ ap verdictOf (c .before .enum-told .given .1))
+
+returns : tie.Need-returns
+returns c =
+    let a = c .before .before .before .before .before .before .before .before .before .args in
+    is-refused (boxOf (now (a .serial-number)) (now (a .name)) (now (a .transports)) (now (a .device-type)) (a .features) (a .members)) (a .link) (a .value) (c .before .before .before .before .kind-of-command .result) (now (a .out)) (c .before .before .before .before .kind-of-command .ensures) _
+    (sym (c .before .before .before .judge .ensures) ∙ ap verdictOf (c .before .why .given .1))
+
+same-length : tie.Need-same-length
+same-length c = search needs
+
+returns-2 : tie.Need-returns-2
+returns-2 c =
+    let a = c .before .before .before .before .before .before .before .before .before .before .before .before .args in
+    c .before .before .carry .ensures
+    ∙ goes-on (boxOf (now (a .serial-number)) (now (a .name)) (now (a .transports)) (now (a .device-type)) (a .features) (a .members)) (a .link) (a .value) (c .before .before .before .before .before .before .before .kind-of-command .result) (now (a .out)) (c .before .before .before .before .before .before .before .kind-of-command .ensures)
+    (sym (c .before .before .before .before .before .before .judge .ensures) ∙ ap verdictOf (c .before .before .before .before .enum-told .given .1))
+
+pub answer-spec : {M : Type 1} → statement M
+answer-spec =
+    tie.close
+    (tie.spec
+    kind-of-command-requires
+    judge-requires
+    enum-known-why
+    enum-told
+    carry-requires
+    returns
+    same-length
+    returns-2)

@@ -1,0 +1,88 @@
+use Rattle.reply.specs.Put.{judgedOf}
+use borrow.Author.Needs.{needs}
+use Rattle.reply.proofs.judge.Statement.{statement}
+use Rattle.reply.proofs.judge.Tie as tie
+
+room-fits-requires : tie.Need-room-fits-requires
+room-fits-requires c κs = search needs
+
+returns : tie.Need-returns
+unfolding judgedOf
+returns c = rw (← (c .before .room-fits .ensures), c .if1 .taken)
+
+limit-fits-requires : tie.Need-limit-fits-requires
+limit-fits-requires c κs = search needs
+
+returns-2 : tie.Need-returns-2
+unfolding judgedOf
+returns-2 c =
+    let i = c .before .before in
+    rw (← (i .before .room-fits .ensures), i .if1 .left, ← (c .before .limit-fits .ensures), c .if2 .taken)
+
+in-range-requires : tie.Need-in-range-requires
+in-range-requires c κs = search needs
+
+returns-3 : tie.Need-returns-3
+unfolding judgedOf
+returns-3 c =
+    let j = c .before .before in
+    let i = j .before .before in
+    rw (
+      ← (i .before .room-fits .ensures),
+      i .if1 .left,
+      ← (j .before .limit-fits .ensures),
+      j .if2 .left,
+      ← (c .before .in-range .ensures),
+      c .if3 .taken,
+    )
+
+bad-carried-requires : tie.Need-bad-carried-requires
+bad-carried-requires c κs = search needs
+
+returns-4 : tie.Need-returns-4
+unfolding judgedOf
+returns-4 c =
+    let k = c .before .before in
+    let j = k .before .before in
+    let i = j .before .before in
+    rw (
+      ← (i .before .room-fits .ensures),
+      i .if1 .left,
+      ← (j .before .limit-fits .ensures),
+      j .if2 .left,
+      ← (k .before .in-range .ensures),
+      k .if3 .left,
+      ← (c .before .bad-carried .ensures),
+      c .if4 .taken,
+    )
+
+returns-5 : tie.Need-returns-5
+unfolding judgedOf
+returns-5 c =
+    let k = c .before .before in
+    let j = k .before .before in
+    let i = j .before .before in
+    rw (
+      ← (i .before .room-fits .ensures),
+      i .if1 .left,
+      ← (j .before .limit-fits .ensures),
+      j .if2 .left,
+      ← (k .before .in-range .ensures),
+      k .if3 .left,
+      ← (c .before .bad-carried .ensures),
+      c .if4 .left,
+    )
+
+pub judge-spec : {M : Type 1} → statement M
+judge-spec =
+    tie.close
+    (tie.spec
+    room-fits-requires
+    returns
+    limit-fits-requires
+    returns-2
+    in-range-requires
+    returns-3
+    bad-carried-requires
+    returns-4
+    returns-5)

@@ -1,0 +1,3 @@
+pub mod Reply
+pub mod Front
+pub mod Put

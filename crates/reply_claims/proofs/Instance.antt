@@ -1,0 +1,93 @@
+-- Replies worked by hand: all of it computed, and the reply that arrives by the claim itself.
+use Prim.Native.Nat.{ℕ}
+use native.Mathlib.Omega.{arith}
+use mathlib.Core.Path.{_≡_, refl}
+use mathlib.Core.Option.{none, some}
+use mathlib.Core.Bool.{true, false}
+use mathlib.Core.List.{[], _∷_}
+use lib.IntN.{pos}
+use lib.ListN.{getD, drop}
+use Rattle.wire.specs.declared.stream.Stream.the-variants.{Control}
+use Rattle.wire.specs.Limit.{limitFits}
+use Rattle.wire.specs.Those.{those}
+use Rattle.wire.specs.Stream.{isStream, streamOf}
+use Rattle.text.specs.Table.{rows, within, described, rowOf}
+use Rattle.text.specs.WellFormed.{WellFormed, empty, more, sequenceAt, badPlace}
+use Rattle.field.specs.Tag.{tagAt, badTag}
+use Rattle.field.specs.Value.{valueAt}
+use Rattle.field.specs.Varint.{varintAt}
+use Rattle.field_writer.specs.Varint.{varintBytes}
+use Rattle.field_writer.specs.Writer.{tagBytes, headBytes, partBytes, fieldBytes}
+use Rattle.walk.specs.Schema.{roleOf}
+use Rattle.walk.specs.Walk.{fieldsFrom, fieldAt, readAt, addedAt, judged}
+use Rattle.control.specs.declared.envelope.Payload.the-variants as Payload
+use Rattle.control.specs.Response.{responseFrom}
+use Rattle.control.specs.Envelope.{payloadOf, envelopeOf}
+use Rattle.packet.specs.Header.{inRange}
+use Rattle.packet.specs.Reader.{fieldsOf, contentOf, lines, readOf}
+use Rattle.sender.specs.Piece.{sizeFor}
+use Rattle.sender.specs.Writer.{headerBytes, packetOf, roomFits}
+use Rattle.slot.specs.Slot.{lawfulSlot, lawful}
+use Rattle.slot.specs.Step.{finish, hold, dropBy, firstStep, nextStep}
+use Rattle.receiver.specs.Receiver.{ready, readIn, acceptOf}
+use Rattle.delivery.specs.Delivery.{runOf, ours, packetsIn, shown, shownTo, repliesTo, allAnswerable}
+use Rattle.reply.specs.Reply.{sendingOf, kindOfCommand, replyBy, joinedIn, carriedOf, sentOf, repliedOf}
+use Rattle.reply_claims.specs.Cut.{saidLength, cutApart}
+use Rattle.reply_claims.specs.Answers.{Answers, packetsCut}
+use Rattle.reply_claims.specs.Instance.{asked, answered, ByHand, box, link, information, reply, slots, buffer, output, six, before, begun, later, after, OneReplyArrives}
+
+pub by-hand : ByHand
+unfolding asked answered repliedOf sentOf carriedOf joinedIn replyBy kindOfCommand limitFits isStream inRange sizeFor headerBytes packetOf roomFits varintAt varintBytes badTag tagAt valueAt tagBytes headBytes partBytes fieldBytes roleOf judged addedAt readAt fieldAt fieldsFrom responseFrom payloadOf envelopeOf badPlace sequenceAt rowOf rows within
+by-hand = refl
+
+law : lawful 40 slots ≡ true
+unfolding lawfulSlot lawful
+law = refl
+
+letter : (b : ℕ) → described (b ∷ []) ≡ true → WellFormed (b ∷ [])
+letter b e = more (b ∷ []) [] refl e empty
+
+answers : Answers box (link 20 40) information (pos 20) output
+unfolding replyBy kindOfCommand limitFits isStream inRange sizeFor headerBytes packetOf roomFits varintAt varintBytes badTag tagAt valueAt tagBytes headBytes partBytes fieldBytes roleOf judged addedAt readAt fieldAt fieldsFrom responseFrom payloadOf envelopeOf described rows within
+answers =
+    record {
+      payload = Payload.None;
+      reads = refl;
+      question = refl;
+      room = refl;
+      limit = refl;
+      range = refl;
+      carried = refl;
+      strings = (letter 0x53 refl, (letter 0x4E refl, (letter 0x54 refl, tt)));
+      within = omega arith;
+      space = omega arith;
+    }
+
+begins : begun .packet ≡ getD (packetsCut (repliedOf box (link 20 40) information output)) 0 []
+unfolding repliedOf sentOf carriedOf joinedIn replyBy kindOfCommand limitFits isStream inRange sizeFor headerBytes packetOf roomFits varintAt varintBytes badTag tagAt valueAt tagBytes headBytes partBytes fieldBytes roleOf judged addedAt readAt fieldAt fieldsFrom responseFrom payloadOf envelopeOf badPlace sequenceAt rowOf rows within saidLength cutApart
+begins = refl
+
+sent : packetsIn (those (ours (sendingOf (link 20 40))) later) ≡ drop 1 (packetsCut (repliedOf box (link 20 40) information output))
+unfolding repliedOf sentOf carriedOf joinedIn replyBy kindOfCommand limitFits isStream inRange sizeFor headerBytes packetOf roomFits varintAt varintBytes badTag tagAt valueAt tagBytes headBytes partBytes fieldBytes roleOf judged addedAt readAt fieldAt fieldsFrom responseFrom payloadOf envelopeOf badPlace sequenceAt rowOf rows within saidLength cutApart
+sent = refl
+
+answerable : allAnswerable (begun ∷ those (ours (sendingOf (link 20 40))) later) ≡ true
+answerable = refl
+
+arrived : shownTo 40 (sendingOf (link 20 40)) (repliesTo 40 slots buffer before (begun ∷ later) after)
+    ≡ shown none six ∷ shown (some (record { stream = Control; id = 1; total = 18; ack = false; payload = reply })) six ∷ []
+unfolding limitFits isStream streamOf fieldsOf contentOf lines readOf lawfulSlot lawful finish hold dropBy firstStep nextStep ready readIn acceptOf runOf
+arrived = refl
+
+pub arrives : OneReplyArrives
+arrives =
+    record {
+      law = law;
+      size = refl;
+      answers = answers;
+      begins = begins;
+      sent = sent;
+      answerable = answerable;
+      arrived = arrived;
+      claimed = λ claim. claim box (link 20 40) information (pos 20) output slots buffer before begun later after answers law refl begins sent answerable;
+    }

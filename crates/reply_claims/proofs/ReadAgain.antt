@@ -1,0 +1,95 @@
+-- The reply, read again.
+use Prim.Native.Nat.{ℕ, _+_, _≤_}
+use native.Mathlib.Omega.{arith}
+use mathlib.Core.Path.{_≡_, refl, ap, sym, subst}
+use mathlib.Core.List.{List, [], _∷_, _++_}
+use mathlib.Core.Bool.{false}
+use lib.IntN.{ℤ, pos, negsuc}
+use lib.ListN.{length, length-append}
+use Rattle.field.specs.Signed.{extended}
+use Rattle.field_writer.specs.Writer.{scalar, nested, headBytes, partBytes, fieldBytes, messageBytes}
+use Rattle.walk.specs.Schema.{responseField}
+use Rattle.control.specs.declared.response.ResponsePayload.{ResponsePayload}
+use Rattle.control.specs.declared.response.ResponsePayload.the-variants as Inner
+use Rattle.control.specs.declared.envelope.EnvelopePayload.the-variants as Sent
+use Rattle.control.specs.Response.{badResponsePayload}
+use Rattle.control.specs.Envelope.{envelopeFields}
+use Rattle.device.specs.Information.{informationFields}
+use Rattle.device.specs.Features.{featuresOf, featuresFields}
+use Rattle.wire.specs.Told.{given}
+use Rattle.round_trips.specs.RoundTrip.{innerBytes, informationAgain}
+use Rattle.round_trips.specs.Premises.{InSigned32}
+use Rattle.round_trips.proofs.Values.{whole}
+use Rattle.round_trips.proofs.Premises.{signed, all-signed}
+use Rattle.round_trips.proofs.RoundTrip.{features-read, information-read, envelope-read}
+use Rattle.reply.specs.declared.body.CommandKind.{CommandKind}
+use Rattle.reply.specs.declared.body.CommandKind.the-variants.{Other}
+use Rattle.reply.specs.Reply.{Box, kindOfCommand, bodyOf, replyBy}
+use Rattle.reply_claims.specs.ReadAgain.{ResponseReads, BareReads, ReplyReads}
+use Rattle.reply_claims.proofs.Premises.{fine-member, other-kind}
+
+-- a member's bytes are no longer than the message
+part-length : (field : ℕ) (l : List ℕ) → length l ≤ length (partBytes field l)
+unfolding partBytes
+part-length field l = omega (arith, length-append (headBytes field (length l)) l)
+
+inside : (v field : ℕ) (l : List ℕ) → length l ≤ length (messageBytes (scalar 1 v ∷ nested field l ∷ []))
+unfolding fieldBytes
+inside v field l =
+    omega (
+      arith,
+      part-length field l,
+      length-append (fieldBytes (scalar 1 v)) (partBytes field l ++ []),
+      length-append (partBytes field l) [],
+    )
+
+module _ (c code : ℤ) (payload : ResponsePayload) (body : List ℕ) where
+  abbrev bytes : List ℕ
+  bytes = messageBytes (envelopeFields (extended c) (Sent.Response code payload) body)
+
+  read : (P : List ℕ → Type 0) → InSigned32 c → InSigned32 code → badResponsePayload payload ≡ false → length bytes ≤ 65535
+      → P (innerBytes payload body) → ResponseReads bytes c code payload P
+  read P z e fine short holds =
+      record {
+        body = innerBytes payload body;
+        envelope = envelope-read c (Sent.Response code payload) body bytes (signed c z) (signed code e) fine (omega arith) (whole bytes);
+        holds = holds;
+      }
+
+body-short : (v code field : ℕ) (body : List ℕ) → length (messageBytes (scalar 1 v ∷ nested responseField (messageBytes (scalar 1 code ∷ nested field body ∷ [])) ∷ [])) ≤ 65535
+    → length body ≤ 65535
+body-short v code field body h = omega (arith, inside v responseField (messageBytes (scalar 1 code ∷ nested field body ∷ [])), inside code field body)
+
+-- no other number has the varint's value of one of the four
+other-command : (c : ℤ) → InSigned32 c → (c ≡ pos 20 → ⊥) → (c ≡ pos 28 → ⊥) → (c ≡ pos 94 → ⊥) → (c ≡ pos 95 → ⊥) → kindOfCommand (extended c) ≡ Other
+other-command (pos n) z n20 n28 n94 n95 = other-kind n (λ e. n20 (ap pos e)) (λ e. n28 (ap pos e)) (λ e. n94 (ap pos e)) (λ e. n95 (ap pos e))
+other-command (negsuc n) z n20 n28 n94 n95 = other-kind (extended (negsuc n)) (λ e. omega arith) (λ e. omega arith) (λ e. omega arith) (λ e. omega arith)
+
+abbrev OtherReads : Box → ℤ → CommandKind → Type 0
+OtherReads b c kind =
+    length (replyBy (extended c) kind (b .members) (bodyOf b kind)) ≤ 65535 → BareReads (replyBy (extended c) kind (b .members) (bodyOf b kind)) c (pos 3)
+
+other-reads : (b : Box) (c : ℤ) → InSigned32 c → OtherReads b c Other
+unfolding replyBy
+other-reads b c z short = read c (pos 3) Inner.None [] (λ body. body ≡ []) z (omega arith) refl short refl
+
+pub reply-reads : ReplyReads
+unfolding kindOfCommand replyBy
+reply-reads =
+    record {
+      information = λ b low high zs few s n t short.
+          let body : List ℕ = messageBytes (informationFields (b .serialNumber) (b .name) (b .transports) (b .deviceType)) in
+          let k : length body ≤ 65535 = body-short 20 0 (b .members .information) body short in
+          read (pos 20) (pos 0) (Inner.Member (b .members .information)) body
+          (λ body. informationAgain body ≡ given (b .serialNumber, b .name, b .transports, b .deviceType))
+          (omega arith) (omega arith) (fine-member (b .members .information) low high) short
+          (information-read (b .serialNumber) (b .name) (b .transports) (b .deviceType) body (s, (n, (t, tt))) (all-signed (b .transports) zs) few (omega arith) (whole body));
+      features = λ b low high f a short.
+          let body : List ℕ = messageBytes (featuresFields (b .features)) in
+          read (pos 28) (pos 0) (Inner.Member (b .members .features)) body (λ body. featuresOf body ≡ given (b .features))
+          (omega arith) (omega arith) (fine-member (b .members .features) low high) short
+          (features-read (b .features) body (omega arith) (omega arith) (whole body));
+      segment = λ b short. read (pos 94) (pos 0) Inner.None [] (λ body. body ≡ []) (omega arith) (omega arith) refl short refl;
+      apply = λ b short. read (pos 95) (pos 0) Inner.None [] (λ body. body ≡ []) (omega arith) (omega arith) refl short refl;
+      other = λ b c z n20 n28 n94 n95. subst (OtherReads b c) (sym (other-command c z n20 n28 n94 n95)) (other-reads b c z);
+    }
