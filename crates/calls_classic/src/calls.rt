@@ -8,6 +8,7 @@ use crate::convert::extractor_row;
 use crate::convert::feed_reply;
 use crate::convert::frame_count;
 use crate::convert::is_extractor;
+use crate::convert::put_progress;
 use crate::convert::step_reply;
 use extractor::state::Extractor;
 use extractor::state::Opened;
@@ -78,9 +79,9 @@ fn step_fitting(state: &mut [u64], buffer: &mut [u8], byte: u8, answer: &mut [u6
     let reply = step_reply(outcome);
     let number = reply.number;
     let next = done.next;
-    let kept = extractor_row(next);
+    let progress = next.progress;
     let row = [reply.outcome, reply.sequence, reply.length];
-    put(state, number, &kept);
+    put_progress(state, number, progress);
     put(answer, number, &row);
     number
 }
@@ -114,10 +115,10 @@ fn feed_fitting(state: &mut [u64], buffer: &mut [u8], bytes: &[u8], answer: &mut
     let reply = feed_reply(outcome);
     let number = reply.number;
     let next = done.next;
-    let kept = extractor_row(next);
+    let progress = next.progress;
     let used = done.used as u64;
     let row = [reply.outcome, used, reply.sequence, reply.length];
-    put(state, number, &kept);
+    put_progress(state, number, progress);
     write_row(answer, &row);
     number
 }

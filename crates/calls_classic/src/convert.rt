@@ -8,15 +8,17 @@ use frame_writer::writer::WriteOutcome;
 use rows::row::BYTES;
 use rows::row::Count;
 use rows::row::DONE;
-use rows::row::number_at;
+use rows::row::UNFIT;
+use rows::row::fill;
 use wire::bytes::wide64;
-use wire::logic::both;
 ghost use mathlib.Core.Path.{_≡_};
 ghost use mathlib.Core.Bool.{true};
+ghost use mathlib.Core.List.{[], _∷_};
 ghost use Rattle.extractor.specs.Outcome.{told};
 ghost use Rattle.feed.specs.Feed.{toldFeed};
 ghost use Rattle.frame_writer.specs.Writer as writer;
-ghost use Rattle.rows.specs.Row.{countOf};
+ghost use lib.ListN.{length, getD};
+ghost use Rattle.rows.specs.Row.{afterwards, countOf};
 ghost use Rattle.calls_classic.specs.Convert.{phaseNumber, phaseOf, isExtractor, extractorOf, extractorRow, reply, replyOf};
 
 // The numbers of a state row, and how many phases there are.
@@ -89,8 +91,15 @@ fn phase_of(n: u64) -> Phase
 pub fn is_extractor(row: &[u64]) -> bool
     ensures { λ r. ⌜ r ≡ isExtractor (now (row .entry)) ⌝ }
 {
-    let numbers = both(number_at(row, 1) < PHASES, number_at(row, 2) < BYTES);
-    both(row.len() == STATE, numbers)
+    if row.len() != STATE {
+        return false;
+    }
+    let phase = row[1];
+    if phase >= PHASES {
+        return false;
+    }
+    let sequence = row[2];
+    sequence < BYTES
 }
 
 pub fn extractor_of(row: &[u64]) -> Extractor
@@ -108,6 +117,30 @@ pub fn extractor_of(row: &[u64]) -> Extractor
             sequence,
             held,
         },
+    }
+}
+
+// The numbers of a state row after the limit.
+fn progress_row(progress: Progress) -> [u64; 3]
+    ensures { λ r. ⌜ r ≡ phaseNumber (progress .phase) ∷ progress .sequence ∷ progress .held ∷ [] ⌝ }
+{
+    let phase = progress.phase;
+    [
+        phase_number(phase),
+        wide64(progress.sequence),
+        progress.held as u64,
+    ]
+}
+
+// Writes the progress of a state row, unless the call is refused by 1; the limit stays.
+pub fn put_progress(row: &mut [u64], number: u64, progress: Progress)
+    requires { ⌜ length (now row) ≡ 4 ⌝ }
+    ensures { λ _. ⌜ now (row .exit)
+        ≡ afterwards number (now (row .entry)) (extractorRow (getD (now (row .entry)) 0 0) progress) ⌝ }
+{
+    if number != UNFIT {
+        let numbers = progress_row(progress);
+        fill(row, 1, &numbers);
     }
 }
 

@@ -1,4 +1,4 @@
-use Rattle.calls_classic.proofs.States.{state-long}
+use Rattle.calls_classic.proofs.States.{limit-of, state-long}
 use borrow.Author.Needs.{needs}
 use Rattle.calls_classic.proofs.calls.feed_fitting.Statement.{statement}
 use Rattle.calls_classic.proofs.calls.feed_fitting.Tie as tie
@@ -12,16 +12,8 @@ feed-requires c κs = search needs
 feed-reply-requires : tie.Need-feed-reply-requires
 feed-reply-requires c κs = search needs
 
-extractor-row-requires : tie.Need-extractor-row-requires
-extractor-row-requires c κs = search needs
-
-slice-aggregate-put : tie.Need-slice-aggregate-put
-slice-aggregate-put c = search needs
-
-put-requires : tie.Need-put-requires
-put-requires c κs =
-    let start = c .before .before .before .before .before .before .before .before .before .before .before .before .before .before .before in
-    rw (c .before .before .extractor-row .ensures) (state-long _ (start .pre .0))
+put-progress-requires : tie.Need-put-progress-requires
+put-progress-requires c κs = state-long _ (c .before .before .before .before .before .before .before .before .before .before .before .before .before .before .pre .0)
 
 slice-aggregate-write-row : tie.Need-slice-aggregate-write-row
 slice-aggregate-write-row c = search needs
@@ -41,15 +33,16 @@ same-length-3 c = search needs
 returns : tie.Need-returns
 returns c =
     let kept = c .before .before .before .before .before .before .before in
-    let told = kept .before .before .before .before .before in
+    let told = kept .before .before .before .before in
     let done = told .before .before .before in
+    let made = done .before .before in
+    let start = made .before .before .before .before .before .before in
     rw (
-      ← (done .before .before .extractor-of .ensures),
-      ← (done .feed .ensures .0),
       c .before .before .write-row .ensures,
-      kept .put .ensures,
-      kept .before .before .before .extractor-row .ensures,
-      done .feed .ensures .1,
+      kept .put-progress .ensures,
+      ← (limit-of (start .args .state .now)),
+      ← (made .extractor-of .ensures),
+      ← (done .feed .ensures .0),
       told .feed-reply .ensures,
     )
 
@@ -60,9 +53,7 @@ feed-fitting-spec =
     extractor-of-requires
     feed-requires
     feed-reply-requires
-    extractor-row-requires
-    slice-aggregate-put
-    put-requires
+    put-progress-requires
     slice-aggregate-write-row
     write-row-requires
     same-length
