@@ -70,7 +70,7 @@ pub reply-written : ReplyWritten
 reply-written b l message c out a = is-written b l message c out a
 
 pub reply-arrives : ReplyArrives
-reply-arrives b l message c out slots bytes before first later after a law size begins rest can =
+reply-arrives b l message c out slots bytes before first later after a law size begins rest can free =
     let e = packets b l message c out a in
     messages-arrive (l .limit) slots bytes before first later after (sendingOf l) (replyOf b (extended c)) (replicate (l .room) 0) law size
-    (takes b l message c out a) (rw e at begins) (rw e at rest) can
+    (takes b l message c out a) (rw e at begins) (rw e at rest) can free

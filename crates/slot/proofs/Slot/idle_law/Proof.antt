@@ -14,8 +14,19 @@ both-requires-3 c κs = search needs
 both-requires-4 : tie.Need-both-requires-4
 both-requires-4 c κs = search needs
 
+both-requires-5 : tie.Need-both-requires-5
+both-requires-5 c κs = search needs
+
 returns : tie.Need-returns
 returns c = cc
 
 pub idle-law-spec : {M : Type 1} → statement M
-idle-law-spec = tie.close (tie.spec both-requires both-requires-2 both-requires-3 both-requires-4 returns)
+idle-law-spec =
+    tie.close
+    (tie.spec
+    both-requires
+    both-requires-2
+    both-requires-3
+    both-requires-4
+    both-requires-5
+    returns)
