@@ -11,17 +11,18 @@
  *
  * ROWS. A state and an answer are rows of uint64_t. Each row has an enum: the places of its numbers in their order,
  * and last, as PITO_.._STATE or PITO_.._ANSWER, how many there are, which is the length to pass. A state row goes in
- * and out of the same array; the caller keeps it from one call to the next and need not look inside.
+ * and out of the same array; the caller keeps it from one call to the next and need not look inside. The receiver's slots
+ * are a row of structs, pito_slot, lent besides.
  *
  * NUMBERS. Each function returns 0 or the number of a refusal, PITO_REFUSED_.. below.
  * After every call that does not return 1 the whole answer row is written. After a refusal it is 0 throughout, but
  * for what is said below (the number of bytes used by pito_extractor_feed, the place that goes with 41, of a capture
  * with 42 too, and with 40 to 43 and 46 where an outbox is moved, the field and the place that go with 36, the field
  * that goes with 50).
- * A refusal leaves state and lent bytes as they were, except that 20 to 25 leave the extractor outside a frame (20:
- * at the begin of the new one), 10 and 11 leave the slot of the stream idle, and pito_extractor_feed has by then
+ * A refusal leaves state, slots and lent bytes as they were, except that 20 to 25 leave the extractor outside a frame
+ * (20: at the begin of the new one), 10 and 11 leave the transaction's slot idle, and pito_extractor_feed has by then
  * stored what came before the refused byte, in state and buffer as single steps would have.
- * Under 1 NOTHING has changed, neither state, lent bytes nor answer; only the answer of pito_extractor_feed, where it
+ * Under 1 NOTHING has changed, neither state, slots, lent bytes nor answer; only the answer of pito_extractor_feed, where it
  * has its length, tells then that 0 bytes were used.
  *
  * Signed 32-bit numbers (command, error code, transports) stand in 64 bits in two's complement, sign-extended:
@@ -38,7 +39,7 @@ extern "C" {
 #endif
 
 /* The version of this interface: one more with each change that a caller has to follow. */
-#define PITO_VERSION 5
+#define PITO_VERSION 6
 
 /* The library is for 64-bit machines: a length is a number of 64 bits. */
 typedef char pito_size_t_has_64_bits[sizeof(size_t) == 8 ? 1 : -1];
@@ -53,9 +54,12 @@ typedef char pito_size_t_has_64_bits[sizeof(size_t) == 8 ? 1 : -1];
 /* The limit of a link is its largest message in bytes, 1 to 65,535. It is set when the link is opened. */
 #define PITO_LARGEST_LIMIT 65535
 
+/* The slots of a receiver, four for each stream. */
+#define PITO_SLOTS 12
+
 /* What the lent buffers have exactly. */
 #define PITO_EXTRACTOR_BUFFER(limit) ((limit) + 2)
-#define PITO_RECEIVER_BUFFER(limit) (3 * (limit))
+#define PITO_RECEIVER_BUFFER(limit) (PITO_SLOTS * (limit))
 
 /* The largest payload of a record in an outbox of version 01, in bytes; in one of version 02 it is PITO_LARGEST_LIMIT. */
 #define PITO_VERSION_01_LIMIT 4096
@@ -68,8 +72,8 @@ typedef char pito_size_t_has_64_bits[sizeof(size_t) == 8 ? 1 : -1];
 /* What a call returns. */
 enum {
     PITO_DONE = 0,
-    /* A row of another length, numbers that no state can have, a lent buffer of the wrong size, an unlawful state, or
-     * used bytes beyond the buffer. */
+    /* A row of another length, numbers that no state or slot can have, a lent buffer of the wrong size, an unlawful state,
+     * or used bytes beyond the buffer. */
     PITO_REFUSED_UNFIT = 1,
 
     /* Packets read. */
@@ -84,6 +88,7 @@ enum {
     PITO_REFUSED_SEQUENCE = 10,       /* sequence not the next */
     PITO_REFUSED_MISSES_TOTAL = 11,   /* total reached too early, passed, or missed */
     PITO_REFUSED_CONTROL_PACKET = 12, /* type 3 packet that is no ACK and no NACK */
+    PITO_REFUSED_NO_SLOT = 18,        /* first packet of an id that is not open, with no idle slot in its stream */
 
     /* Writers, and 14 and 15 of the ACK that a packet may want. */
     PITO_REFUSED_ROOM = 13,     /* room not 20 to 512 */
@@ -270,62 +275,76 @@ PITO_CALL uint64_t pito_ack_write(uint64_t stream, uint64_t id, uint64_t sequenc
 /* ------------------------------------------------------------------------------------------------------------
  * Low Energy: receiving
  *
- * State row: pito_receiver_open fills it; keep it from call to call. It has the link's limit, which stays, and the
- * numbers of a slot for each stream, from PITO_RECEIVER_SLOT(stream) on. An open slot has PITO_SLOT_WANTED 1 if a packet
- * of its transaction asked for an ACK. A row of zeros has a limit of 0: every packet given to it is refused by 1.
- * Buffer: exactly PITO_RECEIVER_BUFFER(limit) bytes, the same one from call to call. A stream's part of it, a third,
- * begins at PITO_RECEIVER_PART(stream, limit): control has the first, OTA the middle one, Alexa the last.
+ * State row: pito_receiver_open fills it; keep it. It is the link's limit alone, and no packet changes it. A row of zeros
+ * has a limit of 0: every packet given to it is refused by 1.
+ * Slots: a row of PITO_SLOTS structs, 96 bytes, the same one from call to call. Each stream has four, in the order control
+ * (places 0 to 3), OTA (4 to 7), Alexa (8 to 11), so that four transactions of a stream can be open at a time. A slot that
+ * is all 0 is idle, so a row of zeros is that of a new link: `static pito_slot row[PITO_SLOTS];` or `= {{0}}`. Opening a
+ * receiver leaves the row alone: to begin anew, set it to 0.
+ * Lawful rows: PITO_SLOTS slots, each idle or open as below, and no two open slots of a stream with the same id.
+ * Buffer: exactly PITO_RECEIVER_BUFFER(limit) bytes, the same one from call to call. The part of the slot at a place begins
+ * at PITO_RECEIVER_PART(place, limit) and has as many bytes as the limit.
  */
-enum {
-    PITO_SLOT_OPEN,
-    PITO_SLOT_ID,
-    PITO_SLOT_TOTAL,
-    PITO_SLOT_HELD,
-    PITO_SLOT_SEQUENCE,
-    PITO_SLOT_WANTED,
-    PITO_SLOT_STATE
-};
-enum { PITO_RECEIVER_LIMIT, PITO_RECEIVER_SLOTS, PITO_RECEIVER_STATE = PITO_RECEIVER_SLOTS + 3 * PITO_SLOT_STATE };
+typedef struct {
+    uint8_t opened;   /* 0 idle: then all others are 0 too; 1 open */
+    uint8_t id;       /* the transaction's, 0 to 15 */
+    uint8_t sequence; /* its last packet's, 0 to 15 */
+    uint8_t wanted;   /* 1 if a packet of it asked for an ACK, else 0 */
+    uint16_t total;   /* the message's length, up to the limit */
+    uint16_t held;    /* how much of it has come: 1 or more, less than the total */
+} pito_slot;
 
-/* Of one of the three streams: its slot's place in the state row, its part's place in the buffer. */
-#define PITO_RECEIVER_OF(stream) ((stream) == PITO_STREAM_CONTROL ? 0 : (stream) == PITO_STREAM_OTA ? 1 : 2)
-#define PITO_RECEIVER_SLOT(stream) (PITO_RECEIVER_SLOTS + PITO_RECEIVER_OF(stream) * PITO_SLOT_STATE)
-#define PITO_RECEIVER_PART(stream, limit) (PITO_RECEIVER_OF(stream) * (limit))
+/* The library's own struct has 8 bytes, with no byte between its numbers. */
+typedef char pito_slot_has_8_bytes[sizeof(pito_slot) == 8 ? 1 : -1];
+
+enum { PITO_RECEIVER_LIMIT, PITO_RECEIVER_STATE };
+
+/* Where the part of the slot at a place, 0 to 11, begins in the buffer. */
+#define PITO_RECEIVER_PART(place, limit) ((place) * (limit))
 
 /*
- * Opens a receiver for a link with a limit: the empty state, with no open transaction.
- * Returns 0, 1, 17.
+ * Opens a receiver for a link with a limit. The row of slots has to be lent all 0 to the first packet.
+ * Returns 0, 1, 17; a refusal leaves the state row.
  */
 PITO_CALL uint64_t pito_receiver_open(uint64_t limit, uint64_t *state, size_t state_len);
 
 /* Outcomes. */
 #define PITO_PIECE_TAKEN 0 /* a piece of a transaction, with more to come */
-#define PITO_FINISHED 1    /* the message is whole: it stands first in its stream's part, until its next packet */
+#define PITO_FINISHED 1    /* the message is whole: it stands first in its slot's part, until the slot is taken again */
 #define PITO_ACKED 2       /* an ACK */
 #define PITO_NACKED 3      /* a NACK */
 
 /*
  * One packet, accepted and answered at once.
+ *   state     the link's, as pito_receiver_open left it
+ *   row       the slots
  *   packet    as it came, any bytes
  *   sequence  the ACK's own, if one is written, 0 to 15: any will do, and it has nothing to do with the packet's
  *   out       where the ACK goes: at least PITO_ACK_SIZE bytes, of which no more than the first PITO_ACK_SIZE are written;
  *             not the packet's own bytes
+ * A first packet whose id is open in its stream replaces that transaction, in the same slot. Otherwise it takes the lowest
+ * idle slot of its stream, also where it finishes at once; if there is none, it is refused by 18. Every other packet of a
+ * message goes to the slot that is open for its id in its stream; there is never more than one.
  * A packet that finishes a transaction which wants an ACK writes the ACK first in out: a whole packet, to be sent as it is
  * once the message is safe. Every other outcome and every refusal leaves all of out. NACKs are written by request, with
  * pito_ack_write; no call sends anything.
  * What an outcome leaves besides:
- *   PITO_PIECE_TAKEN  the stream's slot open, the piece in the stream's part at the count that was held
+ *   PITO_PIECE_TAKEN  the slot open, the piece in the slot's part at the count that was held
  *   PITO_FINISHED     the slot idle, the last piece likewise: the message stands first in the part
- *   PITO_ACKED, PITO_NACKED  state and buffer as they were
+ *   PITO_ACKED, PITO_NACKED  row and buffer as they were
+ * No other slot and no byte of another slot's part changes.
  * Answer:
  *   stream, id  the packet's
  *   sequence    an ACK's or NACK's own, else 0
  *   total       the length of a finished message, else 0
  *   ACK wanted  1 if a message is finished and any packet of its transaction asked for an ACK: out has it; else 0
- *   replaced    1 if a first packet replaced an open transaction of its stream, else 0
- * Returns 0, or the first that holds of: 1; 15, a sequence above 15, however large; 14, an out under PITO_ACK_SIZE bytes;
- * then, and not before, the packet is looked at: 2, 3, 12, 4, 5, 6, 7, 8, 9, 10, 11. 15 and 14 are given whatever the packet
- * is, and leave state and buffer too: the same packet can be given again.
+ *   replaced    1 if a first packet replaced an open transaction of its id, else 0
+ *   place       the slot's, 0 to 11, of a piece taken and of a finished message, else 0
+ * Returns 0, or the first that holds of: 1 (state or answer row of another length, limit out of range, row or buffer of
+ * another size, an unlawful row); 15, a sequence above 15, however large; 14, an out under PITO_ACK_SIZE bytes; then, and
+ * not before, the packet is looked at: 2, 3, 12, 4, 5, 6, 7, 8, 18, 9, 10, 11. 10 and 11 leave the transaction's slot idle and
+ * every byte as it was; all others leave row and buffer too. After 15, 14 and 18 the same packet can be given again: after
+ * 18 it is taken once a transaction of its stream has ended.
  */
 enum {
     PITO_ACCEPT_OUTCOME,
@@ -335,11 +354,13 @@ enum {
     PITO_ACCEPT_TOTAL,
     PITO_ACCEPT_ACK_WANTED,
     PITO_ACCEPT_REPLACED,
+    PITO_ACCEPT_PLACE,
     PITO_ACCEPT_ANSWER
 };
-PITO_CALL uint64_t pito_receiver_accept(uint64_t *state, size_t state_len, uint8_t *buffer, size_t buffer_len,
-                                        const uint8_t *packet, size_t packet_len, uint64_t sequence, uint8_t *out,
-                                        size_t out_len, uint64_t *answer, size_t answer_len);
+PITO_CALL uint64_t pito_receiver_accept(const uint64_t *state, size_t state_len, pito_slot *row, size_t row_len,
+                                        uint8_t *buffer, size_t buffer_len, const uint8_t *packet, size_t packet_len,
+                                        uint64_t sequence, uint8_t *out, size_t out_len, uint64_t *answer,
+                                        size_t answer_len);
 
 /* Outcomes; a capture that is refused has none, and 0 stands there. */
 #define PITO_LAWFUL 1   /* our writer writes these packets, for some transactions */

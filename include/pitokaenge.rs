@@ -1,6 +1,19 @@
 //! The functions of pitokaenge.h for Rust: the archive that `tools/archive` writes. A slice passes as a pointer and
 //! then a length. tools/check_interface holds this file to the header and to the library's sources.
 
+/// A slot of the receiver's lent row: 8 bytes. All 0, it is idle.
+#[repr(C)]
+#[derive(Clone, Copy)]
+#[allow(non_camel_case_types)]
+pub struct pito_slot {
+    pub opened: u8,
+    pub id: u8,
+    pub sequence: u8,
+    pub wanted: u8,
+    pub total: u16,
+    pub held: u16,
+}
+
 #[link(name = "pitokaenge", kind = "static")]
 extern "C" {
     pub fn pito_extractor_open(limit: u64, state: *mut u64, state_len: usize) -> u64;
@@ -78,8 +91,10 @@ extern "C" {
     ) -> u64;
     pub fn pito_receiver_open(limit: u64, state: *mut u64, state_len: usize) -> u64;
     pub fn pito_receiver_accept(
-        state: *mut u64,
+        state: *const u64,
         state_len: usize,
+        row: *mut pito_slot,
+        row_len: usize,
         buffer: *mut u8,
         buffer_len: usize,
         packet: *const u8,

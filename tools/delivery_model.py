@@ -7,10 +7,11 @@ with each edit one has to be found for the statements named beside it, and none 
 
   contract   the writer's answer and output are those of its definition, at any place (crate sender, `write_packet`): the
              largest pieces, one ACK flag, sequences modulo 16, 13, 15 and 14
-  delivery   where a packet is the first of those that the writer's calls give for a message, after any packets, and those
-             of its stream after it are the others, among packets of other streams, each packet with an answer sequence and
-             an answer buffer, in their ranges for the message's own, what the replies to these show is `atLast` of the
-             message: it is given by the last, whose answer buffer has the ACK if the wish was one (`messages_arrive`)
+  delivery   where a packet is the first of those that the writer's calls give for a message, after any packets, its id is
+             then open in its stream or a slot of its stream idle, and those of its stream and id after it are the others,
+             among packets of other streams and other ids, each packet with an answer sequence and an answer buffer, in
+             their ranges for the message's own, what the replies to these show is `atLast` of the message at some place: all
+             are told with it, and the last gives the message, with the ACK if the wish was one (`messages_arrive`)
   returning  the same with nothing before or between (`round_trip`)
   asked      `atLast` of a message has it once, whatever packets there are, none too (`message_asked`)
 
@@ -29,10 +30,11 @@ EDITS = {
     "sequence_not_modulo": ("contract", "the definition does not reduce the sequence modulo 16"),
     "extender_at_255": ("contract", "the extender is used at 255 too"),
     "last_not_told": ("contract", "the last packet is told with a next place"),
-    "other_ids_between": ("delivery", "packets of the same stream with another id may come between"),
+    "own_id_between": ("delivery", "packets of the message's own stream and id may come between"),
+    "no_slot_asked": ("delivery returning", "the message's first packet may find no slot"),
     "another_ack_wish": ("delivery returning", "the message given always wants an ACK"),
     "given_at_each": ("delivery returning asked", "each packet gives the message"),
-    "part_of_control": ("delivery returning", "the message stands in the first part, whatever its stream"),
+    "part_of_control": ("delivery returning", "the message stands in the first part, whatever its place"),
     "state_not_kept": ("delivery returning", "each packet meets the slots of the beginning"),
     "ack_always": ("delivery returning", "the last packet's answer buffer begins with an ACK whatever the wish"),
     "nothing_asked": ("delivery returning asked", "after the last packet nothing is asked for"),
@@ -42,6 +44,13 @@ EDITS = {
     "(refusing reader)": ("delivery returning", "every packet that is read is refused"),
     "(replaced wish kept)": ("delivery returning", "a first packet adds its flag to the wish of what it replaces"),
     "(last flag alone)": ("", "the last packet's flag alone says whether an ACK is wanted"),
+    "(highest idle slot)": ("", "a first packet takes the highest idle slot"),
+    "(second slot)": ("delivery returning", "a first packet whose id is open takes an idle slot"),
+    "(18 for an open id)": ("delivery returning", "a first packet whose id is open is refused"),
+    "(another stream's slot)": ("delivery", "an id is looked for in all streams"),
+    "(no 18)": ("delivery", "a first packet that finds no slot takes its stream's first"),
+    "(one at a time)": ("delivery", "a first packet replaces what is open in its stream's first slot"),
+    "(first place told)": ("delivery returning", "the place told is that of the stream's first slot"),
     "(ack unasked)": ("delivery returning", "every finished transaction is answered"),
     "(piece answered)": ("delivery returning", "every piece is answered"),
     "(packet's sequence)": ("delivery returning", "the ACK has the last packet's sequence"),
@@ -51,6 +60,7 @@ EDITS = {
     "(own packets answerable or not)": ("delivery returning", "the message's own packets may get 15 and 14"),
 }
 STREAMS = [0, 2, 6]
+EACH, SLOTS = 4, 12
 edit = None
 
 
@@ -174,23 +184,49 @@ def accept(limit, slots, buf, call):
     return t, slots, buf, out
 
 
+def own_places(stream):
+    first = EACH * STREAMS.index(stream)
+    return range(first, first + EACH)
+
+
+def place_for(slots, stream, ident, first):
+    """Where a packet goes: the slot that is open for its id, or for a first packet else the lowest idle one."""
+    lane = own_places(stream)
+    if first and edit == "(one at a time)":
+        return lane[0]
+    among = range(SLOTS) if edit == "(another stream's slot)" else lane
+    found = next((i for i in among if slots[i] is not None and slots[i][0] == ident), None)
+    if not first or found is not None and edit not in ("(second slot)", "(18 for an open id)"):
+        return found
+    if found is not None and edit == "(18 for an open id)":
+        return None
+    idle = [i for i in lane if slots[i] is None]
+    if not idle:
+        return lane[0] if edit == "(no 18)" else None
+    return idle[-1] if edit == "(highest idle slot)" else idle[0]
+
+
+def has_slot(slots, w):
+    lane = [slots[i] for i in own_places(w[1])]
+    return edit == "no_slot_asked" or any(slot is None or slot[0] == w[2] for slot in lane)
+
+
 def take(limit, slots, buf, p):
     if edit == "(idle receiver)":
-        return ("taken",), slots, buf
+        return ("taken", 0), slots, buf
     t = read(limit, p)
     if isinstance(t, int) or t[0] == "ack":
         return t, slots, buf
     (stream, ident, sequence), ack, bytes_ = t[1], t[2], t[4]
-    i = STREAMS.index(stream)
+    i = place_for(slots, stream, ident, t[0] == "first")
+    if i is None:
+        return 18 if t[0] == "first" else 9, slots, buf
     slot, slots = slots[i], slots[:]
     slots[i] = None
     if t[0] == "first":
         total, at, last = t[3], 0, len(bytes_) == t[3]
         wanted = ack or edit == "(replaced wish kept)" and slot is not None and slot[4]
     else:
-        if slot is None or slot[0] != ident:
-            slots[i] = slot
-            return 9, slots, buf
         if sequence != (slot[3] + 1) % 16:
             return 10, slots, buf
         total, at, last = slot[1], slot[2], t[3]
@@ -200,10 +236,11 @@ def take(limit, slots, buf, p):
         wanted = ack or slot[4] and edit != "(last flag alone)"
     start = i * limit + at
     buf = buf[:start] + bytes_ + buf[start + len(bytes_):]
+    told = i // EACH * EACH if edit == "(first place told)" else i
     if last:
-        return ("finished", stream, ident, total, wanted), slots, buf
+        return ("finished", stream, ident, total, wanted, told), slots, buf
     slots[i] = (ident, total, at + len(bytes_), sequence, wanted)
-    return ("taken",), slots, buf
+    return ("taken", told), slots, buf
 
 
 # ---- the statements, on one random instance each
@@ -226,8 +263,12 @@ def contract(r):
 def given_by(limit, t, buf):
     if isinstance(t, int) or t[0] != "finished":
         return None
-    part = 0 if edit == "part_of_control" else STREAMS.index(t[1]) * limit
-    return t[1:] + (buf[part:part + limit][:t[3]],)
+    part = 0 if edit == "part_of_control" else t[5] * limit
+    return t[1:5] + (buf[part:part + limit][:t[3]],)
+
+
+def place_in(t):
+    return None if isinstance(t, int) or t[0] not in ("taken", "finished") else t[-1]
 
 
 def run(limit, slots, buf, handed):
@@ -236,11 +277,11 @@ def run(limit, slots, buf, handed):
         t, left, buf, out = accept(limit, slots, buf, call)
         slots = slots if edit == "state_not_kept" else left
         replies.append((call, t, buf, out))
-    return replies
+    return replies, slots
 
 
 def shown(limit, replies):
-    return [(given_by(limit, t, buf), out) for call, t, buf, out in replies]
+    return [(place_in(t), given_by(limit, t, buf), out) for call, t, buf, out in replies]
 
 
 def message_of(w, m):
@@ -254,16 +295,27 @@ def last_out(w, call):
     return acknowledgement(stream, ident, call[1]) + call[2][6:] if asked else call[2]
 
 
-def at_last(w, m, call, later):
+def at_last(place, w, m, call, later):
     message = message_of(w, m)
     if not later:
-        return [] if edit in ("nothing_asked", "(refusing writer, nothing_asked)") else [(message, last_out(w, call))]
-    return [(message if edit == "given_at_each" else None, call[2])] + at_last(w, m, later[0], later[1:])
+        return [] if edit in ("nothing_asked", "(refusing writer, nothing_asked)") else [(place, message, last_out(w, call))]
+    return [(place, message if edit == "given_at_each" else None, call[2])] + at_last(place, w, m, later[0], later[1:])
 
 
-def lawful_state(r, limit):
-    slots = [None if r.random() < .5 or limit < 2 else (r.randrange(16), limit, r.randint(1, limit - 1), r.randrange(16), r.random() < .5) for _ in STREAMS]
-    return slots, bytes_of(r, 3 * limit)
+def arrived(w, m, first, later, shows):
+    """At some place."""
+    return any(shows == at_last(place, w, m, first, later) for place in range(SLOTS))
+
+
+def lawful_row(r, limit):
+    """No two open slots of a stream have one id; of some streams all four are open."""
+    slots = []
+    for _ in STREAMS:
+        open_ones = 0 if limit < 2 else r.choice([0, .5, .5, 1])
+        for ident in r.sample(range(16), EACH):
+            held = r.randint(1, max(1, limit - 1))
+            slots.append((ident, limit, held, r.randrange(16), r.random() < .5) if r.random() < open_ones else None)
+    return slots, bytes_of(r, SLOTS * limit)
 
 
 def any_packet(r, limit):
@@ -287,35 +339,39 @@ def handed(r, packets, ours):
 
 
 def delivery(r):
-    limit = r.choice([1, 20, 60, 300, 700])
-    slots, buf = lawful_state(r, limit)
+    limit = r.choice([1, 20, 60, 300])
+    slots, buf = lawful_row(r, limit)
     w, m = sending(r), bytes_of(r, r.randint(0, limit))
     sent = calls(limit, w, m, bytes_of(r, w[0]))
-    ours = lambda p: bool(p) and p[0] // 16 == w[1] and (edit != "other_ids_between" or p[0] % 16 == w[2])
-    others = lambda n: [p for p in (any_packet(r, limit) for _ in range(n)) if not ours(p)]
+    ours = lambda p: p[:1] == [w[1] * 16 + w[2]]
+    others = lambda n: [p for p in (any_packet(r, limit) for _ in range(n)) if edit == "own_id_between" or not ours(p)]
     before, after = ([any_packet(r, limit) for _ in range(r.randint(0, 4))] for _ in "ab")
     later = [q for p in sent[1:] for q in others(r.choice([0, 0, 1, 2])) + [p]] + others(r.randint(0, 2))
     before, after = (handed(r, packets, lambda p: False) for packets in (before, after))
     first, later = handed(r, sent[:1] or [[]], lambda p: True), handed(r, later, ours)
     during = first + later
-    replies = run(limit, slots, buf, before + during + after)[len(before):][:len(during)]
-    own = [reply for reply in replies if ours(reply[0][0])]
-    return shown(limit, own) == at_last(w, m, first[0], [call for call in later if ours(call[0])])
+    replies, _ = run(limit, slots, buf, before + during + after)
+    own = [reply for reply in replies[len(before):][:len(during)] if ours(reply[0][0])]
+    if not has_slot(run(limit, slots, buf, before)[1], w):
+        return True
+    return arrived(w, m, first[0], [call for call in later if ours(call[0])], shown(limit, own))
 
 
 def returning(r):
-    limit = r.choice([1, 20, 60, 300, 700])
-    slots, buf = lawful_state(r, limit)
+    limit = r.choice([1, 20, 60, 300])
+    slots, buf = lawful_row(r, limit)
     w, m = sending(r), bytes_of(r, r.randint(0, limit))
     sent = calls(limit, w, m, bytes_of(r, w[0]))
     calls_made = handed(r, sent or [[]], lambda p: True)
-    return shown(limit, run(limit, slots, buf, calls_made)) == at_last(w, m, calls_made[0], calls_made[1:])
+    if not has_slot(slots, w):
+        return True
+    return arrived(w, m, calls_made[0], calls_made[1:], shown(limit, run(limit, slots, buf, calls_made)[0]))
 
 
 def asked(r):
     w, m = sending(r), bytes_of(r, 9)
     first, *later = handed(r, [bytes_of(r, 3) for _ in range(r.randint(1, 4))], lambda p: True)
-    return [g for g, out in at_last(w, m, first, later) if g is not None] == [message_of(w, m)]
+    return [g for place, g, out in at_last(5, w, m, first, later) if g is not None] == [message_of(w, m)]
 
 
 def tries(claim, n):

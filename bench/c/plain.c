@@ -318,32 +318,52 @@ uint64_t plain_frame_part(uint64_t *state, size_t state_len, const uint8_t *payl
     return 0;
 }
 
-enum { OPEN, ID, TOTAL, HELD, LAST_SEQUENCE, WANTED, SLOT };
-enum { SLOTS = 3, ACK_SIZE = 6 };
+enum { SLOTS = PITO_SLOTS, OF_A_STREAM = 4, ACK_SIZE = 6, TOLD = 8 };
 enum type { FIRST, CONTINUATION, LAST, CONTROL };
 enum accepted { PIECE, FINISHED, ACKED, NACKED };
 
-static bool is_lawful(const uint64_t *slot, uint64_t limit)
+static const pito_slot idle;
+
+static bool is_lawful(const pito_slot *slot, uint64_t limit)
 {
-    if (slot[OPEN] == 0)
-        return (slot[ID] | slot[TOTAL] | slot[HELD] | slot[LAST_SEQUENCE] | slot[WANTED]) == 0;
-    return slot[OPEN] == 1 && slot[ID] <= 15 && slot[TOTAL] <= limit && slot[HELD] >= 1 && slot[HELD] < slot[TOTAL]
-           && slot[LAST_SEQUENCE] <= 15 && slot[WANTED] <= 1;
+    if (slot->opened == 0)
+        return (slot->id | slot->sequence | slot->wanted | slot->total | slot->held) == 0;
+    return slot->opened == 1 && slot->id <= 15 && slot->sequence <= 15 && slot->wanted <= 1 && slot->total <= limit
+           && slot->held >= 1 && slot->held < slot->total;
 }
 
-static void set_slot(uint64_t *slot, uint64_t open, uint64_t id, uint64_t total, uint64_t held, uint64_t sequence,
-                     bool wanted)
+/* Each slot lawful, and the ids of a stream's open slots all different. */
+static bool is_lawful_row(const pito_slot *row, uint64_t limit)
 {
-    slot[OPEN] = open;
-    slot[ID] = id;
-    slot[TOTAL] = total;
-    slot[HELD] = held;
-    slot[LAST_SEQUENCE] = sequence;
-    slot[WANTED] = wanted;
+    for (size_t first = 0; first < SLOTS; first += OF_A_STREAM) {
+        unsigned ids = 0;
+        for (size_t i = first; i < first + OF_A_STREAM; i++) {
+            if (!is_lawful(row + i, limit))
+                return false;
+            unsigned id = (unsigned)row[i].opened << row[i].id;
+            if (ids & id)
+                return false;
+            ids |= id;
+        }
+    }
+    return true;
+}
+
+/* The slot that is open for the id, among those of a stream; or the lowest idle one, if any; or none. */
+static pito_slot *find(pito_slot *slots, unsigned id, bool or_idle)
+{
+    pito_slot *lowest = NULL;
+    for (size_t i = OF_A_STREAM; i-- > 0;) {
+        if (slots[i].opened == 0)
+            lowest = slots + i;
+        else if (slots[i].id == id)
+            return slots + i;
+    }
+    return or_idle ? lowest : NULL;
 }
 
 static uint64_t tell(uint64_t *answer, enum accepted outcome, uint64_t stream, uint64_t id, uint64_t sequence,
-                     uint64_t total, bool ack, bool replaced)
+                     uint64_t total, bool ack, bool replaced, uint64_t place)
 {
     answer[0] = outcome;
     answer[1] = stream;
@@ -352,12 +372,13 @@ static uint64_t tell(uint64_t *answer, enum accepted outcome, uint64_t stream, u
     answer[4] = total;
     answer[5] = ack;
     answer[6] = replaced;
+    answer[7] = place;
     return 0;
 }
 
 static uint64_t refuse_packet(uint64_t *answer, uint64_t number)
 {
-    memset(answer, 0, 7 * sizeof *answer);
+    memset(answer, 0, TOLD * sizeof *answer);
     return number;
 }
 
@@ -371,16 +392,14 @@ static void put_ack(uint8_t *out, unsigned stream, unsigned id, uint64_t sequenc
     out[5] = 0;
 }
 
-uint64_t plain_receiver_accept(uint64_t *state, size_t state_len, uint8_t *buffer, size_t buffer_len,
-                               const uint8_t *packet, size_t packet_len, uint64_t answer_sequence, uint8_t *out,
-                               size_t out_len, uint64_t *answer, size_t answer_len)
+uint64_t plain_receiver_accept(const uint64_t *state, size_t state_len, pito_slot *row, size_t row_len, uint8_t *buffer,
+                               size_t buffer_len, const uint8_t *packet, size_t packet_len, uint64_t answer_sequence,
+                               uint8_t *out, size_t out_len, uint64_t *answer, size_t answer_len)
 {
-    if (answer_len != 7 || state_len != 1 + SLOTS * SLOT || !is_limit(state[0]) || buffer_len != SLOTS * state[0])
+    if (answer_len != TOLD || state_len != 1 || row_len != SLOTS || !is_limit(state[0])
+        || buffer_len != SLOTS * state[0] || !is_lawful_row(row, state[0]))
         return 1;
-    uint64_t limit = *state++;
-    for (size_t i = 0; i < SLOTS; i++)
-        if (!is_lawful(state + i * SLOT, limit))
-            return 1;
+    uint64_t limit = state[0];
     if (answer_sequence > 15)
         return refuse_packet(answer, 15);
     if (out_len < ACK_SIZE)
@@ -401,11 +420,10 @@ uint64_t plain_receiver_accept(uint64_t *state, size_t state_len, uint8_t *buffe
         if (packet_len != ACK_SIZE || extended || packet[2] != 0 || packet[3] != 2 || packet[4] != 1
             || packet[5] != (flag ? 0 : 3))
             return refuse_packet(answer, 12);
-        return tell(answer, flag ? ACKED : NACKED, stream, id, sequence, 0, false, false);
+        return tell(answer, flag ? ACKED : NACKED, stream, id, sequence, 0, false, false, 0);
     }
 
-    size_t index = stream == 0 ? 0 : stream == 2 ? 1 : 2;
-    uint64_t *slot = state + index * SLOT;
+    pito_slot *slots = row + (stream == 0 ? 0 : stream == 2 ? OF_A_STREAM : 2 * OF_A_STREAM), *slot;
     size_t length = extended ? (size_t)packet[header - 2] << 8 | packet[header - 1] : packet[header - 1];
     size_t total, held;
     bool replaced = false, wanted = flag;
@@ -417,37 +435,42 @@ uint64_t plain_receiver_accept(uint64_t *state, size_t state_len, uint8_t *buffe
     if (type == FIRST) {
         total = (size_t)packet[3] << 8 | packet[4];
         held = 0;
-        replaced = slot[OPEN] != 0;
         if (total > limit)
             return refuse_packet(answer, 6);
         if (length == 0 && total != 0)
             return refuse_packet(answer, 7);
         if (length > total)
             return refuse_packet(answer, 8);
+        slot = find(slots, id, true);
+        if (slot == NULL)
+            return refuse_packet(answer, 18);
+        replaced = slot->opened != 0;
     } else {
-        total = slot[TOTAL];
-        held = slot[HELD];
         if (length == 0)
             return refuse_packet(answer, 7);
-        if (slot[OPEN] == 0 || slot[ID] != id)
+        slot = find(slots, id, false);
+        if (slot == NULL)
             return refuse_packet(answer, 9);
-        if (sequence != ((slot[LAST_SEQUENCE] + 1) & 15)) {
-            set_slot(slot, 0, 0, 0, 0, 0, false);
+        total = slot->total;
+        held = slot->held;
+        if (sequence != ((slot->sequence + 1u) & 15)) {
+            *slot = idle;
             return refuse_packet(answer, 10);
         }
         if (type == LAST ? held + length != total : held + length >= total) {
-            set_slot(slot, 0, 0, 0, 0, 0, false);
+            *slot = idle;
             return refuse_packet(answer, 11);
         }
-        wanted = wanted || slot[WANTED] != 0;
+        wanted = wanted || slot->wanted != 0;
     }
-    memcpy(buffer + index * limit + held, packet + header, length);
+    size_t place = (size_t)(slot - row);
+    memcpy(buffer + place * limit + held, packet + header, length);
     if (held + length == total) {
-        set_slot(slot, 0, 0, 0, 0, 0, false);
+        *slot = idle;
         if (wanted)
             put_ack(out, stream, id, answer_sequence);
-        return tell(answer, FINISHED, stream, id, 0, total, wanted, replaced);
+        return tell(answer, FINISHED, stream, id, 0, total, wanted, replaced, place);
     }
-    set_slot(slot, 1, id, total, held + length, sequence, wanted);
-    return tell(answer, PIECE, stream, id, 0, 0, false, replaced);
+    *slot = (pito_slot){1, (uint8_t)id, (uint8_t)sequence, wanted, (uint16_t)total, (uint16_t)(held + length)};
+    return tell(answer, PIECE, stream, id, 0, 0, false, replaced, place);
 }

@@ -71,13 +71,13 @@ static void go_through_low_energy(void)
         check(pito_packet_write(PITO_LARGEST_ROOM, LIMIT, PITO_STREAM_ALEXA, 0, 0, 1, message, LIMIT, place,
                                 box.packet_out, sizeof box.packet_out, told, PITO_PACKET_WRITE_ANSWER) == 0);
         place = told[PITO_PACKET_WRITE_NEXT_PLACE];
-        check(pito_receiver_accept(box.receiver, PITO_RECEIVER_STATE, box.receiver_buffer, sizeof box.receiver_buffer,
-                                   box.packet_out, told[PITO_PACKET_WRITE_WRITTEN], 0, box.ack, sizeof box.ack, told,
-                                   PITO_ACCEPT_ANSWER) == 0);
+        check(pito_receiver_accept(box.receiver, PITO_RECEIVER_STATE, box.slots, PITO_SLOTS, box.receiver_buffer,
+                                   sizeof box.receiver_buffer, box.packet_out, told[PITO_PACKET_WRITE_WRITTEN], 0, box.ack,
+                                   sizeof box.ack, told, PITO_ACCEPT_ANSWER) == 0);
     } while (place < LIMIT);
     check(told[PITO_ACCEPT_OUTCOME] == PITO_FINISHED && told[PITO_ACCEPT_TOTAL] == LIMIT);
     check(told[PITO_ACCEPT_ACK_WANTED] == 1 && box.ack[0] == PITO_STREAM_ALEXA << 4);
-    append(box.receiver_buffer + PITO_RECEIVER_PART(PITO_STREAM_ALEXA, LIMIT));
+    append(box.receiver_buffer + PITO_RECEIVER_PART(told[PITO_ACCEPT_PLACE], LIMIT));
 }
 #endif
 

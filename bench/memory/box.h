@@ -27,6 +27,7 @@ struct box {
     uint64_t transports[PITO_MOST_TRANSPORTS];
 #if LOW_ENERGY
     uint64_t receiver[PITO_RECEIVER_STATE];
+    pito_slot slots[PITO_SLOTS];
 #endif
 #if CLASSIC
     uint64_t extractor[PITO_EXTRACTOR_STATE];

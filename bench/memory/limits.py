@@ -9,7 +9,7 @@ the formula does not have it, and if a message as long as the limit does not go 
 import subprocess
 import sys
 
-SPACES = (32768, 262144)
+SPACES = (32768, 65536, 262144)
 LARGEST_LIMIT = 65535
 LINKS = (("both links", 1, 1), ("Classic", 1, 0), ("Low Energy", 0, 1))
 

@@ -167,6 +167,7 @@ static void classic(void)
 }
 
 static uint64_t receiver[PITO_RECEIVER_STATE];
+static pito_slot slots[PITO_SLOTS];
 
 static void open_receiver(uint64_t *state)
 {
@@ -194,8 +195,9 @@ static void add_to_capture(const uint8_t *packet, size_t count)
 static void accept(const uint8_t *packet, size_t count)
 {
     static uint8_t buffer[PITO_RECEIVER_BUFFER(LIMIT)], ack[PITO_ACK_SIZE];
-    CALL(pito_receiver_accept, A(receiver), PITO_RECEIVER_STATE, A(buffer), length(sizeof buffer), A(packet), count,
-         below(once_in(60) ? 20 : 16), A(ack), length(sizeof ack), A(answer), PITO_ACCEPT_ANSWER);
+    CALL(pito_receiver_accept, A(receiver), PITO_RECEIVER_STATE, A(slots), length(PITO_SLOTS), A(buffer),
+         length(sizeof buffer), A(packet), count, below(once_in(60) ? 20 : 16), A(ack), length(sizeof ack), A(answer),
+         PITO_ACCEPT_ANSWER);
     add_to_capture(packet, count);
 }
 
@@ -239,6 +241,9 @@ static void low_energy(void)
     static uint64_t other[PITO_RECEIVER_STATE];
     for (int round = 0; round < ROUNDS; round++) {
         open_receiver(round == 0 ? receiver : other);
+        /* What damage left open fills the row. */
+        if (once_in(200))
+            memset(slots, 0, sizeof slots);
         send_message();
         if (CALL(pito_ack_write, any_stream(), below(17), below(17), below(3), A(bytes), once_in(20) ? 5 : 6,
                  A(answer), length(PITO_ACK_WRITE_ANSWER)) == 0)

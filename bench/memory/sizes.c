@@ -10,8 +10,8 @@
 #include <stdlib.h>
 #include <string.h>
 
-/* The box of the sum: both links, frames written whole, no message buffer. */
-#define LIMIT 4096
+/* The box of the sum: both links, frames written whole, no message buffer; a limit with which it fits. */
+#define LIMIT 1536
 #define CLASSIC 1
 #define LOW_ENERGY 1
 #define BY_PARTS 0
@@ -61,15 +61,16 @@ static void buffer(const char *what, const char *why, size_t bytes)
 
 static void print_buffers(void)
 {
-    printf("| buffer | why this size | bytes at 4,096 |\n|---|---|--:|\n");
+    printf("| buffer | why this size | bytes at %s |\n|---|---|--:|\n", commas(LIMIT));
     buffer("extractor's", "`PITO_EXTRACTOR_BUFFER(limit)`, exactly: limit + 2", sizeof box.extractor_buffer);
-    buffer("receiver's", "`PITO_RECEIVER_BUFFER(limit)`, exactly: 3 * limit", sizeof box.receiver_buffer);
+    buffer("receiver's", "`PITO_RECEIVER_BUFFER(limit)`, exactly: 12 * limit", sizeof box.receiver_buffer);
     buffer("outgoing frame", "`PITO_FRAME_SIZE(limit)`, all escaped: 4 + 2 * limit + 2 * 2 + 1", sizeof box.frame);
     buffer("outgoing frame by parts", "any size from 1 on, here the radio module's", sizeof pipe.output);
     buffer("outgoing packet", "the largest room; from 20 on", sizeof box.packet_out);
     buffer("packet that came", "the largest room of the other side", sizeof box.packet_in);
     buffer("ACK", "`PITO_ACK_SIZE` or more; lent with each packet that is accepted", sizeof box.ack);
     buffer("outbox of one record", "`PITO_ONE_RECORD(limit)`, as in examples/c/box.c: 1 + 4 + 1 + limit", sizeof box.outbox);
+    buffer("receiver's slots", "`PITO_SLOTS` of `pito_slot`", sizeof box.slots);
     buffer("serial input", "any size from 1 on, here that of examples/c/box.c", sizeof box.serial_in);
     printf("\n");
 }
@@ -100,6 +101,7 @@ static void print_sum(size_t deepest)
     part("extractor's state", sizeof box.extractor);
     part("extractor's buffer", sizeof box.extractor_buffer);
     part("receiver's state", sizeof box.receiver);
+    part("receiver's slots", sizeof box.slots);
     part("receiver's buffer", sizeof box.receiver_buffer);
     part("one outgoing frame, the longest", sizeof box.frame);
     part("one answer row, the longest", sizeof box.answer);
@@ -132,10 +134,10 @@ static void print_choices(void)
     instead("packet and ACK are made in the frame's bytes, one thing sent at a time and no packet accepted meanwhile",
             one_at_a_time);
     instead("a room of 20, both ways", 2 * (PITO_LEAST_ROOM - PITO_LARGEST_ROOM));
-    instead("only payloads up to 2,048 bytes are sent as frames", 2 * (2048 - message));
-    instead("the same, and a message buffer of 2,048", 2 * (2048 - message) + 2048);
+    instead("only payloads up to 768 bytes are sent as frames", 2 * (768 - message));
+    instead("the same, and a message buffer of 768", 2 * (768 - message) + 768);
     instead("frames written by parts, 64 bytes at a time", by_parts);
-    instead("the same, and a message buffer of 4,096", by_parts + message);
+    instead("the same, and a message buffer of 1,536", by_parts + message);
     printf("\n");
 }
 
@@ -172,8 +174,8 @@ static void print_longest_frame(void)
         check_parts(payload, sizeof payload);
         longest = written[0] > longest ? written[0] : longest;
     }
-    printf("Longest frame that `pito_frame_write` wrote of 4,096 marks, over every sum that marks have: %s bytes.\n",
-           commas((long)longest));
+    printf("Longest frame that `pito_frame_write` wrote of %s marks, over every sum that marks have: %s bytes.\n",
+           commas(LIMIT), commas((long)longest));
     printf("\nLongest payload that fits behind its own frame in the frame's bytes (2n + 9 + n): %s bytes.\n",
            commas(((long)sizeof box.frame - 9) / 3));
 }

@@ -32,8 +32,9 @@ calls! {
         place: u64, output: *mut u8, size: usize, answer: *mut u64, answers: usize);
     AckWrite(stream: u64, id: u64, sequence: u64, positive: u64, output: *mut u8, size: usize, answer: *mut u64,
         answers: usize);
-    ReceiverAccept(state: *mut u64, states: usize, buffer: *mut u8, size: usize, packet: *const u8, length: usize,
-        sequence: u64, out: *mut u8, room: usize, answer: *mut u64, answers: usize) plain_receiver_accept;
+    ReceiverAccept(state: *const u64, states: usize, row: *mut pito_slot, slots: usize, buffer: *mut u8, size: usize,
+        packet: *const u8, length: usize, sequence: u64, out: *mut u8, room: usize, answer: *mut u64, answers: usize)
+        plain_receiver_accept;
     CaptureJudge(capture: *const u8, length: usize, room: u64, limit: u64, answer: *mut u64, answers: usize);
     MessageRead(message: *const u8, length: usize, answer: *mut u64, answers: usize)
         nanopb_envelope_read nanopb_response_read nanopb_information_read nanopb_features_read

@@ -2,7 +2,7 @@
 
 use crate::low_energy::WISH;
 use second::classic::{self, END, ESCAPE, START};
-use second::low_energy::{self, acknowledgement};
+use second::low_energy::{self, acknowledgement, Stream, Wish, SLOTS};
 use second::outbox::{self, Version};
 use second::rng::Rng;
 
@@ -136,6 +136,32 @@ pub fn packets(messages: &[Vec<u8>], room: usize) -> Vec<Vec<u8>> {
     messages.iter().flat_map(of).collect()
 }
 
+/// All packets of messages at a room, twelve messages at a time, four of each stream, by turns: every slot
+/// is open.
+pub fn packets_by_turns(messages: &[Vec<u8>], room: usize) -> Vec<Vec<u8>> {
+    let mut packets = Vec::new();
+    for group in messages.chunks(SLOTS) {
+        let of = |(index, message): (usize, &Vec<u8>)| -> Vec<Vec<u8>> {
+            let stream = Stream::ALL[index / 4];
+            let id = index as u8;
+            let wish = Wish { stream, id, ..WISH };
+            low_energy::pieces(message.len(), room)
+                .map(|piece| low_energy::packet(wish, message, piece))
+                .collect()
+        };
+        let of_each: Vec<Vec<Vec<u8>>> = group.iter().enumerate().map(of).collect();
+        let most = of_each.iter().map(Vec::len).max().unwrap_or(0);
+        for turn in 0..most {
+            packets.extend(
+                of_each
+                    .iter()
+                    .filter_map(|of_one| of_one.get(turn).cloned()),
+            );
+        }
+    }
+    packets
+}
+
 /// The pieces that stand in those packets.
 pub fn pieces(messages: &[Vec<u8>], room: usize) -> Vec<Vec<u8>> {
     let of = |message: &Vec<u8>| -> Vec<Vec<u8>> {
@@ -211,13 +237,16 @@ const REFUSED: [(&str, &[u8]); 11] = [
     ("11, after a first packet", &[0x61, 0x18, 0x01, 0x41]),
 ];
 
-/// Packets for each refusal of the receiver; 10 and 11 need an open transaction each time.
+/// Packets for each refusal of the receiver; 10 and 11 need an open transaction each time, 18 four of its
+/// stream.
 pub fn refused() -> Vec<(&'static str, Vec<Vec<u8>>)> {
     let packets = |(name, packet): (&'static str, &[u8])| match name.ends_with("first packet") {
         true => (name, vec![first_packet(), packet.to_vec()]),
         false => (name, vec![packet.to_vec()]),
     };
-    REFUSED.into_iter().map(packets).collect()
+    let full = (0x22..=0x26).map(|head| vec![head, 0x00, 0x00, 0x00, 0x02, 0x01, 0x41]);
+    let full = ("18, after four first packets", full.collect());
+    REFUSED.into_iter().map(packets).chain([full]).collect()
 }
 
 /// A whole outbox of a version, of so many records with payloads of one size.

@@ -1,11 +1,11 @@
 //! Loops over Low Energy packets.
 
-use crate::calls::{AckWrite, CaptureJudge, PacketWrite, ReceiverAccept};
+use crate::calls::{pito_slot, AckWrite, CaptureJudge, PacketWrite, ReceiverAccept};
 use crate::digest::Digest;
 use second::classic::LIMIT;
 use second::low_energy::{
     self, accept as accept_packet, acknowledgement, write_packet, Accepted, Open, Receiver, Reply,
-    Stream, Wish,
+    Stream, Wish, SLOTS,
 };
 use std::hint::black_box;
 
@@ -123,13 +123,15 @@ pub fn accept<const WHOLE: bool>(
 ) -> u64 {
     let accept = black_box(accept);
     let mut digest = Digest::<WHOLE>::new();
-    let (mut state, mut answer, mut ack) = ([0; 19], [0; 7], [0; 6]);
-    state[0] = LIMIT;
+    let (state, mut row) = ([LIMIT], [IDLE; SLOTS]);
+    let (mut answer, mut ack) = ([0; 8], [0; 6]);
     for packet in packets {
         let number = unsafe {
             accept(
-                state.as_mut_ptr(),
+                state.as_ptr(),
                 state.len(),
+                row.as_mut_ptr(),
+                row.len(),
                 buffer.as_mut_ptr(),
                 buffer.len(),
                 packet.as_ptr(),
@@ -144,11 +146,11 @@ pub fn accept<const WHOLE: bool>(
         digest.number(number);
         digest.row(&answer);
         if answer[0] == FINISHED {
-            digest.bytes(third(buffer, answer[1], answer[4] as usize));
+            digest.bytes(part(buffer, answer[7], answer[4] as usize));
             digest.bytes(&ack);
         }
     }
-    digest.row(&state);
+    row.iter().for_each(|slot| digest.row(&lent_row(slot)));
     digest.lent(buffer);
     digest.value()
 }
@@ -173,14 +175,25 @@ pub fn judge<const WHOLE: bool>(judge: CaptureJudge, capture: &[u8], room: usize
     digest.value()
 }
 
-/// A finished message of a stream, in its third of the buffer.
-fn third(buffer: &[u8], stream: u64, total: usize) -> &[u8] {
-    let start = match stream {
-        0 => 0,
-        2 => LIMIT as usize,
-        _ => 2 * LIMIT as usize,
-    };
-    &buffer[start..start + total]
+/// A finished message, in the part of the slot at a place.
+fn part(buffer: &[u8], place: u64, total: usize) -> &[u8] {
+    &buffer[place as usize * LIMIT as usize..][..total]
+}
+
+const IDLE: pito_slot = pito_slot {
+    opened: 0,
+    id: 0,
+    sequence: 0,
+    wanted: 0,
+    total: 0,
+    held: 0,
+};
+
+fn lent_row(slot: &pito_slot) -> [u64; 6] {
+    let (total, held) = (u64::from(slot.total), u64::from(slot.held));
+    let [opened, id, sequence, wanted] =
+        [slot.opened, slot.id, slot.sequence, slot.wanted].map(u64::from);
+    [opened, id, total, held, sequence, wanted]
 }
 
 pub fn accept_own<const WHOLE: bool>(packets: &[Vec<u8>], buffer: &mut [u8]) -> u64 {
@@ -195,37 +208,38 @@ pub fn accept_own<const WHOLE: bool>(packets: &[Vec<u8>], buffer: &mut [u8]) -> 
         let (after, told) = accept_packet(state, buffer, packet, reply);
         state = after;
         match told {
-            Err(refusal) => digest.row(&[refusal.number(), 0, 0, 0, 0, 0, 0, 0]),
+            Err(refusal) => digest.row(&[refusal.number(), 0, 0, 0, 0, 0, 0, 0, 0]),
             Ok(accepted) => {
                 let row = accepted_row(accepted);
                 digest.number(0);
                 digest.row(&row);
                 if row[0] == FINISHED {
-                    digest.bytes(third(buffer, row[1], row[4] as usize));
+                    digest.bytes(part(buffer, row[7], row[4] as usize));
                     digest.bytes(&ack);
                 }
             }
         }
     }
-    digest.number(state.limit);
     let slots = state.slots;
     slots.iter().for_each(|slot| digest.row(&slot_row(slot)));
     digest.lent(buffer);
     digest.value()
 }
 
-fn accepted_row(accepted: Accepted) -> [u64; 7] {
+fn accepted_row(accepted: Accepted) -> [u64; 8] {
     let of = |stream: Stream, id: u8| (u64::from(stream.number()), u64::from(id));
     match accepted {
         Accepted::Held {
+            place,
             stream,
             id,
             replaced,
         } => {
             let (stream, id) = of(stream, id);
-            [0, stream, id, 0, 0, 0, u64::from(replaced)]
+            [0, stream, id, 0, 0, 0, u64::from(replaced), place as u64]
         }
         Accepted::Finished {
+            place,
             stream,
             id,
             total,
@@ -234,7 +248,8 @@ fn accepted_row(accepted: Accepted) -> [u64; 7] {
         } => {
             let (stream, id) = of(stream, id);
             let (ack, replaced) = (u64::from(ack_wanted), u64::from(replaced));
-            [FINISHED, stream, id, 0, total as u64, ack, replaced]
+            let (total, place) = (total as u64, place as u64);
+            [FINISHED, stream, id, 0, total, ack, replaced, place]
         }
         Accepted::Acknowledgement {
             stream,
@@ -244,7 +259,7 @@ fn accepted_row(accepted: Accepted) -> [u64; 7] {
         } => {
             let (stream, id) = of(stream, id);
             let outcome = if positive { 2 } else { 3 };
-            [outcome, stream, id, u64::from(sequence), 0, 0, 0]
+            [outcome, stream, id, u64::from(sequence), 0, 0, 0, 0]
         }
     }
 }

@@ -37,6 +37,17 @@ pub fn rows() -> Vec<Row> {
             ));
         }
     }
+    for room in ROOMS {
+        rows.push(Row::new(
+            "packets accepted",
+            format!("100 bytes, room {room}, twelve at a time"),
+            move || {
+                let messages = inputs::messages(65_536, 100);
+                let job = accept_job(inputs::packets_by_turns(&messages, room));
+                job.and("byte", messages.iter().map(Vec::len).sum())
+            },
+        ));
+    }
     rows.push(Row::new("packets accepted", "ACK and NACK", || {
         accept_job(inputs::acks(ACKS))
     }));
@@ -56,7 +67,7 @@ pub fn rows() -> Vec<Row> {
     rows
 }
 
-/// Each refusal alone; 10 and 11 by turns with the first packet that they need.
+/// Each refusal alone; 10, 11 and 18 by turns with the first packets that they need.
 fn refused_rows() -> Vec<Row> {
     inputs::refused()
         .into_iter()

@@ -1,6 +1,7 @@
 //! The plain Rust of second/ behind the same C calls: each is its function of `face`, on the lent
 //! slices.
 
+use crate::calls::pito_slot;
 use second::face::{self, firmware};
 use second::low_energy::Reply;
 use second::outbox::{ONE, TWO};
@@ -47,9 +48,9 @@ shims! {
         face::packet_write([room, limit], [stream, id, sequence, ack], given(message, length), place, lent(output, size), told);
     ack_write(stream: u64, id: u64, sequence: u64, positive: u64, output: *mut u8, size: usize) told
         face::ack_write([stream, id, sequence, positive], lent(output, size), told);
-    receiver_accept(state: *mut u64, states: usize, buffer: *mut u8, size: usize, packet: *const u8, length: usize,
-        sequence: u64, out: *mut u8, room: usize) told
-        face::receiver_accept(lent(state, states), lent(buffer, size), given(packet, length),
+    receiver_accept(state: *const u64, states: usize, row: *mut pito_slot, slots: usize, buffer: *mut u8, size: usize,
+        packet: *const u8, length: usize, sequence: u64, out: *mut u8, room: usize) told
+        face::receiver_accept(given(state, states), lent(row.cast(), slots), lent(buffer, size), given(packet, length),
             Reply { sequence, buffer: lent(out, room) }, told);
     capture_judge(capture: *const u8, length: usize, room: u64, limit: u64) told
         face::capture_judge(given(capture, length), room, limit, told);

@@ -25,9 +25,13 @@
 /* A frame tells no stream: what comes over this link is what the crew says to the speaker. */
 #define STREAM PITO_STREAM_ALEXA
 
+/* The largest message of the link, in bytes. */
+#define LIMIT 4096
+
 static uint8_t input[256];
 static uint64_t extractor[PITO_EXTRACTOR_STATE];
 static uint8_t frame[PITO_EXTRACTOR_BUFFER(LIMIT)];
+static uint8_t record[PITO_ONE_RECORD(LIMIT)];
 
 static void open_link(void)
 {
@@ -61,7 +65,7 @@ int main(int words, char **word)
         return 2;
     }
     check_standard_streams();
-    open_outbox(word[1]);
+    open_outbox(word[1], record, sizeof record);
     open_link();
     for (;;) {
         ssize_t count = read(STDIN_FILENO, input, sizeof input);

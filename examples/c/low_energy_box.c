@@ -10,8 +10,8 @@
  *
  * Standard output: `record PLACE LENGTH` for each record, as of box.c, and written after the record's fsync has come back.
  * Standard error: `dropped PLACE` for a cut last record that was found at the start, `refused NUMBER` for each refused
- * packet, `replaced STREAM` where a first packet replaced an open transaction, `no envelope NUMBER` for a control message
- * that is none, `too long LENGTH` for a packet that no radio sends, and what ended the program.
+ * packet, `replaced STREAM` where a first packet replaced an open transaction of its id, `no envelope NUMBER` for a control
+ * message that is none, `too long LENGTH` for a packet that no radio sends, and what ended the program.
  * Ends with 0 at the end of the input (a last packet that is cut is not taken); with 1 and with 2 as box.c does, with 1
  * also where nothing can be sent any more.
  *
@@ -58,8 +58,17 @@ static const uint64_t transports[] = {0};
 /* A text of this program, and its length. */
 #define TEXT(text) (const uint8_t *)(text), sizeof(text) - 1
 
+/*
+ * The largest message of the link, in bytes. The receiver's buffer has twelve times as much, since each stream may have
+ * four transactions open at a time: with 2,048 all that this box holds fits into 32 KiB (docs/MEMORY.md).
+ */
+#define LIMIT 2048
+
 static uint64_t receiver[PITO_RECEIVER_STATE];
+/* All 0: no transaction is open. */
+static pito_slot row[PITO_SLOTS];
 static uint8_t buffer[PITO_RECEIVER_BUFFER(LIMIT)];
+static uint8_t record[PITO_ONE_RECORD(LIMIT)];
 static uint8_t packet[PITO_LARGEST_ROOM];
 static uint8_t ack[PITO_ACK_SIZE];
 static uint8_t reply[PITO_REPLY_SIZE(sizeof SERIAL_NUMBER - 1, sizeof NAME - 1, sizeof DEVICE_TYPE - 1)];
@@ -134,13 +143,13 @@ static void answer_question(const uint8_t *message, size_t length)
 }
 
 /*
- * A message stands first in its stream's part of the buffer, and its ACK, if it wants one, in `ack`, until the next packet
- * is taken. Every stream's messages are kept.
+ * A message stands first in its slot's part of the buffer, and its ACK, if it wants one, in `ack`, until the next packet is
+ * taken. Every stream's messages are kept.
  */
 static void finish(const uint64_t *answer)
 {
     uint64_t stream = answer[PITO_ACCEPT_STREAM];
-    const uint8_t *message = buffer + PITO_RECEIVER_PART(stream, LIMIT);
+    const uint8_t *message = buffer + PITO_RECEIVER_PART(answer[PITO_ACCEPT_PLACE], LIMIT);
     keep(stream, message, answer[PITO_ACCEPT_TOTAL]);
     if (answer[PITO_ACCEPT_ACK_WANTED] == 1)
         send_packet(ack, sizeof ack);
@@ -148,12 +157,16 @@ static void finish(const uint64_t *answer)
         answer_question(message, answer[PITO_ACCEPT_TOTAL]);
 }
 
-/* This box asks for no ACKs: those that come tell it nothing. */
+/*
+ * This box asks for no ACKs: those that come tell it nothing. A transaction that its speaker has given up stays open until
+ * the id comes again; where four of a stream are so, every other id's first packet is refused by 18. A box that hears 18
+ * again and again opens its link anew, with a row of zeros.
+ */
 static void take(size_t length)
 {
     uint64_t answer[PITO_ACCEPT_ANSWER];
-    uint64_t number = pito_receiver_accept(receiver, PITO_RECEIVER_STATE, buffer, sizeof buffer, packet, length,
-                                           ACK_SEQUENCE, ack, sizeof ack, answer, PITO_ACCEPT_ANSWER);
+    uint64_t number = pito_receiver_accept(receiver, PITO_RECEIVER_STATE, row, PITO_SLOTS, buffer, sizeof buffer,
+                                           packet, length, ACK_SEQUENCE, ack, sizeof ack, answer, PITO_ACCEPT_ANSWER);
     switch (number) {
     case PITO_DONE:
         break;
@@ -228,7 +241,7 @@ int main(int words, char **word)
     }
     check_standard_streams();
     open_radio(word[2]);
-    open_outbox(word[1]);
+    open_outbox(word[1], record, sizeof record);
     open_link();
     while (take_next())
         ;

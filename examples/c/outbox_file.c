@@ -21,8 +21,9 @@
 
 #define LONGEST_LINE 128
 
-/* The outbox of one record. Its first byte is the file's, from the start on. */
-static uint8_t outbox[PITO_ONE_RECORD(LIMIT)];
+/* The outbox of one record, lent by the box. Its first byte is the file's, from the start on. */
+static uint8_t *outbox;
+static size_t outbox_size;
 
 static int file;
 static off_t file_end;
@@ -108,7 +109,7 @@ static void sync_to_disk(int what, const char *name)
 static void begin_outbox(void)
 {
     uint64_t answer[PITO_OUTBOX_NEW_ANSWER];
-    uint64_t number = pito_outbox_new(outbox, sizeof outbox, answer, PITO_OUTBOX_NEW_ANSWER);
+    uint64_t number = pito_outbox_new(outbox, outbox_size, answer, PITO_OUTBOX_NEW_ANSWER);
     if (number != PITO_DONE)
         fail_refused("pito_outbox_new", number);
     write_all(file, outbox, answer[PITO_OUTBOX_NEW_USED], "write the outbox file");
@@ -133,10 +134,10 @@ static void resume_outbox(void)
     uint64_t answer[PITO_OUTBOX_RECORD_ANSWER];
     file_end = PITO_FIRST_PLACE;
     for (;;) {
-        size_t held = read_file(outbox + PITO_FIRST_PLACE, sizeof outbox - PITO_FIRST_PLACE, file_end);
+        size_t held = read_file(outbox + PITO_FIRST_PLACE, outbox_size - PITO_FIRST_PLACE, file_end);
         uint64_t number = pito_outbox_record(outbox, PITO_FIRST_PLACE + held, PITO_FIRST_PLACE, answer,
                                              PITO_OUTBOX_RECORD_ANSWER);
-        if (number == PITO_REFUSED_RECORD_CUT && PITO_FIRST_PLACE + held == sizeof outbox) {
+        if (number == PITO_REFUSED_RECORD_CUT && PITO_FIRST_PLACE + held == outbox_size) {
             note("box: a record of the file is longer than this box's messages\n");
             exit(1);
         }
@@ -186,8 +187,10 @@ static void sync_folder(const char *path)
  * A start ends with all on disk that the file holds, and the file's name in its folder: the start before may have
  * been killed at any point.
  */
-void open_outbox(const char *path)
+void open_outbox(const char *path, uint8_t *one_record, size_t size)
 {
+    outbox = one_record;
+    outbox_size = size;
     file = open(path, O_RDWR | O_CREAT | O_APPEND, 0644);
     if (file < 0)
         fail("open the outbox file");
@@ -210,7 +213,7 @@ static void report(size_t length)
 void keep(uint64_t stream, const uint8_t *message, size_t length)
 {
     uint64_t answer[PITO_OUTBOX_APPEND_ANSWER];
-    uint64_t number = pito_outbox_append(outbox, sizeof outbox, PITO_FIRST_PLACE, stream, message, length, answer,
+    uint64_t number = pito_outbox_append(outbox, outbox_size, PITO_FIRST_PLACE, stream, message, length, answer,
                                          PITO_OUTBOX_APPEND_ANSWER);
     size_t record_length;
     if (number != PITO_DONE)

@@ -12,9 +12,6 @@
 
 #include "pitokaenge.h"
 
-/* The largest message of a box's link, in bytes. */
-#define LIMIT 4096
-
 /* A line on standard error. That it cannot be written stops nothing. */
 void note(const char *format, ...);
 
@@ -32,10 +29,11 @@ void write_all(int to, const void *bytes, size_t length, const char *what);
 
 /*
  * Opens the file, or begins it, and finds the end of its last whole record; a cut one behind it is dropped, and said so.
+ * The bytes are lent for good: PITO_ONE_RECORD of the box's limit, so that they hold the longest record of its messages.
  * Ends with 1 if the file is no outbox, has a longer record than a message of this box can be, or is open in another box;
  * it is then left as it was.
  */
-void open_outbox(const char *path);
+void open_outbox(const char *path, uint8_t *one_record, size_t size);
 
 /* Appends a message as a record; once it is on the disk, and not before, reports it on standard output. */
 void keep(uint64_t stream, const uint8_t *message, size_t length);

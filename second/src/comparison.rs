@@ -1,7 +1,7 @@
 //! Runs every implementation on the same call and compares what they return, their answers, their
-//! states and every lent byte.
+//! states, every lent slot and every lent byte.
 
-use crate::implementation::{Call, Implementation, Operation};
+use crate::implementation::{Call, Implementation, Lent, Operation, Slot};
 use std::fmt::{self, Write};
 
 /// What one implementation left.
@@ -9,6 +9,7 @@ use std::fmt::{self, Write};
 struct Left {
     returned: u64,
     state: Vec<u64>,
+    slots: Vec<Slot>,
     lent: Vec<u8>,
     reply: Vec<u8>,
     answer: Vec<u64>,
@@ -108,6 +109,7 @@ impl<'i> Comparison<'i> {
         }
         for (one, left) in self.implementations.iter().zip(&mut self.left) {
             left.state.clone_from(&call.state);
+            left.slots.clone_from(&call.slots);
             left.lent.clone_from(&call.lent);
             left.reply.clone_from(&call.reply);
             left.answer.clone_from(&call.answer);
@@ -116,7 +118,11 @@ impl<'i> Comparison<'i> {
                 &call.numbers,
                 &call.inputs,
                 &mut left.state,
-                [&mut left.lent, &mut left.reply],
+                Lent {
+                    slots: &mut left.slots,
+                    bytes: &mut left.lent,
+                    reply: &mut left.reply,
+                },
                 &mut left.answer,
             );
         }
@@ -125,6 +131,7 @@ impl<'i> Comparison<'i> {
             return Err(self.difference(call));
         }
         std::mem::swap(&mut call.state, &mut first.state);
+        std::mem::swap(&mut call.slots, &mut first.slots);
         std::mem::swap(&mut call.lent, &mut first.lent);
         std::mem::swap(&mut call.reply, &mut first.reply);
         std::mem::swap(&mut call.answer, &mut first.answer);
@@ -158,6 +165,7 @@ impl<'i> Comparison<'i> {
         let left = Left {
             returned: got,
             state: call.state.clone(),
+            slots: call.slots.clone(),
             lent: call.lent.clone(),
             reply: call.reply.clone(),
             answer: call.answer.clone(),
@@ -266,6 +274,9 @@ fn describe(call: &Call, text: &mut String) {
         let _ = writeln!(text, "  {name}, {} bytes: {}", bytes.len(), hex(bytes));
     }
     let _ = writeln!(text, "  state before, {}", row(shape.state, &call.state));
+    if shape.slots > 0 {
+        describe_slots("slots before", &call.slots, text);
+    }
     let lent = [(shape.lent, &call.lent), (shape.reply, &call.reply)];
     for (name, bytes) in lent.into_iter().filter(|(name, _)| *name != "nothing") {
         let (size, bytes) = (bytes.len(), hex(bytes));
@@ -274,10 +285,22 @@ fn describe(call: &Call, text: &mut String) {
     let _ = writeln!(text, "  answer before, {}", row(shape.answer, &call.answer));
 }
 
+/// A lent row: how many slots it has, and those that are not all 0.
+fn describe_slots(what: &str, slots: &[Slot], text: &mut String) {
+    let _ = writeln!(text, "  {what}, {}:", slots.len());
+    let told = slots.iter().enumerate();
+    for (place, slot) in told.filter(|(_, slot)| **slot != Slot::default()) {
+        let _ = writeln!(text, "      {place} {slot:?}");
+    }
+}
+
 fn describe_left(before: &Call, left: &Left, who: &str, text: &mut String) {
     let shape = before.operation.shape();
     let _ = writeln!(text, "  {who}: returned {}", left.returned);
     let _ = writeln!(text, "    state {}", row(shape.state, &left.state));
+    if shape.slots > 0 {
+        describe_slots("  slots", &left.slots, text);
+    }
     let _ = writeln!(text, "    answer {}", row(shape.answer, &left.answer));
     for (name, before, left) in [
         (shape.lent, &before.lent, &left.lent),

@@ -15,7 +15,7 @@
 
 use crate::classic::{self, Decided, Extractor, Next, Outcome, Parts, Standing};
 use crate::control::{self, Envelope, Features, Given, Information, Member, Payload, Response};
-use crate::implementation::{Implementation, Operation};
+use crate::implementation::{Implementation, Lent, Operation, Slot};
 use crate::judge;
 use crate::low_energy::{self, Accepted, Open, Receiver, Reply, Slots, Stream, Wish};
 use crate::outbox::{self, Broken, Record, Version, ONE, TWO};
@@ -39,9 +39,14 @@ impl Implementation for Model {
         numbers: &[u64],
         inputs: &[Vec<u8>],
         state: &mut [u64],
-        [lent, reply]: [&mut [u8]; 2],
+        lent: Lent<'_>,
         answer: &mut [u64],
     ) -> u64 {
+        let Lent {
+            slots,
+            bytes: lent,
+            reply,
+        } = lent;
         match operation {
             Operation::ExtractorOpen => extractor_open(numbers[0], state),
             Operation::ExtractorStep => extractor_step(state, lent, numbers[0] as u8, answer),
@@ -69,7 +74,7 @@ impl Implementation for Model {
                     sequence: numbers[0],
                     buffer: reply,
                 };
-                receiver_accept(state, lent, &inputs[0], reply, answer)
+                receiver_accept(state, slots, lent, &inputs[0], reply, answer)
             }
             Operation::CaptureJudge => capture_judge(&inputs[0], numbers[0], numbers[1], answer),
             Operation::EnvelopeRead => envelope_read(&inputs[0], answer),
@@ -408,105 +413,110 @@ pub fn ack_write(wish: [u64; 4], output: &mut [u8], answer: &mut [u64]) -> u64 {
     })
 }
 
-/// The limit, then six numbers for each slot, control, OTA, Alexa: `open, id, total, held, sequence,
-/// wanted`; "a lawful idle slot's numbers are all 0", and open and wanted are 0 or 1.
-fn receiver_in(row: &[u64]) -> Option<Receiver> {
-    let (&limit, row) = row.split_first()?;
-    let slot = |row: &[u64]| match *row {
-        [0, 0, 0, 0, 0, 0] => Some(None),
-        [1, id, total, held, sequence, wanted @ 0..=1] => {
-            let open = Open {
-                id: id.try_into().ok()?,
-                total: total.try_into().ok()?,
-                held: held.try_into().ok()?,
-                sequence: sequence.try_into().ok()?,
-                wanted: wanted == 1,
-            };
-            Some(Some(open))
-        }
-        _ => None,
+/// "a lawful idle slot's numbers are all 0", and opened and wanted are 0 or 1.
+fn slot_in(slot: &Slot) -> Option<Option<Open>> {
+    let open = Open {
+        id: slot.id,
+        total: slot.total.into(),
+        held: slot.held.into(),
+        sequence: slot.sequence,
+        wanted: slot.wanted == 1,
     };
-    let slots: Vec<Option<Open>> = row.chunks(6).map(slot).collect::<Option<_>>()?;
+    match (slot.opened, slot.wanted) {
+        (0, 0) if *slot == Slot::default() => Some(None),
+        (1, 0 | 1) => Some(Some(open)),
+        _ => None,
+    }
+}
+
+fn slot_out(slot: Option<Open>) -> Slot {
+    slot.map_or(Slot::default(), |open| Slot {
+        opened: 1,
+        id: open.id,
+        sequence: open.sequence,
+        wanted: open.wanted.into(),
+        total: open.total as u16,
+        held: open.held as u16,
+    })
+}
+
+/// The state is the limit alone; "In a lawful state, besides, the row has twelve slots".
+fn receiver_in(state: &[u64], slots: &[Slot]) -> Option<Receiver> {
+    let &[limit] = state else {
+        return None;
+    };
+    let slots: Vec<Option<Open>> = slots.iter().map(slot_in).collect::<Option<_>>()?;
     let slots: Slots = slots.try_into().ok()?;
     Some(Receiver { limit, slots }).filter(|state| state.is_lawful())
 }
 
-fn receiver_out(state: Receiver) -> [u64; 19] {
-    let mut row = [0; 19];
-    row[0] = state.limit;
-    for (slot, numbers) in state.slots.iter().zip(row[1..].chunks_mut(6)) {
-        if let Some(open) = slot {
-            numbers.copy_from_slice(&[
-                1,
-                u64::from(open.id),
-                wide(open.total),
-                wide(open.held),
-                u64::from(open.sequence),
-                u64::from(open.wanted),
-            ]);
-        }
-    }
-    row
-}
-
-/// No answer; the state goes out only. 17 leaves it.
+/// No answer; the state goes out only. 17 leaves it. The row of slots is no part of it: all 0, it is idle.
 pub fn receiver_open(limit: u64, state: &mut [u64]) -> u64 {
-    set_out(state, Receiver::open(limit).map(receiver_out))
+    set_out(
+        state,
+        Receiver::open(limit).map(|receiver| [receiver.limit]),
+    )
 }
 
-/// Answer `outcome, stream, id, sequence, total, ack wanted, replaced` with outcome 0 a piece held and
-/// more to come, 1 finished, 2 ACK, 3 NACK. The sequence is the packet's own and told with 2 and 3
-/// only, total and ACK wanted with 1 only, replaced with 0 and 1 only; else they are 0. An answer
-/// sequence of any size above 15 is 15.
+/// Answer `outcome, stream, id, sequence, total, ack wanted, replaced, place` with outcome 0 a piece held
+/// and more to come, 1 finished, 2 ACK, 3 NACK. The sequence is the packet's own and told with 2 and 3
+/// only, total and ACK wanted with 1 only, replaced and place with 0 and 1 only; else they are 0. An answer
+/// sequence of any size above 15 is 15. The state, the limit alone, stays.
 pub fn receiver_accept(
-    state: &mut [u64],
+    state: &[u64],
+    slots: &mut [Slot],
     buffer: &mut [u8],
     packet: &[u8],
     reply: Reply,
     answer: &mut [u64],
 ) -> u64 {
     ask(answer, || {
-        let before = receiver_in(state).ok_or(Refusal::Lent)?;
+        let before = receiver_in(state, slots).ok_or(Refusal::Lent)?;
         let (after, told) = low_energy::accept(before, buffer, packet, reply);
-        state.copy_from_slice(&receiver_out(after));
-        let of = |stream: Stream| u64::from(stream.number());
-        Ok(match told? {
-            Accepted::Held {
-                stream,
-                id,
-                replaced,
-            } => [0, of(stream), u64::from(id), 0, 0, 0, u64::from(replaced)],
-            Accepted::Finished {
-                stream,
-                id,
-                total,
-                ack_wanted,
-                replaced,
-            } => [
-                1,
-                of(stream),
-                u64::from(id),
-                0,
-                wide(total),
-                u64::from(ack_wanted),
-                u64::from(replaced),
-            ],
-            Accepted::Acknowledgement {
-                stream,
-                id,
-                sequence,
-                positive,
-            } => [
-                if positive { 2 } else { 3 },
-                of(stream),
-                u64::from(id),
-                u64::from(sequence),
-                0,
-                0,
-                0,
-            ],
-        })
+        slots.copy_from_slice(&after.slots.map(slot_out));
+        Ok(accepted_out(told?))
     })
+}
+
+fn accepted_out(accepted: Accepted) -> [u64; 8] {
+    let of = |stream: Stream| u64::from(stream.number());
+    match accepted {
+        Accepted::Held {
+            place,
+            stream,
+            id,
+            replaced,
+        } => {
+            let replaced = u64::from(replaced);
+            [0, of(stream), id.into(), 0, 0, 0, replaced, wide(place)]
+        }
+        Accepted::Finished {
+            place,
+            stream,
+            id,
+            total,
+            ack_wanted,
+            replaced,
+        } => [
+            1,
+            of(stream),
+            id.into(),
+            0,
+            wide(total),
+            ack_wanted.into(),
+            replaced.into(),
+            wide(place),
+        ],
+        Accepted::Acknowledgement {
+            stream,
+            id,
+            sequence,
+            positive,
+        } => {
+            let outcome = if positive { 2 } else { 3 };
+            [outcome, of(stream), id.into(), sequence.into(), 0, 0, 0, 0]
+        }
+    }
 }
 
 /// `start, length`

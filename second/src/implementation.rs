@@ -39,6 +39,27 @@ pub enum Operation {
     OutboxTo02,
 }
 
+/// A slot as the caller lends it: 8 bytes. "the slots come lent by the caller as a row of records" (No.
+/// 11).
+#[repr(C)]
+#[derive(Clone, Copy, Debug, Default, PartialEq, Eq)]
+pub struct Slot {
+    pub opened: u8,
+    pub id: u8,
+    pub sequence: u8,
+    pub wanted: u8,
+    pub total: u16,
+    pub held: u16,
+}
+
+/// What is lent to a call for writing besides its rows of numbers.
+pub struct Lent<'a> {
+    pub slots: &'a mut [Slot],
+    pub bytes: &'a mut [u8],
+    /// Where an ACK goes.
+    pub reply: &'a mut [u8],
+}
+
 /// The rows of an operation, for building calls and for printing them.
 pub struct Shape {
     pub name: &'static str,
@@ -48,6 +69,8 @@ pub struct Shape {
     pub inputs: &'static [&'static str],
     /// The row that goes in and out.
     pub state: &'static [&'static str],
+    /// How many slots are lent.
+    pub slots: usize,
     /// The row that goes out.
     pub answer: &'static [&'static str],
     /// The bytes that are lent for writing.
@@ -62,27 +85,7 @@ const EXTRACTOR: &[&str] = &["limit", "phase", "sequence", "held"];
 const PARTS: &[&str] = &[
     "limit", "sequence", "total", "taken", "sum", "stage", "pending",
 ];
-const RECEIVER: &[&str] = &[
-    "limit",
-    "control.open",
-    "control.id",
-    "control.total",
-    "control.held",
-    "control.sequence",
-    "control.wanted",
-    "ota.open",
-    "ota.id",
-    "ota.total",
-    "ota.held",
-    "ota.sequence",
-    "ota.wanted",
-    "alexa.open",
-    "alexa.id",
-    "alexa.total",
-    "alexa.held",
-    "alexa.sequence",
-    "alexa.wanted",
-];
+const RECEIVER: &[&str] = &["limit"];
 const INFORMATION: &[&str] = &[
     "serial_number.start",
     "serial_number.length",
@@ -269,6 +272,7 @@ impl Operation {
             numbers: &[],
             inputs: &[],
             state: &[],
+            slots: 0,
             answer: &[],
             lent: "nothing",
             reply: "nothing",
@@ -369,6 +373,7 @@ impl Operation {
                 numbers: &["answer sequence"],
                 inputs: &["packet"],
                 state: RECEIVER,
+                slots: 12,
                 answer: &[
                     "outcome",
                     "stream",
@@ -377,10 +382,11 @@ impl Operation {
                     "total",
                     "ack wanted",
                     "replaced",
+                    "place",
                 ],
                 lent: "buffer",
                 reply: "answer buffer",
-                returns: &[0, 1, 2, 3, 4, 5, 6, 7, 8, 9, 10, 11, 12, 14, 15],
+                returns: &[0, 1, 2, 3, 4, 5, 6, 7, 8, 9, 10, 11, 12, 14, 15, 18],
                 ..empty
             },
             Operation::CaptureJudge => Shape {
@@ -590,15 +596,14 @@ impl Operation {
 pub trait Implementation {
     fn name(&self) -> &str;
 
-    /// One call: returns 0 or the refusal number; `state`, the two lent buffers (the second is the
-    /// one for an ACK) and `answer` are what it left.
+    /// One call: returns 0 or the refusal number; `state`, what is lent and `answer` are what it left.
     fn call(
         &self,
         operation: Operation,
         numbers: &[u64],
         inputs: &[Vec<u8>],
         state: &mut [u64],
-        lent: [&mut [u8]; 2],
+        lent: Lent<'_>,
         answer: &mut [u64],
     ) -> u64;
 }
@@ -610,6 +615,7 @@ pub struct Call {
     pub numbers: Vec<u64>,
     pub inputs: Vec<Vec<u8>>,
     pub state: Vec<u64>,
+    pub slots: Vec<Slot>,
     pub lent: Vec<u8>,
     pub reply: Vec<u8>,
     pub answer: Vec<u64>,
@@ -624,6 +630,7 @@ impl Call {
             numbers: vec![0; shape.numbers.len()],
             inputs: vec![Vec::new(); shape.inputs.len()],
             state: vec![0; shape.state.len()],
+            slots: vec![Slot::default(); shape.slots],
             lent: Vec::new(),
             reply: Vec::new(),
             answer: vec![0; shape.answer.len()],
@@ -652,6 +659,11 @@ impl Call {
 
     pub fn state(mut self, state: &[u64]) -> Call {
         self.state = state.to_vec();
+        self
+    }
+
+    pub fn slots(mut self, slots: &[Slot]) -> Call {
+        self.slots = slots.to_vec();
         self
     }
 }

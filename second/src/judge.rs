@@ -112,7 +112,7 @@ pub fn judge(capture: &[u8], room: u64, limit: u64) -> Result<Answer, Refused> {
         if is_acknowledgement(bytes, stream) {
             continue;
         }
-        let slot = &mut open[stream.slot()];
+        let slot = &mut open[stream as usize];
         let begun = slot
             .take()
             .or_else(|| Transaction::begun_by(bytes, stream, room as usize, limit));

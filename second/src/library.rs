@@ -1,7 +1,7 @@
 //! The verified library, through its C interface (include/pitokaenge.h): the archive that
 //! `tools/archive` writes, linked with the feature `library`.
 
-use crate::implementation::{Implementation, Operation};
+use crate::implementation::{Implementation, Lent, Operation};
 use pitokaenge::*;
 
 mod firmware;
@@ -22,9 +22,14 @@ impl Implementation for Library {
         numbers: &[u64],
         inputs: &[Vec<u8>],
         state: &mut [u64],
-        [lent, reply]: [&mut [u8]; 2],
+        lent: Lent<'_>,
         answer: &mut [u64],
     ) -> u64 {
+        let Lent {
+            slots,
+            bytes: lent,
+            reply,
+        } = lent;
         let (row, rows) = (state.as_mut_ptr(), state.len());
         let (bytes, size) = (lent.as_mut_ptr(), lent.len());
         let (told, tells) = (answer.as_mut_ptr(), answer.len());
@@ -74,8 +79,11 @@ impl Implementation for Library {
                 Operation::ReceiverAccept => {
                     let (packet, length) = input(0);
                     let (out, room) = (reply.as_mut_ptr(), reply.len());
+                    // Both are the C struct, field by field.
+                    let (slot, slots) = (slots.as_mut_ptr().cast(), slots.len());
                     pito_receiver_accept(
-                        row, rows, bytes, size, packet, length, numbers[0], out, room, told, tells,
+                        row, rows, slot, slots, bytes, size, packet, length, numbers[0], out, room,
+                        told, tells,
                     )
                 }
                 Operation::CaptureJudge => {

@@ -2,15 +2,21 @@
 //! link with any limit (No. 6).
 
 use crate::refusal::{deliver, limit_in, Refusal};
+use std::ops::Range;
 
-/// What the lent buffer has exactly: "the receiver's buffer is three times that", the limit.
+/// "Each stream gets four slots" (No. 11).
+const EACH: usize = 4;
+
+/// The slots of a row.
+pub const SLOTS: usize = 3 * EACH;
+
+/// What the lent buffer has exactly: "the buffer is twelve times the limit".
 pub const fn buffer(limit: u64) -> usize {
-    3 * limit as usize
+    12 * limit as usize
 }
 
-/// "stream in the upper four bits (0 control, 6 Alexa, 2 OTA)". The order is that of the lent
-/// buffer's thirds: "control has the first third, the middle third belongs to the OTA stream, the
-/// last to Alexa".
+/// "stream in the upper four bits (0 control, 6 Alexa, 2 OTA)". The order is that of the row and of the
+/// lent buffer, "with its parts in the row's order: control, OTA, Alexa".
 #[derive(Clone, Copy, Debug, PartialEq, Eq)]
 pub enum Stream {
     Control,
@@ -37,9 +43,10 @@ impl Stream {
             .find(|stream| u64::from(stream.number()) == number)
     }
 
-    /// Which slot and which third of the buffer is this stream's.
-    pub fn slot(self) -> usize {
-        self as usize
+    /// The places in the row of this stream's slots; slot k has part k of the buffer.
+    pub fn places(self) -> Range<usize> {
+        let first = EACH * self as usize;
+        first..first + EACH
     }
 }
 
@@ -183,11 +190,22 @@ impl Open {
     }
 }
 
-/// "The receiver's state has three slots, one for each stream, each idle or open". An idle slot has
-/// nothing to remember: "a lawful idle slot remembers none".
-pub type Slots = [Option<Open>; 3];
+/// The lent row: each slot idle or open, four for each stream. An idle slot has nothing to remember:
+/// "a lawful idle slot remembers none".
+pub type Slots = [Option<Open>; SLOTS];
 
-/// The receiver of a link: its limit, which stays, and its slots.
+/// A row in which every slot is idle.
+pub const IDLE: Slots = [None; SLOTS];
+
+/// The place of the slot that is open for this id in the stream, if one is.
+fn open_place(slots: &Slots, stream: Stream, id: u8) -> Option<usize> {
+    let is_it = |open: Open| open.id == id;
+    stream
+        .places()
+        .find(|&place| slots[place].is_some_and(is_it))
+}
+
+/// The receiver of a link: its limit, which stays, and the row lent to it.
 #[derive(Clone, Copy, Debug, PartialEq, Eq)]
 pub struct Receiver {
     pub limit: u64,
@@ -198,30 +216,43 @@ impl Receiver {
     /// The empty state of a link with a limit: every slot idle.
     pub fn open(limit: u64) -> Result<Receiver, Refusal> {
         limit_in(limit)?;
-        Ok(Receiver {
-            limit,
-            slots: [None; 3],
-        })
+        Ok(Receiver { limit, slots: IDLE })
     }
 
-    /// "a state whose limit is out of range is unlawful".
+    /// "a state whose limit is out of range is unlawful"; "no two open slots of a stream have one id".
     pub fn is_lawful(&self) -> bool {
         let lawful = |open: &Open| open.is_lawful(self.limit);
-        limit_in(self.limit).is_ok() && self.slots.iter().flatten().all(lawful)
+        limit_in(self.limit).is_ok()
+            && self.slots.iter().flatten().all(lawful)
+            && Stream::ALL
+                .into_iter()
+                .all(|stream| self.ids_differ(stream))
+    }
+
+    fn ids_differ(&self, stream: Stream) -> bool {
+        let ids = || {
+            self.slots[stream.places()]
+                .iter()
+                .flatten()
+                .map(|open| open.id)
+        };
+        ids().all(|id| ids().filter(|&other| other == id).count() == 1)
     }
 }
 
 /// What an accepted packet came to.
 #[derive(Clone, Copy, Debug, PartialEq, Eq)]
 pub enum Accepted {
-    /// The piece is held; more has to come.
+    /// The piece is held in the slot at this place; more has to come.
     Held {
+        place: usize,
         stream: Stream,
         id: u8,
         replaced: bool,
     },
-    /// The transaction is whole: its third of the buffer begins with it.
+    /// The transaction is whole: its slot's part of the buffer begins with it.
     Finished {
+        place: usize,
         stream: Stream,
         id: u8,
         total: usize,
@@ -282,90 +313,102 @@ fn take(state: Receiver, lent: &mut [u8], packet: &[u8]) -> (Receiver, Result<Ac
         Ok(packet) => packet,
         Err(refusal) => return (state, Err(refusal)),
     };
-    let index = packet.stream.slot();
-    let set = |slot: Option<Open>| {
-        let mut after = state;
-        after.slots[index] = slot;
-        after
-    };
-    let place = match packet.part {
+    let (stream, id) = (packet.stream, packet.id);
+    let open = open_place(&slots, stream, id);
+    let goes = match packet.part {
         // "ACK packets never touch a slot."
         Part::Acknowledgement => {
             let told = Accepted::Acknowledgement {
-                stream: packet.stream,
-                id: packet.id,
+                stream,
+                id,
                 sequence: packet.sequence,
                 positive: packet.flag,
             };
             return (state, Ok(told));
         }
-        // "A first packet that is accepted always replaces an open transaction of its stream; its
-        // answer notes the drop."
-        Part::First { total, piece } => Ok((total, 0, piece, piece.len() == total, packet.flag)),
-        Part::Continuation { piece } | Part::Last { piece } => {
-            match slots[index].filter(|open| open.id == packet.id) {
-                None => return (state, Err(Refusal::NotOpen)),
-                // "Here 0 follows 15. Within a transaction each packet's sequence is one more,
-                // modulo 16".
-                Some(open) if packet.sequence != (open.sequence + 1) % 16 => {
-                    Err(Refusal::OutOfOrder)
-                }
-                Some(open) => {
-                    let last = matches!(packet.part, Part::Last { .. });
-                    let after = open.held + piece.len();
-                    let fits = if last {
-                        after == open.total
-                    } else {
-                        after < open.total
-                    };
-                    if fits {
-                        // "An ACK is wanted if at least one accepted packet of the transaction
-                        // carried the flag."
-                        let wanted = open.wanted || packet.flag;
-                        Ok((open.total, open.held, piece, last, wanted))
-                    } else {
-                        Err(Refusal::MissesTotal)
-                    }
-                }
-            }
-        }
+        // "A first packet whose id is open in its stream replaces that transaction; otherwise it takes
+        // the lowest idle slot".
+        Part::First { .. } => open
+            .or_else(|| stream.places().find(|&place| slots[place].is_none()))
+            .ok_or(Refusal::NoSlot),
+        Part::Continuation { .. } | Part::Last { .. } => open.ok_or(Refusal::NotOpen),
     };
-    let (total, held, piece, finished, wanted) = match place {
+    let place = match goes {
         Ok(place) => place,
+        Err(refusal) => return (state, Err(refusal)),
+    };
+    let set = |slot: Option<Open>| {
+        let mut after = state;
+        after.slots[place] = slot;
+        after
+    };
+    let (after, piece) = match added(slots[place], packet) {
+        Ok(added) => added,
         // 10 and 11 leave "slot idle, bytes kept".
         Err(refusal) => return (set(None), Err(refusal)),
     };
-    // "An accepted piece is written in its third at the count held, and no other byte changes."
+    // "An accepted piece is written in its" part "at the count held, and no other byte changes."
     lent.chunks_exact_mut(limit as usize)
-        .nth(index)
-        .expect("three thirds")[held..held + piece.len()]
+        .nth(place)
+        .expect("a part for each slot")[after.held - piece.len()..after.held]
         .copy_from_slice(piece);
-    let replaced = matches!(packet.part, Part::First { .. }) && slots[index].is_some();
-    if finished {
+    let replaced = matches!(packet.part, Part::First { .. }) && open.is_some();
+    if after.held == after.total {
         // "Finishing makes the slot idle".
         let told = Accepted::Finished {
-            stream: packet.stream,
-            id: packet.id,
-            total,
-            ack_wanted: wanted,
+            place,
+            stream,
+            id,
+            total: after.total,
+            ack_wanted: after.wanted,
             replaced,
         };
         (set(None), Ok(told))
     } else {
-        let open = Open {
-            id: packet.id,
-            total,
-            held: held + piece.len(),
-            sequence: packet.sequence,
-            wanted,
-        };
         let told = Accepted::Held {
-            stream: packet.stream,
-            id: packet.id,
+            place,
+            stream,
+            id,
             replaced,
         };
-        (set(Some(open)), Ok(told))
+        (set(Some(after)), Ok(told))
     }
+}
+
+/// The transaction with one packet more, and the packet's piece, of the slot that it goes to; 10 and 11.
+fn added<'a>(slot: Option<Open>, packet: Packet<'a>) -> Result<(Open, &'a [u8]), Refusal> {
+    let (last, piece) = match packet.part {
+        Part::First { total, piece } => {
+            let begun = Open {
+                id: packet.id,
+                total,
+                held: piece.len(),
+                sequence: packet.sequence,
+                wanted: packet.flag,
+            };
+            return Ok((begun, piece));
+        }
+        Part::Continuation { piece } => (false, piece),
+        Part::Last { piece } => (true, piece),
+        Part::Acknowledgement => panic!("it has no piece"),
+    };
+    let open = slot.expect("9 is judged before");
+    // "Here 0 follows 15. Within a transaction each packet's sequence is one more, modulo 16".
+    if packet.sequence != (open.sequence + 1) % 16 {
+        return Err(Refusal::OutOfOrder);
+    }
+    let held = open.held + piece.len();
+    if held > open.total || last != (held == open.total) {
+        return Err(Refusal::MissesTotal);
+    }
+    let after = Open {
+        held,
+        sequence: packet.sequence,
+        // "An ACK is wanted if at least one accepted packet of the transaction carried the flag."
+        wanted: open.wanted || packet.flag,
+        ..open
+    };
+    Ok((after, piece))
 }
 
 /// One piece of a message: the bytes from `place` on, `size` of them, in the packet `index`.

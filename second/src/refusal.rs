@@ -38,6 +38,8 @@ pub enum Refusal {
     Argument = 15,
     /// "a limit of 0 or above 65,535" (No. 6)
     Limit = 17,
+    /// "a first packet whose id isn't open and whose stream has no idle slot" (No. 11)
+    NoSlot = 18,
     /// "F0 inside a frame"
     StartInside = 20,
     /// "F1 in the header, or under 2 bytes stored"

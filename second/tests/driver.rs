@@ -3,7 +3,7 @@
 use second::comparison::Comparison;
 use second::driver::{captures, run_part, Plan, PARTS};
 use second::face::Model;
-use second::implementation::{Call, Implementation, Operation};
+use second::implementation::{Call, Implementation, Lent, Operation, Slot};
 use std::path::PathBuf;
 
 const SHORT: Plan = Plan {
@@ -68,7 +68,7 @@ fn a_wrong_line_of_a_capture_fails() {
 }
 
 /// What a wrong implementation makes of what the right one returned and left.
-type Spoil = fn(&mut u64, &mut [u64], [&mut [u8]; 2], &mut [u64]);
+type Spoil = fn(&mut u64, &mut [u64], Lent<'_>, &mut [u64]);
 
 /// An implementation that is wrong in one operation, on some calls.
 struct Wrong(Operation, Spoil);
@@ -84,13 +84,17 @@ impl Implementation for Wrong {
         numbers: &[u64],
         inputs: &[Vec<u8>],
         state: &mut [u64],
-        [lent, reply]: [&mut [u8]; 2],
+        lent: Lent<'_>,
         answer: &mut [u64],
     ) -> u64 {
-        let both = [&mut *lent, &mut *reply];
-        let mut returned = Model.call(operation, numbers, inputs, state, both, answer);
+        let all = Lent {
+            slots: &mut *lent.slots,
+            bytes: &mut *lent.bytes,
+            reply: &mut *lent.reply,
+        };
+        let mut returned = Model.call(operation, numbers, inputs, state, all, answer);
         if operation == self.0 {
-            (self.1)(&mut returned, state, [lent, reply], answer);
+            (self.1)(&mut returned, state, lent, answer);
         }
         returned
     }
@@ -127,23 +131,36 @@ fn a_wrong_number_of_any_operation_is_found() {
             });
             assert!(found(&state).is_some());
         }
+        if shape.slots > 0 {
+            let slots = Wrong(operation, |_, _, lent, _| {
+                if let Some(last) = lent.slots.last_mut() {
+                    last.wanted ^= 1;
+                }
+            });
+            assert!(found(&slots).is_some());
+        }
         if shape.lent != "nothing" {
-            let lent = Wrong(operation, |_, _, [lent, _], _| {
-                if let Some(last) = lent.last_mut() {
+            let lent = Wrong(operation, |_, _, lent, _| {
+                if let Some(last) = lent.bytes.last_mut() {
                     *last ^= 1;
                 }
             });
             assert!(found(&lent).is_some());
         }
         if shape.reply != "nothing" {
-            let reply = Wrong(operation, |_, _, [_, reply], _| {
-                if let Some(last) = reply.last_mut() {
+            let reply = Wrong(operation, |_, _, lent, _| {
+                if let Some(last) = lent.reply.last_mut() {
                     *last ^= 1;
                 }
             });
             assert!(found(&reply).is_some());
         }
     }
+}
+
+/// The bytes held in all slots.
+fn held(slots: &[Slot]) -> u64 {
+    slots.iter().map(|slot| u64::from(slot.held)).sum()
 }
 
 #[test]
@@ -161,30 +178,30 @@ fn streams_that_are_not_apart_are_found() {
     let right = Wrong(Operation::ReceiverAccept, |_, _, _, _| {});
     assert!(!found(&right));
     // 10 makes the slots of the other streams idle too.
-    let idle = Wrong(Operation::ReceiverAccept, |returned, state, _, _| {
+    let idle = Wrong(Operation::ReceiverAccept, |returned, _, lent, _| {
         if *returned == 10 {
-            state[1..].fill(0);
+            lent.slots.fill(Slot::default());
         }
     });
     assert!(found(&idle));
     // One byte of the buffer is the last packet's, whatever its stream.
-    let byte = Wrong(Operation::ReceiverAccept, |returned, _, [lent, _], _| {
-        if let Some(last) = lent.last_mut() {
+    let byte = Wrong(Operation::ReceiverAccept, |returned, _, lent, _| {
+        if let Some(last) = lent.bytes.last_mut() {
             *last = *returned as u8;
         }
     });
     assert!(found(&byte));
     // The answer tells a number of all slots.
-    let answer = Wrong(Operation::ReceiverAccept, |returned, state, _, answer| {
+    let answer = Wrong(Operation::ReceiverAccept, |returned, _, lent, answer| {
         if *returned == 0 {
-            answer[3] = state.iter().sum();
+            answer[3] = held(lent.slots);
         }
     });
     assert!(found(&answer));
     // The ACK's last byte is a number of all slots.
-    let ack = Wrong(Operation::ReceiverAccept, |_, state, [_, reply], _| {
-        if let Some(code) = reply.get_mut(5) {
-            *code = state.iter().sum::<u64>() as u8;
+    let ack = Wrong(Operation::ReceiverAccept, |_, _, lent, _| {
+        if let Some(code) = lent.reply.get_mut(5) {
+            *code = held(lent.slots) as u8;
         }
     });
     assert!(found(&ack));
@@ -192,8 +209,8 @@ fn streams_that_are_not_apart_are_found() {
 
 #[test]
 fn a_difference_tells_the_call_and_both_answers() {
-    let wrong = Wrong(Operation::FrameWrite, |_, _, [lent, _], answer| {
-        lent[1] = 0x03;
+    let wrong = Wrong(Operation::FrameWrite, |_, _, lent, answer| {
+        lent.bytes[1] = 0x03;
         answer[0] += 1;
     });
     let mut comparison = Comparison::new(&[&Model, &wrong]);

@@ -5,7 +5,7 @@ use second::driver::judged::capture;
 use second::driver::worked::bytes;
 use second::driver::{run_part, Plan, PARTS};
 use second::face::Model;
-use second::implementation::{Implementation, Operation};
+use second::implementation::{Implementation, Lent, Operation};
 use second::judge::line;
 
 const P4: [&str; 3] = [
@@ -78,7 +78,7 @@ impl Implementation for Wrong {
         numbers: &[u64],
         inputs: &[Vec<u8>],
         state: &mut [u64],
-        lent: [&mut [u8]; 2],
+        lent: Lent<'_>,
         answer: &mut [u64],
     ) -> u64 {
         let (mut numbers, mut inputs) = (numbers.to_vec(), inputs.to_vec());

@@ -8,13 +8,11 @@ use second::classic::{self, Extractor, Next, Outcome, Parts, Standing};
 use second::control::{self, Envelope, Features, Given, Information, Payload, Response};
 use second::driver::worked::bytes;
 use second::low_energy::{
-    self, write_packet, Accepted, Open, Receiver, Reply, Slots, Stream, Wish,
+    self, write_packet, Accepted, Open, Receiver, Reply, Slots, Stream, Wish, IDLE,
 };
 use second::outbox;
 use second::refusal::Refusal;
 use second::reply::{self, Own};
-
-const IDLE: Slots = [None; 3];
 
 /// What a packet is refused by, from these slots; a refusal of the group's lines up to 9 changes
 /// nothing.
@@ -31,18 +29,37 @@ fn packet_refusal(slots: Slots, packet: &[u8]) -> u64 {
 }
 
 fn control_open(total: usize, held: usize) -> Slots {
-    let open = Open {
-        id: 1,
+    row_of(&[(0, open_slot(1, total, held))])
+}
+
+fn open_slot(id: u8, total: usize, held: usize) -> Open {
+    Open {
+        id,
         total,
         held,
         sequence: 4,
         wanted: false,
-    };
-    [Some(open), None, None]
+    }
+}
+
+/// A row that is idle but for these places.
+fn row_of(slots: &[(usize, Open)]) -> Slots {
+    let mut row = IDLE;
+    for &(place, open) in slots {
+        row[place] = Some(open);
+    }
+    row
 }
 
 #[test]
 fn packets_read() {
+    let full = row_of(
+        &[1, 9, 4, 0]
+            .map(|id| open_slot(id, 10, 3))
+            .into_iter()
+            .enumerate()
+            .collect::<Vec<_>>(),
+    );
     let open = control_open(10, 3);
     let cases: &[(Slots, &str, u64)] = &[
         (IDLE, "", 2),
@@ -97,6 +114,13 @@ fn packets_read() {
         (open, "01 54 08 A0 A1 A2 A3 A4 A5 A6 A7", 11),
         (open, "01 58 06 A0 A1 A2 A3 A4 A5", 11),
         (open, "01 58 08 A0 A1 A2 A3 A4 A5 A6 A7", 11),
+        // 8 before 18; a first packet that would finish at once is 18 too; 9 for the other types.
+        (full, "02 00 00 00 01 02 AA BB", 8),
+        (full, "02 00 00 00 02 01 AA", 18),
+        (full, "02 00 00 00 01 01 AA", 18),
+        (full, "02 00 00 00 00 00", 18),
+        (full, "02 54 01 AA", 9),
+        (full, "22 54 01 AA", 9),
     ];
     for (slots, packet, number) in cases {
         assert_eq!(packet_refusal(*slots, &bytes(packet)), *number, "{packet}");
@@ -106,11 +130,11 @@ fn packets_read() {
 #[test]
 fn unlawful_states_and_buffers_come_first() {
     let packet = bytes("00");
-    for size in [0, 4_098, 12_287, 12_289] {
+    for size in [0, 4_098, 12_288, BUFFER - 1, BUFFER + 1] {
         let mut buffer = vec![0; size];
         assert_eq!(accept(IDLE, &mut buffer, &packet).1, Err(Refusal::Lent));
     }
-    // A limit that is none, over a buffer of three times that.
+    // A limit that is none, over a buffer of twelve times that.
     for limit in [0, 65_536] {
         let state = Receiver { limit, slots: IDLE };
         let mut buffer = vec![0; low_energy::buffer(limit)];
@@ -154,9 +178,8 @@ fn unlawful_states_and_buffers_come_first() {
             ..lawful
         },
     ];
-    for slot in 0..3 {
-        let mut slots = IDLE;
-        slots[slot] = Some(lawful);
+    for slot in 0..12 {
+        let mut slots = row_of(&[(slot, lawful)]);
         assert_eq!(packet_refusal(slots, &packet), 2);
         for open in unlawful {
             slots[slot] = Some(open);
@@ -199,15 +222,15 @@ fn the_answer_is_judged_before_the_packet() {
 }
 
 #[test]
-fn a_first_packet_replaces_and_notes_the_drop() {
+fn a_first_packet_replaces_its_own_id_and_notes_it() {
     let mut buffer = vec![0; BUFFER];
-    let first = bytes("07 90 00 00 03 01 AA");
+    let first = bytes("01 90 00 00 03 01 AA");
     let (after, told) = accept(control_open(10, 3), &mut buffer, &first);
     assert!(matches!(told, Ok(Accepted::Held { replaced: true, .. })));
     let replaced = after[0].unwrap();
-    assert_eq!((replaced.id, replaced.sequence, replaced.held), (7, 9, 1));
+    assert_eq!((replaced.id, replaced.sequence, replaced.held), (1, 9, 1));
     // Also one that finishes at once, empty or not.
-    for only in ["07 90 00 00 01 01 AA", "07 90 00 00 00 00"] {
+    for only in ["01 90 00 00 01 01 AA", "01 90 00 00 00 00"] {
         let (after, told) = accept(control_open(10, 3), &mut buffer, &bytes(only));
         assert!(matches!(
             told,
@@ -217,20 +240,64 @@ fn a_first_packet_replaces_and_notes_the_drop() {
     }
     // One that is refused replaces nothing.
     assert_eq!(
-        packet_refusal(control_open(10, 3), &bytes("07 90 00 00 01 00")),
+        packet_refusal(control_open(10, 3), &bytes("01 90 00 00 01 00")),
         7
     );
-    // Another stream's slot is not replaced.
-    let other = bytes("67 90 00 00 03 01 AA");
-    let (after, told) = accept(control_open(10, 3), &mut buffer, &other);
-    assert!(matches!(
-        told,
-        Ok(Accepted::Held {
-            replaced: false,
-            ..
-        })
-    ));
-    assert_eq!(after[0], control_open(10, 3)[0]);
+    // Neither another id's slot nor another stream's is replaced.
+    for (other, goes) in [("07 90 00 00 03 01 AA", 1), ("61 90 00 00 03 01 AA", 8)] {
+        let (after, told) = accept(control_open(10, 3), &mut buffer, &bytes(other));
+        let Ok(Accepted::Held {
+            place, replaced, ..
+        }) = told
+        else {
+            panic!("{other}: {told:?}")
+        };
+        assert_eq!((place, replaced), (goes, false));
+        assert_eq!(after[0], control_open(10, 3)[0]);
+    }
+}
+
+/// "no two open slots of a stream have one id", of two streams they may.
+#[test]
+fn ids_doubled_in_a_stream_are_unlawful() {
+    let packet = bytes("00");
+    for one in 0..12 {
+        for other in 0..one {
+            let row = row_of(&[(one, open_slot(7, 10, 3)), (other, open_slot(7, 9, 1))]);
+            let number = if one / 4 == other / 4 { 1 } else { 2 };
+            assert_eq!(packet_refusal(row, &packet), number);
+        }
+    }
+}
+
+/// "otherwise it takes the lowest idle slot"; the part of that slot is written, no other byte.
+#[test]
+fn the_lowest_idle_slot_is_taken() {
+    for stream in Stream::ALL {
+        for idle in 1u8..16 {
+            let is_open = |index: &usize| idle >> index & 1 == 0;
+            let first = stream.places().start;
+            let taken: Vec<(usize, Open)> = (0..4)
+                .filter(is_open)
+                .map(|index| (first + index, open_slot(index as u8, 10, 3)))
+                .collect();
+            let mut buffer = vec![0xEE; BUFFER];
+            let packet = [stream.number() << 4 | 9, 0x40, 0, 0, 10, 1, 0xAA];
+            let (after, told) = accept(row_of(&taken), &mut buffer, &packet);
+            let lowest = first + idle.trailing_zeros() as usize;
+            let expected = Accepted::Held {
+                place: lowest,
+                stream,
+                id: 9,
+                replaced: false,
+            };
+            assert_eq!(told, Ok(expected));
+            let all = [&taken[..], &[(lowest, open_slot(9, 10, 1))]].concat();
+            assert_eq!(after, row_of(&all));
+            let changed: Vec<usize> = (0..BUFFER).filter(|&k| buffer[k] != 0xEE).collect();
+            assert_eq!(changed, [lowest * 4_096]);
+        }
+    }
 }
 
 /// What comes of these packets on the Alexa stream, one after the other; the last answer and slots.
@@ -262,7 +329,7 @@ fn the_flag_on_any_accepted_packet_asks() {
             &["62 00 00 00 03 01 AA", "62 14 01 BB", "62 28 01 CC"],
             false,
         ),
-        // "a replaced .. transaction forgets it", whatever its id.
+        // "a replaced .. transaction forgets it"; one of another id has its own slot.
         (
             &[
                 "62 02 00 00 02 01 AA",
@@ -340,7 +407,8 @@ fn the_flag_on_any_accepted_packet_asks() {
             panic!("{packets:?}: {told:?}")
         };
         assert_eq!(ack_wanted, *wanted, "{packets:?}");
-        assert_eq!(slots[2], None, "{packets:?}");
+        let left = slots[Stream::Alexa.places()].iter().flatten();
+        assert!(left.map(|open| open.id).all(|id| id != 2), "{packets:?}");
     }
 }
 

@@ -6,7 +6,7 @@ mod common;
 use common::{accept, BUFFER};
 use second::classic::{self, Decided, Extractor, Outcome, Standing};
 use second::control::{self, Features, Given, Information, Payload};
-use second::low_energy::{self, Accepted, Stream, Wish};
+use second::low_energy::{self, Accepted, Stream, Wish, IDLE, SLOTS};
 use second::outbox;
 use second::rng::Rng;
 
@@ -124,19 +124,20 @@ fn every_whole_frame_of_a_stream_is_given() {
 }
 
 /// "The packets of one message are all that our writer writes for it, place after place": mixed
-/// with packets of the other streams and ACK packets, each message is given.
+/// with packets of other streams, of other ids and ACK packets, each message is given.
 #[test]
 fn interleaved_messages_are_given() {
     let mut rng = Rng::new(9);
     for _ in 0..300 {
         let mut buffer = rng.bytes(BUFFER);
-        let mut slots = [None; 3];
-        let messages: Vec<(Wish, Vec<u8>, usize)> = Stream::ALL
-            .into_iter()
-            .map(|stream| {
+        let mut slots = IDLE;
+        // Four of each stream at a time, with four ids.
+        let first = rng.below(16);
+        let messages: Vec<(Wish, Vec<u8>, usize)> = (0..SLOTS)
+            .map(|index| {
                 let wish = Wish {
-                    stream,
-                    id: rng.below(16) as u8,
+                    stream: Stream::ALL[index / 4],
+                    id: ((first + 5 * index as u64) % 16) as u8,
                     sequence: rng.below(16) as u8,
                     ack: rng.once_in(2),
                 };
@@ -153,8 +154,9 @@ fn interleaved_messages_are_given() {
             .map(|(_, message, room)| low_energy::pieces(message.len(), *room))
             .collect();
         let mut finished = 0;
-        while finished < 3 {
-            let turn = rng.index(3);
+        let mut goes = [None; SLOTS];
+        while finished < SLOTS {
+            let turn = rng.index(SLOTS);
             let (wish, message, room) = &messages[turn];
             let Some(piece) = left[turn].next() else {
                 continue;
@@ -164,8 +166,15 @@ fn interleaved_messages_are_given() {
             let (after, told) = accept(slots, &mut buffer, &packet);
             slots = after;
             let told = told.unwrap();
+            let (Accepted::Held { place, .. } | Accepted::Finished { place, .. }) = told else {
+                panic!("{told:?}")
+            };
+            // All packets of a message are told with one place, of its stream.
+            assert!(wish.stream.places().contains(&place));
+            assert_eq!(*goes[turn].get_or_insert(place), place);
             if piece.last {
                 let expected = Accepted::Finished {
+                    place,
                     stream: wish.stream,
                     id: wish.id,
                     total: message.len(),
@@ -173,8 +182,7 @@ fn interleaved_messages_are_given() {
                     replaced: false,
                 };
                 assert_eq!(told, expected);
-                let third = &buffer[turn * 4_096..(turn + 1) * 4_096];
-                assert!(third.starts_with(message));
+                assert!(buffer[place * 4_096..].starts_with(message));
                 finished += 1;
             } else {
                 assert!(matches!(told, Accepted::Held { .. }));
@@ -182,7 +190,7 @@ fn interleaved_messages_are_given() {
             let ack = low_energy::acknowledgement(wish.stream, wish.id, 3, rng.once_in(2));
             assert_eq!(accept(slots, &mut buffer, &ack).0, slots);
         }
-        assert_eq!(slots, [None; 3]);
+        assert_eq!(slots, IDLE);
     }
 }
 

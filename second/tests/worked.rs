@@ -6,7 +6,9 @@ use common::{accept, BUFFER};
 use second::classic::{self, listing, next_sequence, write_frame, Decided, Extractor};
 use second::control::{self, Envelope, Given, Payload, Response};
 use second::driver::worked::bytes;
-use second::low_energy::{acknowledgement, pieces, write_packet, Accepted, Open, Stream, Wish};
+use second::low_energy::{
+    acknowledgement, pieces, write_packet, Accepted, Open, Stream, Wish, IDLE,
+};
 use second::outbox;
 use second::refusal::Refusal;
 
@@ -103,7 +105,8 @@ fn p7_after_sequence_15() {
         sequence: 15,
         wanted: false,
     };
-    let slots = [Some(open), None, None];
+    let mut slots = IDLE;
+    slots[0] = Some(open);
     let mut buffer = vec![0; BUFFER];
     let (after, told) = accept(slots, &mut buffer, &bytes("02 04 01 AA"));
     assert!(matches!(told, Ok(Accepted::Held { .. })));
@@ -111,7 +114,7 @@ fn p7_after_sequence_15() {
     assert_eq!((open.held, open.sequence), (4, 0));
     let (after, told) = accept(slots, &mut buffer, &bytes("02 A4 01 BB"));
     assert_eq!(told, Err(Refusal::OutOfOrder));
-    assert_eq!(after, [None; 3]);
+    assert_eq!(after, IDLE);
     assert_eq!(buffer[..5], [0, 0, 0, 0xAA, 0]);
 }
 
@@ -125,14 +128,14 @@ fn p8_acknowledgements() {
     for sequence in 0..16 {
         for positive in [false, true] {
             let packet = acknowledgement(Stream::Ota, 5, sequence, positive);
-            let (after, told) = accept([None; 3], &mut buffer, &packet);
+            let (after, told) = accept(IDLE, &mut buffer, &packet);
             let expected = Accepted::Acknowledgement {
                 stream: Stream::Ota,
                 id: 5,
                 sequence,
                 positive,
             };
-            assert_eq!((after, told), ([None; 3], Ok(expected)));
+            assert_eq!((after, told), (IDLE, Ok(expected)));
         }
     }
 }
@@ -152,9 +155,10 @@ fn p9_empty_transaction() {
     );
     assert_eq!(output[..7], [0, 0, 0, 0, 0, 0, 0xCC]);
     let mut buffer = vec![0xEE; BUFFER];
-    let (after, told) = accept([None; 3], &mut buffer, &output[..6]);
-    assert_eq!(after, [None; 3]);
+    let (after, told) = accept(IDLE, &mut buffer, &output[..6]);
+    assert_eq!(after, IDLE);
     let expected = Accepted::Finished {
+        place: 0,
         stream: Stream::Control,
         id: 0,
         total: 0,
@@ -278,7 +282,7 @@ fn slip_leaving_the_checksum_unescaped() {
 fn slip_refusing_an_extender_on_200() {
     let mut buffer = vec![0; BUFFER];
     let packet = [bytes("61 01 00 00 C8 00 C8"), vec![9; 200]].concat();
-    let (_, told) = accept([None; 3], &mut buffer, &packet);
+    let (_, told) = accept(IDLE, &mut buffer, &packet);
     assert!(matches!(told, Ok(Accepted::Finished { total: 200, .. })));
 }
 
@@ -286,8 +290,8 @@ fn slip_refusing_an_extender_on_200() {
 fn slip_finishing_14_of_35() {
     let mut buffer = vec![0; BUFFER];
     let packet = [bytes("61 02 00 00 23 0E"), vec![9; 14]].concat();
-    let (after, told) = accept([None; 3], &mut buffer, &packet);
+    let (after, told) = accept(IDLE, &mut buffer, &packet);
     assert!(matches!(told, Ok(Accepted::Held { .. })));
-    let open = after[2].unwrap();
+    let open = after[8].unwrap();
     assert_eq!((open.held, open.total), (14, 35));
 }

@@ -27,9 +27,9 @@ use Rattle.parts.specs.Writer.{wrote, filled}
 use Rattle.packet.specs.Header.{inRange}
 use Rattle.packet.specs.Control.{ackSize, ackBytes}
 use Rattle.acknowledgement.specs.Acknowledgement.{ackOf}
-use Rattle.packet.specs.Reader.{readOf}
 use Rattle.sender.specs.declared.writer.Sending.{Sending}
 use Rattle.sender.specs.Writer.{packetOf, foundAt, lines, sentOf, pieceOf, writtenOf}
+use Rattle.slot.specs.declared.Slot.{Slot}
 use Rattle.receiver.specs.Receiver.{acted, acceptOf}
 use Rattle.receiver.specs.Receiver as receiver
 use Rattle.control.specs.declared.envelope.EnvelopePayload.{EnvelopePayload}
@@ -60,17 +60,17 @@ use Rattle.outbox.specs.Writer.{Stored, stored, storedAt, newOf, badRecord, app
 use Rattle.rows.specs.Row.{numberTold, byteOr, outOfRange}
 use Rattle.calls_classic.specs.Convert.{isExtractor, extractorOf}
 use Rattle.calls_sending.specs.Convert.{streamWith, packetRow}
-use Rattle.calls_receiving.specs.Convert.{limitOf, isReceiver, slotsOf}
+use Rattle.calls_receiving.specs.Convert.{limitOf}
 use Rattle.rows_messages.specs.Convert.{allSigned, responsePayloadOf}
 use Rattle.rows_firmware.specs.More.{isWide}
 use Rattle.rows_firmware.specs.Apply.{rowSize, answerSize, badRow, applyAt}
 use Rattle.calls_outbox.specs.Convert.{usedIn, usedRow}
-use Rattle.rows.specs.Called.{called, ifFit}
+use Rattle.rows.specs.Called.{ifFit}
 use Rattle.calls_classic.specs.Calls.{opened, stepped, fedCall, noneUsed, extractorOpenOf, extractorStepOf, extractorFeedOf, frameWriteOf, nextSequenceOf}
 use Rattle.calls_parts.specs.Convert.{isState, stateOf}
 use Rattle.calls_parts.specs.Calls.{begun, parted, frameBeginOf, framePartOf}
 use Rattle.calls_sending.specs.Calls.{packetWriteOf, ackWriteOf}
-use Rattle.calls_receiving.specs.Calls.{replied, accepted, receiverOpenOf, receiverAcceptOf}
+use Rattle.calls_receiving.specs.Calls.{replied, accepted, rowsFit, receiverOpenOf, receiverAcceptOf}
 use Rattle.calls_receiving.specs.Calls as receiving
 use Rattle.calls_messages.specs.Calls.{envelopeReadOf, envelopeWriteOf, responseReadOf, responseWriteOf, informationReadOf, informationWriteOf, featuresReadOf, featuresWriteOf}
 use Rattle.reply.specs.declared.Link.{Link}
@@ -81,8 +81,8 @@ use Rattle.calls_reply.specs.Calls.{replyWriteOf}
 use Rattle.calls_firmware.specs.Calls.{segmentReadOf, segmentStored, segmentWriteOf, applyReadOf, applyStored, applyWriteOf, fieldReadOf}
 use Rattle.calls_captures.specs.Calls.{captureJudgeOf}
 use Rattle.calls_outbox.specs.Calls.{outboxNewOf, outboxAppendOf, outboxRecordOf, outboxWholeOf}
-use Rattle.capi_claims.specs.OneLeavesAll.{Keeps, KeepsBoth, OneLeavesAll}
-use Rattle.capi_claims.proofs.Rows.{keeps-if, keeps-rows, keeps-answers, writes-keeps, keeps-writer, keeps-text}
+use Rattle.capi_claims.specs.OneLeavesAll.{Keeps, KeepsRow, OneLeavesAll}
+use Rattle.capi_claims.proofs.Rows.{keeps-if, keeps-answers, writes-keeps, keeps-writer, keeps-text}
 use Rattle.capi_claims.proofs.Extracting.{advance-not-one, feed-not-one}
 use Rattle.capi_claims.proofs.Accepting.{acted-keeps, answered-keeps}
 use Rattle.capi_claims.proofs.Replies.{replied-left}
@@ -135,16 +135,16 @@ feed-keeps bytes state lent answer =
 
 receiver-open-keeps : (limit : ℕ) (state : List ℕ) → Keeps state [] [] (receiverOpenOf limit state)
 unfolding receiverOpenOf receiver.openOf
-receiver-open-keeps limit state = keeps-if (eqb (length state) 19) state [] [] _ (go (not (limitFits limit)))
+receiver-open-keeps limit state = keeps-if (eqb (length state) 1) state [] [] _ (go (not (limitFits limit)))
   where
-    go : (t : Bool) → Keeps state [] [] (receiving.opened state (cond t (refused 17) (given (receiver.empty limit))))
+    go : (t : Bool) → Keeps state [] [] (receiving.opened state (cond t (refused 17) (given (receiver.linkOf limit))))
     go true = λ e. absurd (omega (arith, e))
     go false = λ e. absurd (omega (arith, e))
 
-accept-keeps : (sequence : ℕ) (packet state lent out answer : List ℕ)
-    → KeepsBoth state lent out answer (receiverAcceptOf state lent packet sequence out answer)
+accept-keeps : (sequence : ℕ) (slots : List Slot) (packet state lent out answer : List ℕ)
+    → KeepsRow slots lent out answer (receiverAcceptOf state slots lent packet sequence out answer)
 unfolding receiverAcceptOf acceptOf
-accept-keeps sequence packet state lent out answer = fits (eqb (length answer) 7 && isReceiver state)
+accept-keeps sequence slots packet state lent out answer = fits (rowsFit state answer)
   where
     limit : ℕ
     limit = limitOf state
@@ -152,16 +152,17 @@ accept-keeps sequence packet state lent out answer = fits (eqb (length answer) 7
     c : receiver.PacketCall
     c = receiver.call packet (byteOr outOfRange sequence) out
 
-    go : (t : Bool) → KeepsBoth state lent out answer
-        (accepted state answer
-        (cond t (receiver.left (refused 1) (slotsOf state) lent out)
-        (receiver.leaves (c .sequence) out (acted limit (slotsOf state) lent packet (receiver.readIn limit c)))))
+    go : (t : Bool) → KeepsRow slots lent out answer
+        (accepted answer
+        (cond t (receiver.left (refused 1) slots lent out)
+        (receiver.leaves (c .sequence) out (acted limit slots lent packet (receiver.readIn limit c)))))
     go true = λ e. refl
     go false = λ e.
-        rw (e, acted-keeps limit (slotsOf state) lent packet (receiver.readIn limit c) e, answered-keeps (c .sequence) out (acted limit (slotsOf state) lent packet (receiver.readIn limit c) .told) e)
+        let r = acted-keeps limit slots lent packet (receiver.readIn limit c) e in
+        rw (e, r .0, r .1, answered-keeps (c .sequence) out (acted limit slots lent packet (receiver.readIn limit c) .told) e)
 
-    fits : (fit : Bool) → KeepsBoth state lent out answer (cond fit (accepted state answer (acceptOf limit (slotsOf state) lent c)) (replied (called 1 state lent answer) out))
-    fits true = go (not (receiver.ready limit (slotsOf state) (length lent)))
+    fits : (fit : Bool) → KeepsRow slots lent out answer (cond fit (accepted answer (acceptOf limit slots lent c)) (replied 1 slots lent answer out))
+    fits true = go (not (receiver.ready limit slots (length lent)))
     fits false = λ e. refl
 
 -- writers, each by its table

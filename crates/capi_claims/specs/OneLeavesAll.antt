@@ -4,6 +4,7 @@ use Prim.Native.Nat.{ℕ}
 use mathlib.Core.Path.{_≡_}
 use mathlib.Core.List.{List, []}
 use Rattle.sender.specs.declared.writer.Sending.{Sending}
+use Rattle.slot.specs.declared.Slot.{Slot}
 use Rattle.control.specs.declared.envelope.EnvelopePayload.{EnvelopePayload}
 use Rattle.device.specs.declared.features.DeviceFeatures.{DeviceFeatures}
 use Rattle.reply.specs.declared.Link.{Link}
@@ -25,9 +26,9 @@ use Rattle.calls_moving.specs.Calls.{outboxMoveOf}
 abbrev pub Keeps : List ℕ → List ℕ → List ℕ → Called → Type 0
 Keeps state lent answer c = c .number ≡ 1 → c ≡ called 1 state lent answer
 
--- the same of a call with an answer buffer
-abbrev pub KeepsBoth : List ℕ → List ℕ → List ℕ → List ℕ → AcceptCalled → Type 0
-KeepsBoth state lent out answer r = r .call .number ≡ 1 → r ≡ replied (called 1 state lent answer) out
+-- the same of a call with a row of slots and an answer buffer
+abbrev pub KeepsRow : List Slot → List ℕ → List ℕ → List ℕ → AcceptCalled → Type 0
+KeepsRow slots lent out answer r = r .number ≡ 1 → r ≡ replied 1 slots lent answer out
 
 pub record OneLeavesAll : Type 0 where
   pub extractor-open : (limit : ℕ) (state : List ℕ) → Keeps state [] [] (extractorOpenOf limit state)
@@ -41,7 +42,8 @@ pub record OneLeavesAll : Type 0 where
       → Keeps [] out answer (packetWriteOf limit how message place out answer)
   pub ack-write : (stream id sequence positive : ℕ) (out answer : List ℕ) → Keeps [] out answer (ackWriteOf stream id sequence positive out answer)
   pub receiver-open : (limit : ℕ) (state : List ℕ) → Keeps state [] [] (receiverOpenOf limit state)
-  pub receiver-accept : (sequence : ℕ) (packet state lent out answer : List ℕ) → KeepsBoth state lent out answer (receiverAcceptOf state lent packet sequence out answer)
+  pub receiver-accept : (sequence : ℕ) (slots : List Slot) (packet state lent out answer : List ℕ)
+      → KeepsRow slots lent out answer (receiverAcceptOf state slots lent packet sequence out answer)
   pub capture-judge : (room limit : ℕ) (capture answer : List ℕ) → Keeps [] [] answer (captureJudgeOf capture room limit answer)
   pub envelope-read : (message answer : List ℕ) → Keeps [] [] answer (envelopeReadOf message answer)
   pub envelope-write : (command : ℕ) (payload : EnvelopePayload) (bytes out answer : List ℕ)

@@ -1,4 +1,4 @@
-// The two links for C: every capability on numbers and slices only, as its crates give it. include/pitokaenge.h describes
+// The two links for C: every capability on numbers and slices only, as its crates give it, and on the lent row of slots. include/pitokaenge.h describes
 // each function for its callers.
 use calls_classic::calls::extractor_feed;
 use calls_classic::calls::extractor_open;
@@ -7,10 +7,13 @@ use calls_classic::calls::frame_write;
 use calls_classic::calls::next_sequence;
 use calls_parts::calls::frame_begin;
 use calls_parts::calls::frame_part;
-use calls_receiving::calls::receiver_accept;
+use calls_receiving::calls::decide_row;
 use calls_receiving::calls::receiver_open;
 use calls_sending::calls::ack_write;
 use calls_sending::calls::packet_write;
+use link::load;
+use link::set_slot;
+use slot::Slot;
 ghost use mathlib.Core.Path.{_≡_};
 ghost use mathlib.Core.List.{[]};
 ghost use Rattle.rows.specs.Called.{called};
@@ -155,7 +158,7 @@ pub extern "C" fn pito_ack_write(
 
 // ---- Low Energy: receiving
 
-// Opens a receiver for a link with a limit: its empty state.
+// Opens a receiver for a link with a limit: its state.
 #[no_mangle]
 pub extern "C" fn pito_receiver_open(limit: u64, state: &mut [u64]) -> u64
     ensures { λ r. ⌜ called r (now (state .exit)) [] [] ≡ receiverOpenOf limit (now (state .entry)) ⌝ }
@@ -163,19 +166,24 @@ pub extern "C" fn pito_receiver_open(limit: u64, state: &mut [u64]) -> u64
     receiver_open(limit, state)
 }
 
-// One packet given to the receiver; the ACK that it may want is written in the answer buffer.
+// One packet given to the receiver over a lent row of slots; the ACK that it may want is written in the answer buffer.
 #[no_mangle]
 pub extern "C" fn pito_receiver_accept(
-    state: &mut [u64],
+    state: &[u64],
+    row: &mut [Slot],
     buffer: &mut [u8],
     packet: &[u8],
     sequence: u64,
     out: &mut [u8],
     answer: &mut [u64],
 ) -> u64
-    ensures { λ r. ⌜ replied (called r (now (state .exit)) (now (buffer .exit)) (now (answer .exit))) (now (out .exit))
-        ≡ receiverAcceptOf (now (state .entry)) (now (buffer .entry)) (now (packet .entry)) sequence (now (out .entry))
-        (now (answer .entry)) ⌝ }
+    ensures { λ r. ⌜ replied r (now (row .exit)) (now (buffer .exit)) (now (answer .exit)) (now (out .exit))
+        ≡ receiverAcceptOf (now (state .entry)) (now (row .entry)) (now (buffer .entry)) (now (packet .entry)) sequence
+        (now (out .entry)) (now (answer .entry)) ⌝ }
 {
-    receiver_accept(state, buffer, packet, sequence, out, answer)
+    let count = row.len();
+    let slots = load(&*row);
+    let done = decide_row(count, slots, state, buffer, packet, sequence, out, answer);
+    set_slot(row, done.place, done.slot);
+    done.number
 }

@@ -9,8 +9,8 @@ use printing::end;
 use printing::number;
 use printing::refused;
 use printing::text;
-use receiver::Receiver;
 use receiver::SLOT_COUNT;
+use receiver::decide;
 use sender::piece::LARGEST_ROOM;
 use sender::writer;
 use sender::writer::Sending;
@@ -113,11 +113,13 @@ fn write_packets(label: &[u8], shown: Shown, how: Sending, message: &[u8]) {
 fn print_accepted(accepted: Accepted) {
     match accepted {
         Accepted::Taken {
+            place: _,
             stream: _,
             id: _,
             replaced: _,
         } => text(b" taken"),
         Accepted::Finished {
+            place: _,
             stream: _,
             id: _,
             total: _,
@@ -134,16 +136,26 @@ fn print_accepted(accepted: Accepted) {
     }
 }
 
-// A packet given to a receiver with this control and this Alexa slot, OTA's idle.
+// A packet given to a link with this first control slot and this first Alexa slot, all others idle.
 fn accept_packet(label: &[u8], control: Slot, alexa: Slot, packet: &[u8]) {
     let mut buffer = [0u8; SLOT_COUNT * LIMIT];
     let none = Slot::idle();
-    let state = Receiver {
-        limit: LIMIT,
-        slots: [control, none, alexa],
-    };
+    let slots = [
+        control,
+        none,
+        none,
+        none,
+        none,
+        none,
+        none,
+        none,
+        alexa,
+        none,
+        none,
+        none,
+    ];
     let mut out = [0u8; OUTPUT];
-    let outcome = state.accept(&mut buffer, packet, 9, &mut out);
+    let outcome = decide(SLOT_COUNT, slots, LIMIT, &mut buffer, packet, 9, &mut out);
     let answer = outcome.answer;
     text(label);
     match answer {
@@ -178,24 +190,24 @@ fn in_room(room: usize) -> Sending {
 // A transaction of three bytes, of which one is held; the last packet had this sequence.
 fn open_after(sequence: u8) -> Slot {
     Slot {
-        opened: true,
+        opened: 1,
         id: 0,
+        sequence,
+        wanted: 0,
         total: 3,
         held: 1,
-        sequence,
-        wanted: false,
     }
 }
 
 // A transaction of two bytes whose first packet, with one of them, asked for an ACK.
 fn asking() -> Slot {
     Slot {
-        opened: true,
+        opened: 1,
         id: 1,
+        sequence: 0,
+        wanted: 1,
         total: 2,
         held: 1,
-        sequence: 0,
-        wanted: true,
     }
 }
 

@@ -13,13 +13,13 @@ use Rattle.wire.specs.Stream.{isStream, streamOf}
 use Rattle.packet.specs.Header.{inRange}
 use Rattle.packet.specs.Reader.{fieldsOf, contentOf, lines, readOf}
 use Rattle.slot.specs.Slot.{lawfulSlot, lawful}
-use Rattle.slot.specs.Step.{finish, hold, dropBy, firstStep, nextStep}
+use Rattle.slot_steps.specs.Step.{finish, hold, dropBy, firstStep, nextStep}
 use Rattle.receiver.specs.Receiver.{ready, readIn, acceptOf}
 use Rattle.sender.specs.Piece.{sizeFor}
 use Rattle.sender.specs.Writer.{headerBytes, packetOf, roomFits, argumentsFit, writtenOf}
 use Rattle.sender_claims.specs.Calls.{callsFrom, callsOf, Takes}
 use Rattle.sender_claims.proofs.CallsGiveAll.{takes-all}
-use Rattle.delivery.specs.Delivery.{runOf, repliesTo, ours, packetsIn, shown, shownTo, allAnswerable}
+use Rattle.delivery.specs.Delivery.{runOf, rowAfter, repliesTo, ours, hasSlot, packetsIn, shown, shownTo, allAnswerable}
 use Rattle.delivery.specs.Instance.{limit, how, message, output, slots, buffer, eight, before, first, later, after, Arrives}
 
 law : lawful limit slots ≡ true
@@ -40,10 +40,14 @@ sent = refl
 can-answer : allAnswerable (first ∷ those (ours how) later) ≡ true
 can-answer = refl
 
+free : hasSlot (rowAfter limit slots buffer before) how ≡ true
+unfolding limitFits isStream streamOf fieldsOf contentOf lines readOf lawfulSlot lawful finish hold dropBy firstStep nextStep ready readIn acceptOf rowAfter
+free = refl
+
 arrived : shownTo limit how (repliesTo limit slots buffer before (first ∷ later) after)
-    ≡ shown none eight
-    ∷ shown none eight
-    ∷ shown (some (record { stream = Alexa; id = 1; total = 35; ack = true; payload = message })) (0x61 ∷ 0x9E ∷ 0x00 ∷ 0x02 ∷ 0x01 ∷ 0x00 ∷ 0xEE ∷ 0xEE ∷ [])
+    ≡ shown (some 9) none eight
+    ∷ shown (some 9) none eight
+    ∷ shown (some 9) (some (record { stream = Alexa; id = 1; total = 35; ack = true; payload = message })) (0x61 ∷ 0x9E ∷ 0x00 ∷ 0x02 ∷ 0x01 ∷ 0x00 ∷ 0xEE ∷ 0xEE ∷ [])
     ∷ []
 unfolding limitFits isStream streamOf fieldsOf contentOf lines readOf lawfulSlot lawful finish hold dropBy firstStep nextStep ready readIn acceptOf runOf
 arrived = refl
@@ -57,6 +61,7 @@ arrives =
       begins = begins;
       sent = sent;
       answerable = can-answer;
+      free = free;
       arrived = arrived;
-      claimed = λ claim. claim limit slots buffer before first later after how message output law refl takes begins sent can-answer;
+      claimed = λ claim. claim limit slots buffer before first later after how message output law refl takes begins sent can-answer free;
     }

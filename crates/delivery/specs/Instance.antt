@@ -2,7 +2,7 @@
 use Prim.Native.Nat.{ℕ, zero, suc, _*_}
 use mathlib.Core.Path.{_≡_}
 use mathlib.Core.Option.{none, some}
-use mathlib.Core.List.{List, [], _∷_}
+use mathlib.Core.List.{List, [], _∷_, _++_}
 use mathlib.Core.Bool.{true}
 use lib.ListN.{length, getD, drop, replicate}
 use Rattle.wire.specs.Those.{those}
@@ -12,7 +12,7 @@ use Rattle.slot.specs.Slot.{idle, slotCount, lawful}
 use Rattle.sender.specs.declared.writer.Sending.{Sending}
 use Rattle.receiver.specs.Receiver.{PacketCall, call}
 use Rattle.sender_claims.specs.Calls.{callsOf, Takes}
-use Rattle.delivery.specs.Delivery.{repliesTo, ours, packetsIn, shown, shownTo, allAnswerable, atLast, MessagesArrive}
+use Rattle.delivery.specs.Delivery.{rowAfter, repliesTo, ours, hasSlot, packetsIn, shown, shownTo, allAnswerable, Arrived, MessagesArrive}
 
 -- small, so that the buffer is
 abbrev pub limit : ℕ
@@ -36,7 +36,7 @@ output = replicate 20 0
 
 -- an OTA transaction is open, of which two bytes are held, and which wants an ACK
 abbrev pub slots : List Slot
-slots = idle ∷ record { opened = true; id = 3; total = 6; held = 2; sequence = 15; wanted = true } ∷ idle ∷ []
+slots = replicate 4 idle ++ (record { opened = 1; id = 3; sequence = 15; wanted = 1; total = 6; held = 2 } ∷ replicate 7 idle)
 
 abbrev pub buffer : List ℕ
 buffer = replicate (slotCount * limit) 0
@@ -45,10 +45,11 @@ buffer = replicate (slotCount * limit) 0
 abbrev pub eight : List ℕ
 eight = replicate 8 0xEE
 
--- a transaction of the same stream and id is begun; a control message, whole
+-- a transaction of the same stream and another id is begun, and one of the same id; a control message, whole
 abbrev pub before : List PacketCall
 before =
-    call (0x61 ∷ 0x50 ∷ 0x00 ∷ 0x00 ∷ 0x04 ∷ 0x01 ∷ 0xEE ∷ []) 5 eight
+    call (0x62 ∷ 0x00 ∷ 0x00 ∷ 0x00 ∷ 0x03 ∷ 0x01 ∷ 0xAA ∷ []) 5 eight
+    ∷ call (0x61 ∷ 0x50 ∷ 0x00 ∷ 0x00 ∷ 0x04 ∷ 0x01 ∷ 0xEE ∷ []) 5 eight
     ∷ call (0x01 ∷ 0x00 ∷ 0x00 ∷ 0x00 ∷ 0x02 ∷ 0x02 ∷ 0x08 ∷ 0x5E ∷ []) 6 eight
     ∷ []
 
@@ -56,14 +57,20 @@ before =
 abbrev pub first : PacketCall
 first = call (0x61 ∷ 0x00 ∷ 0x00 ∷ 0x00 ∷ 0x23 ∷ 0x0E ∷ from 1 14) 7 eight
 
--- the two after it, and among them packets of other streams, with answer sequences and buffers that are refused too
+-- the two after it, and among them packets of other streams and other ids, with answer sequences and buffers that are refused too
 abbrev pub later : List PacketCall
 later =
     -- the open OTA transaction goes on
     call (0x23 ∷ 0x04 ∷ 0x02 ∷ 0xAA ∷ 0xBB ∷ []) 0 eight
     -- an ACK, with an answer sequence above 15
     ∷ call (0x01 ∷ 0x0E ∷ 0x00 ∷ 0x02 ∷ 0x01 ∷ 0x00 ∷ []) 16 eight
+    -- the transaction of another id goes on
+    ∷ call (0x62 ∷ 0x14 ∷ 0x01 ∷ 0xBB ∷ []) 0 eight
     ∷ call (0x61 ∷ 0x14 ∷ 0x11 ∷ from 15 17) 8 eight
+    -- two more of the stream begin, and for a third there is no slot
+    ∷ call (0x63 ∷ 0x00 ∷ 0x00 ∷ 0x00 ∷ 0x02 ∷ 0x01 ∷ 0xCC ∷ []) 0 eight
+    ∷ call (0x64 ∷ 0x00 ∷ 0x00 ∷ 0x00 ∷ 0x02 ∷ 0x01 ∷ 0xCC ∷ []) 0 eight
+    ∷ call (0x65 ∷ 0x00 ∷ 0x00 ∷ 0x00 ∷ 0x02 ∷ 0x01 ∷ 0xCC ∷ []) 0 eight
     -- a packet without bytes
     ∷ call [] 0 eight
     -- a stream that there is not
@@ -79,7 +86,8 @@ later =
 abbrev pub after : List PacketCall
 after = call (0x61 ∷ 0x2A ∷ 0x04 ∷ from 32 4) 9 eight ∷ []
 
--- All that the claim asks for is there, the message is given, at the third packet, with its ACK, and the claim says so.
+-- All that the claim asks for is there, the message is given, at the third packet, with its ACK, at the place of the transaction that it
+-- replaces, and the claim says so.
 pub record Arrives : Type 0 where
   pub law : lawful limit slots ≡ true
   pub size : length buffer ≡ slotCount * limit
@@ -87,10 +95,11 @@ pub record Arrives : Type 0 where
   pub begins : first .packet ≡ getD (callsOf limit how message output) 0 []
   pub sent : packetsIn (those (ours how) later) ≡ drop 1 (callsOf limit how message output)
   pub answerable : allAnswerable (first ∷ those (ours how) later) ≡ true
+  pub free : hasSlot (rowAfter limit slots buffer before) how ≡ true
   pub arrived : shownTo limit how (repliesTo limit slots buffer before (first ∷ later) after)
-      ≡ shown none eight
-      ∷ shown none eight
-      ∷ shown (some (record { stream = Alexa; id = 1; total = 35; ack = true; payload = message })) (0x61 ∷ 0x9E ∷ 0x00 ∷ 0x02 ∷ 0x01 ∷ 0x00 ∷ 0xEE ∷ 0xEE ∷ [])
+      ≡ shown (some 9) none eight
+      ∷ shown (some 9) none eight
+      ∷ shown (some 9) (some (record { stream = Alexa; id = 1; total = 35; ack = true; payload = message })) (0x61 ∷ 0x9E ∷ 0x00 ∷ 0x02 ∷ 0x01 ∷ 0x00 ∷ 0xEE ∷ 0xEE ∷ [])
       ∷ []
   pub claimed : MessagesArrive
-      → shownTo limit how (repliesTo limit slots buffer before (first ∷ later) after) ≡ atLast how message first (those (ours how) later)
+      → Arrived how message first (those (ours how) later) (shownTo limit how (repliesTo limit slots buffer before (first ∷ later) after))

@@ -1,7 +1,7 @@
 // The claims of Low Energy, from the writer to the receiver. Their words are in specs/; these functions do nothing.
 ghost use Rattle.delivery.specs.AcknowledgementsReturn.{TakesEveryAck, AcknowledgementsReturn};
 ghost use Rattle.delivery.specs.Answering.{AnsweredOnly};
-ghost use Rattle.delivery.specs.Delivery.{AnswerableAll, MessagesArrive, RoundTrip, MessageAsked};
+ghost use Rattle.delivery.specs.Delivery.{AnswerableAll, SlotEnough, MessagesArrive, RoundTrip, MessageAsked};
 ghost use Rattle.delivery.specs.Instance.{Arrives};
 
 // Each ACK and NACK of the ranges of docs/FORMATS.md is read as it was written.
@@ -14,9 +14,10 @@ pub fn answered_only()
     ensures { λ _. ⌜ AnsweredOnly ⌝ }
 {}
 
-// A message whose packets all come, in order, is given at the last of them, whatever comes before, after, and of other streams between.
+// A message whose packets all come, in order, and for whose first one there is a slot, is given at the last of them, whatever comes
+// before, after, and of other streams and other ids between.
 pub fn messages_arrive()
-    ensures { λ _. ⌜ AnswerableAll × MessagesArrive ⌝ }
+    ensures { λ _. ⌜ AnswerableAll × SlotEnough × MessagesArrive ⌝ }
 {}
 
 // The same with nothing before or between: what was written returns.

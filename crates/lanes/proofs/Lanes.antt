@@ -4,30 +4,32 @@ use native.Mathlib.Omega.{arith}
 use native.Mathlib.Nat.{suc-mul, mul-le-mul-right}
 use mathlib.Core.Path.{_≡_, refl, sym, ap, _∙_}
 use mathlib.Core.Logic.{_≢_, inl, inr}
-use mathlib.Core.List.{List, [], _∷_}
+use mathlib.Core.List.{List, [], _∷_, _++_}
 use mathlib.Core.Bool.{Bool, true, false}
-use lib.ListN.{length, getD, set}
+use lib.ListN.{length, set}
 use lib.Seq.{sets, set-comm}
 use lib.Dec.{ltb}
-use borrow.Author.Tests.{ltb-true, ltb-false}
+use borrow.Author.Tests.{eq-eqb, ne-eqb, eqb-true, ltb-true, ltb-false}
 use Rattle.wire.specs.Limit.{limitFits}
 use Rattle.wire.specs.Told.{Told, given, refused}
 use Rattle.wire.specs.declared.stream.Stream.{Stream}
+use Rattle.wire.specs.declared.stream.Stream.the-variants.{Control, Ota, Alexa}
 use Rattle.wire.proofs.Streams.{other-stream}
 use Rattle.packet.specs.declared.reader.Packet.{Packet}
 use Rattle.packet.specs.Reader.{headIn}
 use Rattle.packet.proofs.Headers.{stream-back}
 use Rattle.packet.proofs.Reading.{LinesPass, IfGiven}
 use Rattle.slot.specs.declared.Slot.{Slot}
-use Rattle.slot.specs.Slot.{idle, laneStart, lawfulSlot}
-use Rattle.slot.specs.Step.{Act, still, step}
-use Rattle.slot.specs.Fit.{ActFits}
-use Rattle.slot.proofs.Slots.{open-lawful, idle-lawful, lawful-three}
-use Rattle.slot.proofs.Lanes.{place-other, act-other}
+use Rattle.slot.specs.Slot.{opens, isOpen, anyOpen, distinct, laneStart, laneOf, lawfulSlot, allLawful}
+use Rattle.slot_steps.specs.Step.{Act, still, step}
+use Rattle.slot_steps.specs.Fit.{ActFits}
+use Rattle.slot.proofs.Slots.{open-lawful, idle-lawful, unlike, lawful-holds}
+use Rattle.slot.proofs.Lanes.{place-other}
+use Rattle.slot_steps.proofs.Steps.{act-other}
 use Rattle.receiver.specs.Buffer.{partStart, payloadBytes}
 use Rattle.receiver.specs.Receiver.{Result, actIn, acted, PacketCall, answered, readIn, acceptOf}
 use Rattle.receiver.proofs.Accepting.{SlotsFit, accept-ready, limit-refused, in-passes, ready-next, in-fits, payload-length}
-use Rattle.lanes.specs.Lanes.{Both, bothOf, turned, streamField, HandedPair, EitherOrder, InRules, HandedAll, PartsApart}
+use Rattle.lanes.specs.Lanes.{Both, bothOf, turned, streamField, HandedPair, EitherOrder, InRules, FourInRules, four, HandedAll, PartsApart}
 
 -- ---- runs that lie apart
 
@@ -133,14 +135,54 @@ either-order limit slots bytes c d h = order-by limit slots bytes c d (limitFits
 in-rules : (limit : ℕ) (s : Slot) → InRules limit s → lawfulSlot limit s ≡ true
 in-rules limit s (inl e) = rw e (idle-lawful limit)
 in-rules limit s (inr o) =
-    open-lawful limit s (o .0)
-    (record { id-low = omega arith; sequence-low = omega arith; total-low = o .3; some-held = o .4; held-below = o .5 })
+    open-lawful limit s (eq-eqb (s .opened) 1 (o .0))
+    (record { id-low = omega arith; sequence-low = omega arith; wanted-low = omega arith; total-low = o .4; some-held = o .5; held-below = o .6 })
+
+pair-by : (x y : Slot) (b : Bool) → opens y ≡ b → (y .opened ≡ 1 → x .id ≢ y .id) → isOpen (x .id) y ≡ false
+pair-by x y false e h = rw e
+pair-by x y true e h = rw (e, ne-eqb (y .id) (x .id) (λ same. h (eqb-true (y .opened) 1 e) (sym same)))
+
+unlike-by : (x : Slot) (l : List Slot) (b : Bool) → opens x ≡ b → (opens x ≡ true → anyOpen (x .id) l ≡ false) → unlike x l ≡ true
+unlike-by x l false e h = rw e
+unlike-by x l true e h = rw (e, h e)
+
+module _ (limit : ℕ) (f : ℕ → Slot) (r : FourInRules limit f) where
+  pair : (i j : ℕ) → i < j → j < 4 → opens (f i) ≡ true → isOpen (f i .id) (f j) ≡ false
+  pair i j l m o = pair-by (f i) (f j) (opens (f j)) refl (r .ids i j l m (eqb-true (f i .opened) 1 o))
+
+  distinct-four : distinct (four f) ≡ true
+  distinct-four =
+      let a : unlike (f 0) (f 1 ∷ f 2 ∷ f 3 ∷ []) ≡ true
+      = unlike-by (f 0) (f 1 ∷ f 2 ∷ f 3 ∷ []) (opens (f 0)) refl (λ o.
+      rw (pair 0 1 (omega arith) (omega arith) o, pair 0 2 (omega arith) (omega arith) o, pair 0 3 (omega arith) (omega arith) o)) in
+      let b : unlike (f 1) (f 2 ∷ f 3 ∷ []) ≡ true
+      = unlike-by (f 1) (f 2 ∷ f 3 ∷ []) (opens (f 1)) refl (λ o. rw (pair 1 2 (omega arith) (omega arith) o, pair 1 3 (omega arith) (omega arith) o)) in
+      let c : unlike (f 2) (f 3 ∷ []) ≡ true
+      = unlike-by (f 2) (f 3 ∷ []) (opens (f 2)) refl (λ o. rw (pair 2 3 (omega arith) (omega arith) o)) in
+      let d : unlike (f 3) [] ≡ true = unlike-by (f 3) [] (opens (f 3)) refl (λ o. refl) in
+      rw (a, b, c, d)
+
+  all-four : (l : List Slot) → allLawful limit l ≡ true → allLawful limit (four f ++ l) ≡ true
+  all-four l e =
+      let each : (i : ℕ) → i < 4 → lawfulSlot limit (f i) ≡ true = λ i low. in-rules limit (f i) (r .each i low) in
+      rw (each 0 (omega arith), each 1 (omega arith), each 2 (omega arith), each 3 (omega arith)) e
+
+lanes-distinct : (limit : ℕ) (control ota alexa : ℕ → Slot) → FourInRules limit control → FourInRules limit ota → FourInRules limit alexa → (t : Stream)
+    → distinct (laneOf t (four control ++ (four ota ++ four alexa))) ≡ true
+lanes-distinct limit control ota alexa c o a Control = distinct-four limit control c
+lanes-distinct limit control ota alexa c o a Ota = distinct-four limit ota o
+lanes-distinct limit control ota alexa c o a Alexa = distinct-four limit alexa a
 
 pub handed-all : HandedAll
 handed-all limit control ota alexa bytes m i p n j q sa sb x y c o a size li lj d =
     record {
       law =
-          lawful-three limit (control ∷ ota ∷ alexa ∷ []) refl ∙ rw (in-rules limit control c, in-rules limit ota o, in-rules limit alexa a) refl;
+          lawful-holds limit (four control ++ (four ota ++ four alexa))
+          (record {
+            count = refl;
+            each = all-four limit control c (four ota ++ four alexa) (all-four limit ota o (four alexa) (all-four limit alexa a [] refl));
+            apart = lanes-distinct limit control ota alexa c o a;
+          });
       size = size;
       filled = (omega arith, omega arith);
       streams = λ e. d (sym (stream-back m i (omega arith)) ∙ e ∙ stream-back n j (omega arith));

@@ -2,10 +2,10 @@
 use Prim.Native.Nat.{ℕ, _*_, _≤_}
 use mathlib.Core.Path.{_≡_}
 use mathlib.Core.Logic.{_≢_}
-use mathlib.Core.List.{List, [], _∷_}
+use mathlib.Core.List.{List, [], _∷_, _++_}
 use mathlib.Core.Bool.{true, false}
 use lib.ListN.{length, getD, replicate}
-use Rattle.wire.specs.Told.{Told, given, refused}
+use Rattle.wire.specs.Told.{given, refused}
 use Rattle.wire.specs.declared.stream.Stream.the-variants.{Control, Ota}
 use Rattle.slot.specs.declared.Slot.{Slot}
 use Rattle.slot.specs.declared.answer.Accepted.{Accepted}
@@ -50,11 +50,7 @@ abbrev pub slots : List Slot
 slots = acceptOf limit controlOpen empty ota .slots
 
 abbrev pub buffer : List ℕ
-buffer =
-    0xAA ∷ 0 ∷ 0 ∷ 0
-    ∷ 0x11 ∷ 0x22 ∷ 0 ∷ 0
-    ∷ 0 ∷ 0 ∷ 0 ∷ 0
-    ∷ []
+buffer = 0xAA ∷ (replicate 15 0 ++ (0x11 ∷ 0x22 ∷ replicate 30 0))
 
 -- ---- four pairs
 
@@ -99,13 +95,9 @@ pub record Computed : Type 0 where
   pub dropped : Same late end
       (record {
         first = refused 10;
-        second = given (Finished Ota 3 4 true false);
+        second = given (Finished 4 Ota 3 4 true false);
         slots = idles;
-        bytes =
-            0xAA ∷ 0 ∷ 0 ∷ 0
-            ∷ 0x11 ∷ 0x22 ∷ 0x33 ∷ 0x44
-            ∷ 0 ∷ 0 ∷ 0 ∷ 0
-            ∷ [];
+        bytes = 0xAA ∷ (replicate 15 0 ++ (0x11 ∷ 0x22 ∷ 0x33 ∷ 0x44 ∷ replicate 28 0));
         first-out = six;
         second-out = 0x23 ∷ 0x9E ∷ 0x00 ∷ 0x02 ∷ 0x01 ∷ 0x00 ∷ 0xEE ∷ 0xEE ∷ [];
       })
@@ -119,13 +111,9 @@ pub record Computed : Type 0 where
   pub refused-by-3 : Same unknown rest
       (record {
         first = refused 3;
-        second = given (Finished Control 1 3 false false);
+        second = given (Finished 0 Control 1 3 false false);
         slots = otaOpen;
-        bytes =
-            0xAA ∷ 0xBB ∷ 0xCC ∷ 0
-            ∷ 0x11 ∷ 0x22 ∷ 0 ∷ 0
-            ∷ 0 ∷ 0 ∷ 0 ∷ 0
-            ∷ [];
+        bytes = 0xAA ∷ 0xBB ∷ 0xCC ∷ (replicate 13 0 ++ (0x11 ∷ 0x22 ∷ replicate 30 0));
         first-out = six;
         second-out = six;
       })
@@ -148,8 +136,8 @@ ByFirstBytes =
     → getD (c .packet) 0 0 ≢ getD (d .packet) 0 0
     → bothOf limit slots bytes c d ≡ turned (bothOf limit slots bytes d c)
 
--- Two first packets of one stream, of different ids: the later one replaces the earlier, and so the claim asks for the streams.
+-- Two first packets of one stream, of different ids: each takes the lowest idle slot, and so the claim asks for the streams.
 pub record OneStream : Type 0 where
-  pub in-order : bothOf limit idles empty control other .second ≡ given (Taken Control 2 true)
-  pub in-the-other : bothOf limit idles empty other control .first ≡ given (Taken Control 2 false)
+  pub in-order : bothOf limit idles empty control other .second ≡ given (Taken 1 Control 2 false)
+  pub in-the-other : bothOf limit idles empty other control .first ≡ given (Taken 0 Control 2 false)
   pub needed : ByFirstBytes → ⊥

@@ -3,7 +3,7 @@
 use Prim.Native.Nat.{ℕ, _+_, _*_, _≤_, _<_}
 use mathlib.Core.Path.{_≡_}
 use mathlib.Core.Logic.{_≢_, _⊎_}
-use mathlib.Core.List.{List, [], _∷_}
+use mathlib.Core.List.{List, [], _∷_, _++_}
 use mathlib.Core.Bool.{true}
 use lib.ListN.{length, getD}
 use lib.Seq.{sets}
@@ -61,7 +61,7 @@ pub record HandedPair (limit : ℕ) (slots : List Slot) (bytes : List ℕ) (c d 
   pub filled : (1 ≤ length (c .packet)) × (1 ≤ length (d .packet))
   pub streams : streamField (c .packet) ≢ streamField (d .packet)
 
--- From every lawful state and buffer of the right size, for every limit: two packets of at least one byte whose stream fields
+-- From every lawful row and buffer of the right size, for every limit: two packets of at least one byte whose stream fields
 -- differ, whatever else they are, each with any answer sequence and answer buffer, get the same two answers and leave the same slots,
 -- the same buffer and each its own answer buffer the same in either order.
 abbrev pub EitherOrder : Type 0
@@ -76,21 +76,35 @@ EitherOrder =
 abbrev pub InRules : ℕ → Slot → Type 0
 InRules limit s =
     (s ≡ idle)
-    ⊎ ((s .opened ≡ true) × (s .id ≤ 15) × (s .sequence ≤ 15) × (s .total ≤ limit) × (1 ≤ s .held) × (s .held < s .total))
+    ⊎ ((s .opened ≡ 1)
+    × (s .id ≤ 15)
+    × (s .sequence ≤ 15)
+    × (s .wanted ≤ 1)
+    × (s .total ≤ limit)
+    × (1 ≤ s .held)
+    × (s .held < s .total))
 
--- Three such slots, a buffer of three times the limit, and packets whose first bytes have different upper halves, with any
--- answer sequences and answer buffers, and nothing else.
+-- four slots by the rules, of which no two open ones have one id
+pub record FourInRules (limit : ℕ) (slots : ℕ → Slot) : Type 0 where
+  pub each : (i : ℕ) → i < 4 → InRules limit (slots i)
+  pub ids : (i j : ℕ) → i < j → j < 4 → slots i .opened ≡ 1 → slots j .opened ≡ 1 → slots i .id ≢ slots j .id
+
+abbrev pub four : (ℕ → Slot) → List Slot
+four slots = slots 0 ∷ slots 1 ∷ slots 2 ∷ slots 3 ∷ []
+
+-- Four such slots for each stream, a buffer of twelve times the limit, and packets whose first bytes have different upper halves, with
+-- any answer sequences and answer buffers, and nothing else.
 abbrev pub HandedAll : Type 0
 HandedAll =
-    (limit : ℕ) (control ota alexa : Slot) (bytes : List ℕ) (m i : ℕ) (p : List ℕ) (n j : ℕ) (q : List ℕ) (a b : ℕ) (x y : List ℕ)
-    → InRules limit control
-    → InRules limit ota
-    → InRules limit alexa
-    → length bytes ≡ 3 * limit
+    (limit : ℕ) (control ota alexa : ℕ → Slot) (bytes : List ℕ) (m i : ℕ) (p : List ℕ) (n j : ℕ) (q : List ℕ) (a b : ℕ) (x y : List ℕ)
+    → FourInRules limit control
+    → FourInRules limit ota
+    → FourInRules limit alexa
+    → length bytes ≡ 12 * limit
     → i ≤ 15
     → j ≤ 15
     → m ≢ n
-    → HandedPair limit (control ∷ ota ∷ alexa ∷ []) bytes (call ((m * 16 + i) ∷ p) a x) (call ((n * 16 + j) ∷ q) b y)
+    → HandedPair limit (four control ++ (four ota ++ four alexa)) bytes (call ((m * 16 + i) ∷ p) a x) (call ((n * 16 + j) ∷ q) b y)
 
 -- ---- the parts of the buffer
 

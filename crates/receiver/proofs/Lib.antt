@@ -1,4 +1,6 @@
 pub mod Opening
 pub mod Parts
 pub mod Accepting
+pub mod Apart
+pub mod Outcomes
 pub mod Acks

@@ -1,5 +1,5 @@
 -- What the writer of an ACK needs of an answer.
-use Prim.Native.Nat.{ℕ, _<_}
+use Prim.Native.Nat.{_<_}
 use Rattle.wire.specs.Told.{Told, given, refused}
 use Rattle.packet.specs.Header.{fourBits}
 use Rattle.slot.specs.declared.answer.Accepted.{Accepted}
@@ -7,8 +7,8 @@ use Rattle.slot.specs.declared.answer.Accepted.the-variants.{Taken, Finished, A
 
 -- the id of a finished transaction has four bits
 abbrev pub IdLow : Told Accepted → Type 0
-IdLow (given (Finished stream id total ack replaced)) = id < fourBits
-IdLow (given (Taken stream id replaced)) = Unit {0}
+IdLow (given (Finished place stream id total ack replaced)) = id < fourBits
+IdLow (given (Taken place stream id replaced)) = Unit {0}
 IdLow (given (Acked head)) = Unit {0}
 IdLow (given (Nacked head)) = Unit {0}
 IdLow (refused n) = Unit {0}

@@ -3,7 +3,7 @@ use Prim.Native.Nat.{ℕ, _+_, _*_}
 use mathlib.Core.List.{List}
 use lib.ListN.{take, drop}
 use lib.Seq.{sets}
-use Rattle.slot.specs.declared.step.PayloadPlace.{PayloadPlace}
+use Rattle.slot_steps.specs.declared.PayloadPlace.{PayloadPlace}
 
 -- where the part of a slot begins
 abbrev pub partStart : ℕ → ℕ → ℕ

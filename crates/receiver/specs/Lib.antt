@@ -1,3 +1,4 @@
 pub mod Buffer
 pub mod Receiver
 pub mod Ack
+pub mod Outcome

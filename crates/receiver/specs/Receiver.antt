@@ -1,8 +1,8 @@
--- The receiver of Low Energy: its opening, and one packet given to it with a sequence and a buffer for the ACK that it may want: what
--- is told, the slots, the lent buffer and the answer buffer afterwards.
+-- The receiver of Low Energy: its opening, and one packet given to it over a lent row of slots, with a sequence and a buffer for the ACK
+-- that it may want: what is told, the row, the lent buffer and the answer buffer afterwards.
 use Prim.Native.Nat.{ℕ, _+_, _*_}
 use mathlib.Core.List.{List, [], _∷_}
-use mathlib.Core.Bool.{Bool, true, not, cond, _&&_}
+use mathlib.Core.Bool.{Bool, true, false, not, cond, _&&_}
 use lib.ListN.{length, set}
 use lib.Dec.{ltb, eqb}
 use lib.Seq.{sets}
@@ -10,28 +10,25 @@ use Rattle.wire.specs.Told.{Told, given, refused, Line, line, table}
 use Rattle.wire.specs.Limit.{limitFits}
 use Rattle.wire.specs.Stream.{streamNumber}
 use Rattle.packet.specs.declared.reader.Packet.{Packet}
-use Rattle.packet.specs.Header.{fourBits}
+use Rattle.packet.specs.Header.{fourBits, firstByte}
 use Rattle.packet.specs.Control.{ackSize, ackBytes}
 use Rattle.packet.specs.Reader.{headIn, readOf}
 use Rattle.slot.specs.declared.Slot.{Slot}
 use Rattle.slot.specs.declared.answer.Accepted.{Accepted}
 use Rattle.slot.specs.declared.answer.Accepted.the-variants.{Taken, Finished, Acked, Nacked}
-use Rattle.slot.specs.Slot.{idles, slotCount, laneStart, laneOf, lawful}
-use Rattle.slot.specs.Answer.{numberOf}
-use Rattle.slot.specs.Step.{Step, Act, still, step, actOf}
+use Rattle.slot.specs.Slot.{slotCount, laneStart, laneOf, lawful}
+use Rattle.slot_steps.specs.Step.{Act, still, step, actOf}
 use Rattle.receiver.specs.declared.Receiver.{Receiver}
 use Rattle.receiver.specs.declared.OpenedReceiver.{OpenedReceiver}
-use Rattle.receiver.specs.declared.Heard.{Heard}
-use Rattle.receiver.specs.declared.Heard.the-variants.{Refused, Read}
 use Rattle.receiver.specs.Buffer.{stored}
 
--- the empty state of a link with a limit: all slots idle
-abbrev pub empty : ℕ → Receiver
-empty limit = record { limit = limit; slots = idles }
+-- the state of a link: its limit
+abbrev pub linkOf : ℕ → Receiver
+linkOf limit = record { limit = limit }
 
--- a receiver opened: its empty state, or 17
+-- a receiver opened: its state, or 17
 unfoldable pub openOf : ℕ → Told Receiver
-openOf limit = table (line 17 (not (limitFits limit)) ∷ []) refused (given (empty limit))
+openOf limit = table (line 17 (not (limitFits limit)) ∷ []) refused (given (linkOf limit))
 
 -- what an opening tells
 abbrev pub toldOpen : OpenedReceiver → Told Receiver
@@ -40,7 +37,7 @@ toldOpen o = cond (o .refused) (refused 17) (given (o .state))
 -- the state that it hands back: a refused one's has limit 0
 abbrev pub handed : Told Receiver → Receiver
 handed (given s) = s
-handed (refused n) = empty 0
+handed (refused n) = linkOf 0
 
 -- ---- one packet
 
@@ -52,22 +49,27 @@ pub record Result : Type 0 where
 abbrev pub result : Told Accepted → List Slot → List ℕ → Result
 result t slots bytes = record { told = t; slots = slots; bytes = bytes }
 
--- what is done to the slots and the buffer: nothing, or a step at the place of its slot; the stream's slots begin at `start`
+-- what is done to the row and the buffer: nothing, or a step at the place of its slot; the stream's slots begin at `first`
 abbrev pub applied : ℕ → List Slot → List ℕ → List ℕ → ℕ → Act → Result
-applied limit slots bytes packet start (still t) = result t slots bytes
-applied limit slots bytes packet start (step place s) =
-    result (s .told) (set slots (start + place) (s .slot)) (stored limit (start + place) bytes packet (s .payload))
+applied limit slots bytes packet first (still t) = result t slots bytes
+applied limit slots bytes packet first (step place s) =
+    result (s .told) (set slots (first + place) (s .slot)) (stored limit (first + place) bytes packet (s .payload))
 
 -- what a packet that was read does to its stream's slots
 abbrev pub actIn : List Slot → Packet → Act
-actIn slots x = actOf (laneOf (headIn x .stream) slots) x
+actIn slots x = actOf (laneStart (headIn x .stream)) (laneOf (headIn x .stream) slots) x
 
 -- what is done with what was read: a refused packet leaves all
 abbrev pub acted : ℕ → List Slot → List ℕ → List ℕ → Told Packet → Result
 acted limit slots bytes packet (refused n) = result (refused n) slots bytes
 acted limit slots bytes packet (given x) = applied limit slots bytes packet (laneStart (headIn x .stream)) (actIn slots x)
 
--- a limit in its range, a buffer of the right size and a lawful state
+-- a packet of a stream and an id, by its byte 0; one without bytes is of none
+abbrev pub isFor : ℕ → ℕ → List ℕ → Bool
+isFor stream id [] = false
+isFor stream id (b ∷ rest) = eqb b (firstByte stream id)
+
+-- a limit in its range, a buffer of the right size and a lawful row
 unfoldable pub ready : ℕ → List Slot → ℕ → Bool
 ready limit slots size = limitFits limit && (eqb size (slotCount * limit) && lawful limit slots)
 
@@ -94,8 +96,8 @@ left t slots bytes out = record { told = t; slots = slots; bytes = bytes; out = 
 
 -- a finished transaction that wants an ACK writes it first in the answer buffer; every other answer leaves all of it
 abbrev pub answered : ℕ → Told Accepted → List ℕ → List ℕ
-answered sequence (given (Finished stream id total ack replaced)) out = cond ack (sets out 0 (ackBytes (streamNumber stream) id sequence true)) out
-answered sequence (given (Taken stream id replaced)) out = out
+answered sequence (given (Finished place stream id total ack replaced)) out = cond ack (sets out 0 (ackBytes (streamNumber stream) id sequence true)) out
+answered sequence (given (Taken place stream id replaced)) out = out
 answered sequence (given (Acked head)) out = out
 answered sequence (given (Nacked head)) out = out
 answered sequence (refused n) out = out
@@ -110,14 +112,6 @@ answerLines c = line 15 (not (ltb (c .sequence) fourBits)) ∷ line 14 (ltb (len
 -- what is told of a call's packet: 15 and 14 before it is looked at
 unfoldable pub readIn : ℕ → PacketCall → Told Packet
 readIn limit c = table (answerLines c) refused (readOf limit (c .packet))
-
--- what is told of a call before anything is done: 1 first
-unfoldable pub heardOf : ℕ → List Slot → ℕ → PacketCall → Told Packet
-heardOf limit slots size c = table (line 1 (not (ready limit slots size)) ∷ []) refused (readIn limit c)
-
-abbrev pub toldHeard : Heard → Told Packet
-toldHeard (Refused why) = refused (numberOf why)
-toldHeard (Read x) = given x
 
 -- a packet given to the receiver
 unfoldable pub acceptOf : ℕ → List Slot → List ℕ → PacketCall → PacketLeft

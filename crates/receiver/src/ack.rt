@@ -32,11 +32,13 @@ fn confirm_accepted(accepted: Accepted, sequence: u8, out: &mut [u8])
 {
     match accepted {
         Accepted::Taken {
+            place: _,
             stream: _,
             id: _,
             replaced: _,
         } => {}
         Accepted::Finished {
+            place: _,
             stream,
             id,
             total: _,

@@ -8,14 +8,14 @@ ghost use lib.Seq.{sets};
 ghost use Rattle.slot.specs.Slot.{slotCount, laneStart};
 ghost use Rattle.receiver.specs.Buffer.{partStart};
 
-// The place of a stream's slot and part.
-pub fn place_of(stream: Stream) -> usize
-    ensures { λ r. ⌜ (r ≡ laneStart stream) × (r < slotCount) ⌝ }
+// The place of a stream's first slot and part.
+pub fn lane_start(stream: Stream) -> usize
+    ensures { λ r. ⌜ (r ≡ laneStart stream) × (r ≤ 8) ⌝ }
 {
     match stream {
         Stream::Control => 0,
-        Stream::Ota => 1,
-        Stream::Alexa => 2,
+        Stream::Ota => 4,
+        Stream::Alexa => 8,
     }
 }
 

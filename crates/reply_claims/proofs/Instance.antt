@@ -28,9 +28,9 @@ use Rattle.packet.specs.Reader.{fieldsOf, contentOf, lines, readOf}
 use Rattle.sender.specs.Piece.{sizeFor}
 use Rattle.sender.specs.Writer.{headerBytes, packetOf, roomFits}
 use Rattle.slot.specs.Slot.{lawfulSlot, lawful}
-use Rattle.slot.specs.Step.{finish, hold, dropBy, firstStep, nextStep}
+use Rattle.slot_steps.specs.Step.{finish, hold, dropBy, firstStep, nextStep}
 use Rattle.receiver.specs.Receiver.{ready, readIn, acceptOf}
-use Rattle.delivery.specs.Delivery.{runOf, ours, packetsIn, shown, shownTo, repliesTo, allAnswerable}
+use Rattle.delivery.specs.Delivery.{runOf, rowAfter, ours, hasSlot, packetsIn, shown, shownTo, repliesTo, allAnswerable}
 use Rattle.reply.specs.Reply.{sendingOf, kindOfCommand, replyBy, joinedIn, carriedOf, sentOf, repliedOf}
 use Rattle.reply_claims.specs.Cut.{saidLength, cutApart}
 use Rattle.reply_claims.specs.Answers.{Answers, packetsCut}
@@ -74,8 +74,12 @@ sent = refl
 answerable : allAnswerable (begun ∷ those (ours (sendingOf (link 20 40))) later) ≡ true
 answerable = refl
 
+free : hasSlot (rowAfter 40 slots buffer before) (sendingOf (link 20 40)) ≡ true
+unfolding limitFits isStream streamOf fieldsOf contentOf lines readOf lawfulSlot lawful finish hold dropBy firstStep nextStep ready readIn acceptOf rowAfter
+free = refl
+
 arrived : shownTo 40 (sendingOf (link 20 40)) (repliesTo 40 slots buffer before (begun ∷ later) after)
-    ≡ shown none six ∷ shown (some (record { stream = Control; id = 1; total = 18; ack = false; payload = reply })) six ∷ []
+    ≡ shown (some 1) none six ∷ shown (some 1) (some (record { stream = Control; id = 1; total = 18; ack = false; payload = reply })) six ∷ []
 unfolding limitFits isStream streamOf fieldsOf contentOf lines readOf lawfulSlot lawful finish hold dropBy firstStep nextStep ready readIn acceptOf runOf
 arrived = refl
 
@@ -88,6 +92,7 @@ arrives =
       begins = begins;
       sent = sent;
       answerable = answerable;
+      free = free;
       arrived = arrived;
-      claimed = λ claim. claim box (link 20 40) information (pos 20) output slots buffer before begun later after answers law refl begins sent answerable;
+      claimed = λ claim. claim box (link 20 40) information (pos 20) output slots buffer before begun later after answers law refl begins sent answerable free;
     }

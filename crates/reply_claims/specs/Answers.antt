@@ -17,7 +17,7 @@ use Rattle.sender.specs.Writer.{roomFits}
 use Rattle.slot.specs.declared.Slot.{Slot}
 use Rattle.slot.specs.Slot.{slotCount, lawful}
 use Rattle.receiver.specs.Receiver.{PacketCall}
-use Rattle.delivery.specs.Delivery.{ours, packetsIn, shownTo, repliesTo, allAnswerable, atLast}
+use Rattle.delivery.specs.Delivery.{rowAfter, ours, hasSlot, packetsIn, shownTo, repliesTo, allAnswerable, Arrived}
 use Rattle.control.specs.declared.response.Response.{Response}
 use Rattle.control.specs.declared.envelope.Payload.{Payload}
 use Rattle.control.specs.declared.envelope.Payload.the-variants as Payload
@@ -56,7 +56,7 @@ pub record AskedInRange (b : Box) (l : Link) (message : List ℕ) (c : ℤ) (out
   pub limit-high : l .limit ≤ 65535
   pub id : l .id ≤ 15
   pub sequence : l .sequence ≤ 15
-  pub within : length (replyOf b (extended c)) ≤ l .limit
+  pub reply-within : length (replyOf b (extended c)) ≤ l .limit
   pub space : length (joinedOf (sendingOf l) (replyOf b (extended c))) ≤ length out
 
 -- Those, and of what the reply carries its own ranges, and nothing else: no premise asks for more.
@@ -92,11 +92,11 @@ cutTold (refused why) out = []
 abbrev pub packetsCut : WrittenOf (ℕ × List ℕ) Replied → List (List ℕ)
 packetsCut w = cutTold (w .told) (w .out)
 
--- From every lawful state and buffer of the link's limit, whatever packets come before and after: where a packet is the first of those
--- that the call's bytes are cut into, and those of the control stream among the packets after it are exactly the others, in order,
--- with any packets of other streams between, and none of the reply's own gets 15 or 14, the last of them gives exactly the reply, and no
--- other of them gives any; none touches its answer buffer, since no ACK is wanted. A call that writes nothing has no packets, and does
--- not meet it.
+-- From every lawful row and buffer of the link's limit, whatever packets come before and after: where a packet is the first of those
+-- that the call's bytes are cut into, a slot is there for it, and those of the control stream and the link's id among the packets after
+-- it are exactly the others, in order, with any packets of other streams and other ids between, and none of the reply's own gets 15 or
+-- 14, each of them takes a piece, all at one place, the last of them gives exactly the reply, and no other of them gives any; none
+-- touches its answer buffer, since no ACK is wanted. A call that writes nothing has no packets, and does not meet it.
 abbrev pub ReplyArrives : Type 0
 ReplyArrives =
     (b : Box) (l : Link) (message : List ℕ) (c : ℤ) (out : List ℕ) (slots : List Slot) (bytes : List ℕ) (before : List PacketCall)
@@ -107,5 +107,6 @@ ReplyArrives =
     → first .packet ≡ getD (packetsCut (repliedOf b l message out)) 0 []
     → packetsIn (those (ours (sendingOf l)) later) ≡ drop 1 (packetsCut (repliedOf b l message out))
     → allAnswerable (first ∷ those (ours (sendingOf l)) later) ≡ true
-    → shownTo (l .limit) (sendingOf l) (repliesTo (l .limit) slots bytes before (first ∷ later) after)
-    ≡ atLast (sendingOf l) (replyOf b (extended c)) first (those (ours (sendingOf l)) later)
+    → hasSlot (rowAfter (l .limit) slots bytes before) (sendingOf l) ≡ true
+    → Arrived (sendingOf l) (replyOf b (extended c)) first (those (ours (sendingOf l)) later)
+    (shownTo (l .limit) (sendingOf l) (repliesTo (l .limit) slots bytes before (first ∷ later) after))

@@ -12,7 +12,7 @@ use Rattle.wire.specs.Told.{given, refused, WrittenOf, written}
 use Rattle.slot.specs.declared.Slot.{Slot}
 use Rattle.slot.specs.Slot.{idle, slotCount, lawful}
 use Rattle.receiver.specs.Receiver.{PacketCall, call}
-use Rattle.delivery.specs.Delivery.{ours, packetsIn, shown, shownTo, repliesTo, allAnswerable, atLast}
+use Rattle.delivery.specs.Delivery.{rowAfter, ours, hasSlot, packetsIn, shown, shownTo, repliesTo, allAnswerable, Arrived}
 use Rattle.reply.specs.declared.Link.{Link}
 use Rattle.reply.specs.Reply.{Box, sendingOf, replyOf, Replied, silent, sent, repliedOf}
 use Rattle.reply_claims.specs.Answers.{Answers, packetsCut, ReplyArrives}
@@ -191,7 +191,7 @@ ByHand = asked ≡ answered
 
 -- of a limit of 40, so that the buffer is small; an OTA transaction is open, of which two bytes are held
 abbrev pub slots : List Slot
-slots = idle ∷ record { opened = true; id = 3; total = 6; held = 2; sequence = 15; wanted = true } ∷ idle ∷ []
+slots = replicate 4 idle ++ (record { opened = 1; id = 3; sequence = 15; wanted = 1; total = 6; held = 2 } ∷ replicate 7 idle)
 
 abbrev pub buffer : List ℕ
 buffer = replicate (slotCount * 40) 0
@@ -203,17 +203,22 @@ output = replicate 30 0xEE
 abbrev pub six : List ℕ
 six = replicate 6 0xEE
 
--- a transaction of the same stream and id is begun
+-- a transaction of the same stream and another id is begun, and one of the same id
 abbrev pub before : List PacketCall
-before = call (0x01 ∷ 0x50 ∷ 0x00 ∷ 0x00 ∷ 0x04 ∷ 0x01 ∷ 0xEE ∷ []) 0 six ∷ []
+before =
+    call (0x02 ∷ 0x00 ∷ 0x00 ∷ 0x00 ∷ 0x03 ∷ 0x01 ∷ 0xAA ∷ []) 0 six
+    ∷ call (0x01 ∷ 0x50 ∷ 0x00 ∷ 0x00 ∷ 0x04 ∷ 0x01 ∷ 0xEE ∷ []) 0 six
+    ∷ []
 
 abbrev pub begun : PacketCall
 begun = call first 15 six
 
--- the reply's last packet, and among others: the OTA transaction goes on, an Alexa message, a packet without bytes, a stream that there is not
+-- the reply's last packet, and among others: the OTA transaction goes on, the one of another id too, an Alexa message, a packet without
+-- bytes, a stream that there is not
 abbrev pub later : List PacketCall
 later =
     call (0x23 ∷ 0x04 ∷ 0x02 ∷ 0xAA ∷ 0xBB ∷ []) 16 six
+    ∷ call (0x02 ∷ 0x14 ∷ 0x01 ∷ 0xBB ∷ []) 0 six
     ∷ call (0x61 ∷ 0x00 ∷ 0x00 ∷ 0x00 ∷ 0x02 ∷ 0x02 ∷ 0x08 ∷ 0x5E ∷ []) 0 six
     ∷ call [] 0 six
     ∷ call (0x51 ∷ 0x24 ∷ 0x01 ∷ 0xCC ∷ []) 0 []
@@ -224,7 +229,8 @@ later =
 abbrev pub after : List PacketCall
 after = call second 0 six ∷ []
 
--- All that the claim asks for is there, the reply is given, at its second packet, and the claim says so.
+-- All that the claim asks for is there, the reply is given, at its second packet, at the place of the transaction that it replaces, and the
+-- claim says so.
 pub record OneReplyArrives : Type 0 where
   pub law : lawful 40 slots ≡ true
   pub size : length buffer ≡ slotCount * 40
@@ -232,8 +238,9 @@ pub record OneReplyArrives : Type 0 where
   pub begins : begun .packet ≡ getD (packetsCut (repliedOf box (link 20 40) information output)) 0 []
   pub sent : packetsIn (those (ours (sendingOf (link 20 40))) later) ≡ drop 1 (packetsCut (repliedOf box (link 20 40) information output))
   pub answerable : allAnswerable (begun ∷ those (ours (sendingOf (link 20 40))) later) ≡ true
+  pub free : hasSlot (rowAfter 40 slots buffer before) (sendingOf (link 20 40)) ≡ true
   pub arrived : shownTo 40 (sendingOf (link 20 40)) (repliesTo 40 slots buffer before (begun ∷ later) after)
-      ≡ shown none six ∷ shown (some (record { stream = Control; id = 1; total = 18; ack = false; payload = reply })) six ∷ []
+      ≡ shown (some 1) none six ∷ shown (some 1) (some (record { stream = Control; id = 1; total = 18; ack = false; payload = reply })) six ∷ []
   pub claimed : ReplyArrives
-      → shownTo 40 (sendingOf (link 20 40)) (repliesTo 40 slots buffer before (begun ∷ later) after)
-      ≡ atLast (sendingOf (link 20 40)) (replyOf box 20) begun (those (ours (sendingOf (link 20 40))) later)
+      → Arrived (sendingOf (link 20 40)) (replyOf box 20) begun (those (ours (sendingOf (link 20 40))) later)
+      (shownTo 40 (sendingOf (link 20 40)) (repliesTo 40 slots buffer before (begun ∷ later) after))

@@ -4,7 +4,7 @@ use Rattle.wire.specs.Told.{Told, given, refused}
 use Rattle.packet.specs.Reader as reader
 use Rattle.slot.specs.declared.answer.Accepted.{Accepted}
 use Rattle.slot.specs.declared.answer.Refusal.{Refusal}
-use Rattle.slot.specs.declared.answer.Refusal.the-variants.{BadStateOrBuffer, Argument, Output, OfPacket, NoTransaction, Sequence, Amount}
+use Rattle.slot.specs.declared.answer.Refusal.the-variants.{BadStateOrBuffer, Argument, Output, OfPacket, NoSlot, NoTransaction, Sequence, Amount}
 use Rattle.slot.specs.declared.answer.Answer.{Answer}
 use Rattle.slot.specs.declared.answer.Answer.the-variants.{Refused, Given}
 
@@ -13,6 +13,7 @@ numberOf BadStateOrBuffer = 1
 numberOf Argument = 15
 numberOf Output = 14
 numberOf (OfPacket why) = reader.numberOf why
+numberOf NoSlot = 18
 numberOf NoTransaction = 9
 numberOf Sequence = 10
 numberOf Amount = 11

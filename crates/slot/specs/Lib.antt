@@ -1,4 +1,2 @@
 pub mod Answer
 pub mod Slot
-pub mod Step
-pub mod Fit

@@ -1,29 +1,40 @@
--- The slot of a stream: idle, or open with id, total, count held, last sequence and whether an ACK is wanted; and where a stream's
--- slots stand among all.
+-- A slot: idle, or open with id, last sequence, whether an ACK is wanted, total and count held; and where a stream's slots stand in the
+-- row of all.
 use Prim.Native.Nat.{ℕ, _*_}
 use mathlib.Core.List.{List, [], _∷_}
-use mathlib.Core.Bool.{Bool, true, false, not, cond, _&&_}
-use lib.ListN.{length, take, drop}
+use mathlib.Core.Bool.{Bool, true, false, not, cond, _&&_, _||_}
+use lib.ListN.{length, take, drop, replicate}
 use lib.Dec.{leb, ltb, eqb}
 use Rattle.wire.specs.declared.stream.Stream.{Stream}
 use Rattle.wire.specs.declared.stream.Stream.the-variants.{Control, Ota, Alexa}
 use Rattle.packet.specs.Header.{fourBits}
 use Rattle.slot.specs.declared.Slot.{Slot}
 
+-- ---- one slot
+
+-- its flags are 0 or 1
+abbrev pub opens : Slot → Bool
+opens s = eqb (s .opened) 1
+
+abbrev pub wants : Slot → Bool
+wants s = eqb (s .wanted) 1
+
 -- all its numbers are 0, and it remembers no wish
 abbrev pub idle : Slot
-idle = record { opened = false; id = 0; total = 0; held = 0; sequence = 0; wanted = false }
+idle = record { opened = 0; id = 0; sequence = 0; wanted = 0; total = 0; held = 0 }
 
 -- id and sequence up to 15, total up to the limit, 1 <= held < total; an ACK is wanted or not
 abbrev pub openLaw : ℕ → Slot → Bool
 openLaw limit s =
-    ltb (s .id) fourBits && (ltb (s .sequence) fourBits && (leb (s .total) limit && (leb 1 (s .held) && ltb (s .held) (s .total))))
+    ltb (s .id) fourBits
+    && (ltb (s .sequence) fourBits && (ltb (s .wanted) 2 && (leb (s .total) limit && (leb 1 (s .held) && ltb (s .held) (s .total)))))
 
 abbrev pub idleLaw : Slot → Bool
-idleLaw s = eqb (s .id) 0 && (eqb (s .sequence) 0 && (eqb (s .total) 0 && (eqb (s .held) 0 && not (s .wanted))))
+idleLaw s =
+    eqb (s .opened) 0 && (eqb (s .id) 0 && (eqb (s .sequence) 0 && (eqb (s .wanted) 0 && (eqb (s .total) 0 && eqb (s .held) 0))))
 
 unfoldable pub lawfulSlot : ℕ → Slot → Bool
-lawfulSlot limit s = cond (s .opened) (openLaw limit s) (idleLaw s)
+lawfulSlot limit s = cond (opens s) (openLaw limit s) (idleLaw s)
 
 abbrev pub allLawful : ℕ → List Slot → Bool
 allLawful limit [] = true
@@ -31,16 +42,38 @@ allLawful limit (s ∷ ss) = lawfulSlot limit s && allLawful limit ss
 
 -- open with that id
 abbrev pub isOpen : ℕ → Slot → Bool
-isOpen id s = s .opened && eqb (s .id) id
+isOpen id s = opens s && eqb (s .id) id
 
--- ---- the slots of all streams: control, OTA, Alexa
+abbrev pub isIdle : Slot → Bool
+isIdle s = not (opens s)
 
--- one slot for each stream
+-- ---- the slots of a stream
+
+abbrev pub anyOpen : ℕ → List Slot → Bool
+anyOpen id [] = false
+anyOpen id (s ∷ ss) = isOpen id s || anyOpen id ss
+
+abbrev pub anyIdle : List Slot → Bool
+anyIdle [] = false
+anyIdle (s ∷ ss) = isIdle s || anyIdle ss
+
+-- no two open slots have one id
+abbrev pub distinct : List Slot → Bool
+distinct [] = true
+distinct (s ∷ ss) = not (opens s && anyOpen (s .id) ss) && distinct ss
+
+-- each is lawful, and no two open ones have one id
+abbrev pub laneLaw : ℕ → List Slot → Bool
+laneLaw limit lane = allLawful limit lane && distinct lane
+
+-- ---- the row of all slots: control, OTA, Alexa
+
+-- four slots for each stream
 abbrev pub slotsEach : ℕ
-slotsEach = 1
+slotsEach = 4
 
 abbrev pub slotCount : ℕ
-slotCount = 3
+slotCount = 12
 
 abbrev pub laneNumber : Stream → ℕ
 laneNumber Control = 0
@@ -56,8 +89,10 @@ abbrev pub laneOf : Stream → List Slot → List Slot
 laneOf stream slots = take slotsEach (drop (laneStart stream) slots)
 
 abbrev pub idles : List Slot
-idles = idle ∷ idle ∷ idle ∷ []
+idles = replicate slotCount idle
 
--- a lawful state: as many slots as the streams have, each lawful
+-- a lawful row: twelve slots, each lawful, and no two open slots of a stream with one id
 unfoldable pub lawful : ℕ → List Slot → Bool
-lawful limit slots = eqb (length slots) slotCount && allLawful limit slots
+lawful limit slots =
+    eqb (length slots) slotCount
+    && (allLawful limit slots && (distinct (laneOf Control slots) && (distinct (laneOf Ota slots) && distinct (laneOf Alexa slots))))

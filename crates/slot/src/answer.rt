@@ -5,15 +5,17 @@ use wire::stream::Stream;
 ghost use mathlib.Core.Path.{_≡_};
 ghost use Rattle.slot.specs.Answer.{numberOf};
 
-// A packet that is not refused: a piece of a transaction with more to come, its last piece, an ACK or a NACK.
-// Replaced: an open transaction of the stream was replaced. ACK: one of the transaction's packets asked for it.
+// A packet that is not refused: a piece of a transaction with more to come, its last piece, an ACK or a NACK. Place: of its slot in the
+// row. Replaced: an open transaction of its stream and id was replaced. ACK: one of the transaction's packets asked for it.
 pub enum Accepted {
     Taken {
+        place: usize,
         stream: Stream,
         id: u8,
         replaced: bool,
     },
     Finished {
+        place: usize,
         stream: Stream,
         id: u8,
         total: usize,
@@ -24,13 +26,14 @@ pub enum Accepted {
     Nacked(Head),
 }
 
-// BadStateOrBuffer: the lent buffer has another size, or the state is unlawful. Argument: the answer sequence is above 15. Output: the
-// answer buffer has under six bytes.
+// BadStateOrBuffer: the lent row or buffer has another size, or the state is unlawful. Argument: the answer sequence is above 15.
+// Output: the answer buffer has under six bytes. NoSlot: no slot for a first packet.
 pub enum Refusal {
     BadStateOrBuffer,
     Argument,
     Output,
     OfPacket(reader::Refusal),
+    NoSlot,
     NoTransaction,
     Sequence,
     Amount,
@@ -46,6 +49,7 @@ impl Refusal {
             Refusal::Argument => 15,
             Refusal::Output => 14,
             Refusal::OfPacket(why) => why.number(),
+            Refusal::NoSlot => 18,
             Refusal::NoTransaction => 9,
             Refusal::Sequence => 10,
             Refusal::Amount => 11,

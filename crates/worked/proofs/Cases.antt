@@ -12,7 +12,7 @@ use Rattle.sender.specs.Piece.{sizeFor}
 use Rattle.sender.specs.Writer.{headerBytes, packetOf, roomFits, argumentsFit, writtenOf}
 use Rattle.sender_claims.specs.Calls.{callsFrom}
 use Rattle.slot.specs.Slot.{lawfulSlot, lawful}
-use Rattle.slot.specs.Step.{finish, hold, dropBy, firstStep, nextStep}
+use Rattle.slot_steps.specs.Step.{finish, hold, dropBy, firstStep, nextStep}
 use Rattle.receiver.specs.Receiver.{openOf, ready, readIn, acceptOf}
 use Rattle.field.specs.Varint.{varintAt}
 use Rattle.field_writer.specs.Varint.{varintBytes}

@@ -1,17 +1,18 @@
--- The worked cases of docs/FORMATS.md, P1 to P12, and those of No. 2, No. 6 and No. 9: one table, and the one statement that each of its rows holds.
+-- The worked cases of docs/FORMATS.md, P1 to P12, and those of No. 2, No. 6, No. 9 and No. 11: one table, and the one statement that each of its rows holds.
 use Prim.Native.Nat.{ℕ}
 use mathlib.Core.Path.{_≡_}
 use mathlib.Core.Bool.{Bool, true, false}
-use mathlib.Core.List.{List, [], _∷_, _++_, List·Memᴰ}
+use mathlib.Core.List.{List, [], _∷_, _++_, map, List·Memᴰ}
 use lib.IntN.{ℤ, pos, negℤ}
-use lib.ListN.{take, replicate}
-use Rattle.wire.specs.declared.stream.Stream.the-variants.{Control, Alexa}
+use lib.ListN.{take, drop, set, replicate}
+use Rattle.wire.specs.declared.stream.Stream.the-variants.{Control, Ota, Alexa}
 use Rattle.wire.specs.Told.{given, refused}
+use Rattle.packet.specs.Header.{bit}
 use Rattle.sender.specs.declared.writer.Sending.{Sending}
 use Rattle.slot.specs.declared.Slot.{Slot}
 use Rattle.slot.specs.declared.answer.Accepted.the-variants.{Taken, Finished}
 use Rattle.slot.specs.Slot.{idle, idles}
-use Rattle.receiver.specs.Receiver.{empty}
+use Rattle.receiver.specs.Receiver.{linkOf}
 use Rattle.sender.specs.Writer.{last}
 use Rattle.control.specs.declared.envelope.Envelope.{Envelope}
 use Rattle.control.specs.declared.envelope.Payload.the-variants as Payload
@@ -39,13 +40,49 @@ sending room stream id sequence ack = record { room = room; stream = stream; id 
 abbrev pub inRoom : ℕ → Sending
 inRoom room = sending room 0 0 0 false
 
+-- an open slot: id, last sequence, ACK wanted, total, held
+abbrev pub openWith : ℕ → ℕ → Bool → ℕ → ℕ → Slot
+openWith id sequence wanted total held = record { opened = 1; id = id; sequence = sequence; wanted = bit wanted; total = total; held = held }
+
+-- a control transaction of two bytes of which one is held, with sequence 0 and no ACK wanted
+abbrev pub begun : ℕ → Slot
+begun id = openWith id 0 false 2 1
+
+-- the first packet of such a transaction
+abbrev pub beginning : ℕ → List ℕ
+beginning id = id ∷ 0x00 ∷ 0x00 ∷ 0x00 ∷ 0x02 ∷ 0x01 ∷ 0x07 ∷ []
+
+-- control transactions with these ids in the first slots, the other streams idle
+abbrev pub opening : List ℕ → List Slot
+opening ids = take 12 (map begun ids ++ idles)
+
+-- four control transactions, and the same without the one of id 1
+abbrev pub full : List Slot
+full = opening (3 ∷ 1 ∷ 2 ∷ 0 ∷ [])
+
+abbrev pub withoutOne : List Slot
+withoutOne = begun 3 ∷ idle ∷ begun 2 ∷ begun 0 ∷ replicate 8 idle
+
+-- a slot of these numbers, at a place, all others idle
+abbrev pub alone : ℕ → ℕ → ℕ → ℕ → ℕ → ℕ → ℕ → List Slot
+alone place flag id sequence wanted total held =
+    set idles place (record { opened = flag; id = id; sequence = sequence; wanted = wanted; total = total; held = held })
+
+-- a row over which a packet is refused by 1, which leaves it
+abbrev pub unlawful : List Slot → Case
+unlawful slots = case (acceptPacketWithin 64 slots (beginning 1)) (accepted (refused 1) slots)
+
+-- a transaction of this id in the control stream and one in the OTA stream
+abbrev pub twoStreams : ℕ → List Slot
+twoStreams id = begun id ∷ (replicate 3 idle ++ (begun id ∷ replicate 7 idle))
+
 -- a control transaction of three bytes, id 0, of which so many are held; the last packet had this sequence
 abbrev pub holding : ℕ → ℕ → List Slot
-holding held sequence = record { opened = true; id = 0; total = 3; held = held; sequence = sequence; wanted = false } ∷ idle ∷ idle ∷ []
+holding held sequence = openWith 0 sequence false 3 held ∷ replicate 11 idle
 
 -- an Alexa transaction of two bytes, id 1, of which one is held; it had sequence 0 and asked for an ACK
 abbrev pub asking : List Slot
-asking = idle ∷ idle ∷ record { opened = true; id = 1; total = 2; held = 1; sequence = 0; wanted = true } ∷ []
+asking = replicate 8 idle ++ (openWith 1 0 true 2 1 ∷ replicate 3 idle)
 
 -- error codes of Amazon's page
 abbrev pub success : ℤ
@@ -98,34 +135,81 @@ cases =
     ∷ case (writePacketWithin 2 (sending 20 6 1 0 false) (zeros 2)) (sent (given (last 8)))
     -- an opening: 17 where the limit is 0 or above 65,535
     ∷ case (openReceiver 0) (opened (refused 17))
-    ∷ case (openReceiver 1) (opened (given (empty 1)))
-    ∷ case (openReceiver 65535) (opened (given (empty 65535)))
+    ∷ case (openReceiver 1) (opened (given (linkOf 1)))
+    ∷ case (openReceiver 65535) (opened (given (linkOf 65535)))
     ∷ case (openReceiver 65536) (opened (refused 17))
     -- a total of the limit, and one above it; a state whose limit is 0
-    ∷ case (acceptPacketWithin 2 idles (0x61 ∷ 0x02 ∷ 0x00 ∷ 0x00 ∷ 0x02 ∷ 0x01 ∷ 0xAA ∷ [])) (accepted (given (Taken Alexa 1 false)) asking)
+    ∷ case (acceptPacketWithin 2 idles (0x61 ∷ 0x02 ∷ 0x00 ∷ 0x00 ∷ 0x02 ∷ 0x01 ∷ 0xAA ∷ [])) (accepted (given (Taken 8 Alexa 1 false)) asking)
     ∷ case (acceptPacketWithin 1 idles (0x61 ∷ 0x02 ∷ 0x00 ∷ 0x00 ∷ 0x02 ∷ 0x01 ∷ 0xAA ∷ [])) (accepted (refused 6) idles)
     ∷ case (acceptPacketWithin 0 idles (zeros 6)) (accepted (refused 1) idles)
     -- P7 after sequence 15: a continuation of one byte with sequence 0, which is held, and one with sequence 10, which leaves the slot idle
-    ∷ case (acceptPacket (holding 1 15) (0x00 ∷ 0x04 ∷ 0x01 ∷ 0x00 ∷ [])) (accepted (given (Taken Control 0 false)) (holding 2 0))
+    ∷ case (acceptPacket (holding 1 15) (0x00 ∷ 0x04 ∷ 0x01 ∷ 0x00 ∷ [])) (accepted (given (Taken 0 Control 0 false)) (holding 2 0))
     ∷ case (acceptPacket (holding 1 15) (0x00 ∷ 0xA4 ∷ 0x01 ∷ 0x00 ∷ [])) (accepted (refused 10) idles)
     -- P8 ACK and NACK for P4, sequence 0
     ∷ case (writeAcknowledgement 6 1 0 true) (bytes (given (0x61 ∷ 0x0E ∷ 0x00 ∷ 0x02 ∷ 0x01 ∷ 0x00 ∷ [])))
     ∷ case (writeAcknowledgement 6 1 0 false) (bytes (given (0x61 ∷ 0x0C ∷ 0x00 ∷ 0x02 ∷ 0x01 ∷ 0x03 ∷ [])))
     -- P9 empty transaction, stream, id, sequence 0; and a receiver finishes it at once, its slot idle
     ∷ case (writePackets (sending 20 0 0 0 false) []) (packets (zeros 6 ∷ []))
-    ∷ case (acceptPacket idles (zeros 6)) (accepted (given (Finished Control 0 0 false false)) idles)
+    ∷ case (acceptPacket idles (zeros 6)) (accepted (given (Finished 0 Control 0 0 false false)) idles)
     -- No. 2: the flag on the first packet only; an ACK is wanted
-    ∷ case (acceptPacket idles (0x61 ∷ 0x02 ∷ 0x00 ∷ 0x00 ∷ 0x02 ∷ 0x01 ∷ 0xAA ∷ [])) (accepted (given (Taken Alexa 1 false)) asking)
-    ∷ case (acceptPacket asking (0x61 ∷ 0x18 ∷ 0x01 ∷ 0xBB ∷ [])) (accepted (given (Finished Alexa 1 2 true false)) idles)
+    ∷ case (acceptPacket idles (0x61 ∷ 0x02 ∷ 0x00 ∷ 0x00 ∷ 0x02 ∷ 0x01 ∷ 0xAA ∷ [])) (accepted (given (Taken 8 Alexa 1 false)) asking)
+    ∷ case (acceptPacket asking (0x61 ∷ 0x18 ∷ 0x01 ∷ 0xBB ∷ [])) (accepted (given (Finished 8 Alexa 1 2 true false)) idles)
     -- No. 9: the same two with answer sequence 9 and an answer buffer of 8: the first leaves it, the second writes the ACK first in it
-    ∷ case (answerPacket idles (0x61 ∷ 0x02 ∷ 0x00 ∷ 0x00 ∷ 0x02 ∷ 0x01 ∷ 0xAA ∷ []) 9 eight) (answered (given (Taken Alexa 1 false)) asking eight)
+    ∷ case (answerPacket idles (0x61 ∷ 0x02 ∷ 0x00 ∷ 0x00 ∷ 0x02 ∷ 0x01 ∷ 0xAA ∷ []) 9 eight) (answered (given (Taken 8 Alexa 1 false)) asking eight)
     ∷ case (answerPacket asking (0x61 ∷ 0x18 ∷ 0x01 ∷ 0xBB ∷ []) 9 eight)
-    (answered (given (Finished Alexa 1 2 true false)) idles (0x61 ∷ 0x9E ∷ 0x00 ∷ 0x02 ∷ 0x01 ∷ 0x00 ∷ 0xEE ∷ 0xEE ∷ []))
+    (answered (given (Finished 8 Alexa 1 2 true false)) idles (0x61 ∷ 0x9E ∷ 0x00 ∷ 0x02 ∷ 0x01 ∷ 0x00 ∷ 0xEE ∷ 0xEE ∷ []))
     -- 1 (no byte is held) before 15, 15 before 14, and both before the packet's own 2
     ∷ case (answerPacket (holding 0 0) [] 16 []) (answered (refused 1) (holding 0 0) [])
     ∷ case (answerPacket asking [] 16 []) (answered (refused 15) asking [])
     ∷ case (answerPacket asking [] 15 (zeros 5)) (answered (refused 14) asking (zeros 5))
     ∷ case (answerPacket asking [] 15 (zeros 6)) (answered (refused 2) asking (zeros 6))
+    -- No. 11, with a limit of 64: ids 3, 1, 2 and 0 take the places 0 to 3
+    ∷ case (acceptPacketWithin 64 idles (beginning 3)) (accepted (given (Taken 0 Control 3 false)) (opening (3 ∷ [])))
+    ∷ case (acceptPacketWithin 64 (opening (3 ∷ [])) (beginning 1)) (accepted (given (Taken 1 Control 1 false)) (opening (3 ∷ 1 ∷ [])))
+    ∷ case (acceptPacketWithin 64 (opening (3 ∷ 1 ∷ [])) (beginning 2)) (accepted (given (Taken 2 Control 2 false)) (opening (3 ∷ 1 ∷ 2 ∷ [])))
+    ∷ case (acceptPacketWithin 64 (opening (3 ∷ 1 ∷ 2 ∷ [])) (beginning 0)) (accepted (given (Taken 3 Control 0 false)) full)
+    -- id 4 finds no slot, a total of 0 neither; id 2 is open, and replaced at its place; another stream has slots of its own
+    ∷ case (acceptPacketWithin 64 full (beginning 4)) (accepted (refused 18) full)
+    ∷ case (acceptPacketWithin 64 full (0x09 ∷ zeros 5)) (accepted (refused 18) full)
+    ∷ case (acceptPacketWithin 64 full (beginning 2)) (accepted (given (Taken 2 Control 2 true)) full)
+    ∷ case (acceptPacketWithin 64 full (beginning 0x24)) (accepted (given (Taken 4 Ota 4 false)) (take 4 full ++ (begun 4 ∷ replicate 7 idle)))
+    -- the last piece of id 1: its place is told, and its slot alone is idle; then id 4 takes the lowest idle slot
+    ∷ case (acceptPacketWithin 64 full (0x01 ∷ 0x18 ∷ 0x01 ∷ 0x08 ∷ [])) (accepted (given (Finished 1 Control 1 2 false false)) withoutOne)
+    ∷ case (acceptPacketWithin 64 withoutOne (beginning 4)) (accepted (given (Taken 1 Control 4 false)) (opening (3 ∷ 4 ∷ 2 ∷ 0 ∷ [])))
+    -- 10 and 11 make that slot alone idle; 9 where the id is open in another stream only
+    ∷ case (acceptPacketWithin 64 full (0x01 ∷ 0x28 ∷ 0x01 ∷ 0x08 ∷ [])) (accepted (refused 10) withoutOne)
+    ∷ case (acceptPacketWithin 64 full (0x01 ∷ 0x14 ∷ 0x01 ∷ 0x08 ∷ [])) (accepted (refused 11) withoutOne)
+    ∷ case (acceptPacketWithin 64 full (0x21 ∷ 0x18 ∷ 0x01 ∷ 0x08 ∷ [])) (accepted (refused 9) full)
+    -- 8 before 18
+    ∷ case (acceptPacketWithin 64 full (0x04 ∷ 0x00 ∷ 0x00 ∷ 0x00 ∷ 0x01 ∷ 0x02 ∷ 0x07 ∷ 0x07 ∷ [])) (accepted (refused 8) full)
+    -- one that finishes at once: at its place, replaced; at the lowest idle slot. Alexa's slots are full by themselves
+    ∷ case (acceptPacketWithin 64 full (0x02 ∷ 0x00 ∷ 0x00 ∷ 0x00 ∷ 0x01 ∷ 0x01 ∷ 0x07 ∷ []))
+    (accepted (given (Finished 2 Control 2 1 false true)) (set full 2 idle))
+    ∷ case (acceptPacketWithin 64 withoutOne (0x04 ∷ 0x00 ∷ 0x00 ∷ 0x00 ∷ 0x01 ∷ 0x01 ∷ 0x07 ∷ []))
+    (accepted (given (Finished 1 Control 4 1 false false)) withoutOne)
+    ∷ case (acceptPacketWithin 64 (drop 4 full ++ take 4 full) (beginning 0x64)) (accepted (refused 18) (drop 4 full ++ take 4 full))
+    -- unlawful rows: one id twice in a stream, eleven slots and thirteen
+    ∷ unlawful (opening (3 ∷ 3 ∷ []))
+    ∷ unlawful (set (set idles 8 (begun 3)) 11 (begun 3))
+    ∷ unlawful (replicate 11 idle)
+    ∷ unlawful (replicate 13 idle)
+    -- an open slot: id, sequence, wish or total above its range, all held, nothing held; the ends of the ranges are lawful
+    ∷ unlawful (alone 11 1 16 0 0 2 1)
+    ∷ unlawful (alone 3 1 0 16 0 2 1)
+    ∷ unlawful (alone 4 1 0 0 2 2 1)
+    ∷ unlawful (alone 7 1 0 0 0 65 1)
+    ∷ unlawful (alone 8 1 0 0 0 2 2)
+    ∷ unlawful (alone 10 1 0 0 0 2 0)
+    ∷ case (acceptPacketWithin 64 (alone 11 1 15 15 1 64 63) (0x6F ∷ 0x08 ∷ 0x01 ∷ 0x07 ∷ [])) (accepted (given (Finished 11 Alexa 15 64 true false)) idles)
+    -- a flag of 2, and an idle slot whose id, sequence, wish, total or count held is not 0
+    ∷ unlawful (alone 0 2 0 0 0 0 0)
+    ∷ unlawful (alone 1 0 1 0 0 0 0)
+    ∷ unlawful (alone 2 0 0 1 0 0 0)
+    ∷ unlawful (alone 5 0 0 0 1 0 0)
+    ∷ unlawful (alone 6 0 0 0 0 1 0)
+    ∷ unlawful (alone 9 0 0 0 0 0 1)
+    -- one id in two streams is lawful
+    ∷ case (acceptPacketWithin 64 (twoStreams 3) (0x03 ∷ 0x18 ∷ 0x01 ∷ 0x08 ∷ [])) (accepted (given (Finished 0 Control 3 2 false false)) (idle ∷ drop 1 (twoStreams 3)))
     -- P10 command 94 with success, 20 with unsupported; and each read back
     ∷ case (writeEnvelope (pos 94) (Response success None)) (bytes (given (0x08 ∷ 0x5E ∷ 0x4A ∷ 0x00 ∷ [])))
     ∷ case (readEnvelope (0x08 ∷ 0x5E ∷ 0x4A ∷ 0x00 ∷ [])) (envelope (given (responseRead 94 success)))

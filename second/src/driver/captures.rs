@@ -23,7 +23,7 @@ use super::packets;
 use super::worked::{bytes, written};
 use crate::classic::{self, LIMIT};
 use crate::comparison::{hex, Compared, Comparison, Difference};
-use crate::implementation::{Call, Operation};
+use crate::implementation::{Call, Operation, Slot};
 use crate::low_energy::{self, Stream};
 use std::fs;
 use std::path::Path;
@@ -61,7 +61,9 @@ impl Capture {
 
     /// Whether its chunks are packets.
     pub fn is_low_energy(&self) -> bool {
-        self.expected.first().is_some_and(|kind| kind == "low energy")
+        self.expected
+            .first()
+            .is_some_and(|kind| kind == "low energy")
     }
 }
 
@@ -170,18 +172,19 @@ fn low_energy(c: &mut Comparison<'_>, capture: &Capture, script: &mut Script<'_>
             script.next(&format!("refused: {returned}"))?;
             continue;
         }
-        let [outcome, number, id, sequence, total, ack, replaced] = call.answer[..] else {
-            panic!("seven numbers")
+        let [outcome, number, id, sequence, total, ack, replaced, place] = call.answer[..] else {
+            panic!("eight numbers")
         };
-        let slot = Stream::of(number).expect("a known stream").slot();
+        // The transactions of a stream come one after the other: its first slot has them all.
+        let first = Stream::of(number).expect("a known stream").places().start;
+        let right = if outcome > 1 { 0 } else { first as u64 };
+        c.hold(place == right, "the slot's place", &call)?;
         c.hold(answered == (ack == 1), "an ACK that is wanted", &call)?;
         let noted = if replaced == 1 { ", one replaced" } else { "" };
         let who = format!("stream {number}, id {id}");
         match outcome {
             0 => {
-                let [_, _, total, held, _, _] = call.state[1 + 6 * slot..][..6] else {
-                    panic!("six numbers")
-                };
+                let Slot { total, held, .. } = call.slots[first];
                 script.next(&format!("held: {who}, {held} of {total} bytes{noted}"))?;
             }
             1 => {
@@ -191,7 +194,7 @@ fn low_energy(c: &mut Comparison<'_>, capture: &Capture, script: &mut Script<'_>
                     "no ACK wanted"
                 };
                 script.next(&format!("finished: {who}, {total} bytes, {wish}{noted}"))?;
-                let start = slot * LIMIT as usize;
+                let start = first * LIMIT as usize;
                 let message = call.lent[start..start + total as usize].to_vec();
                 script.next(format!("message: {}", hex(&message)).trim_end())?;
                 if answered {

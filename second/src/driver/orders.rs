@@ -1,25 +1,27 @@
 //! "Two packets whose stream fields differ, given in either order over the same buffer, get the same
 //! two answers, end in the same state and leave the same buffer", "each packet keeping its own answer
-//! sequence and answer buffer, which ends the same too": pairs of such packets, from lawful states,
-//! two thirds of them as the packets before left them, on links with several limits.
+//! sequence and answer buffer, which ends the same too"; the row ends the same, and the places told are
+//! the same. Pairs of such packets, from lawful rows, two thirds of them as the packets before left them,
+//! on links with several limits.
 
 use super::{packets, Plan};
 use crate::comparison::{hex, Compared, Comparison};
-use crate::implementation::{Call, Operation};
+use crate::implementation::{Call, Operation, Slot};
 use crate::low_energy;
 use crate::rng::Rng;
 
 /// The limits that are tried, each with its number of pairs.
 const LIMITS: &[(u64, u64)] = &[
-    (4_096, 100_000),
+    (64, 100_000),
+    (4_096, 20_000),
     (1, 5_000),
     (2, 5_000),
     (20, 5_000),
     (19, 5_000),
     (255, 5_000),
     (256, 5_000),
-    (20_000, 120),
-    (65_535, 60),
+    (20_000, 60),
+    (65_535, 30),
 ];
 
 pub fn run(c: &mut Comparison<'_>, rng: &mut Rng, plan: Plan) -> Compared<()> {
@@ -32,16 +34,16 @@ pub fn run(c: &mut Comparison<'_>, rng: &mut Rng, plan: Plan) -> Compared<()> {
                 c.at = format!("packets of two streams at limit {limit}, pair {number}");
             }
             match rng.below(30) {
-                0 => call.state = packets::idle(limit),
-                1..=10 => call.state = packets::lawful(rng, limit),
+                0 => call.slots.fill(Slot::default()),
+                1..=10 => call.slots = packets::lawful(rng, limit),
                 _ => {}
             }
             for _ in 0..rng.index(3) {
-                call.inputs[0] = packets::directed(rng, &call.state);
+                call.inputs[0] = packets::directed(rng, limit, &call.slots);
                 (call.numbers[0], call.reply) = packets::answering(rng, 60);
                 c.run(&mut call)?;
             }
-            let (one, other) = pair(rng, &call.state);
+            let (one, other) = pair(rng, limit, &call.slots);
             either_order(c, &mut call, one, other)?;
         }
     }
@@ -58,6 +60,7 @@ fn either_order(c: &mut Comparison<'_>, call: &mut Call, one: Given, other: Give
     let same = first == turned_first
         && second == turned_second
         && call.state == turned.state
+        && call.slots == turned.slots
         && call.lent == turned.lent;
     if same {
         return Ok(());
@@ -90,9 +93,9 @@ fn told(c: &mut Comparison<'_>, call: &mut Call, given: &Given) -> Compared<Told
 }
 
 /// Two packets of at least one byte whose stream fields differ.
-fn pair(rng: &mut Rng, state: &[u64]) -> (Given, Given) {
+fn pair(rng: &mut Rng, limit: u64, slots: &[Slot]) -> (Given, Given) {
     loop {
-        let (one, other) = (given(rng, state), given(rng, state));
+        let (one, other) = (given(rng, limit, slots), given(rng, limit, slots));
         if let (Some(a), Some(b)) = (one.packet.first(), other.packet.first()) {
             if a >> 4 != b >> 4 {
                 return (one, other);
@@ -101,22 +104,22 @@ fn pair(rng: &mut Rng, state: &[u64]) -> (Given, Given) {
     }
 }
 
-fn given(rng: &mut Rng, state: &[u64]) -> Given {
+fn given(rng: &mut Rng, limit: u64, slots: &[Slot]) -> Given {
     let (sequence, reply) = packets::answering(rng, 8);
     Given {
-        packet: packet(rng, state),
+        packet: packet(rng, limit, slots),
         sequence,
         reply,
     }
 }
 
-/// A packet for the state at hand, an ACK or something like one; some of any stream, some of one
+/// A packet for the row at hand, an ACK or something like one; some of any stream, some of one
 /// byte.
-fn packet(rng: &mut Rng, state: &[u64]) -> Vec<u8> {
+fn packet(rng: &mut Rng, limit: u64, slots: &[Slot]) -> Vec<u8> {
     let mut packet = if rng.once_in(8) {
         packets::acknowledgement(rng)
     } else {
-        packets::directed(rng, state)
+        packets::directed(rng, limit, slots)
     };
     if rng.once_in(6) {
         if let Some(first) = packet.first_mut() {

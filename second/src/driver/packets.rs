@@ -1,37 +1,40 @@
-//! Packets in interleaved lists: the three streams' messages mixed, in pieces of our writer and of
-//! other makers', with lost, doubled, damaged and foreign packets among them, from idle, random
-//! lawful and unlawful states, on links with several limits. Each packet comes with an answer
-//! sequence and an answer buffer of its own.
+//! Packets in interleaved lists: the three streams' messages mixed, up to five of a stream at a time, in
+//! pieces of our writer and of other makers', with lost, doubled, damaged and foreign packets among them,
+//! from idle, random lawful and unlawful rows of slots, on links with several limits. Each packet comes
+//! with an answer sequence and an answer buffer of its own.
 
 use super::streams::near;
 use super::{damage, edge, Plan};
 use crate::comparison::{Compared, Comparison};
-use crate::implementation::{Call, Operation};
-use crate::low_energy::{self, Stream, Wish};
+use crate::implementation::{Call, Operation, Slot};
+use crate::low_energy::{self, Stream, Wish, SLOTS};
 use crate::rng::Rng;
 use std::collections::VecDeque;
 
-/// The limits that are tried: each with how many packets and how many unlawful states it gets.
+/// The limits that are tried: each with how many packets and how many unlawful rows it gets.
 /// Every lent byte is compared at every call, so a large buffer is dear.
 const LIMITS: &[(u64, [u64; 2])] = &[
-    (4_096, [1_000_000, 30_000]),
+    (64, [1_000_000, 30_000]),
+    (4_096, [100_000, 3_000]),
     (1, [60_000, 3_000]),
     (2, [60_000, 3_000]),
     (19, [60_000, 3_000]),
     (20, [60_000, 3_000]),
     (255, [60_000, 3_000]),
     (256, [60_000, 3_000]),
-    (20_000, [4_000, 200]),
-    (65_535, [1_000, 60]),
+    (20_000, [1_000, 60]),
+    (65_535, [300, 20]),
 ];
 
 pub fn run(c: &mut Comparison<'_>, rng: &mut Rng, plan: Plan) -> Compared<()> {
-    for &(limit, [packets, states]) in LIMITS {
+    for &(limit, [packets, rows]) in LIMITS {
         c.at = format!("a receiver opened with {limit}");
         let mut open = Call::new(Operation::ReceiverOpen).numbers(&[limit]);
         c.expect(&mut open, 0, |call| call.state == idle(limit))?;
         let lent = rng.bytes(low_energy::buffer(limit));
-        let mut call = Call::new(Operation::ReceiverAccept).lent(lent);
+        let mut call = Call::new(Operation::ReceiverAccept)
+            .state(&idle(limit))
+            .lent(lent);
         let wanted = plan.times(packets);
         let mut given = 0;
         let mut lists = 0u64;
@@ -42,10 +45,11 @@ pub fn run(c: &mut Comparison<'_>, rng: &mut Rng, plan: Plan) -> Compared<()> {
             lists += 1;
             given += list(c, rng, &mut call, limit)?;
         }
-        c.at = format!("unlawful receiver states at limit {limit}");
-        for _ in 0..plan.times(states) {
-            call.state = unlawful(rng, limit);
-            call.inputs[0] = directed(rng, &call.state);
+        c.at = format!("unlawful rows of slots at limit {limit}");
+        for _ in 0..plan.times(rows) {
+            call.slots = unlawful(rng, limit);
+            call.inputs[0] = directed(rng, limit, &call.slots);
+            call.state[0] = if rng.once_in(12) { edge(rng) } else { limit };
             (call.numbers[0], call.reply) = answering(rng, 8);
             c.run(&mut call)?;
         }
@@ -69,13 +73,13 @@ pub(super) fn answering(rng: &mut Rng, wrong: u64) -> (u64, Vec<u8>) {
     (sequence, rng.bytes(size))
 }
 
-/// The empty state of a link with a limit.
+/// The state of a link with a limit, which it is alone.
 pub(super) fn idle(limit: u64) -> Vec<u64> {
-    [&[limit][..], &[0; 18]].concat()
+    vec![limit]
 }
 
-/// A slot's six numbers, open and lawful; with a limit of 1 none is.
-fn open_slot(rng: &mut Rng, limit: u64) -> [u64; 6] {
+/// A slot that is open for this id and lawful; with a limit of 1 none is.
+fn open_slot(rng: &mut Rng, limit: u64, id: u8) -> Slot {
     let most = limit as usize;
     let total = match rng.below(4) {
         0 => rng.between(2, most.min(5)),
@@ -89,46 +93,58 @@ fn open_slot(rng: &mut Rng, limit: u64) -> [u64; 6] {
         2 => total - rng.between(1, (total - 1).min(300)),
         _ => rng.between(1, total - 1),
     };
-    [
-        1,
-        rng.below(16),
-        total as u64,
-        held as u64,
-        rng.below(16),
-        rng.below(2),
-    ]
+    Slot {
+        opened: 1,
+        id,
+        sequence: rng.below(16) as u8,
+        wanted: rng.below(2) as u8,
+        total: total as u16,
+        held: held as u16,
+    }
 }
 
-/// A lawful state, each slot idle or open.
-pub(super) fn lawful(rng: &mut Rng, limit: u64) -> Vec<u64> {
-    let mut state = idle(limit);
-    for slot in state[1..].chunks_mut(6) {
-        if limit > 1 && !rng.once_in(3) {
-            slot.copy_from_slice(&open_slot(rng, limit));
+/// A lawful row: each slot idle or open, of a stream often all four, no two of them with one id.
+pub(super) fn lawful(rng: &mut Rng, limit: u64) -> Vec<Slot> {
+    let mut row = vec![Slot::default(); SLOTS];
+    for stream in Stream::ALL {
+        // Steps of an odd number come to all sixteen ids.
+        let (first, step) = (rng.below(16), 2 * rng.below(8) + 1);
+        let full = rng.once_in(3);
+        for place in stream.places() {
+            if limit > 1 && (full || rng.once_in(2)) {
+                let id = (first + place as u64 * step) % 16;
+                row[place] = open_slot(rng, limit, id as u8);
+            }
         }
     }
-    state
+    row
 }
 
-/// A state with a number or two that it may not have (or by chance may).
-fn unlawful(rng: &mut Rng, limit: u64) -> Vec<u64> {
-    let mut state = lawful(rng, limit);
+/// A row with a number or two that it may not have (or by chance may), or of another length.
+fn unlawful(rng: &mut Rng, limit: u64) -> Vec<Slot> {
+    let mut row = lawful(rng, limit);
     for _ in 0..rng.between(1, 2) {
-        let place = rng.index(19);
-        state[place] = match rng.below(5) {
+        let place = rng.index(SLOTS);
+        let any = edge(rng);
+        match rng.below(10) {
+            // An id doubled: in one stream, or in two, which is lawful.
+            0 | 1 => row[place].id = row[rng.index(SLOTS)].id,
+            2 => row[place].id = any as u8,
+            3 => row[place].sequence = any as u8,
+            4 => row[place].opened = rng.below(3) as u8,
+            5 => row[place].wanted = rng.below(3) as u8,
             // Held at or past its total, total at or under what is held.
-            0 if place > 0 => {
-                let slot = (place - 1) / 6 * 6 + 1;
-                state[slot + 2 + rng.index(2)]
-                    .wrapping_add(rng.below(3))
-                    .wrapping_sub(1)
-            }
-            // A flag, or what would be one elsewhere; an idle slot may not remember any.
-            1 => rng.below(3),
-            _ => edge(rng),
-        };
+            6 => row[place].held = row[place].total.wrapping_sub(rng.below(3) as u16),
+            7 => row[place].total = row[place].held.wrapping_add(rng.below(3) as u16),
+            8 => row[place].total = near(rng, limit, 1, 2).min(65_535) as u16,
+            _ => row[place].held = any as u16,
+        }
     }
-    state
+    if rng.once_in(10) {
+        let length = rng.index(SLOTS + 4);
+        row.resize(length, Slot::default());
+    }
+    row
 }
 
 /// A packet with these fields, whatever they are; the length field is right for the piece.
@@ -215,21 +231,20 @@ pub(super) fn acknowledgement(rng: &mut Rng) -> Vec<u8> {
     packet
 }
 
-/// A packet made for the state at hand: each field is the right one mostly, and one off or any
+/// A packet made for a slot of the row at hand: each field is the right one mostly, and one off or any
 /// otherwise.
-pub(super) fn directed(rng: &mut Rng, state: &[u64]) -> Vec<u8> {
+pub(super) fn directed(rng: &mut Rng, limit: u64, slots: &[Slot]) -> Vec<u8> {
     let stream = *rng.pick(&Stream::ALL);
     // As long as a message may be, and a little longer; no longer than its total can say.
-    let limit = state[0].min(65_535) as usize;
+    let limit = limit as usize;
     let longest = (limit + 104).min(65_535);
-    let slot = &state[1 + stream.slot() * 6..][..6];
-    let [open, id, total, held, sequence, _] = slot else {
-        panic!("six numbers")
-    };
+    let place = stream.places().start + rng.index(4);
+    let slot = slots.get(place).copied().unwrap_or_default();
     let kind = *rng.pick(&[0, 0, 1, 1, 2, 2, 2, 3]);
     let mut head = stream.number() << 4;
-    head |= if *open == 1 && !rng.once_in(10) {
-        *id as u8 & 15
+    // A first packet is as often for an id that is not open.
+    head |= if slot.opened == 1 && !rng.once_in(if kind == 0 { 2 } else { 10 }) {
+        slot.id & 15
     } else {
         rng.below(16) as u8
     };
@@ -239,9 +254,9 @@ pub(super) fn directed(rng: &mut Rng, state: &[u64]) -> Vec<u8> {
     let next = if rng.once_in(10) {
         rng.below(16) as u8
     } else {
-        (sequence.wrapping_add(1) % 16) as u8
+        slot.sequence.wrapping_add(1) % 16
     };
-    let left = total.saturating_sub(*held).min(longest as u64) as usize;
+    let left = longest.min(slot.total.saturating_sub(slot.held).into());
     let aim = match kind {
         0 if rng.once_in(20) => *rng.pick(&[
             limit.saturating_sub(6),
@@ -288,8 +303,8 @@ pub(super) fn directed(rng: &mut Rng, state: &[u64]) -> Vec<u8> {
     packet
 }
 
-/// The packets of one message on this stream.
-fn message_packets(rng: &mut Rng, stream: Stream, limit: u64) -> VecDeque<Vec<u8>> {
+/// The packets of one message on this stream, with an id below `ids`.
+fn message_packets(rng: &mut Rng, stream: Stream, ids: u64, limit: u64) -> VecDeque<Vec<u8>> {
     let size = match rng.below(20) {
         0 => 0,
         1 => near(rng, limit, 96, 0),
@@ -301,7 +316,7 @@ fn message_packets(rng: &mut Rng, stream: Stream, limit: u64) -> VecDeque<Vec<u8
     .min(65_535);
     let wish = Wish {
         stream,
-        id: rng.below(16) as u8,
+        id: rng.below(ids) as u8,
         sequence: rng.below(16) as u8,
         ack: rng.once_in(2),
     };
@@ -322,25 +337,29 @@ fn message_packets(rng: &mut Rng, stream: Stream, limit: u64) -> VecDeque<Vec<u8
 
 /// One list; gives the number of packets.
 fn list(c: &mut Comparison<'_>, rng: &mut Rng, call: &mut Call, limit: u64) -> Compared<u64> {
-    call.state = if rng.once_in(3) {
+    call.state = idle(limit);
+    call.slots = if rng.once_in(3) {
         lawful(rng, limit)
     } else {
-        idle(limit)
+        vec![Slot::default(); SLOTS]
     };
     let damaging = *rng.pick(&[0, 0, 20, 8, 4]);
     let directing = *rng.pick(&[0, 0, 8, 2, 1]);
-    let mut queues: Vec<VecDeque<Vec<u8>>> = vec![VecDeque::new(); 3];
+    // As many messages of a stream at a time, of as many ids.
+    let most = rng.between(1, 5);
+    let ids = *rng.pick(&[16, 6, 4]);
+    let mut queues: Vec<VecDeque<Vec<u8>>> = vec![VecDeque::new(); 3 * most];
     let length = rng.between(20, 70) as u64;
     for _ in 0..length {
         if directing > 0 && rng.once_in(directing) {
-            call.inputs[0] = directed(rng, &call.state);
+            call.inputs[0] = directed(rng, limit, &call.slots);
         } else if rng.once_in(12) {
             call.inputs[0] = acknowledgement(rng);
         } else {
             let stream = *rng.pick(&Stream::ALL);
-            let queue = &mut queues[stream.slot()];
+            let queue = &mut queues[stream as usize * most + rng.index(most)];
             if queue.is_empty() || rng.once_in(60) {
-                *queue = message_packets(rng, stream, limit);
+                *queue = message_packets(rng, stream, ids, limit);
             }
             let mut packet = queue.pop_front().expect("a message has a packet");
             if damaging > 0 && rng.once_in(damaging) {

@@ -142,7 +142,7 @@ impl Desk {
             self.receiver.inputs[0].clear();
             let packet = self.writer.lent.iter().take(written as usize);
             self.receiver.inputs[0].extend(packet);
-            let third = stream.slot() * self.limit as usize;
+            let start = stream.places().start * self.limit as usize;
             let message = &self.writer.inputs[0];
             let expected = [
                 u64::from(last),
@@ -152,6 +152,7 @@ impl Desk {
                 if last { size as u64 } else { 0 },
                 u64::from(last) & wish[3],
                 0,
+                stream.places().start as u64,
             ];
             // The writer's packets are always taken, and the last gives the message.
             c.hold(returned == 0, "a packet is written", &self.writer)?;
@@ -167,7 +168,7 @@ impl Desk {
                 reply[..6].copy_from_slice(&ack);
             }
             let returned = c.run(&mut self.receiver)?;
-            let part = third..third + next as usize;
+            let part = start..start + next as usize;
             let holds = returned == 0
                 && self.receiver.answer == expected
                 && self.receiver.reply == reply

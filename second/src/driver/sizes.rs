@@ -5,9 +5,12 @@
 use super::{edge, firmware, packets, Plan, EDGES};
 use crate::classic;
 use crate::comparison::{Compared, Comparison};
-use crate::implementation::{Call, Operation};
-use crate::low_energy;
+use crate::implementation::{Call, Operation, Slot};
+use crate::low_energy::{self, SLOTS};
 use crate::rng::Rng;
+
+/// The limit of the receivers here.
+const RECEIVED: u64 = 300;
 
 pub fn run(c: &mut Comparison<'_>, rng: &mut Rng, plan: Plan) -> Compared<()> {
     for operation in Operation::ALL {
@@ -95,10 +98,10 @@ fn ordinary(rng: &mut Rng, operation: Operation) -> Call {
                 &[0x61, 0x02, 0, 0, 1, 1, 0xAA][..]
             };
             let room = rng.between(6, 9);
-            call.state(&packets::idle(classic::LIMIT))
+            call.state(&packets::idle(RECEIVED))
                 .numbers(&[rng.below(16)])
                 .inputs(&[packet])
-                .lent(rng.bytes(low_energy::buffer(classic::LIMIT)))
+                .lent(rng.bytes(low_energy::buffer(RECEIVED)))
                 .reply(rng.bytes(room))
         }
         Operation::CaptureJudge => call.numbers(&[20, 300]).inputs(&[&[1, 0, 1, 9]]),
@@ -181,6 +184,14 @@ fn rows(c: &mut Comparison<'_>, rng: &mut Rng, operation: Operation) -> Compared
                 c.run(&mut call)?;
             }
         }
+        if shape.slots > 0 {
+            for length in 0..=shape.slots + 3 {
+                let mut call = ordinary(rng, operation);
+                call.slots.resize(length, Slot::default());
+                let expected = u64::from(length != shape.slots);
+                c.expect(&mut call, expected, |_| true)?;
+            }
+        }
         let call = ordinary(rng, operation);
         let right = call.lent.len();
         for size in (0..8).chain(right.saturating_sub(8)..=right + 8) {
@@ -237,6 +248,10 @@ fn disturb(rng: &mut Rng, call: &mut Call) {
                 let size = rng.index(10);
                 call.reply.resize(size, 0x88);
             }
+            7 if !call.slots.is_empty() => {
+                let place = rng.index(call.slots.len());
+                set_number(&mut call.slots[place], rng.index(6), edge(rng));
+            }
             7 if call.operation == Operation::InformationWrite => {
                 let count = rng.index(12);
                 call.numbers.resize(count, 1);
@@ -265,7 +280,7 @@ fn disturb(rng: &mut Rng, call: &mut Call) {
 /// Each number of each row, alone, at each edge: of the states, lawful otherwise, and of what is
 /// given, in range otherwise.
 fn each_edge(c: &mut Comparison<'_>, rng: &mut Rng) -> Compared<()> {
-    let states: [(Operation, &[&[u64]]); 4] = [
+    let states: [(Operation, &[&[u64]]); 3] = [
         (
             Operation::ExtractorStep,
             &[
@@ -293,16 +308,8 @@ fn each_edge(c: &mut Comparison<'_>, rng: &mut Rng) -> Compared<()> {
                 &[65_535, 7, 65_535, 65_500, 0xF0F1, 4, 3],
             ],
         ),
-        (
-            Operation::ReceiverAccept,
-            &[
-                &[4_096, 0, 0, 0, 0, 0, 0, 0, 0, 0, 0, 0, 0, 0, 0, 0, 0, 0, 0],
-                &[
-                    4_096, 1, 3, 9, 2, 7, 0, 1, 0, 2, 1, 0, 1, 1, 15, 4_096, 4_095, 15, 1,
-                ],
-            ],
-        ),
     ];
+    each_edge_of_slots(c, rng)?;
     for (operation, states) in states {
         for state in states {
             for place in 0..state.len() {
@@ -337,6 +344,54 @@ fn each_edge(c: &mut Comparison<'_>, rng: &mut Rng) -> Compared<()> {
         }
     }
     Ok(())
+}
+
+/// A slot's number at a place, in the order of its fields.
+fn set_number(slot: &mut Slot, place: usize, number: u64) {
+    match place {
+        0 => slot.opened = number as u8,
+        1 => slot.id = number as u8,
+        2 => slot.sequence = number as u8,
+        3 => slot.wanted = number as u8,
+        4 => slot.total = number as u16,
+        _ => slot.held = number as u16,
+    }
+}
+
+/// The limit, and each number of each slot, alone, at each edge: of a row that is idle, and of one with
+/// every slot open.
+fn each_edge_of_slots(c: &mut Comparison<'_>, rng: &mut Rng) -> Compared<()> {
+    for &number in EDGES {
+        let mut call = ordinary(rng, Operation::ReceiverAccept).state(&[number]);
+        c.run(&mut call)?;
+    }
+    for row in [[Slot::default(); SLOTS], [open(0, 9, 2); SLOTS]] {
+        let mut row = row;
+        for (place, slot) in row.iter_mut().enumerate() {
+            slot.id = slot.opened * place as u8;
+        }
+        let near = [0, 1, 2, 3, 8, 10, RECEIVED - 1, RECEIVED, RECEIVED + 1];
+        for (place, number) in (0..SLOTS).flat_map(|slot| (0..6).map(move |at| (slot, at))) {
+            for &edge in EDGES.iter().chain(&near) {
+                let mut call = ordinary(rng, Operation::ReceiverAccept).slots(&row);
+                set_number(&mut call.slots[place], number, edge);
+                c.run(&mut call)?;
+            }
+        }
+    }
+    Ok(())
+}
+
+/// A slot that is open for an id, with last sequence 7.
+fn open(id: u8, total: u16, held: u16) -> Slot {
+    Slot {
+        opened: 1,
+        id,
+        sequence: 7,
+        wanted: 0,
+        total,
+        held,
+    }
 }
 
 /// Every byte, as a step and as a feed, in each state that differs.
@@ -376,14 +431,21 @@ fn every_byte(c: &mut Comparison<'_>, rng: &mut Rng) -> Compared<()> {
     Ok(())
 }
 
-/// Every byte 0 and byte 1 of a packet, over a state with two open slots, one that wants an ACK, at
-/// several lengths.
+/// Every byte 0 and byte 1 of a packet, at several lengths, over a row in which control has two open slots,
+/// one that wants an ACK, OTA all four, and Alexa one.
 fn every_pair(c: &mut Comparison<'_>, rng: &mut Rng) -> Compared<()> {
-    let state = [
-        4_096, 1, 3, 9, 2, 7, 1, 0, 0, 0, 0, 0, 0, 1, 12, 5, 4, 15, 0,
-    ];
-    let lent = rng.bytes(low_energy::buffer(classic::LIMIT));
-    let mut call = Call::new(Operation::ReceiverAccept).lent(lent);
+    let mut row = [Slot::default(); SLOTS];
+    row[0] = open(3, 9, 2);
+    row[2] = open(8, 3, 2);
+    row[2].wanted = 1;
+    for (slot, id) in row[4..8].iter_mut().zip([5, 1, 15, 0]) {
+        *slot = open(id, 5, 4);
+    }
+    row[9] = open(12, 5, 4);
+    let lent = rng.bytes(low_energy::buffer(RECEIVED));
+    let mut call = Call::new(Operation::ReceiverAccept)
+        .state(&packets::idle(RECEIVED))
+        .lent(lent);
     let reply = rng.bytes(7);
     for zeroth in 0..=255u8 {
         for first in 0..=255u8 {
@@ -393,7 +455,7 @@ fn every_pair(c: &mut Comparison<'_>, rng: &mut Rng) -> Compared<()> {
                 _ => &[&[1, 0xAA], &[0, 1, 0xAA]],
             };
             for tail in tail {
-                call.state = state.to_vec();
+                call.slots = row.to_vec();
                 call.numbers[0] = u64::from(zeroth ^ first) & 15;
                 call.reply.clone_from(&reply);
                 call.inputs[0] = [&[zeroth, first], *tail].concat();

@@ -1,10 +1,10 @@
 //! "Worked by hand": P1 to P12, the slips that the paper names, and the cases of the change requests.
 
-use super::{packets as lists, Plan};
+use super::Plan;
 use crate::classic::{self, LIMIT};
 use crate::comparison::{Compared, Comparison};
-use crate::implementation::{Call, Operation};
-use crate::low_energy;
+use crate::implementation::{Call, Operation, Slot};
+use crate::low_energy::{self, SLOTS};
 use crate::rng::Rng;
 
 /// Bytes from hex text.
@@ -185,16 +185,51 @@ fn counting(size: usize) -> Vec<u8> {
     (0..size).map(|place| place as u8).collect()
 }
 
+/// A row of slots.
+type Row = [Slot; SLOTS];
+
 /// A call of the receiver on a blank buffer, with answer sequence 9 and a blank answer buffer.
-fn receiver(state: &[u64]) -> Call {
+fn receiver(row: &Row) -> Call {
     Call::new(Operation::ReceiverAccept)
         .numbers(&[9])
-        .state(state)
+        .state(&[LIMIT])
+        .slots(row)
         .lent(blank(low_energy::buffer(LIMIT)))
         .reply(blank(8))
 }
 
-const IDLE: [u64; 19] = [LIMIT, 0, 0, 0, 0, 0, 0, 0, 0, 0, 0, 0, 0, 0, 0, 0, 0, 0, 0];
+/// A slot that is open for an id, with last sequence and wish.
+const fn open(id: u8, [total, held]: [u16; 2], sequence: u8, wanted: u8) -> Slot {
+    Slot {
+        opened: 1,
+        id,
+        sequence,
+        wanted,
+        total,
+        held,
+    }
+}
+
+const CLOSED: Slot = Slot {
+    opened: 0,
+    id: 0,
+    sequence: 0,
+    wanted: 0,
+    total: 0,
+    held: 0,
+};
+const IDLE: Row = [CLOSED; SLOTS];
+
+/// A row with one slot that is not idle.
+fn only(place: usize, slot: Slot) -> Row {
+    let mut row = IDLE;
+    row[place] = slot;
+    row
+}
+
+/// Where the parts of the streams' first slots begin.
+const OTA: usize = 4 * LIMIT as usize;
+const ALEXA: usize = 8 * LIMIT as usize;
 
 fn packets(c: &mut Comparison<'_>) -> Compared<()> {
     c.at = "P4".to_string();
@@ -211,20 +246,20 @@ fn packets(c: &mut Comparison<'_>) -> Compared<()> {
     let mut call = receiver(&IDLE);
     c.hold(made == expected, "the three packets", &call)?;
     let answers = [
-        ([0, 6, 1, 0, 0, 0, 0], [1, 1, 35, 14, 0, 0]),
-        ([0, 6, 1, 0, 0, 0, 0], [1, 1, 35, 31, 1, 0]),
-        ([1, 6, 1, 0, 35, 1, 0], [0; 6]),
+        ([0, 6, 1, 0, 0, 0, 0, 8], open(1, [35, 14], 0, 0)),
+        ([0, 6, 1, 0, 0, 0, 0, 8], open(1, [35, 31], 1, 0)),
+        ([1, 6, 1, 0, 35, 1, 0, 8], CLOSED),
     ];
     for (packet, (answer, slot)) in made.iter().zip(answers) {
         call.inputs[0] = packet.clone();
         c.expect(&mut call, 0, |call| {
-            call.answer == answer && call.state[13..] == slot
+            call.answer == answer && call.slots == only(8, slot)
         })?;
     }
-    let kept = call.lent[8_192..8_227] == message
-        && call.lent[..8_192].iter().all(|&byte| byte == 0xCC)
-        && call.lent[8_227..].iter().all(|&byte| byte == 0xCC);
-    c.hold(call.state == IDLE && kept, "the message received", &call)?;
+    let kept = call.lent[ALEXA..ALEXA + 35] == message
+        && call.lent[..ALEXA].iter().all(|&byte| byte == 0xCC)
+        && call.lent[ALEXA + 35..].iter().all(|&byte| byte == 0xCC);
+    c.hold(call.state == [LIMIT] && kept, "the message received", &call)?;
 
     let sizes = [
         ("P5", 490, 244, vec![238, 241, 11]),
@@ -253,16 +288,16 @@ fn packets(c: &mut Comparison<'_>) -> Compared<()> {
 
     c.at = "P7".to_string();
     // OTA is open with id 4, total 9, one byte held, last sequence 15.
-    let open = [LIMIT, 0, 0, 0, 0, 0, 0, 1, 4, 9, 1, 15, 0, 0, 0, 0, 0, 0, 0];
-    let mut call = receiver(&open).inputs(&[&bytes("24 04 02 AA BB")]);
+    let before = only(4, open(4, [9, 1], 15, 0));
+    let mut call = receiver(&before).inputs(&[&bytes("24 04 02 AA BB")]);
     c.expect(&mut call, 0, |call| {
-        call.answer == [0, 2, 4, 0, 0, 0, 0]
-            && call.state == [LIMIT, 0, 0, 0, 0, 0, 0, 1, 4, 9, 3, 0, 0, 0, 0, 0, 0, 0, 0]
-            && call.lent[4_096..4_100] == [0xCC, 0xAA, 0xBB, 0xCC]
+        call.answer == [0, 2, 4, 0, 0, 0, 0, 4]
+            && call.slots == only(4, open(4, [9, 3], 0, 0))
+            && call.lent[OTA..OTA + 4] == [0xCC, 0xAA, 0xBB, 0xCC]
     })?;
-    let mut call = receiver(&open).inputs(&[&bytes("24 A4 02 AA BB")]);
+    let mut call = receiver(&before).inputs(&[&bytes("24 A4 02 AA BB")]);
     c.expect(&mut call, 10, |call| {
-        call.state == IDLE && call.lent.iter().all(|&byte| byte == 0xCC)
+        call.slots == IDLE && call.lent.iter().all(|&byte| byte == 0xCC)
     })?;
 
     c.at = "P8".to_string();
@@ -279,9 +314,9 @@ fn packets(c: &mut Comparison<'_>) -> Compared<()> {
             .numbers(&[6, 1, sequence, positive])
             .lent(blank(9));
         c.expect(&mut call, 0, |call| wrote(call, &packet))?;
-        let mut call = receiver(&open).inputs(&[&packet]);
+        let mut call = receiver(&before).inputs(&[&packet]);
         c.expect(&mut call, 0, |call| {
-            call.answer == [3 - positive, 6, 1, sequence, 0, 0, 0] && call.state == open
+            call.answer == [3 - positive, 6, 1, sequence, 0, 0, 0, 0] && call.slots == before
         })?;
     }
 
@@ -291,7 +326,7 @@ fn packets(c: &mut Comparison<'_>) -> Compared<()> {
     let mut call = receiver(&IDLE).inputs(&[&[0; 6]]);
     c.hold(made == [[0; 6]], "six zero bytes", &call)?;
     c.expect(&mut call, 0, |call| {
-        call.answer == [1, 0, 0, 0, 0, 0, 0] && call.state == IDLE
+        call.answer == [1, 0, 0, 0, 0, 0, 0, 0] && call.slots == IDLE
     })
 }
 
@@ -318,17 +353,19 @@ fn packet_limits(c: &mut Comparison<'_>) -> Compared<()> {
     for (limit, number) in [(0, 17), (1, 0), (65_535, 0), (65_536, 17), (u64::MAX, 17)] {
         let mut call = Call::new(Operation::ReceiverOpen).numbers(&[limit]);
         let left = if number == 0 { limit } else { 0 };
-        c.expect(&mut call, number, |call| {
-            call.state[0] == left && call.state[1..].iter().all(|&number| number == 0)
-        })?;
+        c.expect(&mut call, number, |call| call.state == [left])?;
     }
     // The first of two bytes on the Alexa stream.
     let packet = bytes("61 00 00 00 02 01 AA");
-    for (limit, number, open) in [(2, 0, [1, 1, 2, 1, 0, 0]), (1, 6, [0; 6]), (0, 1, [0; 6])] {
-        let mut call = receiver(&lists::idle(limit)).inputs(&[&packet]);
+    for (limit, number, slot) in [
+        (2, 0, open(1, [2, 1], 0, 0)),
+        (1, 6, CLOSED),
+        (0, 1, CLOSED),
+    ] {
+        let mut call = receiver(&IDLE).state(&[limit]).inputs(&[&packet]);
         call.lent = blank(low_energy::buffer(limit));
         c.expect(&mut call, number, |call| {
-            call.state[0] == limit && call.state[13..] == open
+            call.state == [limit] && call.slots == only(8, slot)
         })?;
     }
     Ok(())
@@ -529,24 +566,21 @@ fn slips(c: &mut Comparison<'_>) -> Compared<()> {
     let packet = [bytes("65 01 00 00 C8 00 C8"), piece.clone()].concat();
     let mut call = receiver(&IDLE).inputs(&[&packet]);
     c.expect(&mut call, 0, |call| {
-        call.answer == [1, 6, 5, 0, 200, 0, 0] && call.lent[8_192..8_392] == piece
+        call.answer == [1, 6, 5, 0, 200, 0, 0, 8] && call.lent[ALEXA..ALEXA + 200] == piece
     })?;
-    let open = [
-        LIMIT, 0, 0, 0, 0, 0, 0, 0, 0, 0, 0, 0, 0, 1, 5, 300, 7, 3, 0,
-    ];
     let packet = [bytes("65 45 00 C8"), piece.clone()].concat();
-    let mut call = receiver(&open).inputs(&[&packet]);
+    let mut call = receiver(&only(8, open(5, [300, 7], 3, 0))).inputs(&[&packet]);
     c.expect(&mut call, 0, |call| {
-        call.answer == [0, 6, 5, 0, 0, 0, 0]
-            && call.state[13..] == [1, 5, 300, 207, 4, 0]
-            && call.lent[8_199..8_399] == piece
+        call.answer == [0, 6, 5, 0, 0, 0, 0, 8]
+            && call.slots == only(8, open(5, [300, 207], 4, 0))
+            && call.lent[ALEXA + 7..ALEXA + 207] == piece
     })?;
 
     c.at = "slip: giving a first packet of 14 of 35 bytes as finished".to_string();
     let packet = [bytes("61 02 00 00 23 0E"), counting(14)].concat();
     let mut call = receiver(&IDLE).inputs(&[&packet]);
     c.expect(&mut call, 0, |call| {
-        call.answer == [0, 6, 1, 0, 0, 0, 0] && call.state[13..] == [1, 1, 35, 14, 0, 1]
+        call.answer == [0, 6, 1, 0, 0, 0, 0, 8] && call.slots == only(8, open(1, [35, 14], 0, 1))
     })
 }
 
@@ -555,12 +589,12 @@ fn requests(c: &mut Comparison<'_>) -> Compared<()> {
     c.at = "No. 2: the flag on the first packet only".to_string();
     let mut call = receiver(&IDLE).inputs(&[&bytes("61 02 00 00 02 01 AA")]);
     c.expect(&mut call, 0, |call| {
-        call.answer == [0, 6, 1, 0, 0, 0, 0] && call.state[13..] == [1, 1, 2, 1, 0, 1]
+        call.answer == [0, 6, 1, 0, 0, 0, 0, 8] && call.slots == only(8, open(1, [2, 1], 0, 1))
     })?;
     c.hold(call.reply == blank(8), "nothing is answered yet", &call)?;
     call.inputs[0] = bytes("61 18 01 BB");
     c.expect(&mut call, 0, |call| {
-        call.answer == [1, 6, 1, 0, 2, 1, 0] && call.state == IDLE
+        call.answer == [1, 6, 1, 0, 2, 1, 0, 8] && call.slots == IDLE
     })?;
     let ack = bytes("61 9E 00 02 01 00 CC CC");
     c.hold(
@@ -570,29 +604,112 @@ fn requests(c: &mut Comparison<'_>) -> Compared<()> {
     )?;
 
     c.at = "No. 2: what a slot remembers is 0 or 1, and 0 in an idle one".to_string();
-    for slot in 0..3 {
-        for (open, wanted, returned) in [(0, 1, 1), (0, 2, 1), (1, 0, 2), (1, 1, 2), (1, 2, 1)] {
-            let mut state = IDLE;
-            if open == 1 {
-                state[1 + 6 * slot..][..5].copy_from_slice(&[1, 3, 9, 2, 7]);
-            }
-            state[6 * slot + 6] = wanted;
-            // One byte: 2, unless the state is unlawful.
-            let mut call = receiver(&state).inputs(&[&[0]]);
-            c.expect(&mut call, returned, |call| call.state == state)?;
+    for place in 0..SLOTS {
+        let slots = [CLOSED, open(3, [9, 2], 7, 0)];
+        for (was, wanted, returned) in [(0, 1, 1), (0, 2, 1), (1, 0, 2), (1, 1, 2), (1, 2, 1)] {
+            let mut row = only(place, slots[was]);
+            row[place].wanted = wanted;
+            // One byte: 2, unless the row is unlawful.
+            let mut call = receiver(&row).inputs(&[&[0]]);
+            c.expect(&mut call, returned, |call| call.slots == row)?;
         }
     }
-    answers(c)
+    answers(c)?;
+    four(c)?;
+    rows(c)
+}
+
+/// No. 11 on a link of 64: one packet with one byte of the message for each line. "A first packet whose
+/// id is open in its stream replaces that transaction; otherwise it takes the lowest idle slot".
+fn four(c: &mut Comparison<'_>) -> Compared<()> {
+    let mut call = receiver(&IDLE).state(&[64]);
+    call.lent = blank(low_energy::buffer(64));
+    // The packet, what is returned, and place and replaced.
+    let cases = [
+        ("03 00 00 00 02 01 A3", 0, [0, 0]),
+        ("01 00 00 00 02 01 A1", 0, [1, 0]),
+        ("02 02 00 00 02 01 A2", 0, [2, 0]),
+        ("00 00 00 00 02 01 A0", 0, [3, 0]),
+        ("04 00 00 00 02 01 A4", 18, [0, 0]),
+        ("02 00 00 00 02 01 B2", 0, [2, 1]),
+        // One that would finish at once, of one byte and of none; OTA has idle slots.
+        ("09 02 00 00 01 01 A9", 18, [0, 0]),
+        ("09 02 00 00 00 00", 18, [0, 0]),
+        ("29 02 00 00 00 00", 0, [4, 0]),
+        // 8 before 18, and 9 is for the other types.
+        ("04 00 00 00 01 02 A4 A5", 8, [0, 0]),
+        ("04 18 01 A4", 9, [0, 0]),
+        // 10 and 11 make that slot idle alone, and the lowest idle one is taken.
+        ("01 28 01 C1", 10, [0, 0]),
+        ("03 14 01 C3", 11, [0, 0]),
+        ("04 00 00 00 02 01 A4", 0, [0, 0]),
+        ("01 18 01 C1", 9, [0, 0]),
+        ("02 1A 01 C2", 0, [2, 0]),
+    ];
+    for (packet, returned, [place, replaced]) in cases {
+        c.at = format!("No. 11: {packet}");
+        call.inputs[0] = bytes(packet);
+        let before = call.clone();
+        c.expect(&mut call, returned, |call| {
+            let told = returned != 0 || call.answer[6..] == [replaced, place];
+            let kept = call.slots == before.slots && call.lent == before.lent;
+            told && (kept || matches!(returned, 0 | 10 | 11))
+        })?;
+    }
+    let mut row = IDLE;
+    row[0] = open(4, [2, 1], 0, 0);
+    row[3] = open(0, [2, 1], 0, 0);
+    let mut left = blank(12 * 64);
+    for (place, byte) in [(0, 0xA4), (64, 0xA1), (128, 0xB2), (129, 0xC2), (192, 0xA0)] {
+        left[place] = byte;
+    }
+    let holds = call.slots == row && call.lent == left;
+    c.hold(holds, "No. 11: the row and the buffer at the end", &call)
+}
+
+/// No. 11: "In a lawful state, besides, the row has twelve slots and no two open slots of a stream have
+/// one id."
+fn rows(c: &mut Comparison<'_>) -> Compared<()> {
+    let slot = open(5, [2, 1], 0, 0);
+    for (one, other) in (0..SLOTS).flat_map(|one| (0..one).map(move |other| (one, other))) {
+        c.at = format!("No. 11: one id at places {other} and {one}");
+        let mut row = only(one, slot);
+        row[other] = open(5, [9, 3], 7, 1);
+        // One byte: 2, unless the row is unlawful.
+        let mut call = receiver(&row).inputs(&[&[0]]);
+        let returned = if one / 4 == other / 4 { 1 } else { 2 };
+        c.expect(&mut call, returned, |call| call.slots == row)?;
+        // An idle slot has no id.
+        let mut call = receiver(&only(one, slot)).inputs(&[&[0]]);
+        c.expect(&mut call, 2, |_| true)?;
+    }
+    for length in [0, 1, 3, 11, 12, 13, 24] {
+        c.at = format!("No. 11: a row of {length} slots");
+        let mut call = receiver(&IDLE).inputs(&[&bytes("01 00 00 00 02 01 AA")]);
+        call.slots.resize(length, CLOSED);
+        let row = call.slots.clone();
+        let returned = u64::from(length != SLOTS);
+        c.expect(&mut call, returned, |call| {
+            (call.slots == row) == (returned == 1)
+        })?;
+    }
+    Ok(())
 }
 
 /// No. 9: "after 1, 15 for an answer sequence above 15 and 14 for an answer buffer under six bytes,
 /// both before the packet is looked at"; "every other outcome leaves that buffer untouched".
 fn answers(c: &mut Comparison<'_>) -> Compared<()> {
-    let open = [LIMIT, 0, 0, 0, 0, 0, 0, 0, 0, 0, 0, 0, 0, 1, 1, 9, 3, 0, 1];
-    let unlawful = [LIMIT, 0, 0, 0, 0, 0, 1, 0, 0, 0, 0, 0, 0, 0, 0, 0, 0, 0, 0];
+    let open = only(8, open(1, [9, 3], 0, 1));
+    let unlawful = only(
+        0,
+        Slot {
+            wanted: 1,
+            ..CLOSED
+        },
+    );
     // One whole message that wants an ACK, one byte, and a last packet that would be refused by 10.
     let (whole, short, late) = ("61 02 00 00 01 01 AA", "61", "61 28 06 A0 A1 A2 A3 A4 A5");
-    let cases: [(&[u64; 19], u64, usize, &str, u64); 14] = [
+    let cases: [(&Row, u64, usize, &str, u64); 14] = [
         (&unlawful, 16, 5, short, 1),
         (&unlawful, 0, 6, whole, 1),
         (&open, 16, 5, short, 15),
@@ -608,9 +725,9 @@ fn answers(c: &mut Comparison<'_>) -> Compared<()> {
         (&open, 15, 6, whole, 0),
         (&open, 0, 8, whole, 0),
     ];
-    for (state, sequence, size, packet, returned) in cases {
+    for (row, sequence, size, packet, returned) in cases {
         c.at = format!("No. 9: answer sequence {sequence}, {size} bytes, packet {packet}");
-        let mut call = receiver(state).inputs(&[&bytes(packet)]).reply(blank(size));
+        let mut call = receiver(row).inputs(&[&bytes(packet)]).reply(blank(size));
         call.numbers[0] = sequence;
         let mut reply = blank(size);
         if returned == 0 {
@@ -619,11 +736,11 @@ fn answers(c: &mut Comparison<'_>) -> Compared<()> {
         }
         let after = match returned {
             0 | 10 => &IDLE,
-            _ => state,
+            _ => row,
         };
         c.expect(&mut call, returned, |call| {
             call.reply == reply
-                && call.state == *after
+                && call.slots == *after
                 && (returned == 0 || call.lent == blank(low_energy::buffer(LIMIT)))
         })?;
     }

@@ -1,25 +1,25 @@
-use Rattle.slot.proofs.Slots.{lawful-three}
+use Rattle.slot.proofs.Lanes.{lawful-lanes}
 use borrow.Author.Needs.{needs}
 use Rattle.slot.proofs.are_lawful.Statement.{statement}
 use Rattle.slot.proofs.are_lawful.Tie as tie
 
-array-copy-out-is-lawful : tie.Need-array-copy-out-is-lawful
-array-copy-out-is-lawful c = search needs
+lane-of-requires : tie.Need-lane-of-requires
+lane-of-requires c κs = search needs
 
-is-lawful-requires : tie.Need-is-lawful-requires
-is-lawful-requires c κs = search needs
+lane-lawful-requires : tie.Need-lane-lawful-requires
+lane-lawful-requires c κs = search needs
 
-array-copy-out-is-lawful-2 : tie.Need-array-copy-out-is-lawful-2
-array-copy-out-is-lawful-2 c = search needs
+lane-of-requires-2 : tie.Need-lane-of-requires-2
+lane-of-requires-2 c κs = search needs
 
-is-lawful-requires-2 : tie.Need-is-lawful-requires-2
-is-lawful-requires-2 c κs = search needs
+lane-lawful-requires-2 : tie.Need-lane-lawful-requires-2
+lane-lawful-requires-2 c κs = search needs
 
-array-copy-out-is-lawful-3 : tie.Need-array-copy-out-is-lawful-3
-array-copy-out-is-lawful-3 c = search needs
+lane-of-requires-3 : tie.Need-lane-of-requires-3
+lane-of-requires-3 c κs = search needs
 
-is-lawful-requires-3 : tie.Need-is-lawful-requires-3
-is-lawful-requires-3 c κs = search needs
+lane-lawful-requires-3 : tie.Need-lane-lawful-requires-3
+lane-lawful-requires-3 c κs = search needs
 
 both-requires : tie.Need-both-requires
 both-requires c κs = search needs
@@ -30,18 +30,28 @@ both-requires-2 c κs = search needs
 returns : tie.Need-returns
 returns c =
     let s = c .before .before .before .before .before .before .before .before in
-    cc (lawful-three (s .args .limit) (s .args .t2) (s .good .1 .0 .1 .0 .1))
+    rw (
+      lawful-lanes (s .args .limit) (s .args .slots) (s .good .1 .0 .1 .0 .1),
+      ← c .before .before .before .before .before .before .before .lane-of .ensures,
+      ← c .before .before .before .before .before .lane-of2 .ensures,
+      ← c .before .before .before .lane-of3 .ensures,
+      ← c .before .before .before .before .before .before .lane-lawful .ensures,
+      ← c .before .before .before .before .lane-lawful2 .ensures,
+      ← c .before .before .lane-lawful3 .ensures,
+      ← c .before .both .ensures,
+    )
+    (c .both2 .ensures)
 
 pub are-lawful-spec : {M : Type 1} → statement M
 are-lawful-spec =
     tie.close
     (tie.spec
-    array-copy-out-is-lawful
-    is-lawful-requires
-    array-copy-out-is-lawful-2
-    is-lawful-requires-2
-    array-copy-out-is-lawful-3
-    is-lawful-requires-3
+    lane-of-requires
+    lane-lawful-requires
+    lane-of-requires-2
+    lane-lawful-requires-2
+    lane-of-requires-3
+    lane-lawful-requires-3
     both-requires
     both-requires-2
     returns)

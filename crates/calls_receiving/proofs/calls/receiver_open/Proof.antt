@@ -1,7 +1,4 @@
-use native.Mathlib.Omega.{arith}
 use mathlib.Core.Path.{sym, _∙_}
-use lib.Seq.{getD-set-same}
-use denote.Ref.{now}
 use borrow.Author.Tests.{eq-eqb, ne-eqb, not-false}
 use Rattle.wire.specs.Limit.{limitFits}
 use Rattle.receiver.specs.Receiver.{openOf}
@@ -25,11 +22,11 @@ returns-2 c =
     let limit = c .before .before .before .before .args .limit in
     rw (eq-eqb _ _ (c .before .before .if1 .left), sym (opened-by limit (o .result) (o .ensures .0)) ∙ c .if2 .taken)
 
-put-limit-requires : tie.Need-put-limit-requires
-put-limit-requires c κs = search needs
+slice-aggregate-write-row : tie.Need-slice-aggregate-write-row
+slice-aggregate-write-row c = search needs
 
-put-slots-requires : tie.Need-put-slots-requires
-put-slots-requires c κs = search needs
+write-row-requires : tie.Need-write-row-requires
+write-row-requires c κs = search needs
 
 same-length : tie.Need-same-length
 same-length c = search needs
@@ -37,20 +34,12 @@ same-length c = search needs
 returns-3 : tie.Need-returns-3
 unfolding receiverOpenOf openOf
 returns-3 c =
-    let written = c .before .before .before .before .before .before in
-    let o = written .before .before .before .before .before .«open» in
-    let fit = written .before .before .before .before .before .before in
-    let a = fit .before .before .args in
-    let fits = not-false (limitFits (a .limit)) (sym (opened-by (a .limit) (o .result) (o .ensures .0)) ∙ written .before .before .before .before .if2 .left) in
-    rw (
-      eq-eqb _ _ (fit .if1 .left),
-      fits,
-      c .before .before .put-slots .ensures,
-      written .put-limit .ensures,
-      getD-set-same (now (a .state)) 0 (a .limit) 0 (omega (arith, fit .if1 .left)),
-      o .ensures .1,
-      fits,
-    )
+    let written = c .before .before in
+    let over = written .before .before .before in
+    let o = over .before .«open» in
+    let a = over .before .before .before .before .args in
+    let fits = not-false (limitFits (a .limit)) (sym (opened-by (a .limit) (o .result) (o .ensures .0)) ∙ over .if2 .left) in
+    rw (eq-eqb _ _ (over .before .before .if1 .left), fits, written .write-row .ensures)
 
 pub receiver-open-spec : {M : Type 1} → statement M
 receiver-open-spec =
@@ -59,7 +48,7 @@ receiver-open-spec =
     returns
     open-requires
     returns-2
-    put-limit-requires
-    put-slots-requires
+    slice-aggregate-write-row
+    write-row-requires
     same-length
     returns-3)

@@ -7,24 +7,17 @@ use Rattle.receiver.proofs.Receiver.open.Tie as tie
 limit-fits-requires : tie.Need-limit-fits-requires
 limit-fits-requires c κs = search needs
 
-idle-requires : tie.Need-idle-requires
-idle-requires c κs = search needs
-
-idle-requires-2 : tie.Need-idle-requires-2
-idle-requires-2 c κs = search needs
-
 returns : tie.Need-returns
 unfolding openOf
 returns c =
-    let fits = sym (c .before .before .limit-fits .ensures) ∙ c .before .if1 .taken in
-    (rw (fits, c .idle .ensures), rw (fits, c .idle .ensures))
+    let fits = sym (c .before .limit-fits .ensures) ∙ c .if1 .taken in
+    (rw fits, rw fits)
 
 returns-2 : tie.Need-returns-2
 unfolding openOf
 returns-2 c =
-    let over = sym (c .before .before .limit-fits .ensures) ∙ c .before .if1 .left in
-    (rw over, rw (over, c .idle2 .ensures))
+    let over = sym (c .before .limit-fits .ensures) ∙ c .if1 .left in
+    (rw over, rw over)
 
 pub open-spec : {M : Type 1} → statement M
-open-spec =
-    tie.close (tie.spec limit-fits-requires idle-requires idle-requires-2 returns returns-2)
+open-spec = tie.close (tie.spec limit-fits-requires returns returns-2)
