@@ -12,7 +12,7 @@ use Rattle.field.specs.Tag.{varintType, lengthType}
 use Rattle.field.specs.Unsigned.{unsignedOf}
 use Rattle.field_writer.specs.Writer.{scalar, text, nested, tagBytes, fieldBytes, messageBytes}
 use Rattle.field_writer.proofs.Runs.{message-length}
-use Rattle.walk.specs.Schema.{firmwareInformationField, restartRequiredField, firmwareVersionField, firmwareNameField, componentsField, localeField, versionNameField, firmwareComponentVersionField, firmwareComponentNameField, firmwareComponentSizeField, firmwareComponentSignatureField}
+use Rattle.known_fields.specs.Schema.{firmwareInformationField, restartRequiredField, firmwareVersionField, firmwareNameField, componentsField, localeField, versionNameField, firmwareComponentVersionField, firmwareComponentNameField, firmwareComponentSizeField, firmwareComponentSignatureField}
 use Rattle.firmware.specs.declared.component.FirmwareComponent.{FirmwareComponent}
 use Rattle.firmware.specs.declared.apply.ApplyFirmware.{ApplyFirmware}
 use Rattle.text_writer.specs.Texts.{AllWellFormed}

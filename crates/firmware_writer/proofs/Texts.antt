@@ -15,14 +15,14 @@ use Rattle.field_writer.proofs.Runs.{message-length, joined-length}
 use Rattle.field_writer.proofs.Messages.{or-false}
 use Rattle.text_writer.specs.declared.TextFault.{TextFault}
 use Rattle.text_writer.specs.Texts.{orText, faultFrom}
-use Rattle.walk.specs.Schema.{firmwareVersionField, firmwareNameField, localeField, versionNameField, firmwareInformationField, restartRequiredField, firmwareComponentVersionField, firmwareComponentNameField, firmwareComponentSizeField, firmwareComponentSignatureField}
+use Rattle.known_fields.specs.Schema.{firmwareVersionField, firmwareNameField, localeField, versionNameField, firmwareInformationField, restartRequiredField, firmwareComponentVersionField, firmwareComponentNameField, firmwareComponentSizeField, firmwareComponentSignatureField}
 use Rattle.firmware.specs.declared.component.FirmwareComponent.{FirmwareComponent}
 use Rattle.firmware.specs.declared.information.FirmwareInformation.{FirmwareInformation}
 use Rattle.firmware_writer.specs.Component.{outside, badComponent, componentFields, componentField}
 use Rattle.firmware_writer.specs.Information.{badComponents, badFirmware, present, firmwareFields}
 use Rattle.firmware.specs.declared.apply.ApplyFirmware.{ApplyFirmware}
 use Rattle.firmware_writer.specs.Apply.{boolValue, applyFields}
-use Rattle.firmware_writer.proofs.Fields.{message-append, nested-length}
+use Rattle.field_writer.proofs.Rooms.{message-append, nested-length}
 
 -- the test in two steps, none of which passes 64 bits
 pub outside-rest : (n a b : ℕ) → a ≤ n → ltb (n - a) b ≡ ltb n (a + b)

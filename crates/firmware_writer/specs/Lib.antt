@@ -1,4 +1,3 @@
-pub mod Segment
 pub mod Component
 pub mod Information
 pub mod Apply

@@ -6,9 +6,9 @@ use lib.ListN.{length}
 use Rattle.field_writer.specs.Writer.{headBytes, messageBytes}
 use Rattle.field_writer.specs.declared.message.Room.the-variants.{Left}
 use Rattle.field_writer.specs.Message.{lessRoom}
-use Rattle.walk.specs.Schema.{componentsField}
+use Rattle.known_fields.specs.Schema.{componentsField}
 use Rattle.firmware_writer.specs.Component.{componentFields}
-use Rattle.firmware_writer.proofs.Fields.{room-rest, nested-short, nested-left}
+use Rattle.field_writer.proofs.Rooms.{room-rest, nested-short, nested-left}
 use borrow.Author.Needs.{needs}
 use Rattle.firmware_writer.proofs.component.component_field_room.Statement.{statement}
 use Rattle.firmware_writer.proofs.component.component_field_room.Tie as tie

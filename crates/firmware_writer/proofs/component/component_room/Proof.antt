@@ -3,9 +3,9 @@ use denote.Ref.{now}
 use Rattle.field.specs.Value.{bytesOf}
 use Rattle.field_writer.specs.Writer.{scalar, text}
 use Rattle.field_writer.specs.declared.message.Room.the-variants.{Left}
-use Rattle.walk.specs.Schema.{firmwareComponentVersionField, firmwareComponentNameField, firmwareComponentSizeField, firmwareComponentSignatureField}
+use Rattle.known_fields.specs.Schema.{firmwareComponentVersionField, firmwareComponentNameField, firmwareComponentSizeField, firmwareComponentSignatureField}
 use Rattle.firmware_writer.proofs.Texts.{component-fine}
-use Rattle.firmware_writer.proofs.Fields.{room-end, room-more}
+use Rattle.field_writer.proofs.Rooms.{room-end, room-more}
 use borrow.Author.Needs.{needs}
 use Rattle.firmware_writer.proofs.component.component_room.Statement.{statement}
 use Rattle.firmware_writer.proofs.component.component_room.Tie as tie

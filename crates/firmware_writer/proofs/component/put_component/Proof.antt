@@ -3,9 +3,9 @@ use denote.Ref.{now}
 use lib.ListN.{length}
 use Rattle.field_writer.specs.Writer.{headBytes, messageBytes}
 use Rattle.field_writer.proofs.Runs.{put-then}
-use Rattle.walk.specs.Schema.{componentsField}
+use Rattle.known_fields.specs.Schema.{componentsField}
 use Rattle.firmware_writer.specs.Component.{componentFields}
-use Rattle.firmware_writer.proofs.Fields.{nested-is, nested-length}
+use Rattle.field_writer.proofs.Rooms.{nested-is, nested-length}
 use borrow.Author.Needs.{needs}
 use Rattle.firmware_writer.proofs.component.put_component.Statement.{statement}
 use Rattle.firmware_writer.proofs.component.put_component.Tie as tie

@@ -3,10 +3,10 @@ use native.Mathlib.Omega.{arith}
 use denote.Ref.{now}
 use Rattle.field.specs.Value.{bytesOf}
 use Rattle.field_writer.specs.Writer.{scalar, text}
-use Rattle.walk.specs.Schema.{firmwareComponentVersionField, firmwareComponentNameField, firmwareComponentSizeField, firmwareComponentSignatureField}
+use Rattle.known_fields.specs.Schema.{firmwareComponentVersionField, firmwareComponentNameField, firmwareComponentSizeField, firmwareComponentSignatureField}
 use Rattle.firmware_writer.proofs.Texts.{component-fine, component-length}
 use Rattle.field_writer.proofs.Runs.{put-field}
-use Rattle.firmware_writer.proofs.Fields.{put-last}
+use Rattle.field_writer.proofs.Rooms.{put-last}
 use borrow.Author.Needs.{needs}
 use Rattle.firmware_writer.proofs.component.put_component_fields.Statement.{statement}
 use Rattle.firmware_writer.proofs.component.put_component_fields.Tie as tie
