@@ -23,7 +23,7 @@ use Rattle.firmware.specs.declared.information.FirmwareInformation.{FirmwareInf
 use Rattle.firmware.specs.declared.apply.ApplyFirmware.{ApplyFirmware}
 use Rattle.firmware.specs.Component.{noComponent}
 use Rattle.text_writer.specs.Texts.{AllWellFormed}
-use Rattle.firmware_writer.specs.Component.{outside, badComponent, componentField}
+use Rattle.component_writer.specs.Component.{outside, badComponent, componentField}
 use Rattle.firmware.specs.Information.{partsFrom, placed, componentsFrom, firmwareFrom}
 use Rattle.firmware_writer.specs.Information.{present, badComponents, badFirmware, componentsStrings, firmwareStrings, firmwareFields}
 use Rattle.firmware.specs.Apply.{isTrue, firmwareIn, applyOf}

@@ -3,7 +3,7 @@ use mathlib.Core.Path.{refl}
 use Rattle.firmware.specs.Segment.{isDigit, isSignature, brokenField, segmentOf}
 use Rattle.segment_writer.specs.Segment.{segmentFilled, segmentWritten}
 use Rattle.firmware.specs.Component.{componentFrom}
-use Rattle.firmware_writer.specs.Component.{outside, badComponent}
+use Rattle.component_writer.specs.Component.{outside, badComponent}
 use Rattle.firmware.specs.Information.{partsFrom, componentIn, componentsFrom, firmwareFrom}
 use Rattle.firmware_writer.specs.Information.{badFirmware}
 use Rattle.firmware.specs.Apply.{firmwareIn, applyOf}

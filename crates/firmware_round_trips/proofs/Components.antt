@@ -26,7 +26,7 @@ use Rattle.walk.specs.Gathered.{mostRepeated, AllText, nothing, withScalar, wit
 use Rattle.walk.specs.Walk.{judged, fieldAt, fieldsFrom}
 use Rattle.firmware.specs.declared.component.FirmwareComponent.{FirmwareComponent}
 use Rattle.firmware.specs.Component.{componentFrom, componentParts}
-use Rattle.firmware_writer.specs.Component.{componentFields, componentField}
+use Rattle.component_writer.specs.Component.{componentFields, componentField}
 use Rattle.firmware.specs.Information.{partsFrom, componentIn, componentsIn}
 use Rattle.firmware.proofs.Parts.{parts-turn}
 use Rattle.round_trips.proofs.Values.{At, front, behind, inside, tag-trip, number-trip, part-trip}

@@ -20,7 +20,7 @@ use Rattle.firmware.specs.declared.component.FirmwareComponent.{FirmwareCompone
 use Rattle.firmware.specs.Segment.{isDigit, allDigits, isSignature, brokenField, segmentOf}
 use Rattle.segment_writer.specs.Segment.{segmentFilled, segmentWritten}
 use Rattle.firmware.specs.Component.{componentFrom}
-use Rattle.firmware_writer.specs.Component.{outside, badComponent}
+use Rattle.component_writer.specs.Component.{outside, badComponent}
 use Rattle.firmware.specs.Information.{partsFrom, componentIn, componentsFrom, firmwareFrom}
 use Rattle.firmware_writer.specs.Information.{present, badFirmware}
 use Rattle.firmware.specs.Apply.{firmwareIn, applyOf}

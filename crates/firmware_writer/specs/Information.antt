@@ -11,7 +11,7 @@ use Rattle.known_fields.specs.Schema.{firmwareVersionField, firmwareNameField, 
 use Rattle.walk.specs.Gathered.{mostRepeated}
 use Rattle.firmware.specs.declared.component.FirmwareComponent.{FirmwareComponent}
 use Rattle.firmware.specs.declared.information.FirmwareInformation.{FirmwareInformation}
-use Rattle.firmware_writer.specs.Component.{outside, badComponent, componentStrings, componentField}
+use Rattle.component_writer.specs.Component.{outside, badComponent, componentStrings, componentField}
 
 -- ---- writing
 -- the components that are there

@@ -1,3 +1,2 @@
-pub mod Component
 pub mod Information
 pub mod Apply

@@ -1,12 +1,12 @@
 // FirmwareInformation written.
-use crate::component::bad_component;
-use crate::component::component_fault;
-use crate::component::component_field_room;
-use crate::component::is_outside;
-use crate::component::put_component;
-use crate::component::put_text_part;
-use crate::component::text_part_fault;
-use crate::component::text_part_len;
+use component_writer::bad_component;
+use component_writer::component_fault;
+use component_writer::component_field_room;
+use component_writer::is_outside;
+use component_writer::put_component;
+use component_writer::put_text_part;
+use component_writer::text_part_fault;
+use component_writer::text_part_len;
 use field_writer::fields::put_scalar;
 use field_writer::fields::scalar_len;
 use field_writer::message::Room;
@@ -29,7 +29,7 @@ ghost use Rattle.field_writer.specs.Put.{Put};
 ghost use Rattle.field_writer.specs.Writer.{messageBytes};
 ghost use Rattle.walk.specs.Gathered.{mostRepeated};
 ghost use Rattle.field_writer.specs.Message.{lessRoom};
-ghost use Rattle.firmware_writer.specs.Component.{componentField};
+ghost use Rattle.component_writer.specs.Component.{componentField};
 ghost use Rattle.firmware_writer.specs.Information.{badComponents, badFirmware, componentsStrings, firmwareStrings, firmwareFields};
 ghost use Rattle.text_writer.specs.Texts.{faultFrom, firstFault};
 

@@ -1,4 +1,3 @@
 // ApplyFirmware written, with its nested messages.
 pub mod apply;
-pub mod component;
 pub mod information;

@@ -4,10 +4,10 @@ use native.Mathlib.Omega.{arith}
 use lib.ListN.{length}
 use borrow.Author.Tests.{lt-ltb}
 use denote.Ref.{now}
-use Rattle.firmware_writer.specs.Component.{outside}
-use Rattle.firmware_writer.proofs.Texts.{outside-rest}
-use Rattle.firmware_writer.proofs.component.is_outside.Statement.{statement}
-use Rattle.firmware_writer.proofs.component.is_outside.Tie as tie
+use Rattle.component_writer.specs.Component.{outside}
+use Rattle.component_writer.proofs.Inside.{outside-rest}
+use Rattle.component_writer.proofs.is_outside.Statement.{statement}
+use Rattle.component_writer.proofs.is_outside.Tie as tie
 
 returns : tie.Need-returns
 unfolding outside

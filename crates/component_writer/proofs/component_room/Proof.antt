@@ -4,11 +4,11 @@ use Rattle.field.specs.Value.{bytesOf}
 use Rattle.field_writer.specs.Writer.{scalar, text}
 use Rattle.field_writer.specs.declared.message.Room.the-variants.{Left}
 use Rattle.known_fields.specs.Schema.{firmwareComponentVersionField, firmwareComponentNameField, firmwareComponentSizeField, firmwareComponentSignatureField}
-use Rattle.firmware_writer.proofs.Texts.{component-fine}
+use Rattle.component_writer.proofs.Inside.{component-fine}
 use Rattle.field_writer.proofs.Rooms.{room-end, room-more}
 use borrow.Author.Needs.{needs}
-use Rattle.firmware_writer.proofs.component.component_room.Statement.{statement}
-use Rattle.firmware_writer.proofs.component.component_room.Tie as tie
+use Rattle.component_writer.proofs.component_room.Statement.{statement}
+use Rattle.component_writer.proofs.component_room.Tie as tie
 
 cast-scalar-len : tie.Need-cast-scalar-len
 cast-scalar-len c = search needs

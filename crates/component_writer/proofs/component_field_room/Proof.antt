@@ -7,11 +7,11 @@ use Rattle.field_writer.specs.Writer.{headBytes, messageBytes}
 use Rattle.field_writer.specs.declared.message.Room.the-variants.{Left}
 use Rattle.field_writer.specs.Message.{lessRoom}
 use Rattle.known_fields.specs.Schema.{componentsField}
-use Rattle.firmware_writer.specs.Component.{componentFields}
+use Rattle.component_writer.specs.Component.{componentFields}
 use Rattle.field_writer.proofs.Rooms.{room-rest, nested-short, nested-left}
 use borrow.Author.Needs.{needs}
-use Rattle.firmware_writer.proofs.component.component_field_room.Statement.{statement}
-use Rattle.firmware_writer.proofs.component.component_field_room.Tie as tie
+use Rattle.component_writer.proofs.component_field_room.Statement.{statement}
+use Rattle.component_writer.proofs.component_field_room.Tie as tie
 
 -- what a component leaves of the room
 left-over : (c : tie.After-known-told2) → lessRoom (length (messageBytes (componentFields (now (c .before .before .before .before .before .before .before .before .args .texts)) (c .before .before .before .before .before .before .before .before .args .component)))) (Left (c .before .before .before .before .before .room .given .0 .0)) ≡ Left (c .before .rest .given .0 .0)

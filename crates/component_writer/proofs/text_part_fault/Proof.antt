@@ -3,10 +3,10 @@ use native.Mathlib.Omega.{arith}
 use denote.Ref.{now}
 use Rattle.text_writer.specs.Texts.{orText}
 use Rattle.walk.proofs.Strings.{part-taken}
-use Rattle.firmware_writer.proofs.Texts.{lies-inside}
+use Rattle.component_writer.proofs.Inside.{lies-inside}
 use borrow.Author.Needs.{needs}
-use Rattle.firmware_writer.proofs.component.text_part_fault.Statement.{statement}
-use Rattle.firmware_writer.proofs.component.text_part_fault.Tie as tie
+use Rattle.component_writer.proofs.text_part_fault.Statement.{statement}
+use Rattle.component_writer.proofs.text_part_fault.Tie as tie
 
 add-end : tie.Need-add-end
 add-end c = let a = c .before .before .args in omega (arith, lies-inside (now (a .texts)) (a .part) (c .before .before .pre))

@@ -1,7 +1,7 @@
-use Rattle.firmware_writer.specs.Component.{badComponent}
+use Rattle.component_writer.specs.Component.{badComponent}
 use borrow.Author.Needs.{needs}
-use Rattle.firmware_writer.proofs.component.bad_component.Statement.{statement}
-use Rattle.firmware_writer.proofs.component.bad_component.Tie as tie
+use Rattle.component_writer.proofs.bad_component.Statement.{statement}
+use Rattle.component_writer.proofs.bad_component.Tie as tie
 
 is-outside-requires : tie.Need-is-outside-requires
 is-outside-requires c κs = search needs

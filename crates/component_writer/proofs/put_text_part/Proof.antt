@@ -1,10 +1,10 @@
 use native.Mathlib.Omega.{arith}
 use denote.Ref.{now}
 use Rattle.walk.proofs.Strings.{part-taken}
-use Rattle.firmware_writer.proofs.Texts.{lies-inside}
+use Rattle.component_writer.proofs.Inside.{lies-inside}
 use borrow.Author.Needs.{needs}
-use Rattle.firmware_writer.proofs.component.put_text_part.Statement.{statement}
-use Rattle.firmware_writer.proofs.component.put_text_part.Tie as tie
+use Rattle.component_writer.proofs.put_text_part.Statement.{statement}
+use Rattle.component_writer.proofs.put_text_part.Tie as tie
 
 add-end : tie.Need-add-end
 add-end c = let a = c .before .before .before .args in omega (arith, lies-inside (now (a .texts)) (a .part) (c .before .before .before .pre .1))

@@ -4,12 +4,12 @@ use denote.Ref.{now}
 use Rattle.field.specs.Value.{bytesOf}
 use Rattle.field_writer.specs.Writer.{scalar, text}
 use Rattle.known_fields.specs.Schema.{firmwareComponentVersionField, firmwareComponentNameField, firmwareComponentSizeField, firmwareComponentSignatureField}
-use Rattle.firmware_writer.proofs.Texts.{component-fine, component-length}
+use Rattle.component_writer.proofs.Inside.{component-fine, component-length}
 use Rattle.field_writer.proofs.Runs.{put-field}
 use Rattle.field_writer.proofs.Rooms.{put-last}
 use borrow.Author.Needs.{needs}
-use Rattle.firmware_writer.proofs.component.put_component_fields.Statement.{statement}
-use Rattle.firmware_writer.proofs.component.put_component_fields.Tie as tie
+use Rattle.component_writer.proofs.put_component_fields.Statement.{statement}
+use Rattle.component_writer.proofs.put_component_fields.Tie as tie
 
 cast-put-scalar : tie.Need-cast-put-scalar
 cast-put-scalar c = search needs

@@ -1,9 +1,9 @@
 use native.Mathlib.Omega.{arith}
 use denote.Ref.{now}
-use Rattle.firmware_writer.proofs.Texts.{component-fine, component-length}
+use Rattle.component_writer.proofs.Inside.{component-fine, component-length}
 use borrow.Author.Needs.{needs}
-use Rattle.firmware_writer.proofs.component.component_len.Statement.{statement}
-use Rattle.firmware_writer.proofs.component.component_len.Tie as tie
+use Rattle.component_writer.proofs.component_len.Statement.{statement}
+use Rattle.component_writer.proofs.component_len.Tie as tie
 
 cast-scalar-len : tie.Need-cast-scalar-len
 cast-scalar-len c = search needs

@@ -4,11 +4,11 @@ use lib.ListN.{length}
 use Rattle.field_writer.specs.Writer.{headBytes, messageBytes}
 use Rattle.field_writer.proofs.Runs.{put-then}
 use Rattle.known_fields.specs.Schema.{componentsField}
-use Rattle.firmware_writer.specs.Component.{componentFields}
+use Rattle.component_writer.specs.Component.{componentFields}
 use Rattle.field_writer.proofs.Rooms.{nested-is, nested-length}
 use borrow.Author.Needs.{needs}
-use Rattle.firmware_writer.proofs.component.put_component.Statement.{statement}
-use Rattle.firmware_writer.proofs.component.put_component.Tie as tie
+use Rattle.component_writer.proofs.put_component.Statement.{statement}
+use Rattle.component_writer.proofs.put_component.Tie as tie
 
 component-len-requires : tie.Need-component-len-requires
 component-len-requires c κs =

@@ -4,10 +4,10 @@ use denote.Ref.{now}
 use lib.ListN.{length}
 use Rattle.field_writer.specs.Writer.{text, fieldBytes}
 use Rattle.walk.proofs.Strings.{part-taken}
-use Rattle.firmware_writer.proofs.Texts.{lies-inside}
+use Rattle.component_writer.proofs.Inside.{lies-inside}
 use borrow.Author.Needs.{needs}
-use Rattle.firmware_writer.proofs.component.text_part_len.Statement.{statement}
-use Rattle.firmware_writer.proofs.component.text_part_len.Tie as tie
+use Rattle.component_writer.proofs.text_part_len.Statement.{statement}
+use Rattle.component_writer.proofs.text_part_len.Tie as tie
 
 add-end : tie.Need-add-end
 add-end c = let a = c .before .before .args in omega (arith, lies-inside (now (a .texts)) (a .part) (c .before .before .pre .1))

@@ -23,11 +23,11 @@ ghost use Rattle.field.specs.Tag.{lastField};
 ghost use Rattle.field.specs.Value.{bytesOf};
 ghost use Rattle.field_writer.specs.Writer.{text, fieldBytes, messageBytes};
 ghost use Rattle.field_writer.specs.Message.{lessRoom};
-ghost use Rattle.firmware_writer.specs.Component.{outside, badComponent, componentStrings, componentFields, componentField};
+ghost use Rattle.component_writer.specs.Component.{outside, badComponent, componentStrings, componentFields, componentField};
 ghost use Rattle.text_writer.specs.Texts.{orText, faultFrom};
 
 // Whether a part does not lie within the texts.
-pub(crate) fn is_outside(texts: &[u8], part: Part) -> bool
+pub fn is_outside(texts: &[u8], part: Part) -> bool
     ensures { λ r. ⌜ r ≡ outside (now (texts .entry)) part ⌝ }
 {
     let size = texts.len();
@@ -38,7 +38,7 @@ pub(crate) fn is_outside(texts: &[u8], part: Part) -> bool
 }
 
 // Whether a part of a component does not lie within the texts.
-pub(crate) fn bad_component(texts: &[u8], component: FirmwareComponent) -> bool
+pub fn bad_component(texts: &[u8], component: FirmwareComponent) -> bool
     ensures { λ r. ⌜ r ≡ badComponent (now (texts .entry)) component ⌝ }
 {
     let name = component.name;
@@ -47,7 +47,7 @@ pub(crate) fn bad_component(texts: &[u8], component: FirmwareComponent) -> bool
 }
 
 // The number of bytes of a string that is a part of the texts.
-pub(crate) fn text_part_len(texts: &[u8], field: u64, part: Part) -> usize
+pub fn text_part_len(texts: &[u8], field: u64, part: Part) -> usize
     requires { ⌜ (field ≤ lastField) × (outside (now texts) part ≡ false) ⌝ }
     ensures { λ r. ⌜ r ≡ length (fieldBytes (text field (bytesOf (now (texts .entry)) part))) ⌝ }
 {
@@ -57,13 +57,7 @@ pub(crate) fn text_part_len(texts: &[u8], field: u64, part: Part) -> usize
 }
 
 // A string that is a part of the texts, written at a place; the answer is the place after it.
-pub(crate) fn put_text_part(
-    out: &mut [u8],
-    at: usize,
-    texts: &[u8],
-    field: u64,
-    part: Part,
-) -> usize
+pub fn put_text_part(out: &mut [u8], at: usize, texts: &[u8], field: u64, part: Part) -> usize
     requires { ⌜ (field ≤ lastField)
         × (outside (now texts) part ≡ false)
         × (at + length (fieldBytes (text field (bytesOf (now texts) part))) ≤ length (now out)) ⌝ }
@@ -76,7 +70,7 @@ pub(crate) fn put_text_part(
 }
 
 // A string that is a part of the texts is judged, unless a fault was found before.
-pub(crate) fn text_part_fault(fault: TextFault, texts: &[u8], field: u64, part: Part) -> TextFault
+pub fn text_part_fault(fault: TextFault, texts: &[u8], field: u64, part: Part) -> TextFault
     requires { ⌜ outside (now texts) part ≡ false ⌝ }
     ensures { λ r. ⌜ r ≡ orText field (bytesOf (now (texts .entry)) part) fault ⌝ }
 {
@@ -86,11 +80,7 @@ pub(crate) fn text_part_fault(fault: TextFault, texts: &[u8], field: u64, part: 
 }
 
 // A component's strings are judged, unless a fault was found before.
-pub(crate) fn component_fault(
-    fault: TextFault,
-    texts: &[u8],
-    component: FirmwareComponent,
-) -> TextFault
+pub fn component_fault(fault: TextFault, texts: &[u8], component: FirmwareComponent) -> TextFault
     requires { ⌜ badComponent (now texts) component ≡ false ⌝ }
     ensures { λ r. ⌜ r ≡ faultFrom fault (componentStrings (now (texts .entry)) component) ⌝ }
 {
@@ -116,7 +106,7 @@ fn component_room(len: usize, texts: &[u8], component: FirmwareComponent) -> Roo
 }
 
 // The room that a component leaves as a field of firmware information.
-pub(crate) fn component_field_room(room: Room, texts: &[u8], component: FirmwareComponent) -> Room
+pub fn component_field_room(room: Room, texts: &[u8], component: FirmwareComponent) -> Room
     requires { ⌜ badComponent (now texts) component ≡ false ⌝ }
     ensures { λ r. ⌜ r ≡ lessRoom (length (fieldBytes (componentField (now (texts .entry)) component))) room ⌝ }
 {
@@ -173,12 +163,7 @@ fn put_component_fields(
 }
 
 // A component as a field of firmware information, written at a place; the answer is the place after it.
-pub(crate) fn put_component(
-    out: &mut [u8],
-    at: usize,
-    texts: &[u8],
-    component: FirmwareComponent,
-) -> usize
+pub fn put_component(out: &mut [u8], at: usize, texts: &[u8], component: FirmwareComponent) -> usize
     requires { ⌜ (badComponent (now texts) component ≡ false)
         × (at + length (fieldBytes (componentField (now texts) component)) ≤ length (now out)) ⌝ }
     ensures { λ r. ⌜ Put (now (out .entry)) at (fieldBytes (componentField (now (texts .entry)) component)) r

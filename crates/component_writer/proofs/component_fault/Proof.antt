@@ -1,7 +1,7 @@
 use denote.Ref.{now}
-use Rattle.firmware_writer.proofs.Texts.{component-fine}
-use Rattle.firmware_writer.proofs.component.component_fault.Statement.{statement}
-use Rattle.firmware_writer.proofs.component.component_fault.Tie as tie
+use Rattle.component_writer.proofs.Inside.{component-fine}
+use Rattle.component_writer.proofs.component_fault.Statement.{statement}
+use Rattle.component_writer.proofs.component_fault.Tie as tie
 
 text-part-fault-requires : tie.Need-text-part-fault-requires
 text-part-fault-requires c κs = component-fine (now (c .before .before .before .args .texts)) (c .before .before .before .args .component) (c .before .before .before .pre) .0
