@@ -8,7 +8,7 @@ use Rattle.wire.specs.Told.{refused, written, WrittenOf}
 use Rattle.field.specs.Unsigned.{unsignedOf}
 use Rattle.walk.specs.Refusal.{numberMore}
 use Rattle.firmware.specs.Segment.{segmentOf}
-use Rattle.firmware_writer.specs.Segment.{segmentWritten}
+use Rattle.segment_writer.specs.Segment.{segmentWritten}
 use Rattle.firmware.specs.Apply.{applyOf}
 use Rattle.firmware_writer.specs.Apply.{applyWritten}
 use Rattle.rows.specs.Row.{numberTold}

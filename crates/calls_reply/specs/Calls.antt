@@ -5,7 +5,7 @@ use Rattle.wire.specs.Told.{WrittenOf}
 use Rattle.walk.specs.Refusal.{numberMore}
 use Rattle.device.specs.declared.features.DeviceFeatures.{DeviceFeatures}
 use Rattle.reply.specs.declared.Link.{Link}
-use Rattle.reply.specs.declared.body.Members.{Members}
+use Rattle.reply_parts.specs.declared.body.Members.{Members}
 use Rattle.reply.specs.Reply.{boxOf, Replied, repliedOf}
 use Rattle.rows.specs.Called.{Called, answers}
 use Rattle.calls_reply.specs.Convert.{transportsFor, replyRow}

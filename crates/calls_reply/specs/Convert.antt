@@ -10,7 +10,7 @@ use Rattle.field.specs.Signed.{signedOf}
 use Rattle.walk.specs.Gathered.{mostTransports}
 use Rattle.device.specs.declared.features.DeviceFeatures.{DeviceFeatures}
 use Rattle.reply.specs.declared.Link.{Link}
-use Rattle.reply.specs.declared.body.Members.{Members}
+use Rattle.reply_parts.specs.declared.body.Members.{Members}
 use Rattle.reply.specs.Reply.{Replied, silent, sent}
 use Rattle.rows.specs.Row.{byteOr, outOfRange}
 use Rattle.rows_messages.specs.Convert.{allSigned, faultOf}

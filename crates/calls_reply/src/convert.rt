@@ -3,7 +3,7 @@ use device::features::DeviceFeatures;
 use reply::Link;
 use reply::Refusal;
 use reply::Reply;
-use reply::body::Members;
+use reply_parts::body::Members;
 use rows::row::DONE;
 use rows::row::OUT_OF_RANGE;
 use rows::row::byte_or;

@@ -12,14 +12,15 @@ use Rattle.field.specs.Tag.{varintType, lengthType}
 use Rattle.field.specs.Unsigned.{unsignedOf}
 use Rattle.field_writer.specs.Writer.{scalar, text, nested, tagBytes, fieldBytes, messageBytes}
 use Rattle.field_writer.proofs.Runs.{message-length}
-use Rattle.walk.specs.Schema.{firmwareInformationField, restartRequiredField, firmwareVersionField, firmwareNameField, componentsField, localeField, versionNameField, firmwareComponentVersionField, firmwareComponentNameField, firmwareComponentSizeField, firmwareComponentSignatureField}
+use Rattle.known_fields.specs.Schema.{firmwareInformationField, restartRequiredField, firmwareVersionField, firmwareNameField, componentsField, localeField, versionNameField, firmwareComponentVersionField, firmwareComponentNameField, firmwareComponentSizeField, firmwareComponentSignatureField}
 use Rattle.firmware.specs.declared.component.FirmwareComponent.{FirmwareComponent}
 use Rattle.firmware.specs.declared.apply.ApplyFirmware.{ApplyFirmware}
 use Rattle.text_writer.specs.Texts.{AllWellFormed}
-use Rattle.firmware_writer.specs.Component.{outside, badComponent, componentFields, componentField}
+use Rattle.component_writer.specs.Component.{outside, badComponent, componentFields, componentField}
 use Rattle.firmware_writer.specs.Information.{badComponents, badFirmware, present, componentsStrings, firmwareStrings, firmwareFields}
 use Rattle.firmware_writer.specs.Apply.{boolValue, applyFields}
-use Rattle.firmware_writer.proofs.Texts.{component-length, firmware-length}
+use Rattle.component_writer.proofs.Inside.{component-length}
+use Rattle.firmware_writer.proofs.Texts.{firmware-length}
 use Rattle.firmware_round_trips.specs.RoundTrip.{Unsigned32}
 use Rattle.rows_firmware.specs.More.{isWide}
 use Rattle.rows_firmware.specs.Apply.{componentAt, componentsAt, applyAt, wideAt, anyWide, badRow}

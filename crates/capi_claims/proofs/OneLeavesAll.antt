@@ -47,7 +47,7 @@ use Rattle.device.specs.Features.{featuresFields, featuresWritten}
 use Rattle.field.specs.Unsigned.{unsignedOf}
 use Rattle.firmware.specs.declared.apply.ApplyFirmware.{ApplyFirmware}
 use Rattle.firmware.specs.Segment.{brokenField}
-use Rattle.firmware_writer.specs.Segment.{segmentStrings, segmentFields, segmentFilled, segmentWritten}
+use Rattle.segment_writer.specs.Segment.{segmentStrings, segmentFields, segmentFilled, segmentWritten}
 use Rattle.firmware_writer.specs.Information.{badFirmware, firmwareStrings}
 use Rattle.firmware_writer.specs.Apply.{applyFields, applyWritten}
 use Rattle.outbox.specs.declared.format.Format.{Format}
@@ -74,7 +74,7 @@ use Rattle.calls_receiving.specs.Calls.{replied, accepted, rowsFit, receiverOpe
 use Rattle.calls_receiving.specs.Calls as receiving
 use Rattle.calls_messages.specs.Calls.{envelopeReadOf, envelopeWriteOf, responseReadOf, responseWriteOf, informationReadOf, informationWriteOf, featuresReadOf, featuresWriteOf}
 use Rattle.reply.specs.declared.Link.{Link}
-use Rattle.reply.specs.declared.body.Members.{Members}
+use Rattle.reply_parts.specs.declared.body.Members.{Members}
 use Rattle.reply.specs.Reply.{boxOf, repliedOf}
 use Rattle.calls_reply.specs.Convert.{transportsFor, replyRow}
 use Rattle.calls_reply.specs.Calls.{replyWriteOf}

@@ -24,7 +24,8 @@ use Rattle.control.specs.declared.envelope.Envelope.{Envelope}
 use Rattle.joining.specs.Joined.{joinedOf, sizes}
 use Rattle.joining.proofs.Pieces.{joined-long}
 use Rattle.reply.specs.declared.Link.{Link}
-use Rattle.reply.specs.Reply.{Box, sendingOf, kindOfCommand, replyOf, linkLines, stringsOf, Replied, silent, sent, refusing, faulted, joinedIn, carriedOf, sentOf, isResponse, repliedBy}
+use Rattle.reply_parts.specs.Body.{kindOfCommand}
+use Rattle.reply.specs.Reply.{Box, sendingOf, replyOf, linkLines, stringsOf, Replied, silent, sent, refusing, faulted, joinedIn, carriedOf, sentOf, isResponse, repliedBy}
 
 -- ---- under 1, which no reply tells, the output stays
 

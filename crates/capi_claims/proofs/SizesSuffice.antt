@@ -36,7 +36,7 @@ use Rattle.control.specs.declared.response.ResponsePayload.{ResponsePayload}
 use Rattle.control.specs.declared.response.ResponsePayload.the-variants as within
 use Rattle.device.specs.declared.features.DeviceFeatures.{DeviceFeatures}
 use Rattle.walk.specs.Gathered.{mostTransports}
-use Rattle.walk.specs.Schema.{commandField, responseField, errorCodeField, serialNumberField, nameField, transportsField, deviceTypeField, featuresField, deviceAttributesField, componentNameField, segmentSizeField, segmentSignatureField}
+use Rattle.known_fields.specs.Schema.{commandField, responseField, errorCodeField, serialNumberField, nameField, transportsField, deviceTypeField, featuresField, deviceAttributesField, componentNameField, segmentSizeField, segmentSignatureField}
 use Rattle.field_writer.specs.Message.{writesMessage, badMember}
 use Rattle.field_writer.proofs.Messages.{wrote}
 use Rattle.text.specs.WellFormed.{WellFormed}
@@ -48,10 +48,10 @@ use Rattle.control.specs.Response.{badResponsePayload, responseFields, response
 use Rattle.device.specs.Information.{informationStrings, informationFields, informationWritten}
 use Rattle.device.specs.Features.{featuresFields, featuresWritten}
 use Rattle.firmware.specs.Segment.{brokenField}
-use Rattle.firmware_writer.specs.Segment.{segmentStrings, segmentFields, segmentFilled, segmentWritten}
+use Rattle.segment_writer.specs.Segment.{segmentStrings, segmentFields, segmentFilled, segmentWritten}
 use Rattle.firmware_writer.specs.Information.{badFirmware, firmwareStrings}
 use Rattle.firmware_writer.specs.Apply.{applyFields, applyWritten}
-use Rattle.firmware_writer.proofs.Segments.{segment-length, segment-clean}
+use Rattle.segment_writer.proofs.Segments.{segment-length, segment-clean}
 use Rattle.firmware_round_trips.specs.RoundTrip.{Unsigned32}
 use Rattle.firmware_round_trips.specs.Premises.{Digits}
 use Rattle.firmware_round_trips.proofs.Premises.{signature, digits-well}
@@ -77,11 +77,12 @@ use Rattle.calls_messages.specs.Calls.{envelopeWriteOf, responseWriteOf, inform
 use Rattle.walk.specs.Refusal.{numberMore}
 use Rattle.joining.specs.Joined.{joinedOf}
 use Rattle.reply.specs.declared.Link.{Link}
-use Rattle.reply.specs.declared.body.Members.{Members}
-use Rattle.reply.specs.declared.body.CommandKind.{CommandKind}
-use Rattle.reply.specs.declared.body.CommandKind.the-variants.{Information, Features, Bare, Other}
+use Rattle.reply_parts.specs.declared.body.Members.{Members}
+use Rattle.reply_parts.specs.declared.body.CommandKind.{CommandKind}
+use Rattle.reply_parts.specs.declared.body.CommandKind.the-variants.{Information, Features, Bare, Other}
 use Rattle.reply.specs.Reply as reply
-use Rattle.reply.specs.Reply.{Box, boxOf, codeOf, memberOf, bodyBy, replyBy, replyOf, badCarried, stringsBy, Replied, silent, joinedIn, carriedOf, sentOf, isResponse, repliedOf}
+use Rattle.reply_parts.specs.Body.{kindOfCommand, codeOf, bodyBy, stringsBy}
+use Rattle.reply.specs.Reply.{Box, boxOf, memberOf, replyBy, replyOf, badCarried, Replied, silent, joinedIn, carriedOf, sentOf, isResponse, repliedOf}
 use Rattle.calls_reply.specs.Convert.{linkOf, fewSigned, transportsFor}
 use Rattle.calls_reply.specs.Calls.{replyWriteOf}
 use Rattle.rows_firmware.specs.Apply.{applyAt}
@@ -362,14 +363,14 @@ module _ (b : Box) (l : Link) (v : ℕ) (out : List ℕ) where
   unfolding joinedIn
   joined-done space = rw (le-ltb (length out) (length (joinedOf (reply.sendingOf l) (replyOf b v))) space)
 
-  carried-done : length (replyOf b v) ≤ l .limit → AllWellFormed (reply.stringsOf b (reply.kindOfCommand v))
-      → length (joinedOf (reply.sendingOf l) (replyOf b v)) ≤ length out → numberMore (carriedOf b l v (reply.kindOfCommand v) out .told) ≡ 0
+  carried-done : length (replyOf b v) ≤ l .limit → AllWellFormed (reply.stringsOf b (kindOfCommand v))
+      → length (joinedOf (reply.sendingOf l) (replyOf b v)) ≤ length out → numberMore (carriedOf b l v (kindOfCommand v) out .told) ≡ 0
   unfolding carriedOf
   carried-done within strings space =
-      rw (le-ltb (l .limit) (length (replyOf b v)) within, well-faultless (reply.stringsOf b (reply.kindOfCommand v)) strings) (joined-done space)
+      rw (le-ltb (l .limit) (length (replyOf b v)) within, well-faultless (reply.stringsOf b (kindOfCommand v)) strings) (joined-done space)
 
   sent-done : roomFits (l .room) ≡ true → limitFits (l .limit) ≡ true → inRange 0 (l .id) (l .sequence) ≡ true
-      → badCarried (b .members) (length (b .transports)) (reply.kindOfCommand v) ≡ false → length (replyOf b v) ≤ l .limit → AllWellFormed (reply.stringsOf b (reply.kindOfCommand v))
+      → badCarried (b .members) (length (b .transports)) (kindOfCommand v) ≡ false → length (replyOf b v) ≤ l .limit → AllWellFormed (reply.stringsOf b (kindOfCommand v))
       → length (joinedOf (reply.sendingOf l) (replyOf b v)) ≤ length out → numberMore (sentOf b l v out .told) ≡ 0
   unfolding sentOf
   sent-done room limit range carried within strings space = rw (room, limit, range, carried) (carried-done within strings space)
@@ -400,7 +401,7 @@ reply-done message serialNumber name deviceType transports features members room
     let b : Box = boxOf serialNumber name listed deviceType features members in
     let k : Link = record { room = room; limit = limit; id = id; sequence = sequence } in
     let v = extended (e .command) in
-    let kind = reply.kindOfCommand v in
+    let kind = kindOfCommand v in
     let fewer : length listed ≤ mostTransports = few-transports transports n few in
     let body = body-most serialNumber name listed deviceType features kind fewer in
     let whole = reply-most v kind members (reply.bodyOf b kind) in

@@ -11,8 +11,8 @@ use Rattle.wire.specs.Told.{ToldMore, given, refused, andThen}
 use Rattle.field.proofs.Told.{Sat, sat-then}
 use Rattle.text.specs.WellFormed.{empty}
 use Rattle.walk.specs.declared.gathered.Gathered.{Gathered}
-use Rattle.walk.specs.declared.schema.Schema.the-variants as Schema
-use Rattle.walk.specs.Schema.{first, second, third}
+use Rattle.known_fields.specs.declared.Schema.the-variants as Schema
+use Rattle.known_fields.specs.Schema.{first, second, third}
 use Rattle.walk.specs.Refusal.{Strings, TellsStrings, numberMore}
 use Rattle.walk.specs.Walk.{fieldsFrom}
 use Rattle.walk.proofs.Strings.{text-get}

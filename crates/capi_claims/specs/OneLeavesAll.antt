@@ -8,7 +8,7 @@ use Rattle.slot.specs.declared.Slot.{Slot}
 use Rattle.control.specs.declared.envelope.EnvelopePayload.{EnvelopePayload}
 use Rattle.device.specs.declared.features.DeviceFeatures.{DeviceFeatures}
 use Rattle.reply.specs.declared.Link.{Link}
-use Rattle.reply.specs.declared.body.Members.{Members}
+use Rattle.reply_parts.specs.declared.body.Members.{Members}
 use Rattle.rows.specs.Called.{Called, called}
 use Rattle.calls_classic.specs.Calls.{noneUsed, extractorOpenOf, extractorStepOf, extractorFeedOf, frameWriteOf, nextSequenceOf}
 use Rattle.calls_parts.specs.Calls.{frameBeginOf, framePartOf}

@@ -17,7 +17,7 @@ use Rattle.text.specs.WellFormed.{WellFormed}
 use Rattle.control.specs.declared.envelope.Envelope.{Envelope}
 use Rattle.control.specs.Envelope.{envelopeOf}
 use Rattle.device.specs.declared.features.DeviceFeatures.{DeviceFeatures}
-use Rattle.reply.specs.declared.body.Members.{Members}
+use Rattle.reply_parts.specs.declared.body.Members.{Members}
 use Rattle.outbox.specs.declared.format.Format.{Format}
 use Rattle.outbox.specs.Format.{Known, formatOf, headSize}
 use Rattle.outbox.specs.Reader.{given, walkOf}

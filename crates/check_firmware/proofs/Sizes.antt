@@ -16,9 +16,9 @@ use Rattle.text_writer.specs.declared.TextWrote.{TextWrote}
 use Rattle.text_writer.specs.Texts.{firstFault, faulted, toldTextWrote, textWroteSize}
 use Rattle.firmware.specs.declared.apply.ApplyFirmware.{ApplyFirmware}
 use Rattle.firmware.specs.Segment.{brokenField}
-use Rattle.firmware_writer.specs.declared.segment.SegmentWrote.{SegmentWrote}
-use Rattle.firmware_writer.specs.declared.segment.SegmentWrote.the-variants.{Done, BadText, Profile, NoRoom}
-use Rattle.firmware_writer.specs.Segment.{segmentStrings, segmentFields, segmentFilled, segmentWritten, toldSegmentWrote, segmentWroteSize}
+use Rattle.segment_writer.specs.declared.SegmentWrote.{SegmentWrote}
+use Rattle.segment_writer.specs.declared.SegmentWrote.the-variants.{Done, BadText, Profile, NoRoom}
+use Rattle.segment_writer.specs.Segment.{segmentStrings, segmentFields, segmentFilled, segmentWritten, toldSegmentWrote, segmentWroteSize}
 use Rattle.firmware_writer.specs.Information.{badFirmware, firmwareStrings}
 use Rattle.firmware_writer.specs.Apply.{applyFields, applyWritten}
 use Rattle.answering.proofs.Sizes.{text-size}

@@ -12,13 +12,13 @@ use firmware::apply::read_apply;
 use firmware::segment::SegmentRead;
 use firmware::segment::read_segment;
 use firmware_writer::apply::write_apply;
-use firmware_writer::segment::SegmentWrote;
-use firmware_writer::segment::write_segment;
 use libc::STDIN_FILENO;
+use segment_writer::SegmentWrote;
+use segment_writer::write_segment;
 use walk::refusal::WalkVerdict;
 ghost use Prim.Native.Nat.{_≤_};
 ghost use lib.ListN.{length};
-ghost use Rattle.firmware_writer.specs.Segment.{segmentWroteSize};
+ghost use Rattle.segment_writer.specs.Segment.{segmentWroteSize};
 
 const SEGMENT: u8 = b'S';
 

@@ -10,7 +10,7 @@ use Rattle.field.specs.Signed.{signedOf, extended}
 use Rattle.field_writer.specs.Writer.{Field, scalar, nested, messageBytes}
 use Rattle.field.specs.declared.value.Part.{Part}
 use Rattle.walk.specs.declared.gathered.Gathered.{Gathered}
-use Rattle.walk.specs.declared.schema.Schema.the-variants as Schema
+use Rattle.known_fields.specs.declared.Schema.the-variants as Schema
 use Rattle.control.specs.declared.envelope.Envelope.{Envelope}
 use Rattle.control.specs.declared.envelope.Payload.{Payload}
 use Rattle.control.specs.declared.envelope.Payload.the-variants as Payload
@@ -20,7 +20,7 @@ use Rattle.control.specs.declared.envelope.EnvelopeRead.{EnvelopeRead}
 use Rattle.control.specs.declared.envelope.EnvelopeRead.the-variants as EnvelopeRead
 use Rattle.control.specs.declared.envelope.EnvelopePayload.{EnvelopePayload}
 use Rattle.control.specs.declared.envelope.EnvelopePayload.the-variants as Sent
-use Rattle.walk.specs.Schema.{commandField, responseField, first}
+use Rattle.known_fields.specs.Schema.{commandField, responseField, first}
 use Rattle.walk.specs.Refusal.{messageNumber, numbered}
 use Rattle.walk.specs.Walk.{fieldsFrom}
 use Rattle.field_writer.specs.Message.{writesMessage, badMember}

@@ -9,13 +9,13 @@ use Rattle.field.specs.Signed.{signedOf, extended}
 use Rattle.field_writer.specs.Writer.{Field, scalar, nested}
 use Rattle.field.specs.declared.value.Part.{Part}
 use Rattle.walk.specs.declared.gathered.Gathered.{Gathered}
-use Rattle.walk.specs.declared.schema.Schema.the-variants as Schema
+use Rattle.known_fields.specs.declared.Schema.the-variants as Schema
 use Rattle.control.specs.declared.response.Response.{Response}
 use Rattle.control.specs.declared.response.ResponseRead.{ResponseRead}
 use Rattle.control.specs.declared.response.ResponseRead.the-variants.{Read, Refused}
 use Rattle.control.specs.declared.response.ResponsePayload.{ResponsePayload}
 use Rattle.control.specs.declared.response.ResponsePayload.the-variants.{None, Member}
-use Rattle.walk.specs.Schema.{errorCodeField, first}
+use Rattle.known_fields.specs.Schema.{errorCodeField, first}
 use Rattle.walk.specs.Refusal.{messageNumber, numbered}
 use Rattle.walk.specs.Walk.{fieldsFrom}
 use Rattle.field_writer.specs.Message.{writesMessage, badMember}

@@ -12,7 +12,7 @@ use Rattle.field_writer.proofs.Runs.{put-end, put-field, message-length}
 use Rattle.field_writer.proofs.Messages.{less-less}
 use Rattle.field_writer.specs.declared.message.Room.{Room}
 use Rattle.field_writer.specs.declared.message.Room.the-variants.{Left}
-use Rattle.walk.specs.Schema.{serialNumberField, nameField, transportsField, deviceTypeField}
+use Rattle.known_fields.specs.Schema.{serialNumberField, nameField, transportsField, deviceTypeField}
 use Rattle.device.specs.Information.{informationFields}
 use Rattle.field_writer.specs.Message.{lessRoom}
 

@@ -6,11 +6,11 @@ use lib.ListN.{getD}
 use Rattle.wire.specs.Told.{Told, given, refused, andThen, Written}
 use Rattle.field_writer.specs.Writer.{Field, scalar}
 use Rattle.walk.specs.declared.gathered.Gathered.{Gathered}
-use Rattle.walk.specs.declared.schema.Schema.the-variants as Schema
+use Rattle.known_fields.specs.declared.Schema.the-variants as Schema
 use Rattle.device.specs.declared.features.DeviceFeatures.{DeviceFeatures}
 use Rattle.device.specs.declared.features.FeaturesRead.{FeaturesRead}
 use Rattle.device.specs.declared.features.FeaturesRead.the-variants.{Read, Refused}
-use Rattle.walk.specs.Schema.{featuresField, deviceAttributesField, first, second}
+use Rattle.known_fields.specs.Schema.{featuresField, deviceAttributesField, first, second}
 use Rattle.walk.specs.Refusal.{messageNumber, numbered}
 use Rattle.walk.specs.Walk.{fieldsFrom}
 use Rattle.field_writer.specs.Message.{writesMessage}

@@ -9,10 +9,10 @@ use Rattle.field.specs.Signed.{extended}
 use Rattle.field_writer.specs.Writer.{Field, text, packed}
 use Rattle.field.specs.declared.value.Part.{Part}
 use Rattle.walk.specs.declared.gathered.Gathered.{Gathered}
-use Rattle.walk.specs.declared.schema.Schema.the-variants as Schema
+use Rattle.known_fields.specs.declared.Schema.the-variants as Schema
 use Rattle.device.specs.declared.information.DeviceInformation.{DeviceInformation}
 use Rattle.device.specs.declared.information.InformationRead.{InformationRead}
-use Rattle.walk.specs.Schema.{serialNumberField, nameField, transportsField, deviceTypeField, first, second, third}
+use Rattle.known_fields.specs.Schema.{serialNumberField, nameField, transportsField, deviceTypeField, first, second, third}
 use Rattle.walk.specs.Gathered.{mostTransports, noPart}
 use Rattle.walk.specs.Refusal.{judgedAs}
 use Rattle.walk.specs.Walk.{fieldsFrom}

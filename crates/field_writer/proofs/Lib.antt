@@ -1,3 +1,4 @@
 pub mod Varints
 pub mod Runs
 pub mod Messages
+pub mod Rooms

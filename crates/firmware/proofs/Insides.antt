@@ -10,9 +10,9 @@ use Rattle.field.specs.Value.{Within}
 use Rattle.field.proofs.Told.{Sat, sat-then, sat-weaken}
 use Rattle.field.proofs.Places.{within-get}
 use Rattle.walk.specs.declared.gathered.Gathered.{Gathered}
-use Rattle.walk.specs.declared.schema.Schema.{Schema}
-use Rattle.walk.specs.declared.schema.Schema.the-variants as Schema
-use Rattle.walk.specs.Schema.{first, second, third}
+use Rattle.known_fields.specs.declared.Schema.{Schema}
+use Rattle.known_fields.specs.declared.Schema.the-variants as Schema
+use Rattle.known_fields.specs.Schema.{first, second, third}
 use Rattle.walk.specs.Gathered.{mostRepeated, noPart, partsGathered, AllText}
 use Rattle.walk.specs.Refusal.{Strings}
 use Rattle.walk.specs.Walk.{fieldsFrom}

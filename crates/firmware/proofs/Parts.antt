@@ -20,10 +20,10 @@ use Rattle.field.specs.Fields.{Standing, field, end, foundAt}
 use Rattle.field.proofs.Told.{Sat, sat-cond, sat-then, sat-weaken, sat-given}
 use Rattle.field.proofs.Places.{tag-ends, Held, value-held}
 use Rattle.walk.specs.declared.gathered.Gathered.{Gathered}
-use Rattle.walk.specs.declared.schema.Schema.the-variants as Schema
-use Rattle.walk.specs.declared.schema.Role.{Role}
-use Rattle.walk.specs.declared.schema.Role.the-variants as Role
-use Rattle.walk.specs.Schema.{roleOf}
+use Rattle.known_fields.specs.declared.Schema.the-variants as Schema
+use Rattle.known_fields.specs.declared.Role.{Role}
+use Rattle.known_fields.specs.declared.Role.the-variants as Role
+use Rattle.known_fields.specs.Schema.{roleOf}
 use Rattle.walk.specs.Gathered.{nothing, withText}
 use Rattle.walk.specs.declared.reader.Added.{Added}
 use Rattle.walk.specs.Walk.{walk, placed, judged, valueAdded, addedAt, readAt, withString, withAdded, fieldAt, fieldsFrom}

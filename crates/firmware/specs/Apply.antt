@@ -6,8 +6,8 @@ use lib.ListN.{getD, take}
 use lib.Dec.{eqb}
 use Rattle.wire.specs.Told.{ToldMore, given, refused, andThen}
 use Rattle.field.specs.declared.value.Part.{Part}
-use Rattle.walk.specs.declared.schema.Schema.the-variants as Schema
-use Rattle.walk.specs.Schema.{first}
+use Rattle.known_fields.specs.declared.Schema.the-variants as Schema
+use Rattle.known_fields.specs.Schema.{first}
 use Rattle.walk.specs.Gathered.{mostRepeated}
 use Rattle.walk.specs.Refusal.{Strings, judgedAs}
 use Rattle.walk.specs.Walk.{fieldsFrom}

@@ -6,8 +6,8 @@ use Rattle.wire.specs.Told.{ToldMore, given, refused, andThen}
 use Rattle.field.specs.declared.value.Part.{Part}
 use Rattle.field.specs.Unsigned.{unsignedOf}
 use Rattle.walk.specs.declared.gathered.Gathered.{Gathered}
-use Rattle.walk.specs.declared.schema.Schema.the-variants as Schema
-use Rattle.walk.specs.Schema.{first, second}
+use Rattle.known_fields.specs.declared.Schema.the-variants as Schema
+use Rattle.known_fields.specs.Schema.{first, second}
 use Rattle.walk.specs.Gathered.{noPart}
 use Rattle.walk.specs.Refusal.{whyOf}
 use Rattle.walk.specs.Walk.{fieldsFrom}

@@ -12,8 +12,8 @@ use Rattle.field.specs.Fields.{Standing, field, end, foundAt}
 use Rattle.field.specs.Unsigned.{unsignedOf}
 use Rattle.field.specs.Value.{valueParts}
 use Rattle.walk.specs.declared.gathered.Gathered.{Gathered}
-use Rattle.walk.specs.declared.schema.Schema.the-variants as Schema
-use Rattle.walk.specs.Schema.{componentsField, first, second, third}
+use Rattle.known_fields.specs.declared.Schema.the-variants as Schema
+use Rattle.known_fields.specs.Schema.{componentsField, first, second, third}
 use Rattle.walk.specs.Gathered.{mostRepeated, noPart}
 use Rattle.walk.specs.Refusal.{judgedAs}
 use Rattle.walk.specs.Walk.{fieldsFrom}

@@ -9,8 +9,8 @@ use Rattle.field.specs.declared.value.Part.{Part}
 use Rattle.field.specs.Unsigned.{unsignedOf}
 use Rattle.field.specs.Value.{bytesOf}
 use Rattle.walk.specs.declared.gathered.Gathered.{Gathered}
-use Rattle.walk.specs.declared.schema.Schema.the-variants as Schema
-use Rattle.walk.specs.Schema.{componentOffsetField, segmentSignatureField, first, second}
+use Rattle.known_fields.specs.declared.Schema.the-variants as Schema
+use Rattle.known_fields.specs.Schema.{componentOffsetField, segmentSignatureField, first, second}
 use Rattle.walk.specs.Gathered.{noPart}
 use Rattle.walk.specs.Refusal.{whyOf}
 use Rattle.walk.specs.Walk.{fieldsFrom}

@@ -1,12 +1,12 @@
 // FirmwareComponent, a message within firmware information.
 use field::unsigned::low_unsigned;
 use field::value::Part;
+use known_fields::FIRST;
+use known_fields::SECOND;
+use known_fields::Schema;
 use walk::reader::read_fields;
 use walk::refusal::MessageRefusal;
 use walk::refusal::WalkVerdict;
-use walk::schema::FIRST;
-use walk::schema::SECOND;
-use walk::schema::Schema;
 ghost use mathlib.Core.Path.{_≡_};
 ghost use Rattle.firmware.specs.Component.{noComponent, componentFrom, toldComponent};
 

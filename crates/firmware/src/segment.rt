@@ -1,15 +1,15 @@
 // UpdateComponentSegment: the piece of firmware that comes next.
 use field::unsigned::low_unsigned;
 use field::value::Part;
+use known_fields::COMPONENT_OFFSET;
+use known_fields::FIRST;
+use known_fields::SECOND;
+use known_fields::SEGMENT_SIGNATURE;
+use known_fields::Schema;
 use walk::gathered::Gathered;
 use walk::reader::read_fields;
 use walk::refusal::MessageRefusal;
 use walk::refusal::WalkVerdict;
-use walk::schema::COMPONENT_OFFSET;
-use walk::schema::FIRST;
-use walk::schema::SECOND;
-use walk::schema::SEGMENT_SIGNATURE;
-use walk::schema::Schema;
 use wire::logic::both;
 ghost use mathlib.Core.Path.{_≡_};
 ghost use mathlib.Core.Bool.{cond};

@@ -13,9 +13,9 @@ use Rattle.wire.proofs.Stores.{first-bytes}
 use Rattle.field.specs.declared.value.Part.{Part}
 use Rattle.field.specs.Value.{bytesOf}
 use Rattle.field_writer.specs.Writer.{scalar, text, partBytes, fieldBytes, messageBytes}
-use Rattle.walk.specs.declared.schema.Schema.the-variants as Schema
-use Rattle.walk.specs.declared.schema.Role.the-variants as Role
-use Rattle.walk.specs.Schema.{roleOf, firmwareInformationField, restartRequiredField, firmwareVersionField, firmwareNameField, localeField, versionNameField}
+use Rattle.known_fields.specs.declared.Schema.the-variants as Schema
+use Rattle.known_fields.specs.declared.Role.the-variants as Role
+use Rattle.known_fields.specs.Schema.{roleOf, firmwareInformationField, restartRequiredField, firmwareVersionField, firmwareNameField, localeField, versionNameField}
 use Rattle.walk.specs.Gathered.{mostRepeated, nothing, withScalar, withText, withMember}
 use Rattle.walk.specs.Walk.{judged, fieldsFrom}
 use Rattle.firmware.specs.declared.component.FirmwareComponent.{FirmwareComponent}
@@ -23,12 +23,12 @@ use Rattle.firmware.specs.declared.information.FirmwareInformation.{FirmwareInf
 use Rattle.firmware.specs.declared.apply.ApplyFirmware.{ApplyFirmware}
 use Rattle.firmware.specs.Component.{noComponent}
 use Rattle.text_writer.specs.Texts.{AllWellFormed}
-use Rattle.firmware_writer.specs.Component.{outside, badComponent, componentField}
+use Rattle.component_writer.specs.Component.{outside, badComponent, componentField}
 use Rattle.firmware.specs.Information.{partsFrom, placed, componentsFrom, firmwareFrom}
 use Rattle.firmware_writer.specs.Information.{present, badComponents, badFirmware, componentsStrings, firmwareStrings, firmwareFields}
 use Rattle.firmware.specs.Apply.{isTrue, firmwareIn, applyOf}
 use Rattle.firmware_writer.specs.Apply.{boolValue, applyFields, applyWritten}
-use Rattle.firmware_writer.proofs.Fields.{message-append}
+use Rattle.field_writer.proofs.Rooms.{message-append}
 use Rattle.firmware.proofs.Parts.{parts-end}
 use Rattle.round_trips.proofs.Values.{At, whole, front, behind}
 use Rattle.round_trips.proofs.Fields.{reads-end, reads-scalar, reads-text, reads-member, partAt, part-there, part-cut, textAt, fields-read, text-back}

@@ -1,9 +1,9 @@
 -- The bytes worked by hand, by computation; the components that were counted.
 use mathlib.Core.Path.{refl}
 use Rattle.firmware.specs.Segment.{isDigit, isSignature, brokenField, segmentOf}
-use Rattle.firmware_writer.specs.Segment.{segmentFilled, segmentWritten}
+use Rattle.segment_writer.specs.Segment.{segmentFilled, segmentWritten}
 use Rattle.firmware.specs.Component.{componentFrom}
-use Rattle.firmware_writer.specs.Component.{outside, badComponent}
+use Rattle.component_writer.specs.Component.{outside, badComponent}
 use Rattle.firmware.specs.Information.{partsFrom, componentIn, componentsFrom, firmwareFrom}
 use Rattle.firmware_writer.specs.Information.{badFirmware}
 use Rattle.firmware.specs.Apply.{firmwareIn, applyOf}
@@ -11,7 +11,7 @@ use Rattle.firmware_writer.specs.Apply.{applyWritten}
 use Rattle.text.specs.Table.{rows, within, rowOf}
 use Rattle.text.specs.WellFormed.{sequenceAt, badPlace}
 use Rattle.walk.specs.Walk.{fieldsFrom, fieldAt, readAt, addedAt, judged, withString}
-use Rattle.walk.specs.Schema.{roleOf}
+use Rattle.known_fields.specs.Schema.{roleOf}
 use Rattle.field.specs.Fields.{foundAt}
 use Rattle.field.specs.Tag.{tagAt, badTag}
 use Rattle.field.specs.Value.{valueAt}

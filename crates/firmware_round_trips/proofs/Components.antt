@@ -18,15 +18,15 @@ use Rattle.field.specs.Fields.{field, foundAt}
 use Rattle.field_writer.specs.Varint.{varintBytes}
 use Rattle.field_writer.specs.Writer.{scalar, text, tagBytes, headBytes, partBytes, fieldBytes, messageBytes}
 use Rattle.field_writer.proofs.Runs.{text-none, text-some, scalar-none}
-use Rattle.walk.specs.declared.schema.Schema.the-variants as Schema
-use Rattle.walk.specs.declared.schema.Role.the-variants as Role
+use Rattle.known_fields.specs.declared.Schema.the-variants as Schema
+use Rattle.known_fields.specs.declared.Role.the-variants as Role
 use Rattle.walk.specs.declared.gathered.Gathered.{Gathered}
-use Rattle.walk.specs.Schema.{roleOf, componentsField, firmwareComponentVersionField, firmwareComponentNameField, firmwareComponentSizeField, firmwareComponentSignatureField}
+use Rattle.known_fields.specs.Schema.{roleOf, componentsField, firmwareComponentVersionField, firmwareComponentNameField, firmwareComponentSizeField, firmwareComponentSignatureField}
 use Rattle.walk.specs.Gathered.{mostRepeated, AllText, nothing, withScalar, withText, withRepeated}
 use Rattle.walk.specs.Walk.{judged, fieldAt, fieldsFrom}
 use Rattle.firmware.specs.declared.component.FirmwareComponent.{FirmwareComponent}
 use Rattle.firmware.specs.Component.{componentFrom, componentParts}
-use Rattle.firmware_writer.specs.Component.{componentFields, componentField}
+use Rattle.component_writer.specs.Component.{componentFields, componentField}
 use Rattle.firmware.specs.Information.{partsFrom, componentIn, componentsIn}
 use Rattle.firmware.proofs.Parts.{parts-turn}
 use Rattle.round_trips.proofs.Values.{At, front, behind, inside, tag-trip, number-trip, part-trip}

@@ -14,13 +14,13 @@ use Rattle.field_writer.specs.Varint.{varintBytes}
 use Rattle.field_writer.specs.Writer.{tagBytes, headBytes, partBytes, fieldBytes}
 use Rattle.text.specs.Table.{rows, within, described, rowOf}
 use Rattle.text.specs.WellFormed.{WellFormed, empty, more, sequenceAt, badPlace}
-use Rattle.walk.specs.Schema.{roleOf}
+use Rattle.known_fields.specs.Schema.{roleOf}
 use Rattle.walk.specs.Walk.{judged, addedAt, readAt, fieldAt, fieldsFrom, withString}
 use Rattle.firmware.specs.declared.component.FirmwareComponent.{FirmwareComponent}
 use Rattle.firmware.specs.Segment.{isDigit, allDigits, isSignature, brokenField, segmentOf}
-use Rattle.firmware_writer.specs.Segment.{segmentFilled, segmentWritten}
+use Rattle.segment_writer.specs.Segment.{segmentFilled, segmentWritten}
 use Rattle.firmware.specs.Component.{componentFrom}
-use Rattle.firmware_writer.specs.Component.{outside, badComponent}
+use Rattle.component_writer.specs.Component.{outside, badComponent}
 use Rattle.firmware.specs.Information.{partsFrom, componentIn, componentsFrom, firmwareFrom}
 use Rattle.firmware_writer.specs.Information.{present, badFirmware}
 use Rattle.firmware.specs.Apply.{firmwareIn, applyOf}

@@ -10,15 +10,15 @@ use Rattle.wire.specs.Told.{ToldMore, given, refused, WrittenOf}
 use Rattle.wire.proofs.Stores.{first-bytes}
 use Rattle.field.specs.Unsigned.{unsignedOf}
 use Rattle.field_writer.specs.Writer.{scalar, text, fieldBytes, messageBytes}
-use Rattle.walk.specs.declared.schema.Schema.the-variants as Schema
-use Rattle.walk.specs.Schema.{roleOf, componentNameField, componentOffsetField, segmentSizeField, segmentSignatureField}
+use Rattle.known_fields.specs.declared.Schema.the-variants as Schema
+use Rattle.known_fields.specs.Schema.{roleOf, componentNameField, componentOffsetField, segmentSizeField, segmentSignatureField}
 use Rattle.walk.specs.Gathered.{nothing, withScalar, withText}
 use Rattle.walk.specs.Walk.{fieldsFrom}
 use Rattle.firmware.specs.Segment.{isSignature, brokenField, segmentOf}
 use Rattle.text_writer.specs.Texts.{AllWellFormed}
 use Rattle.text_writer.proofs.Texts.{well-faultless}
-use Rattle.firmware_writer.specs.Segment.{segmentStrings, segmentFields, segmentFilled}
-use Rattle.firmware_writer.proofs.Segments.{segment-clean}
+use Rattle.segment_writer.specs.Segment.{segmentStrings, segmentFields, segmentFilled}
+use Rattle.segment_writer.proofs.Segments.{segment-clean}
 use Rattle.round_trips.specs.RoundTrip.{Gives, ReadsBack}
 use Rattle.round_trips.proofs.Values.{At, whole, front, behind}
 use Rattle.round_trips.proofs.Fields.{reads-end, reads-scalar, reads-text, textAt, fields-read, text-back}

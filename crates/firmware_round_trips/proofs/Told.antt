@@ -16,9 +16,9 @@ use Rattle.field.proofs.Told.{Sat, sat-then, sat-weaken, sat-given}
 use Rattle.text.specs.WellFormed.{empty}
 use Rattle.field_writer.specs.Writer.{messageBytes}
 use Rattle.walk.specs.declared.gathered.Gathered.{Gathered}
-use Rattle.walk.specs.declared.schema.Schema.{Schema}
-use Rattle.walk.specs.declared.schema.Schema.the-variants as Schema
-use Rattle.walk.specs.Schema.{first, second, third}
+use Rattle.known_fields.specs.declared.Schema.{Schema}
+use Rattle.known_fields.specs.declared.Schema.the-variants as Schema
+use Rattle.known_fields.specs.Schema.{first, second, third}
 use Rattle.walk.specs.Gathered.{mostRepeated}
 use Rattle.walk.specs.Walk.{fieldsFrom}
 use Rattle.walk.proofs.Strings.{text-get, strings-first}
@@ -27,7 +27,7 @@ use Rattle.firmware.specs.declared.segment.UpdateComponentSegment.{UpdateCompon
 use Rattle.firmware.specs.declared.component.FirmwareComponent.{FirmwareComponent}
 use Rattle.firmware.specs.declared.apply.ApplyFirmware.{ApplyFirmware}
 use Rattle.firmware.specs.Segment.{isSignature, brokenField, segmentMade, segmentJudged, segmentOf}
-use Rattle.firmware_writer.specs.Segment.{segmentStrings, segmentFields, segmentWritten}
+use Rattle.segment_writer.specs.Segment.{segmentStrings, segmentFields, segmentWritten}
 use Rattle.firmware.specs.Component.{noComponent, componentFrom, componentParts}
 use Rattle.firmware.specs.Information.{partsFrom, componentIn, componentsIn, componentsFrom, firmwareFrom}
 use Rattle.firmware_writer.specs.Information.{present}

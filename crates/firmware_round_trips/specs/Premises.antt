@@ -13,7 +13,7 @@ use Rattle.walk.specs.Gathered.{noPart}
 use Rattle.firmware.specs.declared.component.FirmwareComponent.{FirmwareComponent}
 use Rattle.firmware.specs.declared.information.FirmwareInformation.{FirmwareInformation}
 use Rattle.firmware.specs.declared.apply.ApplyFirmware.{ApplyFirmware}
-use Rattle.firmware_writer.specs.Segment.{segmentFields, segmentWritten}
+use Rattle.segment_writer.specs.Segment.{segmentFields, segmentWritten}
 use Rattle.firmware.specs.Component.{noComponent}
 use Rattle.firmware_writer.specs.Information.{present}
 use Rattle.firmware_writer.specs.Apply.{applyFields, applyWritten}

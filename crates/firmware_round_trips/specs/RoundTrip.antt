@@ -15,7 +15,7 @@ use Rattle.firmware.specs.declared.component.FirmwareComponent.{FirmwareCompone
 use Rattle.firmware.specs.declared.information.FirmwareInformation.{FirmwareInformation}
 use Rattle.firmware.specs.declared.apply.ApplyFirmware.{ApplyFirmware}
 use Rattle.firmware.specs.Segment.{isSignature, segmentOf}
-use Rattle.firmware_writer.specs.Segment.{segmentStrings, segmentFields, segmentWritten}
+use Rattle.segment_writer.specs.Segment.{segmentStrings, segmentFields, segmentWritten}
 use Rattle.firmware.specs.Component.{componentParts}
 use Rattle.firmware_writer.specs.Information.{present}
 use Rattle.firmware.specs.Apply.{applyOf}

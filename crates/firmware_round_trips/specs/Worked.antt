@@ -8,7 +8,7 @@ use lib.Seq.{sets}
 use Rattle.wire.specs.Told.{ToldMore, given, refused}
 use Rattle.field.specs.declared.value.Part.{Part}
 use Rattle.walk.specs.declared.gathered.Gathered.{Gathered}
-use Rattle.walk.specs.declared.schema.Schema.the-variants as Schema
+use Rattle.known_fields.specs.declared.Schema.the-variants as Schema
 use Rattle.walk.specs.Gathered.{noPart}
 use Rattle.walk.specs.Walk.{fieldsFrom}
 use Rattle.firmware.specs.declared.segment.UpdateComponentSegment.{UpdateComponentSegment}
@@ -16,7 +16,7 @@ use Rattle.firmware.specs.declared.component.FirmwareComponent.{FirmwareCompone
 use Rattle.firmware.specs.declared.information.FirmwareInformation.{FirmwareInformation}
 use Rattle.firmware.specs.declared.apply.ApplyFirmware.{ApplyFirmware}
 use Rattle.firmware.specs.Segment.{segmentOf}
-use Rattle.firmware_writer.specs.Segment.{segmentWritten}
+use Rattle.segment_writer.specs.Segment.{segmentWritten}
 use Rattle.firmware.specs.Component.{noComponent}
 use Rattle.firmware.specs.Information.{noFirmware, partsFrom}
 use Rattle.firmware.specs.Apply.{applyOf, noApply}

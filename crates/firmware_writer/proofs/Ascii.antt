@@ -16,7 +16,7 @@ use Rattle.text.proofs.Sequences.{sequence-described, ascii-sequence}
 use Rattle.text.proofs.Places.{well-formed-whole}
 use Rattle.text_writer.specs.declared.TextFault.the-variants.{None}
 use Rattle.text_writer.specs.Texts.{orText, faultFrom, firstFault}
-use Rattle.walk.specs.Schema.{firmwareNameField, localeField, versionNameField, firmwareComponentNameField, firmwareComponentSignatureField}
+use Rattle.known_fields.specs.Schema.{firmwareNameField, localeField, versionNameField, firmwareComponentNameField, firmwareComponentSignatureField}
 use Rattle.firmware.specs.declared.component.FirmwareComponent.{FirmwareComponent}
 use Rattle.firmware.specs.declared.information.FirmwareInformation.{FirmwareInformation}
 use Rattle.firmware_writer.specs.Information.{present, componentsStrings, firmwareStrings}

@@ -1,59 +1,30 @@
--- Laws of parts of a lent text: where they lie, and their bytes.
-use Prim.Native.Nat.{ℕ, _+_, _-_, _≤_, _<_}
+-- Laws of what is written of a lent text: where its parts lie, and how many bytes there are.
+use Prim.Native.Nat.{ℕ, _+_, _≤_}
 use mathlib.Core.Path.{_≡_, refl}
 use mathlib.Core.Bool.{false}
 use mathlib.Core.List.{List, [], _∷_, _++_, map}
 use native.Mathlib.Omega.{arith}
-use native.Mathlib.Decide.{decLt}
 use lib.ListN.{length}
 use lib.Dec.{ltb}
-use borrow.Author.Tests.{lt-ltb, le-ltb, ltb-false}
-use Rattle.field.specs.declared.value.Part.{Part}
+use borrow.Author.Tests.{ltb-false}
 use Rattle.field.specs.Value.{bytesOf}
 use Rattle.field_writer.specs.Writer.{scalar, text, nested, headBytes, fieldBytes, messageBytes}
 use Rattle.field_writer.proofs.Runs.{message-length, joined-length}
 use Rattle.field_writer.proofs.Messages.{or-false}
 use Rattle.text_writer.specs.declared.TextFault.{TextFault}
 use Rattle.text_writer.specs.Texts.{orText, faultFrom}
-use Rattle.walk.specs.Schema.{firmwareVersionField, firmwareNameField, localeField, versionNameField, firmwareInformationField, restartRequiredField, firmwareComponentVersionField, firmwareComponentNameField, firmwareComponentSizeField, firmwareComponentSignatureField}
+use Rattle.known_fields.specs.Schema.{firmwareVersionField, firmwareNameField, localeField, versionNameField, firmwareInformationField, restartRequiredField}
 use Rattle.firmware.specs.declared.component.FirmwareComponent.{FirmwareComponent}
 use Rattle.firmware.specs.declared.information.FirmwareInformation.{FirmwareInformation}
-use Rattle.firmware_writer.specs.Component.{outside, badComponent, componentFields, componentField}
+use Rattle.component_writer.specs.Component.{outside, badComponent, componentField}
 use Rattle.firmware_writer.specs.Information.{badComponents, badFirmware, present, firmwareFields}
 use Rattle.firmware.specs.declared.apply.ApplyFirmware.{ApplyFirmware}
 use Rattle.firmware_writer.specs.Apply.{boolValue, applyFields}
-use Rattle.firmware_writer.proofs.Fields.{message-append, nested-length}
-
--- the test in two steps, none of which passes 64 bits
-pub outside-rest : (n a b : ℕ) → a ≤ n → ltb (n - a) b ≡ ltb n (a + b)
-outside-rest n a b h = by-test (decLt n (a + b))
-  where
-    by-test : Dec (n < a + b) → ltb (n - a) b ≡ ltb n (a + b)
-    by-test (yes l) = rw (lt-ltb (n - a) b (omega arith), lt-ltb n (a + b) l)
-    by-test (no k) = rw (le-ltb (n - a) b (omega arith), le-ltb n (a + b) (omega arith))
-
-pub lies-inside : (texts : List ℕ) (p : Part) → outside texts p ≡ false → p .start + p .len ≤ length texts
-unfolding outside
-lies-inside texts p e = ltb-false (length texts) (p .start + p .len) e
-
--- ---- a component whose parts lie within the texts
-pub component-fine : (texts : List ℕ) (c : FirmwareComponent) → badComponent texts c ≡ false → (outside texts (c .name) ≡ false) × (outside texts (c .signature) ≡ false)
-unfolding badComponent
-component-fine texts c e = or-false (outside texts (c .name)) (outside texts (c .signature)) e
+use Rattle.field_writer.proofs.Rooms.{message-append, nested-length}
 
 pub components-fine : (texts : List ℕ) (c : FirmwareComponent) (cs : List FirmwareComponent) → badComponents texts (c ∷ cs) ≡ false
     → (badComponent texts c ≡ false) × (badComponents texts cs ≡ false)
 components-fine texts c cs e = or-false (badComponent texts c) (badComponents texts cs) e
-
-pub component-length : (texts : List ℕ) (c : FirmwareComponent) → length (messageBytes (componentFields texts c))
-    ≡ length (fieldBytes (scalar firmwareComponentVersionField (c .version))) + length (fieldBytes (text firmwareComponentNameField (bytesOf texts (c .name))))
-    + length (fieldBytes (scalar firmwareComponentSizeField (c .size))) + length (fieldBytes (text firmwareComponentSignatureField (bytesOf texts (c .signature))))
-component-length texts c =
-    let f₁ = scalar firmwareComponentVersionField (c .version) in
-    let f₂ = text firmwareComponentNameField (bytesOf texts (c .name)) in
-    let f₃ = scalar firmwareComponentSizeField (c .size) in
-    let f₄ = text firmwareComponentSignatureField (bytesOf texts (c .signature)) in
-    omega (arith, message-length f₁ (f₂ ∷ f₃ ∷ f₄ ∷ []), message-length f₂ (f₃ ∷ f₄ ∷ []), message-length f₃ (f₄ ∷ []), message-length f₄ [])
 
 -- ---- firmware information that is written
 pub record Fine (texts : List ℕ) (f : FirmwareInformation) : Type 0 where

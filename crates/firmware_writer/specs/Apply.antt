@@ -4,8 +4,8 @@ use mathlib.Core.Bool.{Bool, cond}
 use mathlib.Core.List.{List, [], _∷_}
 use Rattle.wire.specs.Told.{WrittenOf}
 use Rattle.field_writer.specs.Writer.{Field, scalar, nested, messageBytes}
-use Rattle.walk.specs.declared.schema.Schema.the-variants as Schema
-use Rattle.walk.specs.Schema.{firmwareInformationField, restartRequiredField}
+use Rattle.known_fields.specs.declared.Schema.the-variants as Schema
+use Rattle.known_fields.specs.Schema.{firmwareInformationField, restartRequiredField}
 use Rattle.text_writer.specs.Texts.{writesTexts}
 use Rattle.firmware.specs.declared.apply.ApplyFirmware.{ApplyFirmware}
 use Rattle.firmware_writer.specs.Information.{badFirmware, firmwareStrings, firmwareFields}

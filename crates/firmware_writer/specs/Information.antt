@@ -6,12 +6,12 @@ use lib.ListN.{take}
 use lib.Dec.{ltb}
 use Rattle.field.specs.Value.{bytesOf}
 use Rattle.field_writer.specs.Writer.{Field, scalar, text}
-use Rattle.walk.specs.declared.schema.Schema.the-variants as Schema
-use Rattle.walk.specs.Schema.{firmwareVersionField, firmwareNameField, localeField, versionNameField}
+use Rattle.known_fields.specs.declared.Schema.the-variants as Schema
+use Rattle.known_fields.specs.Schema.{firmwareVersionField, firmwareNameField, localeField, versionNameField}
 use Rattle.walk.specs.Gathered.{mostRepeated}
 use Rattle.firmware.specs.declared.component.FirmwareComponent.{FirmwareComponent}
 use Rattle.firmware.specs.declared.information.FirmwareInformation.{FirmwareInformation}
-use Rattle.firmware_writer.specs.Component.{outside, badComponent, componentStrings, componentField}
+use Rattle.component_writer.specs.Component.{outside, badComponent, componentStrings, componentField}
 
 -- ---- writing
 -- the components that are there

@@ -1,4 +1,2 @@
-pub mod Segment
-pub mod Component
 pub mod Information
 pub mod Apply

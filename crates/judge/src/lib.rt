@@ -4,30 +4,10 @@ pub mod input;
 pub mod step;
 
 ghost use mathlib.Core.Path.{_≡_};
-ghost use Rattle.judge.specs.Step.{slotIn, withSlot, idle, isIdle, allIdle};
+ghost use Rattle.judge.specs.Step.{slotIn, withSlot, idle, allIdle};
+use sender_slot::SenderSlot;
 use wire::logic::both;
 use wire::stream::Stream;
-
-// What is open on a stream: nothing, or a transaction with its id, the bytes still to come and the next sequence.
-pub enum SenderSlot {
-    Idle,
-    Open { id: u8, left: usize, sequence: u8 },
-}
-
-impl SenderSlot {
-    fn is_idle(self) -> bool
-        ensures { λ r. ⌜ r ≡ isIdle self ⌝ }
-    {
-        match self {
-            SenderSlot::Idle => true,
-            SenderSlot::Open {
-                id: _,
-                left: _,
-                sequence: _,
-            } => false,
-        }
-    }
-}
 
 // A slot for each stream.
 pub struct State {

@@ -29,10 +29,11 @@ use Rattle.sender.specs.Piece.{leastRoom, largestRoom, extended, sizeFor}
 use Rattle.sender.specs.Writer.{roomFits}
 use Rattle.sender.proofs.Largest.{size-le, size-fits}
 use Rattle.sender.proofs.Guard.{room-low}
-use Rattle.judge.specs.declared.SenderSlot.{SenderSlot}
-use Rattle.judge.specs.declared.SenderSlot.the-variants.{Idle, Open}
+use Rattle.sender_slot.specs.declared.SenderSlot.{SenderSlot}
+use Rattle.sender_slot.specs.declared.SenderSlot.the-variants.{Idle, Open}
 use Rattle.judge.specs.declared.State.{State}
-use Rattle.judge.specs.Step.{fitsPiece, slotFor, firstStep, nextFits, nextStep, slotStep, slotIn, withSlot, idle, stepOf, after, same}
+use Rattle.sender_slot.specs.Slot.{fitsPiece, slotFor, firstStep, nextFits, nextStep, slotStep, same}
+use Rattle.judge.specs.Step.{slotIn, withSlot, idle, stepOf, after}
 use Rattle.judge_claims.specs.Lawful.{acknowledges}
 use Rattle.sender.proofs.Later.{nextSize, nextLast, later}
 use Rattle.judge_claims.proofs.Rest.{InRange, Rest, done, within, advance, rest-empty, Chosen, chosen, never-some}

@@ -22,7 +22,8 @@ use Rattle.captures.specs.Captured.{captured}
 use Rattle.sender.specs.Piece.{sizeFor}
 use Rattle.sender.specs.Writer.{headerBytes, packetOf, roomFits, argumentsFit, writtenOf}
 use Rattle.sender_claims.specs.Calls.{callsFrom}
-use Rattle.judge.specs.Step.{fitsPiece, firstStep, nextFits, nextStep, stepOf}
+use Rattle.sender_slot.specs.Slot.{fitsPiece, firstStep, nextFits, nextStep}
+use Rattle.judge.specs.Step.{stepOf}
 use Rattle.judge.specs.Capture.{verdictFrom, walkedOf, tracedOf, lawful, judgedOf}
 use Rattle.judge.specs.Input.{inputTraced, inputOf}
 use Rattle.judge_claims.specs.Lawful.{Writable, AllWritable, packetsIn, carries, AllKnown, LawfulPackets}

@@ -26,10 +26,11 @@ use Rattle.sender.specs.Writer.{argumentsFit}
 use Rattle.sender_claims.specs.Calls.{callsOf}
 use Rattle.sender.proofs.Largest.{size-le, size-some}
 use Rattle.sender.proofs.Guard.{room-low}
-use Rattle.judge.specs.declared.SenderSlot.{SenderSlot}
-use Rattle.judge.specs.declared.SenderSlot.the-variants.{Idle, Open}
+use Rattle.sender_slot.specs.declared.SenderSlot.{SenderSlot}
+use Rattle.sender_slot.specs.declared.SenderSlot.the-variants.{Idle, Open}
 use Rattle.judge.specs.declared.State.{State}
-use Rattle.judge.specs.Step.{slotIn, idle, isIdle, allIdle}
+use Rattle.sender_slot.specs.Slot.{isIdle}
+use Rattle.judge.specs.Step.{slotIn, idle, allIdle}
 use Rattle.judge_claims.specs.Lawful.{Transaction, Writable, AllWritable, packetsIn, carries, AllKnown, LawfulPackets, Viable}
 use Rattle.judge_claims.specs.Inside.{WholeOnes, CutInside, WholeOrCut, whole, cut, isCut, EndsInside, OpenIsInside}
 use Rattle.sender.proofs.Later.{nextSize, nextLast, later}

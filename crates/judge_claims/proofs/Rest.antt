@@ -33,10 +33,11 @@ use Rattle.sender_claims.specs.Calls.{callsOf, Takes}
 use Rattle.sender.proofs.Largest.{size-le, size-some}
 use Rattle.sender.proofs.Guard.{room-low, range-facts}
 use Rattle.sender_claims.proofs.CallsGiveAll.{calls-are}
-use Rattle.judge.specs.declared.SenderSlot.{SenderSlot}
-use Rattle.judge.specs.declared.SenderSlot.the-variants.{Idle, Open}
+use Rattle.sender_slot.specs.declared.SenderSlot.{SenderSlot}
+use Rattle.sender_slot.specs.declared.SenderSlot.the-variants.{Idle, Open}
 use Rattle.judge.specs.declared.State.{State}
-use Rattle.judge.specs.Step.{same, fitsPiece, slotFor, firstStep, nextFits, nextStep, slotStep, slotIn, withSlot, isIdle, stepOf}
+use Rattle.sender_slot.specs.Slot.{same, fitsPiece, slotFor, firstStep, nextFits, nextStep, slotStep, isIdle}
+use Rattle.judge.specs.Step.{slotIn, withSlot, stepOf}
 use Rattle.judge_claims.specs.Lawful.{Transaction, Writable, acknowledges}
 use Rattle.sender.proofs.Later.{nextSize, nextLast, later, later-fuel, packets-are}
 

@@ -8,11 +8,12 @@ use mathlib.Core.List.{List, [], _∷_, _++_}
 use mathlib.Core.Bool.{Bool, true, false, cond, _&&_, false≢true}
 use mathlib.Core.Option.{Option, none, some}
 use lib.ListN.{take}
-use Rattle.judge.specs.declared.SenderSlot.{SenderSlot}
-use Rattle.judge.specs.declared.SenderSlot.the-variants.{Idle, Open}
+use Rattle.sender_slot.specs.declared.SenderSlot.{SenderSlot}
+use Rattle.sender_slot.specs.declared.SenderSlot.the-variants.{Idle, Open}
 use Rattle.judge.specs.declared.State.{State}
 use Rattle.captures.specs.Capture.{Packets}
-use Rattle.judge.specs.Step.{idle, isIdle, allIdle, stepOf, after}
+use Rattle.sender_slot.specs.Slot.{isIdle}
+use Rattle.judge.specs.Step.{idle, allIdle, stepOf, after}
 use Rattle.judge.specs.Capture.{Answer, lawful, open·ended, unlawful}
 use Rattle.judge_claims.specs.Lawful.{LawfulPackets, Viable}
 use Rattle.judge_claims.proofs.Rest.{InRange, never-some}

@@ -26,10 +26,11 @@ use Rattle.packet.proofs.Reading.{LinesPass, read-passes, empty-refused}
 use Rattle.sender.specs.Piece.{leastRoom}
 use Rattle.sender_claims.specs.Calls.{callsOf}
 use Rattle.sender.proofs.Guard.{room-low}
-use Rattle.judge.specs.declared.SenderSlot.{SenderSlot}
-use Rattle.judge.specs.declared.SenderSlot.the-variants.{Idle, Open}
+use Rattle.sender_slot.specs.declared.SenderSlot.{SenderSlot}
+use Rattle.sender_slot.specs.declared.SenderSlot.the-variants.{Idle, Open}
 use Rattle.judge.specs.declared.State.{State}
-use Rattle.judge.specs.Step.{slotStep, slotIn, withSlot, idle, placed, stepBy, stepOf, after}
+use Rattle.sender_slot.specs.Slot.{slotStep}
+use Rattle.judge.specs.Step.{slotIn, withSlot, idle, placed, stepBy, stepOf, after}
 use Rattle.judge_claims.specs.Lawful.{Transaction, Writable, AllWritable, packetsIn, acknowledges, isAck, carries, known, AllKnown, LawfulPackets}
 use Rattle.judge_claims.proofs.Rest.{InRange, Rest, done, begins, within, Taken, advance, step-back, rest-empty}
 

@@ -10,9 +10,9 @@ use Rattle.packet.specs.declared.reader.Packet.the-variants.{First, Next, Ack, 
 use Rattle.packet.specs.Header.{headerSize, sequenceAfter}
 use Rattle.sender.specs.Piece.{extended, sizeFor}
 use Rattle.sender.specs.Writer.{typeFor, roomFits}
-use Rattle.judge.specs.declared.SenderSlot.{SenderSlot}
-use Rattle.judge.specs.declared.SenderSlot.the-variants.{Idle, Open}
-use Rattle.judge.specs.Step.{same, fitsPiece, slotFor, firstStep, nextFits, nextStep}
+use Rattle.sender_slot.specs.declared.SenderSlot.{SenderSlot}
+use Rattle.sender_slot.specs.declared.SenderSlot.the-variants.{Idle, Open}
+use Rattle.sender_slot.specs.Slot.{same, fitsPiece, slotFor, firstStep, nextFits, nextStep}
 use Rattle.next_packet.specs.NextPacket.{nextIn, nextOf}
 use Rattle.next_packet.specs.Expected.{isTaken, ExpectedIsTaken}
 

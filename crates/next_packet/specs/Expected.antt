@@ -9,8 +9,8 @@ use Rattle.packet.specs.declared.reader.Packet.{Packet}
 use Rattle.packet.specs.declared.reader.Packet.the-variants.{First, Next, Ack, Nack}
 use Rattle.packet.specs.Header.{headerSize}
 use Rattle.sender.specs.Writer.{roomFits}
-use Rattle.judge.specs.declared.SenderSlot.{SenderSlot}
-use Rattle.judge.specs.Step.{slotStep}
+use Rattle.sender_slot.specs.declared.SenderSlot.{SenderSlot}
+use Rattle.sender_slot.specs.Slot.{slotStep}
 use Rattle.next_packet.specs.declared.NextPacket.{NextPacket}
 use Rattle.next_packet.specs.NextPacket.{nextOf}
 

@@ -4,8 +4,8 @@ use mathlib.Core.Bool.{Bool, true, false, cond, not}
 use lib.Dec.{eqb}
 use Rattle.sender.specs.Piece.{extended, sizeFor}
 use Rattle.sender.specs.Writer.{typeFor, roomFits}
-use Rattle.judge.specs.declared.SenderSlot.{SenderSlot}
-use Rattle.judge.specs.declared.SenderSlot.the-variants.{Idle, Open}
+use Rattle.sender_slot.specs.declared.SenderSlot.{SenderSlot}
+use Rattle.sender_slot.specs.declared.SenderSlot.the-variants.{Idle, Open}
 use Rattle.next_packet.specs.declared.NextPacket.{NextPacket}
 
 -- of so many bytes that are left, a piece of this length

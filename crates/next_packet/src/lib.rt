@@ -1,8 +1,8 @@
 // What our writer would write next on a stream, by what is open there: what a packet that is not lawful is held to.
-use judge::SenderSlot;
 use packet::header;
 use sender::piece;
 use sender::writer::room_fits;
+use sender_slot::SenderSlot;
 ghost use mathlib.Core.Path.{_≡_};
 ghost use Rattle.sender.specs.Writer.{typeFor};
 ghost use Rattle.next_packet.specs.NextPacket.{nextBy, nextOf};

@@ -13,8 +13,8 @@ use Rattle.sender.specs.declared.writer.Sending.{Sending}
 use Rattle.joining.specs.Joined.{joinedOf, messageIn, joinedOver, JoinsExactly}
 use Rattle.joining.proofs.Pieces.{total-fits}
 use Rattle.joining.proofs.Guards.{joined-over}
-use Rattle.reply.specs.declared.front.Front.{Front}
-use Rattle.reply.specs.Front.{frontBytes}
+use Rattle.reply_parts.specs.declared.front.ReplyFront.{ReplyFront}
+use Rattle.reply_parts.specs.Front.{frontBytes}
 use Rattle.reply.specs.Put.{PutsReply}
 use Rattle.reply.specs.Reply.{sent, refusing, joinedIn}
 
@@ -40,7 +40,7 @@ reply-stored out out₁ out₂ front body total n et en l e₁ e₂ =
     rw (s, k) (drop-stored out start (front ++ body) (omega arith))
 
 -- and joined there
-pub reply-joined : (f : Front) (w : Sending) (out out₁ out₂ out₃ body : List ℕ) (total : ℕ) → PutsReply f total w body out
+pub reply-joined : (f : ReplyFront) (w : Sending) (out out₁ out₂ out₃ body : List ℕ) (total : ℕ) → PutsReply f total w body out
     → out₁ ≡ sets out (length out - total + 0) (frontBytes f)
     → out₂ ≡ sets out₁ (length out - f .body + 0) body
     → out₃ ≡ joinedOver w total out₂

@@ -21,16 +21,18 @@ use Rattle.walk.specs.Gathered.{mostTransports}
 use Rattle.control.specs.declared.response.ResponsePayload.{ResponsePayload}
 use Rattle.control.specs.Response.{badResponsePayload}
 use Rattle.device.specs.declared.features.DeviceFeatures.{DeviceFeatures}
-use Rattle.reply.specs.declared.body.CommandKind.{CommandKind}
-use Rattle.reply.specs.declared.body.CommandKind.the-variants.{Information, Features, Bare, Other}
-use Rattle.reply.specs.declared.body.Members.{Members}
-use Rattle.reply.specs.declared.front.Front.{Front}
+use Rattle.reply_parts.specs.declared.body.CommandKind.{CommandKind}
+use Rattle.reply_parts.specs.declared.body.CommandKind.the-variants.{Information, Features, Bare, Other}
+use Rattle.reply_parts.specs.declared.body.Members.{Members}
+use Rattle.reply_parts.specs.declared.front.ReplyFront.{ReplyFront}
 use Rattle.reply.specs.declared.Link.{Link}
-use Rattle.reply.specs.Front.{frontBytes}
-use Rattle.reply.specs.Reply.{codeOf, memberOf, bodyBy, replyBy, badCarried, linkLines}
-use Rattle.reply.specs.Put.{judgedOf, FewCarried, FrontFor, Carries}
-use Rattle.reply.proofs.Rooms.{left-is}
-use Rattle.reply.proofs.Fronts.{Whole, front-is}
+use Rattle.reply_parts.specs.Front.{frontBytes}
+use Rattle.reply_parts.specs.Body.{codeOf, bodyBy}
+use Rattle.reply.specs.Reply.{memberOf, replyBy, badCarried, linkLines}
+use Rattle.reply_parts.specs.Body.{FewCarried}
+use Rattle.reply.specs.Put.{judgedOf, FrontFor, Carries}
+use Rattle.reply_parts.proofs.Rooms.{left-is}
+use Rattle.reply_parts.proofs.Fronts.{Whole, front-is}
 
 -- ---- the reply's bytes
 
@@ -42,10 +44,10 @@ whole-by serialNumber name transports deviceType features m Features = tt
 whole-by serialNumber name transports deviceType features m Bare = refl
 whole-by serialNumber name transports deviceType features m Other = refl
 
-abbrev frontOf : ℕ → ℕ → ResponsePayload → ℕ → Front
+abbrev frontOf : ℕ → ℕ → ResponsePayload → ℕ → ReplyFront
 frontOf v c m n = record { value = v; code = c; member = m; body = n }
 
-reply-is : (v : ℕ) (k : CommandKind) (m : Members) (body : List ℕ) (f : Front) → FrontFor v k m (length body) f → Whole (memberOf m k) body
+reply-is : (v : ℕ) (k : CommandKind) (m : Members) (body : List ℕ) (f : ReplyFront) → FrontFor v k m (length body) f → Whole (memberOf m k) body
     → frontBytes f ++ body ≡ replyBy v k m body
 unfolding replyBy
 reply-is v k m body f h none =
@@ -59,21 +61,21 @@ reply-is v k m body f h none =
 -- the member's bytes are some of the reply's
 pub body-within : (v : ℕ) (k : CommandKind) (m : Members) (body : List ℕ) → Whole (memberOf m k) body → length body ≤ length (replyBy v k m body)
 body-within v k m body none =
-    let f : Front = frontOf v (extended (codeOf k)) (memberOf m k) (length body) in
+    let f : ReplyFront = frontOf v (extended (codeOf k)) (memberOf m k) (length body) in
     let e = ap length (reply-is v k m body f (record { value = refl; code = refl; member = refl; body = refl }) none) in
     let a = length-append (frontBytes f) body in
     omega arith
 
 -- ---- the reply, counted
 
-pub record CountedReply (v : ℕ) (k : CommandKind) (m : Members) (body : List ℕ) (limit left : ℕ) (f : Front) : Type 0 where
+pub record CountedReply (v : ℕ) (k : CommandKind) (m : Members) (body : List ℕ) (limit left : ℕ) (f : ReplyFront) : Type 0 where
   pub under : left ≤ limit
   pub long : f .body ≡ length body
   pub low : f .body ≤ limit
   pub whole : frontBytes f ++ body ≡ replyBy v k m body
   pub total : length (replyBy v k m body) ≡ length (frontBytes f) + (limit - left)
 
-pub counted : (v : ℕ) (k : CommandKind) (m : Members) (body : List ℕ) (limit left : ℕ) (f : Front) → Whole (memberOf m k) body
+pub counted : (v : ℕ) (k : CommandKind) (m : Members) (body : List ℕ) (limit left : ℕ) (f : ReplyFront) → Whole (memberOf m k) body
     → lessRoom (length body) (Left limit) ≡ Left left → FrontFor v k m (limit - left) f → CountedReply v k m body limit left f
 counted v k m body limit left f none er h =
     let q = left-is limit (length body) left er in

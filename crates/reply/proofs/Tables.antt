@@ -8,9 +8,10 @@ use borrow.Author.Tests.{lt-ltb, le-ltb}
 use Rattle.wire.specs.Told.{ToldMore, given, refused, Line, table, WrittenOf, written}
 use Rattle.text_writer.specs.declared.TextFault.the-variants.{None, At}
 use Rattle.text_writer.specs.Texts.{firstFault}
-use Rattle.reply.specs.declared.body.CommandKind.{CommandKind}
+use Rattle.reply_parts.specs.declared.body.CommandKind.{CommandKind}
 use Rattle.reply.specs.declared.Link.{Link}
-use Rattle.reply.specs.Reply.{Box, sendingOf, kindOfCommand, bodyOf, replyBy, stringsOf, linkLines, Replied, refusing, joinedIn, carriedOf, sentOf}
+use Rattle.reply_parts.specs.Body.{kindOfCommand}
+use Rattle.reply.specs.Reply.{Box, sendingOf, bodyOf, replyBy, stringsOf, linkLines, Replied, refusing, joinedIn, carriedOf, sentOf}
 use Rattle.reply.specs.Put.{judgedOf}
 
 -- ---- what the reply's bytes decide

@@ -1,3 +1,2 @@
 pub mod Reply
-pub mod Front
 pub mod Put

@@ -13,12 +13,10 @@ use Rattle.sender.specs.Piece.{leastRoom, piecesOf}
 use Rattle.sender.specs.Writer.{roomFits}
 use Rattle.joining.specs.Joined.{sizes}
 use Rattle.field.specs.Signed.{extended}
-use Rattle.walk.specs.Gathered.{mostTransports}
 use Rattle.walk.specs.Refusal.{messageNumber}
-use Rattle.reply.specs.declared.body.CommandKind.{CommandKind}
-use Rattle.reply.specs.declared.body.CommandKind.the-variants.{Information, Features, Bare, Other}
-use Rattle.reply.specs.declared.body.Members.{Members}
-use Rattle.reply.specs.declared.front.Front.{Front}
+use Rattle.reply_parts.specs.declared.body.CommandKind.{CommandKind}
+use Rattle.reply_parts.specs.declared.body.Members.{Members}
+use Rattle.reply_parts.specs.declared.front.ReplyFront.{ReplyFront}
 use Rattle.reply.specs.declared.Link.{Link}
 use Rattle.reply.specs.declared.Refusal.{Refusal}
 use Rattle.reply.specs.declared.Refusal.the-variants.{Message, Room, Limit, Argument, BadText, Output}
@@ -28,8 +26,9 @@ use Rattle.reply.specs.declared.Verdict.{Verdict}
 use Rattle.reply.specs.declared.Verdict.the-variants as Verdict
 use Rattle.reply.specs.declared.Measured.{Measured}
 use Rattle.reply.specs.declared.Measured.the-variants.{TooLong, Fits}
-use Rattle.reply.specs.Front.{frontBytes, FrontFits}
-use Rattle.reply.specs.Reply.{codeOf, memberOf, replyBy, badCarried, linkLines, Replied, silent, sent}
+use Rattle.reply_parts.specs.Front.{frontBytes, FrontFits}
+use Rattle.reply_parts.specs.Body.{codeOf}
+use Rattle.reply.specs.Reply.{memberOf, replyBy, badCarried, linkLines, Replied, silent, sent}
 
 -- ---- the answers of the code
 
@@ -59,22 +58,15 @@ judgedOf l m count kind = table (linkLines l m count kind) (λ n. refused (n, []
 
 -- ---- the reply, counted
 
--- transports that are carried are at most eight
-abbrev pub FewCarried : CommandKind → List ℤ → Type 0
-FewCarried Information transports = length transports ≤ mostTransports
-FewCarried Features transports = Unit {0}
-FewCarried Bare transports = Unit {0}
-FewCarried Other transports = Unit {0}
-
 -- a front for a command of this value and kind, with a member of n bytes
-pub record FrontFor (v : ℕ) (kind : CommandKind) (m : Members) (n : ℕ) (f : Front) : Type 0 where
+pub record FrontFor (v : ℕ) (kind : CommandKind) (m : Members) (n : ℕ) (f : ReplyFront) : Type 0 where
   pub value : f .value ≡ v
   pub code : f .code ≡ extended (codeOf kind)
   pub member : f .member ≡ memberOf m kind
   pub body : f .body ≡ n
 
 -- it and the member's bytes are the reply, which is within the limit
-pub record ReplyWithin (f : Front) (body reply : List ℕ) (limit : ℕ) : Type 0 where
+pub record ReplyWithin (f : ReplyFront) (body reply : List ℕ) (limit : ℕ) : Type 0 where
   pub fits : FrontFits f
   pub long : f .body ≡ length body
   pub whole : frontBytes f ++ body ≡ reply
@@ -88,7 +80,7 @@ MeasuredAs v kind m body limit (Fits f) = ReplyWithin f body (replyBy v kind m b
 -- ---- the reply, written
 
 -- the front and these bytes can be written over all of an output, and joined in it
-pub record PutsReply (f : Front) (total : ℕ) (w : Sending) (body out : List ℕ) : Type 0 where
+pub record PutsReply (f : ReplyFront) (total : ℕ) (w : Sending) (body out : List ℕ) : Type 0 where
   pub fits : FrontFits f
   pub long-body : f .body ≡ length body
   pub long-total : total ≡ length (frontBytes f) + f .body
@@ -99,7 +91,7 @@ pub record PutsReply (f : Front) (total : ℕ) (w : Sending) (body out : List �
   pub long : length out ≡ sizes (piecesOf (w .room) total)
 
 -- a reply that is within the limit can be joined on this link
-pub record Joinable (f : Front) (body : List ℕ) (l : Link) : Type 0 where
+pub record Joinable (f : ReplyFront) (body : List ℕ) (l : Link) : Type 0 where
   pub fits : FrontFits f
   pub long : f .body ≡ length body
   pub low-total : length (frontBytes f) + f .body < 65536

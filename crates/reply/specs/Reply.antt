@@ -2,10 +2,10 @@
 use Prim.Native.Nat.{ℕ}
 use mathlib.Core.Bool.{Bool, true, false, cond, not, _||_}
 use mathlib.Core.List.{List, [], _∷_}
-use lib.IntN.{ℤ, pos}
+use lib.IntN.{ℤ}
 use lib.ListN.{length}
 use lib.Seq.{sets}
-use lib.Dec.{eqb, ltb}
+use lib.Dec.{ltb}
 use Rattle.wire.specs.Limit.{limitFits}
 use Rattle.wire.specs.Told.{Told, given, refused, Line, line, table, WrittenOf, written}
 use Rattle.packet.specs.Header.{inRange}
@@ -27,11 +27,10 @@ use Rattle.control.specs.declared.envelope.Payload.the-variants as Payload
 use Rattle.control.specs.declared.envelope.EnvelopePayload.the-variants as Sent
 use Rattle.control.specs.Envelope.{envelopeOf, envelopeFields}
 use Rattle.device.specs.declared.features.DeviceFeatures.{DeviceFeatures}
-use Rattle.device.specs.Information.{informationFields, informationStrings}
-use Rattle.device.specs.Features.{featuresFields}
-use Rattle.reply.specs.declared.body.CommandKind.{CommandKind}
-use Rattle.reply.specs.declared.body.CommandKind.the-variants.{Information, Features, Bare, Other}
-use Rattle.reply.specs.declared.body.Members.{Members}
+use Rattle.reply_parts.specs.declared.body.CommandKind.{CommandKind}
+use Rattle.reply_parts.specs.declared.body.CommandKind.the-variants.{Information, Features, Bare, Other}
+use Rattle.reply_parts.specs.declared.body.Members.{Members}
+use Rattle.reply_parts.specs.Body.{kindOfCommand, codeOf, bodyBy, stringsBy}
 use Rattle.reply.specs.declared.Link.{Link}
 
 -- ---- what a device says of itself, and the link
@@ -55,21 +54,6 @@ sendingOf l = record { room = l .room; stream = 0; id = l .id; sequence = l .seq
 
 -- ---- the reply to a command
 
--- by the varint's value of the command: 20 asks for device information, 28 for features; 94 and 95 are answered by a bare success,
--- any other command as not supported
-unfoldable pub kindOfCommand : ℕ → CommandKind
-kindOfCommand v =
-    cond (eqb v 20) Information
-    (cond (eqb v 28) Features
-    (cond (eqb v 94 || eqb v 95) Bare Other))
-
--- the error code: success, or that the command is not supported
-abbrev pub codeOf : CommandKind → ℤ
-codeOf Information = pos 0
-codeOf Features = pos 0
-codeOf Bare = pos 0
-codeOf Other = pos 3
-
 -- the response's payload
 abbrev pub memberOf : Members → CommandKind → ResponsePayload
 memberOf m Information = Inner.Member (m .information)
@@ -78,12 +62,6 @@ memberOf m Bare = Inner.None
 memberOf m Other = Inner.None
 
 -- the bytes of its member
-abbrev pub bodyBy : List ℕ → List ℕ → List ℤ → List ℕ → DeviceFeatures → CommandKind → List ℕ
-bodyBy serialNumber name transports deviceType features Information = messageBytes (informationFields serialNumber name transports deviceType)
-bodyBy serialNumber name transports deviceType features Features = messageBytes (featuresFields features)
-bodyBy serialNumber name transports deviceType features Bare = []
-bodyBy serialNumber name transports deviceType features Other = []
-
 abbrev pub bodyOf : Box → CommandKind → List ℕ
 bodyOf b kind = bodyBy (b .serialNumber) (b .name) (b .transports) (b .deviceType) (b .features) kind
 
@@ -104,12 +82,6 @@ badCarried m count Bare = false
 badCarried m count Other = false
 
 -- the strings that are carried, in writing order
-abbrev pub stringsBy : List ℕ → List ℕ → List ℕ → CommandKind → List (ℕ × List ℕ)
-stringsBy serialNumber name deviceType Information = informationStrings serialNumber name deviceType
-stringsBy serialNumber name deviceType Features = []
-stringsBy serialNumber name deviceType Bare = []
-stringsBy serialNumber name deviceType Other = []
-
 abbrev pub stringsOf : Box → CommandKind → List (ℕ × List ℕ)
 stringsOf b kind = stringsBy (b .serialNumber) (b .name) (b .deviceType) kind
 

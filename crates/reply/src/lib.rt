@@ -1,17 +1,4 @@
 // The reply to a finished control transaction, written as joined packets.
-pub mod body;
-pub mod front;
-
-use crate::body::CommandKind;
-use crate::body::Members;
-use crate::body::body_room;
-use crate::body::code_of;
-use crate::body::fault_of;
-use crate::body::kind_of_command;
-use crate::body::put_body;
-use crate::front::Front;
-use crate::front::front_len;
-use crate::front::put_front;
 use control::envelope::EnvelopeRead;
 use control::envelope::Payload;
 use control::envelope::read_envelope;
@@ -23,6 +10,16 @@ use field_writer::message::bad_member;
 use joining::join;
 use joining::joined_len;
 use packet::header;
+use reply_parts::body::CommandKind;
+use reply_parts::body::Members;
+use reply_parts::body::body_room;
+use reply_parts::body::code_of;
+use reply_parts::body::fault_of;
+use reply_parts::body::kind_of_command;
+use reply_parts::body::put_body;
+use reply_parts::front::ReplyFront;
+use reply_parts::front::front_len;
+use reply_parts::front::put_front;
 use sender::writer::Sending;
 use sender::writer::room_fits;
 use text_writer::TextFault;
@@ -38,9 +35,11 @@ ghost use lib.ListN.{length};
 ghost use Rattle.wire.specs.Told.{written};
 ghost use Rattle.joining.specs.Joined.{joinedOf};
 ghost use Rattle.control.specs.Response.{badResponsePayload};
-ghost use Rattle.reply.specs.Front.{frontBytes};
-ghost use Rattle.reply.specs.Reply.{boxOf, sendingOf, memberOf, bodyBy, badCarried, isResponse, joinedIn, carriedOf, sentOf, repliedOf};
-ghost use Rattle.reply.specs.Put.{told, verdictOf, judgedOf, FewCarried, FrontFor, MeasuredAs, PutsReply, Joinable, Carries};
+ghost use Rattle.reply_parts.specs.Front.{frontBytes};
+ghost use Rattle.reply_parts.specs.Body.{bodyBy};
+ghost use Rattle.reply.specs.Reply.{boxOf, sendingOf, memberOf, badCarried, isResponse, joinedIn, carriedOf, sentOf, repliedOf};
+ghost use Rattle.reply_parts.specs.Body.{FewCarried};
+ghost use Rattle.reply.specs.Put.{told, verdictOf, judgedOf, FrontFor, MeasuredAs, PutsReply, Joinable, Carries};
 
 // Where the reply goes: the room, the limit, the transaction's id, and the sequence of its first packet.
 pub struct Link {
@@ -77,7 +76,7 @@ enum Verdict {
 
 enum Measured {
     TooLong,
-    Fits(Front),
+    Fits(ReplyFront),
 }
 
 fn member_of(kind: CommandKind, members: Members) -> ResponsePayload
@@ -126,12 +125,12 @@ fn judge(link: Link, members: Members, count: usize, kind: CommandKind) -> Verdi
 }
 
 // What stands before the member's bytes.
-fn front_for(value: u64, kind: CommandKind, members: Members, body: usize) -> Front
+fn front_for(value: u64, kind: CommandKind, members: Members, body: usize) -> ReplyFront
     ensures { λ r. ⌜ FrontFor value kind members body r ⌝ }
 {
     let code = code_of(kind);
     let member = member_of(kind, members);
-    Front {
+    ReplyFront {
         value,
         code,
         member,
@@ -183,7 +182,7 @@ fn measure(
 // The reply at the end of an output that is exactly as long as its packets, then joined.
 fn put_reply(
     out: &mut [u8],
-    front: Front,
+    front: ReplyFront,
     total: usize,
     how: Sending,
     kind: CommandKind,
@@ -221,7 +220,7 @@ fn put_reply(
 // The reply, if the output holds all of its packets.
 fn fill(
     out: &mut [u8],
-    front: Front,
+    front: ReplyFront,
     link: Link,
     kind: CommandKind,
     serial_number: &[u8],

@@ -19,7 +19,8 @@ use Rattle.field.specs.Signed.{extended}
 use Rattle.text_writer.proofs.Texts.{well-faultless}
 use Rattle.joining.specs.Joined.{joinedOf}
 use Rattle.reply.specs.declared.Link.{Link}
-use Rattle.reply.specs.Reply.{Box, sendingOf, kindOfCommand, replyOf, stringsOf, Replied, sent, joinedIn, carriedOf, sentOf, repliedOf}
+use Rattle.reply_parts.specs.Body.{kindOfCommand}
+use Rattle.reply.specs.Reply.{Box, sendingOf, replyOf, stringsOf, Replied, sent, joinedIn, carriedOf, sentOf, repliedOf}
 use Rattle.reply_claims.specs.Cut.{cutApart}
 use Rattle.reply_claims.specs.Answers.{Answers, ReplyWritten, packetsCut, ReplyArrives}
 use Rattle.reply_claims.proofs.CutApart.{joined-cut-apart}

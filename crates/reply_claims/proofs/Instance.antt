@@ -18,7 +18,7 @@ use Rattle.field.specs.Value.{valueAt}
 use Rattle.field.specs.Varint.{varintAt}
 use Rattle.field_writer.specs.Varint.{varintBytes}
 use Rattle.field_writer.specs.Writer.{tagBytes, headBytes, partBytes, fieldBytes}
-use Rattle.walk.specs.Schema.{roleOf}
+use Rattle.known_fields.specs.Schema.{roleOf}
 use Rattle.walk.specs.Walk.{fieldsFrom, fieldAt, readAt, addedAt, judged}
 use Rattle.control.specs.declared.envelope.Payload.the-variants as Payload
 use Rattle.control.specs.Response.{responseFrom}
@@ -31,7 +31,8 @@ use Rattle.slot.specs.Slot.{lawfulSlot, lawful}
 use Rattle.slot_steps.specs.Step.{finish, hold, dropBy, firstStep, nextStep}
 use Rattle.receiver.specs.Receiver.{ready, readIn, acceptOf}
 use Rattle.delivery.specs.Delivery.{runOf, rowAfter, ours, hasSlot, packetsIn, shown, shownTo, repliesTo, allAnswerable}
-use Rattle.reply.specs.Reply.{sendingOf, kindOfCommand, replyBy, joinedIn, carriedOf, sentOf, repliedOf}
+use Rattle.reply_parts.specs.Body.{kindOfCommand}
+use Rattle.reply.specs.Reply.{sendingOf, replyBy, joinedIn, carriedOf, sentOf, repliedOf}
 use Rattle.reply_claims.specs.Cut.{saidLength, cutApart}
 use Rattle.reply_claims.specs.Answers.{Answers, packetsCut}
 use Rattle.reply_claims.specs.Instance.{asked, answered, ByHand, box, link, information, reply, slots, buffer, output, six, before, begun, later, after, OneReplyArrives}

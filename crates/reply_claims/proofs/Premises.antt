@@ -19,8 +19,9 @@ use Rattle.control.specs.declared.envelope.Payload.the-variants as Payload
 use Rattle.packet.specs.Header.{inRange}
 use Rattle.sender.specs.Writer.{roomFits}
 use Rattle.reply.specs.declared.Link.{Link}
-use Rattle.reply.specs.declared.body.CommandKind.the-variants.{Other}
-use Rattle.reply.specs.Reply.{Box, kindOfCommand, badCarried, stringsOf, isResponse}
+use Rattle.reply_parts.specs.declared.body.CommandKind.the-variants.{Other}
+use Rattle.reply_parts.specs.Body.{kindOfCommand}
+use Rattle.reply.specs.Reply.{Box, badCarried, stringsOf, isResponse}
 use Rattle.reply_claims.specs.Answers.{Answers, AskedInRange, AnswersAll}
 
 room-fits : (room : ℕ) → 20 ≤ room → room ≤ 512 → roomFits room ≡ true

@@ -8,7 +8,7 @@ use lib.IntN.{ℤ, pos, negsuc}
 use lib.ListN.{length, length-append}
 use Rattle.field.specs.Signed.{extended}
 use Rattle.field_writer.specs.Writer.{scalar, nested, headBytes, partBytes, fieldBytes, messageBytes}
-use Rattle.walk.specs.Schema.{responseField}
+use Rattle.known_fields.specs.Schema.{responseField}
 use Rattle.control.specs.declared.response.ResponsePayload.{ResponsePayload}
 use Rattle.control.specs.declared.response.ResponsePayload.the-variants as Inner
 use Rattle.control.specs.declared.envelope.EnvelopePayload.the-variants as Sent
@@ -22,9 +22,10 @@ use Rattle.round_trips.specs.Premises.{InSigned32}
 use Rattle.round_trips.proofs.Values.{whole}
 use Rattle.round_trips.proofs.Premises.{signed, all-signed}
 use Rattle.round_trips.proofs.RoundTrip.{features-read, information-read, envelope-read}
-use Rattle.reply.specs.declared.body.CommandKind.{CommandKind}
-use Rattle.reply.specs.declared.body.CommandKind.the-variants.{Other}
-use Rattle.reply.specs.Reply.{Box, kindOfCommand, bodyOf, replyBy}
+use Rattle.reply_parts.specs.declared.body.CommandKind.{CommandKind}
+use Rattle.reply_parts.specs.declared.body.CommandKind.the-variants.{Other}
+use Rattle.reply_parts.specs.Body.{kindOfCommand}
+use Rattle.reply.specs.Reply.{Box, bodyOf, replyBy}
 use Rattle.reply_claims.specs.ReadAgain.{ResponseReads, BareReads, ReplyReads}
 use Rattle.reply_claims.proofs.Premises.{fine-member, other-kind}
 

@@ -16,9 +16,10 @@ use Rattle.sender.specs.declared.writer.Sending.{Sending}
 use Rattle.joining.specs.Joined.{joinedOf}
 use Rattle.control.specs.declared.envelope.Envelope.{Envelope}
 use Rattle.control.specs.Envelope.{envelopeOf}
-use Rattle.reply.specs.declared.body.CommandKind.{CommandKind}
+use Rattle.reply_parts.specs.declared.body.CommandKind.{CommandKind}
 use Rattle.reply.specs.declared.Link.{Link}
-use Rattle.reply.specs.Reply.{Box, sendingOf, kindOfCommand, bodyOf, replyBy, stringsOf, linkLines, Replied, silent, sent, refusing, faulted, joinedIn, carriedOf, sentOf, isResponse, repliedBy, repliedOf}
+use Rattle.reply_parts.specs.Body.{kindOfCommand}
+use Rattle.reply.specs.Reply.{Box, sendingOf, bodyOf, replyBy, stringsOf, linkLines, Replied, silent, sent, refusing, faulted, joinedIn, carriedOf, sentOf, isResponse, repliedBy, repliedOf}
 use Rattle.reply_claims.specs.Untouched.{NothingWritten}
 
 -- a call that refuses leaves the output as it was

@@ -24,7 +24,8 @@ use Rattle.control.specs.declared.envelope.Payload.the-variants as Payload
 use Rattle.control.specs.Envelope.{envelopeOf}
 use Rattle.joining.specs.Joined.{joinedOf}
 use Rattle.reply.specs.declared.Link.{Link}
-use Rattle.reply.specs.Reply.{Box, sendingOf, kindOfCommand, replyOf, badCarried, stringsOf, isResponse, Replied, silent, sent, repliedOf}
+use Rattle.reply_parts.specs.Body.{kindOfCommand}
+use Rattle.reply.specs.Reply.{Box, sendingOf, replyOf, badCarried, stringsOf, isResponse, Replied, silent, sent, repliedOf}
 use Rattle.reply_claims.specs.Cut.{cutApart}
 
 -- ---- what is answered

@@ -7,7 +7,7 @@ use Rattle.field.specs.Value.{valueAt}
 use Rattle.field.specs.Varint.{varintAt}
 use Rattle.field_writer.specs.Varint.{varintBytes}
 use Rattle.field_writer.specs.Writer.{tagBytes, headBytes, partBytes, fieldBytes}
-use Rattle.walk.specs.Schema.{roleOf}
+use Rattle.known_fields.specs.Schema.{roleOf}
 use Rattle.walk.specs.Walk.{fieldsFrom, fieldAt, readAt, addedAt, judged, withString}
 use Rattle.device.specs.Information.{informationOf, informationWritten}
 use Rattle.round_trips.specs.Worked.{WorkedInformation, informationCases, informationWrites}

@@ -26,11 +26,11 @@ use Rattle.field_writer.specs.Writer.{scalar, text, packed, nested, tagBytes, h
 use Rattle.field_writer.proofs.Varints.{varint-count}
 use Rattle.field_writer.proofs.Runs.{text-some, packed-none, packed-some, joined-length, part-is}
 use Rattle.round_trips.proofs.Values.{At, front, behind, inside, last, taken, cut, varint-trip, signed-trip, extended-fits, tag-trip, number-trip, part-trip}
-use Rattle.walk.specs.declared.schema.Schema.{Schema}
-use Rattle.walk.specs.declared.schema.Role.{Role}
-use Rattle.walk.specs.declared.schema.Role.the-variants.{Scalar, Text, Transports}
+use Rattle.known_fields.specs.declared.Schema.{Schema}
+use Rattle.known_fields.specs.declared.Role.{Role}
+use Rattle.known_fields.specs.declared.Role.the-variants.{Scalar, Text, Transports}
 use Rattle.walk.specs.declared.gathered.Gathered.{Gathered}
-use Rattle.walk.specs.Schema.{roleOf}
+use Rattle.known_fields.specs.Schema.{roleOf}
 use Rattle.walk.specs.Gathered.{nothing, noPart, withScalar, withText, withMember, withTransport}
 use Rattle.walk.specs.Walk.{walk, entryAt, packedFrom, judged, partAdded, addedAt, readAt, withAdded, fieldAt, fieldsFrom}
 use Rattle.round_trips.specs.RoundTrip.{AllSigned32}

@@ -10,7 +10,7 @@ use Rattle.field_writer.specs.Varint.{varintBytes}
 use Rattle.field.specs.Tag.{badTag, tagAt}
 use Rattle.field.specs.Value.{valueAt}
 use Rattle.field_writer.specs.Writer.{tagBytes, headBytes, partBytes, fieldBytes}
-use Rattle.walk.specs.Schema.{roleOf}
+use Rattle.known_fields.specs.Schema.{roleOf}
 use Rattle.walk.specs.Gathered.{withTransport}
 use Rattle.walk.specs.Walk.{entryAt, packedFrom, judged, addedAt, readAt, fieldAt, fieldsFrom, withString}
 use Rattle.control.specs.Response.{responseFrom, responseWritten}

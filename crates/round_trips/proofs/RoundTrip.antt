@@ -18,10 +18,10 @@ use Rattle.field.specs.declared.value.Part.{Part}
 use Rattle.field.specs.Signed.{extended}
 use Rattle.field.specs.Tag.{lastField}
 use Rattle.field_writer.specs.Writer.{Field, scalar, text, packed, nested, partBytes, fieldBytes, messageBytes}
-use Rattle.walk.specs.declared.schema.Schema.{Schema}
-use Rattle.walk.specs.declared.schema.Schema.the-variants as Schema
-use Rattle.walk.specs.declared.schema.Role.{Role}
-use Rattle.walk.specs.declared.schema.Role.the-variants as Role
+use Rattle.known_fields.specs.declared.Schema.{Schema}
+use Rattle.known_fields.specs.declared.Schema.the-variants as Schema
+use Rattle.known_fields.specs.declared.Role.{Role}
+use Rattle.known_fields.specs.declared.Role.the-variants as Role
 use Rattle.device.specs.declared.features.DeviceFeatures.{DeviceFeatures}
 use Rattle.control.specs.declared.response.ResponsePayload.{ResponsePayload}
 use Rattle.control.specs.declared.response.ResponsePayload.the-variants as Inner
@@ -31,7 +31,7 @@ use Rattle.control.specs.declared.envelope.Payload.{Payload}
 use Rattle.control.specs.declared.envelope.Payload.the-variants as Payload
 use Rattle.control.specs.declared.envelope.EnvelopePayload.{EnvelopePayload}
 use Rattle.control.specs.declared.envelope.EnvelopePayload.the-variants as Sent
-use Rattle.walk.specs.Schema.{roleOf, responseField, serialNumberField, nameField, transportsField, deviceTypeField, featuresField, deviceAttributesField}
+use Rattle.known_fields.specs.Schema.{roleOf, responseField, serialNumberField, nameField, transportsField, deviceTypeField, featuresField, deviceAttributesField}
 use Rattle.walk.specs.Gathered.{nothing, withScalar, withText, withMember}
 use Rattle.walk.specs.Walk.{judged, partAdded, withAdded, fieldsFrom}
 use Rattle.field_writer.specs.Message.{writesMessage, badMember}

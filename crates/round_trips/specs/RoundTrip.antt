@@ -23,7 +23,7 @@ use Rattle.control.specs.declared.envelope.EnvelopePayload.{EnvelopePayload}
 use Rattle.control.specs.declared.envelope.EnvelopePayload.the-variants as Sent
 use Rattle.device.specs.declared.information.DeviceInformation.{DeviceInformation}
 use Rattle.device.specs.declared.features.DeviceFeatures.{DeviceFeatures}
-use Rattle.walk.specs.Schema.{responseField}
+use Rattle.known_fields.specs.Schema.{responseField}
 use Rattle.walk.specs.Gathered.{mostTransports}
 use Rattle.control.specs.Response.{responseFrom, responseFields, responseWritten}
 use Rattle.control.specs.Envelope.{envelopeOf, envelopeFields, envelopeWritten}

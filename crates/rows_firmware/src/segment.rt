@@ -1,6 +1,6 @@
 // UpdateComponentSegment: what its reader and its writer tell, as rows.
 use firmware::segment::SegmentRead;
-use firmware_writer::segment::SegmentWrote;
+use segment_writer::SegmentWrote;
 use walk::refusal::MessageRefusal;
 use wire::bytes::wide64;
 ghost use mathlib.Core.Path.{_≡_};
@@ -8,7 +8,7 @@ ghost use mathlib.Core.List.{_++_};
 ghost use lib.ListN.{replicate};
 ghost use Rattle.walk.specs.Refusal.{whyOf, numberMore};
 ghost use Rattle.firmware.specs.Segment.{toldSegment};
-ghost use Rattle.firmware_writer.specs.Segment.{toldSegmentWrote};
+ghost use Rattle.segment_writer.specs.Segment.{toldSegmentWrote};
 ghost use Rattle.rows_messages.specs.Convert.{faultOf, wroteRow};
 ghost use Rattle.rows_firmware.specs.More.{isWide};
 ghost use Rattle.rows_firmware.specs.Segment.{segmentRow};

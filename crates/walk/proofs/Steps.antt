@@ -20,14 +20,14 @@ use Rattle.text.proofs.Places.{whole-well-formed}
 use Rattle.field.proofs.Told.{Sat, sat-any, sat-cond, sat-then, sat-given}
 use Rattle.field.proofs.Varints.{Ends, varint-ends}
 use Rattle.field.proofs.Places.{tag-ends, Held, value-held, within-set}
-use Rattle.walk.specs.declared.schema.Schema.{Schema}
-use Rattle.walk.specs.declared.schema.Role.{Role}
-use Rattle.walk.specs.declared.schema.Role.the-variants.{Scalar, Text, Transports, Nested, Repeated, Member, Unknown}
+use Rattle.known_fields.specs.declared.Schema.{Schema}
+use Rattle.known_fields.specs.declared.Role.{Role}
+use Rattle.known_fields.specs.declared.Role.the-variants.{Scalar, Text, Transports, Nested, Repeated, Member, Unknown}
 use Rattle.walk.specs.declared.gathered.Gathered.{Gathered}
 use Rattle.walk.specs.declared.gathered.FieldVerdict.{FieldVerdict}
 use Rattle.walk.specs.declared.gathered.FieldVerdict.the-variants.{Fine, Refused}
 use Rattle.walk.specs.Gathered.{mostTransports, mostRepeated, nothing, partsGathered, withText, withTransport, fieldJudged, AllText}
-use Rattle.walk.specs.Schema.{roleOf, fitsRole, isMember, isRepeated}
+use Rattle.known_fields.specs.Schema.{roleOf, fitsRole, isMember, isRepeated}
 use Rattle.walk.specs.declared.reader.Added.{Added}
 use Rattle.walk.specs.declared.reader.Added.the-variants as Added
 use Rattle.walk.specs.Walk.{placed, entryAt, packedFrom, judged, valueAdded, addedAt, readAt, withString, withAdded, fieldAt, fieldsFrom}

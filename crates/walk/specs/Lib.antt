@@ -1,4 +1,3 @@
-pub mod Schema
 pub mod Gathered
 pub mod Refusal
 pub mod Walk

@@ -13,16 +13,16 @@ use Rattle.text.specs.WellFormed.{badPlace}
 use Rattle.field.specs.declared.value.Part.{Part}
 use Rattle.field.specs.declared.value.Value.{Value}
 use Rattle.field.specs.declared.value.Value.the-variants.{Number, Bytes, Skipped}
-use Rattle.walk.specs.declared.schema.Schema.{Schema}
-use Rattle.walk.specs.declared.schema.Role.{Role}
-use Rattle.walk.specs.declared.schema.Role.the-variants.{Scalar, Text, Transports, Nested, Repeated, Member, Unknown}
+use Rattle.known_fields.specs.declared.Schema.{Schema}
+use Rattle.known_fields.specs.declared.Role.{Role}
+use Rattle.known_fields.specs.declared.Role.the-variants.{Scalar, Text, Transports, Nested, Repeated, Member, Unknown}
 use Rattle.walk.specs.declared.gathered.Gathered.{Gathered}
 use Rattle.walk.specs.declared.reader.EntryRead.{EntryRead}
 use Rattle.walk.specs.declared.reader.Added.{Added}
 use Rattle.walk.specs.declared.reader.Added.the-variants as Added
 use Rattle.walk.specs.declared.reader.FieldRead.{FieldRead}
 use Rattle.walk.specs.declared.reader.FieldRead.the-variants as FieldRead
-use Rattle.walk.specs.Schema.{roleOf, fitsRole, isMember, isRepeated}
+use Rattle.known_fields.specs.Schema.{roleOf, fitsRole, isMember, isRepeated}
 use Rattle.walk.specs.Gathered.{mostRepeated, nothing, withScalar, withText, withMember, withRepeated, withTransport, fieldJudged}
 
 -- steps from a place to the end of the bytes, each one with the place after it; fuel bounds their number, and as many as there are bytes is enough

@@ -1,10 +1,10 @@
 // What is gathered of a message, field by field.
-use crate::schema::FIRST;
-use crate::schema::SECOND;
-use crate::schema::THIRD;
 use field::Refusal;
 use field::signed::low_signed;
 use field::value::Part;
+use known_fields::FIRST;
+use known_fields::SECOND;
+use known_fields::THIRD;
 ghost use mathlib.Core.Path.{_≡_};
 ghost use Prim.Native.Nat.{_<_};
 ghost use Rattle.walk.specs.Gathered.{mostRepeated, nothing, withScalar, withText, withMember, withRepeated, withTransport, toldGrown};

@@ -3,7 +3,6 @@
 use captures::Front;
 use captures::WIDTH;
 use captures::front_of;
-use judge::SenderSlot;
 use judge::State;
 use judge::capture::Judgement;
 use judge::capture::Refusal;
@@ -20,6 +19,7 @@ use next_packet::next_packet;
 use packet::header;
 use packet::reader;
 use packet::reader::Packet;
+use sender_slot::SenderSlot;
 use wire::bytes::byte_at;
 use wire::bytes::smaller;
 use wire::bytes::wide;

@@ -19,7 +19,7 @@ use Rattle.field_writer.specs.Varint.{varintBytes}
 use Rattle.field.specs.Tag.{badTag, tagAt}
 use Rattle.field.specs.Value.{valueAt}
 use Rattle.field_writer.specs.Writer.{tagBytes, headBytes, partBytes, fieldBytes}
-use Rattle.walk.specs.Schema.{roleOf}
+use Rattle.known_fields.specs.Schema.{roleOf}
 use Rattle.walk.specs.Walk.{judged, addedAt, readAt, fieldAt, fieldsFrom}
 use Rattle.control.specs.Response.{responseFrom}
 use Rattle.control.specs.Envelope.{payloadOf, envelopeOf, envelopeWritten}

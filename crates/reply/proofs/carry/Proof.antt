@@ -7,8 +7,9 @@ use denote.Ref.{now}
 use Rattle.wire.proofs.Limits.{limit-range}
 use Rattle.packet.proofs.Headers.{in-range-low}
 use Rattle.sender.proofs.Guard.{room-low}
-use Rattle.reply.specs.Front.{frontBytes}
-use Rattle.reply.specs.Reply.{boxOf, sendingOf, bodyBy, joinedIn}
+use Rattle.reply_parts.specs.Front.{frontBytes}
+use Rattle.reply_parts.specs.Body.{bodyBy}
+use Rattle.reply.specs.Reply.{boxOf, sendingOf, joinedIn}
 use Rattle.reply.proofs.Replies.{member-fine, few-by}
 use Rattle.reply.proofs.Tables.{too-long, bad-text, carried}
 use borrow.Author.Needs.{needs}

@@ -11,8 +11,9 @@ use Rattle.sender.specs.Piece.{piecesOf}
 use Rattle.joining.specs.Joined.{joinedOf, sizes}
 use Rattle.joining.proofs.Pieces.{joined-long}
 use Rattle.joining.proofs.Guards.{joined-length}
-use Rattle.reply.specs.Front.{frontBytes}
-use Rattle.reply.specs.Reply.{sendingOf, bodyBy, Replied, sent}
+use Rattle.reply_parts.specs.Front.{frontBytes}
+use Rattle.reply_parts.specs.Body.{bodyBy}
+use Rattle.reply.specs.Reply.{sendingOf, Replied, sent}
 use Rattle.reply.proofs.Puts.{over-first, no-output, is-joined}
 use borrow.Author.Needs.{needs}
 use Rattle.reply.proofs.fill.Statement.{statement}

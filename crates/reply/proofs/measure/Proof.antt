@@ -3,8 +3,8 @@ use mathlib.Core.Path.{sym, _∙_}
 use lib.ListN.{length}
 use denote.Ref.{now}
 use Rattle.field_writer.proofs.Messages.{room-short}
-use Rattle.reply.specs.Reply.{bodyBy}
-use Rattle.reply.proofs.Rooms.{left-is}
+use Rattle.reply_parts.specs.Body.{bodyBy}
+use Rattle.reply_parts.proofs.Rooms.{left-is}
 use Rattle.reply.proofs.Replies.{whole-by, body-within, counted}
 use borrow.Author.Needs.{needs}
 use Rattle.reply.proofs.measure.Statement.{statement}

@@ -6,8 +6,8 @@ use lib.Seq.{length-sets}
 use denote.Ref.{now}
 use borrow.Rule.Slice.PartMut.{putMid}
 use Rattle.wire.proofs.Parts.{sets-part}
-use Rattle.reply.specs.Front.{frontBytes}
-use Rattle.reply.specs.Reply.{bodyBy}
+use Rattle.reply_parts.specs.Front.{frontBytes}
+use Rattle.reply_parts.specs.Body.{bodyBy}
 use Rattle.joining.proofs.Pieces.{total-fits}
 use Rattle.reply.proofs.Puts.{reply-joined}
 use borrow.Author.Needs.{needs}

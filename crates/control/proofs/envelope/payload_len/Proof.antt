@@ -8,7 +8,7 @@ use denote.Ref.{now}
 use Rattle.field.specs.Signed.{extended}
 use Rattle.field_writer.specs.Writer.{headBytes, messageBytes}
 use Rattle.field_writer.proofs.Runs.{joined-length, part-is, nested-last}
-use Rattle.walk.specs.Schema.{responseField}
+use Rattle.known_fields.specs.Schema.{responseField}
 use Rattle.field_writer.specs.Message.{badMember}
 use Rattle.control.specs.Response.{responseFields}
 use Rattle.field_writer.proofs.Messages.{or-false, member-fits}

@@ -8,7 +8,7 @@ use denote.Ref.{now}
 use Rattle.field.specs.Signed.{extended}
 use Rattle.field_writer.specs.Writer.{scalar, messageBytes}
 use Rattle.field_writer.proofs.Runs.{put-field, message-length}
-use Rattle.walk.specs.Schema.{commandField}
+use Rattle.known_fields.specs.Schema.{commandField}
 use Rattle.control.specs.Envelope.{badPayload, payloadFields, envelopeFields, envelopeWritten}
 use Rattle.field_writer.proofs.Messages.{wrote-bad, wrote-short, wrote}
 use borrow.Author.Needs.{needs}

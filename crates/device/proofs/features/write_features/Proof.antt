@@ -5,7 +5,7 @@ use Prim.Native.Nat.{_+_}
 use lib.ListN.{length}
 use Rattle.field_writer.specs.Writer.{scalar, messageBytes}
 use Rattle.field_writer.proofs.Runs.{put-end, put-field, message-length}
-use Rattle.walk.specs.Schema.{featuresField, deviceAttributesField}
+use Rattle.known_fields.specs.Schema.{featuresField, deviceAttributesField}
 use Rattle.device.specs.Features.{featuresFields, featuresWritten}
 use Rattle.field_writer.proofs.Messages.{wrote-short, wrote}
 use borrow.Author.Needs.{needs}

@@ -1,11 +1,11 @@
 use mathlib.Core.Path.{_≡_, ap, sym, _∙_}
 use denote.Ref.{now}
 use Rattle.wire.specs.Told.{given, refused}
-use Rattle.walk.specs.declared.schema.Schema.the-variants as Schema
+use Rattle.known_fields.specs.declared.Schema.the-variants as Schema
 use Rattle.walk.specs.Refusal.{whyOf, judgedAs}
 use Rattle.walk.specs.Walk.{fieldsFrom}
 use lib.ListN.{getD}
-use Rattle.walk.specs.Schema.{first}
+use Rattle.known_fields.specs.Schema.{first}
 use Rattle.firmware.specs.Apply.{isTrue, toldApply, withApply}
 use Rattle.firmware.specs.declared.apply.ApplyFirmware.{ApplyFirmware}
 use Rattle.walk.specs.declared.refusal.WalkVerdict.the-variants.{Fine}

@@ -10,10 +10,10 @@ use Rattle.field_writer.specs.declared.message.Room.the-variants.{Left}
 use Rattle.field_writer.specs.Message.{lessRoom}
 use Rattle.field_writer.proofs.Runs.{put-field, put-then}
 use Rattle.field_writer.proofs.Messages.{wrote-short, wrote, room-short}
-use Rattle.walk.specs.Schema.{firmwareInformationField, restartRequiredField}
+use Rattle.known_fields.specs.Schema.{firmwareInformationField, restartRequiredField}
 use Rattle.firmware_writer.specs.Information.{badFirmware, firmwareFields}
 use Rattle.firmware_writer.specs.Apply.{boolValue, applyFields}
-use Rattle.firmware_writer.proofs.Fields.{room-rest, nested-is, put-last}
+use Rattle.field_writer.proofs.Rooms.{room-rest, nested-is, put-last}
 use Rattle.firmware_writer.proofs.Texts.{apply-length}
 use borrow.Author.Needs.{needs}
 use Rattle.firmware_writer.proofs.apply.fill_apply.Statement.{statement}

@@ -8,9 +8,9 @@ use lib.ListN.{length, take, drop, getD}
 use Rattle.field_writer.specs.Writer.{messageBytes}
 use Rattle.field_writer.specs.Message.{lessRoom}
 use Rattle.firmware.specs.Component.{noComponent}
-use Rattle.firmware_writer.specs.Component.{componentField}
+use Rattle.component_writer.specs.Component.{componentField}
 use Rattle.firmware_writer.specs.Information.{badComponents}
-use Rattle.firmware_writer.proofs.Fields.{room-end, room-more}
+use Rattle.field_writer.proofs.Rooms.{room-end, room-more}
 use Rattle.firmware_writer.proofs.Texts.{components-fine}
 use Rattle.firmware_writer.proofs.Listed.{listed-here, listed-end}
 use borrow.Author.Needs.{needs}

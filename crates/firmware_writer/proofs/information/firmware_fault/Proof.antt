@@ -2,7 +2,7 @@ use mathlib.Core.Path.{sym}
 use mathlib.Core.List.{[], _∷_}
 use denote.Ref.{now}
 use Rattle.field.specs.Value.{bytesOf}
-use Rattle.walk.specs.Schema.{firmwareNameField, localeField, versionNameField}
+use Rattle.known_fields.specs.Schema.{firmwareNameField, localeField, versionNameField}
 use Rattle.text_writer.specs.declared.TextFault.the-variants.{None}
 use Rattle.text_writer.specs.Texts.{orText}
 use Rattle.firmware_writer.specs.Information.{present, componentsStrings}

@@ -2,12 +2,12 @@ use mathlib.Core.List.{[], _∷_, _++_, map}
 use denote.Ref.{now}
 use Rattle.field.specs.Value.{bytesOf}
 use Rattle.field_writer.specs.Writer.{scalar, text}
-use Rattle.walk.specs.Schema.{firmwareVersionField, firmwareNameField, localeField, versionNameField}
-use Rattle.firmware_writer.specs.Component.{componentField}
+use Rattle.known_fields.specs.Schema.{firmwareVersionField, firmwareNameField, localeField, versionNameField}
+use Rattle.component_writer.specs.Component.{componentField}
 use Rattle.firmware_writer.specs.Information.{present}
 use Rattle.field_writer.specs.declared.message.Room.the-variants.{Left}
 use Rattle.firmware_writer.proofs.Texts.{firmware-fine}
-use Rattle.firmware_writer.proofs.Fields.{room-end, room-more, room-join}
+use Rattle.field_writer.proofs.Rooms.{room-end, room-more, room-join}
 use borrow.Author.Needs.{needs}
 use Rattle.firmware_writer.proofs.information.firmware_room.Statement.{statement}
 use Rattle.firmware_writer.proofs.information.firmware_room.Tie as tie

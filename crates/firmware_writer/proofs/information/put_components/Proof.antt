@@ -11,7 +11,7 @@ use Rattle.field_writer.specs.Writer.{Field, fieldBytes, messageBytes}
 use Rattle.field_writer.proofs.Runs.{message-length}
 use Rattle.firmware.specs.declared.component.FirmwareComponent.{FirmwareComponent}
 use Rattle.firmware.specs.Component.{noComponent}
-use Rattle.firmware_writer.specs.Component.{componentField}
+use Rattle.component_writer.specs.Component.{componentField}
 use Rattle.firmware_writer.specs.Information.{badComponents}
 use Rattle.firmware_writer.proofs.Texts.{components-fine}
 use Rattle.firmware_writer.proofs.Listed.{listed-here, listed-end}

@@ -2,13 +2,13 @@ use mathlib.Core.List.{[], _∷_, _++_, map}
 use denote.Ref.{now}
 use Rattle.field.specs.Value.{bytesOf}
 use Rattle.field_writer.specs.Writer.{scalar, text}
-use Rattle.walk.specs.Schema.{firmwareVersionField, firmwareNameField, localeField, versionNameField}
-use Rattle.firmware_writer.specs.Component.{componentField}
+use Rattle.known_fields.specs.Schema.{firmwareVersionField, firmwareNameField, localeField, versionNameField}
+use Rattle.component_writer.specs.Component.{componentField}
 use Rattle.firmware_writer.specs.Information.{present}
 use native.Mathlib.Omega.{arith}
 use Rattle.firmware_writer.proofs.Texts.{firmware-fine, firmware-length}
 use Rattle.field_writer.proofs.Runs.{put-field}
-use Rattle.firmware_writer.proofs.Fields.{put-join, put-last}
+use Rattle.field_writer.proofs.Rooms.{put-join, put-last}
 use borrow.Author.Needs.{needs}
 use Rattle.firmware_writer.proofs.information.put_firmware.Statement.{statement}
 use Rattle.firmware_writer.proofs.information.put_firmware.Tie as tie

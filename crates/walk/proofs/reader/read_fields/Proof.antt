@@ -9,7 +9,7 @@ use Rattle.wire.specs.Told.{Told, ToldMore, alone, given, refused, andThen}
 use Rattle.walk.specs.declared.gathered.Gathered.{Gathered}
 use Rattle.walk.specs.declared.gathered.Grown.{Grown}
 use Rattle.walk.specs.declared.gathered.FieldVerdict.{FieldVerdict}
-use Rattle.walk.specs.declared.schema.Schema.{Schema}
+use Rattle.known_fields.specs.declared.Schema.{Schema}
 use Rattle.field.specs.declared.value.Part.{Part}
 use Rattle.walk.specs.declared.reader.Added.{Added}
 use Rattle.walk.specs.declared.reader.Added.the-variants as Added

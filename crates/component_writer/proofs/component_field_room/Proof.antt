@@ -1,0 +1,83 @@
+use Prim.Native.Nat.{_-_, _≤_}
+use mathlib.Core.Path.{_≡_, sym, ap, _∙_}
+use native.Mathlib.Omega.{arith}
+use denote.Ref.{now}
+use lib.ListN.{length}
+use Rattle.field_writer.specs.Writer.{headBytes, messageBytes}
+use Rattle.field_writer.specs.declared.message.Room.the-variants.{Left}
+use Rattle.field_writer.specs.Message.{lessRoom}
+use Rattle.known_fields.specs.Schema.{componentsField}
+use Rattle.component_writer.specs.Component.{componentFields}
+use Rattle.field_writer.proofs.Rooms.{room-rest, nested-short, nested-left}
+use borrow.Author.Needs.{needs}
+use Rattle.component_writer.proofs.component_field_room.Statement.{statement}
+use Rattle.component_writer.proofs.component_field_room.Tie as tie
+
+-- what a component leaves of the room
+left-over : (c : tie.After-known-told2) → lessRoom (length (messageBytes (componentFields (now (c .before .before .before .before .before .before .before .before .args .texts)) (c .before .before .before .before .before .before .before .before .args .component)))) (Left (c .before .before .before .before .before .room .given .0 .0)) ≡ Left (c .before .rest .given .0 .0)
+left-over c = sym (c .before .before .before .component-room .ensures) ∙ c .before .rest .given .1
+
+spent : (c : tie.After-known-told2) → let n = length (messageBytes (componentFields (now (c .before .before .before .before .before .before .before .before .args .texts)) (c .before .before .before .before .before .before .before .before .args .component))) in
+    (c .before .rest .given .0 .0 ≡ c .before .before .before .before .before .room .given .0 .0 - n) × (n ≤ c .before .before .before .before .before .room .given .0 .0)
+spent c =
+    let n = length (messageBytes (componentFields (now (c .before .before .before .before .before .before .before .before .args .texts)) (c .before .before .before .before .before .before .before .before .args .component))) in
+    room-rest (c .before .before .before .before .before .room .given .0 .0) n (c .before .rest .given .0 .0) (left-over c)
+
+enum-told : tie.Need-enum-told
+enum-told c = search needs
+
+enum-known-room : tie.Need-enum-known-room
+enum-known-room c = search needs
+
+component-room-requires : tie.Need-component-room-requires
+component-room-requires c κs = search needs
+
+enum-told-2 : tie.Need-enum-told-2
+enum-told-2 c = search needs
+
+enum-known-rest : tie.Need-enum-known-rest
+enum-known-rest c = search needs
+
+sub-head-len : tie.Need-sub-head-len
+sub-head-len c = omega (arith, spent c)
+
+head-len-requires : tie.Need-head-len-requires
+head-len-requires c κs = search needs
+
+less-requires : tie.Need-less-requires
+less-requires c κs = search needs
+
+returns : tie.Need-returns
+returns c = search needs
+
+returns-2 : tie.Need-returns-2
+returns-2 c =
+    let a = c .before .before .before .before .before .before .before .args in
+    rw (c .before .before .before .before .room .given .1)
+    (nested-short componentsField (c .before .before .before .before .room .given .0 .0) (messageBytes (componentFields (now (a .texts)) (a .component))) (sym (c .before .before .component-room .ensures) ∙ c .enum-told2 .given .1))
+
+returns-3 : tie.Need-returns-3
+returns-3 c =
+    let a = c .before .before .before .before .before .before .before .before .before .before .args in
+    let k = c .before .before .before .before .before .before .before .room .given .0 .0 in
+    let l = messageBytes (componentFields (now (a .texts)) (a .component)) in
+    let e = left-over (c .before .before) in
+    let n : k - c .before .before .before .rest .given .0 .0 ≡ length l = omega (arith, spent (c .before .before)) in
+    rw (c .before .before .before .before .before .before .before .room .given .1)
+    (nested-left componentsField k (c .before .before .before .rest .given .0 .0) l e (c .before .head-len .ensures .0 ∙ ap (λ x. length (headBytes componentsField x)) n) (c .less .ensures))
+
+pub component-field-room-spec : {M : Type 1} → statement M
+component-field-room-spec =
+    tie.close
+    (tie.spec
+    enum-told
+    enum-known-room
+    component-room-requires
+    enum-told-2
+    enum-known-rest
+    sub-head-len
+    head-len-requires
+    less-requires
+    returns
+    returns-2
+    returns-3)

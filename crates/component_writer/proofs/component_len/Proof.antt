@@ -1,0 +1,59 @@
+use native.Mathlib.Omega.{arith}
+use denote.Ref.{now}
+use Rattle.component_writer.proofs.Inside.{component-fine, component-length}
+use borrow.Author.Needs.{needs}
+use Rattle.component_writer.proofs.component_len.Statement.{statement}
+use Rattle.component_writer.proofs.component_len.Tie as tie
+
+cast-scalar-len : tie.Need-cast-scalar-len
+cast-scalar-len c = search needs
+
+scalar-len-requires : tie.Need-scalar-len-requires
+scalar-len-requires c κs = search needs
+
+text-part-len-requires : tie.Need-text-part-len-requires
+text-part-len-requires c κs = (search needs, component-fine (now (c .before .before .before .before .before .args .texts)) (c .before .before .before .before .before .args .component) (c .before .before .before .before .before .pre .0) .0)
+
+cast-scalar-len-2 : tie.Need-cast-scalar-len-2
+cast-scalar-len-2 c = search needs
+
+scalar-len-requires-2 : tie.Need-scalar-len-requires-2
+scalar-len-requires-2 c κs = search needs
+
+text-part-len-requires-2 : tie.Need-text-part-len-requires-2
+text-part-len-requires-2 c κs = (search needs, component-fine (now (c .before .before .before .before .before .before .before .before .args .texts)) (c .before .before .before .before .before .before .before .before .args .component) (c .before .before .before .before .before .before .before .before .pre .0) .1)
+
+add-result : tie.Need-add-result
+add-result c =
+    let a = c .before .before .before .before .before .before .before .before .before .args in
+    omega (arith, c .before .before .before .before .before .before .before .before .before .pre .1, component-length (now (a .texts)) (a .component), c .before .before .before .before .scalar-len .ensures .0, c .before .before .before .text-part-len .ensures, c .before .scalar-len2 .ensures .0, c .text-part-len2 .ensures)
+
+add-result-2 : tie.Need-add-result-2
+add-result-2 c =
+    let a = c .before .before .before .before .before .before .before .before .before .args in
+    omega (arith, c .before .before .before .before .before .before .before .before .before .pre .1, component-length (now (a .texts)) (a .component), c .before .before .before .before .scalar-len .ensures .0, c .before .before .before .text-part-len .ensures, c .before .scalar-len2 .ensures .0, c .text-part-len2 .ensures)
+
+add-result-3 : tie.Need-add-result-3
+add-result-3 c =
+    let a = c .before .before .before .before .before .before .before .before .before .args in
+    omega (arith, c .before .before .before .before .before .before .before .before .before .pre .1, component-length (now (a .texts)) (a .component), c .before .before .before .before .scalar-len .ensures .0, c .before .before .before .text-part-len .ensures, c .before .scalar-len2 .ensures .0, c .text-part-len2 .ensures)
+
+returns : tie.Need-returns
+returns c =
+    let a = c .before .before .before .before .before .before .before .before .before .args in
+    omega (arith, c .before .before .before .before .before .before .before .before .before .pre .1, component-length (now (a .texts)) (a .component), c .before .before .before .before .scalar-len .ensures .0, c .before .before .before .text-part-len .ensures, c .before .scalar-len2 .ensures .0, c .text-part-len2 .ensures)
+
+pub component-len-spec : {M : Type 1} → statement M
+component-len-spec =
+    tie.close
+    (tie.spec
+    cast-scalar-len
+    scalar-len-requires
+    text-part-len-requires
+    cast-scalar-len-2
+    scalar-len-requires-2
+    text-part-len-requires-2
+    add-result
+    add-result-2
+    add-result-3
+    returns)

@@ -1,0 +1,69 @@
+use mathlib.Core.List.{[], _∷_}
+use denote.Ref.{now}
+use Rattle.field.specs.Value.{bytesOf}
+use Rattle.field_writer.specs.Writer.{scalar, text}
+use Rattle.field_writer.specs.declared.message.Room.the-variants.{Left}
+use Rattle.known_fields.specs.Schema.{firmwareComponentVersionField, firmwareComponentNameField, firmwareComponentSizeField, firmwareComponentSignatureField}
+use Rattle.component_writer.proofs.Inside.{component-fine}
+use Rattle.field_writer.proofs.Rooms.{room-end, room-more}
+use borrow.Author.Needs.{needs}
+use Rattle.component_writer.proofs.component_room.Statement.{statement}
+use Rattle.component_writer.proofs.component_room.Tie as tie
+
+cast-scalar-len : tie.Need-cast-scalar-len
+cast-scalar-len c = search needs
+
+scalar-len-requires : tie.Need-scalar-len-requires
+scalar-len-requires c κs = search needs
+
+less-requires : tie.Need-less-requires
+less-requires c κs = search needs
+
+text-part-len-requires : tie.Need-text-part-len-requires
+text-part-len-requires c κs = (search needs, component-fine (now (c .before .before .before .before .before .before .args .texts)) (c .before .before .before .before .before .before .args .component) (c .before .before .before .before .before .before .pre) .0)
+
+less-requires-2 : tie.Need-less-requires-2
+less-requires-2 c κs = search needs
+
+cast-scalar-len-2 : tie.Need-cast-scalar-len-2
+cast-scalar-len-2 c = search needs
+
+scalar-len-requires-2 : tie.Need-scalar-len-requires-2
+scalar-len-requires-2 c κs = search needs
+
+less-requires-3 : tie.Need-less-requires-3
+less-requires-3 c κs = search needs
+
+text-part-len-requires-2 : tie.Need-text-part-len-requires-2
+text-part-len-requires-2 c κs = (search needs, component-fine (now (c .before .before .before .before .before .before .before .before .before .before .before .args .texts)) (c .before .before .before .before .before .before .before .before .before .before .before .args .component) (c .before .before .before .before .before .before .before .before .before .before .before .pre) .1)
+
+less-requires-4 : tie.Need-less-requires-4
+less-requires-4 c κs = search needs
+
+returns : tie.Need-returns
+returns c =
+    let a = c .before .before .before .before .before .before .before .before .before .before .before .before .before .args in
+    let f₁ = scalar firmwareComponentVersionField (a .component .version) in
+    let f₂ = text firmwareComponentNameField (bytesOf (now (a .texts)) (a .component .name)) in
+    let f₃ = scalar firmwareComponentSizeField (a .component .size) in
+    let f₄ = text firmwareComponentSignatureField (bytesOf (now (a .texts)) (a .component .signature)) in
+    room-more f₁ (f₂ ∷ f₃ ∷ f₄ ∷ []) (Left (a .len)) (c .before .before .before .before .before .before .before .before .scalar-len .ensures .0) (c .before .before .before .before .before .before .before .less .ensures)
+    (room-more f₂ (f₃ ∷ f₄ ∷ []) (c .before .before .before .before .before .before .before .less .result) (c .before .before .before .before .before .before .text-part-len .ensures) (c .before .before .before .before .before .less2 .ensures)
+    (room-more f₃ (f₄ ∷ []) (c .before .before .before .before .before .less2 .result) (c .before .before .before .scalar-len2 .ensures .0) (c .before .before .less3 .ensures)
+    (room-more f₄ [] (c .before .before .less3 .result) (c .before .text-part-len2 .ensures) (c .less4 .ensures) (room-end (c .less4 .result)))))
+
+pub component-room-spec : {M : Type 1} → statement M
+component-room-spec =
+    tie.close
+    (tie.spec
+    cast-scalar-len
+    scalar-len-requires
+    less-requires
+    text-part-len-requires
+    less-requires-2
+    cast-scalar-len-2
+    scalar-len-requires-2
+    less-requires-3
+    text-part-len-requires-2
+    less-requires-4
+    returns)

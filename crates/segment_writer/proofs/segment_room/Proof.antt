@@ -1,0 +1,53 @@
+use mathlib.Core.Path.{refl}
+use mathlib.Core.List.{[], _∷_}
+use denote.Ref.{now}
+use Rattle.field_writer.specs.Writer.{scalar, text}
+use Rattle.field_writer.specs.declared.message.Room.the-variants.{Left}
+use Rattle.field_writer.proofs.Runs.{scalar-none}
+use Rattle.known_fields.specs.Schema.{componentNameField, componentOffsetField, segmentSizeField, segmentSignatureField}
+use Rattle.field_writer.proofs.Rooms.{room-end, room-more, room-skip}
+use borrow.Author.Needs.{needs}
+use Rattle.segment_writer.proofs.segment_room.Statement.{statement}
+use Rattle.segment_writer.proofs.segment_room.Tie as tie
+
+text-len-requires : tie.Need-text-len-requires
+text-len-requires c κs = search needs
+
+less-requires : tie.Need-less-requires
+less-requires c κs = search needs
+
+scalar-len-requires : tie.Need-scalar-len-requires
+scalar-len-requires c κs = search needs
+
+less-requires-2 : tie.Need-less-requires-2
+less-requires-2 c κs = search needs
+
+text-len-requires-2 : tie.Need-text-len-requires-2
+text-len-requires-2 c κs = search needs
+
+less-requires-3 : tie.Need-less-requires-3
+less-requires-3 c κs = search needs
+
+returns : tie.Need-returns
+returns c =
+    let a = c .before .before .before .before .before .before .before .before .args in
+    let f₁ = text componentNameField (now (a .component-name)) in
+    let f₂ = scalar componentOffsetField 0 in
+    let f₃ = scalar segmentSizeField (a .segment-size) in
+    let f₄ = text segmentSignatureField (now (a .segment-signature)) in
+    room-more f₁ (f₂ ∷ f₃ ∷ f₄ ∷ []) (Left (a .len)) (c .before .before .before .before .before .text-len .ensures .0) (c .before .before .before .before .less .ensures)
+    (room-skip f₂ (f₃ ∷ f₄ ∷ []) (c .before .before .before .before .less .result) (scalar-none componentOffsetField 0 refl)
+    (room-more f₃ (f₄ ∷ []) (c .before .before .before .before .less .result) (c .before .before .before .scalar-len .ensures .0) (c .before .before .less2 .ensures)
+    (room-more f₄ [] (c .before .before .less2 .result) (c .before .text-len2 .ensures .0) (c .less3 .ensures) (room-end (c .less3 .result)))))
+
+pub segment-room-spec : {M : Type 1} → statement M
+segment-room-spec =
+    tie.close
+    (tie.spec
+    text-len-requires
+    less-requires
+    scalar-len-requires
+    less-requires-2
+    text-len-requires-2
+    less-requires-3
+    returns)
