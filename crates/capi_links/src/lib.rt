@@ -158,7 +158,7 @@ pub extern "C" fn pito_ack_write(
 
 // ---- Low Energy: receiving
 
-// Opens a receiver for a link with a limit: its empty state.
+// Opens a receiver for a link with a limit: its state.
 #[no_mangle]
 pub extern "C" fn pito_receiver_open(limit: u64, state: &mut [u64]) -> u64
     ensures { λ r. ⌜ called r (now (state .exit)) [] [] ≡ receiverOpenOf limit (now (state .entry)) ⌝ }

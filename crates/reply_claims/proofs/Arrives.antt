@@ -1,5 +1,5 @@
 -- The reply is written, and arrives.
-use Prim.Native.Nat.{ℕ}
+use Prim.Native.Nat.{ℕ, _≤_}
 use native.Mathlib.Omega.{arith}
 use mathlib.Core.Path.{_≡_, sym, ap, _∙_}
 use mathlib.Core.List.{List}
@@ -35,13 +35,16 @@ module _ (b : Box) (l : Link) (message : List ℕ) (c : ℤ) (out : List ℕ) (a
   abbrev whole : WrittenOf (ℕ × List ℕ) Replied
   whole = written (given (sent (length (joinedOf w reply)))) (sets out 0 (joinedOf w reply))
 
+  within : length reply ≤ l .limit
+  within = let h = a .within in omega (arith, h)
+
   is-joined : joinedIn w reply out ≡ whole
   unfolding joinedIn
   is-joined = rw (le-ltb (length out) (length (joinedOf w reply)) (a .space))
 
   is-carried : carriedOf b l (extended c) (kindOfCommand (extended c)) out ≡ whole
   unfolding carriedOf
-  is-carried = rw (le-ltb (l .limit) (length reply) (a .within), well-faultless (stringsOf b (kindOfCommand (extended c))) (a .strings)) is-joined
+  is-carried = rw (le-ltb (l .limit) (length reply) within, well-faultless (stringsOf b (kindOfCommand (extended c))) (a .strings)) is-joined
 
   is-sent : sentOf b l (extended c) out ≡ whole
   unfolding sentOf
@@ -58,7 +61,7 @@ module _ (b : Box) (l : Link) (message : List ℕ) (c : ℤ) (out : List ℕ) (a
       record {
         range = a .limit;
         room = a .room;
-        arguments = simp (a .range, le-leb (length reply) (l .limit) (a .within));
+        arguments = simp (a .range, le-leb (length reply) (l .limit) within);
         space = rw (length-replicate {A = ℕ} (l .room) 0) (omega arith);
       }
 

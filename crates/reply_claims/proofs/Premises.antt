@@ -42,6 +42,7 @@ answers-by : (b : Box) (l : Link) (message : List ℕ) (c : ℤ) (out : List ℕ
     → AllWellFormed (stringsOf b (kindOfCommand (extended c)))
     → Answers b l message c out
 answers-by b l message c out k carried strings =
+    let h = k .reply-within in
     record {
       payload = k .payload;
       reads = k .reads;
@@ -51,7 +52,7 @@ answers-by b l message c out k carried strings =
       range = in-range (l .id) (l .sequence) (k .id) (k .sequence);
       carried = carried;
       strings = strings;
-      within = k .within;
+      within = omega (arith, h);
       space = k .space;
     }
 

@@ -57,7 +57,7 @@ pub record AskedInRange (b : Box) (l : Link) (message : List ℕ) (c : ℤ) (out
   pub limit-high : l .limit ≤ 65535
   pub id : l .id ≤ 15
   pub sequence : l .sequence ≤ 15
-  pub within : length (replyOf b (extended c)) ≤ l .limit
+  pub reply-within : length (replyOf b (extended c)) ≤ l .limit
   pub space : length (joinedOf (sendingOf l) (replyOf b (extended c))) ≤ length out
 
 -- Those, and of what the reply carries its own ranges, and nothing else: no premise asks for more.

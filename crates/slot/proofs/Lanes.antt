@@ -12,8 +12,8 @@ use borrow.Author.Tests.{eq-eqb, eqb-true, eqb-false, ltb-true, ltb-false}
 use Rattle.wire.specs.declared.stream.Stream.{Stream}
 use Rattle.wire.specs.declared.stream.Stream.the-variants.{Control, Ota, Alexa}
 use Rattle.slot.specs.declared.Slot.{Slot}
-use Rattle.slot.specs.Slot.{opens, idle, isOpen, anyOpen, lawfulSlot, allLawful, distinct, laneLaw, slotsEach, slotCount, laneNumber, laneStart, laneOf, lawful}
-use Rattle.slot.proofs.Slots.{all-set, distinct-set, LawfulRow}
+use Rattle.slot.specs.Slot.{opens, idle, isOpen, anyOpen, idleLaw, lawfulSlot, allLawful, distinct, laneLaw, slotsEach, slotCount, laneNumber, laneStart, laneOf, lawful}
+use Rattle.slot.proofs.Slots.{idle-lane, all-set, distinct-set, LawfulRow}
 
 -- the stream of a lane
 streamAt : ℕ → Stream
@@ -114,6 +114,17 @@ law-four limit (a ∷ b ∷ []) n = absurd (omega arith)
 law-four limit (a ∷ b ∷ c ∷ []) n = absurd (omega arith)
 law-four limit (a ∷ b ∷ c ∷ d ∷ []) n = simp (and-true, and-false)
 law-four limit (a ∷ b ∷ c ∷ d ∷ e ∷ l) n = absurd (omega arith)
+
+-- four idle ones
+pub idle-four : (limit : ℕ) (lane : List Slot) → length lane ≡ slotsEach
+    → (idleLaw (getD lane 0 idle) && (idleLaw (getD lane 1 idle) && (idleLaw (getD lane 2 idle) && idleLaw (getD lane 3 idle)))) ≡ true
+    → laneLaw limit lane ≡ true
+idle-four limit [] n e = absurd (omega arith)
+idle-four limit (a ∷ []) n e = absurd (omega arith)
+idle-four limit (a ∷ b ∷ []) n e = absurd (omega arith)
+idle-four limit (a ∷ b ∷ c ∷ []) n e = absurd (omega arith)
+idle-four limit (a ∷ b ∷ c ∷ d ∷ []) n e = idle-lane limit (a ∷ b ∷ c ∷ d ∷ []) (simp (and-true) e)
+idle-four limit (a ∷ b ∷ c ∷ d ∷ f ∷ l) n e = absurd (omega arith)
 
 all-split : (limit n : ℕ) (l : List Slot) → allLawful limit l ≡ (allLawful limit (take n l) && allLawful limit (drop n l))
 all-split limit zero l = refl

@@ -1,18 +1,65 @@
 -- Laws of lawful slots and rows.
-use Prim.Native.Nat.{ℕ, zero, suc, _≤_, _<_}
+use Prim.Native.Nat.{ℕ, zero, suc, _+_, _*_, _≤_, _<_}
+use native.Mathlib.Omega.{arith}
 use mathlib.Core.Path.{_≡_, refl, sym, _∙_}
 use mathlib.Core.List.{List, [], _∷_}
 use mathlib.Core.Bool.{Bool, true, false, not, _&&_, _||_, false≢true}
 use lib.ListN.{length, getD, set, take, drop}
 use lib.Dec.{ltb, leb, eqb}
-use borrow.Author.Tests.{eq-eqb, eqb-true, ltb-true, leb-true, lt-ltb, le-leb, not-true}
+use borrow.Author.Tests.{eq-eqb, eqb-true, ltb-true, leb-true, lt-ltb, le-leb, ne-eqb, not-true}
 use Rattle.wire.specs.declared.stream.Stream.{Stream}
 use Rattle.wire.specs.declared.stream.Stream.the-variants.{Control, Ota, Alexa}
 use Rattle.wire.proofs.Tests.{and-left, and-right}
 use Rattle.slot.specs.declared.Slot.{Slot}
-use Rattle.slot.specs.Slot.{opens, idle, openLaw, lawfulSlot, allLawful, isOpen, anyOpen, distinct, slotsEach, slotCount, laneStart, laneOf, lawful}
+use Rattle.slot.specs.Slot.{opens, idle, openLaw, idleLaw, lawfulSlot, allLawful, isOpen, anyOpen, distinct, laneLaw, slotsEach, slotCount, laneStart, laneOf, lawful}
 
 -- ---- one slot
+
+same-test : (p q : Bool) → (p ≡ true → q ≡ true) → (q ≡ true → p ≡ true) → p ≡ q
+same-test true q f g = sym (f refl)
+same-test false true f g = g refl
+same-test false false f g = refl
+
+-- six numbers are 0 where the one that they make is
+pub all-zero : (a b c d e f : ℕ)
+    → eqb (b * 256 + a + c * 65536 + d * 16777216 + e * 4294967296 + f * 281474976710656) 0
+    ≡ (eqb a 0 && (eqb b 0 && (eqb c 0 && (eqb d 0 && (eqb e 0 && eqb f 0)))))
+all-zero a b c d e f =
+    same-test _ _
+    (λ t.
+    let z : b * 256 + a + c * 65536 + d * 16777216 + e * 4294967296 + f * 281474976710656 ≡ 0 = eqb-true _ 0 t in
+    rw (
+      eq-eqb a 0 (omega arith),
+      eq-eqb b 0 (omega arith),
+      eq-eqb c 0 (omega arith),
+      eq-eqb d 0 (omega arith),
+      eq-eqb e 0 (omega arith),
+      eq-eqb f 0 (omega arith),
+    ))
+    (λ t.
+    let t1 = and-right (eqb a 0) _ t in
+    let t2 = and-right (eqb b 0) _ t1 in
+    let t3 = and-right (eqb c 0) _ t2 in
+    let t4 = and-right (eqb d 0) _ t3 in
+    let za : a ≡ 0 = eqb-true a 0 (and-left (eqb a 0) _ t) in
+    let zb : b ≡ 0 = eqb-true b 0 (and-left (eqb b 0) _ t1) in
+    let zc : c ≡ 0 = eqb-true c 0 (and-left (eqb c 0) _ t2) in
+    let zd : d ≡ 0 = eqb-true d 0 (and-left (eqb d 0) _ t3) in
+    let ze : e ≡ 0 = eqb-true e 0 (and-left (eqb e 0) _ t4) in
+    let zf : f ≡ 0 = eqb-true f 0 (and-right (eqb e 0) _ t4) in
+    eq-eqb (b * 256 + a + c * 65536 + d * 16777216 + e * 4294967296 + f * 281474976710656) 0 (omega arith))
+
+-- a flag and an id are those of another pair where the numbers that they make are one
+pub both-same : (a b i : ℕ) → a < 256 → eqb (b * 256 + a) (i * 256 + 1) ≡ (eqb a 1 && eqb b i)
+both-same a b i low =
+    same-test _ _
+    (λ t.
+    let same : b * 256 + a ≡ i * 256 + 1 = eqb-true _ _ t in
+    rw (eq-eqb a 1 (omega arith), eq-eqb b i (omega arith)))
+    (λ t.
+    let za : a ≡ 1 = eqb-true a 1 (and-left (eqb a 1) _ t) in
+    let zb : b ≡ i = eqb-true b i (and-right (eqb a 1) _ t) in
+    eq-eqb (b * 256 + a) (i * 256 + 1) (omega arith))
 
 -- the numbers of an open slot
 pub record OpenSlot (limit : ℕ) (s : Slot) : Type 0 where
@@ -58,6 +105,26 @@ open-lawful limit s o n =
 pub idle-lawful : (limit : ℕ) → lawfulSlot limit idle ≡ true
 unfolding lawfulSlot
 idle-lawful limit = refl
+
+-- a lawful idle slot is not open
+idle-shut : (s : Slot) → idleLaw s ≡ true → opens s ≡ false
+idle-shut s e =
+    let zero : s .opened ≡ 0 = eqb-true (s .opened) 0 (and-left (eqb (s .opened) 0) _ e) in
+    ne-eqb (s .opened) 1 (λ one. omega arith)
+
+idle-says : (limit : ℕ) (s : Slot) → idleLaw s ≡ true → lawfulSlot limit s ≡ true
+unfolding lawfulSlot
+idle-says limit s e = rw (idle-shut s e) e
+
+-- slots that are idle and lawful
+abbrev pub eachIdle : List Slot → Bool
+eachIdle [] = true
+eachIdle (s ∷ ss) = idleLaw s && eachIdle ss
+
+pub idle-lane : (limit : ℕ) (l : List Slot) → eachIdle l ≡ true → laneLaw limit l ≡ true
+idle-lane limit [] e = refl
+idle-lane limit (s ∷ l) e =
+    rw (idle-says limit s (and-left (idleLaw s) _ e), idle-shut s (and-left (idleLaw s) _ e)) (idle-lane limit l (and-right (idleLaw s) _ e))
 
 -- ---- all slots
 

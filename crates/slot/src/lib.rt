@@ -2,6 +2,8 @@
 pub mod answer;
 
 use packet::header;
+use wire::bytes;
+use wire::bytes::pair;
 use wire::logic::both;
 use wire::logic::either;
 use wire::stream::Stream;
@@ -26,6 +28,15 @@ pub struct Slot {
 const SET: u8 = 1;
 
 const FLAGS: u8 = 2;
+
+// What a byte of a number of eight counts: the third, fourth, fifth and seventh.
+const THIRD: usize = 65536;
+
+const FOURTH: usize = 16777216;
+
+const FIFTH: usize = 4294967296;
+
+const SEVENTH: usize = 281474976710656;
 
 // A count of a slot as a larger number, and back.
 pub fn wide(n: u16) -> usize
@@ -77,19 +88,21 @@ impl Slot {
         both(self.id < header::FOUR_BITS, low)
     }
 
+    // Its six numbers are 0 where the one number that they make is: one comparison in place of six.
     fn idle_law(self) -> bool
         ensures { λ r. ⌜ r ≡ idleLaw self ⌝ }
     {
-        let counts = both(self.wanted == 0, both(self.total == 0, self.held == 0));
-        let low = both(self.id == 0, both(self.sequence == 0, counts));
-        both(self.opened == 0, low)
+        let three = pair(self.id, self.opened) + bytes::wide(self.sequence) * THIRD;
+        let four = three + bytes::wide(self.wanted) * FOURTH;
+        let six = four + wide(self.total) * FIFTH;
+        six + wide(self.held) * SEVENTH == 0
     }
 
     // Whether a transaction of that id is open.
     pub fn is_open(self, id: u8) -> bool
         ensures { λ r. ⌜ r ≡ isOpen id self ⌝ }
     {
-        both(self.opens(), self.id == id)
+        pair(self.id, self.opened) == pair(id, SET)
     }
 
     pub fn is_idle(self) -> bool
@@ -126,8 +139,16 @@ fn each_lawful(limit: usize, a: Slot, b: Slot, c: Slot, d: Slot) -> bool
     ensures { λ r. ⌜ r
         ≡ (lawfulSlot limit a && (lawfulSlot limit b && (lawfulSlot limit c && lawfulSlot limit d))) ⌝ }
 {
-    let last = both(c.is_lawful(limit), d.is_lawful(limit));
-    both(a.is_lawful(limit), both(b.is_lawful(limit), last))
+    if !a.is_lawful(limit) {
+        return false;
+    }
+    if !b.is_lawful(limit) {
+        return false;
+    }
+    if !c.is_lawful(limit) {
+        return false;
+    }
+    d.is_lawful(limit)
 }
 
 // Whether no two open slots of a stream have one id.
@@ -143,6 +164,14 @@ fn are_distinct(a: Slot, b: Slot, c: Slot, d: Slot) -> bool
     both(first, both(second, third))
 }
 
+// Whether the slots of a stream are idle and lawful.
+fn are_idle(a: Slot, b: Slot, c: Slot, d: Slot) -> bool
+    ensures { λ r. ⌜ r ≡ (idleLaw a && (idleLaw b && (idleLaw c && idleLaw d))) ⌝ }
+{
+    let last = both(c.idle_law(), d.idle_law());
+    both(a.idle_law(), both(b.idle_law(), last))
+}
+
 // Whether the slots of a stream are lawful.
 fn lane_lawful(limit: usize, lane: [Slot; 4]) -> bool
     ensures { λ r. ⌜ r ≡ laneLaw limit lane ⌝ }
@@ -151,7 +180,13 @@ fn lane_lawful(limit: usize, lane: [Slot; 4]) -> bool
     let b = lane[1];
     let c = lane[2];
     let d = lane[3];
-    both(each_lawful(limit, a, b, c, d), are_distinct(a, b, c, d))
+    if are_idle(a, b, c, d) {
+        return true;
+    }
+    if !each_lawful(limit, a, b, c, d) {
+        return false;
+    }
+    are_distinct(a, b, c, d)
 }
 
 // The slots of a stream in a row of twelve.

@@ -156,30 +156,30 @@ module _ (limit k place at : ℕ) (low : place < slotsEach) where
   first-fits : (s : Slot) (h : Head) (ack : Bool) (total start len : ℕ) (b : Bool) → eqb len total ≡ b
       → PayloadWithin limit k (First h ack total start len) → Fit limit k place (firstStep at s h ack total start len)
   unfolding firstStep
-  first-fits s h ack total start len true e w = rw e (finish-fits h ack total (opens s) _ (omega arith, omega arith))
+  first-fits s h ack total start len true e w = rw e (finish-fits h _ total _ _ (omega arith, omega arith))
   first-fits s h ack total start len false e w =
       let sent = some-sent len total (w .3) (eqb-false len total e) in
       let d : (len ≡ total → ⊥) = eqb-false len total e in
-      rw e (hold-fits h ack total (opens s) _ (omega arith, omega arith) (w .4) (w .2) (omega arith) (omega arith))
+      rw e (hold-fits h _ total _ _ (omega arith, omega arith) (w .4) (w .2) (omega arith) (omega arith))
 
-  go-on-fits : (s : Slot) (h : Head) (wanted last : Bool) (start len : ℕ) → OpenSlot limit s → HeadLow h → start + len ≤ k
+  go-on-fits : (s : Slot) (h : Head) (wanted going last : Bool) (start len : ℕ) → OpenSlot limit s → HeadLow h → start + len ≤ k
       → offTotal last (s .held + len) (s .total) ≡ false
       → Fit limit k place
       (cond last (finish at h wanted (s .total) false (record { at = s .held; start = start; len = len }))
-      (hold at h wanted (s .total) false (record { at = s .held; start = start; len = len })))
-  go-on-fits s h wanted true start len o head w t =
+      (hold at h going (s .total) false (record { at = s .held; start = start; len = len })))
+  go-on-fits s h wanted going true start len o head w t =
       let e : s .held + len ≡ s .total = eqb-true (s .held + len) (s .total) (not-false _ t) in
       finish-fits h wanted (s .total) false _ (w, omega arith)
-  go-on-fits s h wanted false start len o head w t =
+  go-on-fits s h wanted going false start len o head w t =
       let e : s .held + len < s .total = leb-false (s .total) (s .held + len) t in
-      hold-fits h wanted (s .total) false _ (w, omega arith) head (o .total-low) (omega arith) e
+      hold-fits h going (s .total) false _ (w, omega arith) head (o .total-low) (omega arith) e
 
   next-fits : (s : Slot) (h : Head) (ack last : Bool) (start len : ℕ) → lawfulSlot limit s ≡ true → isOpen (h .id) s ≡ true
       → PayloadWithin limit k (Next h ack last start len) → Fit limit k place (nextStep at s h ack last start len)
   unfolding nextStep
   next-fits s h ack last start len law known w =
       by-table (Fit limit k place) (lines s h last len) dropBy _ drop-fits (λ e.
-      go-on-fits s h (wants s || ack) last start len (lawful-open limit s law (and-left (opens s) _ known)) (w .1) (w .0) (e .1 .0))
+      go-on-fits s h _ _ last start len (lawful-open limit s law (and-left (opens s) _ known)) (w .1) (w .0) (e .1 .0))
 
 -- ---- what a packet does fits
 
@@ -192,10 +192,10 @@ at-fits limit k n f (some place) h = h place refl
 pub act-fits : (limit k first : ℕ) (lane : List Slot) (x : Packet) → length lane ≤ slotsEach → allLawful limit lane ≡ true → PayloadWithin limit k x
     → ActFits limit k (actOf first lane x)
 act-fits limit k first lane (First h ack total start len) short law w =
-    at-fits limit k 18 (λ place. firstStep (first + place) (getD lane place idle) h ack total start len) (firstPlace lane (h .id)) (λ place e.
+    at-fits limit k _ (λ place. firstStep (first + place) (getD lane place idle) h ack total start len) (firstPlace lane (h .id)) (λ place e.
     first-fits limit k place (first + place) (omega (arith, chosen-low lane (h .id) place (chosen lane (h .id) place e))) (getD lane place idle) h ack total start len (eqb len total) refl w)
 act-fits limit k first lane (Next h ack last start len) short law w =
-    at-fits limit k 9 (λ place. nextStep (first + place) (getD lane place idle) h ack last start len) (openPlace lane (h .id)) (λ place e.
+    at-fits limit k _ (λ place. nextStep (first + place) (getD lane place idle) h ack last start len) (openPlace lane (h .id)) (λ place e.
     let f = found (isOpen (h .id)) lane place e in
     next-fits limit k place (first + place) (omega (arith, f .below)) (getD lane place idle) h ack last start len (all-at limit lane place law) (f .passes) w)
 act-fits limit k first lane (Ack h) short law w = tt
@@ -226,13 +226,13 @@ either-names id false s t u v = v
 first-names : (at : ℕ) (s : Slot) (h : Head) (ack : Bool) (total start len : ℕ) → Names (h .id) (firstStep at s h ack total start len)
 unfolding firstStep
 first-names at s h ack total start len =
-    either-names (h .id) (eqb len total) _ _ (finish-names at h ack total (opens s) _) (hold-names at h ack total (opens s) _)
+    either-names (h .id) (eqb len total) _ _ (finish-names at h _ total _ _) (hold-names at h _ total _ _)
 
 next-names : (at : ℕ) (s : Slot) (h : Head) (ack last : Bool) (start len : ℕ) → Names (h .id) (nextStep at s h ack last start len)
 unfolding nextStep
 next-names at s h ack last start len =
     by-table (Names (h .id)) (lines s h last len) dropBy _ (drop-names (h .id)) (λ e.
-    either-names (h .id) last _ _ (finish-names at h (wants s || ack) (s .total) false _) (hold-names at h (wants s || ack) (s .total) false _))
+    either-names (h .id) last _ _ (finish-names at h _ (s .total) false _) (hold-names at h _ (s .total) false _))
 
 -- a step at a place where the packet's id is open, or at an idle slot where it is open nowhere
 own-again : (lane : List Slot) (id place : ℕ) (s : Step) → distinct lane ≡ true → Names id s → FoundSlot (isOpen id) lane place → Own id lane place s
@@ -257,10 +257,10 @@ at-owns id n lane f (some place) h = h place refl
 
 pub act-owns : (first : ℕ) (lane : List Slot) (x : Packet) → distinct lane ≡ true → ActOwns (headIn x .id) lane (actOf first lane x)
 act-owns first lane (First h ack total start len) law =
-    at-owns (h .id) 18 lane (λ place. firstStep (first + place) (getD lane place idle) h ack total start len) (firstPlace lane (h .id)) (λ place e.
+    at-owns (h .id) _ lane (λ place. firstStep (first + place) (getD lane place idle) h ack total start len) (firstPlace lane (h .id)) (λ place e.
     own-chosen lane (h .id) place _ law (first-names (first + place) (getD lane place idle) h ack total start len) (chosen lane (h .id) place e))
 act-owns first lane (Next h ack last start len) law =
-    at-owns (h .id) 9 lane (λ place. nextStep (first + place) (getD lane place idle) h ack last start len) (openPlace lane (h .id)) (λ place e.
+    at-owns (h .id) _ lane (λ place. nextStep (first + place) (getD lane place idle) h ack last start len) (openPlace lane (h .id)) (λ place e.
     own-again lane (h .id) place _ law (next-names (first + place) (getD lane place idle) h ack last start len) (found (isOpen (h .id)) lane place e))
 act-owns first lane (Ack h) law = tt
 act-owns first lane (Nack h) law = tt

@@ -88,6 +88,10 @@ abbrev pub further : Option ℕ → Option ℕ
 further none = none
 further (some place) = some (suc place)
 
+abbrev pub orElse : Option ℕ → Option ℕ → Option ℕ
+orElse none other = other
+orElse (some place) other = some place
+
 -- the place of the first slot that passes a test
 abbrev pub placeWhere : (Slot → Bool) → List Slot → Option ℕ
 placeWhere test [] = none
@@ -101,10 +105,6 @@ atPlace n f (some place) = step place (f place)
 -- where the id of a packet is open
 abbrev pub openPlace : List Slot → ℕ → Option ℕ
 openPlace lane id = placeWhere (isOpen id) lane
-
-abbrev pub orElse : Option ℕ → Option ℕ → Option ℕ
-orElse none other = other
-orElse (some place) other = some place
 
 -- where the id of a first packet is open, or else the lowest idle slot
 abbrev pub firstPlace : List Slot → ℕ → Option ℕ

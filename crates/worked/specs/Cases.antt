@@ -4,7 +4,7 @@ use mathlib.Core.Path.{_≡_}
 use mathlib.Core.Bool.{Bool, true, false}
 use mathlib.Core.List.{List, [], _∷_, _++_, map, List·Memᴰ}
 use lib.IntN.{ℤ, pos, negℤ}
-use lib.ListN.{take, drop, replicate}
+use lib.ListN.{take, drop, set, replicate}
 use Rattle.wire.specs.declared.stream.Stream.the-variants.{Control, Ota, Alexa}
 use Rattle.wire.specs.Told.{given, refused}
 use Rattle.packet.specs.Header.{bit}
@@ -63,9 +63,14 @@ full = opening (3 ∷ 1 ∷ 2 ∷ 0 ∷ [])
 abbrev pub withoutOne : List Slot
 withoutOne = begun 3 ∷ idle ∷ begun 2 ∷ begun 0 ∷ replicate 8 idle
 
--- a first slot with these two flags, all else 0
-abbrev pub flagged : ℕ → ℕ → List Slot
-flagged flag wish = record { opened = flag; id = 0; sequence = 0; wanted = wish; total = 0; held = 0 } ∷ replicate 11 idle
+-- a slot of these numbers, at a place, all others idle
+abbrev pub alone : ℕ → ℕ → ℕ → ℕ → ℕ → ℕ → ℕ → List Slot
+alone place flag id sequence wanted total held =
+    set idles place (record { opened = flag; id = id; sequence = sequence; wanted = wanted; total = total; held = held })
+
+-- a row over which a packet is refused by 1, which leaves it
+abbrev pub unlawful : List Slot → Case
+unlawful slots = case (acceptPacketWithin 64 slots (beginning 1)) (accepted (refused 1) slots)
 
 -- a transaction of this id in the control stream and one in the OTA stream
 abbrev pub twoStreams : ℕ → List Slot
@@ -177,12 +182,33 @@ cases =
     ∷ case (acceptPacketWithin 64 full (0x21 ∷ 0x18 ∷ 0x01 ∷ 0x08 ∷ [])) (accepted (refused 9) full)
     -- 8 before 18
     ∷ case (acceptPacketWithin 64 full (0x04 ∷ 0x00 ∷ 0x00 ∷ 0x00 ∷ 0x01 ∷ 0x02 ∷ 0x07 ∷ 0x07 ∷ [])) (accepted (refused 8) full)
-    -- unlawful rows: one id twice in a stream, eleven slots and thirteen, a flag of 2, a wish in an idle slot; one id in two streams is lawful
-    ∷ case (acceptPacketWithin 64 (opening (3 ∷ 3 ∷ [])) (beginning 1)) (accepted (refused 1) (opening (3 ∷ 3 ∷ [])))
-    ∷ case (acceptPacketWithin 64 (replicate 11 idle) (beginning 1)) (accepted (refused 1) (replicate 11 idle))
-    ∷ case (acceptPacketWithin 64 (replicate 13 idle) (beginning 1)) (accepted (refused 1) (replicate 13 idle))
-    ∷ case (acceptPacketWithin 64 (flagged 2 0) (beginning 1)) (accepted (refused 1) (flagged 2 0))
-    ∷ case (acceptPacketWithin 64 (flagged 0 1) (beginning 1)) (accepted (refused 1) (flagged 0 1))
+    -- one that finishes at once: at its place, replaced; at the lowest idle slot. Alexa's slots are full by themselves
+    ∷ case (acceptPacketWithin 64 full (0x02 ∷ 0x00 ∷ 0x00 ∷ 0x00 ∷ 0x01 ∷ 0x01 ∷ 0x07 ∷ []))
+    (accepted (given (Finished 2 Control 2 1 false true)) (set full 2 idle))
+    ∷ case (acceptPacketWithin 64 withoutOne (0x04 ∷ 0x00 ∷ 0x00 ∷ 0x00 ∷ 0x01 ∷ 0x01 ∷ 0x07 ∷ []))
+    (accepted (given (Finished 1 Control 4 1 false false)) withoutOne)
+    ∷ case (acceptPacketWithin 64 (drop 4 full ++ take 4 full) (beginning 0x64)) (accepted (refused 18) (drop 4 full ++ take 4 full))
+    -- unlawful rows: one id twice in a stream, eleven slots and thirteen
+    ∷ unlawful (opening (3 ∷ 3 ∷ []))
+    ∷ unlawful (set (set idles 8 (begun 3)) 11 (begun 3))
+    ∷ unlawful (replicate 11 idle)
+    ∷ unlawful (replicate 13 idle)
+    -- an open slot: id, sequence, wish or total above its range, all held, nothing held; the ends of the ranges are lawful
+    ∷ unlawful (alone 11 1 16 0 0 2 1)
+    ∷ unlawful (alone 3 1 0 16 0 2 1)
+    ∷ unlawful (alone 4 1 0 0 2 2 1)
+    ∷ unlawful (alone 7 1 0 0 0 65 1)
+    ∷ unlawful (alone 8 1 0 0 0 2 2)
+    ∷ unlawful (alone 10 1 0 0 0 2 0)
+    ∷ case (acceptPacketWithin 64 (alone 11 1 15 15 1 64 63) (0x6F ∷ 0x08 ∷ 0x01 ∷ 0x07 ∷ [])) (accepted (given (Finished 11 Alexa 15 64 true false)) idles)
+    -- a flag of 2, and an idle slot whose id, sequence, wish, total or count held is not 0
+    ∷ unlawful (alone 0 2 0 0 0 0 0)
+    ∷ unlawful (alone 1 0 1 0 0 0 0)
+    ∷ unlawful (alone 2 0 0 1 0 0 0)
+    ∷ unlawful (alone 5 0 0 0 1 0 0)
+    ∷ unlawful (alone 6 0 0 0 0 1 0)
+    ∷ unlawful (alone 9 0 0 0 0 0 1)
+    -- one id in two streams is lawful
     ∷ case (acceptPacketWithin 64 (twoStreams 3) (0x03 ∷ 0x18 ∷ 0x01 ∷ 0x08 ∷ [])) (accepted (given (Finished 0 Control 3 2 false false)) (idle ∷ drop 1 (twoStreams 3)))
     -- P10 command 94 with success, 20 with unsupported; and each read back
     ∷ case (writeEnvelope (pos 94) (Response success None)) (bytes (given (0x08 ∷ 0x5E ∷ 0x4A ∷ 0x00 ∷ [])))

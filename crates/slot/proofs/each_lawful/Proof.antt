@@ -1,3 +1,4 @@
+use borrow.Author.Tests.{not-true, not-false}
 use borrow.Author.Needs.{needs}
 use Rattle.slot.proofs.each_lawful.Statement.{statement}
 use Rattle.slot.proofs.each_lawful.Tie as tie
@@ -5,36 +6,59 @@ use Rattle.slot.proofs.each_lawful.Tie as tie
 is-lawful-requires : tie.Need-is-lawful-requires
 is-lawful-requires c κs = search needs
 
+returns : tie.Need-returns
+returns c = rw (← c .before .is-lawful .ensures, not-true (c .before .is-lawful .result) (c .if1 .taken))
+
 is-lawful-requires-2 : tie.Need-is-lawful-requires-2
 is-lawful-requires-2 c κs = search needs
 
-both-requires : tie.Need-both-requires
-both-requires c κs = search needs
+returns-2 : tie.Need-returns-2
+returns-2 c =
+    rw (
+      ← c .before .before .before .is-lawful .ensures,
+      not-false (c .before .before .before .is-lawful .result) (c .before .before .if1 .left),
+      ← c .before .is-lawful2 .ensures,
+      not-true (c .before .is-lawful2 .result) (c .if2 .taken),
+    )
 
 is-lawful-requires-3 : tie.Need-is-lawful-requires-3
 is-lawful-requires-3 c κs = search needs
 
+returns-3 : tie.Need-returns-3
+returns-3 c =
+    rw (
+      ← c .before .before .before .before .before .is-lawful .ensures,
+      not-false (c .before .before .before .before .before .is-lawful .result) (c .before .before .before .before .if1 .left),
+      ← c .before .before .before .is-lawful2 .ensures,
+      not-false (c .before .before .before .is-lawful2 .result) (c .before .before .if2 .left),
+      ← c .before .is-lawful3 .ensures,
+      not-true (c .before .is-lawful3 .result) (c .if3 .taken),
+    )
+
 is-lawful-requires-4 : tie.Need-is-lawful-requires-4
 is-lawful-requires-4 c κs = search needs
 
-both-requires-2 : tie.Need-both-requires-2
-both-requires-2 c κs = search needs
-
-both-requires-3 : tie.Need-both-requires-3
-both-requires-3 c κs = search needs
-
-returns : tie.Need-returns
-returns c = cc
+returns-4 : tie.Need-returns-4
+returns-4 c =
+    rw (
+      ← c .before .before .before .before .before .before .is-lawful .ensures,
+      not-false (c .before .before .before .before .before .before .is-lawful .result) (c .before .before .before .before .before .if1 .left),
+      ← c .before .before .before .before .is-lawful2 .ensures,
+      not-false (c .before .before .before .before .is-lawful2 .result) (c .before .before .before .if2 .left),
+      ← c .before .before .is-lawful3 .ensures,
+      not-false (c .before .before .is-lawful3 .result) (c .before .if3 .left),
+    )
+    (c .is-lawful4 .ensures)
 
 pub each-lawful-spec : {M : Type 1} → statement M
 each-lawful-spec =
     tie.close
     (tie.spec
     is-lawful-requires
+    returns
     is-lawful-requires-2
-    both-requires
+    returns-2
     is-lawful-requires-3
+    returns-3
     is-lawful-requires-4
-    both-requires-2
-    both-requires-3
-    returns)
+    returns-4)
