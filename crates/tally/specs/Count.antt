@@ -19,7 +19,7 @@ costsBy mine first m size =
       finished = bit (mine && m .finishes);
       replaced = bit (mine && m .replaces);
       dropped = bit (mine && m .drops);
-      open = 0;
+      pending = 0;
       payload = cond (mine && m .finishes) (m .payload) 0;
       bytes = cond (mine && true) size 0;
     }

@@ -7,7 +7,7 @@ use Rattle.captures.specs.Capture.{ToldAt, packetsOf}
 use Rattle.slot.specs.declared.Slot.{Slot}
 use Rattle.slot.specs.Slot.{idles}
 use Rattle.receiver.specs.Receiver.{PacketLeft, acceptOf}
-use Rattle.report.specs.declared.Report.{Report}
+use Rattle.report.specs.declared.CostReport.{CostReport}
 use Rattle.report.specs.Costs.{heard}
 use Rattle.report.specs.Report.{callFor, CaptureAdded, captureAdded}
 use Rattle.report.specs.Turns.{reportWith, onTop, addedFrom}
@@ -19,7 +19,7 @@ use Rattle.tally.specs.declared.Refusal.the-variants.{Limit, Lent, Captu
 use Rattle.tally.specs.declared.Answer.{Answer}
 use Rattle.tally.specs.declared.Answer.the-variants.{Refused, Added}
 
-abbrev pub toldSum : Sum → ToldAt Report
+abbrev pub toldSum : Sum → ToldAt CostReport
 toldSum Over = refused (19, 0)
 toldSum (Within r) = given r
 
@@ -28,13 +28,13 @@ abbrev pub tallied : Tally → List ℕ → CaptureAdded
 tallied t bytes = captureAdded (toldSum (t .sum)) (t .slots) bytes
 
 -- one packet more
-unfoldable pub turnOf : ToldAt Report → ℕ → List Slot → List ℕ → List ℕ → CaptureAdded
+unfoldable pub turnOf : ToldAt CostReport → ℕ → List Slot → List ℕ → List ℕ → CaptureAdded
 turnOf t limit slots bytes p =
     let l : PacketLeft = acceptOf limit slots bytes (callFor p) in
     captureAdded (onTop t (reportWith (heard p (l .told)))) (l .slots) (l .bytes)
 
 -- the packets of a capture, if they can be had
-unfoldable pub passedOf : Report → ℕ → List ℕ → List ℕ → ToldAt CaptureAdded
+unfoldable pub passedOf : CostReport → ℕ → List ℕ → List ℕ → ToldAt CaptureAdded
 passedOf report limit bytes capture = andThen (packetsOf capture) (λ ps. given (addedFrom (given report) limit idles bytes ps))
 
 -- ---- what the code tells
@@ -45,6 +45,6 @@ numberOf Lent = 1
 numberOf (Capture why) = captures.numberOf why
 numberOf TooMuch = 19
 
-abbrev pub told : Answer → ToldAt Report
+abbrev pub told : Answer → ToldAt CostReport
 told (Refused why at) = refused (numberOf why, at)
 told (Added r) = given r

@@ -1,7 +1,7 @@
 // What one packet adds to a report, and what the open slots add at the end.
 use packet::header;
 use report::Costs;
-use report::Report;
+use report::CostReport;
 use slot::Slot;
 use slot::answer::Accepted;
 use slot::answer::Answer;
@@ -129,14 +129,14 @@ fn costs_of(mine: bool, first: bool, marks: Marks, size: u64) -> Costs
         finished,
         replaced,
         dropped,
-        open: 0,
+        pending: 0,
         payload,
         bytes,
     }
 }
 
 // What a packet and what was told of it add.
-pub fn report_with(packet: &[u8], answer: Answer) -> Report
+pub fn report_with(packet: &[u8], answer: Answer) -> CostReport
     ensures { λ r. ⌜ r ≡ reportWith (heard (now (packet .entry)) (told answer)) ⌝ }
 {
     let marks = marks_of(answer);
@@ -145,7 +145,7 @@ pub fn report_with(packet: &[u8], answer: Answer) -> Report
     let control = costs_of(is_of(packet, 0), first, marks, size);
     let ota = costs_of(is_of(packet, 2), first, marks, size);
     let alexa = costs_of(is_of(packet, 6), first, marks, size);
-    Report {
+    CostReport {
         control,
         ota,
         alexa,
@@ -163,7 +163,7 @@ fn open_among(lane: [Slot; 4]) -> u64
     a + (b + (c + d))
 }
 
-fn open_costs(open: u64) -> Costs
+fn open_costs(pending: u64) -> Costs
     ensures { λ r. ⌜ r ≡ openCosts open ⌝ }
 {
     Costs {
@@ -178,13 +178,13 @@ fn open_costs(open: u64) -> Costs
 }
 
 // What the open slots of a row add.
-pub fn open_report(slots: [Slot; 12]) -> Report
+pub fn open_report(slots: [Slot; 12]) -> CostReport
     ensures { λ r. ⌜ r ≡ openReport slots ⌝ }
 {
     let control = open_costs(open_among(lane_of(slots, Stream::Control)));
     let ota = open_costs(open_among(lane_of(slots, Stream::Ota)));
     let alexa = open_costs(open_among(lane_of(slots, Stream::Alexa)));
-    Report {
+    CostReport {
         control,
         ota,
         alexa,

@@ -12,7 +12,7 @@ use link::load;
 use link::save;
 use receiver::SLOT_COUNT;
 use receiver::decide;
-use report::Report;
+use report::CostReport;
 use slot::Slot;
 use wire::bytes::pair;
 use wire::limit::limit_fits;
@@ -56,7 +56,7 @@ impl Refusal {
 // A refusal tells a place in the capture: that of the length of the packet which it is about, and otherwise 0.
 pub enum Answer {
     Refused { why: Refusal, at: usize },
-    Added(Report),
+    Added(CostReport),
 }
 
 // The link's slots and the sums so far.
@@ -104,7 +104,7 @@ fn take(limit: usize, tally: Tally, buffer: &mut [u8], packet: &[u8]) -> Tally
 }
 
 // Every packet of a sound capture given to a fresh link, and what is open at the end.
-fn pass(report: Report, limit: usize, buffer: &mut [u8], capture: &[u8]) -> Tally
+fn pass(report: CostReport, limit: usize, buffer: &mut [u8], capture: &[u8]) -> Tally
     requires { ⌜ checkedOf (now capture) ≡ given tt ⌝ }
     ensures { λ r. ⌜ given (tallied r (now (buffer .exit)))
         ≡ passedOf report limit (now (buffer .entry)) (now (capture .entry)) ⌝ }
@@ -158,7 +158,7 @@ fn answer_of(sum: Sum) -> Answer
 pub fn add_by_value(
     count: usize,
     slots: [Slot; 12],
-    report: Report,
+    report: CostReport,
     limit: usize,
     buffer: &mut [u8],
     capture: &[u8],
@@ -188,7 +188,7 @@ pub fn add_by_value(
 // Adds a capture, read by a fresh link of a limit, to a report. What is in the lent row and buffer before does not matter; afterwards
 // they are as the last packet left them, with 19 too, and every other refusal leaves them.
 pub fn add(
-    report: Report,
+    report: CostReport,
     limit: usize,
     row: &mut [Slot],
     buffer: &mut [u8],

@@ -1,6 +1,6 @@
 // Sums of a report's numbers, each within 64 bits.
 use report::Costs;
-use report::Report;
+use report::CostReport;
 use wire::logic::both;
 ghost use Prim.Native.Nat.{_+_};
 ghost use mathlib.Core.Path.{_≡_};
@@ -15,7 +15,7 @@ const LARGEST: u64 = 18446744073709551615;
 // The sums so far, or that one of them would have more than 64 bits.
 pub enum Sum {
     Over,
-    Within(Report),
+    Within(CostReport),
 }
 
 // Whether two numbers have a sum of 64 bits.
@@ -29,7 +29,7 @@ fn costs_fit(a: Costs, b: Costs) -> bool
     ensures { λ r. ⌜ r ≡ costsFit (costsPlus a b) ⌝ }
 {
     let sizes = both(fit(a.payload, b.payload), fit(a.bytes, b.bytes));
-    let ended = both(fit(a.dropped, b.dropped), both(fit(a.open, b.open), sizes));
+    let ended = both(fit(a.dropped, b.dropped), both(fit(a.pending, b.pending), sizes));
     let replaced = both(fit(a.replaced, b.replaced), ended);
     both(fit(a.firsts, b.firsts), both(fit(a.finished, b.finished), replaced))
 }
@@ -43,20 +43,20 @@ fn add_costs(a: Costs, b: Costs) -> Costs
         finished: a.finished + b.finished,
         replaced: a.replaced + b.replaced,
         dropped: a.dropped + b.dropped,
-        open: a.open + b.open,
+        pending: a.pending + b.pending,
         payload: a.payload + b.payload,
         bytes: a.bytes + b.bytes,
     }
 }
 
-fn reports_fit(a: Report, b: Report) -> bool
+fn reports_fit(a: CostReport, b: CostReport) -> bool
     ensures { λ r. ⌜ r ≡ reportFits (plus a b) ⌝ }
 {
     let later = both(costs_fit(a.ota, b.ota), costs_fit(a.alexa, b.alexa));
     both(costs_fit(a.control, b.control), later)
 }
 
-fn add_reports(a: Report, b: Report) -> Sum
+fn add_reports(a: CostReport, b: CostReport) -> Sum
     ensures { λ r. ⌜ toldSum r ≡ summed (plus a b) ⌝ }
 {
     if !reports_fit(a, b) {
@@ -65,7 +65,7 @@ fn add_reports(a: Report, b: Report) -> Sum
     let control = add_costs(a.control, b.control);
     let ota = add_costs(a.ota, b.ota);
     let alexa = add_costs(a.alexa, b.alexa);
-    Sum::Within(Report {
+    Sum::Within(CostReport {
         control,
         ota,
         alexa,
@@ -74,7 +74,7 @@ fn add_reports(a: Report, b: Report) -> Sum
 
 impl Sum {
     // With more on top; what is over stays over.
-    pub fn with(self, more: Report) -> Self
+    pub fn with(self, more: CostReport) -> Self
         ensures { λ r. ⌜ toldSum r ≡ onTop (toldSum self) more ⌝ }
     {
         match self {
