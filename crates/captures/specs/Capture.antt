@@ -10,8 +10,8 @@ use Rattle.captures.specs.declared.Refusal.{Refusal}
 use Rattle.captures.specs.declared.Refusal.the-variants.{Version, Length, Cut}
 use Rattle.captures.specs.declared.Front.{Front}
 use Rattle.captures.specs.declared.Front.the-variants.{Broken, Whole}
-use Rattle.captures.specs.declared.Check.{Check}
-use Rattle.captures.specs.declared.Check.the-variants.{Sound, Unsound}
+use Rattle.captures.specs.declared.Soundness.{Soundness}
+use Rattle.captures.specs.declared.Soundness.the-variants.{Sound, Unsound}
 
 abbrev pub version : ℕ
 version = 1
@@ -89,6 +89,6 @@ abbrev pub frontTold : Front → Told ℕ
 frontTold (Broken why) = refused (numberOf why)
 frontTold (Whole n) = given n
 
-abbrev pub checkTold : Check → ToldAt (Unit {0})
-checkTold Sound = given tt
-checkTold (Unsound why at) = refused (numberOf why, at)
+abbrev pub soundnessTold : Soundness → ToldAt (Unit {0})
+soundnessTold Sound = given tt
+soundnessTold (Unsound why at) = refused (numberOf why, at)

@@ -3,7 +3,7 @@ use wire::bytes::byte_at;
 use wire::bytes::pair;
 use wire::logic::either;
 ghost use mathlib.Core.Path.{_≡_};
-ghost use Rattle.captures.specs.Capture.{frontOf, otherVersion, checkedOf, numberOf, frontTold, checkTold};
+ghost use Rattle.captures.specs.Capture.{frontOf, otherVersion, checkedOf, numberOf, frontTold, soundnessTold};
 
 pub const VERSION: u8 = 1;
 
@@ -35,7 +35,7 @@ pub enum Front {
 }
 
 // Whether every packet of a capture can be had. A refusal tells the place of the packet's length; of the version, 0.
-pub enum Check {
+pub enum Soundness {
     Sound,
     Unsound { why: Refusal, at: usize },
 }
@@ -65,11 +65,11 @@ pub fn front_of(rest: &[u8]) -> Front
 }
 
 // The capture's own refusals, to its end.
-pub fn check(capture: &[u8]) -> Check
-    ensures { λ r. ⌜ checkTold r ≡ checkedOf (now (capture .entry)) ⌝ }
+pub fn check(capture: &[u8]) -> Soundness
+    ensures { λ r. ⌜ soundnessTold r ≡ checkedOf (now (capture .entry)) ⌝ }
 {
     if other_version(capture) {
-        return Check::Unsound {
+        return Soundness::Unsound {
             why: Refusal::Version,
             at: 0,
         };
@@ -79,12 +79,12 @@ pub fn check(capture: &[u8]) -> Check
         let found = front_of(&capture[at..]);
         match found {
             Front::Broken(why) => {
-                return Check::Unsound { why, at };
+                return Soundness::Unsound { why, at };
             }
             Front::Whole(n) => {
                 at = at + WIDTH + n;
             }
         }
     }
-    Check::Sound
+    Soundness::Sound
 }

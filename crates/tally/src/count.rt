@@ -164,14 +164,14 @@ fn open_among(lane: [Slot; 4]) -> u64
 }
 
 fn open_costs(pending: u64) -> Costs
-    ensures { λ r. ⌜ r ≡ openCosts open ⌝ }
+    ensures { λ r. ⌜ r ≡ openCosts pending ⌝ }
 {
     Costs {
         firsts: 0,
         finished: 0,
         replaced: 0,
         dropped: 0,
-        open,
+        pending,
         payload: 0,
         bytes: 0,
     }

@@ -5,7 +5,7 @@ pub mod sums;
 use crate::count::open_report;
 use crate::count::report_with;
 use crate::sums::Sum;
-use captures::Check;
+use captures::Soundness;
 use captures::WIDTH;
 use captures::check;
 use link::load;
@@ -175,8 +175,8 @@ pub fn add_by_value(
     }
     let checked = check(capture);
     match checked {
-        Check::Unsound { why, at } => refuse(Refusal::Capture(why), at, slots),
-        Check::Sound => {
+        Soundness::Unsound { why, at } => refuse(Refusal::Capture(why), at, slots),
+        Soundness::Sound => {
             let tally = pass(report, limit, buffer, capture);
             let answer = answer_of(tally.sum);
             let row = tally.slots;
