@@ -140,6 +140,14 @@ module _ {A : Type 0} (bytes : List ℕ) where
                 (before-then p (packetsFrom (w .turns - 1) (at + width + n) (drop (at + width + n) bytes)) f g same));
           }
 
+      front-by : (t : Told ℕ) → frontOf (drop at bytes) ≡ t → (x : A) → all ≡ given x → frontOf (drop at bytes) ≡ given (lengthIn (drop at bytes))
+      front-by (given n) e x a = e ∙ ap given (front-within (drop at bytes) n e .1)
+      front-by (refused n) e x a = cc (walk-stops n e)
+
+      -- where all can be had, so can the packet at the front
+      pub walk-front : (x : A) → all ≡ given x → frontOf (drop at bytes) ≡ given (lengthIn (drop at bytes))
+      walk-front x a = front-by (frontOf (drop at bytes)) refl x a
+
 -- the walk that only checks
 module _ (bytes : List ℕ) where
   pub check-refused : otherVersion bytes ≡ true → checkedOf bytes ≡ refused (40, 0)

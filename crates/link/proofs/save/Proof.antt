@@ -55,6 +55,7 @@ use Rattle.slot.proofs.Slot as T
 use Rattle.slot.proofs.Slot.Laws as T′
 use Rattle.link.proofs.Slots.{vals as slot-vals}
 use Rattle.link.proofs.Again.{LentAgain, lends-again, comes-back}
+use Rattle.link.proofs.Rows.{stored-length}
 use Rattle.link.proofs.slot_in as slot-in
 use Rattle.link.proofs.slot_in.Symbol as slot-in-def
 use Rattle.link.proofs.slot_in.Symbol.{name as #slot-in}
@@ -85,10 +86,6 @@ below (suc k) x h = Acc·intro x (λ y hy. below k y (lt-of-lt-of-le hy (le-of-s
 
 ordered : WellFounded Less
 ordered = record { apply = λ x. below (suc (x .1 .0)) x (lt-suc-self (x .1 .0)) }
-
-stored-length : (i : ℕ) (xs ys : List Slot) → length (storedUpTo i xs ys) ≡ length ys
-stored-length zero xs ys = refl
-stored-length (suc i) xs ys = length-set (storedUpTo i xs ys) i (getD xs i idleSlot) ∙ stored-length i xs ys
 
 abbrev Ref₀ : Ty
 Ref₀ = sliceTy (tyRef (named 0) mut (pointee (T.the-row .written)))
