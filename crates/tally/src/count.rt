@@ -35,7 +35,7 @@ struct Marks {
 }
 
 fn one_if(b: bool) -> u64
-    ensures { λ r. ⌜ r ≡ headers.bit b ⌝ }
+    ensures { λ r. ⌜ (r ≡ headers.bit b) × (r ≤ 1) ⌝ }
 {
     if b { 1 } else { 0 }
 }
@@ -53,7 +53,7 @@ fn is_drop(number: u8) -> bool
     either(number == 10, number == 11)
 }
 
-fn marks(accepts: bool, finishes: bool, replaces: bool, drops: bool, payload: u64) -> Marks
+fn noted(accepts: bool, finishes: bool, replaces: bool, drops: bool, payload: u64) -> Marks
     ensures { λ r. ⌜ r ≡ record { accepts = accepts; finishes = finishes; replaces = replaces; drops = drops; payload = payload } ⌝ }
 {
     Marks {
@@ -74,7 +74,7 @@ fn marks_accepted(accepted: Accepted) -> Marks
             stream: _,
             id: _,
             replaced,
-        } => marks(true, false, replaced, false, 0),
+        } => noted(true, false, replaced, false, 0),
         Accepted::Finished {
             place: _,
             stream: _,
@@ -82,9 +82,9 @@ fn marks_accepted(accepted: Accepted) -> Marks
             total,
             ack: _,
             replaced,
-        } => marks(true, true, replaced, false, total as u64),
-        Accepted::Acked(_) => marks(false, false, false, false, 0),
-        Accepted::Nacked(_) => marks(false, false, false, false, 0),
+        } => noted(true, true, replaced, false, total as u64),
+        Accepted::Acked(_) => noted(false, false, false, false, 0),
+        Accepted::Nacked(_) => noted(false, false, false, false, 0),
     }
 }
 
@@ -94,7 +94,7 @@ fn marks_of(answer: Answer) -> Marks
     match answer {
         Answer::Refused(why) => {
             let drops = is_drop(why.number());
-            marks(false, false, false, drops, 0)
+            noted(false, false, false, drops, 0)
         }
         Answer::Given(accepted) => marks_accepted(accepted),
     }

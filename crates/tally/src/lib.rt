@@ -98,7 +98,8 @@ fn take(limit: usize, tally: Tally, buffer: &mut [u8], packet: &[u8]) -> Tally
     let done = decide(SLOT_COUNT, slots, limit, buffer, packet, 0, &mut out);
     let answer = done.answer;
     let more = report_with(packet, answer);
-    let sum = tally.sum.with(more);
+    let so_far = tally.sum;
+    let sum = so_far.with(more);
     let row = with_slot(slots, done.place, done.slot);
     Tally { slots: row, sum }
 }
@@ -123,7 +124,8 @@ fn pass(report: CostReport, limit: usize, buffer: &mut [u8], capture: &[u8]) -> 
     }
     let slots = tally.slots;
     let open = open_report(slots);
-    let sum = tally.sum.with(open);
+    let so_far = tally.sum;
+    let sum = so_far.with(open);
     Tally { slots, sum }
 }
 
@@ -178,7 +180,8 @@ pub fn add_by_value(
         Soundness::Unsound { why, at } => refuse(Refusal::Capture(why), at, slots),
         Soundness::Sound => {
             let tally = pass(report, limit, buffer, capture);
-            let answer = answer_of(tally.sum);
+            let sum = tally.sum;
+            let answer = answer_of(sum);
             let row = tally.slots;
             RowAdded { answer, slots: row }
         }
