@@ -1,12 +1,11 @@
 -- Packet by packet gives what the definition says.
-use Prim.Native.Nat.{ℕ, _+_, _*_}
+use Prim.Native.Nat.{ℕ, _+_}
 use native.Mathlib.Omega.{arith}
 use native.Mathlib.Nat.{zero-add}
 use mathlib.Core.Path.{_≡_, refl, sym, ap, _∙_}
 use mathlib.Core.List.{List, [], _∷_}
 use mathlib.Core.Bool.{Bool, true, false, _&&_, false≢true}
 use lib.ListN.{length}
-use Rattle.wire.specs.Limit.{limitFits}
 use Rattle.wire.specs.Told.{given, refused, andThen}
 use Rattle.wire.specs.declared.stream.Stream.{Stream}
 use Rattle.wire.specs.declared.stream.Stream.the-variants.{Control, Ota, Alexa}
@@ -14,7 +13,7 @@ use Rattle.wire.specs.Stream.{streamNumber}
 use Rattle.packet.specs.Header.{isOf}
 use Rattle.captures.specs.Capture.{ToldAt}
 use Rattle.slot.specs.declared.Slot.{Slot}
-use Rattle.slot.specs.Slot.{idles, slotCount}
+use Rattle.slot.specs.Slot.{idles}
 use Rattle.receiver.specs.Receiver.{PacketLeft, acceptOf}
 use Rattle.report.specs.declared.Costs.{Costs}
 use Rattle.report.specs.declared.CostReport.{CostReport}
@@ -103,14 +102,14 @@ costs-are s hs n e =
 
 -- ---- a whole capture
 
-report-is : (limit : ℕ) (bytes : List ℕ) (ps : List (List ℕ)) → limitFits limit ≡ true → length bytes ≡ slotCount * limit
+report-is : (limit : ℕ) (bytes : List ℕ) (ps : List (List ℕ))
     → reportOf (freshRun limit bytes ps .heards) ≡ plus (sumReport (freshRun limit bytes ps .heards)) (openReport (freshRun limit bytes ps .slots))
 unfolding reportOf openReport sumReport
-report-is limit bytes ps f e =
+report-is limit bytes ps =
     rw (
-      costs-are Control (freshRun limit bytes ps .heards) _ (left-open limit bytes ps Control f e),
-      costs-are Ota (freshRun limit bytes ps .heards) _ (left-open limit bytes ps Ota f e),
-      costs-are Alexa (freshRun limit bytes ps .heards) _ (left-open limit bytes ps Alexa f e),
+      costs-are Control (freshRun limit bytes ps .heards) _ (left-open limit bytes ps Control),
+      costs-are Ota (freshRun limit bytes ps .heards) _ (left-open limit bytes ps Ota),
+      costs-are Alexa (freshRun limit bytes ps .heards) _ (left-open limit bytes ps Alexa),
     )
 
 -- with the sums so far, and what a run adds to them
@@ -137,6 +136,6 @@ from-is t limit slots bytes (p ∷ ps) =
     ∙ ap (λ (x : ToldAt CostReport). captureAdded x (r .slots) (r .bytes)) (turn-sum t (heard p (l .told)) (r .heards) (openReport (r .slots)))
 
 pub turns-add : TurnsAdd
-turns-add report limit slots bytes ps f e =
-    ap (λ (q : CostReport). captureAdded (summed (plus report q)) (freshRun limit bytes ps .slots) (freshRun limit bytes ps .bytes)) (report-is limit bytes ps f e)
+turns-add report limit slots bytes ps =
+    ap (λ (q : CostReport). captureAdded (summed (plus report q)) (freshRun limit bytes ps .slots) (freshRun limit bytes ps .bytes)) (report-is limit bytes ps)
     ∙ sym (from-is (given report) limit idles bytes ps)
