@@ -27,7 +27,7 @@ use Rattle.report.proofs.Lanes.{openWeight, keptWeight, counts, openSum
 -- ---- one packet
 
 -- not ready for a packet: 1, which leaves all
-guard-refused : (limit : ℕ) (slots : List Slot) (bytes : List ℕ) (c : PacketCall) → ready limit slots (length bytes) ≡ false
+pub guard-refused : (limit : ℕ) (slots : List Slot) (bytes : List ℕ) (c : PacketCall) → ready limit slots (length bytes) ≡ false
     → acceptOf limit slots bytes c ≡ left (refused 1) slots bytes (c .out)
 unfolding acceptOf
 guard-refused limit slots bytes c e = rw e
