@@ -57,11 +57,14 @@ packets-refused capture =
     by-numbers (IfRefused NotOver) (λ (n : ℕ). eqb n 19 ≡ false) (line 40 (otherVersion capture) ∷ []) (λ n. refused (n, 0))
     (packetsFrom (length capture) 1 (drop 1 capture)) (refl, tt) (λ n q. q) (from-refused (length capture) 1 (drop 1 capture))
 
-taken-refused : (limit count size : ℕ) (capture : List ℕ) → IfRefused NotOver (takenOf limit count size capture)
+abbrev takenFor : CaptureSizes → ToldAt (List (List ℕ))
+takenFor z = takenOf (z .limit) (z .count) (z .size) (z .content)
+
+taken-refused : (z : CaptureSizes) → IfRefused NotOver (takenFor z)
 unfolding takenOf
-taken-refused limit count size capture =
-    by-numbers (IfRefused NotOver) (λ (n : ℕ). eqb n 19 ≡ false) (lentLines limit count size) (λ n. refused (n, 0)) (packetsOf capture)
-    (refl, (refl, tt)) (λ n q. q) (packets-refused capture)
+taken-refused z =
+    by-numbers (IfRefused NotOver) (λ (n : ℕ). eqb n 19 ≡ false) (lentLines (z .limit) (z .count) (z .size)) (λ n. refused (n, 0)) (packetsOf (z .content))
+    (refl, (refl, tt)) (λ n q. q) (packets-refused (z .content))
 
 -- ---- what a capture adds
 
@@ -69,9 +72,6 @@ taken-refused limit count size capture =
 abbrev amountBy : ℕ → ℕ → ToldAt (List (List ℕ)) → CostReport
 amountBy limit size (refused why) = emptyReport
 amountBy limit size (given ps) = reportOf (freshRun limit (replicate size 0) ps .heards)
-
-abbrev takenFor : CaptureSizes → ToldAt (List (List ℕ))
-takenFor z = takenOf (z .limit) (z .count) (z .size) (z .content)
 
 amountOf : CaptureSizes → CostReport
 amountOf z = amountBy (z .limit) (z .size) (takenFor z)
@@ -98,8 +98,7 @@ added-by r limit slots bytes (given ps) o =
 
 told-is : (r : CostReport) (c : LentCapture) → SumTold r (plus r (amountOf (sizesOf c))) (toldOf r c)
 unfolding addedOf amountOf
-told-is r c =
-    added-by r (c .limit) (c .slots) (c .bytes) (takenFor (sizesOf c)) (taken-refused (c .limit) (length (c .slots)) (length (c .bytes)) (c .content))
+told-is r c = added-by r (c .limit) (c .slots) (c .bytes) (takenFor (sizesOf c)) (taken-refused (sizesOf c))
 
 -- ---- a list of captures
 

@@ -40,5 +40,6 @@ two-orders =
       after-turned = refl;
       claimed = λ claim. claim emptyReport inOrder turned refl order refl;
       over = refl;
+      kept = refl;
       needed = needed;
     }

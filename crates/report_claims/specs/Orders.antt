@@ -61,5 +61,7 @@ pub record TwoOrders : Type 0 where
   pub after : reportAfter emptyReport inOrder ≡ report (costs 3 0 1 1 1 0 55) (costs 1 1 0 0 0 1 7) (costs 0 0 0 0 0 0 6)
   pub after-turned : reportAfter emptyReport turned ≡ report (costs 3 0 1 1 1 0 55) (costs 1 1 0 0 0 1 7) (costs 0 0 0 0 0 0 6)
   pub claimed : OrderIsFree → (noneOver emptyReport turned ≡ true) × (reportAfter emptyReport inOrder ≡ reportAfter emptyReport turned)
+  -- the second is refused by 19, and leaves the report as it stood
   pub over : noneOver near (seven ∷ four ∷ []) ≡ false
+  pub kept : reportAfter near (seven ∷ four ∷ []) ≡ report (costs 1 0 0 0 1 0 18446744073709551612) noCosts noCosts
   pub needed : OrderAlwaysFree → ⊥
