@@ -1,5 +1,6 @@
 -- What packets cost on a stream: seven numbers, each from the packets and what was told of them.
 use Prim.Native.Nat.{ℕ, _+_}
+use mathlib.Core.Path.{_≡_}
 use mathlib.Core.List.{List, [], _∷_}
 use mathlib.Core.Bool.{Bool, true, false, not, _&&_, _||_}
 use lib.ListN.{length, getD}
@@ -123,3 +124,7 @@ costsIn s fs =
 -- what packets cost on a stream
 unfoldable pub costsOf : Stream → List Heard → Costs
 costsOf s hs = costsIn s (followedIn hs)
+
+-- every first packet that was accepted is finished, replaced, dropped or left open
+abbrev pub Balanced : Costs → Type 0
+Balanced c = c .firsts ≡ c .finished + c .replaced + c .dropped + c .pending

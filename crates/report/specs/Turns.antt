@@ -1,10 +1,9 @@
 -- A capture packet by packet: sums that stay at 19, and at the end the open slots counted.
-use Prim.Native.Nat.{ℕ, _*_}
+use Prim.Native.Nat.{ℕ}
 use mathlib.Core.Path.{_≡_}
 use mathlib.Core.List.{List, [], _∷_}
 use mathlib.Core.Bool.{Bool, true, cond, _&&_}
 use lib.ListN.{length}
-use Rattle.wire.specs.Limit.{limitFits}
 use Rattle.wire.specs.Those.{those}
 use Rattle.wire.specs.Told.{given, andThen}
 use Rattle.wire.specs.Stream.{streamNumber}
@@ -13,7 +12,7 @@ use Rattle.wire.specs.declared.stream.Stream.the-variants.{Control, Ota, Alexa}
 use Rattle.packet.specs.Header.{bit, isOf}
 use Rattle.captures.specs.Capture.{ToldAt}
 use Rattle.slot.specs.declared.Slot.{Slot}
-use Rattle.slot.specs.Slot.{opens, idles, slotCount, laneOf}
+use Rattle.slot.specs.Slot.{opens, idles, laneOf}
 use Rattle.receiver.specs.Receiver.{PacketLeft, acceptOf}
 use Rattle.report.specs.declared.Costs.{Costs}
 use Rattle.report.specs.declared.CostReport.{CostReport}
@@ -61,10 +60,8 @@ addedFrom t limit slots bytes (p ∷ ps) =
     let l : PacketLeft = acceptOf limit slots bytes (callFor p) in
     addedFrom (onTop t (reportWith (heard p (l .told)))) limit (l .slots) (l .bytes) ps
 
--- that is what the definition says
+-- that is what the definition says, of any limit and buffer
 abbrev pub TurnsAdd : Type 0
 TurnsAdd =
     (report : CostReport) (limit : ℕ) (slots : List Slot) (bytes : List ℕ) (ps : List (List ℕ))
-    → limitFits limit ≡ true
-    → length bytes ≡ slotCount * limit
     → addedBy report limit slots bytes (given ps) ≡ addedFrom (given report) limit idles bytes ps

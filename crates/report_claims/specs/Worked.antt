@@ -1,5 +1,5 @@
 -- Captures with every byte written out, and what adding them leaves.
-use Prim.Native.Nat.{ℕ}
+use Prim.Native.Nat.{ℕ, _+_}
 use mathlib.Core.Path.{_≡_}
 use mathlib.Core.List.{List, [], _∷_, _++_, map}
 use lib.ListN.{replicate}
@@ -59,6 +59,24 @@ mixed = three ∷ three ∷ reaches ∷ (0x03 ∷ []) ∷ (0x71 ∷ 0x00 ∷ [])
 abbrev pub twoIds : List (List ℕ)
 twoIds = three ∷ five ∷ second ∷ (0x04 ∷ 0x00 ∷ 0x00 ∷ 0x00 ∷ 0x02 ∷ 0x01 ∷ 0x07 ∷ []) ∷ (0x04 ∷ 0x28 ∷ 0x01 ∷ 0x08 ∷ []) ∷ []
 
+-- the first byte of two, of Alexa with an id
+abbrev alexa : ℕ → List ℕ
+alexa id = (0x60 + id) ∷ 0x00 ∷ 0x00 ∷ 0x00 ∷ 0x02 ∷ 0x01 ∷ 0x07 ∷ []
+
+-- five ids of one stream, the last of which finds no slot; a whole message in place of the first of them; a NACK of OTA; a first packet
+-- of a stream that there is not
+abbrev pub fiveIds : List (List ℕ)
+fiveIds =
+    alexa 1
+    ∷ alexa 2
+    ∷ alexa 3
+    ∷ alexa 4
+    ∷ alexa 5
+    ∷ (0x61 ∷ 0x00 ∷ 0x00 ∷ 0x00 ∷ 0x01 ∷ 0x01 ∷ 0x09 ∷ [])
+    ∷ (0x21 ∷ 0x0C ∷ 0x00 ∷ 0x02 ∷ 0x01 ∷ 0x03 ∷ [])
+    ∷ (0x11 ∷ 0x00 ∷ 0x00 ∷ 0x00 ∷ 0x02 ∷ 0x01 ∷ 0x07 ∷ [])
+    ∷ []
+
 -- ---- what is lent
 
 -- slots that no link has, and bytes of no message
@@ -106,6 +124,9 @@ rows =
     (given (report (costs 4 3 3 5 6 8 36) noCosts (costs 0 0 0 0 0 0 9)))
     (idle ∷ begun 5 ∷ replicate 10 idle)
     (0x07 ∷ 0x08 ∷ 0x07 ∷ replicate 21 0xEE)
+    ∷ leaves emptyReport 2 (captured fiveIds) (given (report noCosts (costs 0 0 0 0 0 0 6) (costs 5 1 1 0 3 1 42)))
+    (replicate 9 idle ++ (begun 2 ∷ begun 3 ∷ begun 4 ∷ []))
+    (replicate 16 0xEE ++ (0x09 ∷ 0xEE ∷ 0x07 ∷ 0xEE ∷ 0x07 ∷ 0xEE ∷ 0x07 ∷ 0xEE ∷ []))
     -- no packets: all is idle, and the buffer as it was
     ∷ leaves emptyReport 2 (0x01 ∷ []) (given emptyReport) (replicate 12 idle) oddBytes
     -- the most that there is, and one more: 19 leaves row and buffer as after the last packet
