@@ -3,15 +3,20 @@ use Prim.Native.Nat.{ℕ, _*_}
 use native.Mathlib.Omega.{arith}
 use mathlib.Core.Path.{_≡_, refl, sym, ap, _∙_}
 use mathlib.Core.List.{List}
-use mathlib.Core.Bool.{true, false, _&&_}
+use mathlib.Core.Bool.{Bool, true, false, _&&_}
 use lib.Dec.{eqb}
+use lib.ListN.{length}
+use borrow.Author.Tests.{eqb-true}
 use Rattle.wire.specs.Limit.{limitFits}
 use Rattle.wire.specs.Told.{given, refused}
 use Rattle.captures.specs.Capture.{ToldAt, packetsOf, checkedOf}
 use Rattle.slot.specs.declared.Slot.{Slot}
 use Rattle.slot.specs.Slot.{slotCount, idles}
 use Rattle.report.specs.declared.CostReport.{CostReport}
-use Rattle.report.specs.Report.{CaptureAdded, takenOf, addedBy}
+use Rattle.receiver.specs.Outcome.{firstTwelve}
+use Rattle.link.specs.Row.{savedRow}
+use Rattle.link.proofs.Rows.{saved-loaded, saved-twelve}
+use Rattle.report.specs.Report.{CaptureAdded, captureAdded, takenOf, addedBy, addedOf}
 use Rattle.report.specs.Turns.{addedFrom}
 use Rattle.report.proofs.Turning.{turns-add}
 use Rattle.tally.specs.Tally.{passedOf}
@@ -51,3 +56,30 @@ module _ (report : CostReport) (limit : ℕ) (slots : List Slot) (bytes capture 
   -- the packets of a capture that can be had, passed
   pub sound : given a ≡ passedOf (given report) limit idles bytes capture → a ≡ addedBy report limit slots bytes (packetsOf capture)
   sound h = sound-by (packetsOf capture) refl h
+
+-- ---- over a lent row, of which the first twelve slots were loaded, and all twelve are stored
+
+count-by : (limit count size : ℕ) (capture : List ℕ) (ps : List (List ℕ)) (f c : Bool) → limitFits limit ≡ f → eqb count slotCount ≡ c
+    → takenOf limit count size capture ≡ given ps → count ≡ slotCount
+unfolding takenOf
+count-by limit count size capture ps false c fe ce h = cc (rw fe at h)
+count-by limit count size capture ps true false fe ce h = cc (rw (fe, ce) at h)
+count-by limit count size capture ps true true fe ce h = eqb-true count slotCount ce
+
+-- packets are taken over a row of twelve slots only
+taken-count : (limit count size : ℕ) (capture : List ℕ) (ps : List (List ℕ)) → takenOf limit count size capture ≡ given ps → count ≡ slotCount
+taken-count limit count size capture ps h = count-by limit count size capture ps (limitFits limit) (eqb count slotCount) refl refl h
+
+module _ (report : CostReport) (limit : ℕ) (row : List Slot) (bytes capture : List ℕ) (t : ToldAt CostReport) (slots : List Slot) (after : List ℕ) (twelve : length slots ≡ slotCount) where
+  saved-by : (x : ToldAt (List (List ℕ))) → takenOf limit (length row) (length bytes) capture ≡ x
+      → captureAdded t slots after ≡ addedBy report limit (firstTwelve row) bytes x → captureAdded t (savedRow row slots) after ≡ addedBy report limit row bytes x
+  saved-by (refused why) e h =
+      ap (λ (a : CaptureAdded). captureAdded (a .told) (savedRow row (a .slots)) (a .bytes)) h
+      ∙ ap (λ (l : List Slot). captureAdded (refused why) l bytes) (saved-loaded row)
+  saved-by (given ps) e h =
+      ap (λ (l : List Slot). captureAdded t l after) (saved-twelve row slots (taken-count limit (length row) (length bytes) capture ps e) twelve) ∙ h
+
+  pub saved-added : captureAdded t slots after ≡ addedBy report limit (firstTwelve row) bytes (takenOf limit (length row) (length bytes) capture)
+      → captureAdded t (savedRow row slots) after ≡ addedOf report limit row bytes capture
+  unfolding addedOf
+  saved-added h = saved-by (takenOf limit (length row) (length bytes) capture) refl h
