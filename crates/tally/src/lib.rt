@@ -25,7 +25,7 @@ ghost use lib.ListN.{length, set};
 ghost use Prim.Native.Nat.{_*_};
 ghost use Rattle.wire.specs.Told.{given};
 ghost use Rattle.wire.specs.Limit.{limitFits};
-ghost use Rattle.captures.specs.Capture.{checkedOf};
+ghost use Rattle.captures.specs.Capture.{numberIn, checkedOf};
 ghost use Rattle.slot.specs.Slot.{idles, slotCount};
 ghost use Rattle.slot.specs.Answer as answer;
 ghost use Rattle.receiver.specs.Receiver.{result};
@@ -60,6 +60,18 @@ impl Refusal {
 pub enum Answer {
     Refused { why: Refusal, at: usize },
     Added(CostReport),
+}
+
+impl Answer {
+    // The number of the refusal; 0 where nothing is refused.
+    pub fn number(self) -> u8
+        ensures { λ r. ⌜ r ≡ numberIn (told self) ⌝ }
+    {
+        match self {
+            Answer::Refused { why, at: _ } => why.number(),
+            Answer::Added(_) => 0,
+        }
+    }
 }
 
 // The link's slots and the sums so far.
