@@ -1,0 +1,233 @@
+//! Captures in a report (No. 12): the worked one; lists of captures of mixed streams, with all kinds of packets, each with
+//! its limit, given in two orders; and single captures over rows that no receiver takes, with sizes, limits and captures
+//! that are refused, and reports near the largest number.
+
+use super::captures::Capture;
+use super::judged::capture;
+use super::packets::{self, Source};
+use super::worked::bytes;
+use super::{damage, edge, Plan};
+use crate::comparison::{Compared, Comparison};
+use crate::face;
+use crate::implementation::{Call, Operation, Slot};
+use crate::low_energy::{self, Reply, SLOTS};
+use crate::report::NUMBERS;
+use crate::rng::Rng;
+
+/// The numbers of a report.
+const ROW: usize = 3 * NUMBERS;
+
+/// Worked by hand from the request, at limit 64: the third packet is of type 1 and reaches the total, 11.
+const WORKED: [&str; 8] = [
+    "03 00 00 00 02 01 07",
+    "03 00 00 00 02 01 07",
+    "03 14 01 01",
+    "03",
+    "71 00",
+    "05 00 00 00 02 01 07",
+    "20 00 00 00 01 01 09",
+    "60 0E 00 02 01 00",
+];
+const WORKED_ROW: [u64; ROW] = [
+    3, 0, 1, 1, 1, 0, 26, //
+    1, 1, 0, 0, 0, 1, 7, //
+    0, 0, 0, 0, 0, 0, 6,
+];
+
+/// The limits that are tried, with how many lists of captures each gets. Every lent byte is compared at every call, so a
+/// large buffer is dear.
+const LIMITS: &[(u64, u64)] = &[
+    (64, 12_000),
+    (1, 1_000),
+    (2, 1_000),
+    (19, 1_000),
+    (255, 1_000),
+    (256, 1_000),
+    (4_096, 600),
+    (20_000, 20),
+    (65_535, 6),
+];
+
+pub fn run(c: &mut Comparison<'_>, rng: &mut Rng, plan: Plan) -> Compared<()> {
+    let packets: Vec<_> = WORKED.iter().map(|packet| bytes(packet)).collect();
+    let mut worked = call(rng, 64, &capture(&packets));
+    c.expect(&mut worked, 0, |call| {
+        // Id 5 took the slot that 11 had made idle.
+        let mut row = [Slot::default(); SLOTS];
+        row[0] = Slot {
+            opened: 1,
+            id: 5,
+            sequence: 0,
+            wanted: 0,
+            total: 2,
+            held: 1,
+        };
+        call.state == WORKED_ROW && call.slots == row
+    })?;
+    for &(limit, lists) in LIMITS {
+        c.at = format!("captures in a report, at limit {limit}");
+        for _ in 0..plan.times(lists) {
+            both_orders(c, rng, limit)?;
+            refused(c, rng, limit)?;
+        }
+    }
+    Ok(())
+}
+
+/// A capture for an empty report; what stands in row and buffer before is any.
+fn call(rng: &mut Rng, limit: u64, capture: &[u8]) -> Call {
+    Call::new(Operation::ReportAdd)
+        .numbers(&[limit])
+        .inputs(&[capture])
+        .slots(&row(rng, limit))
+        .lent(rng.bytes(low_energy::buffer(limit)))
+}
+
+/// A row of twelve slots, lawful or not.
+fn row(rng: &mut Rng, limit: u64) -> Vec<Slot> {
+    let mut row = if rng.once_in(2) {
+        packets::lawful(rng, limit)
+    } else {
+        packets::unlawful(rng, limit)
+    };
+    row.resize(SLOTS, Slot::default());
+    row
+}
+
+/// A capture of mixed streams. The packets made for a slot are made for those of the link that has read the ones before.
+fn generated(rng: &mut Rng, limit: u64) -> Vec<u8> {
+    let mut source = Source::new(rng, limit);
+    let mut slots = vec![Slot::default(); SLOTS];
+    let mut lent = vec![0; low_energy::buffer(limit)];
+    let mut list = Vec::new();
+    for _ in 0..rng.index(40) {
+        let packet = source.next(rng, &slots);
+        let reply = Reply {
+            sequence: 0,
+            buffer: &mut [0; 6],
+        };
+        face::receiver_accept(&[limit], &mut slots, &mut lent, &packet, reply, &mut [0; 8]);
+        list.push(packet);
+    }
+    list.retain(|packet| !packet.is_empty() && packet.len() <= 65_535);
+    capture(&list)
+}
+
+/// First packets accepted are those finished, replaced, dropped and left open.
+fn balanced(report: &[u64]) -> bool {
+    report
+        .chunks(NUMBERS)
+        .all(|stream| stream[0] == stream[1..5].iter().sum())
+}
+
+/// How many slots of each stream are open.
+fn opened(slots: &[Slot]) -> Vec<u64> {
+    slots
+        .chunks(SLOTS / 3)
+        .map(|slots| slots.iter().map(|slot| u64::from(slot.opened)).sum())
+        .collect()
+}
+
+/// A list of captures, given to an empty report in two orders, one refused now and then: it balances after each, is the
+/// same after both, and each capture's left open are the slots that are open after it.
+fn both_orders(c: &mut Comparison<'_>, rng: &mut Rng, limit: u64) -> Compared<()> {
+    let mut calls: Vec<Call> = (0..rng.between(1, 3))
+        .map(|_| {
+            let limit = if rng.once_in(4) { 64.min(limit) } else { limit };
+            let mut made = generated(rng, limit);
+            if rng.once_in(8) {
+                spoil(rng, &mut made);
+            }
+            call(rng, limit, &made)
+        })
+        .collect();
+    let mut reports = Vec::new();
+    for _ in 0..2 {
+        let mut report = vec![0; ROW];
+        for call in &calls {
+            let mut call = call.clone().state(&report);
+            let returned = c.run(&mut call)?;
+            c.hold(balanced(&call.state), "the report balances", &call)?;
+            if returned == 0 {
+                let left = |row: &[u64]| [row[4], row[4 + NUMBERS], row[4 + 2 * NUMBERS]];
+                let (before, after) = (left(&report), left(&call.state));
+                let came: Vec<u64> = after
+                    .iter()
+                    .zip(before)
+                    .map(|(after, before)| after - before)
+                    .collect();
+                c.hold(
+                    came == opened(&call.slots),
+                    "left open are the open slots",
+                    &call,
+                )?;
+            }
+            report = call.state;
+        }
+        reports.push(report);
+        calls.reverse();
+    }
+    let last = calls.last().expect("at least one");
+    c.hold(
+        reports[0] == reports[1],
+        "the same report in either order",
+        last,
+    )
+}
+
+/// Damages a capture, cuts it, or ends it with a length of 0.
+fn spoil(rng: &mut Rng, made: &mut Vec<u8>) {
+    match rng.below(4) {
+        0 => damage(rng, made, |rng| rng.byte()),
+        1 => made.truncate(rng.index(made.len() + 1)),
+        2 => made.extend([0, 0]),
+        _ => made[0] = *rng.pick(&[0, 2, 3, 255]),
+    }
+}
+
+/// A capture for a report with numbers near the largest, with a size, the limit or the capture wrong now and then, and
+/// several of them at once, so that the order of the refusals shows.
+fn refused(c: &mut Comparison<'_>, rng: &mut Rng, limit: u64) -> Compared<()> {
+    let mut made = generated(rng, limit);
+    if rng.once_in(3) {
+        spoil(rng, &mut made);
+    }
+    let mut call = call(rng, limit, &made);
+    for number in &mut call.state {
+        *number = match rng.below(12) {
+            0 => u64::MAX - rng.below(4),
+            1 => u64::MAX - rng.below(2_000),
+            2 => edge(rng),
+            _ => rng.below(1 << 40),
+        };
+    }
+    if rng.once_in(6) {
+        let length = rng.index(SLOTS + 4);
+        call.slots.resize(length, Slot::default());
+    }
+    if rng.once_in(6) {
+        let right = call.lent.len();
+        let size = *rng.pick(&[0, 1, right / 4, right - 1, right + 1, 3 * limit as usize]);
+        call.lent.resize(size, 0x77);
+    }
+    if rng.once_in(8) {
+        call.numbers[0] =
+            *rng.pick(&[0, limit + 1, limit - 1, 65_536, u64::MAX, limit + (1 << 32)]);
+    }
+    c.run(&mut call)?;
+    Ok(())
+}
+
+/// A capture of another maker, whose chunks are packets, added to a report.
+pub fn report_capture(c: &mut Comparison<'_>, of: &Capture) -> Compared<()> {
+    c.at = format!("capture {} in a report", of.name);
+    let mut call = Call::new(Operation::ReportAdd)
+        .numbers(&[4_096])
+        .inputs(&[&capture(&of.chunks)])
+        .lent(vec![0xCC; low_energy::buffer(4_096)]);
+    let size: usize = of.chunks.iter().map(Vec::len).sum();
+    c.expect(&mut call, 0, |call| {
+        let bytes: u64 = call.state.chunks(NUMBERS).map(|stream| stream[6]).sum();
+        bytes == size as u64 && balanced(&call.state)
+    })
+}
