@@ -4,6 +4,7 @@
 use crate::judge::{packets, Refused};
 use crate::low_energy::{accept, buffer, Accepted, Receiver, Reply, Slots, Stream, SLOTS};
 use crate::refusal::{limit_in, Refusal};
+use std::fmt::Write;
 
 /// What a report has for one stream.
 #[derive(Clone, Copy, Debug, Default, PartialEq, Eq)]
@@ -196,4 +197,52 @@ pub fn add(
         })
         .map(|()| sums);
     Ok(Added { slots, report })
+}
+
+/// A capture by its name; no bytes if it could not be read.
+pub struct Named {
+    pub name: String,
+    pub bytes: Option<Vec<u8>>,
+}
+
+/// What the program prints of some captures: the refused ones, a line for each stream and for all, and how many of the
+/// captures that is.
+pub fn table(limit: u64, captures: &[Named]) -> String {
+    let mut text = String::new();
+    let mut report = Report::default();
+    let mut count = 0;
+    let mut lent = vec![0; buffer(limit)];
+    for Named { name, bytes } in captures {
+        let Some(bytes) = bytes else {
+            continue;
+        };
+        let added = add(report, limit, SLOTS, &mut lent, bytes)
+            .and_then(|added| added.report.map_err(|refusal| (refusal, 0)));
+        match added {
+            Ok(sums) => (report, count) = (sums, count + 1),
+            Err((refusal, place)) => {
+                let _ = writeln!(text, "{name}: refused {refusal} at {place}");
+            }
+        }
+    }
+    let heads = [
+        "firsts", "finished", "replaced", "dropped", "open", "payload", "bytes",
+    ];
+    let heads: String = heads.iter().map(|head| format!(" {head:>10}")).collect();
+    let _ = writeln!(text, "       {heads}");
+    let mut total = [0; NUMBERS];
+    for (name, costs) in ["control", "OTA", "Alexa"].iter().zip(report) {
+        line(&mut text, name, costs.row());
+        for (sum, number) in total.iter_mut().zip(costs.row()) {
+            *sum += number;
+        }
+    }
+    line(&mut text, "total", total);
+    let _ = writeln!(text, "{count} of {} captures", captures.len());
+    text
+}
+
+fn line(text: &mut String, name: &str, row: [u64; NUMBERS]) {
+    let numbers: String = row.iter().map(|number| format!(" {number:>10}")).collect();
+    let _ = writeln!(text, "{name:<7}{numbers}");
 }

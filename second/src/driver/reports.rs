@@ -1,6 +1,6 @@
 //! Captures in a report (No. 12): the worked one; lists of captures of mixed streams, with all kinds of packets, each with
 //! its limit, given in two orders; and single captures over rows that no receiver takes, with sizes, limits and captures
-//! that are refused, and reports near the largest number.
+//! that are refused, and reports near the largest number. And the program `radio_report`, line by line.
 
 use super::captures::Capture;
 use super::judged::capture;
@@ -11,8 +11,14 @@ use crate::comparison::{Compared, Comparison};
 use crate::face;
 use crate::implementation::{Call, Operation, Slot};
 use crate::low_energy::{self, Reply, SLOTS};
-use crate::report::NUMBERS;
+use crate::report::{table, Named, NUMBERS};
 use crate::rng::Rng;
+use std::fs;
+use std::path::Path;
+use std::process::Command;
+
+/// The longest capture that the program reads.
+const LONGEST: usize = 1_048_576;
 
 /// The numbers of a report.
 const ROW: usize = 3 * NUMBERS;
@@ -230,4 +236,68 @@ pub fn report_capture(c: &mut Comparison<'_>, of: &Capture) -> Compared<()> {
         let bytes: u64 = call.state.chunks(NUMBERS).map(|stream| stream[6]).sum();
         bytes == size as u64 && balanced(&call.state)
     })
+}
+
+/// Runs the program on files of generated captures, some refused, one that is missing and one that is too long; gives how
+/// many files there were.
+pub fn run_program(program: &Path, captures: &[Capture], plan: Plan) -> Result<usize, String> {
+    let folder = std::env::temp_dir().join(format!("second-report-{}", std::process::id()));
+    let told = fs::create_dir(&folder)
+        .map_err(|error| format!("{}: {error}", folder.display()))
+        .and_then(|()| in_folder(program, captures, plan, &folder));
+    let _ = fs::remove_dir_all(&folder);
+    told
+}
+
+fn in_folder(
+    program: &Path,
+    captures: &[Capture],
+    plan: Plan,
+    folder: &Path,
+) -> Result<usize, String> {
+    let mut rng = Rng::new(plan.seed ^ 0x7265_706F_7274);
+    let makers = captures.iter().filter(|of| of.is_low_energy());
+    let mut files: Vec<_> = makers.map(|of| capture(&of.chunks)).collect();
+    // As long as may be, and a byte longer: one packet, and many of the largest.
+    let mut long = capture(&vec![vec![0; 65_535]; 15]);
+    long.extend(capture(&[vec![9; LONGEST - long.len() - 2]]).split_off(1));
+    files.push(long.clone());
+    long.push(0);
+    files.push(long);
+    for _ in 0..plan.times(30) {
+        let mut made = generated(&mut rng, 64);
+        if rng.once_in(4) {
+            spoil(&mut rng, &mut made);
+        }
+        files.push(made);
+    }
+    let mut named = vec![Named {
+        name: "missing.bin".to_string(),
+        bytes: None,
+    }];
+    for (number, bytes) in files.into_iter().enumerate() {
+        let name = format!("{number}.bin");
+        fs::write(folder.join(&name), &bytes).map_err(|error| format!("{name}: {error}"))?;
+        let bytes = (bytes.len() <= LONGEST).then_some(bytes);
+        named.push(Named { name, bytes });
+    }
+    for limit in [1, 64, 300, 4_096, 65_535] {
+        let output = Command::new(fs::canonicalize(program).map_err(|error| error.to_string())?)
+            .arg(limit.to_string())
+            .args(named.iter().map(|file| &file.name))
+            .current_dir(folder)
+            .output()
+            .map_err(|error| format!("{}: {error}", program.display()))?;
+        let (told, expected) = (
+            String::from_utf8_lossy(&output.stdout),
+            table(limit, &named),
+        );
+        if told != expected {
+            let program = program.display();
+            return Err(format!(
+                "difference: report at limit {limit}\n  second prints\n{expected}  {program} prints\n{told}"
+            ));
+        }
+    }
+    Ok(named.len())
 }
