@@ -43,15 +43,15 @@ const WORKED_ROW: [u64; ROW] = [
 /// The limits that are tried, with how many lists of captures each gets. Every lent byte is compared at every call, so a
 /// large buffer is dear.
 const LIMITS: &[(u64, u64)] = &[
-    (64, 12_000),
-    (1, 1_000),
-    (2, 1_000),
-    (19, 1_000),
-    (255, 1_000),
-    (256, 1_000),
-    (4_096, 600),
-    (20_000, 20),
-    (65_535, 6),
+    (64, 5_000),
+    (1, 400),
+    (2, 400),
+    (19, 400),
+    (255, 400),
+    (256, 400),
+    (4_096, 200),
+    (20_000, 10),
+    (65_535, 4),
 ];
 
 pub fn run(c: &mut Comparison<'_>, rng: &mut Rng, plan: Plan) -> Compared<()> {
