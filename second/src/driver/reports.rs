@@ -134,8 +134,9 @@ fn opened(slots: &[Slot]) -> Vec<u64> {
         .collect()
 }
 
-/// A list of captures, given to an empty report in two orders, one refused now and then: it balances after each, is the
-/// same after both, and each capture's left open are the slots that are open after it.
+/// A list of captures, one refused now and then, given in two orders to an empty report or to one near the largest numbers:
+/// an empty one balances after each; each capture's left open are the slots that are open after it; and where none is
+/// refused by 19 in one order, none is in the other, and the report is the same.
 fn both_orders(c: &mut Comparison<'_>, rng: &mut Rng, limit: u64) -> Compared<()> {
     let mut calls: Vec<Call> = (0..rng.between(1, 3))
         .map(|_| {
@@ -147,38 +148,49 @@ fn both_orders(c: &mut Comparison<'_>, rng: &mut Rng, limit: u64) -> Compared<()
             call(rng, limit, &made)
         })
         .collect();
-    let mut reports = Vec::new();
-    for _ in 0..2 {
-        let mut report = vec![0; ROW];
-        for call in &calls {
-            let mut call = call.clone().state(&report);
-            let returned = c.run(&mut call)?;
-            c.hold(balanced(&call.state), "the report balances", &call)?;
-            if returned == 0 {
-                let left = |row: &[u64]| [row[4], row[4 + NUMBERS], row[4 + 2 * NUMBERS]];
-                let (before, after) = (left(&report), left(&call.state));
-                let came: Vec<u64> = after
-                    .iter()
-                    .zip(before)
-                    .map(|(after, before)| after - before)
-                    .collect();
-                c.hold(
-                    came == opened(&call.slots),
-                    "left open are the open slots",
-                    &call,
-                )?;
-            }
-            report = call.state;
-        }
-        reports.push(report);
-        calls.reverse();
-    }
+    let start = match rng.below(3) {
+        0 => vec![u64::MAX - rng.below(1_500); ROW],
+        _ => vec![0; ROW],
+    };
+    let forth = one_order(c, &start, &calls)?;
+    calls.reverse();
+    let back = one_order(c, &start, &calls)?;
     let last = calls.last().expect("at least one");
     c.hold(
-        reports[0] == reports[1],
+        (forth.is_none() && back.is_none()) || forth == back,
         "the same report in either order",
         last,
     )
+}
+
+/// The report after captures in their order; none if one of them is refused by 19.
+fn one_order(c: &mut Comparison<'_>, start: &[u64], calls: &[Call]) -> Compared<Option<Vec<u64>>> {
+    let mut report = start.to_vec();
+    let mut over = false;
+    for call in calls {
+        let mut call = call.clone().state(&report);
+        let returned = c.run(&mut call)?;
+        over |= returned == 19;
+        let balances = start[0] != 0 || balanced(&call.state);
+        c.hold(balances, "the report balances", &call)?;
+        if returned == 0 {
+            let came = left_open(&call.state, &report);
+            let open = came == opened(&call.slots);
+            c.hold(open, "left open are the open slots", &call)?;
+        } else {
+            c.hold(call.state == report, "a refusal leaves the report", &call)?;
+        }
+        report = call.state;
+    }
+    Ok((!over).then_some(report))
+}
+
+/// How many more are left open on each stream in one report than in another.
+fn left_open(after: &[u64], before: &[u64]) -> Vec<u64> {
+    let streams = after.chunks(NUMBERS).zip(before.chunks(NUMBERS));
+    streams
+        .map(|(after, before)| after[4] - before[4])
+        .collect()
 }
 
 /// Damages a capture, cuts it, or ends it with a length of 0.
