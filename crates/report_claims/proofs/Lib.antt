@@ -1,0 +1,6 @@
+pub mod Worked
+pub mod Orders
+pub mod LeftOpen
+pub mod Balancing
+pub mod Contents
+pub mod Ordering

@@ -1,0 +1,3 @@
+pub mod Captures
+pub mod Worked
+pub mod Orders

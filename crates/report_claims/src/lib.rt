@@ -1,0 +1,29 @@
+// The claims about reports, as contracts of functions that do nothing. Their words are in specs/.
+ghost use Rattle.report_claims.specs.Captures.{LeftOpenIsOpen, OpenIsAdded, ReportsBalance, OrderIsFree, FitsAll};
+ghost use Rattle.report_claims.specs.Worked.{RowsAdd};
+ghost use Rattle.report_claims.specs.Orders.{TwoOrders};
+
+// What is left open, by the packets and their answers, is open in the row.
+pub fn left_open_is_open()
+    ensures { λ _. ⌜ LeftOpenIsOpen × OpenIsAdded ⌝ }
+{}
+
+// From an empty report, over any captures: first packets accepted are finished, replaced, dropped or left open.
+pub fn reports_balance()
+    ensures { λ _. ⌜ ReportsBalance ⌝ }
+{}
+
+// Where no capture is refused by 19, none is in any order, and the report is the same.
+pub fn order_is_free()
+    ensures { λ _. ⌜ OrderIsFree × FitsAll ⌝ }
+{}
+
+// Captures with every byte written out, and all that adding them leaves.
+pub fn worked_captures()
+    ensures { λ _. ⌜ RowsAdd ⌝ }
+{}
+
+// Four captures in two orders, two of them refused; and two whose order counts.
+pub fn two_orders()
+    ensures { λ _. ⌜ TwoOrders ⌝ }
+{}
