@@ -32,7 +32,7 @@ const LIMIT_WORD: usize = 8;
 const COLUMN: usize = 10;
 
 // The report so far, and how many captures it has.
-struct Gathered {
+struct ReportSoFar {
     report: CostReport,
     captures: u64,
 }
@@ -105,13 +105,13 @@ fn no_costs() -> Costs {
     }
 }
 
-fn nothing_gathered() -> Gathered {
+fn nothing_yet() -> ReportSoFar {
     let report = CostReport {
         control: no_costs(),
         ota: no_costs(),
         alexa: no_costs(),
     };
-    Gathered {
+    ReportSoFar {
         report,
         captures: 0,
     }
@@ -127,12 +127,12 @@ fn say_refused(name: &[u8], number: u8, place: usize) {
 }
 
 fn add_capture(
-    before: Gathered,
+    before: ReportSoFar,
     name: &[u8],
     limit: usize,
     buffer: &mut [u8],
     capture: &[u8],
-) -> Gathered {
+) -> ReportSoFar {
     let report = before.report;
     let row = [Slot::idle(); SLOT_COUNT];
     let added = add_by_value(SLOT_COUNT, row, report, limit, buffer, capture);
@@ -142,7 +142,7 @@ fn add_capture(
             say_refused(name, why.number(), at);
             before
         }
-        Answer::Added(sums) => Gathered {
+        Answer::Added(sums) => ReportSoFar {
             report: sums,
             captures: wrapping_add_u64(before.captures, 1),
         },
@@ -166,13 +166,13 @@ fn is_at_end(fd: i32, name: &[u8]) -> bool {
 }
 
 fn add_opened(
-    before: Gathered,
+    before: ReportSoFar,
     fd: i32,
     name: &[u8],
     limit: usize,
     buffer: &mut [u8],
     space: &mut [u8],
-) -> Gathered {
+) -> ReportSoFar {
     let held = io::read_full(fd, space);
     let whole = is_at_end(fd, name);
     libc::close(fd);
@@ -183,12 +183,12 @@ fn add_opened(
 }
 
 fn add_file(
-    before: Gathered,
+    before: ReportSoFar,
     name: &[u8],
     limit: usize,
     buffer: &mut [u8],
     space: &mut [u8],
-) -> Gathered {
+) -> ReportSoFar {
     let fd = os::open_read(name);
     if fd < 0 {
         os::fail(name);
@@ -198,26 +198,26 @@ fn add_file(
 }
 
 fn add_argument(
-    before: Gathered,
+    before: ReportSoFar,
     i: usize,
     limit: usize,
     buffer: &mut [u8],
     space: &mut [u8],
-) -> Gathered {
+) -> ReportSoFar {
     let mut name = io::buffer();
     let n = os::arg(i, &mut name);
     add_file(before, &name[..n], limit, buffer, space)
 }
 
 // Adds each file that an argument names, from the second one on.
-fn add_files(count: usize, limit: usize, buffer: &mut [u8], space: &mut [u8]) -> Gathered {
-    let mut gathered = nothing_gathered();
+fn add_files(count: usize, limit: usize, buffer: &mut [u8], space: &mut [u8]) -> ReportSoFar {
+    let mut sums = nothing_yet();
     let mut i = 2;
     while i < count {
-        gathered = add_argument(gathered, i, limit, buffer, space);
+        sums = add_argument(sums, i, limit, buffer, space);
         i += 1;
     }
-    gathered
+    sums
 }
 
 // A number at the right of its column, with a blank before it.
@@ -272,10 +272,10 @@ fn say_report(report: CostReport) {
     say_costs(b"total  ", total(report));
 }
 
-fn say_gathered(gathered: Gathered, count: usize) {
-    let report = gathered.report;
+fn say_all(sums: ReportSoFar, count: usize) {
+    let report = sums.report;
     say_report(report);
-    io::print_decimal(STDOUT_FILENO, gathered.captures);
+    io::print_decimal(STDOUT_FILENO, sums.captures);
     say(b" of ");
     io::print_decimal(STDOUT_FILENO, wrapping_sub_u64(count as u64, 2));
     say(b" captures\n");
@@ -283,8 +283,8 @@ fn say_gathered(gathered: Gathered, count: usize) {
 
 fn report_files(count: usize, limit: usize, size: usize, parts: &mut [u8], space: &mut [u8]) {
     let n = smaller(size, parts.len());
-    let gathered = add_files(count, limit, &mut parts[0..n], space);
-    say_gathered(gathered, count);
+    let sums = add_files(count, limit, &mut parts[0..n], space);
+    say_all(sums, count);
 }
 
 // The bytes of a link's buffer.

@@ -7,13 +7,13 @@ use Rattle.radio_report.proofs.add_files.Statement.{statement}
 use Rattle.radio_report.proofs.add_files.Tie as tie
 
 abbrev Inv-loop : tie.InvT-loop
-Inv-loop count limit buffer₀ space₀ gathered₀ i₀ buffer space gathered i = (length buffer ≡ length buffer₀) × (length space ≡ length space₀)
+Inv-loop count limit buffer₀ space₀ sums₀ i₀ buffer space sums i = (length buffer ≡ length buffer₀) × (length space ≡ length space₀)
 
 abbrev μ-loop : tie.MeasureT-loop
-μ-loop count limit buffer₀ space₀ gathered₀ i₀ buffer space gathered i = count - i
+μ-loop count limit buffer₀ space₀ sums₀ i₀ buffer space sums i = count - i
 
-nothing-gathered-requires : tie.Need-nothing-gathered-requires Inv-loop μ-loop
-nothing-gathered-requires c κs = search needs
+nothing-sums-requires : tie.Need-nothing-sums-requires Inv-loop μ-loop
+nothing-sums-requires c κs = search needs
 
 loop-holds : tie.Need-loop-holds Inv-loop μ-loop
 loop-holds c = (refl, refl)
@@ -45,7 +45,7 @@ add-files-spec =
     (tie.spec
     Inv-loop
     μ-loop
-    nothing-gathered-requires
+    nothing-sums-requires
     loop-holds
     add-argument-requires
     add-i
