@@ -32,6 +32,11 @@ abbrev pub located : {A : Type 0} → ℕ → Told A → ToldAt A
 located at (given a) = given a
 located at (refused n) = refused (n, at)
 
+-- the number of a refusal, or 0
+abbrev pub numberIn : {A : Type 0} → ToldAt A → ℕ
+numberIn (given a) = 0
+numberIn (refused why) = why .0
+
 -- 42: a length of 0, all of whose bytes are there; 41: the bytes end inside the packet, or inside its length
 abbrev pub frontLines : List ℕ → List Line
 frontLines rest = line 42 (leb width (length rest) && eqb (lengthIn rest) 0) ∷ line 41 (ltb (length rest) (width + lengthIn rest)) ∷ []

@@ -29,8 +29,8 @@ drop-smaller bytes n false e =
     rw m
 
 -- from a place on, the packets that are left and what is known so far decide as all do
-abbrev pub Judging : ℕ → ℕ → List ℕ → ℕ → Judgement → Type 0
-Judging room limit bytes at v = Walking bytes (walkedOf room limit bytes) at (λ ps. given (verdictFrom room limit at v ps))
+pub record Judging (room limit : ℕ) (bytes : List ℕ) (at : ℕ) (v : Judgement) : Type 0 where
+  pub walk : Walking bytes (walkedOf room limit bytes) at (λ ps. given (verdictFrom room limit at v ps))
 
 module _ (room limit : ℕ) (bytes : List ℕ) where
   pub other-refused : otherVersion bytes ≡ true → walkedOf room limit bytes ≡ refused (40, 0)
@@ -39,16 +39,16 @@ module _ (room limit : ℕ) (bytes : List ℕ) where
 
   pub judging-begins : otherVersion bytes ≡ false → (s : State) → s ≡ idle → Judging room limit bytes 1 (Going s)
   unfolding walkedOf
-  judging-begins e s i = rw i (walk-begins bytes (λ ps. given (verdictFrom room limit 1 (Going idle) ps)) e)
+  judging-begins e s i = rw i (record { walk = walk-begins bytes (λ ps. given (verdictFrom room limit 1 (Going idle) ps)) e })
 
   module _ {at : ℕ} {v : Judgement} (j : Judging room limit bytes at v) where
     pub judging-ends : length bytes ≤ at → walkedOf room limit bytes ≡ given v
     unfolding verdictFrom
-    judging-ends h = walk-ends bytes j h
+    judging-ends h = walk-ends bytes (j .walk) h
 
     module _ (h : at < length bytes) where
       pub judging-stops : (n : ℕ) → frontOf (drop at bytes) ≡ refused n → walkedOf room limit bytes ≡ refused (n, at)
-      judging-stops n e = walk-stops bytes j h n e
+      judging-stops n e = walk-stops bytes (j .walk) h n e
 
       -- one packet more
       step-is : (p : List ℕ) (ps : List (List ℕ)) → verdictFrom room limit at v (p ∷ ps) ≡ verdictFrom room limit (at + width + length p) (goneOn room limit at v p) ps
@@ -61,4 +61,6 @@ module _ (room limit : ℕ) (bytes : List ℕ) where
           let k : width + n ≤ length (drop at bytes) = front-within (drop at bytes) n e .0 in
           let l : length (drop at bytes) ≡ length bytes - at = length-drop at bytes in
           let size : length p ≡ n = rw pe (length-take n (drop (at + width) bytes) ∙ omega (arith, length-drop (at + width) bytes)) in
-          walk-goes bytes j h n p (λ ps. given (verdictFrom room limit (at + width + n) w ps)) e pe (λ ps. ap given (step-is p ps ∙ rw (size, ← we)))
+          record {
+            walk = walk-goes bytes (j .walk) h n p (λ ps. given (verdictFrom room limit (at + width + n) w ps)) e pe (λ ps. ap given (step-is p ps ∙ rw (size, ← we)));
+          }

@@ -5,8 +5,7 @@ use Rattle.wire.specs.Told.{given, refused, andThen}
 use Rattle.captures.specs.Capture as captures
 use Rattle.captures.specs.Capture.{ToldAt, packetsOf}
 use Rattle.slot.specs.declared.Slot.{Slot}
-use Rattle.slot.specs.Slot.{idles}
-use Rattle.receiver.specs.Receiver.{PacketLeft, acceptOf}
+use Rattle.receiver.specs.Receiver.{Result, result, PacketLeft, acceptOf}
 use Rattle.report.specs.declared.CostReport.{CostReport}
 use Rattle.report.specs.Costs.{heard}
 use Rattle.report.specs.Report.{callFor, CaptureAdded, captureAdded}
@@ -27,15 +26,21 @@ toldSum (Within r) = given r
 abbrev pub tallied : Tally → List ℕ → CaptureAdded
 tallied t bytes = captureAdded (toldSum (t .sum)) (t .slots) bytes
 
--- one packet more
+-- one packet given to the link: what is told, the row and the buffer
+unfoldable pub gaveOf : ℕ → List Slot → List ℕ → List ℕ → Result
+gaveOf limit slots bytes p =
+    let l : PacketLeft = acceptOf limit slots bytes (callFor p) in
+    result (l .told) (l .slots) (l .bytes)
+
+-- and counted
 unfoldable pub turnOf : ToldAt CostReport → ℕ → List Slot → List ℕ → List ℕ → CaptureAdded
 turnOf t limit slots bytes p =
-    let l : PacketLeft = acceptOf limit slots bytes (callFor p) in
+    let l : Result = gaveOf limit slots bytes p in
     captureAdded (onTop t (reportWith (heard p (l .told)))) (l .slots) (l .bytes)
 
--- the packets of a capture, if they can be had
-unfoldable pub passedOf : CostReport → ℕ → List ℕ → List ℕ → ToldAt CaptureAdded
-passedOf report limit bytes capture = andThen (packetsOf capture) (λ ps. given (addedFrom (given report) limit idles bytes ps))
+-- all packets of a capture, if they can be had
+unfoldable pub passedOf : ToldAt CostReport → ℕ → List Slot → List ℕ → List ℕ → ToldAt CaptureAdded
+passedOf t limit slots bytes capture = andThen (packetsOf capture) (λ ps. given (addedFrom t limit slots bytes ps))
 
 -- ---- what the code tells
 

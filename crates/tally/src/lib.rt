@@ -10,6 +10,7 @@ use captures::WIDTH;
 use captures::check;
 use link::load;
 use link::save;
+use receiver::Outcome;
 use receiver::SLOT_COUNT;
 use receiver::decide;
 use report::CostReport;
@@ -20,14 +21,16 @@ use wire::logic::both;
 ghost use mathlib.Core.Path.{_≡_};
 ghost use mathlib.Core.Bool.{true, _&&_};
 ghost use lib.Dec.{eqb};
-ghost use lib.ListN.{length, set, replicate};
+ghost use lib.ListN.{length, set};
 ghost use Prim.Native.Nat.{_*_};
 ghost use Rattle.wire.specs.Told.{given};
 ghost use Rattle.wire.specs.Limit.{limitFits};
-ghost use Rattle.captures.specs.Capture.{checkedOf};
+ghost use Rattle.captures.specs.Capture.{numberIn, checkedOf};
 ghost use Rattle.slot.specs.Slot.{idles, slotCount};
+ghost use Rattle.slot.specs.Answer as answer;
+ghost use Rattle.receiver.specs.Receiver.{result};
 ghost use Rattle.report.specs.Report.{captureAdded, takenOf, addedBy, addedOf};
-ghost use Rattle.tally.specs.Tally.{toldSum, tallied, turnOf, passedOf, numberOf, told};
+ghost use Rattle.tally.specs.Tally.{toldSum, tallied, gaveOf, turnOf, passedOf, numberOf, told};
 ghost use Rattle.tally.specs.declared.Answer.the-variants.{Refused};
 
 // Lent: a row of other than twelve slots, or a buffer of other than twelve times the limit. Sum: a number of the report would have more
@@ -59,6 +62,18 @@ pub enum Answer {
     Added(CostReport),
 }
 
+impl Answer {
+    // The number of the refusal; 0 where nothing is refused.
+    pub fn number(self) -> u8
+        ensures { λ r. ⌜ r ≡ numberIn (told self) ⌝ }
+    {
+        match self {
+            Answer::Refused { why, at: _ } => why.number(),
+            Answer::Added(_) => 0,
+        }
+    }
+}
+
 // The link's slots and the sums so far.
 struct Tally {
     slots: [Slot; 12],
@@ -87,15 +102,22 @@ fn with_slot(slots: [Slot; 12], place: usize, slot: Slot) -> [Slot; 12]
     row
 }
 
-// A packet given to the link and counted. The answer sequence and the answer buffer are the call's own.
+// A packet given to the link. The answer sequence and the answer buffer are the call's own.
+fn give(limit: usize, slots: [Slot; 12], buffer: &mut [u8], packet: &[u8]) -> Outcome
+    ensures { λ r. ⌜ result (answer.told (r .answer)) (set slots (r .place) (r .slot)) (now (buffer .exit))
+        ≡ gaveOf limit slots (now (buffer .entry)) (now (packet .entry)) ⌝ }
+{
+    let mut out = [0u8; 6];
+    decide(SLOT_COUNT, slots, limit, buffer, packet, 0, &mut out)
+}
+
+// A packet given to the link and counted.
 fn take(limit: usize, tally: Tally, buffer: &mut [u8], packet: &[u8]) -> Tally
-    requires { ⌜ length (tally .slots) ≡ slotCount ⌝ }
     ensures { λ r. ⌜ tallied r (now (buffer .exit))
         ≡ turnOf (toldSum (tally .sum)) limit (tally .slots) (now (buffer .entry)) (now (packet .entry)) ⌝ }
 {
-    let mut out = [0u8; 6];
     let slots = tally.slots;
-    let done = decide(SLOT_COUNT, slots, limit, buffer, packet, 0, &mut out);
+    let done = give(limit, slots, buffer, packet);
     let answer = done.answer;
     let more = report_with(packet, answer);
     let so_far = tally.sum;
@@ -108,7 +130,7 @@ fn take(limit: usize, tally: Tally, buffer: &mut [u8], packet: &[u8]) -> Tally
 fn pass(report: CostReport, limit: usize, buffer: &mut [u8], capture: &[u8]) -> Tally
     requires { ⌜ checkedOf (now capture) ≡ given tt ⌝ }
     ensures { λ r. ⌜ given (tallied r (now (buffer .exit)))
-        ≡ passedOf report limit (now (buffer .entry)) (now (capture .entry)) ⌝ }
+        ≡ passedOf (given report) limit idles (now (buffer .entry)) (now (capture .entry)) ⌝ }
 {
     let mut at = 1;
     let mut tally = Tally {
