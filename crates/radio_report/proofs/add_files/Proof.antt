@@ -12,8 +12,8 @@ Inv-loop count limit buffer₀ space₀ sums₀ i₀ buffer space sums i = (leng
 abbrev μ-loop : tie.MeasureT-loop
 μ-loop count limit buffer₀ space₀ sums₀ i₀ buffer space sums i = count - i
 
-nothing-sums-requires : tie.Need-nothing-sums-requires Inv-loop μ-loop
-nothing-sums-requires c κs = search needs
+nothing-yet-requires : tie.Need-nothing-yet-requires Inv-loop μ-loop
+nothing-yet-requires c κs = search needs
 
 loop-holds : tie.Need-loop-holds Inv-loop μ-loop
 loop-holds c = (refl, refl)
@@ -45,7 +45,7 @@ add-files-spec =
     (tie.spec
     Inv-loop
     μ-loop
-    nothing-sums-requires
+    nothing-yet-requires
     loop-holds
     add-argument-requires
     add-i
