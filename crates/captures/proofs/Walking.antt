@@ -93,18 +93,18 @@ module _ (bytes : List ℕ) where
 
 -- ---- a walk: from a place on, what is left, gone on with, gives what the whole capture does
 
-pub record Walking {A : Type 0} (bytes : List ℕ) (all : ToldAt A) (at : ℕ) (f : List (List ℕ) → ToldAt A) : Type 0 where
+pub record PacketWalk {A : Type 0} (bytes : List ℕ) (all : ToldAt A) (at : ℕ) (f : List (List ℕ) → ToldAt A) : Type 0 where
   pub inside : at ≤ length bytes
   pub turns : ℕ
   pub enough : length bytes ≤ at + turns
   pub gives : andThen (packetsFrom turns at (drop at bytes)) f ≡ all
 
 module _ {A : Type 0} (bytes : List ℕ) where
-  pub walk-begins : (f : List (List ℕ) → ToldAt A) → otherVersion bytes ≡ false → Walking bytes (andThen (packetsOf bytes) f) 1 f
+  pub walk-begins : (f : List (List ℕ) → ToldAt A) → otherVersion bytes ≡ false → PacketWalk bytes (andThen (packetsOf bytes) f) 1 f
   walk-begins f e =
       record { inside = some-byte bytes e; turns = length bytes; enough = omega arith; gives = rw (packets-begin bytes e) }
 
-  module _ {all : ToldAt A} {at : ℕ} {f : List (List ℕ) → ToldAt A} (w : Walking bytes all at f) where
+  module _ {all : ToldAt A} {at : ℕ} {f : List (List ℕ) → ToldAt A} (w : PacketWalk bytes all at f) where
     pub walk-ends : length bytes ≤ at → all ≡ f []
     walk-ends h = sym (w .gives) ∙ rw (drop-of-length-le bytes h, packets-nil (w .turns) at)
 
@@ -123,7 +123,7 @@ module _ {A : Type 0} (bytes : List ℕ) where
       walk-stops n e = turn ∙ rw e
 
       pub walk-goes : (n : ℕ) (p : List ℕ) (g : List (List ℕ) → ToldAt A) → frontOf (drop at bytes) ≡ given n → p ≡ take n (drop (at + width) bytes)
-          → ((ps : List (List ℕ)) → f (p ∷ ps) ≡ g ps) → Walking bytes all (at + width + n) g
+          → ((ps : List (List ℕ)) → f (p ∷ ps) ≡ g ps) → PacketWalk bytes all (at + width + n) g
       walk-goes n p g e pe same =
           let k : width + n ≤ length (drop at bytes) = front-within (drop at bytes) n e .0 in
           let l : length (drop at bytes) ≡ length bytes - at = length-drop at bytes in
@@ -154,7 +154,7 @@ module _ (bytes : List ℕ) where
   unfolding checkedOf
   check-refused e = rw (other-refused bytes e)
 
-  pub check-begins : otherVersion bytes ≡ false → Walking bytes (checkedOf bytes) 1 (λ ps. given tt)
+  pub check-begins : otherVersion bytes ≡ false → PacketWalk bytes (checkedOf bytes) 1 (λ ps. given tt)
   unfolding checkedOf
   check-begins e = walk-begins bytes (λ ps. given tt) e
 

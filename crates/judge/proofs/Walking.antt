@@ -10,7 +10,7 @@ use borrow.Author.Tests.{ltb-true, ltb-false}
 use Rattle.wire.specs.Told.{given, refused}
 use Rattle.captures.specs.Capture.{width, frontOf, otherVersion}
 use Rattle.captures.proofs.Walking as captures
-use Rattle.captures.proofs.Walking.{front-within, Walking, walk-begins, walk-ends, walk-stops, walk-goes}
+use Rattle.captures.proofs.Walking.{front-within, PacketWalk, walk-begins, walk-ends, walk-stops, walk-goes}
 use Rattle.judge.specs.declared.State.{State}
 use Rattle.judge.specs.declared.capture.Judgement.{Judgement}
 use Rattle.judge.specs.declared.capture.Judgement.the-variants.{Going, Stopped}
@@ -30,7 +30,7 @@ drop-smaller bytes n false e =
 
 -- from a place on, the packets that are left and what is known so far decide as all do
 pub record Judging (room limit : ℕ) (bytes : List ℕ) (at : ℕ) (v : Judgement) : Type 0 where
-  pub walk : Walking bytes (walkedOf room limit bytes) at (λ ps. given (verdictFrom room limit at v ps))
+  pub walk : PacketWalk bytes (walkedOf room limit bytes) at (λ ps. given (verdictFrom room limit at v ps))
 
 module _ (room limit : ℕ) (bytes : List ℕ) where
   pub other-refused : otherVersion bytes ≡ true → walkedOf room limit bytes ≡ refused (40, 0)

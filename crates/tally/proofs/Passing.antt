@@ -9,7 +9,7 @@ use lib.Seq.{getD-drop}
 use Rattle.wire.specs.Told.{Told, given, refused, andThen}
 use Rattle.wire.specs.Bytes.{pairOf}
 use Rattle.captures.specs.Capture.{ToldAt, width, lengthIn, frontOf, otherVersion, packetsOf, checkedOf}
-use Rattle.captures.proofs.Walking.{Walking, check-refused, walk-begins, walk-ends, walk-front, walk-goes, front-within}
+use Rattle.captures.proofs.Walking.{PacketWalk, check-refused, walk-begins, walk-ends, walk-front, walk-goes, front-within}
 use Rattle.slot.specs.declared.Slot.{Slot}
 use Rattle.slot.specs.Slot.{slotCount}
 use Rattle.slot.specs.declared.answer.Accepted.{Accepted}
@@ -57,7 +57,7 @@ counted-is t limit slots bytes p answer row after e = ap (λ (r : Result). captu
 module _ (limit : ℕ) (start : Tally) (lent capture : List ℕ) where
   -- from a place on, the packets that are left and what was counted so far give what all do
   pub record Passing (at : ℕ) (t : Tally) (bytes : List ℕ) : Type 0 where
-    pub walk : Walking capture (passedOf (toldSum (start .sum)) limit (start .slots) lent capture) at (λ ps. given (addedFrom (toldSum (t .sum)) limit (t .slots) bytes ps))
+    pub walk : PacketWalk capture (passedOf (toldSum (start .sum)) limit (start .slots) lent capture) at (λ ps. given (addedFrom (toldSum (t .sum)) limit (t .slots) bytes ps))
     pub size : length bytes ≡ length lent
 
   had-by : (t : ToldAt (List (List ℕ))) → packetsOf capture ≡ t → checkedOf capture ≡ given tt

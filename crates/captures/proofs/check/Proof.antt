@@ -7,12 +7,12 @@ use denote.Ref.{now}
 use Rattle.wire.specs.Told.{given}
 use Rattle.wire.proofs.Parts.{rest-lent}
 use Rattle.captures.specs.Capture.{width, frontOf, checkedOf, frontTold}
-use Rattle.captures.proofs.Walking.{Walking, check-refused, check-begins, walk-ends, walk-stops, walk-goes, front-within}
+use Rattle.captures.proofs.Walking.{PacketWalk, check-refused, check-begins, walk-ends, walk-stops, walk-goes, front-within}
 use Rattle.captures.proofs.check.Statement.{statement}
 use Rattle.captures.proofs.check.Tie as tie
 
 abbrev Inv-loop : tie.InvT-loop
-Inv-loop capture at₀ at = Walking capture (checkedOf capture) at (λ ps. given tt)
+Inv-loop capture at₀ at = PacketWalk capture (checkedOf capture) at (λ ps. given tt)
 
 abbrev μ-loop : tie.MeasureT-loop
 μ-loop capture at₀ at = length capture - at
