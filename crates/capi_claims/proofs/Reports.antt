@@ -1,7 +1,7 @@
 -- A report's call under refusal 1.
 use Prim.Native.Nat.{ℕ}
 use native.Mathlib.Omega.{arith}
-use mathlib.Core.Path.{_≡_, refl, sym, ap, _∙_}
+use mathlib.Core.Path.{_≡_, refl}
 use mathlib.Core.Bool.{Bool, true, false, cond}
 use mathlib.Core.List.{List}
 use lib.ListN.{length}
@@ -9,7 +9,7 @@ use Rattle.wire.specs.Told.{given, refused}
 use Rattle.captures.specs.Capture.{ToldAt, numberIn}
 use Rattle.slot.specs.declared.Slot.{Slot}
 use Rattle.report.specs.declared.CostReport.{CostReport}
-use Rattle.report.specs.Report.{LinkRun, freshRun, plus, reportOf, reportFits, summed, takenOf, addedBy, addedOf}
+use Rattle.report.specs.Report.{freshRun, plus, reportOf, reportFits, summed, takenOf, addedBy, addedOf}
 use Rattle.calls_report.specs.Convert.{reportAt}
 use Rattle.calls_report.specs.Calls.{reportCalled, addTold, reportRowsFit, reportAddOf}
 use Rattle.capi_claims.specs.OneLeavesAll.{KeepsReport}

@@ -2,7 +2,7 @@
 use Prim.Native.Nat.{ℕ, _+_, _-_, _≤_, _<_, min}
 use native.Mathlib.Omega.{arith}
 use mathlib.Core.Path.{_≡_, refl, sym, ap, _∙_}
-use mathlib.Core.List.{List, [], _∷_}
+use mathlib.Core.List.{List, _∷_}
 use mathlib.Core.Bool.{Bool, true, false}
 use lib.ListN.{length, take, drop, length-take, length-drop, drop-of-length-le}
 use lib.Dec.{ltb}
@@ -13,7 +13,7 @@ use Rattle.captures.proofs.Walking as captures
 use Rattle.captures.proofs.Walking.{front-within, PacketWalk, walk-begins, walk-ends, walk-stops, walk-goes}
 use Rattle.judge.specs.declared.State.{State}
 use Rattle.judge.specs.declared.capture.Judgement.{Judgement}
-use Rattle.judge.specs.declared.capture.Judgement.the-variants.{Going, Stopped}
+use Rattle.judge.specs.declared.capture.Judgement.the-variants.{Going}
 use Rattle.judge.specs.Step.{idle}
 use Rattle.judge.specs.Capture.{goneOn, verdictFrom, walkedOf}
 

@@ -2,11 +2,11 @@
 use Prim.Native.Nat.{ℕ, _+_, _≤_, _<_}
 use native.Mathlib.Omega.{arith}
 use mathlib.Core.Path.{_≡_, refl, sym, ap, _∙_}
-use mathlib.Core.List.{List, [], _∷_}
+use mathlib.Core.List.{List}
 use mathlib.Core.Bool.{Bool, true, false}
 use lib.ListN.{length, getD, set, take, drop, length-drop}
 use lib.Seq.{getD-drop}
-use Rattle.wire.specs.Told.{Told, given, refused, andThen}
+use Rattle.wire.specs.Told.{Told, given, refused}
 use Rattle.wire.specs.Bytes.{pairOf}
 use Rattle.captures.specs.Capture.{ToldAt, width, lengthIn, frontOf, otherVersion, packetsOf, checkedOf}
 use Rattle.captures.proofs.Walking.{PacketWalk, check-refused, walk-begins, walk-ends, walk-front, walk-goes, front-within}

@@ -1,7 +1,7 @@
 // What one packet adds to a report, and what the open slots add at the end.
 use packet::header;
-use report::Costs;
 use report::CostReport;
+use report::Costs;
 use slot::Slot;
 use slot::answer::Accepted;
 use slot::answer::Answer;

@@ -10,6 +10,7 @@ use captures::WIDTH;
 use captures::check;
 use link::load;
 use link::save;
+use packet::control::ACK_SIZE;
 use receiver::Outcome;
 use receiver::SLOT_COUNT;
 use receiver::decide;
@@ -107,7 +108,7 @@ fn give(limit: usize, slots: [Slot; 12], buffer: &mut [u8], packet: &[u8]) -> Ou
     ensures { λ r. ⌜ result (answer.told (r .answer)) (set slots (r .place) (r .slot)) (now (buffer .exit))
         ≡ gaveOf limit slots (now (buffer .entry)) (now (packet .entry)) ⌝ }
 {
-    let mut out = [0u8; 6];
+    let mut out = [0u8; ACK_SIZE];
     decide(SLOT_COUNT, slots, limit, buffer, packet, 0, &mut out)
 }
 

@@ -1,6 +1,6 @@
 // Sums of a report's numbers, each within 64 bits.
-use report::Costs;
 use report::CostReport;
+use report::Costs;
 use wire::logic::both;
 ghost use Prim.Native.Nat.{_+_};
 ghost use mathlib.Core.Path.{_≡_};
@@ -29,9 +29,15 @@ fn costs_fit(a: Costs, b: Costs) -> bool
     ensures { λ r. ⌜ r ≡ costsFit (costsPlus a b) ⌝ }
 {
     let sizes = both(fit(a.payload, b.payload), fit(a.bytes, b.bytes));
-    let ended = both(fit(a.dropped, b.dropped), both(fit(a.pending, b.pending), sizes));
+    let ended = both(
+        fit(a.dropped, b.dropped),
+        both(fit(a.pending, b.pending), sizes),
+    );
     let replaced = both(fit(a.replaced, b.replaced), ended);
-    both(fit(a.firsts, b.firsts), both(fit(a.finished, b.finished), replaced))
+    both(
+        fit(a.firsts, b.firsts),
+        both(fit(a.finished, b.finished), replaced),
+    )
 }
 
 fn add_costs(a: Costs, b: Costs) -> Costs

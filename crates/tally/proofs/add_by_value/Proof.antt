@@ -33,7 +33,7 @@ returns-2 c =
     rw (
       c .refuse2 .ensures,
       lent-refused (s .args .limit) (s .args .count) (length (now (s .args .buffer))) (now (s .args .capture)) (sym (c .before .before .before .before .limit-fits .ensures) ∙ not-false (c .before .before .before .before .limit-fits .result) (c .before .before .before .if1 .left))
-      (sym (f .lent-fits .ensures) ∙ not-true (f .lent-fits .result) (c .before .if2 .taken)),
+          (sym (f .lent-fits .ensures) ∙ not-true (f .lent-fits .result) (c .before .if2 .taken)),
     )
 
 check-requires : tie.Need-check-requires
@@ -61,7 +61,7 @@ returns-3 c =
     rw (
       c .refuse3 .ensures,
       taken-is (s .args .limit) (s .args .count) (length (now (s .args .buffer))) (now (s .args .capture)) (sym (c .before .before .before .before .before .before .before .before .limit-fits .ensures) ∙ not-false (c .before .before .before .before .before .before .before .before .limit-fits .result) (c .before .before .before .before .before .before .before .if1 .left))
-      (sym (c .before .before .before .before .before .before .lent-fits .ensures) ∙ not-false (c .before .before .before .before .before .before .lent-fits .result) (c .before .before .before .before .before .if2 .left)),
+          (sym (c .before .before .before .before .before .before .lent-fits .ensures) ∙ not-false (c .before .before .before .before .before .before .lent-fits .result) (c .before .before .before .before .before .if2 .left)),
       unsound (now (s .args .capture)) _ why,
     )
 
@@ -74,7 +74,7 @@ returns-4 c =
     rw (
       c .before .answer-of .ensures,
       taken-is (s .args .limit) (s .args .count) (length (now (s .args .buffer))) (now (s .args .capture)) (sym (c .before .before .before .before .before .before .before .before .before .before .before .before .limit-fits .ensures) ∙ not-false (c .before .before .before .before .before .before .before .before .before .before .before .before .limit-fits .result) (c .before .before .before .before .before .before .before .before .before .before .before .if1 .left))
-      (sym (c .before .before .before .before .before .before .before .before .before .before .lent-fits .ensures) ∙ not-false (c .before .before .before .before .before .before .before .before .before .before .lent-fits .result) (c .before .before .before .before .before .before .before .before .before .if2 .left)),
+          (sym (c .before .before .before .before .before .before .before .before .before .before .lent-fits .ensures) ∙ not-false (c .before .before .before .before .before .before .before .before .before .before .lent-fits .result) (c .before .before .before .before .before .before .before .before .before .if2 .left)),
     )
     (sound (s .args .report) (s .args .limit) (s .args .slots) (now (s .args .buffer)) (now (s .args .capture)) _ (c .before .before .before .before .pass .ensures))
 

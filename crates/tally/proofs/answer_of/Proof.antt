@@ -1,4 +1,3 @@
-
 use borrow.Author.Needs.{needs}
 use Rattle.tally.proofs.answer_of.Statement.{statement}
 use Rattle.tally.proofs.answer_of.Tie as tie

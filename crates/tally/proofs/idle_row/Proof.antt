@@ -1,4 +1,3 @@
-
 use borrow.Author.Needs.{needs}
 use Rattle.tally.proofs.idle_row.Statement.{statement}
 use Rattle.tally.proofs.idle_row.Tie as tie

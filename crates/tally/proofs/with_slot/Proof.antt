@@ -15,7 +15,7 @@ returns : tie.Need-returns
 returns c = search needs
 
 returns-2 : tie.Need-returns-2
-returns-2 c = 
+returns-2 c =
     let s = c .before in
     sym (set-past (s .args .slots) (s .args .place) (s .args .slot) (omega (arith, s .good .0 .1 .0 .1)))
 

@@ -40,7 +40,7 @@ amount-if-requires-2 : tie.Need-amount-if-requires-2
 amount-if-requires-2 c κs = search needs
 
 returns : tie.Need-returns
-returns c = 
+returns c =
     rw (
       c .amount-if2 .ensures,
       c .before .amount-if .ensures,

@@ -15,7 +15,7 @@ stream-bits-requires : tie.Need-stream-bits-requires
 stream-bits-requires c κs = search needs
 
 returns-2 : tie.Need-returns-2
-returns-2 c = 
+returns-2 c =
     let s = c .before .before .before .before in
     rw (c .stream-bits .ensures) (sym (of-some (s .args .number) (now (s .args .packet)) (c .before .before .if1 .left)))
 

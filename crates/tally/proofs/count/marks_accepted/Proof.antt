@@ -1,4 +1,3 @@
-
 use borrow.Author.Needs.{needs}
 use Rattle.tally.proofs.count.marks_accepted.Statement.{statement}
 use Rattle.tally.proofs.count.marks_accepted.Tie as tie

@@ -1,4 +1,3 @@
-
 use borrow.Author.Needs.{needs}
 use Rattle.tally.proofs.count.marks_of.Statement.{statement}
 use Rattle.tally.proofs.count.marks_of.Tie as tie

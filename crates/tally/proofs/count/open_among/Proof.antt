@@ -50,7 +50,7 @@ add-result-3 : tie.Need-add-result-3
 add-result-3 c = omega (arith, c .one-if4 .ensures .1, c .before .before .before .one-if3 .ensures .1, c .before .before .before .before .before .before .one-if2 .ensures .1, c .before .before .before .before .before .before .before .before .before .one-if .ensures .1)
 
 returns : tie.Need-returns
-returns c = 
+returns c =
     let s = c .before .before .before .before .before .before .before .before .before .before .before .before in
     rw (
       c .one-if4 .ensures .0,

@@ -32,7 +32,7 @@ open-costs-requires-3 c κs = search needs
 
 returns : tie.Need-returns
 unfolding openReport
-returns c = 
+returns c =
     rw (
       c .open-costs3 .ensures,
       c .before .open-among3 .ensures,

@@ -29,7 +29,7 @@ costs-of-requires-3 c κs = search needs
 
 returns : tie.Need-returns
 unfolding reportWith
-returns c = 
+returns c =
     rw (
       c .costs-of3 .ensures,
       c .before .is-of3 .ensures,

@@ -6,37 +6,37 @@ use Rattle.tally.proofs.sums.add_costs.Statement.{statement}
 use Rattle.tally.proofs.sums.add_costs.Tie as tie
 
 add-t3 : tie.Need-add-t3
-add-t3 c = 
+add-t3 c =
     let s = c .before .before in
     omega (arith, sums-fit (s .args .a) (s .args .b) (s .pre) .firsts-fit)
 
 add-t4 : tie.Need-add-t4
-add-t4 c = 
+add-t4 c =
     let s = c .before .before .before .before in
     omega (arith, sums-fit (s .args .a) (s .args .b) (s .pre) .finished-fit)
 
 add-t5 : tie.Need-add-t5
-add-t5 c = 
+add-t5 c =
     let s = c .before .before .before .before .before .before in
     omega (arith, sums-fit (s .args .a) (s .args .b) (s .pre) .replaced-fit)
 
 add-t6 : tie.Need-add-t6
-add-t6 c = 
+add-t6 c =
     let s = c .before .before .before .before .before .before .before .before in
     omega (arith, sums-fit (s .args .a) (s .args .b) (s .pre) .dropped-fit)
 
 add-t7 : tie.Need-add-t7
-add-t7 c = 
+add-t7 c =
     let s = c .before .before .before .before .before .before .before .before .before .before in
     omega (arith, sums-fit (s .args .a) (s .args .b) (s .pre) .pending-fit)
 
 add-t8 : tie.Need-add-t8
-add-t8 c = 
+add-t8 c =
     let s = c .before .before .before .before .before .before .before .before .before .before .before .before in
     omega (arith, sums-fit (s .args .a) (s .args .b) (s .pre) .payload-fits)
 
 add-t9 : tie.Need-add-t9
-add-t9 c = 
+add-t9 c =
     let s = c .before .before .before .before .before .before .before .before .before .before .before .before .before .before in
     omega (arith, sums-fit (s .args .a) (s .args .b) (s .pre) .bytes-fit)
 

@@ -44,7 +44,7 @@ both-requires-6 c κs = search needs
 
 returns : tie.Need-returns
 unfolding costsPlus costsFit
-returns c = 
+returns c =
     rw (
       c .both6 .ensures,
       c .before .both5 .ensures,

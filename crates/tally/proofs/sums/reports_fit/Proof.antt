@@ -1,4 +1,3 @@
-
 use borrow.Author.Needs.{needs}
 use Rattle.tally.proofs.sums.reports_fit.Statement.{statement}
 use Rattle.tally.proofs.sums.reports_fit.Tie as tie
@@ -19,7 +18,7 @@ both-requires-2 : tie.Need-both-requires-2
 both-requires-2 c κs = search needs
 
 returns : tie.Need-returns
-returns c = 
+returns c =
     rw (
       c .both2 .ensures,
       c .before .costs-fit3 .ensures,

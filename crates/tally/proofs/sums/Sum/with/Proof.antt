@@ -1,4 +1,3 @@
-
 use borrow.Author.Needs.{needs}
 use Rattle.tally.proofs.sums.Sum.with.Statement.{statement}
 use Rattle.tally.proofs.sums.Sum.with.Tie as tie
