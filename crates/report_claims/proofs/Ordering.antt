@@ -1,12 +1,12 @@
 -- The order of captures makes no difference where none is refused by 19: the report is the sum of what each adds.
-use Prim.Native.Nat.{ℕ, zero, suc, _+_}
+use Prim.Native.Nat.{ℕ, zero, suc, _+_, _≤_}
 use native.Mathlib.Omega.{arith}
 use mathlib.Core.Path.{_≡_, refl, sym, ap, _∙_}
 use mathlib.Core.List.{List, [], _∷_, map, List·Permᴰ, List·Permᴰ·nil, List·Permᴰ·cons, List·Permᴰ·swap, List·Permᴰ·trans}
 use mathlib.Core.Bool.{Bool, true, false, not, false≢true}
 use lib.ListN.{length, take, drop, replicate, length-replicate}
-use lib.Dec.{eqb}
-use borrow.Author.Tests.{lt-ltb}
+use lib.Dec.{eqb, ltb}
+use borrow.Author.Tests.{ltb-true, lt-ltb}
 use Rattle.wire.specs.declared.stream.Stream.the-variants.{Control, Ota, Alexa}
 use Rattle.wire.specs.Told.{Told, given, refused, andThen, line, table}
 use Rattle.wire.proofs.Tests.{and-left, and-right, not-true}
@@ -17,7 +17,7 @@ use Rattle.report.specs.declared.CostReport.{CostReport}
 use Rattle.report.specs.Report.{freshRun, emptyReport, reportOf, plus, past64, costsFit, reportFits, lentLines, takenOf, addedBy, addedOf, reportLeft}
 use Rattle.report.proofs.Reading.{by-numbers, IfRefused}
 use Rattle.report.proofs.Adding.{plus-assoc, plus-empty, plus-swap, plus-part}
-use Rattle.report_claims.specs.Captures.{LentCapture, toldOf, reportAfter, CaptureSizes, sizesOf, isOver, noneOver, OrderIsFree, InBits, FitsAll}
+use Rattle.report_claims.specs.Captures.{LentCapture, toldOf, reportAfter, CaptureSizes, sizesOf, isOver, noneOver, OrderIsFree, InBits, FitsAll, FitsOnly}
 use Rattle.report_claims.proofs.Contents.{same-report}
 
 -- ---- a refusal before a packet is taken is none by 19
@@ -160,7 +160,7 @@ order-is-free r cs ds f p n =
     let m = none-over r ds (ap (λ (x : CostReport). reportFits (plus r x)) (sym e) ∙ w .fit) in
     (m, w .is ∙ ap (plus r) e ∙ sym (whole r ds f m .is))
 
--- ---- what is asked for of the report
+-- ---- 64 bits
 
 costs-fit : (c : Costs) → InBits c → costsFit c ≡ true
 unfolding costsFit
@@ -177,3 +177,30 @@ costs-fit c b =
 
 pub fits-all : FitsAll
 fits-all r b = rw (costs-fit (r .control) (b Control), costs-fit (r .ota) (b Ota)) (costs-fit (r .alexa) (b Alexa))
+
+below : (n : ℕ) → ltb n past64 ≡ true → n ≤ 18446744073709551615
+below n e =
+    let u = ltb-true n past64 e in
+    omega (arith, u)
+
+costs-in : (c : Costs) → costsFit c ≡ true → InBits c
+unfolding costsFit
+costs-in c e =
+    let e1 = and-right (ltb (c .firsts) past64) _ e in
+    let e2 = and-right (ltb (c .finished) past64) _ e1 in
+    let e3 = and-right (ltb (c .replaced) past64) _ e2 in
+    let e4 = and-right (ltb (c .dropped) past64) _ e3 in
+    let e5 = and-right (ltb (c .pending) past64) _ e4 in (
+      below (c .firsts) (and-left (ltb (c .firsts) past64) _ e),
+      below (c .finished) (and-left (ltb (c .finished) past64) _ e1),
+      below (c .replaced) (and-left (ltb (c .replaced) past64) _ e2),
+      below (c .dropped) (and-left (ltb (c .dropped) past64) _ e3),
+      below (c .pending) (and-left (ltb (c .pending) past64) _ e4),
+      below (c .payload) (and-left (ltb (c .payload) past64) _ e5),
+      below (c .bytes) (and-right (ltb (c .payload) past64) _ e5),
+    )
+
+pub fits-only : FitsOnly
+fits-only r Control e = costs-in (r .control) (and-left (costsFit (r .control)) _ e)
+fits-only r Ota e = costs-in (r .ota) (and-left (costsFit (r .ota)) _ (and-right (costsFit (r .control)) _ e))
+fits-only r Alexa e = costs-in (r .alexa) (and-right (costsFit (r .ota)) _ (and-right (costsFit (r .control)) _ e))

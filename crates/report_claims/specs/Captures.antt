@@ -84,7 +84,7 @@ OrderIsFree =
     → noneOver r cs ≡ true
     → (noneOver r ds ≡ true) × (reportAfter r cs ≡ reportAfter r ds)
 
--- ---- what is asked for of the report
+-- ---- what is asked for of the report, and of a sum
 
 -- numbers of 64 bits
 abbrev pub InBits : Costs → Type 0
@@ -100,3 +100,7 @@ InBits c =
 -- and nothing else
 abbrev pub FitsAll : Type 0
 FitsAll = (r : CostReport) → ((s : Stream) → InBits (costsFor r s)) → reportFits r ≡ true
+
+-- no less: one number that has more is enough for 19
+abbrev pub FitsOnly : Type 0
+FitsOnly = (r : CostReport) (s : Stream) → reportFits r ≡ true → InBits (costsFor r s)

@@ -58,8 +58,8 @@ pub record TwoOrders : Type 0 where
   pub fits : reportFits emptyReport ≡ true
   pub order : List·Permᴰ (map sizesOf inOrder) (map sizesOf turned)
   pub none : noneOver emptyReport inOrder ≡ true
-  pub after : reportAfter emptyReport inOrder ≡ report (costs 3 0 1 1 1 0 55) (costs 1 1 0 0 0 1 7) (costs 0 0 0 0 0 0 6)
-  pub after-turned : reportAfter emptyReport turned ≡ report (costs 3 0 1 1 1 0 55) (costs 1 1 0 0 0 1 7) (costs 0 0 0 0 0 0 6)
+  pub after : reportAfter emptyReport inOrder ≡ report (costs 3 0 1 1 1 0 63) (costs 2 2 0 0 0 2 14) (costs 0 0 0 0 0 0 6)
+  pub after-turned : reportAfter emptyReport turned ≡ report (costs 3 0 1 1 1 0 63) (costs 2 2 0 0 0 2 14) (costs 0 0 0 0 0 0 6)
   pub claimed : OrderIsFree → (noneOver emptyReport turned ≡ true) × (reportAfter emptyReport inOrder ≡ reportAfter emptyReport turned)
   -- the second is refused by 19, and leaves the report as it stood
   pub over : noneOver near (seven ∷ four ∷ []) ≡ false

@@ -55,9 +55,19 @@ ack = 0x60 ∷ 0x0E ∷ 0x00 ∷ 0x02 ∷ 0x01 ∷ 0x00 ∷ []
 abbrev pub mixed : List (List ℕ)
 mixed = three ∷ three ∷ reaches ∷ (0x03 ∷ []) ∷ (0x71 ∷ 0x00 ∷ []) ∷ five ∷ whole ∷ ack ∷ []
 
--- two ids are open, and one of them is finished; a third begins, and its sequence is refused
+-- two ids are open, one of them anew, and the other is finished; a third begins, and its sequence is refused by 10; what is open stays so
+-- with a packet of its byte 0 that is refused by 2, and with one of another stream and the same id
 abbrev pub twoIds : List (List ℕ)
-twoIds = three ∷ five ∷ second ∷ (0x04 ∷ 0x00 ∷ 0x00 ∷ 0x00 ∷ 0x02 ∷ 0x01 ∷ 0x07 ∷ []) ∷ (0x04 ∷ 0x28 ∷ 0x01 ∷ 0x08 ∷ []) ∷ []
+twoIds =
+    three
+    ∷ five
+    ∷ five
+    ∷ second
+    ∷ (0x04 ∷ 0x00 ∷ 0x00 ∷ 0x00 ∷ 0x02 ∷ 0x01 ∷ 0x07 ∷ [])
+    ∷ (0x04 ∷ 0x28 ∷ 0x01 ∷ 0x08 ∷ [])
+    ∷ (0x05 ∷ [])
+    ∷ (0x25 ∷ 0x00 ∷ 0x00 ∷ 0x00 ∷ 0x01 ∷ 0x01 ∷ 0x09 ∷ [])
+    ∷ []
 
 -- the first byte of two, of Alexa with an id
 abbrev alexa : ℕ → List ℕ
@@ -121,12 +131,14 @@ rows =
     (0x07 ∷ (replicate 7 0xEE ++ (0x09 ∷ replicate 15 0xEE)))
     -- id 5 is open at the second place; on top of another report
     ∷ leaves (report (costs 1 2 3 4 5 6 7) noCosts (costs 0 0 0 0 0 0 9)) 2 (captured twoIds)
-    (given (report (costs 4 3 3 5 6 8 36) noCosts (costs 0 0 0 0 0 0 9)))
+    (given (report (costs 5 3 4 5 6 8 44) (costs 1 1 0 0 0 1 7) (costs 0 0 0 0 0 0 9)))
     (idle ∷ begun 5 ∷ replicate 10 idle)
-    (0x07 ∷ 0x08 ∷ 0x07 ∷ replicate 21 0xEE)
+    (0x07 ∷ 0x08 ∷ 0x07 ∷ (replicate 5 0xEE ++ (0x09 ∷ replicate 15 0xEE)))
     ∷ leaves emptyReport 2 (captured fiveIds) (given (report noCosts (costs 0 0 0 0 0 0 6) (costs 5 1 1 0 3 1 42)))
     (replicate 9 idle ++ (begun 2 ∷ begun 3 ∷ begun 4 ∷ []))
     (replicate 16 0xEE ++ (0x09 ∷ 0xEE ∷ 0x07 ∷ 0xEE ∷ 0x07 ∷ 0xEE ∷ 0x07 ∷ 0xEE ∷ []))
+    -- 9 drops nothing
+    ∷ leaves emptyReport 2 (captured (reaches ∷ [])) (given (report (costs 0 0 0 0 0 0 4) noCosts noCosts)) (replicate 12 idle) oddBytes
     -- no packets: all is idle, and the buffer as it was
     ∷ leaves emptyReport 2 (0x01 ∷ []) (given emptyReport) (replicate 12 idle) oddBytes
     -- the most that there is, and one more: 19 leaves row and buffer as after the last packet

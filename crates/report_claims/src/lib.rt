@@ -1,5 +1,5 @@
 // The claims about reports, as contracts of functions that do nothing. Their words are in specs/.
-ghost use Rattle.report_claims.specs.Captures.{LeftOpenIsOpen, OpenIsAdded, ReportsBalance, OrderIsFree, FitsAll};
+ghost use Rattle.report_claims.specs.Captures.{LeftOpenIsOpen, OpenIsAdded, ReportsBalance, OrderIsFree, FitsAll, FitsOnly};
 ghost use Rattle.report_claims.specs.Worked.{RowsAdd};
 ghost use Rattle.report_claims.specs.Orders.{TwoOrders};
 
@@ -13,9 +13,10 @@ pub fn reports_balance()
     ensures { λ _. ⌜ ReportsBalance ⌝ }
 {}
 
-// Where no capture is refused by 19, none is in any order, and the report is the same.
+// Where no capture is refused by 19, none is in any order, and the report is the same. 19 is for a number of more than 64 bits, any of
+// the 21, and for nothing else.
 pub fn order_is_free()
-    ensures { λ _. ⌜ OrderIsFree × FitsAll ⌝ }
+    ensures { λ _. ⌜ OrderIsFree × FitsAll × FitsOnly ⌝ }
 {}
 
 // Captures with every byte written out, and all that adding them leaves.
