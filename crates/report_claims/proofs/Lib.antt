@@ -4,3 +4,4 @@ pub mod LeftOpen
 pub mod Balancing
 pub mod Contents
 pub mod Ordering
+pub mod Added

@@ -1,3 +1,4 @@
 pub mod Captures
+pub mod Added
 pub mod Worked
 pub mod Orders

@@ -1,7 +1,18 @@
 // The claims about reports, as contracts of functions that do nothing. Their words are in specs/.
 ghost use Rattle.report_claims.specs.Captures.{LeftOpenIsOpen, OpenIsAdded, ReportsBalance, OrderIsFree, FitsAll, FitsOnly};
+ghost use Rattle.report_claims.specs.Added.{CapturesAdd, BytesCount};
 ghost use Rattle.report_claims.specs.Worked.{RowsAdd};
 ghost use Rattle.report_claims.specs.Orders.{TwoOrders};
+
+// Each capture is added, or refused by the first line that holds, in the rules' own numbers: a call that refuses more is no report.
+pub fn captures_add()
+    ensures { λ _. ⌜ CapturesAdd ⌝ }
+{}
+
+// The bytes of a stream are those of its packets, whatever is told of them.
+pub fn bytes_count()
+    ensures { λ _. ⌜ BytesCount ⌝ }
+{}
 
 // What is left open, by the packets and their answers, is open in the row.
 pub fn left_open_is_open()
