@@ -1,5 +1,5 @@
 -- A capture is added, or refused by the first line that holds; and the bytes of a stream are those of its packets.
-use Prim.Native.Nat.{ℕ, _+_, _*_, _≤_, _<_}
+use Prim.Native.Nat.{ℕ, _+_, _*_, _<_}
 use native.Mathlib.Omega.{arith}
 use mathlib.Core.Path.{_≡_, refl, sym, ap, _∙_}
 use mathlib.Core.Logic.{_⊎_, inl, inr}
@@ -24,7 +24,7 @@ use Rattle.slot.specs.Slot.{idles}
 use Rattle.receiver.specs.Receiver.{PacketLeft, acceptOf}
 use Rattle.report.specs.declared.Costs.{Costs}
 use Rattle.report.specs.declared.CostReport.{CostReport}
-use Rattle.report.specs.Costs.{Heard, heard, Followed, followedIn, costsIn, costsOf}
+use Rattle.report.specs.Costs.{Heard, Followed, followedIn, costsIn, costsOf}
 use Rattle.report.specs.Report.{callFor, linkRun, freshRun, costsFor, reportOf, costsPlus, plus, reportFits, takenOf, summed, captureAdded, addedBy, addedOf}
 use Rattle.report.proofs.Counting.{sum-cons}
 use Rattle.report_claims.specs.Captures.{InBits}

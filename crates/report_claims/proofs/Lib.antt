@@ -5,3 +5,4 @@ pub mod Balancing
 pub mod Contents
 pub mod Ordering
 pub mod Added
+pub mod Sent

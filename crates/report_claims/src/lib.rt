@@ -1,6 +1,7 @@
 // The claims about reports, as contracts of functions that do nothing. Their words are in specs/.
 ghost use Rattle.report_claims.specs.Captures.{LeftOpenIsOpen, OpenIsAdded, ReportsBalance, OrderIsFree, FitsAll, FitsOnly};
 ghost use Rattle.report_claims.specs.Added.{CapturesAdd, BytesCount};
+ghost use Rattle.report_claims.specs.Sent.{MessageCosts};
 ghost use Rattle.report_claims.specs.Worked.{RowsAdd};
 ghost use Rattle.report_claims.specs.Orders.{TwoOrders};
 
@@ -12,6 +13,11 @@ pub fn captures_add()
 // The bytes of a stream are those of its packets, whatever is told of them.
 pub fn bytes_count()
     ensures { λ _. ⌜ BytesCount ⌝ }
+{}
+
+// One message, as the writer sends it, is one first packet, one transaction finished and its payload bytes.
+pub fn message_costs()
+    ensures { λ _. ⌜ MessageCosts ⌝ }
 {}
 
 // What is left open, by the packets and their answers, is open in the row.
