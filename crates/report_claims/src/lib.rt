@@ -41,7 +41,7 @@ pub fn worked_captures()
     ensures { λ _. ⌜ RowsAdd ⌝ }
 {}
 
-// Four captures in two orders, two of them refused; and two whose order counts.
+// Five captures in two orders, two of them refused and one there twice; and two whose order counts.
 pub fn two_orders()
     ensures { λ _. ⌜ TwoOrders ⌝ }
 {}
