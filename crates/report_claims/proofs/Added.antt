@@ -25,10 +25,10 @@ use Rattle.receiver.specs.Receiver.{PacketLeft, acceptOf}
 use Rattle.report.specs.declared.Costs.{Costs}
 use Rattle.report.specs.declared.CostReport.{CostReport}
 use Rattle.report.specs.Costs.{Heard, Followed, followedIn, costsIn, costsOf}
-use Rattle.report.specs.Report.{callFor, linkRun, freshRun, costsFor, reportOf, costsPlus, plus, reportFits, takenOf, summed, captureAdded, addedBy, addedOf}
+use Rattle.report.specs.Report.{callFor, linkRun, freshRun, noCosts, costsFor, reportOf, costsPlus, plus, reportFits, takenOf, summed, captureAdded, addedBy, addedOf}
 use Rattle.report.proofs.Counting.{sum-cons}
 use Rattle.report_claims.specs.Captures.{InBits}
-use Rattle.report_claims.specs.Added.{LentRight, CostsSum, ReportSum, CapturesAdd, BytesCount}
+use Rattle.report_claims.specs.Added.{LentRight, CostsSum, ReportSum, CapturesAdd, BytesCount, NoneElsewhere}
 use Rattle.report_claims.proofs.Ordering.{fits-all, fits-only}
 
 -- ---- what is lent
@@ -141,3 +141,23 @@ bytes-count limit bytes ps s =
     let k : costsIn s (followedIn (freshRun limit bytes ps .heards)) .bytes + 2 * length (those (isOf (streamNumber s)) ps) ≡ length (framed (those (isOf (streamNumber s)) ps))
     = rw q at e in
     omega (arith, k)
+
+-- ---- a stream without packets
+
+none-by : (s : Stream) (h : Heard) (hs : List Heard) (b : Bool) → isOf (streamNumber s) (h .packet) ≡ b
+    → those (isOf (streamNumber s)) (h .packet ∷ map (λ (h : Heard). h .packet) hs) ≡ []
+    → (those (isOf (streamNumber s)) (map (λ (h : Heard). h .packet) hs) ≡ [] → costsIn s (followedIn hs) ≡ noCosts)
+    → costsIn s (followedIn (h ∷ hs)) ≡ noCosts
+none-by s h hs true e n later =
+    let z : length (those (isOf (streamNumber s)) (h .packet ∷ map (λ (h : Heard). h .packet) hs)) ≡ 0 = ap length n in
+    absurd (omega (arith, rw e at z))
+none-by s h hs false e n later = rw e (later (rw e at n))
+
+none-heard : (s : Stream) (hs : List Heard) → those (isOf (streamNumber s)) (map (λ (h : Heard). h .packet) hs) ≡ [] → costsIn s (followedIn hs) ≡ noCosts
+none-heard s [] n = refl
+none-heard s (h ∷ hs) n = none-by s h hs (isOf (streamNumber s) (h .packet)) refl n (none-heard s hs)
+
+pub none-elsewhere : NoneElsewhere
+unfolding costsOf
+none-elsewhere limit bytes ps s n =
+    none-heard s (freshRun limit bytes ps .heards) (ap (those (isOf (streamNumber s))) (heard-packets limit idles bytes ps) ∙ n)

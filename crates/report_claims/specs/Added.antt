@@ -1,8 +1,8 @@
--- Which captures are added, and which are refused, in the rules' own numbers; and what the bytes of a stream are.
+-- Which captures are added, and which are refused, in the rules' own numbers; and which packets a stream's numbers are of.
 use Prim.Native.Nat.{ℕ, _+_, _*_, _≤_, _<_}
 use mathlib.Core.Path.{_≡_}
 use mathlib.Core.Logic.{_⊎_}
-use mathlib.Core.List.{List}
+use mathlib.Core.List.{List, []}
 use lib.ListN.{length}
 use Rattle.wire.specs.Those.{those}
 use Rattle.wire.specs.Told.{given, refused}
@@ -15,7 +15,7 @@ use Rattle.slot.specs.declared.Slot.{Slot}
 use Rattle.report.specs.declared.Costs.{Costs}
 use Rattle.report.specs.declared.CostReport.{CostReport}
 use Rattle.report.specs.Costs.{costsOf}
-use Rattle.report.specs.Report.{freshRun, costsFor, captureAdded, addedOf}
+use Rattle.report.specs.Report.{freshRun, costsFor, noCosts, captureAdded, addedOf}
 use Rattle.report_claims.specs.Captures.{InBits}
 
 -- a limit of 1 to 65,535, a row of twelve slots and a buffer of twelve times the limit, whatever is in them
@@ -77,3 +77,10 @@ BytesCount =
     (limit : ℕ) (bytes : List ℕ) (ps : List (List ℕ)) (s : Stream)
     → costsOf s (freshRun limit bytes ps .heards) .bytes + 2 * length (those (isOf (streamNumber s)) ps) + 1
     ≡ length (captured (those (isOf (streamNumber s)) ps))
+
+-- A stream that has no packet costs nothing.
+abbrev pub NoneElsewhere : Type 0
+NoneElsewhere =
+    (limit : ℕ) (bytes : List ℕ) (ps : List (List ℕ)) (s : Stream)
+    → those (isOf (streamNumber s)) ps ≡ []
+    → costsOf s (freshRun limit bytes ps .heards) ≡ noCosts

@@ -1,6 +1,6 @@
 // The claims about reports, as contracts of functions that do nothing. Their words are in specs/.
 ghost use Rattle.report_claims.specs.Captures.{LeftOpenIsOpen, OpenIsAdded, ReportsBalance, OrderIsFree, FitsAll, FitsOnly};
-ghost use Rattle.report_claims.specs.Added.{CapturesAdd, BytesCount};
+ghost use Rattle.report_claims.specs.Added.{CapturesAdd, BytesCount, NoneElsewhere};
 ghost use Rattle.report_claims.specs.Sent.{MessageCosts};
 ghost use Rattle.report_claims.specs.Worked.{RowsAdd};
 ghost use Rattle.report_claims.specs.Orders.{TwoOrders};
@@ -10,9 +10,9 @@ pub fn captures_add()
     ensures { λ _. ⌜ CapturesAdd ⌝ }
 {}
 
-// The bytes of a stream are those of its packets, whatever is told of them.
+// The bytes of a stream are those of its packets, whatever is told of them; a stream that has none costs nothing.
 pub fn bytes_count()
-    ensures { λ _. ⌜ BytesCount ⌝ }
+    ensures { λ _. ⌜ BytesCount × NoneElsewhere ⌝ }
 {}
 
 // One message, as the writer sends it, is one first packet, one transaction finished and its payload bytes.
