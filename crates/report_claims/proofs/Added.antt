@@ -1,5 +1,5 @@
 -- A capture is added, or refused by the first line that holds; and the bytes of a stream are those of its packets.
-use Prim.Native.Nat.{ℕ, _+_, _*_, _<_}
+use Prim.Native.Nat.{ℕ, _+_, _*_, _≤_, _<_}
 use native.Mathlib.Omega.{arith}
 use mathlib.Core.Path.{_≡_, refl, sym, ap, _∙_}
 use mathlib.Core.Logic.{_⊎_, inl, inr}
@@ -7,7 +7,8 @@ use mathlib.Core.List.{List, [], _∷_, map}
 use mathlib.Core.Bool.{Bool, true, false, cond, _&&_}
 use lib.ListN.{length, length-append}
 use lib.Dec.{eqb, leb}
-use borrow.Author.Tests.{eq-eqb, ne-eqb, lt-leb}
+use borrow.Author.Tests.{eq-eqb, ne-eqb, eqb-true, eqb-false, leb-true, leb-false, lt-leb}
+use Rattle.wire.specs.Bytes.{AllBytes}
 use Rattle.wire.specs.Those.{those}
 use Rattle.wire.specs.Told.{given, refused}
 use Rattle.wire.specs.Limit.{limitFits}
@@ -16,9 +17,9 @@ use Rattle.wire.specs.declared.stream.Stream.{Stream}
 use Rattle.wire.specs.declared.stream.Stream.the-variants.{Control, Ota, Alexa}
 use Rattle.wire.proofs.Limits.{range-limit}
 use Rattle.packet.specs.Header.{isOf}
-use Rattle.captures.specs.Capture.{packetsOf}
+use Rattle.captures.specs.Capture.{ToldAt, packetsOf}
 use Rattle.captures.specs.Captured.{framed, captured, Sizes}
-use Rattle.captures.proofs.Captured.{captures-hold}
+use Rattle.captures.proofs.Captured.{captures-hold, captures-only}
 use Rattle.slot.specs.declared.Slot.{Slot}
 use Rattle.slot.specs.Slot.{idles}
 use Rattle.receiver.specs.Receiver.{PacketLeft, acceptOf}
@@ -28,7 +29,7 @@ use Rattle.report.specs.Costs.{Heard, Followed, followedIn, costsIn, costsOf}
 use Rattle.report.specs.Report.{callFor, linkRun, freshRun, noCosts, costsFor, reportOf, costsPlus, plus, reportFits, takenOf, summed, captureAdded, addedBy, addedOf}
 use Rattle.report.proofs.Counting.{sum-cons}
 use Rattle.report_claims.specs.Captures.{InBits}
-use Rattle.report_claims.specs.Added.{LentRight, CostsSum, ReportSum, CapturesAdd, BytesCount, NoneElsewhere}
+use Rattle.report_claims.specs.Added.{LentRight, CostsSum, ReportSum, CapturesAdd, CaptureCase, of-limit, of-lent, of-capture, of-packets, AnyCapture, BytesCount, NoneElsewhere}
 use Rattle.report_claims.proofs.Ordering.{fits-all, fits-only}
 
 -- ---- what is lent
@@ -105,6 +106,28 @@ captures-add =
       lent-wrong = λ report limit slots bytes capture some most n. rw (range-limit limit some most, lent-not limit (length slots) (length bytes) n);
       own-refusal = λ report limit slots bytes capture why r e. by-taken report limit slots bytes capture r ∙ ap (addedBy report limit slots bytes) e;
     }
+
+-- ---- every capture
+
+module _ (limit : ℕ) (slots : List Slot) (bytes capture : List ℕ) (all : AllBytes capture) where
+  case-packets : LentRight limit slots bytes → (t : ToldAt (List (List ℕ))) → packetsOf capture ≡ t → CaptureCase limit slots bytes capture
+  case-packets r (refused why) e = of-capture why r e
+  case-packets r (given ps) e = let o = captures-only capture ps all e in of-packets ps r (o .1) (o .0)
+
+  case-lent : 1 ≤ limit → limit ≤ 65535 → (a b : Bool) → eqb (length slots) 12 ≡ a → eqb (length bytes) (12 * limit) ≡ b → CaptureCase limit slots bytes capture
+  case-lent low high true true e f =
+      case-packets (record { some = low; most = high; row = eqb-true (length slots) 12 e; buffer = eqb-true (length bytes) (12 * limit) f }) (packetsOf capture) refl
+  case-lent low high true false e f = of-lent low high (inr (eqb-false (length bytes) (12 * limit) f))
+  case-lent low high false b e f = of-lent low high (inl (eqb-false (length slots) 12 e))
+
+  case-limit : (a b : Bool) → leb 1 limit ≡ a → leb limit 65535 ≡ b → CaptureCase limit slots bytes capture
+  case-limit true true e f =
+      case-lent (leb-true 1 limit e) (leb-true limit 65535 f) (eqb (length slots) 12) (eqb (length bytes) (12 * limit)) refl refl
+  case-limit true false e f = of-limit (inr (leb-false limit 65535 f))
+  case-limit false b e f = of-limit (inl (leb-false 1 limit e))
+
+pub any-capture : AnyCapture
+any-capture limit slots bytes capture all = case-limit limit slots bytes capture all (leb 1 limit) (leb limit 65535) refl refl
 
 -- ---- bytes
 

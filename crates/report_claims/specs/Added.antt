@@ -4,6 +4,7 @@ use mathlib.Core.Path.{_≡_}
 use mathlib.Core.Logic.{_⊎_}
 use mathlib.Core.List.{List, []}
 use lib.ListN.{length}
+use Rattle.wire.specs.Bytes.{AllBytes}
 use Rattle.wire.specs.Those.{those}
 use Rattle.wire.specs.Told.{given, refused}
 use Rattle.wire.specs.Stream.{streamNumber}
@@ -69,6 +70,17 @@ pub record CapturesAdd : Type 0 where
       → LentRight limit slots bytes
       → packetsOf capture ≡ refused why
       → addedOf report limit slots bytes capture ≡ captureAdded (refused why) slots bytes
+
+-- what there is of limits, of what is lent and of captures
+pub data CaptureCase (limit : ℕ) (slots : List Slot) (bytes capture : List ℕ) : Type 0 where
+  of-limit : (limit < 1) ⊎ (65535 < limit) → CaptureCase limit slots bytes capture
+  of-lent : 1 ≤ limit → limit ≤ 65535 → (length slots ≡ 12 → ⊥) ⊎ (length bytes ≡ 12 * limit → ⊥) → CaptureCase limit slots bytes capture
+  of-capture : (why : ℕ × ℕ) → LentRight limit slots bytes → packetsOf capture ≡ refused why → CaptureCase limit slots bytes capture
+  of-packets : (ps : List (List ℕ)) → LentRight limit slots bytes → Sizes ps → capture ≡ captured ps → CaptureCase limit slots bytes capture
+
+-- The premises of CapturesAdd ask for no more: there is nothing else.
+abbrev pub AnyCapture : Type 0
+AnyCapture = (limit : ℕ) (slots : List Slot) (bytes capture : List ℕ) → AllBytes capture → CaptureCase limit slots bytes capture
 
 -- Whatever is told of them, the bytes of a stream are those of its packets: a capture of these alone has, besides, two bytes for each
 -- length and one for the version.

@@ -1,13 +1,13 @@
 // The claims about reports, as contracts of functions that do nothing. Their words are in specs/.
 ghost use Rattle.report_claims.specs.Captures.{LeftOpenIsOpen, OpenIsAdded, ReportsBalance, OrderIsFree, FitsAll, FitsOnly};
-ghost use Rattle.report_claims.specs.Added.{CapturesAdd, BytesCount, NoneElsewhere};
+ghost use Rattle.report_claims.specs.Added.{CapturesAdd, AnyCapture, BytesCount, NoneElsewhere};
 ghost use Rattle.report_claims.specs.Sent.{MessageCosts};
 ghost use Rattle.report_claims.specs.Worked.{RowsAdd};
 ghost use Rattle.report_claims.specs.Orders.{TwoOrders};
 
 // Each capture is added, or refused by the first line that holds, in the rules' own numbers: a call that refuses more is no report.
 pub fn captures_add()
-    ensures { λ _. ⌜ CapturesAdd ⌝ }
+    ensures { λ _. ⌜ CapturesAdd × AnyCapture ⌝ }
 {}
 
 // The bytes of a stream are those of its packets, whatever is told of them; a stream that has none costs nothing.
