@@ -4,3 +4,5 @@ pub mod LeftOpen
 pub mod Balancing
 pub mod Contents
 pub mod Ordering
+pub mod Added
+pub mod Sent

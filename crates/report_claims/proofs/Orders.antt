@@ -12,16 +12,17 @@ use Rattle.slot_steps.specs.Step.{finish, hold, dropBy, firstStep, nextStep}
 use Rattle.receiver.specs.Receiver.{ready, readIn, acceptOf}
 use Rattle.report.specs.declared.CostReport.{CostReport}
 use Rattle.report.specs.Costs.{costsOf}
-use Rattle.report.specs.Report.{emptyReport, linkRun, reportOf, costsPlus, costsFit, takenOf, addedOf}
+use Rattle.report.specs.Report.{linkRun, reportOf, costsPlus, costsFit, takenOf, addedOf}
 use Rattle.report_claims.specs.Captures.{sizesOf}
-use Rattle.report_claims.specs.Orders.{inOrder, turned, near, seven, four, OrderAlwaysFree, TwoOrders}
+use Rattle.report_claims.specs.Orders.{inOrder, turned, start, near, seven, four, OrderAlwaysFree, TwoOrders}
 
--- the last to the front, then the first behind the next
+-- behind the first: the last to the front, then the first behind the next
 order : List·Permᴰ (map sizesOf inOrder) (map sizesOf turned)
 order =
-    List·Permᴰ·trans (List·Permᴰ·cons refl (List·Permᴰ·cons refl (List·Permᴰ·swap refl refl)))
+    List·Permᴰ·cons refl
+    (List·Permᴰ·trans (List·Permᴰ·cons refl (List·Permᴰ·cons refl (List·Permᴰ·swap refl refl)))
     (List·Permᴰ·trans (List·Permᴰ·cons refl (List·Permᴰ·swap refl refl))
-    (List·Permᴰ·trans (List·Permᴰ·swap refl refl) (List·Permᴰ·cons refl (List·Permᴰ·swap refl refl))))
+    (List·Permᴰ·trans (List·Permᴰ·swap refl refl) (List·Permᴰ·cons refl (List·Permᴰ·swap refl refl)))))
 
 needed : OrderAlwaysFree → ⊥
 unfolding limitFits isStream streamOf fieldsOf contentOf lines readOf frontOf packetsFrom otherVersion packetsOf lawfulSlot lawful finish hold dropBy firstStep nextStep ready readIn acceptOf costsOf linkRun reportOf costsPlus costsFit takenOf addedOf
@@ -38,7 +39,7 @@ two-orders =
       none = refl;
       after = refl;
       after-turned = refl;
-      claimed = λ claim. claim emptyReport inOrder turned refl order refl;
+      claimed = λ claim. claim start inOrder turned refl order refl;
       over = refl;
       kept = refl;
       needed = needed;

@@ -73,6 +73,10 @@ twoIds =
 abbrev alexa : ℕ → List ℕ
 alexa id = (0x60 + id) ∷ 0x00 ∷ 0x00 ∷ 0x00 ∷ 0x02 ∷ 0x01 ∷ 0x07 ∷ []
 
+-- a whole message of Alexa, with id 1
+abbrev pub alexaWhole : List ℕ
+alexaWhole = 0x61 ∷ 0x00 ∷ 0x00 ∷ 0x00 ∷ 0x01 ∷ 0x01 ∷ 0x09 ∷ []
+
 -- five ids of one stream, the last of which finds no slot; a whole message in place of the first of them; a NACK of OTA; a first packet
 -- of a stream that there is not
 abbrev pub fiveIds : List (List ℕ)
@@ -82,9 +86,23 @@ fiveIds =
     ∷ alexa 3
     ∷ alexa 4
     ∷ alexa 5
-    ∷ (0x61 ∷ 0x00 ∷ 0x00 ∷ 0x00 ∷ 0x01 ∷ 0x01 ∷ 0x09 ∷ [])
+    ∷ alexaWhole
     ∷ (0x21 ∷ 0x0C ∷ 0x00 ∷ 0x02 ∷ 0x01 ∷ 0x03 ∷ [])
     ∷ (0x11 ∷ 0x00 ∷ 0x00 ∷ 0x00 ∷ 0x02 ∷ 0x01 ∷ 0x07 ∷ [])
+    ∷ []
+
+-- a message of three bytes in three packets, over sequence 15 and with an ACK wanted; between them an ACK of its stream and id, a packet of
+-- its stream and id that is refused by 5, and an empty message; on Alexa the same id without the last packet
+abbrev pub threePieces : List (List ℕ)
+threePieces =
+    (0x27 ∷ 0xF2 ∷ 0x00 ∷ 0x00 ∷ 0x03 ∷ 0x01 ∷ 0x0A ∷ [])
+    ∷ (0x27 ∷ 0x0E ∷ 0x00 ∷ 0x02 ∷ 0x01 ∷ 0x00 ∷ [])
+    ∷ (0x27 ∷ 0x04 ∷ 0x02 ∷ 0x0B ∷ [])
+    ∷ (0x67 ∷ 0x00 ∷ 0x00 ∷ 0x00 ∷ 0x03 ∷ 0x01 ∷ 0x0A ∷ [])
+    ∷ (0x27 ∷ 0x04 ∷ 0x01 ∷ 0x0B ∷ [])
+    ∷ (0x67 ∷ 0x14 ∷ 0x01 ∷ 0x0B ∷ [])
+    ∷ (0x28 ∷ 0x00 ∷ 0x00 ∷ 0x00 ∷ 0x00 ∷ 0x00 ∷ [])
+    ∷ (0x27 ∷ 0x18 ∷ 0x01 ∷ 0x0C ∷ [])
     ∷ []
 
 -- ---- what is lent
@@ -118,10 +136,14 @@ abbrev leaves : CostReport → ℕ → List ℕ → ToldAt CostReport → List S
 leaves before limit capture told slots bytes =
     record { before = before; limit = limit; slots = oddRow; bytes = oddBytes; capture = capture; after = captureAdded told slots bytes }
 
--- they are as they were
+-- numbers none of which may grow
+abbrev full : CostReport
+full = report (costs most most most most most most most) (costs most most most most most most most) (costs most most most most most most most)
+
+-- they are as they were, though the sums would pass 64 bits
 abbrev keeps : ℕ → List Slot → List ℕ → List ℕ → ℕ × ℕ → ReportRow
 keeps limit slots bytes capture why =
-    record { before = emptyReport; limit = limit; slots = slots; bytes = bytes; capture = capture; after = captureAdded (refused why) slots bytes }
+    record { before = full; limit = limit; slots = slots; bytes = bytes; capture = capture; after = captureAdded (refused why) slots bytes }
 
 abbrev pub rows : List ReportRow
 rows =
@@ -130,8 +152,8 @@ rows =
     (begun 5 ∷ replicate 11 idle)
     (0x07 ∷ (replicate 7 0xEE ++ (0x09 ∷ replicate 15 0xEE)))
     -- id 5 is open at the second place; on top of another report
-    ∷ leaves (report (costs 1 2 3 4 5 6 7) noCosts (costs 0 0 0 0 0 0 9)) 2 (captured twoIds)
-    (given (report (costs 5 3 4 5 6 8 44) (costs 1 1 0 0 0 1 7) (costs 0 0 0 0 0 0 9)))
+    ∷ leaves (report (costs 1 2 3 4 5 6 7) (costs 11 12 13 14 15 16 17) (costs 21 22 23 24 25 26 27)) 2 (captured twoIds)
+    (given (report (costs 5 3 4 5 6 8 44) (costs 12 13 13 14 15 17 24) (costs 21 22 23 24 25 26 27)))
     (idle ∷ begun 5 ∷ replicate 10 idle)
     (0x07 ∷ 0x08 ∷ 0x07 ∷ (replicate 5 0xEE ++ (0x09 ∷ replicate 15 0xEE)))
     ∷ leaves emptyReport 2 (captured fiveIds) (given (report noCosts (costs 0 0 0 0 0 0 6) (costs 5 1 1 0 3 1 42)))
@@ -139,6 +161,18 @@ rows =
     (replicate 16 0xEE ++ (0x09 ∷ 0xEE ∷ 0x07 ∷ 0xEE ∷ 0x07 ∷ 0xEE ∷ 0x07 ∷ 0xEE ∷ []))
     -- 9 drops nothing
     ∷ leaves emptyReport 2 (captured (reaches ∷ [])) (given (report (costs 0 0 0 0 0 0 4) noCosts noCosts)) (replicate 12 idle) oddBytes
+    -- at limit 3
+    ∷ record {
+      before = emptyReport;
+      limit = 3;
+      slots = oddRow;
+      bytes = replicate 36 0xEE;
+      capture = captured threePieces;
+      after =
+          captureAdded (given (report noCosts (costs 2 2 0 0 0 3 31) (costs 1 0 0 0 1 0 11)))
+          (replicate 8 idle ++ (record { opened = 1; id = 7; sequence = 1; wanted = 0; total = 3; held = 2 } ∷ replicate 3 idle))
+          (replicate 12 0xEE ++ (0x0A ∷ 0x0B ∷ 0x0C ∷ (replicate 9 0xEE ++ (0x0A ∷ 0x0B ∷ replicate 10 0xEE))));
+    }
     -- no packets: all is idle, and the buffer as it was
     ∷ leaves emptyReport 2 (0x01 ∷ []) (given emptyReport) (replicate 12 idle) oddBytes
     -- the most that there is, and one more: 19 leaves row and buffer as after the last packet
@@ -146,11 +180,18 @@ rows =
     (begun 3 ∷ replicate 11 idle) (0x07 ∷ replicate 23 0xEE)
     ∷ leaves (report (costs most 0 0 0 0 0 0) noCosts noCosts) 2 (captured (three ∷ whole ∷ [])) (refused (19, 0)) (begun 3 ∷ replicate 11 idle)
     (0x07 ∷ (replicate 7 0xEE ++ (0x09 ∷ replicate 15 0xEE)))
-    -- 17 before 1, 1 before 40, and all of these leave row and buffer
+    -- one number of the 21 is enough: Alexa's payload bytes
+    ∷ leaves (report noCosts noCosts (costs 0 0 0 0 0 most 0)) 2 (captured (alexaWhole ∷ [])) (refused (19, 0)) (replicate 12 idle)
+    (replicate 16 0xEE ++ (0x09 ∷ replicate 7 0xEE))
+    -- 17 before 1, 1 before 40, all of them before 19, and all of these leave row and buffer
     ∷ keeps 0 [] [] [] (17, 0)
     ∷ keeps 65536 oddRow oddBytes (captured mixed) (17, 0)
+    ∷ keeps 65535 oddRow oddBytes [] (1, 0)
+    ∷ keeps 1 oddRow oddBytes [] (1, 0)
     ∷ keeps 2 (replicate 11 odd) oddBytes [] (1, 0)
+    ∷ keeps 2 (replicate 13 odd) oddBytes (captured mixed) (1, 0)
     ∷ keeps 2 oddRow (replicate 23 0xEE) [] (1, 0)
+    ∷ keeps 2 oddRow (replicate 25 0xEE) (captured mixed) (1, 0)
     ∷ keeps 2 oddRow oddBytes [] (40, 0)
     ∷ keeps 2 oddRow oddBytes (0x02 ∷ []) (40, 0)
     -- the whole capture is judged before a packet is taken

@@ -1,7 +1,24 @@
 // The claims about reports, as contracts of functions that do nothing. Their words are in specs/.
 ghost use Rattle.report_claims.specs.Captures.{LeftOpenIsOpen, OpenIsAdded, ReportsBalance, OrderIsFree, FitsAll, FitsOnly};
+ghost use Rattle.report_claims.specs.Added.{CapturesAdd, AnyCapture, BytesCount, NoneElsewhere};
+ghost use Rattle.report_claims.specs.Sent.{MessageCosts};
 ghost use Rattle.report_claims.specs.Worked.{RowsAdd};
 ghost use Rattle.report_claims.specs.Orders.{TwoOrders};
+
+// Each capture is added, or refused by the first line that holds, in the rules' own numbers: a call that refuses more is no report.
+pub fn captures_add()
+    ensures { λ _. ⌜ CapturesAdd × AnyCapture ⌝ }
+{}
+
+// The bytes of a stream are those of its packets, whatever is told of them; a stream that has none costs nothing.
+pub fn bytes_count()
+    ensures { λ _. ⌜ BytesCount × NoneElsewhere ⌝ }
+{}
+
+// One message, as the writer sends it, is one first packet, one transaction finished and its payload bytes.
+pub fn message_costs()
+    ensures { λ _. ⌜ MessageCosts ⌝ }
+{}
 
 // What is left open, by the packets and their answers, is open in the row.
 pub fn left_open_is_open()
@@ -24,7 +41,7 @@ pub fn worked_captures()
     ensures { λ _. ⌜ RowsAdd ⌝ }
 {}
 
-// Four captures in two orders, two of them refused; and two whose order counts.
+// Five captures in two orders, two of them refused and one there twice; and two whose order counts.
 pub fn two_orders()
     ensures { λ _. ⌜ TwoOrders ⌝ }
 {}
