@@ -20,8 +20,9 @@
  * with 42 too, and with 40 to 43 and 46 where an outbox is moved, the field and the place that go with 36, the field
  * that goes with 50).
  * A refusal leaves state, slots and lent bytes as they were, except that 20 to 25 leave the extractor outside a frame
- * (20: at the begin of the new one), 10 and 11 leave the transaction's slot idle, and pito_extractor_feed has by then
- * stored what came before the refused byte, in state and buffer as single steps would have.
+ * (20: at the begin of the new one), 10 and 11 leave the transaction's slot idle, 19 leaves slots and buffer as the
+ * capture's last packet left them, and pito_extractor_feed has by then stored what came before the refused byte, in state
+ * and buffer as single steps would have.
  * Under 1 NOTHING has changed, neither state, slots, lent bytes nor answer; only the answer of pito_extractor_feed, where it
  * has its length, tells then that 0 bytes were used.
  *
@@ -95,6 +96,9 @@ enum {
     PITO_REFUSED_OUTPUT = 14,   /* output too small */
     PITO_REFUSED_ARGUMENT = 15, /* an argument out of its range */
     PITO_REFUSED_LIMIT = 17,    /* limit not 1 to 65,535, however large */
+
+    /* Reports. */
+    PITO_REFUSED_SUM = 19, /* a number of the report would have more than 64 bits */
 
     /* Frames. */
     PITO_REFUSED_START_INSIDE = 20, /* F0 inside a frame */
@@ -380,6 +384,50 @@ PITO_CALL uint64_t pito_receiver_accept(const uint64_t *state, size_t state_len,
 enum { PITO_CAPTURE_JUDGE_OUTCOME, PITO_CAPTURE_JUDGE_PLACE, PITO_CAPTURE_JUDGE_ANSWER };
 PITO_CALL uint64_t pito_capture_judge(const uint8_t *capture, size_t capture_len, uint64_t room, uint64_t limit,
                                       uint64_t *answer, size_t answer_len);
+
+/* ------------------------------------------------------------------------------------------------------------
+ * Reports: what the radio cost
+ *
+ * A report is a row of PITO_REPORT_ROW numbers over any number of captures: for each stream the seven that the enum names.
+ * A row of zeros is the empty report. The number of OTA's finished transactions is
+ * report[PITO_REPORT_STREAM(PITO_STREAM_OTA) + PITO_REPORT_FINISHED].
+ */
+enum {
+    PITO_REPORT_FIRSTS,   /* first packets that were accepted */
+    PITO_REPORT_FINISHED, /* transactions finished */
+    PITO_REPORT_REPLACED, /* transactions that a first packet of their id replaced */
+    PITO_REPORT_DROPPED,  /* transactions dropped, by 10 or 11 */
+    PITO_REPORT_OPEN,     /* transactions left open at the end of a capture */
+    PITO_REPORT_PAYLOAD,  /* the messages' bytes of the finished ones */
+    PITO_REPORT_BYTES,    /* the bytes of all packets with that stream, ACKs, NACKs and refused ones too, without their lengths */
+    PITO_REPORT_NUMBERS
+};
+
+/* Where the numbers of a stream begin. */
+#define PITO_REPORT_STREAM(stream) \
+    ((stream) == PITO_STREAM_CONTROL ? 0 : (stream) == PITO_STREAM_OTA ? PITO_REPORT_NUMBERS : 2 * PITO_REPORT_NUMBERS)
+
+#define PITO_REPORT_ROW (3 * PITO_REPORT_NUMBERS)
+
+/*
+ * Adds a capture, as pito_capture_judge takes it, to a report: its packets are given one after another to a fresh link of
+ * that limit, as pito_receiver_accept does it, and the ACKs go nowhere.
+ *   report  the sums so far, of captures of any limits
+ *   row     PITO_SLOTS slots, and
+ *   buffer  PITO_RECEIVER_BUFFER(limit) bytes, to work in: what is in them does not matter. Afterwards they are as the
+ *           last packet left them; without packets the row is idle and the buffer as it was
+ * From a row of zeros on, of each stream, first packets accepted are finished, replaced, dropped and left open together;
+ * and the captures may come in any order, as long as none is refused by 19.
+ * Answer:
+ *   place  41 and 42: where the length of the packet stands in the capture; else 0
+ * Returns 0, or the first that holds of: 1, report or answer row of another length; 17; 1, row or buffer of another size;
+ * before any packet is taken 40, 42 (a length of 0), 41; 19. Every refusal leaves the report, and all but 19 leave row and
+ * buffer too.
+ */
+enum { PITO_REPORT_ADD_PLACE, PITO_REPORT_ADD_ANSWER };
+PITO_CALL uint64_t pito_report_add(uint64_t *report, size_t report_len, uint64_t limit, pito_slot *row, size_t row_len,
+                                   uint8_t *buffer, size_t buffer_len, const uint8_t *capture, size_t capture_len,
+                                   uint64_t *answer, size_t answer_len);
 
 /* ------------------------------------------------------------------------------------------------------------
  * Control messages

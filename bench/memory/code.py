@@ -10,7 +10,7 @@ import sys
 GROUPS = {
     "Classic": ("extractor", "frame", "next"),
     "Low Energy": ("receiver", "packet", "ack"),
-    "captures": ("capture",),
+    "captures": ("capture", "report"),
     "control messages": ("envelope", "response", "information", "features"),
     "replies": ("reply",),
     "firmware messages and fields": ("segment", "apply", "field"),

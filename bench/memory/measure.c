@@ -176,7 +176,7 @@ static void open_receiver(uint64_t *state)
     while (state[PITO_RECEIVER_LIMIT] != LIMIT);
 }
 
-/* A capture of what was accepted since the last judgement. */
+/* A capture of what was accepted since the last one. */
 static uint8_t capture[1 << 16];
 static size_t captured;
 
@@ -201,9 +201,23 @@ static void accept(const uint8_t *packet, size_t count)
     add_to_capture(packet, count);
 }
 
+/* Over whatever is in the row and the buffer; from a report near the largest numbers now and then. */
+static void add_to_report(void)
+{
+    static uint64_t report[PITO_REPORT_ROW];
+    static uint8_t buffer[PITO_RECEIVER_BUFFER(LIMIT)];
+    pito_slot row[PITO_SLOTS];
+    memcpy(row, slots, sizeof row);
+    if (once_in(20))
+        memset(report, once_in(2) ? 0 : 0xFF, sizeof report);
+    CALL(pito_report_add, A(report), length(PITO_REPORT_ROW), any_limit(), A(row), length(PITO_SLOTS), A(buffer),
+         length(sizeof buffer), A(capture), captured, A(answer), length(PITO_REPORT_ADD_ANSWER));
+}
+
 static void judge(uint64_t room, uint64_t limit)
 {
     captured = once_in(20) ? damage(capture, captured) : captured;
+    add_to_report();
     CALL(pito_capture_judge, A(capture), captured, once_in(20) ? below(600) : room, once_in(20) ? any_number() : limit,
          A(answer), length(PITO_CAPTURE_JUDGE_ANSWER));
     captured = 0;

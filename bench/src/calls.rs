@@ -36,6 +36,8 @@ calls! {
         packet: *const u8, length: usize, sequence: u64, out: *mut u8, room: usize, answer: *mut u64, answers: usize)
         plain_receiver_accept;
     CaptureJudge(capture: *const u8, length: usize, room: u64, limit: u64, answer: *mut u64, answers: usize);
+    ReportAdd(report: *mut u64, reports: usize, limit: u64, row: *mut pito_slot, slots: usize, buffer: *mut u8,
+        size: usize, capture: *const u8, length: usize, answer: *mut u64, answers: usize);
     MessageRead(message: *const u8, length: usize, answer: *mut u64, answers: usize)
         nanopb_envelope_read nanopb_response_read nanopb_information_read nanopb_features_read
         nanopb_segment_read nanopb_apply_read

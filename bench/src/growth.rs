@@ -5,7 +5,7 @@ use crate::control::Reader;
 use crate::inputs::repeated;
 use crate::job::{Growth, Job, Subject};
 use crate::rows_classic::{feed_job, parts_job, write_job};
-use crate::rows_low_energy::{accept_job, judge_job, write_packets_job};
+use crate::rows_low_energy::{accept_job, judge_job, report_job, write_packets_job};
 use crate::rows_outbox::{append_job, records_job, whole_job};
 use crate::{control, inputs, work};
 use second::outbox::TWO;
@@ -164,6 +164,9 @@ fn receiver() -> Vec<Growth> {
         // The first decides; the others are walked. The longest is a capture of 65,521 bytes.
         doubling("judge: packets of one byte", "packets", 2_730, |n| {
             judge_job(vec![vec![0x61]; n], 20)
+        }),
+        doubling("report: packets of one byte", "packets", 2_730, |n| {
+            report_job(vec![vec![0x61]; n])
         }),
         doubling("receiver: one packet", "bytes", 512, |n| {
             accept_job(vec![inputs::one_packet(n)])

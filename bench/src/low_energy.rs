@@ -1,6 +1,6 @@
 //! Loops over Low Energy packets.
 
-use crate::calls::{pito_slot, AckWrite, CaptureJudge, PacketWrite, ReceiverAccept};
+use crate::calls::{pito_slot, AckWrite, CaptureJudge, PacketWrite, ReceiverAccept, ReportAdd};
 use crate::digest::Digest;
 use second::classic::LIMIT;
 use second::low_energy::{
@@ -172,6 +172,34 @@ pub fn judge<const WHOLE: bool>(judge: CaptureJudge, capture: &[u8], room: usize
     };
     digest.number(number);
     digest.row(&answer);
+    digest.value()
+}
+
+/// A capture added to an empty report, in one call.
+pub fn report<const WHOLE: bool>(add: ReportAdd, capture: &[u8], buffer: &mut [u8]) -> u64 {
+    let add = black_box(add);
+    let mut digest = Digest::<WHOLE>::new();
+    let (mut report, mut row, mut answer) = ([0; 21], [IDLE; SLOTS], [0]);
+    let number = unsafe {
+        add(
+            report.as_mut_ptr(),
+            report.len(),
+            LIMIT,
+            row.as_mut_ptr(),
+            row.len(),
+            buffer.as_mut_ptr(),
+            buffer.len(),
+            capture.as_ptr(),
+            capture.len(),
+            answer.as_mut_ptr(),
+            answer.len(),
+        )
+    };
+    digest.number(number);
+    digest.row(&answer);
+    digest.row(&report);
+    row.iter().for_each(|slot| digest.row(&lent_row(slot)));
+    digest.lent(buffer);
     digest.value()
 }
 

@@ -64,6 +64,16 @@ pub fn rows() -> Vec<Row> {
     rows.push(Row::new("captures judged", "ACK and NACK", || {
         judge_job(inputs::acks(ACKS), 20)
     }));
+    for (size, name) in SIZES {
+        rows.push(Row::new(
+            "captures in a report",
+            format!("{name} bytes, room 244"),
+            move || report_job(inputs::packets(&inputs::messages(65_536, size), 244)),
+        ));
+    }
+    rows.push(Row::new("captures in a report", "ACK and NACK", || {
+        report_job(inputs::acks(ACKS))
+    }));
     rows
 }
 
@@ -124,6 +134,21 @@ pub fn judge_job(packets: Vec<Vec<u8>>, room: usize) -> Job {
         .with(
             Subject::Rust,
             work!(low_energy::judge(rust::capture_judge, &b, room)),
+        )
+}
+
+/// A capture of packets added to a report.
+pub fn report_job(packets: Vec<Vec<u8>>) -> Job {
+    let count = packets.len();
+    let [a, b] = share(capture(&packets));
+    Job::of("packet", count)
+        .with(
+            Subject::Archive,
+            work!(low_energy::report(pito_report_add, &a; BUFFER)),
+        )
+        .with(
+            Subject::Rust,
+            work!(low_energy::report(rust::report_add, &b; BUFFER)),
         )
 }
 

@@ -54,6 +54,10 @@ shims! {
             Reply { sequence, buffer: lent(out, room) }, told);
     capture_judge(capture: *const u8, length: usize, room: u64, limit: u64) told
         face::capture_judge(given(capture, length), room, limit, told);
+    report_add(report: *mut u64, reports: usize, limit: u64, row: *mut pito_slot, slots: usize, buffer: *mut u8,
+        size: usize, capture: *const u8, length: usize) told
+        face::report_add(lent(report, reports), limit, lent(row.cast(), slots), lent(buffer, size),
+            given(capture, length), told);
     envelope_read(message: *const u8, length: usize) told face::envelope_read(given(message, length), told);
     response_read(message: *const u8, length: usize) told face::response_read(given(message, length), told);
     information_read(message: *const u8, length: usize) told face::information_read(given(message, length), told);

@@ -21,6 +21,7 @@ use crate::low_energy::{self, Accepted, Open, Receiver, Reply, Slots, Stream, Wi
 use crate::outbox::{self, Broken, Record, Version, ONE, TWO};
 use crate::refusal::{self, Refusal};
 use crate::reply::{self, Own};
+use crate::report::{self, Costs, Report, NUMBERS};
 use std::ops::Range;
 
 pub mod firmware;
@@ -77,6 +78,7 @@ impl Implementation for Model {
                 receiver_accept(state, slots, lent, &inputs[0], reply, answer)
             }
             Operation::CaptureJudge => capture_judge(&inputs[0], numbers[0], numbers[1], answer),
+            Operation::ReportAdd => report_add(state, numbers[0], slots, lent, &inputs[0], answer),
             Operation::EnvelopeRead => envelope_read(&inputs[0], answer),
             Operation::EnvelopeWrite => {
                 let [command, payload, error_code, field] = numbers else {
@@ -787,6 +789,39 @@ pub fn capture_judge(capture: &[u8], room: u64, limit: u64, answer: &mut [u64]) 
             judge::Answer::Open => [2, 0],
             judge::Answer::Unlawful(place) => [3, wide(place)],
         })
+    })
+}
+
+/// Seven numbers for each stream, in the row's order.
+fn report_in(row: &[u64]) -> Option<Report> {
+    let streams: Vec<Costs> = row
+        .chunks(NUMBERS)
+        .map(|numbers| numbers.try_into().ok().map(Costs::of_row))
+        .collect::<Option<_>>()?;
+    streams.try_into().ok()
+}
+
+/// The report goes in and out; answer `place`, which goes with 41 and 42. 19 leaves the report, and slots and buffer as
+/// after the last packet.
+pub fn report_add(
+    report: &mut [u64],
+    limit: u64,
+    slots: &mut [Slot],
+    buffer: &mut [u8],
+    capture: &[u8],
+    answer: &mut [u64],
+) -> u64 {
+    ask(answer, || {
+        let before = report_in(report).ok_or(Refusal::Lent)?;
+        let added = report::add(before, limit, slots.len(), buffer, capture)
+            .map_err(|(refusal, place)| match refusal {
+                Refusal::Lent => refusal.into(),
+                _ => Refused(refusal, vec![(0, wide(place))]),
+            })?;
+        slots.copy_from_slice(&added.slots.map(slot_out));
+        let rows = added.report?.map(Costs::row);
+        report.copy_from_slice(rows.as_flattened());
+        Ok([0])
     })
 }
 

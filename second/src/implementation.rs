@@ -17,6 +17,7 @@ pub enum Operation {
     ReceiverOpen,
     ReceiverAccept,
     CaptureJudge,
+    ReportAdd,
     EnvelopeRead,
     EnvelopeWrite,
     ResponseRead,
@@ -86,6 +87,29 @@ const PARTS: &[&str] = &[
     "limit", "sequence", "total", "taken", "sum", "stage", "pending",
 ];
 const RECEIVER: &[&str] = &["limit"];
+const REPORT: &[&str] = &[
+    "control.firsts",
+    "control.finished",
+    "control.replaced",
+    "control.dropped",
+    "control.left open",
+    "control.payload",
+    "control.bytes",
+    "OTA.firsts",
+    "OTA.finished",
+    "OTA.replaced",
+    "OTA.dropped",
+    "OTA.left open",
+    "OTA.payload",
+    "OTA.bytes",
+    "Alexa.firsts",
+    "Alexa.finished",
+    "Alexa.replaced",
+    "Alexa.dropped",
+    "Alexa.left open",
+    "Alexa.payload",
+    "Alexa.bytes",
+];
 const INFORMATION: &[&str] = &[
     "serial_number.start",
     "serial_number.length",
@@ -231,7 +255,7 @@ const MESSAGE_READ: &[u64] = &[0, 1, 30, 31, 32, 33, 34];
 const STRINGS_READ: &[u64] = &[0, 1, 30, 31, 32, 33, 34, 36];
 
 impl Operation {
-    pub const ALL: [Operation; 32] = [
+    pub const ALL: [Operation; 33] = [
         Operation::ExtractorOpen,
         Operation::ExtractorStep,
         Operation::ExtractorFeed,
@@ -244,6 +268,7 @@ impl Operation {
         Operation::ReceiverOpen,
         Operation::ReceiverAccept,
         Operation::CaptureJudge,
+        Operation::ReportAdd,
         Operation::EnvelopeRead,
         Operation::EnvelopeWrite,
         Operation::ResponseRead,
@@ -395,6 +420,17 @@ impl Operation {
                 inputs: &["capture"],
                 answer: &["outcome", "place"],
                 returns: &[0, 1, 13, 17, 40, 41, 42],
+                ..empty
+            },
+            Operation::ReportAdd => Shape {
+                name: "report add",
+                numbers: &["limit"],
+                inputs: &["capture"],
+                state: REPORT,
+                slots: 12,
+                answer: &["place"],
+                lent: "buffer",
+                returns: &[0, 1, 17, 19, 40, 41, 42],
                 ..empty
             },
             Operation::EnvelopeRead => Shape {

@@ -22,7 +22,7 @@ pub enum Answer {
 pub type Refused = (Refusal, usize);
 
 /// "then each packet with a two-byte big-endian length before it": the packets with the places of their lengths.
-fn packets(capture: &[u8]) -> Result<Vec<(usize, &[u8])>, Refused> {
+pub(crate) fn packets(capture: &[u8]) -> Result<Vec<(usize, &[u8])>, Refused> {
     let Some((&VERSION, mut rest)) = capture.split_first() else {
         return Err((Refusal::Version, 0));
     };

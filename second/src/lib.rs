@@ -16,5 +16,6 @@ pub mod low_energy;
 pub mod outbox;
 pub mod refusal;
 pub mod reply;
+pub mod report;
 pub mod rng;
 pub mod text;

@@ -90,6 +90,14 @@ impl Implementation for Library {
                     let (capture, length) = input(0);
                     pito_capture_judge(capture, length, numbers[0], numbers[1], told, tells)
                 }
+                Operation::ReportAdd => {
+                    let (capture, length) = input(0);
+                    let (slot, slots) = (slots.as_mut_ptr().cast(), slots.len());
+                    pito_report_add(
+                        row, rows, numbers[0], slot, slots, bytes, size, capture, length, told,
+                        tells,
+                    )
+                }
                 Operation::EnvelopeRead => {
                     let (message, length) = input(0);
                     pito_envelope_read(message, length, told, tells)

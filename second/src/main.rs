@@ -3,7 +3,7 @@
 
 use second::classic;
 use second::comparison::{Compared, Comparison};
-use second::driver::{captures, judged, listing, run_part, Part, Plan, PARTS};
+use second::driver::{captures, judged, listing, reports, run_part, Part, Plan, PARTS};
 use second::face::Model;
 use second::implementation::Implementation;
 use second::judge;
@@ -21,7 +21,7 @@ const AT_A_TIME: usize = 2;
 
 const USAGE: &str = "\
 usage: second [--seed N] [--scale K] [--captures FOLDER] [--frames PROGRAM] [--lawful PROGRAM]
-              [--only WORD] [--tally]
+              [--report PROGRAM] [--only WORD] [--tally]
        second frames < BYTES
        second lawful < ROOM, LIMIT, CAPTURE
 
@@ -31,6 +31,7 @@ usage: second [--seed N] [--scale K] [--captures FOLDER] [--frames PROGRAM] [--l
   --captures FOLDER  where the captures stand (default: the folder beside the program's sources)
   --frames PROGRAM   also holds what this program lists of streams to `second frames`
   --lawful PROGRAM   also holds what this program says of captures to `second lawful`
+  --report PROGRAM   also holds what this program prints of captures to the model's report
   --only WORD        only the parts whose name has this word
   --tally            how often each call returned each number
 ";
@@ -41,6 +42,7 @@ struct Wanted {
     captures: PathBuf,
     frames: Option<PathBuf>,
     lawful: Option<PathBuf>,
+    report: Option<PathBuf>,
     only: String,
     tally: bool,
 }
@@ -54,6 +56,7 @@ fn wanted(mut words: impl Iterator<Item = String>) -> Result<Wanted, String> {
         captures: [env!("CARGO_MANIFEST_DIR"), "captures"].iter().collect(),
         frames: None,
         lawful: None,
+        report: None,
         only: String::new(),
         tally: false,
     };
@@ -73,6 +76,7 @@ fn wanted(mut words: impl Iterator<Item = String>) -> Result<Wanted, String> {
             "--captures" => wanted.captures = next()?.into(),
             "--frames" => wanted.frames = Some(next()?.into()),
             "--lawful" => wanted.lawful = Some(next()?.into()),
+            "--report" => wanted.report = Some(next()?.into()),
             "--only" => wanted.only = next()?,
             "--tally" => wanted.tally = true,
             other => return Err(format!("unknown word {other}")),
@@ -131,6 +135,10 @@ fn programs(wanted: &Wanted, captures: &[captures::Capture]) -> Result<(), Strin
     if let Some(program) = &wanted.lawful {
         let count = judged::run_program(program, captures, wanted.plan)?;
         println!("lawful: {count} inputs judged, no difference");
+    }
+    if let Some(program) = &wanted.report {
+        let count = reports::run_program(program, captures, wanted.plan)?;
+        println!("report: {count} files reported, no difference");
     }
     Ok(())
 }

@@ -40,6 +40,8 @@ pub enum Refusal {
     Limit = 17,
     /// "a first packet whose id isn't open and whose stream has no idle slot" (No. 11)
     NoSlot = 18,
+    /// "a sum that would pass 64 bits" (No. 12)
+    Sum = 19,
     /// "F0 inside a frame"
     StartInside = 20,
     /// "F1 in the header, or under 2 bytes stored"

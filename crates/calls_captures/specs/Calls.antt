@@ -1,7 +1,8 @@
 -- Captures for C: the calls.
 use Prim.Native.Nat.{ℕ}
 use mathlib.Core.List.{List, []}
-use Rattle.judge.specs.Capture.{judgedOf, numberIn}
+use Rattle.captures.specs.Capture.{numberIn}
+use Rattle.judge.specs.Capture.{judgedOf}
 use Rattle.rows.specs.Called.{Called, answers}
 use Rattle.calls_captures.specs.Convert.{judgedRow}
 

@@ -2,6 +2,7 @@ mod Rows
 mod Extracting
 mod Accepting
 mod Replies
+mod Reports
 mod OneLeavesAll
 mod Sizes
 mod Applies

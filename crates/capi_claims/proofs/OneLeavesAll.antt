@@ -85,6 +85,7 @@ use Rattle.capi_claims.specs.OneLeavesAll.{Keeps, KeepsRow, OneLeavesAll
 use Rattle.capi_claims.proofs.Rows.{keeps-if, keeps-answers, writes-keeps, keeps-writer, keeps-text}
 use Rattle.capi_claims.proofs.Extracting.{advance-not-one, feed-not-one}
 use Rattle.capi_claims.proofs.Accepting.{acted-keeps, answered-keeps}
+use Rattle.capi_claims.proofs.Reports.{report-keeps}
 use Rattle.capi_claims.proofs.Replies.{replied-left}
 
 -- the extractor's opening is never 1; its step and feed are guarded, then never 1
@@ -387,6 +388,7 @@ one-leaves-all = record {
   receiver-open = receiver-open-keeps;
   receiver-accept = accept-keeps;
   capture-judge = λ room limit capture answer. keeps-answers 2 _ [] answer _ _ (λ e. refl);
+  report-add = report-keeps;
   envelope-read = λ message answer. keeps-answers 6 _ [] answer _ _ (λ e. refl);
   envelope-write = envelope-keeps;
   response-read = λ message answer. keeps-answers 4 _ [] answer _ _ (λ e. refl);

@@ -26,6 +26,7 @@ use Rattle.rows_firmware.specs.Apply.{componentRow, componentRows, headRow, who
 use Rattle.rows_firmware.specs.FieldRow.{fieldRow, fieldAt}
 use Rattle.rows_firmware.proofs.Components.{rows-length}
 use Rattle.calls_firmware.specs.Calls.{applyStored, applyWriteOf}
+use Rattle.calls_report.specs.Convert.{reportAt}
 use Rattle.capi_claims.specs.RowsAgree.{NumbersFit, rowStanding, RowsAgree}
 use Rattle.capi_claims.proofs.Applies.{not-wide, low-same}
 
@@ -194,4 +195,5 @@ field-agrees s at = go (leb (length s) at) (tagAt s at)
     go false (refused n) = refl
 
 pub rows-agree : RowsAgree
-rows-agree = record { apply = λ a texts out answer version eight fit most. apply-agrees a version eight fit most texts out answer; field = field-agrees }
+unfolding reportAt
+rows-agree = record { apply = λ a texts out answer version eight fit most. apply-agrees a version eight fit most texts out answer; field = field-agrees; report = λ r. refl }

@@ -15,6 +15,7 @@ use Rattle.calls_parts.specs.Calls.{frameBeginOf, framePartOf}
 use Rattle.calls_sending.specs.Calls.{packetWriteOf, ackWriteOf}
 use Rattle.calls_receiving.specs.Calls.{AcceptCalled, replied, receiverOpenOf, receiverAcceptOf}
 use Rattle.calls_captures.specs.Calls.{captureJudgeOf}
+use Rattle.calls_report.specs.Calls.{ReportCalled, reportCalled, reportAddOf}
 use Rattle.calls_messages.specs.Calls.{envelopeReadOf, envelopeWriteOf, responseReadOf, responseWriteOf, informationReadOf, informationWriteOf, featuresReadOf, featuresWriteOf}
 use Rattle.calls_reply.specs.Calls.{replyWriteOf}
 use Rattle.calls_firmware.specs.Calls.{segmentReadOf, segmentWriteOf, applyReadOf, applyWriteOf, fieldReadOf}
@@ -29,6 +30,10 @@ Keeps state lent answer c = c .number ≡ 1 → c ≡ called 1 state lent answer
 -- the same of a call with a row of slots and an answer buffer
 abbrev pub KeepsRow : List Slot → List ℕ → List ℕ → List ℕ → AcceptCalled → Type 0
 KeepsRow slots lent out answer r = r .number ≡ 1 → r ≡ replied 1 slots lent answer out
+
+-- and of one with a report
+abbrev pub KeepsReport : List ℕ → List Slot → List ℕ → List ℕ → ReportCalled → Type 0
+KeepsReport report slots lent answer r = r .number ≡ 1 → r ≡ reportCalled 1 report slots lent answer
 
 pub record OneLeavesAll : Type 0 where
   pub extractor-open : (limit : ℕ) (state : List ℕ) → Keeps state [] [] (extractorOpenOf limit state)
@@ -45,6 +50,8 @@ pub record OneLeavesAll : Type 0 where
   pub receiver-accept : (sequence : ℕ) (slots : List Slot) (packet state lent out answer : List ℕ)
       → KeepsRow slots lent out answer (receiverAcceptOf state slots lent packet sequence out answer)
   pub capture-judge : (room limit : ℕ) (capture answer : List ℕ) → Keeps [] [] answer (captureJudgeOf capture room limit answer)
+  pub report-add : (limit : ℕ) (slots : List Slot) (report lent capture answer : List ℕ)
+      → KeepsReport report slots lent answer (reportAddOf report limit slots lent capture answer)
   pub envelope-read : (message answer : List ℕ) → Keeps [] [] answer (envelopeReadOf message answer)
   pub envelope-write : (command : ℕ) (payload : EnvelopePayload) (bytes out answer : List ℕ)
       → Keeps [] out answer (envelopeWriteOf command payload bytes out answer)

@@ -1,5 +1,5 @@
--- The claim that rows agree with what the library itself tells: the row of an ApplyFirmware is taken by its writer as that message, and the row of a
--- field tells what stands at the place.
+-- The claim that rows agree with what the library itself tells: the row of an ApplyFirmware is taken by its writer as that message, the row of a
+-- field tells what stands at the place, and the row that a report leaves is taken as that report.
 use Prim.Native.Nat.{ℕ, _≤_}
 use mathlib.Core.Path.{_≡_}
 use mathlib.Core.Bool.{cond}
@@ -18,6 +18,8 @@ use Rattle.rows_messages.specs.Convert.{textCall}
 use Rattle.rows_firmware.specs.Apply.{wholeRow}
 use Rattle.rows_firmware.specs.FieldRow.{fieldAt}
 use Rattle.calls_firmware.specs.Calls.{applyWriteOf}
+use Rattle.report.specs.declared.CostReport.{CostReport}
+use Rattle.calls_report.specs.Convert.{reportRow, reportAt}
 
 abbrev pub NumbersFit : List FirmwareComponent → Type 0
 NumbersFit [] = Unit {0}
@@ -38,3 +40,4 @@ pub record RowsAgree : Type 0 where
       → length (a .«firmware_information» .components) ≡ 8 → NumbersFit (a .«firmware_information» .components) → a .«firmware_information» .count ≤ 8
       → applyWriteOf (wholeRow a) texts out answer ≡ textCall out answer (applyWritten a texts out)
   pub field : (message : List ℕ) (place : ℕ) → andThen (fieldAt message place) (λ row. given (rowStanding row)) ≡ foundAt message place
+  pub report : (r : CostReport) → reportAt (reportRow r) ≡ r

@@ -15,7 +15,8 @@ pub fn sizes_suffice()
     ensures { λ _. ⌜ SizesSuffice ⌝ }
 {}
 
-// A row that was told of an ApplyFirmware is taken as that message, and a field's row tells what stands at its place.
+// A row that was told of an ApplyFirmware is taken as that message, a field's row tells what stands at its place, and the row that a
+// report leaves is taken as that report.
 pub fn rows_agree()
     ensures { λ _. ⌜ RowsAgree ⌝ }
 {}

@@ -1,18 +1,19 @@
 -- Laws of a walk over a capture: the packet at the front, and the packets after it.
 use Prim.Native.Nat.{ℕ, zero, suc, _+_, _-_, _≤_, _<_}
 use native.Mathlib.Omega.{arith}
-use mathlib.Core.Path.{_≡_, refl}
+use mathlib.Core.Path.{_≡_, refl, sym, ap, _∙_}
 use mathlib.Core.List.{List, [], _∷_}
 use mathlib.Core.Bool.{true, false, not, _&&_}
 use mathlib.Mathlib.Data.Bool.Basic.{or-eq-false-eq-eq-false-and-eq-false}
-use lib.ListN.{length, getD, take, drop}
+use lib.ListN.{length, getD, take, drop, length-drop, drop-of-length-le}
+use lib.Seq.{drop-drop}
 use lib.Dec.{eqb, leb}
 use borrow.Author.Tests.{le-leb, lt-leb, lt-ltb, le-ltb, eq-eqb, ne-eqb, eqb-false, ltb-false}
 use Rattle.wire.specs.Told.{ToldOf, Told, given, refused, andThen, line}
 use Rattle.wire.specs.Bytes.{AllBytes}
 use Rattle.wire.proofs.ByteLists.{bytes-take, bytes-drop}
 use Rattle.wire.proofs.Tables.{by-table}
-use Rattle.captures.specs.Capture.{version, width, ToldAt, located, lengthIn, frontLines, frontOf, before, packetsFrom, otherVersion, packetsOf, Packets}
+use Rattle.captures.specs.Capture.{version, width, ToldAt, located, lengthIn, frontLines, frontOf, before, packetsFrom, otherVersion, packetsOf, checkedOf, Packets}
 
 -- ---- the packet at the front
 
@@ -89,6 +90,73 @@ module _ (bytes : List ℕ) where
       let both = or-eq-false-eq-eq-false-and-eq-false (eqb (length bytes) 0) (not (eqb (getD bytes 0 0) version)) .0 e in
       let d : (length bytes ≡ 0 → ⊥) = eqb-false (length bytes) 0 (both .0) in
       omega arith
+
+-- ---- a walk: from a place on, what is left, gone on with, gives what the whole capture does
+
+pub record PacketWalk {A : Type 0} (bytes : List ℕ) (all : ToldAt A) (at : ℕ) (f : List (List ℕ) → ToldAt A) : Type 0 where
+  pub inside : at ≤ length bytes
+  pub turns : ℕ
+  pub enough : length bytes ≤ at + turns
+  pub gives : andThen (packetsFrom turns at (drop at bytes)) f ≡ all
+
+module _ {A : Type 0} (bytes : List ℕ) where
+  pub walk-begins : (f : List (List ℕ) → ToldAt A) → otherVersion bytes ≡ false → PacketWalk bytes (andThen (packetsOf bytes) f) 1 f
+  walk-begins f e =
+      record { inside = some-byte bytes e; turns = length bytes; enough = omega arith; gives = rw (packets-begin bytes e) }
+
+  module _ {all : ToldAt A} {at : ℕ} {f : List (List ℕ) → ToldAt A} (w : PacketWalk bytes all at f) where
+    pub walk-ends : length bytes ≤ at → all ≡ f []
+    walk-ends h = sym (w .gives) ∙ rw (drop-of-length-le bytes h, packets-nil (w .turns) at)
+
+    module _ (h : at < length bytes) where
+      turn : all
+          ≡ andThen (andThen (located at (frontOf (drop at bytes)))
+          (λ n. before (take n (drop width (drop at bytes))) (packetsFrom (w .turns - 1) (at + width + n) (drop (width + n) (drop at bytes))))) f
+      turn =
+          let count : w .turns ≡ suc (w .turns - 1) = omega (arith, w .enough) in
+          let some-left : 1 ≤ length (drop at bytes) = omega (arith, length-drop at bytes) in
+          sym (w .gives)
+          ∙ ap (λ (n : ℕ). andThen (packetsFrom n at (drop at bytes)) f) count
+          ∙ rw (packets-cons (w .turns - 1) at (drop at bytes) some-left)
+
+      pub walk-stops : (n : ℕ) → frontOf (drop at bytes) ≡ refused n → all ≡ refused (n, at)
+      walk-stops n e = turn ∙ rw e
+
+      pub walk-goes : (n : ℕ) (p : List ℕ) (g : List (List ℕ) → ToldAt A) → frontOf (drop at bytes) ≡ given n → p ≡ take n (drop (at + width) bytes)
+          → ((ps : List (List ℕ)) → f (p ∷ ps) ≡ g ps) → PacketWalk bytes all (at + width + n) g
+      walk-goes n p g e pe same =
+          let k : width + n ≤ length (drop at bytes) = front-within (drop at bytes) n e .0 in
+          let l : length (drop at bytes) ≡ length bytes - at = length-drop at bytes in
+          let q : take n (drop width (drop at bytes)) ≡ p = ap (take n) (drop-drop width at bytes) ∙ sym pe in
+          let z : at + (width + n) ≡ at + width + n = omega arith in
+          record {
+            inside = omega arith;
+            turns = w .turns - 1;
+            enough = omega (arith, w .enough);
+            gives =
+                sym
+                (turn
+                ∙ rw (e, q, drop-drop (width + n) at bytes, z)
+                (before-then p (packetsFrom (w .turns - 1) (at + width + n) (drop (at + width + n) bytes)) f g same));
+          }
+
+      front-by : (t : Told ℕ) → frontOf (drop at bytes) ≡ t → (x : A) → all ≡ given x → frontOf (drop at bytes) ≡ given (lengthIn (drop at bytes))
+      front-by (given n) e x a = e ∙ ap given (front-within (drop at bytes) n e .1)
+      front-by (refused n) e x a = cc (walk-stops n e)
+
+      -- where all can be had, so can the packet at the front
+      pub walk-front : (x : A) → all ≡ given x → frontOf (drop at bytes) ≡ given (lengthIn (drop at bytes))
+      walk-front x a = front-by (frontOf (drop at bytes)) refl x a
+
+-- the walk that only checks
+module _ (bytes : List ℕ) where
+  pub check-refused : otherVersion bytes ≡ true → checkedOf bytes ≡ refused (40, 0)
+  unfolding checkedOf
+  check-refused e = rw (other-refused bytes e)
+
+  pub check-begins : otherVersion bytes ≡ false → PacketWalk bytes (checkedOf bytes) 1 (λ ps. given tt)
+  unfolding checkedOf
+  check-begins e = walk-begins bytes (λ ps. given tt) e
 
 -- ---- the packets of a capture are bytes
 

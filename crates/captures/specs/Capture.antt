@@ -10,6 +10,8 @@ use Rattle.captures.specs.declared.Refusal.{Refusal}
 use Rattle.captures.specs.declared.Refusal.the-variants.{Version, Length, Cut}
 use Rattle.captures.specs.declared.Front.{Front}
 use Rattle.captures.specs.declared.Front.the-variants.{Broken, Whole}
+use Rattle.captures.specs.declared.Soundness.{Soundness}
+use Rattle.captures.specs.declared.Soundness.the-variants.{Sound, Unsound}
 
 abbrev pub version : ℕ
 version = 1
@@ -29,6 +31,11 @@ ToldAt A = ToldOf (ℕ × ℕ) A
 abbrev pub located : {A : Type 0} → ℕ → Told A → ToldAt A
 located at (given a) = given a
 located at (refused n) = refused (n, at)
+
+-- the number of a refusal, or 0
+abbrev pub numberIn : {A : Type 0} → ToldAt A → ℕ
+numberIn (given a) = 0
+numberIn (refused why) = why .0
 
 -- 42: a length of 0, all of whose bytes are there; 41: the bytes end inside the packet, or inside its length
 abbrev pub frontLines : List ℕ → List Line
@@ -59,6 +66,10 @@ otherVersion bytes = eqb (length bytes) 0 || not (eqb (getD bytes 0 0) version)
 unfoldable pub packetsOf : List ℕ → ToldAt (List (List ℕ))
 packetsOf bytes = table (line 40 (otherVersion bytes) ∷ []) (λ n. refused (n, 0)) (packetsFrom (length bytes) 1 (drop 1 bytes))
 
+-- whether they can be had, or the refusal
+unfoldable pub checkedOf : List ℕ → ToldAt (Unit {0})
+checkedOf bytes = andThen (packetsOf bytes) (λ ps. given tt)
+
 -- every packet is a list of bytes
 abbrev pub Packets : List (List ℕ) → Type 0
 Packets [] = Unit {0}
@@ -82,3 +93,7 @@ numberOf Cut = 41
 abbrev pub frontTold : Front → Told ℕ
 frontTold (Broken why) = refused (numberOf why)
 frontTold (Whole n) = given n
+
+abbrev pub soundnessTold : Soundness → ToldAt (Unit {0})
+soundnessTold Sound = given tt
+soundnessTold (Unsound why at) = refused (numberOf why, at)

@@ -3,7 +3,7 @@ use wire::bytes::byte_at;
 use wire::bytes::pair;
 use wire::logic::either;
 ghost use mathlib.Core.Path.{_≡_};
-ghost use Rattle.captures.specs.Capture.{frontOf, otherVersion, numberOf, frontTold};
+ghost use Rattle.captures.specs.Capture.{frontOf, otherVersion, checkedOf, numberOf, frontTold, soundnessTold};
 
 pub const VERSION: u8 = 1;
 
@@ -34,6 +34,12 @@ pub enum Front {
     Whole(usize),
 }
 
+// Whether every packet of a capture can be had. A refusal tells the place of the packet's length; of the version, 0.
+pub enum Soundness {
+    Sound,
+    Unsound { why: Refusal, at: usize },
+}
+
 // Refusal 40, if it holds.
 pub fn other_version(capture: &[u8]) -> bool
     ensures { λ r. ⌜ r ≡ otherVersion (now (capture .entry)) ⌝ }
@@ -56,4 +62,29 @@ pub fn front_of(rest: &[u8]) -> Front
         return Front::Broken(Refusal::Cut);
     }
     Front::Whole(n)
+}
+
+// The capture's own refusals, to its end.
+pub fn check(capture: &[u8]) -> Soundness
+    ensures { λ r. ⌜ soundnessTold r ≡ checkedOf (now (capture .entry)) ⌝ }
+{
+    if other_version(capture) {
+        return Soundness::Unsound {
+            why: Refusal::Version,
+            at: 0,
+        };
+    }
+    let mut at = 1;
+    while at < capture.len() {
+        let found = front_of(&capture[at..]);
+        match found {
+            Front::Broken(why) => {
+                return Soundness::Unsound { why, at };
+            }
+            Front::Whole(n) => {
+                at = at + WIDTH + n;
+            }
+        }
+    }
+    Soundness::Sound
 }

@@ -1,20 +1,19 @@
 -- Laws of the walk over a capture, for its loop.
-use Prim.Native.Nat.{ℕ, suc, _+_, _-_, _≤_, _<_, min}
+use Prim.Native.Nat.{ℕ, _+_, _-_, _≤_, _<_, min}
 use native.Mathlib.Omega.{arith}
 use mathlib.Core.Path.{_≡_, refl, sym, ap, _∙_}
-use mathlib.Core.List.{List, [], _∷_}
+use mathlib.Core.List.{List, _∷_}
 use mathlib.Core.Bool.{Bool, true, false}
 use lib.ListN.{length, take, drop, length-take, length-drop, drop-of-length-le}
-use lib.Seq.{drop-drop}
 use lib.Dec.{ltb}
 use borrow.Author.Tests.{ltb-true, ltb-false}
-use Rattle.wire.specs.Told.{Told, given, refused, andThen}
-use Rattle.captures.specs.Capture.{width, located, frontOf, before, packetsFrom, otherVersion}
+use Rattle.wire.specs.Told.{given, refused}
+use Rattle.captures.specs.Capture.{width, frontOf, otherVersion}
 use Rattle.captures.proofs.Walking as captures
-use Rattle.captures.proofs.Walking.{front-within, packets-cons, packets-nil, before-then, packets-begin, some-byte}
+use Rattle.captures.proofs.Walking.{front-within, PacketWalk, walk-begins, walk-ends, walk-stops, walk-goes}
 use Rattle.judge.specs.declared.State.{State}
 use Rattle.judge.specs.declared.capture.Judgement.{Judgement}
-use Rattle.judge.specs.declared.capture.Judgement.the-variants.{Going, Stopped}
+use Rattle.judge.specs.declared.capture.Judgement.the-variants.{Going}
 use Rattle.judge.specs.Step.{idle}
 use Rattle.judge.specs.Capture.{goneOn, verdictFrom, walkedOf}
 
@@ -31,10 +30,7 @@ drop-smaller bytes n false e =
 
 -- from a place on, the packets that are left and what is known so far decide as all do
 pub record Judging (room limit : ℕ) (bytes : List ℕ) (at : ℕ) (v : Judgement) : Type 0 where
-  pub inside : at ≤ length bytes
-  pub turns : ℕ
-  pub enough : length bytes ≤ at + turns
-  pub decides : andThen (packetsFrom turns at (drop at bytes)) (λ ps. given (verdictFrom room limit at v ps)) ≡ walkedOf room limit bytes
+  pub walk : PacketWalk bytes (walkedOf room limit bytes) at (λ ps. given (verdictFrom room limit at v ps))
 
 module _ (room limit : ℕ) (bytes : List ℕ) where
   pub other-refused : otherVersion bytes ≡ true → walkedOf room limit bytes ≡ refused (40, 0)
@@ -43,28 +39,16 @@ module _ (room limit : ℕ) (bytes : List ℕ) where
 
   pub judging-begins : otherVersion bytes ≡ false → (s : State) → s ≡ idle → Judging room limit bytes 1 (Going s)
   unfolding walkedOf
-  judging-begins e s i =
-      record { inside = some-byte bytes e; turns = length bytes; enough = omega arith; decides = rw (i, packets-begin bytes e) }
+  judging-begins e s i = rw i (record { walk = walk-begins bytes (λ ps. given (verdictFrom room limit 1 (Going idle) ps)) e })
 
   module _ {at : ℕ} {v : Judgement} (j : Judging room limit bytes at v) where
     pub judging-ends : length bytes ≤ at → walkedOf room limit bytes ≡ given v
     unfolding verdictFrom
-    judging-ends h = sym (j .decides) ∙ rw (drop-of-length-le bytes h, packets-nil (j .turns) at)
+    judging-ends h = walk-ends bytes (j .walk) h
 
     module _ (h : at < length bytes) where
-      turn : walkedOf room limit bytes
-          ≡ andThen (andThen (located at (frontOf (drop at bytes)))
-          (λ n. before (take n (drop width (drop at bytes))) (packetsFrom (j .turns - 1) (at + width + n) (drop (width + n) (drop at bytes)))))
-          (λ ps. given (verdictFrom room limit at v ps))
-      turn =
-          let count : j .turns ≡ suc (j .turns - 1) = omega (arith, j .enough) in
-          let some-left : 1 ≤ length (drop at bytes) = omega (arith, length-drop at bytes) in
-          sym (j .decides)
-          ∙ ap (λ (n : ℕ). andThen (packetsFrom n at (drop at bytes)) (λ ps. given (verdictFrom room limit at v ps))) count
-          ∙ rw (packets-cons (j .turns - 1) at (drop at bytes) some-left)
-
       pub judging-stops : (n : ℕ) → frontOf (drop at bytes) ≡ refused n → walkedOf room limit bytes ≡ refused (n, at)
-      judging-stops n e = turn ∙ rw e
+      judging-stops n e = walk-stops bytes (j .walk) h n e
 
       -- one packet more
       step-is : (p : List ℕ) (ps : List (List ℕ)) → verdictFrom room limit at v (p ∷ ps) ≡ verdictFrom room limit (at + width + length p) (goneOn room limit at v p) ps
@@ -76,16 +60,7 @@ module _ (room limit : ℕ) (bytes : List ℕ) where
       judging-goes n p w e pe we =
           let k : width + n ≤ length (drop at bytes) = front-within (drop at bytes) n e .0 in
           let l : length (drop at bytes) ≡ length bytes - at = length-drop at bytes in
-          let q : take n (drop width (drop at bytes)) ≡ p = ap (take n) (drop-drop width at bytes) ∙ sym pe in
           let size : length p ≡ n = rw pe (length-take n (drop (at + width) bytes) ∙ omega (arith, length-drop (at + width) bytes)) in
-          let z : at + (width + n) ≡ at + width + n = omega arith in
           record {
-            inside = omega arith;
-            turns = j .turns - 1;
-            enough = omega (arith, j .enough);
-            decides =
-                sym
-                (turn
-                ∙ rw (e, q, drop-drop (width + n) at bytes, z)
-                (before-then p (packetsFrom (j .turns - 1) (at + width + n) (drop (at + width + n) bytes)) _ _ (λ ps. ap given (step-is p ps ∙ rw (size, ← we)))));
+            walk = walk-goes bytes (j .walk) h n p (λ ps. given (verdictFrom room limit (at + width + n) w ps)) e pe (λ ps. ap given (step-is p ps ∙ rw (size, ← we)));
           }

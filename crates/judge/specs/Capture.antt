@@ -69,11 +69,6 @@ numberOf Room = 13
 numberOf Limit = 17
 numberOf (Capture why) = captures.numberOf why
 
--- 0, or the number of the refusal
-abbrev pub numberIn : {A : Type 0} → ToldAt A → ℕ
-numberIn (given a) = 0
-numberIn (refused why) = why .0
-
 abbrev pub traceTold : Traced → ToldAt Judgement
 traceTold (Barred why at) = refused (numberOf why, at)
 traceTold (Ended v) = given v

@@ -10,7 +10,8 @@ use sender::writer::room_fits;
 use wire::limit::limit_fits;
 ghost use mathlib.Core.Path.{_≡_};
 ghost use Rattle.wire.specs.Told.{given};
-ghost use Rattle.judge.specs.Capture.{goneOn, walkedOf, tracedOf, answerIn, answerOf, judgedOf, numberOf, numberIn, traceTold, told};
+ghost use Rattle.captures.specs.Capture.{numberIn};
+ghost use Rattle.judge.specs.Capture.{goneOn, walkedOf, tracedOf, answerIn, answerOf, judgedOf, numberOf, traceTold, told};
 
 // Long is the program's: a capture that is longer than it reads.
 pub enum Refusal {

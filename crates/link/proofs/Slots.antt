@@ -1,13 +1,15 @@
--- What the walks over a row of slots share: the struct's laws under short names, and the two facts on where an entry lies.
-use mathlib.Core.Path.{_≡_, refl, ap}
+-- What the walks over a row of slots share: the struct's laws under short names, the two facts on where an entry lies, and an array of slots in a struct.
+use mathlib.Core.Path.{_≡_, refl, sym, ap, _∙_}
 use Prim.Native.Nat.{ℕ, zero, suc, _<_, _≤_, _+_, _*_, _^_}
 use native.Mathlib.Nat.{not-suc-le-zero, le-of-suc-le-suc, mul-le-mul-right}
 use lib.Dec.{lit<}
 use native.Mathlib.Omega.{arith}
-use mathlib.Core.List.{[], _∷_, List}
-use lib.ListN.{length, set}
+use mathlib.Core.List.{[], _∷_, List, map}
+use lib.ListN.{length, set, length-map}
 use mir.Val.{Val}
+use denote.Shadow.{shadow}
 use denote.Laws.{Is}
+use denote.Array.{Array, arrayVal, each}
 use denote.Memory.{mem}
 use denote.Index.{place, place-is}
 use denote.Slice.{Room}
@@ -43,3 +45,16 @@ pub set-past : {X : Type 0} (l : List X) (i : ℕ) (a : X) → length l ≤ i �
 set-past [] i a h = refl
 set-past (x ∷ l) zero a h = absurd (not-suc-le-zero h)
 set-past {X = X} (x ∷ l) (suc i) a h = ap (λ (m : List X). x ∷ m) (set-past l i a (le-of-suc-le-suc h))
+
+-- an array of slots as a field of a struct stands at the slots' tuples: its machine value there, and the relation each way
+abbrev pub field-val : List Slot → Val
+field-val l = arrayVal (map (LL.tuple-val T.the-type T′.the-laws) (map (T.the-type .to) l))
+
+each-back : (xs : List Slot) (us : List Val) → shadow (each (T.the-field .row .Denot) (T.the-field .row .own) (map (T.the-type .to) xs) us) → shadow (each Slot (T.the-row .own) xs us)
+each-back [] [] s = s
+each-back [] (u ∷ us) s = absurd s
+each-back (x ∷ xs) [] s = absurd s
+each-back (x ∷ xs) (u ∷ us) s = (s .0, each-back xs us (s .1))
+
+pub of-field : (ws : List Slot) (z : Val) → Is (Array (T.the-field .row) 12) (map (T.the-type .to) ws) (z ∷ []) → Is (Array T.the-row 12) ws (z ∷ [])
+of-field ws z is = (is .0, ((is .1 .0 .0, sym (length-map ws (T.the-type .to)) ∙ is .1 .0 .1), each-back ws (is .0) (is .1 .1)))

@@ -1,4 +1,5 @@
 // A packet given to a link whose slots are lent as a row. All rules stand below; these functions only walk the row.
+use receiver::SLOT_COUNT;
 use receiver::decide;
 use slot::Slot;
 use slot::answer::Answer;
@@ -8,6 +9,7 @@ ghost use Rattle.slot.specs.Answer.{told};
 ghost use Rattle.slot.specs.Slot.{idle};
 ghost use Rattle.receiver.specs.Receiver.{call, left, acceptOf};
 ghost use Rattle.receiver.specs.Outcome.{firstTwelve};
+ghost use Rattle.link.specs.Row.{savedRow};
 
 // The slot at a place; idle past the end.
 pub fn slot_at(row: &[Slot], i: usize) -> Slot
@@ -54,6 +56,28 @@ pub fn load(row: &[Slot]) -> [Slot; 12]
         slot_at(row, 10),
         slot_at(row, 11),
     ]
+}
+
+// The slot at a place of a row as a value; idle past the end.
+fn slot_in(slots: [Slot; 12], i: usize) -> Slot
+    ensures { λ r. ⌜ r ≡ getD slots i idle ⌝ }
+{
+    if i < SLOT_COUNT {
+        slots[i]
+    } else {
+        Slot::idle()
+    }
+}
+
+// Stores all twelve slots; past the end nothing is stored.
+pub fn save(row: &mut [Slot], slots: [Slot; 12])
+    ensures { λ _. ⌜ now (row .exit) ≡ savedRow (now (row .entry)) slots ⌝ }
+{
+    let mut i = 0;
+    while i < SLOT_COUNT {
+        set_slot(row, i, slot_in(slots, i));
+        i = i + 1;
+    }
 }
 
 // The answer to one packet, for a link with a limit. A finished message stands first in its slot's part of the buffer, and the ACK that

@@ -45,26 +45,26 @@ unfolding fieldsOf
 start-id b p = refl
 
 -- told with the id of a byte
-abbrev Named : ℕ → Told Packet → Type 0
-Named b t = IfGiven (λ (x : Packet). headIn x .id ≡ idBits b) t
+abbrev pub IdOf : ℕ → Told Packet → Type 0
+IdOf b t = IfGiven (λ (x : Packet). headIn x .id ≡ idBits b) t
 
-read-id : (limit b : ℕ) (p : List ℕ) → Named b (readOf limit (b ∷ p))
+pub read-id : (limit b : ℕ) (p : List ℕ) → IdOf b (readOf limit (b ∷ p))
 unfolding readOf
 read-id limit b p =
-    by-table (Named b) (lines limit (fieldsOf (b ∷ p))) refused (given (contentOf (fieldsOf (b ∷ p)))) (λ n. tt) (λ h.
+    by-table (IdOf b) (lines limit (fieldsOf (b ∷ p))) refused (given (contentOf (fieldsOf (b ∷ p)))) (λ n. tt) (λ h.
     content-id (b ∷ p) (isControl (fieldsOf (b ∷ p))) (isFirst (fieldsOf (b ∷ p))) (fieldsOf (b ∷ p) .ack) refl refl refl ∙ start-id b p)
 
-in-id : (limit b : ℕ) (p : List ℕ) (sequence : ℕ) (out : List ℕ) → Named b (readIn limit (call (b ∷ p) sequence out))
+in-id : (limit b : ℕ) (p : List ℕ) (sequence : ℕ) (out : List ℕ) → IdOf b (readIn limit (call (b ∷ p) sequence out))
 unfolding readIn
 in-id limit b p sequence out =
-    by-table (Named b) (answerLines (call (b ∷ p) sequence out)) refused (readOf limit (b ∷ p)) (λ n. tt) (λ h. read-id limit b p)
+    by-table (IdOf b) (answerLines (call (b ∷ p) sequence out)) refused (readOf limit (b ∷ p)) (λ n. tt) (λ h. read-id limit b p)
 
 -- told of another stream, or of another id
 abbrev Other : Stream → ℕ → Told Packet → Type 0
 Other t id told = IfGiven (λ (x : Packet). headIn x .stream ≡ t → headIn x .id ≢ id) told
 
 by-byte : (limit k stream id b : ℕ) (told : Told Packet) → isStream stream ≡ true → eqb b (firstByte stream id) ≡ false
-    → IfGiven (LinesPass limit k (streamBits b)) told → Named b told → Other (streamOf stream) id told
+    → IfGiven (LinesPass limit k (streamBits b)) told → IdOf b told → Other (streamOf stream) id told
 by-byte limit k stream id b (refused n) known e o i = tt
 by-byte limit k stream id b (given x) known e o i = λ s d.
     let upper : streamBits b ≡ stream

@@ -20,6 +20,7 @@
 
 use super::judged;
 use super::packets;
+use super::reports;
 use super::worked::{bytes, written};
 use crate::classic::{self, LIMIT};
 use crate::comparison::{hex, Compared, Comparison, Difference};
@@ -105,7 +106,10 @@ pub fn run(c: &mut Comparison<'_>, capture: &Capture) -> Compared<()> {
         other => return Err(script.wrong("low energy, or classic", other)),
     }
     match script.left {
-        [] if capture.is_low_energy() => judged::judge_capture(c, capture),
+        [] if capture.is_low_energy() => {
+            judged::judge_capture(c, capture)?;
+            reports::report_capture(c, capture)
+        }
         [] => Ok(()),
         [line, ..] => Err(script.wrong(line, "no more answers")),
     }

@@ -10,6 +10,7 @@ pub mod outboxes;
 pub mod packets;
 pub mod parts;
 pub mod replies;
+pub mod reports;
 pub mod rooms;
 pub mod sizes;
 pub mod streams;
@@ -73,6 +74,10 @@ pub const PARTS: &[Part] = &[
     Part {
         name: "captures judged",
         run: judged::run,
+    },
+    Part {
+        name: "captures in a report",
+        run: reports::run,
     },
     Part {
         name: "strings",

@@ -121,7 +121,7 @@ pub(super) fn lawful(rng: &mut Rng, limit: u64) -> Vec<Slot> {
 }
 
 /// A row with a number or two that it may not have (or by chance may), or of another length.
-fn unlawful(rng: &mut Rng, limit: u64) -> Vec<Slot> {
+pub(super) fn unlawful(rng: &mut Rng, limit: u64) -> Vec<Slot> {
     let mut row = lawful(rng, limit);
     for _ in 0..rng.between(1, 2) {
         let place = rng.index(SLOTS);
@@ -335,6 +335,68 @@ fn message_packets(rng: &mut Rng, stream: Stream, ids: u64, limit: u64) -> VecDe
     }
 }
 
+/// Where the packets of a list come from: up to five messages of a stream at a time, in queues, with packets lost, doubled,
+/// damaged and out of order, ACKs, and packets made for a slot.
+pub(super) struct Source {
+    limit: u64,
+    damaging: u64,
+    directing: u64,
+    /// As many messages of a stream at a time, of as many ids.
+    most: usize,
+    ids: u64,
+    queues: Vec<VecDeque<Vec<u8>>>,
+}
+
+impl Source {
+    pub(super) fn new(rng: &mut Rng, limit: u64) -> Source {
+        let damaging = *rng.pick(&[0, 0, 20, 8, 4]);
+        let directing = *rng.pick(&[0, 0, 8, 2, 1]);
+        let most = rng.between(1, 5);
+        let ids = *rng.pick(&[16, 6, 4]);
+        Source {
+            limit,
+            damaging,
+            directing,
+            most,
+            ids,
+            queues: vec![VecDeque::new(); 3 * most],
+        }
+    }
+
+    /// The next packet, for a receiver with these slots.
+    pub(super) fn next(&mut self, rng: &mut Rng, slots: &[Slot]) -> Vec<u8> {
+        if self.directing > 0 && rng.once_in(self.directing) {
+            return directed(rng, self.limit, slots);
+        }
+        if rng.once_in(12) {
+            return acknowledgement(rng);
+        }
+        let stream = *rng.pick(&Stream::ALL);
+        let queue = &mut self.queues[stream as usize * self.most + rng.index(self.most)];
+        if queue.is_empty() || rng.once_in(60) {
+            *queue = message_packets(rng, stream, self.ids, self.limit);
+        }
+        let mut packet = queue.pop_front().expect("a message has a packet");
+        if self.damaging > 0 && rng.once_in(self.damaging) {
+            match rng.below(4) {
+                // Lost: the next one comes instead, if there is one.
+                0 => packet = queue.pop_front().unwrap_or(packet),
+                // Doubled.
+                1 => queue.push_front(packet.clone()),
+                // Out of order.
+                2 => {
+                    if let Some(next) = queue.pop_front() {
+                        queue.push_front(packet);
+                        packet = next;
+                    }
+                }
+                _ => damage(rng, &mut packet, any_byte),
+            }
+        }
+        packet
+    }
+}
+
 /// One list; gives the number of packets.
 fn list(c: &mut Comparison<'_>, rng: &mut Rng, call: &mut Call, limit: u64) -> Compared<u64> {
     call.state = idle(limit);
@@ -343,43 +405,10 @@ fn list(c: &mut Comparison<'_>, rng: &mut Rng, call: &mut Call, limit: u64) -> C
     } else {
         vec![Slot::default(); SLOTS]
     };
-    let damaging = *rng.pick(&[0, 0, 20, 8, 4]);
-    let directing = *rng.pick(&[0, 0, 8, 2, 1]);
-    // As many messages of a stream at a time, of as many ids.
-    let most = rng.between(1, 5);
-    let ids = *rng.pick(&[16, 6, 4]);
-    let mut queues: Vec<VecDeque<Vec<u8>>> = vec![VecDeque::new(); 3 * most];
+    let mut source = Source::new(rng, limit);
     let length = rng.between(20, 70) as u64;
     for _ in 0..length {
-        if directing > 0 && rng.once_in(directing) {
-            call.inputs[0] = directed(rng, limit, &call.slots);
-        } else if rng.once_in(12) {
-            call.inputs[0] = acknowledgement(rng);
-        } else {
-            let stream = *rng.pick(&Stream::ALL);
-            let queue = &mut queues[stream as usize * most + rng.index(most)];
-            if queue.is_empty() || rng.once_in(60) {
-                *queue = message_packets(rng, stream, ids, limit);
-            }
-            let mut packet = queue.pop_front().expect("a message has a packet");
-            if damaging > 0 && rng.once_in(damaging) {
-                match rng.below(4) {
-                    // Lost: the next one comes instead, if there is one.
-                    0 => packet = queue.pop_front().unwrap_or(packet),
-                    // Doubled.
-                    1 => queue.push_front(packet.clone()),
-                    // Out of order.
-                    2 => {
-                        if let Some(next) = queue.pop_front() {
-                            queue.push_front(packet);
-                            packet = next;
-                        }
-                    }
-                    _ => damage(rng, &mut packet, any_byte),
-                }
-            }
-            call.inputs[0] = packet;
-        }
+        call.inputs[0] = source.next(rng, &call.slots);
         (call.numbers[0], call.reply) = answering(rng, 60);
         c.run(call)?;
     }

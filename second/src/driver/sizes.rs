@@ -105,6 +105,18 @@ fn ordinary(rng: &mut Rng, operation: Operation) -> Call {
                 .reply(rng.bytes(room))
         }
         Operation::CaptureJudge => call.numbers(&[20, 300]).inputs(&[&[1, 0, 1, 9]]),
+        Operation::ReportAdd => {
+            let mut report = [0; 21];
+            rng.fill_row(&mut report);
+            // A row that no receiver takes.
+            let row = [open(3, 0, 9); SLOTS];
+            let message = [1, 0, 8, 0x61, 0x02, 0, 0, 3, 2, 0xAA, 0xBB, 0, 1, 9];
+            call.state(&report)
+                .numbers(&[RECEIVED])
+                .inputs(&[&message])
+                .slots(&row)
+                .lent(rng.bytes(low_energy::buffer(RECEIVED)))
+        }
         Operation::EnvelopeRead | Operation::ResponseRead => call.inputs(&[&[0x08, 0x05]]),
         Operation::InformationRead | Operation::FeaturesRead => call.inputs(&[&[]]),
         Operation::EnvelopeWrite => call

@@ -75,7 +75,7 @@ lies : (c : tie.After-known-told2 Inv-loop μ-loop)
     ≤ length (now (c .before .before .before .before .before .before .before .before .before .before .before .args .capture))
 lies c =
     let l = c .before .before .before .before .before .before in
-    omega (arith, front-within _ _ (stood c) .0, length-drop (l .loop .at) (now (l .before .before .before .before .before .args .capture)), l .loop .inv .inside)
+    omega (arith, front-within _ _ (stood c) .0, length-drop (l .loop .at) (now (l .before .before .before .before .before .args .capture)), l .loop .inv .walk .inside)
 
 add-start : tie.Need-add-start Inv-loop μ-loop
 add-start c = omega (arith, lies c)

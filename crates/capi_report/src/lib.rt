@@ -1,0 +1,28 @@
+// A report over captures for C. include/pitokaenge.h describes the function for its callers.
+use calls_report::calls::report_add;
+use link::load;
+use link::save;
+use slot::Slot;
+ghost use mathlib.Core.Path.{_≡_};
+ghost use Rattle.calls_report.specs.Calls.{reportCalled, reportAddOf};
+
+// Adds what a capture cost, read by a fresh link of a limit, to a report.
+#[no_mangle]
+pub extern "C" fn pito_report_add(
+    report: &mut [u64],
+    limit: u64,
+    row: &mut [Slot],
+    buffer: &mut [u8],
+    capture: &[u8],
+    answer: &mut [u64],
+) -> u64
+    ensures { λ r. ⌜ reportCalled r (now (report .exit)) (now (row .exit)) (now (buffer .exit)) (now (answer .exit))
+        ≡ reportAddOf (now (report .entry)) limit (now (row .entry)) (now (buffer .entry)) (now (capture .entry))
+        (now (answer .entry)) ⌝ }
+{
+    let count = row.len();
+    let slots = load(&*row);
+    let done = report_add(count, slots, report, limit, buffer, capture, answer);
+    save(row, done.slots);
+    done.number
+}

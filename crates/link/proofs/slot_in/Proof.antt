@@ -1,0 +1,29 @@
+use mathlib.Core.Path.{sym, _∙_}
+use native.Mathlib.Omega.{arith}
+use lib.ListN.{List·getD-eq-default}
+use borrow.Author.Needs.{needs}
+use Rattle.slot.specs.Slot.{idle}
+use borrow.Author.Needs.{needs}
+use Rattle.link.proofs.slot_in.Statement.{statement}
+use Rattle.link.proofs.slot_in.Tie as tie
+
+mul-result : tie.Need-mul-result
+mul-result c = search needs
+
+array-copy-out-result : tie.Need-array-copy-out-result
+array-copy-out-result c = search needs
+
+idle-requires : tie.Need-idle-requires
+idle-requires c κs = search needs
+
+returns : tie.Need-returns
+returns c = search needs
+
+returns-2 : tie.Need-returns-2
+returns-2 c =
+    let s = c .before in
+    c .idle .ensures ∙ sym (List·getD-eq-default (s .before .args .t1) idle (omega arith))
+
+pub slot-in-spec : {M : Type 1} → statement M
+slot-in-spec =
+    tie.close (tie.spec mul-result array-copy-out-result idle-requires returns returns-2)

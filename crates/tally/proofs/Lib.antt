@@ -1,0 +1,4 @@
+pub mod Fitting
+pub mod Counting
+pub mod Passing
+pub mod Taking

@@ -1,0 +1,99 @@
+use mathlib.Core.Path.{sym, ap, _∙_}
+use lib.ListN.{length}
+use borrow.Author.Needs.{needs}
+use borrow.Author.Tests.{not-true, not-false}
+use denote.Ref.{now}
+use Rattle.captures.specs.Capture.{soundnessTold}
+use Rattle.tally.proofs.Taking.{limit-refused, lent-refused, taken-is, unsound, sound}
+use Rattle.tally.proofs.add_by_value.Statement.{statement}
+use Rattle.tally.proofs.add_by_value.Tie as tie
+
+limit-fits-requires : tie.Need-limit-fits-requires
+limit-fits-requires c κs = search needs
+
+refuse-requires : tie.Need-refuse-requires
+refuse-requires c κs = search needs
+
+returns : tie.Need-returns
+returns c =
+    let s = c .before .before .before .before .before in
+    let f = c .before .before in
+    rw (c .refuse .ensures, limit-refused (s .args .limit) (s .args .count) (length (now (s .args .buffer))) (now (s .args .capture)) (sym (f .limit-fits .ensures) ∙ not-true (f .limit-fits .result) (c .before .if1 .taken)))
+
+lent-fits-requires : tie.Need-lent-fits-requires
+lent-fits-requires c κs = sym (c .before .limit-fits .ensures) ∙ not-false (c .before .limit-fits .result) (c .if1 .left)
+
+refuse-requires-2 : tie.Need-refuse-requires-2
+refuse-requires-2 c κs = search needs
+
+returns-2 : tie.Need-returns-2
+returns-2 c =
+    let s = c .before .before .before .before .before .before .before in
+    let f = c .before .before in
+    rw (
+      c .refuse2 .ensures,
+      lent-refused (s .args .limit) (s .args .count) (length (now (s .args .buffer))) (now (s .args .capture)) (sym (c .before .before .before .before .limit-fits .ensures) ∙ not-false (c .before .before .before .before .limit-fits .result) (c .before .before .before .if1 .left))
+          (sym (f .lent-fits .ensures) ∙ not-true (f .lent-fits .result) (c .before .if2 .taken)),
+    )
+
+check-requires : tie.Need-check-requires
+check-requires c κs = search needs
+
+enum-known-checked : tie.Need-enum-known-checked
+enum-known-checked c = search needs
+
+refuse-requires-3 : tie.Need-refuse-requires-3
+refuse-requires-3 c κs = search needs
+
+enum-told : tie.Need-enum-told
+enum-told c = search needs
+
+pass-requires : tie.Need-pass-requires
+pass-requires c κs = sym (c .before .before .before .check .ensures) ∙ ap soundnessTold (c .before .enum-told .given .1)
+
+answer-of-requires : tie.Need-answer-of-requires
+answer-of-requires c κs = search needs
+
+returns-3 : tie.Need-returns-3
+returns-3 c =
+    let s = c .before .before .before .before .before .before .before .before .before .before .before in
+    let why = sym (c .before .before .before .before .check .ensures) ∙ ap soundnessTold (c .before .before .checked .given .1) in
+    rw (
+      c .refuse3 .ensures,
+      taken-is (s .args .limit) (s .args .count) (length (now (s .args .buffer))) (now (s .args .capture)) (sym (c .before .before .before .before .before .before .before .before .limit-fits .ensures) ∙ not-false (c .before .before .before .before .before .before .before .before .limit-fits .result) (c .before .before .before .before .before .before .before .if1 .left))
+          (sym (c .before .before .before .before .before .before .lent-fits .ensures) ∙ not-false (c .before .before .before .before .before .before .lent-fits .result) (c .before .before .before .before .before .if2 .left)),
+      unsound (now (s .args .capture)) _ why,
+    )
+
+same-length : tie.Need-same-length
+same-length c = search needs
+
+returns-4 : tie.Need-returns-4
+returns-4 c =
+    let s = c .before .before .before .before .before .before .before .before .before .before .before .before .before .before .before in
+    rw (
+      c .before .answer-of .ensures,
+      taken-is (s .args .limit) (s .args .count) (length (now (s .args .buffer))) (now (s .args .capture)) (sym (c .before .before .before .before .before .before .before .before .before .before .before .before .limit-fits .ensures) ∙ not-false (c .before .before .before .before .before .before .before .before .before .before .before .before .limit-fits .result) (c .before .before .before .before .before .before .before .before .before .before .before .if1 .left))
+          (sym (c .before .before .before .before .before .before .before .before .before .before .lent-fits .ensures) ∙ not-false (c .before .before .before .before .before .before .before .before .before .before .lent-fits .result) (c .before .before .before .before .before .before .before .before .before .if2 .left)),
+    )
+    (sound (s .args .report) (s .args .limit) (s .args .slots) (now (s .args .buffer)) (now (s .args .capture)) _ (c .before .before .before .before .pass .ensures))
+
+pub add-by-value-spec : {M : Type 1} → statement M
+add-by-value-spec =
+    tie.close
+    (tie.spec
+    limit-fits-requires
+    refuse-requires
+    returns
+    lent-fits-requires
+    refuse-requires-2
+    returns-2
+    check-requires
+    enum-known-checked
+    refuse-requires-3
+    enum-told
+    pass-requires
+    answer-of-requires
+    returns-3
+    same-length
+    returns-4)

@@ -1,0 +1,17 @@
+use native.Mathlib.Omega.{arith}
+use Rattle.wire.proofs.Limits.{limit-range}
+use borrow.Author.Needs.{needs}
+use Rattle.tally.proofs.lent_fits.Statement.{statement}
+use Rattle.tally.proofs.lent_fits.Tie as tie
+
+mul-both : tie.Need-mul-both
+mul-both c = omega (arith, limit-range (c .args .limit) (c .pre) .1)
+
+both-requires : tie.Need-both-requires
+both-requires c κs = search needs
+
+returns : tie.Need-returns
+returns c = search needs
+
+pub lent-fits-spec : {M : Type 1} → statement M
+lent-fits-spec = tie.close (tie.spec mul-both both-requires returns)

@@ -1,0 +1,192 @@
+// What one packet adds to a report, and what the open slots add at the end.
+use packet::header;
+use report::CostReport;
+use report::Costs;
+use slot::Slot;
+use slot::answer::Accepted;
+use slot::answer::Answer;
+use slot::lane_of;
+use wire::bytes::byte_at;
+use wire::logic::both;
+use wire::logic::either;
+use wire::stream::Stream;
+ghost use mathlib.Core.Path.{_≡_};
+ghost use mathlib.Core.Bool.{cond, _||_};
+ghost use lib.Dec.{eqb};
+ghost use lib.ListN.{length};
+ghost use Prim.Native.Nat.{_≤_};
+ghost use Rattle.wire.specs.Told.{given};
+ghost use Rattle.wire.specs.Those.{those};
+ghost use Rattle.packet.specs.Header as headers;
+ghost use Rattle.packet.specs.Reader as reader;
+ghost use Rattle.slot.specs.Slot.{opens};
+ghost use Rattle.slot.specs.Answer.{told};
+ghost use Rattle.report.specs.Costs.{heard};
+ghost use Rattle.report.specs.Turns.{reportWith, openCosts, openReport};
+ghost use Rattle.tally.specs.Count.{marksOf, costsBy};
+
+// What of an answer counts.
+struct Marks {
+    accepts: bool,
+    finishes: bool,
+    replaces: bool,
+    drops: bool,
+    payload: u64,
+}
+
+fn one_if(b: bool) -> u64
+    ensures { λ r. ⌜ (r ≡ headers.bit b) × (r ≤ 1) ⌝ }
+{
+    if b { 1 } else { 0 }
+}
+
+fn amount_if(b: bool, n: u64) -> u64
+    ensures { λ r. ⌜ r ≡ cond b n 0 ⌝ }
+{
+    if b { n } else { 0 }
+}
+
+// Whether a refusal drops a transaction.
+fn is_drop(number: u8) -> bool
+    ensures { λ r. ⌜ r ≡ (eqb number 10 || eqb number 11) ⌝ }
+{
+    either(number == 10, number == 11)
+}
+
+fn noted(accepts: bool, finishes: bool, replaces: bool, drops: bool, payload: u64) -> Marks
+    ensures { λ r. ⌜ r ≡ record { accepts = accepts; finishes = finishes; replaces = replaces; drops = drops; payload = payload } ⌝ }
+{
+    Marks {
+        accepts,
+        finishes,
+        replaces,
+        drops,
+        payload,
+    }
+}
+
+fn marks_accepted(accepted: Accepted) -> Marks
+    ensures { λ r. ⌜ r ≡ marksOf (given accepted) ⌝ }
+{
+    match accepted {
+        Accepted::Taken {
+            place: _,
+            stream: _,
+            id: _,
+            replaced,
+        } => noted(true, false, replaced, false, 0),
+        Accepted::Finished {
+            place: _,
+            stream: _,
+            id: _,
+            total,
+            ack: _,
+            replaced,
+        } => noted(true, true, replaced, false, total as u64),
+        Accepted::Acked(_) => noted(false, false, false, false, 0),
+        Accepted::Nacked(_) => noted(false, false, false, false, 0),
+    }
+}
+
+fn marks_of(answer: Answer) -> Marks
+    ensures { λ r. ⌜ r ≡ marksOf (told answer) ⌝ }
+{
+    match answer {
+        Answer::Refused(why) => {
+            let drops = is_drop(why.number());
+            noted(false, false, false, drops, 0)
+        }
+        Answer::Given(accepted) => marks_accepted(accepted),
+    }
+}
+
+fn is_first(packet: &[u8]) -> bool
+    ensures { λ r. ⌜ r ≡ reader.isFirst (reader.fieldsOf (now (packet .entry))) ⌝ }
+{
+    header::type_bits(byte_at(packet, 1)) == 0
+}
+
+fn is_of(packet: &[u8], number: u8) -> bool
+    ensures { λ r. ⌜ r ≡ headers.isOf number (now (packet .entry)) ⌝ }
+{
+    if packet.len() == 0 {
+        return false;
+    }
+    header::stream_bits(packet[0]) == number
+}
+
+fn costs_of(mine: bool, first: bool, marks: Marks, size: u64) -> Costs
+    ensures { λ r. ⌜ r ≡ costsBy mine first marks size ⌝ }
+{
+    let firsts = one_if(both(mine, both(marks.accepts, first)));
+    let finished = one_if(both(mine, marks.finishes));
+    let replaced = one_if(both(mine, marks.replaces));
+    let dropped = one_if(both(mine, marks.drops));
+    let payload = amount_if(both(mine, marks.finishes), marks.payload);
+    let bytes = amount_if(mine, size);
+    Costs {
+        firsts,
+        finished,
+        replaced,
+        dropped,
+        pending: 0,
+        payload,
+        bytes,
+    }
+}
+
+// What a packet and what was told of it add.
+pub fn report_with(packet: &[u8], answer: Answer) -> CostReport
+    ensures { λ r. ⌜ r ≡ reportWith (heard (now (packet .entry)) (told answer)) ⌝ }
+{
+    let marks = marks_of(answer);
+    let first = is_first(packet);
+    let size = packet.len() as u64;
+    let control = costs_of(is_of(packet, 0), first, marks, size);
+    let ota = costs_of(is_of(packet, 2), first, marks, size);
+    let alexa = costs_of(is_of(packet, 6), first, marks, size);
+    CostReport {
+        control,
+        ota,
+        alexa,
+    }
+}
+
+// How many of a stream's slots are open.
+fn open_among(lane: [Slot; 4]) -> u64
+    ensures { λ r. ⌜ r ≡ length (those opens lane) ⌝ }
+{
+    let a = one_if(lane[0].opens());
+    let b = one_if(lane[1].opens());
+    let c = one_if(lane[2].opens());
+    let d = one_if(lane[3].opens());
+    a + (b + (c + d))
+}
+
+fn open_costs(pending: u64) -> Costs
+    ensures { λ r. ⌜ r ≡ openCosts pending ⌝ }
+{
+    Costs {
+        firsts: 0,
+        finished: 0,
+        replaced: 0,
+        dropped: 0,
+        pending,
+        payload: 0,
+        bytes: 0,
+    }
+}
+
+// What the open slots of a row add.
+pub fn open_report(slots: [Slot; 12]) -> CostReport
+    ensures { λ r. ⌜ r ≡ openReport slots ⌝ }
+{
+    let control = open_costs(open_among(lane_of(slots, Stream::Control)));
+    let ota = open_costs(open_among(lane_of(slots, Stream::Ota)));
+    let alexa = open_costs(open_among(lane_of(slots, Stream::Alexa)));
+    CostReport {
+        control,
+        ota,
+        alexa,
+    }
+}
