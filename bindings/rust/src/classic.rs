@@ -214,7 +214,7 @@ pub fn write_frame<'o>(
 /// while !writer.has_ended() {
 ///     sent.extend_from_slice(writer.write(&mut payload, &mut output)?);
 /// }
-/// assert_eq!(sent, b"\xF0\x02\x00\x05stoke at three\x05\x4A\xF1");
+/// assert_eq!(sent, b"\xF0\x02\x00\x05stoke at three\x05\x55\xF1");
 /// # Ok::<(), Refusal>(())
 /// ```
 #[derive(Clone, Debug)]
