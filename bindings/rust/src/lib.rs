@@ -53,3 +53,8 @@ pub use refusal::{Refusal, Refused};
 pub use reply::Device;
 pub use sending::{ack, nack, Joined, Packet, Packets, Transaction};
 pub use up_to_eight::UpToEight;
+
+/// The README's example, run as a test.
+#[cfg(doctest)]
+#[doc = include_str!("../README.md")]
+struct Readme;

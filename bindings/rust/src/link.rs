@@ -145,7 +145,11 @@ impl<'a> Link<'a> {
                 id,
                 place,
                 replaced,
-                bytes: told::part(self.buffer, row.place * self.limit.get() as u64, row.total)?,
+                bytes: told::part(
+                    self.buffer,
+                    row.place.saturating_mul(self.limit.get() as u64),
+                    row.total,
+                )?,
                 ack: (row.ack_wanted == 1).then_some(ack),
             }),
             sizes::ACKED => Accepted::Ack {
