@@ -9,12 +9,16 @@ use core::num::NonZeroU16;
 /// ```
 /// use pitokaenge::{Limit, Refusal};
 ///
-/// // A limit that is known stands as a constant: one out of range does not compile.
 /// const LIMIT: Limit = Limit::of::<4096>();
 /// assert_eq!(LIMIT.get(), 4096);
-/// // One that is read is judged.
 /// assert_eq!(Limit::new(4096), Ok(LIMIT));
 /// assert_eq!(Limit::new(0), Err(Refusal::Limit));
+/// ```
+///
+/// A constant that is out of range does not compile:
+///
+/// ```compile_fail
+/// let limit = pitokaenge::Limit::of::<65_536>();
 /// ```
 #[derive(Clone, Copy, Debug, PartialEq, Eq, PartialOrd, Ord, Hash)]
 pub struct Limit(NonZeroU16);
