@@ -57,7 +57,10 @@ pub fn run<const WORDS: usize>(
     main_loop: impl FnOnce([OsString; WORDS]) -> Result<(), Failure>,
 ) -> ExitCode {
     ignore_file_size_signal();
-    let Ok(words) = env::args_os().skip(1).collect::<Vec<_>>().try_into() else {
+    let words = env::args_os().skip(1).collect::<Vec<_>>();
+    // A file's name that begins with '-' is written as ./-x.
+    let asks = words.first().is_some_and(|word| word.as_encoded_bytes().starts_with(b"-"));
+    let (false, Ok(words)) = (asks, words.try_into()) else {
         note(format_args!("usage: {usage}"));
         return ExitCode::from(2);
     };
