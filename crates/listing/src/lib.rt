@@ -24,7 +24,7 @@ ghost use Rattle.listing.specs.Listing.{bufferSize, endsBy, listed, list
 const ROOM: usize = 65541;
 
 // What is shown of a record: its place, stream and length, or its payload too.
-pub enum View {
+pub enum RecordView {
     Lengths,
     Payloads,
 }
@@ -36,7 +36,7 @@ pub struct Listed {
 }
 
 // What was listed, and what is written of it.
-pub struct Shown {
+pub struct ShownPart {
     pub listed: Listed,
     pub output: Output,
 }
@@ -69,12 +69,12 @@ fn say_record(output: Output, gone: u64, place: usize, stream: u8, size: usize) 
 }
 
 // The payload, where it is to be shown, and the end of the record's line.
-fn say_rest(output: Output, view: View, part: &[u8], start: usize, size: usize) -> Output {
+fn say_rest(output: Output, view: RecordView, part: &[u8], start: usize, size: usize) -> Output {
     let from = smaller(part.len(), start);
     let len = smaller(part.len() - from, size);
     match view {
-        View::Lengths => output.text(b"\n"),
-        View::Payloads => say_payload(output, &part[from..from + len]).text(b"\n"),
+        RecordView::Lengths => output.text(b"\n"),
+        RecordView::Payloads => say_payload(output, &part[from..from + len]).text(b"\n"),
     }
 }
 
@@ -114,37 +114,37 @@ fn is_cut(fault: Fault) -> bool
 }
 
 // The end of a part: of the file only where the part is its last.
-fn list_end(output: Output, gone: u64, place: usize, last: bool) -> Shown
+fn list_end(output: Output, gone: u64, place: usize, last: bool) -> ShownPart
     ensures { λ r. ⌜ r .listed ≡ listed last place ⌝ }
 {
     let listed = Listed { over: last, place };
     if last {
-        return Shown {
+        return ShownPart {
             listed,
             output: say_end(output, gone, place),
         };
     }
-    Shown { listed, output }
+    ShownPart { listed, output }
 }
 
 // A refusal in a part: a record that is cut short may go on in the next part.
-fn list_refusal(output: Output, fault: Fault, gone: u64, place: usize, last: bool) -> Shown
+fn list_refusal(output: Output, fault: Fault, gone: u64, place: usize, last: bool) -> ShownPart
     ensures { λ r. ⌜ r .listed ≡ listed (endsBy last (faultNumber fault)) place ⌝ }
 {
     if both(is_cut(fault), !last) {
-        return Shown {
+        return ShownPart {
             listed: Listed { over: false, place },
             output,
         };
     }
-    Shown {
+    ShownPart {
         listed: Listed { over: true, place },
         output: say_refused(output, fault.number(), gone, place),
     }
 }
 
 // A line for each whole record of a part, and one for the end or the refusal where the listing is over.
-pub fn list_part(output: Output, view: View, part: &[u8], gone: u64, last: bool) -> Shown
+pub fn list_part(output: Output, view: RecordView, part: &[u8], gone: u64, last: bool) -> ShownPart
     ensures { λ r. ⌜ r .listed ≡ listedOf (formatOf (now (part .entry))) last (now (part .entry)) ⌝ }
 {
     let mut said = output;
@@ -166,7 +166,7 @@ pub fn list_part(output: Output, view: View, part: &[u8], gone: u64, last: bool)
                 return list_end(said, gone, place, last);
             }
             Reading::BadPlace => {
-                return Shown {
+                return ShownPart {
                     listed: Listed {
                         over: true,
                         place: 0,
@@ -212,7 +212,7 @@ fn refill(buffer: &mut [u8], kept: usize) -> Refilled
 
 // Lists what standard input holds, up to a read or a write that fails. Nothing says that it ends, so the loop counts down from a number
 // that no run uses up.
-pub fn list(buffer: &mut [u8], view: View) {
+pub fn list(buffer: &mut [u8], view: RecordView) {
     let mut output = Output::new();
     let mut gone = 0;
     let mut filled = refill(buffer, 0);
