@@ -114,6 +114,19 @@ extern "C" {
         answer: *mut u64,
         answer_len: usize,
     ) -> u64;
+    pub fn pito_report_add(
+        report: *mut u64,
+        report_len: usize,
+        limit: u64,
+        row: *mut pito_slot,
+        row_len: usize,
+        buffer: *mut u8,
+        buffer_len: usize,
+        capture: *const u8,
+        capture_len: usize,
+        answer: *mut u64,
+        answer_len: usize,
+    ) -> u64;
     pub fn pito_envelope_read(
         message: *const u8,
         message_len: usize,
