@@ -101,6 +101,8 @@ calls! {
         out: &mut [u8]) -> Accept { outcome: u64, stream: u64, id: u64, sequence: u64, total: u64, ack_wanted: u64,
         replaced: u64, place: u64 };
     pito_capture_judge(capture: &[u8], room: u64, limit: u64) -> CaptureJudge { outcome: u64, place: u64 };
+    pito_report_add(report: &mut [u64], limit: u64, row: &mut [pito_slot], buffer: &mut [u8], capture: &[u8])
+        -> ReportAdd { place: u64 };
     pito_envelope_read(message: &[u8])
         -> EnvelopeRead { command: u64, payload: u64, error_code: u64, field: u64, start: u64, length: u64 };
     pito_envelope_write(command: u64, payload: u64, error_code: u64, field: u64, bytes: &[u8], output: &mut [u8])

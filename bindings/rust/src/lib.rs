@@ -10,6 +10,7 @@
 //! | the reply to the handshake | [`Device::reply`] |
 //! | the outbox file | [`Outbox`], [`Records`], [`write_as`] |
 //! | another sender, judged | [`judge`] |
+//! | what the radio cost, by captures | [`Report`] |
 //! | sizes of buffers and outputs | [`sizes`] |
 //! | refusals, by number | [`Refusal`], [`Refused`] |
 //!
@@ -36,6 +37,7 @@ mod link_numbers;
 mod outbox;
 mod refusal;
 mod reply;
+mod report;
 mod sending;
 pub mod sizes;
 mod told;
@@ -51,6 +53,7 @@ pub use link_numbers::{Limit, Room, Stream};
 pub use outbox::{read_record, whole, write_as, Outbox, Record, Records, Version};
 pub use refusal::{Refusal, Refused};
 pub use reply::Device;
+pub use report::{Costs, Report};
 pub use sending::{ack, nack, Joined, Packet, Packets, Transaction};
 pub use up_to_eight::UpToEight;
 

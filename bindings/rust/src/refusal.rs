@@ -60,6 +60,7 @@ refusals! {
     15 Argument: "an argument out of its range";
     17 Limit: "limit not 1 to 65,535";
     18 NoSlot: "first packet of an id that is not open, with no idle slot in its stream";
+    19 Sum: "a number of a report would be 2^64 or more";
     20 StartInside: "F0 inside a frame";
     21 FrameShort: "F1 in the header, or under 2 bytes stored";
     22 Header: "packet id not 02, error id not 00, F2 in the header";

@@ -114,5 +114,6 @@ pub(crate) const KIND_FOUR_BYTES: u64 = 5;
 pub(crate) const EXTRACTOR_STATE: usize = 4;
 pub(crate) const PARTS_STATE: usize = 7;
 pub(crate) const RECEIVER_STATE: usize = 1;
+pub(crate) const REPORT_STATE: usize = 21;
 pub(crate) const APPLY_ROW: usize = 57;
 pub(crate) const COMPONENT_ANSWER: usize = 6;
