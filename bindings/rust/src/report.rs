@@ -1,7 +1,7 @@
 //! What the radio cost: captures added up.
 
 use crate::calls::{self, Told};
-use crate::sizes::{receiver_buffer, REPORT_STATE, SLOTS};
+use crate::sizes::{receiver_buffer, REPORT_ROW, SLOTS};
 use crate::{Limit, Refusal, Refused, Slot, Stream};
 
 /// What the packets of captures were, added up by stream. The default is the empty report.
@@ -41,7 +41,7 @@ use crate::{Limit, Refusal, Refused, Slot, Stream};
 #[derive(Clone, Copy, Debug, Default, PartialEq, Eq)]
 pub struct Report {
     /// Seven for each stream: control, OTA, Alexa.
-    numbers: [u64; REPORT_STATE],
+    numbers: [u64; REPORT_ROW],
 }
 
 /// What the packets of one stream were. First packets are as many as were finished, replaced, dropped and left open.
@@ -94,7 +94,7 @@ impl Report {
             Stream::Ota => 1,
             Stream::Alexa => 2,
         };
-        let mut numbers = self.numbers.chunks_exact(REPORT_STATE / 3).skip(place);
+        let mut numbers = self.numbers.chunks_exact(REPORT_ROW / 3).skip(place);
         match numbers.next() {
             Some(&[firsts, finished, replaced, dropped, left_open, payload, bytes]) => Costs {
                 firsts,

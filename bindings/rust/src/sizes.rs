@@ -110,10 +110,10 @@ pub(crate) const KIND_VARINT: u64 = 0;
 pub(crate) const KIND_EIGHT_BYTES: u64 = 1;
 pub(crate) const KIND_BYTES: u64 = 2;
 pub(crate) const KIND_FOUR_BYTES: u64 = 5;
-// The lengths of the state rows, and of the row that an ApplyFirmware is written from.
+// The lengths of the state rows, of a report, and of the row that an ApplyFirmware is written from.
 pub(crate) const EXTRACTOR_STATE: usize = 4;
 pub(crate) const PARTS_STATE: usize = 7;
 pub(crate) const RECEIVER_STATE: usize = 1;
-pub(crate) const REPORT_STATE: usize = 21;
+pub(crate) const REPORT_ROW: usize = 21;
 pub(crate) const APPLY_ROW: usize = 57;
 pub(crate) const COMPONENT_ANSWER: usize = 6;
