@@ -37,12 +37,18 @@ EDITS = {
     "(lent link)": ("worked left balance order", "the link begins with the slots that are lent"),
     "(contents judged)": ("worked order", "a lent row that is not lawful is refused by 1"),
     "(19 clears)": ("worked", "19 clears the report"),
-    "(19 leaves)": ("worked", "19 leaves the row and the buffer as they were"),
     "(19 at once)": ("worked", "packets after the sum has passed 64 bits are not taken"),
     "(cut at the end)": ("worked", "a packet that is cut short ends the capture, and those before it are taken"),
     "(order with 19)": ("order", "some may be refused by 19"),
     "(refusing link)": ("worked", "the link refuses all"),
     "(nothing added)": ("worked", "the call leaves the report"),
+    "over_leaves_row": ("worked", "19 leaves the row and the buffer as they were"),
+    "(longer lent)": ("worked", "a longer row or a longer buffer is taken"),
+    "(65535 refused)": ("worked", "a limit of 65,535 is refused by 17"),
+    "(19 first)": ("worked order", "19 comes before the capture's own refusal"),
+    "(payload wraps)": ("worked", "payload bytes are cut to 64 bits"),
+    "(continued begins)": ("worked balance", "a piece of type 1 counts as a first packet"),
+    "(empty nowhere)": ("worked", "a message of no bytes counts nowhere"),
 }
 STREAMS = [0, 2, 6]
 EACH, SLOTS, MOST = 4, 12, 2 ** 64 - 1
@@ -122,7 +128,8 @@ def accepted(told):
 
 
 def begins(p, told):
-    return accepted(told) and (p[1] // 4 % 4 == 0 or edit == "(any packet begins)")
+    kind = p[1] // 4 % 4 if accepted(told) else None
+    return accepted(told) and (kind == 0 or edit == "(any packet begins)" or edit == "(continued begins)" and kind == 1)
 
 
 def finishes(told):
@@ -158,6 +165,9 @@ def costs(stream, heard):
     count = lambda test: sum(map(bool, map(test, mine)))
     numbers = [count(lambda h: begins(h[0], h[1]) or edit == "acks_begin" and h[1] == "ack"), count(lambda h: finishes(h[1])), count(lambda h: replaces(h[1])), count(lambda h: drops(h[1]))]
     numbers.append(0 if edit == "open_not_counted" else numbers[0] - sum(numbers[1:]) if edit == "(open by difference)" else count(lambda h: stays_open(*h)))
+    if edit == "(empty nowhere)":
+        empty = count(lambda h: finishes(h[1]) and h[1][1] == 0)
+        numbers[:2] = [numbers[0] - empty, numbers[1] - empty]
     numbers.append(sum(told[1] for p, told, later in mine if finishes(told)))
     more = 2 if edit == "(lengths count)" else 0
     numbers.append(sum(len(p) + more for p, told, later in mine if edit != "refused_bytes_left_out" or accepted(told)))
@@ -202,20 +212,24 @@ def run(limit, slots, buf, packets, report=None):
 
 
 def add(report, limit, slots, buf, capture):
-    if not 1 <= limit <= 65535:
+    if not 1 <= limit <= (65534 if edit == "(65535 refused)" else 65535):
         return (17, 0), report, slots, buf
-    if len(slots) != SLOTS or len(buf) != SLOTS * limit or edit == "(contents judged)" and not lawful(limit, slots):
+    wrong = len(slots) < SLOTS or len(buf) < SLOTS * limit if edit == "(longer lent)" else len(slots) != SLOTS or len(buf) != SLOTS * limit
+    if wrong or edit == "(contents judged)" and not lawful(limit, slots):
         return (1, 0), report, slots, buf
     packets = packets_of(capture)
     if isinstance(packets, tuple):
-        return packets, report, slots, buf
+        full = edit == "(19 first)" and max(n for numbers in report for n in numbers) == MOST
+        return (19, 0) if full else packets, report, slots, buf
     heard, row, after = run(limit, slots if edit == "(lent link)" else [IDLE] * SLOTS, buf, packets, report)
     total = plus(report, cost_of(heard))
+    if edit == "(payload wraps)":
+        total = [n[:5] + [n[5] % (MOST + 1)] + n[6:] for n in total]
     if edit == "(nothing added)":
         return None, report, row, after
     if not fits(total) and edit != "over_is_added":
         report = [[0] * 7] * 3 if edit == "(19 clears)" else report
-        return ((19, 0), report, slots, buf) if edit == "(19 leaves)" else ((19, 0), report, row, after)
+        return ((19, 0), report, slots, buf) if edit == "over_leaves_row" else ((19, 0), report, row, after)
     return None, total, row, after
 
 
@@ -234,6 +248,9 @@ ODD = [(1, 200, 99, 7, 0, 9)] * SLOTS
 BEGUN = lambda ident: (1, ident, 0, 0, 2, 1)
 MIXED = [first(3), first(3), [3, 0x14, 1, 1], [3], [0x71, 0], first(5), first(0x20, 1), [0x60, 0x0E, 0, 2, 1, 0]]
 TWO = [first(3), first(5), first(5), [3, 0x18, 1, 8], first(4), [4, 0x28, 1, 8], [5], first(0x25, 1)]
+THREE = [[0x27, 0xF2, 0, 0, 3, 1, 10], [0x27, 0x0E, 0, 2, 1, 0], [0x27, 4, 2, 11], [0x67, 0, 0, 0, 3, 1, 10], [0x27, 4, 1, 11], [0x67, 0x14, 1, 11],
+         [0x28, 0, 0, 0, 0, 0], [0x27, 0x18, 1, 12]]
+FULL = [[MOST] * 7] * 3
 FIVE = [first(0x60 + i) for i in range(1, 6)] + [first(0x61, 1), [0x21, 0x0C, 0, 2, 1, 3], first(0x11)]
 
 
@@ -244,7 +261,7 @@ def worked(r):
     wrote = lambda *runs: [next((b for at, b in runs if at == i), 0xEE) for i in range(24)]
     rows = [
         (EMPTY, MIXED, None, [[3, 0, 1, 1, 1, 0, 26], [1, 1, 0, 0, 0, 1, 7], [0] * 6 + [6]], left((0, BEGUN(5))), wrote((0, 7), (8, 9))),
-        ([[1, 2, 3, 4, 5, 6, 7], NONE, [0] * 6 + [9]], TWO, None, [[5, 3, 4, 5, 6, 8, 44], [1, 1, 0, 0, 0, 1, 7], [0] * 6 + [9]], left((1, BEGUN(5))),
+        ([list(range(n, n + 7)) for n in (1, 11, 21)], TWO, None, [[5, 3, 4, 5, 6, 8, 44], [12, 13, 13, 14, 15, 17, 24], list(range(21, 28))], left((1, BEGUN(5))),
          wrote((0, 7), (1, 8), (2, 7), (8, 9))),
         (EMPTY, FIVE, None, [NONE, [0] * 6 + [6], [5, 1, 1, 0, 3, 1, 42]], left((9, BEGUN(2)), (10, BEGUN(3)), (11, BEGUN(4))),
          wrote((16, 9), (18, 7), (20, 7), (22, 7))),
@@ -253,11 +270,18 @@ def worked(r):
         (near(MOST - 7), [first(3)], None, [[1, 0, 0, 0, 1, 0, MOST], NONE, NONE], left((0, BEGUN(3))), wrote((0, 7))),
         ([[MOST] + [0] * 6, NONE, NONE], [first(3), first(0x20, 1)], (19, 0), [[MOST] + [0] * 6, NONE, NONE], left((0, BEGUN(3))), wrote((0, 7), (8, 9))),
     ]
+    paid = [NONE, NONE, [0] * 5 + [MOST, 0]]
+    rows.append((paid, [first(0x61, 1)], (19, 0), paid, left(), wrote((16, 9))))
+    pieces = add(EMPTY, 3, ODD, [0xEE] * 36, captured(THREE))
+    told = [NONE, [2, 2, 0, 0, 0, 3, 31], [1, 0, 0, 0, 1, 0, 11]]
+    bytes_left = [{12: 10, 13: 11, 14: 12, 24: 10, 25: 11}.get(i, 0xEE) for i in range(36)]
     keeps = [(2, ODD, lent, captured([first(3)]) + more, why) for more, why in (([0, 0], (42, 10)), ([0, 2, 3], (41, 10)))]
     keeps += [(0, [], [], [], (17, 0)), (65536, ODD, lent, [], (17, 0)), (2, ODD[:11], lent, [], (1, 0)), (2, ODD, lent[:23], [], (1, 0))]
     keeps += [(2, ODD, lent, capture, (40, 0)) for capture in ([], [2])]
+    keeps += [(65535, ODD, lent, [], (1, 0)), (1, ODD, lent, [], (1, 0)), (2, ODD + ODD[:1], lent, captured(MIXED), (1, 0)), (2, ODD, lent + [0xEE], captured(MIXED), (1, 0))]
     return (all(add(before, 2, ODD, lent, captured(packets)) == (told, report, row, buf) for before, packets, told, report, row, buf in rows)
-            and all(add(EMPTY, limit, row, buf, capture) == (why, EMPTY, row, buf) for limit, row, buf, capture, why in keeps))
+            and pieces == (None, told, left((8, (1, 7, 1, 0, 3, 2))), bytes_left)
+            and all(add(FULL, limit, row, buf, capture) == (why, FULL, row, buf) for limit, row, buf, capture, why in keeps))
 
 
 def any_packets(r, limit):

@@ -194,6 +194,19 @@ impl<'i> Comparison<'i> {
         Box::new(Difference(text))
     }
 
+    /// Adds what another comparison has counted.
+    pub fn absorb(&mut self, other: &Comparison<'_>) {
+        self.calls += other.calls;
+        let others = other.met.iter().chain(other.outcomes.iter().flatten());
+        let own = self
+            .met
+            .iter_mut()
+            .chain(self.outcomes.iter_mut().flatten());
+        for (sum, more) in own.flatten().zip(others.flatten()) {
+            *sum += more;
+        }
+    }
+
     /// The operations and numbers returned that no call has met.
     pub fn never_met(&self) -> Vec<String> {
         let mut missing = Vec::new();

@@ -628,8 +628,8 @@ impl Operation {
     }
 }
 
-/// Somebody who answers calls.
-pub trait Implementation {
+/// Somebody who answers calls, also of several threads at a time.
+pub trait Implementation: Sync {
     fn name(&self) -> &str;
 
     /// One call: returns 0 or the refusal number; `state`, what is lent and `answer` are what it left.

@@ -3,17 +3,21 @@
 
 use second::classic;
 use second::comparison::{Compared, Comparison};
-use second::driver::{captures, judged, listing, reports, run_part, Plan, PARTS};
+use second::driver::{captures, judged, listing, reports, run_part, Part, Plan, PARTS};
 use second::face::Model;
 use second::implementation::Implementation;
 use second::judge;
 use std::io::{Read, Write};
 use std::path::PathBuf;
 use std::process::ExitCode;
+use std::sync::atomic::{AtomicUsize, Ordering};
 use std::time::Instant;
 
-/// Takes about a minute of one core for the model and another implementation as fast as it.
+/// Takes some three minutes of processor time for the model and the library.
 const SCALE: f64 = 5.0;
+
+/// How many parts are run at a time.
+const AT_A_TIME: usize = 2;
 
 const USAGE: &str = "\
 usage: second [--seed N] [--scale K] [--captures FOLDER] [--frames PROGRAM] [--lawful PROGRAM]
@@ -111,9 +115,8 @@ fn main() -> ExitCode {
         #[cfg(feature = "library")]
         &second::library::Library,
     ];
-    let mut comparison = Comparison::new(&implementations);
-    match run(&mut comparison, &wanted, &captures) {
-        Ok(()) => finish(&comparison, &wanted),
+    match run(&implementations, &wanted, &captures) {
+        Ok(comparison) => finish(&comparison, &wanted),
         Err(difference) => {
             let Plan { seed, scale } = wanted.plan;
             eprint!("{}", difference.0);
@@ -140,29 +143,46 @@ fn programs(wanted: &Wanted, captures: &[captures::Capture]) -> Result<(), Strin
     Ok(())
 }
 
-fn run(
-    comparison: &mut Comparison<'_>,
+/// The captures, then the parts, some at a time, each thread on a comparison of its own.
+fn run<'i>(
+    implementations: &[&'i dyn Implementation],
     wanted: &Wanted,
     captures: &[captures::Capture],
-) -> Compared<()> {
+) -> Compared<Comparison<'i>> {
+    let mut comparison = Comparison::new(implementations);
     let Plan { seed, scale } = wanted.plan;
     println!(
         "implementations: {}; seed {seed}, scale {scale}",
         comparison.names().join(", ")
     );
     if "captures".contains(&wanted.only) {
-        timed("captures", comparison, |comparison| {
+        timed("captures", &mut comparison, |comparison| {
             captures
                 .iter()
                 .try_for_each(|capture| captures::run(comparison, capture))
         })?;
     }
-    for part in PARTS.iter().filter(|part| part.name.contains(&wanted.only)) {
-        timed(part.name, comparison, |comparison| {
-            run_part(part, comparison, wanted.plan)
-        })?;
-    }
-    Ok(())
+    let named = |part: &&Part| part.name.contains(&wanted.only);
+    let parts: Vec<&Part> = PARTS.iter().filter(named).collect();
+    let next = AtomicUsize::new(0);
+    let work = || -> Compared<Comparison<'i>> {
+        let mut comparison = Comparison::new(implementations);
+        while let Some(part) = parts.get(next.fetch_add(1, Ordering::Relaxed)) {
+            timed(part.name, &mut comparison, |comparison| {
+                run_part(part, comparison, wanted.plan)
+            })
+            // After a difference no part is begun.
+            .inspect_err(|_| next.store(parts.len(), Ordering::Relaxed))?;
+        }
+        Ok(comparison)
+    };
+    std::thread::scope(|scope| {
+        let threads: Vec<_> = (0..AT_A_TIME).map(|_| scope.spawn(work)).collect();
+        for thread in threads {
+            comparison.absorb(&thread.join().expect("no thread panics")?);
+        }
+        Ok(comparison)
+    })
 }
 
 /// Runs a part and says how long it took.

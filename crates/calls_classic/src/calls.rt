@@ -1,16 +1,20 @@
 // Classic for C: the extractor and the frame writer.
+use crate::convert::ALL_USED;
 use crate::convert::BAD_LIMIT;
 use crate::convert::FEED_ANSWER;
+use crate::convert::FRAME;
+use crate::convert::NOTHING;
 use crate::convert::STATE;
 use crate::convert::STEP_ANSWER;
 use crate::convert::extractor_of;
 use crate::convert::extractor_row;
-use crate::convert::feed_reply;
 use crate::convert::frame_count;
 use crate::convert::is_extractor;
+use crate::convert::put_progress;
 use crate::convert::step_reply;
 use extractor::state::Extractor;
 use extractor::state::OpenedExtractor;
+use feed::many::FeedOutcome;
 use feed::many::feed;
 use frame_writer::writer::write_frame;
 use framing::header;
@@ -32,7 +36,7 @@ ghost use Rattle.extractor.specs.Step.{byteStepOf};
 ghost use Rattle.feed.specs.Feed.{feedOf};
 ghost use Rattle.rows.specs.Called.{called};
 ghost use Rattle.calls_classic.specs.Convert.{isExtractor, extractorOf};
-ghost use Rattle.calls_classic.specs.Calls.{extractorOpenOf, stepped, extractorStepOf, fedCall, extractorFeedOf, frameWriteOf, nextSequenceOf};
+ghost use Rattle.calls_classic.specs.Calls.{extractorOpenOf, stepped, extractorStepOf, fedCall, noneUsed, extractorFeedOf, frameWriteOf, nextSequenceOf};
 
 // Opens an extractor for a link with a limit: its empty state.
 pub fn extractor_open(limit: u64, state: &mut [u64]) -> u64
@@ -78,14 +82,25 @@ fn step_fitting(state: &mut [u64], buffer: &mut [u8], byte: u8, answer: &mut [u6
     let reply = step_reply(outcome);
     let number = reply.number;
     let next = done.next;
-    let kept = extractor_row(next);
+    let progress = next.progress;
     let row = [reply.outcome, reply.sequence, reply.length];
-    put(state, number, &kept);
+    put_progress(state, number, progress);
     put(answer, number, &row);
     number
 }
 
-// Many bytes given to the extractor. The answer row tells 0 used under 1, where it has its length.
+// What a feed answers that is refused by 1, over an answer row of its length.
+fn unfit_feed(answer: &mut [u64]) -> u64
+    requires { ⌜ length (now answer) ≡ 4 ⌝ }
+    ensures { λ r. ⌜ (r ≡ 1) × (now (answer .exit) ≡ noneUsed (now (answer .entry))) ⌝ }
+{
+    let row = [0u64; 4];
+    write_row(answer, &row);
+    UNFIT
+}
+
+// Many bytes given to the extractor. The answer row tells 0 used under 1, where it has its length. State and buffer are
+// judged here as well as in `feed`: the compiler then judges them once, and keeps nothing for 1 through the bytes.
 pub fn extractor_feed(state: &mut [u64], buffer: &mut [u8], bytes: &[u8], answer: &mut [u64]) -> u64
     ensures { λ r. ⌜ called r (now (state .exit)) (now (buffer .exit)) (now (answer .exit))
         ≡ extractorFeedOf (now (state .entry)) (now (buffer .entry)) (now (bytes .entry)) (now (answer .entry)) ⌝ }
@@ -94,14 +109,17 @@ pub fn extractor_feed(state: &mut [u64], buffer: &mut [u8], bytes: &[u8], answer
         return UNFIT;
     }
     if !is_extractor(state) {
-        let row = [0u64; 4];
-        write_row(answer, &row);
-        return UNFIT;
+        return unfit_feed(answer);
+    }
+    let there = extractor_of(state);
+    let progress = there.progress;
+    if !progress.is_ready(there.limit, buffer.len()) {
+        return unfit_feed(answer);
     }
     feed_fitting(state, buffer, bytes, answer)
 }
 
-// The same with rows that fit.
+// The same with rows that fit. Each outcome writes its own row: to choose one first costs more.
 fn feed_fitting(state: &mut [u64], buffer: &mut [u8], bytes: &[u8], answer: &mut [u64]) -> u64
     requires { ⌜ (isExtractor (now state) ≡ true) × (length (now answer) ≡ 4) ⌝ }
     ensures { λ r. ⌜ called r (now (state .exit)) (now (buffer .exit)) (now (answer .exit))
@@ -110,16 +128,31 @@ fn feed_fitting(state: &mut [u64], buffer: &mut [u8], bytes: &[u8], answer: &mut
         (feedOf (x .limit) (x .progress) (now (buffer .entry)) (now (bytes .entry)))) ⌝ }
 {
     let done = feed(extractor_of(state), buffer, bytes);
-    let outcome = done.outcome;
-    let reply = feed_reply(outcome);
-    let number = reply.number;
     let next = done.next;
-    let kept = extractor_row(next);
+    let progress = next.progress;
     let used = done.used as u64;
-    let row = [reply.outcome, used, reply.sequence, reply.length];
-    put(state, number, &kept);
-    write_row(answer, &row);
-    number
+    let outcome = done.outcome;
+    match outcome {
+        FeedOutcome::AllUsed => {
+            let row = [ALL_USED, used, 0, 0];
+            put_progress(state, DONE, progress);
+            write_row(answer, &row);
+            DONE
+        }
+        FeedOutcome::Frame { sequence, len } => {
+            let row = [FRAME, used, wide64(sequence), len as u64];
+            put_progress(state, DONE, progress);
+            write_row(answer, &row);
+            DONE
+        }
+        FeedOutcome::Refused(why) => {
+            let number = wide64(why.number());
+            let row = [NOTHING, used, 0, 0];
+            put_progress(state, number, progress);
+            write_row(answer, &row);
+            number
+        }
+    }
 }
 
 // Writes the frame of a payload, for a link with a limit.

@@ -3,20 +3,21 @@ use extractor::outcome::StepOutcome;
 use extractor::state::Extractor;
 use extractor::state::Phase;
 use extractor::state::Progress;
-use feed::many::FeedOutcome;
 use frame_writer::writer::WriteOutcome;
 use rows::row::BYTES;
 use rows::row::Count;
 use rows::row::DONE;
-use rows::row::number_at;
+use rows::row::UNFIT;
+use rows::row::fill;
 use wire::bytes::wide64;
 use wire::logic::both;
 ghost use mathlib.Core.Path.{_≡_};
 ghost use mathlib.Core.Bool.{true};
+ghost use mathlib.Core.List.{[], _∷_};
 ghost use Rattle.extractor.specs.Outcome.{told};
-ghost use Rattle.feed.specs.Feed.{toldFeed};
 ghost use Rattle.frame_writer.specs.Writer as writer;
-ghost use Rattle.rows.specs.Row.{countOf};
+ghost use lib.ListN.{length, getD};
+ghost use Rattle.rows.specs.Row.{afterwards, countOf};
 ghost use Rattle.calls_classic.specs.Convert.{phaseNumber, phaseOf, isExtractor, extractorOf, extractorRow, reply, replyOf};
 
 // The numbers of a state row, and how many phases there are.
@@ -37,11 +38,11 @@ const SKIPPED: u64 = 0;
 
 const TAKEN: u64 = 1;
 
-const FRAME: u64 = 2;
+pub const FRAME: u64 = 2;
 
-const ALL_USED: u64 = 0;
+pub const ALL_USED: u64 = 0;
 
-const NOTHING: u64 = 0;
+pub const NOTHING: u64 = 0;
 
 // What a call answers: the number that it returns, and what the row tells.
 pub struct ClassicAnswer {
@@ -85,12 +86,14 @@ fn phase_of(n: u64) -> Phase
     Phase::Escaped
 }
 
-// Whether a row has numbers that a state can have.
+// Whether a row has numbers that a state can have. Its length first: otherwise each number is read by a test of its own.
 pub fn is_extractor(row: &[u64]) -> bool
     ensures { λ r. ⌜ r ≡ isExtractor (now (row .entry)) ⌝ }
 {
-    let numbers = both(number_at(row, 1) < PHASES, number_at(row, 2) < BYTES);
-    both(row.len() == STATE, numbers)
+    if row.len() != STATE {
+        return false;
+    }
+    both(row[1] < PHASES, row[2] < BYTES)
 }
 
 pub fn extractor_of(row: &[u64]) -> Extractor
@@ -108,6 +111,30 @@ pub fn extractor_of(row: &[u64]) -> Extractor
             sequence,
             held,
         },
+    }
+}
+
+// The numbers of a state row after the limit.
+fn progress_row(progress: Progress) -> [u64; 3]
+    ensures { λ r. ⌜ r ≡ phaseNumber (progress .phase) ∷ progress .sequence ∷ progress .held ∷ [] ⌝ }
+{
+    let phase = progress.phase;
+    [
+        phase_number(phase),
+        wide64(progress.sequence),
+        progress.held as u64,
+    ]
+}
+
+// Writes the progress of a state row, unless the call is refused by 1; the limit stays.
+pub fn put_progress(row: &mut [u64], number: u64, progress: Progress)
+    requires { ⌜ length (now row) ≡ 4 ⌝ }
+    ensures { λ _. ⌜ now (row .exit)
+        ≡ afterwards number (now (row .entry)) (extractorRow (getD (now (row .entry)) 0 0) progress) ⌝ }
+{
+    if number != UNFIT {
+        let numbers = progress_row(progress);
+        fill(row, 1, &numbers);
     }
 }
 
@@ -145,16 +172,6 @@ pub fn step_reply(outcome: StepOutcome) -> ClassicAnswer
         StepOutcome::Taken => ClassicAnswer::new(DONE, TAKEN, 0, 0),
         StepOutcome::Frame { sequence, len } => ClassicAnswer::new(DONE, FRAME, sequence, len),
         StepOutcome::Refused(why) => ClassicAnswer::new(wide64(why.number()), NOTHING, 0, 0),
-    }
-}
-
-pub fn feed_reply(outcome: FeedOutcome) -> ClassicAnswer
-    ensures { λ r. ⌜ r ≡ replyOf (toldFeed outcome) ⌝ }
-{
-    match outcome {
-        FeedOutcome::AllUsed => ClassicAnswer::new(DONE, ALL_USED, 0, 0),
-        FeedOutcome::Frame { sequence, len } => ClassicAnswer::new(DONE, FRAME, sequence, len),
-        FeedOutcome::Refused(why) => ClassicAnswer::new(wide64(why.number()), NOTHING, 0, 0),
     }
 }
 

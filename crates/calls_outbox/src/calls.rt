@@ -2,8 +2,8 @@
 use crate::convert::APPEND_ANSWER;
 use crate::convert::RECORD_ANSWER;
 use crate::convert::WHOLE_ANSWER;
-use crate::convert::append_row;
 use crate::convert::created_count;
+use crate::convert::tell_append;
 use crate::convert::tell_record;
 use crate::convert::whole_row;
 use outbox::reader;
@@ -48,10 +48,7 @@ pub fn outbox_append(
     }
     let known = byte_or(OUT_OF_RANGE, stream);
     let appended = writer::append(buffer, used as usize, known, payload);
-    let number = wide64(appended.number());
-    let row = append_row(appended);
-    put(answer, number, &row);
-    number
+    tell_append(answer, appended)
 }
 
 // Reads the record at a place.

@@ -48,25 +48,54 @@ pub fn created_count(created: Created) -> Count
     }
 }
 
-pub fn append_row(appended: Appended) -> [u64; 2]
-    ensures { λ r. ⌜ r ≡ usedRow (writings.told appended) ⌝ }
+// Tells a refusal in an answer row, and returns its number.
+fn refuse(answer: &mut [u64], why: u8, row: &[u64]) -> u64
+    requires { ⌜ length (now answer) ≡ length (now row) ⌝ }
+    ensures { λ r. ⌜ (r ≡ why) × (now (answer .exit) ≡ afterwards why (now (answer .entry)) (now (row .entry))) ⌝ }
 {
+    let number = wide64(why);
+    put(answer, number, row);
+    number
+}
+
+// Tells what was appended in an answer row, and returns its number. Each arm, and each fault, writes its own row: to choose
+// one first, or a place, costs more.
+pub fn tell_append(answer: &mut [u64], appended: Appended) -> u64
+    requires { ⌜ length (now answer) ≡ 2 ⌝ }
+    ensures { λ r. ⌜ (r ≡ numberIn (writings.told appended))
+        × (now (answer .exit)
+        ≡ afterwards (numberIn (writings.told appended)) (now (answer .entry)) (usedRow (writings.told appended))) ⌝ }
+{
+    let zeros = [0u64; 2];
     match appended {
-        Appended::Used(n) => [n as u64, 0],
-        Appended::BeyondBuffer => [0, 0],
-        Appended::BadRecord => [0, 0],
-        Appended::NoRoom => [0, 0],
-        Appended::Broken { fault, place } => [0, cut_place(fault, place)],
+        Appended::Used(n) => {
+            let row = [n as u64, 0];
+            put(answer, DONE, &row);
+            DONE
+        }
+        Appended::BeyondBuffer => refuse(answer, appended.number(), &zeros),
+        Appended::BadRecord => refuse(answer, appended.number(), &zeros),
+        Appended::NoRoom => refuse(answer, appended.number(), &zeros),
+        Appended::Broken { fault, place } => match fault {
+            Fault::Version => refuse(answer, fault.number(), &zeros),
+            Fault::Length => refuse(answer, fault.number(), &zeros),
+            Fault::Cut => {
+                let row = [0, place as u64];
+                refuse(answer, fault.number(), &row)
+            }
+            Fault::Stream => refuse(answer, fault.number(), &zeros),
+        }
     }
 }
 
-// Tells what was read in an answer row, and returns its number. Each arm writes its own row: to choose one first costs more.
+// Tells what was read in an answer row, and returns its number. As in tell_append, each arm writes its own row.
 pub fn tell_record(answer: &mut [u64], reading: Reading) -> u64
     requires { ⌜ length (now answer) ≡ 6 ⌝ }
     ensures { λ r. ⌜ (r ≡ numberIn (readings.told reading))
         × (now (answer .exit)
         ≡ afterwards (numberIn (readings.told reading)) (now (answer .entry)) (recordRow (readings.told reading))) ⌝ }
 {
+    let zeros = [0u64; 6];
     match reading {
         Reading::Record {
             stream,
@@ -80,21 +109,18 @@ pub fn tell_record(answer: &mut [u64], reading: Reading) -> u64
             DONE
         }
         Reading::End => {
-            let row = [0u64; 6];
-            put(answer, DONE, &row);
+            put(answer, DONE, &zeros);
             DONE
         }
-        Reading::BadPlace => {
-            let number = wide64(reading.number());
-            let row = [0u64; 6];
-            put(answer, number, &row);
-            number
-        }
-        Reading::Broken { fault, place } => {
-            let number = wide64(reading.number());
-            let row = [0, 0, 0, 0, 0, cut_place(fault, place)];
-            put(answer, number, &row);
-            number
+        Reading::BadPlace => refuse(answer, reading.number(), &zeros),
+        Reading::Broken { fault, place } => match fault {
+            Fault::Version => refuse(answer, fault.number(), &zeros),
+            Fault::Length => refuse(answer, fault.number(), &zeros),
+            Fault::Cut => {
+                let row = [0, 0, 0, 0, 0, place as u64];
+                refuse(answer, fault.number(), &row)
+            }
+            Fault::Stream => refuse(answer, fault.number(), &zeros),
         }
     }
 }

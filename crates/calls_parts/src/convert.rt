@@ -6,7 +6,6 @@ use parts::state::Stage;
 use parts::writer::PartOutcome;
 use rows::row::BYTES;
 use rows::row::DONE;
-use rows::row::number_at;
 use wire::bytes::wide64;
 use wire::logic::both;
 ghost use mathlib.Core.Path.{_≡_};
@@ -102,14 +101,16 @@ fn pending_of(n: u64) -> Kind
     Kind::Plain
 }
 
-// Whether a row has numbers that a state can have.
+// Whether a row has numbers that a state can have. Its length first: otherwise each number is read by a test of its own.
 pub fn is_state(row: &[u64]) -> bool
     ensures { λ r. ⌜ r ≡ isState (now (row .entry)) ⌝ }
 {
-    let ends = both(number_at(row, 5) < STAGES, number_at(row, 6) < PENDING);
-    let sums = both(number_at(row, 4) < SUMS, ends);
-    let numbers = both(number_at(row, 1) < BYTES, sums);
-    both(row.len() == STATE, numbers)
+    if row.len() != STATE {
+        return false;
+    }
+    let ends = both(row[5] < STAGES, row[6] < PENDING);
+    let sums = both(row[4] < SUMS, ends);
+    both(row[1] < BYTES, sums)
 }
 
 pub fn state_of(row: &[u64]) -> PartWriter

@@ -79,10 +79,18 @@ impl Progress {
             ≡ performOf limit self (now (buffer .entry)) b action) ⌝ }
     {
         match action {
-            Action::Skip => Advanced {
-                outcome: StepOutcome::Skipped,
-                next: self,
-            },
+            // The state is made by its fields: one moved whole takes its padding along, through memory.
+            Action::Skip => {
+                let phase = self.phase;
+                Advanced {
+                    outcome: StepOutcome::Skipped,
+                    next: Progress {
+                        phase,
+                        sequence: self.sequence,
+                        held: self.held,
+                    },
+                }
+            }
             Action::Begin => Advanced {
                 outcome: StepOutcome::Taken,
                 next: Progress::begun(),

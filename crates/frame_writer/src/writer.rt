@@ -12,7 +12,7 @@ use framing::mark::kind_of;
 use wire::limit::limit_fits;
 use wire::scan::copy_clear;
 ghost use mathlib.Core.Path.{_≡_};
-ghost use mathlib.Core.Bool.{true};
+ghost use mathlib.Core.Bool.{true, false};
 ghost use mathlib.Core.List.{[], _∷_, _++_};
 ghost use Prim.Native.Nat.{_+_, _-_, _≤_, _<_};
 ghost use lib.ListN.{length, drop};
@@ -20,7 +20,7 @@ ghost use lib.Dec.{leb};
 ghost use lib.Seq.{sets};
 ghost use Rattle.wire.specs.Told.{written};
 ghost use Rattle.wire.specs.Limit.{limitFits};
-ghost use Rattle.framing.specs.Mark.{escapeMark, kindOf};
+ghost use Rattle.framing.specs.Mark.{escapeMark, kindOf, isMark};
 ghost use Rattle.framing.specs.Frame.{escapedBy, escapedOf, headerOf, framed};
 ghost use Rattle.frame_writer.specs.Writer.{numberOf, told, writeOf, Left};
 
@@ -176,15 +176,12 @@ fn has_room(sequence: u8, payload: &[u8], high: u8, low: u8, room: usize) -> boo
     5 + escaped_size(payload) + width(high) + width(low) <= room
 }
 
-// Writes the frame of a payload, for a link with a limit in its range.
+// Writes the frame of a payload, for a link with a limit in its range and a sequence that is no mark.
 fn write_within(sequence: u8, limit: usize, payload: &[u8], out: &mut [u8]) -> WriteOutcome
-    requires { ⌜ limitFits limit ≡ true ⌝ }
+    requires { ⌜ (limitFits limit ≡ true) × (isMark sequence ≡ false) ⌝ }
     ensures { λ r. ⌜ written (told r) (now (out .exit))
         ≡ writeOf limit sequence (now (payload .entry)) (now (out .entry)) ⌝ }
 {
-    if is_mark(sequence) {
-        return WriteOutcome::Refused(Refusal::BadArgument);
-    }
     if limit < payload.len() {
         return WriteOutcome::Refused(Refusal::BadArgument);
     }
@@ -198,11 +195,18 @@ fn write_within(sequence: u8, limit: usize, payload: &[u8], out: &mut [u8]) -> W
     }
 }
 
-// Writes the frame of a payload, for a link with a limit.
+// Writes the frame of a payload, for a link with a limit. The sequence is looked at first: right before the payload's length
+// the compiler makes one test of both, which costs more.
 pub fn write_frame(sequence: u8, limit: usize, payload: &[u8], out: &mut [u8]) -> WriteOutcome
     ensures { λ r. ⌜ written (told r) (now (out .exit))
         ≡ writeOf limit sequence (now (payload .entry)) (now (out .entry)) ⌝ }
 {
+    if is_mark(sequence) {
+        if limit_fits(limit) {
+            return WriteOutcome::Refused(Refusal::BadArgument);
+        }
+        return WriteOutcome::Refused(Refusal::BadLimit);
+    }
     if limit_fits(limit) {
         write_within(sequence, limit, payload, out)
     } else {

@@ -96,6 +96,7 @@ pub fn walk_records(file: &[u8], fmt: Format) -> Walked
 }
 
 // The same before an append: an outbox that has its version byte alone, which is what a box appends to, is not walked.
+// Slice and format are made anew, so that they are put into memory only where it is.
 pub fn walk_used(file: &[u8], fmt: Format) -> Walked
     requires { ⌜ Known fmt × (otherVersion fmt (now file) ≡ false) ⌝ }
     ensures { λ r. ⌜ toldWalk r ≡ walkOf fmt (now (file .entry)) ⌝ }
@@ -103,5 +104,10 @@ pub fn walk_used(file: &[u8], fmt: Format) -> Walked
     if file.len() == FIRST_PLACE {
         return Walked::Whole;
     }
-    walk_records(file, fmt)
+    let anew = Format {
+        version: fmt.version,
+        width: fmt.width,
+        limit: fmt.limit,
+    };
+    walk_records(&file[0..], anew)
 }

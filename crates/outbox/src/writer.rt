@@ -19,6 +19,11 @@ ghost use Rattle.outbox.specs.Format.{versionTwo, Known, formatOf, headS
 ghost use Rattle.outbox.specs.Reader.{numberIn, otherVersion};
 ghost use Rattle.outbox.specs.Writer.{stored, newOf, badRecord, appendOf, toldNew, told};
 
+// The bits of a pair of bytes, and how many numbers they have.
+const PAIR_BITS: usize = 16;
+
+const PAIRS: usize = 65536;
+
 // The used bytes of a new outbox, or no room for it.
 pub enum Created {
     Used(usize),
@@ -87,8 +92,9 @@ fn put_length(buffer: &mut [u8], at: usize, fmt: Format, n: usize)
     if fmt.width == 2 {
         put_pair(buffer, at, n);
     } else {
-        put_pair(buffer, at, n / 65536);
-        put_pair(buffer, at + 2, n % 65536);
+        let high = n >> PAIR_BITS;
+        put_pair(buffer, at, high);
+        put_pair(buffer, at + 2, n - high * PAIRS);
     }
 }
 

@@ -12,11 +12,8 @@ returns c = rw (ne-eqb _ _ (c .if1 .taken))
 is-extractor-requires : tie.Need-is-extractor-requires
 is-extractor-requires c κs = search needs
 
-slice-aggregate-write-row : tie.Need-slice-aggregate-write-row
-slice-aggregate-write-row c = search needs
-
-write-row-requires : tie.Need-write-row-requires
-write-row-requires c κs = search needs
+unfit-feed-requires : tie.Need-unfit-feed-requires
+unfit-feed-requires c κs = search needs
 
 same-length : tie.Need-same-length
 same-length c = search needs
@@ -25,20 +22,17 @@ same-length-2 : tie.Need-same-length-2
 same-length-2 c = search needs
 
 returns-2 : tie.Need-returns-2
-unfolding extractorFeedOf noneUsed
-returns-2 c =
-    let unfit = c .before .before .before .before .before in
-    rw (
-      eq-eqb _ _ (unfit .before .before .before .if1 .left),
-      ← (unfit .before .is-extractor .ensures),
-      not-true (unfit .before .is-extractor .result) (unfit .if2 .taken),
-      c .before .before .write-row .ensures,
-    )
+unfolding extractorFeedOf
+returns-2 c = rw (eq-eqb _ _ (c .before .before .before .before .before .before .before .if1 .left), ← (c .before .before .before .before .before .is-extractor .ensures), not-true (c .before .before .before .before .before .is-extractor .result) (c .before .before .before .before .if2 .taken), c .before .before .unfit-feed .ensures .0, c .before .before .unfit-feed .ensures .1)
 
-feed-fitting-requires : tie.Need-feed-fitting-requires
-feed-fitting-requires c κs =
-    let fit = c .before .before .before in
-    (sym (fit .before .is-extractor .ensures) ∙ not-false (fit .before .is-extractor .result) (fit .if2 .left), fit .before .before .before .if1 .left)
+extractor-of-requires : tie.Need-extractor-of-requires
+extractor-of-requires c κs = sym (c .before .before .is-extractor .ensures) ∙ not-false (c .before .before .is-extractor .result) (c .before .if2 .left)
+
+is-ready-requires : tie.Need-is-ready-requires
+is-ready-requires c κs = search needs
+
+unfit-feed-requires-2 : tie.Need-unfit-feed-requires-2
+unfit-feed-requires-2 c κs = search needs
 
 same-length-3 : tie.Need-same-length-3
 same-length-3 c = search needs
@@ -46,20 +40,25 @@ same-length-3 c = search needs
 same-length-4 : tie.Need-same-length-4
 same-length-4 c = search needs
 
+returns-3 : tie.Need-returns-3
+unfolding extractorFeedOf noneUsed
+returns-3 c = rw (c .before .before .unfit-feed2 .ensures .0, c .before .before .unfit-feed2 .ensures .1, eq-eqb _ _ (c .before .before .before .before .before .before .before .before .before .before .before .before .if1 .left), ← (c .before .before .before .before .before .before .before .before .before .before .is-extractor .ensures), not-false (c .before .before .before .before .before .before .before .before .before .before .is-extractor .result) (c .before .before .before .before .before .before .before .before .before .if2 .left), ← (c .before .before .before .before .before .before .before .extractor-of .ensures), ← (c .before .before .before .before .before .is-ready .ensures), not-true (c .before .before .before .before .before .is-ready .result) (c .before .before .before .before .if3 .taken))
+
+feed-fitting-requires : tie.Need-feed-fitting-requires
+feed-fitting-requires c κs = (sym (c .before .before .before .before .before .before .before .before .before .is-extractor .ensures) ∙ not-false (c .before .before .before .before .before .before .before .before .before .is-extractor .result) (c .before .before .before .before .before .before .before .before .if2 .left), c .before .before .before .before .before .before .before .before .before .before .before .if1 .left)
+
 same-length-5 : tie.Need-same-length-5
 same-length-5 c = search needs
 
-returns-3 : tie.Need-returns-3
+same-length-6 : tie.Need-same-length-6
+same-length-6 c = search needs
+
+same-length-7 : tie.Need-same-length-7
+same-length-7 c = search needs
+
+returns-4 : tie.Need-returns-4
 unfolding extractorFeedOf
-returns-3 c =
-    let done = c .before .before .before .before .before .before in
-    let fit = done .before .before .before .before in
-    rw (
-      eq-eqb _ _ (fit .before .before .before .if1 .left),
-      ← (fit .before .is-extractor .ensures),
-      not-false (fit .before .is-extractor .result) (fit .if2 .left),
-    )
-    (done .feed-fitting .ensures)
+returns-4 c = rw (eq-eqb _ _ (c .before .before .before .before .before .before .before .before .before .before .before .before .before .before .before .before .before .before .if1 .left), ← (c .before .before .before .before .before .before .before .before .before .before .before .before .before .before .before .before .is-extractor .ensures), not-false (c .before .before .before .before .before .before .before .before .before .before .before .before .before .before .before .before .is-extractor .result) (c .before .before .before .before .before .before .before .before .before .before .before .before .before .before .before .if2 .left)) (c .before .before .before .before .before .before .feed-fitting .ensures)
 
 pub extractor-feed-spec : {M : Type 1} → statement M
 extractor-feed-spec =
@@ -67,13 +66,18 @@ extractor-feed-spec =
     (tie.spec
     returns
     is-extractor-requires
-    slice-aggregate-write-row
-    write-row-requires
+    unfit-feed-requires
     same-length
     same-length-2
     returns-2
-    feed-fitting-requires
+    extractor-of-requires
+    is-ready-requires
+    unfit-feed-requires-2
     same-length-3
     same-length-4
+    returns-3
+    feed-fitting-requires
     same-length-5
-    returns-3)
+    same-length-6
+    same-length-7
+    returns-4)

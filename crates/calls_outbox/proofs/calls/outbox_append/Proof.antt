@@ -14,20 +14,8 @@ byte-or-requires c κs = search needs
 append-requires : tie.Need-append-requires
 append-requires c κs = search needs
 
-number-requires : tie.Need-number-requires
-number-requires c κs = search needs
-
-wide64-requires : tie.Need-wide64-requires
-wide64-requires c κs = search needs
-
-append-row-requires : tie.Need-append-row-requires
-append-row-requires c κs = search needs
-
-slice-aggregate-put : tie.Need-slice-aggregate-put
-slice-aggregate-put c = search needs
-
-put-requires : tie.Need-put-requires
-put-requires c κs = search needs
+tell-append-requires : tie.Need-tell-append-requires
+tell-append-requires c κs = search needs
 
 same-length : tie.Need-same-length
 same-length c = search needs
@@ -37,16 +25,7 @@ same-length-2 c = search needs
 
 returns-2 : tie.Need-returns-2
 unfolding outboxAppendOf
-returns-2 c =
-    rw (
-      eq-eqb _ _ (c .before .before .before .before .before .before .before .before .before .before .before .before .before .if1 .left),
-      ← (c .before .before .before .before .before .before .before .before .before .before .before .before .byte-or .ensures),
-      ← (c .before .before .before .before .before .before .before .before .before .before .append .ensures),
-      c .before .before .put .ensures,
-      c .before .before .before .before .before .before .wide64 .ensures .0,
-      c .before .before .before .before .before .before .before .number .ensures,
-      c .before .before .before .before .before .append-row .ensures,
-    )
+returns-2 c = rw (eq-eqb _ _ (c .before .before .before .before .before .before .before .before .before .if1 .left), ← (c .before .before .before .before .before .before .before .before .byte-or .ensures), ← (c .before .before .before .before .before .before .append .ensures), c .before .before .tell-append .ensures .0, c .before .before .tell-append .ensures .1)
 
 pub outbox-append-spec : {M : Type 1} → statement M
 outbox-append-spec =
@@ -55,11 +34,7 @@ outbox-append-spec =
     returns
     byte-or-requires
     append-requires
-    number-requires
-    wide64-requires
-    append-row-requires
-    slice-aggregate-put
-    put-requires
+    tell-append-requires
     same-length
     same-length-2
     returns-2)

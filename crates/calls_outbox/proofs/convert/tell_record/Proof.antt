@@ -1,4 +1,5 @@
 use mathlib.Core.Path.{refl}
+use Rattle.calls_outbox.specs.Convert.{cutPlace}
 use borrow.Author.Needs.{needs}
 use Rattle.calls_outbox.proofs.convert.tell_record.Statement.{statement}
 use Rattle.calls_outbox.proofs.convert.tell_record.Tie as tie
@@ -30,39 +31,68 @@ enum-told-2 c = search needs
 number-requires : tie.Need-number-requires
 number-requires c κs = search needs
 
-wide64-requires-2 : tie.Need-wide64-requires-2
-wide64-requires-2 c κs = search needs
+slice-aggregate-refuse : tie.Need-slice-aggregate-refuse
+slice-aggregate-refuse c = search needs
 
-slice-aggregate-put-3 : tie.Need-slice-aggregate-put-3
-slice-aggregate-put-3 c = search needs
-
-put-requires-3 : tie.Need-put-requires-3
-put-requires-3 c κs = search needs
+refuse-requires : tie.Need-refuse-requires
+refuse-requires c κs = search needs
 
 enum-known-reading-2 : tie.Need-enum-known-reading-2
 enum-known-reading-2 c = search needs
 
+enum-told-3 : tie.Need-enum-told-3
+enum-told-3 c = search needs
+
 number-requires-2 : tie.Need-number-requires-2
 number-requires-2 c κs = search needs
 
-wide64-requires-3 : tie.Need-wide64-requires-3
-wide64-requires-3 c κs = search needs
+slice-aggregate-refuse-2 : tie.Need-slice-aggregate-refuse-2
+slice-aggregate-refuse-2 c = search needs
 
-cut-place-requires : tie.Need-cut-place-requires
-cut-place-requires c κs = search needs
+refuse-requires-2 : tie.Need-refuse-requires-2
+refuse-requires-2 c κs = search needs
 
-slice-aggregate-put-4 : tie.Need-slice-aggregate-put-4
-slice-aggregate-put-4 c = search needs
+enum-told-4 : tie.Need-enum-told-4
+enum-told-4 c = search needs
 
-put-requires-4 : tie.Need-put-requires-4
-put-requires-4 c κs = search needs
+number-requires-3 : tie.Need-number-requires-3
+number-requires-3 c κs = search needs
+
+slice-aggregate-refuse-3 : tie.Need-slice-aggregate-refuse-3
+slice-aggregate-refuse-3 c = search needs
+
+refuse-requires-3 : tie.Need-refuse-requires-3
+refuse-requires-3 c κs = search needs
+
+enum-told-5 : tie.Need-enum-told-5
+enum-told-5 c = search needs
+
+number-requires-4 : tie.Need-number-requires-4
+number-requires-4 c κs = search needs
+
+slice-aggregate-refuse-4 : tie.Need-slice-aggregate-refuse-4
+slice-aggregate-refuse-4 c = search needs
+
+refuse-requires-4 : tie.Need-refuse-requires-4
+refuse-requires-4 c κs = search needs
+
+enum-told-6 : tie.Need-enum-told-6
+enum-told-6 c = search needs
+
+number-requires-5 : tie.Need-number-requires-5
+number-requires-5 c κs = search needs
+
+slice-aggregate-refuse-5 : tie.Need-slice-aggregate-refuse-5
+slice-aggregate-refuse-5 c = search needs
+
+refuse-requires-5 : tie.Need-refuse-requires-5
+refuse-requires-5 c κs = search needs
 
 same-length : tie.Need-same-length
 same-length c = search needs
 
 returns : tie.Need-returns
-returns c =
-    rw (c .before .before .before .before .before .before .before .reading .given .1, c .before .before .put .ensures, c .before .before .before .before .before .wide64 .ensures .0) (refl, refl)
+returns c = rw (c .before .before .before .before .before .before .before .reading .given .1, c .before .before .put .ensures, c .before .before .before .before .before .wide64 .ensures .0) (refl, refl)
 
 same-length-2 : tie.Need-same-length-2
 same-length-2 c = search needs
@@ -74,22 +104,35 @@ same-length-3 : tie.Need-same-length-3
 same-length-3 c = search needs
 
 returns-3 : tie.Need-returns-3
-returns-3 c =
-    rw (c .before .before .put3 .ensures, c .before .before .before .before .before .wide642 .ensures .0, c .before .before .before .before .before .before .number .ensures, c .before .before .before .before .before .before .before .enum-told2 .given .1) (refl, refl)
+returns-3 c = rw (c .before .before .refuse .ensures .0, c .before .before .refuse .ensures .1, c .before .before .before .before .number .ensures, c .before .before .before .before .before .before .enum-told2 .given .1) (refl, refl)
 
 same-length-4 : tie.Need-same-length-4
 same-length-4 c = search needs
 
 returns-4 : tie.Need-returns-4
-returns-4 c =
-    rw (
-      c .before .before .put4 .ensures,
-      c .before .before .before .before .before .before .wide643 .ensures .0,
-      c .before .before .before .before .before .before .before .number2 .ensures,
-      c .before .before .before .before .before .cut-place .ensures,
-      c .before .before .before .before .before .before .before .before .before .reading2 .given .1,
-    )
-    (refl, refl)
+unfolding cutPlace
+returns-4 c = rw (c .before .before .refuse2 .ensures .0, c .before .before .refuse2 .ensures .1, c .before .before .before .before .number2 .ensures, c .before .before .before .before .before .before .before .before .before .reading2 .given .1, c .before .before .before .before .before .before .enum-told3 .given .1) (refl, refl)
+
+same-length-5 : tie.Need-same-length-5
+same-length-5 c = search needs
+
+returns-5 : tie.Need-returns-5
+unfolding cutPlace
+returns-5 c = rw (c .before .before .refuse3 .ensures .0, c .before .before .refuse3 .ensures .1, c .before .before .before .before .number3 .ensures, c .before .before .before .before .before .before .before .before .before .reading2 .given .1, c .before .before .before .before .before .before .enum-told4 .given .1) (refl, refl)
+
+same-length-6 : tie.Need-same-length-6
+same-length-6 c = search needs
+
+returns-6 : tie.Need-returns-6
+unfolding cutPlace
+returns-6 c = rw (c .before .before .refuse4 .ensures .0, c .before .before .refuse4 .ensures .1, c .before .before .before .before .number4 .ensures, c .before .before .before .before .before .before .before .before .before .reading2 .given .1, c .before .before .before .before .before .before .enum-told5 .given .1) (refl, refl)
+
+same-length-7 : tie.Need-same-length-7
+same-length-7 c = search needs
+
+returns-7 : tie.Need-returns-7
+unfolding cutPlace
+returns-7 c = rw (c .before .before .refuse5 .ensures .0, c .before .before .refuse5 .ensures .1, c .before .before .before .before .number5 .ensures, c .before .before .before .before .before .before .before .before .before .reading2 .given .1, c .before .before .before .before .before .before .enum-told6 .given .1) (refl, refl)
 
 pub tell-record-spec : {M : Type 1} → statement M
 tell-record-spec =
@@ -104,15 +147,25 @@ tell-record-spec =
     put-requires-2
     enum-told-2
     number-requires
-    wide64-requires-2
-    slice-aggregate-put-3
-    put-requires-3
+    slice-aggregate-refuse
+    refuse-requires
     enum-known-reading-2
+    enum-told-3
     number-requires-2
-    wide64-requires-3
-    cut-place-requires
-    slice-aggregate-put-4
-    put-requires-4
+    slice-aggregate-refuse-2
+    refuse-requires-2
+    enum-told-4
+    number-requires-3
+    slice-aggregate-refuse-3
+    refuse-requires-3
+    enum-told-5
+    number-requires-4
+    slice-aggregate-refuse-4
+    refuse-requires-4
+    enum-told-6
+    number-requires-5
+    slice-aggregate-refuse-5
+    refuse-requires-5
     same-length
     returns
     same-length-2
@@ -120,4 +173,10 @@ tell-record-spec =
     same-length-3
     returns-3
     same-length-4
-    returns-4)
+    returns-4
+    same-length-5
+    returns-5
+    same-length-6
+    returns-6
+    same-length-7
+    returns-7)

@@ -9,19 +9,8 @@ use Rattle.wire.proofs.Limits.{limit-range}
 use Rattle.frame_writer.proofs.writer.write_within.Statement.{statement}
 use Rattle.frame_writer.proofs.writer.write_within.Tie as tie
 
-is-mark-requires : tie.Need-is-mark-requires
-is-mark-requires c κs = search needs
-
 returns : tie.Need-returns
-returns c = rw (c .before .before .before .before .pre, sym (c .before .is-mark .ensures) ∙ c .if1 .taken)
-
-returns-2 : tie.Need-returns-2
-returns-2 c =
-    rw (
-      c .before .before .before .before .before .pre,
-      sym (c .before .before .is-mark .ensures) ∙ c .before .if1 .left,
-      lt-ltb _ _ (c .if2 .taken),
-    )
+returns c = let s = c .before .before .before in rw (s .pre .0, s .pre .1, lt-ltb _ _ (c .if1 .taken))
 
 checksum-requires : tie.Need-checksum-requires
 checksum-requires c κs = search needs
@@ -34,43 +23,43 @@ cast-low c = search needs
 
 has-room-requires : tie.Need-has-room-requires
 has-room-requires c κs =
-    let s = c .before .before .before .before .before .before in
-    omega (arith, limit-range (s .args .limit) (s .pre) .1, c .before .if2 .left)
+    let s = c .before .before .before .before in
+    omega (arith, limit-range (s .args .limit) (s .pre .0) .1, c .before .if1 .left)
 
 put-frame-requires : tie.Need-put-frame-requires
-put-frame-requires c κs = leb-true _ _ (sym (c .before .before .has-room .ensures) ∙ c .before .if3 .taken)
+put-frame-requires c κs = leb-true _ _ (sym (c .before .before .has-room .ensures) ∙ c .before .if2 .taken)
 
 same-length : tie.Need-same-length
 same-length c = search needs
 
-returns-3 : tie.Need-returns-3
-returns-3 c =
+returns-2 : tie.Need-returns-2
+returns-2 c =
     let h = c .before .before .before .before .before in
     let k = h .before in
-    let s = k .before .before .before .before .before .before in
+    let s = k .before .before .before .before in
     let a = s .args in
-    let fits : length (frameOf (a .sequence) (a .payload .now)) ≤ length (a .out .now) = rw (← (k .checksum .ensures .0)) (leb-true _ _ (sym (h .has-room .ensures) ∙ c .before .before .before .before .if3 .taken)) in
+    let fits : length (frameOf (a .sequence) (a .payload .now)) ≤ length (a .out .now) = rw (← (k .checksum .ensures .0)) (leb-true _ _ (sym (h .has-room .ensures) ∙ c .before .before .before .before .if2 .taken)) in
     rw (
-      s .pre,
-      sym (k .before .before .before .is-mark .ensures) ∙ k .before .before .if1 .left,
-      le-ltb _ _ (k .before .if2 .left),
+      s .pre .0,
+      s .pre .1,
+      le-ltb _ _ (k .before .if1 .left),
       le-ltb _ _ fits,
       c .before .before .put-frame .ensures .0,
       c .before .before .put-frame .ensures .1,
       k .checksum .ensures .0,
     )
 
-returns-4 : tie.Need-returns-4
-returns-4 c =
+returns-3 : tie.Need-returns-3
+returns-3 c =
     let h = c .before in
     let k = h .before in
-    let s = k .before .before .before .before .before .before in
+    let s = k .before .before .before .before in
     let a = s .args in
-    let short : length (a .out .now) < length (frameOf (a .sequence) (a .payload .now)) = rw (← (k .checksum .ensures .0)) (leb-false _ _ (sym (h .has-room .ensures) ∙ c .if3 .left)) in
+    let short : length (a .out .now) < length (frameOf (a .sequence) (a .payload .now)) = rw (← (k .checksum .ensures .0)) (leb-false _ _ (sym (h .has-room .ensures) ∙ c .if2 .left)) in
     rw (
-      s .pre,
-      sym (k .before .before .before .is-mark .ensures) ∙ k .before .before .if1 .left,
-      le-ltb _ _ (k .before .if2 .left),
+      s .pre .0,
+      s .pre .1,
+      le-ltb _ _ (k .before .if1 .left),
       lt-ltb _ _ short,
     )
 
@@ -78,14 +67,12 @@ pub write-within-spec : {M : Type 1} → statement M
 write-within-spec =
     tie.close
     (tie.spec
-    is-mark-requires
     returns
-    returns-2
     checksum-requires
     cast-high
     cast-low
     has-room-requires
     put-frame-requires
     same-length
-    returns-3
-    returns-4)
+    returns-2
+    returns-3)

@@ -1,4 +1,4 @@
-use Prim.Native.Nat.{_/_, _%_}
+use Prim.Native.Nat.{ℕ, _-_, _*_, _/_, _%_}
 use mathlib.Core.Path.{_≡_, sym, _∙_}
 use native.Mathlib.Nat.{mod-lt}
 use native.Mathlib.Omega.{arith}
@@ -10,6 +10,10 @@ use Rattle.outbox.proofs.Versions.{known-small, known-pair, known-four}
 use Rattle.outbox.proofs.Number.{bytes-pair, bytes-pairs}
 use Rattle.outbox.proofs.writer.put_length.Statement.{statement}
 use Rattle.outbox.proofs.writer.put_length.Tie as tie
+
+-- the lower half, as the code takes it
+low : (n : ℕ) → n - n / 65536 * 65536 ≡ n % 65536
+low n = omega arith
 
 put-pair-requires : tie.Need-put-pair-requires
 put-pair-requires c κs =
@@ -31,12 +35,18 @@ put-pair-requires-2 c κs =
 add-put-pair : tie.Need-add-put-pair
 add-put-pair c = search needs
 
+mul-put-pair : tie.Need-mul-put-pair
+mul-put-pair c = search needs
+
+sub-put-pair : tie.Need-sub-put-pair
+sub-put-pair c = search needs
+
 put-pair-requires-3 : tie.Need-put-pair-requires-3
 put-pair-requires-3 c κs =
     let p = c .before .before .before in
     let e = p .before .before in
     let s = e .before .before .before in
-    (omega (arith, p .put-pair2 .kept .0, s .pre .1, four e), mod-lt (s .args .n) (omega arith))
+    (omega (arith, p .put-pair2 .kept .0, s .pre .1, four e), rw (low (s .args .n)) (mod-lt (s .args .n) (omega arith)))
 
 same-length : tie.Need-same-length
 same-length c = search needs
@@ -58,7 +68,7 @@ returns-2 c =
     let e = p .before .before in
     let s = e .before .before .before in
     let n = s .args .n in
-    rw (four e, bytes-pairs n) (q .put-pair3 .ensures ∙ rw (p .put-pair2 .ensures) (sym (sets-append (now (s .args .buffer)) (s .args .at) (pairBytes (n / 65536)) (pairBytes (n % 65536)))))
+    rw (four e, bytes-pairs n) (rw (low n) at (q .put-pair3 .ensures) ∙ rw (p .put-pair2 .ensures) (sym (sets-append (now (s .args .buffer)) (s .args .at) (pairBytes (n / 65536)) (pairBytes (n % 65536)))))
 
 pub put-length-spec : {M : Type 1} → statement M
 put-length-spec =
@@ -67,6 +77,8 @@ put-length-spec =
     put-pair-requires
     put-pair-requires-2
     add-put-pair
+    mul-put-pair
+    sub-put-pair
     put-pair-requires-3
     same-length
     returns
