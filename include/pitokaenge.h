@@ -96,7 +96,7 @@ enum {
     PITO_REFUSED_ARGUMENT = 15, /* an argument out of its range */
     PITO_REFUSED_LIMIT = 17,    /* limit not 1 to 65,535, however large */
 
-    /* Frames. */
+    /* Frames. F0 begins one, F1 ends it, F2 stands before an escape code. */
     PITO_REFUSED_START_INSIDE = 20, /* F0 inside a frame */
     PITO_REFUSED_FRAME_SHORT = 21,  /* F1 in the header, or under 2 bytes stored */
     PITO_REFUSED_HEADER = 22,       /* packet id not 02, error id not 00, F2 in the header */
