@@ -59,7 +59,9 @@ pub fn run<const WORDS: usize>(
     ignore_file_size_signal();
     let words = env::args_os().skip(1).collect::<Vec<_>>();
     // A file's name that begins with '-' is written as ./-x.
-    let asks = words.first().is_some_and(|word| word.as_encoded_bytes().starts_with(b"-"));
+    let asks = words
+        .first()
+        .is_some_and(|word| word.as_encoded_bytes().starts_with(b"-"));
     let (false, Ok(words)) = (asks, words.try_into()) else {
         note(format_args!("usage: {usage}"));
         return ExitCode::from(2);
@@ -78,7 +80,7 @@ pub fn run<const WORDS: usize>(
 fn ignore_file_size_signal() {
     const SIGXFSZ: i32 = 25;
     const SIG_IGN: usize = 1;
-    extern "C" {
+    unsafe extern "C" {
         fn signal(number: i32, handler: usize) -> usize;
     }
     // SAFETY: no handler is installed, and no other thread is there yet.
