@@ -1,6 +1,6 @@
 -- The table of worked cases holds: computed over the whole table, then turned into the rule at each row.
-use mathlib.Core.Path.{_≡_, refl, ap, sym, _∙_}
-use mathlib.Core.List.{List, map, List·Memᴰ, List·Memᴰ·head, List·Memᴰ·tail}
+use mathlib.Core.Path.{_≡_, refl}
+use mathlib.Core.List.{map}
 use Rattle.wire.specs.Stream.{isStream, streamOf}
 use Rattle.wire.specs.Limit.{limitFits}
 use Rattle.framing.specs.Mark.{kindOf}
@@ -26,13 +26,9 @@ use Rattle.control.specs.Envelope.{payloadOf, envelopeOf, envelopeWritten}
 use Rattle.outbox.specs.Format.{isOne, formatOf, numberOf, bytesOf, recordBytes}
 use Rattle.outbox.specs.Reader as outbox
 use Rattle.outbox.specs.Writer.{badRecord, appendOf}
+use Rattle.worked_extractor.proofs.Rows.{agree}
 use Rattle.worked.specs.Question.{answerTo}
 use Rattle.worked.specs.Cases.{Case, cases, WorkedCases}
-
--- two functions that agree on a whole list agree at each of its elements
-pub agree : {A B : Type 0} (f g : A → B) {l : List A} → map f l ≡ map g l → (a : A) → List·Memᴰ a l → f a ≡ g a
-agree f g same a (List·Memᴰ·head {x = x} {xs = xs} here) = let h : f x ≡ g x = cc in ap f here ∙ h ∙ sym (ap g here)
-agree f g same a (List·Memᴰ·tail {x = x} {xs = xs} there) = let t : map f xs ≡ map g xs = cc in agree f g t a there
 
 -- the whole table, computed
 holds : map (λ (c : Case). answerTo (c .question)) cases ≡ map (λ (c : Case). c .expected) cases

@@ -1,4 +1,3 @@
 pub mod Question
 pub mod Cases
-pub mod ExtractorCases
 pub mod LimitEnds

@@ -19,25 +19,25 @@ abbrev limit : ℕ
 limit = 2
 
 -- what is asked of an extractor in a state, over a lent buffer
-pub data Question : Type 0 where
+pub data ExtractorQuestion : Type 0 where
   -- an opening with a limit
-  openWith : ℕ → Question
+  openWith : ℕ → ExtractorQuestion
   -- a step with a byte, in a state with another limit
-  stepWithin : ℕ → Progress → List ℕ → ℕ → Question
+  stepWithin : ℕ → Progress → List ℕ → ℕ → ExtractorQuestion
   -- a step with a byte
-  stepWith : Progress → List ℕ → ℕ → Question
+  stepWith : Progress → List ℕ → ℕ → ExtractorQuestion
   -- a step with each of some bytes
-  stepEach : Progress → List ℕ → List ℕ → Question
+  stepEach : Progress → List ℕ → List ℕ → ExtractorQuestion
   -- a call for many bytes
-  feedWith : Progress → List ℕ → List ℕ → Question
+  feedWith : Progress → List ℕ → List ℕ → ExtractorQuestion
   -- so many calls for many bytes, each with all that the ones before left
-  feedEach : ℕ → Progress → List ℕ → List ℕ → Question
+  feedEach : ℕ → Progress → List ℕ → List ℕ → ExtractorQuestion
 
 -- what each step or call leaves: its report, the number used by a call, the next state and the lent buffer
-pub data Answer : Type 0 where
-  opened : Told Extractor → Answer
-  stepped : List ByteStep → Answer
-  called : List Feed → Answer
+pub data ExtractorAnswer : Type 0 where
+  opened : Told Extractor → ExtractorAnswer
+  stepped : List ByteStep → ExtractorAnswer
+  called : List Feed → ExtractorAnswer
 
 unfoldable pub stepsOf : Progress → List ℕ → List ℕ → List ByteStep
 stepsOf s l [] = []
@@ -47,7 +47,7 @@ unfoldable pub feedsOf : ℕ → Progress → List ℕ → List ℕ → List Fee
 feedsOf zero s l bytes = []
 feedsOf (suc n) s l bytes = let r = feedOf limit s l bytes in r ∷ feedsOf n (r .next) (r .buffer) (drop (r .used) bytes)
 
-unfoldable pub answerTo : Question → Answer
+unfoldable pub answerTo : ExtractorQuestion → ExtractorAnswer
 answerTo (openWith n) = opened (openOf n)
 answerTo (stepWithin n s l b) = stepped (byteStepOf n s l b ∷ [])
 answerTo (stepWith s l b) = stepped (byteStepOf limit s l b ∷ [])
@@ -56,15 +56,15 @@ answerTo (feedWith s l bytes) = called (feedOf limit s l bytes ∷ [])
 answerTo (feedEach n s l bytes) = called (feedsOf n s l bytes)
 
 -- a row: what is asked, and what comes back
-pub record Case : Type 0 where
-  pub question : Question
-  pub expected : Answer
+pub record ExtractorCase : Type 0 where
+  pub question : ExtractorQuestion
+  pub expected : ExtractorAnswer
 
-abbrev case : Question → Answer → Case
+abbrev case : ExtractorQuestion → ExtractorAnswer → ExtractorCase
 case q a = record { question = q; expected = a }
 
 -- a step with a byte in a state leaves a report and the next state, and the buffer as it was
-abbrev leaves : Progress → List ℕ → ℕ → Report → Progress → Case
+abbrev leaves : Progress → List ℕ → ℕ → Report → Progress → ExtractorCase
 leaves s l b r next = case (stepWith s l b) (stepped (step r next l ∷ []))
 
 -- inside a frame before its sequence byte is read, and after F2 in its body
@@ -98,7 +98,7 @@ twenty =
     ∷ 0xF0 ∷ 0x02 ∷ 0xF0 ∷ 0x02 ∷ 0x00 ∷ 0x06 ∷ 0x00 ∷ 0x02 ∷ 0xF1
     ∷ []
 
-unfoldable pub cases : List Case
+unfoldable pub cases : List ExtractorCase
 cases =
     -- an opening: 17 where the limit is 0 or above 65,535
     case (openWith 0) (opened (told.refused 17))
@@ -192,4 +192,4 @@ cases =
 
 -- every row of the table holds
 abbrev pub ExtractorCases : Type 0
-ExtractorCases = (c : Case) → List·Memᴰ c cases → answerTo (c .question) ≡ c .expected
+ExtractorCases = (c : ExtractorCase) → List·Memᴰ c cases → answerTo (c .question) ≡ c .expected

@@ -8,12 +8,12 @@ use Rattle.extractor.specs.Action.{codeOf}
 use Rattle.extractor.specs.State.{lawful, ready, openOf}
 use Rattle.extractor.specs.Step.{storeOf, endOf, advanceOf}
 use Rattle.feed.specs.Feed.{feedFrom}
-use Rattle.worked.specs.ExtractorCases.{stepsOf, feedsOf, answerTo, Case, cases, ExtractorCases}
-use Rattle.worked.proofs.Cases.{agree}
+use Rattle.worked_extractor.specs.ExtractorCases.{stepsOf, feedsOf, answerTo, ExtractorCase, cases, ExtractorCases}
+use Rattle.worked_extractor.proofs.Rows.{agree}
 
-holds : map (λ (c : Case). answerTo (c .question)) cases ≡ map (λ (c : Case). c .expected) cases
+holds : map (λ (c : ExtractorCase). answerTo (c .question)) cases ≡ map (λ (c : ExtractorCase). c .expected) cases
 unfolding answerTo cases stepsOf feedsOf limitFits kindOf sumOf codeOf lawful ready openOf storeOf checked endOf advanceOf feedFrom
 holds = refl
 
 pub extractor-cases : ExtractorCases
-extractor-cases = agree (λ (c : Case). answerTo (c .question)) (λ (c : Case). c .expected) holds
+extractor-cases = agree (λ (c : ExtractorCase). answerTo (c .question)) (λ (c : ExtractorCase). c .expected) holds
