@@ -100,7 +100,7 @@ enum {
     /* Reports. */
     PITO_REFUSED_SUM = 19, /* a number of the report would have more than 64 bits */
 
-    /* Frames. */
+    /* Frames. F0 begins one, F1 ends it, F2 stands before an escape code. */
     PITO_REFUSED_START_INSIDE = 20, /* F0 inside a frame */
     PITO_REFUSED_FRAME_SHORT = 21,  /* F1 in the header, or under 2 bytes stored */
     PITO_REFUSED_HEADER = 22,       /* packet id not 02, error id not 00, F2 in the header */

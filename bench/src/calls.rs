@@ -2,12 +2,7 @@
 //! and the functions of plain C (`plain_`), over nanopb (`nanopb_`) and over protobuf-c (`pbc_`) that
 //! have it. A slice passes as a pointer and then a length.
 
-pub use pitokaenge::*;
-
-// Not every function is measured.
-#[allow(dead_code)]
-#[path = "../../include/pitokaenge.rs"]
-mod pitokaenge;
+pub use pitokaenge::declarations::*;
 
 macro_rules! calls {
     ($($call:ident $arguments:tt $($function:ident)*;)*) => {

@@ -10,8 +10,8 @@
  * refused byte of the stream, and what ended the program.
  * Ends with 0 at the end of the input; with 1 after the first failed call of the system, if the file is there and is
  * no outbox, has a record that is longer than this box's messages, or is open in another box (it is then left as it
- * was); with 2 on bad usage. A reader of the notes that is gone stops nothing; where no report can be written any more
- * the box ends with 1.
+ * was); with 2 on bad usage (a file's name that begins with '-' is written as ./-x). A reader of the notes that is gone
+ * stops nothing; where no report can be written any more the box ends with 1.
  */
 #define _XOPEN_SOURCE 700
 
@@ -60,7 +60,7 @@ static void take(const uint8_t *bytes, size_t length)
 int main(int words, char **word)
 {
     ignore_write_signals();
-    if (words != 2) {
+    if (words != 2 || word[1][0] == '-') {
         note("usage: box OUTBOX_FILE < BYTES\n");
         return 2;
     }

@@ -235,7 +235,7 @@ static int take_next(void)
 int main(int words, char **word)
 {
     ignore_write_signals();
-    if (words != 3) {
+    if (words != 3 || word[1][0] == '-') {
         note("usage: low_energy_box OUTBOX_FILE RADIO < PACKETS\n");
         return 2;
     }

@@ -1,12 +1,11 @@
 //! The verified library, through its C interface (include/pitokaenge.h): the archive that
-//! `tools/archive` writes, linked with the feature `library`.
+//! `tools/archive` writes, linked with the feature `library` by bindings/rust, which declares its
+//! functions.
 
 use crate::implementation::{Implementation, Lent, Operation};
-use pitokaenge::*;
+use pitokaenge::declarations::*;
 
 mod firmware;
-#[path = "../../include/pitokaenge.rs"]
-mod pitokaenge;
 
 /// The library behind its C interface.
 pub struct Library;

@@ -1,4 +1,8 @@
 // Lists the frames of a Classic byte stream from standard input.
+use console::Output;
+use console::complain;
+use console::is_alone;
+use console::read_some;
 use extractor::outcome::Refusal;
 use extractor::state::CHECKSUM;
 use extractor::state::Extractor;
@@ -8,10 +12,9 @@ use feed::many::Fed;
 use feed::many::FeedOutcome;
 use feed::many::feed;
 use framing::mark::Mark;
-use libc::STDIN_FILENO;
-use libc::STDOUT_FILENO;
 use std::num::wrapping_add_u64;
 use std::num::wrapping_sub_u64;
+use wire::logic::both;
 
 // The limit of the link that is listed.
 const LIMIT: usize = 4096;
@@ -22,58 +25,48 @@ const ROOM: usize = LIMIT + CHECKSUM;
 // The bytes read at once.
 const BLOCK: usize = 65536;
 
-// The extractor's state, the bytes used so far and those of them that were skipped.
+// The extractor's state, the bytes used so far and those of them that were skipped, and what is written.
 struct Listing {
     state: Extractor,
     used: u64,
     skipped: u64,
+    output: Output,
 }
 
-fn say(text: &[u8]) {
-    io::write_all(STDOUT_FILENO, text);
+fn say_frame(output: Output, place: u64, sequence: u8, len: usize) -> Output {
+    let placed = output.text(b"frame ").number(place);
+    let numbered = placed.text(b" ").number(sequence as u64);
+    numbered.text(b" ").number(len as u64).text(b"\n")
 }
 
-fn say_number(n: u64) {
-    io::print_decimal(STDOUT_FILENO, n);
+fn say_refused(output: Output, place: u64, why: Refusal) -> Output {
+    let refused = output.text(b"refused ").number(why.number() as u64);
+    refused.text(b" at ").number(place).text(b"\n")
 }
 
-fn say_frame(place: u64, sequence: u8, len: usize) {
-    say(b"frame ");
-    say_number(place);
-    say(b" ");
-    say_number(sequence as u64);
-    say(b" ");
-    say_number(len as u64);
-    say(b"\n");
-}
-
-fn say_refused(place: u64, why: Refusal) {
-    say(b"refused ");
-    say_number(why.number() as u64);
-    say(b" at ");
-    say_number(place);
-    say(b"\n");
-}
-
-fn say_outcome(place: u64, outcome: FeedOutcome) {
+fn say_outcome(output: Output, place: u64, outcome: FeedOutcome) -> Output {
     match outcome {
-        FeedOutcome::AllUsed => {}
-        FeedOutcome::Frame { sequence, len } => say_frame(place, sequence, len),
-        FeedOutcome::Refused(why) => say_refused(place, why),
+        FeedOutcome::AllUsed => output,
+        FeedOutcome::Frame { sequence, len } => say_frame(output, place, sequence, len),
+        FeedOutcome::Refused(why) => say_refused(output, place, why),
     }
 }
 
 fn say_end(listing: Listing) {
-    say(b"skipped ");
-    say_number(listing.skipped);
-    say(b"\nend ");
-    say_number(listing.used);
+    let used = listing.used;
+    let skipped = listing.skipped;
     let state = listing.state;
     let progress = state.progress;
+    let output = listing.output;
+    let counted = output.text(b"skipped ").number(skipped);
+    let ended = counted.text(b"\nend ").number(used);
     if is_outside(progress) {
-        say(b" outside\n");
+        ended.text(b" outside\n");
     } else {
-        say(b" inside\n");
+        ended.text(b" inside\n");
+    }
+    if both(used != 0, skipped == used) {
+        complain(b"frames: no frame begins in these bytes: none of them is F0\n");
     }
 }
 
@@ -111,12 +104,13 @@ fn list_call(listing: Listing, fed: Fed, bytes: &[u8]) -> Listing {
     let skipped = skipped_in(before, bytes);
     let used = wrapping_add_u64(listing.used, bytes.len() as u64);
     let outcome = fed.outcome;
-    say_outcome(wrapping_sub_u64(used, 1), outcome);
+    let output = say_outcome(listing.output, wrapping_sub_u64(used, 1), outcome);
     let state = fed.next;
     Listing {
         state,
         used,
         skipped: wrapping_add_u64(listing.skipped, skipped as u64),
+        output,
     }
 }
 
@@ -138,7 +132,8 @@ fn list_block(listing: Listing, buffer: &mut [u8], bytes: &[u8]) -> Listing {
     now
 }
 
-// Lists what standard input holds. Nothing says that it ends, so the loop counts down from a number that no run uses up.
+// Lists what standard input holds, each read as it comes: a frame is told when its last byte is there, though the stream stays open.
+// Nothing says that it ends, so the loop counts down from a number that no run uses up.
 fn list_all(buffer: &mut [u8]) {
     let mut bytes = [0u8; BLOCK];
     let state = Extractor::outside(LIMIT);
@@ -146,20 +141,32 @@ fn list_all(buffer: &mut [u8]) {
         state,
         used: 0,
         skipped: 0,
+        output: Output::new(),
     };
     let mut turns = u64::MAX;
     while turns > 0 {
         turns -= 1;
-        let got = io::read_full(STDIN_FILENO, &mut bytes);
+        let input = read_some(&mut bytes);
+        if input.failed {
+            return;
+        }
+        let got = input.held;
         if got == 0 {
             break;
         }
         listing = list_block(listing, buffer, &bytes[..got]);
+        let output = listing.output;
+        if output.failed {
+            return;
+        }
     }
     say_end(listing);
 }
 
 fn main() {
+    if !is_alone(b"usage: frames < BYTES\n") {
+        return;
+    }
     let mut buffer = [0u8; ROOM];
     list_all(&mut buffer);
 }

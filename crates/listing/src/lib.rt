@@ -1,13 +1,17 @@
 // Lists the records of an outbox file on standard output, for the crew: what a box kept. The file may be of any size: it
 // passes through one buffer that holds the version byte and the bytes from a record's place on.
-use libc::STDIN_FILENO;
-use libc::STDOUT_FILENO;
+use console::Output;
+use console::complain;
+use console::read_full;
 use outbox::format::FIRST_PLACE;
 use outbox::reader::Fault;
 use outbox::reader::Reading;
 use outbox::reader::read;
+use payloads::say_payload;
 use std::num::wrapping_add_u64;
+use wire::bytes::smaller;
 use wire::logic::both;
+use wire::logic::either;
 ghost use mathlib.Core.Path.{_≡_};
 ghost use Prim.Native.Nat.{_≤_};
 ghost use lib.Dec.{eqb};
@@ -19,10 +23,28 @@ ghost use Rattle.listing.specs.Listing.{bufferSize, endsBy, listed, list
 // The bytes of a part: the version byte and the longest record of any version.
 const ROOM: usize = 65541;
 
+// What is shown of a record: its place, stream and length, or its payload too.
+pub enum RecordView {
+    Lengths,
+    Payloads,
+}
+
 // How far the listing of a part of a file went, and whether the listing is over: it is at the end of the file or at a refusal.
 pub struct Listed {
     over: bool,
     place: usize,
+}
+
+// What was listed, and what is written of it.
+pub struct ShownPart {
+    pub listed: Listed,
+    pub output: Output,
+}
+
+// The bytes that a part begins with, and whether a read failed.
+pub struct Refilled {
+    held: usize,
+    failed: bool,
 }
 
 // Room for a part. The `ensures` gives only the length, which lending the array as a slice needs.
@@ -32,41 +54,52 @@ pub fn room() -> [u8; ROOM]
     [0; ROOM]
 }
 
-fn say(text: &[u8]) {
-    io::write_all(STDOUT_FILENO, text);
-}
-
-fn say_number(n: u64) {
-    io::print_decimal(STDOUT_FILENO, n);
-}
-
 // A place of the file, by how many bytes of it are gone from the part.
-fn say_place(gone: u64, place: usize) {
-    say_number(wrapping_add_u64(gone, place as u64));
+fn say_place(output: Output, gone: u64, place: usize) -> Output {
+    output.number(wrapping_add_u64(gone, place as u64))
 }
 
-fn say_record(gone: u64, place: usize, stream: u8, size: usize) {
-    say(b"record ");
-    say_place(gone, place);
-    say(b" ");
-    say_number(stream as u64);
-    say(b" ");
-    say_number(size as u64);
-    say(b"\n");
+fn say_record(output: Output, gone: u64, place: usize, stream: u8, size: usize) -> Output {
+    let placed = say_place(output.text(b"record "), gone, place);
+    placed
+        .text(b" ")
+        .number(stream as u64)
+        .text(b" ")
+        .number(size as u64)
 }
 
-fn say_end(gone: u64, place: usize) {
-    say(b"end ");
-    say_place(gone, place);
-    say(b"\n");
+// The payload, where it is to be shown, and the end of the record's line.
+fn say_rest(output: Output, view: RecordView, part: &[u8], start: usize, size: usize) -> Output {
+    let from = smaller(part.len(), start);
+    let len = smaller(part.len() - from, size);
+    match view {
+        RecordView::Lengths => output.text(b"\n"),
+        RecordView::Payloads => say_payload(output, &part[from..from + len]).text(b"\n"),
+    }
 }
 
-fn say_refused(number: u8, gone: u64, place: usize) {
-    say(b"refused ");
-    say_number(number as u64);
-    say(b" at ");
-    say_place(gone, place);
-    say(b"\n");
+fn say_end(output: Output, gone: u64, place: usize) -> Output {
+    say_place(output.text(b"end "), gone, place).text(b"\n")
+}
+
+// What a refusal says of the file, to whoever runs the program.
+fn explain(number: u8) {
+    match number {
+        40 => complain(
+            b"this is no outbox file: it is empty, or its first byte is neither 01 nor 02\n",
+        ),
+        41 => complain(b"the last record is cut short; all before it are whole\n"),
+        42 => complain(b"a record's length is out of its range: what follows is no outbox's\n"),
+        43 => complain(b"a record's stream is none of 0, 2 and 6: what follows is no outbox's\n"),
+        _ => {}
+    }
+}
+
+fn say_refused(output: Output, number: u8, gone: u64, place: usize) -> Output {
+    let refused = output.text(b"refused ").number(number as u64);
+    let said = say_place(refused.text(b" at "), gone, place).text(b"\n");
+    explain(number);
+    said
 }
 
 fn is_cut(fault: Fault) -> bool
@@ -81,55 +114,68 @@ fn is_cut(fault: Fault) -> bool
 }
 
 // The end of a part: of the file only where the part is its last.
-fn list_end(gone: u64, place: usize, last: bool) -> Listed
-    ensures { λ r. ⌜ r ≡ listed last place ⌝ }
+fn list_end(output: Output, gone: u64, place: usize, last: bool) -> ShownPart
+    ensures { λ r. ⌜ r .listed ≡ listed last place ⌝ }
 {
+    let listed = Listed { over: last, place };
     if last {
-        say_end(gone, place);
+        return ShownPart {
+            listed,
+            output: say_end(output, gone, place),
+        };
     }
-    Listed { over: last, place }
+    ShownPart { listed, output }
 }
 
 // A refusal in a part: a record that is cut short may go on in the next part.
-fn list_refusal(fault: Fault, gone: u64, place: usize, last: bool) -> Listed
-    ensures { λ r. ⌜ r ≡ listed (endsBy last (faultNumber fault)) place ⌝ }
+fn list_refusal(output: Output, fault: Fault, gone: u64, place: usize, last: bool) -> ShownPart
+    ensures { λ r. ⌜ r .listed ≡ listed (endsBy last (faultNumber fault)) place ⌝ }
 {
     if both(is_cut(fault), !last) {
-        return Listed { over: false, place };
+        return ShownPart {
+            listed: Listed { over: false, place },
+            output,
+        };
     }
-    say_refused(fault.number(), gone, place);
-    Listed { over: true, place }
+    ShownPart {
+        listed: Listed { over: true, place },
+        output: say_refused(output, fault.number(), gone, place),
+    }
 }
 
 // A line for each whole record of a part, and one for the end or the refusal where the listing is over.
-pub fn list_part(part: &[u8], gone: u64, last: bool) -> Listed
-    ensures { λ r. ⌜ r ≡ listedOf (formatOf (now (part .entry))) last (now (part .entry)) ⌝ }
+pub fn list_part(output: Output, view: RecordView, part: &[u8], gone: u64, last: bool) -> ShownPart
+    ensures { λ r. ⌜ r .listed ≡ listedOf (formatOf (now (part .entry))) last (now (part .entry)) ⌝ }
 {
+    let mut said = output;
     let mut place = FIRST_PLACE;
     loop {
         let reading = read(part, place);
         match reading {
             Reading::Record {
                 stream,
-                start: _,
+                start,
                 size,
                 next,
             } => {
-                say_record(gone, place, stream, size);
+                said = say_record(said, gone, place, stream, size);
+                said = say_rest(said, view, part, start, size);
                 place = next;
             }
             Reading::End => {
-                return list_end(gone, place, last);
+                return list_end(said, gone, place, last);
             }
             Reading::BadPlace => {
-                say_refused(reading.number(), gone, place);
-                return Listed {
-                    over: true,
-                    place: 0,
+                return ShownPart {
+                    listed: Listed {
+                        over: true,
+                        place: 0,
+                    },
+                    output: say_refused(said, reading.number(), gone, place),
                 };
             }
             Reading::Broken { fault, place: at } => {
-                return list_refusal(fault, gone, at, last);
+                return list_refusal(said, fault, gone, at, last);
             }
         }
     }
@@ -150,31 +196,44 @@ fn carry_over(buffer: &mut [u8], place: usize, held: usize) -> usize
 }
 
 // Fills the buffer from standard input behind the bytes that it keeps, and tells how many bytes it then holds.
-fn refill(buffer: &mut [u8], kept: usize) -> usize
+fn refill(buffer: &mut [u8], kept: usize) -> Refilled
     requires { ⌜ kept ≤ length (now buffer) ⌝ }
-    ensures { λ r. ⌜ (r ≤ length (now (buffer .exit)))
+    ensures { λ r. ⌜ (r .held ≤ length (now (buffer .exit)))
         × (take kept (now (buffer .exit)) ≡ take kept (now (buffer .entry))) ⌝ }
 {
-    let read = io::read_full(STDIN_FILENO, &mut buffer[kept..]);
-    kept + read
+    let input = read_full(&mut buffer[kept..]);
+    let read = input.held;
+    let held = kept + read;
+    Refilled {
+        held,
+        failed: input.failed,
+    }
 }
 
-// Lists what standard input holds. Nothing says that it ends, so the loop counts down from a number that no run uses up.
-pub fn list(buffer: &mut [u8]) {
+// Lists what standard input holds, up to a read or a write that fails. Nothing says that it ends, so the loop counts down from a number
+// that no run uses up.
+pub fn list(buffer: &mut [u8], view: RecordView) {
+    let mut output = Output::new();
     let mut gone = 0;
-    let mut held = refill(buffer, 0);
+    let mut filled = refill(buffer, 0);
     let mut turns = u64::MAX;
     while turns > 0 {
         turns -= 1;
+        let held = filled.held;
+        if either(filled.failed, output.failed) {
+            return;
+        }
         let last = held < buffer.len();
-        let listed = list_part(&buffer[..held], gone, last);
+        let shown = list_part(output, view, &buffer[..held], gone, last);
+        let listed = shown.listed;
         if listed.over {
             return;
         }
+        output = shown.output;
         let place = listed.place;
         gone = wrapping_add_u64(gone, (place - FIRST_PLACE) as u64);
         let kept = carry_over(buffer, place, held);
-        held = refill(buffer, kept);
+        filled = refill(buffer, kept);
     }
 }
 

@@ -1,7 +1,7 @@
 // Prints what the radio cost over some captures. Arguments: the limit of the links, then the names of the captures. A capture that is
 // refused is named on standard output, one that cannot be read on the error output, and the others are added all the same.
-use libc::STDERR_FILENO;
-use libc::STDOUT_FILENO;
+use console::Output;
+use console::complain;
 use receiver::SLOT_COUNT;
 use report::CostReport;
 use report::Costs;
@@ -31,10 +31,11 @@ const LIMIT_WORD: usize = 8;
 // The digits that a column of numbers has room for.
 const COLUMN: usize = 10;
 
-// The report so far, and how many captures it has.
+// The report so far, how many captures it has, and what is written.
 struct ReportSoFar {
     report: CostReport,
     captures: u64,
+    output: Output,
 }
 
 // Room for a capture. The `ensures` gives only the length, which lending the array as a slice needs.
@@ -48,14 +49,6 @@ fn buffer_room() -> [u8; LARGEST_BUFFER]
     ensures { λ r. ⌜ 786420 ≡ length r ⌝ }
 {
     [0; LARGEST_BUFFER]
-}
-
-fn say(text: &[u8]) {
-    io::write_all(STDOUT_FILENO, text);
-}
-
-fn complain(text: &[u8]) {
-    io::write_all(STDERR_FILENO, text);
 }
 
 fn usage() {
@@ -114,16 +107,13 @@ fn nothing_yet() -> ReportSoFar {
     ReportSoFar {
         report,
         captures: 0,
+        output: Output::new(),
     }
 }
 
-fn say_refused(name: &[u8], number: u8, place: usize) {
-    say(name);
-    say(b": refused ");
-    io::print_decimal(STDOUT_FILENO, number as u64);
-    say(b" at ");
-    io::print_decimal(STDOUT_FILENO, place as u64);
-    say(b"\n");
+fn say_refused(output: Output, name: &[u8], number: u8, place: usize) -> Output {
+    let refused = output.text(name).text(b": refused ").number(number as u64);
+    refused.text(b" at ").number(place as u64).text(b"\n")
 }
 
 fn add_capture(
@@ -134,17 +124,20 @@ fn add_capture(
     capture: &[u8],
 ) -> ReportSoFar {
     let report = before.report;
+    let output = before.output;
     let row = [Slot::idle(); SLOT_COUNT];
     let added = add_by_value(SLOT_COUNT, row, report, limit, buffer, capture);
     let answer = added.answer;
     match answer {
-        Answer::Refused { why, at } => {
-            say_refused(name, why.number(), at);
-            before
-        }
+        Answer::Refused { why, at } => ReportSoFar {
+            report,
+            captures: before.captures,
+            output: say_refused(output, name, why.number(), at),
+        },
         Answer::Added(sums) => ReportSoFar {
             report: sums,
             captures: wrapping_add_u64(before.captures, 1),
+            output,
         },
     }
 }
@@ -221,27 +214,25 @@ fn add_files(count: usize, limit: usize, buffer: &mut [u8], space: &mut [u8]) ->
 }
 
 // A number at the right of its column, with a blank before it.
-fn say_number(n: u64) {
+fn say_number(output: Output, n: u64) -> Output {
     let mut digits = [0u8; 20];
     let mut k = io::decimal(n, &mut digits);
-    say(b" ");
+    let mut said = output.text(b" ");
     while k < COLUMN {
-        say(b" ");
+        said = said.text(b" ");
         k += 1;
     }
-    io::print_decimal(STDOUT_FILENO, n);
+    said.number(n)
 }
 
-fn say_costs(label: &[u8], costs: Costs) {
-    say(label);
-    say_number(costs.firsts);
-    say_number(costs.finished);
-    say_number(costs.replaced);
-    say_number(costs.dropped);
-    say_number(costs.pending);
-    say_number(costs.payload);
-    say_number(costs.bytes);
-    say(b"\n");
+fn say_costs(output: Output, label: &[u8], costs: Costs) -> Output {
+    let firsts = say_number(output.text(label), costs.firsts);
+    let finished = say_number(firsts, costs.finished);
+    let replaced = say_number(finished, costs.replaced);
+    let dropped = say_number(replaced, costs.dropped);
+    let pending = say_number(dropped, costs.pending);
+    let payload = say_number(pending, costs.payload);
+    say_number(payload, costs.bytes).text(b"\n")
 }
 
 // No three numbers of captures that a machine holds have a sum of more than 64 bits.
@@ -264,21 +255,24 @@ fn total(report: CostReport) -> Costs {
     }
 }
 
-fn say_report(report: CostReport) {
-    say(b"            firsts   finished   replaced    dropped       open    payload      bytes\n");
-    say_costs(b"control", report.control);
-    say_costs(b"OTA    ", report.ota);
-    say_costs(b"Alexa  ", report.alexa);
-    say_costs(b"total  ", total(report));
+fn say_report(output: Output, report: CostReport) -> Output {
+    let heads = output.text(
+        b"            firsts   finished   replaced    dropped       open    payload      bytes\n",
+    );
+    let control = say_costs(heads, b"control", report.control);
+    let ota = say_costs(control, b"OTA    ", report.ota);
+    let alexa = say_costs(ota, b"Alexa  ", report.alexa);
+    say_costs(alexa, b"total  ", total(report))
 }
 
 fn say_all(sums: ReportSoFar, count: usize) {
     let report = sums.report;
-    say_report(report);
-    io::print_decimal(STDOUT_FILENO, sums.captures);
-    say(b" of ");
-    io::print_decimal(STDOUT_FILENO, wrapping_sub_u64(count as u64, 2));
-    say(b" captures\n");
+    let output = sums.output;
+    let table = say_report(output, report);
+    let added = table.number(sums.captures).text(b" of ");
+    added
+        .number(wrapping_sub_u64(count as u64, 2))
+        .text(b" captures\n");
 }
 
 fn report_files(count: usize, limit: usize, size: usize, parts: &mut [u8], space: &mut [u8]) {

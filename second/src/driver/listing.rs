@@ -26,6 +26,7 @@ pub fn printed(program: &Path, stream: &[u8]) -> Result<Vec<u8>, String> {
     let mut child = Command::new(program)
         .stdin(Stdio::piped())
         .stdout(Stdio::piped())
+        .stderr(Stdio::null())
         .spawn()
         .map_err(failed)?;
     let mut input = child.stdin.take().expect("a pipe");

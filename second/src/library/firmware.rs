@@ -1,7 +1,7 @@
 //! The library's firmware messages and its reader of any field.
 
-use super::pitokaenge::*;
 use crate::implementation::Operation;
+use pitokaenge::declarations::*;
 
 /// One of the operations that stand here.
 pub fn call(

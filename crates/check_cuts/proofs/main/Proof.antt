@@ -6,10 +6,10 @@ use Rattle.check_cuts.proofs.main.Statement.{statement}
 use Rattle.check_cuts.proofs.main.Tie as tie
 
 abbrev Inv-loop : tie.InvT-loop
-Inv-loop room n kept₀ kept = Unit {0}
+Inv-loop room n output₀ kept₀ output kept = Unit {0}
 
 abbrev μ-loop : tie.MeasureT-loop
-μ-loop room n kept₀ kept = n + 1 - kept
+μ-loop room n output₀ kept₀ output kept = n + 1 - kept
 
 room-requires : tie.Need-room-requires Inv-loop μ-loop
 room-requires c κs = search needs
@@ -19,6 +19,9 @@ slice-aggregate-read-full c = search needs
 
 read-full-requires : tie.Need-read-full-requires Inv-loop μ-loop
 read-full-requires c κs = search needs
+
+new-requires : tie.Need-new-requires Inv-loop μ-loop
+new-requires c κs = search needs
 
 loop-holds : tie.Need-loop-holds Inv-loop μ-loop
 loop-holds c = search needs
@@ -56,6 +59,7 @@ main-spec =
     room-requires
     slice-aggregate-read-full
     read-full-requires
+    new-requires
     loop-holds
     array-share-prefix-room
     slice-aggregate-list-part

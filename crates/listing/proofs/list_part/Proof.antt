@@ -13,10 +13,10 @@ use Rattle.listing.proofs.list_part.Statement.{statement}
 use Rattle.listing.proofs.list_part.Tie as tie
 
 abbrev Inv-loop : tie.InvT-loop
-Inv-loop part gone last place₀ place = Going (formatOf part) part place
+Inv-loop view part gone last said₀ place₀ said place = Going (formatOf part) part place
 
 abbrev μ-loop : tie.MeasureT-loop
-μ-loop part gone last place₀ place = length part - place
+μ-loop view part gone last said₀ place₀ said place = length part - place
 
 loop-holds : tie.Need-loop-holds Inv-loop μ-loop
 loop-holds c = going-begins (formatOf (now (c .before .args .part))) (now (c .before .args .part))
@@ -30,16 +30,19 @@ enum-known-reading c = search needs
 say-record-requires : tie.Need-say-record-requires Inv-loop μ-loop
 say-record-requires c κs = search needs
 
+say-rest-requires : tie.Need-say-rest-requires Inv-loop μ-loop
+say-rest-requires c κs = search needs
+
 loop-less : tie.Need-loop-less Inv-loop μ-loop
 loop-less c =
-    let m = c .before .before in
+    let m = c .before .before .before in
     let r = m .before .before in
     let ends = read-within _ _ (r .before .loop .place) _ (sym (r .read .ensures) ∙ ap told (m .reading .given .1)) in
     omega (arith, ends .0, ends .1)
 
 loop-again : tie.Need-loop-again Inv-loop μ-loop
 loop-again c =
-    let m = c .before .before in
+    let m = c .before .before .before in
     let r = m .before .before in
     read-goes _ _ (r .before .loop .inv) _ (sym (r .read .ensures) ∙ ap told (m .reading .given .1))
 
@@ -98,6 +101,7 @@ list-part-spec =
     read-requires
     enum-known-reading
     say-record-requires
+    say-rest-requires
     loop-less
     loop-again
     enum-told

@@ -18,8 +18,8 @@ part-read-full-end c = search needs
 read-full-requires : tie.Need-read-full-requires
 read-full-requires c κs = search needs
 
-add-result : tie.Need-add-result
-add-result c = search needs
+add-held : tie.Need-add-held
+add-held c = search needs
 
 same-length : tie.Need-same-length
 same-length c = search needs
@@ -27,7 +27,7 @@ same-length c = search needs
 returns : tie.Need-returns
 returns c =
     let s = c .before .before .before .before .before in
-    (search needs, take-put (s .args .kept) (length (now (s .args .buffer)) - s .args .kept) (now (s .args .buffer)) (c .before .before .read-full .last .1 .0) (s .pre))
+    (search needs, take-put (s .args .kept) (length (now (s .args .buffer)) - s .args .kept) (now (s .args .buffer)) (c .before .before .read-full .last .0) (s .pre))
 
 pub refill-spec : {M : Type 1} → statement M
 refill-spec =
@@ -37,6 +37,6 @@ refill-spec =
     part-read-full-start
     part-read-full-end
     read-full-requires
-    add-result
+    add-held
     same-length
     returns)

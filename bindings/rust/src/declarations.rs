@@ -1,9 +1,10 @@
-//! The functions of pitokaenge.h for Rust: the archive that `tools/archive` writes. A slice passes as a pointer and
-//! then a length. tools/check_interface holds this file to the header and to the library's sources.
+//! The functions of include/pitokaenge.h as they are: the archive that `tools/archive` writes. A slice passes as a pointer
+//! and then a length; what a caller owes stands in the header. tools/check_interface holds this file to the header and to
+//! the library's sources. The types of this crate are the safe way to the same calls.
 
 /// A slot of the receiver's lent row: 8 bytes. All 0, it is idle.
 #[repr(C)]
-#[derive(Clone, Copy)]
+#[derive(Clone, Copy, Debug, Default, PartialEq, Eq)]
 #[allow(non_camel_case_types)]
 pub struct pito_slot {
     pub opened: u8,

@@ -1,0 +1,66 @@
+use Prim.Native.Nat.{_-_, _≤_}
+use lib.ListN.{length}
+use borrow.Author.Needs.{needs}
+use Rattle.payloads.proofs.is_text.Statement.{statement}
+use Rattle.payloads.proofs.is_text.Tie as tie
+
+abbrev Inv-loop : tie.InvT-loop
+Inv-loop payload before₀ i₀ i-end before i = i ≤ length payload
+
+abbrev μ-loop : tie.MeasureT-loop
+μ-loop payload before₀ i₀ i-end before i = length payload - i
+
+bad-place-requires : tie.Need-bad-place-requires Inv-loop μ-loop
+bad-place-requires c κs = search needs
+
+returns : tie.Need-returns Inv-loop μ-loop
+returns c = search needs
+
+loop-holds : tie.Need-loop-holds Inv-loop μ-loop
+loop-holds c = search needs
+
+byte-at-requires : tie.Need-byte-at-requires Inv-loop μ-loop
+byte-at-requires c κs = search needs
+
+is-control-requires : tie.Need-is-control-requires Inv-loop μ-loop
+is-control-requires c κs = search needs
+
+is-late-control-requires : tie.Need-is-late-control-requires Inv-loop μ-loop
+is-late-control-requires c κs = search needs
+
+either-requires : tie.Need-either-requires Inv-loop μ-loop
+either-requires c κs = search needs
+
+returns-2 : tie.Need-returns-2 Inv-loop μ-loop
+returns-2 c = search needs
+
+add-i : tie.Need-add-i Inv-loop μ-loop
+add-i c = search needs
+
+loop-less : tie.Need-loop-less Inv-loop μ-loop
+loop-less c = search needs
+
+loop-again : tie.Need-loop-again Inv-loop μ-loop
+loop-again c = search needs
+
+returns-3 : tie.Need-returns-3 Inv-loop μ-loop
+returns-3 c = search needs
+
+pub is-text-spec : {M : Type 1} → statement M
+is-text-spec =
+    tie.close
+    (tie.spec
+    Inv-loop
+    μ-loop
+    bad-place-requires
+    returns
+    loop-holds
+    byte-at-requires
+    is-control-requires
+    is-late-control-requires
+    either-requires
+    returns-2
+    add-i
+    loop-less
+    loop-again
+    returns-3)
