@@ -1,4 +1,6 @@
 // Standard input and output, for the programs. What fails is said once on the error output.
+pub mod sentences;
+
 use libc::STDERR_FILENO;
 use libc::STDIN_FILENO;
 use libc::STDOUT_FILENO;

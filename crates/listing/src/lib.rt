@@ -1,8 +1,8 @@
 // Lists the records of an outbox file on standard output, for the crew: what a box kept. The file may be of any size: it
 // passes through one buffer that holds the version byte and the bytes from a record's place on.
 use console::Output;
-use console::complain;
 use console::read_full;
+use console::sentences::explain_outbox;
 use outbox::format::FIRST_PLACE;
 use outbox::reader::Fault;
 use outbox::reader::Reading;
@@ -82,23 +82,10 @@ fn say_end(output: Output, gone: u64, place: usize) -> Output {
     say_place(output.text(b"end "), gone, place).text(b"\n")
 }
 
-// What a refusal says of the file, to whoever runs the program.
-fn explain(number: u8) {
-    match number {
-        40 => complain(
-            b"this is no outbox file: it is empty, or its first byte is neither 01 nor 02\n",
-        ),
-        41 => complain(b"the last record is cut short; all before it are whole\n"),
-        42 => complain(b"a record's length is out of its range: what follows is no outbox's\n"),
-        43 => complain(b"a record's stream is none of 0, 2 and 6: what follows is no outbox's\n"),
-        _ => {}
-    }
-}
-
 fn say_refused(output: Output, number: u8, gone: u64, place: usize) -> Output {
     let refused = output.text(b"refused ").number(number as u64);
     let said = say_place(refused.text(b" at "), gone, place).text(b"\n");
-    explain(number);
+    explain_outbox(number);
     said
 }
 

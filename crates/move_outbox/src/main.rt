@@ -5,6 +5,7 @@ use console::argument_is;
 use console::complain;
 use console::complain_number;
 use console::read_full;
+use console::sentences::explain_outbox;
 use moving::Moved;
 use moving::Wished;
 use moving::move_file;
@@ -42,6 +43,7 @@ fn complain_at(number: u8, place: usize) {
     complain(b" at ");
     complain_number(place as u64);
     complain(b"\n");
+    explain_outbox(number);
 }
 
 fn argument() -> Asked {

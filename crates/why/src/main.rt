@@ -6,6 +6,7 @@ use captures::front_of;
 use console::Output;
 use console::is_alone;
 use console::read_full;
+use console::sentences::explain_capture;
 use judge::State;
 use judge::capture::Judgement;
 use judge::capture::Refusal;
@@ -241,13 +242,20 @@ fn say_end(output: Output, state: State) -> Output {
     say_open(ota, state, Stream::Alexa)
 }
 
+// The place of a refusal, where it has one.
+fn say_at(output: Output, at: usize) -> Output {
+    if at != 0 {
+        say_number(output, b" at ", at).text(b"\n")
+    } else {
+        output.text(b"\n")
+    }
+}
+
 fn say_refused(output: Output, why: Refusal, at: usize) -> Output {
     let refused = say_number(output, b"refused ", wide(why.number()));
-    if at != 0 {
-        say_number(refused, b" at ", at).text(b"\n")
-    } else {
-        refused.text(b"\n")
-    }
+    let said = say_at(refused, at);
+    explain_capture(why.number());
+    said
 }
 
 fn say_stopped(output: Output, input: &[u8], at: usize, state: State) -> Output {
