@@ -16,7 +16,7 @@ use Rattle.link.specs.Row.{storedUpTo, savedRow}
 
 pub stored-length : (n : ℕ) (slots row : List Slot) → length (storedUpTo n slots row) ≡ length row
 stored-length zero slots row = refl
-stored-length (suc n) slots row = length-set (storedUpTo n slots row) n (getD slots n idle) ∙ stored-length n slots row
+stored-length (suc n) slots row = length-set (storedUpTo n slots row) n _ ∙ stored-length n slots row
 
 -- ---- what was loaded is stored again: the row stays, whatever its length
 

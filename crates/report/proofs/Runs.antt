@@ -122,7 +122,7 @@ run-keeps s limit slots bytes (p ∷ ps) law =
 
 -- ---- from a fresh link
 
-idles-lawful : (limit : ℕ) → lawful limit idles ≡ true
+pub idles-lawful : (limit : ℕ) → lawful limit idles ≡ true
 unfolding lawful lawfulSlot
 idles-lawful limit = refl
 

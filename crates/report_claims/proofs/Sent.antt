@@ -19,7 +19,7 @@ use Rattle.packet.specs.Reader.{fieldsOf, isFirst}
 use Rattle.slot.specs.declared.Slot.{Slot}
 use Rattle.slot.specs.declared.answer.Accepted.{Accepted}
 use Rattle.slot.specs.declared.answer.Accepted.the-variants.{Taken, Finished, Acked, Nacked}
-use Rattle.slot.specs.Slot.{idles, lawful, lawfulSlot}
+use Rattle.slot.specs.Slot.{idles}
 use Rattle.receiver.specs.Receiver.{PacketLeft, acceptOf}
 use Rattle.sender.specs.declared.piece.Piece.{Piece}
 use Rattle.sender.specs.declared.writer.Sending.{Sending}
@@ -32,7 +32,7 @@ use Rattle.delivery.specs.Delivery.{Message, runOf, givenBy, placeIn, hasSlot, 
 use Rattle.delivery.proofs.MessagesArrive.{round-trip}
 use Rattle.report.specs.Costs.{Heard, heard, accepts, finishes, drops, payloadIn, begins, followedIn, costsIn, costsOf}
 use Rattle.report.specs.Report.{callFor, linkRun, freshRun}
-use Rattle.report.proofs.Runs.{count-cons, run-balances}
+use Rattle.report.proofs.Runs.{count-cons, idles-lawful, run-balances}
 use Rattle.report_claims.specs.Sent.{MessageCosts}
 
 -- ---- what an answer shows of the numbers
@@ -195,10 +195,6 @@ idle-slot : (w : Sending) (s : Stream) → streamOf (w .stream) ≡ s → hasSlo
 idle-slot w Control e = rw e refl
 idle-slot w Ota e = rw e refl
 idle-slot w Alexa e = rw e refl
-
-idles-lawful : (limit : ℕ) → lawful limit idles ≡ true
-unfolding lawful lawfulSlot
-idles-lawful limit = refl
 
 module _ (limit : ℕ) (bytes : List ℕ) (w : Sending) (m out : List ℕ) (size : length bytes ≡ 12 * limit) (t : Takes limit w m out) where
   -- by the list of its packets: there is at least one
