@@ -1,5 +1,5 @@
 -- Rows agree with what the library itself tells.
-use Prim.Native.Nat.{ℕ, zero, suc, _+_, _≤_}
+use Prim.Native.Nat.{ℕ, zero, suc, _+_, _≤_, _<_}
 use mathlib.Core.Path.{_≡_, refl, ap, _∙_}
 use mathlib.Core.Bool.{Bool, true, false, cond}
 use mathlib.Core.List.{List, [], _∷_, _++_}
@@ -7,7 +7,7 @@ use native.Mathlib.Omega.{arith}
 use lib.ListN.{length, getD, replicate, length-append}
 use lib.Seq.{getD-append-add}
 use lib.Dec.{leb, eqb, ltb}
-use borrow.Author.Tests.{le-ltb, eq-eqb}
+use borrow.Author.Tests.{le-ltb, eq-eqb, lt-ltb}
 use Rattle.wire.specs.Told.{Told, given, refused, andThen}
 use Rattle.field.specs.declared.tag.FieldHead.{FieldHead}
 use Rattle.field.specs.declared.value.Value.{Value}
@@ -27,6 +27,16 @@ use Rattle.rows_firmware.specs.FieldRow.{fieldRow, fieldAt}
 use Rattle.rows_firmware.proofs.Components.{rows-length}
 use Rattle.calls_firmware.specs.Calls.{applyStored, applyWriteOf}
 use Rattle.calls_report.specs.Convert.{reportAt}
+use Rattle.extractor.specs.declared.state.Phase.{Phase}
+use Rattle.extractor.specs.declared.state.Phase.the-variants as phase
+use Rattle.extractor.specs.declared.state.Progress.{Progress}
+use Rattle.calls_classic.specs.Convert.{phaseNumber, phaseOf, isExtractor, extractorOf, extractorRow}
+use Rattle.framing.specs.declared.mark.Kind.{Kind}
+use Rattle.framing.specs.declared.mark.Kind.the-variants as kind
+use Rattle.parts.specs.declared.state.Stage.{Stage}
+use Rattle.parts.specs.declared.state.Stage.the-variants as stage
+use Rattle.parts.specs.declared.state.PartProgress.{PartProgress}
+use Rattle.calls_parts.specs.Convert.{stageNumber, stageOf, pendingNumber, pendingOf, isState, stateOf, stateRow}
 use Rattle.capi_claims.specs.RowsAgree.{NumbersFit, rowStanding, RowsAgree}
 use Rattle.capi_claims.proofs.Applies.{not-wide, low-same}
 
@@ -194,6 +204,50 @@ field-agrees s at = go (leb (length s) at) (tagAt s at)
     go false (given h) = kind-told s h (valueAt s (h .next) (h .wire)) ∙ value-agrees s h
     go false (refused n) = refl
 
+-- ---- state rows
+
+phase-back : (p : Phase) → (ltb (phaseNumber p) 6 ≡ true) × (phaseOf (phaseNumber p) ≡ p)
+unfolding phaseOf
+phase-back phase.Outside = (refl, refl)
+phase-back phase.PacketId = (refl, refl)
+phase-back phase.ErrorId = (refl, refl)
+phase-back phase.Sequence = (refl, refl)
+phase-back phase.Body = (refl, refl)
+phase-back phase.Escaped = (refl, refl)
+
+extractor-agrees : (limit : ℕ) (s : Progress) → s .sequence < 256
+    → (isExtractor (extractorRow limit s) ≡ true) × (extractorOf (extractorRow limit s) ≡ record { limit = limit; progress = s })
+unfolding isExtractor extractorOf
+extractor-agrees limit s h = (rw (phase-back (s .phase) .0) (lt-ltb (s .sequence) 256 h), ap (λ (p : Phase). record { limit = limit; progress = record { phase = p; sequence = s .sequence; held = s .held } }) (phase-back (s .phase) .1))
+
+stage-back : (g : Stage) → (ltb (stageNumber g) 8 ≡ true) × (stageOf (stageNumber g) ≡ g)
+unfolding stageOf
+stage-back stage.Start = (refl, refl)
+stage-back stage.PacketId = (refl, refl)
+stage-back stage.ErrorId = (refl, refl)
+stage-back stage.Sequence = (refl, refl)
+stage-back stage.Payload = (refl, refl)
+stage-back stage.Low = (refl, refl)
+stage-back stage.End = (refl, refl)
+stage-back stage.Done = (refl, refl)
+
+pending-back : (k : Kind) → (ltb (pendingNumber k) 4 ≡ true) × (pendingOf (pendingNumber k) ≡ k)
+unfolding pendingOf
+pending-back kind.Start = (refl, refl)
+pending-back kind.End = (refl, refl)
+pending-back kind.Escape = (refl, refl)
+pending-back kind.Plain = (refl, refl)
+
+parts-agree : (limit : ℕ) (s : PartProgress) → s .sequence < 256 → s .sum < 65536
+    → (isState (stateRow limit s) ≡ true) × (stateOf (stateRow limit s) ≡ record { limit = limit; progress = s })
+unfolding isState stateOf
+parts-agree limit s h k =
+    (
+      rw (lt-ltb (s .sequence) 256 h, lt-ltb (s .sum) 65536 k, stage-back (s .stage) .0) (pending-back (s .pending) .0),
+      ap (λ (g : Stage). record { limit = limit; progress = record { sequence = s .sequence; total = s .total; taken = s .taken; sum = s .sum; stage = g; pending = pendingOf (pendingNumber (s .pending)) } }) (stage-back (s .stage) .1)
+      ∙ ap (λ (q : Kind). record { limit = limit; progress = record { sequence = s .sequence; total = s .total; taken = s .taken; sum = s .sum; stage = s .stage; pending = q } }) (pending-back (s .pending) .1),
+    )
+
 pub rows-agree : RowsAgree
 unfolding reportAt
-rows-agree = record { apply = λ a texts out answer version eight fit most. apply-agrees a version eight fit most texts out answer; field = field-agrees; report = λ r. refl }
+rows-agree = record { apply = λ a texts out answer version eight fit most. apply-agrees a version eight fit most texts out answer; field = field-agrees; report = λ r. refl; extractor = extractor-agrees; parts = parts-agree }

@@ -1,8 +1,8 @@
 -- The claim that rows agree with what the library itself tells: the row of an ApplyFirmware is taken by its writer as that message, the row of a
 -- field tells what stands at the place, and the row that a report leaves is taken as that report.
-use Prim.Native.Nat.{ℕ, _≤_}
+use Prim.Native.Nat.{ℕ, _≤_, _<_}
 use mathlib.Core.Path.{_≡_}
-use mathlib.Core.Bool.{cond}
+use mathlib.Core.Bool.{true, cond}
 use mathlib.Core.List.{List, [], _∷_}
 use lib.ListN.{length, getD}
 use lib.Dec.{eqb}
@@ -20,6 +20,10 @@ use Rattle.rows_firmware.specs.FieldRow.{fieldAt}
 use Rattle.calls_firmware.specs.Calls.{applyWriteOf}
 use Rattle.report.specs.declared.CostReport.{CostReport}
 use Rattle.calls_report.specs.Convert.{reportRow, reportAt}
+use Rattle.extractor.specs.declared.state.Progress.{Progress}
+use Rattle.calls_classic.specs.Convert.{isExtractor, extractorOf, extractorRow}
+use Rattle.parts.specs.declared.state.PartProgress.{PartProgress}
+use Rattle.calls_parts.specs.Convert.{isState, stateOf, stateRow}
 
 abbrev pub NumbersFit : List FirmwareComponent → Type 0
 NumbersFit [] = Unit {0}
@@ -41,3 +45,8 @@ pub record RowsAgree : Type 0 where
       → applyWriteOf (wholeRow a) texts out answer ≡ textCall out answer (applyWritten a texts out)
   pub field : (message : List ℕ) (place : ℕ) → andThen (fieldAt message place) (λ row. given (rowStanding row)) ≡ foundAt message place
   pub report : (r : CostReport) → reportAt (reportRow r) ≡ r
+  -- a state row that was written is taken as that state
+  pub extractor : (limit : ℕ) (s : Progress) → s .sequence < 256
+      → (isExtractor (extractorRow limit s) ≡ true) × (extractorOf (extractorRow limit s) ≡ record { limit = limit; progress = s })
+  pub parts : (limit : ℕ) (s : PartProgress) → s .sequence < 256 → s .sum < 65536
+      → (isState (stateRow limit s) ≡ true) × (stateOf (stateRow limit s) ≡ record { limit = limit; progress = s })
