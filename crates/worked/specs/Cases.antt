@@ -6,7 +6,7 @@ use mathlib.Core.List.{List, [], _∷_, _++_, map, List·Memᴰ}
 use lib.IntN.{ℤ, pos, negℤ}
 use lib.ListN.{take, drop, set, replicate}
 use Rattle.wire.specs.declared.stream.Stream.the-variants.{Control, Ota, Alexa}
-use Rattle.wire.specs.Told.{given, refused}
+use Rattle.wire.specs.Told.{given, refused, written}
 use Rattle.packet.specs.Header.{bit}
 use Rattle.sender.specs.declared.writer.Sending.{Sending}
 use Rattle.slot.specs.declared.Slot.{Slot}
@@ -21,8 +21,8 @@ use Rattle.control.specs.declared.response.ResponsePayload.the-variants.{None}
 use Rattle.walk.specs.Gathered.{noPart}
 use Rattle.outbox.specs.Reader as outbox
 use Rattle.outbox.specs.Writer.{stored}
-use Rattle.worked.specs.Question.{Question, writeFrame, writeFrameWithin, nextSequenceByte, writePackets, readPieces, writePacketWithin, openReceiver, acceptPacket, answerPacket, acceptPacketWithin, writeAcknowledgement, writeEnvelope, readEnvelope, readRecord, appendRecord}
-use Rattle.worked.specs.Question.{Answer, bytes, sequenceByte, packets, pieces, sent, opened, accepted, answered, envelope, reading, appended, plain, extended, zeros, answerTo}
+use Rattle.worked.specs.Question.{Question, writeFrame, writeFrameWithin, writeFrameInto, nextSequenceByte, writePackets, readPieces, writePacketWithin, openReceiver, acceptPacket, answerPacket, acceptPacketWithin, writeAcknowledgement, writeEnvelope, readEnvelope, readRecord, appendRecord}
+use Rattle.worked.specs.Question.{Answer, bytes, output, sequenceByte, packets, pieces, sent, opened, accepted, answered, envelope, reading, appended, plain, extended, zeros, answerTo}
 
 -- a row: what is asked, and what comes back
 pub record Case : Type 0 where
@@ -99,6 +99,10 @@ responseRead command code = record { command = pos command; payload = Payload.Re
 abbrev eight : List ℕ
 eight = replicate 8 0xEE
 
+-- a file of 01 of which the first record is cut short, and four bytes behind it
+abbrev cutFile : List ℕ
+cutFile = 0x01 ∷ 0x00 ∷ 0x02 ∷ 0x06 ∷ replicate 4 0xEE
+
 unfoldable pub cases : List Case
 cases =
     -- P1 empty payload, sequence 0
@@ -111,6 +115,11 @@ cases =
     ∷ case (writeFrameWithin 65535 0xF0 (zeros 33)) (bytes (refused 15))
     ∷ case (writeFrameWithin 1 5 (0x41 ∷ 0x42 ∷ [])) (bytes (refused 15))
     ∷ case (writeFrameWithin 1 5 (0x41 ∷ [])) (bytes (given (0xF0 ∷ 0x02 ∷ 0x00 ∷ 0x05 ∷ 0x41 ∷ 0x00 ∷ 0x43 ∷ 0xF1 ∷ [])))
+    -- what is behind a frame stays, and so does all under 17, 15 and 14
+    ∷ case (writeFrameInto 1 5 (0x41 ∷ []) (replicate 9 0xEE)) (output (written (given 8) (0xF0 ∷ 0x02 ∷ 0x00 ∷ 0x05 ∷ 0x41 ∷ 0x00 ∷ 0x43 ∷ 0xF1 ∷ 0xEE ∷ [])))
+    ∷ case (writeFrameInto 0 5 [] (replicate 9 0xEE)) (output (written (refused 17) (replicate 9 0xEE)))
+    ∷ case (writeFrameInto 1 0xF1 [] (replicate 9 0xEE)) (output (written (refused 15) (replicate 9 0xEE)))
+    ∷ case (writeFrameInto 1 5 (0x41 ∷ []) (replicate 7 0xEE)) (output (written (refused 14) (replicate 7 0xEE)))
     -- P3 sequence bytes after EF, FF, 00
     ∷ case (nextSequenceByte 0xEF) (sequenceByte 0xF3)
     ∷ case (nextSequenceByte 0xFF) (sequenceByte 0x00)
@@ -239,6 +248,16 @@ cases =
     (appended (stored (outbox.given 8) (0x02 ∷ 0x00 ∷ 0x00 ∷ 0x00 ∷ 0x03 ∷ 0x06 ∷ 0x41 ∷ 0x42 ∷ 0x00 ∷ [])))
     ∷ case (appendRecord (0x01 ∷ zeros 6) 1 6 (0x41 ∷ 0x42 ∷ []))
     (appended (stored (outbox.given 6) (0x01 ∷ 0x00 ∷ 0x03 ∷ 0x06 ∷ 0x41 ∷ 0x42 ∷ 0x00 ∷ [])))
+    -- 15: place 0, and one beyond; 42: a length of 0; 43
+    ∷ case (readRecord (0x02 ∷ []) 0) (reading (outbox.refused 15))
+    ∷ case (readRecord (0x02 ∷ []) 2) (reading (outbox.refused 15))
+    ∷ case (readRecord (0x01 ∷ 0x00 ∷ 0x00 ∷ []) 1) (reading (outbox.refusedAt 42 1))
+    ∷ case (readRecord (0x01 ∷ 0x00 ∷ 0x01 ∷ 0x01 ∷ []) 1) (reading (outbox.refusedAt 43 1))
+    -- appending after used bytes that are not whole: 14 first, then 41, 42, 43; each leaves all
+    ∷ case (appendRecord cutFile 4 6 []) (appended (stored (outbox.refusedAt 41 1) cutFile))
+    ∷ case (appendRecord (take 6 cutFile) 4 6 []) (appended (stored (outbox.refused 14) (take 6 cutFile)))
+    ∷ case (appendRecord (0x01 ∷ 0x00 ∷ 0x00 ∷ replicate 4 0xEE) 3 6 []) (appended (stored (outbox.refusedAt 42 1) (0x01 ∷ 0x00 ∷ 0x00 ∷ replicate 4 0xEE)))
+    ∷ case (appendRecord (0x01 ∷ 0x00 ∷ 0x01 ∷ 0x01 ∷ replicate 4 0xEE) 4 6 []) (appended (stored (outbox.refusedAt 43 1) (0x01 ∷ 0x00 ∷ 0x01 ∷ 0x01 ∷ replicate 4 0xEE)))
     ∷ []
 
 -- every row of the table holds

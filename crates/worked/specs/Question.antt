@@ -39,6 +39,8 @@ pub data Question : Type 0 where
   writeFrame : ℕ → List ℕ → Question
   -- .. for a link with another limit
   writeFrameWithin : ℕ → ℕ → List ℕ → Question
+  -- .. into an output that is lent
+  writeFrameInto : ℕ → ℕ → List ℕ → List ℕ → Question
   -- the sequence byte after one
   nextSequenceByte : ℕ → Question
   -- the packets of a message, place after place
@@ -72,6 +74,8 @@ pub data PieceLength : Type 0 where
 pub data Answer : Type 0 where
   -- what was written
   bytes : Told (List ℕ) → Answer
+  -- what a writer tells, and its output afterwards
+  output : Written ℕ → Answer
   sequenceByte : ℕ → Answer
   packets : List (List ℕ) → Answer
   pieces : List (Told PieceLength) → Answer
@@ -103,26 +107,27 @@ abbrev pub answeredBy : PacketLeft → Answer
 answeredBy l = answered (l .told) (l .slots) (l .out)
 
 -- the output lent to a writer: more than any case needs
-abbrev output : List ℕ
-output = zeros 32
+abbrev room : List ℕ
+room = zeros 32
 
 -- the packets of a message: the output is as large as the room
 abbrev packetsOf : Sending → List ℕ → List (List ℕ)
 packetsOf w m = callsOf limit w m (zeros (w .room))
 
 unfoldable pub answerTo : Question → Answer
-answerTo (writeFrame sequence payload) = bytes (bytesOf (frame.writeOf limit sequence payload output))
-answerTo (writeFrameWithin limit sequence payload) = bytes (bytesOf (frame.writeOf limit sequence payload output))
+answerTo (writeFrame sequence payload) = bytes (bytesOf (frame.writeOf limit sequence payload room))
+answerTo (writeFrameWithin limit sequence payload) = bytes (bytesOf (frame.writeOf limit sequence payload room))
+answerTo (writeFrameInto limit sequence payload out) = output (frame.writeOf limit sequence payload out)
 answerTo (nextSequenceByte sequence) = sequenceByte (nextSequence sequence)
 answerTo (writePackets w m) = packets (packetsOf w m)
 answerTo (readPieces w m) = pieces (map pieceLengthOf (packetsOf w m))
 answerTo (writePacketWithin limit w m) = sent (writtenOf limit w m 0 (zeros (w .room)) .told)
 answerTo (openReceiver limit) = opened (openOf limit)
-answerTo (acceptPacketWithin limit slots p) = acceptedBy (acceptOf limit slots (zeros (slotCount * limit)) (call p 0 output))
-answerTo (acceptPacket slots p) = acceptedBy (acceptOf limit slots (zeros (slotCount * limit)) (call p 0 output))
+answerTo (acceptPacketWithin limit slots p) = acceptedBy (acceptOf limit slots (zeros (slotCount * limit)) (call p 0 room))
+answerTo (acceptPacket slots p) = acceptedBy (acceptOf limit slots (zeros (slotCount * limit)) (call p 0 room))
 answerTo (answerPacket slots p sequence out) = answeredBy (acceptOf limit slots (zeros (slotCount * limit)) (call p sequence out))
-answerTo (writeAcknowledgement stream id sequence positive) = bytes (bytesOf (ackOf stream id sequence positive output))
-answerTo (writeEnvelope command payload) = bytes (bytesOf (envelopeWritten command payload [] output))
+answerTo (writeAcknowledgement stream id sequence positive) = bytes (bytesOf (ackOf stream id sequence positive room))
+answerTo (writeEnvelope command payload) = bytes (bytesOf (envelopeWritten command payload [] room))
 answerTo (readEnvelope m) = envelope (envelopeOf m)
 answerTo (readRecord file place) = reading (outbox.readOf (formatOf file) file place)
 answerTo (appendRecord buffer used stream payload) = appended (appendOf (formatOf (take used buffer)) buffer used stream payload)
