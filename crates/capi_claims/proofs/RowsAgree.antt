@@ -241,12 +241,11 @@ pending-back kind.Plain = (refl, refl)
 parts-agree : (limit : ℕ) (s : PartProgress) → s .sequence < 256 → s .sum < 65536
     → (isState (stateRow limit s) ≡ true) × (stateOf (stateRow limit s) ≡ record { limit = limit; progress = s })
 unfolding isState stateOf
-parts-agree limit s h k =
-    (
-      rw (lt-ltb (s .sequence) 256 h, lt-ltb (s .sum) 65536 k, stage-back (s .stage) .0) (pending-back (s .pending) .0),
-      ap (λ (g : Stage). record { limit = limit; progress = record { sequence = s .sequence; total = s .total; taken = s .taken; sum = s .sum; stage = g; pending = pendingOf (pendingNumber (s .pending)) } }) (stage-back (s .stage) .1)
+parts-agree limit s h k = (
+  rw (lt-ltb (s .sequence) 256 h, lt-ltb (s .sum) 65536 k, stage-back (s .stage) .0) (pending-back (s .pending) .0),
+  ap (λ (g : Stage). record { limit = limit; progress = record { sequence = s .sequence; total = s .total; taken = s .taken; sum = s .sum; stage = g; pending = pendingOf (pendingNumber (s .pending)) } }) (stage-back (s .stage) .1)
       ∙ ap (λ (q : Kind). record { limit = limit; progress = record { sequence = s .sequence; total = s .total; taken = s .taken; sum = s .sum; stage = s .stage; pending = q } }) (pending-back (s .pending) .1),
-    )
+)
 
 pub rows-agree : RowsAgree
 unfolding reportAt

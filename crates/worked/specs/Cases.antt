@@ -72,6 +72,10 @@ alone place flag id sequence wanted total held =
 abbrev pub unlawful : List Slot → Case
 unlawful slots = case (acceptPacketWithin 64 slots (beginning 1)) (accepted (refused 1) slots)
 
+-- a packet that is refused by its own bytes, which leaves the row
+abbrev pub unread : ℕ → List ℕ → Case
+unread n packet = case (acceptPacketWithin 64 full packet) (accepted (refused n) full)
+
 -- a transaction of this id in the control stream and one in the OTA stream
 abbrev pub twoStreams : ℕ → List Slot
 twoStreams id = begun id ∷ (replicate 3 idle ++ (begun id ∷ replicate 7 idle))
@@ -197,6 +201,25 @@ cases =
     ∷ case (acceptPacketWithin 64 withoutOne (0x04 ∷ 0x00 ∷ 0x00 ∷ 0x00 ∷ 0x01 ∷ 0x01 ∷ 0x07 ∷ []))
     (accepted (given (Finished 1 Control 4 1 false false)) withoutOne)
     ∷ case (acceptPacketWithin 64 (drop 4 full ++ take 4 full) (beginning 0x64)) (accepted (refused 18) (drop 4 full ++ take 4 full))
+    -- No. 2: a flag on a continuation alone is remembered, and asks at the last
+    ∷ case (acceptPacketWithin 64 (alone 8 1 1 0 0 3 1) (0x61 ∷ 0x16 ∷ 0x01 ∷ 0xBB ∷ [])) (accepted (given (Taken 8 Alexa 1 false)) (alone 8 1 1 1 1 3 2))
+    ∷ case (acceptPacketWithin 64 (alone 8 1 1 1 1 3 2) (0x61 ∷ 0x28 ∷ 0x01 ∷ 0xCC ∷ [])) (accepted (given (Finished 8 Alexa 1 3 true false)) idles)
+    -- a packet's own refusals, each where the next in order holds too: 2 before 3, 3 before 12, 12, 4 before 5, 5 before 6, 6 before 7, 7 before 9
+    ∷ unread 2 (0x71 ∷ 0x00 ∷ 0x00 ∷ 0x00 ∷ 0x01 ∷ [])
+    ∷ unread 2 (0x71 ∷ 0x05 ∷ 0x01 ∷ [])
+    ∷ unread 3 (0x71 ∷ 0x0C ∷ 0x00 ∷ [])
+    ∷ unread 12 (0x01 ∷ 0x0E ∷ [])
+    ∷ unread 12 (0x01 ∷ 0x0F ∷ 0x00 ∷ 0x02 ∷ 0x01 ∷ 0x00 ∷ [])
+    ∷ unread 12 (0x01 ∷ 0x0E ∷ 0x00 ∷ 0x02 ∷ 0x01 ∷ 0x03 ∷ [])
+    ∷ unread 12 (0x01 ∷ 0x0C ∷ 0x00 ∷ 0x02 ∷ 0x01 ∷ 0x03 ∷ 0x00 ∷ [])
+    ∷ unread 4 (0x01 ∷ 0x00 ∷ 0x01 ∷ 0x00 ∷ 0x02 ∷ 0x05 ∷ 0x07 ∷ [])
+    ∷ unread 5 (0x01 ∷ 0x00 ∷ 0x00 ∷ 0x00 ∷ 0x41 ∷ 0x02 ∷ 0x07 ∷ [])
+    ∷ unread 5 (0x01 ∷ 0x18 ∷ 0x01 ∷ 0x08 ∷ 0x08 ∷ [])
+    ∷ unread 6 (0x01 ∷ 0x00 ∷ 0x00 ∷ 0x00 ∷ 0x41 ∷ 0x00 ∷ [])
+    ∷ unread 7 (0x01 ∷ 0x00 ∷ 0x00 ∷ 0x00 ∷ 0x02 ∷ 0x00 ∷ [])
+    ∷ unread 7 (0x09 ∷ 0x18 ∷ 0x00 ∷ [])
+    -- the extender on a length of 1: two bytes, big-endian
+    ∷ case (acceptPacketWithin 64 full (0x01 ∷ 0x19 ∷ 0x00 ∷ 0x01 ∷ 0x08 ∷ [])) (accepted (given (Finished 1 Control 1 2 false false)) withoutOne)
     -- unlawful rows: one id twice in a stream, eleven slots and thirteen
     ∷ unlawful (opening (3 ∷ 3 ∷ []))
     ∷ unlawful (set (set idles 8 (begun 3)) 11 (begun 3))
