@@ -1,13 +1,12 @@
 -- How many bytes a whole file has in the wished version.
 use Prim.Native.Nat.{ℕ, zero, suc, _+_, _*_, _≤_, zero-le}
-use mathlib.Core.Path.{_≡_, refl, ap}
+use mathlib.Core.Path.{_≡_}
 use mathlib.Core.Bool.{Bool, true, false, cond}
 use mathlib.Core.List.{List, [], _∷_, _++_}
 use native.Mathlib.Nat.{le-of-lt, mul-add, mul-le-mul-left, mul-le-mul-right}
 use native.Mathlib.Omega.{arith}
 use lib.ListN.{length, take, drop, length-append}
 use lib.Dec.{eqb}
-use borrow.Author.Tests.{eq-eqb}
 use Rattle.outbox.specs.declared.format.Format.{Format}
 use Rattle.outbox.specs.Format.{headSize, recordBytes, newBytes}
 use Rattle.outbox.specs.Reader.{HandedRecord, given, readAll, walkOf}
@@ -43,7 +42,7 @@ module _ (times : ℕ) (wished fmt : Format) (grows : (n : ℕ) → headSize wis
         length-record wished (f .stream) payload,
       )
 
--- a whole file in another version
+-- a whole file in a version, its own too
 pub moved-most : (times : ℕ) → 1 ≤ times → (wished fmt : Format) → ((n : ℕ) → headSize wished + n ≤ times * (headSize fmt + n))
     → (file : List ℕ) → walkOf fmt file ≡ given tt → length (movedTo wished fmt file) ≤ times * length file
 unfolding movedTo
@@ -55,8 +54,3 @@ moved-most times some wished fmt grows file w = by-version (eqb (wished .version
     by-version : (t : Bool) → length (cond t file (newBytes wished ++ recordsIn wished (readAll fmt file))) ≤ times * length file
     by-version true = whole
     by-version false = omega (arith, some, records-most times wished fmt grows file (all-run fmt file (whole-version fmt file w)))
-
--- .. and one that has the version already
-pub copy-same : (fmt : Format) (file : List ℕ) → movedTo fmt fmt file ≡ file
-unfolding movedTo
-copy-same fmt file = rw (eq-eqb (fmt .version) (fmt .version) refl)
