@@ -20,7 +20,10 @@ use Rattle.field.specs.Fields.{Standing, field, end, foundAt}
 use Rattle.firmware.specs.declared.component.FirmwareComponent.{FirmwareComponent}
 use Rattle.firmware.specs.declared.apply.ApplyFirmware.{ApplyFirmware}
 use Rattle.firmware_writer.specs.Apply.{boolValue, applyWritten}
-use Rattle.firmware_round_trips.specs.RoundTrip.{Unsigned32}
+use Rattle.field.proofs.Told.{sat-given}
+use Rattle.firmware.specs.Apply.{applyOf}
+use Rattle.firmware_round_trips.specs.RoundTrip.{Unsigned32, FirmwareTakes}
+use Rattle.firmware_round_trips.proofs.Told.{Eight, apply-takes, apply-eight}
 use Rattle.rows_messages.specs.Convert.{textCall}
 use Rattle.rows_firmware.specs.Apply.{componentRow, componentRows, headRow, wholeRow, componentAt, componentsAt, applyAt, wideAt, anyWide, badRow}
 use Rattle.rows_firmware.specs.FieldRow.{fieldRow, fieldAt}
@@ -48,6 +51,7 @@ use Rattle.rows.specs.Row.{afterwards, numberTold}
 use Rattle.rows.specs.Called.{called}
 use Rattle.capi_claims.specs.RowsAgree.{NumbersFit, rowStanding, packetBy, packetsFrom, recordBy, recordsFrom, RowsAgree}
 use Rattle.capi_claims.proofs.Applies.{not-wide, low-same}
+use Rattle.capi_claims.proofs.Told.{numbers-fit}
 
 -- ---- an ApplyFirmware
 -- what stands before does not count
@@ -153,6 +157,13 @@ module _ (a : ApplyFirmware) (version : Unsigned32 (a .«firmware_information» 
   apply-agrees : (texts out answer : List ℕ) → applyWriteOf (wholeRow a) texts out answer ≡ textCall out answer (applyWritten a texts out)
   unfolding applyWriteOf applyStored
   apply-agrees texts out answer = rw (eq-eqb (length (wholeRow a)) 57 row-length, row-fine, row-again)
+
+told-agrees : (message : List ℕ) (a : ApplyFirmware) (texts out answer : List ℕ) → applyOf message ≡ given a
+    → applyWriteOf (wholeRow a) texts out answer ≡ textCall out answer (applyWritten a texts out)
+told-agrees message a texts out answer e =
+    let w = sat-given (λ (x : ApplyFirmware). FirmwareTakes message (x .«firmware_information»)) (applyOf message) a (apply-takes message) e in
+    let eight = sat-given (λ (x : ApplyFirmware). Eight message (x .«firmware_information» .components)) (applyOf message) a (apply-eight message) e in
+    apply-agrees a (w .number) (eight .0) (numbers-fit message (a .«firmware_information» .components) (eight .1)) (w .most) texts out answer
 
 -- ---- a field
 module _ (s : List ℕ) (h : FieldHead) where
@@ -282,6 +293,7 @@ pub rows-agree : RowsAgree
 unfolding reportAt
 rows-agree = record {
   apply = λ a texts out answer version eight fit most. apply-agrees a version eight fit most texts out answer;
+  apply-told = told-agrees;
   field = field-agrees;
   report = λ r. refl;
   extractor = classic.state-again;

@@ -13,6 +13,7 @@ use Rattle.field.specs.declared.value.Value.the-variants.{Number, Bytes, Skippe
 use Rattle.field.specs.Fields.{Standing, field, end, foundAt}
 use Rattle.firmware.specs.declared.component.FirmwareComponent.{FirmwareComponent}
 use Rattle.firmware.specs.declared.apply.ApplyFirmware.{ApplyFirmware}
+use Rattle.firmware.specs.Apply.{applyOf}
 use Rattle.firmware_writer.specs.Apply.{applyWritten}
 use Rattle.firmware_round_trips.specs.RoundTrip.{Unsigned32}
 use Rattle.rows_messages.specs.Convert.{textCall}
@@ -80,6 +81,9 @@ pub record RowsAgree : Type 0 where
   -- an ApplyFirmware whose numbers its type holds, with at most eight components
   pub apply : (a : ApplyFirmware) (texts out answer : List ℕ) → Unsigned32 (a .«firmware_information» .version)
       → length (a .«firmware_information» .components) ≡ 8 → NumbersFit (a .«firmware_information» .components) → a .«firmware_information» .count ≤ 8
+      → applyWriteOf (wholeRow a) texts out answer ≡ textCall out answer (applyWritten a texts out)
+  -- .. as every one is that was told of a message
+  pub apply-told : (message : List ℕ) (a : ApplyFirmware) (texts out answer : List ℕ) → applyOf message ≡ given a
       → applyWriteOf (wholeRow a) texts out answer ≡ textCall out answer (applyWritten a texts out)
   pub field : (message : List ℕ) (place : ℕ) → andThen (fieldAt message place) (λ row. given (rowStanding row)) ≡ foundAt message place
   pub report : (r : CostReport) → reportAt (reportRow r) ≡ r
