@@ -3,9 +3,11 @@ use Prim.Native.Nat.{ℕ, _+_, _≤_}
 use native.Mathlib.Omega.{arith}
 use mathlib.Core.Path.{_≡_, refl, ap, sym, subst}
 use mathlib.Core.List.{List, [], _∷_, _++_}
-use mathlib.Core.Bool.{false}
+use mathlib.Core.Bool.{Bool, true, false, false≢true, _||_}
 use lib.IntN.{ℤ, pos, negsuc}
 use lib.ListN.{length, length-append}
+use lib.Dec.{ltb}
+use borrow.Author.Tests.{ltb-false}
 use Rattle.field.specs.Signed.{extended}
 use Rattle.field_writer.specs.Writer.{scalar, nested, headBytes, partBytes, fieldBytes, messageBytes}
 use Rattle.known_fields.specs.Schema.{responseField}
@@ -17,6 +19,7 @@ use Rattle.control.specs.Envelope.{envelopeFields}
 use Rattle.device.specs.Information.{informationFields}
 use Rattle.device.specs.Features.{featuresOf, featuresFields}
 use Rattle.wire.specs.Told.{given}
+use Rattle.wire.proofs.Limits.{limit-range}
 use Rattle.round_trips.specs.RoundTrip.{innerBytes, informationAgain}
 use Rattle.round_trips.specs.Premises.{InSigned32}
 use Rattle.round_trips.proofs.Values.{whole}
@@ -25,9 +28,12 @@ use Rattle.round_trips.proofs.RoundTrip.{features-read, information-read, envel
 use Rattle.reply_parts.specs.declared.body.CommandKind.{CommandKind}
 use Rattle.reply_parts.specs.declared.body.CommandKind.the-variants.{Other}
 use Rattle.reply_parts.specs.Body.{kindOfCommand}
-use Rattle.reply.specs.Reply.{Box, bodyOf, replyBy}
+use Rattle.field_writer.specs.Message.{badMember}
+use Rattle.reply.specs.declared.Link.{Link}
+use Rattle.reply.specs.Reply.{Box, bodyOf, replyBy, replyOf}
+use Rattle.reply_claims.specs.Answers.{Answers}
 use Rattle.reply_claims.specs.ReadAgain.{ResponseReads, BareReads, ReplyReads}
-use Rattle.reply_claims.proofs.Premises.{fine-member, other-kind}
+use Rattle.reply_claims.proofs.Premises.{other-kind}
 
 -- a member's bytes are no longer than the message
 part-length : (field : ℕ) (l : List ℕ) → length l ≤ length (partBytes field l)
@@ -74,23 +80,40 @@ other-reads : (b : Box) (c : ℤ) → InSigned32 c → OtherReads b c Other
 unfolding replyBy
 other-reads b c z short = read c (pos 3) Inner.None [] (λ body. body ≡ []) z (omega arith) refl short refl
 
+-- a reply that is within the limit is no longer than any message
+short : (b : Box) (l : Link) (message : List ℕ) (c : ℤ) (out : List ℕ) → Answers b l message c out → length (replyOf b (extended c)) ≤ 65535
+short b l message c out a = omega (arith, a .within, limit-range (l .limit) (a .limit) .1)
+
+-- what the information carries
+carries : (b : Box) → (badMember (b .members .information) || ltb 8 (length (b .transports))) ≡ false
+    → (badMember (b .members .information) ≡ false) × (length (b .transports) ≤ 8)
+carries b e =
+    let each = neither (badMember (b .members .information)) (ltb 8 (length (b .transports))) e in
+    (each .0, ltb-false 8 (length (b .transports)) (each .1))
+  where
+    neither : (x y : Bool) → (x || y) ≡ false → (x ≡ false) × (y ≡ false)
+    neither true y e = absurd (false≢true (sym e))
+    neither false y e = (refl, e)
+
 pub reply-reads : ReplyReads
 unfolding kindOfCommand replyBy
 reply-reads =
     record {
-      information = λ b low high zs few s n t short.
+      information = λ b l message out a zs.
           let body : List ℕ = messageBytes (informationFields (b .serialNumber) (b .name) (b .transports) (b .deviceType)) in
-          let k : length body ≤ 65535 = body-short 20 0 (b .members .information) body short in
+          let small = short b l message (pos 20) out a in
+          let k : length body ≤ 65535 = body-short 20 0 (b .members .information) body small in
+          let fine = carries b (a .carried) in
           read (pos 20) (pos 0) (Inner.Member (b .members .information)) body
           (λ body. informationAgain body ≡ given (b .serialNumber, b .name, b .transports, b .deviceType))
-          (omega arith) (omega arith) (fine-member (b .members .information) low high) short
-          (information-read (b .serialNumber) (b .name) (b .transports) (b .deviceType) body (s, (n, (t, tt))) (all-signed (b .transports) zs) few (omega arith) (whole body));
-      features = λ b low high f a short.
+          (omega arith) (omega arith) (fine .0) small
+          (information-read (b .serialNumber) (b .name) (b .transports) (b .deviceType) body (a .strings) (all-signed (b .transports) zs) (fine .1) (omega arith) (whole body));
+      features = λ b l message out a f d.
           let body : List ℕ = messageBytes (featuresFields (b .features)) in
           read (pos 28) (pos 0) (Inner.Member (b .members .features)) body (λ body. featuresOf body ≡ given (b .features))
-          (omega arith) (omega arith) (fine-member (b .members .features) low high) short
+          (omega arith) (omega arith) (a .carried) (short b l message (pos 28) out a)
           (features-read (b .features) body (omega arith) (omega arith) (whole body));
-      segment = λ b short. read (pos 94) (pos 0) Inner.None [] (λ body. body ≡ []) (omega arith) (omega arith) refl short refl;
-      apply = λ b short. read (pos 95) (pos 0) Inner.None [] (λ body. body ≡ []) (omega arith) (omega arith) refl short refl;
-      other = λ b c z n20 n28 n94 n95. subst (OtherReads b c) (sym (other-command c z n20 n28 n94 n95)) (other-reads b c z);
+      segment = λ b l message out a. read (pos 94) (pos 0) Inner.None [] (λ body. body ≡ []) (omega arith) (omega arith) refl (short b l message (pos 94) out a) refl;
+      apply = λ b l message out a. read (pos 95) (pos 0) Inner.None [] (λ body. body ≡ []) (omega arith) (omega arith) refl (short b l message (pos 95) out a) refl;
+      other = λ b l message c out a z n20 n28 n94 n95. subst (OtherReads b c) (sym (other-command c z n20 n28 n94 n95)) (other-reads b c z) (short b l message c out a);
     }

@@ -21,8 +21,8 @@ use Rattle.control.specs.declared.response.ResponsePayload.the-variants.{None}
 use Rattle.walk.specs.Gathered.{noPart}
 use Rattle.outbox.specs.Reader as outbox
 use Rattle.outbox.specs.Writer.{stored}
-use Rattle.worked.specs.Question.{Question, writeFrame, writeFrameWithin, writeFrameInto, nextSequenceByte, writePackets, readPieces, writePacketWithin, openReceiver, acceptPacket, answerPacket, acceptPacketWithin, writeAcknowledgement, writeEnvelope, readEnvelope, readRecord, appendRecord}
-use Rattle.worked.specs.Question.{Answer, bytes, output, sequenceByte, packets, pieces, sent, opened, accepted, answered, envelope, reading, appended, plain, extended, zeros, answerTo}
+use Rattle.worked.specs.Question.{Question, writeFrame, writeFrameWithin, writeFrameInto, nextSequenceByte, writePackets, readPieces, writePacketWithin, writePacketInto, openReceiver, acceptPacket, answerPacket, acceptPacketWithin, writeAcknowledgement, writeAcknowledgementInto, writeEnvelope, readEnvelope, readRecord, appendRecord}
+use Rattle.worked.specs.Question.{Answer, bytes, output, sequenceByte, packets, pieces, sent, sentInto, opened, accepted, answered, envelope, reading, appended, plain, extended, zeros, answerTo}
 
 -- a row: what is asked, and what comes back
 pub record Case : Type 0 where
@@ -146,6 +146,10 @@ cases =
     ∷ case (writePacketWithin 65536 (sending 20 6 1 0 false) []) (sent (refused 17))
     ∷ case (writePacketWithin 1 (sending 20 6 1 0 false) (zeros 2)) (sent (refused 15))
     ∷ case (writePacketWithin 2 (sending 20 6 1 0 false) (zeros 2)) (sent (given (last 8)))
+    -- 14: the last piece of one byte wants an output of the room too; what is behind its packet stays
+    ∷ case (writePacketInto (sending 20 6 1 0 false) (zeros 15) 14 (replicate 19 0xEE)) (sentInto (written (refused 14) (replicate 19 0xEE)))
+    ∷ case (writePacketInto (sending 20 6 1 0 false) (zeros 15) 14 (replicate 20 0xEE))
+    (sentInto (written (given (last 4)) (0x61 ∷ 0x18 ∷ 0x01 ∷ 0x00 ∷ replicate 16 0xEE)))
     -- an opening: 17 where the limit is 0 or above 65,535
     ∷ case (openReceiver 0) (opened (refused 17))
     ∷ case (openReceiver 1) (opened (given (linkOf 1)))
@@ -161,6 +165,9 @@ cases =
     -- P8 ACK and NACK for P4, sequence 0
     ∷ case (writeAcknowledgement 6 1 0 true) (bytes (given (0x61 ∷ 0x0E ∷ 0x00 ∷ 0x02 ∷ 0x01 ∷ 0x00 ∷ [])))
     ∷ case (writeAcknowledgement 6 1 0 false) (bytes (given (0x61 ∷ 0x0C ∷ 0x00 ∷ 0x02 ∷ 0x01 ∷ 0x03 ∷ [])))
+    -- .. 14 under six bytes, and what is behind it stays
+    ∷ case (writeAcknowledgementInto 6 1 0 true (replicate 5 0xEE)) (output (written (refused 14) (replicate 5 0xEE)))
+    ∷ case (writeAcknowledgementInto 6 1 0 true (replicate 7 0xEE)) (output (written (given 6) (0x61 ∷ 0x0E ∷ 0x00 ∷ 0x02 ∷ 0x01 ∷ 0x00 ∷ 0xEE ∷ [])))
     -- P9 empty transaction, stream, id, sequence 0; and a receiver finishes it at once, its slot idle
     ∷ case (writePackets (sending 20 0 0 0 false) []) (packets (zeros 6 ∷ []))
     ∷ case (acceptPacket idles (zeros 6)) (accepted (given (Finished 0 Control 0 0 false false)) idles)

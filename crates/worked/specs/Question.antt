@@ -49,6 +49,8 @@ pub data Question : Type 0 where
   readPieces : Sending → List ℕ → Question
   -- the packet of a message at its first place, for a link with another limit
   writePacketWithin : ℕ → Sending → List ℕ → Question
+  -- .. at a place, into an output that is lent
+  writePacketInto : Sending → List ℕ → ℕ → List ℕ → Question
   -- a receiver, opened with a limit
   openReceiver : ℕ → Question
   -- a packet, given to a receiver with these slots
@@ -59,6 +61,8 @@ pub data Question : Type 0 where
   answerPacket : List Slot → List ℕ → ℕ → List ℕ → Question
   -- an ACK, or a NACK where it is not positive, for a stream and an id, with a sequence
   writeAcknowledgement : ℕ → ℕ → ℕ → Bool → Question
+  -- .. into an output that is lent
+  writeAcknowledgementInto : ℕ → ℕ → ℕ → Bool → List ℕ → Question
   -- an envelope with a command and a payload that has no bytes of its own
   writeEnvelope : ℤ → EnvelopePayload → Question
   readEnvelope : List ℕ → Question
@@ -81,6 +85,8 @@ pub data Answer : Type 0 where
   pieces : List (Told PieceLength) → Answer
   -- what is told of a packet that was written
   sent : Told Sent → Answer
+  -- .. and the output afterwards
+  sentInto : Written Sent → Answer
   opened : Told Receiver → Answer
   -- what is told of a packet, and the slots afterwards
   accepted : Told Accepted → List Slot → Answer
@@ -122,11 +128,13 @@ answerTo (nextSequenceByte sequence) = sequenceByte (nextSequence sequence)
 answerTo (writePackets w m) = packets (packetsOf w m)
 answerTo (readPieces w m) = pieces (map pieceLengthOf (packetsOf w m))
 answerTo (writePacketWithin limit w m) = sent (writtenOf limit w m 0 (zeros (w .room)) .told)
+answerTo (writePacketInto w m place out) = sentInto (writtenOf limit w m place out)
 answerTo (openReceiver limit) = opened (openOf limit)
 answerTo (acceptPacketWithin limit slots p) = acceptedBy (acceptOf limit slots (zeros (slotCount * limit)) (call p 0 room))
 answerTo (acceptPacket slots p) = acceptedBy (acceptOf limit slots (zeros (slotCount * limit)) (call p 0 room))
 answerTo (answerPacket slots p sequence out) = answeredBy (acceptOf limit slots (zeros (slotCount * limit)) (call p sequence out))
 answerTo (writeAcknowledgement stream id sequence positive) = bytes (bytesOf (ackOf stream id sequence positive room))
+answerTo (writeAcknowledgementInto stream id sequence positive out) = output (ackOf stream id sequence positive out)
 answerTo (writeEnvelope command payload) = bytes (bytesOf (envelopeWritten command payload [] room))
 answerTo (readEnvelope m) = envelope (envelopeOf m)
 answerTo (readRecord file place) = reading (outbox.readOf (formatOf file) file place)
