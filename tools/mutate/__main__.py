@@ -9,14 +9,14 @@ of one that a program calls. Any other is tied to one of these by a proof.
 A change that no row refuses has a line in tools/mutate/same: file | definition | change | why it changes nothing that can be seen.
 `*` stands for every change of a definition; a reason that begins with `open` is not judged yet. It fails on a change with no line, and
 on a line that is not needed. --list prints the lines that are missing. The score by crate, as in docs/promises/mutants.md."""
-import os, sys, threading, time
+import os, sys, time
 from collections import Counter, defaultdict
 
 from changes import changes, compiled, ty
 from contracts import seen
 from reader import result
 from tables import collect
-from world import UNK, Unread, World
+from world import UNK, Unread, World, deep
 
 SAME = os.path.join(os.path.dirname(os.path.abspath(__file__)), "same")
 
@@ -133,17 +133,6 @@ def main():
     for k in [] if words else sorted(needless):
         print("a line that is not needed:", " | ".join(k))
     return 1 if missing or needless and not words else 0
-
-
-def deep(f):
-    """runs f with a deep stack; exits with what it returns"""
-    out = []
-    sys.setrecursionlimit(20000)
-    threading.stack_size(512 * 1024 * 1024)
-    t = threading.Thread(target=lambda: out.append(f()))
-    t.start()
-    t.join()
-    sys.exit(out[0] if out else 1)
 
 
 if __name__ == "__main__":

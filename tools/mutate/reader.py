@@ -215,7 +215,8 @@ class P:
             items = [x]
             while self.peek() == ",":
                 self.next()
-                items.append(self.expr())
+                if self.peek() != ")":
+                    items.append(self.expr())
             c = self.want(")")
             if len(items) == 1:
                 return N("par", s, c[2], x)
@@ -250,9 +251,9 @@ class Def:
 
 
 class Mod:
-    def __init__(self, path, rel):
+    def __init__(self, path, rel, text=None):
         self.path, self.rel = (path, rel)
-        self.text = open(path, encoding="utf8").read()
+        self.text = open(path, encoding="utf8").read() if text is None else text
         self.defs, self.recs, self.datas, self.ctors, self.imports, self.alias, self.bad = ({}, {}, {}, {}, {}, {}, [])
         self.order = []
 
@@ -276,10 +277,9 @@ def items(text):
 HEAD = re.compile("((?:abbrev |unfoldable |pub )*)(\\S+) :\\s")
 
 
-def load(path, rel):
-    m = Mod(path, rel)
+def load(path, rel, text=None):
+    m = Mod(path, rel, text)
     text = m.text
-    skip = False
     for s, e in items(text):
         it = text[s:e]
         w = it.split(None, 1)[0]

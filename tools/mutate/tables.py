@@ -110,10 +110,10 @@ def names(n):
         yield from names(x)
 
 
-def collect(w):
-    """(rows that are true, labels of those that are false, labels of those that are not decided)"""
+def collect(w, only=None):
+    """(rows that are true, labels of those that are false, labels of those that are not decided), of all files or of one"""
     rows, false, unknown = [], [], []
-    for m in w.mods.values():
+    for m in [w.mods[only]] if only else w.mods.values():
         for label, node in candidates(w, m):
             try:
                 found = list(statements(w, m, node, label))

@@ -1,6 +1,18 @@
 """The definitions of a tree as Python functions."""
-import os, glob, re, sys
+import glob, os, re, sys, threading
+
 from reader import bare, declared, load
+
+
+def deep(f):
+    """runs f with a deep stack; exits with what it returns"""
+    out = []
+    sys.setrecursionlimit(20000)
+    threading.stack_size(512 * 1024 * 1024)
+    t = threading.Thread(target=lambda: out.append(f()))
+    t.start()
+    t.join()
+    sys.exit(out[0] if out else 1)
 
 
 class Unknown:
@@ -292,7 +304,7 @@ class Unread(Exception):
 
 
 class World:
-    def __init__(self, root, proofs=True):
+    def __init__(self, root):
         self.root = root
         self.mods = {}
         self.enums, self.structs = ({}, {})
@@ -308,12 +320,11 @@ class World:
                     continue
                 rel = f"{c}/specs/{os.path.basename(f)[:-5]}"
                 self.mods[rel] = load(f, rel)
-            if proofs:
-                for f in sorted(glob.glob(d + "/proofs/*.antt")):
-                    if f.endswith("/Lib.antt"):
-                        continue
-                    rel = f"{c}/proofs/{os.path.basename(f)[:-5]}"
-                    self.mods[rel] = load(f, rel)
+            for f in sorted(glob.glob(d + "/proofs/*.antt")):
+                if f.endswith("/Lib.antt"):
+                    continue
+                rel = f"{c}/proofs/{os.path.basename(f)[:-5]}"
+                self.mods[rel] = load(f, rel)
         self.ns = dict(NS0)
         self.ids = {}
         self.cache = {}
@@ -327,10 +338,19 @@ class World:
                 self.ids[m.rel, n] = f"g{len(self.ids)}"
         self.back = {v: k for k, v in self.ids.items()}
         for m in self.mods.values():
-            for n, d in m.defs.items():
-                self.install(m, d)
-            for n in m.recs:
-                self.install_rec(m, n)
+            self.install_all(m)
+
+    def install_all(self, m):
+        for n, d in m.defs.items():
+            self.install(m, d)
+        for n in m.recs:
+            self.install_rec(m, n)
+
+    def replace(self, rel, text):
+        """the same file with another text"""
+        self.mods[rel] = load(self.mods[rel].path, rel, text)
+        self.install_all(self.mods[rel])
+        self.cache.clear()
 
     def module(self, path):
         q = re.match("Rattle·([^.·]+)(?:·(?:specs|proofs))?\\.(specs|proofs)\\.(.*)$", path)

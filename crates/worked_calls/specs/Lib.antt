@@ -8,3 +8,4 @@ pub mod Reply
 pub mod Captures
 pub mod Report
 pub mod NextPackets
+pub mod Toolkit

@@ -15,12 +15,11 @@ expected opened id sequence kind len extended last =
 unfoldable pub nextPacketsRows : List (NextPacket × NextPacket)
 nextPacketsRows =
     -- the program why: pins nextIn, nextBy, nextOf
-    (nextOf 21 Idle 0, expected false 0 0 0 0 false true)
-    ∷ (nextOf 19 Idle 255, expected false 0 0 0 0 false true)
+    (nextOf 0 Idle 1, expected false 0 0 0 0 false true)
+    ∷ (nextOf 21 Idle 0, expected false 0 0 0 0 false true)
     ∷ (nextOf 263 Idle 300, expected false 0 0 0 256 true false)
     ∷ (nextOf 512 (Open 0 1 6) 0, expected true 0 6 2 1 false true)
-    ∷ (nextOf 20 (Open 4 17 14) 0, expected true 4 14 2 17 false true)
-    ∷ (nextOf 21 (Open 10 256 0) 15, expected true 10 0 1 18 false false)
+    ∷ (nextOf 21 (Open 10 256 0) 1, expected true 10 0 1 18 false false)
     ∷ []
 
 -- each call leaves what its row says

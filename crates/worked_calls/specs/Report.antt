@@ -15,61 +15,46 @@ slot opened id sequence wanted total held =
 unfoldable pub reportRows : List (ReportCalled × ReportCalled)
 reportRows =
     -- pito_report_add: pins costsRow, reportAddOf, costsAt, costsFit, reportRowsFit, reportRow, reportCalled, ..
-    (
-      reportAddOf (3 ∷ 2 ∷ 2 ∷ 0 ∷ 0 ∷ 0 ∷ 3 ∷ (replicate 4 2 ++ (1 ∷ 0 ∷ 2 ∷ 1 ∷ 0 ∷ 1 ∷ 1 ∷ 1 ∷ 2 ∷ 2 ∷ []))) 1 (replicate 12 idle) (replicate 12 0x77) (0x01 ∷ []) (9 ∷ 9 ∷ []),
-      reportCalled 1 (3 ∷ 2 ∷ 2 ∷ 0 ∷ 0 ∷ 0 ∷ 3 ∷ (replicate 4 2 ++ (1 ∷ 0 ∷ 2 ∷ 1 ∷ 0 ∷ 1 ∷ 1 ∷ 1 ∷ 2 ∷ 2 ∷ []))) (replicate 12 idle) (replicate 12 0x77) (9 ∷ 9 ∷ []),
+    (reportAddOf [] 0 [] [] [] (9 ∷ []), reportCalled 1 [] [] [] (9 ∷ []))
+    ∷ (reportAddOf (replicate 21 0) 0 [] [] [] [], reportCalled 1 (replicate 21 0) [] [] [])
+    ∷ (reportAddOf (replicate 21 0) 1 [] [] [] (9 ∷ []), reportCalled 1 (replicate 21 0) [] [] (9 ∷ []))
+    ∷ (reportAddOf (replicate 22 0) 0 [] [] [] (9 ∷ []), reportCalled 1 (replicate 22 0) [] [] (9 ∷ []))
+    ∷ (reportAddOf (replicate 21 0) 0 [] [] (0x00 ∷ []) (9 ∷ 9 ∷ []), reportCalled 1 (replicate 21 0) [] [] (9 ∷ 9 ∷ []))
+    ∷ (
+      reportAddOf (replicate 8 0 ++ (18446744073709551615 ∷ (replicate 12 0))) 2 (replicate 12 idle) (replicate 24 0x77) (0x01 ∷ []) (9 ∷ []),
+      reportCalled 0 (replicate 8 0 ++ (18446744073709551615 ∷ (replicate 12 0))) (replicate 12 idle) (replicate 24 0x77) (0 ∷ []),
     )
     ∷ (
-      reportAddOf (3 ∷ 0 ∷ 1 ∷ 0 ∷ 0 ∷ 2 ∷ 3 ∷ 0 ∷ 0 ∷ 3 ∷ 3 ∷ 2 ∷ 3 ∷ 1 ∷ 1 ∷ 3 ∷ 1 ∷ 0 ∷ 18446744073709551609 ∷ 3 ∷ 0 ∷ []) 2 (replicate 12 idle) (replicate 12 0x77) (0x01 ∷ 0x00 ∷ 0x06 ∷ 0x00 ∷ 0x0C ∷ 0x00 ∷ 0x02 ∷ 0x01 ∷ 0x03 ∷ 0x00 ∷ 0x06 ∷ 0x20 ∷ 0xF2 ∷ (replicate 4 0x00)) (9 ∷ []),
-      reportCalled 1 (3 ∷ 0 ∷ 1 ∷ 0 ∷ 0 ∷ 2 ∷ 3 ∷ 0 ∷ 0 ∷ 3 ∷ 3 ∷ 2 ∷ 3 ∷ 1 ∷ 1 ∷ 3 ∷ 1 ∷ 0 ∷ 18446744073709551609 ∷ 3 ∷ 0 ∷ []) (replicate 12 idle) (replicate 12 0x77) (9 ∷ []),
+      reportAddOf (replicate 7 0 ++ (18446744073709551615 ∷ (replicate 13 0))) 1 (replicate 12 idle) (replicate 12 0x77) (0x01 ∷ 0x00 ∷ 0x07 ∷ (replicate 8 0x00 ++ (0x07 ∷ (replicate 8 0x00 ++ (0x07 ∷ 0x20 ∷ 0x00 ∷ 0x00 ∷ 0x00 ∷ 0x01 ∷ 0x01 ∷ 0x00 ∷ []))))) (9 ∷ []),
+      reportCalled 19 (replicate 7 0 ++ (18446744073709551615 ∷ (replicate 13 0))) (replicate 12 idle) (replicate 4 0x77 ++ (0x00 ∷ (replicate 7 0x77))) (0 ∷ []),
     )
     ∷ (
-      reportAddOf (2 ∷ 3 ∷ 0 ∷ 3 ∷ 0 ∷ 2 ∷ 3 ∷ 0 ∷ 0 ∷ 0 ∷ 3 ∷ 0 ∷ 3 ∷ 2 ∷ 3 ∷ 0 ∷ 1 ∷ 1 ∷ 0 ∷ 0 ∷ 3 ∷ 2 ∷ []) 2 (idle ∷ idle ∷ (slot 1 2 14 1 2 1) ∷ idle ∷ idle ∷ (slot 1 0 15 0 2 1) ∷ (slot 1 15 15 1 2 1) ∷ idle ∷ idle ∷ (slot 1 1 14 0 2 1) ∷ idle ∷ idle ∷ []) (replicate 24 0x77) (0x01 ∷ 0x00 ∷ 0x00 ∷ []) (9 ∷ []),
-      reportCalled 1 (2 ∷ 3 ∷ 0 ∷ 3 ∷ 0 ∷ 2 ∷ 3 ∷ 0 ∷ 0 ∷ 0 ∷ 3 ∷ 0 ∷ 3 ∷ 2 ∷ 3 ∷ 0 ∷ 1 ∷ 1 ∷ 0 ∷ 0 ∷ 3 ∷ 2 ∷ []) (idle ∷ idle ∷ (slot 1 2 14 1 2 1) ∷ idle ∷ idle ∷ (slot 1 0 15 0 2 1) ∷ (slot 1 15 15 1 2 1) ∷ idle ∷ idle ∷ (slot 1 1 14 0 2 1) ∷ idle ∷ idle ∷ []) (replicate 24 0x77) (9 ∷ []),
+      reportAddOf (replicate 7 0 ++ (18446744073709551614 ∷ (replicate 13 0))) 2 (replicate 12 idle) (replicate 24 0x77) (0x01 ∷ 0x00 ∷ 0x07 ∷ 0x22 ∷ 0x00 ∷ 0x00 ∷ 0x00 ∷ 0x01 ∷ 0x01 ∷ 0x00 ∷ []) (9 ∷ []),
+      reportCalled 0 (replicate 7 0 ++ (18446744073709551615 ∷ 1 ∷ 0 ∷ 0 ∷ 0 ∷ 1 ∷ 7 ∷ (replicate 7 0))) (replicate 12 idle) (replicate 8 0x77 ++ (0x00 ∷ (replicate 15 0x77))) (0 ∷ []),
     )
     ∷ (
-      reportAddOf (1 ∷ 2 ∷ 2 ∷ 2 ∷ 0 ∷ 1 ∷ 1 ∷ 0 ∷ 18446744073709551615 ∷ 0 ∷ 1 ∷ 2 ∷ 2 ∷ 3 ∷ 0 ∷ 2 ∷ 0 ∷ 0 ∷ 1 ∷ 0 ∷ 3 ∷ []) 2 (idle ∷ idle ∷ idle ∷ (slot 1 3 14 1 2 1) ∷ (slot 1 3 14 0 2 1) ∷ idle ∷ (slot 1 0 15 0 2 1) ∷ idle ∷ idle ∷ (slot 1 15 15 1 2 1) ∷ idle ∷ idle ∷ []) (replicate 24 0x77) (0x01 ∷ []) (9 ∷ []),
-      reportCalled 0 (1 ∷ 2 ∷ 2 ∷ 2 ∷ 0 ∷ 1 ∷ 1 ∷ 0 ∷ 18446744073709551615 ∷ 0 ∷ 1 ∷ 2 ∷ 2 ∷ 3 ∷ 0 ∷ 2 ∷ 0 ∷ 0 ∷ 1 ∷ 0 ∷ 3 ∷ []) (replicate 12 idle) (replicate 24 0x77) (0 ∷ []),
+      reportAddOf (replicate 9 0 ++ (18446744073709551615 ∷ (replicate 8 0 ++ (18446744073709551615 ∷ 0 ∷ 0 ∷ [])))) 1 (replicate 12 idle) (replicate 12 0x77) (0x01 ∷ 0x00 ∷ 0x07 ∷ (replicate 8 0x00 ++ (0x07 ∷ (replicate 8 0x00 ++ (0x06 ∷ (replicate 6 0x00)))))) (9 ∷ []),
+      reportCalled 0 (1 ∷ 1 ∷ (replicate 4 0 ++ (20 ∷ 0 ∷ 0 ∷ 18446744073709551615 ∷ (replicate 8 0 ++ (18446744073709551615 ∷ 0 ∷ 0 ∷ []))))) (replicate 12 idle) (replicate 12 0x77) (0 ∷ []),
     )
     ∷ (
-      reportAddOf (0 ∷ 1 ∷ 0 ∷ 2 ∷ 1 ∷ 2 ∷ 2 ∷ 18446744073709551614 ∷ 2 ∷ 1 ∷ 1 ∷ 1 ∷ 0 ∷ 3 ∷ 3 ∷ 0 ∷ 0 ∷ 0 ∷ 3 ∷ 0 ∷ 2 ∷ []) 2 (replicate 12 idle) (replicate 24 0x77) (0x01 ∷ 0x00 ∷ 0x07 ∷ 0x01 ∷ 0xF0 ∷ 0x00 ∷ 0x00 ∷ 0x02 ∷ 0x01 ∷ 0x02 ∷ []) [],
-      reportCalled 1 (0 ∷ 1 ∷ 0 ∷ 2 ∷ 1 ∷ 2 ∷ 2 ∷ 18446744073709551614 ∷ 2 ∷ 1 ∷ 1 ∷ 1 ∷ 0 ∷ 3 ∷ 3 ∷ 0 ∷ 0 ∷ 0 ∷ 3 ∷ 0 ∷ 2 ∷ []) (replicate 12 idle) (replicate 24 0x77) [],
+      reportAddOf (replicate 12 0 ++ (18446744073709551614 ∷ (replicate 8 0))) 3 (replicate 12 idle) (replicate 36 0x77) (0x01 ∷ 0x00 ∷ 0x07 ∷ 0x20 ∷ 0x00 ∷ 0x00 ∷ 0x00 ∷ 0x01 ∷ 0x01 ∷ 0x00 ∷ []) (9 ∷ []),
+      reportCalled 0 (replicate 7 0 ++ (1 ∷ 1 ∷ 0 ∷ 0 ∷ 0 ∷ 18446744073709551615 ∷ 7 ∷ (replicate 7 0))) (replicate 12 idle) (replicate 12 0x77 ++ (0x00 ∷ (replicate 23 0x77))) (0 ∷ []),
     )
     ∷ (
-      reportAddOf (0 ∷ 3 ∷ 0 ∷ 3 ∷ 0 ∷ 2 ∷ 1 ∷ 18446744073709551614 ∷ 1 ∷ 2 ∷ 3 ∷ 1 ∷ 0 ∷ 1 ∷ 0 ∷ 3 ∷ 1 ∷ 2 ∷ 3 ∷ 1 ∷ 3 ∷ []) 2 ((slot 1 15 0 1 2 1) ∷ idle ∷ idle ∷ idle ∷ (slot 1 3 14 0 2 1) ∷ idle ∷ (slot 1 2 15 0 2 1) ∷ (slot 1 0 15 1 2 1) ∷ (replicate 4 idle)) (replicate 24 0x77) (0x01 ∷ 0x00 ∷ 0x07 ∷ 0x22 ∷ 0xF0 ∷ 0x00 ∷ 0x00 ∷ 0x01 ∷ 0x01 ∷ 0x08 ∷ []) (9 ∷ []),
-      reportCalled 0 (0 ∷ 3 ∷ 0 ∷ 3 ∷ 0 ∷ 2 ∷ 1 ∷ 18446744073709551615 ∷ 2 ∷ 2 ∷ 3 ∷ 1 ∷ 1 ∷ 8 ∷ 0 ∷ 3 ∷ 1 ∷ 2 ∷ 3 ∷ 1 ∷ 3 ∷ []) (replicate 12 idle) (replicate 8 0x77 ++ (0x08 ∷ (replicate 15 0x77))) (0 ∷ []),
+      reportAddOf (replicate 10 0 ++ (18446744073709551615 ∷ (replicate 10 0))) 3 (replicate 12 idle) (replicate 36 0x77) (0x01 ∷ 0x00 ∷ 0x06 ∷ (replicate 7 0x00 ++ (0x07 ∷ (replicate 7 0x00)))) (9 ∷ []),
+      reportCalled 0 (1 ∷ 1 ∷ (replicate 4 0 ++ (13 ∷ 0 ∷ 0 ∷ 0 ∷ 18446744073709551615 ∷ (replicate 10 0)))) (replicate 12 idle) (replicate 36 0x77) (0 ∷ []),
     )
     ∷ (
-      reportAddOf (1 ∷ 0 ∷ 18446744073709551615 ∷ 0 ∷ 0 ∷ 2 ∷ 3 ∷ 18446744073709551615 ∷ 1 ∷ 2 ∷ 2 ∷ 2 ∷ 0 ∷ 1 ∷ 2 ∷ 3 ∷ 3 ∷ 1 ∷ 0 ∷ 1 ∷ 1 ∷ []) 1 (replicate 7 idle ++ ((slot 0 0 0 0 2 0) ∷ (replicate 4 idle))) (replicate 12 0x77) (0x01 ∷ 0x00 ∷ 0x07 ∷ (replicate 4 0x00 ++ (0x01 ∷ 0x01 ∷ 0x06 ∷ 0x00 ∷ 0x07 ∷ 0x61 ∷ 0xF0 ∷ 0x00 ∷ 0x00 ∷ 0x00 ∷ 0x01 ∷ 0x09 ∷ 0x00 ∷ 0x07 ∷ 0x20 ∷ 0x02 ∷ 0x00 ∷ 0x00 ∷ 0x01 ∷ 0x01 ∷ 0x05 ∷ []))) (9 ∷ []),
-      reportCalled 19 (1 ∷ 0 ∷ 18446744073709551615 ∷ 0 ∷ 0 ∷ 2 ∷ 3 ∷ 18446744073709551615 ∷ 1 ∷ 2 ∷ 2 ∷ 2 ∷ 0 ∷ 1 ∷ 2 ∷ 3 ∷ 3 ∷ 1 ∷ 0 ∷ 1 ∷ 1 ∷ []) (replicate 12 idle) (0x06 ∷ 0x77 ∷ 0x77 ∷ 0x77 ∷ 0x05 ∷ (replicate 7 0x77)) (0 ∷ []),
+      reportAddOf (0 ∷ 18446744073709551615 ∷ (replicate 19 0)) 3 (replicate 12 idle) (replicate 36 0x77) (0x01 ∷ 0x00 ∷ 0x06 ∷ (replicate 5 0x00 ++ (0x03 ∷ 0x00 ∷ 0x07 ∷ 0x01 ∷ 0xF0 ∷ 0x00 ∷ 0x00 ∷ 0x02 ∷ 0x01 ∷ 0x04 ∷ 0x00 ∷ 0x04 ∷ 0x01 ∷ 0x08 ∷ 0x01 ∷ 0x01 ∷ []))) (9 ∷ []),
+      reportCalled 19 (0 ∷ 18446744073709551615 ∷ (replicate 19 0)) (replicate 12 idle) (0x04 ∷ 0x01 ∷ (replicate 34 0x77)) (0 ∷ []),
     )
     ∷ (
-      reportAddOf (1 ∷ 1 ∷ 3 ∷ 0 ∷ 1 ∷ 0 ∷ 3 ∷ 2 ∷ 1 ∷ 18446744073709551615 ∷ 2 ∷ 1 ∷ 2 ∷ 0 ∷ 0 ∷ 1 ∷ 0 ∷ 0 ∷ 18446744073709551615 ∷ 3 ∷ 3 ∷ []) 1 (replicate 12 idle) (replicate 12 0x77) (0x01 ∷ 0x00 ∷ 0x07 ∷ 0x62 ∷ 0x00 ∷ 0x00 ∷ 0x00 ∷ 0x01 ∷ 0x01 ∷ 0x05 ∷ 0x00 ∷ 0x07 ∷ 0x21 ∷ 0xF2 ∷ 0x00 ∷ 0x00 ∷ 0x01 ∷ 0x01 ∷ 0x03 ∷ 0x00 ∷ 0x06 ∷ 0x60 ∷ 0xF0 ∷ (replicate 4 0x00)) (9 ∷ []),
-      reportCalled 0 (1 ∷ 1 ∷ 3 ∷ 0 ∷ 1 ∷ 0 ∷ 3 ∷ 3 ∷ 2 ∷ 18446744073709551615 ∷ 2 ∷ 1 ∷ 3 ∷ 7 ∷ 2 ∷ 3 ∷ 0 ∷ 0 ∷ 18446744073709551615 ∷ 4 ∷ 16 ∷ []) (replicate 12 idle) (replicate 4 0x77 ++ (0x03 ∷ 0x77 ∷ 0x77 ∷ 0x77 ∷ 0x05 ∷ 0x77 ∷ 0x77 ∷ 0x77 ∷ [])) (0 ∷ []),
+      reportAddOf (replicate 6 0 ++ (26 ∷ 32 ∷ 47 ∷ 45 ∷ 16 ∷ 48 ∷ 18 ∷ 43 ∷ 54 ∷ 10 ∷ 22 ∷ 17 ∷ 35 ∷ 41 ∷ 25 ∷ [])) 3 (replicate 12 idle) (replicate 36 0x77) (0x01 ∷ 0x00 ∷ 0x06 ∷ 0x22 ∷ 0xF2 ∷ (replicate 5 0x00 ++ (0x07 ∷ 0x61 ∷ 0x02 ∷ 0x00 ∷ 0x00 ∷ 0x02 ∷ 0x01 ∷ 0x05 ∷ 0x00 ∷ 0x05 ∷ 0x61 ∷ 0x18 ∷ 0x02 ∷ 0x04 ∷ 0x04 ∷ []))) (9 ∷ []),
+      reportCalled 0 (replicate 6 0 ++ (26 ∷ 33 ∷ 48 ∷ 45 ∷ 16 ∷ 48 ∷ 18 ∷ 49 ∷ 55 ∷ 10 ∷ 22 ∷ 18 ∷ 35 ∷ 41 ∷ 37 ∷ [])) (replicate 12 idle) (replicate 24 0x77 ++ (0x05 ∷ (replicate 11 0x77))) (0 ∷ []),
     )
     ∷ (
-      reportAddOf (1 ∷ 0 ∷ 2 ∷ 3 ∷ 2 ∷ 3 ∷ 1 ∷ 1 ∷ 3 ∷ 0 ∷ 2 ∷ 3 ∷ 18446744073709551614 ∷ 0 ∷ 0 ∷ 0 ∷ 18446744073709551614 ∷ 1 ∷ 1 ∷ 0 ∷ 3 ∷ []) 3 (replicate 12 idle) (replicate 36 0x77) (0x01 ∷ 0x00 ∷ 0x07 ∷ 0x20 ∷ 0xF2 ∷ 0x00 ∷ 0x00 ∷ 0x01 ∷ 0x01 ∷ 0x07 ∷ []) (9 ∷ []),
-      reportCalled 0 (1 ∷ 0 ∷ 2 ∷ 3 ∷ 2 ∷ 3 ∷ 1 ∷ 2 ∷ 4 ∷ 0 ∷ 2 ∷ 3 ∷ 18446744073709551615 ∷ 7 ∷ 0 ∷ 0 ∷ 18446744073709551614 ∷ 1 ∷ 1 ∷ 0 ∷ 3 ∷ []) (replicate 12 idle) (replicate 12 0x77 ++ (0x07 ∷ (replicate 23 0x77))) (0 ∷ []),
-    )
-    ∷ (
-      reportAddOf (1 ∷ 1 ∷ 1 ∷ 3 ∷ 1 ∷ 2 ∷ 3 ∷ 1 ∷ 3 ∷ 3 ∷ 0 ∷ 3 ∷ 1 ∷ 3 ∷ 3 ∷ 2 ∷ 3 ∷ 1 ∷ 1 ∷ 2 ∷ []) 4 (idle ∷ idle ∷ (slot 1 15 1 1 3 2) ∷ (slot 1 3 15 1 3 2) ∷ (slot 1 15 1 0 3 2) ∷ (slot 1 2 15 0 2 1) ∷ idle ∷ idle ∷ idle ∷ (slot 1 15 15 0 4 2) ∷ (slot 1 3 15 0 2 1) ∷ (slot 1 2 1 0 2 1) ∷ []) (replicate 48 0x77) (0x01 ∷ 0x00 ∷ 0x0A ∷ 0x62 ∷ 0x00 ∷ 0x00 ∷ 0x00 ∷ 0x04 ∷ 0x04 ∷ []) (9 ∷ []),
-      reportCalled 1 (1 ∷ 1 ∷ 1 ∷ 3 ∷ 1 ∷ 2 ∷ 3 ∷ 1 ∷ 3 ∷ 3 ∷ 0 ∷ 3 ∷ 1 ∷ 3 ∷ 3 ∷ 2 ∷ 3 ∷ 1 ∷ 1 ∷ 2 ∷ []) (idle ∷ idle ∷ (slot 1 15 1 1 3 2) ∷ (slot 1 3 15 1 3 2) ∷ (slot 1 15 1 0 3 2) ∷ (slot 1 2 15 0 2 1) ∷ idle ∷ idle ∷ idle ∷ (slot 1 15 15 0 4 2) ∷ (slot 1 3 15 0 2 1) ∷ (slot 1 2 1 0 2 1) ∷ []) (replicate 48 0x77) (9 ∷ []),
-    )
-    ∷ (
-      reportAddOf (3 ∷ 3 ∷ 3 ∷ 1 ∷ 2 ∷ 1 ∷ 0 ∷ 1 ∷ 1 ∷ 0 ∷ 18446744073709551615 ∷ 3 ∷ 2 ∷ 0 ∷ 3 ∷ 0 ∷ 0 ∷ 1 ∷ 1 ∷ 18446744073709551609 ∷ 0 ∷ []) 3 (idle ∷ (slot 1 15 15 1 2 1) ∷ (slot 1 0 14 1 2 1) ∷ (slot 1 3 0 0 2 1) ∷ idle ∷ (slot 1 0 15 0 3 1) ∷ idle ∷ idle ∷ (slot 1 2 0 1 3 2) ∷ idle ∷ idle ∷ idle ∷ []) (replicate 36 0x77) (0x01 ∷ 0x00 ∷ 0x06 ∷ 0x61 ∷ 0x0C ∷ 0x00 ∷ 0x02 ∷ 0x01 ∷ 0x00 ∷ 0x00 ∷ 0x07 ∷ 0x62 ∷ 0xF0 ∷ 0x00 ∷ 0x00 ∷ 0x00 ∷ 0x01 ∷ 0x02 ∷ []) (9 ∷ []),
-      reportCalled 0 (3 ∷ 3 ∷ 3 ∷ 1 ∷ 2 ∷ 1 ∷ 0 ∷ 1 ∷ 1 ∷ 0 ∷ 18446744073709551615 ∷ 3 ∷ 2 ∷ 0 ∷ 3 ∷ 0 ∷ 0 ∷ 1 ∷ 1 ∷ 18446744073709551609 ∷ 13 ∷ []) (replicate 12 idle) (replicate 36 0x77) (0 ∷ []),
-    )
-    ∷ (
-      reportAddOf (52 ∷ 44 ∷ 24 ∷ 23 ∷ 46 ∷ 51 ∷ 26 ∷ 32 ∷ 47 ∷ 45 ∷ 16 ∷ 48 ∷ 18 ∷ 43 ∷ 54 ∷ 10 ∷ 22 ∷ 17 ∷ 35 ∷ 41 ∷ 25 ∷ []) 3 (replicate 12 idle) (replicate 36 0x77) (0x01 ∷ 0x00 ∷ 0x06 ∷ 0x22 ∷ 0xF2 ∷ (replicate 5 0x00 ++ (0x07 ∷ 0x61 ∷ 0x02 ∷ 0x00 ∷ 0x00 ∷ 0x02 ∷ 0x01 ∷ 0x05 ∷ 0x00 ∷ 0x05 ∷ 0x61 ∷ 0x18 ∷ 0x02 ∷ 0x04 ∷ 0x04 ∷ []))) (9 ∷ []),
-      reportCalled 0 (52 ∷ 44 ∷ 24 ∷ 23 ∷ 46 ∷ 51 ∷ 26 ∷ 33 ∷ 48 ∷ 45 ∷ 16 ∷ 48 ∷ 18 ∷ 49 ∷ 55 ∷ 10 ∷ 22 ∷ 18 ∷ 35 ∷ 41 ∷ 37 ∷ []) (replicate 12 idle) (replicate 24 0x77 ++ (0x05 ∷ (replicate 11 0x77))) (0 ∷ []),
-    )
-    ∷ (
-      reportAddOf (1 ∷ 18446744073709551615 ∷ 1 ∷ 0 ∷ 0 ∷ 3 ∷ 1 ∷ 18446744073709551615 ∷ 2 ∷ 3 ∷ 0 ∷ 2 ∷ 2 ∷ 1 ∷ 3 ∷ 2 ∷ 0 ∷ 2 ∷ 1 ∷ 2 ∷ 1 ∷ []) 3 ((slot 1 2 1 1 2 1) ∷ idle ∷ idle ∷ (slot 1 0 1 1 2 1) ∷ idle ∷ (slot 1 15 0 1 2 1) ∷ (slot 1 1 14 0 2 1) ∷ idle ∷ (slot 1 15 0 0 2 1) ∷ (slot 1 1 0 1 3 1) ∷ idle ∷ idle ∷ []) (replicate 36 0x77) (0x01 ∷ 0x00 ∷ 0x06 ∷ 0x61 ∷ 0x0C ∷ 0x00 ∷ 0x02 ∷ 0x01 ∷ 0x03 ∷ 0x00 ∷ 0x07 ∷ 0x01 ∷ 0xF0 ∷ 0x00 ∷ 0x00 ∷ 0x02 ∷ 0x01 ∷ 0x04 ∷ 0x00 ∷ 0x04 ∷ 0x01 ∷ 0x08 ∷ 0x01 ∷ 0x01 ∷ []) (9 ∷ []),
-      reportCalled 19 (1 ∷ 18446744073709551615 ∷ 1 ∷ 0 ∷ 0 ∷ 3 ∷ 1 ∷ 18446744073709551615 ∷ 2 ∷ 3 ∷ 0 ∷ 2 ∷ 2 ∷ 1 ∷ 3 ∷ 2 ∷ 0 ∷ 2 ∷ 1 ∷ 2 ∷ 1 ∷ []) (replicate 12 idle) (0x04 ∷ 0x01 ∷ (replicate 34 0x77)) (0 ∷ []),
-    )
-    ∷ (
-      reportAddOf (1 ∷ 2 ∷ 3 ∷ 3 ∷ 18446744073709551615 ∷ 0 ∷ 0 ∷ 3 ∷ 18446744073709551609 ∷ 0 ∷ 1 ∷ 0 ∷ 2 ∷ 0 ∷ 3 ∷ 0 ∷ 1 ∷ 1 ∷ 3 ∷ 1 ∷ 3 ∷ []) 4 (replicate 12 idle) (replicate 48 0x77) (0x01 ∷ 0x00 ∷ 0x06 ∷ 0x00 ∷ 0x0C ∷ 0x00 ∷ 0x02 ∷ 0x01 ∷ 0x00 ∷ 0x00 ∷ 0x06 ∷ 0x62 ∷ 0x02 ∷ (replicate 5 0x00 ++ (0x07 ∷ 0x00 ∷ 0x02 ∷ 0x00 ∷ 0x00 ∷ 0x02 ∷ 0x01 ∷ 0x06 ∷ []))) (9 ∷ []),
-      reportCalled 19 (1 ∷ 2 ∷ 3 ∷ 3 ∷ 18446744073709551615 ∷ 0 ∷ 0 ∷ 3 ∷ 18446744073709551609 ∷ 0 ∷ 1 ∷ 0 ∷ 2 ∷ 0 ∷ 3 ∷ 0 ∷ 1 ∷ 1 ∷ 3 ∷ 1 ∷ 3 ∷ []) ((slot 1 0 0 1 2 1) ∷ (replicate 11 idle)) (0x06 ∷ (replicate 47 0x77)) (0 ∷ []),
+      reportAddOf (replicate 4 0 ++ (18446744073709551615 ∷ (replicate 16 0))) 4 (replicate 12 idle) (replicate 48 0x77) (0x01 ∷ 0x00 ∷ 0x06 ∷ (replicate 7 0x00 ++ (0x06 ∷ 0x62 ∷ 0x02 ∷ (replicate 5 0x00 ++ (0x07 ∷ 0x00 ∷ 0x02 ∷ 0x00 ∷ 0x00 ∷ 0x02 ∷ 0x01 ∷ 0x06 ∷ []))))) (9 ∷ []),
+      reportCalled 19 (replicate 4 0 ++ (18446744073709551615 ∷ (replicate 16 0))) ((slot 1 0 0 1 2 1) ∷ (replicate 11 idle)) (0x06 ∷ (replicate 47 0x77)) (0 ∷ []),
     )
     ∷ []
 

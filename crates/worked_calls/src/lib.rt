@@ -9,6 +9,7 @@ ghost use Rattle.worked_calls.specs.Reply.{ReplyCalls};
 ghost use Rattle.worked_calls.specs.Captures.{CaptureCalls};
 ghost use Rattle.worked_calls.specs.Report.{ReportCalls};
 ghost use Rattle.worked_calls.specs.NextPackets.{NextPackets};
+ghost use Rattle.worked_calls.specs.Toolkit.{ToolkitEnds};
 
 // The extractor and the frame writers, called from C.
 pub fn classic_calls()
@@ -58,4 +59,9 @@ pub fn report_calls()
 // What the program why says is expected.
 pub fn next_packets()
     ensures { λ _. ⌜ NextPackets ⌝ }
+{}
+
+// The toolkit's functions at their ends.
+pub fn toolkit_ends()
+    ensures { λ _. ⌜ ToolkitEnds ⌝ }
 {}
