@@ -85,10 +85,11 @@ def candidates(w, m):
     for name, (params, fields) in m.recs.items():
         if params or kind != "specs":
             continue
-        later = {f for f, _, _ in fields}
+        before = set()
         for f, ty, _ in fields:
-            if not later & set(names(ty)):
+            if not before & set(names(ty)):
                 yield f"{name}.{f}", ty
+            before.add(f)
     for name, d in m.defs.items():
         if kind == "specs" and d.sigtext in ("Type 0", "Type₀") and d.clauses and not d.clauses[0][0]:
             yield name, d.clauses[0][1]
