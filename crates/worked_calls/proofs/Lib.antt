@@ -8,4 +8,6 @@ pub mod Reply
 pub mod Captures
 pub mod Report
 pub mod NextPackets
+pub mod Inputs
+pub mod Payloads
 pub mod Toolkit

@@ -13,7 +13,7 @@ classicRows =
     ∷ (extractorOpenOf 1 (replicate 4 9), called 0 (1 ∷ 0 ∷ 0 ∷ 0 ∷ []) [] [])
     ∷ (extractorOpenOf 0 (replicate 4 9), called 17 (replicate 4 9) [] [])
     ∷ (extractorOpenOf 0 (replicate 5 9), called 1 (replicate 5 9) [] [])
-    -- pito_extractor_step: pins extractorStepOf, phaseOf, stepRow, replyOf, stepped, isExtractor, phaseNumber, ..
+    -- pito_extractor_step: pins extractorStepOf, phaseOf, stepRow, replyOf, isExtractor, stepped, phaseNumber, ..
     ∷ (extractorStepOf (1 ∷ 0 ∷ 0 ∷ 0 ∷ []) (0x00 ∷ 0x00 ∷ 0x00 ∷ []) 0x00 [], called 1 (1 ∷ 0 ∷ 0 ∷ 0 ∷ []) (0x00 ∷ 0x00 ∷ 0x00 ∷ []) [])
     ∷ (extractorStepOf (2 ∷ []) (replicate 4 0x00) 0x00 (9 ∷ 9 ∷ 9 ∷ []), called 1 (2 ∷ []) (replicate 4 0x00) (9 ∷ 9 ∷ 9 ∷ []))
     ∷ (
@@ -47,6 +47,10 @@ classicRows =
     ∷ (
       extractorStepOf (2 ∷ 0 ∷ 0 ∷ 0 ∷ []) (replicate 4 0x00) 0x00 (replicate 4 9),
       called 1 (2 ∷ 0 ∷ 0 ∷ 0 ∷ []) (replicate 4 0x00) (replicate 4 9),
+    )
+    ∷ (
+      extractorStepOf (2 ∷ 4 ∷ 255 ∷ 0 ∷ []) (replicate 4 0x00) 0x41 (9 ∷ 9 ∷ 9 ∷ []),
+      called 0 (2 ∷ 4 ∷ 255 ∷ 1 ∷ []) (0x41 ∷ 0x00 ∷ 0x00 ∷ 0x00 ∷ []) (1 ∷ 0 ∷ 0 ∷ []),
     )
     ∷ (
       extractorStepOf (2 ∷ 4 ∷ 5 ∷ 3 ∷ []) (0xF1 ∷ 0x00 ∷ 0xF3 ∷ 0x00 ∷ []) 0xF1 (9 ∷ 9 ∷ 9 ∷ []),
@@ -142,6 +146,10 @@ classicRows =
     ∷ (
       framePartOf (1 ∷ 0 ∷ 1 ∷ 0 ∷ 0 ∷ 3 ∷ 0 ∷ []) (0xF1 ∷ []) (0xEE ∷ 0xEE ∷ []) (9 ∷ 9 ∷ 9 ∷ []),
       called 0 (1 ∷ 0 ∷ 1 ∷ 1 ∷ 241 ∷ 4 ∷ 2 ∷ []) (0x00 ∷ 0xF2 ∷ []) (1 ∷ 2 ∷ 0 ∷ []),
+    )
+    ∷ (
+      framePartOf (4 ∷ 255 ∷ 2 ∷ 1 ∷ 65535 ∷ 4 ∷ 0 ∷ []) (0x02 ∷ []) (0xEE ∷ []) (9 ∷ 9 ∷ 9 ∷ []),
+      called 0 (4 ∷ 255 ∷ 2 ∷ 2 ∷ 1 ∷ 4 ∷ 0 ∷ []) (0x02 ∷ []) (1 ∷ 1 ∷ 0 ∷ []),
     )
     ∷ (
       framePartOf (3 ∷ 0 ∷ 3 ∷ 2 ∷ 268 ∷ 4 ∷ 0 ∷ []) (0xF3 ∷ []) (0xEE ∷ 0xEE ∷ 0xEE ∷ []) (9 ∷ 9 ∷ 9 ∷ []),

@@ -12,11 +12,19 @@ firmwareRows =
     ∷ (segmentReadOf (0x52 ∷ 0x00 ∷ 0x42 ∷ []) (replicate 8 9), called 30 [] [] (replicate 8 0))
     ∷ (segmentReadOf (0x4D ∷ (replicate 4 0x00)) (replicate 8 9), called 50 [] [] (replicate 6 0 ++ (4 ∷ 0 ∷ [])))
     ∷ (segmentReadOf (replicate 9 0xFF ++ (0x02 ∷ [])) (replicate 8 9), called 31 [] [] (replicate 8 0))
-    -- pito_segment_write: pins segmentStored, segmentWriteOf
+    ∷ (
+      segmentReadOf (0x0A ∷ 0x01 ∷ 0x41 ∷ 0x18 ∷ 0xAC ∷ 0x02 ∷ 0x22 ∷ 0x40 ∷ (replicate 64 0x41)) (replicate 8 9),
+      called 0 [] [] (2 ∷ 1 ∷ 0 ∷ 300 ∷ 8 ∷ 64 ∷ 0 ∷ 0 ∷ []),
+    )
+    -- pito_segment_write: pins segmentStored, segmentWriteOf, segmentFields
     ∷ (segmentWriteOf [] 0 0 [] (0xEE ∷ []) (replicate 4 9), called 1 [] (0xEE ∷ []) (replicate 4 9))
     ∷ (segmentWriteOf (0x80 ∷ []) 0 0 [] (0xEE ∷ []) (9 ∷ 9 ∷ 9 ∷ []), called 36 [] (0xEE ∷ []) (0 ∷ 1 ∷ 0 ∷ []))
     ∷ (segmentWriteOf [] 0 4294967296 [] [] (9 ∷ 9 ∷ 9 ∷ []), called 15 [] [] (0 ∷ 0 ∷ 0 ∷ []))
     ∷ (segmentWriteOf [] 4294967296 0 [] (0xEE ∷ []) (9 ∷ 9 ∷ 9 ∷ []), called 15 [] (0xEE ∷ []) (0 ∷ 0 ∷ 0 ∷ []))
+    ∷ (
+      segmentWriteOf (0x41 ∷ []) 0 300 (replicate 64 0x41) (replicate 73 0xEE) (9 ∷ 9 ∷ 9 ∷ []),
+      called 0 [] (0x0A ∷ 0x01 ∷ 0x41 ∷ 0x18 ∷ 0xAC ∷ 0x02 ∷ 0x22 ∷ 0x40 ∷ (replicate 64 0x41 ++ (0xEE ∷ []))) (72 ∷ 0 ∷ 0 ∷ []),
+    )
     -- pito_apply_read: pins applyRow, applyReadOf, headRow, knownFields, otherFields, componentRow, partRow, ..
     ∷ (applyReadOf (0x0A ∷ 0x08 ∷ 0x12 ∷ 0x01 ∷ 0x00 ∷ 0x1D ∷ (replicate 4 0x00)) (replicate 59 9), called 33 [] [] (replicate 59 0))
     ∷ (

@@ -38,8 +38,13 @@ outboxRows =
     -- pito_outbox_whole: pins outboxWholeOf, cutIn, wholeRow, recordAt
     ∷ (outboxWholeOf (0x01 ∷ 0x00 ∷ 0xA9 ∷ 0x01 ∷ []) (9 ∷ []), called 41 [] [] (1 ∷ []))
     -- pito_outbox_to_01, pito_outbox_to_02: pins outboxMoveOf, movedRow, recordsIn, overFrom, bytesOf
+    ∷ (outboxMoveOf versionOne (0x02 ∷ []) [] (9 ∷ 9 ∷ []), called 14 [] [] (0 ∷ 0 ∷ []))
     ∷ (outboxMoveOf versionOne (0x01 ∷ 0x00 ∷ []) [] (9 ∷ 9 ∷ []), called 41 [] [] (0 ∷ 1 ∷ []))
     ∷ (outboxMoveOf versionTwo (0x00 ∷ []) [] (9 ∷ 9 ∷ 9 ∷ []), called 1 [] [] (9 ∷ 9 ∷ 9 ∷ []))
+    ∷ (
+      outboxMoveOf versionTwo (0x01 ∷ 0x00 ∷ 0x02 ∷ 0x06 ∷ 0x41 ∷ []) (0x07 ∷ 0x07 ∷ 0x07 ∷ []) (9 ∷ 9 ∷ []),
+      called 14 [] (0x07 ∷ 0x07 ∷ 0x07 ∷ []) (0 ∷ 0 ∷ []),
+    )
     ∷ (
       outboxMoveOf versionTwo (0x01 ∷ 0x00 ∷ 0x01 ∷ 0x00 ∷ 0x00 ∷ 0x03 ∷ 0x00 ∷ 0x00 ∷ 0x00 ∷ []) (replicate 13 0x00) (9 ∷ 9 ∷ []),
       called 0 [] (0x02 ∷ 0x00 ∷ 0x00 ∷ 0x00 ∷ 0x01 ∷ (replicate 4 0x00 ++ (0x03 ∷ 0x00 ∷ 0x00 ∷ 0x00 ∷ []))) (13 ∷ 0 ∷ []),

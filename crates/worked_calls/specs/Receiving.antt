@@ -46,6 +46,10 @@ receivingRows =
       replied 1 (replicate 6 idle ++ ((slot 1 1 0 0 2 1) ∷ (slot 1 1 0 0 2 1) ∷ (replicate 4 idle))) (replicate 48 0x00) (replicate 8 9) (0xEE ∷ []),
     )
     ∷ (
+      receiverAcceptOf (2 ∷ []) ((slot 1 0 0 0 0 0) ∷ (replicate 11 idle)) (replicate 24 0x77) (replicate 6 0x00) 0 (replicate 6 0xEE) (replicate 8 9),
+      replied 1 ((slot 1 0 0 0 0 0) ∷ (replicate 11 idle)) (replicate 24 0x77) (replicate 8 9) (replicate 6 0xEE),
+    )
+    ∷ (
       receiverAcceptOf (4 ∷ []) (replicate 9 idle ++ ((slot 1 15 14 0 3 1) ∷ idle ∷ idle ∷ [])) (replicate 48 0x00) (0x6F ∷ 0xF8 ∷ 0x01 ∷ 0x00 ∷ []) 0 (replicate 6 0xEE) (replicate 8 9),
       replied 11 (replicate 12 idle) (replicate 48 0x00) (replicate 8 0) (replicate 6 0xEE),
     )

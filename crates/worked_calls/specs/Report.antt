@@ -37,6 +37,14 @@ reportRows =
       reportCalled 0 (1 ∷ 1 ∷ (replicate 4 0 ++ (20 ∷ 0 ∷ 0 ∷ 18446744073709551615 ∷ (replicate 8 0 ++ (18446744073709551615 ∷ 0 ∷ 0 ∷ []))))) (replicate 12 idle) (replicate 12 0x77) (0 ∷ []),
     )
     ∷ (
+      reportAddOf (0 ∷ 0 ∷ 0 ∷ 18446744073709551615 ∷ (replicate 17 0)) 2 (replicate 12 idle) (replicate 24 0x77) (0x01 ∷ 0x00 ∷ 0x07 ∷ (replicate 4 0x00 ++ (0x02 ∷ 0x01 ∷ 0x07 ∷ 0x00 ∷ 0x04 ∷ 0x00 ∷ 0x28 ∷ 0x01 ∷ 0x08 ∷ []))) (9 ∷ []),
+      reportCalled 19 (0 ∷ 0 ∷ 0 ∷ 18446744073709551615 ∷ (replicate 17 0)) (replicate 12 idle) (0x07 ∷ (replicate 23 0x77)) (0 ∷ []),
+    )
+    ∷ (
+      reportAddOf (0 ∷ 0 ∷ 18446744073709551615 ∷ (replicate 18 0)) 2 (replicate 12 idle) (replicate 24 0x77) (0x01 ∷ 0x00 ∷ 0x07 ∷ (replicate 4 0x00 ++ (0x02 ∷ 0x01 ∷ 0x07 ∷ 0x00 ∷ 0x07 ∷ (replicate 4 0x00 ++ (0x02 ∷ 0x01 ∷ 0x07 ∷ []))))) (9 ∷ []),
+      reportCalled 19 (0 ∷ 0 ∷ 18446744073709551615 ∷ (replicate 18 0)) ((slot 1 0 0 0 2 1) ∷ (replicate 11 idle)) (0x07 ∷ (replicate 23 0x77)) (0 ∷ []),
+    )
+    ∷ (
       reportAddOf (replicate 12 0 ++ (18446744073709551614 ∷ (replicate 8 0))) 3 (replicate 12 idle) (replicate 36 0x77) (0x01 ∷ 0x00 ∷ 0x07 ∷ 0x20 ∷ 0x00 ∷ 0x00 ∷ 0x00 ∷ 0x01 ∷ 0x01 ∷ 0x00 ∷ []) (9 ∷ []),
       reportCalled 0 (replicate 7 0 ++ (1 ∷ 1 ∷ 0 ∷ 0 ∷ 0 ∷ 18446744073709551615 ∷ 7 ∷ (replicate 7 0))) (replicate 12 idle) (replicate 12 0x77 ++ (0x00 ∷ (replicate 23 0x77))) (0 ∷ []),
     )

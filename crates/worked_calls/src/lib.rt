@@ -9,6 +9,8 @@ ghost use Rattle.worked_calls.specs.Reply.{ReplyCalls};
 ghost use Rattle.worked_calls.specs.Captures.{CaptureCalls};
 ghost use Rattle.worked_calls.specs.Report.{ReportCalls};
 ghost use Rattle.worked_calls.specs.NextPackets.{NextPackets};
+ghost use Rattle.worked_calls.specs.Inputs.{InputAnswers};
+ghost use Rattle.worked_calls.specs.Payloads.{PayloadLimits};
 ghost use Rattle.worked_calls.specs.Toolkit.{ToolkitEnds};
 
 // The extractor and the frame writers, called from C.
@@ -59,6 +61,16 @@ pub fn report_calls()
 // What the program why says is expected.
 pub fn next_packets()
     ensures { λ _. ⌜ NextPackets ⌝ }
+{}
+
+// The input of the program lawful.
+pub fn input_answers()
+    ensures { λ _. ⌜ InputAnswers ⌝ }
+{}
+
+// The longest payload that a record of an outbox takes.
+pub fn payload_limits()
+    ensures { λ _. ⌜ PayloadLimits ⌝ }
 {}
 
 // The toolkit's functions at their ends.
