@@ -12,6 +12,8 @@ on a line that is not needed. --list prints the lines that are missing. The scor
 import os, sys, time
 from collections import Counter, defaultdict
 
+sys.dont_write_bytecode = True
+
 from changes import changes, compiled, ty
 from contracts import seen
 from reader import result

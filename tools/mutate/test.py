@@ -4,7 +4,9 @@
 A wrong interpreter must not say "refused". So: every row that the checker proves is true here, and every row of a table is decided;
 every must-fail edit of a table, which the checker refuses, makes a row false here; with a function of the toolkit wrong, a row is
 false; and each wrong rule that was once found by hand is refused."""
-import ast, glob, os
+import ast, glob, os, sys
+
+sys.dont_write_bytecode = True
 
 from changes import Change, compiled
 from tables import collect

@@ -31,20 +31,6 @@ class Unknown:
 UNK = Unknown()
 
 
-def curry(f, n):
-    if n == 0:
-        return f()
-
-    def go(args):
-        def one(x):
-            a = args + (x,)
-            return f(*a) if len(a) == n else go(a)
-
-        return one
-
-    return go(())
-
-
 def part(f, n, *args):
     def go(args):
         def one(x):
@@ -275,7 +261,6 @@ NS0 = dict(
     ofZ=ofZ,
     sfits=sfits,
     optD=optD,
-    curry=curry,
     part=part,
     conj=conj,
     disj=disj,
