@@ -122,9 +122,6 @@ asked =
     ∷ ask box (numbered 15 15) (0x08 ∷ 0x5E ∷ []) 10
     ∷ ask box (numbered 16 15) (0x08 ∷ 0x5E ∷ []) 10
     ∷ ask box (numbered 15 16) (0x08 ∷ 0x5E ∷ []) 10
-    -- .. before room and limit are judged
-    ∷ ask box (record { room = 19; limit = 0; id = 16; sequence = 16 }) (0x08 ∷ 0x5E ∷ []) 10
-    ∷ ask box (record { room = 64; limit = 0; id = 16; sequence = 16 }) (0x08 ∷ 0x5E ∷ []) 10
     -- a response, whatever room there is; one with a code and a payload; a broken one
     ∷ ask box (link 0 0) (0x08 ∷ 0x14 ∷ 0x4A ∷ 0x00 ∷ []) 3
     ∷ ask box (link 64 4096) (0x08 ∷ 0x14 ∷ 0x4A ∷ 0x05 ∷ 0x08 ∷ 0x03 ∷ 0x12 ∷ 0x01 ∷ 0xFF ∷ []) 64
@@ -167,8 +164,6 @@ answered =
     ∷ wrote (0x0F ∷ 0xF0 ∷ 0x00 ∷ 0x00 ∷ 0x04 ∷ 0x04 ∷ 0x08 ∷ 0x5E ∷ 0x4A ∷ 0x00 ∷ []) 0
     ∷ leaves 15 10
     ∷ leaves 15 10
-    ∷ leaves 13 10
-    ∷ leaves 17 10
     ∷ written (given silent) (replicate 3 0xEE)
     ∷ written (given silent) (replicate 64 0xEE)
     ∷ leaves 30 3

@@ -10,17 +10,8 @@ use Rattle.field_writer.specs.Writer.{tagBytes, headBytes, partBytes, fieldByte
 use Rattle.known_fields.specs.Schema.{roleOf}
 use Rattle.walk.specs.Walk.{fieldsFrom, fieldAt, readAt, addedAt, judged, withString}
 use Rattle.device.specs.Information.{informationOf, informationWritten}
-use Rattle.walk.specs.Gathered.{withTransport}
-use Rattle.walk.specs.Walk.{entryAt, packedFrom}
-use Rattle.control.specs.Response.{responseFrom}
-use Rattle.control.specs.Envelope.{payloadOf, envelopeOf}
-use Rattle.device.specs.Features.{featuresOf}
-use Rattle.round_trips.specs.Worked.{WorkedInformation, informationCases, informationWrites, WorkedControl, envelopeReads, informationReads, featuresReads}
+use Rattle.round_trips.specs.Worked.{WorkedInformation, informationCases, informationWrites}
 
 pub worked-information : WorkedInformation
 unfolding WorkedInformation informationCases informationWrites informationOf informationWritten fieldBytes partBytes headBytes tagBytes varintBytes fieldsFrom fieldAt readAt addedAt judged roleOf tagAt badTag valueAt varintAt withString badPlace sequenceAt rowOf rows within
 worked-information = (refl, refl)
-
-pub worked-control : WorkedControl
-unfolding WorkedControl envelopeReads informationReads featuresReads informationOf featuresOf responseFrom payloadOf envelopeOf fieldsFrom fieldAt readAt addedAt judged roleOf tagAt badTag valueAt varintAt withTransport entryAt packedFrom withString badPlace sequenceAt rowOf rows within
-worked-control = (refl, refl, refl)

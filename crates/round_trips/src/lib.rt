@@ -1,7 +1,7 @@
 // Reading what a writer wrote gives back every value and the bytes of every part. These functions do nothing: their contracts are the claims.
 ghost use Rattle.round_trips.specs.RoundTrip.{NoneRefused, EnvelopeRoundTrip, ResponseRoundTrip, InformationRoundTrip, FeaturesRoundTrip};
 ghost use Rattle.round_trips.specs.Premises.{EnvelopesTaken, ResponsesTaken, InformationTaken, FeaturesTaken, OneOfEach};
-ghost use Rattle.round_trips.specs.Worked.{WorkedInformation, WorkedControl};
+ghost use Rattle.round_trips.specs.Worked.{WorkedInformation};
 
 // A writer or a reader that refuses makes none of them true.
 pub fn none_refused()
@@ -49,9 +49,4 @@ pub fn one_of_each()
 // Device information worked by hand.
 pub fn worked()
     ensures { λ _. ⌜ WorkedInformation ⌝ }
-{}
-
-// Control messages read, worked by hand.
-pub fn worked_control()
-    ensures { λ _. ⌜ WorkedControl ⌝ }
 {}
