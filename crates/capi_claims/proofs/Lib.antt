@@ -12,3 +12,4 @@ mod SizesSuffice
 mod RowsAgree
 mod NumbersJudged
 mod Instances
+mod RowInstances

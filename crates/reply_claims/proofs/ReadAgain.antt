@@ -1,21 +1,31 @@
 -- The reply, read again.
-use Prim.Native.Nat.{ℕ, _+_, _≤_}
+use Prim.Native.Nat.{ℕ, _+_, _≤_, _%_, _^_}
 use native.Mathlib.Omega.{arith}
 use mathlib.Core.Path.{_≡_, refl, ap, sym, subst}
 use mathlib.Core.List.{List, [], _∷_, _++_}
 use mathlib.Core.Bool.{Bool, true, false, false≢true, _||_}
 use lib.IntN.{ℤ, pos, negsuc}
-use lib.ListN.{length, length-append}
+use lib.ListN.{length, getD, length-append}
 use lib.Dec.{ltb}
+use mir.Syntax.{w32}
+use mir.Val.{SFits}
+use mir.ValLaws.{toZ-fits}
 use borrow.Author.Tests.{ltb-false}
-use Rattle.field.specs.Signed.{extended}
+use Rattle.field.specs.Signed.{signedOf, extended}
+use Rattle.field.proofs.Told.{sat-any, sat-then, sat-given}
 use Rattle.field_writer.specs.Writer.{scalar, nested, headBytes, partBytes, fieldBytes, messageBytes}
-use Rattle.known_fields.specs.Schema.{responseField}
+use Rattle.known_fields.specs.declared.Schema.the-variants as Schema
+use Rattle.known_fields.specs.Schema.{responseField, first}
+use Rattle.walk.specs.declared.gathered.Gathered.{Gathered}
+use Rattle.walk.specs.Refusal.{numbered}
+use Rattle.walk.specs.Walk.{fieldsFrom}
 use Rattle.control.specs.declared.response.ResponsePayload.{ResponsePayload}
 use Rattle.control.specs.declared.response.ResponsePayload.the-variants as Inner
 use Rattle.control.specs.declared.envelope.EnvelopePayload.the-variants as Sent
 use Rattle.control.specs.Response.{badResponsePayload}
-use Rattle.control.specs.Envelope.{envelopeFields}
+use Rattle.control.specs.declared.envelope.Envelope.{Envelope}
+use Rattle.control.specs.declared.envelope.Payload.{Payload}
+use Rattle.control.specs.Envelope.{payloadOf, envelopeOf, envelopeFields}
 use Rattle.device.specs.Information.{informationFields}
 use Rattle.device.specs.Features.{featuresOf, featuresFields}
 use Rattle.wire.specs.Told.{given}
@@ -67,6 +77,24 @@ body-short : (v code field : ℕ) (body : List ℕ) → length (messageBytes (sc
     → length body ≤ 65535
 body-short v code field body h = omega (arith, inside v responseField (messageBytes (scalar 1 code ∷ nested field body ∷ [])), inside code field body)
 
+-- a command that was read is a signed number of 32 bits
+fits-in : (z : ℤ) → SFits w32 z → InSigned32 z
+fits-in (pos n) f = omega (arith, f .sfits)
+fits-in (negsuc n) f = omega (arith, f .sfits)
+
+command-fits : (message : List ℕ) (e : Envelope) → envelopeOf message ≡ given e → InSigned32 (e .command)
+unfolding envelopeOf
+command-fits message e reads =
+    let gathered = numbered (fieldsFrom Schema.Envelope message 0) in
+    sat-given Fits (envelopeOf message) e
+    (sat-then (λ (g : Gathered). Unit {0}) Fits gathered _ (sat-any gathered)
+    (λ g none. sat-then (λ (p : Payload). Unit {0}) Fits (payloadOf message g) _ (sat-any (payloadOf message g))
+    (λ p none. let v = getD (g .scalars) first 0 in fits-in (signedOf v) (toZ-fits w32 (v % 2 ^ 32) (record { fits = omega arith })))))
+    reads
+  where
+    Fits : Envelope → Type 0
+    Fits x = InSigned32 (x .command)
+
 -- no other number has the varint's value of one of the four
 other-command : (c : ℤ) → InSigned32 c → (c ≡ pos 20 → ⊥) → (c ≡ pos 28 → ⊥) → (c ≡ pos 94 → ⊥) → (c ≡ pos 95 → ⊥) → kindOfCommand (extended c) ≡ Other
 other-command (pos n) z n20 n28 n94 n95 = other-kind n (λ e. n20 (ap pos e)) (λ e. n28 (ap pos e)) (λ e. n94 (ap pos e)) (λ e. n95 (ap pos e))
@@ -115,5 +143,7 @@ reply-reads =
           (features-read (b .features) body (omega arith) (omega arith) (whole body));
       segment = λ b l message out a. read (pos 94) (pos 0) Inner.None [] (λ body. body ≡ []) (omega arith) (omega arith) refl (short b l message (pos 94) out a) refl;
       apply = λ b l message out a. read (pos 95) (pos 0) Inner.None [] (λ body. body ≡ []) (omega arith) (omega arith) refl (short b l message (pos 95) out a) refl;
-      other = λ b l message c out a z n20 n28 n94 n95. subst (OtherReads b c) (sym (other-command c z n20 n28 n94 n95)) (other-reads b c z) (short b l message c out a);
+      other = λ b l message c out a n20 n28 n94 n95.
+          let z = command-fits message (record { command = c; payload = a .payload }) (a .reads) in
+          subst (OtherReads b c) (sym (other-command c z n20 n28 n94 n95)) (other-reads b c z) (short b l message c out a);
     }

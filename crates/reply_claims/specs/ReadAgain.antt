@@ -10,7 +10,7 @@ use Rattle.control.specs.declared.response.ResponsePayload.the-variants as Inne
 use Rattle.control.specs.declared.envelope.EnvelopePayload.the-variants as Sent
 use Rattle.device.specs.Features.{featuresOf}
 use Rattle.round_trips.specs.RoundTrip.{envelopeAgain, informationAgain}
-use Rattle.round_trips.specs.Premises.{InSigned32, AllInSigned32}
+use Rattle.round_trips.specs.Premises.{AllInSigned32}
 use Rattle.reply.specs.declared.Link.{Link}
 use Rattle.reply.specs.Reply.{Box, replyOf}
 use Rattle.reply_claims.specs.Answers.{Answers}
@@ -37,6 +37,6 @@ pub record ReplyReads : Type 0 where
       → ResponseReads (replyOf b 28) (pos 28) (pos 0) (Inner.Member (b .members .features)) (λ body. featuresOf body ≡ given (b .features))
   pub segment : (b : Box) (l : Link) (message out : List ℕ) → Answers b l message (pos 94) out → BareReads (replyOf b 94) (pos 94) (pos 0)
   pub apply : (b : Box) (l : Link) (message out : List ℕ) → Answers b l message (pos 95) out → BareReads (replyOf b 95) (pos 95) (pos 0)
-  pub other : (b : Box) (l : Link) (message : List ℕ) (c : ℤ) (out : List ℕ) → Answers b l message c out → InSigned32 c
+  pub other : (b : Box) (l : Link) (message : List ℕ) (c : ℤ) (out : List ℕ) → Answers b l message c out
       → (c ≡ pos 20 → ⊥) → (c ≡ pos 28 → ⊥) → (c ≡ pos 94 → ⊥) → (c ≡ pos 95 → ⊥)
       → BareReads (replyOf b (extended c)) c (pos 3)
