@@ -47,6 +47,11 @@ firmwareRows =
       applyReadOf (0x0A ∷ 0x20 ∷ 0x2A ∷ 0x01 ∷ 0xC3 ∷ (replicate 15 0x00 ++ (0x01 ∷ 0x22 ∷ 0x06 ∷ 0xE2 ∷ 0x82 ∷ 0xAC ∷ 0xE0 ∷ 0xA0 ∷ 0x80 ∷ 0x22 ∷ 0x03 ∷ 0x80 ∷ 0xA0 ∷ 0x80 ∷ 0x2D ∷ 0x91 ∷ 0x23 ∷ 0x4C ∷ 0x22 ∷ []))) (replicate 59 9),
       called 36 [] [] (replicate 57 0 ++ (5 ∷ 0 ∷ [])),
     )
+    -- a version after eight components
+    ∷ (
+      applyReadOf (0x0A ∷ 0x12 ∷ 0x1A ∷ 0x00 ∷ 0x1A ∷ 0x00 ∷ 0x1A ∷ 0x00 ∷ 0x1A ∷ 0x00 ∷ 0x1A ∷ 0x00 ∷ 0x1A ∷ 0x00 ∷ 0x1A ∷ 0x00 ∷ 0x1A ∷ 0x00 ∷ 0x08 ∷ 0x05 ∷ []) (replicate 59 9),
+      called 0 [] [] (0 ∷ 5 ∷ (replicate 6 0 ++ (8 ∷ (replicate 50 0)))),
+    )
     -- pito_apply_write: pins applyWriteOf, badRow, applyAt, applyStored, badFirmware, componentAt, anyWide, ..
     ∷ (applyWriteOf [] [] (0xEE ∷ []) (9 ∷ 9 ∷ 9 ∷ []), called 1 [] (0xEE ∷ []) (9 ∷ 9 ∷ 9 ∷ []))
     ∷ (applyWriteOf (replicate 7 0 ++ (1 ∷ (replicate 49 0))) [] [] (9 ∷ 9 ∷ 9 ∷ []), called 15 [] [] (0 ∷ 0 ∷ 0 ∷ []))
