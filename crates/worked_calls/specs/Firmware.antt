@@ -4,6 +4,8 @@ use mathlib.Core.List.{List, [], _∷_, _++_, map}
 use lib.ListN.{replicate}
 use Rattle.calls_firmware.specs.Calls.{segmentReadOf, segmentWriteOf, applyReadOf, applyWriteOf, fieldReadOf}
 use Rattle.rows.specs.Called.{Called, called}
+use Rattle.wire.specs.Told.{given, refused}
+use Rattle.field.specs.Fields.{foundAt, end}
 
 unfoldable pub firmwareRows : List (Called × Called)
 firmwareRows =
@@ -108,6 +110,7 @@ firmwareRows =
     ∷ (fieldReadOf (0xE1 ∷ 0x12 ∷ (replicate 8 0x00)) 0 (replicate 7 9), called 0 [] [] (1 ∷ 300 ∷ 1 ∷ 0 ∷ 2 ∷ 8 ∷ 10 ∷ []))
     ∷ []
 
--- each call leaves what its row says
+-- each call leaves what its row says; for a program a message's end stands behind its last byte, and not before
 unfoldable pub FirmwareCalls : Type 0
-FirmwareCalls = map (λ c. c .0) firmwareRows ≡ map (λ c. c .1) firmwareRows
+FirmwareCalls =
+    (map (λ c. c .0) firmwareRows ≡ map (λ c. c .1) firmwareRows) × (foundAt [] 0 ≡ given end) × (foundAt (0x08 ∷ []) 0 ≡ refused 30)
