@@ -1,6 +1,6 @@
 -- The input of the program lawful: by computation, and the two longest by the length alone.
-use Prim.Native.Nat.{ℕ, _+_, _≤_, _<_}
-use mathlib.Core.Path.{_≡_, refl}
+use Prim.Native.Nat.{ℕ, suc, _+_}
+use mathlib.Core.Path.{_≡_, refl, sym, subst}
 use mathlib.Core.Bool.{true, false}
 use mathlib.Core.List.{List, _∷_}
 use lib.Dec.{ltb}
@@ -27,10 +27,10 @@ unfolding inputOf inputTraced tracedOf roomFits
 not-too-long bytes h = rw h
 
 longer : (n : ℕ) → ltb (settings + largestCapture) n ≡ true → inputOf (replicate n 0x00) ≡ refused (1, 0)
-longer n h = too-long (replicate n 0x00) (rw (length-replicate n 0x00, h))
+longer n h = too-long (replicate n 0x00) (rw (length-replicate {A = ℕ} n 0x00, h))
 
-fitting : (n : ℕ) → ltb (settings + largestCapture) (2 + n) ≡ false → inputOf (0x00 ∷ 0x00 ∷ replicate n 0x00) ≡ refused (13, 0)
-fitting n h = not-too-long (replicate n 0x00) (rw (length-replicate n 0x00, h))
+fitting : (n : ℕ) → ltb (settings + largestCapture) (suc (suc n)) ≡ false → inputOf (0x00 ∷ 0x00 ∷ replicate n 0x00) ≡ refused (13, 0)
+fitting n h = not-too-long (replicate n 0x00) (subst (λ x. ltb (settings + largestCapture) (suc (suc x)) ≡ false) (sym (length-replicate {A = ℕ} n 0x00)) h)
 
 pub input-answers : InputAnswers
 unfolding InputAnswers inputsRows frontOf otherVersion packetsFrom packetsOf tracedOf verdictFrom walkedOf inputOf inputTraced stepOf contentOf fieldsOf lines readOf sizeFor roomFits firstStep fitsPiece nextFits nextStep limitFits isStream streamOf
