@@ -29,4 +29,4 @@ use Rattle.worked_calls.specs.Firmware.{FirmwareCalls, firmwareRows}
 
 pub firmware-calls : FirmwareCalls
 unfolding FirmwareCalls firmwareRows applyReadOf applyStored applyWriteOf fieldReadOf segmentReadOf segmentStored segmentWriteOf badComponent outside foundAt badTag tagAt valueAt varintAt varintBytes fieldBytes headBytes partBytes tagBytes applyOf firmwareIn componentFrom componentIn componentsFrom firmwareFrom partsFrom brokenField isDigit isSignature segmentOf applyWritten badFirmware roleOf applyAt badRow componentAt wideAt rowsfirmwareFieldRow.fieldAt fixedSize isWide segmentFilled segmentWritten rowOf rows within badPlace sequenceAt withTransport addedAt entryAt walkWalk.fieldAt fieldsFrom judged packedFrom readAt withString
-firmware-calls = refl
+firmware-calls = (refl, refl, refl)

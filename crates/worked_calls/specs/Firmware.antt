@@ -4,6 +4,8 @@ use mathlib.Core.List.{List, [], _∷_, _++_, map}
 use lib.ListN.{replicate}
 use Rattle.calls_firmware.specs.Calls.{segmentReadOf, segmentWriteOf, applyReadOf, applyWriteOf, fieldReadOf}
 use Rattle.rows.specs.Called.{Called, called}
+use Rattle.wire.specs.Told.{given, refused}
+use Rattle.field.specs.Fields.{foundAt, end}
 
 unfoldable pub firmwareRows : List (Called × Called)
 firmwareRows =
@@ -46,6 +48,11 @@ firmwareRows =
     ∷ (
       applyReadOf (0x0A ∷ 0x20 ∷ 0x2A ∷ 0x01 ∷ 0xC3 ∷ (replicate 15 0x00 ++ (0x01 ∷ 0x22 ∷ 0x06 ∷ 0xE2 ∷ 0x82 ∷ 0xAC ∷ 0xE0 ∷ 0xA0 ∷ 0x80 ∷ 0x22 ∷ 0x03 ∷ 0x80 ∷ 0xA0 ∷ 0x80 ∷ 0x2D ∷ 0x91 ∷ 0x23 ∷ 0x4C ∷ 0x22 ∷ []))) (replicate 59 9),
       called 36 [] [] (replicate 57 0 ++ (5 ∷ 0 ∷ [])),
+    )
+    -- a version after eight components
+    ∷ (
+      applyReadOf (0x0A ∷ 0x12 ∷ 0x1A ∷ 0x00 ∷ 0x1A ∷ 0x00 ∷ 0x1A ∷ 0x00 ∷ 0x1A ∷ 0x00 ∷ 0x1A ∷ 0x00 ∷ 0x1A ∷ 0x00 ∷ 0x1A ∷ 0x00 ∷ 0x1A ∷ 0x00 ∷ 0x08 ∷ 0x05 ∷ []) (replicate 59 9),
+      called 0 [] [] (0 ∷ 5 ∷ (replicate 6 0 ++ (8 ∷ (replicate 50 0)))),
     )
     -- pito_apply_write: pins applyWriteOf, badRow, applyAt, applyStored, badFirmware, componentAt, anyWide, ..
     ∷ (applyWriteOf [] [] (0xEE ∷ []) (9 ∷ 9 ∷ 9 ∷ []), called 1 [] (0xEE ∷ []) (9 ∷ 9 ∷ 9 ∷ []))
@@ -103,6 +110,7 @@ firmwareRows =
     ∷ (fieldReadOf (0xE1 ∷ 0x12 ∷ (replicate 8 0x00)) 0 (replicate 7 9), called 0 [] [] (1 ∷ 300 ∷ 1 ∷ 0 ∷ 2 ∷ 8 ∷ 10 ∷ []))
     ∷ []
 
--- each call leaves what its row says
+-- each call leaves what its row says; for a program a message's end stands behind its last byte, and not before
 unfoldable pub FirmwareCalls : Type 0
-FirmwareCalls = map (λ c. c .0) firmwareRows ≡ map (λ c. c .1) firmwareRows
+FirmwareCalls =
+    (map (λ c. c .0) firmwareRows ≡ map (λ c. c .1) firmwareRows) × (foundAt [] 0 ≡ given end) × (foundAt (0x08 ∷ []) 0 ≡ refused 30)

@@ -25,6 +25,8 @@ inputsRows =
     )
     ∷ []
 
--- each call leaves what its row says
+-- each call leaves what its row says; a capture of 65,537 bytes is too long, one of 65,536 is not
 unfoldable pub InputAnswers : Type 0
-InputAnswers = map (λ c. c .0) inputsRows ≡ map (λ c. c .1) inputsRows
+InputAnswers =
+    (map (λ c. c .0) inputsRows ≡ map (λ c. c .1) inputsRows) × (inputOf (replicate 65541 0x00) ≡ refused (1, 0))
+    × (inputOf (0x00 ∷ 0x00 ∷ replicate 65538 0x00) ≡ refused (13, 0))
