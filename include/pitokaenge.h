@@ -136,7 +136,6 @@ enum {
  * byte, 4 in the body, 5 after F2. A row of zeros has a limit of 0: every step and feed refuses it by 1.
  * Buffer: exactly PITO_EXTRACTOR_BUFFER(limit) bytes, the same one from call to call. A frame's payload stands first in
  * it when the call that tells the frame returns, and until the next call.
- * Steps and feeds return 0, 1, 20, 21, 22, 23, 24, 25.
  */
 enum {
     PITO_EXTRACTOR_LIMIT,
@@ -161,6 +160,7 @@ PITO_CALL uint64_t pito_extractor_open(uint64_t limit, uint64_t *state, size_t s
 /*
  * One byte.
  * Answer: sequence byte and payload length are a frame's, else 0.
+ * Returns 0, 1, 20, 21, 22, 23, 24, 25.
  */
 enum { PITO_STEP_OUTCOME, PITO_STEP_SEQUENCE, PITO_STEP_LENGTH, PITO_STEP_ANSWER };
 PITO_CALL uint64_t pito_extractor_step(uint64_t *state, size_t state_len, uint8_t *buffer, size_t buffer_len,
@@ -170,6 +170,7 @@ PITO_CALL uint64_t pito_extractor_step(uint64_t *state, size_t state_len, uint8_
  * Many bytes, up to the first frame or refusal or to their end. Call again with the bytes not yet used.
  * Answer: used is the number of bytes used, also after a refusal, where the other three are 0. Under 1 it is 0: a loop
  * must end there, as no later call would use more.
+ * Returns 0, 1, 20, 21, 22, 23, 24, 25.
  */
 enum { PITO_FEED_OUTCOME, PITO_FEED_USED, PITO_FEED_SEQUENCE, PITO_FEED_LENGTH, PITO_FEED_ANSWER };
 PITO_CALL uint64_t pito_extractor_feed(uint64_t *state, size_t state_len, uint8_t *buffer, size_t buffer_len,
@@ -432,9 +433,9 @@ PITO_CALL uint64_t pito_report_add(uint64_t *report, size_t report_len, uint64_t
 /* ------------------------------------------------------------------------------------------------------------
  * Control messages
  *
- * Readers tell parts as start and length within the message that was read. They return 0, 1, 31, 32, 33, 34 or 30,
- * pito_information_read 36 too; a message is judged field by field. Writers write from the first byte of the output
- * on, in the shortest form, and return 0, 1, 15, 14; PITO_.._SIZE is enough output for any arguments of these lengths.
+ * Readers tell parts as start and length within the message that was read; a message is judged field by field. Writers
+ * write from the first byte of the output on, in the shortest form; PITO_.._SIZE is enough output for any arguments of
+ * these lengths.
  */
 
 /* The payload of an envelope. */
@@ -447,6 +448,7 @@ PITO_CALL uint64_t pito_report_add(uint64_t *report, size_t report_len, uint64_t
  * Answer:
  *   error_code  a response's, else 0
  *   field, start, length  another member's, or those of a response's payload; 0 where there is none
+ * Returns 0, 1, 31, 32, 33, 34, 30.
  */
 enum {
     PITO_ENVELOPE_READ_COMMAND,
@@ -467,6 +469,7 @@ PITO_CALL uint64_t pito_envelope_read(const uint8_t *message, size_t message_len
  *   field       another member's number, 2 to 536,870,911 and not 9; or that of a response's payload, 2 to 536,870,911
  *               (9 too), where 0 is no payload; not looked at with payload 0
  *   bytes       the member's, or those of the response's payload; not looked at where there is none
+ * Returns 0, 1, 15, 14.
  */
 #define PITO_ENVELOPE_SIZE(bytes_len) ((bytes_len) + 53)
 enum { PITO_ENVELOPE_WRITE_WRITTEN, PITO_ENVELOPE_WRITE_ANSWER };
@@ -477,6 +480,7 @@ PITO_CALL uint64_t pito_envelope_write(uint64_t command, uint64_t payload, uint6
 /*
  * Reads a response.
  * Answer: field, start and length are its payload's, 0 where there is none.
+ * Returns 0, 1, 31, 32, 33, 34, 30.
  */
 enum {
     PITO_RESPONSE_READ_ERROR_CODE,
@@ -490,6 +494,7 @@ PITO_CALL uint64_t pito_response_read(const uint8_t *message, size_t message_len
 /*
  * Writes a response: an error code, a signed 32-bit number, and a payload as the member of a number from 2 to
  * 536,870,911; field 0 is no payload, and the bytes are then not looked at.
+ * Returns 0, 1, 15, 14.
  */
 #define PITO_RESPONSE_SIZE(bytes_len) ((bytes_len) + 31)
 enum { PITO_RESPONSE_WRITE_WRITTEN, PITO_RESPONSE_WRITE_ANSWER };
@@ -500,6 +505,7 @@ PITO_CALL uint64_t pito_response_write(uint64_t error_code, uint64_t field, cons
  * Reads device information. Strings are well-formed UTF-8; an absent one is start 0, length 0.
  * Answer: how many transports there are, and from PITO_INFORMATION_READ_TRANSPORT on eight of them, 0 where there are
  * fewer. Field and place go with 36: the string's field, and where in it the first bad sequence begins.
+ * Returns 0, 1, 31, 32, 33, 34, 30, 36.
  */
 #define PITO_MOST_TRANSPORTS 8
 enum {
@@ -538,12 +544,14 @@ PITO_CALL uint64_t pito_information_write(const uint8_t *serial_number, size_t s
 
 /*
  * Reads device features.
+ * Returns 0, 1, 31, 32, 33, 30.
  */
 enum { PITO_FEATURES_READ_FEATURES, PITO_FEATURES_READ_DEVICE_ATTRIBUTES, PITO_FEATURES_READ_ANSWER };
 PITO_CALL uint64_t pito_features_read(const uint8_t *message, size_t message_len, uint64_t *answer, size_t answer_len);
 
 /*
  * Writes device features, any two numbers of 64 bits.
+ * Returns 0, 1, 14.
  */
 #define PITO_FEATURES_SIZE 22
 enum { PITO_FEATURES_WRITE_WRITTEN, PITO_FEATURES_WRITE_ANSWER };

@@ -59,6 +59,7 @@ fn kinds(operation: Operation) -> Kinds {
         Operation::EnvelopeRead => &[(1, &["no payload", "response", "other member"])],
         Operation::FieldRead => &[(0, &["end", "field"])],
         Operation::OutboxRecord => &[(0, &["end", "record"])],
+        Operation::CaptureJudge => &[(0, &["", "lawful", "open", "unlawful"])],
         _ => &[],
     }
 }

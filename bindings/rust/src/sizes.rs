@@ -11,6 +11,8 @@
 //! assert_eq!(receiver_buffer(LIMIT), 49_152);
 //! ```
 
+/// The version of the interface that these calls are of.
+pub const VERSION: u64 = 6;
 /// The largest limit of a link.
 pub const LARGEST_LIMIT: usize = 65535;
 /// The slots of a receiver, four for each stream.

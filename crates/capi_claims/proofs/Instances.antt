@@ -1,31 +1,52 @@
--- An instance of each field of SizesSuffice but ApplyFirmware's and the reply's: the ends of its ranges, and just the output that the header names. The append also by computation.
+-- An instance of each field of SizesSuffice but apply-write: the ends of its ranges, and just the output that the header names; the reply's only at the largest room and limit. The append also by computation.
 use Prim.Native.Nat.{ℕ, zero, suc, _≤_, zero-le}
 use mathlib.Core.Path.{_≡_, refl}
 use mathlib.Core.Logic.{inl, inr}
-use mathlib.Core.List.{List, [], _∷_, map}
+use mathlib.Core.List.{List, [], _∷_, _++_, map}
 use native.Mathlib.Omega.{arith}
 use lib.IntN.{ℤ, pos, negsuc}
-use lib.ListN.{replicate}
+use lib.ListN.{take, getD, replicate, length-append, length-replicate}
 use Rattle.field.specs.Signed.{extended}
 use borrow.Author.Tests.{le-leb}
+use Rattle.field.specs.Tag.{tagAt, badTag}
+use Rattle.field.specs.Value.{valueAt}
+use Rattle.field.specs.Varint.{varintAt}
+use Rattle.field_writer.specs.Varint.{varintBytes}
+use Rattle.field_writer.specs.Writer.{tagBytes, headBytes, partBytes, fieldBytes}
+use Rattle.known_fields.specs.Schema.{roleOf}
+use Rattle.walk.specs.Walk.{fieldsFrom, fieldAt, readAt, addedAt, judged}
+use Rattle.control.specs.declared.envelope.Payload.the-variants as Payload
+use Rattle.control.specs.Envelope.{payloadOf, envelopeOf}
+use Rattle.device.specs.declared.features.DeviceFeatures.{DeviceFeatures}
+use Rattle.reply_parts.specs.declared.body.Members.{Members}
+use Rattle.reply_parts.specs.Body.{kindOfCommand}
+use Rattle.reply.specs.Reply.{replyBy}
 use Rattle.text.specs.Table.{rows, within, described}
 use Rattle.text.specs.WellFormed.{WellFormed, empty, more}
 use Rattle.wire.specs.Stream.{isStream}
 use Rattle.sender.specs.Piece.{sizeFor}
 use Rattle.outbox.specs.Format.{versionOne, versionTwo, one, two, isOne, formatOf, numberOf, bytesOf, recordBytes}
-use Rattle.outbox.specs.Reader.{otherVersion, badPlace, badLength, cutShort, badStream, recordAt, readOf, readings, readAll, walkOf}
+use Rattle.outbox.specs.Reader.{given, otherVersion, badPlace, badLength, cutShort, badStream, recordAt, readOf, readings, readAll, walkOf}
 use Rattle.outbox.specs.Writer.{badRecord, appendOf}
+use Rattle.outbox.proofs.Walk.{whole-version}
+use Rattle.outbox_claims.proofs.Run.{all-run}
+use Rattle.moving_claims.specs.Claims.{AllShort, recordsOf}
+use Rattle.moving_claims.proofs.Rebuilt as rebuilt
+use Rattle.round_trips.specs.Premises.{AllInSigned32}
 use Rattle.firmware_round_trips.specs.Premises.{Digits, lower}
 use Rattle.rows.specs.Row.{byteOr}
 use Rattle.rows.specs.Called.{called}
 use Rattle.calls_classic.specs.Calls.{frameWriteOf}
 use Rattle.calls_sending.specs.Convert.{sendingOf}
 use Rattle.calls_sending.specs.Calls.{packetWriteOf, ackWriteOf}
-use Rattle.rows_messages.specs.Convert.{payloadFor}
+use Rattle.rows_messages.specs.Convert.{payloadFor, allSigned}
 use Rattle.calls_messages.specs.Calls.{envelopeWriteOf, responseWriteOf, informationWriteOf, featuresWriteOf}
-use Rattle.calls_firmware.specs.Calls.{segmentWriteOf}
+use Rattle.calls_reply.specs.Convert.{linkOf, fewSigned}
+use Rattle.calls_reply.specs.Calls.{replyWriteOf}
+use Rattle.calls_firmware.specs.Calls.{segmentWriteOf, applyReadOf, applyWriteOf}
 use Rattle.calls_outbox.specs.Calls.{outboxNewOf, outboxAppendOf}
-use Rattle.capi_claims.specs.SizesSuffice.{Done}
+use Rattle.calls_moving.specs.Calls.{outboxMoveOf}
+use Rattle.capi_claims.specs.SizesSuffice.{applySize, stringsOf, Done}
 use Rattle.capi_claims.proofs.SizesSuffice.{sizes-suffice}
 
 abbrev bytes : ℕ → List ℕ
@@ -80,10 +101,13 @@ letter b h = more (b ∷ []) [] refl (rw (le-leb 0 b zero-le, le-leb b 127 h)) e
 abbrev transports : List ℤ
 transports = replicate 8 (negsuc 2147483647)
 
+all-least : AllInSigned32 transports
+all-least = (omega arith, (omega arith, (omega arith, (omega arith, (omega arith, (omega arith, (omega arith, (omega arith, tt))))))))
+
 information : Done (informationWriteOf (65 ∷ []) (66 ∷ []) (67 ∷ []) (map extended transports) (bytes 127) (7 ∷ 7 ∷ 7 ∷ []))
 information =
     sizes-suffice .information-write (65 ∷ []) (66 ∷ []) (67 ∷ []) transports (bytes 127) (7 ∷ 7 ∷ 7 ∷ []) refl
-    (omega arith, (omega arith, (omega arith, (omega arith, (omega arith, (omega arith, (omega arith, (omega arith, tt)))))))) (omega arith) (letter 65 (omega arith)) (letter 66 (omega arith)) (letter 67 (omega arith)) (omega arith)
+    all-least (omega arith) (letter 65 (omega arith)) (letter 66 (omega arith)) (letter 67 (omega arith)) (omega arith)
 
 features : Done (featuresWriteOf 18446744073709551615 18446744073709551615 (bytes 22) (7 ∷ []))
 features = sizes-suffice .features-write 18446744073709551615 18446744073709551615 (bytes 22) (7 ∷ []) refl (omega arith)
@@ -97,6 +121,27 @@ segment = sizes-suffice .segment-write (65 ∷ []) 4294967295 (replicate 64 102)
 
 new : Done (outboxNewOf (bytes 1) (7 ∷ []))
 new = sizes-suffice .outbox-new (bytes 1) (7 ∷ []) refl (omega arith)
+
+-- a reply at the largest room and limit
+abbrev members : Members
+members = record { information = 536870911; features = 2 }
+
+abbrev most : DeviceFeatures
+most = record { features = 18446744073709551615; «device_attributes» = 18446744073709551615 }
+
+reply-widest : Done (replyWriteOf (8 ∷ 94 ∷ []) [] [] [] [] most members (linkOf 512 65535 0 0) (bytes 360) (7 ∷ 7 ∷ 7 ∷ []))
+unfolding replyBy kindOfCommand fewSigned allSigned varintAt varintBytes badTag tagAt valueAt tagBytes headBytes partBytes fieldBytes roleOf judged addedAt readAt fieldAt fieldsFrom payloadOf envelopeOf
+reply-widest =
+    sizes-suffice .reply-write (8 ∷ 94 ∷ []) [] [] [] [] most members 512 65535 0 0 (record { command = pos 94; payload = Payload.None }) (bytes 360) (7 ∷ 7 ∷ 7 ∷ []) refl refl
+    (omega arith) (omega arith) (omega arith) (omega arith) (omega arith) (omega arith) (omega arith, omega arith) (omega arith, omega arith)
+    tt (omega arith) empty empty empty (omega arith) (omega arith)
+
+told-again : (message told : List ℕ) → let c = applyReadOf message told in let row = take 57 (c .answer) in
+    c .number ≡ 0 → Done (applyWriteOf row message (bytes (applySize (getD row 8 0) (stringsOf row))) (7 ∷ 7 ∷ 7 ∷ []))
+told-again message told e =
+    let row = take 57 (applyReadOf message told .answer) in
+    let size = applySize (getD row 8 0) (stringsOf row) in
+    sizes-suffice .apply-told message told (bytes size) (7 ∷ 7 ∷ 7 ∷ []) e refl (omega (arith, length-replicate {0} {A = ℕ} size 9))
 
 append : Done (outboxAppendOf (1 ∷ 9 ∷ 9 ∷ 9 ∷ 9 ∷ []) 1 6 (65 ∷ []) (7 ∷ 7 ∷ []))
 append = sizes-suffice .outbox-append-first versionOne one 6 (9 ∷ 9 ∷ 9 ∷ 9 ∷ []) (65 ∷ []) (7 ∷ 7 ∷ []) refl (inr (inr refl)) (omega arith) (omega arith)
@@ -112,3 +157,16 @@ behind =
 appended : outboxAppendOf (1 ∷ 9 ∷ 9 ∷ 9 ∷ 9 ∷ []) 1 6 (65 ∷ []) (7 ∷ 7 ∷ []) ≡ called 0 [] (1 ∷ 0 ∷ 2 ∷ 6 ∷ 65 ∷ []) (5 ∷ 0 ∷ [])
 unfolding outboxAppendOf appendOf badRecord isStream isOne formatOf walkOf readAll readings readOf otherVersion badPlace bytesOf recordBytes byteOr
 appended = refl
+
+-- every whole file
+module _ (file : List ℕ) (whole : walkOf (formatOf file) file ≡ given tt) where
+  to-two : Done (outboxMoveOf versionTwo file (file ++ file) (7 ∷ 7 ∷ []))
+  to-two = sizes-suffice .outbox-to-two file (file ++ file) (7 ∷ 7 ∷ []) refl whole (omega (arith, length-append file file))
+
+  to-one : AllShort 4096 (recordsOf file) → Done (outboxMoveOf versionOne file file (7 ∷ 7 ∷ []))
+  to-one short =
+      let run = all-run (formatOf file) file (whole-version (formatOf file) file whole) in
+      sizes-suffice .outbox-to-one file file (7 ∷ 7 ∷ []) refl whole (rebuilt.within 4096 (formatOf file) file run short) (omega arith)
+
+  copy : Done (outboxMoveOf (formatOf file) file file (7 ∷ 7 ∷ []))
+  copy = sizes-suffice .outbox-copy file file (7 ∷ 7 ∷ []) refl whole (omega arith)

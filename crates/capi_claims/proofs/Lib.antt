@@ -6,7 +6,10 @@ mod Reports
 mod OneLeavesAll
 mod Sizes
 mod Applies
+mod Strings
+mod Told
 mod SizesSuffice
 mod RowsAgree
-mod Strings
+mod NumbersJudged
 mod Instances
+mod RowInstances

@@ -1,14 +1,14 @@
 -- Rows agree with what the library itself tells.
 use Prim.Native.Nat.{ℕ, zero, suc, _+_, _≤_}
 use mathlib.Core.Path.{_≡_, refl, ap, _∙_}
-use mathlib.Core.Bool.{Bool, true, false, cond}
+use mathlib.Core.Bool.{Bool, true, false, cond, not, _&&_}
 use mathlib.Core.List.{List, [], _∷_, _++_}
 use native.Mathlib.Omega.{arith}
-use lib.ListN.{length, getD, replicate, length-append}
-use lib.Seq.{getD-append-add}
+use lib.ListN.{length, getD, take, drop, replicate, length-append}
+use lib.Seq.{sets, getD-append-add}
 use lib.Dec.{leb, eqb, ltb}
-use borrow.Author.Tests.{le-ltb, eq-eqb}
-use Rattle.wire.specs.Told.{Told, given, refused, andThen}
+use borrow.Author.Tests.{le-ltb, eq-eqb, ne-eqb}
+use Rattle.wire.specs.Told.{Told, given, refused, andThen, Written, written, line, writes}
 use Rattle.field.specs.declared.tag.FieldHead.{FieldHead}
 use Rattle.field.specs.declared.value.Value.{Value}
 use Rattle.field.specs.declared.value.Value.the-variants.{Number, Bytes, Skipped}
@@ -20,15 +20,38 @@ use Rattle.field.specs.Fields.{Standing, field, end, foundAt}
 use Rattle.firmware.specs.declared.component.FirmwareComponent.{FirmwareComponent}
 use Rattle.firmware.specs.declared.apply.ApplyFirmware.{ApplyFirmware}
 use Rattle.firmware_writer.specs.Apply.{boolValue, applyWritten}
-use Rattle.firmware_round_trips.specs.RoundTrip.{Unsigned32}
+use Rattle.field.proofs.Told.{sat-given}
+use Rattle.firmware.specs.Apply.{applyOf}
+use Rattle.firmware_round_trips.specs.RoundTrip.{Unsigned32, FirmwareTakes}
+use Rattle.firmware_round_trips.proofs.Told.{Eight, apply-takes, apply-eight}
 use Rattle.rows_messages.specs.Convert.{textCall}
 use Rattle.rows_firmware.specs.Apply.{componentRow, componentRows, headRow, wholeRow, componentAt, componentsAt, applyAt, wideAt, anyWide, badRow}
 use Rattle.rows_firmware.specs.FieldRow.{fieldRow, fieldAt}
 use Rattle.rows_firmware.proofs.Components.{rows-length}
 use Rattle.calls_firmware.specs.Calls.{applyStored, applyWriteOf}
 use Rattle.calls_report.specs.Convert.{reportAt}
-use Rattle.capi_claims.specs.RowsAgree.{NumbersFit, rowStanding, RowsAgree}
+use Rattle.calls_classic.proofs.States as classic
+use Rattle.calls_parts.proofs.States as writing
+use Rattle.wire.specs.Limit.{limitFits}
+use Rattle.sender.specs.declared.writer.Sending.{Sending}
+use Rattle.sender.specs.Writer.{packetOf, packetsOf, roomFits, argumentsFit, begins, pieceOf, Sent, sentFor, writtenOf}
+use Rattle.sender.specs.Writer as sender
+use Rattle.sender_claims.specs.Calls.{packetsBy, callsFrom, Takes}
+use Rattle.sender_claims.proofs.CallsGiveAll.{calls-give-all}
+use Rattle.calls_sending.specs.Convert.{packetRow}
+use Rattle.calls_sending.specs.Calls.{packetWriteOf}
+use Rattle.outbox.specs.Format.{formatOf}
+use Rattle.outbox.specs.Reader as outbox
+use Rattle.outbox.specs.Reader.{Answer, Item, found, HandedRecord, handed, payloadIn, onward, numberIn, readOf, readings, readAll}
+use Rattle.outbox_claims.specs.Claims.{Entry}
+use Rattle.moving_claims.specs.Claims.{entriesOf, recordsOf}
+use Rattle.calls_outbox.specs.Convert.{recordRow}
+use Rattle.calls_outbox.specs.Calls.{outboxRecordOf}
+use Rattle.rows.specs.Row.{afterwards, numberTold}
+use Rattle.rows.specs.Called.{called}
+use Rattle.capi_claims.specs.RowsAgree.{NumbersFit, rowStanding, packetBy, packetsFrom, recordBy, recordsFrom, RowsAgree}
 use Rattle.capi_claims.proofs.Applies.{not-wide, low-same}
+use Rattle.capi_claims.proofs.Told.{numbers-fit}
 
 -- ---- an ApplyFirmware
 -- what stands before does not count
@@ -135,6 +158,13 @@ module _ (a : ApplyFirmware) (version : Unsigned32 (a .«firmware_information» 
   unfolding applyWriteOf applyStored
   apply-agrees texts out answer = rw (eq-eqb (length (wholeRow a)) 57 row-length, row-fine, row-again)
 
+told-agrees : (message : List ℕ) (a : ApplyFirmware) (texts out answer : List ℕ) → applyOf message ≡ given a
+    → applyWriteOf (wholeRow a) texts out answer ≡ textCall out answer (applyWritten a texts out)
+told-agrees message a texts out answer e =
+    let w = sat-given (λ (x : ApplyFirmware). FirmwareTakes message (x .«firmware_information»)) (applyOf message) a (apply-takes message) e in
+    let eight = sat-given (λ (x : ApplyFirmware). Eight message (x .«firmware_information» .components)) (applyOf message) a (apply-eight message) e in
+    apply-agrees a (w .number) (eight .0) (numbers-fit message (a .«firmware_information» .components) (eight .1)) (w .most) texts out answer
+
 -- ---- a field
 module _ (s : List ℕ) (h : FieldHead) where
   -- as rowValue, by the two tests of the kind
@@ -194,6 +224,83 @@ field-agrees s at = go (leb (length s) at) (tagAt s at)
     go false (given h) = kind-told s h (valueAt s (h .next) (h .wire)) ∙ value-agrees s h
     go false (refused n) = refl
 
+-- ---- packets, place after place
+module _ (how : Sending) (message : List ℕ) where
+  -- what a call does with the table's answer
+  abbrev byRow : List ℕ → List ℕ → (List ℕ → ℕ → List (List ℕ)) → Written Sent → List (List ℕ)
+  byRow out answer later w =
+      let c = called (numberTold (w .told)) [] (w .out) (afterwards (numberTold (w .told)) answer (packetRow (length message) (w .told))) in
+      packetBy (length message) (later (c .lent)) c
+
+  same-call : (room limit arguments space : Bool) (n next : ℕ) (out after answer : List ℕ) (one other : List ℕ → ℕ → List (List ℕ))
+      → ((left : List ℕ) (place : ℕ) → one left place ≡ other left place)
+      → let w = writes (line 13 room ∷ line 17 limit ∷ line 15 arguments ∷ line 14 space ∷ []) (sentFor (eqb next (length message)) n next) out after in
+      byRow out answer one w ≡ packetsBy (w .out) (other (w .out)) (w .told)
+  same-call true limit arguments space n next out after answer one other e = refl
+  same-call false true arguments space n next out after answer one other e = refl
+  same-call false false true space n next out after answer one other e = refl
+  same-call false false false true n next out after answer one other e = refl
+  same-call false false false false n next out after answer one other e = by-last (eqb next (length message)) refl
+    where
+      by-last : (final : Bool) → eqb next (length message) ≡ final
+          → let w : Written Sent = written (given (sentFor final n next)) after in
+          byRow out answer one w ≡ packetsBy (w .out) (other (w .out)) (w .told)
+      by-last true t = rw (eq-eqb (length message) (length message) refl)
+      by-last false t = rw t (ap (λ (l : List (List ℕ)). take n after ∷ l) (e after next))
+
+  same-calls : (calls limit : ℕ) (out answer : List ℕ) (place : ℕ) → length answer ≡ 2
+      → packetsFrom calls limit how message out answer place ≡ callsFrom calls limit how message out place
+  unfolding packetsFrom callsFrom packetWriteOf writtenOf
+  same-calls zero limit out answer place l = refl
+  same-calls (suc calls) limit out answer place l =
+      let found = sender.foundAt how (length message) place in
+      let p = pieceOf found in
+      rw (eq-eqb (length answer) 2 l)
+      (same-call (not (roomFits (how .room))) (not (limitFits limit)) (not (argumentsFit limit how (length message) && begins found)) (ltb (length out) (how .room))
+      (length (packetOf how message p)) (p .place + p .size) out (sets out 0 (packetOf how message p)) answer
+      (λ left. packetsFrom calls limit how message left answer) (callsFrom calls limit how message)
+      (λ left next. same-calls calls limit left answer next l))
+
+packets-agree : (limit : ℕ) (how : Sending) (message out answer : List ℕ) → Takes limit how message out → length answer ≡ 2
+    → packetsFrom (suc (length message)) limit how message out answer 0 ≡ packetsOf how message
+packets-agree limit how message out answer takes l =
+    same-calls how message (suc (length message)) limit out answer 0 l ∙ calls-give-all limit how message out takes .0
+
+-- ---- records, place after place
+module _ (file answer : List ℕ) (l : length answer ≡ 6) where
+  same-record : (a : Answer Item) (one : ℕ → List Entry) (other : ℕ → List HandedRecord) → ((place : ℕ) → one place ≡ entriesOf (other place))
+      → recordBy file one (called (numberIn a) [] [] (afterwards (numberIn a) answer (recordRow a))) ≡ entriesOf (handed a (payloadIn file a) ∷ onward a other)
+  same-record (outbox.given (found f)) one other e =
+      ap (λ (es : List Entry). record { stream = f .stream; payload = take (f .size) (drop (f .start) file) } ∷ es) (e (f .next))
+  same-record (outbox.given outbox.end) one other e = refl
+  same-record (outbox.refused zero) one other e = refl
+  same-record (outbox.refused (suc n)) one other e = rw (ne-eqb (suc n) 0 (λ e. omega arith))
+  same-record (outbox.refusedAt zero place) one other e = refl
+  same-record (outbox.refusedAt (suc n) place) one other e = rw (ne-eqb (suc n) 0 (λ e. omega arith))
+
+  same-records : (calls place : ℕ) → recordsFrom calls file answer place ≡ entriesOf (readings calls (formatOf file) file place)
+  unfolding recordsFrom readings outboxRecordOf
+  same-records zero place = refl
+  same-records (suc calls) place =
+      rw (eq-eqb (length answer) 6 l)
+      (same-record (readOf (formatOf file) file place) (recordsFrom calls file answer) (readings calls (formatOf file) file) (same-records calls))
+
+records-agree : (file answer : List ℕ) → length answer ≡ 6 → recordsFrom (suc (length file)) file answer 1 ≡ recordsOf file
+unfolding readAll
+records-agree file answer l = same-records file answer l (suc (length file)) 1
+
 pub rows-agree : RowsAgree
 unfolding reportAt
-rows-agree = record { apply = λ a texts out answer version eight fit most. apply-agrees a version eight fit most texts out answer; field = field-agrees; report = λ r. refl }
+rows-agree = record {
+  apply = λ a texts out answer version eight fit most. apply-agrees a version eight fit most texts out answer;
+  apply-told = told-agrees;
+  field = field-agrees;
+  report = λ r. refl;
+  extractor = classic.state-again;
+  extractor-row = classic.row-again;
+  parts = writing.state-again;
+  parts-row = writing.row-again;
+  receiver = λ x. refl;
+  packets = packets-agree;
+  records = records-agree;
+}

@@ -1,5 +1,5 @@
 -- With the sizes that the header names every writer takes what is in its range.
-use Prim.Native.Nat.{ℕ, _+_, _-_, _/_, _%_, _≤_, _<_}
+use Prim.Native.Nat.{ℕ, _+_, _-_, _*_, _/_, _%_, _≤_, _<_}
 use mathlib.Core.Path.{_≡_, refl, sym, ap, subst}
 use mathlib.Core.Logic.{inl, inr}
 use mathlib.Core.Bool.{Bool, true, false, cond, not, _||_}
@@ -33,7 +33,7 @@ use Rattle.sender.specs.Writer.{foundAt, begins, argumentsFit, writtenOf, roomF
 use Rattle.control.specs.declared.envelope.EnvelopePayload.{EnvelopePayload}
 use Rattle.control.specs.declared.envelope.EnvelopePayload.the-variants as envelope
 use Rattle.control.specs.declared.response.ResponsePayload.{ResponsePayload}
-use Rattle.control.specs.declared.response.ResponsePayload.the-variants as within
+use Rattle.control.specs.declared.response.ResponsePayload.the-variants as Inner
 use Rattle.device.specs.declared.features.DeviceFeatures.{DeviceFeatures}
 use Rattle.walk.specs.Gathered.{mostTransports}
 use Rattle.known_fields.specs.Schema.{commandField, responseField, errorCodeField, serialNumberField, nameField, transportsField, deviceTypeField, featuresField, deviceAttributesField, componentNameField, segmentSizeField, segmentSignatureField}
@@ -56,13 +56,19 @@ use Rattle.firmware_round_trips.specs.RoundTrip.{Unsigned32}
 use Rattle.firmware_round_trips.specs.Premises.{Digits}
 use Rattle.firmware_round_trips.proofs.Premises.{signature, digits-well}
 use Rattle.outbox.specs.declared.format.Format.{Format}
-use Rattle.outbox.specs.Format.{Known, one, two, isOne, formatOf, headSize, recordBytes}
+use Rattle.outbox.specs.Format.{versionOne, versionTwo, Known, one, two, isOne, formatOf, headSize, recordBytes, firstPlace}
 use Rattle.outbox.specs.Reader as outbox
 use Rattle.outbox.specs.Reader.{walkOf}
 use Rattle.outbox.specs.Writer.{newOf, badRecord, appendOf}
 use Rattle.outbox.proofs.Versions.{known-small, format-known}
 use Rattle.outbox.proofs.Walk.{whole-version}
 use Rattle.outbox.proofs.Stored.{length-record}
+use Rattle.outbox_claims.proofs.Run.{all-run}
+use Rattle.moving.specs.Moves.{overFrom, movedTo, moveOf}
+use Rattle.moving_claims.specs.Claims.{recordsOf}
+use Rattle.moving_claims.proofs.Rebuilt.{within, own-short}
+use Rattle.moving_claims.proofs.Premises.{short-more}
+use Rattle.moving_claims.proofs.Sizes.{moved-most}
 use Rattle.round_trips.specs.RoundTrip.{MemberNumber}
 use Rattle.round_trips.specs.Premises.{InSigned32, AllInSigned32}
 use Rattle.round_trips.proofs.Premises.{signed}
@@ -86,11 +92,13 @@ use Rattle.reply.specs.Reply.{Box, boxOf, memberOf, replyBy, replyOf, badCarrie
 use Rattle.calls_reply.specs.Convert.{linkOf, fewSigned, transportsFor}
 use Rattle.calls_reply.specs.Calls.{replyWriteOf}
 use Rattle.rows_firmware.specs.Apply.{applyAt}
-use Rattle.calls_firmware.specs.Calls.{segmentStored, segmentWriteOf, applyStored, applyWriteOf}
+use Rattle.calls_firmware.specs.Calls.{segmentStored, segmentWriteOf, applyStored, applyReadOf, applyWriteOf}
 use Rattle.calls_outbox.specs.Calls.{outboxNewOf, outboxAppendOf}
+use Rattle.calls_moving.specs.Calls.{outboxMoveOf}
 use Rattle.capi_claims.specs.SizesSuffice.{Done, StreamNumber, PayloadField, RowFits, stringsOf, SizesSuffice, frameSize, envelopeSize, responseSize, informationSize, featuresSize, replySize, segmentSize, applySize, recordSize}
 use Rattle.capi_claims.proofs.Sizes.{scalar-most, text-most, nested-most, packed-most, tag-most, tag-small}
 use Rattle.capi_claims.proofs.Replies.{joined-most}
+use Rattle.capi_claims.proofs.Told.{told-fits}
 use Rattle.capi_claims.proofs.Applies.{not-wide, low-same, row-fine, firmware-fine, strings-fine, apply-most}
 
 -- an answer row of the right length
@@ -187,9 +195,9 @@ ack-done stream id sequence positive out answer l s i q p h =
 
 response-most : (code : ℕ) (payload : ResponsePayload) (bytes : List ℕ)
     → length (messageBytes (responseFields code payload bytes)) ≤ responseSize (length bytes)
-response-most code within.None bytes =
+response-most code Inner.None bytes =
     rw length-append (omega (arith, scalar-most errorCodeField code, tag-small errorCodeField varintType refl))
-response-most code (within.Member field) bytes =
+response-most code (Inner.Member field) bytes =
     rw (length-append, length-append)
     (omega (arith, scalar-most errorCodeField code, tag-small errorCodeField varintType refl, nested-most field bytes, tag-most field lengthType))
 
@@ -390,13 +398,13 @@ room-is room low high = rw (le-leb leastRoom room low, le-leb room largestRoom h
 
 reply-done : (message serialNumber name deviceType : List ℕ) (transports : List ℤ) (features : DeviceFeatures) (members : Members)
     (room limit id sequence : ℕ) (e : Envelope) (out answer : List ℕ) → length answer ≡ 3 → envelopeOf message ≡ given e
-    → 20 ≤ room → room ≤ 512 → limit ≤ 65535 → id ≤ 15 → sequence ≤ 15 → MemberNumber (members .information) → MemberNumber (members .features)
+    → 20 ≤ room → room ≤ 512 → 1 ≤ limit → limit ≤ 65535 → id ≤ 15 → sequence ≤ 15 → MemberNumber (members .information) → MemberNumber (members .features)
     → AllInSigned32 transports → length transports ≤ 8 → WellFormed serialNumber → WellFormed name → WellFormed deviceType
-    → envelopeSize (informationSize (length serialNumber) (length name) (length deviceType)) ≤ limit
+    → length (replyOf (boxOf serialNumber name (transportsFor (map extended transports)) deviceType features members) (extended (e .command))) ≤ limit
     → replySize (length serialNumber) (length name) (length deviceType) ≤ length out
     → Done (replyWriteOf message serialNumber name deviceType (map extended transports) features members (linkOf room limit id sequence) out answer)
 unfolding replyWriteOf repliedOf
-reply-done message serialNumber name deviceType transports features members room limit id sequence e out answer l reads low high most i q im fm n few s nm t within h =
+reply-done message serialNumber name deviceType transports features members room limit id sequence e out answer l reads low high least most i q im fm n few s nm t within h =
     let listed = transportsFor (map extended transports) in
     let b : Box = boxOf serialNumber name listed deviceType features members in
     let k : Link = record { room = room; limit = limit; id = id; sequence = sequence } in
@@ -409,8 +417,8 @@ reply-done message serialNumber name deviceType transports features members room
     fit-done 3 [] out answer _ l
     (rw (link-is room limit id sequence i q, reads)
     (silent-done (isResponse (e .payload)) out (sentOf b k v out)
-    (sent-done b k v out (room-is room low high) (range-limit limit (omega arith) most) (in-range 0 id sequence (inl refl) i q)
-    (carried-fine members (length listed) kind im fm fewer) (omega (arith, body, whole)) (carried-well serialNumber name deviceType kind s nm t) (omega (arith, body, whole, joined)))))
+    (sent-done b k v out (room-is room low high) (range-limit limit least most) (in-range 0 id sequence (inl refl) i q)
+    (carried-fine members (length listed) kind im fm fewer) within (carried-well serialNumber name deviceType kind s nm t) (omega (arith, body, whole, joined)))))
 
 segment-most : (name : List ℕ) (size : ℕ) (signature : List ℕ) → length signature ≡ 64
     → length (messageBytes (segmentFields name 0 size signature)) ≤ segmentSize (length name)
@@ -486,6 +494,55 @@ unfolding isOne formatOf walkOf outbox.readAll outbox.readings outbox.readOf out
 first-done fmt one stream rest payload answer l s short room = append-done 1 stream (1 ∷ rest) payload answer l refl s short room
 first-done fmt two stream rest payload answer l s short room = append-done 1 stream (2 ∷ rest) payload answer l refl s short room
 
+-- ---- a row that was told
+
+told-done : (message told out answer : List ℕ) → let c = applyReadOf message told in let row = take 57 (c .answer) in
+    c .number ≡ 0 → length answer ≡ 3 → applySize (getD row 8 0) (stringsOf row) ≤ length out → Done (applyWriteOf row message out answer)
+told-done message told out answer e l h =
+    let row = take 57 (applyReadOf message told .answer) in
+    let fits : (length row ≡ 57) × RowFits message row = told-fits message told e in
+    apply-done row message out answer (fits .0) l (fits .1) h
+
+-- ---- outboxes moved
+
+move-done : (times : ℕ) → 1 ≤ times → (wished : Format) (file out answer : List ℕ) → ((n : ℕ) → headSize wished + n ≤ times * (headSize (formatOf file) + n))
+    → length answer ≡ 2 → walkOf (formatOf file) file ≡ outbox.given tt → overFrom (wished .limit) firstPlace (outbox.readAll (formatOf file) file) ≡ outbox.given tt
+    → times * length file ≤ length out → Done (outboxMoveOf wished file out answer)
+unfolding outboxMoveOf moveOf
+move-done times some wished file out answer grows l whole short h =
+    let fmt = formatOf file in
+    fit-done 2 [] out answer _ l
+    (rw (
+      whole,
+      short,
+      le-ltb (length out) (length (movedTo wished fmt file)) (omega (arith, moved-most times some wished fmt grows file whole)),
+    ))
+
+-- no record is over a limit that its own version does not pass
+not-over : (limit : ℕ) (file : List ℕ) → formatOf file .limit ≤ limit → walkOf (formatOf file) file ≡ outbox.given tt
+    → overFrom limit firstPlace (outbox.readAll (formatOf file) file) ≡ outbox.given tt
+not-over limit file h whole =
+    let run = all-run (formatOf file) file (whole-version (formatOf file) file whole) in
+    within limit (formatOf file) file run (short-more (formatOf file .limit) limit h (recordsOf file) (own-short (formatOf file) file run))
+
+two-done : (file out answer : List ℕ) → length answer ≡ 2 → walkOf (formatOf file) file ≡ outbox.given tt → 2 * length file ≤ length out
+    → Done (outboxMoveOf versionTwo file out answer)
+two-done file out answer l whole h =
+    let small = known-small (formatOf file) (format-known file) in
+    move-done 2 (omega arith) versionTwo file out answer (λ n. omega (arith, small .0)) l whole (not-over 65535 file (small .2) whole) h
+
+one-done : (file out answer : List ℕ) → length answer ≡ 2 → walkOf (formatOf file) file ≡ outbox.given tt
+    → overFrom 4096 firstPlace (outbox.readAll (formatOf file) file) ≡ outbox.given tt → length file ≤ length out
+    → Done (outboxMoveOf versionOne file out answer)
+one-done file out answer l whole short h =
+    let small = known-small (formatOf file) (format-known file) in
+    move-done 1 (omega arith) versionOne file out answer (λ n. omega (arith, small .0)) l whole short (omega arith)
+
+copy-done : (file out answer : List ℕ) → length answer ≡ 2 → walkOf (formatOf file) file ≡ outbox.given tt → length file ≤ length out
+    → Done (outboxMoveOf (formatOf file) file out answer)
+copy-done file out answer l whole h =
+    move-done 1 (omega arith) (formatOf file) file out answer (λ n. omega arith) l whole (not-over (formatOf file .limit) file (omega arith) whole) (omega arith)
+
 pub sizes-suffice : SizesSuffice
 sizes-suffice = record {
   frame-write = frame-done;
@@ -502,8 +559,12 @@ sizes-suffice = record {
   reply-write = reply-done;
   segment-write = segment-done;
   apply-write = apply-done;
+  apply-told = told-done;
   outbox-new = new-done;
   outbox-append = append-done;
   outbox-append-first = first-done;
   record-size = λ fmt known n. omega (arith, known-small fmt known .1);
+  outbox-to-two = two-done;
+  outbox-to-one = one-done;
+  outbox-copy = copy-done;
 }

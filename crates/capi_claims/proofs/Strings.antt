@@ -38,7 +38,7 @@ use Rattle.capi_claims.specs.SizesSuffice.{LiesAt}
 use Rattle.capi_claims.specs.StringsWellFormed.{ComponentsLie, StringsWellFormed}
 
 -- what holds of the row holds of the answer of a call that returns 0
-told-row : (size number : ℕ) (answer row : List ℕ) (P : List ℕ → Type 0) → P row
+pub told-row : (size number : ℕ) (answer row : List ℕ) (P : List ℕ → Type 0) → P row
     → answers size answer [] number [] row .number ≡ 0 → P (answers size answer [] number [] row .answer)
 told-row size number answer row P p = by-fit (eqb (length answer) size)
   where
@@ -85,7 +85,7 @@ module _ (s : List ℕ) where
       let next : getD (pre ++ row) (length pre + k + 1) 0 ≡ getD row (k + 1) 0 = ap (λ (x : ℕ). getD (pre ++ row) x 0) e ∙ getD-append-add pre row (k + 1) 0 in
       rw (getD-append-add pre row k 0, next) h
 
-  at-place : (pre row : List ℕ) (k n : ℕ) → LiesAt s row (k + n) → LiesAt s (pre ++ row) (length pre + k + n)
+  pub at-place : (pre row : List ℕ) (k n : ℕ) → LiesAt s row (k + n) → LiesAt s (pre ++ row) (length pre + k + n)
   at-place pre row k n h =
       let e : length pre + (k + n) ≡ length pre + k + n = omega arith in
       subst (LiesAt s (pre ++ row)) e (lies-behind pre row (k + n) h)

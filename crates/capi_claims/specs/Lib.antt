@@ -2,3 +2,4 @@ pub mod OneLeavesAll
 pub mod SizesSuffice
 pub mod RowsAgree
 pub mod StringsWellFormed
+pub mod NumbersJudged

@@ -19,8 +19,9 @@ use Rattle.control.specs.Envelope.{envelopeOf}
 use Rattle.device.specs.declared.features.DeviceFeatures.{DeviceFeatures}
 use Rattle.reply_parts.specs.declared.body.Members.{Members}
 use Rattle.outbox.specs.declared.format.Format.{Format}
-use Rattle.outbox.specs.Format.{Known, formatOf, headSize}
-use Rattle.outbox.specs.Reader.{given, walkOf}
+use Rattle.outbox.specs.Format.{versionOne, versionTwo, Known, formatOf, headSize, firstPlace}
+use Rattle.outbox.specs.Reader.{given, readAll, walkOf}
+use Rattle.moving.specs.Moves.{overFrom}
 use Rattle.round_trips.specs.RoundTrip.{MemberNumber}
 use Rattle.round_trips.specs.Premises.{InSigned32, AllInSigned32}
 use Rattle.firmware_round_trips.specs.RoundTrip.{Unsigned32}
@@ -31,10 +32,12 @@ use Rattle.calls_sending.specs.Convert.{sendingOf}
 use Rattle.calls_sending.specs.Calls.{packetWriteOf, ackWriteOf}
 use Rattle.rows_messages.specs.Convert.{payloadFor}
 use Rattle.calls_messages.specs.Calls.{envelopeWriteOf, responseWriteOf, informationWriteOf, featuresWriteOf}
-use Rattle.calls_reply.specs.Convert.{linkOf}
+use Rattle.reply.specs.Reply.{boxOf, replyOf}
+use Rattle.calls_reply.specs.Convert.{linkOf, transportsFor}
 use Rattle.calls_reply.specs.Calls.{replyWriteOf}
-use Rattle.calls_firmware.specs.Calls.{segmentWriteOf, applyWriteOf}
+use Rattle.calls_firmware.specs.Calls.{segmentWriteOf, applyReadOf, applyWriteOf}
 use Rattle.calls_outbox.specs.Calls.{outboxNewOf, outboxAppendOf}
+use Rattle.calls_moving.specs.Calls.{outboxMoveOf}
 
 -- PITO_FRAME_SIZE
 abbrev pub frameSize : ℕ → ℕ
@@ -147,12 +150,12 @@ pub record SizesSuffice : Type 0 where
       → Done (informationWriteOf serialNumber name deviceType (map extended transports) out answer)
   pub features-write : (features attributes : ℕ) (out answer : List ℕ) → length answer ≡ 1 → featuresSize ≤ length out
       → Done (featuresWriteOf features attributes out answer)
-  -- to every envelope, at each room; the limit holds the longest reply
+  -- to every envelope, at each room and each limit that holds the reply itself
   pub reply-write : (message serialNumber name deviceType : List ℕ) (transports : List ℤ) (features : DeviceFeatures) (members : Members)
       (room limit id sequence : ℕ) (e : Envelope) (out answer : List ℕ) → length answer ≡ 3 → envelopeOf message ≡ told.given e
-      → 20 ≤ room → room ≤ 512 → limit ≤ 65535 → id ≤ 15 → sequence ≤ 15 → MemberNumber (members .information) → MemberNumber (members .features)
+      → 20 ≤ room → room ≤ 512 → 1 ≤ limit → limit ≤ 65535 → id ≤ 15 → sequence ≤ 15 → MemberNumber (members .information) → MemberNumber (members .features)
       → AllInSigned32 transports → length transports ≤ 8 → WellFormed serialNumber → WellFormed name → WellFormed deviceType
-      → envelopeSize (informationSize (length serialNumber) (length name) (length deviceType)) ≤ limit
+      → length (replyOf (boxOf serialNumber name (transportsFor (map extended transports)) deviceType features members) (extended (e .command))) ≤ limit
       → replySize (length serialNumber) (length name) (length deviceType) ≤ length out
       → Done (replyWriteOf message serialNumber name deviceType (map extended transports) features members (linkOf room limit id sequence) out answer)
   -- an offset of 0, and 64 hexadecimal digits
@@ -162,6 +165,10 @@ pub record SizesSuffice : Type 0 where
   pub apply-write : (row texts out answer : List ℕ) → length row ≡ 57 → length answer ≡ 3
       → RowFits texts row → applySize (getD row 8 0) (stringsOf row) ≤ length out
       → Done (applyWriteOf row texts out answer)
+  -- .. of a row that was told, with the message as its texts
+  pub apply-told : (message told out answer : List ℕ) → let c = applyReadOf message told in let row = take 57 (c .answer) in
+      c .number ≡ 0 → length answer ≡ 3 → applySize (getD row 8 0) (stringsOf row) ≤ length out
+      → Done (applyWriteOf row message out answer)
   pub outbox-new : (out answer : List ℕ) → length answer ≡ 1 → 1 ≤ length out → Done (outboxNewOf out answer)
   -- after used bytes that are a whole outbox of either version
   pub outbox-append : (used stream : ℕ) (buffer payload answer : List ℕ) → length answer ≡ 2
@@ -175,3 +182,12 @@ pub record SizesSuffice : Type 0 where
       → Done (outboxAppendOf (fmt .version ∷ rest) 1 stream payload answer)
   -- the header's size is enough for a record of either
   pub record-size : (fmt : Format) → Known fmt → (n : ℕ) → headSize fmt + n ≤ recordSize n
+  -- a whole outbox goes to 02 in twice its bytes, to 01 in its own if no record is refused by 46, and is copied in its own
+  pub outbox-to-two : (file out answer : List ℕ) → length answer ≡ 2 → walkOf (formatOf file) file ≡ given tt
+      → 2 * length file ≤ length out
+      → Done (outboxMoveOf versionTwo file out answer)
+  pub outbox-to-one : (file out answer : List ℕ) → length answer ≡ 2 → walkOf (formatOf file) file ≡ given tt
+      → overFrom 4096 firstPlace (readAll (formatOf file) file) ≡ given tt → length file ≤ length out
+      → Done (outboxMoveOf versionOne file out answer)
+  pub outbox-copy : (file out answer : List ℕ) → length answer ≡ 2 → walkOf (formatOf file) file ≡ given tt → length file ≤ length out
+      → Done (outboxMoveOf (formatOf file) file out answer)

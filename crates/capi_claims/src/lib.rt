@@ -1,5 +1,6 @@
 // What holds of every call.
 ghost use Rattle.capi_claims.specs.OneLeavesAll.{OneLeavesAll};
+ghost use Rattle.capi_claims.specs.NumbersJudged.{NumbersJudged};
 ghost use Rattle.capi_claims.specs.RowsAgree.{RowsAgree};
 ghost use Rattle.capi_claims.specs.SizesSuffice.{SizesSuffice};
 ghost use Rattle.capi_claims.specs.StringsWellFormed.{StringsWellFormed};
@@ -15,8 +16,8 @@ pub fn sizes_suffice()
     ensures { λ _. ⌜ SizesSuffice ⌝ }
 {}
 
-// A row that was told of an ApplyFirmware is taken as that message, a field's row tells what stands at its place, and the row that a
-// report leaves is taken as that report.
+// What a caller carries from call to call is taken as what was told: the row of an ApplyFirmware, of a report and of a state; a field's row
+// tells what stands at its place; place after place, all packets of a message and all records of a file are given.
 pub fn rows_agree()
     ensures { λ _. ⌜ RowsAgree ⌝ }
 {}
@@ -24,4 +25,9 @@ pub fn rows_agree()
 // Every string that a reader's row tells lies within the message and is well formed.
 pub fn strings_well_formed()
     ensures { λ _. ⌜ StringsWellFormed ⌝ }
+{}
+
+// Where the library takes a byte, a number above it is judged and not cut.
+pub fn numbers_judged()
+    ensures { λ _. ⌜ NumbersJudged ⌝ }
 {}

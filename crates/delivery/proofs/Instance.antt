@@ -1,25 +1,29 @@
 -- P4 as an instance of the claim: all of it computed, and the message by the claim itself.
+use Prim.Native.Nat.{ℕ, _*_}
 use native.Mathlib.Omega.{arith}
 use mathlib.Core.Path.{_≡_, refl}
-use mathlib.Core.Logic.{inr}
+use mathlib.Core.Logic.{_⊎_, inr}
 use mathlib.Core.Option.{none, some}
-use mathlib.Core.List.{[], _∷_}
+use mathlib.Core.List.{List, [], _∷_}
 use mathlib.Core.Bool.{true}
-use lib.ListN.{getD, drop}
+use lib.ListN.{length, getD, drop}
 use Rattle.wire.specs.Those.{those}
 use Rattle.wire.specs.declared.stream.Stream.the-variants.{Alexa}
 use Rattle.wire.specs.Limit.{limitFits}
 use Rattle.wire.specs.Stream.{isStream, streamOf}
 use Rattle.packet.specs.Header.{inRange}
 use Rattle.packet.specs.Reader.{fieldsOf, contentOf, lines, readOf}
-use Rattle.slot.specs.Slot.{lawfulSlot, lawful}
+use Rattle.slot.specs.declared.Slot.{Slot}
+use Rattle.slot.specs.Slot.{slotCount, lawfulSlot, lawful}
 use Rattle.slot_steps.specs.Step.{finish, hold, dropBy, firstStep, nextStep}
-use Rattle.receiver.specs.Receiver.{ready, readIn, acceptOf}
+use Rattle.receiver.specs.Receiver.{PacketCall, ready, readIn, acceptOf}
+use Rattle.sender.specs.declared.writer.Sending.{Sending}
 use Rattle.sender.specs.Piece.{sizeFor}
 use Rattle.sender.specs.Writer.{headerBytes, packetOf, roomFits, argumentsFit, writtenOf}
 use Rattle.sender_claims.specs.Calls.{callsFrom, callsOf, Takes}
 use Rattle.sender_claims.proofs.CallsGiveAll.{takes-all}
-use Rattle.delivery.specs.Delivery.{runOf, rowAfter, repliesTo, ours, hasSlot, packetsIn, shown, shownTo, allAnswerable}
+use Rattle.delivery.specs.Delivery.{runOf, rowAfter, repliesTo, ours, hasSlot, packetsIn, shown, shownIn, shownTo, allAnswerable, Arrived}
+use Rattle.delivery.proofs.MessagesArrive.{round-trip}
 use Rattle.delivery.specs.Instance.{limit, how, message, output, slots, buffer, eight, before, first, later, after, Arrives}
 
 law : lawful limit slots ≡ true
@@ -65,3 +69,11 @@ arrives =
       arrived = arrived;
       claimed = λ claim. claim limit slots buffer before first later after how message output law refl takes begins sent can-answer free;
     }
+
+-- RoundTrip at both ends of the limits, of whatever is sent there
+round-at : (limit : ℕ) → (limit ≡ 1) ⊎ (limit ≡ 65535)
+    → (slots : List Slot) (bytes : List ℕ) (first : PacketCall) (later : List PacketCall) (w : Sending) (m out : List ℕ)
+    → lawful limit slots ≡ true → length bytes ≡ slotCount * limit → Takes limit w m out → first .packet ≡ getD (callsOf limit w m out) 0 []
+    → packetsIn later ≡ drop 1 (callsOf limit w m out) → allAnswerable (first ∷ later) ≡ true → hasSlot slots w ≡ true
+    → Arrived w m first later (shownIn limit (runOf limit slots bytes (first ∷ later)))
+round-at limit ends = round-trip limit

@@ -25,6 +25,7 @@ use Rattle.walk.proofs.Strings.{text-get, strings-first}
 use Rattle.text_writer.specs.Texts.{AllWellFormed}
 use Rattle.firmware.specs.declared.segment.UpdateComponentSegment.{UpdateComponentSegment}
 use Rattle.firmware.specs.declared.component.FirmwareComponent.{FirmwareComponent}
+use Rattle.firmware.specs.declared.information.FirmwareInformation.{FirmwareInformation}
 use Rattle.firmware.specs.declared.apply.ApplyFirmware.{ApplyFirmware}
 use Rattle.firmware.specs.Segment.{isSignature, brokenField, segmentMade, segmentJudged, segmentOf}
 use Rattle.segment_writer.specs.Segment.{segmentStrings, segmentFields, segmentWritten}
@@ -133,7 +134,7 @@ first-take s (suc n) [] w = tt
 first-take s (suc n) (c ∷ l) w = (w .0, first-take s n l (w .1))
 
 -- eight places, in range
-abbrev Eight : List ℕ → List FirmwareComponent → Type 0
+abbrev pub Eight : List ℕ → List FirmwareComponent → Type 0
 Eight s cs = (length cs ≡ mostRepeated) × ComponentsTake s cs
 
 components-take : (s : List ℕ) (at : ℕ) → Sat (Eight s) (componentsFrom s at)
@@ -181,6 +182,19 @@ apply-takes s =
     let Q : ApplyFirmware → Type 0 = λ a. FirmwareTakes s (a .«firmware_information») in
     sat-then (Gathers s) Q (fieldsFrom Schema.Apply s 0) _ (gathers Schema.Apply s 0)
     (λ g w. sat-then (FirmwareTakes s) Q (firmwareIn s (g .part)) _ (firmware-in-takes s (g .part)) (λ f h. h))
+
+-- .. with eight components, those that are not there in range too
+pub apply-eight : (s : List ℕ) → Sat (λ (a : ApplyFirmware). Eight s (a .«firmware_information» .components)) (applyOf s)
+unfolding applyOf firmwareIn firmwareFrom
+apply-eight s =
+    let Q : ApplyFirmware → Type 0 = λ a. Eight s (a .«firmware_information» .components) in
+    let P : FirmwareInformation → Type 0 = λ f. Eight s (f .components) in
+    sat-then (Gathers s) Q (fieldsFrom Schema.Apply s 0) _ (gathers Schema.Apply s 0)
+    (λ g w. let t = take (g .part .start + g .part .len) s in
+    sat-then P Q (firmwareIn s (g .part)) _
+    (sat-then (Gathers t) P (fieldsFrom Schema.Firmware t (g .part .start)) _ (gathers Schema.Firmware t (g .part .start))
+    (λ h k. sat-then (Eight t) P (componentsFrom t (g .part .start)) _ (components-take t (g .part .start))
+    (λ cs e. (e .0, components-longer (g .part .start + g .part .len) s cs (e .1))))) (λ f h. h))
 
 pub applies-told-taken : AppliesToldTaken
 unfolding AppliesToldTaken ApplyRoundTrip

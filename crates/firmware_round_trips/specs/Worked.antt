@@ -152,6 +152,15 @@ applyCases =
           record { version = 6; name = noPart; components = sets (replicate 8 noComponent) 0 (record { version = 5; name = noPart; size = 7; signature = noPart } ∷ []); count = 1; locale = noPart; «version_name» = noPart };
       «restart_required» = false;
     }))
+    -- fields that are not known: of each wire type, two of a length, in each of the three messages
+    ∷ applyCase (0x3A ∷ 0x02 ∷ 0x1A ∷ 0x00 ∷ 0x3A ∷ 0x01 ∷ 0xFF ∷ 0x3D ∷ 0x01 ∷ 0x02 ∷ 0x03 ∷ 0x04 ∷ 0x38 ∷ 0x05 ∷ []) (given noApply)
+    ∷ applyCase (0x0A ∷ 0x0C ∷ 0x3A ∷ 0x01 ∷ 0xFF ∷ 0x3A ∷ 0x00 ∷ 0x1A ∷ 0x05 ∷ 0x3A ∷ 0x01 ∷ 0xFF ∷ 0x3A ∷ 0x00 ∷ []) (given (record { «firmware_information» = listing [] 1; «restart_required» = false }))
+    -- a string given twice
+    ∷ applyCase (0x0A ∷ 0x06 ∷ 0x22 ∷ 0x01 ∷ 0x41 ∷ 0x22 ∷ 0x01 ∷ 0x42 ∷ [])
+    (given (record {
+      «firmware_information» = record { version = 0; name = noPart; components = replicate 8 noComponent; count = 0; locale = part 7 1; «version_name» = noPart };
+      «restart_required» = false;
+    }))
     -- restart_required 2 ^ 32
     ∷ applyCase (0x10 ∷ 0x80 ∷ 0x80 ∷ 0x80 ∷ 0x80 ∷ 0x10 ∷ []) (given (record { «firmware_information» = noFirmware; «restart_required» = true }))
     -- a component that is broken, and a locale of another wire type after it

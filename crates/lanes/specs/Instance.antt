@@ -19,7 +19,7 @@ abbrev pub limit : ℕ
 limit = 4
 
 abbrev pub empty : List ℕ
-empty = replicate (slotCount * limit) 0
+empty = replicate (slotCount * limit) 0x77
 
 -- answer buffers of eight bytes, of six and of five
 abbrev pub eight : List ℕ
@@ -50,7 +50,7 @@ abbrev pub slots : List Slot
 slots = acceptOf limit controlOpen empty ota .slots
 
 abbrev pub buffer : List ℕ
-buffer = 0xAA ∷ (replicate 15 0 ++ (0x11 ∷ 0x22 ∷ replicate 30 0))
+buffer = 0xAA ∷ (replicate 15 0x77 ++ (0x11 ∷ 0x22 ∷ replicate 30 0x77))
 
 -- ---- four pairs
 
@@ -97,7 +97,7 @@ pub record Computed : Type 0 where
         first = refused 10;
         second = given (Finished 4 Ota 3 4 true false);
         slots = idles;
-        bytes = 0xAA ∷ (replicate 15 0 ++ (0x11 ∷ 0x22 ∷ 0x33 ∷ 0x44 ∷ replicate 28 0));
+        bytes = 0xAA ∷ (replicate 15 0x77 ++ (0x11 ∷ 0x22 ∷ 0x33 ∷ 0x44 ∷ replicate 28 0x77));
         first-out = six;
         second-out = 0x23 ∷ 0x9E ∷ 0x00 ∷ 0x02 ∷ 0x01 ∷ 0x00 ∷ 0xEE ∷ 0xEE ∷ [];
       })
@@ -113,7 +113,7 @@ pub record Computed : Type 0 where
         first = refused 3;
         second = given (Finished 0 Control 1 3 false false);
         slots = otaOpen;
-        bytes = 0xAA ∷ 0xBB ∷ 0xCC ∷ (replicate 13 0 ++ (0x11 ∷ 0x22 ∷ replicate 30 0));
+        bytes = 0xAA ∷ 0xBB ∷ 0xCC ∷ (replicate 13 0x77 ++ (0x11 ∷ 0x22 ∷ replicate 30 0x77));
         first-out = six;
         second-out = six;
       })

@@ -1,7 +1,7 @@
 -- An instance of ListsAsWhole: a format of lengths of one byte and payloads of up to one, a file of two records that comes in two parts.
 use Prim.Native.Nat.{ℕ, _<_}
 use mathlib.Core.Path.{_≡_, refl}
-use mathlib.Core.Bool.{false}
+use mathlib.Core.Bool.{true, false}
 use mathlib.Core.List.{List, [], _∷_, _++_}
 use native.Mathlib.Omega.{arith}
 use lib.ListN.{take}
@@ -27,6 +27,11 @@ more = 2 ∷ 66 ∷ []
 stops : listedOf tiny false (take 5 buffer) ≡ listed false 4
 unfolding listedOf isStream walkOf readAll readings readOf otherVersion badPlace recordAt badLength cutShort badStream numberOf
 stops = refl
+
+-- a cut record ends the last part; a length of 0 and another version end any
+ends : (listedOf tiny true (take 5 buffer) ≡ listed true 4) × (listedOf tiny false (1 ∷ 0 ∷ []) ≡ listed true 1) × (listedOf tiny false (2 ∷ []) ≡ listed true 0)
+unfolding listedOf isStream walkOf readAll readings readOf otherVersion badPlace recordAt badLength cutShort badStream numberOf
+ends = (refl, refl, refl)
 
 carries : (carryOf buffer 4 5 ≡ carried 2 (1 ∷ 2 ∷ 6 ∷ 65 ∷ 2 ∷ 9 ∷ [])) × (fromPlace tiny (take 5 buffer ++ more) 4 ≡ 1 ∷ 2 ∷ 2 ∷ 66 ∷ [])
 unfolding carryOf

@@ -17,7 +17,7 @@ longest : (fmt : Format) → Known fmt → fmt .limit ≤ 65535
 longest fmt one = omega arith
 longest fmt two = omega arith
 
-short-more : (least most : ℕ) → least ≤ most → (es : List Entry) → AllShort least es → AllShort most es
+pub short-more : (least most : ℕ) → least ≤ most → (es : List Entry) → AllShort least es → AllShort most es
 short-more least most h [] s = tt
 short-more least most h (e ∷ es) s = (omega (arith, s .0), short-more least most h es (s .1))
 

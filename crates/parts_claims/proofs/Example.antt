@@ -1,13 +1,23 @@
 -- The claim of specs/Example.antt, computed.
-use mathlib.Core.Path.{refl}
+use Prim.Native.Nat.{ℕ}
+use mathlib.Core.Path.{_≡_, refl}
+use mathlib.Core.Logic.{_⊎_}
+use mathlib.Core.List.{List}
+use lib.ListN.{length}
 use lib.Dec.{lit≤}
 use Rattle.wire.specs.Limit.{limitFits}
 use Rattle.framing.specs.Mark.{kindOf}
 use Rattle.framing.specs.Frame.{escapedOf, sumOf, framed}
-use Rattle.parts.specs.State.{lawful}
+use Rattle.frame_writer.specs.Sending.{FrameToSend, Sendable, sent}
+use Rattle.parts.specs.declared.state.PartProgress.{PartProgress}
+use Rattle.parts.specs.State.{beginning, lawful}
 use Rattle.parts.specs.Byte.{bodyByte, byteOf}
 use Rattle.parts.specs.Fill.{fillOf}
-use Rattle.parts_claims.specs.Run.{runOf}
+use Rattle.parts_claims.specs.Run.{PartCall, runOf}
+use Rattle.parts_claims.specs.Joined.{Joins}
+use Rattle.parts_claims.specs.Stopping.{Offering, Stopped}
+use Rattle.parts_claims.proofs.Joined.{parts-join}
+use Rattle.parts_claims.proofs.Stopping.{parts-stop}
 use Rattle.parts_claims.specs.Example.{PartsExample}
 
 pub parts-example : PartsExample
@@ -27,3 +37,11 @@ parts-example =
       joined = refl;
       byOnes = refl;
     }
+
+-- The claims at both ends of the limits, of whatever is sent there
+joins-at : (limit : ℕ) → (limit ≡ 1) ⊎ (limit ≡ 65535) → (m : FrameToSend) (calls : List PartCall) → Sendable limit m
+    → (let s = beginning limit (m .sequence) (length (m .payload)) in Joins (sent limit m) m calls (runOf (s .limit) calls (s .progress) (m .payload)))
+joins-at limit ends m calls h = parts-join limit m calls h .2
+
+stops-at : (limit : ℕ) → (limit ≡ 1) ⊎ (limit ≡ 65535) → (s : PartProgress) (offered out : List ℕ) → Offering limit s offered out → Stopped limit s offered out
+stops-at limit ends s offered out = parts-stop limit s offered out

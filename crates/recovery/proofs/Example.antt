@@ -1,17 +1,22 @@
 -- The claim of specs/Example.antt, computed.
-use mathlib.Core.Path.{refl}
+use Prim.Native.Nat.{ℕ}
+use mathlib.Core.Path.{_≡_, refl}
+use mathlib.Core.List.{List, [], _∷_}
+use lib.ListN.{length, replicate}
 use native.Mathlib.Omega.{arith}
 use lib.Dec.{lit<, lit≤}
 use Rattle.wire.specs.Limit.{limitFits}
 use Rattle.framing.specs.Mark.{kindOf}
 use Rattle.framing.specs.Frame.{escapedOf, sumOf, framed, checked}
 use Rattle.extractor.specs.Action.{codeOf}
-use Rattle.extractor.specs.State.{lawful, ready}
+use Rattle.extractor.specs.State.{outside, lawful, ready}
 use Rattle.extractor.specs.Step.{storeOf, endOf, advanceOf}
-use Rattle.feed.specs.Feed.{feedFrom}
-use Rattle.recovery.specs.Run.{callOf, runOf, handedOut}
-use Rattle.recovery.specs.Recovery.{bytesOf, undamaged}
-use Rattle.recovery.specs.Example.{DamageExample}
+use Rattle.feed.specs.Feed.{feedFrom, feedOf}
+use Rattle.frame_writer.specs.Sending.{FrameToSend, Sendable, sent}
+use Rattle.recovery.specs.Run.{many, callOf, runOf, handedBy, handedOut}
+use Rattle.recovery.specs.Recovery.{givenOf, bytesOf, undamaged}
+use Rattle.recovery.specs.Example.{DamageExample, limit, state, buffer, closing}
+use Rattle.recovery.proofs.Recovery.{damage-ends, frame-returns}
 
 pub damage-example : DamageExample
 unfolding limitFits kindOf escapedOf sumOf framed codeOf lawful ready storeOf checked endOf advanceOf feedFrom callOf runOf handedOut bytesOf undamaged
@@ -34,3 +39,17 @@ damage-example =
       calls = record { used = refl; handed = refl };
       mixed = record { used = refl; handed = refl };
     }
+
+-- .. and by the claim itself, with no bytes before
+none-before : handedOut 0 (runOf limit (replicate 4 (many 26)) 0 state buffer (bytesOf limit closing) .events) ≡ undamaged closing
+unfolding limitFits kindOf escapedOf sumOf framed codeOf lawful ready storeOf checked endOf advanceOf feedFrom callOf runOf handedOut bytesOf undamaged
+none-before = damage-ends limit state buffer [] closing (replicate 4 (many 26)) (damage-example .standing) (damage-example .premises) refl
+
+-- FrameReturns at both ends of the limits, of whatever is sent there
+returns-least : (m : FrameToSend) (buffer : List ℕ) → Sendable 1 m → length buffer ≡ 3
+    → (let r = feedOf 1 outside buffer (sent 1 m) in (handedBy (r .report) (r .buffer) ≡ givenOf m ∷ []) × (r .used ≡ length (sent 1 m)))
+returns-least m buffer = frame-returns 1 m buffer
+
+returns-largest : (m : FrameToSend) (buffer : List ℕ) → Sendable 65535 m → length buffer ≡ 65537
+    → (let r = feedOf 65535 outside buffer (sent 65535 m) in (handedBy (r .report) (r .buffer) ≡ givenOf m ∷ []) × (r .used ≡ length (sent 65535 m)))
+returns-largest m buffer = frame-returns 65535 m buffer

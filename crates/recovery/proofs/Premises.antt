@@ -1,13 +1,15 @@
 -- The claim of specs/Premises.antt.
 use Prim.Native.Nat.{ℕ, zero, suc, _+_, _≤_, _<_}
 use mathlib.Core.Path.{_≡_, refl}
-use mathlib.Core.Bool.{true, false, cond}
+use mathlib.Core.Bool.{true, false, cond, not, true≢false}
 use mathlib.Core.List.{List, [], _∷_, map}
 use native.Mathlib.Omega.{arith}
 use lib.ListN.{length, take, drop, getD, length-drop}
-use borrow.Author.Tests.{eq-eqb, ne-eqb, le-leb}
+use lib.Dec.{eqb, leb}
+use borrow.Author.Tests.{eq-eqb, le-leb, eqb-true, leb-true}
 use Rattle.wire.specs.Bytes.{AllBytes}
-use Rattle.wire.proofs.Limits.{range-limit}
+use Rattle.wire.proofs.Limits.{range-limit, limit-range}
+use Rattle.wire.proofs.Tests.{and-left, and-right, not-true}
 use Rattle.framing.specs.Mark.{kindOf, isMark}
 use Rattle.frame_writer.specs.Sending.{NoMark}
 use Rattle.frame_writer.proofs.Sending.{no-mark, sendable-when, sent-frame}
@@ -18,7 +20,7 @@ use Rattle.extractor.specs.State.{sequenceRead, lawfulBefore, lawfulAfter, lawf
 use Rattle.extractor.specs.Step.{advanceOf}
 use Rattle.feed.specs.Feed.{Feed, decides, feedFrom}
 use Rattle.recovery.specs.Run.{callOf, runOf}
-use Rattle.recovery.specs.Premises.{LawfulIn, asking, TurnedWhen, ClosingWhen, StandingWhen, AllUsedWhen, FactsSuffice}
+use Rattle.recovery.specs.Premises.{LawfulIn, asking, TurnedWhen, ClosingWhen, StandingWhen, StandingOnly, AllUsedWhen, FactsSuffice}
 use Rattle.recovery.proofs.Ready.{of-cond, is-ready, feed-ready}
 use Rattle.recovery.proofs.Cut.{feed-later, call-keeps}
 
@@ -59,6 +61,32 @@ standing-when : StandingWhen
 unfolding lawful
 standing-when limit s l low high byte h n = record { range = range-limit limit low high; state = lawful-in (s .phase) limit (s .sequence) (s .held) h; size = n }
 
+marks-not : (b : ℕ) → isMark b ≡ false → NoMark b
+unfolding kindOf
+marks-not b h = (λ e. true≢false (rw e at h), λ e. true≢false (rw e at h), λ e. true≢false (rw e at h))
+
+before-only : (sequence held : ℕ) → lawfulBefore sequence held ≡ true → (sequence ≡ 0) × (held ≡ 0)
+before-only sequence held h = (eqb-true sequence 0 (and-left (eqb sequence 0) (eqb held 0) h), eqb-true held 0 (and-right (eqb sequence 0) (eqb held 0) h))
+
+after-only : (limit sequence held : ℕ) → lawfulAfter limit sequence held ≡ true → NoMark sequence × (held ≤ limit + 2)
+after-only limit sequence held h =
+    (marks-not sequence (not-true (isMark sequence) (and-left (not (isMark sequence)) (leb held (limit + 2)) h)), leb-true held (limit + 2) (and-right (not (isMark sequence)) (leb held (limit + 2)) h))
+
+only-in : (p : Phase) (limit sequence held : ℕ) → cond (sequenceRead p) (lawfulAfter limit sequence held) (lawfulBefore sequence held) ≡ true
+    → LawfulIn p limit sequence held
+only-in Outside limit sequence held h = before-only sequence held h
+only-in PacketId limit sequence held h = before-only sequence held h
+only-in ErrorId limit sequence held h = before-only sequence held h
+only-in Sequence limit sequence held h = before-only sequence held h
+only-in Body limit sequence held h = after-only limit sequence held h
+only-in Escaped limit sequence held h = after-only limit sequence held h
+
+standing-only : StandingOnly
+unfolding lawful
+standing-only limit s l a =
+    let range = limit-range limit (a .range) in
+    (range .0, range .1, only-in (s .phase) limit (s .sequence) (s .held) (a .state))
+
 -- ---- calls that use all bytes
 
 module _ (limit : ℕ) where
@@ -96,4 +124,4 @@ all-used-when : AllUsedWhen
 all-used-when limit s l bytes sizes a k = calls-use limit sizes 0 s l bytes (is-ready limit s l (a .range) (a .state) (a .size)) k
 
 pub facts-suffice : FactsSuffice
-facts-suffice = record { sendable = sendable-when; turned = turned-when; closing = closing-when; standing = standing-when; used = all-used-when }
+facts-suffice = record { sendable = sendable-when; turned = turned-when; closing = closing-when; standing = standing-when; standing-only = standing-only; used = all-used-when }

@@ -9,14 +9,14 @@ use Rattle.extractor.specs.declared.state.Phase.the-variants.{Escaped}
 use Rattle.recovery.specs.Run.{Call, one, many, Run, runOf, Given, handedOut}
 use Rattle.recovery.specs.Recovery.{ClosingFrame, whole, damaged, bytesOf, undamaged, Closing, LawfulExtractor}
 
-abbrev limit : ℕ
+abbrev pub limit : ℕ
 limit = 8
 
 -- after F2 in a body
-abbrev state : Progress
+abbrev pub state : Progress
 state = record { phase = Escaped; sequence = 1; held = 3 }
 
-abbrev buffer : List ℕ
+abbrev pub buffer : List ℕ
 buffer = replicate 10 0xEE
 
 -- no code after F2, an end, and a frame that breaks off after F2
@@ -27,7 +27,7 @@ abbrev toSend : ℕ → List ℕ → FrameToSend
 toSend sequence payload = record { sequence = sequence; payload = payload; out = replicate 20 0xEE }
 
 -- in the second frame 02 turns into 03
-abbrev closing : List ClosingFrame
+abbrev pub closing : List ClosingFrame
 closing = whole (toSend 5 (0xF0 ∷ 0x41 ∷ [])) ∷ damaged (toSend 6 (0x01 ∷ 0x02 ∷ [])) 5 0x03 ∷ whole (toSend 0xF3 []) ∷ []
 
 -- its bytes

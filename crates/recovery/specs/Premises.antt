@@ -55,6 +55,13 @@ StandingWhen =
     → length buffer ≡ limit + 2
     → LawfulExtractor limit s buffer
 
+-- .. and there is no other lawful state
+abbrev pub StandingOnly : Type 0
+StandingOnly =
+    (limit : ℕ) (s : Progress) (buffer : List ℕ)
+    → LawfulExtractor limit s buffer
+    → (1 ≤ limit) × (limit ≤ 65535) × LawfulIn (s .phase) limit (s .sequence) (s .held)
+
 -- a call that asks for a byte: a step for 0, and a call for n bytes for any other n
 abbrev pub asking : ℕ → Call
 asking zero = one
@@ -75,4 +82,5 @@ pub record FactsSuffice : Type 0 where
   pub turned : TurnedWhen
   pub closing : ClosingWhen
   pub standing : StandingWhen
+  pub standing-only : StandingOnly
   pub used : AllUsedWhen

@@ -5,8 +5,8 @@ use mathlib.Core.Path.{_≡_, refl}
 use mathlib.Core.Option.{none, some}
 use mathlib.Core.Bool.{true, false}
 use mathlib.Core.List.{[], _∷_}
-use lib.IntN.{pos}
-use lib.ListN.{getD, drop}
+use lib.IntN.{pos, negsuc}
+use lib.ListN.{getD, drop, replicate}
 use Rattle.wire.specs.declared.stream.Stream.the-variants.{Control}
 use Rattle.wire.specs.Limit.{limitFits}
 use Rattle.wire.specs.Those.{those}
@@ -32,9 +32,15 @@ use Rattle.slot_steps.specs.Step.{finish, hold, dropBy, firstStep, nextStep}
 use Rattle.receiver.specs.Receiver.{ready, readIn, acceptOf}
 use Rattle.delivery.specs.Delivery.{runOf, rowAfter, ours, hasSlot, packetsIn, shown, shownTo, repliesTo, allAnswerable}
 use Rattle.reply_parts.specs.Body.{kindOfCommand}
-use Rattle.reply.specs.Reply.{sendingOf, replyBy, joinedIn, carriedOf, sentOf, repliedOf}
+use Rattle.wire.specs.Told.{given}
+use Rattle.device.specs.Features.{featuresOf}
+use Rattle.round_trips.specs.RoundTrip.{informationAgain}
+use Rattle.control.specs.declared.response.ResponsePayload.the-variants as Inner
+use Rattle.reply.specs.Reply.{Box, replyOf, sendingOf, replyBy, joinedIn, carriedOf, sentOf, repliedOf}
 use Rattle.reply_claims.specs.Cut.{saidLength, cutApart}
 use Rattle.reply_claims.specs.Answers.{Answers, packetsCut}
+use Rattle.reply_claims.specs.ReadAgain.{ResponseReads}
+use Rattle.reply_claims.proofs.ReadAgain.{reply-reads}
 use Rattle.reply_claims.specs.Instance.{asked, answered, ByHand, box, link, information, reply, slots, buffer, output, six, before, begun, later, after, OneReplyArrives}
 
 pub by-hand : ByHand
@@ -97,3 +103,32 @@ arrives =
       arrived = arrived;
       claimed = λ claim. claim box (link 20 40) information (pos 20) output slots buffer before begun later after answers law refl begins sent answerable free;
     }
+
+-- ---- read again, at the ends of what a parameter of the library holds
+
+abbrev ends : Box
+ends =
+    record {
+      serialNumber = [];
+      name = [];
+      transports = pos 2147483647 ∷ negsuc 2147483647 ∷ [];
+      deviceType = [];
+      features = record { features = 18446744073709551615; «device_attributes» = 18446744073709551615 };
+      members = record { information = 2; features = 536870911 };
+    }
+
+information-asked : Answers ends (link 64 64) information (pos 20) (replicate 64 0xEE)
+unfolding replyBy kindOfCommand limitFits isStream inRange sizeFor headerBytes packetOf roomFits varintAt varintBytes badTag tagAt valueAt tagBytes headBytes partBytes fieldBytes roleOf judged addedAt readAt fieldAt fieldsFrom responseFrom payloadOf envelopeOf
+information-asked =
+    record { payload = Payload.None; reads = refl; question = refl; room = refl; limit = refl; range = refl; carried = refl; strings = (empty, (empty, (empty, tt))); within = omega arith; space = omega arith }
+
+information-ends : ResponseReads (replyOf ends 20) (pos 20) (pos 0) (Inner.Member 2) (λ body. informationAgain body ≡ given ([], [], ends .transports, []))
+information-ends = reply-reads .information ends (link 64 64) information (replicate 64 0xEE) information-asked (omega arith, (omega arith, tt))
+
+features-asked : Answers ends (link 64 64) (0x08 ∷ 0x1C ∷ []) (pos 28) (replicate 64 0xEE)
+unfolding replyBy kindOfCommand limitFits isStream inRange sizeFor headerBytes packetOf roomFits varintAt varintBytes badTag tagAt valueAt tagBytes headBytes partBytes fieldBytes roleOf judged addedAt readAt fieldAt fieldsFrom responseFrom payloadOf envelopeOf
+features-asked =
+    record { payload = Payload.None; reads = refl; question = refl; room = refl; limit = refl; range = refl; carried = refl; strings = tt; within = omega arith; space = omega arith }
+
+features-ends : ResponseReads (replyOf ends 28) (pos 28) (pos 0) (Inner.Member 536870911) (λ body. featuresOf body ≡ given (ends .features))
+features-ends = reply-reads .features ends (link 64 64) (0x08 ∷ 0x1C ∷ []) (replicate 64 0xEE) features-asked (omega arith) (omega arith)

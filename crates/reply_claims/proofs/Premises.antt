@@ -56,7 +56,7 @@ answers-by b l message c out k carried strings =
       space = k .space;
     }
 
-pub fine-member : (field : ℕ) → 2 ≤ field → field ≤ 536870911 → badMember field ≡ false
+fine-member : (field : ℕ) → 2 ≤ field → field ≤ 536870911 → badMember field ≡ false
 fine-member field low high = rw (le-ltb field 2 low, le-ltb lastField field high)
 
 pub other-kind : (v : ℕ) → (v ≡ 20 → ⊥) → (v ≡ 28 → ⊥) → (v ≡ 94 → ⊥) → (v ≡ 95 → ⊥) → kindOfCommand v ≡ Other

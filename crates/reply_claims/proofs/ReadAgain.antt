@@ -1,22 +1,35 @@
 -- The reply, read again.
-use Prim.Native.Nat.{ℕ, _+_, _≤_}
+use Prim.Native.Nat.{ℕ, _+_, _≤_, _%_, _^_}
 use native.Mathlib.Omega.{arith}
 use mathlib.Core.Path.{_≡_, refl, ap, sym, subst}
 use mathlib.Core.List.{List, [], _∷_, _++_}
-use mathlib.Core.Bool.{false}
+use mathlib.Core.Bool.{Bool, true, false, false≢true, _||_}
 use lib.IntN.{ℤ, pos, negsuc}
-use lib.ListN.{length, length-append}
-use Rattle.field.specs.Signed.{extended}
+use lib.ListN.{length, getD, length-append}
+use lib.Dec.{ltb}
+use mir.Syntax.{w32}
+use mir.Val.{SFits}
+use mir.ValLaws.{toZ-fits}
+use borrow.Author.Tests.{ltb-false}
+use Rattle.field.specs.Signed.{signedOf, extended}
+use Rattle.field.proofs.Told.{sat-any, sat-then, sat-given}
 use Rattle.field_writer.specs.Writer.{scalar, nested, headBytes, partBytes, fieldBytes, messageBytes}
-use Rattle.known_fields.specs.Schema.{responseField}
+use Rattle.known_fields.specs.declared.Schema.the-variants as Schema
+use Rattle.known_fields.specs.Schema.{responseField, first}
+use Rattle.walk.specs.declared.gathered.Gathered.{Gathered}
+use Rattle.walk.specs.Refusal.{numbered}
+use Rattle.walk.specs.Walk.{fieldsFrom}
 use Rattle.control.specs.declared.response.ResponsePayload.{ResponsePayload}
 use Rattle.control.specs.declared.response.ResponsePayload.the-variants as Inner
 use Rattle.control.specs.declared.envelope.EnvelopePayload.the-variants as Sent
 use Rattle.control.specs.Response.{badResponsePayload}
-use Rattle.control.specs.Envelope.{envelopeFields}
+use Rattle.control.specs.declared.envelope.Envelope.{Envelope}
+use Rattle.control.specs.declared.envelope.Payload.{Payload}
+use Rattle.control.specs.Envelope.{payloadOf, envelopeOf, envelopeFields}
 use Rattle.device.specs.Information.{informationFields}
 use Rattle.device.specs.Features.{featuresOf, featuresFields}
 use Rattle.wire.specs.Told.{given}
+use Rattle.wire.proofs.Limits.{limit-range}
 use Rattle.round_trips.specs.RoundTrip.{innerBytes, informationAgain}
 use Rattle.round_trips.specs.Premises.{InSigned32}
 use Rattle.round_trips.proofs.Values.{whole}
@@ -25,9 +38,12 @@ use Rattle.round_trips.proofs.RoundTrip.{features-read, information-read, envel
 use Rattle.reply_parts.specs.declared.body.CommandKind.{CommandKind}
 use Rattle.reply_parts.specs.declared.body.CommandKind.the-variants.{Other}
 use Rattle.reply_parts.specs.Body.{kindOfCommand}
-use Rattle.reply.specs.Reply.{Box, bodyOf, replyBy}
+use Rattle.field_writer.specs.Message.{badMember}
+use Rattle.reply.specs.declared.Link.{Link}
+use Rattle.reply.specs.Reply.{Box, bodyOf, replyBy, replyOf}
+use Rattle.reply_claims.specs.Answers.{Answers}
 use Rattle.reply_claims.specs.ReadAgain.{ResponseReads, BareReads, ReplyReads}
-use Rattle.reply_claims.proofs.Premises.{fine-member, other-kind}
+use Rattle.reply_claims.proofs.Premises.{other-kind}
 
 -- a member's bytes are no longer than the message
 part-length : (field : ℕ) (l : List ℕ) → length l ≤ length (partBytes field l)
@@ -61,6 +77,24 @@ body-short : (v code field : ℕ) (body : List ℕ) → length (messageBytes (sc
     → length body ≤ 65535
 body-short v code field body h = omega (arith, inside v responseField (messageBytes (scalar 1 code ∷ nested field body ∷ [])), inside code field body)
 
+-- a command that was read is a signed number of 32 bits
+fits-in : (z : ℤ) → SFits w32 z → InSigned32 z
+fits-in (pos n) f = omega (arith, f .sfits)
+fits-in (negsuc n) f = omega (arith, f .sfits)
+
+command-fits : (message : List ℕ) (e : Envelope) → envelopeOf message ≡ given e → InSigned32 (e .command)
+unfolding envelopeOf
+command-fits message e reads =
+    let gathered = numbered (fieldsFrom Schema.Envelope message 0) in
+    sat-given Fits (envelopeOf message) e
+    (sat-then (λ (g : Gathered). Unit {0}) Fits gathered _ (sat-any gathered)
+    (λ g none. sat-then (λ (p : Payload). Unit {0}) Fits (payloadOf message g) _ (sat-any (payloadOf message g))
+    (λ p none. let v = getD (g .scalars) first 0 in fits-in (signedOf v) (toZ-fits w32 (v % 2 ^ 32) (record { fits = omega arith })))))
+    reads
+  where
+    Fits : Envelope → Type 0
+    Fits x = InSigned32 (x .command)
+
 -- no other number has the varint's value of one of the four
 other-command : (c : ℤ) → InSigned32 c → (c ≡ pos 20 → ⊥) → (c ≡ pos 28 → ⊥) → (c ≡ pos 94 → ⊥) → (c ≡ pos 95 → ⊥) → kindOfCommand (extended c) ≡ Other
 other-command (pos n) z n20 n28 n94 n95 = other-kind n (λ e. n20 (ap pos e)) (λ e. n28 (ap pos e)) (λ e. n94 (ap pos e)) (λ e. n95 (ap pos e))
@@ -74,23 +108,42 @@ other-reads : (b : Box) (c : ℤ) → InSigned32 c → OtherReads b c Other
 unfolding replyBy
 other-reads b c z short = read c (pos 3) Inner.None [] (λ body. body ≡ []) z (omega arith) refl short refl
 
+-- a reply that is within the limit is no longer than any message
+short : (b : Box) (l : Link) (message : List ℕ) (c : ℤ) (out : List ℕ) → Answers b l message c out → length (replyOf b (extended c)) ≤ 65535
+short b l message c out a = omega (arith, a .within, limit-range (l .limit) (a .limit) .1)
+
+-- what the information carries
+carries : (b : Box) → (badMember (b .members .information) || ltb 8 (length (b .transports))) ≡ false
+    → (badMember (b .members .information) ≡ false) × (length (b .transports) ≤ 8)
+carries b e =
+    let each = neither (badMember (b .members .information)) (ltb 8 (length (b .transports))) e in
+    (each .0, ltb-false 8 (length (b .transports)) (each .1))
+  where
+    neither : (x y : Bool) → (x || y) ≡ false → (x ≡ false) × (y ≡ false)
+    neither true y e = absurd (false≢true (sym e))
+    neither false y e = (refl, e)
+
 pub reply-reads : ReplyReads
 unfolding kindOfCommand replyBy
 reply-reads =
     record {
-      information = λ b low high zs few s n t short.
+      information = λ b l message out a zs.
           let body : List ℕ = messageBytes (informationFields (b .serialNumber) (b .name) (b .transports) (b .deviceType)) in
-          let k : length body ≤ 65535 = body-short 20 0 (b .members .information) body short in
+          let small = short b l message (pos 20) out a in
+          let k : length body ≤ 65535 = body-short 20 0 (b .members .information) body small in
+          let fine = carries b (a .carried) in
           read (pos 20) (pos 0) (Inner.Member (b .members .information)) body
           (λ body. informationAgain body ≡ given (b .serialNumber, b .name, b .transports, b .deviceType))
-          (omega arith) (omega arith) (fine-member (b .members .information) low high) short
-          (information-read (b .serialNumber) (b .name) (b .transports) (b .deviceType) body (s, (n, (t, tt))) (all-signed (b .transports) zs) few (omega arith) (whole body));
-      features = λ b low high f a short.
+          (omega arith) (omega arith) (fine .0) small
+          (information-read (b .serialNumber) (b .name) (b .transports) (b .deviceType) body (a .strings) (all-signed (b .transports) zs) (fine .1) (omega arith) (whole body));
+      features = λ b l message out a f d.
           let body : List ℕ = messageBytes (featuresFields (b .features)) in
           read (pos 28) (pos 0) (Inner.Member (b .members .features)) body (λ body. featuresOf body ≡ given (b .features))
-          (omega arith) (omega arith) (fine-member (b .members .features) low high) short
+          (omega arith) (omega arith) (a .carried) (short b l message (pos 28) out a)
           (features-read (b .features) body (omega arith) (omega arith) (whole body));
-      segment = λ b short. read (pos 94) (pos 0) Inner.None [] (λ body. body ≡ []) (omega arith) (omega arith) refl short refl;
-      apply = λ b short. read (pos 95) (pos 0) Inner.None [] (λ body. body ≡ []) (omega arith) (omega arith) refl short refl;
-      other = λ b c z n20 n28 n94 n95. subst (OtherReads b c) (sym (other-command c z n20 n28 n94 n95)) (other-reads b c z);
+      segment = λ b l message out a. read (pos 94) (pos 0) Inner.None [] (λ body. body ≡ []) (omega arith) (omega arith) refl (short b l message (pos 94) out a) refl;
+      apply = λ b l message out a. read (pos 95) (pos 0) Inner.None [] (λ body. body ≡ []) (omega arith) (omega arith) refl (short b l message (pos 95) out a) refl;
+      other = λ b l message c out a n20 n28 n94 n95.
+          let z = command-fits message (record { command = c; payload = a .payload }) (a .reads) in
+          subst (OtherReads b c) (sym (other-command c z n20 n28 n94 n95)) (other-reads b c z) (short b l message c out a);
     }

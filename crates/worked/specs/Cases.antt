@@ -6,7 +6,7 @@ use mathlib.Core.List.{List, [], _∷_, _++_, map, List·Memᴰ}
 use lib.IntN.{ℤ, pos, negℤ}
 use lib.ListN.{take, drop, set, replicate}
 use Rattle.wire.specs.declared.stream.Stream.the-variants.{Control, Ota, Alexa}
-use Rattle.wire.specs.Told.{given, refused}
+use Rattle.wire.specs.Told.{given, refused, written}
 use Rattle.packet.specs.Header.{bit}
 use Rattle.sender.specs.declared.writer.Sending.{Sending}
 use Rattle.slot.specs.declared.Slot.{Slot}
@@ -21,8 +21,8 @@ use Rattle.control.specs.declared.response.ResponsePayload.the-variants.{None}
 use Rattle.walk.specs.Gathered.{noPart}
 use Rattle.outbox.specs.Reader as outbox
 use Rattle.outbox.specs.Writer.{stored}
-use Rattle.worked.specs.Question.{Question, writeFrame, writeFrameWithin, nextSequenceByte, writePackets, readPieces, writePacketWithin, openReceiver, acceptPacket, answerPacket, acceptPacketWithin, writeAcknowledgement, writeEnvelope, readEnvelope, readRecord, appendRecord}
-use Rattle.worked.specs.Question.{Answer, bytes, sequenceByte, packets, pieces, sent, opened, accepted, answered, envelope, reading, appended, plain, extended, zeros, answerTo}
+use Rattle.worked.specs.Question.{Question, writeFrame, writeFrameWithin, writeFrameInto, nextSequenceByte, writePackets, readPieces, writePacketWithin, writePacketInto, openReceiver, acceptPacket, answerPacket, acceptPacketWithin, writeAcknowledgement, writeAcknowledgementInto, writeEnvelope, readEnvelope, readRecord, appendRecord}
+use Rattle.worked.specs.Question.{Answer, bytes, output, sequenceByte, packets, pieces, sent, sentInto, opened, accepted, answered, envelope, reading, appended, plain, extended, zeros, answerTo}
 
 -- a row: what is asked, and what comes back
 pub record Case : Type 0 where
@@ -72,6 +72,10 @@ alone place flag id sequence wanted total held =
 abbrev pub unlawful : List Slot → Case
 unlawful slots = case (acceptPacketWithin 64 slots (beginning 1)) (accepted (refused 1) slots)
 
+-- a packet that is refused by its own bytes, which leaves the row
+abbrev pub unread : ℕ → List ℕ → Case
+unread n packet = case (acceptPacketWithin 64 full packet) (accepted (refused n) full)
+
 -- a transaction of this id in the control stream and one in the OTA stream
 abbrev pub twoStreams : ℕ → List Slot
 twoStreams id = begun id ∷ (replicate 3 idle ++ (begun id ∷ replicate 7 idle))
@@ -99,6 +103,10 @@ responseRead command code = record { command = pos command; payload = Payload.Re
 abbrev eight : List ℕ
 eight = replicate 8 0xEE
 
+-- a file of 01 of which the first record is cut short, and four bytes behind it
+abbrev cutFile : List ℕ
+cutFile = 0x01 ∷ 0x00 ∷ 0x02 ∷ 0x06 ∷ replicate 4 0xEE
+
 unfoldable pub cases : List Case
 cases =
     -- P1 empty payload, sequence 0
@@ -111,6 +119,11 @@ cases =
     ∷ case (writeFrameWithin 65535 0xF0 (zeros 33)) (bytes (refused 15))
     ∷ case (writeFrameWithin 1 5 (0x41 ∷ 0x42 ∷ [])) (bytes (refused 15))
     ∷ case (writeFrameWithin 1 5 (0x41 ∷ [])) (bytes (given (0xF0 ∷ 0x02 ∷ 0x00 ∷ 0x05 ∷ 0x41 ∷ 0x00 ∷ 0x43 ∷ 0xF1 ∷ [])))
+    -- what is behind a frame stays, and so does all under 17, 15 and 14
+    ∷ case (writeFrameInto 1 5 (0x41 ∷ []) (replicate 9 0xEE)) (output (written (given 8) (0xF0 ∷ 0x02 ∷ 0x00 ∷ 0x05 ∷ 0x41 ∷ 0x00 ∷ 0x43 ∷ 0xF1 ∷ 0xEE ∷ [])))
+    ∷ case (writeFrameInto 0 5 [] (replicate 9 0xEE)) (output (written (refused 17) (replicate 9 0xEE)))
+    ∷ case (writeFrameInto 1 0xF1 [] (replicate 9 0xEE)) (output (written (refused 15) (replicate 9 0xEE)))
+    ∷ case (writeFrameInto 1 5 (0x41 ∷ []) (replicate 7 0xEE)) (output (written (refused 14) (replicate 7 0xEE)))
     -- P3 sequence bytes after EF, FF, 00
     ∷ case (nextSequenceByte 0xEF) (sequenceByte 0xF3)
     ∷ case (nextSequenceByte 0xFF) (sequenceByte 0x00)
@@ -133,6 +146,10 @@ cases =
     ∷ case (writePacketWithin 65536 (sending 20 6 1 0 false) []) (sent (refused 17))
     ∷ case (writePacketWithin 1 (sending 20 6 1 0 false) (zeros 2)) (sent (refused 15))
     ∷ case (writePacketWithin 2 (sending 20 6 1 0 false) (zeros 2)) (sent (given (last 8)))
+    -- 14: the last piece of one byte wants an output of the room too; what is behind its packet stays
+    ∷ case (writePacketInto (sending 20 6 1 0 false) (zeros 15) 14 (replicate 19 0xEE)) (sentInto (written (refused 14) (replicate 19 0xEE)))
+    ∷ case (writePacketInto (sending 20 6 1 0 false) (zeros 15) 14 (replicate 20 0xEE))
+    (sentInto (written (given (last 4)) (0x61 ∷ 0x18 ∷ 0x01 ∷ 0x00 ∷ replicate 16 0xEE)))
     -- an opening: 17 where the limit is 0 or above 65,535
     ∷ case (openReceiver 0) (opened (refused 17))
     ∷ case (openReceiver 1) (opened (given (linkOf 1)))
@@ -148,6 +165,9 @@ cases =
     -- P8 ACK and NACK for P4, sequence 0
     ∷ case (writeAcknowledgement 6 1 0 true) (bytes (given (0x61 ∷ 0x0E ∷ 0x00 ∷ 0x02 ∷ 0x01 ∷ 0x00 ∷ [])))
     ∷ case (writeAcknowledgement 6 1 0 false) (bytes (given (0x61 ∷ 0x0C ∷ 0x00 ∷ 0x02 ∷ 0x01 ∷ 0x03 ∷ [])))
+    -- .. 14 under six bytes, and what is behind it stays
+    ∷ case (writeAcknowledgementInto 6 1 0 true (replicate 5 0xEE)) (output (written (refused 14) (replicate 5 0xEE)))
+    ∷ case (writeAcknowledgementInto 6 1 0 true (replicate 7 0xEE)) (output (written (given 6) (0x61 ∷ 0x0E ∷ 0x00 ∷ 0x02 ∷ 0x01 ∷ 0x00 ∷ 0xEE ∷ [])))
     -- P9 empty transaction, stream, id, sequence 0; and a receiver finishes it at once, its slot idle
     ∷ case (writePackets (sending 20 0 0 0 false) []) (packets (zeros 6 ∷ []))
     ∷ case (acceptPacket idles (zeros 6)) (accepted (given (Finished 0 Control 0 0 false false)) idles)
@@ -188,6 +208,25 @@ cases =
     ∷ case (acceptPacketWithin 64 withoutOne (0x04 ∷ 0x00 ∷ 0x00 ∷ 0x00 ∷ 0x01 ∷ 0x01 ∷ 0x07 ∷ []))
     (accepted (given (Finished 1 Control 4 1 false false)) withoutOne)
     ∷ case (acceptPacketWithin 64 (drop 4 full ++ take 4 full) (beginning 0x64)) (accepted (refused 18) (drop 4 full ++ take 4 full))
+    -- No. 2: a flag on a continuation alone is remembered, and asks at the last
+    ∷ case (acceptPacketWithin 64 (alone 8 1 1 0 0 3 1) (0x61 ∷ 0x16 ∷ 0x01 ∷ 0xBB ∷ [])) (accepted (given (Taken 8 Alexa 1 false)) (alone 8 1 1 1 1 3 2))
+    ∷ case (acceptPacketWithin 64 (alone 8 1 1 1 1 3 2) (0x61 ∷ 0x28 ∷ 0x01 ∷ 0xCC ∷ [])) (accepted (given (Finished 8 Alexa 1 3 true false)) idles)
+    -- a packet's own refusals, each where the next in order holds too: 2 before 3, 3 before 12, 12, 4 before 5, 5 before 6, 6 before 7, 7 before 9
+    ∷ unread 2 (0x71 ∷ 0x00 ∷ 0x00 ∷ 0x00 ∷ 0x01 ∷ [])
+    ∷ unread 2 (0x71 ∷ 0x05 ∷ 0x01 ∷ [])
+    ∷ unread 3 (0x71 ∷ 0x0C ∷ 0x00 ∷ [])
+    ∷ unread 12 (0x01 ∷ 0x0E ∷ [])
+    ∷ unread 12 (0x01 ∷ 0x0F ∷ 0x00 ∷ 0x02 ∷ 0x01 ∷ 0x00 ∷ [])
+    ∷ unread 12 (0x01 ∷ 0x0E ∷ 0x00 ∷ 0x02 ∷ 0x01 ∷ 0x03 ∷ [])
+    ∷ unread 12 (0x01 ∷ 0x0C ∷ 0x00 ∷ 0x02 ∷ 0x01 ∷ 0x03 ∷ 0x00 ∷ [])
+    ∷ unread 4 (0x01 ∷ 0x00 ∷ 0x01 ∷ 0x00 ∷ 0x02 ∷ 0x05 ∷ 0x07 ∷ [])
+    ∷ unread 5 (0x01 ∷ 0x00 ∷ 0x00 ∷ 0x00 ∷ 0x41 ∷ 0x02 ∷ 0x07 ∷ [])
+    ∷ unread 5 (0x01 ∷ 0x18 ∷ 0x01 ∷ 0x08 ∷ 0x08 ∷ [])
+    ∷ unread 6 (0x01 ∷ 0x00 ∷ 0x00 ∷ 0x00 ∷ 0x41 ∷ 0x00 ∷ [])
+    ∷ unread 7 (0x01 ∷ 0x00 ∷ 0x00 ∷ 0x00 ∷ 0x02 ∷ 0x00 ∷ [])
+    ∷ unread 7 (0x09 ∷ 0x18 ∷ 0x00 ∷ [])
+    -- the extender on a length of 1: two bytes, big-endian
+    ∷ case (acceptPacketWithin 64 full (0x01 ∷ 0x19 ∷ 0x00 ∷ 0x01 ∷ 0x08 ∷ [])) (accepted (given (Finished 1 Control 1 2 false false)) withoutOne)
     -- unlawful rows: one id twice in a stream, eleven slots and thirteen
     ∷ unlawful (opening (3 ∷ 3 ∷ []))
     ∷ unlawful (set (set idles 8 (begun 3)) 11 (begun 3))
@@ -239,6 +278,16 @@ cases =
     (appended (stored (outbox.given 8) (0x02 ∷ 0x00 ∷ 0x00 ∷ 0x00 ∷ 0x03 ∷ 0x06 ∷ 0x41 ∷ 0x42 ∷ 0x00 ∷ [])))
     ∷ case (appendRecord (0x01 ∷ zeros 6) 1 6 (0x41 ∷ 0x42 ∷ []))
     (appended (stored (outbox.given 6) (0x01 ∷ 0x00 ∷ 0x03 ∷ 0x06 ∷ 0x41 ∷ 0x42 ∷ 0x00 ∷ [])))
+    -- 15: place 0, and one beyond; 42: a length of 0; 43
+    ∷ case (readRecord (0x02 ∷ []) 0) (reading (outbox.refused 15))
+    ∷ case (readRecord (0x02 ∷ []) 2) (reading (outbox.refused 15))
+    ∷ case (readRecord (0x01 ∷ 0x00 ∷ 0x00 ∷ []) 1) (reading (outbox.refusedAt 42 1))
+    ∷ case (readRecord (0x01 ∷ 0x00 ∷ 0x01 ∷ 0x01 ∷ []) 1) (reading (outbox.refusedAt 43 1))
+    -- appending after used bytes that are not whole: 14 first, then 41, 42, 43; each leaves all
+    ∷ case (appendRecord cutFile 4 6 []) (appended (stored (outbox.refusedAt 41 1) cutFile))
+    ∷ case (appendRecord (take 6 cutFile) 4 6 []) (appended (stored (outbox.refused 14) (take 6 cutFile)))
+    ∷ case (appendRecord (0x01 ∷ 0x00 ∷ 0x00 ∷ replicate 4 0xEE) 3 6 []) (appended (stored (outbox.refusedAt 42 1) (0x01 ∷ 0x00 ∷ 0x00 ∷ replicate 4 0xEE)))
+    ∷ case (appendRecord (0x01 ∷ 0x00 ∷ 0x01 ∷ 0x01 ∷ replicate 4 0xEE) 4 6 []) (appended (stored (outbox.refusedAt 43 1) (0x01 ∷ 0x00 ∷ 0x01 ∷ 0x01 ∷ replicate 4 0xEE)))
     ∷ []
 
 -- every row of the table holds

@@ -39,6 +39,8 @@ pub data Question : Type 0 where
   writeFrame : ℕ → List ℕ → Question
   -- .. for a link with another limit
   writeFrameWithin : ℕ → ℕ → List ℕ → Question
+  -- .. into an output that is lent
+  writeFrameInto : ℕ → ℕ → List ℕ → List ℕ → Question
   -- the sequence byte after one
   nextSequenceByte : ℕ → Question
   -- the packets of a message, place after place
@@ -47,6 +49,8 @@ pub data Question : Type 0 where
   readPieces : Sending → List ℕ → Question
   -- the packet of a message at its first place, for a link with another limit
   writePacketWithin : ℕ → Sending → List ℕ → Question
+  -- .. at a place, into an output that is lent
+  writePacketInto : Sending → List ℕ → ℕ → List ℕ → Question
   -- a receiver, opened with a limit
   openReceiver : ℕ → Question
   -- a packet, given to a receiver with these slots
@@ -57,6 +61,8 @@ pub data Question : Type 0 where
   answerPacket : List Slot → List ℕ → ℕ → List ℕ → Question
   -- an ACK, or a NACK where it is not positive, for a stream and an id, with a sequence
   writeAcknowledgement : ℕ → ℕ → ℕ → Bool → Question
+  -- .. into an output that is lent
+  writeAcknowledgementInto : ℕ → ℕ → ℕ → Bool → List ℕ → Question
   -- an envelope with a command and a payload that has no bytes of its own
   writeEnvelope : ℤ → EnvelopePayload → Question
   readEnvelope : List ℕ → Question
@@ -72,11 +78,15 @@ pub data PieceLength : Type 0 where
 pub data Answer : Type 0 where
   -- what was written
   bytes : Told (List ℕ) → Answer
+  -- what a writer tells, and its output afterwards
+  output : Written ℕ → Answer
   sequenceByte : ℕ → Answer
   packets : List (List ℕ) → Answer
   pieces : List (Told PieceLength) → Answer
   -- what is told of a packet that was written
   sent : Told Sent → Answer
+  -- .. and the output afterwards
+  sentInto : Written Sent → Answer
   opened : Told Receiver → Answer
   -- what is told of a packet, and the slots afterwards
   accepted : Told Accepted → List Slot → Answer
@@ -103,26 +113,29 @@ abbrev pub answeredBy : PacketLeft → Answer
 answeredBy l = answered (l .told) (l .slots) (l .out)
 
 -- the output lent to a writer: more than any case needs
-abbrev output : List ℕ
-output = zeros 32
+abbrev room : List ℕ
+room = zeros 32
 
 -- the packets of a message: the output is as large as the room
 abbrev packetsOf : Sending → List ℕ → List (List ℕ)
 packetsOf w m = callsOf limit w m (zeros (w .room))
 
 unfoldable pub answerTo : Question → Answer
-answerTo (writeFrame sequence payload) = bytes (bytesOf (frame.writeOf limit sequence payload output))
-answerTo (writeFrameWithin limit sequence payload) = bytes (bytesOf (frame.writeOf limit sequence payload output))
+answerTo (writeFrame sequence payload) = bytes (bytesOf (frame.writeOf limit sequence payload room))
+answerTo (writeFrameWithin limit sequence payload) = bytes (bytesOf (frame.writeOf limit sequence payload room))
+answerTo (writeFrameInto limit sequence payload out) = output (frame.writeOf limit sequence payload out)
 answerTo (nextSequenceByte sequence) = sequenceByte (nextSequence sequence)
 answerTo (writePackets w m) = packets (packetsOf w m)
 answerTo (readPieces w m) = pieces (map pieceLengthOf (packetsOf w m))
 answerTo (writePacketWithin limit w m) = sent (writtenOf limit w m 0 (zeros (w .room)) .told)
+answerTo (writePacketInto w m place out) = sentInto (writtenOf limit w m place out)
 answerTo (openReceiver limit) = opened (openOf limit)
-answerTo (acceptPacketWithin limit slots p) = acceptedBy (acceptOf limit slots (zeros (slotCount * limit)) (call p 0 output))
-answerTo (acceptPacket slots p) = acceptedBy (acceptOf limit slots (zeros (slotCount * limit)) (call p 0 output))
+answerTo (acceptPacketWithin limit slots p) = acceptedBy (acceptOf limit slots (zeros (slotCount * limit)) (call p 0 room))
+answerTo (acceptPacket slots p) = acceptedBy (acceptOf limit slots (zeros (slotCount * limit)) (call p 0 room))
 answerTo (answerPacket slots p sequence out) = answeredBy (acceptOf limit slots (zeros (slotCount * limit)) (call p sequence out))
-answerTo (writeAcknowledgement stream id sequence positive) = bytes (bytesOf (ackOf stream id sequence positive output))
-answerTo (writeEnvelope command payload) = bytes (bytesOf (envelopeWritten command payload [] output))
+answerTo (writeAcknowledgement stream id sequence positive) = bytes (bytesOf (ackOf stream id sequence positive room))
+answerTo (writeAcknowledgementInto stream id sequence positive out) = output (ackOf stream id sequence positive out)
+answerTo (writeEnvelope command payload) = bytes (bytesOf (envelopeWritten command payload [] room))
 answerTo (readEnvelope m) = envelope (envelopeOf m)
 answerTo (readRecord file place) = reading (outbox.readOf (formatOf file) file place)
 answerTo (appendRecord buffer used stream payload) = appended (appendOf (formatOf (take used buffer)) buffer used stream payload)

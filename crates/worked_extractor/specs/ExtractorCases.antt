@@ -1,8 +1,8 @@
 -- The extractor by hand at a limit of 2: one table, and the one statement that each of its rows holds.
 use Prim.Native.Nat.{ℕ, zero, suc}
 use mathlib.Core.Path.{_≡_}
-use mathlib.Core.List.{List, [], _∷_, List·Memᴰ}
-use lib.ListN.{drop}
+use mathlib.Core.List.{List, [], _∷_, _++_, List·Memᴰ}
+use lib.ListN.{drop, replicate}
 use Rattle.wire.specs.Told as told
 use Rattle.wire.specs.Told.{Told}
 use Rattle.extractor.specs.declared.state.Progress.{Progress}
@@ -90,6 +90,10 @@ lent = four 0xEE 0xEE 0xEE 0xEE
 
 abbrev full : List ℕ
 full = four 0x01 0x02 0x00 0x05
+
+-- 257 bytes FF and their checksum
+abbrev overflown : List ℕ
+overflown = replicate 257 0xFF ++ (0x00 ∷ 0x01 ∷ [])
 
 -- the bytes of docs/FORMATS.md
 abbrev twenty : List ℕ
@@ -185,6 +189,8 @@ cases =
     ∷ leaves (body 7 4) (four 0x01 0x02 0x00 0x03) 0xF1 (refused 25) outside
     ∷ leaves (body 7 4) (four 0x01 0x02 0x05 0x00) 0xF1 (refused 25) outside
     ∷ leaves (body 7 4) full 0xF1 (frame 7 2) outside
+    -- a sum of 65,537 is 1
+    ∷ case (stepWithin 257 (body 7 259) overflown 0xF1) (stepped (step (frame 7 257) outside overflown ∷ []))
     -- a call stops after the byte that decides
     ∷ case (feedWith (body 7 4) full (0xF2 ∷ 0x02 ∷ 0xF0 ∷ [])) (called (fed (refused 24) 2 outside full ∷ []))
     ∷ case (feedWith (body 7 4) full (0xF1 ∷ 0xF0 ∷ [])) (called (fed (frame 7 2) 1 outside full ∷ []))
