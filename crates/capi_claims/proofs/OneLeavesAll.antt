@@ -70,7 +70,7 @@ use Rattle.calls_classic.specs.Calls.{opened, stepped, fedCall, noneUsed, extra
 use Rattle.calls_parts.specs.Convert.{isState, stateOf}
 use Rattle.calls_parts.specs.Calls.{begun, parted, frameBeginOf, framePartOf}
 use Rattle.calls_sending.specs.Calls.{packetWriteOf, ackWriteOf}
-use Rattle.calls_receiving.specs.Calls.{replied, accepted, rowsFit, receiverOpenOf, receiverAcceptOf}
+use Rattle.calls_receiving.specs.Calls.{replied, accepted, sizesFit, receiverOpenOf, receiverAcceptOf}
 use Rattle.calls_receiving.specs.Calls as receiving
 use Rattle.calls_messages.specs.Calls.{envelopeReadOf, envelopeWriteOf, responseReadOf, responseWriteOf, informationReadOf, informationWriteOf, featuresReadOf, featuresWriteOf}
 use Rattle.reply.specs.declared.Link.{Link}
@@ -145,7 +145,7 @@ receiver-open-keeps limit state = keeps-if (eqb (length state) 1) state [] [] _ 
 accept-keeps : (sequence : ℕ) (slots : List Slot) (packet state lent out answer : List ℕ)
     → KeepsRow slots lent out answer (receiverAcceptOf state slots lent packet sequence out answer)
 unfolding receiverAcceptOf acceptOf
-accept-keeps sequence slots packet state lent out answer = fits (rowsFit state answer)
+accept-keeps sequence slots packet state lent out answer = fits (sizesFit state (length answer))
   where
     limit : ℕ
     limit = limitOf state
