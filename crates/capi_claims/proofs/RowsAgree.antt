@@ -8,6 +8,7 @@ use lib.ListN.{length, getD, replicate, length-append}
 use lib.Seq.{getD-append-add}
 use lib.Dec.{leb, eqb, ltb}
 use borrow.Author.Tests.{le-ltb, eq-eqb, lt-ltb}
+use Rattle.wire.specs.Bytes.{bit}
 use Rattle.wire.specs.Told.{Told, given, refused, andThen}
 use Rattle.field.specs.declared.tag.FieldHead.{FieldHead}
 use Rattle.field.specs.declared.value.Value.{Value}
@@ -19,7 +20,7 @@ use Rattle.field.specs.Value.{skippedAt, partOf, valueAt}
 use Rattle.field.specs.Fields.{Standing, field, end, foundAt}
 use Rattle.firmware.specs.declared.component.FirmwareComponent.{FirmwareComponent}
 use Rattle.firmware.specs.declared.apply.ApplyFirmware.{ApplyFirmware}
-use Rattle.firmware_writer.specs.Apply.{boolValue, applyWritten}
+use Rattle.firmware_writer.specs.Apply.{applyWritten}
 use Rattle.firmware_round_trips.specs.RoundTrip.{Unsigned32}
 use Rattle.rows_messages.specs.Convert.{textCall}
 use Rattle.rows_firmware.specs.Apply.{componentRow, componentRows, headRow, wholeRow, componentAt, componentsAt, applyAt, wideAt, anyWide, badRow}
@@ -92,11 +93,11 @@ none-wide (suc n) [] l h = absurd (omega arith)
 none-wide (suc n) (c ∷ cs) l h =
     rw (not-wide (c .version) (h .0 .0), not-wide (c .size) (h .0 .1), wide-behind (componentRow c) (componentRows cs) n 0, none-wide n cs (omega arith) (h .1))
 
-bool-again : (b : Bool) → eqb (boolValue b) 1 ≡ b
+bool-again : (b : Bool) → eqb (bit b) 1 ≡ b
 bool-again true = refl
 bool-again false = refl
 
-bool-small : (b : Bool) → ltb 1 (boolValue b) ≡ false
+bool-small : (b : Bool) → ltb 1 (bit b) ≡ false
 bool-small true = refl
 bool-small false = refl
 
@@ -116,8 +117,8 @@ module _ (a : ApplyFirmware) (version : Unsigned32 (a .«firmware_information» 
   unfolding applyAt
   row-again =
       let f = a .«firmware_information» in
-      ap (λ (v : ℕ). made v (componentsAt 8 (wholeRow a) 9) (eqb (boolValue (a .«restart_required»)) 1)) (low-same (f .version) version)
-      ∙ ap (λ (cs : List FirmwareComponent). made (f .version) cs (eqb (boolValue (a .«restart_required»)) 1)) listed
+      ap (λ (v : ℕ). made v (componentsAt 8 (wholeRow a) 9) (eqb (bit (a .«restart_required»)) 1)) (low-same (f .version) version)
+      ∙ ap (λ (cs : List FirmwareComponent). made (f .version) cs (eqb (bit (a .«restart_required»)) 1)) listed
       ∙ ap (λ (b : Bool). made (f .version) (f .components) b) (bool-again (a .«restart_required»))
     where
       made : ℕ → List FirmwareComponent → Bool → ApplyFirmware

@@ -9,7 +9,7 @@ use lib.ListN.{length, take, drop, replicate, length-take, length-replicate}
 use lib.Dec.{eqb, leb}
 use borrow.Author.Tests.{leb-true, eqb-true, eqb-false, ltb-false}
 use Rattle.wire.specs.Told.{Told, given, refused}
-use Rattle.wire.specs.Bytes.{AllBytes}
+use Rattle.wire.specs.Bytes.{AllBytes, bit}
 use Rattle.captures.specs.Capture.{Packets}
 use Rattle.wire.specs.declared.stream.Stream.{Stream}
 use Rattle.wire.specs.declared.stream.Stream.the-variants.{Control, Ota, Alexa}
@@ -20,7 +20,7 @@ use Rattle.wire.proofs.Tests.{and-right}
 use Rattle.packet.specs.declared.reader.Head.{Head}
 use Rattle.packet.specs.declared.reader.Packet.{Packet}
 use Rattle.packet.specs.declared.reader.Packet.the-variants.{First, Next, Ack, Nack}
-use Rattle.packet.specs.Header.{fourBits, typeContinuation, typeLast, bit, firstByte, secondByte, sequenceAfter}
+use Rattle.packet.specs.Header.{fourBits, typeContinuation, typeLast, firstByte, secondByte, sequenceAfter}
 use Rattle.packet.specs.Reader.{headIn, readOf}
 use Rattle.packet.proofs.Headers.{bit-low}
 use Rattle.packet.proofs.Reading.{lengthIn, LinesPass, read-passes}

@@ -8,10 +8,11 @@ use mathlib.Core.Bool.{Bool, true, false, not, _&&_, _||_, false≢true}
 use lib.ListN.{getD, set, drop, length-take}
 use lib.Dec.{eqb}
 use borrow.Author.Tests.{eq-eqb, ne-eqb, eqb-true, eqb-false}
+use Rattle.wire.specs.Bytes.{bit}
 use Rattle.wire.specs.declared.stream.Stream.{Stream}
 use Rattle.wire.specs.Stream.{streamNumber, streamOf}
 use Rattle.wire.proofs.Streams.{stream-back}
-use Rattle.packet.specs.Header.{bit, firstByte, isOf}
+use Rattle.packet.specs.Header.{firstByte, isOf}
 use Rattle.packet.specs.Reader.{fieldsOf, isFirst}
 use Rattle.slot.specs.declared.Slot.{Slot}
 use Rattle.slot.specs.Slot.{opens, idle, slotsEach, laneStart, laneOf, isOpen, anyOpen}

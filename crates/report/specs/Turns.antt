@@ -4,12 +4,13 @@ use mathlib.Core.Path.{_≡_}
 use mathlib.Core.List.{List, [], _∷_}
 use mathlib.Core.Bool.{Bool, true, cond, _&&_}
 use lib.ListN.{length}
+use Rattle.wire.specs.Bytes.{bit}
 use Rattle.wire.specs.Those.{those}
 use Rattle.wire.specs.Told.{given, andThen}
 use Rattle.wire.specs.Stream.{streamNumber}
 use Rattle.wire.specs.declared.stream.Stream.{Stream}
 use Rattle.wire.specs.declared.stream.Stream.the-variants.{Control, Ota, Alexa}
-use Rattle.packet.specs.Header.{bit, isOf}
+use Rattle.packet.specs.Header.{isOf}
 use Rattle.captures.specs.Capture.{ToldAt}
 use Rattle.slot.specs.declared.Slot.{Slot}
 use Rattle.slot.specs.Slot.{opens, idles, laneOf}

@@ -9,13 +9,13 @@ use mathlib.Core.Bool.{Bool, true, false, cond, _||_, false≢true}
 use lib.ListN.{length, getD, set}
 use lib.Dec.{eqb}
 use borrow.Author.Tests.{eqb-true, eqb-false, leb-false, not-true, not-false}
+use Rattle.wire.specs.Bytes.{bit}
 use Rattle.wire.specs.declared.stream.Stream.{Stream}
 use Rattle.wire.proofs.Tests.{and-left, and-right}
 use Rattle.wire.proofs.Tables.{by-table}
 use Rattle.packet.specs.declared.reader.Head.{Head}
 use Rattle.packet.specs.declared.reader.Packet.{Packet}
 use Rattle.packet.specs.declared.reader.Packet.the-variants.{First, Next, Ack, Nack}
-use Rattle.packet.specs.Header.{bit}
 use Rattle.packet.specs.Reader.{headIn}
 use Rattle.packet.proofs.Reading.{HeadLow, PayloadWithin}
 use Rattle.slot.specs.declared.Slot.{Slot}
@@ -23,7 +23,7 @@ use Rattle.slot_steps.specs.declared.PayloadPlace.{PayloadPlace}
 use Rattle.slot.specs.Slot.{opens, wants, idle, isOpen, isIdle, lawfulSlot, allLawful, anyOpen, anyIdle, distinct, slotsEach, laneStart, laneOf}
 use Rattle.slot_steps.specs.Step.{Step, step, finish, hold, dropBy, firstStep, offTotal, lines, nextStep, further, placeWhere, atPlace, openPlace, orElse, firstPlace, actOf}
 use Rattle.slot_steps.specs.Fit.{InsidePart, Fit, ActFits, Own, ActOwns, Small}
-use Rattle.slot.proofs.Lanes.{lane-other}
+use Rattle.slot.proofs.Lanes.{by-four, lane-other}
 use Rattle.slot.proofs.Slots.{OpenSlot, lawful-open, open-lawful, idle-lawful, all-at, any-at, any-set, unlike, head-other, alone-at}
 
 -- ---- the slots of a stream
@@ -38,16 +38,14 @@ further-cond true o q = refl
 further-cond false o q = refl
 
 -- the first slot of four that passes a test
-pub where-four : (test : Slot → Bool) (lane : List Slot) → length lane ≡ slotsEach
-    → placeWhere test lane
+abbrev WhereFour : (Slot → Bool) → List Slot → Type 0
+WhereFour test lane =
+    placeWhere test lane
     ≡ cond (test (getD lane 0 idle)) (some 0)
     (cond (test (getD lane 1 idle)) (some 1) (cond (test (getD lane 2 idle)) (some 2) (cond (test (getD lane 3 idle)) (some 3) none)))
-where-four test [] n = absurd (omega arith)
-where-four test (a ∷ []) n = absurd (omega arith)
-where-four test (a ∷ b ∷ []) n = absurd (omega arith)
-where-four test (a ∷ b ∷ c ∷ []) n = absurd (omega arith)
-where-four test (a ∷ b ∷ c ∷ d ∷ []) n = simp further-cond
-where-four test (a ∷ b ∷ c ∷ d ∷ e ∷ l) n = absurd (omega arith)
+
+pub where-four : (test : Slot → Bool) (lane : List Slot) → length lane ≡ slotsEach → WhereFour test lane
+where-four test = by-four (WhereFour test) (λ a b c d. simp further-cond)
 
 -- ---- the place that is found
 

@@ -1,8 +1,8 @@
 -- What of a packet and its answer counts.
 use Prim.Native.Nat.{ℕ}
 use mathlib.Core.Bool.{Bool, true, cond, _&&_}
+use Rattle.wire.specs.Bytes.{bit}
 use Rattle.wire.specs.Told.{Told}
-use Rattle.packet.specs.Header.{bit}
 use Rattle.slot.specs.declared.answer.Accepted.{Accepted}
 use Rattle.report.specs.declared.Costs.{Costs}
 use Rattle.report.specs.Costs.{accepts, finishes, replaces, drops, payloadIn}
