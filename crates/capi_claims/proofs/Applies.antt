@@ -33,9 +33,6 @@ pub not-wide : (n : ℕ) → Unsigned32 n → isWide n ≡ false
 unfolding isWide
 not-wide n h = rw (lt-ltb n (2 ^ 32) (omega arith))
 
-pub low-same : (n : ℕ) → Unsigned32 n → unsignedOf n ≡ n
-low-same n h = omega arith
-
 -- ---- a row in range is one of a message
 module _ (texts row : List ℕ) where
   lies : (at : ℕ) → LiesAt texts row at → outside texts (record { start = getD row at 0; len = getD row (at + 1) 0 }) ≡ false

@@ -19,11 +19,6 @@ pub keeps-if : (fit : Bool) (state lent answer : List ℕ) (done : Called) → K
 keeps-if true state lent answer done k = k
 keeps-if false state lent answer done k = λ e. refl
 
--- rows that stay under 1
-pub keeps-rows : (number : ℕ) (state lent answer after row₁ row₂ : List ℕ) → (number ≡ 1 → after ≡ lent)
-    → Keeps state lent answer (called number (afterwards number state row₁) after (afterwards number answer row₂))
-keeps-rows number state lent answer after row₁ row₂ k e = rw (e, k e)
-
 -- a call with no state
 pub keeps-answers : (size number : ℕ) (lent answer after row : List ℕ) → (number ≡ 1 → after ≡ lent)
     → Keeps [] lent answer (answers size answer lent number after row)

@@ -22,6 +22,7 @@ use Rattle.firmware.specs.declared.component.FirmwareComponent.{FirmwareCompone
 use Rattle.firmware.specs.declared.apply.ApplyFirmware.{ApplyFirmware}
 use Rattle.firmware_writer.specs.Apply.{applyWritten}
 use Rattle.firmware_round_trips.specs.RoundTrip.{Unsigned32}
+use Rattle.firmware_round_trips.proofs.Segments.{unsigned-trip}
 use Rattle.rows_messages.specs.Convert.{textCall}
 use Rattle.rows_firmware.specs.Apply.{componentRow, componentRows, headRow, wholeRow, componentAt, componentsAt, applyAt, wideAt, anyWide, badRow}
 use Rattle.rows_firmware.specs.FieldRow.{fieldRow, fieldAt}
@@ -39,7 +40,7 @@ use Rattle.parts.specs.declared.state.Stage.the-variants as stage
 use Rattle.parts.specs.declared.state.PartProgress.{PartProgress}
 use Rattle.calls_parts.specs.Convert.{stageNumber, stageOf, pendingNumber, pendingOf, isState, stateOf, stateRow}
 use Rattle.capi_claims.specs.RowsAgree.{NumbersFit, rowStanding, RowsAgree}
-use Rattle.capi_claims.proofs.Applies.{not-wide, low-same}
+use Rattle.capi_claims.proofs.Applies.{not-wide}
 
 -- ---- an ApplyFirmware
 -- what stands before does not count
@@ -75,7 +76,7 @@ module _ (pre row : List ℕ) where
 component-again : (c : FirmwareComponent) (rest : List ℕ) → Unsigned32 (c .version) → Unsigned32 (c .size) → componentAt (componentRow c ++ rest) 0 ≡ c
 unfolding componentAt
 component-again c rest version size =
-    ap (λ (v : ℕ). made v (unsignedOf (c .size))) (low-same (c .version) version) ∙ ap (λ (z : ℕ). made (c .version) z) (low-same (c .size) size)
+    ap (λ (v : ℕ). made v (unsignedOf (c .size))) (unsigned-trip (c .version) version) ∙ ap (λ (z : ℕ). made (c .version) z) (unsigned-trip (c .size) size)
   where
     made : ℕ → ℕ → FirmwareComponent
     made v z = record { version = v; name = c .name; size = z; signature = c .signature }
@@ -117,7 +118,7 @@ module _ (a : ApplyFirmware) (version : Unsigned32 (a .«firmware_information» 
   unfolding applyAt
   row-again =
       let f = a .«firmware_information» in
-      ap (λ (v : ℕ). made v (componentsAt 8 (wholeRow a) 9) (eqb (bit (a .«restart_required»)) 1)) (low-same (f .version) version)
+      ap (λ (v : ℕ). made v (componentsAt 8 (wholeRow a) 9) (eqb (bit (a .«restart_required»)) 1)) (unsigned-trip (f .version) version)
       ∙ ap (λ (cs : List FirmwareComponent). made (f .version) cs (eqb (bit (a .«restart_required»)) 1)) listed
       ∙ ap (λ (b : Bool). made (f .version) (f .components) b) (bool-again (a .«restart_required»))
     where

@@ -1,5 +1,5 @@
 // The cases of the outbox, P12.
-use outbox::reader::Fault;
+use outbox::judging::Fault;
 use outbox::reader::Reading;
 use outbox::reader::read;
 use printing::end;

@@ -8,10 +8,10 @@ use lib.ListN.{length}
 use lib.Dec.{ltb}
 use borrow.Author.Tests.{ltb-false}
 use Rattle.wire.specs.Bytes.{bit}
+use Rattle.wire.proofs.Tests.{or-false}
 use Rattle.field.specs.Value.{bytesOf}
 use Rattle.field_writer.specs.Writer.{scalar, text, nested, headBytes, fieldBytes, messageBytes}
 use Rattle.field_writer.proofs.Runs.{message-length, joined-length}
-use Rattle.field_writer.proofs.Messages.{or-false}
 use Rattle.text_writer.specs.declared.TextFault.{TextFault}
 use Rattle.text_writer.specs.Texts.{orText, faultFrom}
 use Rattle.known_fields.specs.Schema.{firmwareVersionField, firmwareNameField, localeField, versionNameField, firmwareInformationField, restartRequiredField}

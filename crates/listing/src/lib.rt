@@ -4,7 +4,7 @@ use console::Output;
 use console::read_full;
 use console::sentences::explain_outbox;
 use outbox::format::FIRST_PLACE;
-use outbox::reader::Fault;
+use outbox::judging::Fault;
 use outbox::reader::Reading;
 use outbox::reader::read;
 use payloads::say_payload;
