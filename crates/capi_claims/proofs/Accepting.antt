@@ -16,13 +16,11 @@ use Rattle.slot.specs.declared.answer.Accepted.{Accepted}
 use Rattle.slot_steps.proofs.Each.{EachStep, first-each, next-each, at-each}
 use Rattle.receiver.specs.Receiver.{applied, actIn, acted, answered}
 use Rattle.rows.specs.Row.{numberTold}
+use Rattle.capi_claims.proofs.Rows.{never}
 
 -- no step is refused by 1
 abbrev NotOne : Step → Type 0
 NotOne s = numberTold (s .told) ≡ 1 → ⊥
-
-never : {A : Type 0} → _≡_ {A = ℕ} 0 1 → A
-never e = absurd (omega arith)
 
 each-not : (h : Head) → EachStep h NotOne
 unfolding finish hold dropBy

@@ -14,11 +14,11 @@ use Rattle.wire.proofs.Parts.{length-part}
 use Rattle.packet.specs.Header.{headerSize}
 use Rattle.sender.specs.declared.piece.Piece.{Piece}
 use Rattle.sender.specs.declared.writer.Sending.{Sending}
-use Rattle.sender.specs.Piece.{leastRoom, extended, isFirst, sizeFor, piecesOf}
+use Rattle.sender.specs.Piece.{leastRoom, extended, isFirst, sizeFor, piecesOf, pieceFor}
 use Rattle.sender.specs.Writer.{headerBytes, packetOf}
 use Rattle.sender.proofs.Packets.{header-length, packet-length, header-some}
 use Rattle.joining.specs.Joined.{concat, joinedOf, sizes, Places, messageIn, JoinsExactly}
-use Rattle.joining.proofs.Pieces.{restFrom, pieceFor, rest-whole, size-low, size-one, pieces-last, pieces-more, some-left, sizes-rest}
+use Rattle.joining.proofs.Pieces.{restFrom, rest-whole, size-low, size-one, pieces-last, pieces-more, some-left, sizes-rest}
 
 -- ---- stores, and what stands before and after them
 

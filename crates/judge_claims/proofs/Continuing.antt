@@ -206,7 +206,7 @@ module _ (room limit : ℕ) (fits : InRange room limit) where
     pub more-bytes : Packets more
     pub runs : runOf room limit t more ≡ some idle
 
-  packets-append : (ps qs : List (List ℕ)) → Packets ps → Packets qs → Packets (ps ++ qs)
+  pub packets-append : (ps qs : List (List ℕ)) → Packets ps → Packets qs → Packets (ps ++ qs)
   packets-append [] qs a b = b
   packets-append (p ∷ ps) qs a b = (a .0, packets-append ps qs (a .1) b)
 
@@ -228,6 +228,3 @@ module _ (room limit : ℕ) (fits : InRange room limit) where
   -- what the judge takes can be made lawful
   pub taken-ends : (ps : List (List ℕ)) (t : State) → runOf room limit idle ps ≡ some t → Ends t
   taken-ends ps t e = ends t (run-good room limit ps t idle idle-good e)
-
-  pub packets-both : (ps qs : List (List ℕ)) → Packets ps → Packets qs → Packets (ps ++ qs)
-  packets-both = packets-append

@@ -12,7 +12,7 @@ use wire::logic::both;
 use wire::logic::either;
 use wire::stream::Stream;
 ghost use mathlib.Core.Path.{_≡_};
-ghost use mathlib.Core.Bool.{cond, _||_};
+ghost use mathlib.Core.Bool.{cond, _&&_, _||_};
 ghost use lib.Dec.{eqb};
 ghost use lib.ListN.{length};
 ghost use Rattle.wire.specs.Told.{given};
@@ -22,8 +22,8 @@ ghost use Rattle.packet.specs.Reader as reader;
 ghost use Rattle.slot.specs.Slot.{opens};
 ghost use Rattle.slot.specs.Answer.{told};
 ghost use Rattle.report.specs.Costs.{heard};
-ghost use Rattle.report.specs.Turns.{reportWith, openCosts, openReport};
-ghost use Rattle.tally.specs.Count.{marksOf, costsBy};
+ghost use Rattle.report.specs.Turns.{costsBy, reportWith, openCosts, openReport};
+ghost use Rattle.tally.specs.Count.{marksOf};
 
 // What of an answer counts.
 struct Marks {
@@ -110,7 +110,8 @@ fn is_of(packet: &[u8], number: u8) -> bool
 }
 
 fn costs_of(mine: bool, first: bool, marks: Marks, size: u64) -> Costs
-    ensures { λ r. ⌜ r ≡ costsBy mine first marks size ⌝ }
+    ensures { λ r. ⌜ r
+        ≡ costsBy mine (marks .accepts && first) (marks .finishes) (marks .replaces) (marks .drops) (marks .payload) size ⌝ }
 {
     let firsts = bit64(both(mine, both(marks.accepts, first)));
     let finished = bit64(both(mine, marks.finishes));
