@@ -18,7 +18,7 @@ add-result c = search needs
 
 returns : tie.Need-returns
 returns c =
-    let f = c .before .before .before .args .features in
+    let f = c .before .before .args .features in
     let second = scalar deviceAttributesField (f .«device_attributes») in
     omega (
       arith,
