@@ -33,7 +33,7 @@ impl Output {
     }
 
     pub fn text(self, words: &[u8]) -> Self
-        ensures { λ r. ⌜ self .failed ≡ true → r .failed ≡ true ⌝ }
+        ensures { λ r. ⌜ (self .failed ≡ true → r .failed ≡ true) ⌝ }
     {
         if self.failed {
             return self;
@@ -42,7 +42,7 @@ impl Output {
     }
 
     pub fn number(self, n: u64) -> Self
-        ensures { λ r. ⌜ self .failed ≡ true → r .failed ≡ true ⌝ }
+        ensures { λ r. ⌜ (self .failed ≡ true → r .failed ≡ true) ⌝ }
     {
         if self.failed {
             return self;
@@ -52,7 +52,7 @@ impl Output {
 
     // A byte as two hexadecimal digits.
     pub fn byte(self, b: u8) -> Self
-        ensures { λ r. ⌜ self .failed ≡ true → r .failed ≡ true ⌝ }
+        ensures { λ r. ⌜ (self .failed ≡ true → r .failed ≡ true) ⌝ }
     {
         if self.failed {
             return self;
