@@ -1,6 +1,8 @@
 // The record at the front of some bytes, and record after record. Where a file's version is known.
 use crate::format::FIRST_PLACE;
 use crate::format::Format;
+use crate::verdict::Fault;
+use crate::verdict::Walked;
 use wire::bytes::pair;
 use wire::logic::either;
 use wire::stream::is_stream;
@@ -9,47 +11,7 @@ ghost use mathlib.Core.Bool.{false};
 ghost use Prim.Native.Nat.{ℕ, _≤_};
 ghost use lib.ListN.{length};
 ghost use Rattle.outbox.specs.Format.{Known, firstPlace};
-ghost use Rattle.outbox.specs.Reader.{given, otherVersion, lengthIn, recordAt, readOf, refusalOr, walkOf, toldJudged, toldWalk, faultNumber, numberIn};
-
-// What is wrong with an outbox's bytes.
-pub enum Fault {
-    Version,
-    Length,
-    Cut,
-    Stream,
-}
-
-impl Fault {
-    // The refusal number of docs/FORMATS.md.
-    pub fn number(self) -> u8
-        ensures { λ r. ⌜ r ≡ faultNumber self ⌝ }
-    {
-        match self {
-            Fault::Version => 40,
-            Fault::Length => 42,
-            Fault::Cut => 41,
-            Fault::Stream => 43,
-        }
-    }
-}
-
-// Whether all of an outbox is whole, or what is wrong first and where.
-pub enum Walked {
-    Whole,
-    Broken { fault: Fault, place: usize },
-}
-
-impl Walked {
-    // The refusal number, or 0 where nothing is refused.
-    pub fn number(self) -> u8
-        ensures { λ r. ⌜ r ≡ numberIn (toldWalk self) ⌝ }
-    {
-        match self {
-            Walked::Whole => 0,
-            Walked::Broken { fault, place: _ } => fault.number(),
-        }
-    }
-}
+ghost use Rattle.outbox.specs.Reader.{given, otherVersion, lengthIn, recordAt, readOf, refusalOr, walkOf, toldJudged, toldWalk};
 
 // The record at the front of some bytes.
 pub enum Judged {

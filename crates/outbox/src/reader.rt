@@ -2,11 +2,11 @@
 use crate::format::Format;
 use crate::format::is_one;
 use crate::format::other_version;
-use crate::judging::Fault;
 use crate::judging::Judged;
-use crate::judging::Walked;
 use crate::judging::judge;
 use crate::judging::walk_records;
+use crate::verdict::Fault;
+use crate::verdict::Walked;
 use wire::logic::either;
 ghost use mathlib.Core.Path.{_≡_};
 ghost use Rattle.outbox.specs.Format.{Known, formatOf};
