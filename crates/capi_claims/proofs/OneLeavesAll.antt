@@ -82,7 +82,7 @@ use Rattle.calls_firmware.specs.Calls.{segmentReadOf, segmentStored, segmentWri
 use Rattle.calls_captures.specs.Calls.{captureJudgeOf}
 use Rattle.calls_outbox.specs.Calls.{outboxNewOf, outboxAppendOf, outboxRecordOf, outboxWholeOf}
 use Rattle.capi_claims.specs.OneLeavesAll.{Keeps, KeepsRow, OneLeavesAll}
-use Rattle.capi_claims.proofs.Rows.{keeps-if, keeps-answers, writes-keeps, keeps-writer, keeps-text}
+use Rattle.capi_claims.proofs.Rows.{keeps-if, keeps-answers, writes-keeps, keeps-writer, keeps-text, never}
 use Rattle.capi_claims.proofs.Extracting.{advance-not-one, feed-not-one}
 use Rattle.capi_claims.proofs.Accepting.{acted-keeps, answered-keeps}
 use Rattle.capi_claims.proofs.Reports.{report-keeps}
@@ -239,9 +239,6 @@ unfolding featuresWriteOf featuresWritten
 features-keeps features attributes out answer =
     let f : DeviceFeatures = record { features = features; «device_attributes» = attributes } in
     keeps-writer out answer (featuresWritten f out) (message-keeps false (featuresFields f) out)
-
-never : {A : Type 0} → _≡_ {A = ℕ} 0 1 → A
-never e = absurd (omega arith)
 
 -- .. and of messages with strings
 texts-kept : (bad short : Bool) (fault : TextFault) (n : ℕ) (out after : List ℕ)
