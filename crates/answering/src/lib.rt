@@ -4,8 +4,10 @@ use field::value::Part;
 use field_writer::message::Wrote;
 use libc::STDOUT_FILENO;
 use text_writer::TextWrote;
+ghost use mathlib.Core.Path.{_≡_};
 ghost use Prim.Native.Nat.{_+_, _≤_};
 ghost use lib.ListN.{length};
+ghost use Rattle.field.specs.Value.{bytesOf};
 ghost use Rattle.field_writer.specs.Message.{wroteSize};
 ghost use Rattle.text_writer.specs.Texts.{textWroteSize};
 
@@ -48,6 +50,7 @@ pub fn show_text(wrote: TextWrote, out: &[u8])
 // The bytes of a part.
 pub fn bytes_of(message: &[u8], part: Part) -> &[u8]
     requires { ⌜ part .start + part .len ≤ length (now message) ⌝ }
+    ensures { λ r. ⌜ now r ≡ bytesOf (now (message .entry)) part ⌝ }
 {
     let start = part.start;
     let end = start + part.len;

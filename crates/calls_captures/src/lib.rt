@@ -1,3 +1,3 @@
 // Captures for C: whether one is lawful.
 pub mod calls;
-pub mod convert;
+mod convert;

@@ -1,3 +1,3 @@
 // The calls of Classic for C: states and answers as rows, and the extractor and the frame writer over them.
 pub mod calls;
-pub mod convert;
+mod convert;

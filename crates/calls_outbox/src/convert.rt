@@ -1,7 +1,7 @@
 // The outbox: what its calls answer as rows.
-use outbox::reader::Fault;
 use outbox::reader::Reading;
-use outbox::reader::Walked;
+use outbox::verdict::Fault;
+use outbox::verdict::Walked;
 use outbox::writer::Appended;
 use outbox::writer::Created;
 use rows::row::Count;

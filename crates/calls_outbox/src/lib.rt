@@ -1,3 +1,3 @@
 // The calls of the outbox for C: answers as rows, and the outbox over them.
 pub mod calls;
-pub mod convert;
+mod convert;

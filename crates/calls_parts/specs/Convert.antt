@@ -4,6 +4,7 @@ use mathlib.Core.Bool.{Bool, cond, _&&_}
 use mathlib.Core.List.{List, [], _∷_}
 use lib.ListN.{length, getD}
 use lib.Dec.{ltb, eqb}
+use Rattle.wire.specs.Bytes.{bit}
 use Rattle.wire.specs.Told.{Told, given, refused}
 use Rattle.framing.specs.declared.mark.Kind.{Kind}
 use Rattle.framing.specs.declared.mark.Kind.the-variants as kind
@@ -70,15 +71,12 @@ stateRow limit s = limit ∷ s .sequence ∷ s .total ∷ s .taken ∷ s .sum �
 
 -- ---- the answer
 
-abbrev pub flag : Bool → ℕ
-flag b = cond b 1 0
-
 abbrev pub reply : ℕ → ℕ → ℕ → ℕ → PartAnswer
 reply number taken written over = record { number = number; taken = taken; written = written; ended = over }
 
 -- the number that a call returns, then taken, written and whether the frame has ended
 abbrev pub replyOf : Told PartCount → PartAnswer
-replyOf (given c) = reply 0 (c .taken) (c .written) (flag (c .ended))
+replyOf (given c) = reply 0 (c .taken) (c .written) (bit (c .ended))
 replyOf (refused n) = reply n 0 0 0
 
 abbrev pub partRow : PartAnswer → List ℕ

@@ -6,12 +6,13 @@ use parts::state::Stage;
 use parts::writer::PartOutcome;
 use rows::row::BYTES;
 use rows::row::DONE;
+use wire::bytes::bit64;
 use wire::bytes::wide64;
 use wire::logic::both;
 ghost use mathlib.Core.Path.{_≡_};
 ghost use mathlib.Core.Bool.{true};
 ghost use Rattle.parts.specs.Writer.{told};
-ghost use Rattle.calls_parts.specs.Convert.{stageNumber, stageOf, pendingNumber, pendingOf, isState, stateOf, stateRow, flag, replyOf};
+ghost use Rattle.calls_parts.specs.Convert.{stageNumber, stageOf, pendingNumber, pendingOf, isState, stateOf, stateRow, replyOf};
 
 // The numbers of a state row; how many sums, stages and pending marks there are.
 pub const STATE: usize = 7;
@@ -154,12 +155,6 @@ pub fn state_row(state: PartWriter) -> [u64; 7]
     ]
 }
 
-fn number(b: bool) -> u64
-    ensures { λ r. ⌜ r ≡ flag b ⌝ }
-{
-    if b { 1 } else { 0 }
-}
-
 pub fn part_reply(outcome: PartOutcome) -> PartAnswer
     ensures { λ r. ⌜ r ≡ replyOf (told outcome) ⌝ }
 {
@@ -172,7 +167,7 @@ pub fn part_reply(outcome: PartOutcome) -> PartAnswer
             number: DONE,
             taken: taken as u64,
             written: written as u64,
-            ended: number(ended),
+            ended: bit64(ended),
         },
         PartOutcome::Refused(why) => PartAnswer {
             number: wide64(why.number()),

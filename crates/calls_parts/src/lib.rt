@@ -1,3 +1,3 @@
 // The calls of the frame writer by parts for C: its state and answers as rows, and the calls over them.
 pub mod calls;
-pub mod convert;
+mod convert;

@@ -2,17 +2,15 @@
 use Prim.Native.Nat.{ℕ}
 use mathlib.Core.Bool.{Bool, cond, _&&_}
 use mathlib.Core.List.{List, []}
-use lib.ListN.{length, getD, set}
+use lib.ListN.{length}
 use lib.Dec.{eqb}
 use Rattle.wire.specs.Told.{Told, given, refused}
 use Rattle.slot.specs.declared.Slot.{Slot}
-use Rattle.slot.specs.Slot.{idle}
+use Rattle.slot.specs.declared.answer.Accepted.{Accepted}
 use Rattle.receiver.specs.declared.Receiver.{Receiver}
-use Rattle.receiver.specs.Receiver.{openOf, call, PacketLeft, acceptOf}
-use Rattle.receiver.specs.Outcome.{Effect, decided}
+use Rattle.receiver.specs.Receiver.{linkOf, openOf, call, PacketLeft, acceptOf}
 use Rattle.rows.specs.Row.{afterwards, numberTold, byteOr, outOfRange}
 use Rattle.rows.specs.Called.{Called, called, ifFit}
-use Rattle.calls_receiving.specs.declared.calls.RowEntry.{RowEntry}
 use Rattle.calls_receiving.specs.Convert.{stateRow, limitOf, answerRow}
 
 -- the state row after an opening
@@ -40,43 +38,23 @@ replied n slots lent answer out = record { number = n; slots = slots; lent = len
 abbrev pub accepted : List ℕ → PacketLeft → AcceptCalled
 accepted answer l = replied (numberTold (l .told)) (l .slots) (l .bytes) (afterwards (numberTold (l .told)) answer (answerRow (l .told))) (l .out)
 
--- a state row of one number and an answer row of eight
-abbrev pub rowsFit : List ℕ → List ℕ → Bool
-rowsFit state answer = eqb (length answer) 8 && eqb (length state) 1
+-- a state row of one number, and an answer row of eight
+abbrev pub sizesFit : List ℕ → ℕ → Bool
+sizesFit state size = eqb size 8 && eqb (length state) 1
 
 unfoldable pub receiverAcceptOf : List ℕ → List Slot → List ℕ → List ℕ → ℕ → List ℕ → List ℕ → AcceptCalled
 receiverAcceptOf state slots lent packet sequence out answer =
-    cond (rowsFit state answer)
+    cond (sizesFit state (length answer))
     (accepted answer (acceptOf (limitOf state) slots lent (call packet (byteOr outOfRange sequence) out)))
     (replied 1 slots lent answer out)
 
--- ---- the same by the one slot that is stored
+-- ---- the parts of such a call
 
-pub record CalledEntry : Type 0 where
-  pub number : ℕ
-  pub place : ℕ
-  pub slot : Slot
-  pub lent : List ℕ
-  pub answer : List ℕ
-  pub out : List ℕ
+-- the link of a state row, for an answer row of a size: rows of other lengths are taken for a link of limit 0
+unfoldable pub linkAt : List ℕ → ℕ → Receiver
+linkAt state size = cond (sizesFit state size) (linkOf (limitOf state)) (linkOf 0)
 
-abbrev pub calledEntry : ℕ → ℕ → Slot → List ℕ → List ℕ → List ℕ → CalledEntry
-calledEntry n place s lent answer out = record { number = n; place = place; slot = s; lent = lent; answer = answer; out = out }
-
-abbrev pub toldBy : List ℕ → Effect → CalledEntry
-toldBy answer e =
-    calledEntry (numberTold (e .outcome .told)) (e .outcome .place) (e .outcome .slot) (e .outcome .bytes)
-    (afterwards (numberTold (e .outcome .told)) answer (answerRow (e .outcome .told))) (e .out)
-
-unfoldable pub decidedRow : ℕ → List Slot → List ℕ → List ℕ → List ℕ → ℕ → List ℕ → List ℕ → CalledEntry
-decidedRow count slots state lent packet sequence out answer =
-    cond (rowsFit state answer)
-    (toldBy answer (decided count (limitOf state) slots lent (call packet (byteOr outOfRange sequence) out)))
-    (calledEntry 1 0 (getD slots 0 idle) lent answer out)
-
--- what is left of a row
-abbrev pub repliedBy : List Slot → CalledEntry → AcceptCalled
-repliedBy slots e = replied (e .number) (set slots (e .place) (e .slot)) (e .lent) (e .answer) (e .out)
-
-unfoldable pub calledBy : RowEntry → List ℕ → List ℕ → List ℕ → CalledEntry
-calledBy s lent answer out = calledEntry (s .number) (s .place) (s .slot) lent answer out
+-- what is told of a packet: the number, and the answer row, which stays if it has another length
+unfoldable pub toldRow : List ℕ → Told Accepted → Called
+toldRow answer t =
+    called (numberTold t) [] [] (cond (eqb (length answer) 8) (afterwards (numberTold t) answer (answerRow t)) answer)

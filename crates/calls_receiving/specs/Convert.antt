@@ -2,9 +2,9 @@
 use Prim.Native.Nat.{ℕ}
 use mathlib.Core.List.{List, [], _∷_}
 use lib.ListN.{getD, replicate}
+use Rattle.wire.specs.Bytes.{bit}
 use Rattle.wire.specs.Told.{Told, given, refused}
 use Rattle.wire.specs.Stream.{streamNumber}
-use Rattle.packet.specs.Header.{bit}
 use Rattle.packet.specs.declared.reader.Head.{Head}
 use Rattle.slot.specs.declared.answer.Accepted.{Accepted}
 use Rattle.slot.specs.declared.answer.Accepted.the-variants.{Taken, Finished, Acked, Nacked}

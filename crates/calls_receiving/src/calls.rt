@@ -1,35 +1,27 @@
-// Receiving over Low Energy for C: a receiver opened, and one packet given to it over a row of slots as a value.
+// Receiving over Low Energy for C: a receiver opened, the link of a state row, and an answer told.
 use crate::convert::ANSWER;
 use crate::convert::answer_number;
 use crate::convert::answer_row;
+use receiver::OpenedReceiver;
 use receiver::Receiver;
-use receiver::decide;
 use rows::row::DONE;
-use rows::row::OUT_OF_RANGE;
 use rows::row::UNFIT;
-use rows::row::byte_or;
 use rows::row::number_at;
 use rows::row::put;
 use rows::row::write_row;
-use slot::Slot;
+use slot::answer::Answer;
 use wire::logic::both;
 ghost use mathlib.Core.Path.{_≡_};
 ghost use mathlib.Core.List.{[]};
 ghost use Rattle.rows.specs.Called.{called};
-ghost use Rattle.calls_receiving.specs.Calls.{receiverOpenOf, decidedRow, calledBy};
+ghost use Rattle.slot.specs.Answer.{told};
+ghost use Rattle.calls_receiving.specs.Calls.{receiverOpenOf, linkAt, toldRow};
 
 // The numbers of the state row: the limit.
 pub const STATE: usize = 1;
 
 // The refusal of a limit that is none.
 const BAD_LIMIT: u64 = 17;
-
-// The number that is returned, and the one slot that is stored, at a place of the row.
-pub struct RowEntry {
-    pub number: u64,
-    pub place: usize,
-    pub slot: Slot,
-}
 
 // Opens a receiver for a link with a limit: its state.
 pub fn receiver_open(limit: u64, state: &mut [u64]) -> u64
@@ -38,52 +30,39 @@ pub fn receiver_open(limit: u64, state: &mut [u64]) -> u64
     if state.len() != STATE {
         return UNFIT;
     }
-    let opened = Receiver::open(limit as usize);
-    if opened.refused {
-        return BAD_LIMIT;
+    match Receiver::open(limit as usize) {
+        OpenedReceiver::Link(link) => {
+            let row = [link.limit as u64];
+            write_row(state, &row);
+            DONE
+        }
+        OpenedReceiver::BadLimit => BAD_LIMIT,
     }
-    let row = [limit];
-    write_row(state, &row);
-    DONE
 }
 
-// One packet given to the receiver, over as many slots as were lent and the first twelve of them; the ACK that it may want is written in
-// the answer buffer.
-pub fn decide_row(
-    count: usize,
-    slots: [Slot; 12],
-    state: &[u64],
-    buffer: &mut [u8],
-    packet: &[u8],
-    sequence: u64,
-    out: &mut [u8],
-    answer: &mut [u64],
-) -> RowEntry
-    ensures { λ r. ⌜ calledBy r (now (buffer .exit)) (now (answer .exit)) (now (out .exit))
-        ≡ decidedRow count slots (now (state .entry)) (now (buffer .entry)) (now (packet .entry)) sequence (now (out .entry))
-        (now (answer .entry)) ⌝ }
+// The link of a state row; size is the answer row's. Rows of other lengths are taken for a link of limit 0, on which every packet is refused
+// by 1.
+pub fn link_at(state: &[u64], size: usize) -> Receiver
+    ensures { λ r. ⌜ r ≡ linkAt (now (state .entry)) size ⌝ }
 {
-    let fits = both(answer.len() == ANSWER, state.len() == STATE);
-    if !fits {
-        let slot = slots[0];
-        return RowEntry {
-            number: UNFIT,
-            place: 0,
-            slot,
-        };
+    if both(size == ANSWER, state.len() == STATE) {
+        let limit = number_at(state, 0);
+        Receiver {
+            limit: limit as usize,
+        }
+    } else {
+        Receiver { limit: 0 }
     }
-    let limit = number_at(state, 0);
-    let low = byte_or(OUT_OF_RANGE, sequence);
-    let done = decide(count, slots, limit as usize, buffer, packet, low, out);
-    let told = done.answer;
-    let number = answer_number(told);
-    let row = answer_row(told);
-    put(answer, number, &row);
-    let place = done.place;
-    let slot = done.slot;
-    RowEntry {
-        number,
-        place,
-        slot,
+}
+
+// Tells what was answered to a packet in the answer row, where that has its length, and returns its number.
+pub fn tell_packet(answer: &mut [u64], done: Answer) -> u64
+    ensures { λ r. ⌜ called r [] [] (now (answer .exit)) ≡ toldRow (now (answer .entry)) (told done) ⌝ }
+{
+    let number = answer_number(done);
+    if answer.len() == ANSWER {
+        let row = answer_row(done);
+        put(answer, number, &row);
     }
+    number
 }

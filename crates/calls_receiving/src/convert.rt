@@ -1,9 +1,9 @@
 // Receiving over Low Energy: the receiver's answers as rows.
-use packet::header::bit;
 use packet::reader::Head;
 use rows::row::DONE;
 use slot::answer::Accepted;
 use slot::answer::Answer;
+use wire::bytes::bit;
 use wire::bytes::wide64;
 use wire::stream::Stream;
 ghost use mathlib.Core.Path.{_≡_};

@@ -1,3 +1,3 @@
 // The reply to the handshake for C.
 pub mod calls;
-pub mod convert;
+mod convert;

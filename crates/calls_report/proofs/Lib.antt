@@ -1,1 +1,1 @@
-pub mod Saving
+pub mod Adding

@@ -4,11 +4,12 @@ use mathlib.Core.Bool.{Bool, cond, _&&_}
 use mathlib.Core.List.{List}
 use lib.ListN.{length}
 use lib.Dec.{eqb}
-use Rattle.captures.specs.Capture.{numberIn}
+use Rattle.captures.specs.Capture.{ToldAt, numberIn}
 use Rattle.slot.specs.declared.Slot.{Slot}
-use Rattle.report.specs.Report.{CaptureAdded, takenOf, addedBy, addedOf}
+use Rattle.report.specs.declared.CostReport.{CostReport}
+use Rattle.report.specs.Report.{CaptureAdded, addedOf}
 use Rattle.rows.specs.Row.{afterwards}
-use Rattle.calls_report.specs.declared.calls.ReportEntry.{ReportEntry}
+use Rattle.calls_report.specs.declared.calls.AddingTo.{AddingTo}
 use Rattle.calls_report.specs.Convert.{reportAt, reportAfter, placeRow}
 
 -- what a call leaves: the number that it returns, the report's row, the row of slots, the lent buffer and the answer row
@@ -29,21 +30,32 @@ addTold report answer a =
     (afterwards (numberIn (a .told)) answer (placeRow (a .told)))
 
 -- a report of 21 numbers and an answer row of one
-abbrev pub reportRowsFit : List ℕ → List ℕ → Bool
-reportRowsFit report answer = eqb (length report) 21 && eqb (length answer) 1
+abbrev pub reportSizesFit : List ℕ → ℕ → Bool
+reportSizesFit report size = eqb (length report) 21 && eqb size 1
 
 unfoldable pub reportAddOf : List ℕ → ℕ → List Slot → List ℕ → List ℕ → List ℕ → ReportCalled
 reportAddOf report limit slots lent capture answer =
-    cond (reportRowsFit report answer)
+    cond (reportSizesFit report (length answer))
     (addTold report answer (addedOf (reportAt report) limit slots lent capture))
     (reportCalled 1 report slots lent answer)
 
--- the same over as many slots as are said, by twelve of them
-unfoldable pub reportAddBy : ℕ → List Slot → List ℕ → ℕ → List ℕ → List ℕ → List ℕ → ReportCalled
-reportAddBy count slots report limit lent capture answer =
-    cond (reportRowsFit report answer)
-    (addTold report answer (addedBy (reportAt report) limit slots lent (takenOf limit count (length lent) capture)))
-    (reportCalled 1 report slots lent answer)
+-- ---- the parts of such a call
 
-abbrev pub entryCalled : ReportEntry → List ℕ → List ℕ → List ℕ → ReportCalled
-entryCalled e report lent answer = reportCalled (e .number) report (e .slots) lent answer
+-- what a capture is added to, for an answer row of a size: rows of other lengths get the limit 0
+unfoldable pub addingTo : List ℕ → ℕ → ℕ → AddingTo
+addingTo report limit size = record { report = reportAt report; limit = cond (reportSizesFit report size) limit 0 }
+
+-- what is told of a capture: the number, the report's row and the answer row
+pub record RowsAdded : Type 0 where
+  pub number : ℕ
+  pub report : List ℕ
+  pub answer : List ℕ
+
+abbrev pub added : ℕ → List ℕ → List ℕ → RowsAdded
+added n report answer = record { number = n; report = report; answer = answer }
+
+unfoldable pub toldRows : List ℕ → List ℕ → ToldAt CostReport → RowsAdded
+toldRows report answer t =
+    cond (reportSizesFit report (length answer))
+    (added (numberIn t) (reportAfter report t) (afterwards (numberIn t) answer (placeRow t)))
+    (added 1 report answer)

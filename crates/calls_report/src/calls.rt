@@ -1,52 +1,53 @@
-// One capture added to a report, for C, over a row of slots as a value.
+// One capture added to a report, for C: what it is added to, and what is told of it.
 use crate::convert::ADD_ANSWER;
 use crate::convert::REPORT;
 use crate::convert::place_row;
 use crate::convert::put_report;
 use crate::convert::report_at;
+use report::CostReport;
 use rows::row::UNFIT;
 use rows::row::put;
-use slot::Slot;
-use tally::add_by_value;
+use tally::Answer;
 use wire::bytes::wide64;
 use wire::logic::both;
 ghost use mathlib.Core.Path.{_≡_};
-ghost use Rattle.calls_report.specs.Calls.{reportAddBy, entryCalled};
+ghost use Rattle.tally.specs.Tally.{told};
+ghost use Rattle.calls_report.specs.Calls.{addingTo, added, toldRows};
 
-// The number that is returned, and the row of slots.
-pub struct ReportEntry {
-    pub number: u64,
-    pub slots: [Slot; 12],
+// What a capture is added to: a report, and the limit of the link that reads it.
+pub struct AddingTo {
+    pub report: CostReport,
+    pub limit: usize,
 }
 
-// Adds a capture, over as many slots as were lent and the first twelve of them.
-pub fn report_add(
-    count: usize,
-    slots: [Slot; 12],
-    report: &mut [u64],
-    limit: u64,
-    buffer: &mut [u8],
-    capture: &[u8],
-    answer: &mut [u64],
-) -> ReportEntry
-    ensures { λ r. ⌜ entryCalled r (now (report .exit)) (now (buffer .exit)) (now (answer .exit))
-        ≡ reportAddBy count slots (now (report .entry)) limit (now (buffer .entry)) (now (capture .entry))
-        (now (answer .entry)) ⌝ }
+// What a capture is added to; size is the answer row's. Rows of other lengths get the limit 0, on which a link leaves all.
+pub fn adding_to(report: &[u64], limit: u64, size: usize) -> AddingTo
+    ensures { λ r. ⌜ r ≡ addingTo (now (report .entry)) limit size ⌝ }
+{
+    let before = report_at(report);
+    let limit = if both(report.len() == REPORT, size == ADD_ANSWER) {
+        limit as usize
+    } else {
+        0
+    };
+    AddingTo {
+        report: before,
+        limit,
+    }
+}
+
+// Tells what came of a capture in the report and the answer row, and returns its number; 1 where one of them has another length.
+pub fn tell_added(report: &mut [u64], answer: &mut [u64], done: Answer) -> u64
+    ensures { λ r. ⌜ added r (now (report .exit)) (now (answer .exit))
+        ≡ toldRows (now (report .entry)) (now (answer .entry)) (told done) ⌝ }
 {
     let fits = both(report.len() == REPORT, answer.len() == ADD_ANSWER);
     if !fits {
-        return ReportEntry {
-            number: UNFIT,
-            slots,
-        };
+        return UNFIT;
     }
-    let before = report_at(report);
-    let done = add_by_value(count, slots, before, limit as usize, buffer, capture);
-    let told = done.answer;
-    let number = wide64(told.number());
-    put_report(report, told);
-    let place = place_row(told);
+    let number = wide64(done.number());
+    put_report(report, done);
+    let place = place_row(done);
     put(answer, number, &place);
-    let row = done.slots;
-    ReportEntry { number, slots: row }
+    number
 }

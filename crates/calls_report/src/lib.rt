@@ -1,3 +1,3 @@
 // A report over captures for C: one capture added.
 pub mod calls;
-pub mod convert;
+mod convert;

@@ -1,3 +1,3 @@
 // The calls of sending over Low Energy for C: arguments and answers as numbers, and the writers of packets over them.
 pub mod calls;
-pub mod convert;
+mod convert;

@@ -1,60 +1,47 @@
 -- A packet that is refused by 1 leaves the row and the lent bytes.
 use Prim.Native.Nat.{ℕ, _+_}
 use mathlib.Core.Path.{_≡_, refl}
-use mathlib.Core.Bool.{Bool, true, false, not, cond}
 use mathlib.Core.List.{List}
-use mathlib.Core.Option.{Option, none, some}
 use native.Mathlib.Omega.{arith}
 use lib.ListN.{getD}
-use lib.Dec.{eqb}
 use Rattle.wire.specs.Told.{Told, given, refused}
-use Rattle.packet.specs.Header.{sequenceAfter}
 use Rattle.packet.specs.Reader.{headIn}
 use Rattle.packet.specs.declared.reader.Head.{Head}
 use Rattle.packet.specs.declared.reader.Packet.{Packet}
 use Rattle.packet.specs.declared.reader.Packet.the-variants.{First, Next, Ack, Nack}
 use Rattle.slot.specs.declared.Slot.{Slot}
 use Rattle.slot.specs.Slot.{idle, laneStart, laneOf}
-use Rattle.slot_steps.specs.Step.{Step, Act, still, step, finish, hold, dropBy, firstStep, offTotal, nextStep, atPlace, openPlace, firstPlace, actOf}
+use Rattle.slot_steps.specs.Step.{Step, Act, still, step, finish, hold, dropBy, openPlace, firstPlace, actOf}
 use Rattle.slot.specs.declared.answer.Accepted.{Accepted}
+use Rattle.slot_steps.proofs.Each.{EachStep, first-each, next-each, at-each}
 use Rattle.receiver.specs.Receiver.{applied, actIn, acted, answered}
 use Rattle.rows.specs.Row.{numberTold}
+use Rattle.capi_claims.proofs.Rows.{never}
 
 -- no step is refused by 1
 abbrev NotOne : Step → Type 0
 NotOne s = numberTold (s .told) ≡ 1 → ⊥
 
-never : {A : Type 0} → _≡_ {A = ℕ} 0 1 → A
-never e = absurd (omega arith)
-
-either-not : (t : Bool) (a b : Step) → NotOne a → NotOne b → NotOne (cond t a b)
-either-not true a b p q = p
-either-not false a b p q = q
-
-first-not : (at : ℕ) (s : Slot) (head : Head) (ack : Bool) (total start len : ℕ) → NotOne (firstStep at s head ack total start len)
-unfolding firstStep finish hold
-first-not at s head ack total start len = either-not (eqb len total) _ _ never never
-
-next-not : (at : ℕ) (s : Slot) (head : Head) (ack last : Bool) (start len : ℕ) → NotOne (nextStep at s head ack last start len)
-unfolding nextStep dropBy finish hold
-next-not at s head ack last start len =
-    either-not (not (eqb (head .sequence) (sequenceAfter (s .sequence) 1))) _ _ (λ e. absurd (omega (arith, e)))
-    (either-not (offTotal last (s .held + len) (s .total)) _ _ (λ e. absurd (omega (arith, e))) (either-not last _ _ never never))
+each-not : (h : Head) → EachStep h NotOne
+unfolding finish hold dropBy
+each-not h =
+    record {
+      finished = λ at wanted total replaced payload. never;
+      held = λ at wanted total replaced payload. never;
+      ten = λ e. absurd (omega (arith, e));
+      eleven = λ e. absurd (omega (arith, e));
+    }
 
 -- an act that is refused by 1 leaves all
 abbrev ActNotOne : Act → Type 0
 ActNotOne (still told) = Unit {0}
 ActNotOne (step place s) = NotOne s
 
-at-not : (n : ℕ) (f : ℕ → Step) (o : Option ℕ) → ((place : ℕ) → NotOne (f place)) → ActNotOne (atPlace n f o)
-at-not n f none h = tt
-at-not n f (some place) h = h place
-
 act-not : (first : ℕ) (lane : List Slot) (x : Packet) → ActNotOne (actOf first lane x)
 act-not first lane (First head ack total start len) =
-    at-not 18 _ (firstPlace lane (head .id)) (λ place. first-not (first + place) (getD lane place idle) head ack total start len)
+    at-each ActNotOne 18 _ (firstPlace lane (head .id)) tt (λ place e. first-each NotOne (each-not head) (first + place) (getD lane place idle) ack total start len)
 act-not first lane (Next head ack last start len) =
-    at-not 9 _ (openPlace lane (head .id)) (λ place. next-not (first + place) (getD lane place idle) head ack last start len)
+    at-each ActNotOne 9 _ (openPlace lane (head .id)) tt (λ place e. next-each NotOne (each-not head) (first + place) (getD lane place idle) ack last start len)
 act-not first lane (Ack head) = tt
 act-not first lane (Nack head) = tt
 

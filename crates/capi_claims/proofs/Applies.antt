@@ -6,6 +6,7 @@ use mathlib.Core.List.{List, [], _∷_, _++_, map}
 use native.Mathlib.Omega.{arith}
 use lib.ListN.{length, take, drop, getD}
 use borrow.Author.Tests.{lt-ltb, le-ltb}
+use Rattle.wire.specs.Bytes.{bit}
 use Rattle.field.specs.declared.value.Part.{Part}
 use Rattle.field.specs.Value.{bytesOf}
 use Rattle.field.specs.Tag.{varintType, lengthType}
@@ -18,7 +19,7 @@ use Rattle.firmware.specs.declared.apply.ApplyFirmware.{ApplyFirmware}
 use Rattle.text_writer.specs.Texts.{AllWellFormed}
 use Rattle.component_writer.specs.Component.{outside, badComponent, componentFields, componentField}
 use Rattle.firmware_writer.specs.Information.{badComponents, badFirmware, present, componentsStrings, firmwareStrings, firmwareFields}
-use Rattle.firmware_writer.specs.Apply.{boolValue, applyFields}
+use Rattle.firmware_writer.specs.Apply.{applyFields}
 use Rattle.component_writer.proofs.Inside.{component-length}
 use Rattle.firmware_writer.proofs.Texts.{firmware-length}
 use Rattle.firmware_round_trips.specs.RoundTrip.{Unsigned32}
@@ -31,9 +32,6 @@ use Rattle.capi_claims.proofs.Sizes.{scalar-most, text-most, nested-mos
 pub not-wide : (n : ℕ) → Unsigned32 n → isWide n ≡ false
 unfolding isWide
 not-wide n h = rw (lt-ltb n (2 ^ 32) (omega arith))
-
-pub low-same : (n : ℕ) → Unsigned32 n → unsignedOf n ≡ n
-low-same n h = omega arith
 
 -- ---- a row in range is one of a message
 module _ (texts row : List ℕ) where
@@ -144,7 +142,7 @@ module _ (texts row : List ℕ) where
       let a = applyAt row in
       let f = a .«firmware_information» in
       let inner = messageBytes (firmwareFields texts f) in
-      let restart = scalar restartRequiredField (boolValue (a .«restart_required»)) in
+      let restart = scalar restartRequiredField (bit (a .«restart_required»)) in
       let listed : length (messageBytes (map (componentField texts) (present f))) ≤ 55 * getD row 8 0 + stringsFrom (getD row 8 0) row 9 =
       rw (there texts row h) (components-most (getD row 8 0) 9)
       in
@@ -154,7 +152,7 @@ module _ (texts row : List ℕ) where
         message-length restart [],
         nested-most firmwareInformationField inner,
         tag-small firmwareInformationField lengthType refl,
-        scalar-most restartRequiredField (boolValue (a .«restart_required»)),
+        scalar-most restartRequiredField (bit (a .«restart_required»)),
         tag-small restartRequiredField varintType refl,
         firmware-length texts f,
         scalar-most firmwareVersionField (f .version),

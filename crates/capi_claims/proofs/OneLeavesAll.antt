@@ -70,7 +70,7 @@ use Rattle.calls_classic.specs.Calls.{opened, stepped, fedCall, noneUsed, extra
 use Rattle.calls_parts.specs.Convert.{isState, stateOf}
 use Rattle.calls_parts.specs.Calls.{begun, parted, frameBeginOf, framePartOf}
 use Rattle.calls_sending.specs.Calls.{packetWriteOf, ackWriteOf}
-use Rattle.calls_receiving.specs.Calls.{replied, accepted, rowsFit, receiverOpenOf, receiverAcceptOf}
+use Rattle.calls_receiving.specs.Calls.{replied, accepted, sizesFit, receiverOpenOf, receiverAcceptOf}
 use Rattle.calls_receiving.specs.Calls as receiving
 use Rattle.calls_messages.specs.Calls.{envelopeReadOf, envelopeWriteOf, responseReadOf, responseWriteOf, informationReadOf, informationWriteOf, featuresReadOf, featuresWriteOf}
 use Rattle.reply.specs.declared.Link.{Link}
@@ -82,7 +82,7 @@ use Rattle.calls_firmware.specs.Calls.{segmentReadOf, segmentStored, segmentWri
 use Rattle.calls_captures.specs.Calls.{captureJudgeOf}
 use Rattle.calls_outbox.specs.Calls.{outboxNewOf, outboxAppendOf, outboxRecordOf, outboxWholeOf}
 use Rattle.capi_claims.specs.OneLeavesAll.{Keeps, KeepsRow, OneLeavesAll}
-use Rattle.capi_claims.proofs.Rows.{keeps-if, keeps-answers, writes-keeps, keeps-writer, keeps-text}
+use Rattle.capi_claims.proofs.Rows.{keeps-if, keeps-answers, writes-keeps, keeps-writer, keeps-text, never}
 use Rattle.capi_claims.proofs.Extracting.{advance-not-one, feed-not-one}
 use Rattle.capi_claims.proofs.Accepting.{acted-keeps, answered-keeps}
 use Rattle.capi_claims.proofs.Reports.{report-keeps}
@@ -145,7 +145,7 @@ receiver-open-keeps limit state = keeps-if (eqb (length state) 1) state [] [] _ 
 accept-keeps : (sequence : ℕ) (slots : List Slot) (packet state lent out answer : List ℕ)
     → KeepsRow slots lent out answer (receiverAcceptOf state slots lent packet sequence out answer)
 unfolding receiverAcceptOf acceptOf
-accept-keeps sequence slots packet state lent out answer = fits (rowsFit state answer)
+accept-keeps sequence slots packet state lent out answer = fits (sizesFit state (length answer))
   where
     limit : ℕ
     limit = limitOf state
@@ -239,9 +239,6 @@ unfolding featuresWriteOf featuresWritten
 features-keeps features attributes out answer =
     let f : DeviceFeatures = record { features = features; «device_attributes» = attributes } in
     keeps-writer out answer (featuresWritten f out) (message-keeps false (featuresFields f) out)
-
-never : {A : Type 0} → _≡_ {A = ℕ} 0 1 → A
-never e = absurd (omega arith)
 
 -- .. and of messages with strings
 texts-kept : (bad short : Bool) (fault : TextFault) (n : ℕ) (out after : List ℕ)

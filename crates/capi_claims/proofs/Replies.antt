@@ -19,13 +19,13 @@ use Rattle.field.specs.Signed as signed
 use Rattle.walk.specs.Refusal.{numberMore}
 use Rattle.text_writer.specs.declared.TextFault.{TextFault}
 use Rattle.text_writer.specs.declared.TextFault.the-variants.{None, At}
-use Rattle.text_writer.specs.Texts.{firstFault}
+use Rattle.text_writer.specs.Texts.{firstFault, faulted}
 use Rattle.control.specs.declared.envelope.Envelope.{Envelope}
 use Rattle.joining.specs.Joined.{joinedOf, sizes}
 use Rattle.joining.proofs.Pieces.{joined-long}
 use Rattle.reply.specs.declared.Link.{Link}
 use Rattle.reply_parts.specs.Body.{kindOfCommand}
-use Rattle.reply.specs.Reply.{Box, sendingOf, replyOf, linkLines, stringsOf, Replied, silent, sent, refusing, faulted, joinedIn, carriedOf, sentOf, isResponse, repliedBy}
+use Rattle.reply.specs.Reply.{Box, sendingOf, replyOf, linkLines, stringsOf, Replied, silent, sent, refusing, joinedIn, carriedOf, sentOf, isResponse, repliedBy}
 
 -- ---- under 1, which no reply tells, the output stays
 

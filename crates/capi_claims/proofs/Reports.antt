@@ -11,7 +11,7 @@ use Rattle.slot.specs.declared.Slot.{Slot}
 use Rattle.report.specs.declared.CostReport.{CostReport}
 use Rattle.report.specs.Report.{freshRun, plus, reportOf, reportFits, summed, takenOf, addedBy, addedOf}
 use Rattle.calls_report.specs.Convert.{reportAt}
-use Rattle.calls_report.specs.Calls.{reportCalled, addTold, reportRowsFit, reportAddOf}
+use Rattle.calls_report.specs.Calls.{reportCalled, addTold, reportSizesFit, reportAddOf}
 use Rattle.capi_claims.specs.OneLeavesAll.{KeepsReport}
 
 -- sums are never refused by 1
@@ -33,4 +33,4 @@ module _ (limit : ℕ) (slots : List Slot) (report lent capture answer : List �
 
   pub report-keeps : KeepsReport report slots lent answer (reportAddOf report limit slots lent capture answer)
   unfolding reportAddOf addedOf
-  report-keeps e = fit-keeps (reportRowsFit report answer) e
+  report-keeps e = fit-keeps (reportSizesFit report (length answer)) e

@@ -19,26 +19,22 @@ pub keeps-if : (fit : Bool) (state lent answer : List ℕ) (done : Called) → K
 keeps-if true state lent answer done k = k
 keeps-if false state lent answer done k = λ e. refl
 
--- rows that stay under 1
-pub keeps-rows : (number : ℕ) (state lent answer after row₁ row₂ : List ℕ) → (number ≡ 1 → after ≡ lent)
-    → Keeps state lent answer (called number (afterwards number state row₁) after (afterwards number answer row₂))
-keeps-rows number state lent answer after row₁ row₂ k e = rw (e, k e)
-
 -- a call with no state
 pub keeps-answers : (size number : ℕ) (lent answer after row : List ℕ) → (number ≡ 1 → after ≡ lent)
     → Keeps [] lent answer (answers size answer lent number after row)
 keeps-answers size number lent answer after row k =
     keeps-if (eqb (length answer) size) [] lent answer (called number [] after (afterwards number answer row)) (λ e. rw (e, k e))
 
+-- a call that is done is not refused by 1
+pub never : {A : Type 0} → _≡_ {A = ℕ} 0 1 → A
+never e = absurd (omega arith)
+
 -- a writer's refusal leaves the output
 pub writes-keeps : {A : Type 0} (lines : List Line) (a : A) (before after : List ℕ)
     → numberTold (writes lines a before after .told) ≡ 1 → writes lines a before after .out ≡ before
 writes-keeps lines a before after =
     by-table (λ w. numberTold (w .told) ≡ 1 → w .out ≡ before) lines (λ n. written (refused n) before) (written (given a) after)
-    (λ n e. refl) (λ h e. absurd (never e))
-  where
-    never : _≡_ {A = ℕ} 0 1 → ⊥
-    never e = omega arith
+    (λ n e. refl) (λ h e. never e)
 
 pub keeps-writer : (out answer : List ℕ) (w : Written ℕ) → (numberTold (w .told) ≡ 1 → w .out ≡ out) → Keeps [] out answer (writerCall out answer w)
 keeps-writer out answer w k = keeps-answers 1 (numberTold (w .told)) out answer (w .out) (sizeTold (w .told) ∷ []) k

@@ -9,6 +9,7 @@ use lib.Seq.{sets, getD-append-add}
 use lib.Dec.{leb, eqb, ltb}
 use borrow.Author.Tests.{le-ltb, eq-eqb, ne-eqb}
 use Rattle.wire.specs.Told.{Told, given, refused, andThen, Written, written, line, writes}
+use Rattle.wire.specs.Bytes.{bit}
 use Rattle.field.specs.declared.tag.FieldHead.{FieldHead}
 use Rattle.field.specs.declared.value.Value.{Value}
 use Rattle.field.specs.declared.value.Value.the-variants.{Number, Bytes, Skipped}
@@ -19,11 +20,12 @@ use Rattle.field.specs.Value.{skippedAt, partOf, valueAt}
 use Rattle.field.specs.Fields.{Standing, field, end, foundAt}
 use Rattle.firmware.specs.declared.component.FirmwareComponent.{FirmwareComponent}
 use Rattle.firmware.specs.declared.apply.ApplyFirmware.{ApplyFirmware}
-use Rattle.firmware_writer.specs.Apply.{boolValue, applyWritten}
+use Rattle.firmware_writer.specs.Apply.{applyWritten}
 use Rattle.field.proofs.Told.{sat-given}
 use Rattle.firmware.specs.Apply.{applyOf}
 use Rattle.firmware_round_trips.specs.RoundTrip.{Unsigned32, FirmwareTakes}
 use Rattle.firmware_round_trips.proofs.Told.{Eight, apply-takes, apply-eight}
+use Rattle.firmware_round_trips.proofs.Segments.{unsigned-trip}
 use Rattle.rows_messages.specs.Convert.{textCall}
 use Rattle.rows_firmware.specs.Apply.{componentRow, componentRows, headRow, wholeRow, componentAt, componentsAt, applyAt, wideAt, anyWide, badRow}
 use Rattle.rows_firmware.specs.FieldRow.{fieldRow, fieldAt}
@@ -50,7 +52,7 @@ use Rattle.calls_outbox.specs.Calls.{outboxRecordOf}
 use Rattle.rows.specs.Row.{afterwards, numberTold}
 use Rattle.rows.specs.Called.{called}
 use Rattle.capi_claims.specs.RowsAgree.{NumbersFit, rowStanding, packetBy, packetsFrom, recordBy, recordsFrom, RowsAgree}
-use Rattle.capi_claims.proofs.Applies.{not-wide, low-same}
+use Rattle.capi_claims.proofs.Applies.{not-wide}
 use Rattle.capi_claims.proofs.Told.{numbers-fit}
 
 -- ---- an ApplyFirmware
@@ -87,7 +89,7 @@ module _ (pre row : List ℕ) where
 component-again : (c : FirmwareComponent) (rest : List ℕ) → Unsigned32 (c .version) → Unsigned32 (c .size) → componentAt (componentRow c ++ rest) 0 ≡ c
 unfolding componentAt
 component-again c rest version size =
-    ap (λ (v : ℕ). made v (unsignedOf (c .size))) (low-same (c .version) version) ∙ ap (λ (z : ℕ). made (c .version) z) (low-same (c .size) size)
+    ap (λ (v : ℕ). made v (unsignedOf (c .size))) (unsigned-trip (c .version) version) ∙ ap (λ (z : ℕ). made (c .version) z) (unsigned-trip (c .size) size)
   where
     made : ℕ → ℕ → FirmwareComponent
     made v z = record { version = v; name = c .name; size = z; signature = c .signature }
@@ -105,11 +107,11 @@ none-wide (suc n) [] l h = absurd (omega arith)
 none-wide (suc n) (c ∷ cs) l h =
     rw (not-wide (c .version) (h .0 .0), not-wide (c .size) (h .0 .1), wide-behind (componentRow c) (componentRows cs) n 0, none-wide n cs (omega arith) (h .1))
 
-bool-again : (b : Bool) → eqb (boolValue b) 1 ≡ b
+bool-again : (b : Bool) → eqb (bit b) 1 ≡ b
 bool-again true = refl
 bool-again false = refl
 
-bool-small : (b : Bool) → ltb 1 (boolValue b) ≡ false
+bool-small : (b : Bool) → ltb 1 (bit b) ≡ false
 bool-small true = refl
 bool-small false = refl
 
@@ -129,8 +131,8 @@ module _ (a : ApplyFirmware) (version : Unsigned32 (a .«firmware_information» 
   unfolding applyAt
   row-again =
       let f = a .«firmware_information» in
-      ap (λ (v : ℕ). made v (componentsAt 8 (wholeRow a) 9) (eqb (boolValue (a .«restart_required»)) 1)) (low-same (f .version) version)
-      ∙ ap (λ (cs : List FirmwareComponent). made (f .version) cs (eqb (boolValue (a .«restart_required»)) 1)) listed
+      ap (λ (v : ℕ). made v (componentsAt 8 (wholeRow a) 9) (eqb (bit (a .«restart_required»)) 1)) (unsigned-trip (f .version) version)
+      ∙ ap (λ (cs : List FirmwareComponent). made (f .version) cs (eqb (bit (a .«restart_required»)) 1)) listed
       ∙ ap (λ (b : Bool). made (f .version) (f .components) b) (bool-again (a .«restart_required»))
     where
       made : ℕ → List FirmwareComponent → Bool → ApplyFirmware

@@ -55,6 +55,7 @@ use Rattle.segment_writer.proofs.Segments.{segment-length, segment-clean}
 use Rattle.firmware_round_trips.specs.RoundTrip.{Unsigned32}
 use Rattle.firmware_round_trips.specs.Premises.{Digits}
 use Rattle.firmware_round_trips.proofs.Premises.{signature, digits-well}
+use Rattle.firmware_round_trips.proofs.Segments.{unsigned-trip}
 use Rattle.outbox.specs.declared.format.Format.{Format}
 use Rattle.outbox.specs.Format.{versionOne, versionTwo, Known, one, two, isOne, formatOf, headSize, recordBytes, firstPlace}
 use Rattle.outbox.specs.Reader as outbox
@@ -73,6 +74,7 @@ use Rattle.round_trips.specs.RoundTrip.{MemberNumber}
 use Rattle.round_trips.specs.Premises.{InSigned32, AllInSigned32}
 use Rattle.round_trips.proofs.Premises.{signed}
 use Rattle.round_trips.proofs.Values.{signed-trip}
+use Rattle.round_trips.proofs.RoundTrip.{member-fine}
 use Rattle.rows.specs.Row.{numberTold, byteOr, outOfRange}
 use Rattle.rows.specs.Called.{Called, ifFit, writerCall}
 use Rattle.calls_classic.specs.Calls.{frameWriteOf}
@@ -99,7 +101,7 @@ use Rattle.capi_claims.specs.SizesSuffice.{Done, StreamNumber, PayloadFi
 use Rattle.capi_claims.proofs.Sizes.{scalar-most, text-most, nested-most, packed-most, tag-most, tag-small}
 use Rattle.capi_claims.proofs.Replies.{joined-most}
 use Rattle.capi_claims.proofs.Told.{told-fits}
-use Rattle.capi_claims.proofs.Applies.{not-wide, low-same, row-fine, firmware-fine, strings-fine, apply-most}
+use Rattle.capi_claims.proofs.Applies.{not-wide, row-fine, firmware-fine, strings-fine, apply-most}
 
 -- an answer row of the right length
 fit-done : (size : ℕ) (state lent answer : List ℕ) (done : Called) → length answer ≡ size → Done done
@@ -221,9 +223,6 @@ all-are-signed : (zs : List ℤ) → AllInSigned32 zs → allSigned (map extende
 unfolding allSigned
 all-are-signed [] h = refl
 all-are-signed (z ∷ zs) h = rw (is-signed z (h .0), all-are-signed zs (h .1))
-
-member-fine : (field : ℕ) → MemberNumber field → badMember field ≡ false
-member-fine field h = rw (le-ltb field 2 (h .0), le-ltb lastField field (h .1))
 
 payload-fine : (code : ℤ) (field : ℕ) → InSigned32 code → PayloadField field → badResponsePayload (responsePayloadOf (extended code) field) ≡ false
 unfolding responsePayloadOf
@@ -447,7 +446,7 @@ segment-done name size sig out answer l well n long digits h =
     (rw (
       not-wide 0 (omega arith),
       not-wide size n,
-      low-same size n,
+      unsigned-trip size n,
       clean,
       signature sig long digits,
       le-ltb (length out) (length (messageBytes (segmentFields name 0 size sig))) (omega (arith, segment-most name size sig long)),

@@ -13,7 +13,7 @@ use Rattle.walk.specs.Refusal.{numberMore}
 use Rattle.firmware.specs.declared.component.FirmwareComponent.{FirmwareComponent}
 use Rattle.firmware.specs.declared.apply.ApplyFirmware.{ApplyFirmware}
 use Rattle.firmware.specs.Apply.{applyOf}
-use Rattle.firmware_writer.specs.Apply.{boolValue}
+use Rattle.wire.specs.Bytes.{bit}
 use Rattle.firmware_round_trips.specs.RoundTrip.{ComponentsTake, FirmwareTakes}
 use Rattle.firmware_round_trips.proofs.Told.{Eight, apply-takes, apply-eight}
 use Rattle.rows_messages.specs.Convert.{faultOf}
@@ -28,7 +28,7 @@ pub numbers-fit : (s : List ℕ) (cs : List FirmwareComponent) → ComponentsTak
 numbers-fit s [] h = tt
 numbers-fit s (c ∷ cs) h = ((h .0 .0, h .0 .1), numbers-fit s cs (h .1))
 
-bool-most : (b : Bool) → boolValue b ≤ 1
+bool-most : (b : Bool) → bit b ≤ 1
 bool-most true = omega arith
 bool-most false = omega arith
 

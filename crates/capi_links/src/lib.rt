@@ -7,12 +7,14 @@ use calls_classic::calls::frame_write;
 use calls_classic::calls::next_sequence;
 use calls_parts::calls::frame_begin;
 use calls_parts::calls::frame_part;
-use calls_receiving::calls::decide_row;
+use calls_receiving::calls::link_at;
 use calls_receiving::calls::receiver_open;
+use calls_receiving::calls::tell_packet;
 use calls_sending::calls::ack_write;
 use calls_sending::calls::packet_write;
-use link::load;
-use link::set_slot;
+use link::accept;
+use rows::row::OUT_OF_RANGE;
+use rows::row::byte_or;
 use slot::Slot;
 ghost use mathlib.Core.Path.{_≡_};
 ghost use mathlib.Core.List.{[]};
@@ -181,9 +183,8 @@ pub extern "C" fn pito_receiver_accept(
         ≡ receiverAcceptOf (now (state .entry)) (now (row .entry)) (now (buffer .entry)) (now (packet .entry)) sequence
         (now (out .entry)) (now (answer .entry)) ⌝ }
 {
-    let count = row.len();
-    let slots = load(&*row);
-    let done = decide_row(count, slots, state, buffer, packet, sequence, out, answer);
-    set_slot(row, done.place, done.slot);
-    done.number
+    let link = link_at(state, answer.len());
+    let low = byte_or(OUT_OF_RANGE, sequence);
+    let done = accept(link, row, buffer, packet, low, out);
+    tell_packet(answer, done)
 }

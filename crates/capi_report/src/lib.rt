@@ -1,8 +1,8 @@
 // A report over captures for C. include/pitokaenge.h describes the function for its callers.
-use calls_report::calls::report_add;
-use link::load;
-use link::save;
+use calls_report::calls::adding_to;
+use calls_report::calls::tell_added;
 use slot::Slot;
+use tally::add;
 ghost use mathlib.Core.Path.{_≡_};
 ghost use Rattle.calls_report.specs.Calls.{reportCalled, reportAddOf};
 
@@ -20,9 +20,7 @@ pub extern "C" fn pito_report_add(
         ≡ reportAddOf (now (report .entry)) limit (now (row .entry)) (now (buffer .entry)) (now (capture .entry))
         (now (answer .entry)) ⌝ }
 {
-    let count = row.len();
-    let slots = load(&*row);
-    let done = report_add(count, slots, report, limit, buffer, capture, answer);
-    save(row, done.slots);
-    done.number
+    let to = adding_to(&*report, limit, answer.len());
+    let done = add(to.report, to.limit, row, buffer, capture);
+    tell_added(report, answer, done)
 }

@@ -1,7 +1,7 @@
 // The cases of the outbox, P12.
-use outbox::reader::Fault;
 use outbox::reader::Reading;
 use outbox::reader::read;
+use outbox::verdict::Fault;
 use printing::end;
 use printing::number;
 use printing::refused;

@@ -5,6 +5,8 @@ use libc::STDERR_FILENO;
 use libc::STDIN_FILENO;
 use libc::STDOUT_FILENO;
 use wire::bytes::byte_at;
+ghost use mathlib.Core.Path.{_≡_};
+ghost use mathlib.Core.Bool.{true, false, not, _||_};
 ghost use Prim.Native.Nat.{_≤_};
 ghost use lib.ListN.{length};
 
@@ -14,11 +16,15 @@ pub struct Output {
 }
 
 impl Output {
-    pub fn new() -> Self {
+    pub fn new() -> Self
+        ensures { λ r. ⌜ r .failed ≡ false ⌝ }
+    {
         Output { failed: false }
     }
 
-    fn after(self, written: bool) -> Self {
+    fn after(self, written: bool) -> Self
+        ensures { λ r. ⌜ r .failed ≡ (not written || self .failed) ⌝ }
+    {
         if written {
             return self;
         }
@@ -26,14 +32,18 @@ impl Output {
         Output { failed: true }
     }
 
-    pub fn text(self, words: &[u8]) -> Self {
+    pub fn text(self, words: &[u8]) -> Self
+        ensures { λ r. ⌜ (self .failed ≡ true → r .failed ≡ true) ⌝ }
+    {
         if self.failed {
             return self;
         }
         self.after(io::write_all(STDOUT_FILENO, words))
     }
 
-    pub fn number(self, n: u64) -> Self {
+    pub fn number(self, n: u64) -> Self
+        ensures { λ r. ⌜ (self .failed ≡ true → r .failed ≡ true) ⌝ }
+    {
         if self.failed {
             return self;
         }
@@ -41,7 +51,9 @@ impl Output {
     }
 
     // A byte as two hexadecimal digits.
-    pub fn byte(self, b: u8) -> Self {
+    pub fn byte(self, b: u8) -> Self
+        ensures { λ r. ⌜ (self .failed ≡ true → r .failed ≡ true) ⌝ }
+    {
         if self.failed {
             return self;
         }

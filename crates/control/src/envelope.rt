@@ -20,6 +20,7 @@ use field_writer::message::Wrote;
 use field_writer::message::bad_member;
 use known_fields::COMMAND;
 use known_fields::FIRST;
+use known_fields::NO_FIELD;
 use known_fields::RESPONSE;
 use known_fields::Schema;
 use walk::gathered::Gathered;
@@ -31,14 +32,11 @@ ghost use Prim.Native.Nat.{_+_, _≤_};
 ghost use lib.ListN.{length};
 ghost use mathlib.Core.Bool.{false};
 ghost use Rattle.wire.specs.Told.{written};
-ghost use Rattle.field_writer.specs.Put.{Put};
+ghost use Rattle.wire.specs.Put.{Put};
 ghost use Rattle.field.specs.Value.{TellsWithin};
 ghost use Rattle.field_writer.specs.Writer.{messageBytes};
 ghost use Rattle.control.specs.Envelope.{payloadOf, toldPayload, envelopeOf, toldEnvelope, payloadParts, envelopeParts, badPayload, payloadFields, envelopeWritten};
 ghost use Rattle.field_writer.specs.Message.{toldWrote};
-
-// No field has this number.
-const NO_FIELD: u64 = 0;
 
 pub enum Payload {
     None,

@@ -20,7 +20,7 @@ ghost use Prim.Native.Nat.{_+_, _≤_};
 ghost use lib.ListN.{length};
 ghost use mathlib.Core.Bool.{false};
 ghost use Rattle.wire.specs.Told.{written};
-ghost use Rattle.field_writer.specs.Put.{Put};
+ghost use Rattle.wire.specs.Put.{Put};
 ghost use Rattle.field.specs.Value.{TellsWithin};
 ghost use Rattle.field_writer.specs.Writer.{messageBytes};
 ghost use Rattle.control.specs.Response.{responseFrom, toldResponse, responseParts, badResponsePayload, responsePayloadFields, responseFields, responseWritten};

@@ -21,14 +21,14 @@ use Rattle.receiver.specs.Receiver.{PacketCall, call, PacketLeft, acceptOf}
 use Rattle.receiver.proofs.Accepting.{SlotsFit, ready-next}
 use Rattle.sender.specs.declared.piece.Piece.{Piece}
 use Rattle.sender.specs.declared.writer.Sending.{Sending}
-use Rattle.sender.specs.Piece.{leastRoom, isFirst, sizeFor, piecesFrom, piecesOf}
+use Rattle.sender.specs.Piece.{leastRoom, isFirst, sizeFor, piecesFrom, piecesOf, pieceFor}
 use Rattle.sender.specs.Writer.{headerBytes, packetOf, packetsOf}
 use Rattle.sender.proofs.Largest.{size-le, size-some}
 use Rattle.sender.proofs.Guard.{SendingInRange, room-low, range-facts}
 use Rattle.sender_claims.proofs.CallsGiveAll.{calls-are}
 use Rattle.delivery.specs.Delivery.{PacketReply, runOf, rowAfter, placeIn, ours, packetsIn, CallShown, shown, shownIn, shownTo, answerable, allAnswerable, AnswerableAll, atLast, Arrived, MessagesArrive, RoundTrip, SlotEnough, MessageAsked}
-use Rattle.wire.proofs.Tests.{and-left, and-right}
-use Rattle.delivery.proofs.Steps.{gives, laneFor, placeFor, Holding, Awaits, start, within, holding-kept, pieceFor, last-step, more-step}
+use Rattle.wire.proofs.Tests.{and-left, and-right, or-true}
+use Rattle.delivery.proofs.Steps.{gives, laneFor, placeFor, Holding, Awaits, start, within, holding-kept, last-step, more-step}
 
 pub answerable-all : AnswerableAll
 answerable-all c low room = rw (lt-ltb (c .sequence) fourBits (omega arith), le-leb ackSize (length (c .out)) room)
@@ -292,10 +292,6 @@ message-asked place w m first [] = refl
 message-asked place w m first (d ∷ later) = message-asked place w m d later
 
 -- ---- one slot is enough
-
-or-true : (a b : Bool) → b ≡ true → (a || b) ≡ true
-or-true true b e = refl
-or-true false b e = e
 
 any-idle : (l : List Slot) (i : ℕ) → i < length l → isIdle (getD l i idle) ≡ true → anyIdle l ≡ true
 any-idle [] i low o = absurd (omega arith)

@@ -33,7 +33,7 @@ use Rattle.receiver.proofs.Accepting.{SlotsFit, accept-ready, ready-next}
 use Rattle.receiver.proofs.Apart.{accept-apart}
 use Rattle.sender.specs.declared.piece.Piece.{Piece}
 use Rattle.sender.specs.declared.writer.Sending.{Sending}
-use Rattle.sender.specs.Piece.{extended, isFirst}
+use Rattle.sender.specs.Piece.{extended, isFirst, pieceFor}
 use Rattle.sender.specs.Writer.{isLast, packetOf}
 use Rattle.sender.proofs.Guard.{SendingInRange}
 use Rattle.delivery.specs.Delivery.{Message, givenBy, placeIn, ours, messageOf, answerable, lastOut}
@@ -107,9 +107,6 @@ lane-stored t slots i s e low =
     ap (λ (lane : List Slot). getD lane i idle) (lane-set t slots i s low) ∙ getD-set-same (laneOf t slots) i s idle long
 
 -- ---- what the packet of a piece does: it finishes, or more is to come
-
-abbrev pub pieceFor : ℕ → ℕ → ℕ → Piece
-pieceFor index place n = record { index = index; place = place; size = n }
 
 -- where its bytes are and go
 abbrev payloadFor : Piece → PayloadPlace

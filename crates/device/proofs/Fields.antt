@@ -5,7 +5,7 @@ use mathlib.Core.List.{List, [], _∷_, map}
 use native.Mathlib.Omega.{arith}
 use lib.IntN.{ℤ}
 use lib.ListN.{length}
-use Rattle.field_writer.specs.Put.{Put}
+use Rattle.wire.specs.Put.{Put}
 use Rattle.field.specs.Signed.{extended}
 use Rattle.field_writer.specs.Writer.{Field, text, packed, fieldBytes, messageBytes}
 use Rattle.field_writer.proofs.Runs.{put-end, put-field, message-length}

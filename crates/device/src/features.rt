@@ -12,8 +12,12 @@ use walk::reader::read_fields;
 use walk::refusal::MessageRefusal;
 use walk::refusal::WalkVerdict;
 ghost use mathlib.Core.Path.{_≡_};
+ghost use Prim.Native.Nat.{_≤_};
+ghost use lib.ListN.{length};
 ghost use Rattle.wire.specs.Told.{written};
-ghost use Rattle.device.specs.Features.{featuresOf, toldFeatures, featuresWritten};
+ghost use Rattle.wire.specs.Put.{Put};
+ghost use Rattle.field_writer.specs.Writer.{messageBytes};
+ghost use Rattle.device.specs.Features.{featuresOf, toldFeatures, featuresFields, featuresWritten};
 ghost use Rattle.field_writer.specs.Message.{toldWrote};
 
 pub struct DeviceFeatures {
@@ -42,17 +46,29 @@ pub fn read_features(message: &[u8]) -> FeaturesRead
     }
 }
 
+// The number of bytes of device features.
+pub fn features_len(features: DeviceFeatures) -> usize
+    ensures { λ r. ⌜ r ≡ length (messageBytes (featuresFields features)) ⌝ }
+{
+    scalar_len(FEATURES, features.features)
+        + scalar_len(DEVICE_ATTRIBUTES, features.device_attributes)
+}
+
+// Device features, written from the first byte on; the answer is the place after them.
+pub fn put_features(out: &mut [u8], features: DeviceFeatures) -> usize
+    requires { ⌜ length (messageBytes (featuresFields features)) ≤ length (now out) ⌝ }
+    ensures { λ r. ⌜ Put (now (out .entry)) 0 (messageBytes (featuresFields features)) r (now (out .exit)) ⌝ }
+{
+    let next = put_scalar(out, 0, FEATURES, features.features);
+    put_scalar(out, next, DEVICE_ATTRIBUTES, features.device_attributes)
+}
+
 // Writes device features.
 pub fn write_features(out: &mut [u8], features: DeviceFeatures) -> Wrote
     ensures { λ r. ⌜ written (toldWrote r) (now (out .exit)) ≡ featuresWritten features (now (out .entry)) ⌝ }
 {
-    let first = features.features;
-    let second = features.device_attributes;
-    let len = scalar_len(FEATURES, first) + scalar_len(DEVICE_ATTRIBUTES, second);
-    if out.len() < len {
+    if out.len() < features_len(features) {
         return Wrote::Refused(WriteRefusal::NoRoom);
     }
-    let next = put_scalar(out, 0, FEATURES, first);
-    let end = put_scalar(out, next, DEVICE_ATTRIBUTES, second);
-    Wrote::Done(end)
+    Wrote::Done(put_features(out, features))
 }

@@ -25,7 +25,7 @@ ghost use Prim.Native.Nat.{_≤_};
 ghost use lib.ListN.{length};
 ghost use lib.Dec.{ltb};
 ghost use Rattle.wire.specs.Told.{written};
-ghost use Rattle.field_writer.specs.Put.{Put};
+ghost use Rattle.wire.specs.Put.{Put};
 ghost use Rattle.field_writer.specs.Writer.{messageBytes};
 ghost use Rattle.walk.specs.Gathered.{mostTransports};
 ghost use Rattle.walk.specs.Refusal.{Strings};

@@ -79,39 +79,17 @@ impl Progress {
             ≡ performOf limit self (now (buffer .entry)) b action) ⌝ }
     {
         match action {
-            // The state is made by its fields: one moved whole takes its padding along, through memory.
             Action::Skip => {
                 let phase = self.phase;
-                Advanced {
-                    outcome: StepOutcome::Skipped,
-                    next: Progress {
-                        phase,
-                        sequence: self.sequence,
-                        held: self.held,
-                    },
-                }
+                leave(StepOutcome::Skipped, phase, self.sequence, self.held)
             }
             Action::Begin => Advanced {
                 outcome: StepOutcome::Taken,
                 next: Progress::begun(),
             },
             Action::Restart => refuse(Refusal::StartInside, Progress::begun()),
-            Action::Go(phase) => Advanced {
-                outcome: StepOutcome::Taken,
-                next: Progress {
-                    phase,
-                    sequence: self.sequence,
-                    held: self.held,
-                },
-            },
-            Action::Number => Advanced {
-                outcome: StepOutcome::Taken,
-                next: Progress {
-                    phase: Phase::Body,
-                    sequence: b,
-                    held: self.held,
-                },
-            },
+            Action::Go(phase) => leave(StepOutcome::Taken, phase, self.sequence, self.held),
+            Action::Number => leave(StepOutcome::Taken, Phase::Body, b, self.held),
             Action::Store(x) => self.store(buffer, x),
             Action::Finish => Advanced {
                 outcome: self.end(buffer),
@@ -170,5 +148,20 @@ fn refuse(why: Refusal, next: Progress) -> Advanced
     Advanced {
         outcome: StepOutcome::Refused(why),
         next,
+    }
+}
+
+// The state is made by its fields: one moved whole takes its padding along, through memory.
+fn leave(outcome: StepOutcome, phase: Phase, sequence: u8, held: usize) -> Advanced
+    ensures { λ r. ⌜ r
+        ≡ record { outcome = outcome; next = record { phase = phase; sequence = sequence; held = held } } ⌝ }
+{
+    Advanced {
+        outcome,
+        next: Progress {
+            phase,
+            sequence,
+            held,
+        },
     }
 }

@@ -9,10 +9,10 @@ use native.Mathlib.Omega.{arith}
 use lib.ListN.{length, take, drop, getD, set, take-append-drop, length-set}
 use lib.Seq.{drop-cons, drop-drop, sets}
 use lib.Dec.{eqb, ltb, lit≤}
-use borrow.Author.Tests.{eqb-true, ltb-false, lt-ltb}
+use borrow.Author.Tests.{eqb-true, ltb-false, lt-ltb, not-true}
 use Rattle.wire.specs.Scan.{anyInRange, Clear, Copied}
 use Rattle.wire.proofs.Runs.{out-of-range, any-first, copied-length, part-long, part-none, part-length, part-stored}
-use Rattle.wire.proofs.Tests.{and-left, and-right, not-true}
+use Rattle.wire.proofs.Tests.{and-left, and-right}
 use Rattle.framing.specs.declared.mark.Kind.{Kind}
 use Rattle.framing.specs.declared.mark.Kind.the-variants.{Start, End, Escape, Plain}
 use Rattle.framing.specs.Mark.{startMark, endMark, escapeMark, kindOf, isMark}

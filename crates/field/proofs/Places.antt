@@ -7,6 +7,7 @@ use lib.ListN.{length, getD, set}
 use lib.Dec.{ltb, eqb}
 use borrow.Author.Tests.{ltb-false}
 use Rattle.wire.specs.Told.{Told, given, refused}
+use Rattle.wire.proofs.Tests.{by-cond}
 use Rattle.field.specs.declared.fields.Found.{Found}
 use Rattle.field.specs.declared.tag.FieldHead.{FieldHead}
 use Rattle.field.specs.declared.value.Part.{Part}
@@ -16,36 +17,36 @@ use Rattle.field.specs.Varint.{varintAt}
 use Rattle.field.specs.Tag.{badTag, headOf, tagAt}
 use Rattle.field.specs.Value.{skippedAt, partOf, valueAt, Within, TellsWithin, valueParts, readParts}
 use Rattle.field.specs.Fields.{foundAt, toldFound, standingParts}
-use Rattle.field.proofs.Told.{Sat, sat-cond, sat-then}
+use Rattle.field.proofs.Told.{Sat, sat-then}
 use Rattle.field.proofs.Varints.{Ends, varint-ends}
 
 pub tag-ends : (s : List ℕ) (at : ℕ) → Sat (λ (h : FieldHead). at < h .next) (tagAt s at)
 unfolding tagAt
 tag-ends s at =
     sat-then (Ends at (length s)) (λ (h : FieldHead). at < h .next) (varintAt s at) headOf (varint-ends s at)
-    (λ p e. sat-cond (λ (h : FieldHead). at < h .next) (badTag (p .0 / 8) (p .0 % 8)) (refused 32) _ (λ _. tt) (λ _. e .0))
+    (λ p e. by-cond (Sat (λ (h : FieldHead). at < h .next)) (badTag (p .0 / 8) (p .0 % 8)) (refused 32) _ (λ _. tt) (λ _. e .0))
 
 -- a value ends at or after its place, and its part within the message
 abbrev pub Held : List ℕ → ℕ → Value × ℕ → Type 0
 Held s at q = (at ≤ q .1) × Within s (valueParts (q .0))
 
 skipped-held : (s : List ℕ) (at n : ℕ) → Sat (Held s at) (skippedAt s at n)
-skipped-held s at n = sat-cond (Held s at) (ltb (length s) (at + n)) (refused 30) (given (Skipped, at + n)) (λ _. tt) (λ _. (omega arith, tt))
+skipped-held s at n = by-cond (Sat (Held s at)) (ltb (length s) (at + n)) (refused 30) (given (Skipped, at + n)) (λ _. tt) (λ _. (omega arith, tt))
 
 part-held : (s : List ℕ) (at : ℕ) (p : ℕ × ℕ) → Ends at (length s) p → Sat (Held s at) (partOf s p)
 part-held s at p e =
-    sat-cond (Held s at) (ltb (length s) (p .1 + p .0)) (refused 30) _ (λ _. tt)
+    by-cond (Sat (Held s at)) (ltb (length s) (p .1 + p .0)) (refused 30) _ (λ _. tt)
     (λ t. (omega arith, (ltb-false (length s) (p .1 + p .0) t, tt)))
 
 pub value-held : (s : List ℕ) (at wire : ℕ) → Sat (Held s at) (valueAt s at wire)
 unfolding valueAt
 value-held s at wire =
     let P = Held s at in
-    sat-cond P (eqb wire 0) _ _
+    by-cond (Sat P) (eqb wire 0) _ _
     (λ _. sat-then (Ends at (length s)) P (varintAt s at) (λ p. given (Number (p .0), p .1)) (varint-ends s at) (λ p e. (omega arith, tt)))
-    (λ _. sat-cond P (eqb wire 2) _ _ (λ _. sat-then (Ends at (length s)) P (varintAt s at) (partOf s) (varint-ends s at) (part-held s at))
-    (λ _. sat-cond P (eqb wire 1) _ _ (λ _. skipped-held s at 8)
-    (λ _. sat-cond P (eqb wire 5) _ _ (λ _. skipped-held s at 4) (λ _. tt))))
+    (λ _. by-cond (Sat P) (eqb wire 2) _ _ (λ _. sat-then (Ends at (length s)) P (varintAt s at) (partOf s) (varint-ends s at) (part-held s at))
+    (λ _. by-cond (Sat P) (eqb wire 1) _ _ (λ _. skipped-held s at 8)
+    (λ _. by-cond (Sat P) (eqb wire 5) _ _ (λ _. skipped-held s at 4) (λ _. tt))))
 
 -- whatever is told of a value is told with its part within the message
 pub value-told : (s : List ℕ) (at wire : ℕ) (t : Told (Value × ℕ)) → t ≡ valueAt s at wire

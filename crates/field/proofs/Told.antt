@@ -1,6 +1,5 @@
 -- What holds of all that a reader can give.
-use mathlib.Core.Path.{_≡_, refl, subst}
-use mathlib.Core.Bool.{Bool, true, false, cond}
+use mathlib.Core.Path.{_≡_, subst}
 use Rattle.wire.specs.Told.{ToldOf, given, refused, andThen}
 
 -- P holds of what is given, if anything is
@@ -11,10 +10,6 @@ Sat P (refused e) = Unit {0}
 pub sat-any : {N A : Type 0} (r : ToldOf N A) → Sat (λ (a : A). Unit {0}) r
 sat-any (given a) = tt
 sat-any (refused e) = tt
-
-pub sat-cond : {N A : Type 0} (P : A → Type 0) (t : Bool) (x y : ToldOf N A) → (t ≡ true → Sat P x) → (t ≡ false → Sat P y) → Sat P (cond t x y)
-sat-cond P true x y h k = h refl
-sat-cond P false x y h k = k refl
 
 pub sat-then : {N A B : Type 0} (P : A → Type 0) (Q : B → Type 0) (r : ToldOf N A) (f : A → ToldOf N B) → Sat P r → ((a : A) → P a → Sat Q (f a))
     → Sat Q (andThen r f)

@@ -11,8 +11,9 @@ use lib.Seq.{drop-cons}
 use lib.Dec.{ltb}
 use borrow.Author.Tests.{lt-ltb, le-ltb}
 use Rattle.wire.specs.Told.{Told, given, refused}
+use Rattle.wire.proofs.Tests.{by-cond}
 use Rattle.field.specs.Varint.{more, varintFrom, varintAt}
-use Rattle.field.proofs.Told.{Sat, sat-cond, sat-given}
+use Rattle.field.proofs.Told.{Sat, sat-given}
 
 -- values of which k bytes follow the first are below top k
 abbrev pub top : ℕ → ℕ
@@ -104,9 +105,9 @@ ends-more at last b (refused e) h = tt
 ends-from : (k at last : ℕ) (s : List ℕ) → at + length s ≤ last → Sat (Ends at last) (varintFrom k at s)
 ends-from zero at last [] h = tt
 ends-from (suc k) at last [] h = tt
-ends-from zero at last (b ∷ s) h = sat-cond (Ends at last) (ltb 1 b) (refused 31) (given (b, at + 1)) (λ _. tt) (λ _. omega arith)
+ends-from zero at last (b ∷ s) h = by-cond (Sat (Ends at last)) (ltb 1 b) (refused 31) (given (b, at + 1)) (λ _. tt) (λ _. omega arith)
 ends-from (suc k) at last (b ∷ s) h =
-    sat-cond (Ends at last) (ltb b 128) (given (b, at + 1)) (more b (varintFrom k (at + 1) s))
+    by-cond (Sat (Ends at last)) (ltb b 128) (given (b, at + 1)) (more b (varintFrom k (at + 1) s))
     (λ _. omega arith)
     (λ _. ends-more at last b (varintFrom k (at + 1) s) (ends-from k (at + 1) last s (omega arith)))
 

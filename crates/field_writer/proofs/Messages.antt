@@ -10,7 +10,8 @@ use lib.Seq.{sets, length-sets}
 use lib.Dec.{ltb}
 use borrow.Author.Tests.{lt-ltb, le-ltb, ltb-false}
 use Rattle.wire.specs.Told.{given, refused, Written, written}
-use Rattle.field_writer.specs.Put.{Put}
+use Rattle.wire.specs.Put.{Put}
+use Rattle.wire.proofs.Tests.{or-false}
 use Rattle.field.specs.Tag.{lastField}
 use Rattle.field_writer.specs.Writer.{Field, messageBytes}
 use Rattle.field_writer.specs.declared.message.Room.{Room}
@@ -54,10 +55,6 @@ size-within (Done n) false fields out l e = by-room (decLt (length out) (length 
         omega (arith, ap length k, length-sets out 0 (messageBytes fields))
 
 -- ---- members
-pub or-false : (a b : Bool) → (a || b) ≡ false → (a ≡ false) × (b ≡ false)
-or-false true b e = absurd (let z : _≡_ {A = ℕ} 0 1 = cc in omega arith)
-or-false false b e = (refl, e)
-
 -- the number of a member that is written is a field's
 pub member-above : (field : ℕ) → badMember field ≡ false → 2 ≤ field
 member-above field e = ltb-false field 2 (or-false (ltb field 2) (ltb lastField field) e .0)

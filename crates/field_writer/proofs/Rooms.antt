@@ -5,7 +5,7 @@ use mathlib.Core.List.{List, [], _∷_, _++_, append-assoc}
 use native.Mathlib.Omega.{arith}
 use lib.ListN.{length}
 use borrow.Author.Tests.{lt-ltb, le-ltb}
-use Rattle.field_writer.specs.Put.{Put}
+use Rattle.wire.specs.Put.{Put}
 use Rattle.field_writer.specs.Writer.{Field, nested, headBytes, fieldBytes, messageBytes}
 use Rattle.field_writer.specs.declared.message.Room.{Room}
 use Rattle.field_writer.specs.declared.message.Room.the-variants.{Left, Short}

@@ -10,7 +10,7 @@ use lib.ListN.{length, drop, getD, length-append, length-map, drop-of-length-le}
 use lib.Seq.{sets, drop-cons}
 use borrow.Author.Tests.{eq-eqb, ne-eqb}
 use Rattle.wire.proofs.Stores.{sets-then}
-use Rattle.field_writer.specs.Put.{Put}
+use Rattle.wire.specs.Put.{Put}
 use Rattle.field.specs.Signed.{extended}
 use Rattle.field_writer.specs.Varint.{varintBytes}
 use Rattle.field_writer.specs.Writer.{Field, scalar, text, packed, nested, tagBytes, headBytes, partBytes, varintsBytes, fieldBytes, messageBytes}

@@ -1,4 +1,3 @@
-pub mod Put
 pub mod Varint
 pub mod Writer
 pub mod Message

@@ -10,7 +10,7 @@ ghost use mathlib.Core.Path.{_≡_};
 ghost use mathlib.Core.List.{map};
 ghost use Prim.Native.Nat.{_+_, _*_, _≤_, _<_, _^_};
 ghost use lib.ListN.{length};
-ghost use Rattle.field_writer.specs.Put.{Put};
+ghost use Rattle.wire.specs.Put.{Put};
 ghost use Rattle.field.specs.Signed.{extended};
 ghost use Rattle.field.specs.Tag.{lastField};
 ghost use Rattle.field_writer.specs.Writer.{scalar, text, packed, headBytes, partBytes, varintsBytes, fieldBytes};

@@ -73,11 +73,6 @@ module _ (P : FirmwareComponent → Type 0) where
   each-none h zero = tt
   each-none h (suc n) = (h, each-none h n)
 
-  pub each-take : (n : ℕ) (cs : List FirmwareComponent) → Each P cs → Each P (take n cs)
-  each-take zero cs h = tt
-  each-take (suc n) [] h = tt
-  each-take (suc n) (c ∷ cs) h = (h .0, each-take n cs (h .1))
-
   module _ (s : List ℕ) (reads : (p : Part) → Sat P (componentIn s p)) (none : P noComponent) where
     each-in : (ps : List Part) → Sat (Each P) (componentsIn s ps)
     each-in [] = tt

@@ -9,6 +9,7 @@ use lib.ListN.{length, length-append}
 use lib.Dec.{leb, eqb}
 use borrow.Author.Tests.{le-leb, lt-leb, leb-true, leb-false, ne-eqb}
 use Rattle.wire.specs.Told.{Told, ToldMore, alone, given, refused, andThen}
+use Rattle.wire.proofs.Tests.{by-cond}
 use Rattle.field.specs.declared.tag.FieldHead.{FieldHead}
 use Rattle.field.specs.declared.value.Part.{Part}
 use Rattle.field.specs.declared.value.Value.{Value}
@@ -17,7 +18,7 @@ use Rattle.field.specs.Tag.{tagAt}
 use Rattle.field.specs.Value.{valueAt, Within, valueParts, bytesOf}
 use Rattle.text.specs.WellFormed.{badPlace}
 use Rattle.field.specs.Fields.{Standing, field, end, foundAt}
-use Rattle.field.proofs.Told.{Sat, sat-cond, sat-then, sat-weaken, sat-given}
+use Rattle.field.proofs.Told.{Sat, sat-then, sat-weaken, sat-given}
 use Rattle.field.proofs.Places.{tag-ends, Held, value-held}
 use Rattle.walk.specs.declared.gathered.Gathered.{Gathered}
 use Rattle.known_fields.specs.declared.Schema.the-variants as Schema
@@ -38,7 +39,7 @@ Stands s at end = Unit {0}
 pub found-stands : (s : List ℕ) (at : ℕ) → Sat (Stands s at) (foundAt s at)
 unfolding foundAt
 found-stands s at =
-    sat-cond (Stands s at) (leb (length s) at) (given end) _ (λ _. tt)
+    by-cond (Sat (Stands s at)) (leb (length s) at) (given end) _ (λ _. tt)
     (λ _. sat-then (λ (h : FieldHead). at < h .next) (Stands s at) (tagAt s at) _ (tag-ends s at)
     (λ h l. sat-then (Held s (h .next)) (Stands s at) (valueAt s (h .next) (h .wire)) _ (value-held s (h .next) (h .wire)) (λ v k. (omega arith, k .1))))
 
@@ -88,15 +89,13 @@ Quiet Role.Repeated = ⊥
 Quiet Role.Member = Unit {0}
 Quiet Role.Unknown = Unit {0}
 
-quiet-cond : (b : Bool) (x y : Role) → Quiet x → Quiet y → Quiet (cond b x y)
-quiet-cond true x y h k = h
-quiet-cond false x y h k = k
-
 quiet-field : (f : ℕ) → (f ≡ 3 → ⊥) → Quiet (roleOf Schema.Firmware f)
 unfolding roleOf
 quiet-field f n =
     rw (ne-eqb f 3 n)
-    (quiet-cond (eqb f 1) (Role.Scalar 0) _ tt (quiet-cond (eqb f 2) (Role.Text 0) _ tt (quiet-cond (eqb f 4) (Role.Text 1) _ tt (quiet-cond (eqb f 5) (Role.Text 2) _ tt tt))))
+    (by-cond Quiet (eqb f 1) (Role.Scalar 0) _ (λ _. tt) (λ _.
+    by-cond Quiet (eqb f 2) (Role.Text 0) _ (λ _. tt) (λ _.
+    by-cond Quiet (eqb f 4) (Role.Text 1) _ (λ _. tt) (λ _. by-cond Quiet (eqb f 5) (Role.Text 2) _ (λ _. tt) (λ _. tt)))))
 
 -- what was counted, and where the field ends
 abbrev Counted : ℕ → ℕ → Gathered × ℕ → Type 0
@@ -181,7 +180,7 @@ walk-counts : (s : List ℕ) (fuel at : ℕ) (g : Gathered) → length s ≤ at 
 walk-counts s zero at g h = omega (arith, ap length (parts-end s at (omega arith)))
 walk-counts s (suc fuel) at g h =
     let Q : Gathered → Type 0 = λ x. length (partsFrom s at) + g .count ≡ x .count in
-    sat-cond Q (leb (length s) at) (given g) _ (λ t. omega (arith, ap length (parts-end s at (leb-true (length s) at t))))
+    by-cond (Sat Q) (leb (length s) at) (given g) _ (λ t. omega (arith, ap length (parts-end s at (leb-true (length s) at t))))
     (λ t. by-field (walk-counts s fuel) (fieldAt Schema.Firmware s at g) refl (field-counts s at g (leb-false (length s) at t)))
   where
     by-field : ((at₁ : ℕ) (g₁ : Gathered) → length s ≤ at₁ + fuel → Sat (λ (x : Gathered). length (partsFrom s at₁) + g₁ .count ≡ x .count) (walk (fieldAt Schema.Firmware) fuel s at₁ g₁))

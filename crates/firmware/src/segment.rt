@@ -3,6 +3,7 @@ use field::unsigned::low_unsigned;
 use field::value::Part;
 use known_fields::COMPONENT_OFFSET;
 use known_fields::FIRST;
+use known_fields::NO_FIELD;
 use known_fields::SECOND;
 use known_fields::SEGMENT_SIGNATURE;
 use known_fields::Schema;
@@ -20,8 +21,6 @@ ghost use Rattle.firmware.specs.Segment.{between, isDigit, allDigits, is
 
 // The hexadecimal digits of a signature.
 const SIGNATURE_DIGITS: usize = 64;
-// No field has this number.
-pub const NO_FIELD: u64 = 0;
 
 // Strings are parts of the lent message.
 pub struct UpdateComponentSegment {

@@ -8,6 +8,7 @@ use native.Mathlib.Omega.{arith}
 use lib.ListN.{length, take, replicate, length-take}
 use lib.Seq.{length-take-le}
 use borrow.Author.Tests.{le-ltb}
+use Rattle.wire.specs.Bytes.{bit}
 use Rattle.wire.specs.Told.{given}
 use Rattle.wire.proofs.Stores.{first-bytes}
 use Rattle.field.specs.declared.value.Part.{Part}
@@ -27,7 +28,7 @@ use Rattle.component_writer.specs.Component.{outside, badComponent, componentFi
 use Rattle.firmware.specs.Information.{partsFrom, placed, componentsFrom, firmwareFrom}
 use Rattle.firmware_writer.specs.Information.{present, badComponents, badFirmware, componentsStrings, firmwareStrings, firmwareFields}
 use Rattle.firmware.specs.Apply.{isTrue, firmwareIn, applyOf}
-use Rattle.firmware_writer.specs.Apply.{boolValue, applyFields, applyWritten}
+use Rattle.firmware_writer.specs.Apply.{applyFields, applyWritten}
 use Rattle.field_writer.proofs.Rooms.{message-append}
 use Rattle.firmware.proofs.Parts.{parts-end}
 use Rattle.round_trips.proofs.Values.{At, whole, front, behind}
@@ -156,11 +157,11 @@ module _ (texts : List ℕ) (f : FirmwareInformation) where
         )
 
 -- ---- the message
-bool-trip : (b : Bool) → isTrue (boolValue b) ≡ b
+bool-trip : (b : Bool) → isTrue (bit b) ≡ b
 bool-trip true = refl
 bool-trip false = refl
 
-bool-small : (b : Bool) → boolValue b < 2 ^ 64
+bool-small : (b : Bool) → bit b < 2 ^ 64
 bool-small true = omega arith
 bool-small false = omega arith
 
@@ -169,7 +170,7 @@ apply-read : (texts : List ℕ) (a : ApplyFirmware) (s : List ℕ) → FirmwareT
 unfolding applyOf firmwareIn roleOf judged fieldBytes
 apply-read texts a s t lent there =
     let f = a .«firmware_information» in
-    let v = boolValue (a .«restart_required») in
+    let v = bit (a .«restart_required») in
     let inner = messageBytes (firmwareFields texts f) in
     let b₁ = partBytes firmwareInformationField inner in
     let b₂ = fieldBytes (scalar restartRequiredField v) in

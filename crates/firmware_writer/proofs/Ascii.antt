@@ -5,15 +5,14 @@ use mathlib.Core.Bool.{Bool, true, false}
 use mathlib.Core.List.{List, [], _∷_, _++_}
 use native.Mathlib.Omega.{arith}
 use lib.ListN.{length, getD, take, drop}
-use lib.Dec.{ltb}
-use borrow.Author.Tests.{eq-eqb, ltb-true, leb-false}
-use Rattle.wire.specs.Scan.{inRange, anyInRange}
+use borrow.Author.Tests.{eq-eqb}
+use Rattle.wire.specs.Scan.{anyInRange}
 use Rattle.wire.proofs.Runs.{any-first}
 use Rattle.field.specs.declared.value.Part.{Part}
 use Rattle.field.specs.Value.{bytesOf}
 use Rattle.text.specs.WellFormed.{WellFormed, empty, more, badPlace}
 use Rattle.text.proofs.Sequences.{sequence-described, ascii-sequence}
-use Rattle.text.proofs.Places.{well-formed-whole}
+use Rattle.text.proofs.Places.{not-above, well-formed-whole}
 use Rattle.text_writer.specs.declared.TextFault.the-variants.{None}
 use Rattle.text_writer.specs.Texts.{orText, faultFrom, firstFault}
 use Rattle.known_fields.specs.Schema.{firmwareNameField, localeField, versionNameField, firmwareComponentNameField, firmwareComponentSignatureField}
@@ -33,14 +32,6 @@ ascii-drop : (n : ℕ) (s : List ℕ) → Ascii s → Ascii (drop n s)
 ascii-drop zero s h = h
 ascii-drop (suc n) [] h = h
 ascii-drop (suc n) (b ∷ s) h = ascii-drop n s (ascii-tail b s h)
-
-not-above : (b : ℕ) → b < 256 → inRange 128 255 b ≡ false → b < 128
-unfolding inRange
-not-above b h e = by (ltb b 128) refl
-  where
-    by : (t : Bool) → ltb b 128 ≡ t → b < 128
-    by true k = ltb-true b 128 k
-    by false k = absurd (omega (arith, leb-false b 255 (rw k at e)))
 
 -- a byte of ASCII is a sequence
 ascii-first : (b : ℕ) (s : List ℕ) → b < 128 → WellFormed s → WellFormed (b ∷ s)

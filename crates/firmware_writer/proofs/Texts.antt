@@ -7,10 +7,11 @@ use native.Mathlib.Omega.{arith}
 use lib.ListN.{length}
 use lib.Dec.{ltb}
 use borrow.Author.Tests.{ltb-false}
+use Rattle.wire.specs.Bytes.{bit}
+use Rattle.wire.proofs.Tests.{or-false}
 use Rattle.field.specs.Value.{bytesOf}
 use Rattle.field_writer.specs.Writer.{scalar, text, nested, headBytes, fieldBytes, messageBytes}
 use Rattle.field_writer.proofs.Runs.{message-length, joined-length}
-use Rattle.field_writer.proofs.Messages.{or-false}
 use Rattle.text_writer.specs.declared.TextFault.{TextFault}
 use Rattle.text_writer.specs.Texts.{orText, faultFrom}
 use Rattle.known_fields.specs.Schema.{firmwareVersionField, firmwareNameField, localeField, versionNameField, firmwareInformationField, restartRequiredField}
@@ -19,7 +20,7 @@ use Rattle.firmware.specs.declared.information.FirmwareInformation.{FirmwareInf
 use Rattle.component_writer.specs.Component.{outside, badComponent, componentField}
 use Rattle.firmware_writer.specs.Information.{badComponents, badFirmware, present, firmwareFields}
 use Rattle.firmware.specs.declared.apply.ApplyFirmware.{ApplyFirmware}
-use Rattle.firmware_writer.specs.Apply.{boolValue, applyFields}
+use Rattle.firmware_writer.specs.Apply.{applyFields}
 use Rattle.field_writer.proofs.Rooms.{message-append, nested-length}
 
 pub components-fine : (texts : List ℕ) (c : FirmwareComponent) (cs : List FirmwareComponent) → badComponents texts (c ∷ cs) ≡ false
@@ -66,10 +67,10 @@ firmware-length texts f =
 -- ---- the whole message
 pub apply-length : (texts : List ℕ) (a : ApplyFirmware) → let l = messageBytes (firmwareFields texts (a .«firmware_information»)) in
     length (messageBytes (applyFields texts a))
-    ≡ length (headBytes firmwareInformationField (length l)) + length l + length (fieldBytes (scalar restartRequiredField (boolValue (a .«restart_required»))))
+    ≡ length (headBytes firmwareInformationField (length l)) + length l + length (fieldBytes (scalar restartRequiredField (bit (a .«restart_required»))))
 apply-length texts a =
     let l = messageBytes (firmwareFields texts (a .«firmware_information»)) in
-    let f₂ = scalar restartRequiredField (boolValue (a .«restart_required»)) in
+    let f₂ = scalar restartRequiredField (bit (a .«restart_required»)) in
     omega (arith, message-length (nested firmwareInformationField l) (f₂ ∷ []), message-length f₂ [], nested-length firmwareInformationField l)
 
 -- ---- strings: some, and then others

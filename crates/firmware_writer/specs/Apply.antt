@@ -1,7 +1,7 @@
 -- ApplyFirmware: firmware information, and a bool, written.
 use Prim.Native.Nat.{ℕ}
-use mathlib.Core.Bool.{Bool, cond}
 use mathlib.Core.List.{List, [], _∷_}
+use Rattle.wire.specs.Bytes.{bit}
 use Rattle.wire.specs.Told.{WrittenOf}
 use Rattle.field_writer.specs.Writer.{Field, scalar, nested, messageBytes}
 use Rattle.known_fields.specs.declared.Schema.the-variants as Schema
@@ -10,15 +10,11 @@ use Rattle.text_writer.specs.Texts.{writesTexts}
 use Rattle.firmware.specs.declared.apply.ApplyFirmware.{ApplyFirmware}
 use Rattle.firmware_writer.specs.Information.{badFirmware, firmwareStrings, firmwareFields}
 
--- the varint's value of a bool
-abbrev pub boolValue : Bool → ℕ
-boolValue b = cond b 1 0
-
 -- the fields, of parts of the lent texts: firmware information is written also where it is empty
 abbrev pub applyFields : List ℕ → ApplyFirmware → List Field
 applyFields texts a =
     nested firmwareInformationField (messageBytes (firmwareFields texts (a .«firmware_information»)))
-    ∷ scalar restartRequiredField (boolValue (a .«restart_required»)) ∷ []
+    ∷ scalar restartRequiredField (bit (a .«restart_required»)) ∷ []
 
 -- the message written
 unfoldable pub applyWritten : ApplyFirmware → List ℕ → List ℕ → WrittenOf (ℕ × List ℕ) ℕ

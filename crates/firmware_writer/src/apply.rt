@@ -15,21 +15,15 @@ use known_fields::FIRMWARE_INFORMATION;
 use known_fields::RESTART_REQUIRED;
 use text_writer::TextFault;
 use text_writer::TextWrote;
+use wire::bytes::bit64;
 ghost use mathlib.Core.Path.{_≡_};
 ghost use mathlib.Core.Bool.{false};
 ghost use Prim.Native.Nat.{_+_};
 ghost use Rattle.wire.specs.Told.{written};
 ghost use Rattle.field_writer.specs.Message.{writesMessage, toldWrote};
 ghost use Rattle.text_writer.specs.Texts.{toldTextWrote};
-ghost use Rattle.firmware_writer.specs.Apply.{boolValue, applyFields, applyWritten};
+ghost use Rattle.firmware_writer.specs.Apply.{applyFields, applyWritten};
 ghost use Rattle.firmware_writer.specs.Information.{badFirmware};
-
-// The varint's value of a bool.
-fn bool_value(b: bool) -> u64
-    ensures { λ r. ⌜ r ≡ boolValue b ⌝ }
-{
-    if b { 1 } else { 0 }
-}
 
 // ApplyFirmware whatever its strings are. That its parts lie within the texts was judged before.
 fn fill_apply(out: &mut [u8], apply: ApplyFirmware, texts: &[u8]) -> Wrote
@@ -39,7 +33,7 @@ fn fill_apply(out: &mut [u8], apply: ApplyFirmware, texts: &[u8]) -> Wrote
         (applyFields (now (texts .entry)) apply) (now (out .entry)) ⌝ }
 {
     let information = apply.firmware_information;
-    let restart = bool_value(apply.restart_required);
+    let restart = bit64(apply.restart_required);
     let room = out.len();
     match firmware_room(room, texts, information) {
         Room::Short => Wrote::Refused(WriteRefusal::NoRoom),

@@ -16,6 +16,8 @@ use known_fields::FIRMWARE_NAME;
 use known_fields::FIRMWARE_VERSION;
 use known_fields::LOCALE;
 use known_fields::VERSION_NAME;
+use text::check::FIRST_ABOVE;
+use text::check::LAST_ABOVE;
 use text_writer::TextFault;
 use walk::gathered::MOST_REPEATED;
 use wire::scan::clear_run;
@@ -25,7 +27,7 @@ ghost use mathlib.Core.List.{map};
 ghost use Prim.Native.Nat.{_+_, _≤_};
 ghost use lib.ListN.{length, take};
 ghost use Rattle.wire.specs.Scan.{anyInRange};
-ghost use Rattle.field_writer.specs.Put.{Put};
+ghost use Rattle.wire.specs.Put.{Put};
 ghost use Rattle.field_writer.specs.Writer.{messageBytes};
 ghost use Rattle.walk.specs.Gathered.{mostRepeated};
 ghost use Rattle.field_writer.specs.Message.{lessRoom};
@@ -33,10 +35,6 @@ ghost use Rattle.component_writer.specs.Component.{componentField};
 ghost use Rattle.firmware_writer.specs.Information.{badComponents, badFirmware, componentsStrings, firmwareStrings, firmwareFields};
 ghost use Rattle.text_writer.specs.Texts.{faultFrom, firstFault};
 
-// The bytes above ASCII.
-const FIRST_ABOVE: u8 = 0x80;
-
-const LAST_ABOVE: u8 = 0xFF;
 // The most bytes of texts that are looked through at once.
 const MOST_LOOKED_THROUGH: usize = 1024;
 

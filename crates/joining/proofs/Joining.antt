@@ -8,16 +8,17 @@ use lib.ListN.{length, take, drop, length-append, length-drop}
 use lib.Seq.{sets, sets-eq, length-sets, drop-drop, take-at, take-all, length-take-le}
 use lib.Dec.{eqb}
 use borrow.Author.Tests.{eq-eqb, ne-eqb, eqb-true, eqb-false}
+use Rattle.wire.specs.Put.{Put}
 use Rattle.wire.proofs.Stores.{sets-then, drop-sets}
 use Rattle.wire.proofs.Parts.{length-part}
 use Rattle.packet.specs.Header.{headerSize}
 use Rattle.sender.specs.declared.piece.Piece.{Piece}
 use Rattle.sender.specs.declared.writer.Sending.{Sending}
-use Rattle.sender.specs.Piece.{leastRoom, extended, isFirst, sizeFor, piecesOf}
+use Rattle.sender.specs.Piece.{leastRoom, extended, isFirst, sizeFor, piecesOf, pieceFor}
 use Rattle.sender.specs.Writer.{headerBytes, packetOf}
 use Rattle.sender.proofs.Packets.{header-length, packet-length, header-some}
-use Rattle.joining.specs.Joined.{concat, joinedOf, sizes, Places, Placed, messageIn, JoinsExactly}
-use Rattle.joining.proofs.Pieces.{restFrom, pieceFor, rest-whole, size-low, size-one, pieces-last, pieces-more, some-left, sizes-rest}
+use Rattle.joining.specs.Joined.{concat, joinedOf, sizes, Places, messageIn, JoinsExactly}
+use Rattle.joining.proofs.Pieces.{restFrom, rest-whole, size-low, size-one, pieces-last, pieces-more, some-left, sizes-rest}
 
 -- ---- stores, and what stands before and after them
 
@@ -34,7 +35,7 @@ pub placed : (w : Sending) (total : ℕ) (p : Piece) (last : Bool) (out out₁ o
     → out₁ ≡ sets out (at + 0) (headerBytes w total p last)
     → out₂ ≡ sets out₁ (at + h) (take (p .size) (drop from out₁))
     → r ≡ at + h + p .size
-    → Placed out at (headerBytes w total p last ++ take (p .size) (drop from out)) r out₂
+    → Put out at (headerBytes w total p last ++ take (p .size) (drop from out)) r out₂
 placed w total p last out out₁ out₂ at from h r f eh e₁ e₂ er =
     let header : List ℕ = headerBytes w total p last in
     let hl = header-length w total p last in
@@ -101,7 +102,7 @@ module _ (w : Sending) (m : List ℕ) (total end : ℕ) (enough : leastRoom ≤ 
     packet-fits = fits-by (eqb n (total - place)) refl
 
     module _ (out′ : List ℕ) (at′ : ℕ)
-        (put : Placed out at (headerBytes w total p (eqb n (total - place)) ++ take n (drop (end - (total - place)) out)) at′ out′) where
+        (put : Put out at (headerBytes w total p (eqb n (total - place)) ++ take n (drop (end - (total - place)) out)) at′ out′) where
       is-packet : headerBytes w total p (eqb n (total - place)) ++ take n (drop (end - (total - place)) out) ≡ packetOf w m p
       unfolding packetOf
       is-packet = rw (g .rest, len, last-by place n total total (eqb n (total - place)) refl (g .low) refl)

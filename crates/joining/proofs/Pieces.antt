@@ -10,7 +10,7 @@ use lib.Dec.{eqb}
 use borrow.Author.Tests.{eq-eqb, ne-eqb, eqb-true, eqb-false}
 use Rattle.sender.specs.declared.piece.Piece.{Piece}
 use Rattle.sender.specs.declared.writer.Sending.{Sending}
-use Rattle.sender.specs.Piece.{leastRoom, isFirst, sizeFor, piecesFrom, piecesOf}
+use Rattle.sender.specs.Piece.{leastRoom, isFirst, sizeFor, piecesFrom, piecesOf, pieceFor}
 use Rattle.sender.specs.Writer.{packetOf}
 use Rattle.sender.proofs.Largest.{size-le, size-some}
 use Rattle.sender.proofs.Packets.{packet-length}
@@ -18,9 +18,6 @@ use Rattle.joining.specs.Joined.{concat, joinedOf, sizes}
 
 abbrev pub restFrom : ℕ → ℕ → ℕ → ℕ → List Piece
 restFrom room total index place = piecesFrom (suc (total - index)) room index place (total - place)
-
-abbrev pub pieceFor : ℕ → ℕ → ℕ → Piece
-pieceFor index place n = record { index = index; place = place; size = n }
 
 pub rest-whole : (room total : ℕ) → restFrom room total 0 0 ≡ piecesOf room total
 rest-whole room total = let z : total - 0 ≡ total = omega arith in rw z

@@ -58,11 +58,6 @@ pub record Places (w : Sending) (total space at : ℕ) (p : Piece) (from : ℕ) 
   pub earlier : at + headerSize (isFirst (p .index)) (extended (p .size)) ≤ from
   pub within : from + p .size ≤ space
 
--- the bytes were put at a place: the place after them, and the output afterwards
-pub record Placed (before : List ℕ) (at : ℕ) (bytes : List ℕ) (next : ℕ) (after : List ℕ) : Type 0 where
-  pub place : next ≡ at + length bytes
-  pub stored : after ≡ sets before at bytes
-
 -- a message can be joined: the output is exactly as long as its packets
 pub record JoinsExactly (w : Sending) (total : ℕ) (out : List ℕ) : Type 0 where
   pub low-stream : w .stream < fourBits

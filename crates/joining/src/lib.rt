@@ -14,9 +14,13 @@ ghost use mathlib.Core.List.{_++_};
 ghost use Prim.Native.Nat.{_+_, _≤_, _<_};
 ghost use lib.ListN.{length, take, drop};
 ghost use lib.Seq.{sets};
+ghost use Rattle.wire.specs.Put.{Put};
 ghost use Rattle.sender.specs.Piece.{leastRoom, isFirst, sizeFor, piecesOf};
 ghost use Rattle.sender.specs.Writer.{headerBytes};
-ghost use Rattle.joining.specs.Joined.{joinedOf, sizes, countable, joinedLength, Places, Placed, messageIn, JoinsExactly, isExact, joinedOver};
+ghost use Rattle.joining.specs.Joined.{joinedOf, sizes, countable, joinedLength, Places, messageIn, JoinsExactly, isExact, joinedOver};
+
+// How many totals there are: two bytes each.
+const TOTALS: usize = 65536;
 
 // Moves n bytes to an earlier place.
 fn move_down(out: &mut [u8], to: usize, from: usize, n: usize)
@@ -50,7 +54,7 @@ fn put_packet(
     from: usize,
 ) -> usize
     requires { ⌜ Places how total (length (now out)) at piece from ⌝ }
-    ensures { λ r. ⌜ Placed (now (out .entry)) at
+    ensures { λ r. ⌜ Put (now (out .entry)) at
         (headerBytes how total piece last ++ take (piece .size) (drop from (now (out .entry)))) r (now (out .exit)) ⌝ }
 {
     let end = out.len();
@@ -86,7 +90,7 @@ fn count_bytes(room: usize, total: usize) -> usize
 fn countable(room: usize, total: usize) -> bool
     ensures { λ r. ⌜ r ≡ countable room total ⌝ }
 {
-    both(LEAST_ROOM <= room, total < 65536)
+    both(LEAST_ROOM <= room, total < TOTALS)
 }
 
 // The length of all packets of a message together; 0 where it has none.

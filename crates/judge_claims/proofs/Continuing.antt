@@ -9,7 +9,7 @@ use lib.ListN.{length, take, drop, replicate, length-take, length-replicate}
 use lib.Dec.{eqb, leb}
 use borrow.Author.Tests.{leb-true, eqb-true, eqb-false, ltb-false}
 use Rattle.wire.specs.Told.{Told, given, refused}
-use Rattle.wire.specs.Bytes.{AllBytes}
+use Rattle.wire.specs.Bytes.{AllBytes, bit}
 use Rattle.captures.specs.Capture.{Packets}
 use Rattle.wire.specs.declared.stream.Stream.{Stream}
 use Rattle.wire.specs.declared.stream.Stream.the-variants.{Control, Ota, Alexa}
@@ -20,7 +20,7 @@ use Rattle.wire.proofs.Tests.{and-right}
 use Rattle.packet.specs.declared.reader.Head.{Head}
 use Rattle.packet.specs.declared.reader.Packet.{Packet}
 use Rattle.packet.specs.declared.reader.Packet.the-variants.{First, Next, Ack, Nack}
-use Rattle.packet.specs.Header.{fourBits, typeContinuation, typeLast, bit, firstByte, secondByte, sequenceAfter}
+use Rattle.packet.specs.Header.{fourBits, typeContinuation, typeLast, firstByte, secondByte, sequenceAfter}
 use Rattle.packet.specs.Reader.{headIn, readOf}
 use Rattle.packet.proofs.Headers.{bit-low}
 use Rattle.packet.proofs.Reading.{lengthIn, LinesPass, read-passes}
@@ -206,7 +206,7 @@ module _ (room limit : ℕ) (fits : InRange room limit) where
     pub more-bytes : Packets more
     pub runs : runOf room limit t more ≡ some idle
 
-  packets-append : (ps qs : List (List ℕ)) → Packets ps → Packets qs → Packets (ps ++ qs)
+  pub packets-append : (ps qs : List (List ℕ)) → Packets ps → Packets qs → Packets (ps ++ qs)
   packets-append [] qs a b = b
   packets-append (p ∷ ps) qs a b = (a .0, packets-append ps qs (a .1) b)
 
@@ -228,6 +228,3 @@ module _ (room limit : ℕ) (fits : InRange room limit) where
   -- what the judge takes can be made lawful
   pub taken-ends : (ps : List (List ℕ)) (t : State) → runOf room limit idle ps ≡ some t → Ends t
   taken-ends ps t e = ends t (run-good room limit ps t idle idle-good e)
-
-  pub packets-both : (ps qs : List (List ℕ)) → Packets ps → Packets qs → Packets (ps ++ qs)
-  packets-both = packets-append

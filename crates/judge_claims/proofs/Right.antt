@@ -18,7 +18,7 @@ use Rattle.judge.specs.Capture.{Answer, lawful, open·ended, unlawful}
 use Rattle.judge_claims.specs.Lawful.{LawfulPackets, Viable}
 use Rattle.judge_claims.proofs.Rest.{InRange, never-some}
 use Rattle.judge_claims.proofs.Runs.{runOf, lawful-runs, runs-lawful}
-use Rattle.judge_claims.proofs.Continuing.{run-append, Ends, taken-ends, packets-both}
+use Rattle.judge_claims.proofs.Continuing.{run-append, Ends, taken-ends, packets-append}
 
 -- ---- the answer, with the index of a packet in the place of its place
 
@@ -129,7 +129,7 @@ module _ (room limit : ℕ) (fits : InRange room limit) where
         more = h .more;
         more-bytes = h .more-bytes;
         lawful-then =
-            runs-lawful room limit fits (ps ++ h .more) (packets-both room limit fits ps (h .more) bytes (h .more-bytes))
+            runs-lawful room limit fits (ps ++ h .more) (packets-append room limit fits ps (h .more) bytes (h .more-bytes))
             (run-append room limit fits ps (h .more) idle ∙ rw e (h .runs));
       }
 

@@ -16,7 +16,7 @@ use Rattle.wire.specs.declared.stream.Stream.{Stream}
 use Rattle.wire.specs.declared.stream.Stream.the-variants.{Control, Ota, Alexa}
 use Rattle.wire.specs.Stream.{streamNumber, isStream, streamOf}
 use Rattle.wire.proofs.Streams.{number-back}
-use Rattle.wire.proofs.Tests.{and-left, and-right}
+use Rattle.wire.proofs.Tests.{and-left, and-right, or-true}
 use Rattle.packet.specs.declared.reader.Head.{Head}
 use Rattle.packet.specs.declared.reader.Packet.{Packet}
 use Rattle.packet.specs.declared.reader.Packet.the-variants.{First, Next, Ack, Nack}
@@ -174,14 +174,10 @@ module _ (room limit : ℕ) (low : leastRoom ≤ room) (tails : Tails) where
 
 -- ---- sound: what is taken is lawful
 
-or-right : (a b : Bool) → b ≡ true → (a || b) ≡ true
-or-right true b e = refl
-or-right false b e = e
-
 known-of : (limit : ℕ) (p : List ℕ) (s : Stream) → carries limit s p ≡ true → known limit p ≡ true
-known-of limit p Control e = or-right (isAck limit p) _ (rw e)
-known-of limit p Ota e = or-right (isAck limit p) _ (or-right (carries limit Control p) _ (rw e))
-known-of limit p Alexa e = or-right (isAck limit p) _ (or-right (carries limit Control p) _ (or-right (carries limit Ota p) _ e))
+known-of limit p Control e = or-true (isAck limit p) _ (rw e)
+known-of limit p Ota e = or-true (isAck limit p) _ (or-true (carries limit Control p) _ (rw e))
+known-of limit p Alexa e = or-true (isAck limit p) _ (or-true (carries limit Control p) _ (or-true (carries limit Ota p) _ e))
 
 piece-of : (limit : ℕ) (p : List ℕ) (x : Packet) → readOf limit p ≡ given x → isOf (streamNumber (headIn x .stream)) p ≡ true
 piece-of limit [] x e = let z : _≡_ {A = ℕ} 0 1 = cc (empty-refused limit) in absurd (omega arith)

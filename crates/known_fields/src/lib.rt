@@ -4,6 +4,9 @@ use field::tag::VARINT;
 ghost use mathlib.Core.Path.{_≡_};
 ghost use Rattle.known_fields.specs.Schema.{roleOf, fitsRole, isMember, isRepeated};
 
+// No field has this number.
+pub const NO_FIELD: u64 = 0;
+
 // The fields of an envelope and of a response.
 pub const COMMAND: u64 = 1;
 

@@ -1,4 +1,5 @@
 // A packet given to a link whose slots are lent as a row. All rules stand below; these functions only walk the row.
+use receiver::Receiver;
 use receiver::SLOT_COUNT;
 use receiver::decide;
 use slot::Slot;
@@ -80,10 +81,10 @@ pub fn save(row: &mut [Slot], slots: [Slot; 12])
     }
 }
 
-// The answer to one packet, for a link with a limit. A finished message stands first in its slot's part of the buffer, and the ACK that
+// The answer to one packet. A finished message stands first in its slot's part of the buffer, and the ACK that
 // it wants, with the caller's sequence, first in the answer buffer. One slot of the row changes at most.
 pub fn accept(
-    limit: usize,
+    link: Receiver,
     row: &mut [Slot],
     buffer: &mut [u8],
     packet: &[u8],
@@ -91,11 +92,11 @@ pub fn accept(
     out: &mut [u8],
 ) -> Answer
     ensures { λ r. ⌜ left (told r) (now (row .exit)) (now (buffer .exit)) (now (out .exit))
-        ≡ acceptOf limit (now (row .entry)) (now (buffer .entry)) (call (now (packet .entry)) sequence (now (out .entry))) ⌝ }
+        ≡ acceptOf (link .limit) (now (row .entry)) (now (buffer .entry)) (call (now (packet .entry)) sequence (now (out .entry))) ⌝ }
 {
     let count = row.len();
     let slots = load(&*row);
-    let done = decide(count, slots, limit, buffer, packet, sequence, out);
+    let done = decide(count, slots, link.limit, buffer, packet, sequence, out);
     set_slot(row, done.place, done.slot);
     done.answer
 }

@@ -7,15 +7,11 @@ use Rattle.outbox.specs.declared.format.Format.{Format}
 use Rattle.outbox.specs.Format.{versionOne, Known, one, two, formatOf}
 use Rattle.outbox.specs.Reader.{given, readAll, walkOf}
 use Rattle.outbox.proofs.Walk.{whole-version}
-use Rattle.outbox.proofs.Versions.{format-known}
+use Rattle.outbox.proofs.Versions.{known-small, format-known}
 use Rattle.outbox_claims.specs.Claims.{Entry}
 use Rattle.outbox_claims.proofs.Run.{RecordRun, all-run}
 use Rattle.moving_claims.specs.Claims.{recordsOf, AllShort, MovableWhen}
 use Rattle.moving_claims.proofs.Rebuilt.{own-short, not-over}
-
-longest : (fmt : Format) → Known fmt → fmt .limit ≤ 65535
-longest fmt one = omega arith
-longest fmt two = omega arith
 
 pub short-more : (least most : ℕ) → least ≤ most → (es : List Entry) → AllShort least es → AllShort most es
 short-more least most h [] s = tt
@@ -32,7 +28,7 @@ pub movable-when : MovableWhen
 movable-when =
     record {
       to-two = λ file b w.
-          record { bytes = b; whole = w; short = short-more (formatOf file .limit) 65535 (longest (formatOf file) (format-known file)) (recordsOf file) (own file w) };
+          record { bytes = b; whole = w; short = short-more (formatOf file .limit) 65535 (known-small (formatOf file) (format-known file) .2) (recordsOf file) (own file w) };
       one-stays = λ file b w v.
           record { bytes = b; whole = w; short = short-more (formatOf file .limit) 4096 (omega (arith, ap (λ (f : Format). f .limit) v)) (recordsOf file) (own file w) };
       to-one = λ file b w o. record { bytes = b; whole = w; short = not-over 4096 (formatOf file) file (run file w) o };

@@ -1,10 +1,9 @@
 // What our writer would write next on a stream, by what is open there: what a packet that is not lawful is held to.
-use packet::header;
 use sender::piece;
 use sender::writer::room_fits;
+use sender::writer::type_for;
 use sender_slot::SenderSlot;
 ghost use mathlib.Core.Path.{_≡_};
-ghost use Rattle.sender.specs.Writer.{typeFor};
 ghost use Rattle.next_packet.specs.NextPacket.{nextBy, nextOf};
 ghost use Rattle.next_packet.specs.Expected.{ExpectedIsTaken};
 
@@ -17,19 +16,6 @@ pub struct NextPacket {
     pub len: usize,
     pub extended: bool,
     pub last: bool,
-}
-
-fn type_for(first: bool, last: bool) -> u8
-    ensures { λ r. ⌜ r ≡ typeFor first last ⌝ }
-{
-    if first {
-        return header::TYPE_FIRST;
-    }
-    if last {
-        header::TYPE_LAST
-    } else {
-        header::TYPE_CONTINUATION
-    }
 }
 
 fn next_by(opened: bool, id: u8, sequence: u8, left: usize, len: usize) -> NextPacket

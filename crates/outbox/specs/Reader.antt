@@ -7,11 +7,11 @@ use lib.ListN.{length, getD, take, drop}
 use Rattle.wire.specs.Told.{line, table}
 use Rattle.wire.specs.Stream.{isStream}
 use Rattle.outbox.specs.Format.{Format, numberOf, headSize, firstPlace}
-use Rattle.outbox.specs.declared.reader.Fault.{Fault}
-use Rattle.outbox.specs.declared.reader.Fault.the-variants.{Version, Length, Cut, Stream}
+use Rattle.outbox.specs.declared.verdict.Fault.{Fault}
+use Rattle.outbox.specs.declared.verdict.Fault.the-variants.{Version, Length, Cut, Stream}
 use Rattle.outbox.specs.declared.judging.Judged.{Judged}
 use Rattle.outbox.specs.declared.reader.Reading.{Reading}
-use Rattle.outbox.specs.declared.reader.Walked.{Walked}
+use Rattle.outbox.specs.declared.verdict.Walked.{Walked}
 
 -- a record at a place: its stream, where its payload starts and how long that is, the next record's place
 pub record FoundRecord : Type 0 where

@@ -1,8 +1,8 @@
 // The record at the front of some bytes, and record after record. Where a file's version is known.
 use crate::format::FIRST_PLACE;
 use crate::format::Format;
-use crate::reader::Fault;
-use crate::reader::Walked;
+use crate::verdict::Fault;
+use crate::verdict::Walked;
 use wire::bytes::pair;
 use wire::logic::either;
 use wire::stream::is_stream;

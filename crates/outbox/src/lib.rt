@@ -2,4 +2,5 @@
 pub mod format;
 mod judging;
 pub mod reader;
+pub mod verdict;
 pub mod writer;

@@ -5,33 +5,13 @@ use crate::format::other_version;
 use crate::judging::Judged;
 use crate::judging::judge;
 use crate::judging::walk_records;
+use crate::verdict::Fault;
+use crate::verdict::Walked;
 use wire::logic::either;
 ghost use mathlib.Core.Path.{_≡_};
 ghost use Rattle.outbox.specs.Format.{Known, formatOf};
 ghost use Rattle.outbox.specs.Reader.{badPlace, readOf, walkOf};
-ghost use Rattle.outbox.specs.Reader.{faultNumber, numberIn, told, toldWalk};
-
-// What is wrong with an outbox's bytes.
-pub enum Fault {
-    Version,
-    Length,
-    Cut,
-    Stream,
-}
-
-impl Fault {
-    // The refusal number of docs/FORMATS.md.
-    pub fn number(self) -> u8
-        ensures { λ r. ⌜ r ≡ faultNumber self ⌝ }
-    {
-        match self {
-            Fault::Version => 40,
-            Fault::Length => 42,
-            Fault::Cut => 41,
-            Fault::Stream => 43,
-        }
-    }
-}
+ghost use Rattle.outbox.specs.Reader.{numberIn, told, toldWalk};
 
 // What stands at a place: a record (its stream, where its payload starts and how long that is, the next place), the end
 // of the outbox, a place that is none, or what is wrong and where.
@@ -65,24 +45,6 @@ impl Reading {
             Reading::End => 0,
             Reading::BadPlace => 15,
             Reading::Broken { fault, place: _ } => fault.number(),
-        }
-    }
-}
-
-// Whether all of an outbox is whole, or what is wrong first and where.
-pub enum Walked {
-    Whole,
-    Broken { fault: Fault, place: usize },
-}
-
-impl Walked {
-    // The refusal number, or 0 where nothing is refused.
-    pub fn number(self) -> u8
-        ensures { λ r. ⌜ r ≡ numberIn (toldWalk self) ⌝ }
-    {
-        match self {
-            Walked::Whole => 0,
-            Walked::Broken { fault, place: _ } => fault.number(),
         }
     }
 }

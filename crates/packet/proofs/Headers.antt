@@ -6,10 +6,11 @@ use mathlib.Core.Logic.{_⊎_}
 use mathlib.Core.Bool.{Bool, true, false}
 use lib.Dec.{ltb, eqb}
 use borrow.Author.Tests.{lt-ltb, ltb-true}
+use Rattle.wire.specs.Bytes.{bit}
 use Rattle.wire.specs.Stream.{isStream}
 use Rattle.wire.proofs.Tests.{and-left, and-right}
 use Rattle.wire.proofs.Streams.{known-stream, stream-low}
-use Rattle.packet.specs.Header.{inRange, bit, firstByte, secondByte, streamBits, idBits, sequenceBits, typeBits, ackBit, extenderBit}
+use Rattle.packet.specs.Header.{inRange, firstByte, secondByte, streamBits, idBits, sequenceBits, typeBits, ackBit, extenderBit}
 
 -- numbers in their ranges fit their bits
 pub in-range-low : (stream id sequence : ℕ) → inRange stream id sequence ≡ true → (stream < 16) × (id < 16) × (sequence < 16)
@@ -44,18 +45,18 @@ bit-back : (b : Bool) → eqb (bit b) 1 ≡ b
 bit-back true = refl
 bit-back false = refl
 
-module _ (sequence kind : ℕ) (ack extended : Bool) (ls : sequence < 16) (lk : kind < 4) where
+module _ (sequence kind : ℕ) (ack extended : Bool) where
   la : bit ack < 2
   la = bit-low ack
 
   le : bit extended < 2
   le = bit-low extended
 
-  pub sequence-back : sequenceBits (secondByte sequence kind ack extended) ≡ sequence
-  sequence-back = omega (arith, la, le)
+  pub sequence-back : sequence < 16 → kind < 4 → sequenceBits (secondByte sequence kind ack extended) ≡ sequence
+  sequence-back ls lk = omega (arith, la, le)
 
-  pub type-back : typeBits (secondByte sequence kind ack extended) ≡ kind
-  type-back = omega (arith, la, le)
+  pub type-back : kind < 4 → typeBits (secondByte sequence kind ack extended) ≡ kind
+  type-back lk = omega (arith, la, le)
 
   pub ack-back : ackBit (secondByte sequence kind ack extended) ≡ ack
   ack-back =

@@ -229,9 +229,9 @@ fields-back stream id sequence kind ack extended rest li ls lk =
       stream-back stream id li,
       id-back stream id li,
       sequence-back sequence kind ack extended ls lk,
-      type-back sequence kind ack extended ls lk,
-      ack-back sequence kind ack extended ls lk,
-      extender-back sequence kind ack extended ls lk,
+      type-back sequence kind ack extended lk,
+      ack-back sequence kind ack extended,
+      extender-back sequence kind ack extended,
     )
 
 -- the payload length as a writer puts it: one byte, or two with the extender

@@ -10,7 +10,7 @@ use lib.Seq.{drop-cons}
 use lib.Dec.{eqb, ltb}
 use borrow.Author.Tests.{eqb-true, eqb-false, ltb-false, not-false}
 use Rattle.wire.specs.Told.{given, refused}
-use Rattle.wire.specs.Bytes.{AllBytes, pairOf}
+use Rattle.wire.specs.Bytes.{AllBytes, pairOf, bit}
 use Rattle.wire.specs.Stream.{streamNumber, isStream, streamOf}
 use Rattle.wire.proofs.ByteLists.{byte-low}
 use Rattle.wire.proofs.Streams.{number-back}
@@ -18,7 +18,7 @@ use Rattle.wire.proofs.Tables.{by-table}
 use Rattle.packet.specs.declared.reader.Head.{Head}
 use Rattle.packet.specs.declared.reader.Packet.{Packet}
 use Rattle.packet.specs.declared.reader.Packet.the-variants.{First, Next, Ack, Nack}
-use Rattle.packet.specs.Header.{reservedByte, typeFirst, typeContinuation, typeLast, typeControl, bit, headerSize, lengthPlace, firstByte, secondByte, streamBits, idBits, sequenceBits, typeBits, ackBit, extenderBit}
+use Rattle.packet.specs.Header.{reservedByte, typeFirst, typeContinuation, typeLast, typeControl, headerSize, lengthPlace, firstByte, secondByte, streamBits, idBits, sequenceBits, typeBits, ackBit, extenderBit}
 use Rattle.packet.specs.Reader.{fieldsOf, isFirst, isControl, contentOf, lengthAt, lines, readOf}
 use Rattle.packet.proofs.Reading.{lengthIn, IfGiven}
 

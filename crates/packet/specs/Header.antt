@@ -3,6 +3,7 @@ use Prim.Native.Nat.{ℕ, _+_, _-_, _*_, _/_, _%_}
 use mathlib.Core.List.{List, [], _∷_}
 use mathlib.Core.Bool.{Bool, false, cond, _&&_}
 use lib.Dec.{ltb, eqb}
+use Rattle.wire.specs.Bytes.{bit}
 use Rattle.wire.specs.Stream.{isStream}
 
 -- how many ids there are, and sequences: four bits each
@@ -43,10 +44,6 @@ leastHeader first = cond first firstHeader nextHeader
 -- where the payload length stands: right before the payload
 abbrev pub lengthPlace : Bool → ℕ
 lengthPlace first = leastHeader first - 1
-
--- a flag as a bit
-abbrev pub bit : Bool → ℕ
-bit b = cond b 1 0
 
 -- the whole header: the extender gives the payload length one byte more
 abbrev pub headerSize : Bool → Bool → ℕ

@@ -1,10 +1,12 @@
 // The layout of a packet's header, for the reader and the writers.
+use wire::bytes::bit;
 use wire::bytes::wide;
 use wire::logic::both;
 use wire::stream::is_stream;
 ghost use mathlib.Core.Path.{_≡_};
-ghost use Prim.Native.Nat.{_<_};
-ghost use Rattle.packet.specs.Header.{inRange, leastHeader, lengthPlace, headerSize, bit, firstByte, secondByte, streamBits, idBits, sequenceBits, typeBits, ackBit, extenderBit, sequenceAfter};
+ghost use Prim.Native.Nat.{_%_, _<_};
+ghost use lib.Dec.{eqb};
+ghost use Rattle.packet.specs.Header.{inRange, leastHeader, lengthPlace, headerSize, firstByte, secondByte, streamBits, idBits, sequenceBits, typeBits, ackBit, extenderBit, sequenceAfter};
 
 // How many ids there are, and sequences: four bits each.
 pub const FOUR_BITS: u8 = 16;
@@ -50,13 +52,6 @@ pub fn length_place(first: bool) -> usize
     least_header(first) - 1
 }
 
-// A flag as a bit.
-pub fn bit(b: bool) -> u8
-    ensures { λ r. ⌜ (r ≡ bit b) × (r < 2) ⌝ }
-{
-    if b { 1 } else { 0 }
-}
-
 // The whole header: the extender gives the payload length one byte more.
 pub fn header_size(first: bool, extended: bool) -> usize
     ensures { λ r. ⌜ (r ≡ headerSize first extended) × (r < 8) ⌝ }
@@ -84,44 +79,54 @@ pub fn second_byte(sequence: u8, kind: u8, ack: bool, extended: bool) -> u8
 pub fn stream_bits(first: u8) -> u8
     ensures { λ r. ⌜ r ≡ streamBits first ⌝ }
 {
-    first / FOUR_BITS
+    first >> 4
 }
 
 pub fn id_bits(first: u8) -> u8
     ensures { λ r. ⌜ r ≡ idBits first ⌝ }
 {
-    first % FOUR_BITS
+    let high = first >> 4;
+    first - high * FOUR_BITS
+}
+
+fn is_odd(n: u8) -> bool
+    ensures { λ r. ⌜ r ≡ eqb (n % 2) 1 ⌝ }
+{
+    let half = n >> 1;
+    n - half * 2 == 1
 }
 
 // What byte 1 says.
 pub fn sequence_bits(second: u8) -> u8
     ensures { λ r. ⌜ r ≡ sequenceBits second ⌝ }
 {
-    second / FOUR_BITS % FOUR_BITS
+    second >> 4
 }
 
 pub fn type_bits(second: u8) -> u8
     ensures { λ r. ⌜ r ≡ typeBits second ⌝ }
 {
-    second / 4 % 4
+    let high = second >> 4;
+    (second >> 2) - high * 4
 }
 
 pub fn ack_bit(second: u8) -> bool
     ensures { λ r. ⌜ r ≡ ackBit second ⌝ }
 {
-    second / 2 % 2 == 1
+    is_odd(second >> 1)
 }
 
 pub fn extender_bit(second: u8) -> bool
     ensures { λ r. ⌜ r ≡ extenderBit second ⌝ }
 {
-    second % 2 == 1
+    is_odd(second)
 }
 
 // The sequence n packets later: 0 follows 15.
 pub fn sequence_after(sequence: u8, n: usize) -> u8
     ensures { λ r. ⌜ (r ≡ sequenceAfter sequence n) × (r < 16) ⌝ }
 {
-    let later = (n % FOUR_BITS as usize) as u8;
-    (sequence % FOUR_BITS + later) % FOUR_BITS
+    let rounds = n >> 4;
+    let later = (n - rounds * 16) as u8;
+    id_bits(id_bits(sequence) + later)
 }

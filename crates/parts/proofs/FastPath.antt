@@ -9,11 +9,11 @@ use native.Mathlib.Omega.{arith}
 use lib.ListN.{length, take, drop, getD, set, length-append, length-set, take-append-drop, drop-of-length-le}
 use lib.Seq.{sets, length-sets, drop-cons, drop-drop}
 use lib.Dec.{ltb, leb}
-use borrow.Author.Tests.{lt-ltb, ltb-true, leb-true}
+use borrow.Author.Tests.{lt-ltb, ltb-true, leb-true, not-true}
 use Rattle.wire.specs.Scan.{anyInRange, Copied}
 use Rattle.wire.proofs.Runs.{any-first, copied-length, part-long, part-none, part-length, part-stored}
 use Rattle.wire.proofs.Stores.{sets-append}
-use Rattle.wire.proofs.Tests.{and-left, and-right, not-true}
+use Rattle.wire.proofs.Tests.{and-left, and-right}
 use Rattle.framing.specs.declared.mark.Kind.{Kind}
 use Rattle.framing.specs.declared.mark.Kind.the-variants.{Start, End, Escape, Plain}
 use Rattle.framing.specs.Mark.{startMark, escapeMark, kindOf, isMarkKind, isMark}

@@ -4,6 +4,10 @@ use text::check::bad_place;
 use wire::bytes::byte_at;
 use wire::logic::both;
 use wire::logic::either;
+ghost use mathlib.Core.Path.{_≡_};
+ghost use mathlib.Core.Bool.{true};
+ghost use lib.ListN.{length};
+ghost use Rattle.text.specs.WellFormed.{badPlace};
 
 // A byte of a control character that ASCII has.
 fn is_control(b: u8) -> bool {
@@ -16,7 +20,9 @@ fn is_late_control(first: u8, second: u8) -> bool {
 }
 
 // Whether a payload is text: well-formed UTF-8 without a control character, which a terminal would follow.
-pub fn is_text(payload: &[u8]) -> bool {
+pub fn is_text(payload: &[u8]) -> bool
+    ensures { λ r. ⌜ (r ≡ true → badPlace (now (payload .entry)) ≡ length (now (payload .entry))) ⌝ }
+{
     if bad_place(payload) != payload.len() {
         return false;
     }
@@ -31,7 +37,9 @@ pub fn is_text(payload: &[u8]) -> bool {
     true
 }
 
-fn say_bytes(output: Output, payload: &[u8]) -> Output {
+fn say_bytes(output: Output, payload: &[u8]) -> Output
+    ensures { λ r. ⌜ (output .failed ≡ true → r .failed ≡ true) ⌝ }
+{
     let mut said = output;
     for i in 0..payload.len() {
         said = said.text(b" ").byte(byte_at(payload, i));
@@ -39,7 +47,10 @@ fn say_bytes(output: Output, payload: &[u8]) -> Output {
     said
 }
 
-pub fn say_payload(output: Output, payload: &[u8]) -> Output {
+// Once a write has failed, nothing more is written.
+pub fn say_payload(output: Output, payload: &[u8]) -> Output
+    ensures { λ r. ⌜ (output .failed ≡ true → r .failed ≡ true) ⌝ }
+{
     if payload.len() == 0 {
         return output.text(b" empty");
     }

@@ -1,20 +1,16 @@
 -- A finished transaction's id has four bits.
 use Prim.Native.Nat.{ℕ, _+_, _<_}
-use mathlib.Core.Option.{Option, none, some}
 use mathlib.Core.List.{List}
-use mathlib.Core.Bool.{Bool, true, false, cond, _||_}
 use lib.ListN.{getD}
-use lib.Dec.{eqb}
-use Rattle.wire.proofs.Tables.{by-table}
 use Rattle.packet.specs.declared.reader.Head.{Head}
 use Rattle.packet.specs.declared.reader.Packet.{Packet}
 use Rattle.packet.specs.declared.reader.Packet.the-variants.{First, Next, Ack, Nack}
 use Rattle.packet.specs.Header.{fourBits}
 use Rattle.packet.proofs.Reading.{PayloadWithin}
 use Rattle.slot.specs.declared.Slot.{Slot}
-use Rattle.slot_steps.specs.declared.PayloadPlace.{PayloadPlace}
-use Rattle.slot.specs.Slot.{opens, wants, idle}
-use Rattle.slot_steps.specs.Step.{Step, Act, still, step, finish, hold, dropBy, firstStep, lines, nextStep, atPlace, openPlace, firstPlace, actOf}
+use Rattle.slot.specs.Slot.{idle}
+use Rattle.slot_steps.specs.Step.{Step, Act, still, step, finish, hold, dropBy, firstStep, nextStep, openPlace, firstPlace, actOf}
+use Rattle.slot_steps.proofs.Each.{EachStep, first-each, next-each, at-each}
 use Rattle.receiver.specs.Outcome.{changed}
 use Rattle.receiver.specs.Ack.{IdLow}
 
@@ -25,45 +21,24 @@ abbrev pub ActLow : Act → Type 0
 ActLow (still t) = IdLow t
 ActLow (step place s) = StepLow s
 
-finish-low : (at : ℕ) (h : Head) (wanted : Bool) (total : ℕ) (replaced : Bool) (payload : PayloadPlace) → h .id < fourBits → StepLow (finish at h wanted total replaced payload)
-unfolding finish
-finish-low at h wanted total replaced payload low = low
-
-hold-low : (at : ℕ) (h : Head) (wanted : Bool) (total : ℕ) (replaced : Bool) (payload : PayloadPlace) → StepLow (hold at h wanted total replaced payload)
-unfolding hold
-hold-low at h wanted total replaced payload = tt
-
-drop-low : (n : ℕ) → StepLow (dropBy n)
-unfolding dropBy
-drop-low n = tt
-
-either-low : (b : Bool) (s t : Step) → StepLow s → StepLow t → StepLow (cond b s t)
-either-low true s t u v = u
-either-low false s t u v = v
-
-first-low : (at : ℕ) (s : Slot) (h : Head) (ack : Bool) (total start len : ℕ) → h .id < fourBits → StepLow (firstStep at s h ack total start len)
-unfolding firstStep
-first-low at s h ack total start len low =
-    either-low (eqb len total) _ _ (finish-low at h ack total (opens s) _ low) (hold-low at h ack total (opens s) _)
-
-next-low : (at : ℕ) (s : Slot) (h : Head) (ack last : Bool) (start len : ℕ) → h .id < fourBits → StepLow (nextStep at s h ack last start len)
-unfolding nextStep
-next-low at s h ack last start len low =
-    by-table StepLow (lines s h last len) dropBy _ drop-low (λ e.
-    either-low last _ _ (finish-low at h (wants s || ack) (s .total) false _ low) (hold-low at h (wants s || ack) (s .total) false _))
-
-at-low : (n : ℕ) (f : ℕ → Step) (o : Option ℕ) → ((place : ℕ) → StepLow (f place)) → ActLow (atPlace n f o)
-at-low n f none each = tt
-at-low n f (some place) each = each place
+each-low : (h : Head) → h .id < fourBits → EachStep h StepLow
+unfolding finish hold dropBy
+each-low h low =
+    record {
+      finished = λ at wanted total replaced payload. low;
+      held = λ at wanted total replaced payload. tt;
+      ten = tt;
+      eleven = tt;
+    }
 
 -- what a packet that was read does
 pub act-low : (limit k first : ℕ) (lane : List Slot) (x : Packet) → PayloadWithin limit k x → ActLow (actOf first lane x)
 act-low limit k first lane (First h ack total start len) w =
-    at-low 18 (λ place. firstStep (first + place) (getD lane place idle) h ack total start len) (firstPlace lane (h .id)) (λ place.
-    first-low (first + place) (getD lane place idle) h ack total start len (w .4 .0))
+    at-each ActLow 18 (λ place. firstStep (first + place) (getD lane place idle) h ack total start len) (firstPlace lane (h .id)) tt (λ place e.
+    first-each StepLow (each-low h (w .4 .0)) (first + place) (getD lane place idle) ack total start len)
 act-low limit k first lane (Next h ack last start len) w =
-    at-low 9 (λ place. nextStep (first + place) (getD lane place idle) h ack last start len) (openPlace lane (h .id)) (λ place.
-    next-low (first + place) (getD lane place idle) h ack last start len (w .1 .0))
+    at-each ActLow 9 (λ place. nextStep (first + place) (getD lane place idle) h ack last start len) (openPlace lane (h .id)) tt (λ place e.
+    next-each StepLow (each-low h (w .1 .0)) (first + place) (getD lane place idle) ack last start len)
 act-low limit k first lane (Ack h) w = tt
 act-low limit k first lane (Nack h) w = tt
 

@@ -24,7 +24,7 @@ slots-from (suc n) at l e =
     ap (λ (m : List Slot). getD l at idle ∷ m) (slots-from n (suc at) l (omega arith)) ∙ sym (drop-cons l at idle (omega arith))
 
 -- a row of twelve is what the rules see
-twelve : (l : List Slot) → length l ≡ slotCount → firstTwelve l ≡ l
+pub twelve : (l : List Slot) → length l ≡ slotCount → firstTwelve l ≡ l
 unfolding firstTwelve
 twelve l e = slots-from slotCount 0 l (omega arith)
 

@@ -32,12 +32,8 @@ openOf limit = table (line 17 (not (limitFits limit)) ∷ []) refused (given (li
 
 -- what an opening tells
 abbrev pub toldOpen : OpenedReceiver → Told Receiver
-toldOpen o = cond (o .refused) (refused 17) (given (o .state))
-
--- the state that it hands back: a refused one's has limit 0
-abbrev pub handed : Told Receiver → Receiver
-handed (given s) = s
-handed (refused n) = linkOf 0
+toldOpen (OpenedReceiver.Link s) = given s
+toldOpen OpenedReceiver.BadLimit = refused 17
 
 -- ---- one packet
 

@@ -30,7 +30,7 @@ ghost use Rattle.slot.specs.Answer.{numberOf};
 ghost use Rattle.slot_steps.specs.Step.{stepOf, actBy};
 ghost use Rattle.slot_steps.specs.Fit.{InsidePart, ActFits};
 ghost use Rattle.receiver.specs.Buffer.{stored};
-ghost use Rattle.receiver.specs.Receiver.{openOf, toldOpen, handed, ready, call};
+ghost use Rattle.receiver.specs.Receiver.{openOf, toldOpen, ready, call};
 ghost use Rattle.receiver.specs.Outcome.{outcome, same, changed, changedBy, effect, answers, decided, outcomeOf};
 
 // The state of a link: its limit. Its slots are lent as a row of twelve, four for each stream: control, OTA, Alexa.
@@ -38,10 +38,10 @@ pub struct Receiver {
     pub limit: usize,
 }
 
-// Whether the limit was refused, by 17, and the state; a refused one's has limit 0, on which every call is refused by 1.
-pub struct OpenedReceiver {
-    pub refused: bool,
-    pub state: Receiver,
+// A link's state, or a limit that is none: refusal 17.
+pub enum OpenedReceiver {
+    Link(Receiver),
+    BadLimit,
 }
 
 // The answer to a packet, and the one slot that is stored, at a place of the row.
@@ -57,18 +57,12 @@ pub const SLOT_COUNT: usize = 12;
 impl Receiver {
     // A receiver for a link with a limit.
     pub fn open(limit: usize) -> OpenedReceiver
-        ensures { λ r. ⌜ (toldOpen r ≡ openOf limit) × (r .state ≡ handed (openOf limit)) ⌝ }
+        ensures { λ r. ⌜ toldOpen r ≡ openOf limit ⌝ }
     {
         if limit_fits(limit) {
-            OpenedReceiver {
-                refused: false,
-                state: Receiver { limit },
-            }
+            OpenedReceiver::Link(Receiver { limit })
         } else {
-            OpenedReceiver {
-                refused: true,
-                state: Receiver { limit: 0 },
-            }
+            OpenedReceiver::BadLimit
         }
     }
 }

@@ -6,10 +6,10 @@ use mathlib.Core.List.{List, [], _∷_, map}
 use native.Mathlib.Omega.{arith}
 use lib.ListN.{length, take, drop, getD, length-drop}
 use lib.Dec.{eqb, leb}
-use borrow.Author.Tests.{eq-eqb, le-leb, eqb-true, leb-true}
+use borrow.Author.Tests.{eq-eqb, le-leb, eqb-true, leb-true, not-true}
 use Rattle.wire.specs.Bytes.{AllBytes}
 use Rattle.wire.proofs.Limits.{range-limit, limit-range}
-use Rattle.wire.proofs.Tests.{and-left, and-right, not-true}
+use Rattle.wire.proofs.Tests.{and-left, and-right}
 use Rattle.framing.specs.Mark.{kindOf, isMark}
 use Rattle.frame_writer.specs.Sending.{NoMark}
 use Rattle.frame_writer.proofs.Sending.{no-mark, sendable-when, sent-frame}

@@ -11,12 +11,13 @@ use borrow.Author.Tests.{not-false, ltb-false}
 use Rattle.wire.specs.Limit.{limitFits}
 use Rattle.wire.specs.Told.{ToldMore, given, refused}
 use Rattle.wire.proofs.Tables.{NoneHolds, by-table}
+use Rattle.wire.proofs.Tests.{or-false}
 use Rattle.packet.specs.Header.{inRange}
 use Rattle.sender.specs.Writer.{roomFits}
 use Rattle.field.specs.Signed.{extended}
 use Rattle.field_writer.specs.declared.message.Room.the-variants.{Left}
 use Rattle.field_writer.specs.Message.{badMember, lessRoom}
-use Rattle.field_writer.proofs.Messages.{or-false}
+use Rattle.field_writer.proofs.Rooms.{room-rest}
 use Rattle.walk.specs.Gathered.{mostTransports}
 use Rattle.control.specs.declared.response.ResponsePayload.{ResponsePayload}
 use Rattle.control.specs.Response.{badResponsePayload}
@@ -31,7 +32,6 @@ use Rattle.reply_parts.specs.Body.{codeOf, bodyBy}
 use Rattle.reply.specs.Reply.{memberOf, replyBy, badCarried, linkLines}
 use Rattle.reply_parts.specs.Body.{FewCarried}
 use Rattle.reply.specs.Put.{judgedOf, FrontFor, Carries}
-use Rattle.reply_parts.proofs.Rooms.{left-is}
 use Rattle.reply_parts.proofs.Fronts.{Whole, front-is}
 
 -- ---- the reply's bytes
@@ -78,7 +78,7 @@ pub record CountedReply (v : ℕ) (k : CommandKind) (m : Members) (body : List �
 pub counted : (v : ℕ) (k : CommandKind) (m : Members) (body : List ℕ) (limit left : ℕ) (f : ReplyFront) → Whole (memberOf m k) body
     → lessRoom (length body) (Left limit) ≡ Left left → FrontFor v k m (limit - left) f → CountedReply v k m body limit left f
 counted v k m body limit left f none er h =
-    let q = left-is limit (length body) left er in
+    let q = room-rest limit (length body) left er in
     let n : f .body ≡ length body = omega (arith, q .0, q .1, h .body) in
     let w : frontBytes f ++ body ≡ replyBy v k m body =
     reply-is v k m body f (record { value = h .value; code = h .code; member = h .member; body = n }) none in

@@ -17,7 +17,7 @@ use Rattle.field_writer.specs.Writer.{messageBytes}
 use Rattle.field_writer.specs.Message.{badMember}
 use Rattle.text_writer.specs.declared.TextFault.{TextFault}
 use Rattle.text_writer.specs.declared.TextFault.the-variants.{None, At}
-use Rattle.text_writer.specs.Texts.{firstFault}
+use Rattle.text_writer.specs.Texts.{firstFault, faulted}
 use Rattle.walk.specs.Gathered.{mostTransports}
 use Rattle.control.specs.declared.response.ResponsePayload.{ResponsePayload}
 use Rattle.control.specs.declared.response.ResponsePayload.the-variants as Inner
@@ -104,11 +104,6 @@ pub data Replied : Type 0 where
 -- a refusal leaves the output as it was; a number goes alone
 abbrev pub refusing : List ℕ → ℕ → WrittenOf (ℕ × List ℕ) Replied
 refusing out n = written (refused (n, [])) out
-
--- 36 with the field and the place, or what is left to judge
-abbrev pub faulted : TextFault → List ℕ → WrittenOf (ℕ × List ℕ) Replied → WrittenOf (ℕ × List ℕ) Replied
-faulted None out rest = rest
-faulted (At field place) out rest = written (refused (36, field ∷ place ∷ [])) out
 
 -- the packets of a message, joined, from the first byte on, if the output holds all of them; nothing else changes
 unfoldable pub joinedIn : Sending → List ℕ → List ℕ → WrittenOf (ℕ × List ℕ) Replied

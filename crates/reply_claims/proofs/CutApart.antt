@@ -52,8 +52,8 @@ module _ (w : Sending) (m : List ℕ) (p : Piece) where
       let sequence : ℕ = sequenceAfter (w .sequence) (p .index) in
       let ls : sequence < 16 = sequence-low (w .sequence) (p .index) in
       let lk : typeFor first last < 4 = kind-low first last in
-      let t = type-back sequence (typeFor first last) (last && w .ack) (extended (p .size)) ls lk in
-      let e = extender-back sequence (typeFor first last) (last && w .ack) (extended (p .size)) ls lk in
+      let t = type-back sequence (typeFor first last) (last && w .ack) (extended (p .size)) lk in
+      let e = extender-back sequence (typeFor first last) (last && w .ack) (extended (p .size)) in
       simp append-assoc
       (rw (t, e, kind-first first last)
       (said-by first (extended (p .size)) (w .stream) (w .id) sequence (typeFor first last) (last && w .ack) (length m) (p .size)

@@ -10,7 +10,7 @@ use lib.Dec.{ltb}
 use Rattle.wire.specs.Told.{Told, given, refused, Line, table, WrittenOf, written}
 use Rattle.text_writer.specs.declared.TextFault.{TextFault}
 use Rattle.text_writer.specs.declared.TextFault.the-variants.{None, At}
-use Rattle.text_writer.specs.Texts.{firstFault}
+use Rattle.text_writer.specs.Texts.{firstFault, faulted}
 use Rattle.field.specs.Signed.{extended}
 use Rattle.sender.specs.declared.writer.Sending.{Sending}
 use Rattle.joining.specs.Joined.{joinedOf}
@@ -19,7 +19,7 @@ use Rattle.control.specs.Envelope.{envelopeOf}
 use Rattle.reply_parts.specs.declared.body.CommandKind.{CommandKind}
 use Rattle.reply.specs.declared.Link.{Link}
 use Rattle.reply_parts.specs.Body.{kindOfCommand}
-use Rattle.reply.specs.Reply.{Box, sendingOf, bodyOf, replyBy, stringsOf, linkLines, Replied, silent, sent, refusing, faulted, joinedIn, carriedOf, sentOf, isResponse, repliedBy, repliedOf}
+use Rattle.reply.specs.Reply.{Box, sendingOf, bodyOf, replyBy, stringsOf, linkLines, Replied, silent, sent, refusing, joinedIn, carriedOf, sentOf, isResponse, repliedBy, repliedOf}
 use Rattle.reply_claims.specs.Untouched.{NothingWritten}
 
 -- a call that refuses leaves the output as it was

@@ -6,7 +6,7 @@ use mathlib.Core.Path.{_≡_, refl}
 use mathlib.Core.List.{List, [], _++_, append-assoc, append-nil}
 use lib.IntN.{ℤ}
 use lib.ListN.{length, length-append}
-use Rattle.field_writer.specs.Put.{Put}
+use Rattle.wire.specs.Put.{Put}
 use Rattle.field.specs.Signed.{extended}
 use Rattle.field_writer.specs.Writer.{scalar, headBytes, partBytes, fieldBytes, messageBytes}
 use Rattle.field_writer.proofs.Runs.{put-then}

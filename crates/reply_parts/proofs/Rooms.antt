@@ -15,11 +15,3 @@ room-within limit n h = rw (le-ltb limit n h)
 
 pub room-all : (limit : ℕ) → Left limit ≡ lessRoom 0 (Left limit)
 room-all limit = let z : limit - 0 ≡ limit = omega arith in ap Left (sym z) ∙ room-within limit 0 zero-le
-
--- what a room that is left says
-pub left-is : (k n m : ℕ) → lessRoom n (Left k) ≡ Left m → (n ≤ k) × (m ≡ k - n)
-left-is k n m e =
-    let h = room-left k n m e in
-    let q : Left (k - n) ≡ Left m = rw (le-ltb k n h) at e in
-    let r : k - n ≡ m = cc in
-    (h, sym r)

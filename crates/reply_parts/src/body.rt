@@ -1,13 +1,11 @@
 // The kinds of replies, and the bytes of the response's member.
 use device::features::DeviceFeatures;
+use device::features::features_len;
+use device::features::put_features;
 use device::information::information_fault;
 use device::information::information_room;
 use device::information::put_information;
-use field_writer::fields::put_scalar;
-use field_writer::fields::scalar_len;
 use field_writer::message::Room;
-use known_fields::DEVICE_ATTRIBUTES;
-use known_fields::FEATURES;
 use text_writer::TextFault;
 ghost use mathlib.Core.Path.{_≡_};
 ghost use Prim.Native.Nat.{_≤_};
@@ -33,20 +31,32 @@ pub enum CommandKind {
     Other,
 }
 
+// The commands that get an answer.
+const DEVICE_INFORMATION: u64 = 20;
+
+const DEVICE_FEATURES: u64 = 28;
+
+const UPDATE_COMPONENT_SEGMENT: u64 = 94;
+
+const APPLY_FIRMWARE: u64 = 95;
+
+// The error code of a command that is not supported.
+const UNSUPPORTED: u64 = 3;
+
 // By the varint's value of the command.
 pub fn kind_of_command(value: u64) -> CommandKind
     ensures { λ r. ⌜ r ≡ kindOfCommand value ⌝ }
 {
-    if value == 20 {
+    if value == DEVICE_INFORMATION {
         return CommandKind::Information;
     }
-    if value == 28 {
+    if value == DEVICE_FEATURES {
         return CommandKind::Features;
     }
-    if value == 94 {
+    if value == UPDATE_COMPONENT_SEGMENT {
         return CommandKind::Bare;
     }
-    if value == 95 {
+    if value == APPLY_FIRMWARE {
         return CommandKind::Bare;
     }
     CommandKind::Other
@@ -60,7 +70,7 @@ pub fn code_of(kind: CommandKind) -> u64
         CommandKind::Information => 0,
         CommandKind::Features => 0,
         CommandKind::Bare => 0,
-        CommandKind::Other => 3,
+        CommandKind::Other => UNSUPPORTED,
     }
 }
 
@@ -108,8 +118,7 @@ pub fn body_room(
             device_type,
         ),
         CommandKind::Features => {
-            let n = scalar_len(FEATURES, features.features)
-                + scalar_len(DEVICE_ATTRIBUTES, features.device_attributes);
+            let n = features_len(features);
             if limit < n {
                 return Room::Short;
             }
@@ -143,8 +152,7 @@ pub fn put_body(
             put_information(out, serial_number, name, transports, device_type);
         }
         CommandKind::Features => {
-            let next = put_scalar(out, 0, FEATURES, features.features);
-            put_scalar(out, next, DEVICE_ATTRIBUTES, features.device_attributes);
+            put_features(out, features);
         }
         CommandKind::Bare => {}
         CommandKind::Other => {}

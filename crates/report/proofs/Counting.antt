@@ -5,8 +5,8 @@ use mathlib.Core.Path.{_≡_, refl, ap, _∙_}
 use mathlib.Core.List.{List, [], _∷_}
 use mathlib.Core.Bool.{Bool, true, false, cond}
 use lib.ListN.{length, getD, set}
+use Rattle.wire.specs.Bytes.{bit}
 use Rattle.wire.specs.Those.{those}
-use Rattle.packet.specs.Header.{bit}
 use Rattle.report.specs.Costs.{sumOf}
 
 length-cond : {A : Type 0} (b : Bool) (x : A) (l : List A) → length (cond b (x ∷ l) l) ≡ bit b + length l

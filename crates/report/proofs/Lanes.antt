@@ -8,10 +8,12 @@ use mathlib.Core.Bool.{Bool, true, false, not, _&&_, _||_, false≢true}
 use lib.ListN.{getD, set, drop, length-take}
 use lib.Dec.{eqb}
 use borrow.Author.Tests.{eq-eqb, ne-eqb, eqb-true, eqb-false}
+use Rattle.wire.specs.Bytes.{bit}
 use Rattle.wire.specs.declared.stream.Stream.{Stream}
 use Rattle.wire.specs.Stream.{streamNumber, streamOf}
 use Rattle.wire.proofs.Streams.{stream-back}
-use Rattle.packet.specs.Header.{bit, firstByte, isOf}
+use Rattle.wire.proofs.Tests.{or-false}
+use Rattle.packet.specs.Header.{firstByte, isOf}
 use Rattle.packet.specs.Reader.{fieldsOf, isFirst}
 use Rattle.slot.specs.declared.Slot.{Slot}
 use Rattle.slot.specs.Slot.{opens, idle, slotsEach, laneStart, laneOf, isOpen, anyOpen}
@@ -22,17 +24,6 @@ use Rattle.report.proofs.Counting.{sum-set, sum-same}
 use Rattle.report.proofs.Moving.{SlotFlow, SlotMove, Quiet, Did, quiet, moved}
 
 -- ---- tests
-
-or-left : (a b : Bool) → (a || b) ≡ false → a ≡ false
-or-left true b e = absurd (false≢true (sym e))
-or-left false b e = refl
-
-or-right : (a b : Bool) → (a || b) ≡ false → b ≡ false
-or-right true b e = absurd (false≢true (sym e))
-or-right false b e = e
-
-or-none : (a b c : Bool) → a ≡ false → b ≡ false → c ≡ false → (a || (b || c)) ≡ false
-or-none a b c ea eb ec = rw (ea, eb, ec)
 
 and-no : (a b : Bool) → b ≡ false → bit (a && b) ≡ 0
 and-no true b e = rw e
@@ -82,8 +73,8 @@ module _ (s : Stream) (h : Heard) (hs : List Heard) where
       → sumOf (keptWeight s (h ∷ hs)) l ≡ sumOf (keptWeight s hs) l
   others-same id z [] e = refl
   others-same id z (y ∷ l) e =
-      let n : isOpen id y ≡ false = or-left (isOpen id y) (anyOpen id l) e in
-      let later = others-same id z l (or-right (isOpen id y) (anyOpen id l) e) in
+      let n : isOpen id y ≡ false = or-false (isOpen id y) (anyOpen id l) e .0 in
+      let later = others-same id z l (or-false (isOpen id y) (anyOpen id l) e .1) in
       let here : keptWeight s (h ∷ hs) y ≡ keptWeight s hs y
       = weight-by y (opens y) refl (λ o.
       let d : eqb (y .id) id ≡ false = ap (λ (b : Bool). b && eqb (y .id) id) (sym o) ∙ n in
@@ -125,7 +116,7 @@ module _ (s : Stream) (h : Heard) (hs : List Heard) where
         let old : keptWeight s (h ∷ hs) y ≡ bit (not (closedIn (byteZero h) hs))
         = kept-open (h ∷ hs) y (on .1) (w (on .1)) ∙ ap (λ (b : Bool). bit (not b)) (closed-quiet (byteZero h) h hs e) in
         let none : bit (leavesOpen h && not (closedIn (byteZero h) hs)) ≡ 0
-        = ap (λ (b : Bool). bit ((b && not (finishes (h .told))) && not (closedIn (byteZero h) hs))) (or-left (begins h) _ e) in
+        = ap (λ (b : Bool). bit ((b && not (finishes (h .told))) && not (closedIn (byteZero h) hs))) (or-false (begins h) _ e .0) in
         omega (arith, new, old, none)
 
 -- ---- one turn
@@ -234,7 +225,7 @@ module _ (limit : ℕ) (slots : List Slot) (law : LawfulRow limit slots) where
   keeps next h s hs (quiet e q) =
       let a : keptSum s next hs ≡ keptSum s slots hs = ap (λ (l : List Slot). keptSum s l hs) e in
       let n : begins h ≡ false = begins-not h q in
-      let b = quiet-same s h hs (laneOf s slots) (or-none (begins h) (finishes (h .told)) (drops (h .told)) n (q .not-finished) (q .not-dropped)) in
+      let b = quiet-same s h hs (laneOf s slots) (rw (n, q .not-finished, q .not-dropped)) in
       let c : leavesOpen h ≡ false = ap (λ (b : Bool). b && not (finishes (h .told))) n in
       let d : (leavesOpen h && not (closedIn (byteZero h) hs)) ≡ false = ap (λ (b : Bool). b && not (closedIn (byteZero h) hs)) c in
       omega (arith, a, b, and-no (isOf (streamNumber s) (h .packet)) (leavesOpen h && not (closedIn (byteZero h) hs)) d)

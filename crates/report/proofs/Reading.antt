@@ -11,6 +11,7 @@ use Rattle.wire.specs.declared.stream.Stream.{Stream}
 use Rattle.wire.specs.Stream.{streamNumber}
 use Rattle.wire.proofs.Tables.{by-table}
 use Rattle.wire.proofs.Streams.{number-back}
+use Rattle.wire.proofs.Tests.{by-cond}
 use Rattle.packet.specs.declared.reader.Packet.{Packet}
 use Rattle.packet.specs.declared.reader.Packet.the-variants.{First, Next, Ack, Nack}
 use Rattle.packet.specs.Header.{firstByte, streamBits, idBits, isOf}
@@ -70,15 +71,11 @@ abbrev pub Numbers : (ℕ → Type 0) → List Line → Type 0
 Numbers Q [] = Unit {0}
 Numbers Q (r ∷ rs) = Q (r .number) × Numbers Q rs
 
-by-line : {A : Type 0} (P : A → Type 0) (b : Bool) (x y : A) → P x → P y → P (cond b x y)
-by-line P true x y p q = p
-by-line P false x y p q = q
-
 pub by-numbers : {A : Type 0} (P : A → Type 0) (Q : ℕ → Type 0) (rows : List Line) (refuse : ℕ → A) (rest : A)
     → Numbers Q rows → ((n : ℕ) → Q n → P (refuse n)) → P rest → P (table rows refuse rest)
 by-numbers P Q [] refuse rest a p q = q
 by-numbers P Q (r ∷ rs) refuse rest a p q =
-    by-line P (r .holds) (refuse (r .number)) (table rs refuse rest) (p (r .number) (a .0)) (by-numbers P Q rs refuse rest (a .1) p q)
+    by-cond P (r .holds) (refuse (r .number)) (table rs refuse rest) (λ e. p (r .number) (a .0)) (λ e. by-numbers P Q rs refuse rest (a .1) p q)
 
 -- a law of what a refusal tells
 abbrev pub IfRefused : {N A : Type 0} → (N → Type 0) → ToldOf N A → Type 0

@@ -4,12 +4,13 @@ use mathlib.Core.Path.{_≡_}
 use mathlib.Core.List.{List, [], _∷_}
 use mathlib.Core.Bool.{Bool, true, cond, _&&_}
 use lib.ListN.{length}
+use Rattle.wire.specs.Bytes.{bit}
 use Rattle.wire.specs.Those.{those}
 use Rattle.wire.specs.Told.{given, andThen}
 use Rattle.wire.specs.Stream.{streamNumber}
 use Rattle.wire.specs.declared.stream.Stream.{Stream}
 use Rattle.wire.specs.declared.stream.Stream.the-variants.{Control, Ota, Alexa}
-use Rattle.packet.specs.Header.{bit, isOf}
+use Rattle.packet.specs.Header.{isOf}
 use Rattle.captures.specs.Capture.{ToldAt}
 use Rattle.slot.specs.declared.Slot.{Slot}
 use Rattle.slot.specs.Slot.{opens, idles, laneOf}
@@ -19,19 +20,22 @@ use Rattle.report.specs.declared.CostReport.{CostReport}
 use Rattle.report.specs.Costs.{Heard, heard, finishes, replaces, drops, payloadIn, begins}
 use Rattle.report.specs.Report.{callFor, plus, summed, CaptureAdded, captureAdded, addedBy}
 
--- what one packet adds to a stream's numbers, all but what is left open
+-- what a packet of a size adds to a stream's numbers, if it is that stream's: all but what is left open
+abbrev pub costsBy : Bool → Bool → Bool → Bool → Bool → ℕ → ℕ → Costs
+costsBy mine begun finished replaced dropped payload size =
+    record {
+      firsts = bit (mine && begun);
+      finished = bit (mine && finished);
+      replaced = bit (mine && replaced);
+      dropped = bit (mine && dropped);
+      pending = 0;
+      payload = cond (mine && finished) payload 0;
+      bytes = cond (mine && true) size 0;
+    }
+
 abbrev pub costsWith : Stream → Heard → Costs
 costsWith s h =
-    let mine : Bool = isOf (streamNumber s) (h .packet) in
-    record {
-      firsts = bit (mine && begins h);
-      finished = bit (mine && finishes (h .told));
-      replaced = bit (mine && replaces (h .told));
-      dropped = bit (mine && drops (h .told));
-      pending = 0;
-      payload = cond (mine && finishes (h .told)) (payloadIn (h .told)) 0;
-      bytes = cond (mine && true) (length (h .packet)) 0;
-    }
+    costsBy (isOf (streamNumber s) (h .packet)) (begins h) (finishes (h .told)) (replaces (h .told)) (drops (h .told)) (payloadIn (h .told)) (length (h .packet))
 
 unfoldable pub reportWith : Heard → CostReport
 reportWith h = record { control = costsWith Control h; ota = costsWith Ota h; alexa = costsWith Alexa h }

@@ -6,10 +6,10 @@ use mathlib.Core.List.{List, [], _∷_, map, List·Permᴰ, List·Permᴰ·nil, 
 use mathlib.Core.Bool.{Bool, true, false, not, false≢true}
 use lib.ListN.{length, take, drop, replicate, length-replicate}
 use lib.Dec.{eqb, ltb}
-use borrow.Author.Tests.{ltb-true, lt-ltb}
+use borrow.Author.Tests.{ltb-true, lt-ltb, not-true}
 use Rattle.wire.specs.declared.stream.Stream.the-variants.{Control, Ota, Alexa}
 use Rattle.wire.specs.Told.{Told, given, refused, andThen, line, table}
-use Rattle.wire.proofs.Tests.{and-left, and-right, not-true}
+use Rattle.wire.proofs.Tests.{and-left, and-right}
 use Rattle.captures.specs.Capture.{width, ToldAt, located, frontLines, frontOf, before, packetsFrom, otherVersion, packetsOf}
 use Rattle.slot.specs.declared.Slot.{Slot}
 use Rattle.report.specs.declared.Costs.{Costs}

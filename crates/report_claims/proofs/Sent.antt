@@ -9,13 +9,15 @@ use mathlib.Core.Bool.{Bool, true, false, cond, _&&_, false≢true}
 use lib.ListN.{length, getD, drop}
 use lib.Dec.{eqb}
 use borrow.Author.Tests.{eq-eqb, ne-eqb}
+use Rattle.wire.specs.Bytes.{bit}
 use Rattle.wire.specs.Told.{Told, given, refused}
 use Rattle.wire.specs.Stream.{isStream, streamNumber, streamOf}
 use Rattle.wire.specs.declared.stream.Stream.{Stream}
 use Rattle.wire.specs.declared.stream.Stream.the-variants.{Control, Ota, Alexa}
 use Rattle.wire.proofs.Streams.{number-back}
-use Rattle.packet.specs.Header.{fourBits, bit, typeFirst, secondByte, typeBits, firstByte, streamBits, isOf, sequenceAfter}
+use Rattle.packet.specs.Header.{fourBits, typeFirst, secondByte, typeBits, firstByte, streamBits, isOf, sequenceAfter}
 use Rattle.packet.specs.Reader.{fieldsOf, isFirst}
+use Rattle.packet.proofs.Headers.{type-back}
 use Rattle.slot.specs.declared.Slot.{Slot}
 use Rattle.slot.specs.declared.answer.Accepted.{Accepted}
 use Rattle.slot.specs.declared.answer.Accepted.the-variants.{Taken, Finished, Acked, Nacked}
@@ -146,12 +148,6 @@ pieces-by limit place w m s first slots bytes p (q ∷ ps) k e =
     (pieces-by limit place w m s false (l .slots) (l .bytes) q ps (k .2) (h .2))
 
 -- ---- the writer's packets
-
-type-back : (q kind : ℕ) (ack ext : Bool) → kind < 4 → typeBits (secondByte q kind ack ext) ≡ kind
-type-back q kind true true h = omega (arith, h)
-type-back q kind true false h = omega (arith, h)
-type-back q kind false true h = omega (arith, h)
-type-back q kind false false h = omega (arith, h)
 
 kind-by : (q : ℕ) (first last ack ext : Bool) → eqb (typeBits (secondByte q (typeFor first last) ack ext)) typeFirst ≡ first
 kind-by q true last ack ext = rw (type-back q 0 ack ext (omega arith)) refl

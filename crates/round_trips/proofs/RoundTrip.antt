@@ -14,6 +14,7 @@ use Rattle.wire.specs.Told.{Told, ToldMore, given, refused, andThen, Written, W
 use Rattle.text_writer.specs.Texts.{AllWellFormed, writesTexts}
 use Rattle.text_writer.proofs.Texts.{well-faultless, texts-wrote}
 use Rattle.wire.proofs.Stores.{first-bytes}
+use Rattle.wire.proofs.Tests.{or-false}
 use Rattle.field.specs.declared.value.Part.{Part}
 use Rattle.field.specs.Signed.{extended}
 use Rattle.field.specs.Tag.{lastField}
@@ -35,7 +36,7 @@ use Rattle.known_fields.specs.Schema.{roleOf, responseField, serialNumberField,
 use Rattle.walk.specs.Gathered.{nothing, withScalar, withText, withMember}
 use Rattle.walk.specs.Walk.{judged, partAdded, withAdded, fieldsFrom}
 use Rattle.field_writer.specs.Message.{writesMessage, badMember}
-use Rattle.field_writer.proofs.Messages.{wrote, or-false, member-above, member-fits}
+use Rattle.field_writer.proofs.Messages.{wrote, member-above, member-fits}
 use Rattle.control.specs.Response.{responseFrom, responseFields, badResponsePayload, responseWritten}
 use Rattle.control.specs.Envelope.{payloadOf, envelopeOf, envelopeFields, badPayload, envelopeWritten}
 use Rattle.device.specs.Features.{featuresOf, featuresFields, featuresWritten}
@@ -167,7 +168,7 @@ response-read code (Inner.Member f) body s at fz b lent a =
     )
 
 -- the numbers of members that are taken
-member-fine : (f : ℕ) → MemberNumber f → badMember f ≡ false
+pub member-fine : (f : ℕ) → MemberNumber f → badMember f ≡ false
 member-fine f h = rw (le-ltb f 2 (omega arith), le-ltb lastField f (omega arith))
 
 inner-fine : (payload : ResponsePayload) → InnerNumbered payload → badResponsePayload payload ≡ false

@@ -84,18 +84,6 @@ pub fn put(row: &mut [u64], number: u64, numbers: &[u64])
     }
 }
 
-// Writes a whole row of two parts, unless the call is refused by 1.
-pub fn put_both(row: &mut [u64], number: u64, first: &[u64], second: &[u64])
-    requires { ⌜ length (now row) ≡ length (now first) + length (now second) ⌝ }
-    ensures { λ _. ⌜ now (row .exit)
-        ≡ afterwards number (now (row .entry)) (now (first .entry) ++ now (second .entry)) ⌝ }
-{
-    if number != UNFIT {
-        fill(row, 0, first);
-        fill(row, first.len(), second);
-    }
-}
-
 // Tells a count in an answer row, and returns its number.
 pub fn tell(answer: &mut [u64], count: Count) -> u64
     requires { ⌜ length (now answer) ≡ 1 ⌝ }

@@ -3,21 +3,12 @@ use mathlib.Core.Path.{_≡_, refl, ap, _∙_}
 use mathlib.Core.List.{_++_}
 use Rattle.wire.specs.Told.{ToldMore, given, refused}
 use Rattle.walk.specs.declared.refusal.WalkVerdict.{WalkVerdict}
-use Rattle.walk.specs.declared.refusal.WalkVerdict.the-variants.{Fine, Refused}
 use Rattle.walk.specs.Refusal.{numberMore, judgedAs, toldVerdict}
 use Rattle.firmware.specs.declared.apply.ApplyFirmware.{ApplyFirmware}
 use Rattle.firmware.specs.Apply.{withApply}
 use Rattle.rows_messages.specs.Convert.{faultRow}
+use Rattle.rows_messages.proofs.Information.{verdict-number, verdict-fault}
 use Rattle.rows_firmware.specs.Apply.{wholeRow, applyRow}
-
--- the number of a verdict, whatever it is on
-verdict-number : (v : WalkVerdict) (a : ApplyFirmware) → numberMore (toldVerdict v) ≡ numberMore (judgedAs v a)
-verdict-number Fine a = refl
-verdict-number (Refused why) a = refl
-
-verdict-fault : (v : WalkVerdict) (a : ApplyFirmware) → faultRow (toldVerdict v) ≡ faultRow (judgedAs v a)
-verdict-fault Fine a = refl
-verdict-fault (Refused why) a = refl
 
 given-number : (t : ToldMore ApplyFirmware) → numberMore (withApply t .0) ≡ numberMore t
 given-number (given a) = refl

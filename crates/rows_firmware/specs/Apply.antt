@@ -4,13 +4,13 @@ use mathlib.Core.Bool.{Bool, false, _||_}
 use mathlib.Core.List.{List, [], _∷_, _++_}
 use lib.ListN.{getD, replicate}
 use lib.Dec.{ltb, eqb}
+use Rattle.wire.specs.Bytes.{bit}
 use Rattle.wire.specs.Told.{ToldMore, given, refused}
 use Rattle.field.specs.declared.value.Part.{Part}
 use Rattle.field.specs.Unsigned.{unsignedOf}
 use Rattle.walk.specs.Gathered.{mostRepeated}
 use Rattle.firmware.specs.declared.apply.ApplyFirmware.{ApplyFirmware}
 use Rattle.firmware.specs.declared.component.FirmwareComponent.{FirmwareComponent}
-use Rattle.firmware_writer.specs.Apply.{boolValue}
 use Rattle.rows_messages.specs.Convert.{partRow, faultOf}
 use Rattle.rows_firmware.specs.More.{isWide}
 
@@ -40,7 +40,7 @@ componentRows (c ∷ cs) = componentRow c ++ componentRows cs
 abbrev pub headRow : ApplyFirmware → List ℕ
 headRow a =
     let f = a .«firmware_information» in
-    boolValue (a .«restart_required») ∷ f .version
+    bit (a .«restart_required») ∷ f .version
     ∷ (partRow (f .name) ++ (partRow (f .locale) ++ (partRow (f .«version_name») ++ (f .count ∷ []))))
 
 -- .. and all eight components, of which those from the count on are empty

@@ -11,6 +11,7 @@ use rows::row::number_at;
 use rows_messages::convert::verdict_fault;
 use walk::gathered::MOST_REPEATED;
 use walk::refusal::WalkVerdict;
+use wire::bytes::bit64;
 use wire::logic::either;
 ghost use mathlib.Core.Path.{_≡_};
 ghost use mathlib.Core.List.{_++_};
@@ -19,7 +20,6 @@ ghost use lib.ListN.{length};
 ghost use lib.Seq.{sets};
 ghost use Rattle.walk.specs.Gathered.{mostRepeated};
 ghost use Rattle.walk.specs.Refusal.{toldVerdict};
-ghost use Rattle.firmware_writer.specs.Apply.{boolValue};
 ghost use Rattle.rows.specs.Row.{afterwards};
 ghost use Rattle.rows_messages.specs.Convert.{faultRow};
 ghost use Rattle.rows_firmware.specs.Apply.{rowSize, answerSize, firstComponent, componentRow, componentRows, headRow, wholeRow, partAt, componentAt, componentsAt, applyAt, wideAt, anyWide, badRow};
@@ -34,12 +34,6 @@ const FIRST_COMPONENT: usize = 9;
 const COMPONENT_NUMBERS: usize = 6;
 
 // ---- what was read
-
-fn flag(b: bool) -> u64
-    ensures { λ r. ⌜ r ≡ boolValue b ⌝ }
-{
-    if b { 1 } else { 0 }
-}
 
 fn component_row(component: FirmwareComponent) -> [u64; 6]
     ensures { λ r. ⌜ r ≡ componentRow component ⌝ }
@@ -64,7 +58,7 @@ fn head_row(apply: ApplyFirmware) -> [u64; 9]
     let name = information.name;
     let locale = information.locale;
     let version_name = information.version_name;
-    let restart = flag(apply.restart_required);
+    let restart = bit64(apply.restart_required);
     [
         restart,
         information.version as u64,

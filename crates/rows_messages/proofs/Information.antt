@@ -15,13 +15,13 @@ use Rattle.device.specs.Information.{withInformation, informationWritten}
 use Rattle.rows_messages.specs.Convert.{partsRow, transportsRow, faultRow, informationRow}
 
 -- the number of a verdict, whatever it is on
-verdict-number : (v : WalkVerdict) (i : DeviceInformation) → numberMore (toldVerdict v) ≡ numberMore (judgedAs v i)
-verdict-number Fine i = refl
-verdict-number (Refused why) i = refl
+pub verdict-number : {A : Type 0} (v : WalkVerdict) (a : A) → numberMore (toldVerdict v) ≡ numberMore (judgedAs v a)
+verdict-number Fine a = refl
+verdict-number (Refused why) a = refl
 
-verdict-fault : (v : WalkVerdict) (i : DeviceInformation) → faultRow (toldVerdict v) ≡ faultRow (judgedAs v i)
-verdict-fault Fine i = refl
-verdict-fault (Refused why) i = refl
+pub verdict-fault : {A : Type 0} (v : WalkVerdict) (a : A) → faultRow (toldVerdict v) ≡ faultRow (judgedAs v a)
+verdict-fault Fine a = refl
+verdict-fault (Refused why) a = refl
 
 pub fault-length : {A : Type 0} (t : ToldMore A) → length (faultRow t) ≡ 2
 fault-length (given a) = refl

@@ -9,6 +9,7 @@ use device::information::DeviceInformation;
 use field::signed::low_signed;
 use field::signed::sign_extended;
 use field_writer::message::Wrote;
+use known_fields::NO_FIELD;
 use rows::row::Count;
 use rows::row::DONE;
 use rows::row::UNFIT;
@@ -58,9 +59,6 @@ const MEMBER: u64 = 2;
 
 // The refusal of a string that is not well formed.
 const BAD_TEXT: u64 = 36;
-
-// No field has this number: of a response it says that there is no payload, and as a member's it is out of range.
-const NO_FIELD: u64 = 0;
 
 fn refusal_number(why: MessageRefusal) -> u64
     ensures { λ r. ⌜ r ≡ messageNumber why ⌝ }

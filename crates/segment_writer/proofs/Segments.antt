@@ -10,7 +10,7 @@ use Rattle.wire.specs.Told.{given, refused, written, WrittenOf}
 use Rattle.text_writer.specs.declared.TextFault.{TextFault}
 use Rattle.text_writer.specs.declared.TextFault.the-variants.{None, At}
 use Rattle.text_writer.specs.Texts.{firstFault, faulted}
-use Rattle.field_writer.specs.Put.{Put}
+use Rattle.wire.specs.Put.{Put}
 use Rattle.field_writer.specs.Writer.{scalar, text, fieldBytes, messageBytes}
 use Rattle.field_writer.proofs.Runs.{message-length, scalar-none}
 use Rattle.known_fields.specs.Schema.{componentNameField, componentOffsetField, segmentSizeField, segmentSignatureField}

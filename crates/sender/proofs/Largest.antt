@@ -5,7 +5,8 @@ use mathlib.Core.Path.{_≡_, refl, sym, _∙_}
 use mathlib.Core.Bool.{Bool, true, false, cond}
 use lib.Dec.{leb, eqb}
 use borrow.Author.Tests.{le-leb, lt-leb, leb-true, leb-false, ltb-true, ltb-false, eqb-true, eqb-false}
-use Rattle.packet.specs.Header.{leastHeader, bit, headerSize}
+use Rattle.wire.specs.Bytes.{bit}
+use Rattle.packet.specs.Header.{leastHeader, headerSize}
 use Rattle.sender.specs.Piece.{leastRoom, oneByteLength, extended, fits, largest, sizeFor, fullSize}
 
 largest-by : (test : ℕ → Bool) (n k : ℕ) (b : Bool) → eqb k (suc n) ≡ b → k ≤ suc n → test k ≡ true → ((j : ℕ) → k < j → j ≤ suc n → test j ≡ false)

@@ -9,6 +9,10 @@ use Rattle.sender.specs.declared.piece.Piece.{Piece}
 use Rattle.sender.specs.declared.piece.Found.{Found}
 use Rattle.sender.specs.declared.piece.Found.the-variants.{Nowhere, At}
 
+-- n bytes from a place on
+abbrev pub pieceFor : ℕ → ℕ → ℕ → Piece
+pieceFor index place n = record { index = index; place = place; size = n }
+
 -- the rooms: the largest whole packet, in bytes
 abbrev pub leastRoom : ℕ
 leastRoom = 20

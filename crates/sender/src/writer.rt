@@ -101,7 +101,8 @@ fn decide(how: Sending, limit: usize, length: usize, place: usize, space: usize)
     }
 }
 
-fn type_for(first: bool, last: bool) -> u8
+// The type of a packet.
+pub fn type_for(first: bool, last: bool) -> u8
     ensures { λ r. ⌜ (r ≡ typeFor first last) × (r < 4) ⌝ }
 {
     if first {

@@ -100,31 +100,36 @@ lane-four at l h =
     ∙ ap (λ (m : List Slot). getD l (suc at) idle ∷ m)
     (run 1 (suc (suc at)) l (omega arith) ∙ ap (λ (m : List Slot). getD l (suc (suc at)) idle ∷ m) (run 0 (suc (suc (suc at))) l (omega arith))))
 
+-- what holds of any four slots holds of a list of four
+pub by-four : (P : List Slot → Type 0) → ((a b c d : Slot) → P (a ∷ b ∷ c ∷ d ∷ [])) → (lane : List Slot) → length lane ≡ slotsEach → P lane
+by-four P h [] n = absurd (omega arith)
+by-four P h (a ∷ []) n = absurd (omega arith)
+by-four P h (a ∷ b ∷ []) n = absurd (omega arith)
+by-four P h (a ∷ b ∷ c ∷ []) n = absurd (omega arith)
+by-four P h (a ∷ b ∷ c ∷ d ∷ []) n = h a b c d
+by-four P h (a ∷ b ∷ c ∷ d ∷ e ∷ l) n = absurd (omega arith)
+
 -- the law of four
-pub law-four : (limit : ℕ) (lane : List Slot) → length lane ≡ slotsEach
-    → laneLaw limit lane
+abbrev LawFour : ℕ → List Slot → Type 0
+LawFour limit lane =
+    laneLaw limit lane
     ≡ ((lawfulSlot limit (getD lane 0 idle)
     && (lawfulSlot limit (getD lane 1 idle) && (lawfulSlot limit (getD lane 2 idle) && lawfulSlot limit (getD lane 3 idle))))
     && (not (opens (getD lane 0 idle) && anyOpen (getD lane 0 idle .id) (getD lane 1 idle ∷ getD lane 2 idle ∷ getD lane 3 idle ∷ []))
     && (not (opens (getD lane 1 idle) && anyOpen (getD lane 1 idle .id) (getD lane 2 idle ∷ getD lane 3 idle ∷ idle ∷ []))
     && not (opens (getD lane 2 idle) && anyOpen (getD lane 2 idle .id) (getD lane 3 idle ∷ idle ∷ idle ∷ [])))))
-law-four limit [] n = absurd (omega arith)
-law-four limit (a ∷ []) n = absurd (omega arith)
-law-four limit (a ∷ b ∷ []) n = absurd (omega arith)
-law-four limit (a ∷ b ∷ c ∷ []) n = absurd (omega arith)
-law-four limit (a ∷ b ∷ c ∷ d ∷ []) n = simp (and-true, and-false)
-law-four limit (a ∷ b ∷ c ∷ d ∷ e ∷ l) n = absurd (omega arith)
+
+pub law-four : (limit : ℕ) (lane : List Slot) → length lane ≡ slotsEach → LawFour limit lane
+law-four limit = by-four (LawFour limit) (λ a b c d. simp (and-true, and-false))
 
 -- four idle ones
-pub idle-four : (limit : ℕ) (lane : List Slot) → length lane ≡ slotsEach
-    → (idleLaw (getD lane 0 idle) && (idleLaw (getD lane 1 idle) && (idleLaw (getD lane 2 idle) && idleLaw (getD lane 3 idle)))) ≡ true
+abbrev IdleFour : ℕ → List Slot → Type 0
+IdleFour limit lane =
+    (idleLaw (getD lane 0 idle) && (idleLaw (getD lane 1 idle) && (idleLaw (getD lane 2 idle) && idleLaw (getD lane 3 idle)))) ≡ true
     → laneLaw limit lane ≡ true
-idle-four limit [] n e = absurd (omega arith)
-idle-four limit (a ∷ []) n e = absurd (omega arith)
-idle-four limit (a ∷ b ∷ []) n e = absurd (omega arith)
-idle-four limit (a ∷ b ∷ c ∷ []) n e = absurd (omega arith)
-idle-four limit (a ∷ b ∷ c ∷ d ∷ []) n e = idle-lane limit (a ∷ b ∷ c ∷ d ∷ []) (simp (and-true) e)
-idle-four limit (a ∷ b ∷ c ∷ d ∷ f ∷ l) n e = absurd (omega arith)
+
+pub idle-four : (limit : ℕ) (lane : List Slot) → length lane ≡ slotsEach → IdleFour limit lane
+idle-four limit = by-four (IdleFour limit) (λ a b c d e. idle-lane limit (a ∷ b ∷ c ∷ d ∷ []) (simp (and-true) e))
 
 all-split : (limit n : ℕ) (l : List Slot) → allLawful limit l ≡ (allLawful limit (take n l) && allLawful limit (drop n l))
 all-split limit zero l = refl

@@ -9,7 +9,7 @@ use lib.Dec.{ltb, leb, eqb}
 use borrow.Author.Tests.{eq-eqb, eqb-true, ltb-true, leb-true, lt-ltb, le-leb, ne-eqb, not-true}
 use Rattle.wire.specs.declared.stream.Stream.{Stream}
 use Rattle.wire.specs.declared.stream.Stream.the-variants.{Control, Ota, Alexa}
-use Rattle.wire.proofs.Tests.{and-left, and-right}
+use Rattle.wire.proofs.Tests.{and-left, and-right, or-false, or-true}
 use Rattle.slot.specs.declared.Slot.{Slot}
 use Rattle.slot.specs.Slot.{opens, idle, openLaw, idleLaw, lawfulSlot, allLawful, isOpen, anyOpen, distinct, laneLaw, slotsEach, slotCount, laneStart, laneOf, lawful}
 
@@ -152,18 +152,6 @@ all-drop limit (suc n) (s ∷ l) e = all-drop limit n l (and-right (lawfulSlot l
 
 -- ---- ids that are open
 
-or-left : (a b : Bool) → (a || b) ≡ false → a ≡ false
-or-left true b e = absurd (false≢true (sym e))
-or-left false b e = refl
-
-or-right : (a b : Bool) → (a || b) ≡ false → b ≡ false
-or-right true b e = absurd (false≢true (sym e))
-or-right false b e = e
-
-or-true : (a b : Bool) → b ≡ true → (a || b) ≡ true
-or-true true b e = refl
-or-true false b e = e
-
 open-self : (s : Slot) → opens s ≡ true → isOpen (s .id) s ≡ true
 open-self s o = rw (o, eq-eqb (s .id) (s .id) refl)
 
@@ -176,8 +164,8 @@ any-at id (x ∷ l) (suc i) o = or-true (isOpen id x) _ (any-at id l i o)
 -- an id that is open nowhere is open nowhere after a store of a slot that has another
 pub any-set : (id : ℕ) (l : List Slot) (i : ℕ) (s : Slot) → anyOpen id l ≡ false → isOpen id s ≡ false → anyOpen id (set l i s) ≡ false
 any-set id [] i s e h = refl
-any-set id (x ∷ l) zero s e h = rw h (or-right (isOpen id x) _ e)
-any-set id (x ∷ l) (suc i) s e h = rw (or-left (isOpen id x) _ e) (any-set id l i s (or-right (isOpen id x) _ e) h)
+any-set id (x ∷ l) zero s e h = rw h (or-false (isOpen id x) _ e .1)
+any-set id (x ∷ l) (suc i) s e h = let n = or-false (isOpen id x) _ e in rw (n .0) (any-set id l i s (n .1) h)
 
 -- no slot of l is open with the id of x, where that is open
 abbrev pub unlike : Slot → List Slot → Bool
@@ -210,7 +198,7 @@ Alone l i s = (id : ℕ) → isOpen id s ≡ true → anyOpen id (set l i idle) 
 head-apart : (x : Slot) (l : List Slot) (i : ℕ) (s : Slot) (a b : Bool) → opens x ≡ a → isOpen (x .id) s ≡ b
     → (isOpen (x .id) s ≡ true → anyOpen (x .id) (x ∷ set l i idle) ≡ false) → unlike x l ≡ true → unlike x (set l i s) ≡ true
 head-apart x l i s false b ea eb h e = rw ea
-head-apart x l i s true true ea eb h e = absurd (false≢true (sym (or-left (isOpen (x .id) x) _ (h eb)) ∙ open-self x ea))
+head-apart x l i s true true ea eb h e = absurd (false≢true (sym (or-false (isOpen (x .id) x) _ (h eb) .0) ∙ open-self x ea))
 head-apart x l i s true false ea eb h e = rw (ea, any-set (x .id) l i s (apart-says x l ea e) eb)
 
 first-apart : (s : Slot) (l : List Slot) (a : Bool) → opens s ≡ a → (isOpen (s .id) s ≡ true → anyOpen (s .id) l ≡ false) → unlike s l ≡ true
@@ -222,7 +210,7 @@ distinct-set [] i s e h = refl
 distinct-set (x ∷ l) zero s e h = rw (first-apart s l (opens s) refl (λ o. h (s .id) o)) (and-right (unlike x l) _ e)
 distinct-set (x ∷ l) (suc i) s e h =
     rw (head-apart x l i s (opens x) (isOpen (x .id) s) refl refl (λ o. h (x .id) o) (and-left (unlike x l) _ e))
-    (distinct-set l i s (and-right (unlike x l) _ e) (λ id o. or-right (isOpen id x) _ (h id o)))
+    (distinct-set l i s (and-right (unlike x l) _ e) (λ id o. or-false (isOpen id x) _ (h id o) .1))
 
 -- ---- a lawful row
 

@@ -5,6 +5,7 @@ use mathlib.Core.List.{List, [], _∷_}
 use mathlib.Core.Bool.{Bool, true, false, not, cond, _&&_, _||_}
 use lib.ListN.{length, take, drop, replicate}
 use lib.Dec.{leb, ltb, eqb}
+use Rattle.wire.specs.Those.{any}
 use Rattle.wire.specs.declared.stream.Stream.{Stream}
 use Rattle.wire.specs.declared.stream.Stream.the-variants.{Control, Ota, Alexa}
 use Rattle.packet.specs.Header.{fourBits}
@@ -50,12 +51,10 @@ isIdle s = not (opens s)
 -- ---- the slots of a stream
 
 abbrev pub anyOpen : ℕ → List Slot → Bool
-anyOpen id [] = false
-anyOpen id (s ∷ ss) = isOpen id s || anyOpen id ss
+anyOpen id = any (isOpen id)
 
 abbrev pub anyIdle : List Slot → Bool
-anyIdle [] = false
-anyIdle (s ∷ ss) = isIdle s || anyIdle ss
+anyIdle = any isIdle
 
 -- no two open slots have one id
 abbrev pub distinct : List Slot → Bool

@@ -9,21 +9,24 @@ use mathlib.Core.Bool.{Bool, true, false, cond, _||_, false≢true}
 use lib.ListN.{length, getD, set}
 use lib.Dec.{eqb}
 use borrow.Author.Tests.{eqb-true, eqb-false, leb-false, not-true, not-false}
+use Rattle.wire.specs.Those.{any}
+use Rattle.wire.specs.Bytes.{bit}
 use Rattle.wire.specs.declared.stream.Stream.{Stream}
 use Rattle.wire.proofs.Tests.{and-left, and-right}
 use Rattle.wire.proofs.Tables.{by-table}
 use Rattle.packet.specs.declared.reader.Head.{Head}
 use Rattle.packet.specs.declared.reader.Packet.{Packet}
 use Rattle.packet.specs.declared.reader.Packet.the-variants.{First, Next, Ack, Nack}
-use Rattle.packet.specs.Header.{bit}
 use Rattle.packet.specs.Reader.{headIn}
+use Rattle.packet.proofs.Headers.{bit-low}
 use Rattle.packet.proofs.Reading.{HeadLow, PayloadWithin}
 use Rattle.slot.specs.declared.Slot.{Slot}
 use Rattle.slot_steps.specs.declared.PayloadPlace.{PayloadPlace}
 use Rattle.slot.specs.Slot.{opens, wants, idle, isOpen, isIdle, lawfulSlot, allLawful, anyOpen, anyIdle, distinct, slotsEach, laneStart, laneOf}
 use Rattle.slot_steps.specs.Step.{Step, step, finish, hold, dropBy, firstStep, offTotal, lines, nextStep, further, placeWhere, atPlace, openPlace, orElse, firstPlace, actOf}
 use Rattle.slot_steps.specs.Fit.{InsidePart, Fit, ActFits, Own, ActOwns, Small}
-use Rattle.slot.proofs.Lanes.{lane-other}
+use Rattle.slot_steps.proofs.Each.{EachStep, first-each, next-each, at-each}
+use Rattle.slot.proofs.Lanes.{by-four, lane-other}
 use Rattle.slot.proofs.Slots.{OpenSlot, lawful-open, open-lawful, idle-lawful, all-at, any-at, any-set, unlike, head-other, alone-at}
 
 -- ---- the slots of a stream
@@ -38,16 +41,14 @@ further-cond true o q = refl
 further-cond false o q = refl
 
 -- the first slot of four that passes a test
-pub where-four : (test : Slot → Bool) (lane : List Slot) → length lane ≡ slotsEach
-    → placeWhere test lane
+abbrev WhereFour : (Slot → Bool) → List Slot → Type 0
+WhereFour test lane =
+    placeWhere test lane
     ≡ cond (test (getD lane 0 idle)) (some 0)
     (cond (test (getD lane 1 idle)) (some 1) (cond (test (getD lane 2 idle)) (some 2) (cond (test (getD lane 3 idle)) (some 3) none)))
-where-four test [] n = absurd (omega arith)
-where-four test (a ∷ []) n = absurd (omega arith)
-where-four test (a ∷ b ∷ []) n = absurd (omega arith)
-where-four test (a ∷ b ∷ c ∷ []) n = absurd (omega arith)
-where-four test (a ∷ b ∷ c ∷ d ∷ []) n = simp further-cond
-where-four test (a ∷ b ∷ c ∷ d ∷ e ∷ l) n = absurd (omega arith)
+
+pub where-four : (test : Slot → Bool) (lane : List Slot) → length lane ≡ slotsEach → WhereFour test lane
+where-four test = by-four (WhereFour test) (λ a b c d. simp further-cond)
 
 -- ---- the place that is found
 
@@ -124,10 +125,6 @@ open-below lane id place n e = omega (arith, n, found (isOpen id) lane place (sy
 
 -- at a place among its stream's slots, and a place of the row
 module _ (limit k place at : ℕ) (low : place < slotsEach) where
-  bit-low : (b : Bool) → bit b < 2
-  bit-low true = omega arith
-  bit-low false = omega arith
-
   drop-fits : (n : ℕ) → Fit limit k place (dropBy n)
   unfolding dropBy
   drop-fits n = record { within = low; inside = (omega arith, omega arith); left = idle-lawful limit }
@@ -183,19 +180,14 @@ module _ (limit k place at : ℕ) (low : place < slotsEach) where
 
 -- ---- what a packet does fits
 
-at-fits : (limit k n : ℕ) (f : ℕ → Step) (o : Option ℕ) → ((place : ℕ) → o ≡ some place → Fit limit k place (f place))
-    → ActFits limit k (atPlace n f o)
-at-fits limit k n f none h = tt
-at-fits limit k n f (some place) h = h place refl
-
 -- a packet that was read, on the lawful slots of its stream
 pub act-fits : (limit k first : ℕ) (lane : List Slot) (x : Packet) → length lane ≤ slotsEach → allLawful limit lane ≡ true → PayloadWithin limit k x
     → ActFits limit k (actOf first lane x)
 act-fits limit k first lane (First h ack total start len) short law w =
-    at-fits limit k _ (λ place. firstStep (first + place) (getD lane place idle) h ack total start len) (firstPlace lane (h .id)) (λ place e.
+    at-each (ActFits limit k) _ (λ place. firstStep (first + place) (getD lane place idle) h ack total start len) (firstPlace lane (h .id)) tt (λ place e.
     first-fits limit k place (first + place) (omega (arith, chosen-low lane (h .id) place (chosen lane (h .id) place e))) (getD lane place idle) h ack total start len (eqb len total) refl w)
 act-fits limit k first lane (Next h ack last start len) short law w =
-    at-fits limit k _ (λ place. nextStep (first + place) (getD lane place idle) h ack last start len) (openPlace lane (h .id)) (λ place e.
+    at-each (ActFits limit k) _ (λ place. nextStep (first + place) (getD lane place idle) h ack last start len) (openPlace lane (h .id)) tt (λ place e.
     let f = found (isOpen (h .id)) lane place e in
     next-fits limit k place (first + place) (omega (arith, f .below)) (getD lane place idle) h ack last start len (all-at limit lane place law) (f .passes) w)
 act-fits limit k first lane (Ack h) short law w = tt
@@ -207,32 +199,15 @@ act-fits limit k first lane (Nack h) short law w = tt
 abbrev Names : ℕ → Step → Type 0
 Names id s = (i : ℕ) → isOpen i (s .slot) ≡ true → i ≡ id
 
-finish-names : (at : ℕ) (h : Head) (wanted : Bool) (total : ℕ) (replaced : Bool) (payload : PayloadPlace) → Names (h .id) (finish at h wanted total replaced payload)
-unfolding finish
-finish-names at h wanted total replaced payload i o = absurd (false≢true o)
-
-hold-names : (at : ℕ) (h : Head) (wanted : Bool) (total : ℕ) (replaced : Bool) (payload : PayloadPlace) → Names (h .id) (hold at h wanted total replaced payload)
-unfolding hold
-hold-names at h wanted total replaced payload i o = sym (eqb-true (h .id) i o)
-
-drop-names : (id n : ℕ) → Names id (dropBy n)
-unfolding dropBy
-drop-names id n i o = absurd (false≢true o)
-
-either-names : (id : ℕ) (b : Bool) (s t : Step) → Names id s → Names id t → Names id (cond b s t)
-either-names id true s t u v = u
-either-names id false s t u v = v
-
-first-names : (at : ℕ) (s : Slot) (h : Head) (ack : Bool) (total start len : ℕ) → Names (h .id) (firstStep at s h ack total start len)
-unfolding firstStep
-first-names at s h ack total start len =
-    either-names (h .id) (eqb len total) _ _ (finish-names at h _ total _ _) (hold-names at h _ total _ _)
-
-next-names : (at : ℕ) (s : Slot) (h : Head) (ack last : Bool) (start len : ℕ) → Names (h .id) (nextStep at s h ack last start len)
-unfolding nextStep
-next-names at s h ack last start len =
-    by-table (Names (h .id)) (lines s h last len) dropBy _ (drop-names (h .id)) (λ e.
-    either-names (h .id) last _ _ (finish-names at h _ (s .total) false _) (hold-names at h _ (s .total) false _))
+each-names : (h : Head) → EachStep h (Names (h .id))
+unfolding finish hold dropBy
+each-names h =
+    record {
+      finished = λ at wanted total replaced payload i o. absurd (false≢true o);
+      held = λ at wanted total replaced payload i o. sym (eqb-true (h .id) i o);
+      ten = λ i o. absurd (false≢true o);
+      eleven = λ i o. absurd (false≢true o);
+    }
 
 -- a step at a place where the packet's id is open, or at an idle slot where it is open nowhere
 own-again : (lane : List Slot) (id place : ℕ) (s : Step) → distinct lane ≡ true → Names id s → FoundSlot (isOpen id) lane place → Own id lane place s
@@ -250,18 +225,13 @@ own-chosen lane id place s law names (fresh f n) =
       was = λ o. absurd (false≢true (sym (not-true (opens (getD lane place idle)) (f .passes)) ∙ o));
     }
 
-at-owns : (id n : ℕ) (lane : List Slot) (f : ℕ → Step) (o : Option ℕ) → ((place : ℕ) → o ≡ some place → Own id lane place (f place))
-    → ActOwns id lane (atPlace n f o)
-at-owns id n lane f none h = tt
-at-owns id n lane f (some place) h = h place refl
-
 pub act-owns : (first : ℕ) (lane : List Slot) (x : Packet) → distinct lane ≡ true → ActOwns (headIn x .id) lane (actOf first lane x)
 act-owns first lane (First h ack total start len) law =
-    at-owns (h .id) _ lane (λ place. firstStep (first + place) (getD lane place idle) h ack total start len) (firstPlace lane (h .id)) (λ place e.
-    own-chosen lane (h .id) place _ law (first-names (first + place) (getD lane place idle) h ack total start len) (chosen lane (h .id) place e))
+    at-each (ActOwns (h .id) lane) _ (λ place. firstStep (first + place) (getD lane place idle) h ack total start len) (firstPlace lane (h .id)) tt (λ place e.
+    own-chosen lane (h .id) place _ law (first-each (Names (h .id)) (each-names h) (first + place) (getD lane place idle) ack total start len) (chosen lane (h .id) place e))
 act-owns first lane (Next h ack last start len) law =
-    at-owns (h .id) _ lane (λ place. nextStep (first + place) (getD lane place idle) h ack last start len) (openPlace lane (h .id)) (λ place e.
-    own-again lane (h .id) place _ law (next-names (first + place) (getD lane place idle) h ack last start len) (found (isOpen (h .id)) lane place e))
+    at-each (ActOwns (h .id) lane) _ (λ place. nextStep (first + place) (getD lane place idle) h ack last start len) (openPlace lane (h .id)) tt (λ place e.
+    own-again lane (h .id) place _ law (next-each (Names (h .id)) (each-names h) (first + place) (getD lane place idle) ack last start len) (found (isOpen (h .id)) lane place e))
 act-owns first lane (Ack h) law = tt
 act-owns first lane (Nack h) law = tt
 
@@ -287,13 +257,9 @@ some-by : (test : Slot → Bool) (x : Slot) (l : List Slot) (b : Bool) → test 
 some-by test x l true e later = record { place = 0; is = rw e }
 some-by test x l false e later = rw e (some-further (placeWhere test l) (later refl))
 
-some-open : (id : ℕ) (l : List Slot) → anyOpen id l ≡ true → Some (openPlace l id)
-some-open id [] e = absurd (false≢true e)
-some-open id (x ∷ l) e = some-by (isOpen id) x l (isOpen id x) refl (λ n. some-open id l (rw n at e))
-
-some-idle : (l : List Slot) → anyIdle l ≡ true → Some (placeWhere isIdle l)
-some-idle [] e = absurd (false≢true e)
-some-idle (x ∷ l) e = some-by isIdle x l (isIdle x) refl (λ n. some-idle l (rw n at e))
+some-where : (test : Slot → Bool) (l : List Slot) → any test l ≡ true → Some (placeWhere test l)
+some-where test [] e = absurd (false≢true e)
+some-where test (x ∷ l) e = some-by test x l (test x) refl (λ n. some-where test l (rw n at e))
 
 or-first : (o q : Option ℕ) → Some o → Some (orElse o q)
 or-first o q k = record { place = k .place; is = ap (λ (x : Option ℕ). orElse x q) (k .is) }
@@ -303,8 +269,8 @@ or-else none q k = k
 or-else (some place) q k = record { place = place; is = refl }
 
 first-by : (lane : List Slot) (id : ℕ) (b : Bool) → anyOpen id lane ≡ b → (anyOpen id lane || anyIdle lane) ≡ true → Some (firstPlace lane id)
-first-by lane id true e h = or-first (openPlace lane id) (placeWhere isIdle lane) (some-open id lane e)
-first-by lane id false e h = or-else (openPlace lane id) (placeWhere isIdle lane) (some-idle lane (rw e at h))
+first-by lane id true e h = or-first (openPlace lane id) (placeWhere isIdle lane) (some-where (isOpen id) lane e)
+first-by lane id false e h = or-else (openPlace lane id) (placeWhere isIdle lane) (some-where isIdle lane (rw e at h))
 
 -- a first packet finds a slot where its id is open or one is idle
 pub first-found : (lane : List Slot) (id : ℕ) → (anyOpen id lane || anyIdle lane) ≡ true → Some (firstPlace lane id)

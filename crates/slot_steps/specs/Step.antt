@@ -5,11 +5,12 @@ use mathlib.Core.Option.{Option, none, some}
 use mathlib.Core.Bool.{Bool, false, not, cond, _||_}
 use lib.ListN.{getD}
 use lib.Dec.{leb, eqb}
+use Rattle.wire.specs.Bytes.{bit}
 use Rattle.wire.specs.Told.{Told, given, refused, Line, line, table}
 use Rattle.packet.specs.declared.reader.Head.{Head}
 use Rattle.packet.specs.declared.reader.Packet.{Packet}
 use Rattle.packet.specs.declared.reader.Packet.the-variants.{First, Next, Ack, Nack}
-use Rattle.packet.specs.Header.{bit, sequenceAfter}
+use Rattle.packet.specs.Header.{sequenceAfter}
 use Rattle.slot.specs.declared.Slot.{Slot}
 use Rattle.slot_steps.specs.declared.PayloadPlace.{PayloadPlace}
 use Rattle.slot.specs.declared.answer.Accepted.{Accepted}

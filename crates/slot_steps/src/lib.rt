@@ -11,6 +11,7 @@ use slot::answer::Answer;
 use slot::answer::Refusal;
 use slot::narrow;
 use slot::wide;
+use wire::bytes::bit;
 use wire::logic::either;
 ghost use mathlib.Core.Path.{_≡_};
 ghost use Prim.Native.Nat.{_+_, _^_, _≤_, _<_};
@@ -79,7 +80,7 @@ fn hold(
     ensures { λ r. ⌜ stepOf r ≡ hold place head wanted total replaced payload ⌝ }
 {
     let stream = head.stream;
-    let flag = header::bit(wanted);
+    let flag = bit(wanted);
     let whole = narrow(total);
     let held = narrow(payload.at + payload.len);
     Step {

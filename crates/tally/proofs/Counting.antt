@@ -6,8 +6,9 @@ use mathlib.Core.List.{List, [], _∷_}
 use mathlib.Core.Bool.{Bool, true, false, cond}
 use lib.ListN.{length, getD}
 use lib.Dec.{eqb}
+use Rattle.wire.specs.Bytes.{bit}
 use Rattle.wire.specs.Those.{those}
-use Rattle.packet.specs.Header.{bit, streamBits, isOf}
+use Rattle.packet.specs.Header.{streamBits, isOf}
 use Rattle.slot.specs.declared.Slot.{Slot}
 use Rattle.slot.specs.Slot.{opens, idle, slotsEach}
 

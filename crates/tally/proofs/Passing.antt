@@ -16,9 +16,8 @@ use Rattle.slot.specs.declared.answer.Accepted.{Accepted}
 use Rattle.slot.specs.Answer.{told}
 use Rattle.receiver.specs.declared.Outcome as code
 use Rattle.receiver.specs.Receiver.{Result, result, PacketLeft, acceptOf}
-use Rattle.receiver.specs.Outcome.{effect, outcomeOf, decided, leftBy, firstTwelve}
-use Rattle.receiver.proofs.Outcomes.{decided-left}
-use Rattle.link.proofs.Rows.{saved-loaded, saved-twelve}
+use Rattle.receiver.specs.Outcome.{effect, outcomeOf, decided, leftBy}
+use Rattle.receiver.proofs.Outcomes.{twelve, decided-left}
 use Rattle.report.specs.declared.CostReport.{CostReport}
 use Rattle.report.specs.Costs.{heard}
 use Rattle.report.specs.Report.{callFor, CaptureAdded, captureAdded}
@@ -27,11 +26,6 @@ use Rattle.tally.specs.declared.Tally.{Tally}
 use Rattle.tally.specs.Tally.{toldSum, tallied, gaveOf, turnOf, passedOf}
 
 -- ---- one packet
-
--- a row of twelve is what the rules see
-twelve : (row : List Slot) → length row ≡ slotCount → firstTwelve row ≡ row
-unfolding firstTwelve
-twelve row e = sym (saved-twelve row (firstTwelve row) e refl) ∙ saved-loaded row
 
 module _ (limit : ℕ) (slots : List Slot) (bytes p : List ℕ) (e : length slots ≡ slotCount) where
   accepted : leftBy slots (decided slotCount limit slots bytes (callFor p)) ≡ acceptOf limit slots bytes (callFor p)

@@ -6,15 +6,15 @@ use slot::Slot;
 use slot::answer::Accepted;
 use slot::answer::Answer;
 use slot::lane_of;
+use wire::bytes::bit64;
 use wire::bytes::byte_at;
 use wire::logic::both;
 use wire::logic::either;
 use wire::stream::Stream;
 ghost use mathlib.Core.Path.{_≡_};
-ghost use mathlib.Core.Bool.{cond, _||_};
+ghost use mathlib.Core.Bool.{cond, _&&_, _||_};
 ghost use lib.Dec.{eqb};
 ghost use lib.ListN.{length};
-ghost use Prim.Native.Nat.{_≤_};
 ghost use Rattle.wire.specs.Told.{given};
 ghost use Rattle.wire.specs.Those.{those};
 ghost use Rattle.packet.specs.Header as headers;
@@ -22,8 +22,8 @@ ghost use Rattle.packet.specs.Reader as reader;
 ghost use Rattle.slot.specs.Slot.{opens};
 ghost use Rattle.slot.specs.Answer.{told};
 ghost use Rattle.report.specs.Costs.{heard};
-ghost use Rattle.report.specs.Turns.{reportWith, openCosts, openReport};
-ghost use Rattle.tally.specs.Count.{marksOf, costsBy};
+ghost use Rattle.report.specs.Turns.{costsBy, reportWith, openCosts, openReport};
+ghost use Rattle.tally.specs.Count.{marksOf};
 
 // What of an answer counts.
 struct Marks {
@@ -32,12 +32,6 @@ struct Marks {
     replaces: bool,
     drops: bool,
     payload: u64,
-}
-
-fn one_if(b: bool) -> u64
-    ensures { λ r. ⌜ (r ≡ headers.bit b) × (r ≤ 1) ⌝ }
-{
-    if b { 1 } else { 0 }
 }
 
 fn amount_if(b: bool, n: u64) -> u64
@@ -116,12 +110,13 @@ fn is_of(packet: &[u8], number: u8) -> bool
 }
 
 fn costs_of(mine: bool, first: bool, marks: Marks, size: u64) -> Costs
-    ensures { λ r. ⌜ r ≡ costsBy mine first marks size ⌝ }
+    ensures { λ r. ⌜ r
+        ≡ costsBy mine (marks .accepts && first) (marks .finishes) (marks .replaces) (marks .drops) (marks .payload) size ⌝ }
 {
-    let firsts = one_if(both(mine, both(marks.accepts, first)));
-    let finished = one_if(both(mine, marks.finishes));
-    let replaced = one_if(both(mine, marks.replaces));
-    let dropped = one_if(both(mine, marks.drops));
+    let firsts = bit64(both(mine, both(marks.accepts, first)));
+    let finished = bit64(both(mine, marks.finishes));
+    let replaced = bit64(both(mine, marks.replaces));
+    let dropped = bit64(both(mine, marks.drops));
     let payload = amount_if(both(mine, marks.finishes), marks.payload);
     let bytes = amount_if(mine, size);
     Costs {
@@ -156,10 +151,10 @@ pub fn report_with(packet: &[u8], answer: Answer) -> CostReport
 fn open_among(lane: [Slot; 4]) -> u64
     ensures { λ r. ⌜ r ≡ length (those opens lane) ⌝ }
 {
-    let a = one_if(lane[0].opens());
-    let b = one_if(lane[1].opens());
-    let c = one_if(lane[2].opens());
-    let d = one_if(lane[3].opens());
+    let a = bit64(lane[0].opens());
+    let b = bit64(lane[1].opens());
+    let c = bit64(lane[2].opens());
+    let d = bit64(lane[3].opens());
     a + (b + (c + d))
 }
 

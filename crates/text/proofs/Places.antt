@@ -12,6 +12,8 @@ use lib.Bits.{bitAnd, bitOr, or-lt, or-add-and, and-le-l, and-le-r}
 use borrow.Author.Tests.{eq-eqb, ne-eqb, eqb-true, eqb-false, ltb-true, ltb-false, leb-true, leb-false, le-leb, lt-leb}
 use Rattle.wire.specs.Bytes.{AllBytes}
 use Rattle.wire.specs.Scan.{inRange, anyInRange, Clear}
+use Rattle.wire.proofs.ByteLists.{bytes-take}
+use Rattle.wire.proofs.Parts.{rest-lent}
 use Rattle.wire.proofs.Runs.{any-first, clear-block, Seeking, seek-hit, seek-miss}
 use Rattle.text.specs.Table.{described}
 use Rattle.text.specs.WellFormed.{WellFormed, empty, more, sequenceAt, badIn, badPlace, Passes}
@@ -120,7 +122,7 @@ place-ascii b s h =
     omega (arith, n)
 
 -- a byte that is not above ASCII
-not-above : (b : ℕ) → b < 256 → inRange 128 255 b ≡ false → b < 128
+pub not-above : (b : ℕ) → b < 256 → inRange 128 255 b ≡ false → b < 128
 unfolding inRange
 not-above b h e = by (ltb b 128) refl
   where
@@ -170,11 +172,6 @@ place-run (b ∷ q) s bytes e =
     let r = any-first 128 255 b q e in
     omega (arith, place-ascii b (q ++ s) (not-above b (bytes .0) (r .0)), place-run q s (bytes .1) (r .1))
 
-bytes-take : (n : ℕ) (s : List ℕ) → AllBytes s → AllBytes (take n s)
-bytes-take zero s h = tt
-bytes-take (suc n) [] h = tt
-bytes-take (suc n) (b ∷ s) h = (h .0, bytes-take n s (h .1))
-
 -- .. by a count of bytes
 place-clear : (s : List ℕ) (n : ℕ) → AllBytes s → Clear 128 255 s n → badPlace s ≡ n + badPlace (drop n s)
 place-clear s n bytes k =
@@ -191,21 +188,17 @@ pub all-bytes : (l : List ℕ) → ((i : ℕ) → getD l i 0 < 256) → AllBytes
 all-bytes [] h = tt
 all-bytes (b ∷ l) h = (h 0, all-bytes l (λ i. h (suc i)))
 
--- the part from a place on is all that follows
-all-after : (s : List ℕ) (at : ℕ) → take (length s - at) (drop at s) ≡ drop at s
-all-after s at = take-all (length s - at) (drop at s) (omega (arith, length-drop at s))
-
 bytes-after : (s : List ℕ) (at : ℕ) → ((i : ℕ) → getD s i 0 < 256) → AllBytes (drop at s)
 bytes-after s at h = all-bytes (drop at s) (λ i. rw (getD-drop at s i 0) (h (at + i)))
 
 -- what stands at a place: a sequence, or a run of ASCII
 module _ (s : List ℕ) (at n : ℕ) where
   pub passes-part : at < length s → n ≡ sequenceAt (take (length s - at) (drop at s)) → Passes (drop at s) n
-  passes-part h e = passes-sequence (drop at s) n (e ∙ ap sequenceAt (all-after s at))
+  passes-part h e = passes-sequence (drop at s) n (e ∙ ap sequenceAt (rest-lent s at))
 
   pub passes-run : ((i : ℕ) → getD s i 0 < 256) → at < length s → getD s at 0 < 128 → Clear 128 255 (take (length s - (at + 1)) (drop (at + 1) s)) n → Passes (drop at s) (1 + n)
   passes-run bytes h ascii k =
-      let c : Clear 128 255 (drop (suc at) s) n = rw (all-after s (at + 1), add-one) at k in
+      let c : Clear 128 255 (drop (suc at) s) n = rw (rest-lent s (at + 1), add-one) at k in
       let m : 1 + n ≡ suc n = omega arith in
       rw (drop-cons s at 0 h, m) (passes-ascii (getD s at 0) (drop (suc at) s) n (bytes-after s (suc at) bytes) ascii c)
 

@@ -9,7 +9,7 @@ use lib.ListN.{length, getD, take, drop, length-take, take-append-drop, drop-of-
 use lib.Seq.{take-nil, drop-cons, take-append-seam}
 use lib.Dec.{leb, eqb}
 use borrow.Author.Tests.{leb-true, le-leb, lt-leb, eqb-true, eqb-false}
-use Rattle.wire.proofs.Tests.{and-left, and-right}
+use Rattle.wire.proofs.Tests.{and-left, and-right, or-true}
 use Rattle.text.specs.declared.table.Range.{Range}
 use Rattle.text.specs.declared.table.Row.{Row}
 use Rattle.text.specs.Table.{rows, within, describes, anyDescribes, described, begins, noRange, leadRow, rowOf, padded}
@@ -98,9 +98,9 @@ none-below n (r ∷ rs) b q e h =
     let l = rise-last n r rs e in
     rw (describes-first r b q (below (first r) b (omega arith))) (none-below (suc (first r .1)) rs b q (rise-rest n r rs e) (omega arith))
 
-or-false : (a b : Bool) → (a || b) ≡ true → b ≡ false → a ≡ true
-or-false true b e f = refl
-or-false false b e f = absurd (false≢true (sym f ∙ e))
+one-left : (a b : Bool) → (a || b) ≡ true → b ≡ false → a ≡ true
+one-left true b e f = refl
+one-left false b e f = absurd (false≢true (sym f ∙ e))
 
 only-row : (n : ℕ) (rs : List (List Range)) (b : ℕ) (q : List ℕ) → rising n rs ≡ true → anyDescribes rs (b ∷ q) ≡ true → describes (leadRow rs b) (b ∷ q) ≡ true
 only-row n [] b q e d = absurd (false≢true d)
@@ -110,18 +110,10 @@ only-row n (r ∷ rs) b q e d = by-first (within (first r) b) refl (λ k. only-r
         → describes (cond t r (leadRow rs b)) (b ∷ q) ≡ true
     by-first true w h =
         let l = up-to (first r) b w in
-        or-false (describes r (b ∷ q)) (anyDescribes rs (b ∷ q)) d (none-below (suc (first r .1)) rs b q (rise-rest n r rs e) (omega arith))
+        one-left (describes r (b ∷ q)) (anyDescribes rs (b ∷ q)) d (none-below (suc (first r .1)) rs b q (rise-rest n r rs e) (omega arith))
     by-first false w h = h (rw (describes-first r b q w) at d)
 
 -- a row that a byte begins is one of the table
-or-true : (a b : Bool) → a ≡ true → (a || b) ≡ true
-or-true true b e = refl
-or-true false b e = absurd (false≢true e)
-
-or-right : (a b : Bool) → b ≡ true → (a || b) ≡ true
-or-right true b e = refl
-or-right false b e = e
-
 lead-any : (rs : List (List Range)) (b : ℕ) (q : List ℕ) → (length q ≡ 0 → ⊥) → describes (leadRow rs b) q ≡ true → anyDescribes rs q ≡ true
 lead-any [] b [] n d = absurd (n refl)
 lead-any [] b (x ∷ q) n d = absurd (false≢true d)
@@ -129,8 +121,8 @@ lead-any (r ∷ rs) b q n d = by-first (within (first r) b) d (λ k. lead-any rs
   where
     by-first : (t : Bool) → describes (cond t r (leadRow rs b)) q ≡ true → (describes (leadRow rs b) q ≡ true → anyDescribes rs q ≡ true)
         → (describes r q || anyDescribes rs q) ≡ true
-    by-first true k h = or-true (describes r q) (anyDescribes rs q) k
-    by-first false k h = or-right (describes r q) (anyDescribes rs q) (h k)
+    by-first true k h = rw k
+    by-first false k h = or-true (describes r q) (anyDescribes rs q) (h k)
 
 -- ---- the loop over the rows
 nine : length rows ≡ 9

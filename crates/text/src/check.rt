@@ -12,9 +12,9 @@ ghost use Rattle.text.specs.Table.{begins};
 ghost use Rattle.text.specs.WellFormed.{sequenceAt, badPlace, Passes};
 
 // The bytes above ASCII.
-const FIRST_ABOVE: u8 = 0x80;
+pub const FIRST_ABOVE: u8 = 0x80;
 
-const LAST_ABOVE: u8 = 0xFF;
+pub const LAST_ABOVE: u8 = 0xFF;
 
 // Bytes that are tested at once.
 const BLOCK: usize = 16;

@@ -32,7 +32,7 @@ AllWellFormed [] = Unit {0}
 AllWellFormed (t ∷ ts) = WellFormed (t .1) × AllWellFormed ts
 
 -- 36 with the field and the place, or what is left to judge
-abbrev pub faulted : TextFault → List ℕ → WrittenOf (ℕ × List ℕ) ℕ → WrittenOf (ℕ × List ℕ) ℕ
+abbrev pub faulted : {A : Type 0} → TextFault → List ℕ → WrittenOf (ℕ × List ℕ) A → WrittenOf (ℕ × List ℕ) A
 faulted None out rest = rest
 faulted (At field place) out rest = written (refused (36, field ∷ place ∷ [])) out
 

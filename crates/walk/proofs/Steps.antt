@@ -8,6 +8,7 @@ use lib.Dec.{leb, eqb}
 use lib.ListN.{length, take}
 use borrow.Author.Tests.{leb-false, eqb-true}
 use Rattle.wire.specs.Told.{Told, alone, given, refused, andThen}
+use Rattle.wire.proofs.Tests.{by-cond}
 use Rattle.field.specs.declared.tag.FieldHead.{FieldHead}
 use Rattle.field.specs.declared.value.Part.{Part}
 use Rattle.field.specs.declared.value.Value.{Value}
@@ -17,7 +18,7 @@ use Rattle.field.specs.Tag.{tagAt}
 use Rattle.field.specs.Value.{valueAt, Within, valueParts, bytesOf}
 use Rattle.text.specs.WellFormed.{empty, badPlace}
 use Rattle.text.proofs.Places.{whole-well-formed}
-use Rattle.field.proofs.Told.{Sat, sat-any, sat-cond, sat-then, sat-given}
+use Rattle.field.proofs.Told.{Sat, sat-any, sat-then, sat-given}
 use Rattle.field.proofs.Varints.{Ends, varint-ends}
 use Rattle.field.proofs.Places.{tag-ends, Held, value-held, within-set}
 use Rattle.known_fields.specs.declared.Schema.{Schema}
@@ -94,9 +95,9 @@ judged-counts : (role : Role) (wire member count : ℕ) → Sat (λ (u : Unit {0
 unfolding judged
 judged-counts role wire member count =
     let P : Unit {0} → Type 0 = λ u. isRepeated role ≡ true → count < mostRepeated in
-    sat-cond P (not (fitsRole role wire)) (refused 33) _ (λ _. tt)
-    (λ _. sat-cond P (isMember role wire && not (eqb member 0)) (refused 34) _ (λ _. tt)
-    (λ _. sat-cond P (isRepeated role && leb mostRepeated count) (refused 34) (given tt) (λ _. tt)
+    by-cond (Sat P) (not (fitsRole role wire)) (refused 33) _ (λ _. tt)
+    (λ _. by-cond (Sat P) (isMember role wire && not (eqb member 0)) (refused 34) _ (λ _. tt)
+    (λ _. by-cond (Sat P) (isRepeated role && leb mostRepeated count) (refused 34) (given tt) (λ _. tt)
     (λ t e. omega (arith, leb-false mostRepeated count (sym (ap (λ b. b && leb mostRepeated count) e) ∙ t)))))
 
 value-counts : (count : ℕ) (role : Role) (field : ℕ) (v : Value) → (isRepeated role ≡ true → count < mostRepeated) → Counts count (valueAdded role field v)
@@ -160,7 +161,7 @@ Inside s g = Within s (partsGathered g) × (g .count ≤ mostTransports) × AllT
 
 transport-inside : (s : List ℕ) (v : ℕ) (g : Gathered) → Inside s g → Sat (Inside s) (withTransport v g)
 unfolding withTransport
-transport-inside s v g w = sat-cond (Inside s) (leb 8 (g .count)) (refused 34) _ (λ _. tt) (λ t. (w .0, omega (arith, leb-false 8 (g .count) t), w .2))
+transport-inside s v g w = by-cond (Sat (Inside s)) (leb 8 (g .count)) (refused 34) _ (λ _. tt) (λ t. (w .0, omega (arith, leb-false 8 (g .count) t), w .2))
 
 entries-inside : (s t : List ℕ) (at : ℕ) (g : Gathered) → Inside s g → Sat (Inside s) (packedFrom t at g)
 unfolding packedFrom entryAt
@@ -174,7 +175,7 @@ entries-inside s t at g w =
 string-inside : (s : List ℕ) (field slot : ℕ) (p : Part) (g : Gathered) → p .start + p .len ≤ length s → Inside s g → Sat (Inside s) (withString s field slot p g)
 unfolding withString
 string-inside s field slot p g h w =
-    sat-cond (Inside s) (eqb (badPlace (bytesOf s p)) (length (bytesOf s p))) (given (withText slot p g)) _
+    by-cond (Sat (Inside s)) (eqb (badPlace (bytesOf s p)) (length (bytesOf s p))) (given (withText slot p g)) _
     (λ t. ((w .0 .0, within-set s (g .texts) slot p h (w .0 .1)), w .1, text-set s (g .texts) slot p (whole-well-formed (bytesOf s p) (eqb-true (badPlace (bytesOf s p)) (length (bytesOf s p)) t)) (w .2)))
     (λ _. tt)
 

@@ -7,7 +7,8 @@ use lib.Dec.{leb}
 use lib.ListN.{length}
 use borrow.Author.Tests.{le-leb, lt-leb}
 use Rattle.wire.specs.Told.{ToldOf, given, refused, andThen}
-use Rattle.field.proofs.Told.{Sat, sat-cond, sat-then}
+use Rattle.wire.proofs.Tests.{by-cond}
+use Rattle.field.proofs.Told.{Sat, sat-then}
 use Rattle.walk.specs.declared.gathered.Gathered.{Gathered}
 use Rattle.walk.specs.Walk.{walk}
 
@@ -37,7 +38,7 @@ module _ {N : Type 0} (step : List ℕ → ℕ → Gathered → ToldOf N (Gather
       → (fuel at : ℕ) (g : Gathered) → P g → Sat P (walk step fuel s at g)
   walk-keeps P s k zero at g w = w
   walk-keeps P s k (suc fuel) at g w =
-      sat-cond P (leb (length s) at) (given g) _ (λ _. w)
+      by-cond (Sat P) (leb (length s) at) (given g) _ (λ _. w)
       (λ _. sat-then (λ (q : Gathered × ℕ). P (q .0)) P (step s at g) _ (k at g w) (λ q h. walk-keeps P s k fuel (q .1) (q .0) h))
 
 -- the loop's invariant: the walk from here, with fuel for what is left, is the whole walk

@@ -4,22 +4,19 @@ use mathlib.Core.Path.{_≡_, refl}
 use mathlib.Core.Bool.{Bool, true, false, cond}
 use mathlib.Core.List.{List, [], _∷_}
 use Rattle.wire.specs.Told.{Told, given, refused, Line, table}
+use Rattle.wire.proofs.Tests.{by-cond}
 
 -- no line of the table holds
 abbrev pub NoneHolds : List Line → Type 0
 NoneHolds [] = Unit {0}
 NoneHolds (r ∷ rs) = (r .holds ≡ false) × NoneHolds rs
 
-by-line : {A : Type 0} (P : A → Type 0) (b : Bool) (x y : A) → P x → (b ≡ false → P y) → P (cond b x y)
-by-line P true x y p q = p
-by-line P false x y p q = q refl
-
 -- a law holds of each refusal, and of the rest where no line holds
 pub by-table : {A : Type 0} (P : A → Type 0) (lines : List Line) (refuse : ℕ → A) (rest : A)
     → ((n : ℕ) → P (refuse n)) → (NoneHolds lines → P rest) → P (table lines refuse rest)
 by-table P [] refuse rest p q = q tt
 by-table P (r ∷ rs) refuse rest p q =
-    by-line P (r .holds) (refuse (r .number)) (table rs refuse rest) (p (r .number)) (λ e. by-table P rs refuse rest p (λ es. q (e, es)))
+    by-cond P (r .holds) (refuse (r .number)) (table rs refuse rest) (λ e. p (r .number)) (λ e. by-table P rs refuse rest p (λ es. q (e, es)))
 
 through-line : {A B : Type 0} (f : Told A → B) (b : Bool) (n : ℕ) (x : B) (t : Told A) → x ≡ f t → cond b (f (refused n)) x ≡ f (cond b (refused n) t)
 through-line f true n x t e = refl

@@ -1,6 +1,11 @@
 -- Bytes and numbers.
 use Prim.Native.Nat.{ℕ, _+_, _*_, _/_, _%_, _<_}
+use mathlib.Core.Bool.{Bool, cond}
 use mathlib.Core.List.{List, [], _∷_}
+
+-- a flag as a number
+abbrev pub bit : Bool → ℕ
+bit b = cond b 1 0
 
 -- the number of two bytes, big-endian
 abbrev pub pairOf : ℕ → ℕ → ℕ

@@ -4,3 +4,4 @@ pub mod Scan
 pub mod Stream
 pub mod Limit
 pub mod Those
+pub mod Put

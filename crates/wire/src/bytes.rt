@@ -3,7 +3,9 @@ ghost use mathlib.Core.Path.{_≡_};
 ghost use Prim.Native.Nat.{_+_, _≤_, _<_, min};
 ghost use lib.ListN.{length, getD};
 ghost use lib.Seq.{sets};
-ghost use Rattle.wire.specs.Bytes.{pairOf, pairBytes};
+ghost use Rattle.wire.specs.Bytes.{bit, pairOf, pairBytes};
+
+const BYTE_BITS: usize = 8;
 
 // A byte as a larger number.
 pub fn wide(b: u8) -> usize
@@ -17,6 +19,20 @@ pub fn wide64(b: u8) -> u64
     ensures { λ r. ⌜ (r ≡ b) × (r < 256) ⌝ }
 {
     b as u64
+}
+
+// A flag as a number.
+pub fn bit(b: bool) -> u8
+    ensures { λ r. ⌜ (r ≡ bit b) × (r < 2) ⌝ }
+{
+    if b { 1 } else { 0 }
+}
+
+// The same in 64 bits.
+pub fn bit64(b: bool) -> u64
+    ensures { λ r. ⌜ (r ≡ bit b) × (r < 2) ⌝ }
+{
+    wide64(bit(b))
 }
 
 // The byte at a place; 0 past the end.
@@ -38,8 +54,9 @@ pub fn put_pair(out: &mut [u8], at: usize, n: usize)
     requires { ⌜ (at + 2 ≤ length (now out)) × (n < 65536) ⌝ }
     ensures { λ _. ⌜ now (out .exit) ≡ sets (now (out .entry)) at (pairBytes n) ⌝ }
 {
-    out[at] = (n / 256) as u8;
-    out[at + 1] = (n % 256) as u8;
+    let high = n >> BYTE_BITS;
+    out[at] = high as u8;
+    out[at + 1] = (n - high * 256) as u8;
 }
 
 // Writes a run of bytes from a place on.

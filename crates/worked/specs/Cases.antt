@@ -5,9 +5,9 @@ use mathlib.Core.Bool.{Bool, true, false}
 use mathlib.Core.List.{List, [], _∷_, _++_, map, List·Memᴰ}
 use lib.IntN.{ℤ, pos, negℤ}
 use lib.ListN.{take, drop, set, replicate}
+use Rattle.wire.specs.Bytes.{bit}
 use Rattle.wire.specs.declared.stream.Stream.the-variants.{Control, Ota, Alexa}
 use Rattle.wire.specs.Told.{given, refused, written}
-use Rattle.packet.specs.Header.{bit}
 use Rattle.sender.specs.declared.writer.Sending.{Sending}
 use Rattle.slot.specs.declared.Slot.{Slot}
 use Rattle.slot.specs.declared.answer.Accepted.the-variants.{Taken, Finished}

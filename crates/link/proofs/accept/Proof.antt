@@ -43,6 +43,7 @@ use denote.Triple.Clauses.{ensured, lasts}
 use denote.Exit.{yes}
 use Rattle.slot.specs.declared.Slot.{Slot}
 use Rattle.slot.specs.Answer.{told}
+use Rattle.receiver.specs.declared.Receiver.{Receiver}
 use Rattle.receiver.specs.declared.Outcome.{Outcome}
 use Rattle.receiver.specs.Receiver.{call, left, acceptOf}
 use Rattle.receiver.specs.Outcome.{effect, outcomeOf, decided, leftBy, firstTwelve}
@@ -61,6 +62,8 @@ use Rattle.link.proofs.set_slot.Symbol.{name as #set-slot}
 use Rattle.link.proofs.set_slot.Met as set-slot-thm
 use Rattle.slot.proofs.Slot as T
 use Rattle.slot.proofs.Slot.Laws as T′
+use Rattle.receiver.proofs.Receiver as R
+use Rattle.receiver.proofs.Receiver.Laws as R′
 use Rattle.receiver.proofs.Outcome as D
 use Rattle.receiver.proofs.Outcome.Laws as D′
 use Rattle.slot.proofs.answer.Answer as N
@@ -73,7 +76,7 @@ use Rattle.link.proofs.accept.Statement as stated
 use Rattle.link.proofs.accept.Code as code
 
 abbrev stayed : Stays (f.ended .signature .params) (f.ended .kept)
-stayed = (stay-dropped (plain (λ _. usize)) yes, (gave-slice (0 ∷ []) tt (plain (λ _. T.the-row)), (gave-slice (1 ∷ []) tt (plain (λ _. u8)), (stay-dropped (shrSlice 2 tt (λ _. u8)) yes, (stay-dropped (plain (λ _. u8)) yes, (gave-slice (3 ∷ []) tt (plain (λ _. u8)), tt))))))
+stayed = (stay-dropped (plain (λ _. R.the-row)) yes, (gave-slice (0 ∷ []) tt (plain (λ _. T.the-row)), (gave-slice (1 ∷ []) tt (plain (λ _. u8)), (stay-dropped (shrSlice 2 tt (λ _. u8)) yes, (stay-dropped (plain (λ _. u8)) yes, (gave-slice (3 ∷ []) tt (plain (λ _. u8)), tt))))))
 
 module _ {M : Type 1} (𝓤 : URA M) (H : Heap 𝓤) (A : Atoms 𝓤) (at-mem : Memory → SProp 𝓤) (run : Routine → Fun 𝓤) where
   -- the contracts that the proof cites
@@ -86,10 +89,10 @@ module _ {M : Type 1} (𝓤 : URA M) (H : Heap 𝓤) (A : Atoms 𝓤) (at-mem : 
   abbrev SetSlot : Contract 𝓤
   SetSlot = tripleOf 𝓤 H A set-slot.signature (set-slot.spec 𝓤 H A at-mem run)
 
-module _ {M : Type 1} (𝓤 : URA M) (H : Heap 𝓤) (A : Atoms 𝓤) (W : Given 𝓤 H A) (at-mem : Memory → SProp 𝓤) (run : Routine → Fun 𝓤) (κ₂ : Lft) (κ₃ : Lft) (κ₄ : Lft) (κ₆ : Lft) (q₂ : Share) (q₃ : Share) (q₄ : Share) (q₆ : Share) (n₁ : ℕ) (b₂ o₂ : ℕ) (γ₂ : GName) (ys₂ : List Slot) (b₃ o₃ : ℕ) (γ₃ : GName) (ys₃ : List ℕ) (b₄ o₄ : ℕ) (γ₄ : GName) (ys₄ : List ℕ) (n₅ : ℕ) (b₆ o₆ : ℕ) (γ₆ : GName) (ys₆ : List ℕ) where
+module _ {M : Type 1} (𝓤 : URA M) (H : Heap 𝓤) (A : Atoms 𝓤) (W : Given 𝓤 H A) (at-mem : Memory → SProp 𝓤) (run : Routine → Fun 𝓤) (κ₂ : Lft) (κ₃ : Lft) (κ₄ : Lft) (κ₆ : Lft) (q₂ : Share) (q₃ : Share) (q₄ : Share) (q₆ : Share) (link : Receiver) (b₂ o₂ : ℕ) (γ₂ : GName) (ys₂ : List Slot) (b₃ o₃ : ℕ) (γ₃ : GName) (ys₃ : List ℕ) (b₄ o₄ : ℕ) (γ₄ : GName) (ys₄ : List ℕ) (n₅ : ℕ) (b₆ o₆ : ℕ) (γ₆ : GName) (ys₆ : List ℕ) where
   -- the parameters, their machine values, and what they own
   abbrev v₁ : Val
-  v₁ = vint w64 n₁
+  v₁ = LL.val R.the-type R′.the-laws link
 
   abbrev x₂ : RefT (List Slot)
   x₂ = record { ptr = (b₂, o₂); name = γ₂; now = ys₂ }
@@ -137,7 +140,7 @@ module _ {M : Type 1} (𝓤 : URA M) (H : Heap 𝓤) (A : Atoms 𝓤) (W : Given
   qs = (q₂, (q₃, (q₄, (q₆, tt))))
 
   abbrev a : Args f.signature κs
-  a = (n₁, (x₂, (x₃, (x₄, (n₅, (x₆, tt))))))
+  a = (link, (x₂, (x₃, (x₄, (n₅, (x₆, tt))))))
 
   abbrev vals : Vals f.signature κs
   vals = (v₁ ∷ [], (v₂ ∷ [], (v₃ ∷ [], (v₄ ∷ [], (v₅ ∷ [], (v₆ ∷ [], tt))))))
@@ -149,10 +152,10 @@ module _ {M : Type 1} (𝓤 : URA M) (H : Heap 𝓤) (A : Atoms 𝓤) (W : Given
   Post = walkOf 𝓤 H A f.ended stayed (f.clauses 𝓤 H A at-mem run) .post bound
 
   -- the three callees' equations make the contract's
-  together : (slots : List Slot) (d : Outcome) (zs₃ : List ℕ) (zs₆ : List ℕ) (ws : List Slot) → slots ≡ firstTwelve ys₂ → effect (outcomeOf d zs₃) zs₆ ≡ decided (length ys₂) n₁ slots ys₃ (call ys₄ n₅ ys₆) → ws ≡ set ys₂ (d .place) (d .slot) → left (told (d .answer)) ws zs₃ zs₆ ≡ acceptOf n₁ ys₂ ys₃ (call ys₄ n₅ ys₆)
+  together : (slots : List Slot) (d : Outcome) (zs₃ : List ℕ) (zs₆ : List ℕ) (ws : List Slot) → slots ≡ firstTwelve ys₂ → effect (outcomeOf d zs₃) zs₆ ≡ decided (length ys₂) (link .limit) slots ys₃ (call ys₄ n₅ ys₆) → ws ≡ set ys₂ (d .place) (d .slot) → left (told (d .answer)) ws zs₃ zs₆ ≡ acceptOf (link .limit) ys₂ ys₃ (call ys₄ n₅ ys₆)
   unfolding outcomeOf
   together slots d zs₃ zs₆ ws e₁ e₂ e₃ =
-      ap (λ (l : List Slot). left (told (d .answer)) l zs₃ zs₆) e₃ ∙ ap (leftBy ys₂) (e₂ ∙ ap (λ (s : List Slot). decided (length ys₂) n₁ s ys₃ (call ys₄ n₅ ys₆)) e₁) ∙ decided-left n₁ ys₂ ys₃ (call ys₄ n₅ ys₆)
+      ap (λ (l : List Slot). left (told (d .answer)) l zs₃ zs₆) e₃ ∙ ap (leftBy ys₂) (e₂ ∙ ap (λ (s : List Slot). decided (length ys₂) (link .limit) s ys₃ (call ys₄ n₅ ys₆)) e₁) ∙ decided-left (link .limit) ys₂ ys₃ (call ys₄ n₅ ys₆)
 
   -- `load`, at a lifetime ν of the call, on the row under the name δ
   abbrev xr : GName → RefT (List Slot)
@@ -182,29 +185,29 @@ module _ {M : Type 1} (𝓤 : URA M) (H : Heap 𝓤) (A : Atoms 𝓤) (W : Given
 
   -- `decide`, at the other parameters' own lifetimes
   abbrev args-decide : List Slot → Args decide.signature (κ₃, (κ₄, (κ₆, tt)))
-  args-decide slots = (length ys₂, (slots, (n₁, (x₃, (x₄, (n₅, (x₆, tt)))))))
+  args-decide slots = (length ys₂, (slots, (link .limit, (x₃, (x₄, (n₅, (x₆, tt)))))))
 
   abbrev to-decide : List Slot → Val → Decide 𝓤 H A at-mem run .Ghost
-  to-decide slots u = (((κ₃, (κ₄, (κ₆, tt))), (q₃, (q₄, (q₆, tt))), tt, args-decide slots, (vint w64 (length ys₂) ∷ [], (u ∷ [], (v₁ ∷ [], (v₃ ∷ [], (v₄ ∷ [], (v₅ ∷ [], (v₆ ∷ [], tt)))))))), tt)
+  to-decide slots u = (((κ₃, (κ₄, (κ₆, tt))), (q₃, (q₄, (q₆, tt))), tt, args-decide slots, (vint w64 (length ys₂) ∷ [], (u ∷ [], (vint w64 (link .limit) ∷ [], (v₃ ∷ [], (v₄ ∷ [], (v₅ ∷ [], (v₆ ∷ [], tt)))))))), tt)
 
-  exits : (d : Outcome) (v : Val) → Is N.the-row (d .answer) (v ∷ []) → (ws : List Slot) (zs₃ : List ℕ) (zs₆ : List ℕ) → length ws ≡ length ys₂ → length zs₃ ≡ length ys₃ → length zs₆ ≡ length ys₆ → left (told (d .answer)) ws zs₃ zs₆ ≡ acceptOf n₁ ys₂ ys₃ (call ys₄ n₅ ys₆)
+  exits : (d : Outcome) (v : Val) → Is N.the-row (d .answer) (v ∷ []) → (ws : List Slot) (zs₃ : List ℕ) (zs₆ : List ℕ) → length ws ≡ length ys₂ → length zs₃ ≡ length ys₃ → length zs₆ ≡ length ys₆ → left (told (d .answer)) ws zs₃ zs₆ ≡ acceptOf (link .limit) ys₂ ys₃ (call ys₄ n₅ ys₆)
       → ent 𝓤 (⋆ 𝓤 H A ((‵ (flft κ₂ q₂) ⊛ ‵ ftrue) ∷ (‵ (flft κ₃ q₃) ⊛ ‵ (flft κ₄ q₄) ⊛ ‵ (flft κ₆ q₆) ⊛ ‵ ftrue) ∷ ‵ (finally T.the-row γ₂ ws) ∷ ‵ (finally u8 γ₃ zs₃) ∷ ‵ (finally u8 γ₆ zs₆) ∷ [])) (Post v)
   exits d v is ws zs₃ zs₆ len₂ len₃ len₆ e =
       qed W ((‵ (flft κ₂ q₂) ⊛ ‵ ftrue) ∷ (‵ (flft κ₃ q₃) ⊛ ‵ (flft κ₄ q₄) ⊛ ‵ (flft κ₆ q₆) ⊛ ‵ ftrue) ∷ ‵ (finally T.the-row γ₂ ws) ∷ ‵ (finally u8 γ₃ zs₃) ∷ ‵ (finally u8 γ₆ zs₆) ∷ []) ∵
       suffices ! _ (ends-at 𝓤 H A f.ended stayed (f.clauses 𝓤 H A at-mem run) W bound v (d .answer) (tt, (ws, (zs₃, (tt, (tt, (zs₆, tt)))))) (tt, (len₂, (len₃, (tt, (tt, (len₆, tt))))))) $ says ! e $
       split ! $ move ! (2 ∷ []) $ split ! $ move ! (1 ∷ []) $ split ! $ move ! (1 ∷ []) $ split ! $ join ! $ move ! (1 ∷ 0 ∷ []) $ join ! $ move ! (1 ∷ 0 ∷ []) $ join ! $ move ! (1 ∷ 0 ∷ []) $ join ! $ frame ! $ move ! (3 ∷ 0 ∷ []) $ fjoin ! $ nothing ! $ fjoin ! $ nothing ! $ fjoin ! $ move ! (2 ∷ 0 ∷ []) $ fjoin ! $ move ! (1 ∷ 0 ∷ []) $ fjoin ! $ nothing ! $ fjoin ! $ frame ! $ owned ! N.the-row (Is N.the-row) (EL.makes N.the-type N′.the-plain 𝓤 H A) (d .answer) _ is $ done !
 
-  module _ (fits₁ : n₁ < 2 ^ 64) (room₂ : Room T.the-row (length ys₂)) (room₃ : Room u8 (length ys₃)) (room₄ : Room u8 (length ys₄)) (fits₅ : n₅ < 2 ^ 8) (room₆ : Room u8 (length ys₆)) where
+  module _ (is-link : Is R.the-row link (v₁ ∷ [])) (room₂ : Room T.the-row (length ys₂)) (room₃ : Room u8 (length ys₃)) (room₄ : Room u8 (length ys₄)) (fits₅ : n₅ < 2 ^ 8) (room₆ : Room u8 (length ys₆)) where
     goes-decide : (slots : List Slot) (u : Val) → Is (Array T.the-row 12) slots (u ∷ []) → ent 𝓤 (⋆ 𝓤 H A ((‵ Own₃ ⊛ ‵ (flft κ₃ q₃) ⊛ ‵ Own₄ ⊛ ‵ (flft κ₄ q₄) ⊛ ‵ Own₆ ⊛ ‵ (flft κ₆ q₆)) ∷ [])) (Decide 𝓤 H A at-mem run .pre (to-decide slots u))
     goes-decide slots u is = qed W ((‵ Own₃ ⊛ ‵ (flft κ₃ q₃) ⊛ ‵ Own₄ ⊛ ‵ (flft κ₄ q₄) ⊛ ‵ Own₆ ⊛ ‵ (flft κ₆ q₆)) ∷ []) ∵
-        split ! $ move ! (1 ∷ []) $ split ! $ move ! (1 ∷ []) $ split ! $ move ! (1 ∷ []) $ split ! $ move ! (1 ∷ []) $ split ! $ nothing ! $ move ! (2 ∷ 0 ∷ []) $ join ! $ move ! (2 ∷ 0 ∷ []) $ join ! $ move ! (3 ∷ 0 ∷ []) $ join ! $ nothing ! $ move ! (2 ∷ 0 ∷ []) $ fjoin ! $ owned ! u8 (Is u8) (uint-makes 𝓤 H A W w8) n₅ _ (refl, fits₅) $ fjoin ! $ move ! (2 ∷ 0 ∷ []) $ fjoin ! $ move ! (2 ∷ 0 ∷ []) $ fjoin ! $ owned ! usize (Is usize) (uint-makes 𝓤 H A W w64) n₁ _ (refl, fits₁) $ fjoin ! $ owned ! (Array T.the-row 12) (Is (Array T.the-row 12)) (array-makes 𝓤 H A W T.the-row (LL.makes T.the-type T′.the-plain 𝓤 H A) 12) slots _ is $ fjoin ! $ owned ! usize (Is usize) (uint-makes 𝓤 H A W w64) (length ys₂) _ (refl, room₂ .0) $ fjoin ! $ move ! (1 ∷ 0 ∷ []) $ join ! $ nothing ! $ move ! (1 ∷ 0 ∷ []) $ join ! $ done !
+        split ! $ move ! (1 ∷ []) $ split ! $ move ! (1 ∷ []) $ split ! $ move ! (1 ∷ []) $ split ! $ move ! (1 ∷ []) $ split ! $ nothing ! $ move ! (2 ∷ 0 ∷ []) $ join ! $ move ! (2 ∷ 0 ∷ []) $ join ! $ move ! (3 ∷ 0 ∷ []) $ join ! $ nothing ! $ move ! (2 ∷ 0 ∷ []) $ fjoin ! $ owned ! u8 (Is u8) (uint-makes 𝓤 H A W w8) n₅ _ (refl, fits₅) $ fjoin ! $ move ! (2 ∷ 0 ∷ []) $ fjoin ! $ move ! (2 ∷ 0 ∷ []) $ fjoin ! $ owned ! usize (Is usize) (uint-makes 𝓤 H A W w64) (link .limit) _ (LL.owed R.the-type R′.the-laws link (v₁ ∷ []) is-link .0) $ fjoin ! $ owned ! (Array T.the-row 12) (Is (Array T.the-row 12)) (array-makes 𝓤 H A W T.the-row (LL.makes T.the-type T′.the-plain 𝓤 H A) 12) slots _ is $ fjoin ! $ owned ! usize (Is usize) (uint-makes 𝓤 H A W w64) (length ys₂) _ (refl, room₂ .0) $ fjoin ! $ move ! (1 ∷ 0 ∷ []) $ join ! $ nothing ! $ move ! (1 ∷ 0 ∷ []) $ join ! $ done !
 
     module _ (C : Calls 𝓤 H) (Λ : Loops 𝓤 H) (fm : FmC 𝓤 H (W .laws) C) (known-load : Triple 𝓤 (C #load) (Load 𝓤 H A at-mem run)) (known-decide : Triple 𝓤 (C #decide) (Decide 𝓤 H A at-mem run)) (known-set : Triple 𝓤 (C #set-slot) (SetSlot 𝓤 H A at-mem run)) where
       walk : ent 𝓤 (onEntry 𝓤 H A f.signature κs qs a vals) (WpFn 𝓤 H C Λ code.function (v₁ ∷ v₂ ∷ v₃ ∷ v₄ ∷ v₅ ∷ v₆ ∷ []) Post)
       walk =
-          qed W ((‵ (flft κ₂ q₂) ⊛ ‵ (flft κ₃ q₃) ⊛ ‵ (flft κ₄ q₄) ⊛ ‵ (flft κ₆ q₆) ⊛ ‵ ftrue) ∷ ‵ (owns (usize ∷ MutSlice (named 0) κ₂ T.the-row ∷ MutSlice (named 1) κ₃ u8 ∷ ShrSlice (named 2) κ₄ u8 ∷ u8 ∷ MutSlice (named 3) κ₆ u8 ∷ []) a vals) ∷ []) ∵ enter ! C Λ code.function (v₁ ∷ v₂ ∷ v₃ ∷ v₄ ∷ v₅ ∷ v₆ ∷ []) _ $
+          qed W ((‵ (flft κ₂ q₂) ⊛ ‵ (flft κ₃ q₃) ⊛ ‵ (flft κ₄ q₄) ⊛ ‵ (flft κ₆ q₆) ⊛ ‵ ftrue) ∷ ‵ (owns (R.the-row ∷ MutSlice (named 0) κ₂ T.the-row ∷ MutSlice (named 1) κ₃ u8 ∷ ShrSlice (named 2) κ₄ u8 ∷ u8 ∷ MutSlice (named 3) κ₆ u8 ∷ []) a vals) ∷ []) ∵ enter ! C Λ code.function (v₁ ∷ v₂ ∷ v₃ ∷ v₄ ∷ v₅ ∷ v₆ ∷ []) _ $
           alloc1 ! (λ l₀. alloc1 ! (λ l₁. alloc1 ! (λ l₂. alloc1 ! (λ l₃. alloc1 ! (λ l₄. alloc1 ! (λ l₅. alloc1 ! (λ l₆. alloc1 ! (λ l₇. alloc1 ! (λ l₈. alloc1 ! (λ l₉. alloc1 ! (λ l₁₀. alloc1 ! (λ l₁₁. alloc1 ! (λ l₁₂. alloc1 ! (λ l₁₃. alloc1 ! (λ l₁₄. alloc1 ! (λ l₁₅. alloc1 ! (λ l₁₆. alloc1 ! (λ l₁₇. alloc1 ! (λ l₁₈. alloc0 ! $
-          params1 ! $ pass1 ! (init ! 34 refl (tt, record { fits = fits₁ })) $ pass1 ! (init ! 32 refl (tt, (tt, (record { fits = room₂ .0 }, tt)))) $ pass1 ! (init ! 30 refl (tt, (tt, (record { fits = room₃ .0 }, tt)))) $ pass1 ! (init ! 28 refl (tt, (tt, (record { fits = room₄ .0 }, tt)))) $ pass1 ! (init ! 26 refl (tt, record { fits = fits₅ })) $ pass1 ! (init ! 24 refl (tt, (tt, (record { fits = room₆ .0 }, tt)))) $ pass0 ! $
+          params1 ! $ pass1 ! (init ! 34 refl (LL.lawful R.the-type R′.the-laws 𝓤 H A W .typed link _ is-link .0)) $ pass1 ! (init ! 32 refl (tt, (tt, (record { fits = room₂ .0 }, tt)))) $ pass1 ! (init ! 30 refl (tt, (tt, (record { fits = room₃ .0 }, tt)))) $ pass1 ! (init ! 28 refl (tt, (tt, (record { fits = room₄ .0 }, tt)))) $ pass1 ! (init ! 26 refl (tt, record { fits = fits₅ })) $ pass1 ! (init ! 24 refl (tt, (tt, (record { fits = room₆ .0 }, tt)))) $ pass0 ! $
           move ! (38 ∷ 39 ∷ []) $ split ! $ move ! (1 ∷ []) $ split ! $ move ! (1 ∷ []) $ split ! $ move ! (1 ∷ []) $ split ! $ move ! (1 ∷ []) $ drop ! $ move ! (4 ∷ []) $ fsplit ! $ drop ! $ fsplit ! $ move ! (1 ∷ []) $ fsplit ! $ move ! (1 ∷ []) $ fsplit ! $ move ! (1 ∷ []) $ fsplit ! $ drop ! $ fsplit ! $ move ! (1 ∷ []) $ drop ! $ move ! (3 ∷ 7 ∷ 2 ∷ 6 ∷ 1 ∷ 5 ∷ 0 ∷ 4 ∷ []) $
           assigns ! (of-opd ! (load ! (from ! (fld ! refl (stop !))) (look-in ! 40 (sub ! 1 refl (whole !))))) (from ! (stop !)) (init ! 30 refl (tt, record { fits = room₂ .0 })) $
           assigns ! (addr ! (from ! (fld ! refl (hop ! (look-in ! 40 (sub ! 0 refl (whole !))) (stop !))))) (from ! (stop !)) (init ! 24 refl (tt, tt)) $
@@ -223,9 +226,9 @@ module _ {M : Type 1} (𝓤 : URA M) (H : Heap 𝓤) (A : Atoms 𝓤) (W : Given
           assigns ! (addr ! (from ! (fld ! refl (hop ! (look-in ! 32 (sub ! 0 refl (whole !))) (stop !))))) (from ! (stop !)) (init ! 16 refl (tt, tt)) $
           assigns ! (agg ! (and-then ! (load ! (from ! (stop !)) (look ! 16 refl)) (and-then ! (load ! (from ! (fld ! refl (stop !))) (look-in ! 32 (sub ! 1 refl (whole !)))) (no-more !)))) (from ! (stop !)) (init ! 14 refl (tt, (tt, (record { fits = room₆ .0 }, tt)))) $
           move ! (7 ∷ 6 ∷ 5 ∷ 4 ∷ 3 ∷ 2 ∷ []) $ move ! (1 ∷ 0 ∷ []) $ join ! $ move ! (1 ∷ 0 ∷ []) $ join ! $ move ! (1 ∷ 0 ∷ []) $ join ! $ move ! (1 ∷ 0 ∷ []) $ join ! $ move ! (1 ∷ 0 ∷ []) $ join ! $ use1 W (raw (Decide 𝓤 H A at-mem run .pre (to-decide slots u))) (goes-decide slots u is₁) $
-          calls-at ! fm (Decide 𝓤 H A at-mem run) known-decide (to-decide slots u) (and-then ! (load ! (from ! (stop !)) (look ! 25 refl)) (and-then ! (load ! (from ! (stop !)) (look ! 23 refl)) (and-then ! (load ! (from ! (stop !)) (look ! 37 refl)) (and-then ! (load ! (from ! (stop !)) (look ! 13 refl)) (and-then ! (load ! (from ! (stop !)) (look ! 31 refl)) (and-then ! (load ! (from ! (stop !)) (look ! 29 refl)) (and-then ! (load ! (from ! (stop !)) (look ! 9 refl)) (no-more !)))))))) (λ w.
+          calls-at ! fm (Decide 𝓤 H A at-mem run) known-decide (to-decide slots u) (and-then ! (load ! (from ! (stop !)) (look ! 25 refl)) (and-then ! (load ! (from ! (stop !)) (look ! 23 refl)) (and-then ! (load ! (from ! (fld ! refl (stop !))) (look-in ! 37 (sub ! 0 refl (whole !)))) (and-then ! (load ! (from ! (stop !)) (look ! 13 refl)) (and-then ! (load ! (from ! (stop !)) (look ! 31 refl)) (and-then ! (load ! (from ! (stop !)) (look ! 29 refl)) (and-then ! (load ! (from ! (stop !)) (look ! 9 refl)) (no-more !)))))))) (λ w.
           use1 W (later (some (λ (d : Outcome). ((‵ (flft κ₃ q₃) ⊛ ‵ (flft κ₄ q₄) ⊛ ‵ (flft κ₆ q₆) ⊛ ‵ ftrue) ⊛ ‵ (D.the-row .own d (w ∷ []))) ⊛ raw (ensured 𝓤 H A decide.ended (decide.clauses 𝓤 H A at-mem run) (κ₃, (κ₄, (κ₆, tt))) (args-decide slots) tt d)))) (id⊢ 𝓤 _) $ await ! tt $ pick ! (λ d.
-          split ! $ move ! (1 ∷ []) $ use1 W (some (λ (zs : Unit {0} × (Unit {0} × (Unit {0} × (List ℕ × (Unit {0} × (Unit {0} × (List ℕ × Unit {0}))))))). ‵ (lasts decide.ended (κ₃, (κ₄, (κ₆, tt))) (args-decide slots) zs) ⊛ raw (fact 𝓤 (effect (outcomeOf d (zs .1 .1 .1 .0)) (zs .1 .1 .1 .1 .1 .1 .0) ≡ decided (length ys₂) n₁ slots ys₃ (call ys₄ n₅ ys₆))))) (id⊢ 𝓤 _) $ pick ! (λ zs. split ! $ move ! (1 ∷ []) $ heard ! (effect (outcomeOf d (zs .1 .1 .1 .0)) (zs .1 .1 .1 .1 .1 .1 .0) ≡ decided (length ys₂) n₁ slots ys₃ (call ys₄ n₅ ys₆)) (λ e₂.
+          split ! $ move ! (1 ∷ []) $ use1 W (some (λ (zs : Unit {0} × (Unit {0} × (Unit {0} × (List ℕ × (Unit {0} × (Unit {0} × (List ℕ × Unit {0}))))))). ‵ (lasts decide.ended (κ₃, (κ₄, (κ₆, tt))) (args-decide slots) zs) ⊛ raw (fact 𝓤 (effect (outcomeOf d (zs .1 .1 .1 .0)) (zs .1 .1 .1 .1 .1 .1 .0) ≡ decided (length ys₂) (link .limit) slots ys₃ (call ys₄ n₅ ys₆))))) (id⊢ 𝓤 _) $ pick ! (λ zs. split ! $ move ! (1 ∷ []) $ heard ! (effect (outcomeOf d (zs .1 .1 .1 .0)) (zs .1 .1 .1 .1 .1 .1 .0) ≡ decided (length ys₂) (link .limit) slots ys₃ (call ys₄ n₅ ys₆)) (λ e₂.
           fsplit ! $ drop ! $ fsplit ! $ drop ! $ fsplit ! $ drop ! $ fsplit ! $ fsplit ! $ move ! (1 ∷ []) $ feqL ! (λ len₃. move ! (1 ∷ []) $ fsplit ! $ drop ! $ fsplit ! $ drop ! $ fsplit ! $ fsplit ! $ move ! (1 ∷ []) $ feqL ! (λ len₆. move ! (1 ∷ []) $ drop ! $ move ! (2 ∷ []) $ split ! $ move ! (1 ∷ []) $
           facts ! D.the-row (Is D.the-row) (shows 𝓤 H A D.the-row) d (w ∷ []) (λ is₂.
           let parts = LL.owed D.the-type D′.the-laws d (w ∷ []) is₂ in
@@ -245,12 +248,12 @@ module _ {M : Type 1} (𝓤 : URA M) (H : Heap 𝓤) (A : Atoms 𝓤) (W : Given
 
 module _ {M : Type 1} (𝓤 : URA M) (H : Heap 𝓤) (A : Atoms 𝓤) (W : Given 𝓤 H A) (at-mem : Memory → SProp 𝓤) (run : Routine → Fun 𝓤) where
   accept-walks : (C : Calls 𝓤 H) (Λ : Loops 𝓤 H) → FmC 𝓤 H (W .laws) C → (known-load : Triple 𝓤 (C #load) (Load 𝓤 H A at-mem run)) (known-decide : Triple 𝓤 (C #decide) (Decide 𝓤 H A at-mem run)) (known-set : Triple 𝓤 (C #set-slot) (SetSlot 𝓤 H A at-mem run)) → Walks 𝓤 H A f.ended stayed (WpFn 𝓤 H C Λ code.function) (f.clauses 𝓤 H A at-mem run)
-  accept-walks C Λ fm known-load known-decide known-set = walked 𝓤 H A f.ended stayed (f.clauses 𝓤 H A at-mem run) (WpFn 𝓤 H C Λ code.function) (λ κs. (uint-vals w64, (slice-vals, (slice-vals, (slice-vals, (uint-vals w8, (slice-vals, tt))))))) (λ κs. (uint-tells w64, (mut-slice-tells (named 0) (κs .0) T.the-row, (mut-slice-tells (named 1) (κs .1 .0) u8, (shr-slice-tells (named 2) (κs .1 .1 .0) u8, (uint-tells w8, (mut-slice-tells (named 3) (κs .1 .1 .1 .0) u8, tt)))))))
-      (λ κs qs bounds a _ are. via 𝓤 _ (fst∗ 𝓤 _ (emp 𝓤)) (walk 𝓤 H A W at-mem run (κs .0) (κs .1 .0) (κs .1 .1 .0) (κs .1 .1 .1 .0) (qs .0) (qs .1 .0) (qs .1 .1 .0) (qs .1 .1 .1 .0) (a .0) (a .1 .0 .ptr .0) (a .1 .0 .ptr .1) (a .1 .0 .name) (a .1 .0 .now) (a .1 .1 .0 .ptr .0) (a .1 .1 .0 .ptr .1) (a .1 .1 .0 .name) (a .1 .1 .0 .now) (a .1 .1 .1 .0 .ptr .0) (a .1 .1 .1 .0 .ptr .1) (a .1 .1 .1 .0 .name) (a .1 .1 .1 .0 .now) (a .1 .1 .1 .1 .0) (a .1 .1 .1 .1 .1 .0 .ptr .0) (a .1 .1 .1 .1 .1 .0 .ptr .1) (a .1 .1 .1 .1 .1 .0 .name) (a .1 .1 .1 .1 .1 .0 .now) (are .0 .1) (are .1 .0 .0 .1) (are .1 .1 .0 .0 .1) (are .1 .1 .1 .0 .0 .1) (are .1 .1 .1 .1 .0 .1) (are .1 .1 .1 .1 .1 .0 .0 .1) C Λ fm known-load known-decide known-set))
+  accept-walks C Λ fm known-load known-decide known-set = walked 𝓤 H A f.ended stayed (f.clauses 𝓤 H A at-mem run) (WpFn 𝓤 H C Λ code.function) (λ κs. (LL.vals R.the-type R′.the-laws, (slice-vals, (slice-vals, (slice-vals, (uint-vals w8, (slice-vals, tt))))))) (λ κs. (LL.tells R.the-type R′.the-laws, (mut-slice-tells (named 0) (κs .0) T.the-row, (mut-slice-tells (named 1) (κs .1 .0) u8, (shr-slice-tells (named 2) (κs .1 .1 .0) u8, (uint-tells w8, (mut-slice-tells (named 3) (κs .1 .1 .1 .0) u8, tt)))))))
+      (λ κs qs bounds a _ are. via 𝓤 _ (fst∗ 𝓤 _ (emp 𝓤)) (walk 𝓤 H A W at-mem run (κs .0) (κs .1 .0) (κs .1 .1 .0) (κs .1 .1 .1 .0) (qs .0) (qs .1 .0) (qs .1 .1 .0) (qs .1 .1 .1 .0) (a .0) (a .1 .0 .ptr .0) (a .1 .0 .ptr .1) (a .1 .0 .name) (a .1 .0 .now) (a .1 .1 .0 .ptr .0) (a .1 .1 .0 .ptr .1) (a .1 .1 .0 .name) (a .1 .1 .0 .now) (a .1 .1 .1 .0 .ptr .0) (a .1 .1 .1 .0 .ptr .1) (a .1 .1 .1 .0 .name) (a .1 .1 .1 .0 .now) (a .1 .1 .1 .1 .0) (a .1 .1 .1 .1 .1 .0 .ptr .0) (a .1 .1 .1 .1 .1 .0 .ptr .1) (a .1 .1 .1 .1 .1 .0 .name) (a .1 .1 .1 .1 .1 .0 .now) (are .0) (are .1 .0 .0 .1) (are .1 .1 .0 .0 .1) (are .1 .1 .1 .0 .0 .1) (are .1 .1 .1 .1 .0 .1) (are .1 .1 .1 .1 .1 .0 .0 .1) C Λ fm known-load known-decide known-set))
 
 accept-meets : {M : Type 1} (𝓤 : URA M) (H : Heap 𝓤) (A : Atoms 𝓤) → Given 𝓤 H A → (at-mem : Memory → SProp 𝓤) (run : Routine → Fun 𝓤) (𝓣 : Tables 𝓤 H) (known-load : Triple 𝓤 (𝓣 .C #load) (Load 𝓤 H A at-mem run)) (known-decide : Triple 𝓤 (𝓣 .C #decide) (Decide 𝓤 H A at-mem run)) (known-set : Triple 𝓤 (𝓣 .C #set-slot) (SetSlot 𝓤 H A at-mem run))
     → Meets 𝓤 H A f.signature (WpFn 𝓤 H (𝓣 .C) (𝓣 .Λ) code.function) (f.spec 𝓤 H A at-mem run)
-accept-meets 𝓤 H A W at-mem run 𝓣 known-load known-decide known-set = walk-meets 𝓤 H A f.ended stayed W (goes-dropped 𝓤 H A W 4 (plain (λ _. usize)) yes (λ κs x f. refl), (goes-gave-slice 𝓤 H A W 4 0 tt (plain (λ _. T.the-row)), (goes-gave-slice 𝓤 H A W 4 1 tt (plain (λ _. u8)), (goes-dropped 𝓤 H A W 4 (shrSlice 2 tt (λ _. u8)) yes (λ κs x f. refl), (goes-dropped 𝓤 H A W 4 (plain (λ _. u8)) yes (λ κs x f. refl), (goes-gave-slice 𝓤 H A W 4 3 tt (plain (λ _. u8)), tt)))))) (f.clauses 𝓤 H A at-mem run)
+accept-meets 𝓤 H A W at-mem run 𝓣 known-load known-decide known-set = walk-meets 𝓤 H A f.ended stayed W (goes-dropped 𝓤 H A W 4 (plain (λ _. R.the-row)) yes (λ κs x f. refl), (goes-gave-slice 𝓤 H A W 4 0 tt (plain (λ _. T.the-row)), (goes-gave-slice 𝓤 H A W 4 1 tt (plain (λ _. u8)), (goes-dropped 𝓤 H A W 4 (shrSlice 2 tt (λ _. u8)) yes (λ κs x f. refl), (goes-dropped 𝓤 H A W 4 (plain (λ _. u8)) yes (λ κs x f. refl), (goes-gave-slice 𝓤 H A W 4 3 tt (plain (λ _. u8)), tt)))))) (f.clauses 𝓤 H A at-mem run)
     (WpFn 𝓤 H (𝓣 .C) (𝓣 .Λ) code.function) (WpFn-mono 𝓤 H (W .laws) 𝓣 code.function) (accept-walks 𝓤 H A W at-mem run (𝓣 .C) (𝓣 .Λ) (fmOf 𝓤 H (W .laws) 𝓣) known-load known-decide known-set)
 
 pub accept-spec : {M : Type 1} → stated.statement M

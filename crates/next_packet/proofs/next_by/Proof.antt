@@ -6,7 +6,7 @@ type-for-requires : tie.Need-type-for-requires
 type-for-requires c κs = search needs
 
 returns : tie.Need-returns
-returns c = rw (c .type-for .ensures)
+returns c = rw (c .type-for .ensures .0)
 
 pub next-by-spec : {M : Type 1} → statement M
 next-by-spec = tie.close (tie.spec type-for-requires returns)

@@ -1,4 +1,6 @@
 use Prim.Native.Nat.{_-_, _≤_}
+use mathlib.Core.Bool.{false≢true}
+use native.Mathlib.Omega.{arith}
 use lib.ListN.{length}
 use borrow.Author.Needs.{needs}
 use Rattle.payloads.proofs.is_text.Statement.{statement}
@@ -14,7 +16,7 @@ bad-place-requires : tie.Need-bad-place-requires Inv-loop μ-loop
 bad-place-requires c κs = search needs
 
 returns : tie.Need-returns Inv-loop μ-loop
-returns c = search needs
+returns c = λ e. absurd (false≢true e)
 
 loop-holds : tie.Need-loop-holds Inv-loop μ-loop
 loop-holds c = search needs
@@ -32,7 +34,7 @@ either-requires : tie.Need-either-requires Inv-loop μ-loop
 either-requires c κs = search needs
 
 returns-2 : tie.Need-returns-2 Inv-loop μ-loop
-returns-2 c = search needs
+returns-2 c = λ e. absurd (false≢true e)
 
 add-i : tie.Need-add-i Inv-loop μ-loop
 add-i c = search needs
@@ -44,7 +46,7 @@ loop-again : tie.Need-loop-again Inv-loop μ-loop
 loop-again c = search needs
 
 returns-3 : tie.Need-returns-3 Inv-loop μ-loop
-returns-3 c = search needs
+returns-3 c = λ e. omega (arith, c .before .before .if1 .left, c .before .before .before .bad-place .ensures)
 
 pub is-text-spec : {M : Type 1} → statement M
 is-text-spec =

@@ -3,8 +3,8 @@ use mathlib.Core.Path.{sym, _∙_}
 use lib.ListN.{length}
 use denote.Ref.{now}
 use Rattle.field_writer.proofs.Messages.{room-short}
+use Rattle.field_writer.proofs.Rooms.{room-rest}
 use Rattle.reply_parts.specs.Body.{bodyBy}
-use Rattle.reply_parts.proofs.Rooms.{left-is}
 use Rattle.reply.proofs.Replies.{whole-by, body-within, counted}
 use borrow.Author.Needs.{needs}
 use Rattle.reply.proofs.measure.Statement.{statement}
@@ -22,7 +22,7 @@ enum-known-left c = search needs
 sub-body : tie.Need-sub-body
 sub-body c =
     let a = c .before .before .before .before .before .before .before .args in
-    omega (arith, left-is (a .limit) _ _ (sym (c .before .before .before .body-room .ensures) ∙ c .before .left .given .1) .1)
+    omega (arith, room-rest (a .limit) _ _ (sym (c .before .before .before .body-room .ensures) ∙ c .before .left .given .1) .0)
 
 front-for-requires : tie.Need-front-for-requires
 front-for-requires c κs = search needs

@@ -7,7 +7,7 @@ use lib.IntN.{ℤ, pos}
 use lib.ListN.{length, getD}
 use lib.Seq.{sets}
 use Rattle.wire.proofs.Stores.{sets-then}
-use Rattle.field_writer.specs.Put.{Put}
+use Rattle.wire.specs.Put.{Put}
 use Rattle.field.specs.Signed.{extended}
 use Rattle.field_writer.specs.Varint.{varintBytes}
 use Rattle.field.proofs.SignedNumbers.{entry-read}

@@ -5,6 +5,7 @@ use mathlib.Core.Path.{_≡_, sym, _∙_}
 use native.Mathlib.Omega.{arith}
 use denote.Ref.{now}
 use lib.ListN.{length}
+use Rattle.wire.specs.Bytes.{bit}
 use Rattle.field_writer.specs.Writer.{scalar, nested, headBytes, messageBytes}
 use Rattle.field_writer.specs.declared.message.Room.the-variants.{Left}
 use Rattle.field_writer.specs.Message.{lessRoom}
@@ -12,7 +13,7 @@ use Rattle.field_writer.proofs.Runs.{put-field, put-then}
 use Rattle.field_writer.proofs.Messages.{wrote-short, wrote, room-short}
 use Rattle.known_fields.specs.Schema.{firmwareInformationField, restartRequiredField}
 use Rattle.firmware_writer.specs.Information.{badFirmware, firmwareFields}
-use Rattle.firmware_writer.specs.Apply.{boolValue, applyFields}
+use Rattle.firmware_writer.specs.Apply.{applyFields}
 use Rattle.field_writer.proofs.Rooms.{room-rest, nested-is, put-last}
 use Rattle.firmware_writer.proofs.Texts.{apply-length}
 use borrow.Author.Needs.{needs}
@@ -33,8 +34,8 @@ spent c = room-rest (length (now (c .before .before .before .before .before .bef
 counted : (c : tie.After-known-told) → length (now (c .before .before .before .before .before .before .before .before .args .out)) - c .before .rest .given .0 .0 ≡ length (messageBytes (firmwareFields (now (c .before .before .before .before .before .before .before .before .args .texts)) (c .before .before .before .before .before .before .before .before .args .apply .«firmware_information»)))
 counted c = omega (arith, spent c)
 
-bool-value-requires : tie.Need-bool-value-requires
-bool-value-requires c κs = search needs
+bit64-requires : tie.Need-bit64-requires
+bit64-requires c κs = search needs
 
 firmware-room-requires : tie.Need-firmware-room-requires
 firmware-room-requires c κs = fine (c .before .before .before .before)
@@ -60,7 +61,7 @@ add-around c = search needs
 returns : tie.Need-returns
 returns c =
     let e = spent (c .before .before .before) in
-    wrote-short _ (applyFields (now (c .before .before .before .before .before .before .before .before .before .before .before .args .texts)) (c .before .before .before .before .before .before .before .before .before .before .before .args .apply)) (now (c .before .before .before .before .before .before .before .before .before .before .before .args .out)) (fine (c .before .before .before .before .before .before .before .before .before .before .before)) (omega (arith, c .if1 .taken, apply-length (now (c .before .before .before .before .before .before .before .before .before .before .before .args .texts)) (c .before .before .before .before .before .before .before .before .before .before .before .args .apply), rw (counted (c .before .before .before)) at (c .before .before .head-len .ensures .0), rw (c .before .before .before .before .before .before .before .bool-value .ensures) at (c .before .scalar-len .ensures .0), e))
+    wrote-short _ (applyFields (now (c .before .before .before .before .before .before .before .before .before .before .before .args .texts)) (c .before .before .before .before .before .before .before .before .before .before .before .args .apply)) (now (c .before .before .before .before .before .before .before .before .before .before .before .args .out)) (fine (c .before .before .before .before .before .before .before .before .before .before .before)) (omega (arith, c .if1 .taken, apply-length (now (c .before .before .before .before .before .before .before .before .before .before .before .args .texts)) (c .before .before .before .before .before .before .before .before .before .before .before .args .apply), rw (counted (c .before .before .before)) at (c .before .before .head-len .ensures .0), rw (c .before .before .before .before .before .before .before .bit64 .ensures .0) at (c .before .scalar-len .ensures .0), e))
 
 put-head-requires : tie.Need-put-head-requires
 put-head-requires c κs =
@@ -90,18 +91,18 @@ returns-3 : tie.Need-returns-3
 returns-3 c =
     let e = spent (c .before .before .before .before .before .before .before .before .before .before .before .before .before .before .before) in
     let l = messageBytes (firmwareFields (now (c .before .before .before .before .before .before .before .before .before .before .before .before .before .before .before .before .before .before .before .before .before .before .before .args .texts)) (c .before .before .before .before .before .before .before .before .before .before .before .before .before .before .before .before .before .before .before .before .before .before .before .args .apply .«firmware_information»)) in
-    let b = boolValue (c .before .before .before .before .before .before .before .before .before .before .before .before .before .before .before .before .before .before .before .before .before .before .before .args .apply .«restart_required») in
+    let b = bit (c .before .before .before .before .before .before .before .before .before .before .before .before .before .before .before .before .before .before .before .before .before .before .before .args .apply .«restart_required») in
     wrote _ (applyFields (now (c .before .before .before .before .before .before .before .before .before .before .before .before .before .before .before .before .before .before .before .before .before .before .before .args .texts)) (c .before .before .before .before .before .before .before .before .before .before .before .before .before .before .before .before .before .before .before .before .before .before .before .args .apply)) (now (c .before .before .before .before .before .before .before .before .before .before .before .before .before .before .before .before .before .before .before .before .before .before .before .args .out)) (fine (c .before .before .before .before .before .before .before .before .before .before .before .before .before .before .before .before .before .before .before .before .before .before .before))
-    (omega (arith, c .before .before .before .before .before .before .before .before .before .before .before .before .if1 .left, apply-length (now (c .before .before .before .before .before .before .before .before .before .before .before .before .before .before .before .before .before .before .before .before .before .before .before .args .texts)) (c .before .before .before .before .before .before .before .before .before .before .before .before .before .before .before .before .before .before .before .before .before .before .before .args .apply), rw (counted (c .before .before .before .before .before .before .before .before .before .before .before .before .before .before .before)) at (c .before .before .before .before .before .before .before .before .before .before .before .before .before .before .head-len .ensures .0), rw (c .before .before .before .before .before .before .before .before .before .before .before .before .before .before .before .before .before .before .before .bool-value .ensures) at (c .before .before .before .before .before .before .before .before .before .before .before .before .before .scalar-len .ensures .0), e))
+    (omega (arith, c .before .before .before .before .before .before .before .before .before .before .before .before .if1 .left, apply-length (now (c .before .before .before .before .before .before .before .before .before .before .before .before .before .before .before .before .before .before .before .before .before .before .before .args .texts)) (c .before .before .before .before .before .before .before .before .before .before .before .before .before .before .before .before .before .before .before .before .before .before .before .args .apply), rw (counted (c .before .before .before .before .before .before .before .before .before .before .before .before .before .before .before)) at (c .before .before .before .before .before .before .before .before .before .before .before .before .before .before .head-len .ensures .0), rw (c .before .before .before .before .before .before .before .before .before .before .before .before .before .before .before .before .before .before .before .bit64 .ensures .0) at (c .before .before .before .before .before .before .before .before .before .before .before .before .before .scalar-len .ensures .0), e))
     (put-field (nested firmwareInformationField l) (scalar restartRequiredField b ∷ [])
     (put-then (headBytes firmwareInformationField (length l)) l (nested-is firmwareInformationField l) (rw (counted (c .before .before .before .before .before .before .before .before .before .before .before .before .before .before .before)) at (c .before .before .before .before .before .before .before .before .before .before .put-head .ensures)) (c .before .before .before .before .before .before .put-firmware .ensures))
-    (put-last (scalar restartRequiredField b) (rw (c .before .before .before .before .before .before .before .before .before .before .before .before .before .before .before .before .before .before .before .bool-value .ensures) at (c .before .before .put-scalar .ensures))))
+    (put-last (scalar restartRequiredField b) (rw (c .before .before .before .before .before .before .before .before .before .before .before .before .before .before .before .before .before .before .before .bit64 .ensures .0) at (c .before .before .put-scalar .ensures))))
 
 pub fill-apply-spec : {M : Type 1} → statement M
 fill-apply-spec =
     tie.close
     (tie.spec
-    bool-value-requires
+    bit64-requires
     firmware-room-requires
     enum-told
     enum-known-rest

@@ -9,15 +9,11 @@ limit-fits-requires c κs = search needs
 
 returns : tie.Need-returns
 unfolding openOf
-returns c =
-    let fits = sym (c .before .limit-fits .ensures) ∙ c .if1 .taken in
-    (rw fits, rw fits)
+returns c = rw (sym (c .before .limit-fits .ensures) ∙ c .if1 .taken)
 
 returns-2 : tie.Need-returns-2
 unfolding openOf
-returns-2 c =
-    let over = sym (c .before .limit-fits .ensures) ∙ c .if1 .left in
-    (rw over, rw over)
+returns-2 c = rw (sym (c .before .limit-fits .ensures) ∙ c .if1 .left)
 
 pub open-spec : {M : Type 1} → statement M
 open-spec = tie.close (tie.spec limit-fits-requires returns returns-2)
