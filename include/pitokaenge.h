@@ -59,6 +59,20 @@ typedef char pito_size_t_has_64_bits[sizeof(size_t) == 8 ? 1 : -1];
 #define PITO_CALL
 #endif
 
+/*
+ * The archive's own version, which is PITO_VERSION. The number is in the name, and every file that includes this header
+ * refers to the function, so that a program does not link with an archive of another version. (Where the compiler is not
+ * GCC or Clang, or older than 11 and 13 with --gc-sections, a call of it does the same.)
+ */
+uint64_t pito_version_6(void);
+#if defined(__GNUC__) && defined(__has_attribute)
+#if __has_attribute(retain)
+static uint64_t (*const pito_archive_version)(void) __attribute__((used, retain)) = pito_version_6;
+#else
+static uint64_t (*const pito_archive_version)(void) __attribute__((used)) = pito_version_6;
+#endif
+#endif
+
 /* The limit of a link is its largest message in bytes, 1 to 65,535. It is set when the link is opened. */
 #define PITO_LARGEST_LIMIT 65535
 

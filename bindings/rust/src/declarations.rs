@@ -23,6 +23,9 @@ pub struct pito_slot {
 
 #[link(name = "pitokaenge", kind = "static")]
 extern "C" {
+    /// The archive's own version, the header's. The number is in the name, so that a program does not link with an archive
+    /// of another version.
+    pub fn pito_version_6() -> u64;
     /// Opens an extractor: the empty state of a limit.
     pub fn pito_extractor_open(limit: u64, state: *mut u64, state_len: usize) -> u64;
     /// One byte of a Classic stream.
