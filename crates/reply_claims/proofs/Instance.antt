@@ -33,7 +33,8 @@ use Rattle.receiver.specs.Receiver.{ready, readIn, acceptOf}
 use Rattle.delivery.specs.Delivery.{runOf, rowAfter, ours, hasSlot, packetsIn, shown, shownTo, repliesTo, allAnswerable}
 use Rattle.reply_parts.specs.Body.{kindOfCommand}
 use Rattle.reply.specs.Reply.{sendingOf, replyBy, joinedIn, carriedOf, sentOf, repliedOf}
-use Rattle.reply_claims.specs.Cut.{saidLength, cutApart}
+use Rattle.packet_end.specs.End.{saidLength}
+use Rattle.reply_claims.specs.Cut.{cutApart}
 use Rattle.reply_claims.specs.Answers.{Answers, packetsCut}
 use Rattle.reply_claims.specs.Instance.{asked, answered, ByHand, box, link, information, reply, slots, buffer, output, six, before, begun, later, after, OneReplyArrives}
 
