@@ -38,7 +38,7 @@ enum Pass {
 }
 
 // What a pass has come to: what is written, and whether that has the version byte; the first refusal of a part that is whole, if any.
-struct Passed {
+struct PassSoFar {
     output: Output,
     begun: bool,
     number: u8,
@@ -79,10 +79,10 @@ fn first_place(begun: bool) -> usize {
 }
 
 // Writes a part that was moved. Each has the version byte, which the new file has once.
-fn write_part(before: Passed, moved: &[u8]) -> Passed {
+fn write_part(before: PassSoFar, moved: &[u8]) -> PassSoFar {
     let from = smaller(moved.len(), first_place(before.begun));
     let output = before.output;
-    Passed {
+    PassSoFar {
         output: output.text(&moved[from..]),
         begun: true,
         number: before.number,
@@ -90,12 +90,12 @@ fn write_part(before: Passed, moved: &[u8]) -> Passed {
     }
 }
 
-fn refuse(before: Passed, number: u8, gone: u64, place: usize) -> Passed {
+fn refuse(before: PassSoFar, number: u8, gone: u64, place: usize) -> PassSoFar {
     if before.number != 0 {
         return before;
     }
     let output = before.output;
-    Passed {
+    PassSoFar {
         output,
         begun: before.begun,
         number,
@@ -105,13 +105,13 @@ fn refuse(before: Passed, number: u8, gone: u64, place: usize) -> Passed {
 
 // The records of a part that is whole, as an outbox of their own.
 fn move_part(
-    before: Passed,
+    before: PassSoFar,
     pass: Pass,
     part: &[u8],
     gone: u64,
     wished: Wished,
     space: &mut [u8],
-) -> Passed {
+) -> PassSoFar {
     let moved = move_file(part, wished, space);
     match moved {
         Moved::Written(n) => match pass {
@@ -125,7 +125,7 @@ fn move_part(
 }
 
 // The end of a pass over a whole file: whether nothing was refused.
-fn end_pass(passed: Passed) -> bool {
+fn end_pass(passed: PassSoFar) -> bool {
     if passed.number != 0 {
         complain_at(passed.number, passed.place);
         return false;
@@ -136,7 +136,7 @@ fn end_pass(passed: Passed) -> bool {
 // A pass over standard input, up to its end, a refusal, or a read or a write that fails; whether it came to the end and nothing was
 // refused. Nothing says that the input ends, so the loop counts down from a number that no run uses up.
 fn pass_over(pass: Pass, wished: Wished, buffer: &mut [u8], space: &mut [u8]) -> bool {
-    let mut passed = Passed {
+    let mut passed = PassSoFar {
         output: Output::new(),
         begun: false,
         number: 0,
