@@ -14,6 +14,13 @@
  * and out of the same array; the caller keeps it from one call to the next and need not look inside. The receiver's slots
  * are a row of structs, pito_slot, lent besides.
  *
+ * EMPTY. What has no elements may have no address: data() of an empty std::vector is a null pointer, as malloc(0) may be.
+ * Pass the address of any object then, with the length 0: v.empty() ? &byte : v.data().
+ *
+ * THREADS. There is no data but what is lent: calls may run at the same time on any threads and in interrupts, each with
+ * rows, slots, buffers and outputs of its own; what a call only reads, other calls may read meanwhile. No call waits or
+ * takes a lock, and its time goes by the bytes that it is given; docs/MEMORY.md has the stack of each.
+ *
  * NUMBERS. Each function returns 0 or the number of a refusal, PITO_REFUSED_.. below.
  * After every call that does not return 1 the whole answer row is written. After a refusal it is 0 throughout, but
  * for what is said below (the number of bytes used by pito_extractor_feed, the place that goes with 41, of a capture
@@ -50,6 +57,20 @@ typedef char pito_size_t_has_64_bits[sizeof(size_t) == 8 ? 1 : -1];
 #define PITO_CALL __attribute__((warn_unused_result, nonnull))
 #else
 #define PITO_CALL
+#endif
+
+/*
+ * The archive's own version, which is PITO_VERSION. The number is in the name, and every file that includes this header
+ * refers to the function, so that a program does not link with an archive of another version. (Where the compiler is not
+ * GCC or Clang, or older than 11 and 13 with --gc-sections, a call of it does the same.)
+ */
+uint64_t pito_version_6(void);
+#if defined(__GNUC__) && defined(__has_attribute)
+#if __has_attribute(retain)
+static uint64_t (*const pito_archive_version)(void) __attribute__((used, retain)) = pito_version_6;
+#else
+static uint64_t (*const pito_archive_version)(void) __attribute__((used)) = pito_version_6;
+#endif
 #endif
 
 /* The limit of a link is its largest message in bytes, 1 to 65,535. It is set when the link is opened. */
@@ -285,7 +306,8 @@ PITO_CALL uint64_t pito_ack_write(uint64_t stream, uint64_t id, uint64_t sequenc
  * Slots: a row of PITO_SLOTS structs, 96 bytes, the same one from call to call. Each stream has four, in the order control
  * (places 0 to 3), OTA (4 to 7), Alexa (8 to 11), so that four transactions of a stream can be open at a time. A slot that
  * is all 0 is idle, so a row of zeros is that of a new link: `static pito_slot row[PITO_SLOTS];` or `= {{0}}`. Opening a
- * receiver leaves the row alone: to begin anew, set it to 0.
+ * receiver leaves the row alone: to begin anew, set it to 0. A call may store a slot of the row as it was, also where it
+ * refuses: a row in memory that cannot be written faults.
  * Lawful rows: PITO_SLOTS slots, each idle or open as below, and no two open slots of a stream with the same id.
  * Buffer: exactly PITO_RECEIVER_BUFFER(limit) bytes, the same one from call to call. The part of the slot at a place begins
  * at PITO_RECEIVER_PART(place, limit) and has as many bytes as the limit.
@@ -404,7 +426,7 @@ enum {
     PITO_REPORT_NUMBERS
 };
 
-/* Where the numbers of a stream begin. */
+/* Where the numbers of a stream begin: of PITO_STREAM_CONTROL, _OTA or _ALEXA. Any other number is taken for the last. */
 #define PITO_REPORT_STREAM(stream) \
     ((stream) == PITO_STREAM_CONTROL ? 0 : (stream) == PITO_STREAM_OTA ? PITO_REPORT_NUMBERS : 2 * PITO_REPORT_NUMBERS)
 

@@ -813,11 +813,12 @@ pub fn report_add(
 ) -> u64 {
     ask(answer, || {
         let before = report_in(report).ok_or(Refusal::Lent)?;
-        let added = report::add(before, limit, slots.len(), buffer, capture)
-            .map_err(|(refusal, place)| match refusal {
+        let added = report::add(before, limit, slots.len(), buffer, capture).map_err(
+            |(refusal, place)| match refusal {
                 Refusal::Lent => refusal.into(),
                 _ => Refused(refusal, vec![(0, wide(place))]),
-            })?;
+            },
+        )?;
         slots.copy_from_slice(&added.slots.map(slot_out));
         let rows = added.report?.map(Costs::row);
         report.copy_from_slice(rows.as_flattened());

@@ -291,6 +291,8 @@ impl Operation {
         Operation::OutboxTo02,
     ];
 
+    // Each shape is written alike, also the one that has every part.
+    #[allow(clippy::needless_update)]
     pub fn shape(self) -> Shape {
         let empty = Shape {
             name: "",

@@ -126,7 +126,11 @@ const WRONG: &[Wrong] = &[
             let mut next = [0u8; 16];
             for packet in packets.iter_mut().filter(|packet| is_message(packet)) {
                 let sequence = &mut next[usize::from(packet[0] >> 4)];
-                *sequence = if packet[1] >> 2 & 3 == 0 { 0 } else { (*sequence + 1) % 16 };
+                *sequence = if packet[1] >> 2 & 3 == 0 {
+                    0
+                } else {
+                    (*sequence + 1) % 16
+                };
                 packet[1] = packet[1] & 15 | *sequence << 4;
             }
         },
@@ -147,7 +151,10 @@ const WRONG: &[Wrong] = &[
     Wrong {
         name: "the reserved byte is not looked at",
         before: |_, packets| {
-            for packet in packets.iter_mut().filter(|packet| packet.len() > 2 && packet[1] >> 2 & 3 == 0) {
+            for packet in packets
+                .iter_mut()
+                .filter(|packet| packet.len() > 2 && packet[1] >> 2 & 3 == 0)
+            {
                 packet[2] = 0;
             }
         },
@@ -176,7 +183,10 @@ const WRONG: &[Wrong] = &[
     Wrong {
         name: "a packet longer than the room is refused",
         before: |numbers, packets| {
-            if packets.iter().any(|packet| packet.len() as u64 > numbers[0]) {
+            if packets
+                .iter()
+                .any(|packet| packet.len() as u64 > numbers[0])
+            {
                 packets[0].clear();
             }
         },
@@ -195,9 +205,16 @@ fn wrong_judges_are_found() {
         seed: 3,
         scale: 0.05,
     };
-    let part = PARTS.iter().find(|part| part.name == "captures judged").unwrap();
+    let part = PARTS
+        .iter()
+        .find(|part| part.name == "captures judged")
+        .unwrap();
     for wrong in WRONG {
         let mut comparison = Comparison::new(&[&Model, wrong]);
-        assert!(run_part(part, &mut comparison, plan).is_err(), "{}", wrong.name);
+        assert!(
+            run_part(part, &mut comparison, plan).is_err(),
+            "{}",
+            wrong.name
+        );
     }
 }

@@ -189,10 +189,12 @@ fn left_open_are_the_open_slots_and_all_balances() {
     );
 }
 
+type Add = fn(&mut [u64], u64, &mut [Slot], &mut [u8], &[u8], &mut [u64]) -> u64;
+
 /// A report that is wrong: the function takes the place of the right one.
 struct Wrong {
     name: &'static str,
-    add: fn(&mut [u64], u64, &mut [Slot], &mut [u8], &[u8], &mut [u64]) -> u64,
+    add: Add,
 }
 
 impl Implementation for Wrong {

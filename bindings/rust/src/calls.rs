@@ -19,6 +19,10 @@ impl<R> From<Told<R>> for Refusal {
     }
 }
 
+/// An archive of another version does not link.
+#[used]
+static VERSION: unsafe extern "C" fn() -> u64 = declarations::pito_version_6;
+
 /// What a call returned, 0 or the number of a refusal. An archive of this version returns no other number.
 fn judged<R>(number: u64, row: R) -> Result<R, Told<R>> {
     match number {

@@ -37,13 +37,16 @@ impl<B: sealed::Bytes> Buffer for B {}
 /// A whole frame: its sequence byte, which is told and not judged, and its payload.
 #[derive(Clone, Copy, Debug, PartialEq, Eq)]
 pub struct Frame<'a> {
+    /// Its sequence byte.
     pub sequence: u8,
+    /// Its payload.
     pub payload: &'a [u8],
 }
 
 /// What the bytes of a stream have brought about.
 #[derive(Clone, Copy, Debug, PartialEq, Eq)]
 pub enum Event<'a> {
+    /// A whole frame.
     Frame(Frame<'a>),
     /// A byte was refused, by 20 to 25. What was being received is dropped, and the stream goes on.
     Refused(Refusal),
@@ -56,6 +59,7 @@ pub enum Step<'a> {
     Skipped,
     /// A byte of a frame.
     Taken,
+    /// The byte that ends a frame.
     Frame(Frame<'a>),
 }
 
@@ -104,6 +108,7 @@ impl<B: Buffer> Extractor<B> {
         }
     }
 
+    /// The limit that it was made with.
     pub fn limit(&self) -> Limit {
         self.limit
     }

@@ -9,15 +9,19 @@ use crate::{told, Refusal, Refused, UpToEight};
 pub struct Member<'a> {
     /// 2 to 536,870,911; in an envelope not 9, which is the response.
     pub number: u32,
+    /// What it holds.
     pub bytes: &'a [u8],
 }
 
 /// What an envelope carries.
 #[derive(Clone, Copy, Debug, Default, PartialEq, Eq)]
 pub enum Payload<'a> {
+    /// Nothing.
     #[default]
     None,
+    /// A response: the answer to a command.
     Response(Response<'a>),
+    /// Any other member.
     Member(Member<'a>),
 }
 
@@ -45,6 +49,7 @@ pub struct Envelope<'a> {
     /// 20 asks for device information, 28 for device features, 94 brings a segment, 95 applies firmware; any other is
     /// carried too.
     pub command: i32,
+    /// What it carries.
     pub payload: Payload<'a>,
 }
 
@@ -102,7 +107,9 @@ impl<'a> Envelope<'a> {
 /// ```
 #[derive(Clone, Copy, Debug, Default, PartialEq, Eq)]
 pub struct Response<'a> {
+    /// 0 success, 1 unknown, 3 unsupported; any other too.
     pub error_code: i32,
+    /// What it carries, if anything.
     pub payload: Option<Member<'a>>,
 }
 
@@ -169,9 +176,13 @@ fn member(
 /// ```
 #[derive(Clone, Copy, Debug, Default, PartialEq, Eq)]
 pub struct DeviceInformation<'a> {
+    /// The device's own number.
     pub serial_number: &'a str,
+    /// The name that people see.
     pub name: &'a str,
+    /// Its type, as Amazon gave it.
     pub device_type: &'a str,
+    /// The transports that it supports, by their numbers.
     pub transports: UpToEight<i32>,
 }
 
@@ -227,7 +238,9 @@ impl<'a> DeviceInformation<'a> {
 /// ```
 #[derive(Clone, Copy, Debug, Default, PartialEq, Eq)]
 pub struct DeviceFeatures {
+    /// The features that it has, bit by bit.
     pub features: u64,
+    /// Its attributes, bit by bit.
     pub device_attributes: u64,
 }
 

@@ -9,15 +9,20 @@ use crate::{told, Refusal};
 pub struct Field<'a> {
     /// 1 to 536,870,911.
     pub number: u32,
+    /// What it holds.
     pub value: Value<'a>,
 }
 
 /// The value of a field, by its kind.
 #[derive(Clone, Copy, Debug, PartialEq, Eq)]
 pub enum Value<'a> {
+    /// A number of up to 64 bits.
     Varint(u64),
+    /// Eight bytes, the lowest first.
     EightBytes(&'a [u8]),
+    /// As many bytes as the field's own length says.
     Bytes(&'a [u8]),
+    /// Four bytes, the lowest first.
     FourBytes(&'a [u8]),
 }
 
@@ -33,6 +38,7 @@ pub enum Value<'a> {
 /// assert_eq!(fields.next(), Some(Err(Refusal::MessageCut)));
 /// assert_eq!(fields.next(), None);
 /// ```
+#[must_use = "an iterator does nothing until it is asked for the next"]
 #[derive(Clone, Debug)]
 pub struct Fields<'a> {
     message: &'a [u8],
@@ -41,6 +47,7 @@ pub struct Fields<'a> {
 }
 
 impl<'a> Fields<'a> {
+    /// Of any bytes.
     pub fn of(message: &'a [u8]) -> Fields<'a> {
         Fields {
             message,

@@ -27,9 +27,13 @@ use crate::{told, Refusal, Refused, UpToEight};
 /// ```
 #[derive(Clone, Copy, Debug, Default, PartialEq, Eq)]
 pub struct UpdateComponentSegment<'a> {
+    /// The component that the segment is of.
     pub component_name: &'a str,
+    /// Where the segment begins in the component: 0.
     pub component_offset: u32,
+    /// How many bytes it has.
     pub segment_size: u32,
+    /// Its SHA-256, as 64 hexadecimal digits.
     pub segment_signature: &'a str,
 }
 
@@ -69,19 +73,28 @@ impl<'a> UpdateComponentSegment<'a> {
 /// A component of a firmware.
 #[derive(Clone, Copy, Debug, Default, PartialEq, Eq)]
 pub struct FirmwareComponent<'a> {
+    /// Its version.
     pub version: u32,
+    /// Its name.
     pub name: &'a str,
+    /// Its size in bytes.
     pub size: u32,
+    /// Its signature; not judged.
     pub signature: &'a str,
 }
 
 /// What an [`ApplyFirmware`] says of the firmware.
 #[derive(Clone, Copy, Debug, Default, PartialEq, Eq)]
 pub struct FirmwareInformation<'a> {
+    /// Its version.
     pub version: u32,
+    /// Its name.
     pub name: &'a str,
+    /// What it is made of.
     pub components: UpToEight<FirmwareComponent<'a>>,
+    /// The language that it is for.
     pub locale: &'a str,
+    /// The version as people see it.
     pub version_name: &'a str,
 }
 
@@ -112,7 +125,9 @@ pub struct FirmwareInformation<'a> {
 /// ```
 #[derive(Clone, Copy, Debug, Default, PartialEq, Eq)]
 pub struct ApplyFirmware<'a> {
+    /// Whether the device has to start anew.
     pub restart_required: bool,
+    /// Of the firmware to apply.
     pub information: FirmwareInformation<'a>,
 }
 

@@ -12,7 +12,10 @@ pub enum Verdict {
     /// The capture ends inside a transaction.
     Open,
     /// No continuation could be lawful after the packet whose length stands at this place.
-    Unlawful { place: usize },
+    Unlawful {
+        /// In the capture, whose first byte has place 0.
+        place: usize,
+    },
 }
 
 /// Judges a capture of one direction of a Low Energy link: the byte 01, then each packet with its length of two bytes,

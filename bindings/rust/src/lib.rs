@@ -18,7 +18,7 @@
 //! (`docs/promises` of the repository); this crate itself is plain Rust around them, and is tested. The archive's functions
 //! as they are, for callers that want no more, are in [`declarations`].
 #![no_std]
-#![deny(unsafe_code)]
+#![deny(unsafe_code, missing_docs)]
 
 #[cfg(not(target_pointer_width = "64"))]
 compile_error!("the library is for 64-bit machines: a length is a number of 64 bits");
@@ -48,7 +48,7 @@ pub use control::{DeviceFeatures, DeviceInformation, Envelope, Member, Payload, 
 pub use fields::{Field, Fields, Value};
 pub use firmware::{ApplyFirmware, FirmwareComponent, FirmwareInformation, UpdateComponentSegment};
 pub use judge::{judge, Verdict};
-pub use link::{Accepted, Link, Message, Slot};
+pub use link::{Accepted, Link, Message, OwnedLink, Row, Slot};
 pub use link_numbers::{Limit, Room, Stream};
 pub use outbox::{read_record, whole, write_as, Outbox, Record, Records, Version};
 pub use refusal::{Refusal, Refused};

@@ -13,6 +13,7 @@ use core::num::NonZeroU16;
 /// assert_eq!(LIMIT.get(), 4096);
 /// assert_eq!(Limit::new(4096), Ok(LIMIT));
 /// assert_eq!(Limit::new(0), Err(Refusal::Limit));
+/// assert_eq!(Limit::try_from(4096), Ok(LIMIT));
 /// ```
 ///
 /// A constant that is out of range does not compile:
@@ -48,8 +49,23 @@ impl Limit {
         }
     }
 
+    /// In bytes.
     pub const fn get(self) -> usize {
         self.0.get() as usize
+    }
+}
+
+impl TryFrom<usize> for Limit {
+    type Error = Refusal;
+
+    fn try_from(limit: usize) -> Result<Limit, Refusal> {
+        Limit::new(limit)
+    }
+}
+
+impl From<Limit> for usize {
+    fn from(limit: Limit) -> usize {
+        limit.get()
     }
 }
 
@@ -90,8 +106,23 @@ impl Room {
         })
     }
 
+    /// In bytes.
     pub const fn get(self) -> usize {
         self.0 as usize
+    }
+}
+
+impl TryFrom<usize> for Room {
+    type Error = Refusal;
+
+    fn try_from(room: usize) -> Result<Room, Refusal> {
+        Room::new(room)
+    }
+}
+
+impl From<Room> for usize {
+    fn from(room: Room) -> usize {
+        room.get()
     }
 }
 
@@ -99,9 +130,11 @@ impl Room {
 #[derive(Clone, Copy, Debug, PartialEq, Eq, PartialOrd, Ord, Hash)]
 #[repr(u8)]
 pub enum Stream {
+    /// What speaker and box say about themselves.
     Control = 0,
     /// Firmware over the air.
     Ota = 2,
+    /// What was said to the speaker.
     Alexa = 6,
 }
 
@@ -114,6 +147,7 @@ impl Stream {
     /// assert_eq!(Stream::of(6), Some(Stream::Alexa));
     /// assert_eq!(Stream::Alexa.number(), 6);
     /// assert_eq!(Stream::of(1), None);
+    /// assert_eq!(Stream::try_from(1), Err(pitokaenge::Refusal::Stream));
     /// ```
     pub const fn of(number: u64) -> Option<Stream> {
         match number {
@@ -124,7 +158,23 @@ impl Stream {
         }
     }
 
+    /// Its number.
     pub const fn number(self) -> u64 {
         self as u64
+    }
+}
+
+impl TryFrom<u64> for Stream {
+    type Error = Refusal;
+
+    /// Refused by 3 if it is not 0, 2 or 6.
+    fn try_from(number: u64) -> Result<Stream, Refusal> {
+        Stream::of(number).ok_or(Refusal::Stream)
+    }
+}
+
+impl From<Stream> for u64 {
+    fn from(stream: Stream) -> u64 {
+        stream.number()
     }
 }

@@ -87,6 +87,7 @@ impl<'a> Outbox<'a> {
         self.buffer.get(..self.used).unwrap_or(&[])
     }
 
+    /// Its records, from the first on.
     pub fn records(&self) -> Records<'_> {
         Records::of(self.bytes())
     }
@@ -97,7 +98,9 @@ impl<'a> Outbox<'a> {
 pub struct Record<'a> {
     /// Where it begins.
     pub place: usize,
+    /// The stream that it came over.
     pub stream: Stream,
+    /// What was kept.
     pub payload: &'a [u8],
     /// Where the next one begins, or the outbox ends.
     pub next: usize,
@@ -143,6 +146,7 @@ pub fn read_record(bytes: &[u8], place: usize) -> Result<Option<Record<'_>>, Ref
 
 /// The records of an outbox: an iterator that ends after the first refusal. Cut at any byte, an outbox still gives every
 /// record that lies whole in it.
+#[must_use = "an iterator does nothing until it is asked for the next"]
 #[derive(Clone, Debug)]
 pub struct Records<'a> {
     bytes: &'a [u8],
@@ -185,8 +189,11 @@ pub fn whole(bytes: &[u8]) -> Result<(), Refused> {
 
 /// The two versions of an outbox: payloads of up to 4,096 bytes, and of up to 65,535.
 #[derive(Clone, Copy, Debug, PartialEq, Eq)]
+#[non_exhaustive]
 pub enum Version {
+    /// Lengths of two bytes, payloads of up to 4,096 bytes.
     V01,
+    /// Lengths of four bytes, payloads of up to 65,535 bytes.
     V02,
 }
 

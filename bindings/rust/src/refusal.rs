@@ -19,6 +19,7 @@ macro_rules! refusals {
         /// ```
         #[derive(Clone, Copy, Debug, PartialEq, Eq, PartialOrd, Ord, Hash)]
         #[repr(u8)]
+        #[non_exhaustive]
         pub enum Refusal {
             $(#[doc = $meaning] $name = $number,)*
         }
@@ -113,8 +114,11 @@ impl core::error::Error for Refusal {}
 /// ```
 #[derive(Clone, Copy, Debug, PartialEq, Eq)]
 pub struct Refused {
+    /// The refusal.
     pub refusal: Refusal,
+    /// The number of the field that it is of.
     pub field: Option<u32>,
+    /// The place that it is at.
     pub place: Option<usize>,
 }
 

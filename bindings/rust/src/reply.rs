@@ -6,10 +6,13 @@ use crate::{told, DeviceFeatures, DeviceInformation, Joined, Limit, Refused, Roo
 /// What a device answers with: a speaker disconnects if its first two questions, commands 20 and 28, get no success.
 #[derive(Clone, Copy, Debug, PartialEq, Eq)]
 pub struct Device<'a> {
+    /// The answer to command 20.
     pub information: DeviceInformation<'a>,
+    /// The answer to command 28.
     pub features: DeviceFeatures,
-    /// The response's member numbers, from Amazon's schema, 2 to 536,870,911.
+    /// The response's member number of the information, from Amazon's schema, 2 to 536,870,911.
     pub information_member: u32,
+    /// .. and of the features.
     pub features_member: u32,
 }
 

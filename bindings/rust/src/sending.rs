@@ -9,8 +9,11 @@ use core::ops::Deref;
 /// How a message is sent: its packets are [`packets`](Transaction::packets).
 #[derive(Clone, Copy, Debug, PartialEq, Eq)]
 pub struct Transaction {
+    /// The link's largest packet.
     pub room: Room,
+    /// The link's largest message.
     pub limit: Limit,
+    /// The stream that the message goes over.
     pub stream: Stream,
     /// 0 to 15.
     pub id: u8,
@@ -63,6 +66,7 @@ impl Transaction {
 
 /// The packets of a message ([`Transaction::packets`]): an iterator of [`Packet`]s. A box that has not 512 bytes to spare
 /// takes them by [`write_next`](Packets::write_next).
+#[must_use = "an iterator does nothing until it is asked for the next"]
 #[derive(Clone, Debug)]
 pub struct Packets<'a> {
     transaction: Transaction,
@@ -183,6 +187,7 @@ fn acknowledge(
 }
 
 /// Packets that stand joined, as a reply's do: an iterator of each one's bytes.
+#[must_use = "an iterator does nothing until it is asked for the next"]
 #[derive(Clone, Copy, Debug)]
 pub struct Joined<'a>(pub(crate) &'a [u8]);
 

@@ -17,13 +17,15 @@ pub const VERSION: u64 = 6;
 pub const LARGEST_LIMIT: usize = 65535;
 /// The slots of a receiver, four for each stream.
 pub const SLOTS: usize = 12;
-/// The least room of a link, and the largest.
+/// The least room of a link.
 pub const LEAST_ROOM: usize = 20;
+/// The largest room of a link.
 pub const LARGEST_ROOM: usize = 512;
 /// The bytes of an ACK or a NACK.
 pub const ACK_SIZE: usize = 6;
-/// How many transports and components a message has at most.
+/// How many transports a message has at most.
 pub const MOST_TRANSPORTS: usize = 8;
+/// How many components a message has at most.
 pub const MOST_COMPONENTS: usize = 8;
 /// The largest payload of a record in an outbox of version 01.
 pub const VERSION_01_LIMIT: usize = 4096;

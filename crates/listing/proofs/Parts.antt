@@ -25,7 +25,7 @@ use Rattle.outbox_claims.proofs.Moved.{never-cut}
 use Rattle.outbox_claims.proofs.ReadsAsAlone.{reads-as-alone}
 use Rattle.outbox_claims.proofs.Stays.{run-stays, other-version-all, other-version-stays}
 use Rattle.listing.specs.declared.Listed.{Listed}
-use Rattle.listing.specs.Listing.{isOver, listedOf, Carried, carried, carryOf, ListsAsWhole}
+use Rattle.listing.specs.Listing.{isOver, listed, listedOf, Carried, carried, carryOf, ListsAsWhole}
 
 -- a refusal that does not end the listing is that of a cut
 not-over : (b : Bool) → not (b && not false) ≡ false → b ≡ true
@@ -64,6 +64,11 @@ told-within {r} fmt last buffer held fits e more =
     let within = more-within fmt last (take held buffer) (sym (ap (λ (l : Listed). l .over) e) ∙ more) in
     let place = ap (λ (l : Listed). l .place) e in
     (omega (arith, within .0, place), omega (arith, within .1, place, length-take-le held buffer fits))
+
+-- .. by the walk over the part
+pub listed-by : (fmt : Format) (last : Bool) (part : List ℕ) {w : Answer (Unit {0})} → w ≡ walkOf fmt part → listed (isOver last w) (usable w part) ≡ listedOf fmt last part
+unfolding listedOf
+listed-by fmt last part e = ap (λ w. listed (isOver last w) (usable w part)) e
 
 -- what is carried over is no longer than it was
 pub carried-within : {r : ℕ} {after : List ℕ} (buffer : List ℕ) (place held : ℕ) → carried r after ≡ carryOf buffer place held → firstPlace ≤ place → place ≤ held → r ≤ held

@@ -1,12 +1,14 @@
 // Lists the records of an outbox file on standard output, for the crew: what a box kept. The file may be of any size: it
 // passes through one buffer that holds the version byte and the bytes from a record's place on.
 use console::Output;
-use console::read_full;
+use console::read_some;
 use console::sentences::explain_outbox;
 use outbox::format::FIRST_PLACE;
 use outbox::reader::Reading;
 use outbox::reader::read;
+use outbox::reader::walk;
 use outbox::verdict::Fault;
+use outbox::verdict::Walked;
 use payloads::say_payload;
 use std::num::wrapping_add_u64;
 use wire::bytes::smaller;
@@ -31,8 +33,14 @@ pub enum RecordView {
 
 // How far the listing of a part of a file went, and whether the listing is over: it is at the end of the file or at a refusal.
 pub struct Listed {
-    over: bool,
-    place: usize,
+    pub over: bool,
+    pub place: usize,
+}
+
+// How far a part is whole, and the number of the refusal that ends it there; 0 where none does.
+pub struct JudgedPart {
+    pub listed: Listed,
+    pub number: u8,
 }
 
 // What was listed, and what is written of it.
@@ -41,10 +49,11 @@ pub struct ShownPart {
     pub output: Output,
 }
 
-// The bytes that a part begins with, and whether a read failed.
+// The bytes that a part begins with, whether the input has ended, and whether a read failed.
 pub struct Refilled {
-    held: usize,
-    failed: bool,
+    pub held: usize,
+    pub last: bool,
+    pub failed: bool,
 }
 
 // Room for a part. The `ensures` gives only the length, which lending the array as a slice needs.
@@ -115,19 +124,49 @@ fn list_end(output: Output, gone: u64, place: usize, last: bool) -> ShownPart
 }
 
 // A refusal in a part: a record that is cut short may go on in the next part.
-fn list_refusal(output: Output, fault: Fault, gone: u64, place: usize, last: bool) -> ShownPart
+fn judge_refusal(fault: Fault, place: usize, last: bool) -> JudgedPart
     ensures { λ r. ⌜ r .listed ≡ listed (endsBy last (faultNumber fault)) place ⌝ }
 {
     if both(is_cut(fault), !last) {
-        return ShownPart {
+        return JudgedPart {
             listed: Listed { over: false, place },
-            output,
+            number: 0,
         };
     }
-    ShownPart {
+    JudgedPart {
         listed: Listed { over: true, place },
-        output: say_refused(output, fault.number(), gone, place),
+        number: fault.number(),
     }
+}
+
+// A part looked through, and nothing written of it.
+pub fn judge_part(part: &[u8], last: bool) -> JudgedPart
+    ensures { λ r. ⌜ r .listed ≡ listedOf (formatOf (now (part .entry))) last (now (part .entry)) ⌝ }
+{
+    match walk(part) {
+        Walked::Whole => JudgedPart {
+            listed: Listed {
+                over: last,
+                place: part.len(),
+            },
+            number: 0,
+        },
+        Walked::Broken { fault, place } => judge_refusal(fault, place, last),
+    }
+}
+
+fn list_refusal(output: Output, fault: Fault, gone: u64, place: usize, last: bool) -> ShownPart
+    ensures { λ r. ⌜ r .listed ≡ listed (endsBy last (faultNumber fault)) place ⌝ }
+{
+    let judged = judge_refusal(fault, place, last);
+    let listed = judged.listed;
+    if listed.over {
+        return ShownPart {
+            listed,
+            output: say_refused(output, judged.number, gone, place),
+        };
+    }
+    ShownPart { listed, output }
 }
 
 // A line for each whole record of a part, and one for the end or the refusal where the listing is over.
@@ -169,7 +208,7 @@ pub fn list_part(output: Output, view: RecordView, part: &[u8], gone: u64, last:
 }
 
 // Moves the bytes of a part from a place on to where the first record stands, and tells how many bytes the part then has.
-fn carry_over(buffer: &mut [u8], place: usize, held: usize) -> usize
+pub fn carry_over(buffer: &mut [u8], place: usize, held: usize) -> usize
     requires { ⌜ (firstPlace ≤ place) × (place ≤ held) × (held ≤ length (now buffer)) ⌝ }
     ensures { λ r. ⌜ carried r (now (buffer .exit)) ≡ carryOf (now (buffer .entry)) place held ⌝ }
 {
@@ -182,23 +221,24 @@ fn carry_over(buffer: &mut [u8], place: usize, held: usize) -> usize
     FIRST_PLACE + n
 }
 
-// Fills the buffer from standard input behind the bytes that it keeps, and tells how many bytes it then holds.
-fn refill(buffer: &mut [u8], kept: usize) -> Refilled
+// One read of standard input behind the bytes that the buffer keeps: what has come is listed, though the stream stays open.
+pub fn refill(buffer: &mut [u8], kept: usize) -> Refilled
     requires { ⌜ kept ≤ length (now buffer) ⌝ }
     ensures { λ r. ⌜ (r .held ≤ length (now (buffer .exit)))
         × (take kept (now (buffer .exit)) ≡ take kept (now (buffer .entry))) ⌝ }
 {
-    let input = read_full(&mut buffer[kept..]);
+    let input = read_some(&mut buffer[kept..]);
     let read = input.held;
     let held = kept + read;
     Refilled {
         held,
+        last: read == 0,
         failed: input.failed,
     }
 }
 
-// Lists what standard input holds, up to a read or a write that fails. Nothing says that it ends, so the loop counts down from a number
-// that no run uses up.
+// Lists what standard input holds, each record as it comes, up to a read or a write that fails. A part is never full before a read: a
+// full one is listed beyond its first record. Nothing says that the input ends, so the loop counts down from a number that no run uses up.
 pub fn list(buffer: &mut [u8], view: RecordView) {
     let mut output = Output::new();
     let mut gone = 0;
@@ -210,8 +250,7 @@ pub fn list(buffer: &mut [u8], view: RecordView) {
         if either(filled.failed, output.failed) {
             return;
         }
-        let last = held < buffer.len();
-        let shown = list_part(output, view, &buffer[..held], gone, last);
+        let shown = list_part(output, view, &buffer[..held], gone, filled.last);
         let listed = shown.listed;
         if listed.over {
             return;

@@ -19,20 +19,51 @@ fn is_late_control(first: u8, second: u8) -> bool {
     both(first == 194, second <= 159)
 }
 
-// Whether a payload is text: well-formed UTF-8 without a control character, which a terminal would follow.
+// U+061C as UTF-8 has it: what follows it on a line is set from right to left.
+fn is_arabic_mark(first: u8, second: u8) -> bool {
+    both(first == 216, second == 156)
+}
+
+// The characters between U+2000 and U+207F that break a line or turn it round, as UTF-8 has them: U+200E, U+200F and U+2028 to
+// U+202E behind E2 80, U+2066 to U+2069 behind E2 81.
+fn is_turn(first: u8, second: u8, third: u8) -> bool {
+    let marks = either(
+        both(third >= 142, third <= 143),
+        both(third >= 168, third <= 174),
+    );
+    let isolates = both(third >= 166, third <= 169);
+    let behind = either(both(second == 128, marks), both(second == 129, isolates));
+    both(first == 226, behind)
+}
+
+// Whether the last of three bytes ends a character that a terminal would follow and not show.
+fn is_followed(first: u8, second: u8, third: u8) -> bool {
+    let short = either(
+        is_late_control(second, third),
+        is_arabic_mark(second, third),
+    );
+    either(
+        is_control(third),
+        either(short, is_turn(first, second, third)),
+    )
+}
+
+// Whether a payload is text: well-formed UTF-8 in which each character is shown, and none is followed by a terminal.
 pub fn is_text(payload: &[u8]) -> bool
     ensures { λ r. ⌜ (r ≡ true → badPlace (now (payload .entry)) ≡ length (now (payload .entry))) ⌝ }
 {
     if bad_place(payload) != payload.len() {
         return false;
     }
-    let mut before = 0;
+    let mut first = 0;
+    let mut second = 0;
     for i in 0..payload.len() {
-        let b = byte_at(payload, i);
-        if either(is_control(b), is_late_control(before, b)) {
+        let third = byte_at(payload, i);
+        if is_followed(first, second, third) {
             return false;
         }
-        before = b;
+        first = second;
+        second = third;
     }
     true
 }

@@ -18,7 +18,8 @@ use Rattle.sender.specs.Writer.{typeFor, totalBytes, headerBytes, isLast, packe
 use Rattle.sender.proofs.Largest.{size-le}
 use Rattle.sender.proofs.Packets.{packet-length, header-some}
 use Rattle.joining.specs.Joined.{concat, joinedOf}
-use Rattle.reply_claims.specs.Cut.{saidBy, saidLength, cutFrom, cutApart, JoinedCutApart}
+use Rattle.packet_end.specs.End.{saidBy, saidLength}
+use Rattle.reply_claims.specs.Cut.{cutFrom, cutApart, JoinedCutApart}
 
 -- what stands where the payload length does, by the extender
 said-by : (first e : Bool) (stream id sequence kind : ℕ) (ack : Bool) (total n : ℕ) (rest : List ℕ)

@@ -37,7 +37,8 @@ use Rattle.device.specs.Features.{featuresOf}
 use Rattle.round_trips.specs.RoundTrip.{informationAgain}
 use Rattle.control.specs.declared.response.ResponsePayload.the-variants as Inner
 use Rattle.reply.specs.Reply.{Box, replyOf, sendingOf, replyBy, joinedIn, carriedOf, sentOf, repliedOf}
-use Rattle.reply_claims.specs.Cut.{saidLength, cutApart}
+use Rattle.packet_end.specs.End.{saidLength}
+use Rattle.reply_claims.specs.Cut.{cutApart}
 use Rattle.reply_claims.specs.Answers.{Answers, packetsCut}
 use Rattle.reply_claims.specs.ReadAgain.{ResponseReads}
 use Rattle.reply_claims.proofs.ReadAgain.{reply-reads}

@@ -1,24 +1,13 @@
 -- Joined packets, cut apart by their own headers.
-use Prim.Native.Nat.{ℕ, zero, suc, _+_, _≤_}
+use Prim.Native.Nat.{ℕ, zero, suc, _≤_}
 use mathlib.Core.Path.{_≡_}
-use mathlib.Core.Bool.{Bool}
 use mathlib.Core.List.{List, [], _∷_}
-use lib.ListN.{length, getD, take, drop}
-use lib.Dec.{eqb}
-use Rattle.packet.specs.Header.{typeFirst, headerSize, lengthPlace, typeBits, extenderBit}
-use Rattle.packet.specs.Reader.{lengthAt}
+use lib.ListN.{length, take, drop}
+use Rattle.packet_end.specs.End.{saidLength}
 use Rattle.sender.specs.declared.writer.Sending.{Sending}
 use Rattle.sender.specs.Piece.{leastRoom}
 use Rattle.sender.specs.Writer.{packetsOf}
 use Rattle.joining.specs.Joined.{joinedOf}
-
--- how long the packet at the head of the bytes is: its header's size, and the payload length that stands there
-abbrev pub saidBy : List ℕ → Bool → Bool → ℕ
-saidBy s first extended = headerSize first extended + lengthAt s (lengthPlace first) extended
-
--- byte 1 says whether it is a first packet, and whether its length has two bytes
-unfoldable pub saidLength : List ℕ → ℕ
-saidLength s = saidBy s (eqb (typeBits (getD s 1 0)) typeFirst) (extenderBit (getD s 1 0))
 
 -- the packets at the head of the bytes, at most so many
 abbrev pub cutFrom : ℕ → List ℕ → List (List ℕ)

@@ -1,5 +1,5 @@
-// Says why a sender is not lawful: the same input as `lawful`, its line, with 41 and 42 their place too, and then of the packet that
-// decides what was expected and what came, or what is still open at the end.
+// Says why a sender is not lawful: the same input as `lawful`, its line, and then of 41 and 42 their place, of the packet that decides
+// what was expected and what came, or what is still open at the end.
 use captures::Front;
 use captures::WIDTH;
 use captures::front_of;
@@ -245,14 +245,14 @@ fn say_end(output: Output, state: State) -> Output {
 // The place of a refusal, where it has one.
 fn say_at(output: Output, at: usize) -> Output {
     if at != 0 {
-        say_number(output, b" at ", at).text(b"\n")
+        say_number(output, b"at ", at).text(b"\n")
     } else {
-        output.text(b"\n")
+        output
     }
 }
 
 fn say_refused(output: Output, why: Refusal, at: usize) -> Output {
-    let refused = say_number(output, b"refused ", wide(why.number()));
+    let refused = say_number(output, b"refused ", wide(why.number())).text(b"\n");
     let said = say_at(refused, at);
     explain_capture(why.number());
     said

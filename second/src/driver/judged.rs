@@ -66,12 +66,20 @@ pub fn run(c: &mut Comparison<'_>, rng: &mut Rng, plan: Plan) -> Compared<()> {
         let packets: Vec<_> = packets.iter().map(|packet| bytes(packet)).collect();
         let mut call = call(room, limit, &capture(&packets));
         let returned = c.run(&mut call)?;
-        c.hold(returned == 0 && call.answer == row, "the worked answer", &call)?;
+        c.hold(
+            returned == 0 && call.answer == row,
+            "the worked answer",
+            &call,
+        )?;
     }
     // A packet longer than the room is unlawful, not refused.
     let mut long = call(20, 4_096, &capture(&[vec![0; 600]]));
     let returned = c.run(&mut long)?;
-    c.hold(returned == 0 && long.answer == [3, 1], "the worked answer", &long)?;
+    c.hold(
+        returned == 0 && long.answer == [3, 1],
+        "the worked answer",
+        &long,
+    )?;
     every_list(c)?;
     for number in 0..plan.times(20_000) {
         if number % 256 == 0 {
@@ -141,9 +149,12 @@ fn every_list(c: &mut Comparison<'_>) -> Compared<()> {
         c.run(&mut call(20, 35, &capture(list)))?;
         Ok(())
     };
-    c.at = format!("captures judged, all lists of up to three of {} packets", pool.len());
+    c.at = format!(
+        "captures judged, all lists of up to three of {} packets",
+        pool.len()
+    );
     for one in &pool {
-        judge(c, &[one.clone()])?;
+        judge(c, std::slice::from_ref(one))?;
         for two in &pool {
             judge(c, &[one.clone(), two.clone()])?;
             for three in &pool {
@@ -161,7 +172,11 @@ fn generated(rng: &mut Rng) -> (u64, u64, Vec<u8>) {
     let limit = *rng.pick(&[1, 20, 300, 4_096, 65_535]);
     let mut lanes: Vec<Vec<Vec<u8>>> = Stream::ALL
         .into_iter()
-        .map(|stream| (0..rng.index(3)).flat_map(|_| transaction(rng, stream, room, limit)).collect())
+        .map(|stream| {
+            (0..rng.index(3))
+                .flat_map(|_| transaction(rng, stream, room, limit))
+                .collect()
+        })
         .collect();
     let mut packets = Vec::new();
     while lanes.iter().any(|lane| !lane.is_empty()) {
@@ -188,8 +203,16 @@ fn generated(rng: &mut Rng) -> (u64, u64, Vec<u8>) {
         packets.retain(|packet| !packet.is_empty());
     }
     // A room or limit beside it now and then: another, or one out of range.
-    let room = if rng.once_in(9) { *rng.pick(&[19, 20, 513, room as u64 + 1]) } else { room as u64 };
-    let limit = if rng.once_in(9) { *rng.pick(&[0, 19, 65_536]) } else { limit as u64 };
+    let room = if rng.once_in(9) {
+        *rng.pick(&[19, 20, 513, room as u64 + 1])
+    } else {
+        room as u64
+    };
+    let limit = if rng.once_in(9) {
+        *rng.pick(&[0, 19, 65_536])
+    } else {
+        limit as u64
+    };
     (room, limit, capture(&packets))
 }
 
@@ -234,7 +257,9 @@ pub fn run_program(program: &Path, captures: &[Capture], plan: Plan) -> Result<u
         input.extend(capture);
         input
     };
-    let mut inputs: Vec<Vec<u8>> = (0..6).map(|length| vec![0, 20, 16, 0, 1][..length.min(5)].to_vec()).collect();
+    let mut inputs: Vec<Vec<u8>> = (0..6)
+        .map(|length| vec![0, 20, 16, 0, 1][..length.min(5)].to_vec())
+        .collect();
     for of in captures.iter().filter(|of| of.is_low_energy()) {
         inputs.extend(ROOMS.map(|room| input(room, 4_096, &capture(&of.chunks))));
     }

@@ -2,25 +2,19 @@ use borrow.Author.Needs.{needs}
 use Rattle.listing.proofs.list_refusal.Statement.{statement}
 use Rattle.listing.proofs.list_refusal.Tie as tie
 
-is-cut-requires : tie.Need-is-cut-requires
-is-cut-requires c κs = search needs
-
-both-requires : tie.Need-both-requires
-both-requires c κs = search needs
-
-returns : tie.Need-returns
-returns c = rw (← c .before .before .is-cut .ensures, ← c .before .both .ensures, c .if1 .taken)
-
-number-requires : tie.Need-number-requires
-number-requires c κs = search needs
+judge-refusal-requires : tie.Need-judge-refusal-requires
+judge-refusal-requires c κs = search needs
 
 say-refused-requires : tie.Need-say-refused-requires
 say-refused-requires c κs = search needs
 
+returns : tie.Need-returns
+returns c = search needs
+
 returns-2 : tie.Need-returns-2
-returns-2 c = let d = c .before .before in rw (← d .before .before .is-cut .ensures, ← d .before .both .ensures, d .if1 .left)
+returns-2 c = search needs
 
 pub list-refusal-spec : {M : Type 1} → statement M
 list-refusal-spec =
     tie.close
-    (tie.spec is-cut-requires both-requires returns number-requires say-refused-requires returns-2)
+    (tie.spec judge-refusal-requires say-refused-requires returns returns-2)

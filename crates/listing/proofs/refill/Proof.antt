@@ -6,17 +6,17 @@ use borrow.Author.Needs.{needs}
 use Rattle.listing.proofs.refill.Statement.{statement}
 use Rattle.listing.proofs.refill.Tie as tie
 
-sub-read-full : tie.Need-sub-read-full
-sub-read-full c = search needs
+sub-read-some : tie.Need-sub-read-some
+sub-read-some c = search needs
 
-part-read-full-start : tie.Need-part-read-full-start
-part-read-full-start c = search needs
+part-read-some-start : tie.Need-part-read-some-start
+part-read-some-start c = search needs
 
-part-read-full-end : tie.Need-part-read-full-end
-part-read-full-end c = search needs
+part-read-some-end : tie.Need-part-read-some-end
+part-read-some-end c = search needs
 
-read-full-requires : tie.Need-read-full-requires
-read-full-requires c κs = search needs
+read-some-requires : tie.Need-read-some-requires
+read-some-requires c κs = search needs
 
 add-held : tie.Need-add-held
 add-held c = search needs
@@ -27,16 +27,16 @@ same-length c = search needs
 returns : tie.Need-returns
 returns c =
     let s = c .before .before .before .before .before in
-    (search needs, take-put (s .args .kept) (length (now (s .args .buffer)) - s .args .kept) (now (s .args .buffer)) (c .before .before .read-full .last .0) (s .pre))
+    (search needs, take-put (s .args .kept) (length (now (s .args .buffer)) - s .args .kept) (now (s .args .buffer)) (c .before .before .read-some .last .0) (s .pre))
 
 pub refill-spec : {M : Type 1} → statement M
 refill-spec =
     tie.close
     (tie.spec
-    sub-read-full
-    part-read-full-start
-    part-read-full-end
-    read-full-requires
+    sub-read-some
+    part-read-some-start
+    part-read-some-end
+    read-some-requires
     add-held
     same-length
     returns)

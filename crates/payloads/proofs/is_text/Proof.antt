@@ -7,10 +7,10 @@ use Rattle.payloads.proofs.is_text.Statement.{statement}
 use Rattle.payloads.proofs.is_text.Tie as tie
 
 abbrev Inv-loop : tie.InvT-loop
-Inv-loop payload before₀ i₀ i-end before i = i ≤ length payload
+Inv-loop payload first₀ second₀ i₀ i-end first second i = i ≤ length payload
 
 abbrev μ-loop : tie.MeasureT-loop
-μ-loop payload before₀ i₀ i-end before i = length payload - i
+μ-loop payload first₀ second₀ i₀ i-end first second i = length payload - i
 
 bad-place-requires : tie.Need-bad-place-requires Inv-loop μ-loop
 bad-place-requires c κs = search needs
@@ -24,14 +24,8 @@ loop-holds c = search needs
 byte-at-requires : tie.Need-byte-at-requires Inv-loop μ-loop
 byte-at-requires c κs = search needs
 
-is-control-requires : tie.Need-is-control-requires Inv-loop μ-loop
-is-control-requires c κs = search needs
-
-is-late-control-requires : tie.Need-is-late-control-requires Inv-loop μ-loop
-is-late-control-requires c κs = search needs
-
-either-requires : tie.Need-either-requires Inv-loop μ-loop
-either-requires c κs = search needs
+is-followed-requires : tie.Need-is-followed-requires Inv-loop μ-loop
+is-followed-requires c κs = search needs
 
 returns-2 : tie.Need-returns-2 Inv-loop μ-loop
 returns-2 c = λ e. absurd (false≢true e)
@@ -58,9 +52,7 @@ is-text-spec =
     returns
     loop-holds
     byte-at-requires
-    is-control-requires
-    is-late-control-requires
-    either-requires
+    is-followed-requires
     returns-2
     add-i
     loop-less

@@ -1,0 +1,44 @@
+use mathlib.Core.Path.{_≡_, _∙_}
+use lib.ListN.{getD}
+use borrow.Author.Needs.{needs}
+use denote.Ref.{now}
+use Rattle.packet.specs.Header.{typeBits}
+use Rattle.packet_end.proofs.Ends.{control-end, message-end}
+use Rattle.packet_end.proofs.end_of.Statement.{statement}
+use Rattle.packet_end.proofs.end_of.Tie as tie
+
+byte-at-requires : tie.Need-byte-at-requires
+byte-at-requires c κs = search needs
+
+type-bits-requires : tie.Need-type-bits-requires
+type-bits-requires c κs = search needs
+
+-- the type, as byte 1 says it
+kind-at : (c : tie.After-type-bits) → c .type-bits .result ≡ typeBits (getD (now (c .before .before .before .args .bytes)) 1 0)
+kind-at c = rw (c .before .byte-at .ensures) at (c .type-bits .ensures)
+
+returns : tie.Need-returns
+returns c = control-end (now (c .before .before .before .before .args .bytes)) (c .before .type-bits .result) (kind-at (c .before)) (c .if1 .taken)
+
+extender-bit-requires : tie.Need-extender-bit-requires
+extender-bit-requires c κs = search needs
+
+said-length-requires : tie.Need-said-length-requires
+said-length-requires c κs = search needs
+
+returns-2 : tie.Need-returns-2
+returns-2 c =
+    let k = c .before .before .before in
+    c .said-length .ensures
+    ∙ message-end (now (k .before .before .before .args .bytes)) (k .type-bits .result) (kind-at k) (c .before .before .if1 .left) (rw (k .before .byte-at .ensures) at (c .before .extender-bit .ensures))
+
+pub end-of-spec : {M : Type 1} → statement M
+end-of-spec =
+    tie.close
+    (tie.spec
+    byte-at-requires
+    type-bits-requires
+    returns
+    extender-bit-requires
+    said-length-requires
+    returns-2)
