@@ -113,9 +113,17 @@ impl<'a> Link<'a> {
         self.limit
     }
 
-    /// Drops every open transaction, as where a speaker has given up four of a stream and 18 is all that others get.
+    /// Drops every open transaction, as where the radio has come back after a lost link.
     pub fn clear(&mut self) {
         *self.row = [Slot::default(); SLOTS];
+    }
+
+    /// Drops the transaction of the slot at a place, 0 to 11, as where a speaker has given up four of a stream and 18 is all
+    /// that others get.
+    pub fn clear_slot(&mut self, place: usize) {
+        if let Some(slot) = self.row.get_mut(place) {
+            *slot = Slot::default();
+        }
     }
 
     /// Takes one packet as it came, any bytes. `ack_sequence` is the sequence of the ACK, if one is written: any from 0 to
