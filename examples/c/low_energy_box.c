@@ -14,7 +14,7 @@
  * longest gave way to it, `no envelope NUMBER` for a control message that is none, `too long LENGTH` for a packet that no radio
  * sends, each with `, COUNT more` where the same came again before the next record; and what ended the program.
  * Ends with 0 at the end of the input (a last packet that is cut is not taken); with 1 and with 2 as box.c does, with 1
- * also where nothing can be sent any more, since no ACK can go out then, and, before anything is written, where RADIO is the
+ * also where nothing can be sent any more, or for two seconds, since no ACK can go out then, and, before anything is written, where RADIO is the
  * outbox file or another outbox.
  *
  * AN ACK GOES OUT LAST, and after it only the reply. It says SUCCESS, and a speaker that has it does not send the message
@@ -25,6 +25,7 @@
 
 #include <errno.h>
 #include <fcntl.h>
+#include <poll.h>
 #include <stdlib.h>
 #include <string.h>
 #include <sys/types.h>
@@ -39,6 +40,9 @@
 
 /* Before each packet, both ways. */
 #define LENGTH_SIZE 2
+
+/* In milliseconds. */
+#define RADIO_PATIENCE 2000
 
 /* Replies: every link has the least room. One is sent whole before the next begins, so that id and sequence can stay. */
 #define ROOM PITO_LEAST_ROOM
@@ -102,9 +106,26 @@ static void open_link(void)
         fail_refused("pito_receiver_open", number);
 }
 
+/* A radio that takes nothing for so long is as good as gone. */
+static void wait_for_radio(void)
+{
+    struct pollfd output = {0};
+    int ready;
+    output.fd = radio;
+    output.events = POLLOUT;
+    do
+        ready = poll(&output, 1, RADIO_PATIENCE);
+    while (ready < 0 && errno == EINTR);
+    if (ready == 0)
+        errno = ETIMEDOUT;
+    if (ready != 1)
+        fail("send a packet");
+}
+
 static void send_packet(const uint8_t *bytes, size_t length)
 {
     uint8_t sent[LENGTH_SIZE + PITO_LARGEST_ROOM];
+    wait_for_radio();
     sent[0] = (uint8_t)(length >> 8);
     sent[1] = (uint8_t)length;
     memcpy(sent + LENGTH_SIZE, bytes, length);

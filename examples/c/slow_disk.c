@@ -1,5 +1,5 @@
 /*
- * A disk for the tests, linked in place of the system's calls (DISK in build).
+ * A disk for the tests, linked in place of the system's calls (`disk` in build).
  *
  * What a kill leaves of a file is otherwise all that was written, synced or not, since the system keeps it. On this disk
  * nothing reaches a file before its own fsync, which then writes it in a few pieces and takes its time: a kill loses what was

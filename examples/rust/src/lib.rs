@@ -87,6 +87,11 @@ pub fn run<const WORDS: usize>(
     }
 }
 
+/// Whether an output takes bytes within so many milliseconds.
+pub fn is_ready(output: &impl AsFd, milliseconds: i32) -> bool {
+    system::is_ready(output, milliseconds)
+}
+
 /// A terminal passes on all bytes as they are, and sends none back.
 pub fn make_raw(line: &(impl AsFd + IsTerminal)) -> Result<(), Failure> {
     system::make_raw(line).map_err(Failure::to("set the serial line"))

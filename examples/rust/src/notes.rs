@@ -60,7 +60,7 @@ fn write_note(line: impl fmt::Display) {
 pub fn write_line(to: &mut (impl Write + AsFd), line: &str) -> io::Result<()> {
     let mut rest = line.as_bytes();
     while !rest.is_empty() {
-        if !system::is_ready(to) {
+        if !system::is_ready(to, 0) {
             return Err(ErrorKind::WouldBlock.into());
         }
         match to.write(rest) {

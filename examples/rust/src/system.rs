@@ -73,16 +73,21 @@ pub fn lock(file: &File) -> io::Result<bool> {
     }
 }
 
-/// Whether the output takes a line without being waited for; also where it takes none any more, which a write then tells.
-pub fn is_ready(output: &impl AsFd) -> bool {
+/// Whether the output takes bytes within so many milliseconds; also where it takes none any more, which a write then tells.
+pub fn is_ready(output: &impl AsFd, milliseconds: i32) -> bool {
     const POLLOUT: i16 = 4;
     let mut asked = Asked {
         file: output.as_fd().as_raw_fd(),
         events: POLLOUT,
         found: 0,
     };
-    // SAFETY: it is one `struct pollfd`, and outlives the call.
-    unsafe { poll(&mut asked, 1, 0) == 1 }
+    loop {
+        // SAFETY: it is one `struct pollfd`, and outlives the call.
+        let count = unsafe { poll(&mut asked, 1, milliseconds) };
+        if count >= 0 || io::Error::last_os_error().kind() != ErrorKind::Interrupted {
+            return count == 1;
+        }
+    }
 }
 
 /// A terminal passes on all bytes as they are, both ways, and sends none back; anything else is left as it is. As the system

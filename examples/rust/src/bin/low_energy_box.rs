@@ -14,14 +14,14 @@
 //! silent longest gave way to it, `no envelope NUMBER` for a control message that is none, `too long LENGTH` for a packet that
 //! no radio sends, each with `, COUNT more` where the same came again before the next record; and what ended the program.
 //! Ends with 0 at the end of the input (a last packet that is cut is not taken); with 1 and with 2 as classic_box does, with 1
-//! also where nothing can be sent any more, since no ACK can go out then, and, before anything is written, where RADIO is the
-//! outbox file or another outbox.
+//! also where nothing can be sent any more, or for two seconds, since no ACK can go out then, and, before anything is written,
+//! where RADIO is the outbox file or another outbox.
 //!
 //! AN ACK GOES OUT LAST, and after it only the reply. It says SUCCESS, and a speaker that has it does not send the message
 //! again. So a message is on the disk before its ACK is sent. A box that ends before then, however it ends, sends none, and the
 //! speaker sends the message again: none that was acknowledged is ever lost, and one that was not may be kept twice.
 
-use boxes::{check_apart, is_outbox, make_raw, note_number, Failure, OutboxFile};
+use boxes::{check_apart, is_outbox, is_ready, make_raw, note_number, Failure, OutboxFile};
 use pitokaenge::{
     sizes, Accepted, Device, DeviceFeatures, DeviceInformation, Limit, Link, Message, Refusal,
     Room, Slot, Stream, UpToEight,
@@ -40,6 +40,9 @@ const SLOTS_OF_A_STREAM: usize = sizes::SLOTS / 3;
 
 /// An ACK belongs to no transaction of ours: any sequence will do.
 const ACK_SEQUENCE: u8 = 0;
+
+/// A radio that takes nothing for so many milliseconds is as good as gone.
+const RADIO_PATIENCE: i32 = 2000;
 
 /// Replies: every link has the least room. One is sent whole before the next begins, so that id and sequence can stay.
 const ROOM: Room = Room::LEAST;
@@ -228,6 +231,10 @@ impl LowEnergyBox {
     }
 
     fn send(&mut self, packet: &[u8]) -> Result<(), Failure> {
+        if !is_ready(&self.radio, RADIO_PATIENCE) {
+            let why = ErrorKind::TimedOut.into();
+            return Err(Failure::System("send a packet", why));
+        }
         let mut sent = (packet.len() as u16).to_be_bytes().to_vec();
         sent.extend_from_slice(packet);
         self.radio
