@@ -222,8 +222,8 @@ void write_all(int to, const void *bytes, size_t length, const char *what)
     }
 }
 
-/* Answers how many bytes it has read, fewer than asked for only at the end of the file. */
-static size_t read_file(int from, uint8_t *bytes, size_t length, off_t place)
+/* Answers how many bytes it has read, fewer than asked for only at the end of the file, or -1 if they cannot be read. */
+static ssize_t read_file(int from, uint8_t *bytes, size_t length, off_t place)
 {
     size_t held = 0;
     while (held < length) {
@@ -231,12 +231,12 @@ static size_t read_file(int from, uint8_t *bytes, size_t length, off_t place)
         if (count < 0 && errno == EINTR)
             continue;
         if (count < 0)
-            fail("read a file");
+            return -1;
         if (count == 0)
             break;
         held += (size_t)count;
     }
-    return held;
+    return (ssize_t)held;
 }
 
 static void sync_to_disk(int what, const char *name)
@@ -284,15 +284,18 @@ int is_outbox(const char *path, uint8_t *bytes, size_t size)
     uint64_t answer[PITO_OUTBOX_RECORD_ANSWER];
     uint64_t number;
     struct stat its;
+    ssize_t held;
     int other;
     if (stat(path, &its) != 0 || !S_ISREG(its.st_mode))
         return 0;
     other = open(path, O_RDONLY);
     if (other < 0)
         return 0;
-    size = read_file(other, bytes, size, 0);
+    held = read_file(other, bytes, size, 0);
     close(other);
-    number = pito_outbox_record(bytes, size, PITO_FIRST_PLACE, answer, PITO_OUTBOX_RECORD_ANSWER);
+    if (held < 0)
+        return 0;
+    number = pito_outbox_record(bytes, (size_t)held, PITO_FIRST_PLACE, answer, PITO_OUTBOX_RECORD_ANSWER);
     return number == PITO_DONE || number == PITO_REFUSED_RECORD_CUT;
 }
 
@@ -327,6 +330,10 @@ static void open_file(const char *path)
         fail("look at the outbox file");
     if (!is_same(&opened, &named))
         end_for_another_box();
+    if (!S_ISREG(opened.st_mode)) {
+        note("box: the outbox is a device, a pipe or a folder\n");
+        exit(1);
+    }
 }
 
 /* ---- What a start does ---- */
@@ -425,6 +432,11 @@ static uint64_t pass_records(size_t size)
     return number;
 }
 
+static void put_unreadable_aside(void)
+{
+    put_aside("cannot be read, error", (uint64_t)errno);
+}
+
 /*
  * Finds the end of the last whole record. A record that the small outbox cuts is read again from its own place on: the largest
  * of this box's then fits, so that only the end of the file can cut it. One that fills the small outbox is of another box.
@@ -436,8 +448,13 @@ static void resume_outbox(void)
     off_t before;
     file_end = PITO_FIRST_PLACE;
     do {
+        ssize_t held = read_file(file, outbox + PITO_FIRST_PLACE, outbox_size - PITO_FIRST_PLACE, file_end);
+        if (held < 0) {
+            put_unreadable_aside();
+            return;
+        }
         before = file_end;
-        size = PITO_FIRST_PLACE + read_file(file, outbox + PITO_FIRST_PLACE, outbox_size - PITO_FIRST_PLACE, file_end);
+        size = PITO_FIRST_PLACE + (size_t)held;
         number = pass_records(size);
     } while (file_end > before && (number == PITO_DONE || number == PITO_REFUSED_RECORD_CUT));
     switch (number) {
@@ -465,6 +482,7 @@ static void resume_outbox(void)
  */
 void open_outbox(const char *path, uint8_t *one_record, size_t size)
 {
+    ssize_t held;
     outbox = one_record;
     outbox_size = size;
     check_apart(path, STDIN_FILENO, "standard input");
@@ -475,7 +493,10 @@ void open_outbox(const char *path, uint8_t *one_record, size_t size)
         fail("find the outbox file's folder");
     sync_to_disk(file, "sync the outbox file");
     sync_folder();
-    if (read_file(file, outbox, PITO_FIRST_PLACE, 0) == 0)
+    held = read_file(file, outbox, PITO_FIRST_PLACE, 0);
+    if (held < 0)
+        put_unreadable_aside();
+    else if (held == 0)
         begin_outbox();
     else
         resume_outbox();

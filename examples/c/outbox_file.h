@@ -49,10 +49,10 @@ int is_outbox(const char *path, uint8_t *bytes, size_t size);
 
 /*
  * Opens the file, or begins it, and finds the end of its last whole record. What stands cut behind that goes to the file
- * PATH.dropped, and only then is dropped. A file that is no outbox, or has a longer record than a message of this box can be,
- * is put aside whole, as PATH.aside-1, or the first number that is free, and a new one is begun. Both are noted.
+ * PATH.dropped, and only then is dropped. A file that is no outbox, has a longer record than a message of this box can be, or
+ * cannot be read is put aside whole, as PATH.aside-1, or the first number that is free, and a new one is begun. Both are noted.
  * The bytes are lent for good: PITO_ONE_RECORD of the box's limit, so that they hold the longest record of its messages.
- * Ends with 1 if the file is open in another box, or is a standard stream of this one.
+ * Ends with 1 if the file is open in another box, is a standard stream of this one, or is no regular file.
  */
 void open_outbox(const char *path, uint8_t *one_record, size_t size);
 

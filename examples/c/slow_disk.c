@@ -11,7 +11,7 @@
  * bytes that it wrote, a new file's name or a changed one are not yet synced.
  *
  * DISK_ENDS_AT: the power fails at that step of the disk, counted from 1. Steps are pieces written, files shortened or renamed,
- * and folders synced.
+ * and folders synced. DISK_BAD_AT: the byte at that place of every file cannot be read.
  */
 #define _GNU_SOURCE
 
@@ -45,6 +45,9 @@ static int name_open;
 ssize_t __real_write(int to, const void *bytes, size_t length);
 ssize_t __wrap_write(int to, const void *bytes, size_t length);
 int __wrap_fsync(int file);
+ssize_t __real_pread(int file, void *bytes, size_t length, off_t place);
+ssize_t __wrap_pread(int file, void *bytes, size_t length, off_t place);
+ssize_t __wrap_pread64(int file, void *bytes, size_t length, off_t place);
 int __real_ftruncate(int file, off_t length);
 int __wrap_ftruncate(int file, off_t length);
 int __wrap_ftruncate64(int file, off_t length);
@@ -167,6 +170,16 @@ int __wrap_fsync(int file)
     return 0;
 }
 
+ssize_t __wrap_pread(int file, void *bytes, size_t length, off_t place)
+{
+    const char *bad = getenv("DISK_BAD_AT");
+    if (bad != NULL && place <= atol(bad) && place + (off_t)length > atol(bad)) {
+        errno = EIO;
+        return -1;
+    }
+    return __real_pread(file, bytes, length, place);
+}
+
 int __wrap_ftruncate(int file, off_t length)
 {
     check_all_synced();
@@ -174,7 +187,12 @@ int __wrap_ftruncate(int file, off_t length)
     return __real_ftruncate(file, length);
 }
 
-/* The name that Rust calls it by. */
+/* The names that Rust calls them by. */
+ssize_t __wrap_pread64(int file, void *bytes, size_t length, off_t place)
+{
+    return __wrap_pread(file, bytes, length, place);
+}
+
 int __wrap_ftruncate64(int file, off_t length)
 {
     return __wrap_ftruncate(file, length);

@@ -52,10 +52,10 @@ impl<const SIZE: usize> OutboxFile<SIZE> {
         };
         outbox.sync()?;
         outbox.sync_folder()?;
-        if outbox.read(0, FIRST_PLACE)? == 0 {
-            outbox.begin()?;
-        } else {
-            outbox.resume()?;
+        match outbox.read(0, FIRST_PLACE) {
+            Ok(0) => outbox.begin()?,
+            Ok(_) => outbox.resume()?,
+            Err(reason) => outbox.put_unreadable_aside(&reason)?,
         }
         Ok(outbox)
     }
@@ -108,7 +108,10 @@ impl<const SIZE: usize> OutboxFile<SIZE> {
         self.end = FIRST_PLACE as u64;
         loop {
             let before = self.end;
-            let held = FIRST_PLACE + self.read(FIRST_PLACE, SIZE)?;
+            let held = match self.read(FIRST_PLACE, SIZE) {
+                Ok(count) => FIRST_PLACE + count,
+                Err(reason) => return self.put_unreadable_aside(&reason),
+            };
             let passed = self.pass_records(held);
             match passed.map_err(|refused| refused.refusal) {
                 Ok(()) | Err(Refusal::RecordCut) if self.end > before => (),
@@ -116,11 +119,11 @@ impl<const SIZE: usize> OutboxFile<SIZE> {
                 Err(Refusal::RecordCut) if held < SIZE => return self.drop_cut_record(held),
                 Err(refusal @ Refusal::RecordCut) => {
                     let why = "a record is longer than this box's messages, refused";
-                    return self.put_aside(why, refusal);
+                    return self.put_aside(why, refusal.number());
                 }
                 Err(
                     refusal @ (Refusal::Version | Refusal::RecordLength | Refusal::RecordStream),
-                ) => return self.put_aside("refused", refusal),
+                ) => return self.put_aside("refused", refusal.number()),
                 Err(refusal) => return Err(refusal.into()),
             }
         }
@@ -143,7 +146,7 @@ impl<const SIZE: usize> OutboxFile<SIZE> {
 
     /// Reads the file from its end on into a part of the small outbox. Answers how many bytes there were: fewer than the part
     /// has only at the end of the file.
-    fn read(&mut self, from: usize, to: usize) -> Result<usize, Failure> {
+    fn read(&mut self, from: usize, to: usize) -> io::Result<usize> {
         let part = &mut self.one_record[from..to];
         read_file(&self.file, part, self.end)
     }
@@ -176,7 +179,7 @@ impl<const SIZE: usize> OutboxFile<SIZE> {
     }
 
     /// The file is closed, and its lock ended, only when it has another name.
-    fn put_aside(&mut self, why: &str, refusal: Refusal) -> Result<(), Failure> {
+    fn put_aside(&mut self, why: &str, number: u64) -> Result<(), Failure> {
         let (mut count, place) = (1, self.end);
         while fs::symlink_metadata(self.name_beside(&format!(".aside-{count}"))).is_ok() {
             count += 1;
@@ -186,13 +189,17 @@ impl<const SIZE: usize> OutboxFile<SIZE> {
         self.sync_folder()?;
         self.file = open_file(&self.own_path)?;
         self.begin()?;
-        let number = refusal.number();
         note(format_args!(
             "put aside as {}: {why} {number} at {place}",
             last_name(&name)
         ));
         note(format_args!("new outbox {}", last_name(&self.own_path)));
         Ok(())
+    }
+
+    fn put_unreadable_aside(&mut self, reason: &io::Error) -> Result<(), Failure> {
+        let number = reason.raw_os_error().unwrap_or_default();
+        self.put_aside("cannot be read, error", number as u64)
     }
 
     /// A file beside the outbox file, with that one's name before its own ending.
@@ -218,14 +225,14 @@ impl<const SIZE: usize> OutboxFile<SIZE> {
 }
 
 /// Answers how many bytes it has read, fewer than there is room for only at the end of the file.
-fn read_file(file: &File, bytes: &mut [u8], place: u64) -> Result<usize, Failure> {
+fn read_file(file: &File, bytes: &mut [u8], place: u64) -> io::Result<usize> {
     let mut held = 0;
     while held < bytes.len() {
         match file.read_at(&mut bytes[held..], place + held as u64) {
             Ok(0) => break,
             Ok(count) => held += count,
             Err(reason) if reason.kind() == ErrorKind::Interrupted => (),
-            Err(reason) => return Err(Failure::System("read a file", reason)),
+            Err(reason) => return Err(reason),
         }
     }
     Ok(held)
@@ -248,10 +255,15 @@ fn open_file(path: &Path) -> Result<File, Failure> {
     let free = system::lock(&file).map_err(Failure::to("lock the outbox file"))?;
     let look = Failure::to("look at the outbox file");
     let named = fs::metadata(path).map_err(&look)?;
-    if !free || !is_same(&file.metadata().map_err(&look)?, &named) {
+    let opened = file.metadata().map_err(&look)?;
+    if !free || !is_same(&opened, &named) {
         return Err(Failure::Other(
             "another box has the outbox file".to_string(),
         ));
+    }
+    if !opened.is_file() {
+        let why = "the outbox is a device, a pipe or a folder";
+        return Err(Failure::Other(why.to_string()));
     }
     Ok(file)
 }
@@ -281,16 +293,18 @@ pub fn check_apart(path: &Path, other: &impl AsFd, name: &str) -> Result<(), Fai
 }
 
 /// Whether the path is that of a file that an outbox stands in. The bytes are room for a record.
-pub fn is_outbox(path: &Path, bytes: &mut [u8]) -> Result<bool, Failure> {
+pub fn is_outbox(path: &Path, bytes: &mut [u8]) -> bool {
     if !fs::metadata(path).is_ok_and(|its| its.is_file()) {
-        return Ok(false);
+        return false;
     }
     let Ok(other) = File::open(path) else {
-        return Ok(false);
+        return false;
     };
-    let held = read_file(&other, bytes, 0)?;
-    Ok(match read_record(&bytes[..held], FIRST_PLACE) {
+    let Ok(held) = read_file(&other, bytes, 0) else {
+        return false;
+    };
+    match read_record(&bytes[..held], FIRST_PLACE) {
         Ok(_) => true,
         Err(refused) => refused.refusal == Refusal::RecordCut,
-    })
+    }
 }

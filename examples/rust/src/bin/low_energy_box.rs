@@ -91,7 +91,7 @@ fn open_radio(path: &Path, outbox_path: &Path) -> Result<File, Failure> {
         .open(path)
         .map_err(Failure::to("open the radio"))?;
     check_apart(outbox_path, &radio, "RADIO")?;
-    if is_outbox(path, &mut [0; sizes::one_record(LIMIT)])? {
+    if is_outbox(path, &mut [0; sizes::one_record(LIMIT)]) {
         return Err(Failure::Other("RADIO is an outbox".to_string()));
     }
     make_raw(&radio)?;
