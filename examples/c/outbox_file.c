@@ -467,6 +467,9 @@ static void resume_outbox(void)
             drop_cut_record(size - PITO_FIRST_PLACE);
         break;
     case PITO_REFUSED_VERSION:
+        file_end = 0;
+        put_aside("refused", number);
+        break;
     case PITO_REFUSED_RECORD_LENGTH:
     case PITO_REFUSED_RECORD_STREAM:
         put_aside("refused", number);

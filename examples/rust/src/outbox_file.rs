@@ -121,9 +121,13 @@ impl<const SIZE: usize> OutboxFile<SIZE> {
                     let why = "a record is longer than this box's messages, refused";
                     return self.put_aside(why, refusal.number());
                 }
-                Err(
-                    refusal @ (Refusal::Version | Refusal::RecordLength | Refusal::RecordStream),
-                ) => return self.put_aside("refused", refusal.number()),
+                Err(refusal @ (Refusal::RecordLength | Refusal::RecordStream)) => {
+                    return self.put_aside("refused", refusal.number())
+                }
+                Err(refusal @ Refusal::Version) => {
+                    self.end = 0;
+                    return self.put_aside("refused", refusal.number());
+                }
                 Err(refusal) => return Err(refusal.into()),
             }
         }
