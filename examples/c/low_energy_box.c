@@ -14,8 +14,8 @@
  * longest gave way to it, `no envelope NUMBER` for a control message that is none, `too long LENGTH` for a packet that no radio
  * sends, each with `, COUNT more` where the same came again before the next record; and what ended the program.
  * Ends with 0 at the end of the input (a last packet that is cut is not taken); with 1 and with 2 as box.c does, with 1
- * also where nothing can be sent any more, or for two seconds, since no ACK can go out then, and, before anything is written, where RADIO is the
- * outbox file or another outbox.
+ * also where nothing can be sent any more, or for two seconds, since no ACK can go out then, and, before anything is written,
+ * where RADIO is the outbox file or another outbox.
  *
  * AN ACK GOES OUT LAST, and after it only the reply. It says SUCCESS, and a speaker that has it does not send the message
  * again. So a message is on the disk before its ACK is sent. A box that ends before then, however it ends, sends none, and
