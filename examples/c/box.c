@@ -2,21 +2,25 @@
  * A Classic box's main loop over the library's C interface: takes the frames of a byte stream from standard input
  * and keeps each payload as a record of an outbox file (outbox_file.h).
  *
- *   box OUTBOX_FILE < BYTES
+ *   box [--times] OUTBOX_FILE < BYTES
  *
+ * Standard input may be a serial device: a terminal is made to pass on every byte as it is, and to send none back.
  * Standard output: `record PLACE LENGTH` for each record, the place of its length field in the file and the length
- * of its payload. The line is written after the record's fsync has come back, so what is reported is kept.
- * Standard error: `dropped PLACE` for a cut last record that was found at the start, `refused NUMBER` for each
- * refused byte of the stream, and what ended the program.
- * Ends with 0 at the end of the input; with 1 after the first failed call of the system, if the file is there and is
- * no outbox, has a record that is longer than this box's messages, or is open in another box (it is then left as it
- * was); with 2 on bad usage (a file's name that begins with '-' is written as ./-x). A reader of the notes that is gone
- * stops nothing; where no report can be written any more the box ends with 1.
+ * of its payload, with --times also the time, as 2026-11-17T03:12:45Z. The line is written after the record's fsync has
+ * come back, so what is reported is kept.
+ * Standard error: `dropped PLACE, kept in NAME` for a cut last record that was found at the start; `put aside as NAME: WHY`
+ * and `new outbox NAME` for a file that is no outbox, or has a record that is longer than this box's messages; `refused
+ * NUMBER` for a refused byte of the stream, and `refused NUMBER, COUNT more` where more by that number came before the next
+ * record; and what ended the program. Nothing that stood in the file is deleted: what is dropped or put aside stands beside
+ * it, and is on the disk before the next record is taken.
+ * Ends with 0 at the end of the input; with 1 after the first failed call of the system, or if the file is open in another
+ * box or is a standard stream of this one (it is then left as it was); with 2 on bad usage (a file's name that begins with
+ * '-' is written as ./-x). Readers of the reports and notes that are gone, or no longer read, stop nothing: the first report
+ * that fails is noted.
  */
 #define _XOPEN_SOURCE 700
 
 #include <errno.h>
-#include <inttypes.h>
 #include <sys/types.h>
 #include <unistd.h>
 
@@ -49,7 +53,7 @@ static void take(const uint8_t *bytes, size_t length)
         if (number == PITO_REFUSED_UNFIT)
             fail_refused("pito_extractor_feed", number);
         if (number != PITO_DONE)
-            note("refused %" PRIu64 "\n", number);
+            note_number("refused", number);
         else if (answer[PITO_FEED_OUTCOME] == PITO_FRAME)
             keep(STREAM, frame, answer[PITO_FEED_LENGTH]);
         bytes += answer[PITO_FEED_USED];
@@ -59,13 +63,15 @@ static void take(const uint8_t *bytes, size_t length)
 
 int main(int words, char **word)
 {
-    ignore_write_signals();
-    if (words != 2 || word[1][0] == '-') {
-        note("usage: box OUTBOX_FILE < BYTES\n");
+    int first;
+    prepare();
+    first = take_options(words, word);
+    if (words - first != 1 || word[first][0] == '-') {
+        note("usage: box [--times] OUTBOX_FILE < BYTES\n");
         return 2;
     }
-    check_standard_streams();
-    open_outbox(word[1], record, sizeof record);
+    make_raw(STDIN_FILENO);
+    open_outbox(word[first], record, sizeof record);
     open_link();
     for (;;) {
         ssize_t count = read(STDIN_FILENO, input, sizeof input);

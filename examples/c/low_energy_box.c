@@ -3,28 +3,30 @@
  * they finish as a record of an outbox file (outbox_file.h), answers with an ACK where one is wanted, and replies to what
  * control messages ask. Without the replies to its first two questions a speaker disconnects.
  *
- *   low_energy_box OUTBOX_FILE RADIO < PACKETS
+ *   low_energy_box [--times] OUTBOX_FILE RADIO < PACKETS
  *
  * PACKETS is what came over the air, RADIO the path of what takes the packets to be sent (a pipe or a device, which is
  * there already): each packet with its length before it, two bytes, big-endian, and each one sent in one write.
  *
  * Standard output: `record PLACE LENGTH` for each record, as of box.c, and written after the record's fsync has come back.
- * Standard error: `dropped PLACE` for a cut last record that was found at the start, `refused NUMBER` for each refused
- * packet, `replaced STREAM` where a first packet replaced an open transaction of its id, `no envelope NUMBER` for a control
- * message that is none, `too long LENGTH` for a packet that no radio sends, and what ended the program.
+ * Standard error: what box.c says of the file; `refused NUMBER` for a refused packet, `replaced STREAM` where a first packet
+ * replaced an open transaction of its id, `cleared STREAM` where one found no slot and the transaction that had been silent
+ * longest gave way to it, `no envelope NUMBER` for a control message that is none, `too long LENGTH` for a packet that no radio
+ * sends, each with `, COUNT more` where the same came again before the next record; and what ended the program.
  * Ends with 0 at the end of the input (a last packet that is cut is not taken); with 1 and with 2 as box.c does, with 1
- * also where nothing can be sent any more.
+ * also where nothing can be sent any more, or for two seconds, since no ACK can go out then, and, before anything is written,
+ * where RADIO is the outbox file or another outbox.
  *
  * AN ACK GOES OUT LAST, and after it only the reply. It says SUCCESS, and a speaker that has it does not send the message
- * again. So a message is on the disk and reported before its ACK is sent. A box that ends before then, however it ends, sends
- * none, and the speaker sends the message again: none that was acknowledged is ever lost, and one that was not may be kept
- * twice.
+ * again. So a message is on the disk before its ACK is sent. A box that ends before then, however it ends, sends none, and
+ * the speaker sends the message again: none that was acknowledged is ever lost, and one that was not may be kept twice.
  */
 #define _XOPEN_SOURCE 700
 
 #include <errno.h>
 #include <fcntl.h>
-#include <inttypes.h>
+#include <poll.h>
+#include <stdlib.h>
 #include <string.h>
 #include <sys/types.h>
 #include <unistd.h>
@@ -34,8 +36,13 @@
 /* An ACK belongs to no transaction of ours: any sequence will do. */
 #define ACK_SEQUENCE 0
 
+#define SLOTS_OF_A_STREAM (PITO_SLOTS / 3)
+
 /* Before each packet, both ways. */
 #define LENGTH_SIZE 2
+
+/* In milliseconds. */
+#define RADIO_PATIENCE 2000
 
 /* Replies: every link has the least room. One is sent whole before the next begins, so that id and sequence can stay. */
 #define ROOM PITO_LEAST_ROOM
@@ -67,6 +74,9 @@ static const uint64_t transports[] = {0};
 static uint64_t receiver[PITO_RECEIVER_STATE];
 /* All 0: no transaction is open. */
 static pito_slot row[PITO_SLOTS];
+/* How many packets had come when the last one went to a slot. */
+static uint64_t last_packet[PITO_SLOTS];
+static uint64_t packets;
 static uint8_t buffer[PITO_RECEIVER_BUFFER(LIMIT)];
 static uint8_t record[PITO_ONE_RECORD(LIMIT)];
 static uint8_t packet[PITO_LARGEST_ROOM];
@@ -75,11 +85,18 @@ static uint8_t reply[PITO_REPLY_SIZE(sizeof SERIAL_NUMBER - 1, sizeof NAME - 1, 
 
 static int radio;
 
-static void open_radio(const char *path)
+/* Where the two paths were exchanged, ACKs must not go into the outbox. */
+static void open_radio(const char *path, const char *outbox_path)
 {
     radio = open(path, O_WRONLY | O_APPEND | O_NOCTTY);
     if (radio < 0)
         fail("open the radio");
+    check_apart(outbox_path, radio, "RADIO");
+    if (is_outbox(path, record, sizeof record)) {
+        note("box: RADIO is an outbox\n");
+        exit(1);
+    }
+    make_raw(radio);
 }
 
 static void open_link(void)
@@ -89,9 +106,26 @@ static void open_link(void)
         fail_refused("pito_receiver_open", number);
 }
 
+/* A radio that takes nothing for so long is as good as gone. */
+static void wait_for_radio(void)
+{
+    struct pollfd output = {0};
+    int ready;
+    output.fd = radio;
+    output.events = POLLOUT;
+    do
+        ready = poll(&output, 1, RADIO_PATIENCE);
+    while (ready < 0 && errno == EINTR);
+    if (ready == 0)
+        errno = ETIMEDOUT;
+    if (ready != 1)
+        fail("send a packet");
+}
+
 static void send_packet(const uint8_t *bytes, size_t length)
 {
     uint8_t sent[LENGTH_SIZE + PITO_LARGEST_ROOM];
+    wait_for_radio();
     sent[0] = (uint8_t)(length >> 8);
     sent[1] = (uint8_t)length;
     memcpy(sent + LENGTH_SIZE, bytes, length);
@@ -134,7 +168,7 @@ static void answer_question(const uint8_t *message, size_t length)
     case PITO_REFUSED_TAG:
     case PITO_REFUSED_WIRE_TYPE:
     case PITO_REFUSED_TOO_MANY:
-        note("no envelope %" PRIu64 "\n", number);
+        note_number("no envelope", number);
         break;
     default:
         /* Of this box's own making, not of the message's. */
@@ -157,33 +191,76 @@ static void finish(const uint64_t *answer)
         answer_question(message, answer[PITO_ACCEPT_TOTAL]);
 }
 
+static uint64_t accept_packet(size_t length, uint64_t *answer)
+{
+    return pito_receiver_accept(receiver, PITO_RECEIVER_STATE, row, PITO_SLOTS, buffer, sizeof buffer, packet, length,
+                                ACK_SEQUENCE, ack, sizeof ack, answer, PITO_ACCEPT_ANSWER);
+}
+
+/* The first of a stream's four slots. */
+static size_t first_slot(uint64_t stream)
+{
+    switch (stream) {
+    case PITO_STREAM_CONTROL:
+        return 0;
+    case PITO_STREAM_OTA:
+        return SLOTS_OF_A_STREAM;
+    default:
+        return 2 * SLOTS_OF_A_STREAM;
+    }
+}
+
 /*
- * This box asks for no ACKs: those that come tell it nothing. A transaction that its speaker has given up stays open until
- * the id comes again; where four of a stream are so, every other id's first packet is refused by 18. A box that hears 18
- * again and again opens its link anew, with a row of zeros.
+ * A transaction that its speaker has given up stays open until its id comes again. Where four of a stream are open, the one
+ * that has been silent longest gives way.
  */
+static void clear_stalest(uint64_t stream)
+{
+    size_t first = first_slot(stream), stalest = first, place;
+    for (place = first; place < first + SLOTS_OF_A_STREAM; place++)
+        if (last_packet[place] < last_packet[stalest])
+            stalest = place;
+    memset(&row[stalest], 0, sizeof row[stalest]);
+    note_number("cleared", stream);
+}
+
+/* What the answer to a packet that was taken brings about. This box asks for no ACKs: those that come tell it nothing. */
+static void act(const uint64_t *answer)
+{
+    uint64_t outcome = answer[PITO_ACCEPT_OUTCOME];
+    if (outcome != PITO_PIECE_TAKEN && outcome != PITO_FINISHED)
+        return;
+    last_packet[answer[PITO_ACCEPT_PLACE]] = packets;
+    if (answer[PITO_ACCEPT_REPLACED] == 1)
+        note_number("replaced", answer[PITO_ACCEPT_STREAM]);
+    if (outcome == PITO_FINISHED)
+        finish(answer);
+}
+
+/* A packet that found no slot is given again once one is free, and is then taken. The stream stands first in it. */
 static void take(size_t length)
 {
     uint64_t answer[PITO_ACCEPT_ANSWER];
-    uint64_t number = pito_receiver_accept(receiver, PITO_RECEIVER_STATE, row, PITO_SLOTS, buffer, sizeof buffer,
-                                           packet, length, ACK_SEQUENCE, ack, sizeof ack, answer, PITO_ACCEPT_ANSWER);
+    uint64_t number = accept_packet(length, answer);
+    packets++;
+    if (number == PITO_REFUSED_NO_SLOT) {
+        clear_stalest(packet[0] >> 4);
+        number = accept_packet(length, answer);
+    }
     switch (number) {
     case PITO_DONE:
+        act(answer);
         break;
     case PITO_REFUSED_UNFIT:
     case PITO_REFUSED_ARGUMENT:
     case PITO_REFUSED_OUTPUT:
+    case PITO_REFUSED_NO_SLOT:
         /* Of this box's own making, not of the packet's. */
         fail_refused("pito_receiver_accept", number);
         break;
     default:
-        note("refused %" PRIu64 "\n", number);
-        return;
+        note_number("refused", number);
     }
-    if (answer[PITO_ACCEPT_REPLACED] == 1)
-        note("replaced %" PRIu64 "\n", answer[PITO_ACCEPT_STREAM]);
-    if (answer[PITO_ACCEPT_OUTCOME] == PITO_FINISHED)
-        finish(answer);
 }
 
 /* Answers how many bytes it has read, fewer than asked for only at the end of the input. */
@@ -206,7 +283,7 @@ static size_t read_input(uint8_t *bytes, size_t length)
 /* Reads over a packet that is longer than any room. Answers 0 at the end of the input. */
 static int pass_over(size_t length)
 {
-    note("too long %zu\n", length);
+    note_number("too long", length);
     while (length > 0) {
         size_t part = length < sizeof packet ? length : sizeof packet;
         if (read_input(packet, part) < part)
@@ -234,14 +311,16 @@ static int take_next(void)
 
 int main(int words, char **word)
 {
-    ignore_write_signals();
-    if (words != 3 || word[1][0] == '-') {
-        note("usage: low_energy_box OUTBOX_FILE RADIO < PACKETS\n");
+    int first;
+    prepare();
+    first = take_options(words, word);
+    if (words - first != 2 || word[first][0] == '-') {
+        note("usage: low_energy_box [--times] OUTBOX_FILE RADIO < PACKETS\n");
         return 2;
     }
-    check_standard_streams();
-    open_radio(word[2]);
-    open_outbox(word[1], record, sizeof record);
+    make_raw(STDIN_FILENO);
+    open_radio(word[first + 1], word[first]);
+    open_outbox(word[first], record, sizeof record);
     open_link();
     while (take_next())
         ;

@@ -236,7 +236,22 @@ impl<'a, R: Row, B: Buffer> Link<'a, R, B> {
     }
 
     /// Drops the transaction of the slot at a place, 0 to 11, as where a speaker has given up four of a stream and 18 is all
-    /// that others get.
+    /// that others get. Control has the places 0 to 3, OTA 4 to 7, Alexa 8 to 11.
+    ///
+    /// ```
+    /// # use pitokaenge::{sizes, Accepted, Limit, Link, Refusal, Slot};
+    /// # let (mut row, mut buffer) = ([Slot::default(); sizes::SLOTS], [0; sizes::receiver_buffer(64)]);
+    /// # let mut link = Link::open(Limit::of::<64>(), &mut row, &mut buffer)?;
+    /// // First packets of ids 0 to 3 on Alexa.
+    /// for head in 0x60..0x64 {
+    ///     link.accept(&[head, 0, 0, 0, 2, 1, b'A'], 0)?;
+    /// }
+    /// let fifth = b"\x64\x00\x00\x00\x02\x01B";
+    /// assert_eq!(link.accept(fifth, 0), Err(Refusal::NoSlot));
+    /// link.clear_slot(9);
+    /// assert!(matches!(link.accept(fifth, 0)?, Accepted::Piece { id: 4, place: 9, .. }));
+    /// # Ok::<(), Refusal>(())
+    /// ```
     pub fn clear_slot(&mut self, place: usize) {
         if let Some(slot) = self.row.slots().get_mut(place) {
             *slot = Slot::default();

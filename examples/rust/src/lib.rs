@@ -1,15 +1,19 @@
 //! What the two boxes have in common, classic_box and low_energy_box: an outbox file that keeps every record which was
 //! reported, however the program ends, and how a box says what it has to say.
 
+mod notes;
 mod outbox_file;
+mod system;
 
-pub use outbox_file::OutboxFile;
+pub use notes::{note, note_number};
+pub use outbox_file::{check_apart, is_outbox, OutboxFile};
 
 use pitokaenge::Refusal;
 use std::env;
 use std::ffi::OsString;
 use std::fmt;
-use std::io::{self, Write};
+use std::io::{self, IsTerminal};
+use std::os::fd::AsFd;
 use std::process::ExitCode;
 
 /// What ends a box.
@@ -45,19 +49,25 @@ impl fmt::Display for Failure {
     }
 }
 
-/// A line on standard error. That it cannot be written stops nothing.
-pub fn note(line: impl fmt::Display) {
-    // In one write; eprintln would panic.
-    let _ = io::stderr().write_all(format!("{line}\n").as_bytes());
+/// Whether reports have the time.
+#[derive(Clone, Copy, PartialEq, Eq)]
+pub enum Times {
+    None,
+    Told,
 }
 
 /// Runs a box on its words, and says what ended it: 0 at the end of the input, 1 after a failure, 2 on bad usage.
 pub fn run<const WORDS: usize>(
     usage: &str,
-    main_loop: impl FnOnce([OsString; WORDS]) -> Result<(), Failure>,
+    main_loop: impl FnOnce([OsString; WORDS], Times) -> Result<(), Failure>,
 ) -> ExitCode {
-    ignore_file_size_signal();
-    let words = env::args_os().skip(1).collect::<Vec<_>>();
+    system::ignore_file_size_signal();
+    let mut words = env::args_os().skip(1).peekable();
+    let times = match words.next_if(|word| word == "--times") {
+        Some(_) => Times::Told,
+        None => Times::None,
+    };
+    let words = words.collect::<Vec<_>>();
     // A file's name that begins with '-' is written as ./-x.
     let asks = words
         .first()
@@ -66,7 +76,9 @@ pub fn run<const WORDS: usize>(
         note(format_args!("usage: {usage}"));
         return ExitCode::from(2);
     };
-    match main_loop(words) {
+    let ended = main_loop(words, times);
+    notes::tell_counted();
+    match ended {
         Ok(()) => ExitCode::SUCCESS,
         Err(failure) => {
             note(format_args!("box: {failure}"));
@@ -75,14 +87,12 @@ pub fn run<const WORDS: usize>(
     }
 }
 
-/// A write beyond the file size limit then fails and does not kill. Rust has done the same for one that has no reader, and has
-/// opened what of the standard streams was closed, so that no file gets their numbers.
-fn ignore_file_size_signal() {
-    const SIGXFSZ: i32 = 25;
-    const SIG_IGN: usize = 1;
-    unsafe extern "C" {
-        fn signal(number: i32, handler: usize) -> usize;
-    }
-    // SAFETY: no handler is installed, and no other thread is there yet.
-    unsafe { signal(SIGXFSZ, SIG_IGN) };
+/// Whether an output takes bytes within so many milliseconds.
+pub fn is_ready(output: &impl AsFd, milliseconds: i32) -> bool {
+    system::is_ready(output, milliseconds)
+}
+
+/// A terminal passes on all bytes as they are, and sends none back.
+pub fn make_raw(line: &(impl AsFd + IsTerminal)) -> Result<(), Failure> {
+    system::make_raw(line).map_err(Failure::to("set the serial line"))
 }

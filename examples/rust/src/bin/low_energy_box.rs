@@ -2,25 +2,26 @@
 //! outbox file, answers with an ACK where one is wanted, and replies to what control messages ask. Without the replies to its
 //! first two questions a speaker disconnects.
 //!
-//!     low_energy_box OUTBOX_FILE RADIO < PACKETS
+//!     low_energy_box [--times] OUTBOX_FILE RADIO < PACKETS
 //!
 //! PACKETS is what came over the air, RADIO the path of what takes the packets to be sent (a pipe or a device, which is there
 //! already): each packet with its length before it, two bytes, big-endian, and each one sent in one write.
 //!
 //! Standard output: `record PLACE LENGTH` for each record, as of classic_box, and written after the record's fsync has come
 //! back.
-//! Standard error: `dropped PLACE` for a cut last record that was found at the start, `refused NUMBER` for each refused
-//! packet, `replaced STREAM` where a first packet replaced an open transaction of its id, `no envelope NUMBER` for a control
-//! message that is none, `too long LENGTH` for a packet that no radio sends, and what ended the program.
-//! Ends with 0 at the end of the input (a last packet that is cut is not taken); with 1 and with 2 as classic_box does, with
-//! 1 also where nothing can be sent any more.
+//! Standard error: what classic_box says of the file; `refused NUMBER` for a refused packet, `replaced STREAM` where a first
+//! packet replaced an open transaction of its id, `cleared STREAM` where one found no slot and the transaction that had been
+//! silent longest gave way to it, `no envelope NUMBER` for a control message that is none, `too long LENGTH` for a packet that
+//! no radio sends, each with `, COUNT more` where the same came again before the next record; and what ended the program.
+//! Ends with 0 at the end of the input (a last packet that is cut is not taken); with 1 and with 2 as classic_box does, with 1
+//! also where nothing can be sent any more, or for two seconds, since no ACK can go out then, and, before anything is written,
+//! where RADIO is the outbox file or another outbox.
 //!
 //! AN ACK GOES OUT LAST, and after it only the reply. It says SUCCESS, and a speaker that has it does not send the message
-//! again. So a message is on the disk and reported before its ACK is sent. A box that ends before then, however it ends,
-//! sends none, and the speaker sends the message again: none that was acknowledged is ever lost, and one that was not may be
-//! kept twice.
+//! again. So a message is on the disk before its ACK is sent. A box that ends before then, however it ends, sends none, and the
+//! speaker sends the message again: none that was acknowledged is ever lost, and one that was not may be kept twice.
 
-use boxes::{note, Failure, OutboxFile};
+use boxes::{check_apart, is_outbox, is_ready, make_raw, note_number, Failure, OutboxFile};
 use pitokaenge::{
     sizes, Accepted, Device, DeviceFeatures, DeviceInformation, Limit, Link, Message, Refusal,
     Room, Slot, Stream, UpToEight,
@@ -35,8 +36,13 @@ use std::process::ExitCode;
 /// transactions open at a time.
 const LIMIT: usize = 2048;
 
+const SLOTS_OF_A_STREAM: usize = sizes::SLOTS / 3;
+
 /// An ACK belongs to no transaction of ours: any sequence will do.
 const ACK_SEQUENCE: u8 = 0;
+
+/// A radio that takes nothing for so many milliseconds is as good as gone.
+const RADIO_PATIENCE: i32 = 2000;
 
 /// Replies: every link has the least room. One is sent whole before the next begins, so that id and sequence can stay.
 const ROOM: Room = Room::LEAST;
@@ -59,28 +65,45 @@ const REPLY_SIZE: usize = sizes::reply_size(SERIAL_NUMBER.len(), NAME.len(), DEV
 
 fn main() -> ExitCode {
     boxes::run(
-        "low_energy_box OUTBOX_FILE RADIO < PACKETS",
-        |[path, radio]| {
-            let radio = open_radio(Path::new(&radio))?;
-            let outbox = OutboxFile::open(Path::new(&path))?;
-            LowEnergyBox { outbox, radio }.take_packets()
+        "low_energy_box [--times] OUTBOX_FILE RADIO < PACKETS",
+        |[path, radio], times| {
+            let path = Path::new(&path);
+            make_raw(&io::stdin())?;
+            let radio = open_radio(Path::new(&radio), path)?;
+            let outbox = OutboxFile::open(path, times)?;
+            LowEnergyBox {
+                outbox,
+                radio,
+                last_packet: [0; sizes::SLOTS],
+                packets: 0,
+            }
+            .take_packets()
         },
     )
 }
 
-/// A device is not to become the program's terminal.
-fn open_radio(path: &Path) -> Result<File, Failure> {
+/// A device is not to become the program's terminal. Where the two paths were exchanged, ACKs must not go into the outbox.
+fn open_radio(path: &Path, outbox_path: &Path) -> Result<File, Failure> {
     const O_NOCTTY: i32 = 0o400;
-    OpenOptions::new()
+    let radio = OpenOptions::new()
         .append(true)
         .custom_flags(O_NOCTTY)
         .open(path)
-        .map_err(Failure::to("open the radio"))
+        .map_err(Failure::to("open the radio"))?;
+    check_apart(outbox_path, &radio, "RADIO")?;
+    if is_outbox(path, &mut [0; sizes::one_record(LIMIT)]) {
+        return Err(Failure::Other("RADIO is an outbox".to_string()));
+    }
+    make_raw(&radio)?;
+    Ok(radio)
 }
 
 struct LowEnergyBox {
     outbox: OutboxFile<{ sizes::one_record(LIMIT) }>,
     radio: File,
+    /// How many packets had come when the last one went to a slot.
+    last_packet: [u64; sizes::SLOTS],
+    packets: u64,
 }
 
 impl LowEnergyBox {
@@ -106,28 +129,62 @@ impl LowEnergyBox {
         Ok(())
     }
 
-    /// This box asks for no ACKs: those that come tell it nothing. A transaction that its speaker has given up stays open
-    /// until the id comes again; where four of a stream are so, every other id's first packet is refused by 18. A box that
-    /// hears 18 again and again clears its link.
+    /// A packet that found no slot is given again once one is free, and is then taken. The stream stands first in it.
     fn take(&mut self, link: &mut Link, packet: &[u8]) -> Result<(), Failure> {
+        self.packets += 1;
         match link.accept(packet, ACK_SEQUENCE) {
+            Err(Refusal::NoSlot) => (),
+            accepted => return self.act(accepted),
+        }
+        self.clear_stalest(link, packet[0] >> 4);
+        self.act(link.accept(packet, ACK_SEQUENCE))
+    }
+
+    /// A transaction that its speaker has given up stays open until its id comes again. Where four of a stream are open, the
+    /// one that has been silent longest gives way.
+    fn clear_stalest(&self, link: &mut Link, stream: u8) {
+        let first = match stream {
+            0 => 0,
+            2 => SLOTS_OF_A_STREAM,
+            _ => 2 * SLOTS_OF_A_STREAM,
+        };
+        let slots = first..first + SLOTS_OF_A_STREAM;
+        if let Some(stalest) = slots.min_by_key(|&place| self.last_packet[place]) {
+            link.clear_slot(stalest);
+        }
+        note_number("cleared", stream.into());
+    }
+
+    /// This box asks for no ACKs: those that come tell it nothing.
+    fn act(&mut self, accepted: Result<Accepted, Refusal>) -> Result<(), Failure> {
+        match accepted {
             Ok(Accepted::Piece {
                 stream,
-                replaced: true,
+                place,
+                replaced,
                 ..
-            }) => note_replaced(stream),
+            }) => self.note_slot(place, stream, replaced),
             Ok(Accepted::Finished(message)) => self.finish(&message)?,
             Ok(_) => (),
-            Err(refusal) => note(format_args!("refused {}", refusal.number())),
+            // Of this box's own making, not of the packet's.
+            Err(
+                refusal @ (Refusal::Unfit | Refusal::Argument | Refusal::Output | Refusal::NoSlot),
+            ) => return Err(refusal.into()),
+            Err(refusal) => note_number("refused", refusal.number()),
         }
         Ok(())
     }
 
+    fn note_slot(&mut self, place: usize, stream: Stream, replaced: bool) {
+        self.last_packet[place] = self.packets;
+        if replaced {
+            note_number("replaced", stream.number());
+        }
+    }
+
     /// Every stream's messages are kept.
     fn finish(&mut self, message: &Message) -> Result<(), Failure> {
-        if message.replaced {
-            note_replaced(message.stream);
-        }
+        self.note_slot(message.place, message.stream, message.replaced);
         self.outbox.keep(message.stream, message.bytes)?;
         if let Some(ack) = message.ack {
             self.send(&ack)?;
@@ -166,7 +223,7 @@ impl LowEnergyBox {
                 | Refusal::Tag
                 | Refusal::WireType
                 | Refusal::TooMany),
-            ) => note(format_args!("no envelope {}", refusal.number())),
+            ) => note_number("no envelope", refusal.number()),
             // Of this box's own making, not of the message's.
             Err(refusal) => return Err(refusal.into()),
         }
@@ -174,16 +231,16 @@ impl LowEnergyBox {
     }
 
     fn send(&mut self, packet: &[u8]) -> Result<(), Failure> {
+        if !is_ready(&self.radio, RADIO_PATIENCE) {
+            let why = ErrorKind::TimedOut.into();
+            return Err(Failure::System("send a packet", why));
+        }
         let mut sent = (packet.len() as u16).to_be_bytes().to_vec();
         sent.extend_from_slice(packet);
         self.radio
             .write_all(&sent)
             .map_err(Failure::to("send a packet"))
     }
-}
-
-fn note_replaced(stream: Stream) {
-    note(format_args!("replaced {}", stream.number()));
 }
 
 /// Fills the bytes. Answers false at the end of the input.
@@ -197,7 +254,7 @@ fn read_whole(input: &mut StdinLock, bytes: &mut [u8]) -> Result<bool, Failure> 
 
 /// Reads over a packet that is longer than any room.
 fn pass_over(input: &mut StdinLock, length: u16) -> Result<(), Failure> {
-    note(format_args!("too long {length}"));
+    note_number("too long", length.into());
     io::copy(&mut input.take(length.into()), &mut io::sink())
         .map_err(Failure::to("read the packets"))?;
     Ok(())
