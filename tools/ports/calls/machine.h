@@ -15,15 +15,8 @@ static void put(const char *text)
 }
 #define STACK_POINTER(to) __asm volatile("mov %0, sp" : "=r"(to))
 #elif defined(__riscv)
-static void put(const char *text)
-{
-    register long what __asm("a0") = 4;
-    register const char *where __asm("a1") = text;
-    __asm volatile(".option push\n.option norvc\n.balign 16\nslli zero, zero, 0x1f\nebreak\nsrai zero, zero, 7\n.option pop"
-                   : "+r"(what)
-                   : "r"(where)
-                   : "memory");
-}
+/* In start_riscv.S. */
+void put(const char *);
 #define STACK_POINTER(to) __asm volatile("mv %0, sp" : "=r"(to))
 #else
 #include <stdio.h>
