@@ -28,6 +28,9 @@ static const struct item {
     {SERIAL, 6, 0, LIMIT},
 };
 #define ITEMS (sizeof items / sizeof *items)
+/* Within this item another transaction of its stream is begun, and given up, where all slots are open. */
+#define CROSSED 9
+#define CROSSING_ID 10
 #define MOST_REPORTS 64
 #define TRIES 6
 
@@ -36,7 +39,7 @@ enum { BEFORE_THE_WORD, WITHIN_THE_WORD, TWICE, KINDS };
 
 static WORLD_RAM struct {
     uint32_t mode, kind, cut_at, first_cut, words, all_words;
-    uint32_t item, ended, begun, tries, restarted, under_way, acked, replied;
+    uint32_t item, ended, begun, crossed, tries, restarted, under_way, acked, replied;
     struct {
         uint32_t item, offset, length;
     } reports[MOST_REPORTS];
@@ -74,7 +77,7 @@ static void begin_item(void)
         w.message[i] = byte_of(w.item, i);
     w.place = 0;
     w.begun = 1;
-    w.ended = 0;
+    w.ended = w.crossed = 0;
     if (items[w.item].link <= SERIAL_DAMAGED &&
         pito_frame_begin(w.item, LIMIT, items[w.item].size, w.parts, PITO_PARTS_STATE) != PITO_DONE)
         fail("no frame");
@@ -96,13 +99,19 @@ static int give_bytes(uint8_t *input, size_t *length)
 
 static int give_packet(uint8_t *input, size_t *length)
 {
+    int crossing = w.item == CROSSED && w.place > 0 && !w.crossed;
     uint64_t told[PITO_PACKET_WRITE_ANSWER], room = items[w.item].size > 200 ? 244 : 20;
-    if (pito_packet_write(room, LIMIT, items[w.item].stream, items[w.item].id, 3, 1, w.message, items[w.item].size, w.place, input,
-                          PITO_LARGEST_ROOM, told, PITO_PACKET_WRITE_ANSWER) != PITO_DONE)
+    uint64_t id = crossing ? CROSSING_ID : items[w.item].id, place = crossing ? 0 : w.place;
+    if (pito_packet_write(room, LIMIT, items[w.item].stream, id, 3, 1, w.message, items[w.item].size, place, input, PITO_LARGEST_ROOM,
+                          told, PITO_PACKET_WRITE_ANSWER) != PITO_DONE)
         fail("no packet");
+    *length = (size_t)told[PITO_PACKET_WRITE_WRITTEN];
+    if (crossing) {
+        w.crossed = 1;
+        return BOARD_PACKET;
+    }
     w.place = told[PITO_PACKET_WRITE_NEXT_PLACE];
     w.ended = w.place >= items[w.item].size || items[w.item].link == RADIO_GIVEN_UP;
-    *length = (size_t)told[PITO_PACKET_WRITE_WRITTEN];
     return BOARD_PACKET;
 }
 
@@ -188,7 +197,7 @@ void board_report(size_t offset, size_t length)
 void board_note(uint64_t number)
 {
     w.gave_way |= number == NOTE_GAVE_WAY;
-    w.put_aside += number == NOTE_PUT_ASIDE;
+    w.put_aside += number == NOTE_PUT_ASIDE && w.mode == CUTS;
 }
 
 /* ---- the judge, by the layout that flash_log.h describes and the record's of version 02 */
