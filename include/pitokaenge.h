@@ -5,9 +5,11 @@
  * functions on numbers and slices. Nothing is allocated, nothing is kept between calls: the caller lends every byte and
  * every state. Each function always returns, on any bytes and any numbers, and is proved to do what its comment says.
  *
- * SLICES. A slice is passed as a pointer and a length, in elements. Pointers are valid and never null, also where
+ * SLICES. A slice is passed as a pointer and a length, in elements. Pointers are valid, aligned and never null, also where
  * the length is 0 (the toolchain promises nothing of a null pointer; any array's address serves), and a slice that a
- * call may write overlaps no other slice of that call. That is all that a caller owes.
+ * call may write overlaps no other slice of that call. That is all that a caller owes. Aligned: a row of uint64_t begins at
+ * a multiple of 8 bytes, one of pito_slot at a multiple of 2, bytes begin anywhere. Arrays of these types do; a row that is
+ * laid over bytes, or an array with the attribute `packed`, may not, and a chip may then stop or answer anything.
  *
  * ROWS. A state and an answer are rows of uint64_t. Each row has an enum: the places of its numbers in their order,
  * and last, as PITO_.._STATE or PITO_.._ANSWER, how many there are, which is the length to pass. A state row goes in
@@ -49,8 +51,25 @@ extern "C" {
 /* The version of this interface: one more with each change that a caller has to follow. */
 #define PITO_VERSION 6
 
-/* The library is for 64-bit machines: a length is a number of 64 bits. */
-typedef char pito_size_t_has_64_bits[sizeof(size_t) == 8 ? 1 : -1];
+/*
+ * A length has 64 bits on every machine: size_t where that has as many, uint64_t elsewhere. A size_t that is passed widens by
+ * itself; a number of an answer row that goes into a size_t of 32 bits fits there where it counts bytes that were lent. With
+ * pointers of 32 bits a slice has less than 2 GiB.
+ */
+#if SIZE_MAX == UINT64_MAX
+typedef size_t pito_len;
+#else
+typedef uint64_t pito_len;
+#endif
+
+/* What the library's machine code takes for granted of a pointer, a length and the bytes of a row. */
+struct pito_aligned {
+    char before;
+    uint64_t number;
+};
+typedef char pito_pointers_have_32_or_64_bits[sizeof(void *) == 4 || sizeof(void *) == 8 ? 1 : -1];
+typedef char pito_lengths_have_64_bits[sizeof(pito_len) == 8 ? 1 : -1];
+typedef char pito_rows_are_aligned_to_8_bytes[offsetof(struct pito_aligned, number) == 8 ? 1 : -1];
 
 /* What a call returns is to be looked at, and no pointer is null. */
 #if defined(__GNUC__)
@@ -170,7 +189,7 @@ enum {
  * Opens an extractor for a link with a limit: the empty state, outside a frame.
  * Returns 0, 1, 17.
  */
-PITO_CALL uint64_t pito_extractor_open(uint64_t limit, uint64_t *state, size_t state_len);
+PITO_CALL uint64_t pito_extractor_open(uint64_t limit, uint64_t *state, pito_len state_len);
 
 /* Outcomes. */
 #define PITO_SKIPPED 0  /* of a step: a byte outside a frame */
@@ -184,8 +203,8 @@ PITO_CALL uint64_t pito_extractor_open(uint64_t limit, uint64_t *state, size_t s
  * Returns 0, 1, 20, 21, 22, 23, 24, 25.
  */
 enum { PITO_STEP_OUTCOME, PITO_STEP_SEQUENCE, PITO_STEP_LENGTH, PITO_STEP_ANSWER };
-PITO_CALL uint64_t pito_extractor_step(uint64_t *state, size_t state_len, uint8_t *buffer, size_t buffer_len,
-                                       uint8_t byte, uint64_t *answer, size_t answer_len);
+PITO_CALL uint64_t pito_extractor_step(uint64_t *state, pito_len state_len, uint8_t *buffer, pito_len buffer_len,
+                                       uint8_t byte, uint64_t *answer, pito_len answer_len);
 
 /*
  * Many bytes, up to the first frame or refusal or to their end. Call again with the bytes not yet used.
@@ -194,8 +213,8 @@ PITO_CALL uint64_t pito_extractor_step(uint64_t *state, size_t state_len, uint8_
  * Returns 0, 1, 20, 21, 22, 23, 24, 25.
  */
 enum { PITO_FEED_OUTCOME, PITO_FEED_USED, PITO_FEED_SEQUENCE, PITO_FEED_LENGTH, PITO_FEED_ANSWER };
-PITO_CALL uint64_t pito_extractor_feed(uint64_t *state, size_t state_len, uint8_t *buffer, size_t buffer_len,
-                                       const uint8_t *bytes, size_t bytes_len, uint64_t *answer, size_t answer_len);
+PITO_CALL uint64_t pito_extractor_feed(uint64_t *state, pito_len state_len, uint8_t *buffer, pito_len buffer_len,
+                                       const uint8_t *bytes, pito_len bytes_len, uint64_t *answer, pito_len answer_len);
 
 /* ------------------------------------------------------------------------------------------------------------
  * Classic: the frame writer
@@ -208,8 +227,8 @@ PITO_CALL uint64_t pito_extractor_feed(uint64_t *state, size_t state_len, uint8_
  */
 #define PITO_FRAME_SIZE(payload_len) (2 * (payload_len) + 9)
 enum { PITO_FRAME_WRITE_WRITTEN, PITO_FRAME_WRITE_ANSWER };
-PITO_CALL uint64_t pito_frame_write(uint64_t sequence, uint64_t limit, const uint8_t *payload, size_t payload_len,
-                                    uint8_t *output, size_t output_len, uint64_t *answer, size_t answer_len);
+PITO_CALL uint64_t pito_frame_write(uint64_t sequence, uint64_t limit, const uint8_t *payload, pito_len payload_len,
+                                    uint8_t *output, pito_len output_len, uint64_t *answer, pito_len answer_len);
 
 /*
  * The same frame by parts, for a box that has no room for all of it: the payload is taken part by part, and the frame
@@ -238,7 +257,7 @@ enum {
  * Returns 0, 1, 17, 15 (a sequence that is F0, F1, F2 or no byte; a total over the limit).
  */
 PITO_CALL uint64_t pito_frame_begin(uint64_t sequence, uint64_t limit, uint64_t total, uint64_t *state,
-                                    size_t state_len);
+                                    pito_len state_len);
 
 /*
  * Writes the frame on, from the first byte of the output. `payload` is any part of the payload that begins at its first
@@ -252,15 +271,15 @@ PITO_CALL uint64_t pito_frame_begin(uint64_t sequence, uint64_t limit, uint64_t 
  * Returns 0, 1, 26 (more payload than is missing), 14 (an output of length 0), the first that holds in this order.
  */
 enum { PITO_FRAME_PART_TAKEN, PITO_FRAME_PART_WRITTEN, PITO_FRAME_PART_ENDED, PITO_FRAME_PART_ANSWER };
-PITO_CALL uint64_t pito_frame_part(uint64_t *state, size_t state_len, const uint8_t *payload, size_t payload_len,
-                                   uint8_t *output, size_t output_len, uint64_t *answer, size_t answer_len);
+PITO_CALL uint64_t pito_frame_part(uint64_t *state, pito_len state_len, const uint8_t *payload, pito_len payload_len,
+                                   uint8_t *output, pito_len output_len, uint64_t *answer, pito_len answer_len);
 
 /*
  * The sequence byte after a sequence byte.
  * Returns 0, 1.
  */
 enum { PITO_NEXT_SEQUENCE_NEXT, PITO_NEXT_SEQUENCE_ANSWER };
-PITO_CALL uint64_t pito_next_sequence(uint8_t sequence, uint64_t *answer, size_t answer_len);
+PITO_CALL uint64_t pito_next_sequence(uint8_t sequence, uint64_t *answer, pito_len answer_len);
 
 /* ------------------------------------------------------------------------------------------------------------
  * Low Energy: sending
@@ -285,8 +304,8 @@ PITO_CALL uint64_t pito_next_sequence(uint8_t sequence, uint64_t *answer, size_t
 #define PITO_LARGEST_ROOM 512
 enum { PITO_PACKET_WRITE_WRITTEN, PITO_PACKET_WRITE_NEXT_PLACE, PITO_PACKET_WRITE_ANSWER };
 PITO_CALL uint64_t pito_packet_write(uint64_t room, uint64_t limit, uint64_t stream, uint64_t id, uint64_t sequence,
-                                     uint64_t ack, const uint8_t *message, size_t message_len, uint64_t place,
-                                     uint8_t *output, size_t output_len, uint64_t *answer, size_t answer_len);
+                                     uint64_t ack, const uint8_t *message, pito_len message_len, uint64_t place,
+                                     uint8_t *output, pito_len output_len, uint64_t *answer, pito_len answer_len);
 
 /*
  * Writes the ACK (positive 1) or NACK (positive 0) of a request: six bytes, first in the output. Stream and id are
@@ -296,7 +315,7 @@ PITO_CALL uint64_t pito_packet_write(uint64_t room, uint64_t limit, uint64_t str
 #define PITO_ACK_SIZE 6
 enum { PITO_ACK_WRITE_WRITTEN, PITO_ACK_WRITE_ANSWER };
 PITO_CALL uint64_t pito_ack_write(uint64_t stream, uint64_t id, uint64_t sequence, uint64_t positive, uint8_t *output,
-                                  size_t output_len, uint64_t *answer, size_t answer_len);
+                                  pito_len output_len, uint64_t *answer, pito_len answer_len);
 
 /* ------------------------------------------------------------------------------------------------------------
  * Low Energy: receiving
@@ -333,7 +352,7 @@ enum { PITO_RECEIVER_LIMIT, PITO_RECEIVER_STATE };
  * Opens a receiver for a link with a limit. The row of slots has to be lent all 0 to the first packet.
  * Returns 0, 1, 17; a refusal leaves the state row.
  */
-PITO_CALL uint64_t pito_receiver_open(uint64_t limit, uint64_t *state, size_t state_len);
+PITO_CALL uint64_t pito_receiver_open(uint64_t limit, uint64_t *state, pito_len state_len);
 
 /* Outcomes. */
 #define PITO_PIECE_TAKEN 0 /* a piece of a transaction, with more to come */
@@ -384,10 +403,10 @@ enum {
     PITO_ACCEPT_PLACE,
     PITO_ACCEPT_ANSWER
 };
-PITO_CALL uint64_t pito_receiver_accept(const uint64_t *state, size_t state_len, pito_slot *row, size_t row_len,
-                                        uint8_t *buffer, size_t buffer_len, const uint8_t *packet, size_t packet_len,
-                                        uint64_t sequence, uint8_t *out, size_t out_len, uint64_t *answer,
-                                        size_t answer_len);
+PITO_CALL uint64_t pito_receiver_accept(const uint64_t *state, pito_len state_len, pito_slot *row, pito_len row_len,
+                                        uint8_t *buffer, pito_len buffer_len, const uint8_t *packet,
+                                        pito_len packet_len, uint64_t sequence, uint8_t *out, pito_len out_len,
+                                        uint64_t *answer, pito_len answer_len);
 
 /* Outcomes; a capture that is refused has none, and 0 stands there. */
 #define PITO_LAWFUL 1   /* our writer writes these packets, for some transactions */
@@ -405,8 +424,8 @@ PITO_CALL uint64_t pito_receiver_accept(const uint64_t *state, size_t state_len,
  * Returns 0, 1, 13, 17, or, before any packet is judged, 40, 42 (a length of 0), 41.
  */
 enum { PITO_CAPTURE_JUDGE_OUTCOME, PITO_CAPTURE_JUDGE_PLACE, PITO_CAPTURE_JUDGE_ANSWER };
-PITO_CALL uint64_t pito_capture_judge(const uint8_t *capture, size_t capture_len, uint64_t room, uint64_t limit,
-                                      uint64_t *answer, size_t answer_len);
+PITO_CALL uint64_t pito_capture_judge(const uint8_t *capture, pito_len capture_len, uint64_t room, uint64_t limit,
+                                      uint64_t *answer, pito_len answer_len);
 
 /* ------------------------------------------------------------------------------------------------------------
  * Reports: what the radio cost
@@ -448,9 +467,9 @@ enum {
  * buffer too.
  */
 enum { PITO_REPORT_ADD_PLACE, PITO_REPORT_ADD_ANSWER };
-PITO_CALL uint64_t pito_report_add(uint64_t *report, size_t report_len, uint64_t limit, pito_slot *row, size_t row_len,
-                                   uint8_t *buffer, size_t buffer_len, const uint8_t *capture, size_t capture_len,
-                                   uint64_t *answer, size_t answer_len);
+PITO_CALL uint64_t pito_report_add(uint64_t *report, pito_len report_len, uint64_t limit, pito_slot *row,
+                                   pito_len row_len, uint8_t *buffer, pito_len buffer_len, const uint8_t *capture,
+                                   pito_len capture_len, uint64_t *answer, pito_len answer_len);
 
 /* ------------------------------------------------------------------------------------------------------------
  * Control messages
@@ -481,7 +500,8 @@ enum {
     PITO_ENVELOPE_READ_LENGTH,
     PITO_ENVELOPE_READ_ANSWER
 };
-PITO_CALL uint64_t pito_envelope_read(const uint8_t *message, size_t message_len, uint64_t *answer, size_t answer_len);
+PITO_CALL uint64_t pito_envelope_read(const uint8_t *message, pito_len message_len, uint64_t *answer,
+                                      pito_len answer_len);
 
 /*
  * Writes a control envelope.
@@ -496,8 +516,8 @@ PITO_CALL uint64_t pito_envelope_read(const uint8_t *message, size_t message_len
 #define PITO_ENVELOPE_SIZE(bytes_len) ((bytes_len) + 53)
 enum { PITO_ENVELOPE_WRITE_WRITTEN, PITO_ENVELOPE_WRITE_ANSWER };
 PITO_CALL uint64_t pito_envelope_write(uint64_t command, uint64_t payload, uint64_t error_code, uint64_t field,
-                                       const uint8_t *bytes, size_t bytes_len, uint8_t *output, size_t output_len,
-                                       uint64_t *answer, size_t answer_len);
+                                       const uint8_t *bytes, pito_len bytes_len, uint8_t *output, pito_len output_len,
+                                       uint64_t *answer, pito_len answer_len);
 
 /*
  * Reads a response.
@@ -511,7 +531,8 @@ enum {
     PITO_RESPONSE_READ_LENGTH,
     PITO_RESPONSE_READ_ANSWER
 };
-PITO_CALL uint64_t pito_response_read(const uint8_t *message, size_t message_len, uint64_t *answer, size_t answer_len);
+PITO_CALL uint64_t pito_response_read(const uint8_t *message, pito_len message_len, uint64_t *answer,
+                                      pito_len answer_len);
 
 /*
  * Writes a response: an error code, a signed 32-bit number, and a payload as the member of a number from 2 to
@@ -520,8 +541,8 @@ PITO_CALL uint64_t pito_response_read(const uint8_t *message, size_t message_len
  */
 #define PITO_RESPONSE_SIZE(bytes_len) ((bytes_len) + 31)
 enum { PITO_RESPONSE_WRITE_WRITTEN, PITO_RESPONSE_WRITE_ANSWER };
-PITO_CALL uint64_t pito_response_write(uint64_t error_code, uint64_t field, const uint8_t *bytes, size_t bytes_len,
-                                       uint8_t *output, size_t output_len, uint64_t *answer, size_t answer_len);
+PITO_CALL uint64_t pito_response_write(uint64_t error_code, uint64_t field, const uint8_t *bytes, pito_len bytes_len,
+                                       uint8_t *output, pito_len output_len, uint64_t *answer, pito_len answer_len);
 
 /*
  * Reads device information. Strings are well-formed UTF-8; an absent one is start 0, length 0.
@@ -543,8 +564,8 @@ enum {
     PITO_INFORMATION_READ_PLACE,
     PITO_INFORMATION_READ_ANSWER
 };
-PITO_CALL uint64_t pito_information_read(const uint8_t *message, size_t message_len, uint64_t *answer,
-                                         size_t answer_len);
+PITO_CALL uint64_t pito_information_read(const uint8_t *message, pito_len message_len, uint64_t *answer,
+                                         pito_len answer_len);
 
 /*
  * Writes device information; transports are at most eight signed 32-bit numbers, each in 64 bits.
@@ -559,17 +580,18 @@ enum {
     PITO_INFORMATION_WRITE_PLACE,
     PITO_INFORMATION_WRITE_ANSWER
 };
-PITO_CALL uint64_t pito_information_write(const uint8_t *serial_number, size_t serial_number_len, const uint8_t *name,
-                                          size_t name_len, const uint8_t *device_type, size_t device_type_len,
-                                          const uint64_t *transports, size_t transports_len, uint8_t *output,
-                                          size_t output_len, uint64_t *answer, size_t answer_len);
+PITO_CALL uint64_t pito_information_write(const uint8_t *serial_number, pito_len serial_number_len, const uint8_t *name,
+                                          pito_len name_len, const uint8_t *device_type, pito_len device_type_len,
+                                          const uint64_t *transports, pito_len transports_len, uint8_t *output,
+                                          pito_len output_len, uint64_t *answer, pito_len answer_len);
 
 /*
  * Reads device features.
  * Returns 0, 1, 31, 32, 33, 30.
  */
 enum { PITO_FEATURES_READ_FEATURES, PITO_FEATURES_READ_DEVICE_ATTRIBUTES, PITO_FEATURES_READ_ANSWER };
-PITO_CALL uint64_t pito_features_read(const uint8_t *message, size_t message_len, uint64_t *answer, size_t answer_len);
+PITO_CALL uint64_t pito_features_read(const uint8_t *message, pito_len message_len, uint64_t *answer,
+                                      pito_len answer_len);
 
 /*
  * Writes device features, any two numbers of 64 bits.
@@ -578,7 +600,7 @@ PITO_CALL uint64_t pito_features_read(const uint8_t *message, size_t message_len
 #define PITO_FEATURES_SIZE 22
 enum { PITO_FEATURES_WRITE_WRITTEN, PITO_FEATURES_WRITE_ANSWER };
 PITO_CALL uint64_t pito_features_write(uint64_t features, uint64_t device_attributes, uint8_t *output,
-                                       size_t output_len, uint64_t *answer, size_t answer_len);
+                                       pito_len output_len, uint64_t *answer, pito_len answer_len);
 
 /* ------------------------------------------------------------------------------------------------------------
  * Firmware messages
@@ -604,7 +626,8 @@ enum {
     PITO_SEGMENT_READ_PLACE,
     PITO_SEGMENT_READ_ANSWER
 };
-PITO_CALL uint64_t pito_segment_read(const uint8_t *message, size_t message_len, uint64_t *answer, size_t answer_len);
+PITO_CALL uint64_t pito_segment_read(const uint8_t *message, pito_len message_len, uint64_t *answer,
+                                     pito_len answer_len);
 
 /*
  * Writes an UpdateComponentSegment. PITO_SEGMENT_SIZE(name_len) bytes are enough.
@@ -613,9 +636,9 @@ PITO_CALL uint64_t pito_segment_read(const uint8_t *message, size_t message_len,
  */
 #define PITO_SEGMENT_SIZE(name_len) ((name_len) + 97)
 enum { PITO_SEGMENT_WRITE_WRITTEN, PITO_SEGMENT_WRITE_FIELD, PITO_SEGMENT_WRITE_PLACE, PITO_SEGMENT_WRITE_ANSWER };
-PITO_CALL uint64_t pito_segment_write(const uint8_t *name, size_t name_len, uint64_t offset, uint64_t size,
-                                      const uint8_t *signature, size_t signature_len, uint8_t *output,
-                                      size_t output_len, uint64_t *answer, size_t answer_len);
+PITO_CALL uint64_t pito_segment_write(const uint8_t *name, pito_len name_len, uint64_t offset, uint64_t size,
+                                      const uint8_t *signature, pito_len signature_len, uint8_t *output,
+                                      pito_len output_len, uint64_t *answer, pito_len answer_len);
 
 /*
  * Reads an ApplyFirmware, with the firmware information and the components within. An absent firmware information is
@@ -652,7 +675,7 @@ enum {
 };
 #define PITO_APPLY_ROW PITO_APPLY_READ_FIELD
 #define PITO_APPLY_READ_COMPONENT_AT(index) (PITO_APPLY_READ_COMPONENT + (index) * PITO_COMPONENT_ANSWER)
-PITO_CALL uint64_t pito_apply_read(const uint8_t *message, size_t message_len, uint64_t *answer, size_t answer_len);
+PITO_CALL uint64_t pito_apply_read(const uint8_t *message, pito_len message_len, uint64_t *answer, pito_len answer_len);
 
 /*
  * Writes an ApplyFirmware, of a row of PITO_APPLY_ROW numbers with the places of pito_apply_read's answer. Its strings
@@ -666,8 +689,8 @@ PITO_CALL uint64_t pito_apply_read(const uint8_t *message, size_t message_len, u
  */
 #define PITO_APPLY_SIZE(components, strings_len) (55 * (components) + (strings_len) + 66)
 enum { PITO_APPLY_WRITE_WRITTEN, PITO_APPLY_WRITE_FIELD, PITO_APPLY_WRITE_PLACE, PITO_APPLY_WRITE_ANSWER };
-PITO_CALL uint64_t pito_apply_write(const uint64_t *row, size_t row_len, const uint8_t *texts, size_t texts_len,
-                                    uint8_t *output, size_t output_len, uint64_t *answer, size_t answer_len);
+PITO_CALL uint64_t pito_apply_write(const uint64_t *row, pito_len row_len, const uint8_t *texts, pito_len texts_len,
+                                    uint8_t *output, pito_len output_len, uint64_t *answer, pito_len answer_len);
 
 /* ------------------------------------------------------------------------------------------------------------
  * Any message, field by field
@@ -704,8 +727,8 @@ enum {
     PITO_FIELD_READ_NEXT,
     PITO_FIELD_READ_ANSWER
 };
-PITO_CALL uint64_t pito_field_read(const uint8_t *message, size_t message_len, uint64_t place, uint64_t *answer,
-                                   size_t answer_len);
+PITO_CALL uint64_t pito_field_read(const uint8_t *message, pito_len message_len, uint64_t place, uint64_t *answer,
+                                   pito_len answer_len);
 
 /* ------------------------------------------------------------------------------------------------------------
  * The reply to the handshake
@@ -730,13 +753,13 @@ PITO_CALL uint64_t pito_field_read(const uint8_t *message, size_t message_len, u
 #define PITO_REPLY_SIZE(serial_number_len, name_len, device_type_len)                                                  \
     (2 * ((serial_number_len) + (name_len) + (device_type_len)) + 360)
 enum { PITO_REPLY_WRITE_WRITTEN, PITO_REPLY_WRITE_FIELD, PITO_REPLY_WRITE_PLACE, PITO_REPLY_WRITE_ANSWER };
-PITO_CALL uint64_t pito_reply_write(const uint8_t *message, size_t message_len, const uint8_t *serial_number,
-                                    size_t serial_number_len, const uint8_t *name, size_t name_len,
-                                    const uint8_t *device_type, size_t device_type_len, const uint64_t *transports,
-                                    size_t transports_len, uint64_t features, uint64_t device_attributes,
+PITO_CALL uint64_t pito_reply_write(const uint8_t *message, pito_len message_len, const uint8_t *serial_number,
+                                    pito_len serial_number_len, const uint8_t *name, pito_len name_len,
+                                    const uint8_t *device_type, pito_len device_type_len, const uint64_t *transports,
+                                    pito_len transports_len, uint64_t features, uint64_t device_attributes,
                                     uint64_t information_member, uint64_t features_member, uint64_t room,
-                                    uint64_t limit, uint64_t id, uint64_t sequence, uint8_t *output, size_t output_len,
-                                    uint64_t *answer, size_t answer_len);
+                                    uint64_t limit, uint64_t id, uint64_t sequence, uint8_t *output,
+                                    pito_len output_len, uint64_t *answer, pito_len answer_len);
 
 /* ------------------------------------------------------------------------------------------------------------
  * The outbox file: its bytes in a lent buffer, of which the first `used` are the file
@@ -761,7 +784,7 @@ PITO_CALL uint64_t pito_reply_write(const uint8_t *message, size_t message_len, 
  * Returns 0, 1, 14.
  */
 enum { PITO_OUTBOX_NEW_USED, PITO_OUTBOX_NEW_ANSWER };
-PITO_CALL uint64_t pito_outbox_new(uint8_t *output, size_t output_len, uint64_t *answer, size_t answer_len);
+PITO_CALL uint64_t pito_outbox_new(uint8_t *output, pito_len output_len, uint64_t *answer, pito_len answer_len);
 
 /*
  * Appends a record of their version right after the used bytes, which must be a whole outbox: 5 bytes and the payload,
@@ -774,8 +797,9 @@ PITO_CALL uint64_t pito_outbox_new(uint8_t *output, size_t output_len, uint64_t 
  * Returns 0, 1, 40 (of the used bytes), 15 (stream or payload size), 14, or the used bytes' other refusals, 42, 41, 43.
  */
 enum { PITO_OUTBOX_APPEND_USED, PITO_OUTBOX_APPEND_CUT_PLACE, PITO_OUTBOX_APPEND_ANSWER };
-PITO_CALL uint64_t pito_outbox_append(uint8_t *buffer, size_t buffer_len, uint64_t used, uint64_t stream,
-                                      const uint8_t *payload, size_t payload_len, uint64_t *answer, size_t answer_len);
+PITO_CALL uint64_t pito_outbox_append(uint8_t *buffer, pito_len buffer_len, uint64_t used, uint64_t stream,
+                                      const uint8_t *payload, pito_len payload_len, uint64_t *answer,
+                                      pito_len answer_len);
 
 /*
  * Reads the record at a place of an outbox. Begin at place 1 and go on at the next place that each call tells, until
@@ -793,8 +817,8 @@ enum {
     PITO_OUTBOX_RECORD_CUT_PLACE,
     PITO_OUTBOX_RECORD_ANSWER
 };
-PITO_CALL uint64_t pito_outbox_record(const uint8_t *bytes, size_t bytes_len, uint64_t place, uint64_t *answer,
-                                      size_t answer_len);
+PITO_CALL uint64_t pito_outbox_record(const uint8_t *bytes, pito_len bytes_len, uint64_t place, uint64_t *answer,
+                                      pito_len answer_len);
 
 /*
  * Whether all of an outbox is whole: 0, or its first refusal.
@@ -802,7 +826,7 @@ PITO_CALL uint64_t pito_outbox_record(const uint8_t *bytes, size_t bytes_len, ui
  * Returns 0, 1, 40, 42, 41, 43.
  */
 enum { PITO_OUTBOX_WHOLE_CUT_PLACE, PITO_OUTBOX_WHOLE_ANSWER };
-PITO_CALL uint64_t pito_outbox_whole(const uint8_t *bytes, size_t bytes_len, uint64_t *answer, size_t answer_len);
+PITO_CALL uint64_t pito_outbox_whole(const uint8_t *bytes, pito_len bytes_len, uint64_t *answer, pito_len answer_len);
 
 /*
  * Writes an outbox as version 01, or as version 02: the same records in the same order. One that has the version already
@@ -813,11 +837,11 @@ PITO_CALL uint64_t pito_outbox_whole(const uint8_t *bytes, size_t bytes_len, uin
  * Returns 0, 1, the outbox's first refusal (40, 42, 41, 43), then 46 (to version 01: a payload over 4,096), then 14.
  */
 enum { PITO_OUTBOX_TO_01_SIZE, PITO_OUTBOX_TO_01_PLACE, PITO_OUTBOX_TO_01_ANSWER };
-PITO_CALL uint64_t pito_outbox_to_01(const uint8_t *bytes, size_t bytes_len, uint8_t *output, size_t output_len,
-                                     uint64_t *answer, size_t answer_len);
+PITO_CALL uint64_t pito_outbox_to_01(const uint8_t *bytes, pito_len bytes_len, uint8_t *output, pito_len output_len,
+                                     uint64_t *answer, pito_len answer_len);
 enum { PITO_OUTBOX_TO_02_SIZE, PITO_OUTBOX_TO_02_PLACE, PITO_OUTBOX_TO_02_ANSWER };
-PITO_CALL uint64_t pito_outbox_to_02(const uint8_t *bytes, size_t bytes_len, uint8_t *output, size_t output_len,
-                                     uint64_t *answer, size_t answer_len);
+PITO_CALL uint64_t pito_outbox_to_02(const uint8_t *bytes, pito_len bytes_len, uint8_t *output, pito_len output_len,
+                                     uint64_t *answer, pito_len answer_len);
 
 #ifdef __cplusplus
 }

@@ -1,0 +1,1 @@
+void worked_cases(void);
