@@ -37,7 +37,9 @@ export class Library {
   }
   // The first n numbers at an address.
   numbers(at, n) {
-    return Array.from(this.words.subarray(at >>> 3, (at >>> 3) + n), Number);
+    const row = [];
+    for (let i = at >>> 3; row.length < n; i++) row.push(Number(this.words[i]));
+    return row;
   }
 
   // ---- an outbox

@@ -106,9 +106,9 @@ function outboxVerdict(library, list, end, lastWords) {
     const size = el("p", {}, `${plural(library.length, "byte")}, version 0${library.memory[library.input]}. `, el("code", {}, endLine(end)));
     return say("good", list.count ? `Whole: ${kept}` : "Whole, and nothing was kept yet", size, list.count > 0 && el("p", {}, "The last one: ", lastWords));
   }
-  const { title, rest, do: todo } = SENTENCES.outbox[end.number];
-  const where = `: ${kept} before it ${list.count === 1 ? "is" : "are"} whole, ${plural(library.length - end.place, "byte")} from there to the end.`;
-  return say("bad", title, el("p", {}, el("code", {}, endLine(end)), where), rest, todo);
+  const { title, rest, do: todo } = SENTENCES.outbox[end.number], placed = (text) => text?.replaceAll("PLACE", end.place);
+  const where = end.place > 0 && `: ${kept} before it ${list.count === 1 ? "is" : "are"} whole, ${plural(library.length - end.place, "byte")} from there to the end.`;
+  return say("bad", title, el("p", {}, el("code", {}, endLine(end)), where), placed(rest), placed(todo));
 }
 // Every line that `records --payloads` prints, in parts of some 64 KB.
 async function listFile(out, library, list, end) {
@@ -168,7 +168,7 @@ export async function showOutbox(bytes, name) {
     out.append(...firing.nodes());
     firing.view.go(Infinity);
     buttons.append(listButton(out, library, list, end, name));
+    if (end.number) buttons.append(await wholeLink(bytes, end, name) || "");
   }
-  if (end.number > 40) buttons.append(await wholeLink(bytes, end, name) || "");
   if (!end.number) buttons.append(moveButton(out, bytes, list, name));
 }

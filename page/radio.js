@@ -47,8 +47,8 @@ function whyNodes(told) {
 function captureVerdict(told, room, limit) {
   if (told.verdict === "lawful") return say("good", "Lawful", SENTENCES.verdict.lawful.means);
   if (told.verdict === "refused") {
-    const { says, do: todo } = SENTENCES.capture[told.number];
-    return say("bad", `Refused ${told.number}${told.place ? ` at ${told.place}` : ""}`, told.number > 40 && says, told.number > 40 && SENTENCES.capture[told.number].means, todo);
+    const { says, rest, do: todo } = SENTENCES.capture[told.number];
+    return say("bad", `Refused ${told.number}${told.place ? ` at ${told.place}` : ""}`, ...todo ? [todo] : [says, rest]);
   }
   if (told.verdict === "open") {
     const streams = told.open.map((o) => `stream ${o.stream} (${STREAMS[o.stream]}), id ${o.id}: ${plural(o.left, "byte")} to come, next sequence ${o.sequence}`);
@@ -56,7 +56,7 @@ function captureVerdict(told, room, limit) {
   }
   const lines = `room ${room}, limit ${limit}\n${whyLines(told).join("\n")}`;
   const fold = el("details", {}, el("summary", {}, "The lines to send them"), el("pre", {}, el("code", {}, lines)));
-  return say("bad", `Unlawful at ${told.place}`, `our writer could not have sent this: ${SENTENCES.verdict.unlawful.means.replace("PLACE", told.place)}`, ...whyNodes(told), fold);
+  return say("bad", `Unlawful at ${told.place}`, SENTENCES.verdict.unlawful.means.replace("it", "our writer").replace("PLACE", told.place), ...whyNodes(told), fold);
 }
 function roomOf(way, typed) {
   const longest = Math.min(512, Math.max(20, way.longest)), room = typed === "" ? way.room ?? longest : Number(typed);

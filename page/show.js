@@ -57,8 +57,9 @@ export async function each(out, generator, total, see) {
       bar.remove();
       return value;
     }
-    bar.value = see(value);
+    const far = see(value);
     if (performance.now() < until) continue;
+    bar.value = far;
     await rest();
     if (out.run !== run) return null;
     until = performance.now() + REST;

@@ -23,7 +23,7 @@ def read():
 
 def joined(first, second):
     """Two sentences, one behind the other."""
-    return first + second if not first or not second or second[0] in ":;," else f"{first} {second}"
+    return first + second if not first or not second or second[0] in ".:;," else f"{first} {second}"
 
 
 def own(lines, number, name):

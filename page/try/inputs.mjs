@@ -129,7 +129,7 @@ export class Inputs {
   lines(hexOf) {
     const between = this.choose(" ", "", ":", ",", "-", "\t", " 0x"), line = () => {
       const digits = hexOf(this.bytes(1 + this.random(40))).replaceAll(" ", between);
-      return this.choose("", "", "\n") + (between === " 0x" ? "0x" : "") + digits + this.choose("", "", "", "x", " ", ",") + this.choose("\n", "\r\n");
+      return this.choose("", "", "\n") + (between === " 0x" ? "0x" : "") + digits + (this.random(40) ? this.choose("", " ") : this.choose("x", ",")) + this.choose("\n", "\r\n");
     };
     return Buffer.from(this.many(1 + this.random(20), line).join(""));
   }
