@@ -6,6 +6,12 @@ import { SENTENCES } from "./sentences.js";
 
 export const hexOf = (bytes) => Array.from(bytes, (b) => b.toString(16).padStart(2, "0")).join(" ");
 
+// What to do about a number: that of the number that its sentence refers to, then its own.
+export const toDo = (kind, number) => {
+  const told = SENTENCES[kind][number];
+  return [...told.as ? toDo(kind, told.as) : [], told.do].filter(Boolean);
+};
+
 // A payload for people: its kind, the words of its first bytes, and how many bytes follow these.
 export function payloadOf(library, at, length, most = Infinity) {
   if (length === 0) return { kind: "empty", words: "", more: 0 };

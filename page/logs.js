@@ -3,7 +3,8 @@ const WAYS = { 0x12: "written to", 0x52: "written to", 0x1b: "sent by", 0x1d: "s
 const PARTS = { 0x16: "a part of a long write", 0xd2: "a signed write" };
 const ATT = 4, LEAST_MTU = 23, LEAST_ROOM = 20, LARGEST_ROOM = 512, LARGEST_TEXT = 1 << 24;
 
-export const textOf = (bytes) => new TextDecoder("utf-8", { ignoreBOM: true }).decode(bytes);
+const DECODER = new TextDecoder("utf-8", { ignoreBOM: true });
+export const textOf = (bytes) => DECODER.decode(bytes);
 
 // What a file holds: the ways in which it can be read, each with a name and its capture, and its room and limit where the file tells them.
 export function readLog(bytes) {

@@ -1,6 +1,6 @@
 // An outbox: its verdict, the picture of the firing, its records, and files to save.
 import { Library, STREAMS } from "./library.js";
-import { endLine, payloadOf, recordLine } from "./lines.js";
+import { endLine, payloadOf, recordLine, toDo } from "./lines.js";
 import { SENTENCES } from "./sentences.js";
 import { $, begin, beside, each, el, item, module, pages, payloadNode, plural, say, saveLink, shown } from "./show.js";
 
@@ -106,9 +106,9 @@ function outboxVerdict(library, list, end, lastWords) {
     const size = el("p", {}, `${plural(library.length, "byte")}, version 0${library.memory[library.input]}. `, el("code", {}, endLine(end)));
     return say("good", list.count ? `Whole: ${kept}` : "Whole, and nothing was kept yet", size, list.count > 0 && el("p", {}, "The last one: ", lastWords));
   }
-  const { title, rest, do: todo } = SENTENCES.outbox[end.number], placed = (text) => text?.replaceAll("PLACE", end.place);
+  const { title, rest } = SENTENCES.outbox[end.number], placed = (text) => text?.replaceAll("PLACE", end.place);
   const where = end.place > 0 && `: ${kept} before it ${list.count === 1 ? "is" : "are"} whole, ${plural(library.length - end.place, "byte")} from there to the end.`;
-  return say("bad", title, el("p", {}, el("code", {}, endLine(end)), where), placed(rest), placed(todo));
+  return say("bad", title, el("p", {}, el("code", {}, endLine(end)), where), placed(rest), ...toDo("outbox", end.number).map(placed));
 }
 // Every line that `records --payloads` prints, in parts of some 64 KB.
 async function listFile(out, library, list, end) {

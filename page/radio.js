@@ -47,8 +47,8 @@ function whyNodes(told) {
 function captureVerdict(told, room, limit) {
   if (told.verdict === "lawful") return say("good", "Lawful", SENTENCES.verdict.lawful.means);
   if (told.verdict === "refused") {
-    const { says, rest, do: todo } = SENTENCES.capture[told.number];
-    return say("bad", `Refused ${told.number}${told.place ? ` at ${told.place}` : ""}`, ...todo ? [todo] : [says, rest]);
+    const { says, rest, do: todo } = SENTENCES.capture[told.number], place = told.place ? ` at ${told.place}` : "";
+    return say("bad", `Refused ${told.number}${place}`, ...todo ? [todo] : [says, rest]);
   }
   if (told.verdict === "open") {
     const streams = told.open.map((o) => `stream ${o.stream} (${STREAMS[o.stream]}), id ${o.id}: ${plural(o.left, "byte")} to come, next sequence ${o.sequence}`);
@@ -71,7 +71,7 @@ function wayChoice(one, way, again) {
     one.way = event.target.selectedIndex;
     again();
   };
-  return el("label", {}, "Which packets of the log", el("select", { onchange: choose }, ...options));
+  return el("div", {}, el("label", {}, "Which packets of the log", el("select", { onchange: choose }, ...options)), el("p", {}, way.name));
 }
 const isNumber = (n) => Number.isSafeInteger(n) && n >= 0;
 // A number that is none is refused as the module refuses one out of its range, and not handed over.

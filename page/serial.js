@@ -1,6 +1,6 @@
 // Classic bytes: frames and refusals.
 import { LARGEST_LIMIT, Library } from "./library.js";
-import { payloadOf } from "./lines.js";
+import { payloadOf, toDo } from "./lines.js";
 import { SENTENCES } from "./sentences.js";
 import { $, begin, each, el, item, module, pages, payloadNode, plural, prose, say, shown } from "./show.js";
 
@@ -36,12 +36,12 @@ function lineNode({ number, place, payload, sequence, length, times, to }) {
 function frameVerdict(list, end) {
   const kind = list.refused ? "warn" : list.frames ? "good" : "bad", numbers = Object.keys(list.counts);
   const outside = `${plural(end.end, "byte")}, ${shown(end.skipped)} of them outside of any frame`;
-  const todo = new Set(numbers.map((number) => WORDS[number].do));
+  const todo = new Set(numbers.flatMap((number) => toDo("frames", number)));
   return say(kind, `${plural(list.frames, "frame")}, ${shown(list.refused)} refused`,
     outside + (end.inside ? "; a frame had begun and its end had not come" : ""),
     end.end > 0 && end.skipped === end.end && WORDS.none.says,
     ...numbers.map((number) => `${shown(list.counts[number])} × ${number}: ${WORDS[number].says}`),
-    ...[...todo].filter((text) => ![...todo].some((other) => other !== text && other.startsWith(text))),
+    ...todo,
     list.refused > 0 && "The next frame is found again by itself");
 }
 export async function showSerial(bytes) {

@@ -147,7 +147,8 @@ function tryHeard(browser) {
 async function keepPictures(tab) {
   await tab.size(...PHONE);
   await give(tab, "outbox", [], own("firing2000.bin"));
-  await tab.picture(path.join(pictures, "page_phone.png"), 1060);
+  const verdict = await tab.evaluate(`document.querySelector("#outbox .say").getBoundingClientRect().top + scrollY`);
+  await tab.picture(path.join(pictures, "page_phone.png"), 900, verdict - 8);
   await tab.size(...LAPTOP);
   await give(tab, "radio", [], path.join(ROOT, data("evening.bin")));
   await tab.picture(path.join(pictures, "page_laptop.png"), 1130);
@@ -166,7 +167,7 @@ async function tryPanels(tab) {
   for (const [name, ...wanted] of [["asked.bin", "The room in front is 20", "Unlawful at 23"], ["open.bin", "Lawful so far, and open", "6 bytes to come, next sequence 1"], ["half.bin", "Refused 41", "not copied whole"],
     ["hex.txt", "3 lines in base 16", "Lawful"], ["bad.txt", "Line 2 is no packet in base 16"], ["empty.bin", "Refused 40"]]) await give(tab, "radio", wanted, own(name));
   await look(tab, "classic", "serial", ["2 frames"], sample("classic.bin"));
-  await look(tab, "serial", "serial", ["frames,", "refused 25", "the checksum does not agree"], own("damaged_serial.bin"));
+  await look(tab, "serial", "serial", ["frames,", "refused 25", "the checksum does not agree", "Once in a night: nothing"], own("damaged_serial.bin"));
   await give(tab, "serial", ["0 frames, 0 refused"], own("empty.bin"));
 }
 async function tryLong(tab) {

@@ -71,9 +71,9 @@ export class Tab {
     await this.send("Emulation.setEmulatedMedia", { features: [{ name: "prefers-color-scheme", value: dark ? "dark" : "light" }] });
     await sleep(50);
   }
-  async picture(file, most) {
+  async picture(file, most, from = 0) {
     const { cssContentSize: { width, height } } = await this.send("Page.getLayoutMetrics");
-    const clip = { x: 0, y: 0, width, height: Math.min(height, most), scale: 1 };
+    const clip = { x: 0, y: from, width, height: Math.min(height - from, most), scale: 1 };
     const { data } = await this.send("Page.captureScreenshot", { format: "png", captureBeyondViewport: true, clip });
     fs.writeFileSync(file, Buffer.from(data, "base64"));
   }
