@@ -57,15 +57,15 @@ const FILES = {
   "long_record.bin": () => outbox(2, [[2, Buffer.alloc(5000)]]), "their.bin": () => hex(THEIRS), "asked.bin": () => hex(`00141000${THEIRS}`),
   "open.bin": () => hex("0100146000000014 0e 2e2e2e2e2e2e2e2e2e2e2e2e2e2e"), "half.bin": () => hex("01001460"),
   "hex.txt": () => "60:00:00:00:01:01:41\r\n\r\n0x60,0x10,0x00,0x00,0x02,0x02,0x41,0x42\n612000000000\n", "bad.txt": () => "60 00 00 00 01 01 41\n60 0\n",
-  "phone.btsnoop": btsnoop, "damaged_serial.bin": damagedStream,
+  "marks5.bin": () => Buffer.alloc(5_000_000, 0xf0), "phone.btsnoop": btsnoop, "damaged_serial.bin": damagedStream,
 };
 const LONG = 50_000_000;
 const LONG_FILES = {
   "rubbish50.bin": () => Buffer.concat([Buffer.from([0x77]), randomBytes(LONG)]), "rubbish50_01.bin": () => Buffer.concat([Buffer.from([1]), randomBytes(LONG)]),
   "records50.bin": () => Buffer.concat([Buffer.from([2]), Buffer.alloc(LONG, outbox(2, [[6, SAID[0]]]).subarray(1))]).subarray(0, 1 + 23 * Math.floor(LONG / 23)),
   "packets50.bin": () => Buffer.concat([Buffer.from([1]), Buffer.alloc(9 * Math.floor(LONG / 9), hex("0007 60000000010141"))]),
-  "marks5.bin": () => Buffer.alloc(LONG / 10, 0xf0), "text50.txt": () => Buffer.alloc(LONG, "60 00 00 00 01 01 41\n"),
+  "text50.txt": () => Buffer.alloc(LONG, "60 00 00 00 01 01 41\n"),
 };
-export function writeFiles(folder) {
-  for (const [name, make] of Object.entries({ ...FILES, ...LONG_FILES })) fs.writeFileSync(path.join(folder, name), make());
+export function writeFiles(folder, long) {
+  for (const [name, make] of Object.entries({ ...FILES, ...long ? LONG_FILES : {} })) fs.writeFileSync(path.join(folder, name), make());
 }
