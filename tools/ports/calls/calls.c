@@ -21,12 +21,12 @@
 
 /* Everything that is ever lent. Lengths that are drawn stay below these. */
 enum { ROW = 72, INPUT = 1400, OTHER = 128, OUTPUT = 1024, LINK = 770 };
-static struct {
+static struct __attribute__((aligned(16))) {
     uint64_t answer[ROW], state[ROW], row[ROW], extractor[ROW], parts[ROW];
     uint8_t slots[136], link_slots[136];
     uint8_t input[INPUT + 8], other[OTHER + 8], third[OTHER + 8], output[OUTPUT + 8], buffer[LINK + 14], link_buffer[LINK + 14],
         frame[80];
-} lent __attribute__((aligned(8)));
+} lent;
 static uint64_t *const answer = lent.answer, *const state = lent.state, *const row = lent.row;
 static uint8_t *const input = lent.input + SHIFT, *const other = lent.other + SHIFT, *const third = lent.third + SHIFT;
 static uint8_t *const output = lent.output + SHIFT, *const buffer = lent.buffer + SHIFT, *const frame = lent.frame + SHIFT;
@@ -623,24 +623,26 @@ static const struct {
     KIND(outbox_record, 1),     KIND(outbox_whole, 1),   KIND(outbox_to_01, 1),    KIND(outbox_to_02, 1),
 };
 
-/* Two sums of 32 bits: every step can be undone, so a difference does not vanish. */
+/* Every step can be undone, so a difference does not vanish by itself. */
 static uint32_t low, high;
 
 static void mix(uint32_t word)
 {
     low = (low ^ word) * 0x01000193;
-    high = (high << 7 | high >> 25) ^ word;
-    high *= 0x85EBCA6B;
+    high = (high << 7 | high >> 25) ^ low;
 }
 
 static void mix_lent(void)
 {
-    const unsigned char *bytes = (const unsigned char *)&lent;
-    for (size_t i = 0; i < sizeof lent; i += 4) {
-        uint32_t word;
-        memcpy(&word, __builtin_assume_aligned(bytes + i, 4), 4);
-        mix(word);
+    const uint32_t *word = (const uint32_t *)&lent;
+    uint32_t sum = low;
+    for (size_t i = 0; i < sizeof lent / 4; i += 4) {
+        sum = (sum ^ word[i]) * 0x01000193;
+        sum = (sum ^ word[i + 1]) * 0x01000193;
+        sum = (sum ^ word[i + 2]) * 0x01000193;
+        sum = (sum ^ word[i + 3]) * 0x01000193;
     }
+    mix(sum);
 }
 
 static void run(uint32_t which, uint32_t round)
