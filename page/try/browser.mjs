@@ -20,27 +20,18 @@ function hold(what, is, told = "") {
 const own = (name) => path.join(files, name), sample = (name) => path.join(ROOT, "samples", name);
 const data = (name) => spawnSync("sh", ["-c", `ls -d crates/*/data/${name}`], { cwd: ROOT }).stdout.toString().trim();
 
-// The longest time in which this program itself did not go on: on a busy machine it is long too.
-const driver = { longest: 0, before: performance.now() };
-setInterval(() => {
-  const now = performance.now();
-  driver.longest = Math.max(driver.longest, now - driver.before);
-  driver.before = now;
-}, 5).unref();
-
 // ---- one file given, and what the page must be like after it
 const outText = (panel) => `document.querySelector("#${panel} .out").innerText.replace(/\\s+/g, " ")`;
 async function give(tab, panel, wanted, ...chosen) {
   await tab.evaluate(`document.getElementById("tab-${panel}").click();
     clearInterval(window.beat); window.longest = 0; window.before = performance.now();
     window.beat = setInterval(() => { const now = performance.now(); window.longest = Math.max(window.longest, now - window.before); window.before = now; }, 5); 0`);
-  driver.longest = 0;
-  const began = Date.now(), names = chosen.map((file) => path.basename(file)).join(" ");
+  const began = Date.now(), worked = await tab.cpu(), names = chosen.map((file) => path.basename(file)).join(" ");
   await tab.chooseFiles(`#${panel} input[type=file]`, chosen);
   await sleep(50);
   await tab.until(`!document.querySelector("#${panel} .out").dataset.busy && document.querySelector("#${panel} .out .say")`, PATIENCE);
   const took = Date.now() - began, block = Math.round(await tab.evaluate("window.longest")), said = await tab.evaluate(outText(panel));
-  console.log(`${panel} ${names}: ${took} ms, longest block ${block} ms (driver ${Math.round(driver.longest)} ms): ${said.slice(0, 90)}`);
+  console.log(`${panel} ${names}: ${took} ms, longest block ${block} ms, processor ${Math.round(await tab.cpu() - worked)} ms: ${said.slice(0, 90)}`);
   for (const words of wanted) hold(`${panel} ${names} says "${words}"`, said.includes(words), said.slice(0, 400));
   hold(`${panel} ${names} blocks the page for less than ${LONGEST_BLOCK} ms`, block < LONGEST_BLOCK, block);
   hold(`${panel} ${names} is announced`, (await tab.evaluate(`document.getElementById("heard").textContent`)).trim() !== "");

@@ -38,6 +38,7 @@ export class Chromium {
     const { sessionId } = await this.send("Target.attachToTarget", { targetId, flatten: true });
     const tab = new Tab(this, sessionId);
     for (const domain of ["Page", "DOM", "Runtime", "Network", "Log", "Accessibility"]) await tab.send(`${domain}.enable`);
+    await tab.send("Performance.enable", { timeDomain: "threadTicks" });
     await tab.size(width, height);
     await tab.send("Page.navigate", { url });
     await tab.until("document.documentElement?.dataset.ready", 30000);
@@ -61,6 +62,11 @@ export class Tab {
     const { result, exceptionDetails } = await this.send("Runtime.evaluate", { expression, awaitPromise: true, returnByValue: true });
     if (exceptionDetails) throw new Error(exceptionDetails.exception?.description);
     return result.value;
+  }
+  // The processor time of the page's own thread so far, in ms: it does not grow while the page waits for a processor.
+  async cpu() {
+    const { metrics } = await this.send("Performance.getMetrics");
+    return 1000 * metrics.find(({ name }) => name === "TaskDuration").value;
   }
   async until(expression, most) {
     for (const began = Date.now(); !await this.evaluate(expression); await sleep(30))
