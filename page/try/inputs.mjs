@@ -83,7 +83,7 @@ export class Inputs {
     const at = this.random(packets.length), own = packets[at];
     const put = (packet) => { packets[at] = packet; };
     this.choose(() => packets.splice(at, 1), () => packets.splice(at, 0, packets[this.random(packets.length)]), () => { packets.length = at; },
-      () => put(this.damage(own)), () => put(own.map((b, i) => i === this.random(7) ? b ^ 1 << this.random(8) : b)),
+      () => put(own.map((b, i) => i === 1 ? b ^ 2 : b)), () => put(this.damage(own)), () => put(own.map((b, i) => i === this.random(7) ? b ^ 1 << this.random(8) : b)),
       () => put(this.ack(this.choose(14, 12, 13, 15), this.choose(0, 3, 4))), () => put(own.map((b, i) => (own[1] & 13) || own.length < 7 ? b : i === 3 ? 0 : i === 4 ? Math.max(0, own[5] - 1) : b)),
       () => put(Uint8Array.of(own[0], 16 * this.random(16) + this.choose(4, 8), 0)), () => put(this.bytes(1 + this.random(8))), () => put(own.slice(0, 1)))();
   }
@@ -93,7 +93,7 @@ export class Inputs {
       const lane = this.choose(...lanes);
       if (lane.length) packets.push(this.random(12) ? lane.shift() : this.ack());
     }
-    for (let n = this.choose(0, 0, 0, 1, 1, 2); n > 0 && packets.length; n--) this.spoil(packets);
+    for (let n = this.choose(0, 0, 1, 1, 1, 2); n > 0 && packets.length; n--) this.spoil(packets);
     return this.random(20) ? this.captureOf(packets.filter((packet) => packet.length)) : this.damage(this.captureOf(packets));
   }
 

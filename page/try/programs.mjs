@@ -131,7 +131,7 @@ same("the module's checksum", page.checksum, createHash("sha256").update(page.wa
 for (let round = 0; round < Number(rounds); round++) {
   await tryOutbox();
   await tryStream();
-  await tryCapture();
+  for (let n = 0; n < 4; n++) await tryCapture();
   await tryReport();
   if (round % 3 === 0) tryLog();
   if (round % 3 === 0) tryLines();
