@@ -368,29 +368,6 @@ static const char *last_name(const char *path)
     return strrchr(path, '/') + 1;
 }
 
-/*
- * A record that was cut and one whose length was damaged look the same, and behind a damaged length whole records may stand.
- * So what is dropped, and stands in the small outbox, is on the disk under another name first.
- */
-static void drop_cut_record(size_t length)
-{
-    char name[PATH_MAX];
-    int beside;
-    write_name(name, ".dropped", 0);
-    beside = open(name, O_WRONLY | O_CREAT | O_APPEND, 0644);
-    if (beside < 0)
-        fail("open the file of what is dropped");
-    write_all(beside, outbox + PITO_FIRST_PLACE, length, "write what is dropped");
-    sync_to_disk(beside, "sync what is dropped");
-    close(beside);
-    sync_folder();
-    while (ftruncate(file, file_end) != 0)
-        if (errno != EINTR)
-            fail("shorten the outbox file");
-    sync_to_disk(file, "sync the outbox file");
-    note("dropped %jd, kept in %s\n", (intmax_t)file_end, last_name(name));
-}
-
 /* The file is closed, and its lock ended, only when it has another name. */
 static void put_aside(const char *why, uint64_t number)
 {
@@ -411,6 +388,44 @@ static void put_aside(const char *why, uint64_t number)
     begin_outbox();
     note("put aside as %s: %s %" PRIu64 " at %jd\n", last_name(name), why, number, (intmax_t)place);
     note("new outbox %s\n", last_name(own_path));
+}
+
+/* Whether what is appended there is kept: bytes would be lost in a link to the outbox file, and a pipe would stop the box. */
+static int is_another_file(const char *name)
+{
+    struct stat own, its;
+    if (lstat(name, &its) != 0)
+        return 1;
+    if (fstat(file, &own) != 0)
+        fail("look at the outbox file");
+    return S_ISREG(its.st_mode) && !is_same(&own, &its);
+}
+
+/*
+ * A record that was cut and one whose length was damaged look the same, and behind a damaged length whole records may stand.
+ * So what is dropped, and stands in the small outbox, is on the disk under another name first.
+ */
+static void drop_cut_record(size_t length)
+{
+    char name[PATH_MAX];
+    int beside;
+    write_name(name, ".dropped", 0);
+    if (!is_another_file(name)) {
+        put_aside("cut, and .dropped is no file of its own, refused", PITO_REFUSED_RECORD_CUT);
+        return;
+    }
+    beside = open(name, O_WRONLY | O_CREAT | O_APPEND, 0644);
+    if (beside < 0)
+        fail("open the file of what is dropped");
+    write_all(beside, outbox + PITO_FIRST_PLACE, length, "write what is dropped");
+    sync_to_disk(beside, "sync what is dropped");
+    close(beside);
+    sync_folder();
+    while (ftruncate(file, file_end) != 0)
+        if (errno != EINTR)
+            fail("shorten the outbox file");
+    sync_to_disk(file, "sync the outbox file");
+    note("dropped %jd, kept in %s\n", (intmax_t)file_end, last_name(name));
 }
 
 /*
@@ -483,14 +498,9 @@ static void resume_outbox(void)
  * A start ends with all on disk that the file holds, and the file's name in its folder: the start before may have been killed
  * at any point.
  */
-void open_outbox(const char *path, uint8_t *one_record, size_t size)
+static void start_outbox(const char *path)
 {
     ssize_t held;
-    outbox = one_record;
-    outbox_size = size;
-    check_apart(path, STDIN_FILENO, "standard input");
-    check_apart(path, STDOUT_FILENO, "standard output");
-    check_apart(path, STDERR_FILENO, "standard error");
     open_file(path);
     if (realpath(path, own_path) == NULL)
         fail("find the outbox file's folder");
@@ -505,9 +515,20 @@ void open_outbox(const char *path, uint8_t *one_record, size_t size)
         resume_outbox();
 }
 
+void open_outbox(const char *path, uint8_t *one_record, size_t size)
+{
+    outbox = one_record;
+    outbox_size = size;
+    check_apart(path, STDIN_FILENO, "standard input");
+    check_apart(path, STDOUT_FILENO, "standard output");
+    check_apart(path, STDERR_FILENO, "standard error");
+    start_outbox(path);
+}
+
 /* ---- What is kept ---- */
 
-void keep(uint64_t stream, const uint8_t *message, size_t length)
+/* Answers the record's length. It is on the disk then. */
+static size_t append_record(uint64_t stream, const uint8_t *message, size_t length)
 {
     uint64_t answer[PITO_OUTBOX_APPEND_ANSWER];
     uint64_t number = pito_outbox_append(outbox, outbox_size, PITO_FIRST_PLACE, stream, message, length, answer,
@@ -518,6 +539,29 @@ void keep(uint64_t stream, const uint8_t *message, size_t length)
     record_length = answer[PITO_OUTBOX_APPEND_USED] - PITO_FIRST_PLACE;
     write_all(file, outbox + PITO_FIRST_PLACE, record_length, "write the outbox file");
     sync_to_disk(file, "sync the outbox file");
+    return record_length;
+}
+
+static int has_its_name(void)
+{
+    struct stat opened, named;
+    if (fstat(file, &opened) != 0)
+        fail("look at the outbox file");
+    return stat(own_path, &named) == 0 && is_same(&opened, &named);
+}
+
+/* What goes to a file that was deleted is lost, and one that was moved is no longer looked for: the record is written again. */
+void keep(uint64_t stream, const uint8_t *message, size_t length)
+{
+    size_t record_length = append_record(stream, message, length);
+    if (!has_its_name()) {
+        char path[PATH_MAX];
+        strcpy(path, own_path);
+        close(file);
+        start_outbox(path);
+        note("the outbox file was taken away, new outbox %s\n", last_name(own_path));
+        record_length = append_record(stream, message, length);
+    }
     report(length);
     file_end += (off_t)record_length;
 }

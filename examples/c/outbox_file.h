@@ -49,8 +49,9 @@ int is_outbox(const char *path, uint8_t *bytes, size_t size);
 
 /*
  * Opens the file, or begins it, and finds the end of its last whole record. What stands cut behind that goes to the file
- * PATH.dropped, and only then is dropped. A file that is no outbox, has a longer record than a message of this box can be, or
- * cannot be read is put aside whole, as PATH.aside-1, or the first number that is free, and a new one is begun. Both are noted.
+ * PATH.dropped, and only then is dropped. A file that is no outbox, has a longer record than a message of this box can be,
+ * cannot be read, or has a cut end where PATH.dropped is a link, a pipe or a folder is put aside whole, as PATH.aside-1, or the
+ * first number that is free, and a new one is begun. Both are noted.
  * The bytes are lent for good: PITO_ONE_RECORD of the box's limit, so that they hold the longest record of its messages.
  * Ends with 1 if the file is open in another box, is a standard stream of this one, or is no regular file.
  */
@@ -58,7 +59,8 @@ void open_outbox(const char *path, uint8_t *one_record, size_t size);
 
 /*
  * Appends a message as a record; once it is on the disk, and not before, reports it on standard output. That it cannot be
- * reported is noted once, and stops nothing.
+ * reported is noted once, and stops nothing. Where the file was moved or deleted meanwhile, a new one is begun under its name,
+ * which is noted, and has the record.
  */
 void keep(uint64_t stream, const uint8_t *message, size_t length);
 

@@ -46,10 +46,21 @@ static size_t step(size_t offset)
     return entry_size(length);
 }
 
+/* Behind the last word that was written. */
+static size_t written_end(void)
+{
+    size_t offset = flash_size() / WORD * WORD;
+    while (offset > 0 && word_at(offset - WORD) == ERASED)
+        offset -= WORD;
+    return offset;
+}
+
+/* An erased word is not yet the end: a write may have failed there with the power on, and entries stand behind it. */
 void flash_log_open(void)
 {
+    size_t written = written_end();
     end = 0;
-    while (flash_size() - end >= WORD && word_at(end) != ERASED) {
+    while (end < written) {
         size_t size = step(end);
         if (size == WORD || word_at(end + size - WORD) != COUNTS)
             board_note(NOTE_PUT_ASIDE);

@@ -8,7 +8,8 @@
  * The file of the outbox is the byte 02 and, behind it, the records of the entries that count, in their order.
  *
  * An entry that power has cut off does not count, and stays where it is: nothing is erased here. Of a first word that was cut some pair
- * of bits is still 1 and 1, so it is none; then nothing behind it was written, and the next entry begins after it.
+ * of bits is still 1 and 1, so it is none; then nothing behind it was written, and the next entry begins after it. What is no first
+ * word is passed over word by word, erased ones too, up to the last word that was written.
  */
 #ifndef FLASH_LOG_H
 #define FLASH_LOG_H

@@ -4,8 +4,9 @@
  *
  * A run sends all items below. The speaker sends a message again until it is acknowledged; what the serial line says while power is
  * gone is lost, which the judge allows of the one item that was under way. First a run without a cut; then, for each word that it wrote,
- * three: power fails before the word is written, with some of its bits written, and so once more a few words later. Then a flash that
- * begins with words of no entry, and one that has no erased word.
+ * four: power fails before the word is written, with some of its bits written, and so once more a few words later; and the word is not
+ * written with the power on, which fails some entries later. Then a flash that begins with words of no entry, and one that has no erased
+ * word.
  */
 #include <string.h>
 
@@ -35,7 +36,8 @@ static const struct item {
 #define TRIES 6
 
 enum { CUTS, GARBAGE, FULL, MODES };
-enum { BEFORE_THE_WORD, WITHIN_THE_WORD, TWICE, KINDS };
+enum { BEFORE_THE_WORD, WITHIN_THE_WORD, TWICE, REFUSED, KINDS };
+#define WORDS_UNTIL_POWER_FAILS 60
 
 static WORLD_RAM struct {
     uint32_t mode, kind, cut_at, first_cut, words, all_words;
@@ -159,6 +161,16 @@ static void cut(const volatile uint32_t *at, uint32_t word)
     power_fails();
 }
 
+/* Whether the word is the one that the flash does not take. */
+static int is_refused(void)
+{
+    if (w.kind != REFUSED || w.words != w.first_cut)
+        return 0;
+    w.cut_at = w.words + WORDS_UNTIL_POWER_FAILS;
+    w.under_way |= 1u << w.item;
+    return 1;
+}
+
 int board_write(size_t offset, const void *bytes, size_t length)
 {
     const volatile uint32_t *at = (const volatile uint32_t *)(board_flash + offset);
@@ -168,7 +180,10 @@ int board_write(size_t offset, const void *bytes, size_t length)
     for (; length > 0; length -= 4, at++, word++) {
         if (*at != 0xFFFFFFFF)
             fail("a write where the flash is not erased");
-        if (++w.words == w.cut_at)
+        w.words++;
+        if (is_refused())
+            return 0;
+        if (w.words == w.cut_at)
             cut(at, *word);
         flash_write_word(at, *word);
         if (*at != *word)

@@ -28,12 +28,10 @@ pub struct OutboxFile<const SIZE: usize> {
 
 impl<const SIZE: usize> OutboxFile<SIZE> {
     /// Opens the file, or begins it, and finds the end of its last whole record. What stands cut behind that goes to the file
-    /// PATH.dropped, and only then is dropped. A file that is no outbox, or has a longer record than a message of this box can
-    /// be, is put aside whole, as PATH.aside-1, or the first number that is free, and a new one is begun. Both are noted. A
-    /// file that is open in another box, or is a standard stream of this one, is left as it was.
-    ///
-    /// A start ends with all on disk that the file holds, and the file's name in its folder: the start before may have been
-    /// killed at any point.
+    /// PATH.dropped, and only then is dropped. A file that is no outbox, has a longer record than a message of this box can be,
+    /// cannot be read, or has a cut end where PATH.dropped is a link, a pipe or a folder is put aside whole, as PATH.aside-1,
+    /// or the first number that is free, and a new one is begun. Both are noted. A file that is open in another box, or is a
+    /// standard stream of this one, is left as it was.
     pub fn open(path: &Path, times: Times) -> Result<OutboxFile<SIZE>, Failure> {
         check_apart(path, &io::stdin(), "standard input")?;
         check_apart(path, &io::stdout(), "standard output")?;
@@ -50,19 +48,46 @@ impl<const SIZE: usize> OutboxFile<SIZE> {
             report_failed: false,
             times,
         };
-        outbox.sync()?;
-        outbox.sync_folder()?;
-        match outbox.read(0, FIRST_PLACE) {
-            Ok(0) => outbox.begin()?,
-            Ok(_) => outbox.resume()?,
-            Err(reason) => outbox.put_unreadable_aside(&reason)?,
-        }
+        outbox.start()?;
         Ok(outbox)
+    }
+
+    /// A start ends with all on disk that the file holds, and the file's name in its folder: the start before may have been
+    /// killed at any point.
+    fn start(&mut self) -> Result<(), Failure> {
+        self.end = 0;
+        self.sync()?;
+        self.sync_folder()?;
+        match self.read(0, FIRST_PLACE) {
+            Ok(0) => self.begin(),
+            Ok(_) => self.resume(),
+            Err(reason) => self.put_unreadable_aside(&reason),
+        }
     }
 
     /// Appends a message as a record; once it is on the disk, and not before, reports it on standard output. That it cannot be
     /// reported is noted once, and stops nothing.
+    ///
+    /// What goes to a file that was deleted is lost, and one that was moved is no longer looked for: the record is written
+    /// again, to a new file under its name, which is noted.
     pub fn keep(&mut self, stream: Stream, message: &[u8]) -> Result<(), Failure> {
+        let mut length = self.append(stream, message)?;
+        if !self.has_its_name()? {
+            self.file = open_file(&self.own_path)?;
+            self.start()?;
+            note(format_args!(
+                "the outbox file was taken away, new outbox {}",
+                last_name(&self.own_path)
+            ));
+            length = self.append(stream, message)?;
+        }
+        self.report(message.len());
+        self.end += length;
+        Ok(())
+    }
+
+    /// Answers the record's length. It is on the disk then.
+    fn append(&mut self, stream: Stream, message: &[u8]) -> Result<u64, Failure> {
         let mut outbox =
             Outbox::resume(&mut self.one_record, FIRST_PLACE).map_err(Refusal::from)?;
         outbox.append(stream, message)?;
@@ -70,11 +95,20 @@ impl<const SIZE: usize> OutboxFile<SIZE> {
         self.file
             .write_all(record)
             .map_err(Failure::to("write the outbox file"))?;
-        let next = self.end + record.len() as u64;
+        let length = record.len() as u64;
         self.sync()?;
-        self.report(message.len());
-        self.end = next;
-        Ok(())
+        Ok(length)
+    }
+
+    fn has_its_name(&self) -> Result<bool, Failure> {
+        let opened = self.look()?;
+        Ok(fs::metadata(&self.own_path).is_ok_and(|named| is_same(&opened, &named)))
+    }
+
+    fn look(&self) -> Result<Metadata, Failure> {
+        self.file
+            .metadata()
+            .map_err(Failure::to("look at the outbox file"))
     }
 
     fn report(&mut self, length: usize) {
@@ -159,6 +193,10 @@ impl<const SIZE: usize> OutboxFile<SIZE> {
     /// stand. So what is dropped, and stands in the small outbox, is on the disk under another name first.
     fn drop_cut_record(&mut self, held: usize) -> Result<(), Failure> {
         let name = self.name_beside(".dropped");
+        if !self.is_another_file(&name)? {
+            let why = "cut, and .dropped is no file of its own, refused";
+            return self.put_aside(why, Refusal::RecordCut.number());
+        }
         let mut beside = OpenOptions::new()
             .append(true)
             .create(true)
@@ -180,6 +218,13 @@ impl<const SIZE: usize> OutboxFile<SIZE> {
             last_name(&name)
         ));
         Ok(())
+    }
+
+    /// Whether what is appended there is kept: bytes would be lost in a link to the outbox file, and a pipe would stop the box.
+    fn is_another_file(&self, name: &Path) -> Result<bool, Failure> {
+        let own = self.look()?;
+        let its = fs::symlink_metadata(name);
+        Ok(its.map_or(true, |its| its.is_file() && !is_same(&own, &its)))
     }
 
     /// The file is closed, and its lock ended, only when it has another name.
