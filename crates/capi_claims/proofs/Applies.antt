@@ -10,12 +10,10 @@ use Rattle.wire.specs.Bytes.{bit}
 use Rattle.field.specs.declared.value.Part.{Part}
 use Rattle.field.specs.Value.{bytesOf}
 use Rattle.field.specs.Tag.{varintType, lengthType}
-use Rattle.field.specs.Unsigned.{unsignedOf}
 use Rattle.field_writer.specs.Writer.{scalar, text, nested, tagBytes, fieldBytes, messageBytes}
 use Rattle.field_writer.proofs.Runs.{message-length}
 use Rattle.known_fields.specs.Schema.{firmwareInformationField, restartRequiredField, firmwareVersionField, firmwareNameField, componentsField, localeField, versionNameField, firmwareComponentVersionField, firmwareComponentNameField, firmwareComponentSizeField, firmwareComponentSignatureField}
 use Rattle.firmware.specs.declared.component.FirmwareComponent.{FirmwareComponent}
-use Rattle.firmware.specs.declared.apply.ApplyFirmware.{ApplyFirmware}
 use Rattle.text_writer.specs.Texts.{AllWellFormed}
 use Rattle.component_writer.specs.Component.{outside, badComponent, componentFields, componentField}
 use Rattle.firmware_writer.specs.Information.{badComponents, badFirmware, present, componentsStrings, firmwareStrings, firmwareFields}

@@ -16,7 +16,7 @@ use Rattle.wire.specs.Limit.{limitFits}
 use Rattle.wire.proofs.Streams.{known-stream}
 use Rattle.wire.proofs.Limits.{range-limit}
 use Rattle.field.specs.Signed.{signedOf, extended}
-use Rattle.field.specs.Tag.{varintType, lengthType, lastField}
+use Rattle.field.specs.Tag.{varintType, lengthType}
 use Rattle.field_writer.specs.Writer.{Field, messageBytes}
 use Rattle.framing.specs.Mark.{startMark, isMark}
 use Rattle.framing.specs.Frame.{frameOf, checksumOf}
@@ -37,7 +37,7 @@ use Rattle.control.specs.declared.response.ResponsePayload.the-variants as Inne
 use Rattle.device.specs.declared.features.DeviceFeatures.{DeviceFeatures}
 use Rattle.walk.specs.Gathered.{mostTransports}
 use Rattle.known_fields.specs.Schema.{commandField, responseField, errorCodeField, serialNumberField, nameField, transportsField, deviceTypeField, featuresField, deviceAttributesField, componentNameField, segmentSizeField, segmentSignatureField}
-use Rattle.field_writer.specs.Message.{writesMessage, badMember}
+use Rattle.field_writer.specs.Message.{writesMessage}
 use Rattle.field_writer.proofs.Messages.{wrote}
 use Rattle.text.specs.WellFormed.{WellFormed}
 use Rattle.text_writer.specs.Texts.{AllWellFormed, writesTexts}
@@ -97,7 +97,7 @@ use Rattle.rows_firmware.specs.Apply.{applyAt}
 use Rattle.calls_firmware.specs.Calls.{segmentStored, segmentWriteOf, applyStored, applyReadOf, applyWriteOf}
 use Rattle.calls_outbox.specs.Calls.{outboxNewOf, outboxAppendOf}
 use Rattle.calls_moving.specs.Calls.{outboxMoveOf}
-use Rattle.capi_claims.specs.SizesSuffice.{Done, StreamNumber, PayloadField, RowFits, stringsOf, SizesSuffice, frameSize, envelopeSize, responseSize, informationSize, featuresSize, replySize, segmentSize, applySize, recordSize}
+use Rattle.capi_claims.specs.SizesSuffice.{Done, StreamNumber, PayloadField, RowFits, stringsOf, SizesSuffice, frameSize, envelopeSize, responseSize, informationSize, featuresSize, replySize, segmentSize, applySize}
 use Rattle.capi_claims.proofs.Sizes.{scalar-most, text-most, nested-most, packed-most, tag-most, tag-small}
 use Rattle.capi_claims.proofs.Replies.{joined-most}
 use Rattle.capi_claims.proofs.Told.{told-fits}

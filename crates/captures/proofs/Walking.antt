@@ -9,7 +9,7 @@ use lib.ListN.{length, getD, take, drop, length-drop, drop-of-length-le}
 use lib.Seq.{drop-drop}
 use lib.Dec.{eqb, leb}
 use borrow.Author.Tests.{le-leb, lt-leb, lt-ltb, le-ltb, eq-eqb, ne-eqb, eqb-false, ltb-false}
-use Rattle.wire.specs.Told.{ToldOf, Told, given, refused, andThen, line}
+use Rattle.wire.specs.Told.{Told, given, refused, andThen, line}
 use Rattle.wire.specs.Bytes.{AllBytes}
 use Rattle.wire.proofs.ByteLists.{bytes-take, bytes-drop}
 use Rattle.wire.proofs.Tables.{by-table}

@@ -7,7 +7,6 @@ use lib.Dec.{ltb}
 use Rattle.field.specs.declared.value.Part.{Part}
 use Rattle.field.specs.Value.{bytesOf}
 use Rattle.field_writer.specs.Writer.{Field, scalar, text, nested, messageBytes}
-use Rattle.known_fields.specs.declared.Schema.the-variants as Schema
 use Rattle.known_fields.specs.Schema.{componentsField, firmwareComponentVersionField, firmwareComponentNameField, firmwareComponentSizeField, firmwareComponentSignatureField}
 use Rattle.firmware.specs.declared.component.FirmwareComponent.{FirmwareComponent}
 

@@ -11,7 +11,7 @@ use borrow.Author.Tests.{ne-eqb}
 use Rattle.wire.specs.Told.{ToldMore, given, refused, andThen}
 use Rattle.field.specs.declared.value.Part.{Part}
 use Rattle.field.specs.Unsigned.{unsignedOf}
-use Rattle.field.specs.Value.{bytesOf, Within}
+use Rattle.field.specs.Value.{bytesOf}
 use Rattle.field.proofs.Told.{Sat, sat-then, sat-weaken, sat-given}
 use Rattle.text.specs.WellFormed.{empty}
 use Rattle.field_writer.specs.Writer.{messageBytes}

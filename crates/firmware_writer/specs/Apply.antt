@@ -4,7 +4,6 @@ use mathlib.Core.List.{List, [], _∷_}
 use Rattle.wire.specs.Bytes.{bit}
 use Rattle.wire.specs.Told.{WrittenOf}
 use Rattle.field_writer.specs.Writer.{Field, scalar, nested, messageBytes}
-use Rattle.known_fields.specs.declared.Schema.the-variants as Schema
 use Rattle.known_fields.specs.Schema.{firmwareInformationField, restartRequiredField}
 use Rattle.text_writer.specs.Texts.{writesTexts}
 use Rattle.firmware.specs.declared.apply.ApplyFirmware.{ApplyFirmware}

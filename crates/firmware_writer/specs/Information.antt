@@ -6,7 +6,6 @@ use lib.ListN.{take}
 use lib.Dec.{ltb}
 use Rattle.field.specs.Value.{bytesOf}
 use Rattle.field_writer.specs.Writer.{Field, scalar, text}
-use Rattle.known_fields.specs.declared.Schema.the-variants as Schema
 use Rattle.known_fields.specs.Schema.{firmwareVersionField, firmwareNameField, localeField, versionNameField}
 use Rattle.walk.specs.Gathered.{mostRepeated}
 use Rattle.firmware.specs.declared.component.FirmwareComponent.{FirmwareComponent}

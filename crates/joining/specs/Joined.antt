@@ -4,7 +4,6 @@ use mathlib.Core.Path.{_≡_}
 use mathlib.Core.Bool.{Bool, cond, _&&_}
 use mathlib.Core.List.{List, [], _∷_, _++_}
 use lib.ListN.{length, drop}
-use lib.Seq.{sets}
 use lib.Dec.{ltb, leb, eqb}
 use Rattle.packet.specs.Header.{fourBits, headerSize}
 use Rattle.sender.specs.declared.piece.Piece.{Piece}

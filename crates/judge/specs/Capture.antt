@@ -8,7 +8,6 @@ use Rattle.wire.specs.Told.{given, refused, andThen, line, table}
 use Rattle.captures.specs.Capture as captures
 use Rattle.captures.specs.Capture.{width, ToldAt, packetsOf}
 use Rattle.sender.specs.Writer.{roomFits}
-use Rattle.judge.specs.declared.State.{State}
 use Rattle.judge.specs.declared.capture.Refusal.{Refusal}
 use Rattle.judge.specs.declared.capture.Refusal.the-variants.{Long, Room, Limit, Capture}
 use Rattle.judge.specs.declared.capture.Answer as code

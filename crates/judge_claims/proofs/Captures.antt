@@ -1,5 +1,5 @@
 -- The judge is right about captures: the packet that decides, by the place of its length.
-use Prim.Native.Nat.{ℕ, zero, suc, _+_}
+use Prim.Native.Nat.{ℕ, suc, _+_}
 use mathlib.Core.Path.{_≡_, refl, sym, ap, _∙_}
 use mathlib.Core.Logic.{inl, inr}
 use mathlib.Core.List.{List, [], _∷_}
@@ -15,13 +15,11 @@ use Rattle.captures.proofs.Walking.{of-packets}
 use Rattle.sender.specs.Writer.{roomFits}
 use Rattle.sender_claims.proofs.CallsGiveAll.{takes-all}
 use Rattle.judge.specs.declared.State.{State}
-use Rattle.judge.specs.declared.capture.Judgement.{Judgement}
 use Rattle.judge.specs.declared.capture.Judgement.the-variants.{Going, Stopped}
 use Rattle.judge.specs.Step.{idle, allIdle, stepOf, after}
-use Rattle.judge.specs.Capture.{goneOn, verdictFrom, verdictOf, walkedOf, tracedOf, Answer, lawful, open·ended, unlawful, answerIn, judgedOf}
+use Rattle.judge.specs.Capture.{verdictFrom, walkedOf, tracedOf, Answer, lawful, open·ended, unlawful, answerIn, judgedOf}
 use Rattle.judge_claims.specs.Lawful.{WritableAll}
-use Rattle.judge_claims.specs.Right.{FirstUnlawful, CaptureIsRight}
-use Rattle.judge_claims.proofs.Rest.{InRange}
+use Rattle.judge_claims.specs.Right.{CaptureIsRight}
 use Rattle.judge_claims.proofs.Right.{answerFrom, answerOf, judge-is-right}
 
 -- ---- indexes and places

@@ -1,15 +1,15 @@
 -- From every state that the judge comes to there is a continuation that is lawful: each open transaction is sent to its end.
-use Prim.Native.Nat.{ℕ, zero, suc, _+_, _*_, _-_, _/_, _%_, _≤_, _<_}
+use Prim.Native.Nat.{ℕ, zero, suc, _+_, _-_, _≤_, _<_}
 use native.Mathlib.Omega.{arith}
 use mathlib.Core.Path.{_≡_, refl, sym, ap, _∙_}
 use mathlib.Core.List.{List, [], _∷_, _++_, append-nil}
-use mathlib.Core.Bool.{Bool, true, false, cond, not, _&&_, _||_, false≢true}
+use mathlib.Core.Bool.{Bool, true, false, cond, _&&_, false≢true}
 use mathlib.Core.Option.{Option, none, some}
 use lib.ListN.{length, take, drop, replicate, length-take, length-replicate}
 use lib.Dec.{eqb, leb}
-use borrow.Author.Tests.{leb-true, eqb-true, eqb-false, ltb-false}
-use Rattle.wire.specs.Told.{Told, given, refused}
-use Rattle.wire.specs.Bytes.{AllBytes, bit}
+use borrow.Author.Tests.{leb-true, eqb-false, ltb-false}
+use Rattle.wire.specs.Told.{given}
+use Rattle.wire.specs.Bytes.{AllBytes}
 use Rattle.captures.specs.Capture.{Packets}
 use Rattle.wire.specs.declared.stream.Stream.{Stream}
 use Rattle.wire.specs.declared.stream.Stream.the-variants.{Control, Ota, Alexa}
@@ -17,15 +17,14 @@ use Rattle.wire.specs.Stream.{streamNumber}
 use Rattle.wire.proofs.ByteLists.{bytes-append, bytes-take, bytes-drop}
 use Rattle.wire.proofs.Streams.{number-low}
 use Rattle.wire.proofs.Tests.{and-right}
-use Rattle.packet.specs.declared.reader.Head.{Head}
 use Rattle.packet.specs.declared.reader.Packet.{Packet}
 use Rattle.packet.specs.declared.reader.Packet.the-variants.{First, Next, Ack, Nack}
-use Rattle.packet.specs.Header.{fourBits, typeContinuation, typeLast, firstByte, secondByte, sequenceAfter}
+use Rattle.packet.specs.Header.{typeContinuation, typeLast, sequenceAfter}
 use Rattle.packet.specs.Reader.{headIn, readOf}
 use Rattle.packet.proofs.Headers.{bit-low}
-use Rattle.packet.proofs.Reading.{lengthIn, LinesPass, read-passes}
+use Rattle.packet.proofs.Reading.{lengthIn, read-passes}
 use Rattle.packet.proofs.Written.{nextPacket}
-use Rattle.sender.specs.Piece.{leastRoom, largestRoom, extended, sizeFor}
+use Rattle.sender.specs.Piece.{leastRoom, largestRoom, extended}
 use Rattle.sender.specs.Writer.{roomFits}
 use Rattle.sender.proofs.Largest.{size-le, size-fits}
 use Rattle.sender.proofs.Guard.{room-low}
@@ -36,8 +35,8 @@ use Rattle.sender_slot.specs.Slot.{fitsPiece, slotFor, firstStep, nextFits, nex
 use Rattle.judge.specs.Step.{slotIn, withSlot, idle, stepOf, after}
 use Rattle.judge_claims.specs.Lawful.{acknowledges}
 use Rattle.sender.proofs.Later.{nextSize, nextLast, later}
-use Rattle.judge_claims.proofs.Rest.{InRange, Rest, done, within, advance, rest-empty, Chosen, chosen, never-some}
-use Rattle.judge_claims.proofs.Runs.{runOf, run-step, by-stream, slot-same, slot-other, Others, StepTaken, was-ack, was-piece, stepped}
+use Rattle.judge_claims.proofs.Rest.{InRange, Rest, done, within, advance, rest-empty, chosen, never-some}
+use Rattle.judge_claims.proofs.Runs.{runOf, run-step, by-stream, slot-same, slot-other, StepTaken, was-ack, was-piece, stepped}
 
 -- ---- the packets are bytes
 

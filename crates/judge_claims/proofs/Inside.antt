@@ -2,21 +2,19 @@
 use Prim.Native.Nat.{ℕ, zero, suc, _+_, _-_, _≤_, _<_}
 use native.Mathlib.Omega.{arith}
 use mathlib.Core.Path.{_≡_, refl, sym, ap, _∙_}
-use mathlib.Core.Logic.{_↔_}
 use mathlib.Core.List.{List, [], _∷_, _++_, append-nil, append-assoc}
 use mathlib.Core.Bool.{Bool, true, false, cond, not, _&&_, false≢true}
-use mathlib.Core.Option.{Option, none, some}
-use lib.ListN.{length, take, drop, length-append, length-drop, take-append-drop}
-use lib.Seq.{take-at, drop-at, take-append-le, take-all}
+use mathlib.Core.Option.{some}
+use lib.ListN.{length, take, drop, length-drop, take-append-drop}
+use lib.Seq.{take-at, drop-at, take-append-le}
 use lib.Dec.{eqb, ltb}
-use borrow.Author.Tests.{eqb-true, eqb-false, ltb-true, ltb-false, not-true}
+use borrow.Author.Tests.{eqb-true, eqb-false, ltb-true, ltb-false}
 use Rattle.wire.specs.Those.{those}
 use Rattle.wire.specs.declared.stream.Stream.{Stream}
 use Rattle.captures.specs.Capture.{Packets}
 use Rattle.wire.specs.declared.stream.Stream.the-variants.{Control, Ota, Alexa}
 use Rattle.wire.specs.Stream.{streamNumber}
 use Rattle.packet.specs.Header.{fourBits, inRange, sequenceAfter}
-use Rattle.packet.specs.Reader.{readOf}
 use Rattle.packet.proofs.Headers.{in-range-low}
 use Rattle.wire.specs.Bytes.{AllBytes}
 use Rattle.wire.proofs.ByteLists.{bytes-drop}
@@ -31,13 +29,13 @@ use Rattle.sender_slot.specs.declared.SenderSlot.the-variants.{Idle, Open}
 use Rattle.judge.specs.declared.State.{State}
 use Rattle.sender_slot.specs.Slot.{isIdle}
 use Rattle.judge.specs.Step.{slotIn, idle, allIdle}
-use Rattle.judge_claims.specs.Lawful.{Transaction, Writable, AllWritable, packetsIn, carries, AllKnown, LawfulPackets, Viable}
+use Rattle.judge_claims.specs.Lawful.{Transaction, Writable, AllWritable, packetsIn, carries, LawfulPackets, Viable}
 use Rattle.judge_claims.specs.Inside.{WholeOnes, CutInside, WholeOrCut, whole, cut, isCut, EndsInside, OpenIsInside}
 use Rattle.sender.proofs.Later.{nextSize, nextLast, later}
-use Rattle.judge_claims.proofs.Rest.{InRange, Rest, done, begins, within, advance, rest-empty, isFirstRead, first-then}
-use Rattle.judge_claims.proofs.Runs.{runOf, Tails, Reached, complete, Sound, sound, SentAs, sent-of, sent-rest, idle-slot, lawful-runs, runs-lawful}
-use Rattle.judge_claims.proofs.Continuing.{Good, AllGood, run-good, idle-good, Ending, ending}
-use Rattle.judge_claims.proofs.Right.{idle-when, Goes, viable-goes, goes-viable}
+use Rattle.judge_claims.proofs.Rest.{InRange, Rest, done, begins, within, advance, rest-empty, first-then}
+use Rattle.judge_claims.proofs.Runs.{runOf, Tails, complete, Sound, sound, SentAs, sent-of, sent-rest, idle-slot, lawful-runs, runs-lawful}
+use Rattle.judge_claims.proofs.Continuing.{AllGood, run-good, idle-good, ending}
+use Rattle.judge_claims.proofs.Right.{idle-when, viable-goes, goes-viable}
 
 abbrev calls : ℕ → Transaction → List (List ℕ)
 calls limit t = callsOf limit (t .how) (t .payload) (t .out)

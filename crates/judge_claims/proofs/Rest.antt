@@ -2,18 +2,17 @@
 use Prim.Native.Nat.{ℕ, zero, suc, _+_, _-_, _≤_, _<_}
 use native.Mathlib.Omega.{arith}
 use mathlib.Core.Path.{_≡_, refl, sym, ap, _∙_}
-use mathlib.Core.List.{List, [], _∷_, _++_, append-nil}
+use mathlib.Core.List.{List, [], _∷_, _++_}
 use mathlib.Core.Bool.{Bool, true, false, cond, not, _&&_, _||_, false≢true}
-use mathlib.Core.Option.{Option, none, some}
+use mathlib.Core.Option.{none, some}
 use lib.ListN.{length, take, drop, replicate, length-append, length-take, length-drop, length-replicate}
 use lib.Seq.{take-at, drop-at}
-use lib.Dec.{eqb, leb}
+use lib.Dec.{eqb}
 use borrow.Author.Tests.{eq-eqb, ne-eqb, eqb-true, eqb-false, le-leb, lt-ltb}
 use Rattle.wire.specs.Told.{Told, given, refused}
 use Rattle.wire.specs.Bytes.{AllBytes}
 use Rattle.wire.specs.declared.stream.Stream.{Stream}
-use Rattle.wire.specs.declared.stream.Stream.the-variants.{Control, Ota, Alexa}
-use Rattle.wire.specs.Stream.{streamNumber, isStream, streamOf}
+use Rattle.wire.specs.Stream.{streamNumber, streamOf}
 use Rattle.wire.specs.Limit.{limitFits}
 use Rattle.wire.proofs.ByteLists.{bytes-append, bytes-drop}
 use Rattle.wire.proofs.Streams.{stream-known, stream-back}
@@ -24,12 +23,11 @@ use Rattle.packet.specs.declared.reader.Packet.the-variants.{First, Next, Ack, 
 use Rattle.packet.specs.Header.{fourBits, inRange, headerSize, sequenceAfter}
 use Rattle.packet.specs.Reader.{headIn, readOf}
 use Rattle.packet.proofs.Headers.{in-range-low}
-use Rattle.packet.proofs.Written.{firstPacket, nextPacket, WrittenAs, read-written}
-use Rattle.packet.proofs.Reading.{PayloadWithin, HeadLow, LinesPass, IfGiven, read-passes, first-read, next-read}
-use Rattle.sender.specs.declared.writer.Sending.{Sending}
+use Rattle.packet.proofs.Written.{firstPacket, nextPacket, read-written}
+use Rattle.packet.proofs.Reading.{read-passes, first-read, next-read}
 use Rattle.sender.specs.Piece.{leastRoom, extended, sizeFor}
 use Rattle.sender.specs.Writer.{roomFits, argumentsFit}
-use Rattle.sender_claims.specs.Calls.{callsOf, Takes}
+use Rattle.sender_claims.specs.Calls.{callsOf}
 use Rattle.sender.proofs.Largest.{size-le, size-some}
 use Rattle.sender.proofs.Guard.{room-low, range-facts}
 use Rattle.sender_claims.proofs.CallsGiveAll.{calls-are}
@@ -39,7 +37,7 @@ use Rattle.judge.specs.declared.State.{State}
 use Rattle.sender_slot.specs.Slot.{same, fitsPiece, slotFor, firstStep, nextFits, nextStep, slotStep, isIdle}
 use Rattle.judge.specs.Step.{slotIn, withSlot, stepOf}
 use Rattle.judge_claims.specs.Lawful.{Transaction, Writable, acknowledges}
-use Rattle.sender.proofs.Later.{nextSize, nextLast, later, later-fuel, packets-are}
+use Rattle.sender.proofs.Later.{later, later-fuel, packets-are}
 
 -- ---- the packets of a transaction
 

@@ -1,7 +1,7 @@
 -- The judge is right about every list of packets, by the index of the packet that decides.
-use Prim.Native.Nat.{ℕ, zero, suc, _+_, _≤_, _<_}
+use Prim.Native.Nat.{ℕ, zero, suc, _+_}
 use native.Mathlib.Omega.{arith}
-use native.Mathlib.Nat.{add-suc, suc-add, add-zero}
+use native.Mathlib.Nat.{add-zero}
 use mathlib.Core.Path.{_≡_, refl, sym, ap, _∙_}
 use mathlib.Core.Logic.{_↔_}
 use mathlib.Core.List.{List, [], _∷_, _++_}
@@ -18,7 +18,7 @@ use Rattle.judge.specs.Capture.{Answer, lawful, open·ended, unlawful}
 use Rattle.judge_claims.specs.Lawful.{LawfulPackets, Viable}
 use Rattle.judge_claims.proofs.Rest.{InRange, never-some}
 use Rattle.judge_claims.proofs.Runs.{runOf, lawful-runs, runs-lawful}
-use Rattle.judge_claims.proofs.Continuing.{run-append, Ends, taken-ends, packets-append}
+use Rattle.judge_claims.proofs.Continuing.{run-append, taken-ends, packets-append}
 
 -- ---- the answer, with the index of a packet in the place of its place
 

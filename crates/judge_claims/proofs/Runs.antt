@@ -1,38 +1,34 @@
 -- The judge over a list of packets: it takes all of them, and ends with nothing open, exactly where they are lawful.
-use Prim.Native.Nat.{ℕ, zero, suc, _+_, _-_, _/_, _%_, _≤_, _<_}
+use Prim.Native.Nat.{ℕ, _+_, _-_, _≤_}
 use native.Mathlib.Omega.{arith}
 use mathlib.Core.Path.{_≡_, refl, sym, ap, _∙_}
-use mathlib.Core.List.{List, [], _∷_, _++_, append-nil, append-assoc}
-use mathlib.Core.Bool.{Bool, true, false, cond, not, _&&_, _||_, false≢true}
+use mathlib.Core.List.{List, [], _∷_, _++_, append-nil}
+use mathlib.Core.Bool.{Bool, true, false, not, _||_, false≢true}
 use mathlib.Core.Option.{Option, none, some}
-use lib.ListN.{length, getD, take, drop}
-use lib.Dec.{eqb}
-use borrow.Author.Tests.{eq-eqb, ne-eqb, eqb-true, eqb-false}
+use borrow.Author.Tests.{eq-eqb, ne-eqb, eqb-true}
 use Rattle.wire.specs.Those.{those}
 use Rattle.wire.specs.Told.{Told, given, refused}
 use Rattle.captures.specs.Capture.{Packets}
 use Rattle.wire.specs.Bytes.{AllBytes}
 use Rattle.wire.specs.declared.stream.Stream.{Stream}
 use Rattle.wire.specs.declared.stream.Stream.the-variants.{Control, Ota, Alexa}
-use Rattle.wire.specs.Stream.{streamNumber, isStream, streamOf}
+use Rattle.wire.specs.Stream.{streamNumber}
 use Rattle.wire.proofs.Streams.{number-back}
 use Rattle.wire.proofs.Tests.{and-left, and-right, or-true}
-use Rattle.packet.specs.declared.reader.Head.{Head}
 use Rattle.packet.specs.declared.reader.Packet.{Packet}
 use Rattle.packet.specs.declared.reader.Packet.the-variants.{First, Next, Ack, Nack}
-use Rattle.packet.specs.Header.{fourBits, streamBits, isOf}
+use Rattle.packet.specs.Header.{streamBits, isOf}
 use Rattle.packet.specs.Reader.{headIn, readOf}
-use Rattle.packet.proofs.Reading.{LinesPass, read-passes, empty-refused}
+use Rattle.packet.proofs.Reading.{read-passes, empty-refused}
 use Rattle.sender.specs.Piece.{leastRoom}
-use Rattle.sender_claims.specs.Calls.{callsOf}
 use Rattle.sender.proofs.Guard.{room-low}
 use Rattle.sender_slot.specs.declared.SenderSlot.{SenderSlot}
-use Rattle.sender_slot.specs.declared.SenderSlot.the-variants.{Idle, Open}
+use Rattle.sender_slot.specs.declared.SenderSlot.the-variants.{Idle}
 use Rattle.judge.specs.declared.State.{State}
 use Rattle.sender_slot.specs.Slot.{slotStep}
 use Rattle.judge.specs.Step.{slotIn, withSlot, idle, placed, stepBy, stepOf, after}
-use Rattle.judge_claims.specs.Lawful.{Transaction, Writable, AllWritable, packetsIn, acknowledges, isAck, carries, known, AllKnown, LawfulPackets}
-use Rattle.judge_claims.proofs.Rest.{InRange, Rest, done, begins, within, Taken, advance, step-back, rest-empty}
+use Rattle.judge_claims.specs.Lawful.{Transaction, AllWritable, packetsIn, acknowledges, isAck, carries, known, AllKnown, LawfulPackets}
+use Rattle.judge_claims.proofs.Rest.{InRange, Rest, done, begins, within, advance, step-back, rest-empty}
 
 -- ---- a run
 

@@ -8,7 +8,6 @@ use lib.ListN.{length, getD, replicate}
 use Rattle.wire.specs.Told.{given, refused}
 use Rattle.wire.specs.declared.stream.Stream.the-variants.{Control, Ota}
 use Rattle.slot.specs.declared.Slot.{Slot}
-use Rattle.slot.specs.declared.answer.Accepted.{Accepted}
 use Rattle.slot.specs.declared.answer.Accepted.the-variants.{Taken, Finished, Acked}
 use Rattle.slot.specs.Slot.{idles, slotCount, lawful}
 use Rattle.receiver.specs.Receiver.{PacketCall, call, acceptOf}

@@ -11,7 +11,7 @@ use lib.Dec.{eqb}
 use borrow.Author.Tests.{eqb-true, not-false}
 use Rattle.wire.proofs.Stores.{sets-step, sets-end, part-stored}
 use Rattle.outbox.specs.declared.format.Format.{Format}
-use Rattle.outbox.specs.Format.{Known, isOne, formatOf, headSize, newBytes, firstPlace}
+use Rattle.outbox.specs.Format.{isOne, formatOf, headSize, newBytes, firstPlace}
 use Rattle.outbox.specs.Reader.{Answer, HandedRecord, given, refused, refusedAt, otherVersion, readAll, firstRefusal, walkOf}
 use Rattle.outbox_claims.specs.Claims.{usable, recordsOf, allMoved, fromPlace, ReadsAsAlone}
 use Rattle.outbox.proofs.Versions.{known-small}

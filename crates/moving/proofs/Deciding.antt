@@ -1,5 +1,5 @@
 -- Laws of the call: what it is where the file is whole.
-use Prim.Native.Nat.{ℕ, zero, suc, _+_, _≤_, _<_}
+use Prim.Native.Nat.{ℕ, zero, suc, _+_, _≤_}
 use mathlib.Core.Path.{_≡_, refl, sym, ap, _∙_}
 use mathlib.Core.Bool.{Bool, true, false, not}
 use mathlib.Core.List.{List, [], _∷_, _++_}
@@ -12,7 +12,7 @@ use borrow.Author.Tests.{le-ltb, ltb-false, eqb-true, eq-eqb, ne-eqb, not-false}
 use Rattle.wire.specs.Told.{line, table}
 use Rattle.outbox.specs.declared.format.Format.{Format}
 use Rattle.outbox.specs.Format.{Known, one, two, formatOf, newBytes, firstPlace}
-use Rattle.outbox.specs.Reader.{Answer, given, refused, refusedAt, Item, FoundRecord, found, end, HandedRecord, onward, otherVersion, readOf, readings, readAll, walkOf}
+use Rattle.outbox.specs.Reader.{Answer, given, refused, refusedAt, Item, found, end, HandedRecord, onward, otherVersion, readOf, readings, readAll, walkOf}
 use Rattle.outbox.specs.Writer.{Stored, stored, storedAt, ifWhole}
 use Rattle.outbox.proofs.Record.{clash, found-stands}
 use Rattle.outbox.proofs.Place.{read-record}

@@ -13,20 +13,20 @@ use Rattle.wire.proofs.Stores.{first-bytes}
 use Rattle.outbox.specs.declared.format.Format.{Format}
 use Rattle.outbox.specs.Format.{versionOne, versionTwo, Known, isOne, formatOf, headSize, newBytes, firstPlace}
 use Rattle.outbox.specs.Format as format
-use Rattle.outbox.specs.Reader.{given, otherVersion, readAll, walkOf}
+use Rattle.outbox.specs.Reader.{given, readAll, walkOf}
 use Rattle.outbox.specs.Writer.{storedAt}
 use Rattle.outbox.proofs.Place.{opened}
 use Rattle.outbox.proofs.Walk.{whole-version}
 use Rattle.outbox.proofs.Versions.{format-known}
 use Rattle.outbox_claims.specs.Claims.{Lawful, Entry, AllTaken}
-use Rattle.outbox_claims.specs.Versions.{Version, one, two, sizeOf}
+use Rattle.outbox_claims.specs.Versions.{one, two, sizeOf}
 use Rattle.outbox_claims.proofs.Run.{RecordRun, all-run, walk-is}
 use Rattle.outbox_claims.proofs.Contents.{contents}
 use Rattle.outbox_claims.proofs.Versions.{lawful-one, lawful-two}
 use Rattle.outbox_claims.proofs.ReadsAsAlone.{own-version}
 use Rattle.moving.specs.Moves.{recordsIn, overFrom, movedTo, moveOf}
 use Rattle.moving.proofs.Deciding.{first-is, known-same}
-use Rattle.moving_claims.specs.Claims.{entriesOf, recordsOf, AllShort, Movable, Moves, FilesMove}
+use Rattle.moving_claims.specs.Claims.{entriesOf, recordsOf, AllShort, Moves, FilesMove}
 use Rattle.moving_claims.proofs.Rebuilt.{written, contents-long, rebuilt, taken, within, own-short, made-whole, made-entries}
 
 -- a call on a whole file that can make the journey, with room

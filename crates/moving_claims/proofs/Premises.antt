@@ -4,7 +4,7 @@ use mathlib.Core.Path.{_≡_, ap}
 use mathlib.Core.List.{List, [], _∷_}
 use native.Mathlib.Omega.{arith}
 use Rattle.outbox.specs.declared.format.Format.{Format}
-use Rattle.outbox.specs.Format.{versionOne, Known, one, two, formatOf}
+use Rattle.outbox.specs.Format.{formatOf}
 use Rattle.outbox.specs.Reader.{given, readAll, walkOf}
 use Rattle.outbox.proofs.Walk.{whole-version}
 use Rattle.outbox.proofs.Versions.{known-small, format-known}

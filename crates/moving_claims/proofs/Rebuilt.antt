@@ -1,5 +1,5 @@
 -- A whole file is what its records make, and records make a whole file.
-use Prim.Native.Nat.{ℕ, zero, suc, _+_, _-_, _≤_, _<_}
+use Prim.Native.Nat.{ℕ, suc, _+_, _-_, _≤_}
 use mathlib.Core.Path.{_≡_, refl, sym, ap, _∙_}
 use mathlib.Core.List.{List, [], _∷_, _++_, append-assoc}
 use native.Mathlib.Omega.{arith}
@@ -9,11 +9,10 @@ use borrow.Author.Tests.{le-ltb, ltb-false}
 use mathlib.Core.Bool.{Bool, true, false, cond}
 use lib.Dec.{ltb}
 use Rattle.wire.specs.Bytes.{AllBytes}
-use Rattle.wire.specs.Stream.{isStream}
 use Rattle.outbox.specs.declared.format.Format.{Format}
 use Rattle.outbox.specs.Format.{headSize, bytesOf, recordBytes, newBytes}
-use Rattle.outbox.specs.Reader.{Answer, Item, given, refused, refusedAt, found, end, HandedRecord, lengthIn, recordAt, readAll, firstRefusal, walkOf}
-use Rattle.outbox_claims.specs.Claims.{Lawful, Entry, EntryTaken, AllTaken, after, expected}
+use Rattle.outbox.specs.Reader.{Answer, Item, given, refused, refusedAt, found, end, HandedRecord, lengthIn, readAll, firstRefusal, walkOf}
+use Rattle.outbox_claims.specs.Claims.{Lawful, Entry, AllTaken, after, expected}
 use Rattle.outbox_claims.specs.Versions.{sizeOf}
 use Rattle.outbox.proofs.Record.{clash, Stands, found-stands, found-spans}
 use Rattle.outbox.proofs.Place.{found-within}

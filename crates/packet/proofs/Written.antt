@@ -1,25 +1,24 @@
 -- The reader inverted: a packet of bytes that is read is the one with the fields that were read of it.
-use Prim.Native.Nat.{ℕ, zero, suc, _+_, _*_, _-_, _/_, _%_, _≤_, _<_}
+use Prim.Native.Nat.{ℕ, suc, _+_, _*_, _-_, _/_, _%_, _≤_, _<_}
 use native.Mathlib.Omega.{arith}
 use native.Mathlib.Nat.{div-div-eq-div-mul, div-add-mod'}
 use mathlib.Core.Path.{_≡_, refl, sym, ap, _∙_}
-use mathlib.Core.List.{List, [], _∷_, _++_}
-use mathlib.Core.Bool.{Bool, true, false, cond, not, _&&_, _||_, false≢true}
+use mathlib.Core.List.{List, _∷_, _++_}
+use mathlib.Core.Bool.{Bool, true, false, cond, not, _&&_, false≢true}
 use lib.ListN.{length, getD, drop, length-drop}
 use lib.Seq.{drop-cons}
-use lib.Dec.{eqb, ltb}
-use borrow.Author.Tests.{eqb-true, eqb-false, ltb-false, not-false}
+use lib.Dec.{eqb}
+use borrow.Author.Tests.{eqb-true, eqb-false, not-false}
 use Rattle.wire.specs.Told.{given, refused}
 use Rattle.wire.specs.Bytes.{AllBytes, pairOf, bit}
-use Rattle.wire.specs.Stream.{streamNumber, isStream, streamOf}
+use Rattle.wire.specs.Stream.{streamNumber, isStream}
 use Rattle.wire.proofs.ByteLists.{byte-low}
 use Rattle.wire.proofs.Streams.{number-back}
 use Rattle.wire.proofs.Tables.{by-table}
-use Rattle.packet.specs.declared.reader.Head.{Head}
 use Rattle.packet.specs.declared.reader.Packet.{Packet}
 use Rattle.packet.specs.declared.reader.Packet.the-variants.{First, Next, Ack, Nack}
 use Rattle.packet.specs.Header.{reservedByte, typeFirst, typeContinuation, typeLast, typeControl, headerSize, lengthPlace, firstByte, secondByte, streamBits, idBits, sequenceBits, typeBits, ackBit, extenderBit}
-use Rattle.packet.specs.Reader.{fieldsOf, isFirst, isControl, contentOf, lengthAt, lines, readOf}
+use Rattle.packet.specs.Reader.{fieldsOf, contentOf, lengthAt, lines, readOf}
 use Rattle.packet.proofs.Reading.{lengthIn, IfGiven}
 
 -- ---- the two forms of a packet, by its fields

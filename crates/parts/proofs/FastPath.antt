@@ -6,12 +6,12 @@ use mathlib.Core.List.{List, [], _∷_, _++_}
 use native.Mathlib.Nat.{add-zero, zero-add, suc-add, add-assoc, mod-add-mod, mod-eq-of-lt}
 use native.Mathlib.Numerals.{add-one}
 use native.Mathlib.Omega.{arith}
-use lib.ListN.{length, take, drop, getD, set, length-append, length-set, take-append-drop, drop-of-length-le}
+use lib.ListN.{length, take, drop, getD, set, length-append, take-append-drop}
 use lib.Seq.{sets, length-sets, drop-cons, drop-drop}
 use lib.Dec.{ltb, leb}
 use borrow.Author.Tests.{lt-ltb, ltb-true, leb-true, not-true}
 use Rattle.wire.specs.Scan.{anyInRange, Copied}
-use Rattle.wire.proofs.Runs.{any-first, copied-length, part-long, part-none, part-length, part-stored}
+use Rattle.wire.proofs.Runs.{any-first, part-long, part-none, part-length, part-stored}
 use Rattle.wire.proofs.Stores.{sets-append}
 use Rattle.wire.proofs.Tests.{and-left, and-right}
 use Rattle.framing.specs.declared.mark.Kind.{Kind}

@@ -1,14 +1,14 @@
 -- Laws of the loop that fills an output, and of lawful states.
 use Prim.Native.Nat.{ℕ, zero, suc, _+_, _-_, _/_, _<_, _≤_, zero-le}
-use mathlib.Core.Path.{_≡_, refl, sym, ap, _∙_}
+use mathlib.Core.Path.{_≡_, refl, ap, _∙_}
 use mathlib.Core.List.{List, [], _∷_}
-use mathlib.Core.Bool.{Bool, true, false, cond, not}
+use mathlib.Core.Bool.{Bool, true, false, cond}
 use native.Mathlib.Nat.{add-zero, zero-add, add-assoc, add-suc, suc-add, sub-zero}
 use native.Mathlib.Numerals.{add-one}
 use native.Mathlib.Omega.{arith}
 use lib.ListN.{length, drop, set, length-set, length-drop}
 use lib.Seq.{drop-drop}
-use lib.Dec.{leb, ltb}
+use lib.Dec.{ltb}
 use Rattle.wire.specs.Told.{given}
 use Rattle.framing.specs.declared.mark.Kind.{Kind}
 use Rattle.framing.specs.declared.mark.Kind.the-variants.{Start, End, Escape, Plain}
@@ -17,7 +17,7 @@ use Rattle.parts.specs.declared.state.Stage.the-variants as stage
 use Rattle.parts.specs.declared.state.PartProgress.{PartProgress}
 use Rattle.parts.specs.State.{ended}
 use Rattle.parts.specs.Byte.{Byte, nothing, byte, closing, payloadByte, bodyByte, stageByte, pendingByte, byteOf}
-use Rattle.parts.specs.Fill.{Filled, stopped, andOn, fillOf}
+use Rattle.parts.specs.Fill.{stopped, andOn, fillOf}
 use Rattle.parts.specs.Writer.{filled, wrote, count}
 use Rattle.parts.specs.FastPath.{resumed, PartOnward}
 

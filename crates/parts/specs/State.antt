@@ -1,7 +1,6 @@
 -- The state of a frame that is written by parts: its link's limit, which is the largest payload, and its progress.
 use Prim.Native.Nat.{ℕ, _-_}
 use mathlib.Core.Bool.{Bool, true, false, not, _&&_, _||_}
-use lib.ListN.{length}
 use lib.Dec.{leb, ltb}
 use Rattle.wire.specs.Limit.{limitFits}
 use Rattle.framing.specs.declared.mark.Kind.the-variants.{Plain}

@@ -1,22 +1,22 @@
 -- What a call leaves of a frame: an output filled, and the table before it.
-use Prim.Native.Nat.{ℕ, zero, suc, _+_, _-_, _<_, _≤_, zero-le}
-use mathlib.Core.Path.{_≡_, refl, sym, ap, _∙_}
+use Prim.Native.Nat.{ℕ, zero, suc, _+_, _-_, _≤_, zero-le}
+use mathlib.Core.Path.{_≡_, refl, ap, _∙_}
 use mathlib.Core.Bool.{Bool, true, false, cond, not}
 use mathlib.Core.List.{List, [], _∷_, _++_}
-use native.Mathlib.Nat.{zero-add, add-zero, suc-add}
+use native.Mathlib.Nat.{zero-add, suc-add}
 use native.Mathlib.Numerals.{one-add}
 use native.Mathlib.Omega.{arith}
-use lib.ListN.{length, take, drop, length-append, length-take}
+use lib.ListN.{length, take, drop, length-append}
 use lib.Dec.{ltb, eqb}
 use borrow.Author.Tests.{lt-ltb, le-ltb, le-leb, ne-eqb}
-use Rattle.wire.specs.Told.{given, refused}
+use Rattle.wire.specs.Told.{refused}
 use Rattle.wire.specs.Limit.{limitFits}
 use Rattle.wire.proofs.Stores.{first-bytes}
 use Rattle.framing.specs.Mark.{isMark}
 use Rattle.parts.specs.declared.state.PartProgress.{PartProgress}
 use Rattle.parts.specs.State.{lawful, missing}
 use Rattle.parts.specs.Byte.{Byte}
-use Rattle.parts.specs.Fill.{Filled, andOn, fillOf}
+use Rattle.parts.specs.Fill.{andOn, fillOf}
 use Rattle.parts.specs.Writer.{PartWrote, wrote, filled, partOf}
 use Rattle.parts_claims.specs.Run.{PartCall, part, beyond, offeredBy, lentBy, takenBy, writtenBy}
 use Rattle.parts_claims.proofs.Left.{leftOf, firstsIn, PartFits, SameFrame, Emits, ends, starves, own, takes, view}

@@ -1,15 +1,14 @@
 -- The claim of specs/Premises.antt.
-use Prim.Native.Nat.{ℕ, _+_, _≤_}
-use mathlib.Core.Path.{_≡_, refl}
-use mathlib.Core.List.{List, [], _∷_}
+use mathlib.Core.Path.{refl}
+use mathlib.Core.List.{[], _∷_}
 use native.Mathlib.Numerals.{one-add}
 use native.Mathlib.Omega.{arith}
 use lib.ListN.{length}
 use borrow.Author.Tests.{le-leb}
 use Rattle.wire.proofs.Limits.{range-limit}
 use Rattle.frame_writer.proofs.Sending.{no-mark, sendable-when}
-use Rattle.parts_claims.specs.Run.{PartCall, part, beyond, fruitful}
-use Rattle.parts_claims.specs.Premises.{OfferingWhen, AllSome, FruitfulWhen, PartFactsSuffice}
+use Rattle.parts_claims.specs.Run.{part, beyond, fruitful}
+use Rattle.parts_claims.specs.Premises.{OfferingWhen, FruitfulWhen, PartFactsSuffice}
 
 offering-when : OfferingWhen
 offering-when limit s offered out some most byte plain fits missing lends =

@@ -1,5 +1,5 @@
 -- The claim of specs/Stopping.antt.
-use Prim.Native.Nat.{ℕ, zero, suc, _+_, _/_, _<_, _≤_}
+use Prim.Native.Nat.{ℕ, suc, _+_, _/_, _<_, _≤_}
 use mathlib.Core.Path.{_≡_, refl, sym, ap, _∙_}
 use mathlib.Core.Bool.{Bool, true, false, cond, not, _&&_, false≢true}
 use mathlib.Core.List.{List, [], _∷_}
@@ -16,9 +16,9 @@ use Rattle.parts.specs.declared.state.PartProgress.{PartProgress}
 use Rattle.parts.specs.State.{isPayload, isDone, inPayload, ended}
 use Rattle.parts.specs.Byte.{Byte, nothing, byte, payloadByte, bodyByte, closing, stageByte, pendingByte, byteOf}
 use Rattle.parts.specs.Fill.{Filled, stopped, andOn, fillOf}
-use Rattle.parts.specs.Writer.{PartCount, count, filled}
+use Rattle.parts.specs.Writer.{PartCount, count}
 use Rattle.parts.proofs.Filling.{byte-takes}
-use Rattle.parts_claims.specs.Stopping.{Offering, Stops, full, over, wants, Stopped, PartsStop}
+use Rattle.parts_claims.specs.Stopping.{Stops, full, over, wants, PartsStop}
 use Rattle.parts_claims.proofs.Filled.{call-filled}
 
 -- ---- why there is no byte

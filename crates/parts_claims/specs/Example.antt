@@ -1,7 +1,7 @@
 -- Calls with every byte and state written out, at a limit of 8: each refusal, and a frame of one mark that goes out in pieces.
 use Prim.Native.Nat.{ℕ}
 use mathlib.Core.Path.{_≡_}
-use mathlib.Core.Bool.{Bool, true, false}
+use mathlib.Core.Bool.{true, false}
 use mathlib.Core.List.{List, [], _∷_}
 use lib.ListN.{replicate}
 use Rattle.wire.specs.Told.{Told, given, refused}
@@ -11,7 +11,6 @@ use Rattle.frame_writer.specs.Sending.{FrameToSend, Sendable, sent}
 use Rattle.parts.specs.declared.state.Stage.{Stage}
 use Rattle.parts.specs.declared.state.Stage.the-variants as stage
 use Rattle.parts.specs.declared.state.PartProgress.{PartProgress}
-use Rattle.parts.specs.State.{ended}
 use Rattle.parts.specs.Writer.{PartCount, count, wrote, beginOf, partOf}
 use Rattle.parts_claims.specs.Run.{PartCall, part, beyond, PartRun, runOf}
 

@@ -15,8 +15,7 @@ use Rattle.joining.specs.Joined.{joinedOf}
 use Rattle.field.specs.Signed.{extended}
 use Rattle.field_writer.specs.Writer.{messageBytes}
 use Rattle.field_writer.specs.Message.{badMember}
-use Rattle.text_writer.specs.declared.TextFault.{TextFault}
-use Rattle.text_writer.specs.declared.TextFault.the-variants.{None, At}
+use Rattle.text_writer.specs.declared.TextFault.the-variants.{None}
 use Rattle.text_writer.specs.Texts.{firstFault, faulted}
 use Rattle.walk.specs.Gathered.{mostTransports}
 use Rattle.control.specs.declared.response.ResponsePayload.{ResponsePayload}

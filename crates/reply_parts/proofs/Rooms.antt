@@ -5,7 +5,6 @@ use mathlib.Core.Path.{_≡_, sym, ap, _∙_}
 use borrow.Author.Tests.{lt-ltb, le-ltb}
 use Rattle.field_writer.specs.declared.message.Room.the-variants.{Left, Short}
 use Rattle.field_writer.specs.Message.{lessRoom}
-use Rattle.field_writer.proofs.Messages.{room-left}
 
 pub room-over : (limit n : ℕ) → limit < n → Short ≡ lessRoom n (Left limit)
 room-over limit n h = rw (lt-ltb limit n h)

@@ -6,9 +6,7 @@ use lib.Seq.{sets}
 use lib.Dec.{ltb}
 use Rattle.wire.specs.Told.{ToldMore, given, refused, line, table, WrittenOf, written}
 use Rattle.field_writer.specs.Writer.{Field, scalar, text, messageBytes}
-use Rattle.known_fields.specs.declared.Schema.the-variants as Schema
 use Rattle.known_fields.specs.Schema.{componentNameField, componentOffsetField, segmentSizeField, segmentSignatureField}
-use Rattle.firmware.specs.declared.segment.UpdateComponentSegment.{UpdateComponentSegment}
 use Rattle.segment_writer.specs.declared.SegmentWrote.{SegmentWrote}
 use Rattle.segment_writer.specs.declared.SegmentWrote.the-variants as SegmentWrote
 use Rattle.text_writer.specs.Texts.{firstFault, faulted}

@@ -1,20 +1,19 @@
 -- The writer's packets for a transaction, without places: the first, and those for the bytes that are left after it.
-use Prim.Native.Nat.{ℕ, zero, suc, _+_, _-_, _/_, _%_, _≤_, _<_}
+use Prim.Native.Nat.{ℕ, zero, suc, _+_, _-_, _≤_, _<_}
 use native.Mathlib.Omega.{arith}
-use mathlib.Core.Path.{_≡_, refl, sym, ap, _∙_}
-use mathlib.Core.List.{List, [], _∷_, _++_, map}
+use mathlib.Core.Path.{_≡_, refl, ap, _∙_}
+use mathlib.Core.List.{List, [], _∷_, map}
 use mathlib.Core.Bool.{Bool, true, false, cond, _&&_}
-use lib.ListN.{length, take, drop, length-take, length-drop}
+use lib.ListN.{length, take, drop, length-drop}
 use lib.Seq.{drop-drop}
 use lib.Dec.{eqb}
 use borrow.Author.Tests.{eq-eqb, ne-eqb, eqb-true, eqb-false}
-use Rattle.packet.specs.Header.{fourBits, reservedByte, typeFirst, typeContinuation, typeLast, firstByte, secondByte, sequenceAfter}
+use Rattle.packet.specs.Header.{fourBits, sequenceAfter}
 use Rattle.wire.proofs.Parts.{length-part}
 use Rattle.packet.proofs.Written.{firstPacket, nextPacket}
-use Rattle.sender.specs.declared.piece.Piece.{Piece}
 use Rattle.sender.specs.declared.writer.Sending.{Sending}
-use Rattle.sender.specs.Piece.{leastRoom, extended, isFirst, sizeFor, piecesFrom, piecesOf}
-use Rattle.sender.specs.Writer.{headerBytes, isLast, packetOf, packetsOf}
+use Rattle.sender.specs.Piece.{leastRoom, extended, sizeFor, piecesFrom}
+use Rattle.sender.specs.Writer.{headerBytes, packetOf, packetsOf}
 use Rattle.sender.proofs.Largest.{size-le, size-some}
 
 module _ (w : Sending) (m : List ℕ) where

@@ -8,7 +8,7 @@ use mathlib.Core.Option.{some}
 use lib.ListN.{length, take}
 use lib.Seq.{sets, length-sets}
 use lib.Dec.{eqb}
-use borrow.Author.Tests.{eq-eqb, ne-eqb, eqb-true, eqb-false, le-ltb, le-leb}
+use borrow.Author.Tests.{eq-eqb, ne-eqb, eqb-false, le-ltb, le-leb}
 use Rattle.wire.specs.Limit.{limitFits}
 use Rattle.wire.specs.Told.{given}
 use Rattle.wire.proofs.Limits.{range-limit}

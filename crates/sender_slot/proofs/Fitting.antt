@@ -1,14 +1,14 @@
 -- A piece that fits is no more than what is left.
 use Prim.Native.Nat.{ℕ, _≤_}
 use mathlib.Core.Path.{_≡_}
-use mathlib.Core.Bool.{Bool, true, false, _&&_}
+use mathlib.Core.Bool.{Bool, true, false}
 use lib.Dec.{eqb}
 use borrow.Author.Tests.{eqb-true}
 use Rattle.wire.proofs.Tests.{and-left, and-right}
 use Rattle.packet.specs.declared.reader.Head.{Head}
 use Rattle.sender.specs.Piece.{fits, sizeFor}
 use Rattle.sender.proofs.Largest.{largest-le}
-use Rattle.sender_slot.specs.Slot.{same, fitsPiece, nextFits}
+use Rattle.sender_slot.specs.Slot.{fitsPiece, nextFits}
 
 pub fits-small : (room left start len : ℕ) (first ack : Bool) → fitsPiece room first left ack start len ≡ true → len ≤ left
 unfolding fitsPiece sizeFor

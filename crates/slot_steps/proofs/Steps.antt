@@ -10,7 +10,6 @@ use lib.ListN.{length, getD, set}
 use lib.Dec.{eqb}
 use borrow.Author.Tests.{eqb-true, eqb-false, leb-false, not-true, not-false}
 use Rattle.wire.specs.Those.{any}
-use Rattle.wire.specs.Bytes.{bit}
 use Rattle.wire.specs.declared.stream.Stream.{Stream}
 use Rattle.wire.proofs.Tests.{and-left, and-right}
 use Rattle.wire.proofs.Tables.{by-table}
@@ -22,8 +21,8 @@ use Rattle.packet.proofs.Headers.{bit-low}
 use Rattle.packet.proofs.Reading.{HeadLow, PayloadWithin}
 use Rattle.slot.specs.declared.Slot.{Slot}
 use Rattle.slot_steps.specs.declared.PayloadPlace.{PayloadPlace}
-use Rattle.slot.specs.Slot.{opens, wants, idle, isOpen, isIdle, lawfulSlot, allLawful, anyOpen, anyIdle, distinct, slotsEach, laneStart, laneOf}
-use Rattle.slot_steps.specs.Step.{Step, step, finish, hold, dropBy, firstStep, offTotal, lines, nextStep, further, placeWhere, atPlace, openPlace, orElse, firstPlace, actOf}
+use Rattle.slot.specs.Slot.{opens, idle, isOpen, isIdle, lawfulSlot, allLawful, anyOpen, anyIdle, distinct, slotsEach, laneStart, laneOf}
+use Rattle.slot_steps.specs.Step.{Step, finish, hold, dropBy, firstStep, offTotal, lines, nextStep, further, placeWhere, openPlace, orElse, firstPlace, actOf}
 use Rattle.slot_steps.specs.Fit.{InsidePart, Fit, ActFits, Own, ActOwns, Small}
 use Rattle.slot_steps.proofs.Each.{EachStep, first-each, next-each, at-each}
 use Rattle.slot.proofs.Lanes.{by-four, lane-other}

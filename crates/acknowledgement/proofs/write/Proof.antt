@@ -9,9 +9,6 @@ use borrow.Author.Needs.{needs}
 use Rattle.acknowledgement.proofs.write.Statement.{statement}
 use Rattle.acknowledgement.proofs.write.Tie as tie
 
-in-range-requires : tie.Need-in-range-requires
-in-range-requires c κs = search needs
-
 returns : tie.Need-returns
 unfolding ackOf
 returns c = rw (← c .before .in-range .ensures, c .if1 .taken)
@@ -28,9 +25,6 @@ put-requires c κs =
     let low = in-range-low (a .stream) (a .id) (a .sequence) e in
     (omega arith, low .0, low .1, low .2)
 
-same-length : tie.Need-same-length
-same-length c = search needs
-
 returns-3 : tie.Need-returns-3
 unfolding ackOf
 returns-3 c =
@@ -38,5 +32,4 @@ returns-3 c =
     rw (← s .before .before .in-range .ensures, s .before .if1 .left, le-ltb _ _ (s .if2 .left), c .before .before .put .ensures)
 
 pub write-spec : {M : Type 1} → statement M
-write-spec =
-    tie.close (tie.spec in-range-requires returns returns-2 put-requires same-length returns-3)
+write-spec = tie.close (tie.spec (λ c κs. search needs) returns returns-2 put-requires (λ c. search needs) returns-3)

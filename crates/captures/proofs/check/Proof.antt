@@ -17,26 +17,11 @@ Inv-loop capture at₀ at = PacketWalk capture (checkedOf capture) at (λ ps. gi
 abbrev μ-loop : tie.MeasureT-loop
 μ-loop capture at₀ at = length capture - at
 
-other-version-requires : tie.Need-other-version-requires Inv-loop μ-loop
-other-version-requires c κs = search needs
-
 returns : tie.Need-returns Inv-loop μ-loop
 returns c = sym (check-refused _ (sym (c .before .other-version .ensures) ∙ c .if1 .taken))
 
 loop-holds : tie.Need-loop-holds Inv-loop μ-loop
 loop-holds c = check-begins _ (sym (c .before .other-version .ensures) ∙ c .if1 .left)
-
-sub-front-of : tie.Need-sub-front-of Inv-loop μ-loop
-sub-front-of c = search needs
-
-part-front-of-start : tie.Need-part-front-of-start Inv-loop μ-loop
-part-front-of-start c = search needs
-
-part-front-of-end : tie.Need-part-front-of-end Inv-loop μ-loop
-part-front-of-end c = search needs
-
-front-of-requires : tie.Need-front-of-requires Inv-loop μ-loop
-front-of-requires c κs = search needs
 
 -- what was found is what stands there
 stands : (c : tie.After-front-of Inv-loop μ-loop)
@@ -45,17 +30,11 @@ stands c =
     let l = c .before .before .before in
     c .front-of .ensures ∙ ap frontOf (rest-lent (now (l .before .before .before .before .args .capture)) (l .loop .at))
 
-enum-known-found : tie.Need-enum-known-found Inv-loop μ-loop
-enum-known-found c = search needs
-
 returns-2 : tie.Need-returns-2 Inv-loop μ-loop
 returns-2 c =
     let f = c .before .before .before in
     let t = f .before .before in
     sym (walk-stops _ (t .before .loop .inv) (t .loop-test .taken) _ (sym (stands f) ∙ ap frontTold (c .before .found .given .1)))
-
-enum-known-found-2 : tie.Need-enum-known-found-2 Inv-loop μ-loop
-enum-known-found-2 c = search needs
 
 -- the packet of this turn
 stood : (c : tie.After-known-told2 Inv-loop μ-loop)
@@ -91,21 +70,6 @@ returns-3 c = sym (walk-ends _ (c .before .loop .inv) (c .loop-test .left))
 pub check-spec : {M : Type 1} → statement M
 check-spec =
     tie.close
-    (tie.spec
-    Inv-loop
-    μ-loop
-    other-version-requires
-    returns
-    loop-holds
-    sub-front-of
-    part-front-of-start
-    part-front-of-end
-    front-of-requires
-    enum-known-found
-    returns-2
-    enum-known-found-2
-    add-at
-    add-at-2
-    loop-less
-    loop-again
-    returns-3)
+    (tie.spec Inv-loop μ-loop (λ c κs. search needs) returns loop-holds (λ c. search needs) (λ c. search needs)
+    (λ c. search needs) (λ c κs. search needs) (λ c. search needs) returns-2 (λ c. search needs) add-at add-at-2
+    loop-less loop-again returns-3)

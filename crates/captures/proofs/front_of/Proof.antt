@@ -1,5 +1,4 @@
 use mathlib.Core.Path.{sym}
-use denote.Ref.{now}
 use Rattle.captures.proofs.Walking.{field-cut, zero-length, packet-cut, packet-whole}
 use borrow.Author.Needs.{needs}
 use Rattle.captures.proofs.front_of.Statement.{statement}
@@ -8,22 +7,10 @@ use Rattle.captures.proofs.front_of.Tie as tie
 returns : tie.Need-returns
 returns c = sym (field-cut _ (c .if1 .taken))
 
-shared-slice-read-pair : tie.Need-shared-slice-read-pair
-shared-slice-read-pair c = search needs
-
-shared-slice-read-pair-2 : tie.Need-shared-slice-read-pair-2
-shared-slice-read-pair-2 c = search needs
-
-pair-requires : tie.Need-pair-requires
-pair-requires c κs = search needs
-
 returns-2 : tie.Need-returns-2
 returns-2 c =
     let s = c .before in
     sym (zero-length _ _ (s .pair .ensures .0) (s .before .before .before .if1 .left) (c .if2 .taken))
-
-sub-if3 : tie.Need-sub-if3
-sub-if3 c = search needs
 
 returns-3 : tie.Need-returns-3
 returns-3 c =
@@ -38,12 +25,5 @@ returns-4 c =
 pub front-of-spec : {M : Type 1} → statement M
 front-of-spec =
     tie.close
-    (tie.spec
-    returns
-    shared-slice-read-pair
-    shared-slice-read-pair-2
-    pair-requires
-    returns-2
-    sub-if3
-    returns-3
-    returns-4)
+    (tie.spec returns (λ c. search needs) (λ c. search needs) (λ c κs. search needs) returns-2 (λ c. search needs)
+    returns-3 returns-4)

@@ -23,32 +23,8 @@ spent c =
     let n = length (messageBytes (componentFields (now (c .before .before .before .before .before .before .before .before .args .texts)) (c .before .before .before .before .before .before .before .before .args .component))) in
     room-rest (c .before .before .before .before .before .room .given .0 .0) n (c .before .rest .given .0 .0) (left-over c)
 
-enum-told : tie.Need-enum-told
-enum-told c = search needs
-
-enum-known-room : tie.Need-enum-known-room
-enum-known-room c = search needs
-
-component-room-requires : tie.Need-component-room-requires
-component-room-requires c κs = search needs
-
-enum-told-2 : tie.Need-enum-told-2
-enum-told-2 c = search needs
-
-enum-known-rest : tie.Need-enum-known-rest
-enum-known-rest c = search needs
-
 sub-head-len : tie.Need-sub-head-len
 sub-head-len c = omega (arith, spent c)
-
-head-len-requires : tie.Need-head-len-requires
-head-len-requires c κs = search needs
-
-less-requires : tie.Need-less-requires
-less-requires c κs = search needs
-
-returns : tie.Need-returns
-returns c = search needs
 
 returns-2 : tie.Need-returns-2
 returns-2 c =
@@ -69,15 +45,5 @@ returns-3 c =
 pub component-field-room-spec : {M : Type 1} → statement M
 component-field-room-spec =
     tie.close
-    (tie.spec
-    enum-told
-    enum-known-room
-    component-room-requires
-    enum-told-2
-    enum-known-rest
-    sub-head-len
-    head-len-requires
-    less-requires
-    returns
-    returns-2
-    returns-3)
+    (tie.spec (λ c. search needs) (λ c. search needs) (λ c κs. search needs) (λ c. search needs) (λ c. search needs)
+    sub-head-len (λ c κs. search needs) (λ c κs. search needs) (λ c. search needs) returns-2 returns-3)

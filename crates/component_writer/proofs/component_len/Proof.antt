@@ -5,20 +5,8 @@ use borrow.Author.Needs.{needs}
 use Rattle.component_writer.proofs.component_len.Statement.{statement}
 use Rattle.component_writer.proofs.component_len.Tie as tie
 
-cast-scalar-len : tie.Need-cast-scalar-len
-cast-scalar-len c = search needs
-
-scalar-len-requires : tie.Need-scalar-len-requires
-scalar-len-requires c κs = search needs
-
 text-part-len-requires : tie.Need-text-part-len-requires
 text-part-len-requires c κs = (search needs, component-fine (now (c .before .before .before .before .before .args .texts)) (c .before .before .before .before .before .args .component) (c .before .before .before .before .before .pre .0) .0)
-
-cast-scalar-len-2 : tie.Need-cast-scalar-len-2
-cast-scalar-len-2 c = search needs
-
-scalar-len-requires-2 : tie.Need-scalar-len-requires-2
-scalar-len-requires-2 c κs = search needs
 
 text-part-len-requires-2 : tie.Need-text-part-len-requires-2
 text-part-len-requires-2 c κs = (search needs, component-fine (now (c .before .before .before .before .before .before .before .before .args .texts)) (c .before .before .before .before .before .before .before .before .args .component) (c .before .before .before .before .before .before .before .before .pre .0) .1)
@@ -46,14 +34,5 @@ returns c =
 pub component-len-spec : {M : Type 1} → statement M
 component-len-spec =
     tie.close
-    (tie.spec
-    cast-scalar-len
-    scalar-len-requires
-    text-part-len-requires
-    cast-scalar-len-2
-    scalar-len-requires-2
-    text-part-len-requires-2
-    add-result
-    add-result-2
-    add-result-3
-    returns)
+    (tie.spec (λ c. search needs) (λ c κs. search needs) text-part-len-requires (λ c. search needs)
+    (λ c κs. search needs) text-part-len-requires-2 add-result add-result-2 add-result-3 returns)

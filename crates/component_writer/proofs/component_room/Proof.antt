@@ -10,35 +10,11 @@ use borrow.Author.Needs.{needs}
 use Rattle.component_writer.proofs.component_room.Statement.{statement}
 use Rattle.component_writer.proofs.component_room.Tie as tie
 
-cast-scalar-len : tie.Need-cast-scalar-len
-cast-scalar-len c = search needs
-
-scalar-len-requires : tie.Need-scalar-len-requires
-scalar-len-requires c κs = search needs
-
-less-requires : tie.Need-less-requires
-less-requires c κs = search needs
-
 text-part-len-requires : tie.Need-text-part-len-requires
 text-part-len-requires c κs = (search needs, component-fine (now (c .before .before .before .before .before .before .args .texts)) (c .before .before .before .before .before .before .args .component) (c .before .before .before .before .before .before .pre) .0)
 
-less-requires-2 : tie.Need-less-requires-2
-less-requires-2 c κs = search needs
-
-cast-scalar-len-2 : tie.Need-cast-scalar-len-2
-cast-scalar-len-2 c = search needs
-
-scalar-len-requires-2 : tie.Need-scalar-len-requires-2
-scalar-len-requires-2 c κs = search needs
-
-less-requires-3 : tie.Need-less-requires-3
-less-requires-3 c κs = search needs
-
 text-part-len-requires-2 : tie.Need-text-part-len-requires-2
 text-part-len-requires-2 c κs = (search needs, component-fine (now (c .before .before .before .before .before .before .before .before .before .before .before .args .texts)) (c .before .before .before .before .before .before .before .before .before .before .before .args .component) (c .before .before .before .before .before .before .before .before .before .before .before .pre) .1)
-
-less-requires-4 : tie.Need-less-requires-4
-less-requires-4 c κs = search needs
 
 returns : tie.Need-returns
 returns c =
@@ -55,15 +31,6 @@ returns c =
 pub component-room-spec : {M : Type 1} → statement M
 component-room-spec =
     tie.close
-    (tie.spec
-    cast-scalar-len
-    scalar-len-requires
-    less-requires
-    text-part-len-requires
-    less-requires-2
-    cast-scalar-len-2
-    scalar-len-requires-2
-    less-requires-3
-    text-part-len-requires-2
-    less-requires-4
-    returns)
+    (tie.spec (λ c. search needs) (λ c κs. search needs) (λ c κs. search needs) text-part-len-requires
+    (λ c κs. search needs) (λ c. search needs) (λ c κs. search needs) (λ c κs. search needs) text-part-len-requires-2
+    (λ c κs. search needs) returns)

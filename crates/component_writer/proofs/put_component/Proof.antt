@@ -29,9 +29,6 @@ put-component-fields-requires c κs =
     let h = c .before .before .before .put-head in
     (c .before .before .before .before .before .before .before .before .pre .0, omega (arith, c .before .before .before .before .before .before .before .before .pre .1, nested-length componentsField l, rw (c .before .before .before .before .before .component-len .ensures) at (h .ensures .place), h .kept .0))
 
-same-length : tie.Need-same-length
-same-length c = search needs
-
 returns : tie.Need-returns
 returns c =
     let a = c .before .before .before .before .before .before .before .before .before .before .before .args in
@@ -41,9 +38,4 @@ returns c =
 pub put-component-spec : {M : Type 1} → statement M
 put-component-spec =
     tie.close
-    (tie.spec
-    component-len-requires
-    put-head-requires
-    put-component-fields-requires
-    same-length
-    returns)
+    (tie.spec component-len-requires put-head-requires put-component-fields-requires (λ c. search needs) returns)

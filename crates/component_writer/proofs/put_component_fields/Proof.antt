@@ -11,9 +11,6 @@ use borrow.Author.Needs.{needs}
 use Rattle.component_writer.proofs.put_component_fields.Statement.{statement}
 use Rattle.component_writer.proofs.put_component_fields.Tie as tie
 
-cast-put-scalar : tie.Need-cast-put-scalar
-cast-put-scalar c = search needs
-
 put-scalar-requires : tie.Need-put-scalar-requires
 put-scalar-requires c κs = (search needs, omega (arith, c .before .before .before .before .before .before .pre .1, component-length (now (c .before .before .before .before .before .before .args .texts)) (c .before .before .before .before .before .before .args .component)))
 
@@ -21,9 +18,6 @@ put-text-part-requires : tie.Need-put-text-part-requires
 put-text-part-requires c κs =
     let p = c .before .before .before .put-scalar in
     (search needs, component-fine (now (c .before .before .before .before .before .before .before .before .before .before .args .texts)) (c .before .before .before .before .before .before .before .before .before .before .args .component) (c .before .before .before .before .before .before .before .before .before .before .pre .0) .0, omega (arith, c .before .before .before .before .before .before .before .before .before .before .pre .1, component-length (now (c .before .before .before .before .before .before .before .before .before .before .args .texts)) (c .before .before .before .before .before .before .before .before .before .before .args .component), p .ensures .place, p .kept .0))
-
-cast-put-scalar-2 : tie.Need-cast-put-scalar-2
-cast-put-scalar-2 c = search needs
 
 put-scalar-requires-2 : tie.Need-put-scalar-requires-2
 put-scalar-requires-2 c κs =
@@ -38,9 +32,6 @@ put-text-part-requires-2 c κs =
     let p₃ = c .before .before .before .put-scalar2 in
     (search needs, component-fine (now (c .before .before .before .before .before .before .before .before .before .before .before .before .before .before .before .before .before .before .before .args .texts)) (c .before .before .before .before .before .before .before .before .before .before .before .before .before .before .before .before .before .before .before .args .component) (c .before .before .before .before .before .before .before .before .before .before .before .before .before .before .before .before .before .before .before .pre .0) .1, omega (arith, c .before .before .before .before .before .before .before .before .before .before .before .before .before .before .before .before .before .before .before .pre .1, component-length (now (c .before .before .before .before .before .before .before .before .before .before .before .before .before .before .before .before .before .before .before .args .texts)) (c .before .before .before .before .before .before .before .before .before .before .before .before .before .before .before .before .before .before .before .args .component), p₁ .ensures .place, p₁ .kept .0, p₂ .ensures .place, p₂ .kept .0, p₃ .ensures .place, p₃ .kept .0))
 
-same-length : tie.Need-same-length
-same-length c = search needs
-
 returns : tie.Need-returns
 returns c =
     let a = c .before .before .before .before .before .before .before .before .before .before .before .before .before .before .before .before .before .before .before .before .before .before .args in
@@ -53,12 +44,5 @@ returns c =
 pub put-component-fields-spec : {M : Type 1} → statement M
 put-component-fields-spec =
     tie.close
-    (tie.spec
-    cast-put-scalar
-    put-scalar-requires
-    put-text-part-requires
-    cast-put-scalar-2
-    put-scalar-requires-2
-    put-text-part-requires-2
-    same-length
-    returns)
+    (tie.spec (λ c. search needs) put-scalar-requires put-text-part-requires (λ c. search needs) put-scalar-requires-2
+    put-text-part-requires-2 (λ c. search needs) returns)

@@ -9,12 +9,6 @@ use Rattle.component_writer.proofs.put_text_part.Tie as tie
 add-end : tie.Need-add-end
 add-end c = let a = c .before .before .before .args in omega (arith, lies-inside (now (a .texts)) (a .part) (c .before .before .before .pre .1))
 
-sub-put-text : tie.Need-sub-put-text
-sub-put-text c = search needs
-
-part-put-text-start : tie.Need-part-put-text-start
-part-put-text-start c = search needs
-
 part-put-text-end : tie.Need-part-put-text-end
 part-put-text-end c = let a = c .before .before .before .before .args in omega (arith, lies-inside (now (a .texts)) (a .part) (c .before .before .before .before .pre .1))
 
@@ -22,9 +16,6 @@ put-text-requires : tie.Need-put-text-requires
 put-text-requires c κs =
     let a = c .before .before .before .before .before .args in
     (c .before .before .before .before .before .pre .0, rw (part-taken (now (a .texts)) (a .part)) (c .before .before .before .before .before .pre .2))
-
-same-length : tie.Need-same-length
-same-length c = search needs
 
 returns : tie.Need-returns
 returns c =
@@ -34,11 +25,5 @@ returns c =
 pub put-text-part-spec : {M : Type 1} → statement M
 put-text-part-spec =
     tie.close
-    (tie.spec
-    add-end
-    sub-put-text
-    part-put-text-start
-    part-put-text-end
-    put-text-requires
-    same-length
+    (tie.spec add-end (λ c. search needs) (λ c. search needs) part-put-text-end put-text-requires (λ c. search needs)
     returns)

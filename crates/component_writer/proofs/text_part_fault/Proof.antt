@@ -11,17 +11,8 @@ use Rattle.component_writer.proofs.text_part_fault.Tie as tie
 add-end : tie.Need-add-end
 add-end c = let a = c .before .before .args in omega (arith, lies-inside (now (a .texts)) (a .part) (c .before .before .pre))
 
-sub-or-text : tie.Need-sub-or-text
-sub-or-text c = search needs
-
-part-or-text-start : tie.Need-part-or-text-start
-part-or-text-start c = search needs
-
 part-or-text-end : tie.Need-part-or-text-end
 part-or-text-end c = let a = c .before .before .args in omega (arith, lies-inside (now (a .texts)) (a .part) (c .before .before .pre))
-
-or-text-requires : tie.Need-or-text-requires
-or-text-requires c κs = search needs
 
 returns : tie.Need-returns
 returns c =
@@ -31,10 +22,4 @@ returns c =
 pub text-part-fault-spec : {M : Type 1} → statement M
 text-part-fault-spec =
     tie.close
-    (tie.spec
-    add-end
-    sub-or-text
-    part-or-text-start
-    part-or-text-end
-    or-text-requires
-    returns)
+    (tie.spec add-end (λ c. search needs) (λ c. search needs) part-or-text-end (λ c κs. search needs) returns)

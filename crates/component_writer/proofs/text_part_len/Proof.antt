@@ -12,17 +12,8 @@ use Rattle.component_writer.proofs.text_part_len.Tie as tie
 add-end : tie.Need-add-end
 add-end c = let a = c .before .before .args in omega (arith, lies-inside (now (a .texts)) (a .part) (c .before .before .pre .1))
 
-sub-text-len : tie.Need-sub-text-len
-sub-text-len c = search needs
-
-part-text-len-start : tie.Need-part-text-len-start
-part-text-len-start c = search needs
-
 part-text-len-end : tie.Need-part-text-len-end
 part-text-len-end c = let a = c .before .before .args in omega (arith, lies-inside (now (a .texts)) (a .part) (c .before .before .pre .1))
-
-text-len-requires : tie.Need-text-len-requires
-text-len-requires c κs = search needs
 
 returns : tie.Need-returns
 returns c =
@@ -32,10 +23,4 @@ returns c =
 pub text-part-len-spec : {M : Type 1} → statement M
 text-part-len-spec =
     tie.close
-    (tie.spec
-    add-end
-    sub-text-len
-    part-text-len-start
-    part-text-len-end
-    text-len-requires
-    returns)
+    (tie.spec add-end (λ c. search needs) (λ c. search needs) part-text-len-end (λ c κs. search needs) returns)

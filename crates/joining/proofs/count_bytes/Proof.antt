@@ -15,15 +15,6 @@ abbrev μ-loop : tie.MeasureT-loop
 loop-holds : tie.Need-loop-holds Inv-loop μ-loop
 loop-holds c = counting-start (c .args .room) (c .args .total) (c .pre .0)
 
-sub-rest : tie.Need-sub-rest Inv-loop μ-loop
-sub-rest c = search needs
-
-piece-size-requires : tie.Need-piece-size-requires Inv-loop μ-loop
-piece-size-requires c κs = search needs
-
-header-size-requires : tie.Need-header-size-requires Inv-loop μ-loop
-header-size-requires c κs = search needs
-
 add-sum : tie.Need-add-sum Inv-loop μ-loop
 add-sum c =
     let l = c .before .before .before .loop in
@@ -89,17 +80,5 @@ returns c =
 pub count-bytes-spec : {M : Type 1} → statement M
 count-bytes-spec =
     tie.close
-    (tie.spec
-    Inv-loop
-    μ-loop
-    loop-holds
-    sub-rest
-    piece-size-requires
-    header-size-requires
-    add-sum
-    add-sum-2
-    add-place
-    add-index
-    loop-less
-    loop-again
-    returns)
+    (tie.spec Inv-loop μ-loop loop-holds (λ c. search needs) (λ c κs. search needs) (λ c κs. search needs) add-sum
+    add-sum-2 add-place add-index loop-less loop-again returns)

@@ -3,12 +3,9 @@ use Rattle.joining.specs.Joined.{countable}
 use Rattle.joining.proofs.countable.Statement.{statement}
 use Rattle.joining.proofs.countable.Tie as tie
 
-both-requires : tie.Need-both-requires
-both-requires c κs = search needs
-
 returns : tie.Need-returns
 unfolding countable
 returns c = cc
 
 pub countable-spec : {M : Type 1} → statement M
-countable-spec = tie.close (tie.spec both-requires returns)
+countable-spec = tie.close (tie.spec (λ c κs. search needs) returns)

@@ -6,15 +6,6 @@ use Rattle.joining.proofs.Guards.{countable-facts}
 use Rattle.joining.proofs.is_exact.Statement.{statement}
 use Rattle.joining.proofs.is_exact.Tie as tie
 
-both-requires : tie.Need-both-requires
-both-requires c κs = search needs
-
-countable-requires : tie.Need-countable-requires
-countable-requires c κs = search needs
-
-both-requires-2 : tie.Need-both-requires-2
-both-requires-2 c κs = search needs
-
 count-bytes-requires : tie.Need-count-bytes-requires
 count-bytes-requires c κs =
     let a = c .before .before .before .before .before .before .args in
@@ -40,10 +31,5 @@ returns-2 c =
 pub is-exact-spec : {M : Type 1} → statement M
 is-exact-spec =
     tie.close
-    (tie.spec
-    both-requires
-    countable-requires
-    both-requires-2
-    count-bytes-requires
-    returns
+    (tie.spec (λ c κs. search needs) (λ c κs. search needs) (λ c κs. search needs) count-bytes-requires returns
     returns-2)

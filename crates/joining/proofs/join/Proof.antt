@@ -5,16 +5,10 @@ use Rattle.joining.proofs.Guards.{exact-joins, joined-over, not-joined}
 use Rattle.joining.proofs.join.Statement.{statement}
 use Rattle.joining.proofs.join.Tie as tie
 
-is-exact-requires : tie.Need-is-exact-requires
-is-exact-requires c κs = search needs
-
 put-packets-requires : tie.Need-put-packets-requires
 put-packets-requires c κs =
     let a = c .before .before .before .before .args in
     exact-joins (a .how) (a .total) (now (a .out)) (sym (c .before .before .is-exact .ensures) ∙ c .before .if1 .taken)
-
-same-length : tie.Need-same-length
-same-length c = search needs
 
 returns : tie.Need-returns
 returns c =
@@ -28,4 +22,4 @@ returns-2 c =
     sym (not-joined (a .how) (a .total) (now (a .out)) (sym (c .before .is-exact .ensures) ∙ c .if1 .left))
 
 pub join-spec : {M : Type 1} → statement M
-join-spec = tie.close (tie.spec is-exact-requires put-packets-requires same-length returns returns-2)
+join-spec = tie.close (tie.spec (λ c κs. search needs) put-packets-requires (λ c. search needs) returns returns-2)

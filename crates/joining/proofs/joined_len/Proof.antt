@@ -5,9 +5,6 @@ use Rattle.joining.proofs.Guards.{countable-facts}
 use Rattle.joining.proofs.joined_len.Statement.{statement}
 use Rattle.joining.proofs.joined_len.Tie as tie
 
-countable-requires : tie.Need-countable-requires
-countable-requires c κs = search needs
-
 count-bytes-requires : tie.Need-count-bytes-requires
 count-bytes-requires c κs =
     let a = c .before .before .args in countable-facts (a .room) (a .total) (sym (c .before .countable .ensures) ∙ c .if1 .taken)
@@ -21,4 +18,4 @@ unfolding joinedLength
 returns-2 c = rw (← c .before .countable .ensures, c .if1 .left)
 
 pub joined-len-spec : {M : Type 1} → statement M
-joined-len-spec = tie.close (tie.spec countable-requires count-bytes-requires returns returns-2)
+joined-len-spec = tie.close (tie.spec (λ c κs. search needs) count-bytes-requires returns returns-2)

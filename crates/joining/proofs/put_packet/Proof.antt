@@ -12,30 +12,6 @@ use Rattle.joining.proofs.Joining.{placed}
 use Rattle.joining.proofs.put_packet.Statement.{statement}
 use Rattle.joining.proofs.put_packet.Tie as tie
 
-sub-put-header : tie.Need-sub-put-header
-sub-put-header c = search needs
-
-part-put-header-start : tie.Need-part-put-header-start
-part-put-header-start c = search needs
-
-part-put-header-end : tie.Need-part-put-header-end
-part-put-header-end c = search needs
-
-put-header-requires : tie.Need-put-header-requires
-put-header-requires c κs = search needs
-
-add-start : tie.Need-add-start
-add-start c = search needs
-
-move-down-requires : tie.Need-move-down-requires
-move-down-requires c κs = search needs
-
-add-result : tie.Need-add-result
-add-result c = search needs
-
-same-length : tie.Need-same-length
-same-length c = search needs
-
 returns : tie.Need-returns
 returns c =
     let m = c .before .before .move-down in
@@ -55,13 +31,5 @@ returns c =
 pub put-packet-spec : {M : Type 1} → statement M
 put-packet-spec =
     tie.close
-    (tie.spec
-    sub-put-header
-    part-put-header-start
-    part-put-header-end
-    put-header-requires
-    add-start
-    move-down-requires
-    add-result
-    same-length
-    returns)
+    (tie.spec (λ c. search needs) (λ c. search needs) (λ c. search needs) (λ c κs. search needs) (λ c. search needs)
+    (λ c κs. search needs) (λ c. search needs) (λ c. search needs) returns)

@@ -2,54 +2,6 @@ use borrow.Author.Needs.{needs}
 use Rattle.known_fields.proofs.role_of.Statement.{statement}
 use Rattle.known_fields.proofs.role_of.Tie as tie
 
-enum-told : tie.Need-enum-told
-enum-told c = search needs
-
-envelope-role-requires : tie.Need-envelope-role-requires
-envelope-role-requires c κs = search needs
-
-enum-told-2 : tie.Need-enum-told-2
-enum-told-2 c = search needs
-
-response-role-requires : tie.Need-response-role-requires
-response-role-requires c κs = search needs
-
-enum-told-3 : tie.Need-enum-told-3
-enum-told-3 c = search needs
-
-information-role-requires : tie.Need-information-role-requires
-information-role-requires c κs = search needs
-
-enum-told-4 : tie.Need-enum-told-4
-enum-told-4 c = search needs
-
-features-role-requires : tie.Need-features-role-requires
-features-role-requires c κs = search needs
-
-enum-told-5 : tie.Need-enum-told-5
-enum-told-5 c = search needs
-
-segment-role-requires : tie.Need-segment-role-requires
-segment-role-requires c κs = search needs
-
-enum-told-6 : tie.Need-enum-told-6
-enum-told-6 c = search needs
-
-apply-role-requires : tie.Need-apply-role-requires
-apply-role-requires c κs = search needs
-
-enum-told-7 : tie.Need-enum-told-7
-enum-told-7 c = search needs
-
-firmware-role-requires : tie.Need-firmware-role-requires
-firmware-role-requires c κs = search needs
-
-enum-told-8 : tie.Need-enum-told-8
-enum-told-8 c = search needs
-
-component-role-requires : tie.Need-component-role-requires
-component-role-requires c κs = search needs
-
 returns : tie.Need-returns
 returns c = rw (c .before .enum-told .given .1) (c .envelope-role .ensures)
 
@@ -77,28 +29,8 @@ returns-8 c = rw (c .before .enum-told8 .given .1) (c .component-role .ensures)
 pub role-of-spec : {M : Type 1} → statement M
 role-of-spec =
     tie.close
-    (tie.spec
-    enum-told
-    envelope-role-requires
-    enum-told-2
-    response-role-requires
-    enum-told-3
-    information-role-requires
-    enum-told-4
-    features-role-requires
-    enum-told-5
-    segment-role-requires
-    enum-told-6
-    apply-role-requires
-    enum-told-7
-    firmware-role-requires
-    enum-told-8
-    component-role-requires
-    returns
-    returns-2
-    returns-3
-    returns-4
-    returns-5
-    returns-6
-    returns-7
+    (tie.spec (λ c. search needs) (λ c κs. search needs) (λ c. search needs) (λ c κs. search needs)
+    (λ c. search needs) (λ c κs. search needs) (λ c. search needs) (λ c κs. search needs) (λ c. search needs)
+    (λ c κs. search needs) (λ c. search needs) (λ c κs. search needs) (λ c. search needs) (λ c κs. search needs)
+    (λ c. search needs) (λ c κs. search needs) returns returns-2 returns-3 returns-4 returns-5 returns-6 returns-7
     returns-8)

@@ -40,10 +40,9 @@ use denote.Triple.Table.{entered}
 use denote.Triple.Walked.{says, Stays, stay-none, stay-slice, walkOf, goes-none, goes-slice, Walks, ends-at, walked, walk-meets}
 use denote.Exit.{yes}
 use Rattle.slot.specs.declared.Slot.{Slot}
-use Rattle.slot.specs.Slot.{idle as idleSlot}
 use Rattle.slot.proofs.Slot as T
 use Rattle.slot.proofs.Slot.Laws as T′
-use Rattle.link.proofs.Slots.{vals, val, entry-place, entry-fits, set-past}
+use Rattle.link.proofs.Slots.{vals, entry-place, entry-fits, set-past}
 use Rattle.link.proofs.set_slot.Key.{name as #key}
 use Rattle.link.proofs.set_slot as f
 use Rattle.link.proofs.set_slot.Statement as stated

@@ -7,18 +7,6 @@ use borrow.Author.Needs.{needs}
 use Rattle.link.proofs.slot_in.Statement.{statement}
 use Rattle.link.proofs.slot_in.Tie as tie
 
-mul-result : tie.Need-mul-result
-mul-result c = search needs
-
-array-copy-out-result : tie.Need-array-copy-out-result
-array-copy-out-result c = search needs
-
-idle-requires : tie.Need-idle-requires
-idle-requires c κs = search needs
-
-returns : tie.Need-returns
-returns c = search needs
-
 returns-2 : tie.Need-returns-2
 returns-2 c =
     let s = c .before in
@@ -26,4 +14,5 @@ returns-2 c =
 
 pub slot-in-spec : {M : Type 1} → statement M
 slot-in-spec =
-    tie.close (tie.spec mul-result array-copy-out-result idle-requires returns returns-2)
+    tie.close
+    (tie.spec (λ c. search needs) (λ c. search needs) (λ c κs. search needs) (λ c. search needs) returns-2)

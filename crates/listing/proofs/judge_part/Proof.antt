@@ -7,18 +7,6 @@ use Rattle.listing.proofs.Parts.{listed-by}
 use Rattle.listing.proofs.judge_part.Statement.{statement}
 use Rattle.listing.proofs.judge_part.Tie as tie
 
-walk-requires : tie.Need-walk-requires
-walk-requires c κs = search needs
-
-enum-told : tie.Need-enum-told
-enum-told c = search needs
-
-enum-known-fault : tie.Need-enum-known-fault
-enum-known-fault c = search needs
-
-judge-refusal-requires : tie.Need-judge-refusal-requires
-judge-refusal-requires c κs = search needs
-
 returns : tie.Need-returns
 returns c =
     let w = c .before .before in
@@ -37,4 +25,4 @@ returns-2 c =
 pub judge-part-spec : {M : Type 1} → statement M
 judge-part-spec =
     tie.close
-    (tie.spec walk-requires enum-told enum-known-fault judge-refusal-requires returns returns-2)
+    (tie.spec (λ c κs. search needs) (λ c. search needs) (λ c. search needs) (λ c κs. search needs) returns returns-2)

@@ -15,41 +15,8 @@ Inv-loop buffer₀ view output₀ gone₀ filled₀ turns₀ buffer output gone 
 abbrev μ-loop : tie.MeasureT-loop
 μ-loop buffer₀ view output₀ gone₀ filled₀ turns₀ buffer output gone filled turns = turns
 
-new-requires : tie.Need-new-requires Inv-loop μ-loop
-new-requires c κs = search needs
-
-refill-requires : tie.Need-refill-requires Inv-loop μ-loop
-refill-requires c κs = search needs
-
-loop-holds : tie.Need-loop-holds Inv-loop μ-loop
-loop-holds c = search needs
-
-sub-turns : tie.Need-sub-turns Inv-loop μ-loop
-sub-turns c = search needs
-
-either-requires : tie.Need-either-requires Inv-loop μ-loop
-either-requires c κs = search needs
-
-same-length : tie.Need-same-length Inv-loop μ-loop
-same-length c = search needs
-
-returns : tie.Need-returns Inv-loop μ-loop
-returns c = search needs
-
-slice-reshare-prefix-list-part : tie.Need-slice-reshare-prefix-list-part Inv-loop μ-loop
-slice-reshare-prefix-list-part c = search needs
-
 slice-aggregate-list-part : tie.Need-slice-aggregate-list-part Inv-loop μ-loop
 slice-aggregate-list-part c = sym (length-take-le _ _ (c .before .before .before .before .loop .inv .0))
-
-list-part-requires : tie.Need-list-part-requires Inv-loop μ-loop
-list-part-requires c κs = search needs
-
-same-length-2 : tie.Need-same-length-2 Inv-loop μ-loop
-same-length-2 c = search needs
-
-returns-2 : tie.Need-returns-2 Inv-loop μ-loop
-returns-2 c = search needs
 
 -- what is carried over begins within the part
 within : (c : tie.Else2 Inv-loop μ-loop)
@@ -60,9 +27,6 @@ within c =
 
 sub-wrapping-add-u64 : tie.Need-sub-wrapping-add-u64 Inv-loop μ-loop
 sub-wrapping-add-u64 c = within (c .before) .0
-
-wrapping-add-u64-requires : tie.Need-wrapping-add-u64-requires Inv-loop μ-loop
-wrapping-add-u64-requires c κs = search needs
 
 carry-over-requires : tie.Need-carry-over-requires Inv-loop μ-loop
 carry-over-requires c κs = (within (c .before .before .before) .0, within (c .before .before .before) .1, c .before .before .before .before .before .before .before .before .before .before .loop .inv .0)
@@ -75,41 +39,11 @@ refill-requires-2 c κs =
     let w = carried-within (l .loop .buffer) (e .before .before .list-part .result .listed .place) (l .loop .filled .held) (y .carry-over .ensures) (within e .0) (within e .1) in
     omega (arith, w, y .carry-over .kept .0, l .loop .inv .0)
 
-loop-less : tie.Need-loop-less Inv-loop μ-loop
-loop-less c = search needs
-
-loop-again : tie.Need-loop-again Inv-loop μ-loop
-loop-again c = search needs
-
-same-length-3 : tie.Need-same-length-3 Inv-loop μ-loop
-same-length-3 c = search needs
-
-returns-3 : tie.Need-returns-3 Inv-loop μ-loop
-returns-3 c = search needs
-
 pub list-spec : {M : Type 1} → statement M
 list-spec =
     tie.close
-    (tie.spec
-    Inv-loop
-    μ-loop
-    new-requires
-    refill-requires
-    loop-holds
-    sub-turns
-    either-requires
-    same-length
-    returns
-    slice-reshare-prefix-list-part
-    slice-aggregate-list-part
-    list-part-requires
-    same-length-2
-    returns-2
-    sub-wrapping-add-u64
-    wrapping-add-u64-requires
-    carry-over-requires
-    refill-requires-2
-    loop-less
-    loop-again
-    same-length-3
-    returns-3)
+    (tie.spec Inv-loop μ-loop (λ c κs. search needs) (λ c κs. search needs) (λ c. search needs) (λ c. search needs)
+    (λ c κs. search needs) (λ c. search needs) (λ c. search needs) (λ c. search needs) slice-aggregate-list-part
+    (λ c κs. search needs) (λ c. search needs) (λ c. search needs) sub-wrapping-add-u64 (λ c κs. search needs)
+    carry-over-requires refill-requires-2 (λ c. search needs) (λ c. search needs) (λ c. search needs)
+    (λ c. search needs))

@@ -21,18 +21,6 @@ abbrev μ-loop : tie.MeasureT-loop
 loop-holds : tie.Need-loop-holds Inv-loop μ-loop
 loop-holds c = going-begins (formatOf (now (c .before .args .part))) (now (c .before .args .part))
 
-read-requires : tie.Need-read-requires Inv-loop μ-loop
-read-requires c κs = search needs
-
-enum-known-reading : tie.Need-enum-known-reading Inv-loop μ-loop
-enum-known-reading c = search needs
-
-say-record-requires : tie.Need-say-record-requires Inv-loop μ-loop
-say-record-requires c κs = search needs
-
-say-rest-requires : tie.Need-say-rest-requires Inv-loop μ-loop
-say-rest-requires c κs = search needs
-
 loop-less : tie.Need-loop-less Inv-loop μ-loop
 loop-less c =
     let m = c .before .before .before in
@@ -46,12 +34,6 @@ loop-again c =
     let r = m .before .before in
     read-goes _ _ (r .before .loop .inv) _ (sym (r .read .ensures) ∙ ap told (m .reading .given .1))
 
-enum-told : tie.Need-enum-told Inv-loop μ-loop
-enum-told c = search needs
-
-list-end-requires : tie.Need-list-end-requires Inv-loop μ-loop
-list-end-requires c κs = search needs
-
 returns : tie.Need-returns Inv-loop μ-loop
 unfolding listedOf
 returns c =
@@ -61,27 +43,12 @@ returns c =
     c .list-end .ensures
     ∙ rw (read-decides _ _ (r .before .loop .inv) _ e) (ap (listed _) (read-at-end _ _ (r .before .loop .place) e))
 
-enum-told-2 : tie.Need-enum-told-2 Inv-loop μ-loop
-enum-told-2 c = search needs
-
-number-requires : tie.Need-number-requires Inv-loop μ-loop
-number-requires c κs = search needs
-
-say-refused-requires : tie.Need-say-refused-requires Inv-loop μ-loop
-say-refused-requires c κs = search needs
-
 returns-2 : tie.Need-returns-2 Inv-loop μ-loop
 unfolding listedOf
 returns-2 c =
     let m = c .before .before in
     let r = m .before .before in
     rw (read-decides _ _ (r .before .loop .inv) _ (sym (r .read .ensures) ∙ ap told (m .enum-told2 .given .1)))
-
-enum-known-reading-2 : tie.Need-enum-known-reading-2 Inv-loop μ-loop
-enum-known-reading-2 c = search needs
-
-list-refusal-requires : tie.Need-list-refusal-requires Inv-loop μ-loop
-list-refusal-requires c κs = search needs
 
 returns-3 : tie.Need-returns-3 Inv-loop μ-loop
 unfolding listedOf
@@ -94,23 +61,6 @@ returns-3 c =
 pub list-part-spec : {M : Type 1} → statement M
 list-part-spec =
     tie.close
-    (tie.spec
-    Inv-loop
-    μ-loop
-    loop-holds
-    read-requires
-    enum-known-reading
-    say-record-requires
-    say-rest-requires
-    loop-less
-    loop-again
-    enum-told
-    list-end-requires
-    returns
-    enum-told-2
-    number-requires
-    say-refused-requires
-    returns-2
-    enum-known-reading-2
-    list-refusal-requires
-    returns-3)
+    (tie.spec Inv-loop μ-loop loop-holds (λ c κs. search needs) (λ c. search needs) (λ c κs. search needs)
+    (λ c κs. search needs) loop-less loop-again (λ c. search needs) (λ c κs. search needs) returns (λ c. search needs)
+    (λ c κs. search needs) (λ c κs. search needs) returns-2 (λ c. search needs) (λ c κs. search needs) returns-3)

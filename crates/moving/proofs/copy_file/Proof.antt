@@ -14,12 +14,6 @@ use Rattle.moving.proofs.copy_file.Tie as tie
 returns : tie.Need-returns
 returns c = let s = c .before .before .before in rw (lt-ltb (length (now (s .args .out))) (length (now (s .args .file))) (c .if1 .taken))
 
-copy-requires : tie.Need-copy-requires
-copy-requires c κs = search needs
-
-same-length : tie.Need-same-length
-same-length c = search needs
-
 returns-2 : tie.Need-returns-2
 returns-2 c =
     let k = c .before .before in
@@ -29,4 +23,4 @@ returns-2 c =
     (let plus : length (now (s .args .file)) ≡ 0 + length (now (s .args .file)) = omega arith in ap (λ n. stored (given n) (sets (now (s .args .out)) 0 (now (s .args .file)))) plus)
 
 pub copy-file-spec : {M : Type 1} → statement M
-copy-file-spec = tie.close (tie.spec returns copy-requires same-length returns-2)
+copy-file-spec = tie.close (tie.spec returns (λ c κs. search needs) (λ c. search needs) returns-2)

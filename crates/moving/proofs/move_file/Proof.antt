@@ -7,15 +7,6 @@ use Rattle.moving.proofs.Deciding.{broken, known-for}
 use Rattle.moving.proofs.move_file.Statement.{statement}
 use Rattle.moving.proofs.move_file.Tie as tie
 
-walk-requires : tie.Need-walk-requires
-walk-requires c κs = search needs
-
-enum-told : tie.Need-enum-told
-enum-told c = search needs
-
-format-requires : tie.Need-format-requires
-format-requires c κs = search needs
-
 move-whole-requires : tie.Need-move-whole-requires
 move-whole-requires c κs =
     let f = c .before in
@@ -23,12 +14,6 @@ move-whole-requires c κs =
     let w = t .before .before in
     let s = w .before .before .before in
     (rw (f .format .ensures) (known-for (s .args .wished)), sym (w .walk .ensures) ∙ ap toldWalk (t .enum-told .given .1))
-
-enum-known-fault : tie.Need-enum-known-fault
-enum-known-fault c = search needs
-
-same-length : tie.Need-same-length
-same-length c = search needs
 
 returns : tie.Need-returns
 returns c =
@@ -49,12 +34,5 @@ returns-2 c =
 pub move-file-spec : {M : Type 1} → statement M
 move-file-spec =
     tie.close
-    (tie.spec
-    walk-requires
-    enum-told
-    format-requires
-    move-whole-requires
-    enum-known-fault
-    same-length
-    returns
-    returns-2)
+    (tie.spec (λ c κs. search needs) (λ c. search needs) (λ c κs. search needs) move-whole-requires
+    (λ c. search needs) (λ c. search needs) returns returns-2)

@@ -12,22 +12,10 @@ use Rattle.moving.proofs.Deciding.{copies, rewrites}
 use Rattle.moving.proofs.move_whole.Statement.{statement}
 use Rattle.moving.proofs.move_whole.Tie as tie
 
-byte-at-requires : tie.Need-byte-at-requires
-byte-at-requires c κs = search needs
-
-copy-file-requires : tie.Need-copy-file-requires
-copy-file-requires c κs = search needs
-
-of-requires : tie.Need-of-requires
-of-requires c κs = search needs
-
 rewrite-requires : tie.Need-rewrite-requires
 rewrite-requires c κs =
     let s = c .before .before .before .before .before .before .before in
     (rw (c .before .of .ensures) (format-known (now (s .args .file))), s .pre .0)
-
-same-length : tie.Need-same-length
-same-length c = search needs
 
 returns : tie.Need-returns
 returns c =
@@ -37,9 +25,6 @@ returns c =
     let s = b .before .before .before in
     w .copy-file .ensures
     ∙ sym (copies (s .args .fmt) (now (s .args .file)) (now (s .args .out)) (s .pre .1) (s .pre .0) (sym (b .byte-at .ensures) ∙ d .if1 .taken))
-
-same-length-2 : tie.Need-same-length-2
-same-length-2 c = search needs
 
 returns-2 : tie.Need-returns-2
 returns-2 c =
@@ -58,12 +43,5 @@ returns-2 c =
 pub move-whole-spec : {M : Type 1} → statement M
 move-whole-spec =
     tie.close
-    (tie.spec
-    byte-at-requires
-    copy-file-requires
-    of-requires
-    rewrite-requires
-    same-length
-    returns
-    same-length-2
-    returns-2)
+    (tie.spec (λ c κs. search needs) (λ c κs. search needs) (λ c κs. search needs) rewrite-requires
+    (λ c. search needs) returns (λ c. search needs) returns-2)

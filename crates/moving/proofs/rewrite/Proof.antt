@@ -10,15 +10,6 @@ use Rattle.moving.proofs.Deciding.{counted, counted-size}
 use Rattle.moving.proofs.rewrite.Statement.{statement}
 use Rattle.moving.proofs.rewrite.Tie as tie
 
-count-requires : tie.Need-count-requires
-count-requires c κs = search needs
-
-enum-known-place : tie.Need-enum-known-place
-enum-known-place c = search needs
-
-enum-known-n : tie.Need-enum-known-n
-enum-known-n c = search needs
-
 returns : tie.Need-returns
 returns c =
     let m = c .before .before in
@@ -48,9 +39,6 @@ returns-2 c =
     let file = now (s .args .file) in
     sym (counted (s .args .fmt) (readAll (s .args .own) file) (now (s .args .out)) _ (sym (j .count .ensures) ∙ ap toldCount (m .place .given .1)))
 
-same-length : tie.Need-same-length
-same-length c = search needs
-
 returns-3 : tie.Need-returns-3
 returns-3 c =
     let w = c .before .before in
@@ -68,12 +56,5 @@ returns-3 c =
 pub rewrite-spec : {M : Type 1} → statement M
 rewrite-spec =
     tie.close
-    (tie.spec
-    count-requires
-    enum-known-place
-    enum-known-n
-    returns
-    write-records-requires
-    returns-2
-    same-length
-    returns-3)
+    (tie.spec (λ c κs. search needs) (λ c. search needs) (λ c. search needs) returns write-records-requires returns-2
+    (λ c. search needs) returns-3)

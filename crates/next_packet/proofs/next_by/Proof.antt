@@ -2,11 +2,8 @@ use borrow.Author.Needs.{needs}
 use Rattle.next_packet.proofs.next_by.Statement.{statement}
 use Rattle.next_packet.proofs.next_by.Tie as tie
 
-type-for-requires : tie.Need-type-for-requires
-type-for-requires c κs = search needs
-
 returns : tie.Need-returns
 returns c = rw (c .type-for .ensures .0)
 
 pub next-by-spec : {M : Type 1} → statement M
-next-by-spec = tie.close (tie.spec type-for-requires returns)
+next-by-spec = tie.close (tie.spec (λ c κs. search needs) returns)

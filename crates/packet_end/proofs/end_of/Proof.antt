@@ -7,24 +7,12 @@ use Rattle.packet_end.proofs.Ends.{control-end, message-end}
 use Rattle.packet_end.proofs.end_of.Statement.{statement}
 use Rattle.packet_end.proofs.end_of.Tie as tie
 
-byte-at-requires : tie.Need-byte-at-requires
-byte-at-requires c κs = search needs
-
-type-bits-requires : tie.Need-type-bits-requires
-type-bits-requires c κs = search needs
-
 -- the type, as byte 1 says it
 kind-at : (c : tie.After-type-bits) → c .type-bits .result ≡ typeBits (getD (now (c .before .before .before .args .bytes)) 1 0)
 kind-at c = rw (c .before .byte-at .ensures) at (c .type-bits .ensures)
 
 returns : tie.Need-returns
 returns c = control-end (now (c .before .before .before .before .args .bytes)) (c .before .type-bits .result) (kind-at (c .before)) (c .if1 .taken)
-
-extender-bit-requires : tie.Need-extender-bit-requires
-extender-bit-requires c κs = search needs
-
-said-length-requires : tie.Need-said-length-requires
-said-length-requires c κs = search needs
 
 returns-2 : tie.Need-returns-2
 returns-2 c =
@@ -35,10 +23,5 @@ returns-2 c =
 pub end-of-spec : {M : Type 1} → statement M
 end-of-spec =
     tie.close
-    (tie.spec
-    byte-at-requires
-    type-bits-requires
-    returns
-    extender-bit-requires
-    said-length-requires
+    (tie.spec (λ c κs. search needs) (λ c κs. search needs) returns (λ c κs. search needs) (λ c κs. search needs)
     returns-2)

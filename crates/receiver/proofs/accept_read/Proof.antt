@@ -56,15 +56,6 @@ low-at c =
     let t = headIn (s .args .read) .stream in
     rw (act-at c) (act-low (s .args .limit) (length (now (s .args .packet))) (laneStart t) (laneOf t (s .args .slots)) (s .args .read) (passes-at s .within))
 
-head-requires : tie.Need-head-requires
-head-requires c κs = search needs
-
-lane-start-requires : tie.Need-lane-start-requires
-lane-start-requires c κs = search needs
-
-lane-of-requires : tie.Need-lane-of-requires
-lane-of-requires c κs = search needs
-
 act-on-requires : tie.Need-act-on-requires
 act-on-requires c κs =
     let s = c .before .before .before .before .before .before in
@@ -89,12 +80,6 @@ acknowledge-requires c κs =
       s .pre .3,
     )
 
-same-length : tie.Need-same-length
-same-length c = search needs
-
-same-length-2 : tie.Need-same-length-2
-same-length-2 c = search needs
-
 returns : tie.Need-returns
 unfolding outcomeOf
 returns c =
@@ -111,13 +96,5 @@ returns c =
 pub accept-read-spec : {M : Type 1} → statement M
 accept-read-spec =
     tie.close
-    (tie.spec
-    head-requires
-    lane-start-requires
-    lane-of-requires
-    act-on-requires
-    apply-requires
-    acknowledge-requires
-    same-length
-    same-length-2
-    returns)
+    (tie.spec (λ c κs. search needs) (λ c κs. search needs) (λ c κs. search needs) act-on-requires apply-requires
+    acknowledge-requires (λ c. search needs) (λ c. search needs) returns)

@@ -5,15 +5,6 @@ use borrow.Author.Needs.{needs}
 use Rattle.receiver.proofs.apply.Statement.{statement}
 use Rattle.receiver.proofs.apply.Tie as tie
 
-enum-known-act : tie.Need-enum-known-act
-enum-known-act c = search needs
-
-array-copy-out-slot : tie.Need-array-copy-out-slot
-array-copy-out-slot c = search needs
-
-enum-known-act-2 : tie.Need-enum-known-act-2
-enum-known-act-2 c = search needs
-
 add-store : tie.Need-add-store
 add-store c =
     let s = c .before .before in
@@ -32,9 +23,6 @@ returns : tie.Need-returns
 unfolding outcomeOf
 returns c = rw (c .before .before .act .given .1)
 
-same-length : tie.Need-same-length
-same-length c = search needs
-
 returns-2 : tie.Need-returns-2
 returns-2 c =
     let s = c .before .before .before .before in
@@ -43,12 +31,5 @@ returns-2 c =
 pub apply-spec : {M : Type 1} → statement M
 apply-spec =
     tie.close
-    (tie.spec
-    enum-known-act
-    array-copy-out-slot
-    enum-known-act-2
-    add-store
-    store-requires
-    returns
-    same-length
-    returns-2)
+    (tie.spec (λ c. search needs) (λ c. search needs) (λ c. search needs) add-store store-requires returns
+    (λ c. search needs) returns-2)

@@ -10,12 +10,6 @@ use borrow.Author.Needs.{needs}
 use Rattle.receiver.proofs.decide.Statement.{statement}
 use Rattle.receiver.proofs.decide.Tie as tie
 
-is-ready-requires : tie.Need-is-ready-requires
-is-ready-requires c κs = search needs
-
-refuse-requires : tie.Need-refuse-requires
-refuse-requires c κs = search needs
-
 returns : tie.Need-returns
 unfolding decided
 returns c =
@@ -23,18 +17,12 @@ returns c =
     rw (← c .before .before .is-ready .ensures, c .before .if1 .taken)
     (ap (λ (o : Outcome). effect o (now (s .args .out))) (c .refuse .ensures (now (s .args .buffer))))
 
-refuse-requires-2 : tie.Need-refuse-requires-2
-refuse-requires-2 c κs = search needs
-
 returns-2 : tie.Need-returns-2
 unfolding decided readIn
 returns-2 c =
     let s = c .before .before .before .before .before .before .before in
     rw (← c .before .before .before .is-ready .ensures, c .before .before .if1 .left, le-ltb _ _ (c .before .if2 .taken))
     (ap (λ (o : Outcome). effect o (now (s .args .out))) (c .refuse2 .ensures (now (s .args .buffer))))
-
-refuse-requires-3 : tie.Need-refuse-requires-3
-refuse-requires-3 c κs = search needs
 
 returns-3 : tie.Need-returns-3
 unfolding decided readIn
@@ -58,12 +46,6 @@ process-requires c κs =
       s .if3 .left,
     )
 
-same-length : tie.Need-same-length
-same-length c = search needs
-
-same-length-2 : tie.Need-same-length-2
-same-length-2 c = search needs
-
 returns-4 : tie.Need-returns-4
 unfolding decided readIn
 returns-4 c =
@@ -74,15 +56,5 @@ returns-4 c =
 pub decide-spec : {M : Type 1} → statement M
 decide-spec =
     tie.close
-    (tie.spec
-    is-ready-requires
-    refuse-requires
-    returns
-    refuse-requires-2
-    returns-2
-    refuse-requires-3
-    returns-3
-    process-requires
-    same-length
-    same-length-2
-    returns-4)
+    (tie.spec (λ c κs. search needs) (λ c κs. search needs) returns (λ c κs. search needs) returns-2
+    (λ c κs. search needs) returns-3 process-requires (λ c. search needs) (λ c. search needs) returns-4)

@@ -7,22 +7,10 @@ use borrow.Author.Needs.{needs}
 use Rattle.receiver.proofs.is_ready.Statement.{statement}
 use Rattle.receiver.proofs.is_ready.Tie as tie
 
-limit-fits-requires : tie.Need-limit-fits-requires
-limit-fits-requires c κs = search needs
-
 mul-both : tie.Need-mul-both
 mul-both c =
     let small = limit-range _ (sym (c .before .limit-fits .ensures) ∙ c .if1 .taken) .1 in
     omega (arith, small)
-
-are-lawful-requires : tie.Need-are-lawful-requires
-are-lawful-requires c κs = search needs
-
-both-requires : tie.Need-both-requires
-both-requires c κs = search needs
-
-both-requires-2 : tie.Need-both-requires-2
-both-requires-2 c κs = search needs
 
 returns : tie.Need-returns
 unfolding ready
@@ -37,11 +25,5 @@ returns-2 c = simp (sym (c .before .limit-fits .ensures) ∙ c .if1 .left, and-f
 pub is-ready-spec : {M : Type 1} → statement M
 is-ready-spec =
     tie.close
-    (tie.spec
-    limit-fits-requires
-    mul-both
-    are-lawful-requires
-    both-requires
-    both-requires-2
-    returns
-    returns-2)
+    (tie.spec (λ c κs. search needs) mul-both (λ c κs. search needs) (λ c κs. search needs) (λ c κs. search needs)
+    returns returns-2)

@@ -6,18 +6,6 @@ use borrow.Author.Needs.{needs}
 use Rattle.receiver.proofs.process.Statement.{statement}
 use Rattle.receiver.proofs.process.Tie as tie
 
-read-requires : tie.Need-read-requires
-read-requires c κs = search needs
-
-enum-known-answer : tie.Need-enum-known-answer
-enum-known-answer c = search needs
-
-refuse-requires : tie.Need-refuse-requires
-refuse-requires c κs = search needs
-
-enum-known-answer-2 : tie.Need-enum-known-answer-2
-enum-known-answer-2 c = search needs
-
 accept-read-requires : tie.Need-accept-read-requires
 accept-read-requires c κs =
     let s = c .before .before .before in
@@ -30,12 +18,6 @@ returns c =
     rw (← c .before .before .before .before .read .ensures, c .before .before .answer .given .1)
     (ap (λ (o : Outcome). effect o (now (s .args .out))) (c .refuse .ensures (now (s .args .buffer))))
 
-same-length : tie.Need-same-length
-same-length c = search needs
-
-same-length-2 : tie.Need-same-length-2
-same-length-2 c = search needs
-
 returns-2 : tie.Need-returns-2
 returns-2 c =
     let s = c .before .before .before .before .before .before .before in
@@ -44,13 +26,5 @@ returns-2 c =
 pub process-spec : {M : Type 1} → statement M
 process-spec =
     tie.close
-    (tie.spec
-    read-requires
-    enum-known-answer
-    refuse-requires
-    enum-known-answer-2
-    accept-read-requires
-    returns
-    same-length
-    same-length-2
-    returns-2)
+    (tie.spec (λ c κs. search needs) (λ c. search needs) (λ c κs. search needs) (λ c. search needs)
+    accept-read-requires returns (λ c. search needs) (λ c. search needs) returns-2)

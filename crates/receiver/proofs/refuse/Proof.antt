@@ -4,16 +4,9 @@ use borrow.Author.Needs.{needs}
 use Rattle.receiver.proofs.refuse.Statement.{statement}
 use Rattle.receiver.proofs.refuse.Tie as tie
 
-array-copy-out-slot : tie.Need-array-copy-out-slot
-array-copy-out-slot c = search needs
-
 returns : tie.Need-returns
 unfolding outcomeOf
 returns c = λ bytes. refl
 
 pub refuse-spec : {M : Type 1} → statement M
-refuse-spec =
-    tie.close
-    (tie.spec
-    array-copy-out-slot
-    returns)
+refuse-spec = tie.close (tie.spec (λ c. search needs) returns)

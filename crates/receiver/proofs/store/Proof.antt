@@ -8,26 +8,11 @@ use borrow.Author.Needs.{needs}
 use Rattle.receiver.proofs.store.Statement.{statement}
 use Rattle.receiver.proofs.store.Tie as tie
 
-add-end : tie.Need-add-end
-add-end c = search needs
-
-sub-write-payload : tie.Need-sub-write-payload
-sub-write-payload c = search needs
-
-part-write-payload-start : tie.Need-part-write-payload-start
-part-write-payload-start c = search needs
-
-part-write-payload-end : tie.Need-part-write-payload-end
-part-write-payload-end c = search needs
-
 write-payload-requires : tie.Need-write-payload-requires
 write-payload-requires c κs =
     let s = c .before .before .before .before .before .before in
     let i = s .pre .3 in
     (limit-range _ (s .pre .0) .1, s .pre .2, s .pre .1, simp (length-take, length-drop, add-sub-cancel-left) (omega arith))
-
-same-length : tie.Need-same-length
-same-length c = search needs
 
 returns : tie.Need-returns
 unfolding stepOf outcomeOf
@@ -36,11 +21,5 @@ returns c = simp (c .before .before .before .write-payload .ensures, add-sub-can
 pub store-spec : {M : Type 1} → statement M
 store-spec =
     tie.close
-    (tie.spec
-    add-end
-    sub-write-payload
-    part-write-payload-start
-    part-write-payload-end
-    write-payload-requires
-    same-length
-    returns)
+    (tie.spec (λ c. search needs) (λ c. search needs) (λ c. search needs) (λ c. search needs) write-payload-requires
+    (λ c. search needs) returns)

@@ -25,21 +25,6 @@ measure-requires c κs =
       member-fine (a .members) _ (a .kind) (s .pre .carried),
     )
 
-enum-told : tie.Need-enum-told
-enum-told c = search needs
-
-enum-known-front : tie.Need-enum-known-front
-enum-known-front c = search needs
-
-fault-of-requires : tie.Need-fault-of-requires
-fault-of-requires c κs = search needs
-
-enum-known-field : tie.Need-enum-known-field
-enum-known-field c = search needs
-
-enum-told-2 : tie.Need-enum-told-2
-enum-told-2 c = search needs
-
 fill-requires : tie.Need-fill-requires
 fill-requires c κs =
     let s = c .before .before .before .before .before .before .before .before .before .before .before .before in
@@ -70,9 +55,6 @@ returns-2 c =
     let w = rw (c .before .before .before .before .before .front .given .1) at (c .before .before .before .before .before .before .before .measure .ensures) in
     bad-text (boxOf (now (a .serial-number)) (now (a .name)) (now (a .transports)) (now (a .device-type)) (a .features) (a .members)) (a .link) (a .value) (a .kind) (now (a .out)) (w .within) _ _ (sym (c .before .before .before .fault-of .ensures) ∙ c .before .field .given .1)
 
-same-length : tie.Need-same-length
-same-length c = search needs
-
 returns-3 : tie.Need-returns-3
 returns-3 c =
     let a = c .before .before .before .before .before .before .before .before .before .before .before .before .before .before .before .args in
@@ -84,15 +66,5 @@ returns-3 c =
 pub carry-spec : {M : Type 1} → statement M
 carry-spec =
     tie.close
-    (tie.spec
-    measure-requires
-    enum-told
-    enum-known-front
-    fault-of-requires
-    enum-known-field
-    enum-told-2
-    fill-requires
-    returns
-    returns-2
-    same-length
-    returns-3)
+    (tie.spec measure-requires (λ c. search needs) (λ c. search needs) (λ c κs. search needs) (λ c. search needs)
+    (λ c. search needs) fill-requires returns returns-2 (λ c. search needs) returns-3)

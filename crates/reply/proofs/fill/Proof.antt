@@ -25,9 +25,6 @@ front-len-requires c κs = c .before .before .before .before .pre .1 .fits
 add-total : tie.Need-add-total
 add-total c = omega (arith, c .before .before .before .before .before .before .pre .1 .low-total, c .before .front-len .ensures .0)
 
-joined-len-requires : tie.Need-joined-len-requires
-joined-len-requires c κs = search needs
-
 returns : tie.Need-returns
 returns c =
     let s = c .before .before .before .before .before .before .before .before in
@@ -43,15 +40,6 @@ returns c =
     let long : length j ≡ c .before .joined-len .result =
     joined-long (sendingOf l) m (s .pre .1 .room) ∙ ap (λ (n : ℕ). sizes (piecesOf (l .room) n)) total ∙ sym (c .before .joined-len .ensures ∙ counted) in
     no-output (sendingOf l) m o (omega (arith, long, c .if1 .taken))
-
-sub-put-reply : tie.Need-sub-put-reply
-sub-put-reply c = search needs
-
-part-put-reply-start : tie.Need-part-put-reply-start
-part-put-reply-start c = search needs
-
-part-put-reply-end : tie.Need-part-put-reply-end
-part-put-reply-end c = search needs
 
 put-reply-requires : tie.Need-put-reply-requires
 put-reply-requires c κs =
@@ -70,9 +58,6 @@ put-reply-requires c κs =
         long = simp (length-take, length-drop) (omega (arith, c .before .before .joined-len .ensures, counted, c .before .if1 .left));
       },
     )
-
-same-length : tie.Need-same-length
-same-length c = search needs
 
 returns-2 : tie.Need-returns-2
 returns-2 c =
@@ -99,14 +84,5 @@ returns-2 c =
 pub fill-spec : {M : Type 1} → statement M
 fill-spec =
     tie.close
-    (tie.spec
-    front-len-requires
-    add-total
-    joined-len-requires
-    returns
-    sub-put-reply
-    part-put-reply-start
-    part-put-reply-end
-    put-reply-requires
-    same-length
-    returns-2)
+    (tie.spec front-len-requires add-total (λ c κs. search needs) returns (λ c. search needs) (λ c. search needs)
+    (λ c. search needs) put-reply-requires (λ c. search needs) returns-2)

@@ -6,20 +6,8 @@ use borrow.Author.Needs.{needs}
 use Rattle.segment_writer.proofs.fill_segment.Statement.{statement}
 use Rattle.segment_writer.proofs.fill_segment.Tie as tie
 
-broken-field-requires : tie.Need-broken-field-requires
-broken-field-requires c κs = search needs
-
 returns : tie.Need-returns
 returns c = segment-broken (now (c .before .before .before .before .before .args .component-name)) (c .before .before .before .before .before .args .component-offset) (c .before .before .before .before .before .args .segment-size) (now (c .before .before .before .before .before .args .segment-signature)) (now (c .before .before .before .before .before .args .out)) _ (c .before .broken-field .ensures) (c .if1 .taken)
-
-segment-room-requires : tie.Need-segment-room-requires
-segment-room-requires c κs = search needs
-
-enum-told : tie.Need-enum-told
-enum-told c = search needs
-
-enum-told-2 : tie.Need-enum-told-2
-enum-told-2 c = search needs
 
 put-segment-requires : tie.Need-put-segment-requires
 put-segment-requires c κs = room-left _ _ _ (sym (c .before .before .before .segment-room .ensures) ∙ c .before .enum-told2 .given .1)
@@ -27,22 +15,11 @@ put-segment-requires c κs = room-left _ _ _ (sym (c .before .before .before .se
 returns-2 : tie.Need-returns-2
 returns-2 c = segment-short (now (c .before .before .before .before .before .before .before .before .args .component-name)) (c .before .before .before .before .before .before .before .before .args .component-offset) (c .before .before .before .before .before .before .before .before .args .segment-size) (now (c .before .before .before .before .before .before .before .before .args .segment-signature)) (now (c .before .before .before .before .before .before .before .before .args .out)) _ (c .before .before .before .before .broken-field .ensures) (c .before .before .before .if1 .left) (room-short _ _ (sym (c .before .before .segment-room .ensures) ∙ c .enum-told .given .1))
 
-same-length : tie.Need-same-length
-same-length c = search needs
-
 returns-3 : tie.Need-returns-3
 returns-3 c = segment-wrote (now (c .before .before .before .before .before .before .before .before .before .before .before .before .args .component-name)) (c .before .before .before .before .before .before .before .before .before .before .before .before .args .component-offset) (c .before .before .before .before .before .before .before .before .before .before .before .before .args .segment-size) (now (c .before .before .before .before .before .before .before .before .before .before .before .before .args .segment-signature)) (now (c .before .before .before .before .before .before .before .before .before .before .before .before .args .out)) _ (c .before .before .before .before .before .before .before .before .broken-field .ensures) (c .before .before .before .before .before .before .before .if1 .left) (room-left _ _ _ (sym (c .before .before .before .before .before .before .segment-room .ensures) ∙ c .before .before .before .before .enum-told2 .given .1)) (c .before .before .put-segment .ensures)
 
 pub fill-segment-spec : {M : Type 1} → statement M
 fill-segment-spec =
     tie.close
-    (tie.spec
-    broken-field-requires
-    returns
-    segment-room-requires
-    enum-told
-    enum-told-2
-    put-segment-requires
-    returns-2
-    same-length
-    returns-3)
+    (tie.spec (λ c κs. search needs) returns (λ c κs. search needs) (λ c. search needs) (λ c. search needs)
+    put-segment-requires returns-2 (λ c. search needs) returns-3)

@@ -25,9 +25,6 @@ put-text-requires-2 c κs =
     let p₂ = c .before .before .before .put-scalar in
     (search needs, omega (arith, c .before .before .before .before .before .before .before .before .before .before .before .before .pre, segment-length (now (c .before .before .before .before .before .before .before .before .before .before .before .before .args .component-name)) (c .before .before .before .before .before .before .before .before .before .before .before .before .args .segment-size) (now (c .before .before .before .before .before .before .before .before .before .before .before .before .args .segment-signature)), p₁ .ensures .place, p₁ .kept .0, p₂ .ensures .place, p₂ .kept .0))
 
-same-length : tie.Need-same-length
-same-length c = search needs
-
 returns : tie.Need-returns
 returns c =
     let a = c .before .before .before .before .before .before .before .before .before .before .before .before .before .before .before .args in
@@ -40,9 +37,4 @@ returns c =
 pub put-segment-spec : {M : Type 1} → statement M
 put-segment-spec =
     tie.close
-    (tie.spec
-    put-text-requires
-    put-scalar-requires
-    put-text-requires-2
-    same-length
-    returns)
+    (tie.spec put-text-requires put-scalar-requires put-text-requires-2 (λ c. search needs) returns)

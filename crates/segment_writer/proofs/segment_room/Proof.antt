@@ -10,24 +10,6 @@ use borrow.Author.Needs.{needs}
 use Rattle.segment_writer.proofs.segment_room.Statement.{statement}
 use Rattle.segment_writer.proofs.segment_room.Tie as tie
 
-text-len-requires : tie.Need-text-len-requires
-text-len-requires c κs = search needs
-
-less-requires : tie.Need-less-requires
-less-requires c κs = search needs
-
-scalar-len-requires : tie.Need-scalar-len-requires
-scalar-len-requires c κs = search needs
-
-less-requires-2 : tie.Need-less-requires-2
-less-requires-2 c κs = search needs
-
-text-len-requires-2 : tie.Need-text-len-requires-2
-text-len-requires-2 c κs = search needs
-
-less-requires-3 : tie.Need-less-requires-3
-less-requires-3 c κs = search needs
-
 returns : tie.Need-returns
 returns c =
     let a = c .before .before .before .before .before .before .before .before .args in
@@ -43,11 +25,5 @@ returns c =
 pub segment-room-spec : {M : Type 1} → statement M
 segment-room-spec =
     tie.close
-    (tie.spec
-    text-len-requires
-    less-requires
-    scalar-len-requires
-    less-requires-2
-    text-len-requires-2
-    less-requires-3
-    returns)
+    (tie.spec (λ c κs. search needs) (λ c κs. search needs) (λ c κs. search needs) (λ c κs. search needs)
+    (λ c κs. search needs) (λ c κs. search needs) returns)

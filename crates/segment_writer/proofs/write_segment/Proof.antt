@@ -5,25 +5,10 @@ use borrow.Author.Needs.{needs}
 use Rattle.segment_writer.proofs.write_segment.Statement.{statement}
 use Rattle.segment_writer.proofs.write_segment.Tie as tie
 
-segment-fault-requires : tie.Need-segment-fault-requires
-segment-fault-requires c κs = search needs
-
-enum-known-field : tie.Need-enum-known-field
-enum-known-field c = search needs
-
-enum-told : tie.Need-enum-told
-enum-told c = search needs
-
-fill-segment-requires : tie.Need-fill-segment-requires
-fill-segment-requires c κs = search needs
-
 returns : tie.Need-returns
 returns c =
     let a = c .before .before .before .before .before .before .before .args in
     segment-faulted (now (a .component-name)) (a .component-offset) (a .segment-size) (now (a .segment-signature)) (now (a .out)) _ _ (sym (c .before .before .before .segment-fault .ensures) ∙ c .before .field .given .1)
-
-same-length : tie.Need-same-length
-same-length c = search needs
 
 returns-2 : tie.Need-returns-2
 returns-2 c =
@@ -33,11 +18,5 @@ returns-2 c =
 pub write-segment-spec : {M : Type 1} → statement M
 write-segment-spec =
     tie.close
-    (tie.spec
-    segment-fault-requires
-    enum-known-field
-    enum-told
-    fill-segment-requires
-    returns
-    same-length
-    returns-2)
+    (tie.spec (λ c κs. search needs) (λ c. search needs) (λ c. search needs) (λ c κs. search needs) returns
+    (λ c. search needs) returns-2)

@@ -6,24 +6,15 @@ use borrow.Author.Needs.{needs}
 use Rattle.sender_slot.proofs.begin.Statement.{statement}
 use Rattle.sender_slot.proofs.begin.Tie as tie
 
-fits-piece-requires : tie.Need-fits-piece-requires
-fits-piece-requires c κs = search needs
-
 returns : tie.Need-returns
 unfolding firstStep
 returns c = rw (← (c .before .fits-piece .ensures), not-true (c .before .fits-piece .result) (c .if1 .taken))
-
-sequence-after-requires : tie.Need-sequence-after-requires
-sequence-after-requires c κs = search needs
 
 sub-left : tie.Need-sub-left
 sub-left c =
     let s = c .before .before in
     let a = s .before .args in
     fits-small (a .room) (a .total) (a .start) (a .len) true (a .ack) (rw (s .fits-piece .ensures) at (not-false (s .fits-piece .result) (c .before .if1 .left)))
-
-slot-for-requires : tie.Need-slot-for-requires
-slot-for-requires c κs = search needs
 
 returns-2 : tie.Need-returns-2
 unfolding firstStep
@@ -34,10 +25,4 @@ returns-2 c =
 pub begin-spec : {M : Type 1} → statement M
 begin-spec =
     tie.close
-    (tie.spec
-    fits-piece-requires
-    returns
-    sequence-after-requires
-    sub-left
-    slot-for-requires
-    returns-2)
+    (tie.spec (λ c κs. search needs) returns (λ c κs. search needs) sub-left (λ c κs. search needs) returns-2)

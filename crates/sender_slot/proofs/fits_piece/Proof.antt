@@ -3,21 +3,6 @@ use borrow.Author.Needs.{needs}
 use Rattle.sender_slot.proofs.fits_piece.Statement.{statement}
 use Rattle.sender_slot.proofs.fits_piece.Tie as tie
 
-size-for-requires : tie.Need-size-for-requires
-size-for-requires c κs = search needs
-
-header-size-requires : tie.Need-header-size-requires
-header-size-requires c κs = search needs
-
-either-requires : tie.Need-either-requires
-either-requires c κs = search needs
-
-both-requires : tie.Need-both-requires
-both-requires c κs = search needs
-
-both-requires-2 : tie.Need-both-requires-2
-both-requires-2 c κs = search needs
-
 returns : tie.Need-returns
 unfolding fitsPiece
 returns c =
@@ -32,10 +17,5 @@ returns c =
 pub fits-piece-spec : {M : Type 1} → statement M
 fits-piece-spec =
     tie.close
-    (tie.spec
-    size-for-requires
-    header-size-requires
-    either-requires
-    both-requires
-    both-requires-2
-    returns)
+    (tie.spec (λ c κs. search needs) (λ c κs. search needs) (λ c κs. search needs) (λ c κs. search needs)
+    (λ c κs. search needs) returns)

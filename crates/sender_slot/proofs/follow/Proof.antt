@@ -5,24 +5,15 @@ use borrow.Author.Needs.{needs}
 use Rattle.sender_slot.proofs.follow.Statement.{statement}
 use Rattle.sender_slot.proofs.follow.Tie as tie
 
-next-fits-requires : tie.Need-next-fits-requires
-next-fits-requires c κs = search needs
-
 returns : tie.Need-returns
 unfolding nextStep
 returns c = rw (← (c .before .next-fits .ensures), not-true (c .before .next-fits .result) (c .if1 .taken))
-
-sequence-after-requires : tie.Need-sequence-after-requires
-sequence-after-requires c κs = search needs
 
 sub-rest : tie.Need-sub-rest
 sub-rest c =
     let s = c .before .before in
     let a = s .before .args in
     next-small (a .room) (a .id) (a .left) (a .sequence) (a .head) (a .ack) (a .last) (a .start) (a .len) (rw (s .next-fits .ensures) at (not-false (s .next-fits .result) (c .before .if1 .left)))
-
-slot-for-requires : tie.Need-slot-for-requires
-slot-for-requires c κs = search needs
 
 returns-2 : tie.Need-returns-2
 unfolding nextStep
@@ -33,10 +24,4 @@ returns-2 c =
 pub follow-spec : {M : Type 1} → statement M
 follow-spec =
     tie.close
-    (tie.spec
-    next-fits-requires
-    returns
-    sequence-after-requires
-    sub-rest
-    slot-for-requires
-    returns-2)
+    (tie.spec (λ c κs. search needs) returns (λ c κs. search needs) sub-rest (λ c κs. search needs) returns-2)

@@ -3,30 +3,6 @@ use borrow.Author.Needs.{needs}
 use Rattle.slot.proofs.are_lawful.Statement.{statement}
 use Rattle.slot.proofs.are_lawful.Tie as tie
 
-lane-of-requires : tie.Need-lane-of-requires
-lane-of-requires c κs = search needs
-
-lane-lawful-requires : tie.Need-lane-lawful-requires
-lane-lawful-requires c κs = search needs
-
-lane-of-requires-2 : tie.Need-lane-of-requires-2
-lane-of-requires-2 c κs = search needs
-
-lane-lawful-requires-2 : tie.Need-lane-lawful-requires-2
-lane-lawful-requires-2 c κs = search needs
-
-lane-of-requires-3 : tie.Need-lane-of-requires-3
-lane-of-requires-3 c κs = search needs
-
-lane-lawful-requires-3 : tie.Need-lane-lawful-requires-3
-lane-lawful-requires-3 c κs = search needs
-
-both-requires : tie.Need-both-requires
-both-requires c κs = search needs
-
-both-requires-2 : tie.Need-both-requires-2
-both-requires-2 c κs = search needs
-
 returns : tie.Need-returns
 returns c =
     let s = c .before .before .before .before .before .before .before .before in
@@ -45,13 +21,5 @@ returns c =
 pub are-lawful-spec : {M : Type 1} → statement M
 are-lawful-spec =
     tie.close
-    (tie.spec
-    lane-of-requires
-    lane-lawful-requires
-    lane-of-requires-2
-    lane-lawful-requires-2
-    lane-of-requires-3
-    lane-lawful-requires-3
-    both-requires
-    both-requires-2
-    returns)
+    (tie.spec (λ c κs. search needs) (λ c κs. search needs) (λ c κs. search needs) (λ c κs. search needs)
+    (λ c κs. search needs) (λ c κs. search needs) (λ c κs. search needs) (λ c κs. search needs) returns)

@@ -3,14 +3,8 @@ use borrow.Author.Needs.{needs}
 use Rattle.slot.proofs.each_lawful.Statement.{statement}
 use Rattle.slot.proofs.each_lawful.Tie as tie
 
-is-lawful-requires : tie.Need-is-lawful-requires
-is-lawful-requires c κs = search needs
-
 returns : tie.Need-returns
 returns c = rw (← c .before .is-lawful .ensures, not-true (c .before .is-lawful .result) (c .if1 .taken))
-
-is-lawful-requires-2 : tie.Need-is-lawful-requires-2
-is-lawful-requires-2 c κs = search needs
 
 returns-2 : tie.Need-returns-2
 returns-2 c =
@@ -20,9 +14,6 @@ returns-2 c =
       ← c .before .is-lawful2 .ensures,
       not-true (c .before .is-lawful2 .result) (c .if2 .taken),
     )
-
-is-lawful-requires-3 : tie.Need-is-lawful-requires-3
-is-lawful-requires-3 c κs = search needs
 
 returns-3 : tie.Need-returns-3
 returns-3 c =
@@ -34,9 +25,6 @@ returns-3 c =
       ← c .before .is-lawful3 .ensures,
       not-true (c .before .is-lawful3 .result) (c .if3 .taken),
     )
-
-is-lawful-requires-4 : tie.Need-is-lawful-requires-4
-is-lawful-requires-4 c κs = search needs
 
 returns-4 : tie.Need-returns-4
 returns-4 c =
@@ -53,12 +41,5 @@ returns-4 c =
 pub each-lawful-spec : {M : Type 1} → statement M
 each-lawful-spec =
     tie.close
-    (tie.spec
-    is-lawful-requires
-    returns
-    is-lawful-requires-2
-    returns-2
-    is-lawful-requires-3
-    returns-3
-    is-lawful-requires-4
-    returns-4)
+    (tie.spec (λ c κs. search needs) returns (λ c κs. search needs) returns-2 (λ c κs. search needs) returns-3
+    (λ c κs. search needs) returns-4)

@@ -2,25 +2,13 @@ use borrow.Author.Needs.{needs}
 use Rattle.slot_steps.proofs.act_on.Statement.{statement}
 use Rattle.slot_steps.proofs.act_on.Tie as tie
 
-enum-known-packet : tie.Need-enum-known-packet
-enum-known-packet c = search needs
-
 begin-requires : tie.Need-begin-requires
 begin-requires c κs =
     let p = rw (c .before .packet .given .1) at (c .before .before .before .pre .1) in
     (c .before .before .before .pre .0, p .0, p .1)
 
-enum-known-packet-2 : tie.Need-enum-known-packet-2
-enum-known-packet-2 c = search needs
-
 follow-requires : tie.Need-follow-requires
 follow-requires c κs = (c .before .before .before .pre .0, rw (c .before .packet2 .given .1) at (c .before .before .before .pre .1))
-
-enum-known-packet-3 : tie.Need-enum-known-packet-3
-enum-known-packet-3 c = search needs
-
-enum-known-packet-4 : tie.Need-enum-known-packet-4
-enum-known-packet-4 c = search needs
 
 returns : tie.Need-returns
 returns c = rw (c .before .before .packet .given .1) (c .begin .ensures)
@@ -37,14 +25,5 @@ returns-4 c = rw (c .before .packet4 .given .1)
 pub act-on-spec : {M : Type 1} → statement M
 act-on-spec =
     tie.close
-    (tie.spec
-    enum-known-packet
-    begin-requires
-    enum-known-packet-2
-    follow-requires
-    enum-known-packet-3
-    enum-known-packet-4
-    returns
-    returns-2
-    returns-3
-    returns-4)
+    (tie.spec (λ c. search needs) begin-requires (λ c. search needs) follow-requires (λ c. search needs)
+    (λ c. search needs) returns returns-2 returns-3 returns-4)

@@ -6,15 +6,6 @@ use borrow.Author.Needs.{needs}
 use Rattle.slot_steps.proofs.begin.Statement.{statement}
 use Rattle.slot_steps.proofs.begin.Tie as tie
 
-find-first-requires : tie.Need-find-first-requires
-find-first-requires c κs = search needs
-
-enum-told : tie.Need-enum-told
-enum-told c = search needs
-
-enum-known-spot : tie.Need-enum-known-spot
-enum-known-spot c = search needs
-
 mul-slot : tie.Need-mul-slot
 mul-slot c =
     let e = rw (c .before .spot .given .1) at (c .before .before .before .find-first .ensures) in
@@ -36,9 +27,6 @@ add-on-first c =
     let l = chosen-below (s .args .t2) (s .args .head .id) (c .before .before .spot .given .0 .0) (s .good .1 .0 .1 .0 .1) e in
     omega (arith, l, s .pre .0)
 
-on-first-requires : tie.Need-on-first-requires
-on-first-requires c κs = search needs
-
 returns : tie.Need-returns
 returns c = rw (← c .before .before .find-first .ensures, c .enum-told .given .1)
 
@@ -50,13 +38,5 @@ returns-2 c =
 pub begin-spec : {M : Type 1} → statement M
 begin-spec =
     tie.close
-    (tie.spec
-    find-first-requires
-    enum-told
-    enum-known-spot
-    mul-slot
-    array-copy-out-slot
-    add-on-first
-    on-first-requires
-    returns
-    returns-2)
+    (tie.spec (λ c κs. search needs) (λ c. search needs) (λ c. search needs) mul-slot array-copy-out-slot add-on-first
+    (λ c κs. search needs) returns returns-2)

@@ -3,12 +3,9 @@ use borrow.Author.Needs.{needs}
 use Rattle.slot_steps.proofs.drop_by.Statement.{statement}
 use Rattle.slot_steps.proofs.drop_by.Tie as tie
 
-idle-requires : tie.Need-idle-requires
-idle-requires c κs = search needs
-
 returns : tie.Need-returns
 unfolding stepOf dropBy
 returns c = simp (c .idle .ensures)
 
 pub drop-by-spec : {M : Type 1} → statement M
-drop-by-spec = tie.close (tie.spec idle-requires returns)
+drop-by-spec = tie.close (tie.spec (λ c κs. search needs) returns)

@@ -3,12 +3,9 @@ use borrow.Author.Needs.{needs}
 use Rattle.slot_steps.proofs.finish.Statement.{statement}
 use Rattle.slot_steps.proofs.finish.Tie as tie
 
-idle-requires : tie.Need-idle-requires
-idle-requires c κs = search needs
-
 returns : tie.Need-returns
 unfolding stepOf finish
 returns c = simp (c .idle .ensures)
 
 pub finish-spec : {M : Type 1} → statement M
-finish-spec = tie.close (tie.spec idle-requires returns)
+finish-spec = tie.close (tie.spec (λ c κs. search needs) returns)

@@ -6,15 +6,6 @@ use borrow.Author.Needs.{needs}
 use Rattle.slot_steps.proofs.follow.Statement.{statement}
 use Rattle.slot_steps.proofs.follow.Tie as tie
 
-find-open-requires : tie.Need-find-open-requires
-find-open-requires c κs = search needs
-
-enum-told : tie.Need-enum-told
-enum-told c = search needs
-
-enum-known-spot : tie.Need-enum-known-spot
-enum-known-spot c = search needs
-
 mul-slot : tie.Need-mul-slot
 mul-slot c =
     let e = rw (c .before .spot .given .1) at (c .before .before .before .find-open .ensures) in
@@ -36,9 +27,6 @@ add-on-next c =
     let l = open-below (s .args .t2) (s .args .head .id) (c .before .before .spot .given .0 .0) (s .good .1 .0 .1 .0 .1) e in
     omega (arith, l, s .pre .0)
 
-on-next-requires : tie.Need-on-next-requires
-on-next-requires c κs = search needs
-
 returns : tie.Need-returns
 returns c = rw (← c .before .before .find-open .ensures, c .enum-told .given .1)
 
@@ -50,13 +38,5 @@ returns-2 c =
 pub follow-spec : {M : Type 1} → statement M
 follow-spec =
     tie.close
-    (tie.spec
-    find-open-requires
-    enum-told
-    enum-known-spot
-    mul-slot
-    array-copy-out-slot
-    add-on-next
-    on-next-requires
-    returns
-    returns-2)
+    (tie.spec (λ c κs. search needs) (λ c. search needs) (λ c. search needs) mul-slot array-copy-out-slot add-on-next
+    (λ c κs. search needs) returns returns-2)

@@ -4,22 +4,15 @@ use borrow.Author.Needs.{needs}
 use Rattle.slot_steps.proofs.on_first.Statement.{statement}
 use Rattle.slot_steps.proofs.on_first.Tie as tie
 
-opens-requires : tie.Need-opens-requires
-opens-requires c κs = search needs
-
-finish-requires : tie.Need-finish-requires
-finish-requires c κs = search needs
-
 returns : tie.Need-returns
 unfolding firstStep
 returns c = rw (eq-eqb _ _ (c .before .if1 .taken), ← c .before .before .opens .ensures) (c .finish .ensures)
-
-hold-requires : tie.Need-hold-requires
-hold-requires c κs = search needs
 
 returns-2 : tie.Need-returns-2
 unfolding firstStep
 returns-2 c = rw (ne-eqb _ _ (c .before .if1 .left), ← c .before .before .opens .ensures) (c .hold .ensures)
 
 pub on-first-spec : {M : Type 1} → statement M
-on-first-spec = tie.close (tie.spec opens-requires finish-requires returns hold-requires returns-2)
+on-first-spec =
+    tie.close
+    (tie.spec (λ c κs. search needs) (λ c κs. search needs) returns (λ c κs. search needs) returns-2)

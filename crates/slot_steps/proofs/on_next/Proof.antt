@@ -11,30 +11,9 @@ use Rattle.slot_steps.proofs.on_next.Tie as tie
 below : (n k : ℕ) → n < k → k < 65536 → n < 65536
 below n k l h = omega arith
 
-sequence-after-requires : tie.Need-sequence-after-requires
-sequence-after-requires c κs = search needs
-
-drop-by-requires : tie.Need-drop-by-requires
-drop-by-requires c κs = search needs
-
 returns : tie.Need-returns
 unfolding nextStep
 returns c = rw (← c .before .before .before .sequence-after .ensures .0, ne-eqb _ _ (c .before .if1 .taken)) (c .drop-by .ensures)
-
-wide-requires : tie.Need-wide-requires
-wide-requires c κs = search needs
-
-wide-requires-2 : tie.Need-wide-requires-2
-wide-requires-2 c κs = search needs
-
-add-off-total : tie.Need-add-off-total
-add-off-total c = search needs
-
-off-total-requires : tie.Need-off-total-requires
-off-total-requires c κs = search needs
-
-drop-by-requires-2 : tie.Need-drop-by-requires-2
-drop-by-requires-2 c κs = search needs
 
 returns-2 : tie.Need-returns-2
 unfolding nextStep
@@ -50,15 +29,6 @@ returns-2 c =
       c .before .if2 .taken,
     )
     (c .drop-by2 .ensures)
-
-wants-requires : tie.Need-wants-requires
-wants-requires c κs = search needs
-
-either-requires : tie.Need-either-requires
-either-requires c κs = search needs
-
-finish-requires : tie.Need-finish-requires
-finish-requires c κs = search needs
 
 returns-3 : tie.Need-returns-3
 unfolding nextStep
@@ -110,19 +80,6 @@ returns-4 c =
 pub on-next-spec : {M : Type 1} → statement M
 on-next-spec =
     tie.close
-    (tie.spec
-    sequence-after-requires
-    drop-by-requires
-    returns
-    wide-requires
-    wide-requires-2
-    add-off-total
-    off-total-requires
-    drop-by-requires-2
-    returns-2
-    wants-requires
-    either-requires
-    finish-requires
-    returns-3
-    hold-requires
-    returns-4)
+    (tie.spec (λ c κs. search needs) (λ c κs. search needs) returns (λ c κs. search needs) (λ c κs. search needs)
+    (λ c. search needs) (λ c κs. search needs) (λ c κs. search needs) returns-2 (λ c κs. search needs)
+    (λ c κs. search needs) (λ c κs. search needs) returns-3 hold-requires returns-4)

@@ -8,12 +8,6 @@ use Rattle.tally.proofs.Taking.{limit-refused, lent-refused, taken-is, 
 use Rattle.tally.proofs.add_by_value.Statement.{statement}
 use Rattle.tally.proofs.add_by_value.Tie as tie
 
-limit-fits-requires : tie.Need-limit-fits-requires
-limit-fits-requires c κs = search needs
-
-refuse-requires : tie.Need-refuse-requires
-refuse-requires c κs = search needs
-
 returns : tie.Need-returns
 returns c =
     let s = c .before .before .before .before .before in
@@ -22,9 +16,6 @@ returns c =
 
 lent-fits-requires : tie.Need-lent-fits-requires
 lent-fits-requires c κs = sym (c .before .limit-fits .ensures) ∙ not-false (c .before .limit-fits .result) (c .if1 .left)
-
-refuse-requires-2 : tie.Need-refuse-requires-2
-refuse-requires-2 c κs = search needs
 
 returns-2 : tie.Need-returns-2
 returns-2 c =
@@ -36,23 +27,8 @@ returns-2 c =
           (sym (f .lent-fits .ensures) ∙ not-true (f .lent-fits .result) (c .before .if2 .taken)),
     )
 
-check-requires : tie.Need-check-requires
-check-requires c κs = search needs
-
-enum-known-checked : tie.Need-enum-known-checked
-enum-known-checked c = search needs
-
-refuse-requires-3 : tie.Need-refuse-requires-3
-refuse-requires-3 c κs = search needs
-
-enum-told : tie.Need-enum-told
-enum-told c = search needs
-
 pass-requires : tie.Need-pass-requires
 pass-requires c κs = sym (c .before .before .before .check .ensures) ∙ ap soundnessTold (c .before .enum-told .given .1)
-
-answer-of-requires : tie.Need-answer-of-requires
-answer-of-requires c κs = search needs
 
 returns-3 : tie.Need-returns-3
 returns-3 c =
@@ -64,9 +40,6 @@ returns-3 c =
           (sym (c .before .before .before .before .before .before .lent-fits .ensures) ∙ not-false (c .before .before .before .before .before .before .lent-fits .result) (c .before .before .before .before .before .if2 .left)),
       unsound (now (s .args .capture)) _ why,
     )
-
-same-length : tie.Need-same-length
-same-length c = search needs
 
 returns-4 : tie.Need-returns-4
 returns-4 c =
@@ -81,19 +54,6 @@ returns-4 c =
 pub add-by-value-spec : {M : Type 1} → statement M
 add-by-value-spec =
     tie.close
-    (tie.spec
-    limit-fits-requires
-    refuse-requires
-    returns
-    lent-fits-requires
-    refuse-requires-2
-    returns-2
-    check-requires
-    enum-known-checked
-    refuse-requires-3
-    enum-told
-    pass-requires
-    answer-of-requires
-    returns-3
-    same-length
-    returns-4)
+    (tie.spec (λ c κs. search needs) (λ c κs. search needs) returns lent-fits-requires (λ c κs. search needs)
+    returns-2 (λ c κs. search needs) (λ c. search needs) (λ c κs. search needs) (λ c. search needs) pass-requires
+    (λ c κs. search needs) returns-3 (λ c. search needs) returns-4)

@@ -7,11 +7,5 @@ use Rattle.tally.proofs.lent_fits.Tie as tie
 mul-both : tie.Need-mul-both
 mul-both c = omega (arith, limit-range (c .args .limit) (c .pre) .1)
 
-both-requires : tie.Need-both-requires
-both-requires c κs = search needs
-
-returns : tie.Need-returns
-returns c = search needs
-
 pub lent-fits-spec : {M : Type 1} → statement M
-lent-fits-spec = tie.close (tie.spec mul-both both-requires returns)
+lent-fits-spec = tie.close (tie.spec mul-both (λ c κs. search needs) (λ c. search needs))

@@ -19,25 +19,13 @@ Inv-loop limit buffer₀ capture at₀ tally₀ buffer at tally = Passing limit 
 abbrev μ-loop : tie.MeasureT-loop
 μ-loop limit buffer₀ capture at₀ tally₀ buffer at tally = length capture - at
 
-idle-row-requires : tie.Need-idle-row-requires Inv-loop μ-loop
-idle-row-requires c κs = search needs
-
 loop-holds : tie.Need-loop-holds Inv-loop μ-loop
 loop-holds c = passing-begins _ _ _ _ (c .before .before .before .pre)
-
-shared-slice-read-pair : tie.Need-shared-slice-read-pair Inv-loop μ-loop
-shared-slice-read-pair c = search needs
-
-add-pair : tie.Need-add-pair Inv-loop μ-loop
-add-pair c = search needs
 
 shared-slice-read-pair-2 : tie.Need-shared-slice-read-pair-2 Inv-loop μ-loop
 shared-slice-read-pair-2 c =
     let l = c .before .before .before in
     omega (arith, packet-lies _ _ _ _ (l .before .before .before .before .pre) (l .loop .inv) (c .before .before .loop-test .taken))
-
-pair-requires : tie.Need-pair-requires Inv-loop μ-loop
-pair-requires c κs = search needs
 
 -- the length that was read
 read : (c : tie.After-pair Inv-loop μ-loop)
@@ -59,17 +47,8 @@ add-start c = omega (arith, within c)
 add-next : tie.Need-add-next Inv-loop μ-loop
 add-next c = omega (arith, within c)
 
-sub-take : tie.Need-sub-take Inv-loop μ-loop
-sub-take c = search needs
-
-part-take-start : tie.Need-part-take-start Inv-loop μ-loop
-part-take-start c = search needs
-
 part-take-end : tie.Need-part-take-end Inv-loop μ-loop
 part-take-end c = omega (arith, within (c .before))
-
-take-requires : tie.Need-take-requires Inv-loop μ-loop
-take-requires c κs = search needs
 
 loop-less : tie.Need-loop-less Inv-loop μ-loop
 loop-less c = omega (arith, within (c .before .before .before .before .before))
@@ -86,12 +65,6 @@ loop-again c =
     passing-goes _ _ _ _ (s .pre) (l .loop .inv) (k .before .before .before .loop-test .taken) n _ _ _ (read k)
     (ap (λ (i : ℕ). take i (drop (at + width) bytes)) z) (c .before .before .take .ensures) (search needs)
 
-open-report-requires : tie.Need-open-report-requires Inv-loop μ-loop
-open-report-requires c κs = search needs
-
-with-requires : tie.Need-with-requires Inv-loop μ-loop
-with-requires c κs = search needs
-
 same-length : tie.Need-same-length Inv-loop μ-loop
 same-length c = c .before .before .before .before .loop .inv .size
 
@@ -107,24 +80,7 @@ returns c =
 pub pass-spec : {M : Type 1} → statement M
 pass-spec =
     tie.close
-    (tie.spec
-    Inv-loop
-    μ-loop
-    idle-row-requires
-    loop-holds
-    shared-slice-read-pair
-    add-pair
-    shared-slice-read-pair-2
-    pair-requires
-    add-start
-    add-next
-    sub-take
-    part-take-start
-    part-take-end
-    take-requires
-    loop-less
-    loop-again
-    open-report-requires
-    with-requires
-    same-length
-    returns)
+    (tie.spec Inv-loop μ-loop (λ c κs. search needs) loop-holds (λ c. search needs) (λ c. search needs)
+    shared-slice-read-pair-2 (λ c κs. search needs) add-start add-next (λ c. search needs) (λ c. search needs)
+    part-take-end (λ c κs. search needs) loop-less loop-again (λ c κs. search needs) (λ c κs. search needs)
+    same-length returns)

@@ -5,19 +5,10 @@ use borrow.Author.Needs.{needs}
 use Rattle.tally.proofs.with_slot.Statement.{statement}
 use Rattle.tally.proofs.with_slot.Tie as tie
 
-mul-row : tie.Need-mul-row
-mul-row c = search needs
-
-array-set-from-row : tie.Need-array-set-from-row
-array-set-from-row c = search needs
-
-returns : tie.Need-returns
-returns c = search needs
-
 returns-2 : tie.Need-returns-2
 returns-2 c =
     let s = c .before in
     sym (set-past (s .args .slots) (s .args .place) (s .args .slot) (omega (arith, s .good .0 .1 .0 .1)))
 
 pub with-slot-spec : {M : Type 1} → statement M
-with-slot-spec = tie.close (tie.spec mul-row array-set-from-row returns returns-2)
+with-slot-spec = tie.close (tie.spec (λ c. search needs) (λ c. search needs) (λ c. search needs) returns-2)

@@ -8,27 +8,6 @@ returns : tie.Need-returns
 unfolding captureJudgeOf
 returns c = rw (ne-eqb _ _ (c .if1 .taken))
 
-judge-capture-requires : tie.Need-judge-capture-requires
-judge-capture-requires c κs = search needs
-
-number-requires : tie.Need-number-requires
-number-requires c κs = search needs
-
-wide64-requires : tie.Need-wide64-requires
-wide64-requires c κs = search needs
-
-judged-row-requires : tie.Need-judged-row-requires
-judged-row-requires c κs = search needs
-
-slice-aggregate-put : tie.Need-slice-aggregate-put
-slice-aggregate-put c = search needs
-
-put-requires : tie.Need-put-requires
-put-requires c κs = search needs
-
-same-length : tie.Need-same-length
-same-length c = search needs
-
 returns-2 : tie.Need-returns-2
 unfolding captureJudgeOf
 returns-2 c =
@@ -44,13 +23,5 @@ returns-2 c =
 pub capture-judge-spec : {M : Type 1} → statement M
 capture-judge-spec =
     tie.close
-    (tie.spec
-    returns
-    judge-capture-requires
-    number-requires
-    wide64-requires
-    judged-row-requires
-    slice-aggregate-put
-    put-requires
-    same-length
-    returns-2)
+    (tie.spec returns (λ c κs. search needs) (λ c κs. search needs) (λ c κs. search needs) (λ c κs. search needs)
+    (λ c. search needs) (λ c κs. search needs) (λ c. search needs) returns-2)

@@ -2,26 +2,8 @@ use borrow.Author.Needs.{needs}
 use Rattle.calls_captures.proofs.convert.judged_row.Statement.{statement}
 use Rattle.calls_captures.proofs.convert.judged_row.Tie as tie
 
-enum-known-answer : tie.Need-enum-known-answer
-enum-known-answer c = search needs
-
-enum-told : tie.Need-enum-told
-enum-told c = search needs
-
-enum-told-2 : tie.Need-enum-told-2
-enum-told-2 c = search needs
-
-enum-known-answer-2 : tie.Need-enum-known-answer-2
-enum-known-answer-2 c = search needs
-
 returns : tie.Need-returns
 returns c = rw (c .before .answer .given .1)
-
-returns-2 : tie.Need-returns-2
-returns-2 c = search needs
-
-returns-3 : tie.Need-returns-3
-returns-3 c = search needs
 
 returns-4 : tie.Need-returns-4
 returns-4 c = rw (c .before .answer2 .given .1)
@@ -29,12 +11,5 @@ returns-4 c = rw (c .before .answer2 .given .1)
 pub judged-row-spec : {M : Type 1} → statement M
 judged-row-spec =
     tie.close
-    (tie.spec
-    enum-known-answer
-    enum-told
-    enum-told-2
-    enum-known-answer-2
-    returns
-    returns-2
-    returns-3
-    returns-4)
+    (tie.spec (λ c. search needs) (λ c. search needs) (λ c. search needs) (λ c. search needs) returns
+    (λ c. search needs) (λ c. search needs) returns-4)

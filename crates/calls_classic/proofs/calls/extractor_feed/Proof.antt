@@ -9,36 +9,12 @@ returns : tie.Need-returns
 unfolding extractorFeedOf noneUsed
 returns c = rw (ne-eqb _ _ (c .if1 .taken))
 
-is-extractor-requires : tie.Need-is-extractor-requires
-is-extractor-requires c κs = search needs
-
-unfit-feed-requires : tie.Need-unfit-feed-requires
-unfit-feed-requires c κs = search needs
-
-same-length : tie.Need-same-length
-same-length c = search needs
-
-same-length-2 : tie.Need-same-length-2
-same-length-2 c = search needs
-
 returns-2 : tie.Need-returns-2
 unfolding extractorFeedOf
 returns-2 c = rw (eq-eqb _ _ (c .before .before .before .before .before .before .before .if1 .left), ← (c .before .before .before .before .before .is-extractor .ensures), not-true (c .before .before .before .before .before .is-extractor .result) (c .before .before .before .before .if2 .taken), c .before .before .unfit-feed .ensures .0, c .before .before .unfit-feed .ensures .1)
 
 extractor-of-requires : tie.Need-extractor-of-requires
 extractor-of-requires c κs = sym (c .before .before .is-extractor .ensures) ∙ not-false (c .before .before .is-extractor .result) (c .before .if2 .left)
-
-is-ready-requires : tie.Need-is-ready-requires
-is-ready-requires c κs = search needs
-
-unfit-feed-requires-2 : tie.Need-unfit-feed-requires-2
-unfit-feed-requires-2 c κs = search needs
-
-same-length-3 : tie.Need-same-length-3
-same-length-3 c = search needs
-
-same-length-4 : tie.Need-same-length-4
-same-length-4 c = search needs
 
 returns-3 : tie.Need-returns-3
 unfolding extractorFeedOf noneUsed
@@ -47,15 +23,6 @@ returns-3 c = rw (c .before .before .unfit-feed2 .ensures .0, c .before .before 
 feed-fitting-requires : tie.Need-feed-fitting-requires
 feed-fitting-requires c κs = (sym (c .before .before .before .before .before .before .before .before .before .is-extractor .ensures) ∙ not-false (c .before .before .before .before .before .before .before .before .before .is-extractor .result) (c .before .before .before .before .before .before .before .before .if2 .left), c .before .before .before .before .before .before .before .before .before .before .before .if1 .left)
 
-same-length-5 : tie.Need-same-length-5
-same-length-5 c = search needs
-
-same-length-6 : tie.Need-same-length-6
-same-length-6 c = search needs
-
-same-length-7 : tie.Need-same-length-7
-same-length-7 c = search needs
-
 returns-4 : tie.Need-returns-4
 unfolding extractorFeedOf
 returns-4 c = rw (eq-eqb _ _ (c .before .before .before .before .before .before .before .before .before .before .before .before .before .before .before .before .before .before .if1 .left), ← (c .before .before .before .before .before .before .before .before .before .before .before .before .before .before .before .before .is-extractor .ensures), not-false (c .before .before .before .before .before .before .before .before .before .before .before .before .before .before .before .before .is-extractor .result) (c .before .before .before .before .before .before .before .before .before .before .before .before .before .before .before .if2 .left)) (c .before .before .before .before .before .before .feed-fitting .ensures)
@@ -63,21 +30,6 @@ returns-4 c = rw (eq-eqb _ _ (c .before .before .before .before .before .before 
 pub extractor-feed-spec : {M : Type 1} → statement M
 extractor-feed-spec =
     tie.close
-    (tie.spec
-    returns
-    is-extractor-requires
-    unfit-feed-requires
-    same-length
-    same-length-2
-    returns-2
-    extractor-of-requires
-    is-ready-requires
-    unfit-feed-requires-2
-    same-length-3
-    same-length-4
-    returns-3
-    feed-fitting-requires
-    same-length-5
-    same-length-6
-    same-length-7
-    returns-4)
+    (tie.spec returns (λ c κs. search needs) (λ c κs. search needs) (λ c. search needs) (λ c. search needs) returns-2
+    extractor-of-requires (λ c κs. search needs) (λ c κs. search needs) (λ c. search needs) (λ c. search needs)
+    returns-3 feed-fitting-requires (λ c. search needs) (λ c. search needs) (λ c. search needs) returns-4)

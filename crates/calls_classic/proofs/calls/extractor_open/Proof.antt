@@ -8,27 +8,6 @@ returns : tie.Need-returns
 unfolding extractorOpenOf
 returns c = rw (ne-eqb _ _ (c .if1 .taken))
 
-open-requires : tie.Need-open-requires
-open-requires c κs = search needs
-
-enum-known-next : tie.Need-enum-known-next
-enum-known-next c = search needs
-
-extractor-row-requires : tie.Need-extractor-row-requires
-extractor-row-requires c κs = search needs
-
-slice-aggregate-write-row : tie.Need-slice-aggregate-write-row
-slice-aggregate-write-row c = search needs
-
-write-row-requires : tie.Need-write-row-requires
-write-row-requires c κs = search needs
-
-enum-told : tie.Need-enum-told
-enum-told c = search needs
-
-same-length : tie.Need-same-length
-same-length c = search needs
-
 returns-2 : tie.Need-returns-2
 unfolding extractorOpenOf
 returns-2 c =
@@ -51,14 +30,5 @@ returns-3 c =
 pub extractor-open-spec : {M : Type 1} → statement M
 extractor-open-spec =
     tie.close
-    (tie.spec
-    returns
-    open-requires
-    enum-known-next
-    extractor-row-requires
-    slice-aggregate-write-row
-    write-row-requires
-    enum-told
-    same-length
-    returns-2
-    returns-3)
+    (tie.spec returns (λ c κs. search needs) (λ c. search needs) (λ c κs. search needs) (λ c. search needs)
+    (λ c κs. search needs) (λ c. search needs) (λ c. search needs) returns-2 returns-3)

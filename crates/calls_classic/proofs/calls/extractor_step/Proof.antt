@@ -9,12 +9,6 @@ returns : tie.Need-returns
 unfolding extractorStepOf
 returns c = rw (ne-eqb _ _ (c .if1 .taken))
 
-is-extractor-requires : tie.Need-is-extractor-requires
-is-extractor-requires c κs = search needs
-
-same-length : tie.Need-same-length
-same-length c = search needs
-
 returns-2 : tie.Need-returns-2
 unfolding extractorStepOf
 returns-2 c =
@@ -28,15 +22,6 @@ step-fitting-requires : tie.Need-step-fitting-requires
 step-fitting-requires c κs =
     let fit = c .before .before .before in
     (sym (fit .before .is-extractor .ensures) ∙ not-false (fit .before .is-extractor .result) (fit .if2 .left), fit .before .before .before .if1 .left)
-
-same-length-2 : tie.Need-same-length-2
-same-length-2 c = search needs
-
-same-length-3 : tie.Need-same-length-3
-same-length-3 c = search needs
-
-same-length-4 : tie.Need-same-length-4
-same-length-4 c = search needs
 
 returns-3 : tie.Need-returns-3
 unfolding extractorStepOf
@@ -53,13 +38,5 @@ returns-3 c =
 pub extractor-step-spec : {M : Type 1} → statement M
 extractor-step-spec =
     tie.close
-    (tie.spec
-    returns
-    is-extractor-requires
-    same-length
-    returns-2
-    step-fitting-requires
-    same-length-2
-    same-length-3
-    same-length-4
-    returns-3)
+    (tie.spec returns (λ c κs. search needs) (λ c. search needs) returns-2 step-fitting-requires (λ c. search needs)
+    (λ c. search needs) (λ c. search needs) returns-3)

@@ -8,24 +8,6 @@ returns : tie.Need-returns
 unfolding frameWriteOf
 returns c = rw (ne-eqb _ _ (c .if1 .taken))
 
-byte-or-requires : tie.Need-byte-or-requires
-byte-or-requires c κs = search needs
-
-write-frame-requires : tie.Need-write-frame-requires
-write-frame-requires c κs = search needs
-
-frame-count-requires : tie.Need-frame-count-requires
-frame-count-requires c κs = search needs
-
-tell-requires : tie.Need-tell-requires
-tell-requires c κs = search needs
-
-same-length : tie.Need-same-length
-same-length c = search needs
-
-same-length-2 : tie.Need-same-length-2
-same-length-2 c = search needs
-
 returns-2 : tie.Need-returns-2
 unfolding frameWriteOf
 returns-2 c =
@@ -43,12 +25,5 @@ returns-2 c =
 pub frame-write-spec : {M : Type 1} → statement M
 frame-write-spec =
     tie.close
-    (tie.spec
-    returns
-    byte-or-requires
-    write-frame-requires
-    frame-count-requires
-    tell-requires
-    same-length
-    same-length-2
-    returns-2)
+    (tie.spec returns (λ c κs. search needs) (λ c κs. search needs) (λ c κs. search needs) (λ c κs. search needs)
+    (λ c. search needs) (λ c. search needs) returns-2)

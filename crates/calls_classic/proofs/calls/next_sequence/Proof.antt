@@ -8,18 +8,6 @@ returns : tie.Need-returns
 unfolding nextSequenceOf
 returns c = rw (ne-eqb _ _ (c .if1 .taken))
 
-next-sequence-requires : tie.Need-next-sequence-requires
-next-sequence-requires c κs = search needs
-
-wide64-requires : tie.Need-wide64-requires
-wide64-requires c κs = search needs
-
-tell-requires : tie.Need-tell-requires
-tell-requires c κs = search needs
-
-same-length : tie.Need-same-length
-same-length c = search needs
-
 returns-2 : tie.Need-returns-2
 unfolding nextSequenceOf
 returns-2 c =
@@ -36,4 +24,5 @@ returns-2 c =
 pub next-sequence-spec : {M : Type 1} → statement M
 next-sequence-spec =
     tie.close
-    (tie.spec returns next-sequence-requires wide64-requires tell-requires same-length returns-2)
+    (tie.spec returns (λ c κs. search needs) (λ c κs. search needs) (λ c κs. search needs) (λ c. search needs)
+    returns-2)

@@ -3,32 +3,8 @@ use borrow.Author.Needs.{needs}
 use Rattle.calls_classic.proofs.calls.step_fitting.Statement.{statement}
 use Rattle.calls_classic.proofs.calls.step_fitting.Tie as tie
 
-extractor-of-requires : tie.Need-extractor-of-requires
-extractor-of-requires c κs = search needs
-
-step-requires : tie.Need-step-requires
-step-requires c κs = search needs
-
-step-reply-requires : tie.Need-step-reply-requires
-step-reply-requires c κs = search needs
-
 put-progress-requires : tie.Need-put-progress-requires
 put-progress-requires c κs = state-long _ (c .before .before .before .before .before .before .before .before .before .before .before .before .before .pre .0)
-
-slice-aggregate-put : tie.Need-slice-aggregate-put
-slice-aggregate-put c = search needs
-
-put-requires : tie.Need-put-requires
-put-requires c κs = search needs
-
-same-length : tie.Need-same-length
-same-length c = search needs
-
-same-length-2 : tie.Need-same-length-2
-same-length-2 c = search needs
-
-same-length-3 : tie.Need-same-length-3
-same-length-3 c = search needs
 
 returns : tie.Need-returns
 returns c =
@@ -49,14 +25,5 @@ returns c =
 pub step-fitting-spec : {M : Type 1} → statement M
 step-fitting-spec =
     tie.close
-    (tie.spec
-    extractor-of-requires
-    step-requires
-    step-reply-requires
-    put-progress-requires
-    slice-aggregate-put
-    put-requires
-    same-length
-    same-length-2
-    same-length-3
-    returns)
+    (tie.spec (λ c κs. search needs) (λ c κs. search needs) (λ c κs. search needs) put-progress-requires
+    (λ c. search needs) (λ c κs. search needs) (λ c. search needs) (λ c. search needs) (λ c. search needs) returns)

@@ -8,9 +8,6 @@ use Rattle.calls_classic.proofs.convert.extractor_of.Tie as tie
 shared-slice-read-phase-of : tie.Need-shared-slice-read-phase-of
 shared-slice-read-phase-of c = let s = c .before .before in omega (arith, state-long (s .args .row .now) (s .pre))
 
-phase-of-requires : tie.Need-phase-of-requires
-phase-of-requires c κs = search needs
-
 shared-slice-read-sequence : tie.Need-shared-slice-read-sequence
 shared-slice-read-sequence c = let s = c .before .before .before .before in omega (arith, state-long (s .args .row .now) (s .pre))
 
@@ -30,11 +27,5 @@ returns c = rw (c .before .before .before .phase-of .ensures)
 pub extractor-of-spec : {M : Type 1} → statement M
 extractor-of-spec =
     tie.close
-    (tie.spec
-    shared-slice-read-phase-of
-    phase-of-requires
-    shared-slice-read-sequence
-    cast-sequence
-    shared-slice-read-held
-    shared-slice-read-limit
-    returns)
+    (tie.spec shared-slice-read-phase-of (λ c κs. search needs) shared-slice-read-sequence cast-sequence
+    shared-slice-read-held shared-slice-read-limit returns)

@@ -8,15 +8,6 @@ returns : tie.Need-returns
 unfolding isExtractor
 returns c = rw (ne-eqb _ _ (c .if1 .taken))
 
-shared-slice-read-both : tie.Need-shared-slice-read-both
-shared-slice-read-both c = search needs
-
-shared-slice-read-both-2 : tie.Need-shared-slice-read-both-2
-shared-slice-read-both-2 c = search needs
-
-both-requires : tie.Need-both-requires
-both-requires c κs = search needs
-
 returns-2 : tie.Need-returns-2
 unfolding isExtractor
 returns-2 c = rw (eq-eqb _ _ (c .before .before .before .if1 .left)) (c .both .ensures)
@@ -24,4 +15,4 @@ returns-2 c = rw (eq-eqb _ _ (c .before .before .before .if1 .left)) (c .both .e
 pub is-extractor-spec : {M : Type 1} → statement M
 is-extractor-spec =
     tie.close
-    (tie.spec returns shared-slice-read-both shared-slice-read-both-2 both-requires returns-2)
+    (tie.spec returns (λ c. search needs) (λ c. search needs) (λ c κs. search needs) returns-2)

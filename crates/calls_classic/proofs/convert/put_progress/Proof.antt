@@ -5,18 +5,6 @@ use borrow.Author.Needs.{needs}
 use Rattle.calls_classic.proofs.convert.put_progress.Statement.{statement}
 use Rattle.calls_classic.proofs.convert.put_progress.Tie as tie
 
-progress-row-requires : tie.Need-progress-row-requires
-progress-row-requires c κs = search needs
-
-slice-aggregate-fill : tie.Need-slice-aggregate-fill
-slice-aggregate-fill c = search needs
-
-fill-requires : tie.Need-fill-requires
-fill-requires c κs = search needs
-
-same-length : tie.Need-same-length
-same-length c = search needs
-
 returns : tie.Need-returns
 returns c =
     let row = c .before .before .before .before .before in
@@ -31,4 +19,4 @@ returns-2 c = rw (eq-eqb _ _ (c .if1 .left))
 pub put-progress-spec : {M : Type 1} → statement M
 put-progress-spec =
     tie.close
-    (tie.spec progress-row-requires slice-aggregate-fill fill-requires same-length returns returns-2)
+    (tie.spec (λ c κs. search needs) (λ c. search needs) (λ c κs. search needs) (λ c. search needs) returns returns-2)

@@ -10,18 +10,6 @@ returns : tie.Need-returns
 unfolding applyReadOf
 returns c = rw (ne-eqb _ _ (c .if1 .taken))
 
-read-apply-requires : tie.Need-read-apply-requires
-read-apply-requires c κs = search needs
-
-verdict-number-requires : tie.Need-verdict-number-requires
-verdict-number-requires c κs = search needs
-
-put-apply-requires : tie.Need-put-apply-requires
-put-apply-requires c κs = search needs
-
-same-length : tie.Need-same-length
-same-length c = search needs
-
 returns-2 : tie.Need-returns-2
 unfolding applyReadOf
 returns-2 c =
@@ -39,10 +27,5 @@ returns-2 c =
 pub apply-read-spec : {M : Type 1} → statement M
 apply-read-spec =
     tie.close
-    (tie.spec
-    returns
-    read-apply-requires
-    verdict-number-requires
-    put-apply-requires
-    same-length
+    (tie.spec returns (λ c κs. search needs) (λ c κs. search needs) (λ c κs. search needs) (λ c. search needs)
     returns-2)

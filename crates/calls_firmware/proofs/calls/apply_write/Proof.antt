@@ -12,15 +12,6 @@ returns-2 : tie.Need-returns-2
 unfolding applyWriteOf
 returns-2 c = rw (eq-eqb _ _ (c .before .if1 .left), ne-eqb _ _ (c .if2 .taken))
 
-bad-row-requires : tie.Need-bad-row-requires
-bad-row-requires c κs = search needs
-
-tell-wrote-requires : tie.Need-tell-wrote-requires
-tell-wrote-requires c κs = search needs
-
-same-length : tie.Need-same-length
-same-length c = search needs
-
 returns-3 : tie.Need-returns-3
 unfolding applyWriteOf applyStored
 returns-3 c =
@@ -32,21 +23,6 @@ returns-3 c =
       c .before .before .tell-wrote .ensures .0,
       c .before .before .tell-wrote .ensures .1,
     )
-
-apply-at-requires : tie.Need-apply-at-requires
-apply-at-requires c κs = search needs
-
-write-apply-requires : tie.Need-write-apply-requires
-write-apply-requires c κs = search needs
-
-tell-wrote-requires-2 : tie.Need-tell-wrote-requires-2
-tell-wrote-requires-2 c κs = search needs
-
-same-length-2 : tie.Need-same-length-2
-same-length-2 c = search needs
-
-same-length-3 : tie.Need-same-length-3
-same-length-3 c = search needs
 
 returns-4 : tie.Need-returns-4
 unfolding applyWriteOf applyStored
@@ -65,16 +41,6 @@ returns-4 c =
 pub apply-write-spec : {M : Type 1} → statement M
 apply-write-spec =
     tie.close
-    (tie.spec
-    returns
-    returns-2
-    bad-row-requires
-    tell-wrote-requires
-    same-length
-    returns-3
-    apply-at-requires
-    write-apply-requires
-    tell-wrote-requires-2
-    same-length-2
-    same-length-3
+    (tie.spec returns returns-2 (λ c κs. search needs) (λ c κs. search needs) (λ c. search needs) returns-3
+    (λ c κs. search needs) (λ c κs. search needs) (λ c κs. search needs) (λ c. search needs) (λ c. search needs)
     returns-4)

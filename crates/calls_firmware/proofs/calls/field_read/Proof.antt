@@ -9,19 +9,10 @@ returns : tie.Need-returns
 unfolding fieldReadOf
 returns c = rw (ne-eqb _ _ (c .if1 .taken))
 
-told-field-requires : tie.Need-told-field-requires
-told-field-requires c κs = search needs
-
-slice-aggregate-put : tie.Need-slice-aggregate-put
-slice-aggregate-put c = search needs
-
 put-requires : tie.Need-put-requires
 put-requires c κs =
     let s = c .before .before .before .before .before .before .before in
     rw (c .before .before .before .told-field .ensures, field-length (s .args .message .now) (s .args .place)) (c .before .before .before .before .if1 .left)
-
-same-length : tie.Need-same-length
-same-length c = search needs
 
 returns-2 : tie.Need-returns-2
 unfolding fieldReadOf
@@ -30,4 +21,4 @@ returns-2 c = rw (eq-eqb _ _ (c .before .before .before .before .before .before 
 pub field-read-spec : {M : Type 1} → statement M
 field-read-spec =
     tie.close
-    (tie.spec returns told-field-requires slice-aggregate-put put-requires same-length returns-2)
+    (tie.spec returns (λ c κs. search needs) (λ c. search needs) put-requires (λ c. search needs) returns-2)

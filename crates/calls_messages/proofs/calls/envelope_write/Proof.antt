@@ -9,27 +9,6 @@ returns : tie.Need-returns
 unfolding envelopeWriteOf
 returns c = rw (ne-eqb _ _ (c .if1 .taken))
 
-payload-for-requires : tie.Need-payload-for-requires
-payload-for-requires c κs = search needs
-
-low-signed-requires : tie.Need-low-signed-requires
-low-signed-requires c κs = search needs
-
-write-envelope-requires : tie.Need-write-envelope-requires
-write-envelope-requires c κs = search needs
-
-count-of-requires : tie.Need-count-of-requires
-count-of-requires c κs = search needs
-
-tell-requires : tie.Need-tell-requires
-tell-requires c κs = search needs
-
-same-length : tie.Need-same-length
-same-length c = search needs
-
-same-length-2 : tie.Need-same-length-2
-same-length-2 c = search needs
-
 returns-2 : tie.Need-returns-2
 unfolding envelopeWriteOf
 returns-2 c =
@@ -46,13 +25,5 @@ returns-2 c =
 pub envelope-write-spec : {M : Type 1} → statement M
 envelope-write-spec =
     tie.close
-    (tie.spec
-    returns
-    payload-for-requires
-    low-signed-requires
-    write-envelope-requires
-    count-of-requires
-    tell-requires
-    same-length
-    same-length-2
-    returns-2)
+    (tie.spec returns (λ c κs. search needs) (λ c κs. search needs) (λ c κs. search needs) (λ c κs. search needs)
+    (λ c κs. search needs) (λ c. search needs) (λ c. search needs) returns-2)

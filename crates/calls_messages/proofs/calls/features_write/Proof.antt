@@ -8,21 +8,6 @@ returns : tie.Need-returns
 unfolding featuresWriteOf
 returns c = rw (ne-eqb _ _ (c .if1 .taken))
 
-write-features-requires : tie.Need-write-features-requires
-write-features-requires c κs = search needs
-
-count-of-requires : tie.Need-count-of-requires
-count-of-requires c κs = search needs
-
-tell-requires : tie.Need-tell-requires
-tell-requires c κs = search needs
-
-same-length : tie.Need-same-length
-same-length c = search needs
-
-same-length-2 : tie.Need-same-length-2
-same-length-2 c = search needs
-
 returns-2 : tie.Need-returns-2
 unfolding featuresWriteOf
 returns-2 c =
@@ -37,11 +22,5 @@ returns-2 c =
 pub features-write-spec : {M : Type 1} → statement M
 features-write-spec =
     tie.close
-    (tie.spec
-    returns
-    write-features-requires
-    count-of-requires
-    tell-requires
-    same-length
-    same-length-2
-    returns-2)
+    (tie.spec returns (λ c κs. search needs) (λ c κs. search needs) (λ c κs. search needs) (λ c. search needs)
+    (λ c. search needs) returns-2)

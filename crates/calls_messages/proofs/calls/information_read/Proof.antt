@@ -10,18 +10,6 @@ returns : tie.Need-returns
 unfolding informationReadOf
 returns c = rw (ne-eqb _ _ (c .if1 .taken))
 
-read-information-requires : tie.Need-read-information-requires
-read-information-requires c κs = search needs
-
-verdict-number-requires : tie.Need-verdict-number-requires
-verdict-number-requires c κs = search needs
-
-put-information-requires : tie.Need-put-information-requires
-put-information-requires c κs = search needs
-
-same-length : tie.Need-same-length
-same-length c = search needs
-
 returns-2 : tie.Need-returns-2
 unfolding informationReadOf
 returns-2 c =
@@ -39,10 +27,5 @@ returns-2 c =
 pub information-read-spec : {M : Type 1} → statement M
 information-read-spec =
     tie.close
-    (tie.spec
-    returns
-    read-information-requires
-    verdict-number-requires
-    put-information-requires
-    same-length
+    (tie.spec returns (λ c κs. search needs) (λ c κs. search needs) (λ c κs. search needs) (λ c. search needs)
     returns-2)

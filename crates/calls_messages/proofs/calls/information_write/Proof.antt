@@ -11,12 +11,6 @@ returns : tie.Need-returns
 unfolding informationWriteOf
 returns c = rw (ne-eqb _ _ (c .if1 .taken))
 
-tell-wrote-requires : tie.Need-tell-wrote-requires
-tell-wrote-requires c κs = search needs
-
-same-length : tie.Need-same-length
-same-length c = search needs
-
 returns-2 : tie.Need-returns-2
 unfolding informationWriteOf
 returns-2 c =
@@ -27,15 +21,6 @@ returns-2 c =
       c .before .before .tell-wrote .ensures .0,
       c .before .before .tell-wrote .ensures .1,
     )
-
-all-signed-requires : tie.Need-all-signed-requires
-all-signed-requires c κs = search needs
-
-tell-wrote-requires-2 : tie.Need-tell-wrote-requires-2
-tell-wrote-requires-2 c κs = search needs
-
-same-length-2 : tie.Need-same-length-2
-same-length-2 c = search needs
 
 returns-3 : tie.Need-returns-3
 unfolding informationWriteOf
@@ -48,26 +33,8 @@ returns-3 c =
       c .before .before .tell-wrote2 .ensures .1,
     )
 
-signed-list-requires : tie.Need-signed-list-requires
-signed-list-requires c κs = search needs
-
-array-share-prefix-list : tie.Need-array-share-prefix-list
-array-share-prefix-list c = search needs
-
 slice-aggregate-write-information : tie.Need-slice-aggregate-write-information
 slice-aggregate-write-information c = rw (c .before .before .signed-list .ensures, length-map)
-
-write-information-requires : tie.Need-write-information-requires
-write-information-requires c κs = search needs
-
-tell-wrote-requires-3 : tie.Need-tell-wrote-requires-3
-tell-wrote-requires-3 c κs = search needs
-
-same-length-3 : tie.Need-same-length-3
-same-length-3 c = search needs
-
-same-length-4 : tie.Need-same-length-4
-same-length-4 c = search needs
 
 returns-4 : tie.Need-returns-4
 unfolding informationWriteOf
@@ -85,20 +52,7 @@ returns-4 c =
 pub information-write-spec : {M : Type 1} → statement M
 information-write-spec =
     tie.close
-    (tie.spec
-    returns
-    tell-wrote-requires
-    same-length
-    returns-2
-    all-signed-requires
-    tell-wrote-requires-2
-    same-length-2
-    returns-3
-    signed-list-requires
-    array-share-prefix-list
-    slice-aggregate-write-information
-    write-information-requires
-    tell-wrote-requires-3
-    same-length-3
-    same-length-4
-    returns-4)
+    (tie.spec returns (λ c κs. search needs) (λ c. search needs) returns-2 (λ c κs. search needs)
+    (λ c κs. search needs) (λ c. search needs) returns-3 (λ c κs. search needs) (λ c. search needs)
+    slice-aggregate-write-information (λ c κs. search needs) (λ c κs. search needs) (λ c. search needs)
+    (λ c. search needs) returns-4)

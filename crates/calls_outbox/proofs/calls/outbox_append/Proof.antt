@@ -8,21 +8,6 @@ returns : tie.Need-returns
 unfolding outboxAppendOf
 returns c = rw (ne-eqb _ _ (c .if1 .taken))
 
-byte-or-requires : tie.Need-byte-or-requires
-byte-or-requires c κs = search needs
-
-append-requires : tie.Need-append-requires
-append-requires c κs = search needs
-
-tell-append-requires : tie.Need-tell-append-requires
-tell-append-requires c κs = search needs
-
-same-length : tie.Need-same-length
-same-length c = search needs
-
-same-length-2 : tie.Need-same-length-2
-same-length-2 c = search needs
-
 returns-2 : tie.Need-returns-2
 unfolding outboxAppendOf
 returns-2 c = rw (eq-eqb _ _ (c .before .before .before .before .before .before .before .before .before .if1 .left), ← (c .before .before .before .before .before .before .before .before .byte-or .ensures), ← (c .before .before .before .before .before .before .append .ensures), c .before .before .tell-append .ensures .0, c .before .before .tell-append .ensures .1)
@@ -30,11 +15,5 @@ returns-2 c = rw (eq-eqb _ _ (c .before .before .before .before .before .before 
 pub outbox-append-spec : {M : Type 1} → statement M
 outbox-append-spec =
     tie.close
-    (tie.spec
-    returns
-    byte-or-requires
-    append-requires
-    tell-append-requires
-    same-length
-    same-length-2
-    returns-2)
+    (tie.spec returns (λ c κs. search needs) (λ c κs. search needs) (λ c κs. search needs) (λ c. search needs)
+    (λ c. search needs) returns-2)

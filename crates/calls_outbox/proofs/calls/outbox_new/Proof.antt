@@ -8,21 +8,6 @@ returns : tie.Need-returns
 unfolding outboxNewOf
 returns c = rw (ne-eqb _ _ (c .if1 .taken))
 
-create-requires : tie.Need-create-requires
-create-requires c κs = search needs
-
-created-count-requires : tie.Need-created-count-requires
-created-count-requires c κs = search needs
-
-tell-requires : tie.Need-tell-requires
-tell-requires c κs = search needs
-
-same-length : tie.Need-same-length
-same-length c = search needs
-
-same-length-2 : tie.Need-same-length-2
-same-length-2 c = search needs
-
 returns-2 : tie.Need-returns-2
 unfolding outboxNewOf
 returns-2 c =
@@ -37,11 +22,5 @@ returns-2 c =
 pub outbox-new-spec : {M : Type 1} → statement M
 outbox-new-spec =
     tie.close
-    (tie.spec
-    returns
-    create-requires
-    created-count-requires
-    tell-requires
-    same-length
-    same-length-2
-    returns-2)
+    (tie.spec returns (λ c κs. search needs) (λ c κs. search needs) (λ c κs. search needs) (λ c. search needs)
+    (λ c. search needs) returns-2)

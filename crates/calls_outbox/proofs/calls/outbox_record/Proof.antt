@@ -8,15 +8,6 @@ returns : tie.Need-returns
 unfolding outboxRecordOf
 returns c = rw (ne-eqb _ _ (c .if1 .taken))
 
-read-requires : tie.Need-read-requires
-read-requires c κs = search needs
-
-tell-record-requires : tie.Need-tell-record-requires
-tell-record-requires c κs = search needs
-
-same-length : tie.Need-same-length
-same-length c = search needs
-
 returns-2 : tie.Need-returns-2
 unfolding outboxRecordOf
 returns-2 c =
@@ -29,4 +20,5 @@ returns-2 c =
 
 pub outbox-record-spec : {M : Type 1} → statement M
 outbox-record-spec =
-    tie.close (tie.spec returns read-requires tell-record-requires same-length returns-2)
+    tie.close
+    (tie.spec returns (λ c κs. search needs) (λ c κs. search needs) (λ c. search needs) returns-2)

@@ -8,45 +8,6 @@ returns : tie.Need-returns
 unfolding frameBeginOf
 returns c = rw (ne-eqb _ _ (c .if1 .taken))
 
-byte-or-requires : tie.Need-byte-or-requires
-byte-or-requires c κs = search needs
-
-begin-requires : tie.Need-begin-requires
-begin-requires c κs = search needs
-
-enum-known-begun : tie.Need-enum-known-begun
-enum-known-begun c = search needs
-
-state-row-requires : tie.Need-state-row-requires
-state-row-requires c κs = search needs
-
-slice-aggregate-write-row : tie.Need-slice-aggregate-write-row
-slice-aggregate-write-row c = search needs
-
-write-row-requires : tie.Need-write-row-requires
-write-row-requires c κs = search needs
-
-enum-told : tie.Need-enum-told
-enum-told c = search needs
-
-number-requires : tie.Need-number-requires
-number-requires c κs = search needs
-
-wide64-requires : tie.Need-wide64-requires
-wide64-requires c κs = search needs
-
-enum-told-2 : tie.Need-enum-told-2
-enum-told-2 c = search needs
-
-number-requires-2 : tie.Need-number-requires-2
-number-requires-2 c κs = search needs
-
-wide64-requires-2 : tie.Need-wide64-requires-2
-wide64-requires-2 c κs = search needs
-
-same-length : tie.Need-same-length
-same-length c = search needs
-
 returns-2 : tie.Need-returns-2
 unfolding frameBeginOf
 returns-2 c =
@@ -90,21 +51,7 @@ returns-4 c =
 pub frame-begin-spec : {M : Type 1} → statement M
 frame-begin-spec =
     tie.close
-    (tie.spec
-    returns
-    byte-or-requires
-    begin-requires
-    enum-known-begun
-    state-row-requires
-    slice-aggregate-write-row
-    write-row-requires
-    enum-told
-    number-requires
-    wide64-requires
-    enum-told-2
-    number-requires-2
-    wide64-requires-2
-    same-length
-    returns-2
-    returns-3
+    (tie.spec returns (λ c κs. search needs) (λ c κs. search needs) (λ c. search needs) (λ c κs. search needs)
+    (λ c. search needs) (λ c κs. search needs) (λ c. search needs) (λ c κs. search needs) (λ c κs. search needs)
+    (λ c. search needs) (λ c κs. search needs) (λ c κs. search needs) (λ c. search needs) returns-2 returns-3
     returns-4)

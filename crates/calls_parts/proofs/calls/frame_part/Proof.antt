@@ -9,12 +9,6 @@ returns : tie.Need-returns
 unfolding framePartOf
 returns c = rw (ne-eqb _ _ (c .if1 .taken))
 
-is-state-requires : tie.Need-is-state-requires
-is-state-requires c κs = search needs
-
-same-length : tie.Need-same-length
-same-length c = search needs
-
 returns-2 : tie.Need-returns-2
 unfolding framePartOf
 returns-2 c = rw (eq-eqb _ _ (c .before .before .before .if1 .left), ← (c .before .is-state .ensures), not-true (c .before .is-state .result) (c .if2 .taken))
@@ -23,15 +17,6 @@ part-fitting-requires : tie.Need-part-fitting-requires
 part-fitting-requires c κs =
     let fit = c .before .before .before in
     (sym (fit .before .is-state .ensures) ∙ not-false (fit .before .is-state .result) (fit .if2 .left), fit .before .before .before .if1 .left)
-
-same-length-2 : tie.Need-same-length-2
-same-length-2 c = search needs
-
-same-length-3 : tie.Need-same-length-3
-same-length-3 c = search needs
-
-same-length-4 : tie.Need-same-length-4
-same-length-4 c = search needs
 
 returns-3 : tie.Need-returns-3
 unfolding framePartOf
@@ -48,13 +33,5 @@ returns-3 c =
 pub frame-part-spec : {M : Type 1} → statement M
 frame-part-spec =
     tie.close
-    (tie.spec
-    returns
-    is-state-requires
-    same-length
-    returns-2
-    part-fitting-requires
-    same-length-2
-    same-length-3
-    same-length-4
-    returns-3)
+    (tie.spec returns (λ c κs. search needs) (λ c. search needs) returns-2 part-fitting-requires (λ c. search needs)
+    (λ c. search needs) (λ c. search needs) returns-3)

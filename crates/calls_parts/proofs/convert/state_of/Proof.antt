@@ -8,14 +8,8 @@ use Rattle.calls_parts.proofs.convert.state_of.Tie as tie
 shared-slice-read-stage-of : tie.Need-shared-slice-read-stage-of
 shared-slice-read-stage-of c = let s = c .before .before in omega (arith, state-long (s .args .row .now) (s .pre))
 
-stage-of-requires : tie.Need-stage-of-requires
-stage-of-requires c κs = search needs
-
 shared-slice-read-pending-of : tie.Need-shared-slice-read-pending-of
 shared-slice-read-pending-of c = let s = c .before .before .before .before in omega (arith, state-long (s .args .row .now) (s .pre))
-
-pending-of-requires : tie.Need-pending-of-requires
-pending-of-requires c κs = search needs
 
 shared-slice-read-sequence : tie.Need-shared-slice-read-sequence
 shared-slice-read-sequence c = let s = c .before .before .before .before .before .before in omega (arith, state-long (s .args .row .now) (s .pre))
@@ -45,16 +39,6 @@ returns c = rw (c .before .before .before .before .before .before .before .stage
 pub state-of-spec : {M : Type 1} → statement M
 state-of-spec =
     tie.close
-    (tie.spec
-    shared-slice-read-stage-of
-    stage-of-requires
-    shared-slice-read-pending-of
-    pending-of-requires
-    shared-slice-read-sequence
-    cast-sequence
-    shared-slice-read-total
-    shared-slice-read-taken
-    shared-slice-read-sum
-    cast-sum
-    shared-slice-read-limit
-    returns)
+    (tie.spec shared-slice-read-stage-of (λ c κs. search needs) shared-slice-read-pending-of (λ c κs. search needs)
+    shared-slice-read-sequence cast-sequence shared-slice-read-total shared-slice-read-taken shared-slice-read-sum
+    cast-sum shared-slice-read-limit returns)

@@ -4,12 +4,6 @@ use Rattle.calls_receiving.specs.Calls.{linkAt}
 use Rattle.calls_receiving.proofs.calls.link_at.Statement.{statement}
 use Rattle.calls_receiving.proofs.calls.link_at.Tie as tie
 
-both-requires : tie.Need-both-requires
-both-requires c κs = search needs
-
-number-at-requires : tie.Need-number-at-requires
-number-at-requires c κs = search needs
-
 returns : tie.Need-returns
 unfolding linkAt
 returns c = rw (sym (c .before .before .both .ensures) ∙ c .before .if1 .taken, ← c .number-at .ensures)
@@ -19,4 +13,4 @@ unfolding linkAt
 returns-2 c = rw (sym (c .before .both .ensures) ∙ c .if1 .left)
 
 pub link-at-spec : {M : Type 1} → statement M
-link-at-spec = tie.close (tie.spec both-requires number-at-requires returns returns-2)
+link-at-spec = tie.close (tie.spec (λ c κs. search needs) (λ c κs. search needs) returns returns-2)

@@ -8,24 +8,6 @@ returns : tie.Need-returns
 unfolding receiverOpenOf
 returns c = rw (ne-eqb _ _ (c .if1 .taken))
 
-open-requires : tie.Need-open-requires
-open-requires c κs = search needs
-
-enum-known-link : tie.Need-enum-known-link
-enum-known-link c = search needs
-
-slice-aggregate-write-row : tie.Need-slice-aggregate-write-row
-slice-aggregate-write-row c = search needs
-
-write-row-requires : tie.Need-write-row-requires
-write-row-requires c κs = search needs
-
-enum-told : tie.Need-enum-told
-enum-told c = search needs
-
-same-length : tie.Need-same-length
-same-length c = search needs
-
 returns-2 : tie.Need-returns-2
 unfolding receiverOpenOf
 returns-2 c =
@@ -42,13 +24,5 @@ returns-3 c =
 pub receiver-open-spec : {M : Type 1} → statement M
 receiver-open-spec =
     tie.close
-    (tie.spec
-    returns
-    open-requires
-    enum-known-link
-    slice-aggregate-write-row
-    write-row-requires
-    enum-told
-    same-length
-    returns-2
-    returns-3)
+    (tie.spec returns (λ c κs. search needs) (λ c. search needs) (λ c. search needs) (λ c κs. search needs)
+    (λ c. search needs) (λ c. search needs) returns-2 returns-3)

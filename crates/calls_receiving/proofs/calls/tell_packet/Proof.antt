@@ -4,21 +4,6 @@ use Rattle.calls_receiving.specs.Calls.{toldRow}
 use Rattle.calls_receiving.proofs.calls.tell_packet.Statement.{statement}
 use Rattle.calls_receiving.proofs.calls.tell_packet.Tie as tie
 
-answer-number-requires : tie.Need-answer-number-requires
-answer-number-requires c κs = search needs
-
-answer-row-requires : tie.Need-answer-row-requires
-answer-row-requires c κs = search needs
-
-slice-aggregate-put : tie.Need-slice-aggregate-put
-slice-aggregate-put c = search needs
-
-put-requires : tie.Need-put-requires
-put-requires c κs = search needs
-
-same-length : tie.Need-same-length
-same-length c = search needs
-
 returns : tie.Need-returns
 unfolding toldRow
 returns c =
@@ -37,11 +22,5 @@ returns-2 c = rw (ne-eqb _ _ (c .if1 .left), c .before .answer-number .ensures)
 pub tell-packet-spec : {M : Type 1} → statement M
 tell-packet-spec =
     tie.close
-    (tie.spec
-    answer-number-requires
-    answer-row-requires
-    slice-aggregate-put
-    put-requires
-    same-length
-    returns
-    returns-2)
+    (tie.spec (λ c κs. search needs) (λ c κs. search needs) (λ c. search needs) (λ c κs. search needs)
+    (λ c. search needs) returns returns-2)

@@ -13,18 +13,6 @@ returns : tie.Need-returns
 unfolding replyWriteOf
 returns c = rw (ne-eqb _ _ (c .if1 .taken))
 
-features-for-requires : tie.Need-features-for-requires
-features-for-requires c κs = search needs
-
-members-for-requires : tie.Need-members-for-requires
-members-for-requires c κs = search needs
-
-link-for-requires : tie.Need-link-for-requires
-link-for-requires c κs = search needs
-
-few-signed-requires : tie.Need-few-signed-requires
-few-signed-requires c κs = search needs
-
 signed-list-requires : tie.Need-signed-list-requires
 signed-list-requires c κs =
     few-most (now (c .before .before .before .before .before .before .before .before .before .before .before .before .before .args .transports)) (sym (c .before .few-signed .ensures) ∙ c .if2 .taken)
@@ -35,18 +23,6 @@ array-share-prefix-list c =
 
 slice-aggregate-few : tie.Need-slice-aggregate-few
 slice-aggregate-few c = rw (c .before .signed-list .ensures, length-map)
-
-write-reply-requires : tie.Need-write-reply-requires
-write-reply-requires c κs = search needs
-
-tell-reply-requires : tie.Need-tell-reply-requires
-tell-reply-requires c κs = search needs
-
-same-length : tie.Need-same-length
-same-length c = search needs
-
-same-length-2 : tie.Need-same-length-2
-same-length-2 c = search needs
 
 returns-2 : tie.Need-returns-2
 unfolding replyWriteOf
@@ -63,21 +39,6 @@ returns-2 c =
       c .before .before .tell-reply .ensures .0,
       c .before .before .tell-reply .ensures .1,
     )
-
-slice-aggregate-write-reply : tie.Need-slice-aggregate-write-reply
-slice-aggregate-write-reply c = search needs
-
-write-reply-requires-2 : tie.Need-write-reply-requires-2
-write-reply-requires-2 c κs = search needs
-
-tell-reply-requires-2 : tie.Need-tell-reply-requires-2
-tell-reply-requires-2 c κs = search needs
-
-same-length-3 : tie.Need-same-length-3
-same-length-3 c = search needs
-
-same-length-4 : tie.Need-same-length-4
-same-length-4 c = search needs
 
 returns-3 : tie.Need-returns-3
 unfolding replyWriteOf
@@ -97,23 +58,7 @@ returns-3 c =
 pub reply-write-spec : {M : Type 1} → statement M
 reply-write-spec =
     tie.close
-    (tie.spec
-    returns
-    features-for-requires
-    members-for-requires
-    link-for-requires
-    few-signed-requires
-    signed-list-requires
-    array-share-prefix-list
-    slice-aggregate-few
-    write-reply-requires
-    tell-reply-requires
-    same-length
-    same-length-2
-    returns-2
-    slice-aggregate-write-reply
-    write-reply-requires-2
-    tell-reply-requires-2
-    same-length-3
-    same-length-4
-    returns-3)
+    (tie.spec returns (λ c κs. search needs) (λ c κs. search needs) (λ c κs. search needs) (λ c κs. search needs)
+    signed-list-requires array-share-prefix-list slice-aggregate-few (λ c κs. search needs) (λ c κs. search needs)
+    (λ c. search needs) (λ c. search needs) returns-2 (λ c. search needs) (λ c κs. search needs)
+    (λ c κs. search needs) (λ c. search needs) (λ c. search needs) returns-3)

@@ -8,12 +8,9 @@ returns : tie.Need-returns
 unfolding fewSigned
 returns c = rw (lt-ltb _ _ (c .if1 .taken))
 
-all-signed-requires : tie.Need-all-signed-requires
-all-signed-requires c κs = search needs
-
 returns-2 : tie.Need-returns-2
 unfolding fewSigned
 returns-2 c = rw (le-ltb _ _ (c .before .if1 .left)) (c .all-signed .ensures)
 
 pub few-signed-spec : {M : Type 1} → statement M
-few-signed-spec = tie.close (tie.spec returns all-signed-requires returns-2)
+few-signed-spec = tie.close (tie.spec returns (λ c κs. search needs) returns-2)

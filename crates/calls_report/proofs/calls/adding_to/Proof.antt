@@ -4,12 +4,6 @@ use Rattle.calls_report.specs.Calls.{addingTo}
 use Rattle.calls_report.proofs.calls.adding_to.Statement.{statement}
 use Rattle.calls_report.proofs.calls.adding_to.Tie as tie
 
-report-at-requires : tie.Need-report-at-requires
-report-at-requires c κs = search needs
-
-both-requires : tie.Need-both-requires
-both-requires c κs = search needs
-
 returns : tie.Need-returns
 unfolding addingTo
 returns c = rw (sym (c .before .both .ensures) ∙ c .if1 .taken, c .before .before .report-at .ensures)
@@ -19,4 +13,4 @@ unfolding addingTo
 returns-2 c = rw (sym (c .before .both .ensures) ∙ c .if1 .left, c .before .before .report-at .ensures)
 
 pub adding-to-spec : {M : Type 1} → statement M
-adding-to-spec = tie.close (tie.spec report-at-requires both-requires returns returns-2)
+adding-to-spec = tie.close (tie.spec (λ c κs. search needs) (λ c κs. search needs) returns returns-2)

@@ -10,18 +10,9 @@ use borrow.Author.Needs.{needs}
 use Rattle.calls_report.proofs.calls.tell_added.Statement.{statement}
 use Rattle.calls_report.proofs.calls.tell_added.Tie as tie
 
-both-requires : tie.Need-both-requires
-both-requires c κs = search needs
-
 returns : tie.Need-returns
 unfolding toldRows
 returns c = rw (← c .before .both .ensures, not-true (c .before .both .result) (c .if1 .taken))
-
-number-requires : tie.Need-number-requires
-number-requires c κs = search needs
-
-wide64-requires : tie.Need-wide64-requires
-wide64-requires c κs = search needs
 
 put-report-requires : tie.Need-put-report-requires
 put-report-requires c κs =
@@ -31,12 +22,6 @@ put-report-requires c κs =
     let long : length (now (a .report)) ≡ 21 = eqb-true (length (now (a .report))) 21 (and-left (eqb (length (now (a .report))) 21) _ both) in
     omega (arith, long)
 
-place-row-requires : tie.Need-place-row-requires
-place-row-requires c κs = search needs
-
-slice-aggregate-put : tie.Need-slice-aggregate-put
-slice-aggregate-put c = search needs
-
 put-requires : tie.Need-put-requires
 put-requires c κs =
     let fit = c .before .before .before .before .before .before .before .before .before in
@@ -44,12 +29,6 @@ put-requires c κs =
     let both = sym (fit .before .both .ensures) ∙ not-false (fit .before .both .result) (fit .if1 .left) in
     let long : length (now (a .answer)) ≡ 1 = eqb-true (length (now (a .answer))) 1 (and-right (eqb (length (now (a .report))) 21) _ both) in
     omega (arith, long)
-
-same-length : tie.Need-same-length
-same-length c = search needs
-
-same-length-2 : tie.Need-same-length-2
-same-length-2 c = search needs
 
 returns-2 : tie.Need-returns-2
 unfolding toldRows
@@ -70,15 +49,5 @@ returns-2 c =
 pub tell-added-spec : {M : Type 1} → statement M
 tell-added-spec =
     tie.close
-    (tie.spec
-    both-requires
-    returns
-    number-requires
-    wide64-requires
-    put-report-requires
-    place-row-requires
-    slice-aggregate-put
-    put-requires
-    same-length
-    same-length-2
-    returns-2)
+    (tie.spec (λ c κs. search needs) returns (λ c κs. search needs) (λ c κs. search needs) put-report-requires
+    (λ c κs. search needs) (λ c. search needs) put-requires (λ c. search needs) (λ c. search needs) returns-2)

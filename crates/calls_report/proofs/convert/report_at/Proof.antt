@@ -3,19 +3,9 @@ use borrow.Author.Needs.{needs}
 use Rattle.calls_report.proofs.convert.report_at.Statement.{statement}
 use Rattle.calls_report.proofs.convert.report_at.Tie as tie
 
-costs-at-requires : tie.Need-costs-at-requires
-costs-at-requires c κs = search needs
-
-costs-at-requires-2 : tie.Need-costs-at-requires-2
-costs-at-requires-2 c κs = search needs
-
-costs-at-requires-3 : tie.Need-costs-at-requires-3
-costs-at-requires-3 c κs = search needs
-
 returns : tie.Need-returns
 unfolding reportAt
 returns c = rw (c .costs-at3 .ensures, c .before .costs-at2 .ensures, c .before .before .costs-at .ensures)
 
 pub report-at-spec : {M : Type 1} → statement M
-report-at-spec =
-    tie.close (tie.spec costs-at-requires costs-at-requires-2 costs-at-requires-3 returns)
+report-at-spec = tie.close (tie.spec (λ c κs. search needs) (λ c κs. search needs) (λ c κs. search needs) returns)

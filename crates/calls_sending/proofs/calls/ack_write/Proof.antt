@@ -8,30 +8,6 @@ returns : tie.Need-returns
 unfolding ackWriteOf
 returns c = rw (ne-eqb _ _ (c .if1 .taken))
 
-stream-with-requires : tie.Need-stream-with-requires
-stream-with-requires c κs = search needs
-
-byte-or-requires : tie.Need-byte-or-requires
-byte-or-requires c κs = search needs
-
-byte-or-requires-2 : tie.Need-byte-or-requires-2
-byte-or-requires-2 c κs = search needs
-
-write-requires : tie.Need-write-requires
-write-requires c κs = search needs
-
-ack-count-requires : tie.Need-ack-count-requires
-ack-count-requires c κs = search needs
-
-tell-requires : tie.Need-tell-requires
-tell-requires c κs = search needs
-
-same-length : tie.Need-same-length
-same-length c = search needs
-
-same-length-2 : tie.Need-same-length-2
-same-length-2 c = search needs
-
 returns-2 : tie.Need-returns-2
 unfolding ackWriteOf
 returns-2 c =
@@ -49,14 +25,5 @@ returns-2 c =
 pub ack-write-spec : {M : Type 1} → statement M
 ack-write-spec =
     tie.close
-    (tie.spec
-    returns
-    stream-with-requires
-    byte-or-requires
-    byte-or-requires-2
-    write-requires
-    ack-count-requires
-    tell-requires
-    same-length
-    same-length-2
-    returns-2)
+    (tie.spec returns (λ c κs. search needs) (λ c κs. search needs) (λ c κs. search needs) (λ c κs. search needs)
+    (λ c κs. search needs) (λ c κs. search needs) (λ c. search needs) (λ c. search needs) returns-2)

@@ -4,9 +4,6 @@ use borrow.Author.Needs.{needs}
 use Rattle.calls_sending.proofs.convert.stream_with.Statement.{statement}
 use Rattle.calls_sending.proofs.convert.stream_with.Tie as tie
 
-byte-or-requires : tie.Need-byte-or-requires
-byte-or-requires c κs = search needs
-
 returns : tie.Need-returns
 unfolding streamWith
 returns c = rw (lt-ltb _ _ (c .before .if1 .taken)) (c .byte-or .ensures)
@@ -16,4 +13,4 @@ unfolding streamWith
 returns-2 c = rw (le-ltb _ _ (c .if1 .left))
 
 pub stream-with-spec : {M : Type 1} → statement M
-stream-with-spec = tie.close (tie.spec byte-or-requires returns returns-2)
+stream-with-spec = tie.close (tie.spec (λ c κs. search needs) returns returns-2)

@@ -5,17 +5,8 @@ use Rattle.wire.proofs.Tests.{or-true}
 use Rattle.console.proofs.Output.byte.Statement.{statement}
 use Rattle.console.proofs.Output.byte.Tie as tie
 
-returns : tie.Need-returns
-returns c = search needs
-
-print-hex-requires : tie.Need-print-hex-requires
-print-hex-requires c κs = search needs
-
-after-requires : tie.Need-after-requires
-after-requires c κs = search needs
-
 returns-2 : tie.Need-returns-2
 returns-2 c = λ e. c .after .ensures ∙ or-true (not (c .before .print-hex .result)) _ e
 
 pub byte-spec : {M : Type 1} → statement M
-byte-spec = tie.close (tie.spec returns print-hex-requires after-requires returns-2)
+byte-spec = tie.close (tie.spec (λ c. search needs) (λ c κs. search needs) (λ c κs. search needs) returns-2)

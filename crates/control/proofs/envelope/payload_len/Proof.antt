@@ -17,18 +17,6 @@ use borrow.Author.Needs.{needs}
 use Rattle.control.proofs.envelope.payload_len.Statement.{statement}
 use Rattle.control.proofs.envelope.payload_len.Tie as tie
 
-enum-told : tie.Need-enum-told
-enum-told c = search needs
-
-enum-known-payload : tie.Need-enum-known-payload
-enum-known-payload c = search needs
-
-sign-extended-requires : tie.Need-sign-extended-requires
-sign-extended-requires c κs = search needs
-
-response-len-requires : tie.Need-response-len-requires
-response-len-requires c κs = search needs
-
 -- the varint's value of the error code, and what was counted of the response
 value : (c : tie.After-sign-extended) → c .sign-extended .result ≡ extended (c .before .before .payload .given .0 .0)
 value c = c .sign-extended .ensures ∙ ap extended (toZ-ofZ {w = w32} {z = c .before .before .payload .given .0 .0} (search needs))
@@ -37,22 +25,10 @@ counted : (c : tie.After-response-len)
     → c .response-len .result ≡ length (messageBytes (responseFields (extended (c .before .before .before .payload .given .0 .0)) (c .before .before .before .payload .given .0 .1 .0) (now (c .before .before .before .before .before .before .args .body))))
 counted c = rw (value (c .before)) at (c .response-len .ensures .0)
 
-head-len-requires : tie.Need-head-len-requires
-head-len-requires c κs = search needs
-
-add-result : tie.Need-add-result
-add-result c = search needs
-
-enum-known-payload-2 : tie.Need-enum-known-payload-2
-enum-known-payload-2 c = search needs
-
 part-len-requires : tie.Need-part-len-requires
 part-len-requires c κs =
     let f = c .before .payload2 .given .0 .0 in
     member-fits f (or-false (badMember f) (eqb f responseField) (rw (c .before .payload2 .given .1) at (c .before .before .before .before .pre)) .0)
-
-returns : tie.Need-returns
-returns c = search needs
 
 returns-2 : tie.Need-returns-2
 returns-2 c =
@@ -77,15 +53,6 @@ returns-3 c =
 pub payload-len-spec : {M : Type 1} → statement M
 payload-len-spec =
     tie.close
-    (tie.spec
-    enum-told
-    enum-known-payload
-    sign-extended-requires
-    response-len-requires
-    head-len-requires
-    add-result
-    enum-known-payload-2
-    part-len-requires
-    returns
-    returns-2
+    (tie.spec (λ c. search needs) (λ c. search needs) (λ c κs. search needs) (λ c κs. search needs)
+    (λ c κs. search needs) (λ c. search needs) (λ c. search needs) part-len-requires (λ c. search needs) returns-2
     returns-3)

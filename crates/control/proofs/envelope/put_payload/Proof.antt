@@ -17,18 +17,6 @@ use borrow.Author.Needs.{needs}
 use Rattle.control.proofs.envelope.put_payload.Statement.{statement}
 use Rattle.control.proofs.envelope.put_payload.Tie as tie
 
-enum-told : tie.Need-enum-told
-enum-told c = search needs
-
-enum-known-payload : tie.Need-enum-known-payload
-enum-known-payload c = search needs
-
-sign-extended-requires : tie.Need-sign-extended-requires
-sign-extended-requires c κs = search needs
-
-response-len-requires : tie.Need-response-len-requires
-response-len-requires c κs = search needs
-
 -- the varint's value of the error code, and what was counted of the response
 value : (c : tie.After-sign-extended) → c .sign-extended .result ≡ extended (c .before .before .payload .given .0 .0)
 value c = c .sign-extended .ensures ∙ ap extended (toZ-ofZ {w = w32} {z = c .before .before .payload .given .0 .0} (search needs))
@@ -62,9 +50,6 @@ put-response-requires c κs =
           )),
     )
 
-enum-known-payload-2 : tie.Need-enum-known-payload-2
-enum-known-payload-2 c = search needs
-
 put-part-requires : tie.Need-put-part-requires
 put-part-requires c κs =
     let p = c .before .before .payload2 in
@@ -75,9 +60,6 @@ put-part-requires c κs =
 returns : tie.Need-returns
 returns c = rw (c .enum-told .given .1) (put-end (now (c .before .before .before .before .args .out)) (c .before .before .before .before .args .at))
 
-same-length : tie.Need-same-length
-same-length c = search needs
-
 returns-2 : tie.Need-returns-2
 returns-2 c =
     let p = c .before .before .before .before .before .before .before .before .before .before .before .payload in
@@ -86,9 +68,6 @@ returns-2 c =
     (put-then (headBytes responseField (length r)) r (part-is responseField r ∙ nested-last responseField r)
     (rw (counted (c .before .before .before .before .before .before .before .before)) at (c .before .before .before .before .before .before .put-head .ensures)) (rw (value (c .before .before .before .before .before .before .before .before .before)) at (c .before .before .put-response .ensures)))
 
-same-length-2 : tie.Need-same-length-2
-same-length-2 c = search needs
-
 returns-3 : tie.Need-returns-3
 returns-3 c =
     rw (c .before .before .before .before .before .payload2 .given .1, ← nested-last (c .before .before .before .before .before .payload2 .given .0 .0) (now (c .before .before .before .before .before .before .before .before .before .args .body))) (c .before .before .put-part .ensures)
@@ -96,17 +75,6 @@ returns-3 c =
 pub put-payload-spec : {M : Type 1} → statement M
 put-payload-spec =
     tie.close
-    (tie.spec
-    enum-told
-    enum-known-payload
-    sign-extended-requires
-    response-len-requires
-    put-head-requires
-    put-response-requires
-    enum-known-payload-2
-    put-part-requires
-    returns
-    same-length
-    returns-2
-    same-length-2
-    returns-3)
+    (tie.spec (λ c. search needs) (λ c. search needs) (λ c κs. search needs) (λ c κs. search needs) put-head-requires
+    put-response-requires (λ c. search needs) put-part-requires returns (λ c. search needs) returns-2
+    (λ c. search needs) returns-3)

@@ -16,15 +16,6 @@ use borrow.Author.Needs.{needs}
 use Rattle.control.proofs.envelope.read_envelope.Statement.{statement}
 use Rattle.control.proofs.envelope.read_envelope.Tie as tie
 
-read-fields-requires : tie.Need-read-fields-requires
-read-fields-requires c κs = search needs
-
-enum-known-verdict : tie.Need-enum-known-verdict
-enum-known-verdict c = search needs
-
-enum-told : tie.Need-enum-told
-enum-told c = search needs
-
 -- what read_fields told
 read : (c : tie.After-enum-told) → fieldsFrom Schema.Envelope (now (c .before .before .before .before .before .args .message)) 0 ≡ given (c .before .before .before .read-fields .result .gathered)
 read c =
@@ -42,18 +33,6 @@ commanded p z = given (record { command = z; payload = p })
 
 read-payload-requires : tie.Need-read-payload-requires
 read-payload-requires c κs = fields-within Schema.Envelope _ 0 _ (read c) .0 .0
-
-enum-known-e : tie.Need-enum-known-e
-enum-known-e c = search needs
-
-enum-known-payload : tie.Need-enum-known-payload
-enum-known-payload c = search needs
-
-element-copy-out-low-signed : tie.Need-element-copy-out-low-signed
-element-copy-out-low-signed c = search needs
-
-low-signed-requires : tie.Need-low-signed-requires
-low-signed-requires c κs = search needs
 
 returns : tie.Need-returns
 unfolding envelopeOf
@@ -75,15 +54,5 @@ returns-3 c =
 pub read-envelope-spec : {M : Type 1} → statement M
 read-envelope-spec =
     tie.close
-    (tie.spec
-    read-fields-requires
-    enum-known-verdict
-    enum-told
-    read-payload-requires
-    enum-known-e
-    enum-known-payload
-    element-copy-out-low-signed
-    low-signed-requires
-    returns
-    returns-2
-    returns-3)
+    (tie.spec (λ c κs. search needs) (λ c. search needs) (λ c. search needs) read-payload-requires (λ c. search needs)
+    (λ c. search needs) (λ c. search needs) (λ c κs. search needs) returns returns-2 returns-3)

@@ -16,20 +16,8 @@ returns : tie.Need-returns
 unfolding payloadOf
 returns c = (rw (eq-eqb _ _ (c .if1 .taken)), tt)
 
-add-end : tie.Need-add-end
-add-end c = search needs
-
 slice-aggregate-response-from : tie.Need-slice-aggregate-response-from
 slice-aggregate-response-from c = sym (length-take-le _ (c .before .before .before .before .before .before .args .message .now) (c .before .before .before .before .before .before .pre))
-
-response-from-requires : tie.Need-response-from-requires
-response-from-requires c κs = search needs
-
-enum-known-e : tie.Need-enum-known-e
-enum-known-e c = search needs
-
-enum-known-r : tie.Need-enum-known-r
-enum-known-r c = search needs
 
 returns-2 : tie.Need-returns-2
 unfolding payloadOf
@@ -63,13 +51,5 @@ returns-4 c = (rw (ne-eqb _ _ (c .before .if1 .left), ne-eqb _ _ (c .if2 .left))
 pub read-payload-spec : {M : Type 1} → statement M
 read-payload-spec =
     tie.close
-    (tie.spec
-    returns
-    add-end
-    slice-aggregate-response-from
-    response-from-requires
-    enum-known-e
-    enum-known-r
-    returns-2
-    returns-3
-    returns-4)
+    (tie.spec returns (λ c. search needs) slice-aggregate-response-from (λ c κs. search needs) (λ c. search needs)
+    (λ c. search needs) returns-2 returns-3 returns-4)

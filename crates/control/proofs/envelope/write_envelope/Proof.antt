@@ -15,9 +15,6 @@ use borrow.Author.Needs.{needs}
 use Rattle.control.proofs.envelope.write_envelope.Statement.{statement}
 use Rattle.control.proofs.envelope.write_envelope.Tie as tie
 
-bad-payload-requires : tie.Need-bad-payload-requires
-bad-payload-requires c κs = search needs
-
 returns : tie.Need-returns
 unfolding envelopeWritten
 returns c =
@@ -42,18 +39,6 @@ counted c =
       message-length (scalar commandField (extended (a .command))) (payloadFields (a .payload) (now (a .body))),
     )
 
-sign-extended-requires : tie.Need-sign-extended-requires
-sign-extended-requires c κs = search needs
-
-scalar-len-requires : tie.Need-scalar-len-requires
-scalar-len-requires c κs = search needs
-
-payload-len-requires : tie.Need-payload-len-requires
-payload-len-requires c κs = search needs
-
-add-len : tie.Need-add-len
-add-len c = search needs
-
 returns-2 : tie.Need-returns-2
 unfolding envelopeWritten
 returns-2 c =
@@ -68,9 +53,6 @@ put-payload-requires c κs =
     let p = c .before .before .before .put-scalar in
     (fine (c .before .before .before .before .before .before .before .before .before), omega (arith, c .before .before .before .before .before .if2 .left, c .before .before .before .before .before .before .before .scalar-len .ensures .0, c .before .before .before .before .before .before .payload-len .ensures .0, p .ensures .place, p .kept .0))
 
-same-length : tie.Need-same-length
-same-length c = search needs
-
 returns-3 : tie.Need-returns-3
 unfolding envelopeWritten
 returns-3 c =
@@ -82,15 +64,5 @@ returns-3 c =
 pub write-envelope-spec : {M : Type 1} → statement M
 write-envelope-spec =
     tie.close
-    (tie.spec
-    bad-payload-requires
-    returns
-    sign-extended-requires
-    scalar-len-requires
-    payload-len-requires
-    add-len
-    returns-2
-    put-scalar-requires
-    put-payload-requires
-    same-length
-    returns-3)
+    (tie.spec (λ c κs. search needs) returns (λ c κs. search needs) (λ c κs. search needs) (λ c κs. search needs)
+    (λ c. search needs) returns-2 put-scalar-requires put-payload-requires (λ c. search needs) returns-3)

@@ -19,14 +19,10 @@ put-response-payload-requires c κs =
     let p = c .before .before .before .put-scalar in
     (c .before .before .before .before .before .before .before .pre .0, omega (arith, c .before .before .before .before .before .before .before .pre .1, message-length (scalar errorCodeField (a .code)) (responsePayloadFields (a .payload) (now (a .body))), p .ensures .place, p .kept .0))
 
-same-length : tie.Need-same-length
-same-length c = search needs
-
 returns : tie.Need-returns
 returns c =
     let a = c .before .before .before .before .before .before .before .before .before .before .args in
     put-field (scalar errorCodeField (a .code)) (responsePayloadFields (a .payload) (now (a .body))) (c .before .before .before .before .before .before .put-scalar .ensures) (c .before .before .put-response-payload .ensures)
 
 pub put-response-spec : {M : Type 1} → statement M
-put-response-spec =
-    tie.close (tie.spec put-scalar-requires put-response-payload-requires same-length returns)
+put-response-spec = tie.close (tie.spec put-scalar-requires put-response-payload-requires (λ c. search needs) returns)

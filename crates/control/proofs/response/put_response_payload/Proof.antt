@@ -5,12 +5,6 @@ use borrow.Author.Needs.{needs}
 use Rattle.control.proofs.response.put_response_payload.Statement.{statement}
 use Rattle.control.proofs.response.put_response_payload.Tie as tie
 
-enum-told : tie.Need-enum-told
-enum-told c = search needs
-
-enum-known-payload : tie.Need-enum-known-payload
-enum-known-payload c = search needs
-
 put-part-requires : tie.Need-put-part-requires
 put-part-requires c κs =
     let q = rw (c .before .before .payload .given .1) at (c .before .before .before .before .before .before .pre) in
@@ -19,9 +13,6 @@ put-part-requires c κs =
 returns : tie.Need-returns
 returns c = rw (c .enum-told .given .1) (put-end (now (c .before .before .before .before .args .out)) (c .before .before .before .before .args .at))
 
-same-length : tie.Need-same-length
-same-length c = search needs
-
 returns-2 : tie.Need-returns-2
 returns-2 c =
     rw (c .before .before .before .before .before .payload .given .1, ← nested-last (c .before .before .before .before .before .payload .given .0 .0) (now (c .before .before .before .before .before .before .before .before .before .args .body))) (c .before .before .put-part .ensures)
@@ -29,4 +20,4 @@ returns-2 c =
 pub put-response-payload-spec : {M : Type 1} → statement M
 put-response-payload-spec =
     tie.close
-    (tie.spec enum-told enum-known-payload put-part-requires returns same-length returns-2)
+    (tie.spec (λ c. search needs) (λ c. search needs) put-part-requires returns (λ c. search needs) returns-2)

@@ -16,15 +16,6 @@ use borrow.Author.Needs.{needs}
 use Rattle.control.proofs.response.response_from.Statement.{statement}
 use Rattle.control.proofs.response.response_from.Tie as tie
 
-read-fields-requires : tie.Need-read-fields-requires
-read-fields-requires c κs = search needs
-
-enum-known-verdict : tie.Need-enum-known-verdict
-enum-known-verdict c = search needs
-
-enum-told : tie.Need-enum-told
-enum-told c = search needs
-
 -- what read_fields told
 read : (c : tie.After-enum-told) → fieldsFrom Schema.Response (now (c .before .before .before .before .before .args .message)) (c .before .before .before .before .before .args .at) ≡ given (c .before .before .before .read-fields .result .gathered)
 read c =
@@ -39,12 +30,6 @@ refuses c =
 -- a response with an error code
 abbrev coded : Gathered → ℤ → Told Response
 coded g z = given (record { «error_code» = z; field = g .field; part = g .part })
-
-element-copy-out-low-signed : tie.Need-element-copy-out-low-signed
-element-copy-out-low-signed c = search needs
-
-low-signed-requires : tie.Need-low-signed-requires
-low-signed-requires c κs = search needs
 
 returns : tie.Need-returns
 unfolding responseFrom
@@ -61,11 +46,5 @@ returns-2 c =
 pub response-from-spec : {M : Type 1} → statement M
 response-from-spec =
     tie.close
-    (tie.spec
-    read-fields-requires
-    enum-known-verdict
-    enum-told
-    element-copy-out-low-signed
-    low-signed-requires
-    returns
-    returns-2)
+    (tie.spec (λ c κs. search needs) (λ c. search needs) (λ c. search needs) (λ c. search needs)
+    (λ c κs. search needs) returns returns-2)

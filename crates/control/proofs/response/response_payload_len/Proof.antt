@@ -7,17 +7,8 @@ use borrow.Author.Needs.{needs}
 use Rattle.control.proofs.response.response_payload_len.Statement.{statement}
 use Rattle.control.proofs.response.response_payload_len.Tie as tie
 
-enum-told : tie.Need-enum-told
-enum-told c = search needs
-
-enum-known-payload : tie.Need-enum-known-payload
-enum-known-payload c = search needs
-
 part-len-requires : tie.Need-part-len-requires
 part-len-requires c κs = member-fits _ (rw (c .before .payload .given .1) at (c .before .before .before .before .pre))
-
-returns : tie.Need-returns
-returns c = search needs
 
 returns-2 : tie.Need-returns-2
 returns-2 c =
@@ -26,4 +17,5 @@ returns-2 c =
 
 pub response-payload-len-spec : {M : Type 1} → statement M
 response-payload-len-spec =
-    tie.close (tie.spec enum-told enum-known-payload part-len-requires returns returns-2)
+    tie.close
+    (tie.spec (λ c. search needs) (λ c. search needs) part-len-requires (λ c. search needs) returns-2)

@@ -12,9 +12,6 @@ use borrow.Author.Needs.{needs}
 use Rattle.control.proofs.response.write_response.Statement.{statement}
 use Rattle.control.proofs.response.write_response.Tie as tie
 
-bad-response-payload-requires : tie.Need-bad-response-payload-requires
-bad-response-payload-requires c κs = search needs
-
 returns : tie.Need-returns
 unfolding responseWritten
 returns c =
@@ -31,23 +28,11 @@ value c = c .sign-extended .ensures ∙ ap extended (toZ-ofZ (c .before .before 
 counted : (c : tie.After-response-len) → c .response-len .result ≡ length (messageBytes (responseFields (extended (c .before .before .before .before .before .before .args .error-code)) (c .before .before .before .before .before .before .args .payload) (now (c .before .before .before .before .before .before .args .body))))
 counted c = rw (value (c .before)) at (c .response-len .ensures .0)
 
-sign-extended-requires : tie.Need-sign-extended-requires
-sign-extended-requires c κs = search needs
-
-response-len-requires : tie.Need-response-len-requires
-response-len-requires c κs = search needs
-
 returns-2 : tie.Need-returns-2
 unfolding responseWritten
 returns-2 c =
     let a = c .before .before .before .before .before .before .before .args in
     wrote-short _ (responseFields (extended (a .error-code)) (a .payload) (now (a .body))) (now (a .out)) (fine (c .before .before .before)) (omega (arith, counted (c .before), c .if2 .taken))
-
-put-response-requires : tie.Need-put-response-requires
-put-response-requires c κs = search needs
-
-same-length : tie.Need-same-length
-same-length c = search needs
 
 returns-3 : tie.Need-returns-3
 unfolding responseWritten
@@ -59,12 +44,5 @@ returns-3 c =
 pub write-response-spec : {M : Type 1} → statement M
 write-response-spec =
     tie.close
-    (tie.spec
-    bad-response-payload-requires
-    returns
-    sign-extended-requires
-    response-len-requires
-    returns-2
-    put-response-requires
-    same-length
-    returns-3)
+    (tie.spec (λ c κs. search needs) returns (λ c κs. search needs) (λ c κs. search needs) returns-2
+    (λ c κs. search needs) (λ c. search needs) returns-3)

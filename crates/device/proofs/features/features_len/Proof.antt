@@ -7,15 +7,6 @@ use borrow.Author.Needs.{needs}
 use Rattle.device.proofs.features.features_len.Statement.{statement}
 use Rattle.device.proofs.features.features_len.Tie as tie
 
-scalar-len-requires : tie.Need-scalar-len-requires
-scalar-len-requires c κs = search needs
-
-scalar-len-requires-2 : tie.Need-scalar-len-requires-2
-scalar-len-requires-2 c κs = search needs
-
-add-result : tie.Need-add-result
-add-result c = search needs
-
 returns : tie.Need-returns
 returns c =
     let f = c .before .before .args .features in
@@ -29,4 +20,4 @@ returns c =
     )
 
 pub features-len-spec : {M : Type 1} → statement M
-features-len-spec = tie.close (tie.spec scalar-len-requires scalar-len-requires-2 add-result returns)
+features-len-spec = tie.close (tie.spec (λ c κs. search needs) (λ c κs. search needs) (λ c. search needs) returns)

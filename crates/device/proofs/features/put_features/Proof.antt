@@ -21,9 +21,6 @@ put-scalar-requires-2 c κs =
     let second = scalar deviceAttributesField (f .«device_attributes») in
     (search needs, omega (arith, s .pre, p .ensures .place, p .kept .0, message-length (scalar featuresField (f .features)) (second ∷ []), message-length second []))
 
-same-length : tie.Need-same-length
-same-length c = search needs
-
 returns : tie.Need-returns
 returns c =
     let f = c .before .before .before .before .before .before .before .before .before .args .features in
@@ -31,4 +28,4 @@ returns c =
     (put-field (scalar deviceAttributesField (f .«device_attributes»)) [] (c .before .before .put-scalar2 .ensures) (put-end _ _))
 
 pub put-features-spec : {M : Type 1} → statement M
-put-features-spec = tie.close (tie.spec put-scalar-requires put-scalar-requires-2 same-length returns)
+put-features-spec = tie.close (tie.spec put-scalar-requires put-scalar-requires-2 (λ c. search needs) returns)

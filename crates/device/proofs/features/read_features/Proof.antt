@@ -9,15 +9,6 @@ use borrow.Author.Needs.{needs}
 use Rattle.device.proofs.features.read_features.Statement.{statement}
 use Rattle.device.proofs.features.read_features.Tie as tie
 
-read-fields-requires : tie.Need-read-fields-requires
-read-fields-requires c κs = search needs
-
-enum-known-verdict : tie.Need-enum-known-verdict
-enum-known-verdict c = search needs
-
-enum-told : tie.Need-enum-told
-enum-told c = search needs
-
 -- what read_fields told
 read : (c : tie.After-enum-told) → fieldsFrom Schema.Features (now (c .before .before .before .before .before .args .message)) 0 ≡ given (c .before .before .before .read-fields .result .gathered)
 read c =
@@ -28,12 +19,6 @@ refuses : (c : tie.After-verdict) → fieldsFrom Schema.Features (now (c .before
 refuses c =
     let k = c .before .before .before .read-fields in
     sym (k .ensures) ∙ ap (λ v. judgedAs v (k .result .gathered)) (c .verdict .given .1)
-
-element-copy-out-t10 : tie.Need-element-copy-out-t10
-element-copy-out-t10 c = search needs
-
-element-copy-out-t13 : tie.Need-element-copy-out-t13
-element-copy-out-t13 c = search needs
 
 returns : tie.Need-returns
 unfolding featuresOf
@@ -46,11 +31,5 @@ returns-2 c = rw (read (c .before .before))
 pub read-features-spec : {M : Type 1} → statement M
 read-features-spec =
     tie.close
-    (tie.spec
-    read-fields-requires
-    enum-known-verdict
-    enum-told
-    element-copy-out-t10
-    element-copy-out-t13
-    returns
-    returns-2)
+    (tie.spec (λ c κs. search needs) (λ c. search needs) (λ c. search needs) (λ c. search needs) (λ c. search needs)
+    returns returns-2)

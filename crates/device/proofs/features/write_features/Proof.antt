@@ -6,18 +6,9 @@ use borrow.Author.Needs.{needs}
 use Rattle.device.proofs.features.write_features.Statement.{statement}
 use Rattle.device.proofs.features.write_features.Tie as tie
 
-features-len-requires : tie.Need-features-len-requires
-features-len-requires c κs = search needs
-
 returns : tie.Need-returns
 unfolding featuresWritten
 returns c = wrote-short _ (featuresFields (c .before .before .before .args .features)) _ refl (omega (arith, c .before .features-len .ensures, c .if1 .taken))
-
-put-features-requires : tie.Need-put-features-requires
-put-features-requires c κs = search needs
-
-same-length : tie.Need-same-length
-same-length c = search needs
 
 returns-2 : tie.Need-returns-2
 unfolding featuresWritten
@@ -26,4 +17,6 @@ returns-2 c =
     wrote _ (featuresFields (t .before .before .before .args .features)) _ refl (omega (arith, t .before .features-len .ensures, t .if1 .left)) (c .before .before .put-features .ensures)
 
 pub write-features-spec : {M : Type 1} → statement M
-write-features-spec = tie.close (tie.spec features-len-requires returns put-features-requires same-length returns-2)
+write-features-spec =
+    tie.close
+    (tie.spec (λ c κs. search needs) returns (λ c κs. search needs) (λ c. search needs) returns-2)

@@ -12,15 +12,6 @@ returns c =
     let a = c .before .before .before .before .before .args in
     wrote-bad _ (informationFields (now (a .serial-number)) (now (a .name)) (now (a .transports)) (now (a .device-type))) (now (a .out)) (lt-ltb _ _ (c .if1 .taken))
 
-information-room-requires : tie.Need-information-room-requires
-information-room-requires c κs = search needs
-
-enum-told : tie.Need-enum-told
-enum-told c = search needs
-
-enum-told-2 : tie.Need-enum-told-2
-enum-told-2 c = search needs
-
 put-information-requires : tie.Need-put-information-requires
 put-information-requires c κs =
     (c .before .before .before .before .if1 .left, room-left _ _ _ (sym (c .before .before .before .information-room .ensures) ∙ c .before .enum-told2 .given .1))
@@ -31,9 +22,6 @@ returns-2 c =
     wrote-short _ (informationFields (now (a .serial-number)) (now (a .name)) (now (a .transports)) (now (a .device-type))) _ (le-ltb _ _ (c .before .before .before .if1 .left))
     (room-short _ _ (sym (c .before .before .information-room .ensures) ∙ c .enum-told .given .1))
 
-same-length : tie.Need-same-length
-same-length c = search needs
-
 returns-3 : tie.Need-returns-3
 returns-3 c =
     let a = c .before .before .before .before .before .before .before .before .before .before .before .before .args in
@@ -43,12 +31,5 @@ returns-3 c =
 pub fill-information-spec : {M : Type 1} → statement M
 fill-information-spec =
     tie.close
-    (tie.spec
-    returns
-    information-room-requires
-    enum-told
-    enum-told-2
-    put-information-requires
-    returns-2
-    same-length
-    returns-3)
+    (tie.spec returns (λ c κs. search needs) (λ c. search needs) (λ c. search needs) put-information-requires
+    returns-2 (λ c. search needs) returns-3)

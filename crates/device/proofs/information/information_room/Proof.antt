@@ -4,30 +4,6 @@ use borrow.Author.Needs.{needs}
 use Rattle.device.proofs.information.information_room.Statement.{statement}
 use Rattle.device.proofs.information.information_room.Tie as tie
 
-text-len-requires : tie.Need-text-len-requires
-text-len-requires c κs = search needs
-
-less-requires : tie.Need-less-requires
-less-requires c κs = search needs
-
-text-len-requires-2 : tie.Need-text-len-requires-2
-text-len-requires-2 c κs = search needs
-
-less-requires-2 : tie.Need-less-requires-2
-less-requires-2 c κs = search needs
-
-packed-len-requires : tie.Need-packed-len-requires
-packed-len-requires c κs = search needs
-
-less-requires-3 : tie.Need-less-requires-3
-less-requires-3 c κs = search needs
-
-text-len-requires-3 : tie.Need-text-len-requires-3
-text-len-requires-3 c κs = search needs
-
-less-requires-4 : tie.Need-less-requires-4
-less-requires-4 c κs = search needs
-
 returns : tie.Need-returns
 returns c =
     let a = c .before .before .before .before .before .before .before .before .before .before .before .args in
@@ -38,13 +14,5 @@ returns c =
 pub information-room-spec : {M : Type 1} → statement M
 information-room-spec =
     tie.close
-    (tie.spec
-    text-len-requires
-    less-requires
-    text-len-requires-2
-    less-requires-2
-    packed-len-requires
-    less-requires-3
-    text-len-requires-3
-    less-requires-4
-    returns)
+    (tie.spec (λ c κs. search needs) (λ c κs. search needs) (λ c κs. search needs) (λ c κs. search needs)
+    (λ c κs. search needs) (λ c κs. search needs) (λ c κs. search needs) (λ c κs. search needs) returns)

@@ -31,19 +31,11 @@ put-text-requires-3 c κs =
     let p₃ = c .before .before .before .put-packed in
     (search needs, omega (arith, c .before .before .before .before .before .before .before .before .before .before .before .before .before .before .before .before .before .pre .1, information-length (now (a .serial-number)) (now (a .name)) (now (a .transports)) (now (a .device-type)), p₁ .ensures .place, p₁ .kept .0, p₂ .ensures .place, p₂ .kept .0, p₃ .ensures .place, p₃ .kept .0))
 
-same-length : tie.Need-same-length
-same-length c = search needs
-
 returns : tie.Need-returns
 returns c = put-four _ _ _ _ (c .before .before .before .before .before .before .before .before .before .before .before .before .before .before .put-text .ensures) (c .before .before .before .before .before .before .before .before .before .before .put-text2 .ensures) (c .before .before .before .before .before .before .put-packed .ensures) (c .before .before .put-text3 .ensures)
 
 pub put-information-spec : {M : Type 1} → statement M
 put-information-spec =
     tie.close
-    (tie.spec
-    put-text-requires
-    put-text-requires-2
-    put-packed-requires
-    put-text-requires-3
-    same-length
+    (tie.spec put-text-requires put-text-requires-2 put-packed-requires put-text-requires-3 (λ c. search needs)
     returns)

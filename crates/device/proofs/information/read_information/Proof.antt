@@ -16,15 +16,6 @@ use borrow.Author.Needs.{needs}
 use Rattle.device.proofs.information.read_information.Statement.{statement}
 use Rattle.device.proofs.information.read_information.Tie as tie
 
-read-fields-requires : tie.Need-read-fields-requires
-read-fields-requires c κs = search needs
-
-enum-known-verdict : tie.Need-enum-known-verdict
-enum-known-verdict c = search needs
-
-enum-told : tie.Need-enum-told
-enum-told c = search needs
-
 -- what read_fields told
 read : (c : tie.After-enum-told) → fieldsFrom Schema.Information (now (c .before .before .before .before .args .message)) 0 ≡ given (c .before .before .read-fields .result .gathered)
 read c =
@@ -35,15 +26,6 @@ refuses : (c : tie.After-verdict) → fieldsFrom Schema.Information (now (c .bef
 refuses c =
     let k = c .before .before .read-fields in
     sym (k .ensures) ∙ ap (λ v. judgedAs v (k .result .gathered)) (c .verdict .given .1)
-
-element-copy-out-serial-number : tie.Need-element-copy-out-serial-number
-element-copy-out-serial-number c = search needs
-
-element-copy-out-name : tie.Need-element-copy-out-name
-element-copy-out-name c = search needs
-
-element-copy-out-device-type : tie.Need-element-copy-out-device-type
-element-copy-out-device-type c = search needs
 
 returns : tie.Need-returns
 unfolding informationOf
@@ -68,12 +50,5 @@ returns-2 c =
 pub read-information-spec : {M : Type 1} → statement M
 read-information-spec =
     tie.close
-    (tie.spec
-    read-fields-requires
-    enum-known-verdict
-    enum-told
-    element-copy-out-serial-number
-    element-copy-out-name
-    element-copy-out-device-type
-    returns
-    returns-2)
+    (tie.spec (λ c κs. search needs) (λ c. search needs) (λ c. search needs) (λ c. search needs) (λ c. search needs)
+    (λ c. search needs) returns returns-2)

@@ -13,30 +13,12 @@ returns c =
     let a = c .before .before .before .before .before .args in
     texts-bad _ (informationStrings (now (a .serial-number)) (now (a .name)) (now (a .device-type))) (informationFields (now (a .serial-number)) (now (a .name)) (now (a .transports)) (now (a .device-type))) (now (a .out)) (lt-ltb _ _ (c .if1 .taken))
 
-information-fault-requires : tie.Need-information-fault-requires
-information-fault-requires c κs = search needs
-
-enum-known-field : tie.Need-enum-known-field
-enum-known-field c = search needs
-
-enum-told : tie.Need-enum-told
-enum-told c = search needs
-
-fill-information-requires : tie.Need-fill-information-requires
-fill-information-requires c κs = search needs
-
-of-requires : tie.Need-of-requires
-of-requires c κs = search needs
-
 returns-2 : tie.Need-returns-2
 unfolding informationWritten
 returns-2 c =
     let a = c .before .before .before .before .before .before .before .before .before .args in
     texts-fault _ (informationStrings (now (a .serial-number)) (now (a .name)) (now (a .device-type))) (informationFields (now (a .serial-number)) (now (a .name)) (now (a .transports)) (now (a .device-type))) (now (a .out)) _ _ (le-ltb _ _ (c .before .before .before .before .if1 .left))
     (sym (c .before .before .before .information-fault .ensures) ∙ c .before .field .given .1)
-
-same-length : tie.Need-same-length
-same-length c = search needs
 
 returns-3 : tie.Need-returns-3
 unfolding informationWritten
@@ -49,13 +31,5 @@ returns-3 c =
 pub write-information-spec : {M : Type 1} → statement M
 write-information-spec =
     tie.close
-    (tie.spec
-    returns
-    information-fault-requires
-    enum-known-field
-    enum-told
-    fill-information-requires
-    of-requires
-    returns-2
-    same-length
-    returns-3)
+    (tie.spec returns (λ c κs. search needs) (λ c. search needs) (λ c. search needs) (λ c κs. search needs)
+    (λ c κs. search needs) returns-2 (λ c. search needs) returns-3)

@@ -4,33 +4,6 @@ use borrow.Author.Needs.{needs}
 use Rattle.feed.proofs.fast_path.header_at.Statement.{statement}
 use Rattle.feed.proofs.fast_path.header_at.Tie as tie
 
-sub-if1 : tie.Need-sub-if1
-sub-if1 c = search needs
-
-shared-slice-read-is-header : tie.Need-shared-slice-read-is-header
-shared-slice-read-is-header c = search needs
-
-add-is-header : tie.Need-add-is-header
-add-is-header c = search needs
-
-shared-slice-read-is-header-2 : tie.Need-shared-slice-read-is-header-2
-shared-slice-read-is-header-2 c = search needs
-
-add-is-header-2 : tie.Need-add-is-header-2
-add-is-header-2 c = search needs
-
-shared-slice-read-is-header-3 : tie.Need-shared-slice-read-is-header-3
-shared-slice-read-is-header-3 c = search needs
-
-add-is-header-3 : tie.Need-add-is-header-3
-add-is-header-3 c = search needs
-
-shared-slice-read-is-header-4 : tie.Need-shared-slice-read-is-header-4
-shared-slice-read-is-header-4 c = search needs
-
-is-header-requires : tie.Need-is-header-requires
-is-header-requires c κs = search needs
-
 returns : tie.Need-returns
 unfolding headerAt
 returns c = rw (lt-ltb _ _ (c .if1 .taken))
@@ -42,15 +15,5 @@ returns-2 c = rw (le-ltb _ _ (c .before .before .before .before .before .if1 .le
 pub header-at-spec : {M : Type 1} → statement M
 header-at-spec =
     tie.close
-    (tie.spec
-    sub-if1
-    shared-slice-read-is-header
-    add-is-header
-    shared-slice-read-is-header-2
-    add-is-header-2
-    shared-slice-read-is-header-3
-    add-is-header-3
-    shared-slice-read-is-header-4
-    is-header-requires
-    returns
-    returns-2)
+    (tie.spec (λ c. search needs) (λ c. search needs) (λ c. search needs) (λ c. search needs) (λ c. search needs)
+    (λ c. search needs) (λ c. search needs) (λ c. search needs) (λ c κs. search needs) returns returns-2)

@@ -4,14 +4,8 @@ use borrow.Author.Needs.{needs}
 use Rattle.feed.proofs.many.feed.Statement.{statement}
 use Rattle.feed.proofs.many.feed.Tie as tie
 
-is-ready-requires : tie.Need-is-ready-requires
-is-ready-requires c κs = search needs
-
 run-requires : tie.Need-run-requires
 run-requires c κs = ready-fits (sym (c .before .before .is-ready .ensures) ∙ c .before .if1 .taken)
-
-same-length : tie.Need-same-length
-same-length c = search needs
 
 returns : tie.Need-returns
 returns c =
@@ -22,4 +16,4 @@ returns-2 : tie.Need-returns-2
 returns-2 c = (rw (sym (c .before .is-ready .ensures) ∙ c .if1 .left), refl)
 
 pub feed-spec : {M : Type 1} → statement M
-feed-spec = tie.close (tie.spec is-ready-requires run-requires same-length returns returns-2)
+feed-spec = tie.close (tie.spec (λ c κs. search needs) run-requires (λ c. search needs) returns returns-2)

@@ -20,9 +20,6 @@ loop-holds c = record { within = search needs; fits = c .before .before .pre; sa
 pass-requires : tie.Need-pass-requires Inv-loop μ-loop
 pass-requires c κs = (c .before .loop .inv .fits, c .before .loop .inv .within)
 
-rebuilt-requires : tie.Need-rebuilt-requires Inv-loop μ-loop
-rebuilt-requires c κs = search needs
-
 same-length : tie.Need-same-length Inv-loop μ-loop
 same-length c =
     let g = c .before .before .before .before .before in
@@ -35,9 +32,6 @@ returns c =
     let on = running-on (g .before .before .loop .inv) (g .pass .ensures) (g .pass .kept .1 .1 .0) (c .before .rebuilt .ensures) in
     (running-end on (search needs), refl)
 
-shared-slice-read-fast-step : tie.Need-shared-slice-read-fast-step Inv-loop μ-loop
-shared-slice-read-fast-step c = search needs
-
 fast-step-requires : tie.Need-fast-step-requires Inv-loop μ-loop
 fast-step-requires c κs =
     let g = c .before .before .before .before .before .before .before in
@@ -49,15 +43,6 @@ add-i c =
     let g = c .before .before .before .before .before .before .before .before .before .before in
     let on = running-on (g .before .before .loop .inv) (g .pass .ensures) (g .pass .kept .1 .1 .0) (c .before .before .before .before .before .before .rebuilt .ensures) in
     omega (arith, on .within)
-
-rebuilt-requires-2 : tie.Need-rebuilt-requires-2 Inv-loop μ-loop
-rebuilt-requires-2 c κs = search needs
-
-is-decided-requires : tie.Need-is-decided-requires Inv-loop μ-loop
-is-decided-requires c κs = search needs
-
-feed-outcome-requires : tie.Need-feed-outcome-requires Inv-loop μ-loop
-feed-outcome-requires c κs = search needs
 
 same-length-2 : tie.Need-same-length-2 Inv-loop μ-loop
 same-length-2 c =
@@ -86,21 +71,6 @@ loop-again c =
 pub run-spec : {M : Type 1} → statement M
 run-spec =
     tie.close
-    (tie.spec
-    Inv-loop
-    μ-loop
-    loop-holds
-    pass-requires
-    rebuilt-requires
-    same-length
-    returns
-    shared-slice-read-fast-step
-    fast-step-requires
-    add-i
-    rebuilt-requires-2
-    is-decided-requires
-    feed-outcome-requires
-    same-length-2
-    returns-2
-    loop-less
-    loop-again)
+    (tie.spec Inv-loop μ-loop loop-holds pass-requires (λ c κs. search needs) same-length returns (λ c. search needs)
+    fast-step-requires add-i (λ c κs. search needs) (λ c κs. search needs) (λ c κs. search needs) same-length-2
+    returns-2 loop-less loop-again)

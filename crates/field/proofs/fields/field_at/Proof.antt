@@ -12,24 +12,6 @@ returns : tie.Need-returns
 unfolding foundAt
 returns c = (rw (le-leb _ _ (c .if1 .taken)), tt)
 
-read-tag-requires : tie.Need-read-tag-requires
-read-tag-requires c κs = search needs
-
-enum-known-e : tie.Need-enum-known-e
-enum-known-e c = search needs
-
-enum-known-head : tie.Need-enum-known-head
-enum-known-head c = search needs
-
-read-value-requires : tie.Need-read-value-requires
-read-value-requires c κs = search needs
-
-enum-known-e-2 : tie.Need-enum-known-e-2
-enum-known-e-2 c = search needs
-
-enum-known-value : tie.Need-enum-known-value
-enum-known-value c = search needs
-
 returns-2 : tie.Need-returns-2
 unfolding foundAt
 returns-2 c = (rw (lt-leb _ _ (c .before .before .before .before .if1 .left), sym (c .before .before .before .read-tag .ensures) ∙ ap toldTag (c .before .e .given .1)), tt)
@@ -60,14 +42,5 @@ returns-4 c =
 pub field-at-spec : {M : Type 1} → statement M
 field-at-spec =
     tie.close
-    (tie.spec
-    returns
-    read-tag-requires
-    enum-known-e
-    enum-known-head
-    read-value-requires
-    enum-known-e-2
-    enum-known-value
-    returns-2
-    returns-3
-    returns-4)
+    (tie.spec returns (λ c κs. search needs) (λ c. search needs) (λ c. search needs) (λ c κs. search needs)
+    (λ c. search needs) (λ c. search needs) returns-2 returns-3 returns-4)

@@ -8,18 +8,6 @@ use Rattle.field.proofs.SignedNumbers.{flipped-fits, flipped-is}
 use Rattle.field.proofs.signed.low_signed.Statement.{statement}
 use Rattle.field.proofs.signed.low_signed.Tie as tie
 
-low-bits-requires : tie.Need-low-bits-requires
-low-bits-requires c κs = search needs
-
-cast-result : tie.Need-cast-result
-cast-result c = search needs
-
-sub-result : tie.Need-sub-result
-sub-result c = search needs
-
-cast-result-2 : tie.Need-cast-result-2
-cast-result-2 c = search needs
-
 sub-result-2 : tie.Need-sub-result-2
 sub-result-2 c = flipped-fits _ (c .if1 .left) (omega arith)
 
@@ -32,4 +20,5 @@ returns-2 c = flipped-is _ (c .if1 .left) (omega arith) ∙ ap (toZ w32) (c .bef
 pub low-signed-spec : {M : Type 1} → statement M
 low-signed-spec =
     tie.close
-    (tie.spec low-bits-requires cast-result sub-result cast-result-2 sub-result-2 returns returns-2)
+    (tie.spec (λ c κs. search needs) (λ c. search needs) (λ c. search needs) (λ c. search needs) sub-result-2 returns
+    returns-2)

@@ -15,15 +15,6 @@ wire v = omega arith
 bad : {b : Bool} (c : tie.After-bad-tag) → c .bad-tag .result ≡ b → badTag (c .before .args .value / 8) (c .before .args .value % 8) ≡ b
 bad c e = rw (wire (c .before .args .value)) at (sym (c .bad-tag .ensures) ∙ e)
 
-mul-wire : tie.Need-mul-wire
-mul-wire c = search needs
-
-sub-wire : tie.Need-sub-wire
-sub-wire c = search needs
-
-bad-tag-requires : tie.Need-bad-tag-requires
-bad-tag-requires c κs = search needs
-
 returns : tie.Need-returns
 returns c = rw (bad (c .before) (c .if1 .taken))
 
@@ -31,4 +22,4 @@ returns-2 : tie.Need-returns-2
 returns-2 c = rw (wire (c .before .before .args .value), bad (c .before) (c .if1 .left))
 
 pub tag-of-spec : {M : Type 1} → statement M
-tag-of-spec = tie.close (tie.spec mul-wire sub-wire bad-tag-requires returns returns-2)
+tag-of-spec = tie.close (tie.spec (λ c. search needs) (λ c. search needs) (λ c κs. search needs) returns returns-2)

@@ -7,12 +7,6 @@ use borrow.Author.Needs.{needs}
 use Rattle.field.proofs.value.part_of.Statement.{statement}
 use Rattle.field.proofs.value.part_of.Tie as tie
 
-sub-left : tie.Need-sub-left
-sub-left c = search needs
-
-add-end : tie.Need-add-end
-add-end c = search needs
-
 returns : tie.Need-returns
 returns c = rw (le-ltb (length (now (c .before .args .message))) (c .before .args .next + c .before .args .value) (omega (arith, c .before .pre, c .if1 .taken)))
 
@@ -20,4 +14,4 @@ returns-2 : tie.Need-returns-2
 returns-2 c = rw (lt-ltb (length (now (c .before .args .message))) (c .before .args .next + c .before .args .value) (omega (arith, c .before .pre, c .if1 .left)))
 
 pub part-of-spec : {M : Type 1} → statement M
-part-of-spec = tie.close (tie.spec sub-left add-end returns returns-2)
+part-of-spec = tie.close (tie.spec (λ c. search needs) (λ c. search needs) returns returns-2)

@@ -25,9 +25,6 @@ by-varint s at (suc zero) l n = absurd (n refl)
 by-varint s at (suc (suc zero)) l n = refl
 by-varint s at (suc (suc (suc wire))) l n = absurd (omega arith)
 
-skip-requires : tie.Need-skip-requires
-skip-requires c κs = search needs
-
 returns : tie.Need-returns
 unfolding valueAt
 returns c =
@@ -48,23 +45,11 @@ returns-2 c =
       tt,
     )
 
-skip-requires-2 : tie.Need-skip-requires-2
-skip-requires-2 c κs = search needs
-
 returns-3 : tie.Need-returns-3
 unfolding valueAt
 returns-3 c =
     let a = c .before .before .before .before .args in
     value-told (now (a .message)) (a .at) (a .wire) (toldValue (c .skip2 .result)) (rw (c .before .if3 .taken) (c .skip2 .ensures))
-
-read-varint-requires : tie.Need-read-varint-requires
-read-varint-requires c κs = search needs
-
-enum-known-e : tie.Need-enum-known-e
-enum-known-e c = search needs
-
-enum-known-value : tie.Need-enum-known-value
-enum-known-value c = search needs
 
 returns-4 : tie.Need-returns-4
 unfolding valueAt
@@ -87,16 +72,5 @@ returns-6 c =
 pub read-value-spec : {M : Type 1} → statement M
 read-value-spec =
     tie.close
-    (tie.spec
-    skip-requires
-    returns
-    returns-2
-    skip-requires-2
-    returns-3
-    read-varint-requires
-    enum-known-e
-    enum-known-value
-    returns-4
-    part-of-requires
-    returns-5
-    returns-6)
+    (tie.spec (λ c κs. search needs) returns returns-2 (λ c κs. search needs) returns-3 (λ c κs. search needs)
+    (λ c. search needs) (λ c. search needs) returns-4 part-of-requires returns-5 returns-6)

@@ -6,9 +6,6 @@ use borrow.Author.Needs.{needs}
 use Rattle.field.proofs.value.skip.Statement.{statement}
 use Rattle.field.proofs.value.skip.Tie as tie
 
-add-next : tie.Need-add-next
-add-next c = search needs
-
 returns : tie.Need-returns
 returns c = rw (le-ltb (length (c .before .before .args .message .now)) (c .before .before .args .at + c .before .before .args .n) (omega arith))
 
@@ -19,4 +16,4 @@ returns-3 : tie.Need-returns-3
 returns-3 c = rw (lt-ltb (length (c .before .args .message .now)) (c .before .args .at + c .before .args .n) (omega arith))
 
 pub skip-spec : {M : Type 1} → statement M
-skip-spec = tie.close (tie.spec add-next returns returns-2 returns-3)
+skip-spec = tie.close (tie.spec (λ c. search needs) returns returns-2 returns-3)

@@ -39,12 +39,6 @@ last c =
     let l = c .before .before .before .before .before .loop in
     last-fits (l .value) (l .weight) (l .left) _ (l .inv .room) (l .inv .below) (c .before .if1 .taken) (c .if2 .left)
 
-shared-slice-read-wide64 : tie.Need-shared-slice-read-wide64 Inv-loop μ-loop
-shared-slice-read-wide64 c = search needs
-
-wide64-requires : tie.Need-wide64-requires Inv-loop μ-loop
-wide64-requires c κs = search needs
-
 returns : tie.Need-returns Inv-loop μ-loop
 returns c =
     let l = c .before .before .before .before .before .loop in
@@ -55,9 +49,6 @@ mul-whole c = omega (arith, last c)
 
 add-whole : tie.Need-add-whole Inv-loop μ-loop
 add-whole c = omega (arith, last c)
-
-add-next : tie.Need-add-next Inv-loop μ-loop
-add-next c = search needs
 
 returns-2 : tie.Need-returns-2 Inv-loop μ-loop
 returns-2 c =
@@ -70,9 +61,6 @@ mul-whole-2 c = omega (arith, digit-fits (c .before) _ (c .if3 .taken))
 
 add-whole-2 : tie.Need-add-whole-2 Inv-loop μ-loop
 add-whole-2 c = omega (arith, digit-fits (c .before) _ (c .if3 .taken))
-
-add-next-2 : tie.Need-add-next-2 Inv-loop μ-loop
-add-next-2 c = search needs
 
 returns-3 : tie.Need-returns-3 Inv-loop μ-loop
 returns-3 c =
@@ -90,15 +78,6 @@ mul-weight : tie.Need-mul-weight Inv-loop μ-loop
 mul-weight c =
     let l = c .before .before .before .before .before .loop in
     omega (arith, room-more (l .weight) (l .left) (l .inv .room) (c .before .if1 .left))
-
-sub-left : tie.Need-sub-left Inv-loop μ-loop
-sub-left c = search needs
-
-add-i : tie.Need-add-i Inv-loop μ-loop
-add-i c = search needs
-
-loop-less : tie.Need-loop-less Inv-loop μ-loop
-loop-less c = search needs
 
 loop-again : tie.Need-loop-again Inv-loop μ-loop
 loop-again c =
@@ -119,26 +98,6 @@ returns-4 c =
 pub read-long-spec : {M : Type 1} → statement M
 read-long-spec =
     tie.close
-    (tie.spec
-    Inv-loop
-    μ-loop
-    loop-holds
-    shared-slice-read-wide64
-    wide64-requires
-    returns
-    mul-whole
-    add-whole
-    add-next
-    returns-2
-    mul-whole-2
-    add-whole-2
-    add-next-2
-    returns-3
-    mul-value
-    add-value
-    mul-weight
-    sub-left
-    add-i
-    loop-less
-    loop-again
-    returns-4)
+    (tie.spec Inv-loop μ-loop loop-holds (λ c. search needs) (λ c κs. search needs) returns mul-whole add-whole
+    (λ c. search needs) returns-2 mul-whole-2 add-whole-2 (λ c. search needs) returns-3 mul-value add-value mul-weight
+    (λ c. search needs) (λ c. search needs) (λ c. search needs) loop-again returns-4)

@@ -6,21 +6,6 @@ use borrow.Author.Needs.{needs}
 use Rattle.field_writer.proofs.fields.head_len.Statement.{statement}
 use Rattle.field_writer.proofs.fields.head_len.Tie as tie
 
-mul-tag : tie.Need-mul-tag
-mul-tag c = search needs
-
-add-tag : tie.Need-add-tag
-add-tag c = search needs
-
-varint-len-requires : tie.Need-varint-len-requires
-varint-len-requires c κs = search needs
-
-varint-len-requires-2 : tie.Need-varint-len-requires-2
-varint-len-requires-2 c κs = search needs
-
-add-result : tie.Need-add-result
-add-result c = search needs
-
 returns : tie.Need-returns
 returns c =
     let a = c .before .before .args in
@@ -29,4 +14,5 @@ returns c =
 pub head-len-spec : {M : Type 1} → statement M
 head-len-spec =
     tie.close
-    (tie.spec mul-tag add-tag varint-len-requires varint-len-requires-2 add-result returns)
+    (tie.spec (λ c. search needs) (λ c. search needs) (λ c κs. search needs) (λ c κs. search needs)
+    (λ c. search needs) returns)

@@ -13,15 +13,6 @@ use Rattle.field_writer.proofs.fields.packed_len.Tie as tie
 returns : tie.Need-returns
 returns c = sym (ap length (packed-none (c .before .args .field) (now (c .before .args .list)) (c .if1 .taken)))
 
-varints-len-requires : tie.Need-varints-len-requires
-varints-len-requires c κs = search needs
-
-head-len-requires : tie.Need-head-len-requires
-head-len-requires c κs = search needs
-
-add-result : tie.Need-add-result
-add-result c = search needs
-
 returns-2 : tie.Need-returns-2
 returns-2 c =
     let a = c .before .before .before .args in
@@ -36,4 +27,5 @@ returns-2 c =
 
 pub packed-len-spec : {M : Type 1} → statement M
 packed-len-spec =
-    tie.close (tie.spec returns varints-len-requires head-len-requires add-result returns-2)
+    tie.close
+    (tie.spec returns (λ c κs. search needs) (λ c κs. search needs) (λ c. search needs) returns-2)

@@ -7,12 +7,6 @@ use borrow.Author.Needs.{needs}
 use Rattle.field_writer.proofs.fields.part_len.Statement.{statement}
 use Rattle.field_writer.proofs.fields.part_len.Tie as tie
 
-head-len-requires : tie.Need-head-len-requires
-head-len-requires c κs = search needs
-
-add-result : tie.Need-add-result
-add-result c = search needs
-
 returns : tie.Need-returns
 returns c =
     let a = c .before .before .args in
@@ -20,4 +14,4 @@ returns c =
     (omega (arith, joined-length (headBytes (a .field) (length s)) s (part-is (a .field) s)), omega arith)
 
 pub part-len-spec : {M : Type 1} → statement M
-part-len-spec = tie.close (tie.spec head-len-requires add-result returns)
+part-len-spec = tie.close (tie.spec (λ c κs. search needs) (λ c. search needs) returns)

@@ -6,12 +6,6 @@ use borrow.Author.Needs.{needs}
 use Rattle.field_writer.proofs.fields.put_head.Statement.{statement}
 use Rattle.field_writer.proofs.fields.put_head.Tie as tie
 
-mul-tag : tie.Need-mul-tag
-mul-tag c = search needs
-
-add-tag : tie.Need-add-tag
-add-tag c = search needs
-
 put-varint-requires : tie.Need-put-varint-requires
 put-varint-requires c κs =
     let a = c .before .before .args in
@@ -29,9 +23,6 @@ put-varint-requires-2 c κs =
       p .kept .0,
     )
 
-same-length : tie.Need-same-length
-same-length c = search needs
-
 returns : tie.Need-returns
 returns c =
     let a = c .before .before .before .before .before .before .before .before .before .args in
@@ -41,4 +32,5 @@ returns c =
 pub put-head-spec : {M : Type 1} → statement M
 put-head-spec =
     tie.close
-    (tie.spec mul-tag add-tag put-varint-requires put-varint-requires-2 same-length returns)
+    (tie.spec (λ c. search needs) (λ c. search needs) put-varint-requires put-varint-requires-2 (λ c. search needs)
+    returns)

@@ -14,9 +14,6 @@ returns c =
     let a = c .before .before .args in
     put-none (now (a .out)) (a .at) (packed-none (a .field) (now (a .list)) (c .if1 .taken))
 
-varints-len-requires : tie.Need-varints-len-requires
-varints-len-requires c κs = search needs
-
 put-head-requires : tie.Need-put-head-requires
 put-head-requires c κs =
     let a = c .before .before .before .before .args in
@@ -39,9 +36,6 @@ put-varints-requires c κs =
       h .kept .0,
     )
 
-same-length : tie.Need-same-length
-same-length c = search needs
-
 returns-2 : tie.Need-returns-2
 returns-2 c =
     let a = c .before .before .before .before .before .before .before .before .before .before .before .args in
@@ -52,10 +46,4 @@ returns-2 c =
 pub put-packed-spec : {M : Type 1} → statement M
 put-packed-spec =
     tie.close
-    (tie.spec
-    returns
-    varints-len-requires
-    put-head-requires
-    put-varints-requires
-    same-length
-    returns-2)
+    (tie.spec returns (λ c κs. search needs) put-head-requires put-varints-requires (λ c. search needs) returns-2)

@@ -27,9 +27,6 @@ add-result c =
     let s = now (a .bytes) in
     omega (arith, c .before .before .before .before .before .before .before .before .before .before .pre, joined-length (headBytes (a .field) (length s)) s (part-is (a .field) s), c .before .before .before .before .before .before .put-head .ensures .place)
 
-same-length : tie.Need-same-length
-same-length c = search needs
-
 returns : tie.Need-returns
 returns c =
     let a = c .before .before .before .before .before .before .before .before .before .before .args in
@@ -37,4 +34,4 @@ returns c =
     put-then (headBytes (a .field) (length s)) s (part-is (a .field) s) (c .before .before .before .before .before .before .put-head .ensures) (record { place = refl; stored = c .before .before .copy .ensures })
 
 pub put-part-spec : {M : Type 1} → statement M
-put-part-spec = tie.close (tie.spec put-head-requires copy-requires add-result same-length returns)
+put-part-spec = tie.close (tie.spec put-head-requires copy-requires add-result (λ c. search needs) returns)

@@ -12,12 +12,6 @@ returns c =
     let a = c .before .before .args in
     put-none (now (a .out)) (a .at) (scalar-none (a .field) (a .value) (c .if1 .taken))
 
-mul-tag : tie.Need-mul-tag
-mul-tag c = search needs
-
-add-tag : tie.Need-add-tag
-add-tag c = search needs
-
 put-varint-requires : tie.Need-put-varint-requires
 put-varint-requires c κs =
     let a = c .before .before .before .args in
@@ -35,9 +29,6 @@ put-varint-requires-2 c κs =
       p .kept .0,
     )
 
-same-length : tie.Need-same-length
-same-length c = search needs
-
 returns-2 : tie.Need-returns-2
 returns-2 c =
     let a = c .before .before .before .before .before .before .before .before .before .before .args in
@@ -47,11 +38,5 @@ returns-2 c =
 pub put-scalar-spec : {M : Type 1} → statement M
 put-scalar-spec =
     tie.close
-    (tie.spec
-    returns
-    mul-tag
-    add-tag
-    put-varint-requires
-    put-varint-requires-2
-    same-length
-    returns-2)
+    (tie.spec returns (λ c. search needs) (λ c. search needs) put-varint-requires put-varint-requires-2
+    (λ c. search needs) returns-2)

@@ -14,13 +14,10 @@ put-part-requires c κs =
     let a = c .before .before .before .before .args in
     rw (text-some (a .field) (now (a .bytes)) (c .before .if1 .left)) (c .before .before .before .before .pre)
 
-same-length : tie.Need-same-length
-same-length c = search needs
-
 returns-2 : tie.Need-returns-2
 returns-2 c =
     let a = c .before .before .before .before .before .before .before .args in
     rw (← text-some (a .field) (now (a .bytes)) (c .before .before .before .before .if1 .left)) (c .before .before .put-part .ensures)
 
 pub put-text-spec : {M : Type 1} → statement M
-put-text-spec = tie.close (tie.spec returns put-part-requires same-length returns-2)
+put-text-spec = tie.close (tie.spec returns put-part-requires (λ c. search needs) returns-2)

@@ -31,15 +31,6 @@ abbrev μ-loop : tie.MeasureT-loop
 loop-holds : tie.Need-loop-holds Inv-loop μ-loop
 loop-holds c = record { inside = search needs; long = refl; place = refl; target = refl }
 
-mul-sign-extended : tie.Need-mul-sign-extended Inv-loop μ-loop
-mul-sign-extended c = search needs
-
-shared-slice-copy-out-sign-extended : tie.Need-shared-slice-copy-out-sign-extended Inv-loop μ-loop
-shared-slice-copy-out-sign-extended c = search needs
-
-sign-extended-requires : tie.Need-sign-extended-requires Inv-loop μ-loop
-sign-extended-requires c κs = search needs
-
 -- the entry as the varint's value
 value : (c : tie.After-sign-extended Inv-loop μ-loop) → c .sign-extended .result ≡ extended (getD (c .before .before .before .before .before .before .args .list .now) (c .before .before .before .before .loop .i) (pos 0))
 value c = c .sign-extended .ensures ∙ entry-read (getD (c .before .before .before .before .before .before .args .list .now) (c .before .before .before .before .loop .i) (pos 0)) (c .before .sign-extended-arg .given)
@@ -51,12 +42,6 @@ put-varint-requires c κs =
     let e = varints-next s (l .i) (search needs) in
     rw (value c)
     (omega (arith, l .inv .place, l .inv .long, c .before .before .before .before .before .before .pre, joined-length (varintBytes (extended (getD s (l .i) (pos 0)))) (varintsFrom s (l .i + 1)) (sym e)))
-
-add-i : tie.Need-add-i Inv-loop μ-loop
-add-i c = search needs
-
-loop-less : tie.Need-loop-less Inv-loop μ-loop
-loop-less c = search needs
 
 loop-again : tie.Need-loop-again Inv-loop μ-loop
 loop-again c =
@@ -87,16 +72,5 @@ returns c =
 pub put-varints-spec : {M : Type 1} → statement M
 put-varints-spec =
     tie.close
-    (tie.spec
-    Inv-loop
-    μ-loop
-    loop-holds
-    mul-sign-extended
-    shared-slice-copy-out-sign-extended
-    sign-extended-requires
-    put-varint-requires
-    add-i
-    loop-less
-    loop-again
-    same-length
-    returns)
+    (tie.spec Inv-loop μ-loop loop-holds (λ c. search needs) (λ c. search needs) (λ c κs. search needs)
+    put-varint-requires (λ c. search needs) (λ c. search needs) loop-again same-length returns)

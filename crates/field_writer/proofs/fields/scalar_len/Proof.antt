@@ -13,21 +13,6 @@ returns c =
     let e = ap length (scalar-none (c .before .args .field) (c .before .args .value) (c .if1 .taken)) in
     (sym e, omega arith)
 
-mul-tag : tie.Need-mul-tag
-mul-tag c = search needs
-
-add-tag : tie.Need-add-tag
-add-tag c = search needs
-
-varint-len-requires : tie.Need-varint-len-requires
-varint-len-requires c κs = search needs
-
-varint-len-requires-2 : tie.Need-varint-len-requires-2
-varint-len-requires-2 c κs = search needs
-
-add-result : tie.Need-add-result
-add-result c = search needs
-
 returns-2 : tie.Need-returns-2
 returns-2 c =
     let a = c .before .before .before .args in
@@ -37,11 +22,5 @@ returns-2 c =
 pub scalar-len-spec : {M : Type 1} → statement M
 scalar-len-spec =
     tie.close
-    (tie.spec
-    returns
-    mul-tag
-    add-tag
-    varint-len-requires
-    varint-len-requires-2
-    add-result
-    returns-2)
+    (tie.spec returns (λ c. search needs) (λ c. search needs) (λ c κs. search needs) (λ c κs. search needs)
+    (λ c. search needs) returns-2)

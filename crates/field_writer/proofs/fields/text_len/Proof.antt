@@ -13,9 +13,6 @@ returns c =
     let e = ap length (text-none (a .field) (now (a .bytes)) (c .if1 .taken)) in
     (sym e, omega arith)
 
-part-len-requires : tie.Need-part-len-requires
-part-len-requires c κs = search needs
-
 returns-2 : tie.Need-returns-2
 returns-2 c =
     let a = c .before .before .before .args in
@@ -23,4 +20,4 @@ returns-2 c =
     (c .part-len .ensures .0 ∙ e, c .part-len .ensures .1)
 
 pub text-len-spec : {M : Type 1} → statement M
-text-len-spec = tie.close (tie.spec returns part-len-requires returns-2)
+text-len-spec = tie.close (tie.spec returns (λ c κs. search needs) returns-2)

@@ -20,31 +20,10 @@ abbrev μ-loop : tie.MeasureT-loop
 loop-holds : tie.Need-loop-holds Inv-loop μ-loop
 loop-holds c = (search needs, search needs, search needs)
 
-mul-sign-extended : tie.Need-mul-sign-extended Inv-loop μ-loop
-mul-sign-extended c = search needs
-
-shared-slice-copy-out-sign-extended : tie.Need-shared-slice-copy-out-sign-extended Inv-loop μ-loop
-shared-slice-copy-out-sign-extended c = search needs
-
-sign-extended-requires : tie.Need-sign-extended-requires Inv-loop μ-loop
-sign-extended-requires c κs = search needs
-
-varint-len-requires : tie.Need-varint-len-requires Inv-loop μ-loop
-varint-len-requires c κs = search needs
-
 -- what was counted: the varint of the entry
 counted : (c : tie.After-varint-len Inv-loop μ-loop) → c .varint-len .result ≡ length (varintBytes (extended (getD (c .before .before .before .before .before .args .list .now) (c .before .before .before .before .loop .i) (pos 0))))
 counted c =
     c .varint-len .ensures .0 ∙ ap (λ v. length (varintBytes v)) (c .before .sign-extended .ensures ∙ entry-read (getD (c .before .before .before .before .before .args .list .now) (c .before .before .before .before .loop .i) (pos 0)) (c .before .before .sign-extended-arg .given))
-
-add-n : tie.Need-add-n Inv-loop μ-loop
-add-n c = search needs
-
-add-i : tie.Need-add-i Inv-loop μ-loop
-add-i c = search needs
-
-loop-less : tie.Need-loop-less Inv-loop μ-loop
-loop-less c = search needs
 
 loop-again : tie.Need-loop-again Inv-loop μ-loop
 loop-again c =
@@ -62,16 +41,5 @@ returns c =
 pub varints-len-spec : {M : Type 1} → statement M
 varints-len-spec =
     tie.close
-    (tie.spec
-    Inv-loop
-    μ-loop
-    loop-holds
-    mul-sign-extended
-    shared-slice-copy-out-sign-extended
-    sign-extended-requires
-    varint-len-requires
-    add-n
-    add-i
-    loop-less
-    loop-again
-    returns)
+    (tie.spec Inv-loop μ-loop loop-holds (λ c. search needs) (λ c. search needs) (λ c κs. search needs)
+    (λ c κs. search needs) (λ c. search needs) (λ c. search needs) (λ c. search needs) loop-again returns)

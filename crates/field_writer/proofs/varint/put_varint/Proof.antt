@@ -30,28 +30,10 @@ loop-holds : tie.Need-loop-holds Inv-loop μ-loop
 unfolding varintBytes
 loop-holds c = record { left = 9; small = omega arith; word = omega arith; target = refl; place = refl; long = refl }
 
-mul-narrow : tie.Need-mul-narrow Inv-loop μ-loop
-mul-narrow c = omega arith
-
-sub-narrow : tie.Need-sub-narrow Inv-loop μ-loop
-sub-narrow c = omega arith
-
-add-narrow : tie.Need-add-narrow Inv-loop μ-loop
-add-narrow c = omega arith
-
-narrow-requires : tie.Need-narrow-requires Inv-loop μ-loop
-narrow-requires c κs = omega arith
-
 slice-write-out : tie.Need-slice-write-out Inv-loop μ-loop
 slice-write-out c =
     let l = c .before .before .loop in
     omega (arith, l .inv .place, l .inv .long, digits-count (l .inv .left) (l .rest), c .before .before .before .before .pre)
-
-add-i : tie.Need-add-i Inv-loop μ-loop
-add-i c = omega arith
-
-loop-less : tie.Need-loop-less Inv-loop μ-loop
-loop-less c = omega arith
 
 loop-again : tie.Need-loop-again Inv-loop μ-loop
 loop-again c =
@@ -67,16 +49,10 @@ loop-again c =
       long = simp length-set (l .inv .long);
     }
 
-narrow-requires-2 : tie.Need-narrow-requires-2 Inv-loop μ-loop
-narrow-requires-2 c κs = omega arith
-
 slice-write-out-2 : tie.Need-slice-write-out-2 Inv-loop μ-loop
 slice-write-out-2 c =
     let l = c .before .before .loop in
     omega (arith, l .inv .place, l .inv .long, digits-count (l .inv .left) (l .rest), c .before .before .before .before .pre)
-
-add-result : tie.Need-add-result Inv-loop μ-loop
-add-result c = omega arith
 
 same-length : tie.Need-same-length Inv-loop μ-loop
 same-length c = simp length-set (c .before .before .loop .inv .long)
@@ -93,20 +69,6 @@ returns c =
 pub put-varint-spec : {M : Type 1} → statement M
 put-varint-spec =
     tie.close
-    (tie.spec
-    Inv-loop
-    μ-loop
-    loop-holds
-    mul-narrow
-    sub-narrow
-    add-narrow
-    narrow-requires
-    slice-write-out
-    add-i
-    loop-less
-    loop-again
-    narrow-requires-2
-    slice-write-out-2
-    add-result
-    same-length
-    returns)
+    (tie.spec Inv-loop μ-loop loop-holds (λ c. omega arith) (λ c. omega arith) (λ c. omega arith)
+    (λ c κs. omega arith) slice-write-out (λ c. omega arith) (λ c. omega arith) loop-again (λ c κs. omega arith)
+    slice-write-out-2 (λ c. omega arith) same-length returns)

@@ -29,9 +29,6 @@ add-n c =
     let l = c .before .loop in
     omega (arith, l .inv .same, l .inv .few)
 
-loop-less : tie.Need-loop-less Inv-loop μ-loop
-loop-less c = omega arith
-
 loop-again : tie.Need-loop-again Inv-loop μ-loop
 loop-again c =
     let l = c .before .loop in
@@ -48,5 +45,4 @@ returns c =
     omega (arith, l .inv .same, l .inv .few, ap length (digits-short (l .inv .left) (l .rest) (c .loop-test .left)))
 
 pub varint-len-spec : {M : Type 1} → statement M
-varint-len-spec =
-    tie.close (tie.spec Inv-loop μ-loop loop-holds add-n loop-less loop-again returns)
+varint-len-spec = tie.close (tie.spec Inv-loop μ-loop loop-holds add-n (λ c. omega arith) loop-again returns)

@@ -5,14 +5,8 @@ use borrow.Author.Needs.{needs}
 use Rattle.firmware.proofs.apply.firmware_in.Statement.{statement}
 use Rattle.firmware.proofs.apply.firmware_in.Tie as tie
 
-add-end : tie.Need-add-end
-add-end c = search needs
-
 slice-aggregate-firmware-from : tie.Need-slice-aggregate-firmware-from
 slice-aggregate-firmware-from c = sym (length-take-le _ (c .before .before .before .args .message .now) (c .before .before .before .pre))
-
-firmware-from-requires : tie.Need-firmware-from-requires
-firmware-from-requires c κs = search needs
 
 returns : tie.Need-returns
 unfolding firmwareIn
@@ -21,8 +15,4 @@ returns c = c .firmware-from .ensures
 pub firmware-in-spec : {M : Type 1} → statement M
 firmware-in-spec =
     tie.close
-    (tie.spec
-    add-end
-    slice-aggregate-firmware-from
-    firmware-from-requires
-    returns)
+    (tie.spec (λ c. search needs) slice-aggregate-firmware-from (λ c κs. search needs) returns)

@@ -26,32 +26,8 @@ refuses c =
     let k = c .before .before .before .read-fields in
     sym (k .ensures) ∙ ap (λ v. judgedAs v (k .result .gathered)) (c .verdict .given .1)
 
-read-fields-requires : tie.Need-read-fields-requires
-read-fields-requires c κs = search needs
-
-enum-known-verdict : tie.Need-enum-known-verdict
-enum-known-verdict c = search needs
-
-refused-apply-requires : tie.Need-refused-apply-requires
-refused-apply-requires c κs = search needs
-
-enum-told : tie.Need-enum-told
-enum-told c = search needs
-
 firmware-in-requires : tie.Need-firmware-in-requires
 firmware-in-requires c κs = part-inside _ _ (read (c .before))
-
-enum-known-judged : tie.Need-enum-known-judged
-enum-known-judged c = search needs
-
-refused-apply-requires-2 : tie.Need-refused-apply-requires-2
-refused-apply-requires-2 c κs = search needs
-
-enum-told-2 : tie.Need-enum-told-2
-enum-told-2 c = search needs
-
-element-copy-out-t17 : tie.Need-element-copy-out-t17
-element-copy-out-t17 c = search needs
 
 returns : tie.Need-returns
 returns c = told-inside _ (c .refused-apply .result) (ap toldApply (c .refused-apply .ensures) ∙ sym (ap withApply (apply-stops _ _ (refuses (c .before .before)))))
@@ -71,16 +47,6 @@ returns-3 c =
 pub read-apply-spec : {M : Type 1} → statement M
 read-apply-spec =
     tie.close
-    (tie.spec
-    read-fields-requires
-    enum-known-verdict
-    refused-apply-requires
-    enum-told
-    firmware-in-requires
-    enum-known-judged
-    refused-apply-requires-2
-    enum-told-2
-    element-copy-out-t17
-    returns
-    returns-2
-    returns-3)
+    (tie.spec (λ c κs. search needs) (λ c. search needs) (λ c κs. search needs) (λ c. search needs)
+    firmware-in-requires (λ c. search needs) (λ c κs. search needs) (λ c. search needs) (λ c. search needs) returns
+    returns-2 returns-3)

@@ -2,15 +2,8 @@ use borrow.Author.Needs.{needs}
 use Rattle.firmware.proofs.apply.refused_apply.Statement.{statement}
 use Rattle.firmware.proofs.apply.refused_apply.Tie as tie
 
-none-requires : tie.Need-none-requires
-none-requires c κs = search needs
-
 returns : tie.Need-returns
 returns c = rw (c .none .ensures)
 
 pub refused-apply-spec : {M : Type 1} → statement M
-refused-apply-spec =
-    tie.close
-    (tie.spec
-    none-requires
-    returns)
+refused-apply-spec = tie.close (tie.spec (λ c κs. search needs) returns)

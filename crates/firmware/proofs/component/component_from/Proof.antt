@@ -20,33 +20,6 @@ refuses c =
     let k = c .before .before .before .read-fields in
     sym (k .ensures) ∙ ap (λ v. judgedAs v (k .result .gathered)) (c .verdict .given .1)
 
-read-fields-requires : tie.Need-read-fields-requires
-read-fields-requires c κs = search needs
-
-enum-known-verdict : tie.Need-enum-known-verdict
-enum-known-verdict c = search needs
-
-enum-told : tie.Need-enum-told
-enum-told c = search needs
-
-element-copy-out-name : tie.Need-element-copy-out-name
-element-copy-out-name c = search needs
-
-element-copy-out-signature : tie.Need-element-copy-out-signature
-element-copy-out-signature c = search needs
-
-element-copy-out-low-unsigned : tie.Need-element-copy-out-low-unsigned
-element-copy-out-low-unsigned c = search needs
-
-low-unsigned-requires : tie.Need-low-unsigned-requires
-low-unsigned-requires c κs = search needs
-
-element-copy-out-low-unsigned-2 : tie.Need-element-copy-out-low-unsigned-2
-element-copy-out-low-unsigned-2 c = search needs
-
-low-unsigned-requires-2 : tie.Need-low-unsigned-requires-2
-low-unsigned-requires-2 c κs = search needs
-
 returns : tie.Need-returns
 unfolding componentFrom
 returns c = rw (refuses (c .before))
@@ -58,15 +31,5 @@ returns-2 c = rw (read (c .before .before .before .before .before .before), c .b
 pub component-from-spec : {M : Type 1} → statement M
 component-from-spec =
     tie.close
-    (tie.spec
-    read-fields-requires
-    enum-known-verdict
-    enum-told
-    element-copy-out-name
-    element-copy-out-signature
-    element-copy-out-low-unsigned
-    low-unsigned-requires
-    element-copy-out-low-unsigned-2
-    low-unsigned-requires-2
-    returns
-    returns-2)
+    (tie.spec (λ c κs. search needs) (λ c. search needs) (λ c. search needs) (λ c. search needs) (λ c. search needs)
+    (λ c. search needs) (λ c κs. search needs) (λ c. search needs) (λ c κs. search needs) returns returns-2)

@@ -5,14 +5,8 @@ use borrow.Author.Needs.{needs}
 use Rattle.firmware.proofs.information.component_in.Statement.{statement}
 use Rattle.firmware.proofs.information.component_in.Tie as tie
 
-add-end : tie.Need-add-end
-add-end c = search needs
-
 slice-aggregate-component-from : tie.Need-slice-aggregate-component-from
 slice-aggregate-component-from c = sym (length-take-le _ (c .before .before .before .args .message .now) (c .before .before .before .pre))
-
-component-from-requires : tie.Need-component-from-requires
-component-from-requires c κs = search needs
 
 returns : tie.Need-returns
 returns c = c .component-from .ensures ∙ sym (component-cut _ (c .before .before .before .before .args .part))
@@ -20,8 +14,4 @@ returns c = c .component-from .ensures ∙ sym (component-cut _ (c .before .befo
 pub component-in-spec : {M : Type 1} → statement M
 component-in-spec =
     tie.close
-    (tie.spec
-    add-end
-    slice-aggregate-component-from
-    component-from-requires
-    returns)
+    (tie.spec (λ c. search needs) slice-aggregate-component-from (λ c κs. search needs) returns)

@@ -6,15 +6,6 @@ use Rattle.firmware.proofs.information.component_part.Tie as tie
 returns : tie.Need-returns
 returns c = rw (ne-eqb _ _ (c .if1 .taken))
 
-enum-told : tie.Need-enum-told
-enum-told c = search needs
-
-enum-known-value : tie.Need-enum-known-value
-enum-known-value c = search needs
-
-enum-told-2 : tie.Need-enum-told-2
-enum-told-2 c = search needs
-
 returns-2 : tie.Need-returns-2
 returns-2 c = rw (eq-eqb _ _ (c .before .before .if1 .left), c .enum-told .given .1)
 
@@ -27,11 +18,4 @@ returns-4 c = rw (eq-eqb _ _ (c .before .before .if1 .left), c .enum-told2 .give
 pub component-part-spec : {M : Type 1} → statement M
 component-part-spec =
     tie.close
-    (tie.spec
-    returns
-    enum-told
-    enum-known-value
-    enum-told-2
-    returns-2
-    returns-3
-    returns-4)
+    (tie.spec returns (λ c. search needs) (λ c. search needs) (λ c. search needs) returns-2 returns-3 returns-4)

@@ -25,35 +25,17 @@ onward : (c : tie.After-known-told Inv-loop μ-loop) → let p = c .before .part
     (c .before .before .before .before .loop .at < c .before .part .given .0 .1 .0) × (p .start + p .len ≤ length (now (c .before .before .before .before .before .before .before .args .message)))
 onward c = rw (c .before .part .given .1) at (c .before .before .before .next-component .ensures .1)
 
-none-requires : tie.Need-none-requires Inv-loop μ-loop
-none-requires c κs = search needs
-
 loop-holds : tie.Need-loop-holds Inv-loop μ-loop
 loop-holds c = rw (c .none .ensures) (reading-begins _ _ (c .before .before .pre))
-
-next-component-requires : tie.Need-next-component-requires Inv-loop μ-loop
-next-component-requires c κs = search needs
-
-enum-told : tie.Need-enum-told Inv-loop μ-loop
-enum-told c = search needs
 
 returns : tie.Need-returns Inv-loop μ-loop
 returns c = sym (reading-ends (c .before .before .before .loop .inv) (c .before .before .next-component .ensures .0 ∙ ap (laid _) (c .enum-told .given .1)))
 
-enum-known-part : tie.Need-enum-known-part Inv-loop μ-loop
-enum-known-part c = search needs
-
 component-in-requires : tie.Need-component-in-requires Inv-loop μ-loop
 component-in-requires c κs = onward c .1
 
-enum-known-e : tie.Need-enum-known-e Inv-loop μ-loop
-enum-known-e c = search needs
-
 returns-2 : tie.Need-returns-2 Inv-loop μ-loop
 returns-2 c = sym (reading-stops (c .before .before .before .before .before .before .before .before .loop .inv) _ _ (there (c .before .before .before .before)) _ (sym (c .before .before .before .component-in .ensures) ∙ ap toldComponent (c .before .e .given .1)))
-
-enum-known-component : tie.Need-enum-known-component Inv-loop μ-loop
-enum-known-component c = search needs
 
 mul-components : tie.Need-mul-components Inv-loop μ-loop
 mul-components c = omega (arith, reading-room (c .before .before .before .before .before .before .before .before .loop .inv) _ _ (there (c .before .before .before .before)))
@@ -73,21 +55,6 @@ loop-again c = reading-next (c .before .before .before .before .before .before .
 pub components-from-spec : {M : Type 1} → statement M
 components-from-spec =
     tie.close
-    (tie.spec
-    Inv-loop
-    μ-loop
-    none-requires
-    loop-holds
-    next-component-requires
-    enum-told
-    returns
-    enum-known-part
-    component-in-requires
-    enum-known-e
-    returns-2
-    enum-known-component
-    mul-components
-    array-set-from-components
-    add-count
-    loop-less
-    loop-again)
+    (tie.spec Inv-loop μ-loop (λ c κs. search needs) loop-holds (λ c κs. search needs) (λ c. search needs) returns
+    (λ c. search needs) component-in-requires (λ c. search needs) returns-2 (λ c. search needs) mul-components
+    array-set-from-components add-count loop-less loop-again)

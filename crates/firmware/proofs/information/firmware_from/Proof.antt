@@ -22,32 +22,8 @@ refuses c =
     let k = c .before .before .read-fields in
     sym (k .ensures) ∙ ap (λ v. judgedAs v (k .result .gathered)) (c .verdict .given .1)
 
-read-fields-requires : tie.Need-read-fields-requires
-read-fields-requires c κs = search needs
-
-enum-known-verdict : tie.Need-enum-known-verdict
-enum-known-verdict c = search needs
-
-refused-firmware-requires : tie.Need-refused-firmware-requires
-refused-firmware-requires c κs = search needs
-
-enum-told : tie.Need-enum-told
-enum-told c = search needs
-
 components-from-requires : tie.Need-components-from-requires
 components-from-requires c κs = parts-most _ _ _ (read c)
-
-enum-known-judged : tie.Need-enum-known-judged
-enum-known-judged c = search needs
-
-refused-firmware-requires-2 : tie.Need-refused-firmware-requires-2
-refused-firmware-requires-2 c κs = search needs
-
-enum-told-2 : tie.Need-enum-told-2
-enum-told-2 c = search needs
-
-firmware-made-requires : tie.Need-firmware-made-requires
-firmware-made-requires c κs = search needs
 
 returns : tie.Need-returns
 returns c = ap toldFirmware (c .refused-firmware .ensures) ∙ sym (ap withFirmware (firmware-stops _ _ _ (refuses (c .before .before))))
@@ -68,16 +44,6 @@ returns-3 c =
 pub firmware-from-spec : {M : Type 1} → statement M
 firmware-from-spec =
     tie.close
-    (tie.spec
-    read-fields-requires
-    enum-known-verdict
-    refused-firmware-requires
-    enum-told
-    components-from-requires
-    enum-known-judged
-    refused-firmware-requires-2
-    enum-told-2
-    firmware-made-requires
-    returns
-    returns-2
-    returns-3)
+    (tie.spec (λ c κs. search needs) (λ c. search needs) (λ c κs. search needs) (λ c. search needs)
+    components-from-requires (λ c. search needs) (λ c κs. search needs) (λ c. search needs) (λ c κs. search needs)
+    returns returns-2 returns-3)

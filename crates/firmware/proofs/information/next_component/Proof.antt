@@ -25,29 +25,11 @@ told c = sym (c .before .before .before .found-at .ensures .0) ∙ ap toldFound 
 loop-holds : tie.Need-loop-holds Inv-loop μ-loop
 loop-holds c = (search needs, refl)
 
-found-at-requires : tie.Need-found-at-requires Inv-loop μ-loop
-found-at-requires c κs = search needs
-
-enum-told : tie.Need-enum-told Inv-loop μ-loop
-enum-told c = search needs
-
 returns : tie.Need-returns Inv-loop μ-loop
 returns c = (c .before .before .before .before .loop .inv .1 ∙ parts-turn _ _ (sym (c .before .before .found-at .ensures .0) ∙ ap toldFound (c .enum-told .given .1)), tt)
 
-enum-told-2 : tie.Need-enum-told-2 Inv-loop μ-loop
-enum-told-2 c = search needs
-
 returns-2 : tie.Need-returns-2 Inv-loop μ-loop
 returns-2 c = (c .before .before .before .before .loop .inv .1 ∙ parts-turn _ _ (sym (c .before .before .found-at .ensures .0) ∙ ap toldFound (c .enum-told2 .given .1)), tt)
-
-enum-known-number : tie.Need-enum-known-number Inv-loop μ-loop
-enum-known-number c = search needs
-
-component-part-requires : tie.Need-component-part-requires Inv-loop μ-loop
-component-part-requires c κs = search needs
-
-enum-known-part : tie.Need-enum-known-part Inv-loop μ-loop
-enum-known-part c = search needs
 
 returns-3 : tie.Need-returns-3 Inv-loop μ-loop
 returns-3 c =
@@ -57,9 +39,6 @@ returns-3 c =
     let f = found-field (now (c .before .before .before .before .before .before .before .before .before .before .before .args .message)) (l .at) (c .before .before .before .before .before .number .given .0 .0) (c .before .before .before .before .before .number .given .0 .1 .0) (c .before .before .before .before .before .number .given .0 .1 .1 .0) e in
     let w = rw (sym one) at (within-one (now (c .before .before .before .before .before .before .before .before .before .before .before .args .message)) (c .before .before .before .before .before .number .given .0 .0) (c .before .before .before .before .before .number .given .0 .1 .0) (f .1)) in
     (l .inv .1 ∙ parts-turn _ _ e ∙ ap (λ ps. ps ++ partsFrom (now (c .before .before .before .before .before .before .before .before .before .before .before .args .message)) (c .before .before .before .before .before .number .given .0 .1 .1 .0)) (sym one), (omega (arith, l .inv .0, f .0), w .0))
-
-enum-told-3 : tie.Need-enum-told-3 Inv-loop μ-loop
-enum-told-3 c = search needs
 
 loop-less : tie.Need-loop-less Inv-loop μ-loop
 loop-less c = omega (arith, c .before .before .before .before .before .before .before .loop-test .taken, found-field _ _ _ _ _ (told (c .before .before .before)) .0)
@@ -77,20 +56,6 @@ returns-4 c = (c .before .loop .inv .1 ∙ parts-end _ _ (c .loop-test .left), t
 pub next-component-spec : {M : Type 1} → statement M
 next-component-spec =
     tie.close
-    (tie.spec
-    Inv-loop
-    μ-loop
-    loop-holds
-    found-at-requires
-    enum-told
-    returns
-    enum-told-2
-    returns-2
-    enum-known-number
-    component-part-requires
-    enum-known-part
-    returns-3
-    enum-told-3
-    loop-less
-    loop-again
-    returns-4)
+    (tie.spec Inv-loop μ-loop loop-holds (λ c κs. search needs) (λ c. search needs) returns (λ c. search needs)
+    returns-2 (λ c. search needs) (λ c κs. search needs) (λ c. search needs) returns-3 (λ c. search needs) loop-less
+    loop-again returns-4)

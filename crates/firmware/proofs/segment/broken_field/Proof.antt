@@ -10,9 +10,6 @@ returns : tie.Need-returns
 unfolding brokenField
 returns c = rw (ne-eqb _ _ (c .if1 .taken))
 
-is-signature-requires : tie.Need-is-signature-requires
-is-signature-requires c κs = search needs
-
 returns-2 : tie.Need-returns-2
 unfolding brokenField
 returns-2 c = rw (eq-eqb _ _ (c .before .before .if1 .left), sym (ap not (c .before .is-signature .ensures)) ∙ c .if2 .taken)
@@ -22,10 +19,4 @@ unfolding brokenField
 returns-3 c = rw (eq-eqb _ _ (c .before .before .if1 .left), sym (ap not (c .before .is-signature .ensures)) ∙ c .if2 .left)
 
 pub broken-field-spec : {M : Type 1} → statement M
-broken-field-spec =
-    tie.close
-    (tie.spec
-    returns
-    is-signature-requires
-    returns-2
-    returns-3)
+broken-field-spec = tie.close (tie.spec returns (λ c κs. search needs) returns-2 returns-3)

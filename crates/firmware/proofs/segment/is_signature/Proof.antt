@@ -8,17 +8,9 @@ returns : tie.Need-returns
 unfolding isSignature
 returns c = rw (ne-eqb _ _ (c .if1 .taken))
 
-all-digits-requires : tie.Need-all-digits-requires
-all-digits-requires c κs = search needs
-
 returns-2 : tie.Need-returns-2
 unfolding isSignature
 returns-2 c = rw (eq-eqb _ _ (c .before .if1 .left)) (c .all-digits .ensures)
 
 pub is-signature-spec : {M : Type 1} → statement M
-is-signature-spec =
-    tie.close
-    (tie.spec
-    returns
-    all-digits-requires
-    returns-2)
+is-signature-spec = tie.close (tie.spec returns (λ c κs. search needs) returns-2)

@@ -15,17 +15,8 @@ broken c = let a = c .before .before .before .before .before .args in c .broken-
 add-end : tie.Need-add-end
 add-end c = omega (arith, c .before .before .before .pre)
 
-sub-broken-field : tie.Need-sub-broken-field
-sub-broken-field c = search needs
-
-part-broken-field-start : tie.Need-part-broken-field-start
-part-broken-field-start c = search needs
-
 part-broken-field-end : tie.Need-part-broken-field-end
 part-broken-field-end c = omega (arith, c .before .before .before .pre)
-
-broken-field-requires : tie.Need-broken-field-requires
-broken-field-requires c κs = search needs
 
 returns : tie.Need-returns
 returns c = rw (← broken (c .before), ne-eqb _ _ (c .if1 .taken))
@@ -36,11 +27,5 @@ returns-2 c = rw (← broken (c .before), eq-eqb _ _ (c .if1 .left))
 pub judge-segment-spec : {M : Type 1} → statement M
 judge-segment-spec =
     tie.close
-    (tie.spec
-    add-end
-    sub-broken-field
-    part-broken-field-start
-    part-broken-field-end
-    broken-field-requires
-    returns
+    (tie.spec add-end (λ c. search needs) (λ c. search needs) part-broken-field-end (λ c κs. search needs) returns
     returns-2)

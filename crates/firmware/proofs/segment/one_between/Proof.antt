@@ -5,9 +5,6 @@ use borrow.Author.Needs.{needs}
 use Rattle.firmware.proofs.segment.one_between.Statement.{statement}
 use Rattle.firmware.proofs.segment.one_between.Tie as tie
 
-both-requires : tie.Need-both-requires
-both-requires c κs = search needs
-
 returns : tie.Need-returns
 returns c = (sym (ap (λ (b : Bool). cond b 1 0) (sym (c .before .both .ensures) ∙ c .if1 .taken)), omega arith)
 
@@ -15,4 +12,4 @@ returns-2 : tie.Need-returns-2
 returns-2 c = (sym (ap (λ (b : Bool). cond b 1 0) (sym (c .before .both .ensures) ∙ c .if1 .left)), omega arith)
 
 pub one-between-spec : {M : Type 1} → statement M
-one-between-spec = tie.close (tie.spec both-requires returns returns-2)
+one-between-spec = tie.close (tie.spec (λ c κs. search needs) returns returns-2)

@@ -35,18 +35,6 @@ inside c =
     let each = all .0 .1 in
     ((within-get _ texts first noPart zero-le each, (within-get _ texts second noPart zero-le each, tt)), (text-get _ texts first (all .2), (text-get _ texts second (all .2), tt)))
 
-read-fields-requires : tie.Need-read-fields-requires
-read-fields-requires c κs = search needs
-
-enum-known-verdict : tie.Need-enum-known-verdict
-enum-known-verdict c = search needs
-
-enum-told : tie.Need-enum-told
-enum-told c = search needs
-
-segment-made-requires : tie.Need-segment-made-requires
-segment-made-requires c κs = search needs
-
 judge-segment-requires : tie.Need-judge-segment-requires
 judge-segment-requires c κs = rw (c .segment-made .ensures) (inside (c .before) .0 .1 .0)
 
@@ -63,11 +51,5 @@ returns-2 c =
 pub read-segment-spec : {M : Type 1} → statement M
 read-segment-spec =
     tie.close
-    (tie.spec
-    read-fields-requires
-    enum-known-verdict
-    enum-told
-    segment-made-requires
-    judge-segment-requires
-    returns
-    returns-2)
+    (tie.spec (λ c κs. search needs) (λ c. search needs) (λ c. search needs) (λ c κs. search needs)
+    judge-segment-requires returns returns-2)

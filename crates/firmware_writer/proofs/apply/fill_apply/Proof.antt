@@ -34,29 +34,11 @@ spent c = room-rest (length (now (c .before .before .before .before .before .bef
 counted : (c : tie.After-known-told) → length (now (c .before .before .before .before .before .before .before .before .args .out)) - c .before .rest .given .0 .0 ≡ length (messageBytes (firmwareFields (now (c .before .before .before .before .before .before .before .before .args .texts)) (c .before .before .before .before .before .before .before .before .args .apply .«firmware_information»)))
 counted c = omega (arith, spent c)
 
-bit64-requires : tie.Need-bit64-requires
-bit64-requires c κs = search needs
-
 firmware-room-requires : tie.Need-firmware-room-requires
 firmware-room-requires c κs = fine (c .before .before .before .before)
 
-enum-told : tie.Need-enum-told
-enum-told c = search needs
-
-enum-known-rest : tie.Need-enum-known-rest
-enum-known-rest c = search needs
-
 sub-len : tie.Need-sub-len
 sub-len c = omega (arith, spent c)
-
-head-len-requires : tie.Need-head-len-requires
-head-len-requires c κs = search needs
-
-scalar-len-requires : tie.Need-scalar-len-requires
-scalar-len-requires c κs = search needs
-
-add-around : tie.Need-add-around
-add-around c = search needs
 
 returns : tie.Need-returns
 returns c =
@@ -84,9 +66,6 @@ put-scalar-requires c κs =
 returns-2 : tie.Need-returns-2
 returns-2 c = wrote-short _ (applyFields (now (c .before .before .before .before .before .before .before .args .texts)) (c .before .before .before .before .before .before .before .args .apply)) (now (c .before .before .before .before .before .before .before .args .out)) (fine (c .before .before .before .before .before .before .before)) (omega (arith, apply-length (now (c .before .before .before .before .before .before .before .args .texts)) (c .before .before .before .before .before .before .before .args .apply), room-short (length (now (c .before .before .before .before .before .before .before .args .out))) (length (messageBytes (firmwareFields (now (c .before .before .before .before .before .before .before .args .texts)) (c .before .before .before .before .before .before .before .args .apply .«firmware_information»)))) (sym (c .before .before .firmware-room .ensures) ∙ c .enum-told .given .1)))
 
-same-length : tie.Need-same-length
-same-length c = search needs
-
 returns-3 : tie.Need-returns-3
 returns-3 c =
     let e = spent (c .before .before .before .before .before .before .before .before .before .before .before .before .before .before .before) in
@@ -101,19 +80,6 @@ returns-3 c =
 pub fill-apply-spec : {M : Type 1} → statement M
 fill-apply-spec =
     tie.close
-    (tie.spec
-    bit64-requires
-    firmware-room-requires
-    enum-told
-    enum-known-rest
-    sub-len
-    head-len-requires
-    scalar-len-requires
-    add-around
-    returns
-    put-head-requires
-    put-firmware-requires
-    put-scalar-requires
-    returns-2
-    same-length
-    returns-3)
+    (tie.spec (λ c κs. search needs) firmware-room-requires (λ c. search needs) (λ c. search needs) sub-len
+    (λ c κs. search needs) (λ c κs. search needs) (λ c. search needs) returns put-head-requires put-firmware-requires
+    put-scalar-requires returns-2 (λ c. search needs) returns-3)

@@ -7,9 +7,6 @@ use borrow.Author.Needs.{needs}
 use Rattle.firmware_writer.proofs.apply.write_apply.Statement.{statement}
 use Rattle.firmware_writer.proofs.apply.write_apply.Tie as tie
 
-bad-firmware-requires : tie.Need-bad-firmware-requires
-bad-firmware-requires c κs = search needs
-
 returns : tie.Need-returns
 unfolding applyWritten
 returns c =
@@ -19,17 +16,8 @@ returns c =
 firmware-fault-requires : tie.Need-firmware-fault-requires
 firmware-fault-requires c κs = sym (c .before .bad-firmware .ensures) ∙ c .if1 .left
 
-enum-known-field : tie.Need-enum-known-field
-enum-known-field c = search needs
-
-enum-told : tie.Need-enum-told
-enum-told c = search needs
-
 fill-apply-requires : tie.Need-fill-apply-requires
 fill-apply-requires c κs = sym (c .before .before .before .before .before .bad-firmware .ensures) ∙ c .before .before .before .before .if1 .left
-
-of-requires : tie.Need-of-requires
-of-requires c κs = search needs
 
 returns-2 : tie.Need-returns-2
 unfolding applyWritten
@@ -37,9 +25,6 @@ returns-2 c =
     let a = c .before .before .before .before .before .before .before .before .before .args in
     texts-fault _ (firmwareStrings (now (a .texts)) (a .apply .«firmware_information»)) (applyFields (now (a .texts)) (a .apply)) (now (a .out)) _ _ (sym (c .before .before .before .before .before .bad-firmware .ensures) ∙ c .before .before .before .before .if1 .left)
     (sym (c .before .before .before .firmware-fault .ensures) ∙ c .before .field .given .1)
-
-same-length : tie.Need-same-length
-same-length c = search needs
 
 returns-3 : tie.Need-returns-3
 unfolding applyWritten
@@ -52,14 +37,5 @@ returns-3 c =
 pub write-apply-spec : {M : Type 1} → statement M
 write-apply-spec =
     tie.close
-    (tie.spec
-    bad-firmware-requires
-    returns
-    firmware-fault-requires
-    enum-known-field
-    enum-told
-    fill-apply-requires
-    of-requires
-    returns-2
-    same-length
-    returns-3)
+    (tie.spec (λ c κs. search needs) returns firmware-fault-requires (λ c. search needs) (λ c. search needs)
+    fill-apply-requires (λ c κs. search needs) returns-2 (λ c. search needs) returns-3)

@@ -12,9 +12,6 @@ use Rattle.firmware_writer.proofs.information.all_ascii.Tie as tie
 returns : tie.Need-returns
 returns c = λ e. absurd (true≢false (sym e))
 
-clear-run-requires : tie.Need-clear-run-requires
-clear-run-requires c κs = search needs
-
 returns-2 : tie.Need-returns-2
 returns-2 c e =
     let t = now (c .before .before .before .args .texts) in
@@ -22,4 +19,4 @@ returns-2 c e =
     ap (anyInRange 128 255) (sym all) ∙ c .clear-run .ensures .none
 
 pub all-ascii-spec : {M : Type 1} → statement M
-all-ascii-spec = tie.close (tie.spec returns clear-run-requires returns-2)
+all-ascii-spec = tie.close (tie.spec returns (λ c κs. search needs) returns-2)

@@ -22,27 +22,12 @@ long c = omega (arith, c .pre, c .good .1 .0 .1 .0 .1)
 loop-holds : tie.Need-loop-holds Inv-loop μ-loop
 loop-holds c = (search needs, refl)
 
-mul-component : tie.Need-mul-component Inv-loop μ-loop
-mul-component c = omega arith
-
-array-copy-out-component : tie.Need-array-copy-out-component Inv-loop μ-loop
-array-copy-out-component c = omega arith
-
-bad-component-requires : tie.Need-bad-component-requires Inv-loop μ-loop
-bad-component-requires c κs = search needs
-
 returns : tie.Need-returns Inv-loop μ-loop
 returns c =
     let a = c .before .before .before .before .before .before .args in
     let l = c .before .before .before .before .loop in
     let e = ap (badComponents (now (a .texts))) (listed-here (a .t2) (a .count) (l .i) (long (c .before .before .before .before .before .before)) (c .before .before .before .loop-test .taken)) in
     sym (l .inv .1 ∙ e ∙ rw (sym (c .before .bad-component .ensures) ∙ c .if1 .taken))
-
-add-i : tie.Need-add-i Inv-loop μ-loop
-add-i c = search needs
-
-loop-less : tie.Need-loop-less Inv-loop μ-loop
-loop-less c = search needs
 
 loop-again : tie.Need-loop-again Inv-loop μ-loop
 loop-again c =
@@ -60,15 +45,5 @@ returns-2 c =
 pub bad-components-spec : {M : Type 1} → statement M
 bad-components-spec =
     tie.close
-    (tie.spec
-    Inv-loop
-    μ-loop
-    loop-holds
-    mul-component
-    array-copy-out-component
-    bad-component-requires
-    returns
-    add-i
-    loop-less
-    loop-again
-    returns-2)
+    (tie.spec Inv-loop μ-loop loop-holds (λ c. omega arith) (λ c. omega arith) (λ c κs. search needs) returns
+    (λ c. search needs) (λ c. search needs) loop-again returns-2)

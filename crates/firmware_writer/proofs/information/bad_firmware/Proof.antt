@@ -9,29 +9,17 @@ returns : tie.Need-returns
 unfolding badFirmware
 returns c = rw (lt-ltb _ _ (c .if1 .taken))
 
-is-outside-requires : tie.Need-is-outside-requires
-is-outside-requires c κs = search needs
-
 returns-2 : tie.Need-returns-2
 unfolding badFirmware
 returns-2 c = rw (le-ltb _ _ (c .before .before .before .before .before .before .if1 .left), sym (c .before .is-outside .ensures) ∙ c .if2 .taken)
-
-bad-components-requires : tie.Need-bad-components-requires
-bad-components-requires c κs = search needs
 
 returns-3 : tie.Need-returns-3
 unfolding badFirmware
 returns-3 c = rw (le-ltb _ _ (c .before .before .before .before .before .before .before .before .if1 .left), sym (c .before .before .before .is-outside .ensures) ∙ c .before .before .if2 .left, sym (c .before .bad-components .ensures) ∙ c .if3 .taken)
 
-is-outside-requires-2 : tie.Need-is-outside-requires-2
-is-outside-requires-2 c κs = search needs
-
 returns-4 : tie.Need-returns-4
 unfolding badFirmware
 returns-4 c = rw (le-ltb _ _ (c .before .before .before .before .before .before .before .before .before .before .if1 .left), sym (c .before .before .before .before .before .is-outside .ensures) ∙ c .before .before .before .before .if2 .left, sym (c .before .before .before .bad-components .ensures) ∙ c .before .before .if3 .left, sym (c .before .is-outside2 .ensures) ∙ c .if4 .taken)
-
-is-outside-requires-3 : tie.Need-is-outside-requires-3
-is-outside-requires-3 c κs = search needs
 
 returns-5 : tie.Need-returns-5
 unfolding badFirmware
@@ -40,13 +28,5 @@ returns-5 c = rw (le-ltb _ _ (c .before .before .before .before .before .before 
 pub bad-firmware-spec : {M : Type 1} → statement M
 bad-firmware-spec =
     tie.close
-    (tie.spec
-    returns
-    is-outside-requires
-    returns-2
-    bad-components-requires
-    returns-3
-    is-outside-requires-2
-    returns-4
-    is-outside-requires-3
-    returns-5)
+    (tie.spec returns (λ c κs. search needs) returns-2 (λ c κs. search needs) returns-3 (λ c κs. search needs)
+    returns-4 (λ c κs. search needs) returns-5)

@@ -32,23 +32,11 @@ long c = omega (arith, c .pre .0, c .good .1 .1 .0 .1 .0 .1)
 loop-holds : tie.Need-loop-holds Inv-loop μ-loop
 loop-holds c = (search needs, c .before .pre .1, refl)
 
-mul-component : tie.Need-mul-component Inv-loop μ-loop
-mul-component c = omega arith
-
-array-copy-out-component : tie.Need-array-copy-out-component Inv-loop μ-loop
-array-copy-out-component c = omega arith
-
 component-field-room-requires : tie.Need-component-field-room-requires Inv-loop μ-loop
 component-field-room-requires c κs =
     let a = c .before .before .before .before .args in
     let l = c .before .before .loop in
     components-fine (now (a .texts)) (getD (a .t3) (l .i) noComponent) (drop (l .i + 1) (take (a .count) (a .t3))) (rw (listed-here (a .t3) (a .count) (l .i) (long (c .before .before .before .before)) (c .before .loop-test .taken)) at (l .inv .1)) .0
-
-add-i : tie.Need-add-i Inv-loop μ-loop
-add-i c = search needs
-
-loop-less : tie.Need-loop-less Inv-loop μ-loop
-loop-less c = search needs
 
 loop-again : tie.Need-loop-again Inv-loop μ-loop
 loop-again c =
@@ -70,14 +58,5 @@ returns c =
 pub components-room-spec : {M : Type 1} → statement M
 components-room-spec =
     tie.close
-    (tie.spec
-    Inv-loop
-    μ-loop
-    loop-holds
-    mul-component
-    array-copy-out-component
-    component-field-room-requires
-    add-i
-    loop-less
-    loop-again
-    returns)
+    (tie.spec Inv-loop μ-loop loop-holds (λ c. omega arith) (λ c. omega arith) component-field-room-requires
+    (λ c. search needs) (λ c. search needs) loop-again returns)

@@ -12,9 +12,6 @@ use borrow.Author.Needs.{needs}
 use Rattle.firmware_writer.proofs.information.firmware_fault.Statement.{statement}
 use Rattle.firmware_writer.proofs.information.firmware_fault.Tie as tie
 
-all-ascii-requires : tie.Need-all-ascii-requires
-all-ascii-requires c κs = search needs
-
 returns : tie.Need-returns
 returns c =
     let a = c .before .before .before .args in
@@ -46,11 +43,5 @@ returns-2 c =
 pub firmware-fault-spec : {M : Type 1} → statement M
 firmware-fault-spec =
     tie.close
-    (tie.spec
-    all-ascii-requires
-    returns
-    text-part-fault-requires
-    components-fault-requires
-    text-part-fault-requires-2
-    text-part-fault-requires-3
-    returns-2)
+    (tie.spec (λ c κs. search needs) returns text-part-fault-requires components-fault-requires
+    text-part-fault-requires-2 text-part-fault-requires-3 returns-2)

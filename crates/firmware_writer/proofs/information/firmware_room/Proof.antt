@@ -12,20 +12,8 @@ use borrow.Author.Needs.{needs}
 use Rattle.firmware_writer.proofs.information.firmware_room.Statement.{statement}
 use Rattle.firmware_writer.proofs.information.firmware_room.Tie as tie
 
-cast-scalar-len : tie.Need-cast-scalar-len
-cast-scalar-len c = search needs
-
-scalar-len-requires : tie.Need-scalar-len-requires
-scalar-len-requires c κs = search needs
-
-less-requires : tie.Need-less-requires
-less-requires c κs = search needs
-
 text-part-len-requires : tie.Need-text-part-len-requires
 text-part-len-requires c κs = (search needs, firmware-fine (now (c .before .before .before .before .before .before .before .before .args .texts)) (c .before .before .before .before .before .before .before .before .args .information) (c .before .before .before .before .before .before .before .before .pre) .name)
-
-less-requires-2 : tie.Need-less-requires-2
-less-requires-2 c κs = search needs
 
 components-room-requires : tie.Need-components-room-requires
 components-room-requires c κs = let f = firmware-fine (now (c .before .before .before .before .before .before .before .before .before .before .args .texts)) (c .before .before .before .before .before .before .before .before .before .before .args .information) (c .before .before .before .before .before .before .before .before .before .before .pre) in (f .most, f .components)
@@ -33,14 +21,8 @@ components-room-requires c κs = let f = firmware-fine (now (c .before .before .
 text-part-len-requires-2 : tie.Need-text-part-len-requires-2
 text-part-len-requires-2 c κs = (search needs, firmware-fine (now (c .before .before .before .before .before .before .before .before .before .before .before .args .texts)) (c .before .before .before .before .before .before .before .before .before .before .before .args .information) (c .before .before .before .before .before .before .before .before .before .before .before .pre) .locale)
 
-less-requires-3 : tie.Need-less-requires-3
-less-requires-3 c κs = search needs
-
 text-part-len-requires-3 : tie.Need-text-part-len-requires-3
 text-part-len-requires-3 c κs = (search needs, firmware-fine (now (c .before .before .before .before .before .before .before .before .before .before .before .before .before .args .texts)) (c .before .before .before .before .before .before .before .before .before .before .before .before .before .args .information) (c .before .before .before .before .before .before .before .before .before .before .before .before .before .pre) .version-name)
-
-less-requires-4 : tie.Need-less-requires-4
-less-requires-4 c κs = search needs
 
 returns : tie.Need-returns
 returns c =
@@ -60,15 +42,6 @@ returns c =
 pub firmware-room-spec : {M : Type 1} → statement M
 firmware-room-spec =
     tie.close
-    (tie.spec
-    cast-scalar-len
-    scalar-len-requires
-    less-requires
-    text-part-len-requires
-    less-requires-2
-    components-room-requires
-    text-part-len-requires-2
-    less-requires-3
-    text-part-len-requires-3
-    less-requires-4
-    returns)
+    (tie.spec (λ c. search needs) (λ c κs. search needs) (λ c κs. search needs) text-part-len-requires
+    (λ c κs. search needs) components-room-requires text-part-len-requires-2 (λ c κs. search needs)
+    text-part-len-requires-3 (λ c κs. search needs) returns)

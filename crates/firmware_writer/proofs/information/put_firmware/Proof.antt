@@ -13,9 +13,6 @@ use borrow.Author.Needs.{needs}
 use Rattle.firmware_writer.proofs.information.put_firmware.Statement.{statement}
 use Rattle.firmware_writer.proofs.information.put_firmware.Tie as tie
 
-cast-put-scalar : tie.Need-cast-put-scalar
-cast-put-scalar c = search needs
-
 put-scalar-requires : tie.Need-put-scalar-requires
 put-scalar-requires c κs = (search needs, omega (arith, c .before .before .before .before .before .before .before .before .pre .1, firmware-length (now (c .before .before .before .before .before .before .before .before .args .texts)) (c .before .before .before .before .before .before .before .before .args .information)))
 
@@ -46,9 +43,6 @@ put-text-part-requires-3 c κs =
     let p₄ = c .before .before .before .put-text-part2 in
     (search needs, firmware-fine (now (c .before .before .before .before .before .before .before .before .before .before .before .before .before .before .before .before .before .before .before .before .before .before .before .before .args .texts)) (c .before .before .before .before .before .before .before .before .before .before .before .before .before .before .before .before .before .before .before .before .before .before .before .before .args .information) (c .before .before .before .before .before .before .before .before .before .before .before .before .before .before .before .before .before .before .before .before .before .before .before .before .pre .0) .version-name, omega (arith, c .before .before .before .before .before .before .before .before .before .before .before .before .before .before .before .before .before .before .before .before .before .before .before .before .pre .1, firmware-length (now (c .before .before .before .before .before .before .before .before .before .before .before .before .before .before .before .before .before .before .before .before .before .before .before .before .args .texts)) (c .before .before .before .before .before .before .before .before .before .before .before .before .before .before .before .before .before .before .before .before .before .before .before .before .args .information), p₁ .ensures .place, p₁ .kept .0, p₂ .ensures .place, p₂ .kept .0, p₃ .ensures .place, p₃ .kept .0, p₄ .ensures .place, p₄ .kept .0))
 
-same-length : tie.Need-same-length
-same-length c = search needs
-
 returns : tie.Need-returns
 returns c =
     let a = c .before .before .before .before .before .before .before .before .before .before .before .before .before .before .before .before .before .before .before .before .before .before .before .before .before .before .before .args in
@@ -64,12 +58,5 @@ returns c =
 pub put-firmware-spec : {M : Type 1} → statement M
 put-firmware-spec =
     tie.close
-    (tie.spec
-    cast-put-scalar
-    put-scalar-requires
-    put-text-part-requires
-    put-components-requires
-    put-text-part-requires-2
-    put-text-part-requires-3
-    same-length
-    returns)
+    (tie.spec (λ c. search needs) put-scalar-requires put-text-part-requires put-components-requires
+    put-text-part-requires-2 put-text-part-requires-3 (λ c. search needs) returns)

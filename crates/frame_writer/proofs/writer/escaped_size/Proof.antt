@@ -17,32 +17,11 @@ abbrev μ-loop : tie.MeasureT-loop
 loop-holds : tie.Need-loop-holds Inv-loop μ-loop
 loop-holds c = (search needs, search needs, search needs)
 
-shared-slice-read-extra : tie.Need-shared-slice-read-extra Inv-loop μ-loop
-shared-slice-read-extra c = search needs
-
-extra-requires : tie.Need-extra-requires Inv-loop μ-loop
-extra-requires c κs = search needs
-
-add-marks : tie.Need-add-marks Inv-loop μ-loop
-add-marks c = omega arith
-
-add-i : tie.Need-add-i Inv-loop μ-loop
-add-i c = search needs
-
-loop-less : tie.Need-loop-less Inv-loop μ-loop
-loop-less c = search needs
-
 loop-again : tie.Need-loop-again Inv-loop μ-loop
 loop-again c =
     let k = c .before .before .before .loop in
     let l = c .before .before .before .before .before .args .bytes .now in
     omega (arith, simp length-append at (ap length (rest-step l (k .i) (search needs))))
-
-cast-result : tie.Need-cast-result Inv-loop μ-loop
-cast-result c = search needs
-
-add-result : tie.Need-add-result Inv-loop μ-loop
-add-result c = search needs
 
 returns : tie.Need-returns Inv-loop μ-loop
 returns c =
@@ -52,16 +31,5 @@ returns c =
 pub escaped-size-spec : {M : Type 1} → statement M
 escaped-size-spec =
     tie.close
-    (tie.spec
-    Inv-loop
-    μ-loop
-    loop-holds
-    shared-slice-read-extra
-    extra-requires
-    add-marks
-    add-i
-    loop-less
-    loop-again
-    cast-result
-    add-result
-    returns)
+    (tie.spec Inv-loop μ-loop loop-holds (λ c. search needs) (λ c κs. search needs) (λ c. omega arith)
+    (λ c. search needs) (λ c. search needs) loop-again (λ c. search needs) (λ c. search needs) returns)

@@ -11,34 +11,10 @@ use borrow.Author.Needs.{needs}
 use Rattle.frame_writer.proofs.writer.has_room.Statement.{statement}
 use Rattle.frame_writer.proofs.writer.has_room.Tie as tie
 
-mul-if1 : tie.Need-mul-if1
-mul-if1 c = search needs
-
-add-if1 : tie.Need-add-if1
-add-if1 c = search needs
-
 returns : tie.Need-returns
 returns c =
     let a = c .before .before .args in
     sym (le-leb (length (framed (a .sequence) (a .payload .now ++ (a .high ∷ a .low ∷ [])))) (a .room) (omega (arith, frame-most (a .sequence) (a .payload .now) (a .high) (a .low))))
-
-escaped-size-requires : tie.Need-escaped-size-requires
-escaped-size-requires c κs = search needs
-
-add-result : tie.Need-add-result
-add-result c = search needs
-
-width-requires : tie.Need-width-requires
-width-requires c κs = search needs
-
-add-result-2 : tie.Need-add-result-2
-add-result-2 c = search needs
-
-width-requires-2 : tie.Need-width-requires-2
-width-requires-2 c κs = search needs
-
-add-result-3 : tie.Need-add-result-3
-add-result-3 c = search needs
 
 returns-2 : tie.Need-returns-2
 returns-2 c =
@@ -48,14 +24,5 @@ returns-2 c =
 pub has-room-spec : {M : Type 1} → statement M
 has-room-spec =
     tie.close
-    (tie.spec
-    mul-if1
-    add-if1
-    returns
-    escaped-size-requires
-    add-result
-    width-requires
-    add-result-2
-    width-requires-2
-    add-result-3
-    returns-2)
+    (tie.spec (λ c. search needs) (λ c. search needs) returns (λ c κs. search needs) (λ c. search needs)
+    (λ c κs. search needs) (λ c. search needs) (λ c κs. search needs) (λ c. search needs) returns-2)

@@ -44,9 +44,6 @@ returns c =
     let on = left-then (k .inv .1) (g .put-plain .ensures) in
     left-end on (search needs)
 
-shared-slice-read-put-escaped : tie.Need-shared-slice-read-put-escaped Inv-loop μ-loop
-shared-slice-read-put-escaped c = search needs
-
 put-escaped-requires : tie.Need-put-escaped-requires Inv-loop μ-loop
 put-escaped-requires c κs =
     let g = c .before .before .before .before .before in
@@ -55,9 +52,6 @@ put-escaped-requires c κs =
     let s = g .before .before .before .before .before in
     let b = left-byte (s .args .bytes .now) (g .put-plain .last .0) (k .place + (g .put-plain .result - k .i)) (g .put-plain .result) (search needs) in
     omega (arith, on .size, b .size, g .put-plain .kept .0, k .inv .0, s .pre)
-
-add-i : tie.Need-add-i Inv-loop μ-loop
-add-i c = search needs
 
 loop-less : tie.Need-loop-less Inv-loop μ-loop
 loop-less c =
@@ -80,17 +74,5 @@ loop-again c =
 pub put-all-spec : {M : Type 1} → statement M
 put-all-spec =
     tie.close
-    (tie.spec
-    Inv-loop
-    μ-loop
-    loop-holds
-    put-plain-requires
-    sub-place
-    add-place
-    same-length
-    returns
-    shared-slice-read-put-escaped
-    put-escaped-requires
-    add-i
-    loop-less
-    loop-again)
+    (tie.spec Inv-loop μ-loop loop-holds put-plain-requires sub-place add-place same-length returns
+    (λ c. search needs) put-escaped-requires (λ c. search needs) loop-less loop-again)

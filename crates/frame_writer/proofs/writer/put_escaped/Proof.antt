@@ -6,70 +6,40 @@ use borrow.Author.Needs.{needs}
 use Rattle.frame_writer.proofs.writer.put_escaped.Statement.{statement}
 use Rattle.frame_writer.proofs.writer.put_escaped.Tie as tie
 
-kind-of-requires : tie.Need-kind-of-requires
-kind-of-requires c κs = search needs
-
-enum-told : tie.Need-enum-told
-enum-told c = search needs
-
 put-code-requires : tie.Need-put-code-requires
 put-code-requires c κs =
     let e = unit-of (c .before .before .before .before .before .args .b) (sym (c .before .before .before .kind-of .ensures) ∙ c .before .enum-told .given .1) in
     omega (arith, ap length e)
-
-enum-told-2 : tie.Need-enum-told-2
-enum-told-2 c = search needs
 
 put-code-requires-2 : tie.Need-put-code-requires-2
 put-code-requires-2 c κs =
     let e = unit-of (c .before .before .before .before .before .args .b) (sym (c .before .before .before .kind-of .ensures) ∙ c .before .enum-told2 .given .1) in
     omega (arith, ap length e)
 
-enum-told-3 : tie.Need-enum-told-3
-enum-told-3 c = search needs
-
 put-code-requires-3 : tie.Need-put-code-requires-3
 put-code-requires-3 c κs =
     let e = unit-of (c .before .before .before .before .before .args .b) (sym (c .before .before .before .kind-of .ensures) ∙ c .before .enum-told3 .given .1) in
     omega (arith, ap length e)
-
-enum-told-4 : tie.Need-enum-told-4
-enum-told-4 c = search needs
 
 slice-write-out : tie.Need-slice-write-out
 slice-write-out c =
     let e = unit-of (c .before .before .before .before .args .b) (sym (c .before .before .kind-of .ensures) ∙ c .enum-told4 .given .1) in
     omega (arith, ap length e)
 
-add-result : tie.Need-add-result
-add-result c = search needs
-
-same-length : tie.Need-same-length
-same-length c = search needs
-
 returns : tie.Need-returns
 returns c =
     let t = c .before .before .before .before in
     rw (sym (t .before .before .kind-of .ensures) ∙ t .enum-told .given .1) (c .before .before .put-code .ensures)
-
-same-length-2 : tie.Need-same-length-2
-same-length-2 c = search needs
 
 returns-2 : tie.Need-returns-2
 returns-2 c =
     let t = c .before .before .before .before in
     rw (sym (t .before .before .kind-of .ensures) ∙ t .enum-told2 .given .1) (c .before .before .put-code2 .ensures)
 
-same-length-3 : tie.Need-same-length-3
-same-length-3 c = search needs
-
 returns-3 : tie.Need-returns-3
 returns-3 c =
     let t = c .before .before .before .before in
     rw (sym (t .before .before .kind-of .ensures) ∙ t .enum-told3 .given .1) (c .before .before .put-code3 .ensures)
-
-same-length-4 : tie.Need-same-length-4
-same-length-4 c = search needs
 
 returns-4 : tie.Need-returns-4
 returns-4 c = rw (sym (c .before .before .kind-of .ensures) ∙ c .enum-told4 .given .1) (search needs)
@@ -77,22 +47,7 @@ returns-4 c = rw (sym (c .before .before .kind-of .ensures) ∙ c .enum-told4 .g
 pub put-escaped-spec : {M : Type 1} → statement M
 put-escaped-spec =
     tie.close
-    (tie.spec
-    kind-of-requires
-    enum-told
-    put-code-requires
-    enum-told-2
-    put-code-requires-2
-    enum-told-3
-    put-code-requires-3
-    enum-told-4
-    slice-write-out
-    add-result
-    same-length
-    returns
-    same-length-2
-    returns-2
-    same-length-3
-    returns-3
-    same-length-4
+    (tie.spec (λ c κs. search needs) (λ c. search needs) put-code-requires (λ c. search needs) put-code-requires-2
+    (λ c. search needs) put-code-requires-3 (λ c. search needs) slice-write-out (λ c. search needs)
+    (λ c. search needs) returns (λ c. search needs) returns-2 (λ c. search needs) returns-3 (λ c. search needs)
     returns-4)

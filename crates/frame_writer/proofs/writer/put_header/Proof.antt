@@ -4,31 +4,14 @@ use borrow.Author.Needs.{needs}
 use Rattle.frame_writer.proofs.writer.put_header.Statement.{statement}
 use Rattle.frame_writer.proofs.writer.put_header.Tie as tie
 
-slice-write-out : tie.Need-slice-write-out
-slice-write-out c = search needs
-
 slice-write-out-2 : tie.Need-slice-write-out-2
 slice-write-out-2 c = simp length-set (omega arith)
 
 slice-write-out-3 : tie.Need-slice-write-out-3
 slice-write-out-3 c = simp length-set (omega arith)
 
-slice-write-out-4 : tie.Need-slice-write-out-4
-slice-write-out-4 c = search needs
-
-same-length : tie.Need-same-length
-same-length c = search needs
-
-returns : tie.Need-returns
-returns c = search needs
-
 pub put-header-spec : {M : Type 1} → statement M
 put-header-spec =
     tie.close
-    (tie.spec
-    slice-write-out
-    slice-write-out-2
-    slice-write-out-3
-    slice-write-out-4
-    same-length
-    returns)
+    (tie.spec (λ c. search needs) slice-write-out-2 slice-write-out-3 (λ c. search needs) (λ c. search needs)
+    (λ c. search needs))

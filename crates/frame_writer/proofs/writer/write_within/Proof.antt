@@ -12,15 +12,6 @@ use Rattle.frame_writer.proofs.writer.write_within.Tie as tie
 returns : tie.Need-returns
 returns c = let s = c .before .before .before in rw (s .pre .0, s .pre .1, lt-ltb _ _ (c .if1 .taken))
 
-checksum-requires : tie.Need-checksum-requires
-checksum-requires c κs = search needs
-
-cast-high : tie.Need-cast-high
-cast-high c = search needs
-
-cast-low : tie.Need-cast-low
-cast-low c = search needs
-
 has-room-requires : tie.Need-has-room-requires
 has-room-requires c κs =
     let s = c .before .before .before .before in
@@ -28,9 +19,6 @@ has-room-requires c κs =
 
 put-frame-requires : tie.Need-put-frame-requires
 put-frame-requires c κs = leb-true _ _ (sym (c .before .before .has-room .ensures) ∙ c .before .if2 .taken)
-
-same-length : tie.Need-same-length
-same-length c = search needs
 
 returns-2 : tie.Need-returns-2
 returns-2 c =
@@ -66,13 +54,5 @@ returns-3 c =
 pub write-within-spec : {M : Type 1} → statement M
 write-within-spec =
     tie.close
-    (tie.spec
-    returns
-    checksum-requires
-    cast-high
-    cast-low
-    has-room-requires
-    put-frame-requires
-    same-length
-    returns-2
-    returns-3)
+    (tie.spec returns (λ c κs. search needs) (λ c. search needs) (λ c. search needs) has-room-requires
+    put-frame-requires (λ c. search needs) returns-2 returns-3)

@@ -2,15 +2,6 @@ use borrow.Author.Needs.{needs}
 use Rattle.judge.proofs.capture.answer_in.Statement.{statement}
 use Rattle.judge.proofs.capture.answer_in.Tie as tie
 
-enum-known-verdict : tie.Need-enum-known-verdict
-enum-known-verdict c = search needs
-
-is-idle-requires : tie.Need-is-idle-requires
-is-idle-requires c κs = search needs
-
-enum-known-verdict-2 : tie.Need-enum-known-verdict-2
-enum-known-verdict-2 c = search needs
-
 returns : tie.Need-returns
 returns c = rw (c .before .before .before .verdict .given .1, ← (c .before .is-idle .ensures), c .if1 .taken)
 
@@ -23,4 +14,4 @@ returns-3 c = rw (c .before .verdict2 .given .1)
 pub answer-in-spec : {M : Type 1} → statement M
 answer-in-spec =
     tie.close
-    (tie.spec enum-known-verdict is-idle-requires enum-known-verdict-2 returns returns-2 returns-3)
+    (tie.spec (λ c. search needs) (λ c κs. search needs) (λ c. search needs) returns returns-2 returns-3)

@@ -3,15 +3,9 @@ use Rattle.judge.specs.Capture.{judgedOf}
 use Rattle.judge.proofs.capture.judge_capture.Statement.{statement}
 use Rattle.judge.proofs.capture.judge_capture.Tie as tie
 
-trace-requires : tie.Need-trace-requires
-trace-requires c κs = search needs
-
-answer-of-requires : tie.Need-answer-of-requires
-answer-of-requires c κs = search needs
-
 returns : tie.Need-returns
 unfolding judgedOf
 returns c = rw (← (c .before .trace .ensures)) (c .answer-of .ensures)
 
 pub judge-capture-spec : {M : Type 1} → statement M
-judge-capture-spec = tie.close (tie.spec trace-requires answer-of-requires returns)
+judge-capture-spec = tie.close (tie.spec (λ c κs. search needs) (λ c κs. search needs) returns)

@@ -3,24 +3,15 @@ use Rattle.judge.specs.Capture.{tracedOf}
 use Rattle.judge.proofs.capture.trace.Statement.{statement}
 use Rattle.judge.proofs.capture.trace.Tie as tie
 
-room-fits-requires : tie.Need-room-fits-requires
-room-fits-requires c κs = search needs
-
 returns : tie.Need-returns
 unfolding tracedOf
 returns c = rw (← (c .before .room-fits .ensures), c .if1 .taken)
-
-limit-fits-requires : tie.Need-limit-fits-requires
-limit-fits-requires c κs = search needs
 
 returns-2 : tie.Need-returns-2
 unfolding tracedOf
 returns-2 c =
     let i = c .before .before in
     rw (← (i .before .room-fits .ensures), i .if1 .left, ← (c .before .limit-fits .ensures), c .if2 .taken)
-
-walk-requires : tie.Need-walk-requires
-walk-requires c κs = search needs
 
 returns-3 : tie.Need-returns-3
 unfolding tracedOf
@@ -29,4 +20,6 @@ returns-3 c =
     rw (← (i .before .room-fits .ensures), i .if1 .left, ← (c .before .before .limit-fits .ensures), c .before .if2 .left) (c .walk .ensures)
 
 pub trace-spec : {M : Type 1} → statement M
-trace-spec = tie.close (tie.spec room-fits-requires returns limit-fits-requires returns-2 walk-requires returns-3)
+trace-spec =
+    tie.close
+    (tie.spec (λ c κs. search needs) returns (λ c κs. search needs) returns-2 (λ c κs. search needs) returns-3)

@@ -19,29 +19,11 @@ Inv-loop capture room limit at₀ verdict₀ at verdict = Judging room limit cap
 abbrev μ-loop : tie.MeasureT-loop
 μ-loop capture room limit at₀ verdict₀ at verdict = length capture - at
 
-other-version-requires : tie.Need-other-version-requires Inv-loop μ-loop
-other-version-requires c κs = search needs
-
 returns : tie.Need-returns Inv-loop μ-loop
 returns c = sym (other-refused _ _ _ (sym (c .before .other-version .ensures) ∙ c .if1 .taken))
 
-new-requires : tie.Need-new-requires Inv-loop μ-loop
-new-requires c κs = search needs
-
 loop-holds : tie.Need-loop-holds Inv-loop μ-loop
 loop-holds c = judging-begins _ _ _ (sym (c .before .before .other-version .ensures) ∙ c .before .if1 .left) _ (c .new .ensures)
-
-sub-front-of : tie.Need-sub-front-of Inv-loop μ-loop
-sub-front-of c = search needs
-
-part-front-of-start : tie.Need-part-front-of-start Inv-loop μ-loop
-part-front-of-start c = search needs
-
-part-front-of-end : tie.Need-part-front-of-end Inv-loop μ-loop
-part-front-of-end c = search needs
-
-front-of-requires : tie.Need-front-of-requires Inv-loop μ-loop
-front-of-requires c κs = search needs
 
 -- what was found is what stands there
 stands : (c : tie.After-front-of Inv-loop μ-loop)
@@ -51,17 +33,11 @@ stands c =
     let l = c .before .before .before in
     c .front-of .ensures ∙ ap frontOf (rest-lent (now (l .before .before .before .before .before .args .capture)) (l .loop .at))
 
-enum-known-found : tie.Need-enum-known-found Inv-loop μ-loop
-enum-known-found c = search needs
-
 returns-2 : tie.Need-returns-2 Inv-loop μ-loop
 returns-2 c =
     let f = c .before .before .before in
     let t = f .before .before in
     sym (judging-stops _ _ _ (t .before .loop .inv) (t .loop-test .taken) _ (sym (stands f) ∙ ap frontTold (c .before .found .given .1)))
-
-enum-known-found-2 : tie.Need-enum-known-found-2 Inv-loop μ-loop
-enum-known-found-2 c = search needs
 
 -- the packet of this turn
 stood : (c : tie.After-known-told2 Inv-loop μ-loop)
@@ -92,9 +68,6 @@ part-go-on-start c = omega (arith, lies c)
 part-go-on-end : tie.Need-part-go-on-end Inv-loop μ-loop
 part-go-on-end c = omega (arith, lies c)
 
-go-on-requires : tie.Need-go-on-requires Inv-loop μ-loop
-go-on-requires c κs = search needs
-
 loop-less : tie.Need-loop-less Inv-loop μ-loop
 loop-less c = omega (arith, lies (c .before .before))
 
@@ -114,26 +87,6 @@ returns-3 c = sym (judging-ends _ _ _ (c .before .loop .inv) (c .loop-test .left
 pub walk-spec : {M : Type 1} → statement M
 walk-spec =
     tie.close
-    (tie.spec
-    Inv-loop
-    μ-loop
-    other-version-requires
-    returns
-    new-requires
-    loop-holds
-    sub-front-of
-    part-front-of-start
-    part-front-of-end
-    front-of-requires
-    enum-known-found
-    returns-2
-    enum-known-found-2
-    add-start
-    add-next
-    sub-go-on
-    part-go-on-start
-    part-go-on-end
-    go-on-requires
-    loop-less
-    loop-again
-    returns-3)
+    (tie.spec Inv-loop μ-loop (λ c κs. search needs) returns (λ c κs. search needs) loop-holds (λ c. search needs)
+    (λ c. search needs) (λ c. search needs) (λ c κs. search needs) (λ c. search needs) returns-2 (λ c. search needs)
+    add-start add-next sub-go-on part-go-on-start part-go-on-end (λ c κs. search needs) loop-less loop-again returns-3)

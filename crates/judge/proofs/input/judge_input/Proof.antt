@@ -3,15 +3,9 @@ use Rattle.judge.specs.Input.{inputOf}
 use Rattle.judge.proofs.input.judge_input.Statement.{statement}
 use Rattle.judge.proofs.input.judge_input.Tie as tie
 
-trace-input-requires : tie.Need-trace-input-requires
-trace-input-requires c κs = search needs
-
-answer-of-requires : tie.Need-answer-of-requires
-answer-of-requires c κs = search needs
-
 returns : tie.Need-returns
 unfolding inputOf
 returns c = rw (← (c .before .trace-input .ensures)) (c .answer-of .ensures)
 
 pub judge-input-spec : {M : Type 1} → statement M
-judge-input-spec = tie.close (tie.spec trace-input-requires answer-of-requires returns)
+judge-input-spec = tie.close (tie.spec (λ c κs. search needs) (λ c κs. search needs) returns)

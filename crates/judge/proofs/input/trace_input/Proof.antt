@@ -12,33 +12,9 @@ use borrow.Author.Needs.{needs}
 use Rattle.judge.proofs.input.trace_input.Statement.{statement}
 use Rattle.judge.proofs.input.trace_input.Tie as tie
 
-add-if1 : tie.Need-add-if1
-add-if1 c = search needs
-
 returns : tie.Need-returns
 unfolding inputTraced
 returns c = rw (lt-ltb _ _ (c .if1 .taken))
-
-room-in-requires : tie.Need-room-in-requires
-room-in-requires c κs = search needs
-
-limit-in-requires : tie.Need-limit-in-requires
-limit-in-requires c κs = search needs
-
-smaller-requires : tie.Need-smaller-requires
-smaller-requires c κs = search needs
-
-sub-trace : tie.Need-sub-trace
-sub-trace c = search needs
-
-part-trace-start : tie.Need-part-trace-start
-part-trace-start c = search needs
-
-part-trace-end : tie.Need-part-trace-end
-part-trace-end c = search needs
-
-trace-requires : tie.Need-trace-requires
-trace-requires c κs = search needs
 
 returns-2 : tie.Need-returns-2
 unfolding inputTraced
@@ -59,14 +35,5 @@ returns-2 c =
 pub trace-input-spec : {M : Type 1} → statement M
 trace-input-spec =
     tie.close
-    (tie.spec
-    add-if1
-    returns
-    room-in-requires
-    limit-in-requires
-    smaller-requires
-    sub-trace
-    part-trace-start
-    part-trace-end
-    trace-requires
-    returns-2)
+    (tie.spec (λ c. search needs) returns (λ c κs. search needs) (λ c κs. search needs) (λ c κs. search needs)
+    (λ c. search needs) (λ c. search needs) (λ c. search needs) (λ c κs. search needs) returns-2)

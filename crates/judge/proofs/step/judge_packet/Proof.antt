@@ -3,18 +3,6 @@ use borrow.Author.Needs.{needs}
 use Rattle.judge.proofs.step.judge_packet.Statement.{statement}
 use Rattle.judge.proofs.step.judge_packet.Tie as tie
 
-read-requires : tie.Need-read-requires
-read-requires c κs = search needs
-
-enum-told : tie.Need-enum-told
-enum-told c = search needs
-
-enum-known-answer : tie.Need-enum-known-answer
-enum-known-answer c = search needs
-
-step-requires : tie.Need-step-requires
-step-requires c κs = search needs
-
 returns : tie.Need-returns
 unfolding stepOf
 returns c =
@@ -30,4 +18,4 @@ returns-2 c =
 pub judge-packet-spec : {M : Type 1} → statement M
 judge-packet-spec =
     tie.close
-    (tie.spec read-requires enum-told enum-known-answer step-requires returns returns-2)
+    (tie.spec (λ c κs. search needs) (λ c. search needs) (λ c. search needs) (λ c κs. search needs) returns returns-2)

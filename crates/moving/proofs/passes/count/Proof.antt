@@ -20,12 +20,6 @@ abbrev μ-loop : tie.MeasureT-loop
 loop-holds : tie.Need-loop-holds Inv-loop μ-loop
 loop-holds c = let s = c .before in counting-begins (s .args .fmt) (s .args .own) (now (s .args .file))
 
-record-at-requires : tie.Need-record-at-requires Inv-loop μ-loop
-record-at-requires c κs = search needs
-
-enum-known-size : tie.Need-enum-known-size Inv-loop μ-loop
-enum-known-size c = search needs
-
 -- past the test, the turn counts the record
 turn : (c : tie.Else1 Inv-loop μ-loop)
     → let m = c .before .before .before in
@@ -69,9 +63,6 @@ loop-less c = let t = turn (c .before) in omega (arith, t .1, t .2)
 loop-again : tie.Need-loop-again Inv-loop μ-loop
 loop-again c = turn (c .before) .0
 
-enum-told : tie.Need-enum-told Inv-loop μ-loop
-enum-told c = search needs
-
 returns-2 : tie.Need-returns-2 Inv-loop μ-loop
 returns-2 c =
     let r = c .before .before in
@@ -83,17 +74,5 @@ returns-2 c =
 pub count-spec : {M : Type 1} → statement M
 count-spec =
     tie.close
-    (tie.spec
-    Inv-loop
-    μ-loop
-    loop-holds
-    record-at-requires
-    enum-known-size
-    returns
-    add-head
-    add-total
-    add-total-2
-    loop-less
-    loop-again
-    enum-told
-    returns-2)
+    (tie.spec Inv-loop μ-loop loop-holds (λ c κs. search needs) (λ c. search needs) returns add-head add-total
+    add-total-2 loop-less loop-again (λ c. search needs) returns-2)

@@ -18,20 +18,11 @@ Inv-loop file own fmt out₀ place₀ at₀ out place at = Writing fmt own file 
 abbrev μ-loop : tie.MeasureT-loop
 μ-loop file own fmt out₀ place₀ at₀ out place at = length file - place
 
-slice-write-out : tie.Need-slice-write-out Inv-loop μ-loop
-slice-write-out c = search needs
-
 loop-holds : tie.Need-loop-holds Inv-loop μ-loop
 loop-holds c =
     let s = c .before .before in
     let file = now (s .args .file) in
     writing-begins (s .args .fmt) (s .args .own) file _ (s .pre .2) (rw length-set (s .pre .3))
-
-record-at-requires : tie.Need-record-at-requires Inv-loop μ-loop
-record-at-requires c κs = search needs
-
-enum-known-stream : tie.Need-enum-known-stream Inv-loop μ-loop
-enum-known-stream c = search needs
 
 -- the record of this turn
 abbrev it : tie.After-known-told Inv-loop μ-loop → FoundRecord
@@ -117,9 +108,6 @@ loop-again c =
     let file = now (s .args .file) in
     rw (c .before .before .before .put-record .ensures) (writing-goes (s .args .fmt) (s .args .own) file _ (l .loop .inv) (it k) (stood k))
 
-enum-told : tie.Need-enum-told Inv-loop μ-loop
-enum-told c = search needs
-
 same-length : tie.Need-same-length Inv-loop μ-loop
 same-length c =
     let l = c .before .before .before in
@@ -137,22 +125,6 @@ returns c =
 pub write-records-spec : {M : Type 1} → statement M
 write-records-spec =
     tie.close
-    (tie.spec
-    Inv-loop
-    μ-loop
-    slice-write-out
-    loop-holds
-    record-at-requires
-    enum-known-stream
-    sub-put-record
-    part-put-record-start
-    part-put-record-end
-    put-record-requires
-    add-head
-    add-at
-    add-at-2
-    loop-less
-    loop-again
-    enum-told
-    same-length
-    returns)
+    (tie.spec Inv-loop μ-loop (λ c. search needs) loop-holds (λ c κs. search needs) (λ c. search needs) sub-put-record
+    part-put-record-start part-put-record-end put-record-requires add-head add-at add-at-2 loop-less loop-again
+    (λ c. search needs) same-length returns)

@@ -5,12 +5,6 @@ use borrow.Author.Needs.{needs}
 use Rattle.packet.proofs.header.is_odd.Statement.{statement}
 use Rattle.packet.proofs.header.is_odd.Tie as tie
 
-mul-result : tie.Need-mul-result
-mul-result c = search needs
-
-sub-result : tie.Need-sub-result
-sub-result c = search needs
-
 returns : tie.Need-returns
 returns c =
     let n = c .args .n in
@@ -18,4 +12,4 @@ returns c =
     rw rest
 
 pub is-odd-spec : {M : Type 1} → statement M
-is-odd-spec = tie.close (tie.spec mul-result sub-result returns)
+is-odd-spec = tie.close (tie.spec (λ c. search needs) (λ c. search needs) returns)

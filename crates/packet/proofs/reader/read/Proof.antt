@@ -37,24 +37,6 @@ returns c =
     let t = c .before .before in
     sym (no-start (t .args .limit) (now (t .args .packet)) (c .if1 .taken))
 
-byte-at-requires : tie.Need-byte-at-requires
-byte-at-requires c κs = search needs
-
-byte-at-requires-2 : tie.Need-byte-at-requires-2
-byte-at-requires-2 c κs = search needs
-
-start-bits-requires : tie.Need-start-bits-requires
-start-bits-requires c κs = search needs
-
-type-bits-requires : tie.Need-type-bits-requires
-type-bits-requires c κs = search needs
-
-header-size-requires : tie.Need-header-size-requires
-header-size-requires c κs = search needs
-
-both-requires : tie.Need-both-requires
-both-requires c κs = search needs
-
 returns-2 : tie.Need-returns-2
 returns-2 c =
     let k = c .before .before .before in
@@ -62,9 +44,6 @@ returns-2 c =
     sym
     (from k
     ∙ no-header (t .args .limit) (now (t .args .packet)) (k .type-bits .result) (k .before .start-bits .result) (k .before .before .before .before .if1 .left) (sym (short-at (c .before)) ∙ c .if2 .taken))
-
-is-stream-requires : tie.Need-is-stream-requires
-is-stream-requires c κs = search needs
 
 returns-3 : tie.Need-returns-3
 returns-3 c =
@@ -121,20 +100,6 @@ returns-6 c =
 pub read-spec : {M : Type 1} → statement M
 read-spec =
     tie.close
-    (tie.spec
-    returns
-    byte-at-requires
-    byte-at-requires-2
-    start-bits-requires
-    type-bits-requires
-    header-size-requires
-    both-requires
-    returns-2
-    is-stream-requires
-    returns-3
-    read-control-requires
-    returns-4
-    read-first-requires
-    returns-5
-    read-next-requires
-    returns-6)
+    (tie.spec returns (λ c κs. search needs) (λ c κs. search needs) (λ c κs. search needs) (λ c κs. search needs)
+    (λ c κs. search needs) (λ c κs. search needs) returns-2 (λ c κs. search needs) returns-3 read-control-requires
+    returns-4 read-first-requires returns-5 read-next-requires returns-6)

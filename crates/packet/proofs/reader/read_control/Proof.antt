@@ -6,9 +6,6 @@ use borrow.Author.Needs.{needs}
 use Rattle.packet.proofs.reader.read_control.Statement.{statement}
 use Rattle.packet.proofs.reader.read_control.Tie as tie
 
-is-acknowledgement-requires : tie.Need-is-acknowledgement-requires
-is-acknowledgement-requires c κs = search needs
-
 returns : tie.Need-returns
 returns c limit =
     let t = c .before .before .before in
@@ -16,9 +13,6 @@ returns c limit =
     control-judged limit (now (t .args .packet)) (t .args .s) (t .pre .0) (t .pre .1)
     ∙ rw (sym (c .before .is-acknowledgement .ensures) ∙ not-true _ (c .if1 .taken))
     )
-
-head-requires : tie.Need-head-requires
-head-requires c κs = search needs
 
 returns-2 : tie.Need-returns-2
 returns-2 c limit =
@@ -39,5 +33,4 @@ returns-3 c limit =
     ∙ rw (sym (exact .before .is-acknowledgement .ensures) ∙ not-false _ (exact .if1 .left), c .if2 .left)))
 
 pub read-control-spec : {M : Type 1} → statement M
-read-control-spec =
-    tie.close (tie.spec is-acknowledgement-requires returns head-requires returns-2 returns-3)
+read-control-spec = tie.close (tie.spec (λ c κs. search needs) returns (λ c κs. search needs) returns-2 returns-3)

@@ -39,9 +39,6 @@ total-at : (c : tie.After-pair)
     c .pair .result ≡ pairOf (getD (now (t .args .packet)) 3 0) (getD (now (t .args .packet)) 4 0))
 total-at c = rw (c .before .before .byte-at2 .ensures, c .before .byte-at3 .ensures) at (c .pair .ensures .0)
 
-byte-at-requires : tie.Need-byte-at-requires
-byte-at-requires c κs = search needs
-
 returns : tie.Need-returns
 returns c =
     let t = c .before .before .before in
@@ -49,31 +46,10 @@ returns c =
     (first-judged (t .args .limit) (now (t .args .packet)) (t .args .s) (c .before .byte-at .ensures) refl refl refl (t .pre .0) (t .pre .1)
     ∙ rw (ne-eqb _ _ (c .if1 .taken)))
 
-header-size-requires : tie.Need-header-size-requires
-header-size-requires c κs = search needs
-
-length-place-requires : tie.Need-length-place-requires
-length-place-requires c κs = search needs
-
-length-at-requires : tie.Need-length-at-requires
-length-at-requires c κs = search needs
-
-add-if2 : tie.Need-add-if2
-add-if2 c = search needs
-
 returns-2 : tie.Need-returns-2
 returns-2 c =
     let plain = c .before .before .before .before in
     sym (table-at (c .before) refl ∙ rw (eq-eqb _ _ (plain .if1 .left), ne-eqb _ _ (c .if2 .taken)))
-
-byte-at-requires-2 : tie.Need-byte-at-requires-2
-byte-at-requires-2 c κs = search needs
-
-byte-at-requires-3 : tie.Need-byte-at-requires-3
-byte-at-requires-3 c κs = search needs
-
-pair-requires : tie.Need-pair-requires
-pair-requires c κs = search needs
 
 returns-3 : tie.Need-returns-3
 returns-3 c =
@@ -82,9 +58,6 @@ returns-3 c =
     sym
     (table-at (sized .before) (total-at (c .before))
     ∙ rw (eq-eqb _ _ (plain .if1 .left), eq-eqb _ _ (sized .if2 .left), lt-ltb _ _ (c .if3 .taken)))
-
-both-requires : tie.Need-both-requires
-both-requires c κs = search needs
 
 returns-4 : tie.Need-returns-4
 returns-4 c =
@@ -116,9 +89,6 @@ returns-5 c =
       lt-ltb _ _ (c .if5 .taken),
     ))
 
-head-requires : tie.Need-head-requires
-head-requires c κs = search needs
-
 returns-6 : tie.Need-returns-6
 returns-6 c =
     let filled = c .before .before in
@@ -139,20 +109,6 @@ returns-6 c =
 pub read-first-spec : {M : Type 1} → statement M
 read-first-spec =
     tie.close
-    (tie.spec
-    byte-at-requires
-    returns
-    header-size-requires
-    length-place-requires
-    length-at-requires
-    add-if2
-    returns-2
-    byte-at-requires-2
-    byte-at-requires-3
-    pair-requires
-    returns-3
-    both-requires
-    returns-4
-    returns-5
-    head-requires
-    returns-6)
+    (tie.spec (λ c κs. search needs) returns (λ c κs. search needs) (λ c κs. search needs) (λ c κs. search needs)
+    (λ c. search needs) returns-2 (λ c κs. search needs) (λ c κs. search needs) (λ c κs. search needs) returns-3
+    (λ c κs. search needs) returns-4 returns-5 (λ c κs. search needs) returns-6)

@@ -6,18 +6,6 @@ use borrow.Author.Needs.{needs}
 use Rattle.packet.proofs.reader.read_next.Statement.{statement}
 use Rattle.packet.proofs.reader.read_next.Tie as tie
 
-header-size-requires : tie.Need-header-size-requires
-header-size-requires c κs = search needs
-
-length-place-requires : tie.Need-length-place-requires
-length-place-requires c κs = search needs
-
-length-at-requires : tie.Need-length-at-requires
-length-at-requires c κs = search needs
-
-add-if1 : tie.Need-add-if1
-add-if1 c = search needs
-
 returns : tie.Need-returns
 returns c limit =
     let len = c .before in
@@ -34,9 +22,6 @@ returns-2 c limit =
     (next-judged limit (now (t .args .packet)) (t .args .s) (t .args .last) (len .before .before .header-size .ensures .0) (rw (len .before .length-place .ensures .0) at (len .length-at .ensures .0)) (t .pre .0) (t .pre .1)
     ∙ rw (eq-eqb _ _ (c .before .if1 .left), eq-eqb _ _ (c .if2 .taken)))
 
-head-requires : tie.Need-head-requires
-head-requires c κs = search needs
-
 returns-3 : tie.Need-returns-3
 returns-3 c limit =
     let len = c .before .before .before in
@@ -49,12 +34,5 @@ returns-3 c limit =
 pub read-next-spec : {M : Type 1} → statement M
 read-next-spec =
     tie.close
-    (tie.spec
-    header-size-requires
-    length-place-requires
-    length-at-requires
-    add-if1
-    returns
-    returns-2
-    head-requires
-    returns-3)
+    (tie.spec (λ c κs. search needs) (λ c κs. search needs) (λ c κs. search needs) (λ c. search needs) returns
+    returns-2 (λ c κs. search needs) returns-3)

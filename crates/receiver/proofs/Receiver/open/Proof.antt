@@ -4,9 +4,6 @@ use Rattle.receiver.specs.Receiver.{openOf}
 use Rattle.receiver.proofs.Receiver.open.Statement.{statement}
 use Rattle.receiver.proofs.Receiver.open.Tie as tie
 
-limit-fits-requires : tie.Need-limit-fits-requires
-limit-fits-requires c κs = search needs
-
 returns : tie.Need-returns
 unfolding openOf
 returns c = rw (sym (c .before .limit-fits .ensures) ∙ c .if1 .taken)
@@ -16,4 +13,4 @@ unfolding openOf
 returns-2 c = rw (sym (c .before .limit-fits .ensures) ∙ c .if1 .left)
 
 pub open-spec : {M : Type 1} → statement M
-open-spec = tie.close (tie.spec limit-fits-requires returns returns-2)
+open-spec = tie.close (tie.spec (λ c κs. search needs) returns returns-2)

@@ -2,23 +2,16 @@ use borrow.Author.Needs.{needs}
 use Rattle.receiver.proofs.ack.confirm.Statement.{statement}
 use Rattle.receiver.proofs.ack.confirm.Tie as tie
 
-number-requires : tie.Need-number-requires
-number-requires c κs = search needs
-
 put-requires : tie.Need-put-requires
 put-requires c κs =
     let s = c .before .before .before .before in
     (s .pre .2, c .before .number .ensures .1, s .pre .0, s .pre .1)
 
-same-length : tie.Need-same-length
-same-length c = search needs
-
 returns : tie.Need-returns
 returns c =
     rw (c .before .before .before .before .before .if1 .taken, c .before .before .put .ensures, c .before .before .before .before .number .ensures .0)
 
-returns-2 : tie.Need-returns-2
-returns-2 c = search needs
-
 pub confirm-spec : {M : Type 1} → statement M
-confirm-spec = tie.close (tie.spec number-requires put-requires same-length returns returns-2)
+confirm-spec =
+    tie.close
+    (tie.spec (λ c κs. search needs) put-requires (λ c. search needs) returns (λ c. search needs))

@@ -21,20 +21,8 @@ mul-start c = let s = c .before .before in omega (arith, s .pre .0, inside s)
 add-end : tie.Need-add-end
 add-end c = let s = c .before .before in omega (arith, s .pre .0, inside s)
 
-sub-copy : tie.Need-sub-copy
-sub-copy c = search needs
-
-part-copy-start : tie.Need-part-copy-start
-part-copy-start c = search needs
-
 part-copy-end : tie.Need-part-copy-end
 part-copy-end c = let s = c .before .before in omega (arith, s .pre .2, inside s)
-
-copy-requires : tie.Need-copy-requires
-copy-requires c κs = search needs
-
-same-length : tie.Need-same-length
-same-length c = search needs
 
 returns : tie.Need-returns
 returns c =
@@ -47,12 +35,5 @@ returns c =
 pub write-payload-spec : {M : Type 1} → statement M
 write-payload-spec =
     tie.close
-    (tie.spec
-    mul-start
-    add-end
-    sub-copy
-    part-copy-start
-    part-copy-end
-    copy-requires
-    same-length
-    returns)
+    (tie.spec mul-start add-end (λ c. search needs) (λ c. search needs) part-copy-end (λ c κs. search needs)
+    (λ c. search needs) returns)

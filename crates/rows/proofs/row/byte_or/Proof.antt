@@ -4,9 +4,6 @@ use borrow.Author.Needs.{needs}
 use Rattle.rows.proofs.row.byte_or.Statement.{statement}
 use Rattle.rows.proofs.row.byte_or.Tie as tie
 
-cast-result : tie.Need-cast-result
-cast-result c = search needs
-
 returns : tie.Need-returns
 unfolding byteOr
 returns c = rw (lt-ltb _ _ (c .if1 .taken))
@@ -16,4 +13,4 @@ unfolding byteOr
 returns-2 c = rw (le-ltb _ _ (c .if1 .left))
 
 pub byte-or-spec : {M : Type 1} → statement M
-byte-or-spec = tie.close (tie.spec cast-result returns returns-2)
+byte-or-spec = tie.close (tie.spec (λ c. search needs) returns returns-2)

@@ -4,16 +4,10 @@ use borrow.Author.Needs.{needs}
 use Rattle.rows.proofs.row.write_row.Statement.{statement}
 use Rattle.rows.proofs.row.write_row.Tie as tie
 
-fill-requires : tie.Need-fill-requires
-fill-requires c κs = search needs
-
-same-length : tie.Need-same-length
-same-length c = search needs
-
 returns : tie.Need-returns
 returns c =
     let start = c .before .before .before .before .before .before in
     c .before .before .fill .ensures ∙ sets-whole (start .args .row .now) (start .args .numbers .now) (start .pre)
 
 pub write-row-spec : {M : Type 1} → statement M
-write-row-spec = tie.close (tie.spec fill-requires same-length returns)
+write-row-spec = tie.close (tie.spec (λ c κs. search needs) (λ c. search needs) returns)

@@ -16,29 +16,8 @@ Inv-loop row components₀ at₀ i₀ components at i = (i ≤ 8) × (at ≡ 9 +
 abbrev μ-loop : tie.MeasureT-loop
 μ-loop row components₀ at₀ i₀ components at i = 8 - i
 
-component-at-requires : tie.Need-component-at-requires Inv-loop μ-loop
-component-at-requires c κs = search needs
-
 loop-holds : tie.Need-loop-holds Inv-loop μ-loop
 loop-holds c = (search needs, refl, refl, refl)
-
-component-at-requires-2 : tie.Need-component-at-requires-2 Inv-loop μ-loop
-component-at-requires-2 c κs = omega arith
-
-mul-components : tie.Need-mul-components Inv-loop μ-loop
-mul-components c = search needs
-
-array-set-from-components : tie.Need-array-set-from-components Inv-loop μ-loop
-array-set-from-components c = omega arith
-
-add-at : tie.Need-add-at Inv-loop μ-loop
-add-at c = omega arith
-
-add-i : tie.Need-add-i Inv-loop μ-loop
-add-i c = search needs
-
-loop-less : tie.Need-loop-less Inv-loop μ-loop
-loop-less c = search needs
 
 loop-again : tie.Need-loop-again Inv-loop μ-loop
 loop-again c =
@@ -60,16 +39,5 @@ returns c =
 pub components-at-spec : {M : Type 1} → statement M
 components-at-spec =
     tie.close
-    (tie.spec
-    Inv-loop
-    μ-loop
-    component-at-requires
-    loop-holds
-    component-at-requires-2
-    mul-components
-    array-set-from-components
-    add-at
-    add-i
-    loop-less
-    loop-again
-    returns)
+    (tie.spec Inv-loop μ-loop (λ c κs. search needs) loop-holds (λ c κs. omega arith) (λ c. search needs)
+    (λ c. omega arith) (λ c. omega arith) (λ c. search needs) (λ c. search needs) loop-again returns)

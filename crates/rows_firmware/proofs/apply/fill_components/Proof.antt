@@ -21,29 +21,8 @@ abbrev μ-loop : tie.MeasureT-loop
 loop-holds : tie.Need-loop-holds Inv-loop μ-loop
 loop-holds c = (search needs, refl, refl, refl)
 
-mul-component : tie.Need-mul-component Inv-loop μ-loop
-mul-component c = omega arith
-
-array-copy-out-component : tie.Need-array-copy-out-component Inv-loop μ-loop
-array-copy-out-component c = omega arith
-
-component-row-requires : tie.Need-component-row-requires Inv-loop μ-loop
-component-row-requires c κs = search needs
-
-slice-aggregate-fill : tie.Need-slice-aggregate-fill Inv-loop μ-loop
-slice-aggregate-fill c = search needs
-
 fill-requires : tie.Need-fill-requires Inv-loop μ-loop
 fill-requires c κs = rw (c .before .before .component-row .ensures) (omega (arith, c .before .before .before .before .before .loop .inv .2, c .before .before .before .before .before .before .before .pre))
-
-add-at : tie.Need-add-at Inv-loop μ-loop
-add-at c = omega arith
-
-add-i : tie.Need-add-i Inv-loop μ-loop
-add-i c = search needs
-
-loop-less : tie.Need-loop-less Inv-loop μ-loop
-loop-less c = search needs
 
 loop-again : tie.Need-loop-again Inv-loop μ-loop
 loop-again c =
@@ -56,9 +35,6 @@ loop-again c =
       rw (filled, c .before .before .before .before .before .component-row .ensures, s .loop .inv .3) (rows-more (a .row .now) (a .t2) (s .loop .i) (s .loop .at) (s .loop .inv .1) (omega (arith, s .before .before .good .1 .0 .1 .0 .1))),
     )
 
-same-length : tie.Need-same-length Inv-loop μ-loop
-same-length c = search needs
-
 returns : tie.Need-returns Inv-loop μ-loop
 returns c =
     let s = c .before .before .before in
@@ -69,18 +45,6 @@ returns c =
 pub fill-components-spec : {M : Type 1} → statement M
 fill-components-spec =
     tie.close
-    (tie.spec
-    Inv-loop
-    μ-loop
-    loop-holds
-    mul-component
-    array-copy-out-component
-    component-row-requires
-    slice-aggregate-fill
-    fill-requires
-    add-at
-    add-i
-    loop-less
-    loop-again
-    same-length
-    returns)
+    (tie.spec Inv-loop μ-loop loop-holds (λ c. omega arith) (λ c. omega arith) (λ c κs. search needs)
+    (λ c. search needs) fill-requires (λ c. omega arith) (λ c. search needs) (λ c. search needs) loop-again
+    (λ c. search needs) returns)

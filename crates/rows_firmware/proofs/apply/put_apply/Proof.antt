@@ -13,30 +13,6 @@ use borrow.Author.Needs.{needs}
 use Rattle.rows_firmware.proofs.apply.put_apply.Statement.{statement}
 use Rattle.rows_firmware.proofs.apply.put_apply.Tie as tie
 
-head-row-requires : tie.Need-head-row-requires
-head-row-requires c κs = search needs
-
-slice-aggregate-fill : tie.Need-slice-aggregate-fill
-slice-aggregate-fill c = search needs
-
-fill-requires : tie.Need-fill-requires
-fill-requires c κs = search needs
-
-fill-components-requires : tie.Need-fill-components-requires
-fill-components-requires c κs = search needs
-
-verdict-fault-requires : tie.Need-verdict-fault-requires
-verdict-fault-requires c κs = search needs
-
-slice-aggregate-fill-2 : tie.Need-slice-aggregate-fill-2
-slice-aggregate-fill-2 c = search needs
-
-fill-requires-2 : tie.Need-fill-requires-2
-fill-requires-2 c κs = search needs
-
-same-length : tie.Need-same-length
-same-length c = search needs
-
 returns : tie.Need-returns
 returns c =
     let s = c .before .before .before .before .before .before .before .before .before .before .before .before .before .before .before .before .before .before .before .before in
@@ -63,14 +39,5 @@ returns-2 c = rw (eq-eqb _ _ (c .if1 .left))
 pub put-apply-spec : {M : Type 1} → statement M
 put-apply-spec =
     tie.close
-    (tie.spec
-    head-row-requires
-    slice-aggregate-fill
-    fill-requires
-    fill-components-requires
-    verdict-fault-requires
-    slice-aggregate-fill-2
-    fill-requires-2
-    same-length
-    returns
-    returns-2)
+    (tie.spec (λ c κs. search needs) (λ c. search needs) (λ c κs. search needs) (λ c κs. search needs)
+    (λ c κs. search needs) (λ c. search needs) (λ c κs. search needs) (λ c. search needs) returns returns-2)

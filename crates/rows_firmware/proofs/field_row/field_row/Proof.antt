@@ -2,18 +2,6 @@ use borrow.Author.Needs.{needs}
 use Rattle.rows_firmware.proofs.field_row.field_row.Statement.{statement}
 use Rattle.rows_firmware.proofs.field_row.field_row.Tie as tie
 
-enum-known-value : tie.Need-enum-known-value
-enum-known-value c = search needs
-
-enum-known-value-2 : tie.Need-enum-known-value-2
-enum-known-value-2 c = search needs
-
-enum-told : tie.Need-enum-told
-enum-told c = search needs
-
-fixed-size-requires : tie.Need-fixed-size-requires
-fixed-size-requires c κs = search needs
-
 returns : tie.Need-returns
 returns c = rw (c .before .value .given .1)
 
@@ -26,11 +14,5 @@ returns-3 c = rw (c .before .enum-told .given .1, c .fixed-size .ensures)
 pub field-row-spec : {M : Type 1} → statement M
 field-row-spec =
     tie.close
-    (tie.spec
-    enum-known-value
-    enum-known-value-2
-    enum-told
-    fixed-size-requires
-    returns
-    returns-2
+    (tie.spec (λ c. search needs) (λ c. search needs) (λ c. search needs) (λ c κs. search needs) returns returns-2
     returns-3)

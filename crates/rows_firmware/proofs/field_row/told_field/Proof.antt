@@ -11,33 +11,6 @@ returns : tie.Need-returns
 unfolding fieldAt
 returns c = rw (le-leb _ _ (c .if1 .taken))
 
-read-tag-requires : tie.Need-read-tag-requires
-read-tag-requires c κs = search needs
-
-enum-known-why : tie.Need-enum-known-why
-enum-known-why c = search needs
-
-refused-field-requires : tie.Need-refused-field-requires
-refused-field-requires c κs = search needs
-
-enum-known-head : tie.Need-enum-known-head
-enum-known-head c = search needs
-
-read-value-requires : tie.Need-read-value-requires
-read-value-requires c κs = search needs
-
-enum-known-why-2 : tie.Need-enum-known-why-2
-enum-known-why-2 c = search needs
-
-refused-field-requires-2 : tie.Need-refused-field-requires-2
-refused-field-requires-2 c κs = search needs
-
-enum-known-value : tie.Need-enum-known-value
-enum-known-value c = search needs
-
-field-row-requires : tie.Need-field-row-requires
-field-row-requires c κs = search needs
-
 returns-2 : tie.Need-returns-2
 unfolding fieldAt
 returns-2 c = rw (lt-leb _ _ (c .before .before .before .before .before .if1 .left), sym (c .before .before .before .before .read-tag .ensures) ∙ ap toldTag (c .before .before .why .given .1), c .refused-field .ensures)
@@ -53,17 +26,6 @@ returns-4 c = rw (lt-leb _ _ (c .before .before .before .before .before .before 
 pub told-field-spec : {M : Type 1} → statement M
 told-field-spec =
     tie.close
-    (tie.spec
-    returns
-    read-tag-requires
-    enum-known-why
-    refused-field-requires
-    enum-known-head
-    read-value-requires
-    enum-known-why-2
-    refused-field-requires-2
-    enum-known-value
-    field-row-requires
-    returns-2
-    returns-3
-    returns-4)
+    (tie.spec returns (λ c κs. search needs) (λ c. search needs) (λ c κs. search needs) (λ c. search needs)
+    (λ c κs. search needs) (λ c. search needs) (λ c κs. search needs) (λ c. search needs) (λ c κs. search needs)
+    returns-2 returns-3 returns-4)

@@ -2,18 +2,6 @@ use borrow.Author.Needs.{needs}
 use Rattle.rows_firmware.proofs.segment.wrote_row.Statement.{statement}
 use Rattle.rows_firmware.proofs.segment.wrote_row.Tie as tie
 
-enum-known-wrote : tie.Need-enum-known-wrote
-enum-known-wrote c = search needs
-
-enum-known-wrote-2 : tie.Need-enum-known-wrote-2
-enum-known-wrote-2 c = search needs
-
-enum-known-wrote-3 : tie.Need-enum-known-wrote-3
-enum-known-wrote-3 c = search needs
-
-enum-told : tie.Need-enum-told
-enum-told c = search needs
-
 returns : tie.Need-returns
 returns c = rw (c .before .wrote .given .1)
 
@@ -28,4 +16,6 @@ returns-4 c = rw (c .enum-told .given .1)
 
 pub wrote-row-spec : {M : Type 1} → statement M
 wrote-row-spec =
-    tie.close (tie.spec enum-known-wrote enum-known-wrote-2 enum-known-wrote-3 enum-told returns returns-2 returns-3 returns-4)
+    tie.close
+    (tie.spec (λ c. search needs) (λ c. search needs) (λ c. search needs) (λ c. search needs) returns returns-2
+    returns-3 returns-4)

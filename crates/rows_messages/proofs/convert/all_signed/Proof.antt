@@ -18,26 +18,11 @@ abbrev μ-loop : tie.MeasureT-loop
 loop-holds : tie.Need-loop-holds Inv-loop μ-loop
 loop-holds c = (search needs, refl)
 
-mul-is-signed : tie.Need-mul-is-signed Inv-loop μ-loop
-mul-is-signed c = search needs
-
-shared-slice-read-is-signed : tie.Need-shared-slice-read-is-signed Inv-loop μ-loop
-shared-slice-read-is-signed c = search needs
-
-is-signed-requires : tie.Need-is-signed-requires Inv-loop μ-loop
-is-signed-requires c κs = search needs
-
 returns : tie.Need-returns Inv-loop μ-loop
 returns c =
     let s = c .before .before .before .before in
     let row = s .before .before .args .row .now in
     sym (signed-stop row (s .loop .i) (search needs) (sym (c .before .is-signed .ensures) ∙ not-true _ (c .if1 .taken))) ∙ s .loop .inv .1
-
-add-i : tie.Need-add-i Inv-loop μ-loop
-add-i c = search needs
-
-loop-less : tie.Need-loop-less Inv-loop μ-loop
-loop-less c = search needs
 
 loop-again : tie.Need-loop-again Inv-loop μ-loop
 loop-again c =
@@ -54,15 +39,5 @@ returns-2 c =
 pub all-signed-spec : {M : Type 1} → statement M
 all-signed-spec =
     tie.close
-    (tie.spec
-    Inv-loop
-    μ-loop
-    loop-holds
-    mul-is-signed
-    shared-slice-read-is-signed
-    is-signed-requires
-    returns
-    add-i
-    loop-less
-    loop-again
-    returns-2)
+    (tie.spec Inv-loop μ-loop loop-holds (λ c. search needs) (λ c. search needs) (λ c κs. search needs) returns
+    (λ c. search needs) (λ c. search needs) loop-again returns-2)

@@ -6,21 +6,6 @@ use borrow.Author.Needs.{needs}
 use Rattle.rows_messages.proofs.convert.envelope_row.Statement.{statement}
 use Rattle.rows_messages.proofs.convert.envelope_row.Tie as tie
 
-enum-told : tie.Need-enum-told
-enum-told c = search needs
-
-enum-known-read : tie.Need-enum-known-read
-enum-known-read c = search needs
-
-sign-extended-requires : tie.Need-sign-extended-requires
-sign-extended-requires c κs = search needs
-
-payload-row-requires : tie.Need-payload-row-requires
-payload-row-requires c κs = search needs
-
-returns : tie.Need-returns
-returns c = search needs
-
 returns-2 : tie.Need-returns-2
 returns-2 c =
     rw (c .before .before .before .before .read .given .1, ← (c .before .sign-extended .ensures ∙ ap extended (toZ-ofZ {w = w32} {z = c .before .before .before .before .read .given .0 .0 .command} (search needs))))
@@ -29,10 +14,5 @@ returns-2 c =
 pub envelope-row-spec : {M : Type 1} → statement M
 envelope-row-spec =
     tie.close
-    (tie.spec
-    enum-told
-    enum-known-read
-    sign-extended-requires
-    payload-row-requires
-    returns
-    returns-2)
+    (tie.spec (λ c. search needs) (λ c. search needs) (λ c κs. search needs) (λ c κs. search needs)
+    (λ c. search needs) returns-2)

@@ -2,17 +2,8 @@ use borrow.Author.Needs.{needs}
 use Rattle.rows_messages.proofs.convert.features_row.Statement.{statement}
 use Rattle.rows_messages.proofs.convert.features_row.Tie as tie
 
-enum-told : tie.Need-enum-told
-enum-told c = search needs
-
-enum-known-read : tie.Need-enum-known-read
-enum-known-read c = search needs
-
-returns : tie.Need-returns
-returns c = search needs
-
 returns-2 : tie.Need-returns-2
 returns-2 c = rw (c .before .read .given .1)
 
 pub features-row-spec : {M : Type 1} → statement M
-features-row-spec = tie.close (tie.spec enum-told enum-known-read returns returns-2)
+features-row-spec = tie.close (tie.spec (λ c. search needs) (λ c. search needs) (λ c. search needs) returns-2)

@@ -8,16 +8,10 @@ use borrow.Author.Needs.{needs}
 use Rattle.rows_messages.proofs.convert.is_signed.Statement.{statement}
 use Rattle.rows_messages.proofs.convert.is_signed.Tie as tie
 
-low-signed-requires : tie.Need-low-signed-requires
-low-signed-requires c κs = search needs
-
-sign-extended-requires : tie.Need-sign-extended-requires
-sign-extended-requires c κs = search needs
-
 returns : tie.Need-returns
 unfolding isSigned
 returns c =
     ap (λ (x : ℕ). eqb x (c .before .before .args .n)) (c .sign-extended .ensures ∙ ap extended (signed-kept _ (c .before .before .args .n) (c .before .low-signed .ensures)))
 
 pub is-signed-spec : {M : Type 1} → statement M
-is-signed-spec = tie.close (tie.spec low-signed-requires sign-extended-requires returns)
+is-signed-spec = tie.close (tie.spec (λ c κs. search needs) (λ c κs. search needs) returns)

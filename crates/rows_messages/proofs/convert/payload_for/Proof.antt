@@ -5,9 +5,6 @@ use borrow.Author.Needs.{needs}
 use Rattle.rows_messages.proofs.convert.payload_for.Statement.{statement}
 use Rattle.rows_messages.proofs.convert.payload_for.Tie as tie
 
-is-signed-requires : tie.Need-is-signed-requires
-is-signed-requires c κs = search needs
-
 returns : tie.Need-returns
 unfolding payloadFor
 returns c = rw (← (c .before .is-signed .ensures), c .if1 .taken)
@@ -20,12 +17,6 @@ returns-2 c =
       c .before .if1 .left,
       eq-eqb _ _ (c .if2 .taken),
     )
-
-response-payload-requires : tie.Need-response-payload-requires
-response-payload-requires c κs = search needs
-
-low-signed-requires : tie.Need-low-signed-requires
-low-signed-requires c κs = search needs
 
 returns-3 : tie.Need-returns-3
 unfolding payloadFor
@@ -64,12 +55,5 @@ returns-5 c =
 pub payload-for-spec : {M : Type 1} → statement M
 payload-for-spec =
     tie.close
-    (tie.spec
-    is-signed-requires
-    returns
-    returns-2
-    response-payload-requires
-    low-signed-requires
-    returns-3
-    returns-4
-    returns-5)
+    (tie.spec (λ c κs. search needs) returns returns-2 (λ c κs. search needs) (λ c κs. search needs) returns-3
+    returns-4 returns-5)

@@ -4,18 +4,6 @@ use borrow.Author.Needs.{needs}
 use Rattle.rows_messages.proofs.convert.payload_row.Statement.{statement}
 use Rattle.rows_messages.proofs.convert.payload_row.Tie as tie
 
-enum-told : tie.Need-enum-told
-enum-told c = search needs
-
-enum-known-payload : tie.Need-enum-known-payload
-enum-known-payload c = search needs
-
-sign-extended-requires : tie.Need-sign-extended-requires
-sign-extended-requires c κs = search needs
-
-enum-known-payload-2 : tie.Need-enum-known-payload-2
-enum-known-payload-2 c = search needs
-
 returns : tie.Need-returns
 returns c = rw (c .enum-told .given .1)
 
@@ -28,11 +16,5 @@ returns-3 c = rw (c .before .payload2 .given .1)
 pub payload-row-spec : {M : Type 1} → statement M
 payload-row-spec =
     tie.close
-    (tie.spec
-    enum-told
-    enum-known-payload
-    sign-extended-requires
-    enum-known-payload-2
-    returns
-    returns-2
+    (tie.spec (λ c. search needs) (λ c. search needs) (λ c κs. search needs) (λ c. search needs) returns returns-2
     returns-3)

@@ -10,39 +10,6 @@ use borrow.Author.Needs.{needs}
 use Rattle.rows_messages.proofs.convert.put_information.Statement.{statement}
 use Rattle.rows_messages.proofs.convert.put_information.Tie as tie
 
-parts-row-requires : tie.Need-parts-row-requires
-parts-row-requires c κs = search needs
-
-slice-aggregate-fill : tie.Need-slice-aggregate-fill
-slice-aggregate-fill c = search needs
-
-fill-requires : tie.Need-fill-requires
-fill-requires c κs = search needs
-
-slice-aggregate-transports-row : tie.Need-slice-aggregate-transports-row
-slice-aggregate-transports-row c = search needs
-
-transports-row-requires : tie.Need-transports-row-requires
-transports-row-requires c κs = search needs
-
-slice-aggregate-fill-2 : tie.Need-slice-aggregate-fill-2
-slice-aggregate-fill-2 c = search needs
-
-fill-requires-2 : tie.Need-fill-requires-2
-fill-requires-2 c κs = search needs
-
-verdict-fault-requires : tie.Need-verdict-fault-requires
-verdict-fault-requires c κs = search needs
-
-slice-aggregate-fill-3 : tie.Need-slice-aggregate-fill-3
-slice-aggregate-fill-3 c = search needs
-
-fill-requires-3 : tie.Need-fill-requires-3
-fill-requires-3 c κs = search needs
-
-same-length : tie.Need-same-length
-same-length c = search needs
-
 returns : tie.Need-returns
 returns c =
     let s = c .before .before .before .before .before .before .before .before .before .before .before .before .before .before .before .before .before .before .before .before .before .before in
@@ -67,17 +34,6 @@ returns-2 c = rw (eq-eqb _ _ (c .if1 .left))
 pub put-information-spec : {M : Type 1} → statement M
 put-information-spec =
     tie.close
-    (tie.spec
-    parts-row-requires
-    slice-aggregate-fill
-    fill-requires
-    slice-aggregate-transports-row
-    transports-row-requires
-    slice-aggregate-fill-2
-    fill-requires-2
-    verdict-fault-requires
-    slice-aggregate-fill-3
-    fill-requires-3
-    same-length
-    returns
-    returns-2)
+    (tie.spec (λ c κs. search needs) (λ c. search needs) (λ c κs. search needs) (λ c. search needs)
+    (λ c κs. search needs) (λ c. search needs) (λ c κs. search needs) (λ c κs. search needs) (λ c. search needs)
+    (λ c κs. search needs) (λ c. search needs) returns returns-2)

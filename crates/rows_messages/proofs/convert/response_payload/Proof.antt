@@ -4,9 +4,6 @@ use borrow.Author.Needs.{needs}
 use Rattle.rows_messages.proofs.convert.response_payload.Statement.{statement}
 use Rattle.rows_messages.proofs.convert.response_payload.Tie as tie
 
-is-signed-requires : tie.Need-is-signed-requires
-is-signed-requires c κs = search needs
-
 returns : tie.Need-returns
 unfolding responsePayloadOf
 returns c = rw (← (c .before .is-signed .ensures), c .if1 .taken)
@@ -30,4 +27,4 @@ returns-3 c =
     )
 
 pub response-payload-spec : {M : Type 1} → statement M
-response-payload-spec = tie.close (tie.spec is-signed-requires returns returns-2 returns-3)
+response-payload-spec = tie.close (tie.spec (λ c κs. search needs) returns returns-2 returns-3)

@@ -19,27 +19,6 @@ abbrev μ-loop : tie.MeasureT-loop
 loop-holds : tie.Need-loop-holds Inv-loop μ-loop
 loop-holds c = (search needs, refl, refl)
 
-mul-low-signed : tie.Need-mul-low-signed Inv-loop μ-loop
-mul-low-signed c = search needs
-
-shared-slice-read-low-signed : tie.Need-shared-slice-read-low-signed Inv-loop μ-loop
-shared-slice-read-low-signed c = search needs
-
-low-signed-requires : tie.Need-low-signed-requires Inv-loop μ-loop
-low-signed-requires c κs = search needs
-
-mul-list : tie.Need-mul-list Inv-loop μ-loop
-mul-list c = search needs
-
-array-set-from-list : tie.Need-array-set-from-list Inv-loop μ-loop
-array-set-from-list c = search needs
-
-add-i : tie.Need-add-i Inv-loop μ-loop
-add-i c = search needs
-
-loop-less : tie.Need-loop-less Inv-loop μ-loop
-loop-less c = search needs
-
 loop-again : tie.Need-loop-again Inv-loop μ-loop
 loop-again c =
     let s = c .before .before .before in
@@ -60,16 +39,5 @@ returns c =
 pub signed-list-spec : {M : Type 1} → statement M
 signed-list-spec =
     tie.close
-    (tie.spec
-    Inv-loop
-    μ-loop
-    loop-holds
-    mul-low-signed
-    shared-slice-read-low-signed
-    low-signed-requires
-    mul-list
-    array-set-from-list
-    add-i
-    loop-less
-    loop-again
-    returns)
+    (tie.spec Inv-loop μ-loop loop-holds (λ c. search needs) (λ c. search needs) (λ c κs. search needs)
+    (λ c. search needs) (λ c. search needs) (λ c. search needs) (λ c. search needs) loop-again returns)

@@ -2,15 +2,6 @@ use borrow.Author.Needs.{needs}
 use Rattle.rows_messages.proofs.convert.text_row.Statement.{statement}
 use Rattle.rows_messages.proofs.convert.text_row.Tie as tie
 
-enum-known-wrote : tie.Need-enum-known-wrote
-enum-known-wrote c = search needs
-
-enum-told : tie.Need-enum-told
-enum-told c = search needs
-
-enum-known-wrote-2 : tie.Need-enum-known-wrote-2
-enum-known-wrote-2 c = search needs
-
 returns : tie.Need-returns
 returns c = rw (c .before .wrote .given .1)
 
@@ -22,4 +13,5 @@ returns-3 c = rw (c .before .wrote2 .given .1)
 
 pub text-row-spec : {M : Type 1} → statement M
 text-row-spec =
-    tie.close (tie.spec enum-known-wrote enum-told enum-known-wrote-2 returns returns-2 returns-3)
+    tie.close
+    (tie.spec (λ c. search needs) (λ c. search needs) (λ c. search needs) returns returns-2 returns-3)

@@ -21,27 +21,6 @@ abbrev μ-loop : tie.MeasureT-loop
 loop-holds : tie.Need-loop-holds Inv-loop μ-loop
 loop-holds c = (search needs, refl, refl)
 
-mul-sign-extended : tie.Need-mul-sign-extended Inv-loop μ-loop
-mul-sign-extended c = search needs
-
-shared-slice-copy-out-sign-extended : tie.Need-shared-slice-copy-out-sign-extended Inv-loop μ-loop
-shared-slice-copy-out-sign-extended c = search needs
-
-sign-extended-requires : tie.Need-sign-extended-requires Inv-loop μ-loop
-sign-extended-requires c κs = search needs
-
-mul-row : tie.Need-mul-row Inv-loop μ-loop
-mul-row c = search needs
-
-array-write-row : tie.Need-array-write-row Inv-loop μ-loop
-array-write-row c = search needs
-
-add-i : tie.Need-add-i Inv-loop μ-loop
-add-i c = search needs
-
-loop-less : tie.Need-loop-less Inv-loop μ-loop
-loop-less c = search needs
-
 loop-again : tie.Need-loop-again Inv-loop μ-loop
 loop-again c =
     let s = c .before .before .before in
@@ -60,16 +39,5 @@ returns c =
 pub transports-row-spec : {M : Type 1} → statement M
 transports-row-spec =
     tie.close
-    (tie.spec
-    Inv-loop
-    μ-loop
-    loop-holds
-    mul-sign-extended
-    shared-slice-copy-out-sign-extended
-    sign-extended-requires
-    mul-row
-    array-write-row
-    add-i
-    loop-less
-    loop-again
-    returns)
+    (tie.spec Inv-loop μ-loop loop-holds (λ c. search needs) (λ c. search needs) (λ c κs. search needs)
+    (λ c. search needs) (λ c. search needs) (λ c. search needs) (λ c. search needs) loop-again returns)

@@ -3,13 +3,10 @@ use Rattle.sender.proofs.Largest.{full-some}
 use Rattle.sender.proofs.piece.full_size.Statement.{statement}
 use Rattle.sender.proofs.piece.full_size.Tie as tie
 
-size-for-requires : tie.Need-size-for-requires
-size-for-requires c κs = search needs
-
 returns : tie.Need-returns
 returns c =
     let s = c .before in
     (c .size-for .ensures, rw (c .size-for .ensures) (full-some (s .args .room) (s .args .first) (s .pre)))
 
 pub full-size-spec : {M : Type 1} → statement M
-full-size-spec = tie.close (tie.spec size-for-requires returns)
+full-size-spec = tie.close (tie.spec (λ c κs. search needs) returns)

@@ -9,12 +9,6 @@ use Rattle.sender.proofs.Pieces.{place-first, place-beyond, place-befor
 use Rattle.sender.proofs.piece.piece_at.Statement.{statement}
 use Rattle.sender.proofs.piece.piece_at.Tie as tie
 
-full-size-requires : tie.Need-full-size-requires
-full-size-requires c κs = search needs
-
-smaller-requires : tie.Need-smaller-requires
-smaller-requires c κs = search needs
-
 returns : tie.Need-returns
 returns c =
     let s = c .before .before .before in
@@ -46,12 +40,6 @@ returns-4 c =
     (place-before (a .room) (a .length) (a .place) _ (s .pre) (c .before .before .before .before .full-size .ensures .0) (fullSize (a .room) false) refl
     (c .before .before .before .if1 .left) (omega arith))
 
-full-size-requires-2 : tie.Need-full-size-requires-2
-full-size-requires-2 c κs = search needs
-
-rem-over : tie.Need-rem-over
-rem-over c = search needs
-
 returns-5 : tie.Need-returns-5
 returns-5 c =
     let s = c .before .before .before .before .before .before .before in
@@ -60,17 +48,11 @@ returns-5 c =
     (place-between (a .room) (a .length) (a .place) _ (s .pre) (c .before .before .before .before .before .before .full-size .ensures .0) _
     (c .before .full-size2 .ensures .0) (c .before .before .before .before .before .if1 .left) (c .if5 .taken))
 
-div-index : tie.Need-div-index
-div-index c = search needs
-
 add-index : tie.Need-add-index
 add-index c =
     let f = c .before .full-size2 in
     let s = c .before .before .before .before .before .before in
     omega (arith, div-le-self (s .before .args .place - s .full-size .result) (f .result))
-
-smaller-requires-2 : tie.Need-smaller-requires-2
-smaller-requires-2 c κs = search needs
 
 returns-6 : tie.Need-returns-6
 returns-6 c =
@@ -85,17 +67,6 @@ returns-6 c =
 pub piece-at-spec : {M : Type 1} → statement M
 piece-at-spec =
     tie.close
-    (tie.spec
-    full-size-requires
-    smaller-requires
-    returns
-    returns-2
-    returns-3
-    returns-4
-    full-size-requires-2
-    rem-over
-    returns-5
-    div-index
-    add-index
-    smaller-requires-2
+    (tie.spec (λ c κs. search needs) (λ c κs. search needs) returns returns-2 returns-3 returns-4
+    (λ c κs. search needs) (λ c. search needs) returns-5 (λ c. search needs) add-index (λ c κs. search needs)
     returns-6)

@@ -7,18 +7,12 @@ use Rattle.sender.proofs.Largest.{size-closed, size-none}
 use Rattle.sender.proofs.piece.size_for.Statement.{statement}
 use Rattle.sender.proofs.piece.size_for.Tie as tie
 
-least-header-requires : tie.Need-least-header-requires
-least-header-requires c κs = search needs
-
 returns : tie.Need-returns
 returns c =
     let s = c .before in
     let a = s .before .args in
     let less : a .room < leastHeader (a .first) = rw (← (s .least-header .ensures .0)) (c .if1 .taken) in
     sym (size-none (a .room) (a .first) (a .rest) less)
-
-smaller-requires : tie.Need-smaller-requires
-smaller-requires c κs = search needs
 
 returns-2 : tie.Need-returns-2
 returns-2 c =
@@ -27,12 +21,6 @@ returns-2 c =
     let a = i .before .before .args in
     let enough : leastHeader (a .first) ≤ a .room = rw (← e) (i .if1 .left) in
     rw (c .smaller .ensures .0, size-closed (a .room) (a .first) enough (a .rest), ← e, le-leb _ _ (c .before .if2 .taken))
-
-sub-smaller : tie.Need-sub-smaller
-sub-smaller c = search needs
-
-smaller-requires-2 : tie.Need-smaller-requires-2
-smaller-requires-2 c κs = search needs
 
 returns-3 : tie.Need-returns-3
 returns-3 c =
@@ -45,11 +33,5 @@ returns-3 c =
 pub size-for-spec : {M : Type 1} → statement M
 size-for-spec =
     tie.close
-    (tie.spec
-    least-header-requires
-    returns
-    smaller-requires
-    returns-2
-    sub-smaller
-    smaller-requires-2
-    returns-3)
+    (tie.spec (λ c κs. search needs) returns (λ c κs. search needs) returns-2 (λ c. search needs)
+    (λ c κs. search needs) returns-3)

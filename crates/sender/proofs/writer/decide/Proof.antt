@@ -8,15 +8,9 @@ use Rattle.sender.proofs.Guard.{room-low, range-facts, found-writes}
 use Rattle.sender.proofs.writer.decide.Statement.{statement}
 use Rattle.sender.proofs.writer.decide.Tie as tie
 
-room-fits-requires : tie.Need-room-fits-requires
-room-fits-requires c κs = search needs
-
 returns : tie.Need-returns
 unfolding decided
 returns c = (rw (← (c .before .room-fits .ensures), c .if1 .taken), tt)
-
-limit-fits-requires : tie.Need-limit-fits-requires
-limit-fits-requires c κs = search needs
 
 returns-2 : tie.Need-returns-2
 unfolding decided
@@ -25,9 +19,6 @@ returns-2 c =
       rw (← (j .before .room-fits .ensures), j .if1 .left, ← (c .before .limit-fits .ensures), c .if2 .taken),
       tt,
     )
-
-arguments-fit-requires : tie.Need-arguments-fit-requires
-arguments-fit-requires c κs = search needs
 
 returns-3 : tie.Need-returns-3
 unfolding decided
@@ -49,12 +40,6 @@ piece-at-requires : tie.Need-piece-at-requires
 piece-at-requires c κs =
     let j = c .before .before .before .before in
     room-low _ (sym (j .before .room-fits .ensures) ∙ not-false (j .before .room-fits .result) (j .if1 .left))
-
-enum-told : tie.Need-enum-told
-enum-told c = search needs
-
-enum-known-found : tie.Need-enum-known-found
-enum-known-found c = search needs
 
 returns-4 : tie.Need-returns-4
 unfolding decided
@@ -125,16 +110,5 @@ returns-6 c =
 pub decide-spec : {M : Type 1} → statement M
 decide-spec =
     tie.close
-    (tie.spec
-    room-fits-requires
-    returns
-    limit-fits-requires
-    returns-2
-    arguments-fit-requires
-    returns-3
-    piece-at-requires
-    enum-told
-    enum-known-found
-    returns-4
-    returns-5
-    returns-6)
+    (tie.spec (λ c κs. search needs) returns (λ c κs. search needs) returns-2 (λ c κs. search needs) returns-3
+    piece-at-requires (λ c. search needs) (λ c. search needs) returns-4 returns-5 returns-6)

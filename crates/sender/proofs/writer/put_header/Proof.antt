@@ -14,12 +14,6 @@ put-start-requires c κs =
     let h = header-some (isFirst (a .args .piece .index)) (extended (a .args .piece .size)) in
     (omega arith, a .pre .low-stream, a .pre .low-id)
 
-put-total-requires : tie.Need-put-total-requires
-put-total-requires c κs = search needs
-
-length-place-requires : tie.Need-length-place-requires
-length-place-requires c κs = search needs
-
 put-length-requires : tie.Need-put-length-requires
 put-length-requires c κs =
     let a = c .before .before .before .before .before .before .before .before .before .before .before .before in
@@ -29,12 +23,6 @@ put-length-requires c κs =
     let k2 = c .before .before .before .before .before .before .before .before .put-start .kept .0 in
     let f = a .pre .header-fits in
     (omega arith, omega (arith, a .pre .inside, a .pre .low-total))
-
-header-size-requires : tie.Need-header-size-requires
-header-size-requires c κs = search needs
-
-same-length : tie.Need-same-length
-same-length c = search needs
 
 returns : tie.Need-returns
 returns c =
@@ -51,11 +39,5 @@ returns c =
 pub put-header-spec : {M : Type 1} → statement M
 put-header-spec =
     tie.close
-    (tie.spec
-    put-start-requires
-    put-total-requires
-    length-place-requires
-    put-length-requires
-    header-size-requires
-    same-length
-    returns)
+    (tie.spec put-start-requires (λ c κs. search needs) (λ c κs. search needs) put-length-requires
+    (λ c κs. search needs) (λ c. search needs) returns)

@@ -2,30 +2,6 @@ use borrow.Author.Needs.{needs}
 use Rattle.sender.proofs.writer.put_start.Statement.{statement}
 use Rattle.sender.proofs.writer.put_start.Tie as tie
 
-sequence-after-requires : tie.Need-sequence-after-requires
-sequence-after-requires c κs = search needs
-
-type-for-requires : tie.Need-type-for-requires
-type-for-requires c κs = search needs
-
-both-requires : tie.Need-both-requires
-both-requires c κs = search needs
-
-first-byte-requires : tie.Need-first-byte-requires
-first-byte-requires c κs = search needs
-
-slice-write-out : tie.Need-slice-write-out
-slice-write-out c = search needs
-
-second-byte-requires : tie.Need-second-byte-requires
-second-byte-requires c κs = search needs
-
-slice-write-out-2 : tie.Need-slice-write-out-2
-slice-write-out-2 c = search needs
-
-same-length : tie.Need-same-length
-same-length c = search needs
-
 returns : tie.Need-returns
 returns c =
     rw (
@@ -39,13 +15,5 @@ returns c =
 pub put-start-spec : {M : Type 1} → statement M
 put-start-spec =
     tie.close
-    (tie.spec
-    sequence-after-requires
-    type-for-requires
-    both-requires
-    first-byte-requires
-    slice-write-out
-    second-byte-requires
-    slice-write-out-2
-    same-length
-    returns)
+    (tie.spec (λ c κs. search needs) (λ c κs. search needs) (λ c κs. search needs) (λ c κs. search needs)
+    (λ c. search needs) (λ c κs. search needs) (λ c. search needs) (λ c. search needs) returns)

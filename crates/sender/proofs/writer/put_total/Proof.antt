@@ -9,9 +9,6 @@ use Rattle.sender.proofs.writer.put_total.Tie as tie
 slice-write-out : tie.Need-slice-write-out
 slice-write-out c = omega (arith, rw (c .if1 .taken) at (c .before .before .pre .0))
 
-add-put-pair : tie.Need-add-put-pair
-add-put-pair c = search needs
-
 put-pair-requires : tie.Need-put-pair-requires
 put-pair-requires c κs =
     let h = rw (c .before .if1 .taken) at (c .before .before .before .pre .0) in (simp length-set (omega arith), c .before .before .before .pre .1)
@@ -22,10 +19,7 @@ same-length c = ap length (c .before .before .put-pair .ensures) ∙ simp (lengt
 returns : tie.Need-returns
 returns c = rw (c .before .before .before .before .if1 .taken) (c .before .before .put-pair .ensures)
 
-returns-2 : tie.Need-returns-2
-returns-2 c = search needs
-
 pub put-total-spec : {M : Type 1} → statement M
 put-total-spec =
     tie.close
-    (tie.spec slice-write-out add-put-pair put-pair-requires same-length returns returns-2)
+    (tie.spec slice-write-out (λ c. search needs) put-pair-requires same-length returns (λ c. search needs))

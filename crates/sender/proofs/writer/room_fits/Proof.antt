@@ -3,12 +3,9 @@ use Rattle.sender.specs.Writer.{roomFits}
 use Rattle.sender.proofs.writer.room_fits.Statement.{statement}
 use Rattle.sender.proofs.writer.room_fits.Tie as tie
 
-both-requires : tie.Need-both-requires
-both-requires c κs = search needs
-
 returns : tie.Need-returns
 unfolding roomFits
 returns c = cc
 
 pub room-fits-spec : {M : Type 1} → statement M
-room-fits-spec = tie.close (tie.spec both-requires returns)
+room-fits-spec = tie.close (tie.spec (λ c κs. search needs) returns)

@@ -3,15 +3,6 @@ use borrow.Author.Needs.{needs}
 use Rattle.slot.proofs.Slot.is_lawful.Statement.{statement}
 use Rattle.slot.proofs.Slot.is_lawful.Tie as tie
 
-opens-requires : tie.Need-opens-requires
-opens-requires c κs = search needs
-
-open-law-requires : tie.Need-open-law-requires
-open-law-requires c κs = search needs
-
-idle-law-requires : tie.Need-idle-law-requires
-idle-law-requires c κs = search needs
-
 returns : tie.Need-returns
 unfolding lawfulSlot
 returns c = rw (← c .before .before .opens .ensures, c .before .if1 .taken) (c .open-law .ensures)
@@ -22,4 +13,5 @@ returns-2 c = rw (← c .before .before .opens .ensures, c .before .if1 .left) (
 
 pub is-lawful-spec : {M : Type 1} → statement M
 is-lawful-spec =
-    tie.close (tie.spec opens-requires open-law-requires idle-law-requires returns returns-2)
+    tie.close
+    (tie.spec (λ c κs. search needs) (λ c κs. search needs) (λ c κs. search needs) returns returns-2)

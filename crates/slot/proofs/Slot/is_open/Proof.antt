@@ -4,16 +4,10 @@ use borrow.Author.Needs.{needs}
 use Rattle.slot.proofs.Slot.is_open.Statement.{statement}
 use Rattle.slot.proofs.Slot.is_open.Tie as tie
 
-pair-requires : tie.Need-pair-requires
-pair-requires c κs = search needs
-
-pair-requires-2 : tie.Need-pair-requires-2
-pair-requires-2 c κs = search needs
-
 returns : tie.Need-returns
 returns c =
     let s = c .before .before in
     rw (c .before .pair .ensures .0, c .pair2 .ensures .0) (both-same (s .args .self .opened) (s .args .self .id) (s .args .id) (omega (arith, s .good)))
 
 pub is-open-spec : {M : Type 1} → statement M
-is-open-spec = tie.close (tie.spec pair-requires pair-requires-2 returns)
+is-open-spec = tie.close (tie.spec (λ c κs. search needs) (λ c κs. search needs) returns)

@@ -4,24 +4,6 @@ use borrow.Author.Needs.{needs}
 use Rattle.slot.proofs.Slot.stands_alone.Statement.{statement}
 use Rattle.slot.proofs.Slot.stands_alone.Tie as tie
 
-opens-requires : tie.Need-opens-requires
-opens-requires c κs = search needs
-
-is-open-requires : tie.Need-is-open-requires
-is-open-requires c κs = search needs
-
-is-open-requires-2 : tie.Need-is-open-requires-2
-is-open-requires-2 c κs = search needs
-
-either-requires : tie.Need-either-requires
-either-requires c κs = search needs
-
-is-open-requires-3 : tie.Need-is-open-requires-3
-is-open-requires-3 c κs = search needs
-
-either-requires-2 : tie.Need-either-requires-2
-either-requires-2 c κs = search needs
-
 returns : tie.Need-returns
 returns c =
     let t = c .before .before .before .before .before in
@@ -41,12 +23,5 @@ returns-2 c = rw (sym (c .before .opens .ensures) ∙ c .if1 .left)
 pub stands-alone-spec : {M : Type 1} → statement M
 stands-alone-spec =
     tie.close
-    (tie.spec
-    opens-requires
-    is-open-requires
-    is-open-requires-2
-    either-requires
-    is-open-requires-3
-    either-requires-2
-    returns
-    returns-2)
+    (tie.spec (λ c κs. search needs) (λ c κs. search needs) (λ c κs. search needs) (λ c κs. search needs)
+    (λ c κs. search needs) (λ c κs. search needs) returns returns-2)

@@ -3,15 +3,9 @@ use borrow.Author.Needs.{needs}
 use Rattle.tally.proofs.count.is_first.Statement.{statement}
 use Rattle.tally.proofs.count.is_first.Tie as tie
 
-byte-at-requires : tie.Need-byte-at-requires
-byte-at-requires c κs = search needs
-
-type-bits-requires : tie.Need-type-bits-requires
-type-bits-requires c κs = search needs
-
 returns : tie.Need-returns
 unfolding fieldsOf
 returns c = rw (c .type-bits .ensures, c .before .byte-at .ensures)
 
 pub is-first-spec : {M : Type 1} → statement M
-is-first-spec = tie.close (tie.spec byte-at-requires type-bits-requires returns)
+is-first-spec = tie.close (tie.spec (λ c κs. search needs) (λ c κs. search needs) returns)

@@ -8,17 +8,10 @@ use Rattle.tally.proofs.count.is_of.Tie as tie
 returns : tie.Need-returns
 returns c = sym (of-none (c .before .before .args .number) (now (c .before .before .args .packet)) (c .if1 .taken))
 
-shared-slice-read-stream-bits : tie.Need-shared-slice-read-stream-bits
-shared-slice-read-stream-bits c = search needs
-
-stream-bits-requires : tie.Need-stream-bits-requires
-stream-bits-requires c κs = search needs
-
 returns-2 : tie.Need-returns-2
 returns-2 c =
     let s = c .before .before .before .before in
     rw (c .stream-bits .ensures) (sym (of-some (s .args .number) (now (s .args .packet)) (c .before .before .if1 .left)))
 
 pub is-of-spec : {M : Type 1} → statement M
-is-of-spec =
-    tie.close (tie.spec returns shared-slice-read-stream-bits stream-bits-requires returns-2)
+is-of-spec = tie.close (tie.spec returns (λ c. search needs) (λ c κs. search needs) returns-2)

@@ -3,33 +3,6 @@ use borrow.Author.Needs.{needs}
 use Rattle.tally.proofs.count.open_report.Statement.{statement}
 use Rattle.tally.proofs.count.open_report.Tie as tie
 
-lane-of-requires : tie.Need-lane-of-requires
-lane-of-requires c κs = search needs
-
-open-among-requires : tie.Need-open-among-requires
-open-among-requires c κs = search needs
-
-open-costs-requires : tie.Need-open-costs-requires
-open-costs-requires c κs = search needs
-
-lane-of-requires-2 : tie.Need-lane-of-requires-2
-lane-of-requires-2 c κs = search needs
-
-open-among-requires-2 : tie.Need-open-among-requires-2
-open-among-requires-2 c κs = search needs
-
-open-costs-requires-2 : tie.Need-open-costs-requires-2
-open-costs-requires-2 c κs = search needs
-
-lane-of-requires-3 : tie.Need-lane-of-requires-3
-lane-of-requires-3 c κs = search needs
-
-open-among-requires-3 : tie.Need-open-among-requires-3
-open-among-requires-3 c κs = search needs
-
-open-costs-requires-3 : tie.Need-open-costs-requires-3
-open-costs-requires-3 c κs = search needs
-
 returns : tie.Need-returns
 unfolding openReport
 returns c =
@@ -48,14 +21,6 @@ returns c =
 pub open-report-spec : {M : Type 1} → statement M
 open-report-spec =
     tie.close
-    (tie.spec
-    lane-of-requires
-    open-among-requires
-    open-costs-requires
-    lane-of-requires-2
-    open-among-requires-2
-    open-costs-requires-2
-    lane-of-requires-3
-    open-among-requires-3
-    open-costs-requires-3
+    (tie.spec (λ c κs. search needs) (λ c κs. search needs) (λ c κs. search needs) (λ c κs. search needs)
+    (λ c κs. search needs) (λ c κs. search needs) (λ c κs. search needs) (λ c κs. search needs) (λ c κs. search needs)
     returns)

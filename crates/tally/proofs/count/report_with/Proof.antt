@@ -3,30 +3,6 @@ use borrow.Author.Needs.{needs}
 use Rattle.tally.proofs.count.report_with.Statement.{statement}
 use Rattle.tally.proofs.count.report_with.Tie as tie
 
-marks-of-requires : tie.Need-marks-of-requires
-marks-of-requires c κs = search needs
-
-is-first-requires : tie.Need-is-first-requires
-is-first-requires c κs = search needs
-
-is-of-requires : tie.Need-is-of-requires
-is-of-requires c κs = search needs
-
-costs-of-requires : tie.Need-costs-of-requires
-costs-of-requires c κs = search needs
-
-is-of-requires-2 : tie.Need-is-of-requires-2
-is-of-requires-2 c κs = search needs
-
-costs-of-requires-2 : tie.Need-costs-of-requires-2
-costs-of-requires-2 c κs = search needs
-
-is-of-requires-3 : tie.Need-is-of-requires-3
-is-of-requires-3 c κs = search needs
-
-costs-of-requires-3 : tie.Need-costs-of-requires-3
-costs-of-requires-3 c κs = search needs
-
 returns : tie.Need-returns
 unfolding reportWith
 returns c =
@@ -44,13 +20,5 @@ returns c =
 pub report-with-spec : {M : Type 1} → statement M
 report-with-spec =
     tie.close
-    (tie.spec
-    marks-of-requires
-    is-first-requires
-    is-of-requires
-    costs-of-requires
-    is-of-requires-2
-    costs-of-requires-2
-    is-of-requires-3
-    costs-of-requires-3
-    returns)
+    (tie.spec (λ c κs. search needs) (λ c κs. search needs) (λ c κs. search needs) (λ c κs. search needs)
+    (λ c κs. search needs) (λ c κs. search needs) (λ c κs. search needs) (λ c κs. search needs) returns)

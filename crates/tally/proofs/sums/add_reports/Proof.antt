@@ -4,9 +4,6 @@ use borrow.Author.Needs.{needs}
 use Rattle.tally.proofs.sums.add_reports.Statement.{statement}
 use Rattle.tally.proofs.sums.add_reports.Tie as tie
 
-reports-fit-requires : tie.Need-reports-fit-requires
-reports-fit-requires c κs = search needs
-
 returns : tie.Need-returns
 returns c = rw (← (c .before .reports-fit .ensures), not-true (c .before .reports-fit .result) (c .if1 .taken))
 
@@ -39,10 +36,4 @@ returns-2 c =
 pub add-reports-spec : {M : Type 1} → statement M
 add-reports-spec =
     tie.close
-    (tie.spec
-    reports-fit-requires
-    returns
-    add-costs-requires
-    add-costs-requires-2
-    add-costs-requires-3
-    returns-2)
+    (tie.spec (λ c κs. search needs) returns add-costs-requires add-costs-requires-2 add-costs-requires-3 returns-2)

@@ -3,11 +3,8 @@ use borrow.Author.Needs.{needs}
 use Rattle.tally.proofs.sums.fit.Statement.{statement}
 use Rattle.tally.proofs.sums.fit.Tie as tie
 
-sub-result : tie.Need-sub-result
-sub-result c = search needs
-
 returns : tie.Need-returns
 returns c = fit-is (c .args .a) (c .args .b) (search needs)
 
 pub fit-spec : {M : Type 1} → statement M
-fit-spec = tie.close (tie.spec sub-result returns)
+fit-spec = tie.close (tie.spec (λ c. search needs) returns)

@@ -34,17 +34,8 @@ returns c =
     let h : l .i < length (rangesOf (c .before .before .before .before .before)) = omega (arith, size (c .before .before .before .before .before)) in
     sym (l .inv .1 ∙ begins-short (rangesOf (c .before .before .before .before .before)) _ (l .i) h (c .if1 .taken))
 
-mul-is-within : tie.Need-mul-is-within Inv-loop μ-loop
-mul-is-within c = search needs
-
 array-copy-out-is-within : tie.Need-array-copy-out-is-within Inv-loop μ-loop
 array-copy-out-is-within c = omega (arith, c .before .before .before .before .before .pre .1)
-
-shared-slice-read-is-within : tie.Need-shared-slice-read-is-within Inv-loop μ-loop
-shared-slice-read-is-within c = search needs
-
-is-within-requires : tie.Need-is-within-requires Inv-loop μ-loop
-is-within-requires c κs = search needs
 
 returns-2 : tie.Need-returns-2 Inv-loop μ-loop
 returns-2 c =
@@ -52,12 +43,6 @@ returns-2 c =
     let l = c .before .before .before .before .before .before .loop in
     let h : l .i < length (rangesOf s) = omega (arith, size s) in
     sym (l .inv .1 ∙ begins-not (rangesOf s) _ (l .i) h (c .before .before .before .before .if1 .left) (rw (getD-take (s .args .row .0) (s .args .row .1) (l .i) noRange (c .before .before .before .before .before .loop-test .taken)) (sym (c .before .is-within .ensures) ∙ not-true _ (c .if2 .taken))))
-
-add-i : tie.Need-add-i Inv-loop μ-loop
-add-i c = search needs
-
-loop-less : tie.Need-loop-less Inv-loop μ-loop
-loop-less c = search needs
 
 loop-again : tie.Need-loop-again Inv-loop μ-loop
 loop-again c =
@@ -76,17 +61,5 @@ returns-3 c =
 pub begins-with-spec : {M : Type 1} → statement M
 begins-with-spec =
     tie.close
-    (tie.spec
-    Inv-loop
-    μ-loop
-    loop-holds
-    returns
-    mul-is-within
-    array-copy-out-is-within
-    shared-slice-read-is-within
-    is-within-requires
-    returns-2
-    add-i
-    loop-less
-    loop-again
-    returns-3)
+    (tie.spec Inv-loop μ-loop loop-holds returns (λ c. search needs) array-copy-out-is-within (λ c. search needs)
+    (λ c κs. search needs) returns-2 (λ c. search needs) (λ c. search needs) loop-again returns-3)

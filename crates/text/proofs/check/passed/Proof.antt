@@ -5,39 +5,6 @@ use borrow.Author.Needs.{needs}
 use Rattle.text.proofs.check.passed.Statement.{statement}
 use Rattle.text.proofs.check.passed.Tie as tie
 
-shared-slice-read-if1 : tie.Need-shared-slice-read-if1
-shared-slice-read-if1 c = search needs
-
-add-next : tie.Need-add-next
-add-next c = search needs
-
-sub-clear-run : tie.Need-sub-clear-run
-sub-clear-run c = search needs
-
-part-clear-run-start : tie.Need-part-clear-run-start
-part-clear-run-start c = search needs
-
-part-clear-run-end : tie.Need-part-clear-run-end
-part-clear-run-end c = search needs
-
-clear-run-requires : tie.Need-clear-run-requires
-clear-run-requires c κs = search needs
-
-add-result : tie.Need-add-result
-add-result c = search needs
-
-sub-sequence-len : tie.Need-sub-sequence-len
-sub-sequence-len c = search needs
-
-part-sequence-len-start : tie.Need-part-sequence-len-start
-part-sequence-len-start c = search needs
-
-part-sequence-len-end : tie.Need-part-sequence-len-end
-part-sequence-len-end c = search needs
-
-sequence-len-requires : tie.Need-sequence-len-requires
-sequence-len-requires c κs = search needs
-
 returns : tie.Need-returns
 returns c =
     let s = c .before .before .before .before .before in
@@ -51,17 +18,6 @@ returns-2 c =
 pub passed-spec : {M : Type 1} → statement M
 passed-spec =
     tie.close
-    (tie.spec
-    shared-slice-read-if1
-    add-next
-    sub-clear-run
-    part-clear-run-start
-    part-clear-run-end
-    clear-run-requires
-    add-result
-    sub-sequence-len
-    part-sequence-len-start
-    part-sequence-len-end
-    sequence-len-requires
-    returns
-    returns-2)
+    (tie.spec (λ c. search needs) (λ c. search needs) (λ c. search needs) (λ c. search needs) (λ c. search needs)
+    (λ c κs. search needs) (λ c. search needs) (λ c. search needs) (λ c. search needs) (λ c. search needs)
+    (λ c κs. search needs) returns returns-2)

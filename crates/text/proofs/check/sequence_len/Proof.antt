@@ -11,12 +11,6 @@ use Rattle.text.proofs.Sequences.{row-at-most, row-padded, sequence-by}
 use Rattle.text.proofs.check.sequence_len.Statement.{statement}
 use Rattle.text.proofs.check.sequence_len.Tie as tie
 
-byte-at-requires : tie.Need-byte-at-requires
-byte-at-requires c κs = search needs
-
-row-of-requires : tie.Need-row-of-requires
-row-of-requires c κs = search needs
-
 begins-with-requires : tie.Need-begins-with-requires
 begins-with-requires c κs =
     let r = c .row-of in
@@ -36,4 +30,5 @@ returns-2 c = rw (c .if1 .left) at (by (c .before))
 
 pub sequence-len-spec : {M : Type 1} → statement M
 sequence-len-spec =
-    tie.close (tie.spec byte-at-requires row-of-requires begins-with-requires returns returns-2)
+    tie.close
+    (tie.spec (λ c κs. search needs) (λ c κs. search needs) begins-with-requires returns returns-2)

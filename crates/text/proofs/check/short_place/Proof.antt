@@ -4,9 +4,6 @@ use Rattle.text.proofs.Places.{place-start, place-whole}
 use Rattle.text.proofs.check.short_place.Statement.{statement}
 use Rattle.text.proofs.check.short_place.Tie as tie
 
-clear-run-requires : tie.Need-clear-run-requires
-clear-run-requires c κs = search needs
-
 returns : tie.Need-returns
 returns c =
     let b = c .before .before in
@@ -17,8 +14,5 @@ place-from-requires c κs =
     let b = c .before .before in
     place-start (now (b .before .args .string)) (c .before .clear-run .result) (λ i. b .shared-slice-known .given i .fits) (c .before .clear-run .ensures)
 
-returns-2 : tie.Need-returns-2
-returns-2 c = search needs
-
 pub short-place-spec : {M : Type 1} → statement M
-short-place-spec = tie.close (tie.spec clear-run-requires returns place-from-requires returns-2)
+short-place-spec = tie.close (tie.spec (λ c κs. search needs) returns place-from-requires (λ c. search needs))

@@ -3,12 +3,9 @@ use borrow.Author.Needs.{needs}
 use Rattle.text.proofs.table.is_within.Statement.{statement}
 use Rattle.text.proofs.table.is_within.Tie as tie
 
-both-requires : tie.Need-both-requires
-both-requires c κs = search needs
-
 returns : tie.Need-returns
 unfolding within
 returns c = c .both .ensures
 
 pub is-within-spec : {M : Type 1} → statement M
-is-within-spec = tie.close (tie.spec both-requires returns)
+is-within-spec = tie.close (tie.spec (λ c κs. search needs) returns)

@@ -29,24 +29,9 @@ leads : (rows : List Row) (i lead : ℕ) (b : Bool) → rows ≡ map padded tabl
     → within (first (getD table i [])) lead ≡ b
 leads rows i lead b e h w = rw (row-at rows i e h, first-padded (getD table i [])) at w
 
-all-rows-requires : tie.Need-all-rows-requires Inv-loop μ-loop
-all-rows-requires c κs = search needs
-
 loop-holds : tie.Need-loop-holds Inv-loop μ-loop
 unfolding rowOf
 loop-holds c = (search needs, refl)
-
-mul-row : tie.Need-mul-row Inv-loop μ-loop
-mul-row c = search needs
-
-array-copy-out-row : tie.Need-array-copy-out-row Inv-loop μ-loop
-array-copy-out-row c = search needs
-
-array-copy-out-is-within : tie.Need-array-copy-out-is-within Inv-loop μ-loop
-array-copy-out-is-within c = search needs
-
-is-within-requires : tie.Need-is-within-requires Inv-loop μ-loop
-is-within-requires c κs = search needs
 
 returns : tie.Need-returns Inv-loop μ-loop
 returns c =
@@ -57,12 +42,6 @@ returns c =
     let e = l .inv .1 ∙ row-here (a .lead) (l .i) (c .before .before .before .before .before .loop-test .taken) w in
     let k : getD (r .result) (l .i) (0, []) ≡ padded (rowOf (a .lead)) = row-at (r .result) (l .i) (r .ensures) (c .before .before .before .before .before .loop-test .taken) ∙ ap padded (sym e) in
     (k, subst (λ (x : Row). x .0 ≤ 4) (sym k) (row-at-most (a .lead)))
-
-add-i : tie.Need-add-i Inv-loop μ-loop
-add-i c = search needs
-
-loop-less : tie.Need-loop-less Inv-loop μ-loop
-loop-less c = search needs
 
 loop-again : tie.Need-loop-again Inv-loop μ-loop
 loop-again c =
@@ -81,17 +60,5 @@ returns-2 c =
 pub row-of-spec : {M : Type 1} → statement M
 row-of-spec =
     tie.close
-    (tie.spec
-    Inv-loop
-    μ-loop
-    all-rows-requires
-    loop-holds
-    mul-row
-    array-copy-out-row
-    array-copy-out-is-within
-    is-within-requires
-    returns
-    add-i
-    loop-less
-    loop-again
-    returns-2)
+    (tie.spec Inv-loop μ-loop (λ c κs. search needs) loop-holds (λ c. search needs) (λ c. search needs)
+    (λ c. search needs) (λ c κs. search needs) returns (λ c. search needs) (λ c. search needs) loop-again returns-2)

@@ -3,15 +3,6 @@ use borrow.Author.Tests.{eq-eqb, ne-eqb}
 use Rattle.text_writer.proofs.TextFault.or_text.Statement.{statement}
 use Rattle.text_writer.proofs.TextFault.or_text.Tie as tie
 
-enum-known-self : tie.Need-enum-known-self
-enum-known-self c = search needs
-
-enum-told : tie.Need-enum-told
-enum-told c = search needs
-
-bad-place-requires : tie.Need-bad-place-requires
-bad-place-requires c κs = search needs
-
 returns : tie.Need-returns
 returns c = rw (c .before .before .enum-told .given .1, ← (c .before .bad-place .ensures), eq-eqb _ _ (c .if1 .taken))
 
@@ -23,4 +14,5 @@ returns-3 c = rw (c .before .before .enum-told .given .1, ← (c .before .bad-pl
 
 pub or-text-spec : {M : Type 1} → statement M
 or-text-spec =
-    tie.close (tie.spec enum-known-self enum-told bad-place-requires returns returns-2 returns-3)
+    tie.close
+    (tie.spec (λ c. search needs) (λ c. search needs) (λ c κs. search needs) returns returns-2 returns-3)

@@ -2,12 +2,6 @@ use borrow.Author.Needs.{needs}
 use Rattle.text_writer.proofs.TextWrote.of.Statement.{statement}
 use Rattle.text_writer.proofs.TextWrote.of.Tie as tie
 
-enum-known-wrote : tie.Need-enum-known-wrote
-enum-known-wrote c = search needs
-
-enum-known-wrote-2 : tie.Need-enum-known-wrote-2
-enum-known-wrote-2 c = search needs
-
 returns : tie.Need-returns
 returns c = rw (c .before .wrote .given .1)
 
@@ -15,4 +9,4 @@ returns-2 : tie.Need-returns-2
 returns-2 c = rw (c .before .wrote2 .given .1)
 
 pub of-spec : {M : Type 1} → statement M
-of-spec = tie.close (tie.spec enum-known-wrote enum-known-wrote-2 returns returns-2)
+of-spec = tie.close (tie.spec (λ c. search needs) (λ c. search needs) returns returns-2)

@@ -11,18 +11,9 @@ use Rattle.walk.proofs.reader.judge.Tie as tie
 tested : {a b d v : Bool} (other : Bool) → a ≡ b → d ≡ (a && other) → d ≡ v → (b && other) ≡ v
 tested other e f g = sym (f ∙ ap (λ x. x && other) e) ∙ g
 
-fits-role-requires : tie.Need-fits-role-requires
-fits-role-requires c κs = search needs
-
 returns : tie.Need-returns
 unfolding judged
 returns c = rw (sym (ap not (c .before .fits-role .ensures)) ∙ c .if1 .taken)
-
-is-member-requires : tie.Need-is-member-requires
-is-member-requires c κs = search needs
-
-both-requires : tie.Need-both-requires
-both-requires c κs = search needs
 
 returns-2 : tie.Need-returns-2
 unfolding judged
@@ -32,12 +23,6 @@ returns-2 c =
       sym (ap not (c .before .before .before .before .fits-role .ensures)) ∙ c .before .before .before .if1 .left,
       tested (not (eqb (a .member) 0)) (c .before .before .is-member .ensures) (c .before .both .ensures) (c .if2 .taken),
     )
-
-is-repeated-requires : tie.Need-is-repeated-requires
-is-repeated-requires c κs = search needs
-
-both-requires-2 : tie.Need-both-requires-2
-both-requires-2 c κs = search needs
 
 returns-3 : tie.Need-returns-3
 unfolding judged
@@ -62,4 +47,5 @@ returns-4 c =
 pub judge-spec : {M : Type 1} → statement M
 judge-spec =
     tie.close
-    (tie.spec fits-role-requires returns is-member-requires both-requires returns-2 is-repeated-requires both-requires-2 returns-3 returns-4)
+    (tie.spec (λ c κs. search needs) returns (λ c κs. search needs) (λ c κs. search needs) returns-2
+    (λ c κs. search needs) (λ c κs. search needs) returns-3 returns-4)

@@ -4,18 +4,10 @@ use borrow.Author.Needs.{needs}
 use Rattle.walk.proofs.reader.keep_packed.Statement.{statement}
 use Rattle.walk.proofs.reader.keep_packed.Tie as tie
 
-add-end : tie.Need-add-end
-add-end c = search needs
-
 slice-aggregate-read-packed : tie.Need-slice-aggregate-read-packed
 slice-aggregate-read-packed c = sym (length-take-le _ (c .before .before .before .args .message .now) (c .before .before .before .pre))
 
-read-packed-requires : tie.Need-read-packed-requires
-read-packed-requires c κs = search needs
-
-returns : tie.Need-returns
-returns c = search needs
-
 pub keep-packed-spec : {M : Type 1} → statement M
 keep-packed-spec =
-    tie.close (tie.spec add-end slice-aggregate-read-packed read-packed-requires returns)
+    tie.close
+    (tie.spec (λ c. search needs) slice-aggregate-read-packed (λ c κs. search needs) (λ c. search needs))

@@ -7,18 +7,6 @@ use borrow.Author.Needs.{needs}
 use Rattle.walk.proofs.reader.read_entry.Statement.{statement}
 use Rattle.walk.proofs.reader.read_entry.Tie as tie
 
-read-varint-requires : tie.Need-read-varint-requires
-read-varint-requires c κs = search needs
-
-enum-known-e : tie.Need-enum-known-e
-enum-known-e c = search needs
-
-enum-known-value : tie.Need-enum-known-value
-enum-known-value c = search needs
-
-with-transport-requires : tie.Need-with-transport-requires
-with-transport-requires c κs = search needs
-
 returns : tie.Need-returns
 unfolding entryAt
 returns c = rw (sym (c .before .before .before .read-varint .ensures) ∙ ap toldVarint (c .before .e .given .1))
@@ -33,10 +21,4 @@ returns-2 c =
 pub read-entry-spec : {M : Type 1} → statement M
 read-entry-spec =
     tie.close
-    (tie.spec
-    read-varint-requires
-    enum-known-e
-    enum-known-value
-    with-transport-requires
-    returns
-    returns-2)
+    (tie.spec (λ c κs. search needs) (λ c. search needs) (λ c. search needs) (λ c κs. search needs) returns returns-2)

@@ -6,30 +6,6 @@ use borrow.Author.Needs.{needs}
 use Rattle.walk.proofs.reader.read_field.Statement.{statement}
 use Rattle.walk.proofs.reader.read_field.Tie as tie
 
-read-tag-requires : tie.Need-read-tag-requires
-read-tag-requires c κs = search needs
-
-enum-known-e : tie.Need-enum-known-e
-enum-known-e c = search needs
-
-enum-known-head : tie.Need-enum-known-head
-enum-known-head c = search needs
-
-role-of-requires : tie.Need-role-of-requires
-role-of-requires c κs = search needs
-
-judge-requires : tie.Need-judge-requires
-judge-requires c κs = search needs
-
-enum-known-e-2 : tie.Need-enum-known-e-2
-enum-known-e-2 c = search needs
-
-enum-told : tie.Need-enum-told
-enum-told c = search needs
-
-take-value-requires : tie.Need-take-value-requires
-take-value-requires c κs = search needs
-
 returns : tie.Need-returns
 unfolding readAt
 returns c = rw (sym (c .before .before .before .read-tag .ensures) ∙ ap toldTag (c .before .e .given .1))
@@ -54,15 +30,5 @@ returns-3 c =
 pub read-field-spec : {M : Type 1} → statement M
 read-field-spec =
     tie.close
-    (tie.spec
-    read-tag-requires
-    enum-known-e
-    enum-known-head
-    role-of-requires
-    judge-requires
-    enum-known-e-2
-    enum-told
-    take-value-requires
-    returns
-    returns-2
-    returns-3)
+    (tie.spec (λ c κs. search needs) (λ c. search needs) (λ c. search needs) (λ c κs. search needs)
+    (λ c κs. search needs) (λ c. search needs) (λ c. search needs) (λ c κs. search needs) returns returns-2 returns-3)

@@ -28,9 +28,6 @@ Inv-loop schema message from so-far₀ at₀ so-far at = Walks (fieldAt schema) 
 abbrev μ-loop : tie.MeasureT-loop
 μ-loop schema message from so-far₀ at₀ so-far at = length message - at
 
-nothing-requires : tie.Need-nothing-requires Inv-loop μ-loop
-nothing-requires c κs = search needs
-
 loop-holds : tie.Need-loop-holds Inv-loop μ-loop
 unfolding fieldsFrom
 loop-holds c =
@@ -48,24 +45,12 @@ halted c n e =
     let l = c .before .loop in
     l .inv .same ∙ walk-stop (fieldAt (c .before .before .before .before .args .schema)) _ (l .at) (l .so-far) (c .loop-test .taken) (l .inv .fuel) (l .inv .enough) n e
 
-read-field-requires : tie.Need-read-field-requires Inv-loop μ-loop
-read-field-requires c κs = search needs
-
-enum-known-e : tie.Need-enum-known-e Inv-loop μ-loop
-enum-known-e c = search needs
-
-stop-requires : tie.Need-stop-requires Inv-loop μ-loop
-stop-requires c κs = search needs
-
 returns : tie.Need-returns Inv-loop μ-loop
 returns c =
     let a = c .before .before .before .before .before .before .before .before .before .args in
     let l = c .before .before .before .before .before .before .loop in
     ap toldKept (c .stop .ensures)
     ∙ sym (halted (c .before .before .before .before .before) _ (field-by (a .schema) _ (l .at) (l .so-far) (sym (c .before .before .before .before .read-field .ensures) ∙ ap toldField (c .before .before .e .given .1))))
-
-enum-known-added : tie.Need-enum-known-added Inv-loop μ-loop
-enum-known-added c = search needs
 
 -- the field of a turn: where it stands, what was gathered before it, what it adds, and where it ends
 module _ (c : tie.After-known-told2 Inv-loop μ-loop) where
@@ -105,23 +90,8 @@ module _ (c : tie.After-known-told2 Inv-loop μ-loop) where
       let w = went e w in
       (walks-next (fieldAt schema) (field-forward schema) (g, next) (c .before .before .before .before .before .loop .inv) inside w, omega (arith, inside, field-forward schema message at so-far (g, next) w))
 
-enum-told : tie.Need-enum-told Inv-loop μ-loop
-enum-told c = search needs
-
-enum-known-added-2 : tie.Need-enum-known-added-2 Inv-loop μ-loop
-enum-known-added-2 c = search needs
-
-with-scalar-requires : tie.Need-with-scalar-requires Inv-loop μ-loop
-with-scalar-requires c κs = search needs
-
-enum-known-added-3 : tie.Need-enum-known-added-3 Inv-loop μ-loop
-enum-known-added-3 c = search needs
-
 text-place-requires : tie.Need-text-place-requires Inv-loop μ-loop
 text-place-requires c κs = held (c .before .before .before) (c .before .added3 .given .1)
-
-stop-text-requires : tie.Need-stop-text-requires Inv-loop μ-loop
-stop-text-requires c κs = search needs
 
 returns-2 : tie.Need-returns-2 Inv-loop μ-loop
 returns-2 c =
@@ -129,46 +99,16 @@ returns-2 c =
     ap toldKept (c .stop-text .ensures)
     ∙ sym (halted (c .before .before .before .before .before .before .before .before .before .before .before) _ (went (c .before .before .before .before .before .before .before) e (string-refused _ _ _ _ _ _ (held (c .before .before .before .before .before .before .before) e) (c .before .before .before .text-place .ensures) (c .before .if1 .taken))))
 
-with-text-requires : tie.Need-with-text-requires Inv-loop μ-loop
-with-text-requires c κs = search needs
-
-enum-known-added-4 : tie.Need-enum-known-added-4 Inv-loop μ-loop
-enum-known-added-4 c = search needs
-
-with-member-requires : tie.Need-with-member-requires Inv-loop μ-loop
-with-member-requires c κs = search needs
-
-enum-told-2 : tie.Need-enum-told-2 Inv-loop μ-loop
-enum-told-2 c = search needs
-
 with-repeated-requires : tie.Need-with-repeated-requires Inv-loop μ-loop
 with-repeated-requires c κs =
     let a = c .before .before .before .before .before .before .before .before .before .before .args in
     let l = c .before .before .before .before .before .before .before .loop in
     repeated-room (a .schema) _ (l .at) (l .so-far .field) (l .so-far .count) _ (read (c .before .before) (c .enum-told2 .given .1))
 
-enum-known-added-5 : tie.Need-enum-known-added-5 Inv-loop μ-loop
-enum-known-added-5 c = search needs
-
-with-transport-requires : tie.Need-with-transport-requires Inv-loop μ-loop
-with-transport-requires c κs = search needs
-
-enum-known-verdict : tie.Need-enum-known-verdict Inv-loop μ-loop
-enum-known-verdict c = search needs
-
-stop-requires-2 : tie.Need-stop-requires-2 Inv-loop μ-loop
-stop-requires-2 c κs = search needs
-
 returns-3 : tie.Need-returns-3 Inv-loop μ-loop
 returns-3 c =
     ap toldKept (c .stop2 .ensures)
     ∙ sym (halted (c .before .before .before .before .before .before .before .before .before .before .before .before .before) _ (went (c .before .before .before .before .before .before .before .before .before) (c .before .before .before .before .before .before .before .added5 .given .1) (grown-told (c .before .before .before .before .before .with-transport .result) (c .before .before .before .before .before .with-transport .ensures) (c .before .before .verdict .given .1))))
-
-enum-told-3 : tie.Need-enum-told-3 Inv-loop μ-loop
-enum-told-3 c = search needs
-
-enum-known-added-6 : tie.Need-enum-known-added-6 Inv-loop μ-loop
-enum-known-added-6 c = search needs
 
 keep-packed-requires : tie.Need-keep-packed-requires Inv-loop μ-loop
 keep-packed-requires c κs =
@@ -176,19 +116,10 @@ keep-packed-requires c κs =
     let l = c .before .before .before .before .before .before .before .before .loop in
     packed-within (a .schema) _ (l .at) (l .so-far .field) (l .so-far .count) _ _ (read (c .before .before .before) (c .before .added6 .given .1))
 
-enum-known-verdict-2 : tie.Need-enum-known-verdict-2 Inv-loop μ-loop
-enum-known-verdict-2 c = search needs
-
-stop-requires-3 : tie.Need-stop-requires-3 Inv-loop μ-loop
-stop-requires-3 c κs = search needs
-
 returns-4 : tie.Need-returns-4 Inv-loop μ-loop
 returns-4 c =
     ap toldKept (c .stop3 .ensures)
     ∙ sym (halted (c .before .before .before .before .before .before .before .before .before .before .before .before .before) _ (went (c .before .before .before .before .before .before .before .before .before) (c .before .before .before .before .before .before .before .added6 .given .1) (grown-told (c .before .before .before .before .before .keep-packed .result) (c .before .before .before .before .before .keep-packed .ensures) (c .before .before .verdict2 .given .1))))
-
-enum-told-4 : tie.Need-enum-told-4 Inv-loop μ-loop
-enum-told-4 c = search needs
 
 loop-less : tie.Need-loop-less Inv-loop μ-loop
 loop-less c = turn (c .before .before) (c .enum-told .given .1) _ refl .1
@@ -239,9 +170,6 @@ loop-less-7 c = turn (c .before .before .before .before .before .before .before)
 loop-again-7 : tie.Need-loop-again-7 Inv-loop μ-loop
 loop-again-7 c = turn (c .before .before .before .before .before .before .before) (c .before .before .before .before .before .added6 .given .1) _ (grown-told (c .before .before .before .keep-packed .result) (c .before .before .before .keep-packed .ensures) (c .enum-told4 .given .1)) .0
 
-fine-requires : tie.Need-fine-requires Inv-loop μ-loop
-fine-requires c κs = search needs
-
 returns-5 : tie.Need-returns-5 Inv-loop μ-loop
 returns-5 c =
     let l = c .before .before .loop in
@@ -250,53 +178,11 @@ returns-5 c =
 pub read-fields-spec : {M : Type 1} → statement M
 read-fields-spec =
     tie.close
-    (tie.spec
-    Inv-loop
-    μ-loop
-    nothing-requires
-    loop-holds
-    read-field-requires
-    enum-known-e
-    stop-requires
-    returns
-    enum-known-added
-    enum-told
-    enum-known-added-2
-    with-scalar-requires
-    enum-known-added-3
-    text-place-requires
-    stop-text-requires
-    returns-2
-    with-text-requires
-    enum-known-added-4
-    with-member-requires
-    enum-told-2
-    with-repeated-requires
-    enum-known-added-5
-    with-transport-requires
-    enum-known-verdict
-    stop-requires-2
-    returns-3
-    enum-told-3
-    enum-known-added-6
-    keep-packed-requires
-    enum-known-verdict-2
-    stop-requires-3
-    returns-4
-    enum-told-4
-    loop-less
-    loop-again
-    loop-less-2
-    loop-again-2
-    loop-less-3
-    loop-again-3
-    loop-less-4
-    loop-again-4
-    loop-less-5
-    loop-again-5
-    loop-less-6
-    loop-again-6
-    loop-less-7
-    loop-again-7
-    fine-requires
-    returns-5)
+    (tie.spec Inv-loop μ-loop (λ c κs. search needs) loop-holds (λ c κs. search needs) (λ c. search needs)
+    (λ c κs. search needs) returns (λ c. search needs) (λ c. search needs) (λ c. search needs) (λ c κs. search needs)
+    (λ c. search needs) text-place-requires (λ c κs. search needs) returns-2 (λ c κs. search needs)
+    (λ c. search needs) (λ c κs. search needs) (λ c. search needs) with-repeated-requires (λ c. search needs)
+    (λ c κs. search needs) (λ c. search needs) (λ c κs. search needs) returns-3 (λ c. search needs)
+    (λ c. search needs) keep-packed-requires (λ c. search needs) (λ c κs. search needs) returns-4 (λ c. search needs)
+    loop-less loop-again loop-less-2 loop-again-2 loop-less-3 loop-again-3 loop-less-4 loop-again-4 loop-less-5
+    loop-again-5 loop-less-6 loop-again-6 loop-less-7 loop-again-7 (λ c κs. search needs) returns-5)

@@ -22,21 +22,12 @@ loop-holds : tie.Need-loop-holds Inv-loop μ-loop
 unfolding packedFrom
 loop-holds c = record { fuel = length (c .before .args .message .now); enough = omega arith; same = refl }
 
-read-entry-requires : tie.Need-read-entry-requires Inv-loop μ-loop
-read-entry-requires c κs = search needs
-
-enum-known-verdict : tie.Need-enum-known-verdict Inv-loop μ-loop
-enum-known-verdict c = search needs
-
 returns : tie.Need-returns Inv-loop μ-loop
 returns c =
     let l = c .before .before .before .before .before .loop in
     let k = c .before .before .before .read-entry in
     sym (l .inv .same ∙ walk-stop entryAt _ (l .at) (l .so-far) (c .before .before .before .before .loop-test .taken) (l .inv .fuel) (l .inv .enough) _
     (sym (k .ensures) ∙ ap (λ j. fieldJudged j (k .result .gathered, k .result .next)) (c .before .verdict .given .1)))
-
-enum-told : tie.Need-enum-told Inv-loop μ-loop
-enum-told c = search needs
 
 -- what the turn's entry gave
 went : (c : tie.After-enum-told Inv-loop μ-loop) → entryAt (now (c .before .before .before .before .before .before .args .message)) (c .before .before .before .before .loop .at) (c .before .before .before .before .loop .so-far) ≡ given (c .before .before .read-entry .result .gathered, c .before .before .read-entry .result .next)
@@ -60,14 +51,5 @@ returns-2 c =
 pub read-packed-spec : {M : Type 1} → statement M
 read-packed-spec =
     tie.close
-    (tie.spec
-    Inv-loop
-    μ-loop
-    loop-holds
-    read-entry-requires
-    enum-known-verdict
-    returns
-    enum-told
-    loop-less
-    loop-again
-    returns-2)
+    (tie.spec Inv-loop μ-loop loop-holds (λ c κs. search needs) (λ c. search needs) returns (λ c. search needs)
+    loop-less loop-again returns-2)

@@ -6,18 +6,6 @@ use borrow.Author.Needs.{needs}
 use Rattle.walk.proofs.reader.take_value.Statement.{statement}
 use Rattle.walk.proofs.reader.take_value.Tie as tie
 
-read-value-requires : tie.Need-read-value-requires
-read-value-requires c κs = search needs
-
-enum-known-e : tie.Need-enum-known-e
-enum-known-e c = search needs
-
-enum-known-value : tie.Need-enum-known-value
-enum-known-value c = search needs
-
-value-added-requires : tie.Need-value-added-requires
-value-added-requires c κs = search needs
-
 returns : tie.Need-returns
 unfolding addedAt
 returns c = rw (sym (c .before .before .before .read-value .ensures .0) ∙ ap toldValue (c .before .e .given .1))
@@ -31,10 +19,4 @@ returns-2 c =
 pub take-value-spec : {M : Type 1} → statement M
 take-value-spec =
     tie.close
-    (tie.spec
-    read-value-requires
-    enum-known-e
-    enum-known-value
-    value-added-requires
-    returns
-    returns-2)
+    (tie.spec (λ c κs. search needs) (λ c. search needs) (λ c. search needs) (λ c κs. search needs) returns returns-2)

@@ -9,9 +9,6 @@ returns : tie.Need-returns
 unfolding endOf
 returns c = simp (lt-ltb _ _ (c .if1 .taken))
 
-is-checked-requires : tie.Need-is-checked-requires
-is-checked-requires c κs = search needs
-
 returns-2 : tie.Need-returns-2
 unfolding endOf
 returns-2 c = simp (le-ltb _ _ (c .before .before .if1 .left), sym (c .before .is-checked .ensures) ∙ c .if2 .taken)
@@ -21,4 +18,4 @@ unfolding endOf
 returns-3 c = simp (le-ltb _ _ (c .before .before .if1 .left), sym (c .before .is-checked .ensures) ∙ c .if2 .left)
 
 pub end-spec : {M : Type 1} → statement M
-end-spec = tie.close (tie.spec returns is-checked-requires returns-2 returns-3)
+end-spec = tie.close (tie.spec returns (λ c κs. search needs) returns-2 returns-3)

@@ -4,15 +4,6 @@ use borrow.Author.Needs.{needs}
 use Rattle.extractor.proofs.state.Progress.is_lawful.Statement.{statement}
 use Rattle.extractor.proofs.state.Progress.is_lawful.Tie as tie
 
-sequence-read-requires : tie.Need-sequence-read-requires
-sequence-read-requires c κs = search needs
-
-lawful-after-requires : tie.Need-lawful-after-requires
-lawful-after-requires c κs = search needs
-
-lawful-before-requires : tie.Need-lawful-before-requires
-lawful-before-requires c κs = search needs
-
 returns : tie.Need-returns
 unfolding lawful
 returns c = rw (sym (c .before .before .sequence-read .ensures) ∙ c .before .if1 .taken) (c .lawful-after .ensures)
@@ -24,9 +15,4 @@ returns-2 c = rw (sym (c .before .before .sequence-read .ensures) ∙ c .before 
 pub is-lawful-spec : {M : Type 1} → statement M
 is-lawful-spec =
     tie.close
-    (tie.spec
-    sequence-read-requires
-    lawful-after-requires
-    lawful-before-requires
-    returns
-    returns-2)
+    (tie.spec (λ c κs. search needs) (λ c κs. search needs) (λ c κs. search needs) returns returns-2)

@@ -7,9 +7,6 @@ use Rattle.extractor.specs.State.{ready}
 use Rattle.extractor.proofs.state.Progress.is_ready.Statement.{statement}
 use Rattle.extractor.proofs.state.Progress.is_ready.Tie as tie
 
-limit-fits-requires : tie.Need-limit-fits-requires
-limit-fits-requires c κs = search needs
-
 -- past the test the limit is small
 small : (c : tie.Then1) → c .before .before .args .limit ≤ 65535
 small c = limit-range (c .before .before .args .limit) (sym (c .before .limit-fits .ensures) ∙ c .if1 .taken) .1
@@ -19,9 +16,6 @@ add-both c = omega (arith, small c)
 
 is-lawful-requires : tie.Need-is-lawful-requires
 is-lawful-requires c κs = small c
-
-both-requires : tie.Need-both-requires
-both-requires c κs = search needs
 
 returns : tie.Need-returns
 unfolding ready
@@ -36,4 +30,4 @@ returns-2 c = rw (sym (c .before .limit-fits .ensures) ∙ c .if1 .left)
 pub is-ready-spec : {M : Type 1} → statement M
 is-ready-spec =
     tie.close
-    (tie.spec limit-fits-requires add-both is-lawful-requires both-requires returns returns-2)
+    (tie.spec (λ c κs. search needs) add-both is-lawful-requires (λ c κs. search needs) returns returns-2)

@@ -5,19 +5,10 @@ use borrow.Author.Needs.{needs}
 use Rattle.extractor.proofs.state.Progress.take.Statement.{statement}
 use Rattle.extractor.proofs.state.Progress.take.Tie as tie
 
-is-ready-requires : tie.Need-is-ready-requires
-is-ready-requires c κs = search needs
-
 advance-requires : tie.Need-advance-requires
 advance-requires c κs =
     let fits = ready-fits {l = c .before .before .before .before .args .buffer .now} (sym (c .before .before .is-ready .ensures) ∙ c .before .if1 .taken) in
     omega (arith, fits .room, fits .size)
-
-refuse-requires : tie.Need-refuse-requires
-refuse-requires c κs = search needs
-
-same-length : tie.Need-same-length
-same-length c = search needs
 
 returns : tie.Need-returns
 returns c =
@@ -32,4 +23,4 @@ returns-2 c = rw (sym (c .before .before .is-ready .ensures) ∙ c .before .if1 
 pub take-spec : {M : Type 1} → statement M
 take-spec =
     tie.close
-    (tie.spec is-ready-requires advance-requires refuse-requires same-length returns returns-2)
+    (tie.spec (λ c κs. search needs) advance-requires (λ c κs. search needs) (λ c. search needs) returns returns-2)

@@ -3,20 +3,11 @@ use borrow.Author.Needs.{needs}
 use Rattle.field_writer.proofs.message.Room.less.Statement.{statement}
 use Rattle.field_writer.proofs.message.Room.less.Tie as tie
 
-enum-told : tie.Need-enum-told
-enum-told c = search needs
-
-enum-known-self : tie.Need-enum-known-self
-enum-known-self c = search needs
-
 returns : tie.Need-returns
 returns c = rw (c .before .before .self .given .1, lt-ltb _ _ (c .if1 .taken))
-
-returns-2 : tie.Need-returns-2
-returns-2 c = search needs
 
 returns-3 : tie.Need-returns-3
 returns-3 c = rw (c .before .before .self .given .1, le-ltb _ _ (c .if1 .left))
 
 pub less-spec : {M : Type 1} → statement M
-less-spec = tie.close (tie.spec enum-told enum-known-self returns returns-2 returns-3)
+less-spec = tie.close (tie.spec (λ c. search needs) (λ c. search needs) returns (λ c. search needs) returns-3)

@@ -7,12 +7,6 @@ use borrow.Author.Needs.{needs}
 use Rattle.parts.proofs.state.PartProgress.body.Statement.{statement}
 use Rattle.parts.proofs.state.PartProgress.body.Tie as tie
 
-cast-closing : tie.Need-cast-closing
-cast-closing c = search needs
-
-closing-requires : tie.Need-closing-requires
-closing-requires c κs = search needs
-
 returns : tie.Need-returns
 unfolding bodyByte
 returns c = rw (le-ltb _ _ (c .before .before .if1 .taken)) (c .closing .ensures)
@@ -21,15 +15,6 @@ returns-2 : tie.Need-returns-2
 unfolding bodyByte
 returns-2 c = rw (lt-ltb _ _ (c .before .if1 .left), drop-of-length-le _ (c .if2 .taken))
 
-shared-slice-read-b : tie.Need-shared-slice-read-b
-shared-slice-read-b c = search needs
-
-first-requires : tie.Need-first-requires
-first-requires c κs = search needs
-
-took-requires : tie.Need-took-requires
-took-requires c κs = search needs
-
 returns-3 : tie.Need-returns-3
 unfolding bodyByte
 returns-3 c = let k = c .before .before .before in rw (lt-ltb _ _ (k .before .if1 .left), drop-cons {A = ℕ} _ _ 0 (k .if2 .left), c .before .first .ensures, c .took .ensures)
@@ -37,12 +22,5 @@ returns-3 c = let k = c .before .before .before in rw (lt-ltb _ _ (k .before .if
 pub body-spec : {M : Type 1} → statement M
 body-spec =
     tie.close
-    (tie.spec
-    cast-closing
-    closing-requires
-    returns
-    returns-2
-    shared-slice-read-b
-    first-requires
-    took-requires
-    returns-3)
+    (tie.spec (λ c. search needs) (λ c κs. search needs) returns returns-2 (λ c. search needs) (λ c κs. search needs)
+    (λ c κs. search needs) returns-3)

@@ -5,30 +5,6 @@ use borrow.Author.Needs.{needs}
 use Rattle.parts.proofs.state.PartProgress.emit.Statement.{statement}
 use Rattle.parts.proofs.state.PartProgress.emit.Tie as tie
 
-enum-told : tie.Need-enum-told
-enum-told c = search needs
-
-own-requires : tie.Need-own-requires
-own-requires c κs = search needs
-
-enum-told-2 : tie.Need-enum-told-2
-enum-told-2 c = search needs
-
-own-requires-2 : tie.Need-own-requires-2
-own-requires-2 c κs = search needs
-
-enum-told-3 : tie.Need-enum-told-3
-enum-told-3 c = search needs
-
-own-requires-3 : tie.Need-own-requires-3
-own-requires-3 c κs = search needs
-
-enum-told-4 : tie.Need-enum-told-4
-enum-told-4 c = search needs
-
-stage-byte-requires : tie.Need-stage-byte-requires
-stage-byte-requires c κs = search needs
-
 returns : tie.Need-returns
 unfolding byteOf
 returns c = rw (c .before .enum-told .given .1) (c .own .ensures)
@@ -48,16 +24,6 @@ returns-4 c = c .stage-byte .ensures ∙ sym (plain-pending _ _ (c .before .enum
 pub emit-spec : {M : Type 1} → statement M
 emit-spec =
     tie.close
-    (tie.spec
-    enum-told
-    own-requires
-    enum-told-2
-    own-requires-2
-    enum-told-3
-    own-requires-3
-    enum-told-4
-    stage-byte-requires
-    returns
-    returns-2
-    returns-3
+    (tie.spec (λ c. search needs) (λ c κs. search needs) (λ c. search needs) (λ c κs. search needs)
+    (λ c. search needs) (λ c κs. search needs) (λ c. search needs) (λ c κs. search needs) returns returns-2 returns-3
     returns-4)

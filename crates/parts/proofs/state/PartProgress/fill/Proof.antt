@@ -20,9 +20,6 @@ loop-holds c = filling-begins _ _ _
 pass-requires : tie.Need-pass-requires Inv-loop μ-loop
 pass-requires c κs = let k = c .before .loop .inv in (k .offered, omega (arith, k .within, k .same))
 
-stop-requires : tie.Need-stop-requires Inv-loop μ-loop
-stop-requires c κs = search needs
-
 same-length : tie.Need-same-length Inv-loop μ-loop
 same-length c =
     let p = c .before .before .before .before .before in
@@ -39,12 +36,6 @@ emit-requires c κs =
     let p = c .before .before .before .before in
     (filling-on (p .before .before .loop .inv) (p .pass .ensures)) .offered
 
-enum-told : tie.Need-enum-told Inv-loop μ-loop
-enum-told c = search needs
-
-stop-requires-2 : tie.Need-stop-requires-2 Inv-loop μ-loop
-stop-requires-2 c κs = search needs
-
 same-length-2 : tie.Need-same-length-2 Inv-loop μ-loop
 same-length-2 c =
     let p = c .before .before .before .before .before .before .before .before in
@@ -55,19 +46,10 @@ returns-2 c =
     let p = c .before .before .before .before .before .before .before .before in
     rw (c .stop2 .ensures) (filling-stops (filling-on (p .before .before .loop .inv) (p .pass .ensures)) (sym (ap toldByte (c .before .enum-told .given .1)) ∙ c .before .before .before .emit .ensures))
 
-enum-known-value : tie.Need-enum-known-value Inv-loop μ-loop
-enum-known-value c = search needs
-
-slice-write-out : tie.Need-slice-write-out Inv-loop μ-loop
-slice-write-out c = search needs
-
 add-taken : tie.Need-add-taken Inv-loop μ-loop
 add-taken c =
     let p = c .before .before .before .before .before .before .before .before in
     omega (arith, filling-taken (filling-on (p .before .before .loop .inv) (p .pass .ensures)) (sym (ap toldByte (c .before .value .given .1)) ∙ c .before .before .before .emit .ensures))
-
-add-i : tie.Need-add-i Inv-loop μ-loop
-add-i c = search needs
 
 loop-less : tie.Need-loop-less Inv-loop μ-loop
 loop-less c =
@@ -83,22 +65,6 @@ loop-again c =
 pub fill-spec : {M : Type 1} → statement M
 fill-spec =
     tie.close
-    (tie.spec
-    Inv-loop
-    μ-loop
-    loop-holds
-    pass-requires
-    stop-requires
-    same-length
-    returns
-    emit-requires
-    enum-told
-    stop-requires-2
-    same-length-2
-    returns-2
-    enum-known-value
-    slice-write-out
-    add-taken
-    add-i
-    loop-less
-    loop-again)
+    (tie.spec Inv-loop μ-loop loop-holds pass-requires (λ c κs. search needs) same-length returns emit-requires
+    (λ c. search needs) (λ c κs. search needs) same-length-2 returns-2 (λ c. search needs) (λ c. search needs)
+    add-taken (λ c. search needs) loop-less loop-again)

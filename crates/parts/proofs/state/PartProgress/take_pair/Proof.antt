@@ -6,47 +6,14 @@ use borrow.Author.Needs.{needs}
 use Rattle.parts.proofs.state.PartProgress.take_pair.Statement.{statement}
 use Rattle.parts.proofs.state.PartProgress.take_pair.Tie as tie
 
-byte-at-requires : tie.Need-byte-at-requires
-byte-at-requires c κs = search needs
-
-sub-both : tie.Need-sub-both
-sub-both c = search needs
-
-both-requires : tie.Need-both-requires
-both-requires c κs = search needs
-
-is-mark-requires : tie.Need-is-mark-requires
-is-mark-requires c κs = search needs
-
-both-requires-2 : tie.Need-both-requires-2
-both-requires-2 c κs = search needs
-
 slice-write-out : tie.Need-slice-write-out
 slice-write-out c = omega (arith, (pair-facts (c .before .before .before .before .before .byte-at .result) (c .before .before .before .before .before .before .before .before .args .self .taken) (c .before .before .before .before .before .before .before .before .args .self .total) (length (c .before .before .before .before .before .before .before .before .args .out .now) - c .before .before .before .before .before .before .before .before .args .at) (c .before .before .is-mark .ensures) (c .before .before .before .both .ensures) (c .before .both2 .ensures) (c .if1 .taken)) .2)
-
-code-requires : tie.Need-code-requires
-code-requires c κs = search needs
-
-add-out : tie.Need-add-out
-add-out c = search needs
 
 slice-write-out-2 : tie.Need-slice-write-out-2
 slice-write-out-2 c = simp length-set (omega (arith, (pair-facts (c .before .before .before .before .before .before .byte-at .result) (c .before .before .before .before .before .before .before .before .before .args .self .taken) (c .before .before .before .before .before .before .before .before .before .args .self .total) (length (c .before .before .before .before .before .before .before .before .before .args .out .now) - c .before .before .before .before .before .before .before .before .before .args .at) (c .before .before .before .is-mark .ensures) (c .before .before .before .before .both .ensures) (c .before .before .both2 .ensures) (c .before .if1 .taken)) .2))
 
-add-byte-requires : tie.Need-add-byte-requires
-add-byte-requires c κs = search needs
-
 advanced-requires : tie.Need-advanced-requires
 advanced-requires c κs = omega (arith, (pair-facts (c .before .before .before .before .before .before .before .byte-at .result) (c .before .before .before .before .before .before .before .before .before .before .args .self .taken) (c .before .before .before .before .before .before .before .before .before .before .args .self .total) (length (c .before .before .before .before .before .before .before .before .before .before .args .out .now) - c .before .before .before .before .before .before .before .before .before .before .args .at) (c .before .before .before .before .is-mark .ensures) (c .before .before .before .before .before .both .ensures) (c .before .before .before .both2 .ensures) (c .before .before .if1 .taken)) .1)
-
-add-t17 : tie.Need-add-t17
-add-t17 c = search needs
-
-add-t20 : tie.Need-add-t20
-add-t20 c = search needs
-
-same-length : tie.Need-same-length
-same-length c = search needs
 
 returns : tie.Need-returns
 returns c =
@@ -59,26 +26,10 @@ returns c =
       rw (c .advanced .ensures .0),
     )
 
-returns-2 : tie.Need-returns-2
-returns-2 c = search needs
-
 pub take-pair-spec : {M : Type 1} → statement M
 take-pair-spec =
     tie.close
-    (tie.spec
-    byte-at-requires
-    sub-both
-    both-requires
-    is-mark-requires
-    both-requires-2
-    slice-write-out
-    code-requires
-    add-out
-    slice-write-out-2
-    add-byte-requires
-    advanced-requires
-    add-t17
-    add-t20
-    same-length
-    returns
-    returns-2)
+    (tie.spec (λ c κs. search needs) (λ c. search needs) (λ c κs. search needs) (λ c κs. search needs)
+    (λ c κs. search needs) slice-write-out (λ c κs. search needs) (λ c. search needs) slice-write-out-2
+    (λ c κs. search needs) advanced-requires (λ c. search needs) (λ c. search needs) (λ c. search needs) returns
+    (λ c. search needs))

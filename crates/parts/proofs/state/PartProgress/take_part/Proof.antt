@@ -4,20 +4,8 @@ use borrow.Author.Needs.{needs}
 use Rattle.parts.proofs.state.PartProgress.take_part.Statement.{statement}
 use Rattle.parts.proofs.state.PartProgress.take_part.Tie as tie
 
-is-lawful-requires : tie.Need-is-lawful-requires
-is-lawful-requires c κs = search needs
-
-refuse-requires : tie.Need-refuse-requires
-refuse-requires c κs = search needs
-
 returns : tie.Need-returns
 returns c = rw (sym (c .before .before .is-lawful .ensures) ∙ not-true _ (c .before .if1 .taken), c .refuse .ensures)
-
-missing-requires : tie.Need-missing-requires
-missing-requires c κs = search needs
-
-refuse-requires-2 : tie.Need-refuse-requires-2
-refuse-requires-2 c κs = search needs
 
 returns-2 : tie.Need-returns-2
 returns-2 c =
@@ -25,20 +13,11 @@ returns-2 c =
     let l = m .before in
     rw (sym (l .before .is-lawful .ensures) ∙ not-false _ (l .if1 .left), lt-ltb _ _ (rw (m .missing .ensures) at (c .before .if2 .taken)), c .refuse2 .ensures)
 
-refuse-requires-3 : tie.Need-refuse-requires-3
-refuse-requires-3 c κs = search needs
-
 returns-3 : tie.Need-returns-3
 returns-3 c =
     let m = c .before .before .before in
     let l = m .before in
     rw (sym (l .before .is-lawful .ensures) ∙ not-false _ (l .if1 .left), le-ltb _ _ (rw (m .missing .ensures) at (c .before .before .if2 .left)), eq-eqb _ _ (c .before .if3 .taken), c .refuse3 .ensures)
-
-fill-requires : tie.Need-fill-requires
-fill-requires c κs = search needs
-
-same-length : tie.Need-same-length
-same-length c = search needs
 
 returns-4 : tie.Need-returns-4
 returns-4 c =
@@ -51,15 +30,5 @@ returns-4 c =
 pub take-part-spec : {M : Type 1} → statement M
 take-part-spec =
     tie.close
-    (tie.spec
-    is-lawful-requires
-    refuse-requires
-    returns
-    missing-requires
-    refuse-requires-2
-    returns-2
-    refuse-requires-3
-    returns-3
-    fill-requires
-    same-length
-    returns-4)
+    (tie.spec (λ c κs. search needs) (λ c κs. search needs) returns (λ c κs. search needs) (λ c κs. search needs)
+    returns-2 (λ c κs. search needs) returns-3 (λ c κs. search needs) (λ c. search needs) returns-4)

@@ -4,22 +4,13 @@ use borrow.Author.Needs.{needs}
 use Rattle.parts.proofs.state.PartWriter.begin.Statement.{statement}
 use Rattle.parts.proofs.state.PartWriter.begin.Tie as tie
 
-limit-fits-requires : tie.Need-limit-fits-requires
-limit-fits-requires c κs = search needs
-
 returns : tie.Need-returns
 returns c = rw (sym (c .before .limit-fits .ensures) ∙ not-true _ (c .if1 .taken))
-
-bad-start-requires : tie.Need-bad-start-requires
-bad-start-requires c κs = search needs
 
 returns-2 : tie.Need-returns-2
 returns-2 c =
     let l = c .before .before in
     rw (sym (l .before .limit-fits .ensures) ∙ not-false _ (l .if1 .left), sym (c .before .bad-start .ensures) ∙ c .if2 .taken)
-
-start-requires : tie.Need-start-requires
-start-requires c κs = search needs
 
 returns-3 : tie.Need-returns-3
 returns-3 c =
@@ -29,4 +20,4 @@ returns-3 c =
 pub begin-spec : {M : Type 1} → statement M
 begin-spec =
     tie.close
-    (tie.spec limit-fits-requires returns bad-start-requires returns-2 start-requires returns-3)
+    (tie.spec (λ c κs. search needs) returns (λ c κs. search needs) returns-2 (λ c κs. search needs) returns-3)

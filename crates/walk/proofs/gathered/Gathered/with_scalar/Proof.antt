@@ -6,14 +6,8 @@ use borrow.Author.Needs.{needs}
 use Rattle.walk.proofs.gathered.Gathered.with_scalar.Statement.{statement}
 use Rattle.walk.proofs.gathered.Gathered.with_scalar.Tie as tie
 
-element-write-next : tie.Need-element-write-next
-element-write-next c = search needs
-
 returns : tie.Need-returns
 returns c = rw (c .if1 .taken)
-
-element-write-next-2 : tie.Need-element-write-next-2
-element-write-next-2 c = search needs
 
 returns-2 : tie.Need-returns-2
 returns-2 c = rw (c .if2 .taken)
@@ -24,5 +18,4 @@ returns-3 c =
     rw (set-out (c .before .before .args .self .scalars) (c .before .before .args .slot) (c .before .before .args .value) (omega arith))
 
 pub with-scalar-spec : {M : Type 1} → statement M
-with-scalar-spec =
-    tie.close (tie.spec element-write-next returns element-write-next-2 returns-2 returns-3)
+with-scalar-spec = tie.close (tie.spec (λ c. search needs) returns (λ c. search needs) returns-2 returns-3)

@@ -12,20 +12,11 @@ use Rattle.walk.proofs.gathered.Gathered.with_text.Tie as tie
 length-mapped : {A B : Type 0} (f : A → B) (l : List A) (n : ℕ) → length (map f l) ≡ n → length l ≡ n
 length-mapped f l n e = sym (length-map l f) ∙ e
 
-element-set-from-part : tie.Need-element-set-from-part
-element-set-from-part c = search needs
-
 returns : tie.Need-returns
 returns c = rw (c .if1 .taken)
 
-element-set-from-part-2 : tie.Need-element-set-from-part-2
-element-set-from-part-2 c = search needs
-
 returns-2 : tie.Need-returns-2
 returns-2 c = rw (c .if2 .taken)
-
-element-set-from-part-3 : tie.Need-element-set-from-part-3
-element-set-from-part-3 c = search needs
 
 returns-3 : tie.Need-returns-3
 returns-3 c = rw (c .if3 .taken)
@@ -39,11 +30,4 @@ returns-4 c =
 pub with-text-spec : {M : Type 1} → statement M
 with-text-spec =
     tie.close
-    (tie.spec
-    element-set-from-part
-    returns
-    element-set-from-part-2
-    returns-2
-    element-set-from-part-3
-    returns-3
-    returns-4)
+    (tie.spec (λ c. search needs) returns (λ c. search needs) returns-2 (λ c. search needs) returns-3 returns-4)

@@ -11,18 +11,6 @@ use borrow.Author.Needs.{needs}
 use Rattle.walk.proofs.gathered.Gathered.with_transport.Statement.{statement}
 use Rattle.walk.proofs.gathered.Gathered.with_transport.Tie as tie
 
-low-signed-requires : tie.Need-low-signed-requires
-low-signed-requires c κs = search needs
-
-mul-transport : tie.Need-mul-transport
-mul-transport c = search needs
-
-element-set-from-transport : tie.Need-element-set-from-transport
-element-set-from-transport c = search needs
-
-add-next : tie.Need-add-next
-add-next c = search needs
-
 -- one transport more, as a number
 abbrev grown : Gathered → ℤ → Told Gathered
 grown g z =
@@ -41,10 +29,4 @@ returns-2 c = rw (le-leb _ _ (c .if1 .left))
 pub with-transport-spec : {M : Type 1} → statement M
 with-transport-spec =
     tie.close
-    (tie.spec
-    low-signed-requires
-    mul-transport
-    element-set-from-transport
-    add-next
-    returns
-    returns-2)
+    (tie.spec (λ c κs. search needs) (λ c. search needs) (λ c. search needs) (λ c. search needs) returns returns-2)
