@@ -5,7 +5,9 @@ use Rattle.answering.proofs.show.Statement.{statement}
 use Rattle.answering.proofs.show.Tie as tie
 
 slice-aggregate-write-all-2 : tie.Need-slice-aggregate-write-all-2
-slice-aggregate-write-all-2 c = sym (length-take-le _ (c .before .before .before .before .before .before .before .args .out .now) (rw (c .before .before .before .before .wrote2 .given .1) at (c .before .before .before .before .before .before .before .pre)))
+slice-aggregate-write-all-2 c =
+    let start = c .before .before .before .before .before .before .before in
+    sym (length-take-le _ (start .args .out .now) (rw (c .before .before .before .before .wrote2 .given .1) at (start .pre)))
 
 pub show-spec : {M : Type 1} → statement M
 show-spec =

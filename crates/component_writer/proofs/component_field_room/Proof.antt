@@ -14,13 +14,16 @@ use Rattle.component_writer.proofs.component_field_room.Statement.{stat
 use Rattle.component_writer.proofs.component_field_room.Tie as tie
 
 -- what a component leaves of the room
-left-over : (c : tie.After-known-told2) → lessRoom (length (messageBytes (componentFields (now (c .before .before .before .before .before .before .before .before .args .texts)) (c .before .before .before .before .before .before .before .before .args .component)))) (Left (c .before .before .before .before .before .room .given .0 .0)) ≡ Left (c .before .rest .given .0 .0)
+left-over : (c : tie.After-known-told2) → let start = c .before .before .before .before .before .before .before .before in
+    lessRoom (length (messageBytes (componentFields (now (start .args .texts)) (start .args .component)))) (Left (c .before .before .before .before .before .room .given .0 .0)) ≡ Left (c .before .rest .given .0 .0)
 left-over c = sym (c .before .before .before .component-room .ensures) ∙ c .before .rest .given .1
 
-spent : (c : tie.After-known-told2) → let n = length (messageBytes (componentFields (now (c .before .before .before .before .before .before .before .before .args .texts)) (c .before .before .before .before .before .before .before .before .args .component))) in
-    (c .before .rest .given .0 .0 ≡ c .before .before .before .before .before .room .given .0 .0 - n) × (n ≤ c .before .before .before .before .before .room .given .0 .0)
+spent : (c : tie.After-known-told2) → let start = c .before .before .before .before .before .before .before .before in let at-room = c .before .before .before .before .before in
+    let n = length (messageBytes (componentFields (now (start .args .texts)) (start .args .component))) in
+    (c .before .rest .given .0 .0 ≡ at-room .room .given .0 .0 - n) × (n ≤ at-room .room .given .0 .0)
 spent c =
-    let n = length (messageBytes (componentFields (now (c .before .before .before .before .before .before .before .before .args .texts)) (c .before .before .before .before .before .before .before .before .args .component))) in
+    let start = c .before .before .before .before .before .before .before .before in
+    let n = length (messageBytes (componentFields (now (start .args .texts)) (start .args .component))) in
     room-rest (c .before .before .before .before .before .room .given .0 .0) n (c .before .rest .given .0 .0) (left-over c)
 
 sub-head-len : tie.Need-sub-head-len
@@ -34,12 +37,13 @@ returns-2 c =
 
 returns-3 : tie.Need-returns-3
 returns-3 c =
+    let at-room = c .before .before .before .before .before .before .before in
     let a = c .before .before .before .before .before .before .before .before .before .before .args in
-    let k = c .before .before .before .before .before .before .before .room .given .0 .0 in
+    let k = at-room .room .given .0 .0 in
     let l = messageBytes (componentFields (now (a .texts)) (a .component)) in
     let e = left-over (c .before .before) in
     let n : k - c .before .before .before .rest .given .0 .0 ≡ length l = omega (arith, spent (c .before .before)) in
-    rw (c .before .before .before .before .before .before .before .room .given .1)
+    rw (at-room .room .given .1)
     (nested-left componentsField k (c .before .before .before .rest .given .0 .0) l e (c .before .head-len .ensures .0 ∙ ap (λ x. length (headBytes componentsField x)) n) (c .less .ensures))
 
 pub component-field-room-spec : {M : Type 1} → statement M

@@ -24,10 +24,11 @@ put-head-requires c κs =
 
 put-component-fields-requires : tie.Need-put-component-fields-requires
 put-component-fields-requires c κs =
-    let a = c .before .before .before .before .before .before .before .before .args in
+    let start = c .before .before .before .before .before .before .before .before in
+    let a = start .args in
     let l = messageBytes (componentFields (now (a .texts)) (a .component)) in
     let h = c .before .before .before .put-head in
-    (c .before .before .before .before .before .before .before .before .pre .0, omega (arith, c .before .before .before .before .before .before .before .before .pre .1, nested-length componentsField l, rw (c .before .before .before .before .before .component-len .ensures) at (h .ensures .place), h .kept .0))
+    (start .pre .0, omega (arith, start .pre .1, nested-length componentsField l, rw (c .before .before .before .before .before .component-len .ensures) at (h .ensures .place), h .kept .0))
 
 returns : tie.Need-returns
 returns c =

@@ -12,25 +12,30 @@ use Rattle.component_writer.proofs.put_component_fields.Statement.{stat
 use Rattle.component_writer.proofs.put_component_fields.Tie as tie
 
 put-scalar-requires : tie.Need-put-scalar-requires
-put-scalar-requires c κs = (search needs, omega (arith, c .before .before .before .before .before .before .pre .1, component-length (now (c .before .before .before .before .before .before .args .texts)) (c .before .before .before .before .before .before .args .component)))
+put-scalar-requires c κs =
+    let start = c .before .before .before .before .before .before in
+    (search needs, omega (arith, start .pre .1, component-length (now (start .args .texts)) (start .args .component)))
 
 put-text-part-requires : tie.Need-put-text-part-requires
 put-text-part-requires c κs =
+    let start = c .before .before .before .before .before .before .before .before .before .before in
     let p = c .before .before .before .put-scalar in
-    (search needs, component-fine (now (c .before .before .before .before .before .before .before .before .before .before .args .texts)) (c .before .before .before .before .before .before .before .before .before .before .args .component) (c .before .before .before .before .before .before .before .before .before .before .pre .0) .0, omega (arith, c .before .before .before .before .before .before .before .before .before .before .pre .1, component-length (now (c .before .before .before .before .before .before .before .before .before .before .args .texts)) (c .before .before .before .before .before .before .before .before .before .before .args .component), p .ensures .place, p .kept .0))
+    (search needs, component-fine (now (start .args .texts)) (start .args .component) (start .pre .0) .0, omega (arith, start .pre .1, component-length (now (start .args .texts)) (start .args .component), p .ensures .place, p .kept .0))
 
 put-scalar-requires-2 : tie.Need-put-scalar-requires-2
 put-scalar-requires-2 c κs =
+    let start = c .before .before .before .before .before .before .before .before .before .before .before .before .before .before .before in
     let p₁ = c .before .before .before .before .before .before .before .before .put-scalar in
     let p₂ = c .before .before .before .before .put-text-part in
-    (search needs, omega (arith, c .before .before .before .before .before .before .before .before .before .before .before .before .before .before .before .pre .1, component-length (now (c .before .before .before .before .before .before .before .before .before .before .before .before .before .before .before .args .texts)) (c .before .before .before .before .before .before .before .before .before .before .before .before .before .before .before .args .component), p₁ .ensures .place, p₁ .kept .0, p₂ .ensures .place, p₂ .kept .0))
+    (search needs, omega (arith, start .pre .1, component-length (now (start .args .texts)) (start .args .component), p₁ .ensures .place, p₁ .kept .0, p₂ .ensures .place, p₂ .kept .0))
 
 put-text-part-requires-2 : tie.Need-put-text-part-requires-2
 put-text-part-requires-2 c κs =
+    let start = c .before .before .before .before .before .before .before .before .before .before .before .before .before .before .before .before .before .before .before in
     let p₁ = c .before .before .before .before .before .before .before .before .before .before .before .before .put-scalar in
     let p₂ = c .before .before .before .before .before .before .before .before .put-text-part in
     let p₃ = c .before .before .before .put-scalar2 in
-    (search needs, component-fine (now (c .before .before .before .before .before .before .before .before .before .before .before .before .before .before .before .before .before .before .before .args .texts)) (c .before .before .before .before .before .before .before .before .before .before .before .before .before .before .before .before .before .before .before .args .component) (c .before .before .before .before .before .before .before .before .before .before .before .before .before .before .before .before .before .before .before .pre .0) .1, omega (arith, c .before .before .before .before .before .before .before .before .before .before .before .before .before .before .before .before .before .before .before .pre .1, component-length (now (c .before .before .before .before .before .before .before .before .before .before .before .before .before .before .before .before .before .before .before .args .texts)) (c .before .before .before .before .before .before .before .before .before .before .before .before .before .before .before .before .before .before .before .args .component), p₁ .ensures .place, p₁ .kept .0, p₂ .ensures .place, p₂ .kept .0, p₃ .ensures .place, p₃ .kept .0))
+    (search needs, component-fine (now (start .args .texts)) (start .args .component) (start .pre .0) .1, omega (arith, start .pre .1, component-length (now (start .args .texts)) (start .args .component), p₁ .ensures .place, p₁ .kept .0, p₂ .ensures .place, p₂ .kept .0, p₃ .ensures .place, p₃ .kept .0))
 
 returns : tie.Need-returns
 returns c =

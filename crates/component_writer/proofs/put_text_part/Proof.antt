@@ -14,8 +14,9 @@ part-put-text-end c = let a = c .before .before .before .before .args in omega (
 
 put-text-requires : tie.Need-put-text-requires
 put-text-requires c κs =
-    let a = c .before .before .before .before .before .args in
-    (c .before .before .before .before .before .pre .0, rw (part-taken (now (a .texts)) (a .part)) (c .before .before .before .before .before .pre .2))
+    let start = c .before .before .before .before .before in
+    let a = start .args in
+    (start .pre .0, rw (part-taken (now (a .texts)) (a .part)) (start .pre .2))
 
 returns : tie.Need-returns
 returns c =

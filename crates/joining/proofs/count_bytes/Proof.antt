@@ -1,4 +1,4 @@
-use Prim.Native.Nat.{suc, _-_}
+use Prim.Native.Nat.{suc, _+_, _-_, _*_, _≤_, _<_}
 use native.Mathlib.Omega.{arith}
 use borrow.Author.Needs.{needs}
 use Rattle.joining.proofs.Pieces.{size-low}
@@ -15,55 +15,33 @@ abbrev μ-loop : tie.MeasureT-loop
 loop-holds : tie.Need-loop-holds Inv-loop μ-loop
 loop-holds c = counting-start (c .args .room) (c .args .total) (c .pre .0)
 
-add-sum : tie.Need-add-sum Inv-loop μ-loop
-add-sum c =
+-- what the additions of a turn stand on
+turn : (c : tie.After-header-size Inv-loop μ-loop)
+    → let l = c .before .before .before .loop in
+    let total = c .before .before .before .before .args .total in
+    (l .index ≤ l .place) × (l .place ≤ total) × (l .sum ≤ l .place + 7 * l .index)
+    × (c .before .piece-size .result ≤ total - l .place) × (c .header-size .result < 8) × (total < 65536)
+turn c =
     let l = c .before .before .before .loop in
     let s = c .before .before .before .before in
     let i = l .inv in
-    let few = i .few (c .before .before .loop-test .taken) in
-    let q = size-low (s .args .room) (s .args .total) (l .index) (l .place) _ (s .pre .0) (c .before .piece-size .ensures) in
-    let h = c .header-size .ensures .1 in
-    omega (arith, i .low, i .bound, i .some, s .pre .1)
+    let low = size-low (s .args .room) (s .args .total) (l .index) (l .place) _ (s .pre .0) (c .before .piece-size .ensures) in
+    (i .few (c .before .before .loop-test .taken), i .low, i .bound, low, c .header-size .ensures .1, s .pre .1)
+
+add-sum : tie.Need-add-sum Inv-loop μ-loop
+add-sum c = omega (arith, turn c)
 
 add-sum-2 : tie.Need-add-sum-2 Inv-loop μ-loop
-add-sum-2 c =
-    let l = c .before .before .before .loop in
-    let s = c .before .before .before .before in
-    let i = l .inv in
-    let few = i .few (c .before .before .loop-test .taken) in
-    let q = size-low (s .args .room) (s .args .total) (l .index) (l .place) _ (s .pre .0) (c .before .piece-size .ensures) in
-    let h = c .header-size .ensures .1 in
-    omega (arith, i .low, i .bound, i .some, s .pre .1)
+add-sum-2 c = omega (arith, turn c)
 
 add-place : tie.Need-add-place Inv-loop μ-loop
-add-place c =
-    let l = c .before .before .before .loop in
-    let s = c .before .before .before .before in
-    let i = l .inv in
-    let few = i .few (c .before .before .loop-test .taken) in
-    let q = size-low (s .args .room) (s .args .total) (l .index) (l .place) _ (s .pre .0) (c .before .piece-size .ensures) in
-    let h = c .header-size .ensures .1 in
-    omega (arith, i .low, i .bound, i .some, s .pre .1)
+add-place c = omega (arith, turn c)
 
 add-index : tie.Need-add-index Inv-loop μ-loop
-add-index c =
-    let l = c .before .before .before .loop in
-    let s = c .before .before .before .before in
-    let i = l .inv in
-    let few = i .few (c .before .before .loop-test .taken) in
-    let q = size-low (s .args .room) (s .args .total) (l .index) (l .place) _ (s .pre .0) (c .before .piece-size .ensures) in
-    let h = c .header-size .ensures .1 in
-    omega (arith, i .low, i .bound, i .some, s .pre .1)
+add-index c = omega (arith, turn c)
 
 loop-less : tie.Need-loop-less Inv-loop μ-loop
-loop-less c =
-    let l = c .before .before .before .loop in
-    let s = c .before .before .before .before in
-    let i = l .inv in
-    let few = i .few (c .before .before .loop-test .taken) in
-    let q = size-low (s .args .room) (s .args .total) (l .index) (l .place) _ (s .pre .0) (c .before .piece-size .ensures) in
-    let h = c .header-size .ensures .1 in
-    omega (arith, i .low, i .bound, i .some, s .pre .1)
+loop-less c = omega (arith, turn c)
 
 loop-again : tie.Need-loop-again Inv-loop μ-loop
 loop-again c =

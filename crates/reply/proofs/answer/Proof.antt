@@ -21,9 +21,10 @@ returns c =
 
 returns-2 : tie.Need-returns-2
 returns-2 c =
+    let at-kind-of-command = c .before .before .before .before .before .before .before in
     let a = c .before .before .before .before .before .before .before .before .before .before .before .before .args in
     c .before .before .carry .ensures
-    ∙ goes-on (boxOf (now (a .serial-number)) (now (a .name)) (now (a .transports)) (now (a .device-type)) (a .features) (a .members)) (a .link) (a .value) (c .before .before .before .before .before .before .before .kind-of-command .result) (now (a .out)) (c .before .before .before .before .before .before .before .kind-of-command .ensures)
+    ∙ goes-on (boxOf (now (a .serial-number)) (now (a .name)) (now (a .transports)) (now (a .device-type)) (a .features) (a .members)) (a .link) (a .value) (at-kind-of-command .kind-of-command .result) (now (a .out)) (at-kind-of-command .kind-of-command .ensures)
     (sym (c .before .before .before .before .before .before .judge .ensures) ∙ ap verdictOf (c .before .before .before .before .enum-told .given .1))
 
 pub answer-spec : {M : Type 1} → statement M

@@ -27,13 +27,14 @@ measure-requires c κs =
 
 fill-requires : tie.Need-fill-requires
 fill-requires c κs =
+    let at-front = c .before .before .before .before .before in
     let s = c .before .before .before .before .before .before .before .before .before .before .before .before in
     let a = s .args in
-    let w = rw (c .before .before .before .before .before .front .given .1) at (c .before .before .before .before .before .before .before .measure .ensures) in
+    let w = rw (at-front .front .given .1) at (c .before .before .before .before .before .before .before .measure .ensures) in
     let high = limit-range (a .link .limit) (s .pre .limit) .1 in
     let body = bodyBy (now (a .serial-number)) (now (a .name)) (now (a .transports)) (now (a .device-type)) (a .features) (a .kind) in
     let long = ap lib.ListN.length (w .whole) in
-    let parts = length-append (frontBytes (c .before .before .before .before .before .front .given .0 .0)) body in (
+    let parts = length-append (frontBytes (at-front .front .given .0 .0)) body in (
       few-by (a .members) (now (a .transports)) (a .kind) (s .pre .carried),
       record {
         fits = w .fits;

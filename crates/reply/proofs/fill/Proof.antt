@@ -61,20 +61,22 @@ put-reply-requires c κs =
 
 returns-2 : tie.Need-returns-2
 returns-2 c =
+    let at-front-len = c .before .before .before .before .before .before .before in
+    let at-joined-len = c .before .before .before .before .before in
     let s = c .before .before .before .before .before .before .before .before .before .before .before .before in
     let a = s .args in
     let l = a .link in
     let o = now (a .out) in
     let body = bodyBy (now (a .serial-number)) (now (a .name)) (now (a .transports)) (now (a .device-type)) (a .features) (a .kind) in
     let m = frontBytes (a .front) ++ body in
-    let total : length m ≡ c .before .before .before .before .before .before .before .front-len .result + a .front .body =
-    length-append (frontBytes (a .front)) body ∙ omega (arith, c .before .before .before .before .before .before .before .front-len .ensures .0, s .pre .1 .long) in
+    let total : length m ≡ at-front-len .front-len .result + a .front .body =
+    length-append (frontBytes (a .front)) body ∙ omega (arith, at-front-len .front-len .ensures .0, s .pre .1 .long) in
     let j : List ℕ = joinedOf (sendingOf l) m in
-    let counted = joined-length (l .room) (c .before .before .before .before .before .before .before .front-len .result + a .front .body) (s .pre .1 .room) (omega (arith, s .pre .1 .low-total, c .before .before .before .before .before .before .before .front-len .ensures .0)) in
-    let long : length j ≡ c .before .before .before .before .before .joined-len .result =
-    joined-long (sendingOf l) m (s .pre .1 .room) ∙ ap (λ (n : ℕ). sizes (piecesOf (l .room) n)) total ∙ sym (c .before .before .before .before .before .joined-len .ensures ∙ counted) in
+    let counted = joined-length (l .room) (at-front-len .front-len .result + a .front .body) (s .pre .1 .room) (omega (arith, s .pre .1 .low-total, at-front-len .front-len .ensures .0)) in
+    let long : length j ≡ at-joined-len .joined-len .result =
+    joined-long (sendingOf l) m (s .pre .1 .room) ∙ ap (λ (n : ℕ). sizes (piecesOf (l .room) n)) total ∙ sym (at-joined-len .joined-len .ensures ∙ counted) in
     let space : length j ≤ length o = omega (arith, long, c .before .before .before .before .if1 .left) in
-    let k = c .before .before .before .before .before .joined-len .result in
+    let k = at-joined-len .joined-len .result in
     let e =
     ap (putMid 0 (k - 0) o) (c .before .before .put-reply .ensures) ∙ over-first o j (k - 0) (omega (arith, long)) (omega (arith, long, space)) in
     ap (λ (x : List ℕ). written {A = Replied} (given (sent k)) x) e

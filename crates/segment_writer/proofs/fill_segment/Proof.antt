@@ -7,16 +7,22 @@ use Rattle.segment_writer.proofs.fill_segment.Statement.{statement}
 use Rattle.segment_writer.proofs.fill_segment.Tie as tie
 
 returns : tie.Need-returns
-returns c = segment-broken (now (c .before .before .before .before .before .args .component-name)) (c .before .before .before .before .before .args .component-offset) (c .before .before .before .before .before .args .segment-size) (now (c .before .before .before .before .before .args .segment-signature)) (now (c .before .before .before .before .before .args .out)) _ (c .before .broken-field .ensures) (c .if1 .taken)
+returns c =
+    let start = c .before .before .before .before .before in
+    segment-broken (now (start .args .component-name)) (start .args .component-offset) (start .args .segment-size) (now (start .args .segment-signature)) (now (start .args .out)) _ (c .before .broken-field .ensures) (c .if1 .taken)
 
 put-segment-requires : tie.Need-put-segment-requires
 put-segment-requires c κs = room-left _ _ _ (sym (c .before .before .before .segment-room .ensures) ∙ c .before .enum-told2 .given .1)
 
 returns-2 : tie.Need-returns-2
-returns-2 c = segment-short (now (c .before .before .before .before .before .before .before .before .args .component-name)) (c .before .before .before .before .before .before .before .before .args .component-offset) (c .before .before .before .before .before .before .before .before .args .segment-size) (now (c .before .before .before .before .before .before .before .before .args .segment-signature)) (now (c .before .before .before .before .before .before .before .before .args .out)) _ (c .before .before .before .before .broken-field .ensures) (c .before .before .before .if1 .left) (room-short _ _ (sym (c .before .before .segment-room .ensures) ∙ c .enum-told .given .1))
+returns-2 c =
+    let start = c .before .before .before .before .before .before .before .before in
+    segment-short (now (start .args .component-name)) (start .args .component-offset) (start .args .segment-size) (now (start .args .segment-signature)) (now (start .args .out)) _ (c .before .before .before .before .broken-field .ensures) (c .before .before .before .if1 .left) (room-short _ _ (sym (c .before .before .segment-room .ensures) ∙ c .enum-told .given .1))
 
 returns-3 : tie.Need-returns-3
-returns-3 c = segment-wrote (now (c .before .before .before .before .before .before .before .before .before .before .before .before .args .component-name)) (c .before .before .before .before .before .before .before .before .before .before .before .before .args .component-offset) (c .before .before .before .before .before .before .before .before .before .before .before .before .args .segment-size) (now (c .before .before .before .before .before .before .before .before .before .before .before .before .args .segment-signature)) (now (c .before .before .before .before .before .before .before .before .before .before .before .before .args .out)) _ (c .before .before .before .before .before .before .before .before .broken-field .ensures) (c .before .before .before .before .before .before .before .if1 .left) (room-left _ _ _ (sym (c .before .before .before .before .before .before .segment-room .ensures) ∙ c .before .before .before .before .enum-told2 .given .1)) (c .before .before .put-segment .ensures)
+returns-3 c =
+    let start = c .before .before .before .before .before .before .before .before .before .before .before .before in
+    segment-wrote (now (start .args .component-name)) (start .args .component-offset) (start .args .segment-size) (now (start .args .segment-signature)) (now (start .args .out)) _ (c .before .before .before .before .before .before .before .before .broken-field .ensures) (c .before .before .before .before .before .before .before .if1 .left) (room-left _ _ _ (sym (c .before .before .before .before .before .before .segment-room .ensures) ∙ c .before .before .before .before .enum-told2 .given .1)) (c .before .before .put-segment .ensures)
 
 pub fill-segment-spec : {M : Type 1} → statement M
 fill-segment-spec =

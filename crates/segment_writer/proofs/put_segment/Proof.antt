@@ -16,14 +16,16 @@ put-text-requires c κs = (search needs, omega (arith, c .before .before .before
 
 put-scalar-requires : tie.Need-put-scalar-requires
 put-scalar-requires c κs =
+    let start = c .before .before .before .before .before .before .before .before in
     let p = c .before .before .before .put-text in
-    (search needs, omega (arith, c .before .before .before .before .before .before .before .before .pre, segment-length (now (c .before .before .before .before .before .before .before .before .args .component-name)) (c .before .before .before .before .before .before .before .before .args .segment-size) (now (c .before .before .before .before .before .before .before .before .args .segment-signature)), p .ensures .place, p .kept .0))
+    (search needs, omega (arith, start .pre, segment-length (now (start .args .component-name)) (start .args .segment-size) (now (start .args .segment-signature)), p .ensures .place, p .kept .0))
 
 put-text-requires-2 : tie.Need-put-text-requires-2
 put-text-requires-2 c κs =
+    let start = c .before .before .before .before .before .before .before .before .before .before .before .before in
     let p₁ = c .before .before .before .before .before .before .before .put-text in
     let p₂ = c .before .before .before .put-scalar in
-    (search needs, omega (arith, c .before .before .before .before .before .before .before .before .before .before .before .before .pre, segment-length (now (c .before .before .before .before .before .before .before .before .before .before .before .before .args .component-name)) (c .before .before .before .before .before .before .before .before .before .before .before .before .args .segment-size) (now (c .before .before .before .before .before .before .before .before .before .before .before .before .args .segment-signature)), p₁ .ensures .place, p₁ .kept .0, p₂ .ensures .place, p₂ .kept .0))
+    (search needs, omega (arith, start .pre, segment-length (now (start .args .component-name)) (start .args .segment-size) (now (start .args .segment-signature)), p₁ .ensures .place, p₁ .kept .0, p₂ .ensures .place, p₂ .kept .0))
 
 returns : tie.Need-returns
 returns c =

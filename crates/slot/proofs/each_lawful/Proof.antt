@@ -17,9 +17,10 @@ returns-2 c =
 
 returns-3 : tie.Need-returns-3
 returns-3 c =
+    let at-is-lawful = c .before .before .before .before .before in
     rw (
-      ← c .before .before .before .before .before .is-lawful .ensures,
-      not-false (c .before .before .before .before .before .is-lawful .result) (c .before .before .before .before .if1 .left),
+      ← at-is-lawful .is-lawful .ensures,
+      not-false (at-is-lawful .is-lawful .result) (c .before .before .before .before .if1 .left),
       ← c .before .before .before .is-lawful2 .ensures,
       not-false (c .before .before .before .is-lawful2 .result) (c .before .before .if2 .left),
       ← c .before .is-lawful3 .ensures,
@@ -28,9 +29,10 @@ returns-3 c =
 
 returns-4 : tie.Need-returns-4
 returns-4 c =
+    let at-is-lawful = c .before .before .before .before .before .before in
     rw (
-      ← c .before .before .before .before .before .before .is-lawful .ensures,
-      not-false (c .before .before .before .before .before .before .is-lawful .result) (c .before .before .before .before .before .if1 .left),
+      ← at-is-lawful .is-lawful .ensures,
+      not-false (at-is-lawful .is-lawful .result) (c .before .before .before .before .before .if1 .left),
       ← c .before .before .before .before .is-lawful2 .ensures,
       not-false (c .before .before .before .before .is-lawful2 .result) (c .before .before .before .if2 .left),
       ← c .before .before .is-lawful3 .ensures,

@@ -32,22 +32,26 @@ pass-requires c κs = sym (c .before .before .before .check .ensures) ∙ ap sou
 
 returns-3 : tie.Need-returns-3
 returns-3 c =
+    let at-limit-fits = c .before .before .before .before .before .before .before .before in
+    let at-lent-fits = c .before .before .before .before .before .before in
     let s = c .before .before .before .before .before .before .before .before .before .before .before in
     let why = sym (c .before .before .before .before .check .ensures) ∙ ap soundnessTold (c .before .before .checked .given .1) in
     rw (
       c .refuse3 .ensures,
-      taken-is (s .args .limit) (s .args .count) (length (now (s .args .buffer))) (now (s .args .capture)) (sym (c .before .before .before .before .before .before .before .before .limit-fits .ensures) ∙ not-false (c .before .before .before .before .before .before .before .before .limit-fits .result) (c .before .before .before .before .before .before .before .if1 .left))
-          (sym (c .before .before .before .before .before .before .lent-fits .ensures) ∙ not-false (c .before .before .before .before .before .before .lent-fits .result) (c .before .before .before .before .before .if2 .left)),
+      taken-is (s .args .limit) (s .args .count) (length (now (s .args .buffer))) (now (s .args .capture)) (sym (at-limit-fits .limit-fits .ensures) ∙ not-false (at-limit-fits .limit-fits .result) (c .before .before .before .before .before .before .before .if1 .left))
+          (sym (at-lent-fits .lent-fits .ensures) ∙ not-false (at-lent-fits .lent-fits .result) (c .before .before .before .before .before .if2 .left)),
       unsound (now (s .args .capture)) _ why,
     )
 
 returns-4 : tie.Need-returns-4
 returns-4 c =
+    let at-limit-fits = c .before .before .before .before .before .before .before .before .before .before .before .before in
+    let at-lent-fits = c .before .before .before .before .before .before .before .before .before .before in
     let s = c .before .before .before .before .before .before .before .before .before .before .before .before .before .before .before in
     rw (
       c .before .answer-of .ensures,
-      taken-is (s .args .limit) (s .args .count) (length (now (s .args .buffer))) (now (s .args .capture)) (sym (c .before .before .before .before .before .before .before .before .before .before .before .before .limit-fits .ensures) ∙ not-false (c .before .before .before .before .before .before .before .before .before .before .before .before .limit-fits .result) (c .before .before .before .before .before .before .before .before .before .before .before .if1 .left))
-          (sym (c .before .before .before .before .before .before .before .before .before .before .lent-fits .ensures) ∙ not-false (c .before .before .before .before .before .before .before .before .before .before .lent-fits .result) (c .before .before .before .before .before .before .before .before .before .if2 .left)),
+      taken-is (s .args .limit) (s .args .count) (length (now (s .args .buffer))) (now (s .args .capture)) (sym (at-limit-fits .limit-fits .ensures) ∙ not-false (at-limit-fits .limit-fits .result) (c .before .before .before .before .before .before .before .before .before .before .before .if1 .left))
+          (sym (at-lent-fits .lent-fits .ensures) ∙ not-false (at-lent-fits .lent-fits .result) (c .before .before .before .before .before .before .before .before .before .if2 .left)),
     )
     (sound (s .args .report) (s .args .limit) (s .args .slots) (now (s .args .buffer)) (now (s .args .capture)) _ (c .before .before .before .before .pass .ensures))
 

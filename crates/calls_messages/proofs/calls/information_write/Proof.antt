@@ -25,10 +25,11 @@ returns-2 c =
 returns-3 : tie.Need-returns-3
 unfolding informationWriteOf
 returns-3 c =
+    let at-all-signed = c .before .before .before .before .before in
     rw (
       eq-eqb _ _ (c .before .before .before .before .before .before .before .if1 .left),
-      ← (c .before .before .before .before .before .all-signed .ensures),
-      not-true (c .before .before .before .before .before .all-signed .result) (c .before .before .before .before .if3 .taken),
+      ← (at-all-signed .all-signed .ensures),
+      not-true (at-all-signed .all-signed .result) (c .before .before .before .before .if3 .taken),
       c .before .before .tell-wrote2 .ensures .0,
       c .before .before .tell-wrote2 .ensures .1,
     )
@@ -39,10 +40,11 @@ slice-aggregate-write-information c = rw (c .before .before .signed-list .ensure
 returns-4 : tie.Need-returns-4
 unfolding informationWriteOf
 returns-4 c =
+    let at-all-signed = c .before .before .before .before .before .before .before .before .before .before .before in
     rw (
       eq-eqb _ _ (c .before .before .before .before .before .before .before .before .before .before .before .before .before .if1 .left),
-      ← (c .before .before .before .before .before .before .before .before .before .before .before .all-signed .ensures),
-      not-false (c .before .before .before .before .before .before .before .before .before .before .before .all-signed .result) (c .before .before .before .before .before .before .before .before .before .before .if3 .left),
+      ← (at-all-signed .all-signed .ensures),
+      not-false (at-all-signed .all-signed .result) (c .before .before .before .before .before .before .before .before .before .before .if3 .left),
       ← (c .before .before .before .before .before .before .before .before .before .signed-list .ensures),
       ← (c .before .before .before .before .before .before .write-information .ensures),
       c .before .before .tell-wrote3 .ensures .0,

@@ -3,7 +3,9 @@ use Rattle.calls_reply.proofs.convert.tell_reply.Statement.{statement}
 use Rattle.calls_reply.proofs.convert.tell_reply.Tie as tie
 
 returns : tie.Need-returns
-returns c = (c .before .before .before .before .before .before .reply-number .ensures, rw (c .before .before .put .ensures, c .before .before .before .before .before .before .reply-number .ensures, c .before .before .before .before .before .reply-row .ensures))
+returns c =
+    let at-reply-number = c .before .before .before .before .before .before in
+    (at-reply-number .reply-number .ensures, rw (c .before .before .put .ensures, at-reply-number .reply-number .ensures, c .before .before .before .before .before .reply-row .ensures))
 
 pub tell-reply-spec : {M : Type 1} → statement M
 tell-reply-spec =

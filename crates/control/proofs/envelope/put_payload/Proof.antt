@@ -27,16 +27,18 @@ counted c = rw (value (c .before)) at (c .response-len .ensures .0)
 
 put-head-requires : tie.Need-put-head-requires
 put-head-requires c κs =
+    let start = c .before .before .before .before .before .before .before .before in
     let p = c .before .before .before .before .payload in
-    let r = messageBytes (responseFields (extended (p .given .0 .0)) (p .given .0 .1 .0) (now (c .before .before .before .before .before .before .before .before .args .body))) in
-    let q = rw (p .given .1) at (c .before .before .before .before .before .before .before .before .pre .1) in
+    let r = messageBytes (responseFields (extended (p .given .0 .0)) (p .given .0 .1 .0) (now (start .args .body))) in
+    let q = rw (p .given .1) at (start .pre .1) in
     (search needs, rw (counted (c .before)) (omega (arith, q, joined-length (headBytes responseField (length r)) r (part-is responseField r), ap length (nested-last responseField r))))
 
 put-response-requires : tie.Need-put-response-requires
 put-response-requires c κs =
+    let start = c .before .before .before .before .before .before .before .before .before .before .before .before in
     let p = c .before .before .before .before .before .before .before .before .payload in
-    let r = messageBytes (responseFields (extended (p .given .0 .0)) (p .given .0 .1 .0) (now (c .before .before .before .before .before .before .before .before .before .before .before .before .args .body))) in
-    let q = rw (p .given .1) at (c .before .before .before .before .before .before .before .before .before .before .before .before .pre) in
+    let r = messageBytes (responseFields (extended (p .given .0 .0)) (p .given .0 .1 .0) (now (start .args .body))) in
+    let q = rw (p .given .1) at (start .pre) in
     let h = c .before .before .before .put-head in (
       q .0,
       rw (value (c .before .before .before .before .before .before))
@@ -52,10 +54,11 @@ put-response-requires c κs =
 
 put-part-requires : tie.Need-put-part-requires
 put-part-requires c κs =
+    let start = c .before .before .before .before .before .before in
     let p = c .before .before .payload2 in
     let f = p .given .0 .0 in
-    let q = rw (p .given .1) at (c .before .before .before .before .before .before .pre) in
-    (member-fits f (or-false (badMember f) (eqb f responseField) (q .0) .0), rw (nested-last f (now (c .before .before .before .before .before .before .args .body))) (q .1))
+    let q = rw (p .given .1) at (start .pre) in
+    (member-fits f (or-false (badMember f) (eqb f responseField) (q .0) .0), rw (nested-last f (now (start .args .body))) (q .1))
 
 returns : tie.Need-returns
 returns c = rw (c .enum-told .given .1) (put-end (now (c .before .before .before .before .args .out)) (c .before .before .before .before .args .at))
@@ -70,7 +73,8 @@ returns-2 c =
 
 returns-3 : tie.Need-returns-3
 returns-3 c =
-    rw (c .before .before .before .before .before .payload2 .given .1, ← nested-last (c .before .before .before .before .before .payload2 .given .0 .0) (now (c .before .before .before .before .before .before .before .before .before .args .body))) (c .before .before .put-part .ensures)
+    let at-payload2 = c .before .before .before .before .before in
+    rw (at-payload2 .payload2 .given .1, ← nested-last (at-payload2 .payload2 .given .0 .0) (now (c .before .before .before .before .before .before .before .before .before .args .body))) (c .before .before .put-part .ensures)
 
 pub put-payload-spec : {M : Type 1} → statement M
 put-payload-spec =

@@ -45,10 +45,11 @@ returns-2 c = (rw (read (c .before .before .before .before), sym (c .before .bef
 returns-3 : tie.Need-returns-3
 unfolding envelopeOf
 returns-3 c =
+    let at-read-payload = c .before .before .before .before .before in
     let g = c .before .before .before .before .before .before .before .before .before .read-fields .result .gathered in (
-      rw (read (c .before .before .before .before .before .before), sym (c .before .before .before .before .before .read-payload .ensures .0) ∙ ap toldPayload (c .before .before .before .payload .given .1))
+      rw (read (c .before .before .before .before .before .before), sym (at-read-payload .read-payload .ensures .0) ∙ ap toldPayload (c .before .before .before .payload .given .1))
           (ap (commanded (c .before .before .before .payload .given .0 .0)) (signed-kept _ (getD (g .scalars) first 0) (c .low-signed .ensures))),
-      rw (c .before .before .before .payload .given .1) at (c .before .before .before .before .before .read-payload .ensures .1),
+      rw (c .before .before .before .payload .given .1) at (at-read-payload .read-payload .ensures .1),
     )
 
 pub read-envelope-spec : {M : Type 1} → statement M

@@ -17,7 +17,9 @@ unfolding payloadOf
 returns c = (rw (eq-eqb _ _ (c .if1 .taken)), tt)
 
 slice-aggregate-response-from : tie.Need-slice-aggregate-response-from
-slice-aggregate-response-from c = sym (length-take-le _ (c .before .before .before .before .before .before .args .message .now) (c .before .before .before .before .before .before .pre))
+slice-aggregate-response-from c =
+    let start2 = c .before .before .before .before .before .before in
+    sym (length-take-le _ (start2 .args .message .now) (start2 .pre))
 
 returns-2 : tie.Need-returns-2
 unfolding payloadOf

@@ -29,7 +29,8 @@ value : (c : tie.After-sign-extended) → c .sign-extended .result ≡ extended 
 value c = c .sign-extended .ensures ∙ ap extended (toZ-ofZ (c .before .before .before .before .before .fits .command))
 
 counted : (c : tie.After-payload-len)
-    → c .before .scalar-len .result + c .payload-len .result ≡ length (messageBytes (envelopeFields (extended (c .before .before .before .before .before .before .before .args .command)) (c .before .before .before .before .before .before .before .args .payload) (now (c .before .before .before .before .before .before .before .args .body))))
+    → let start = c .before .before .before .before .before .before .before in
+    c .before .scalar-len .result + c .payload-len .result ≡ length (messageBytes (envelopeFields (extended (start .args .command)) (start .args .payload) (now (start .args .body))))
 counted c =
     let a = c .before .before .before .before .before .before .before .args in
     omega (

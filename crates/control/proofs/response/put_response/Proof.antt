@@ -15,9 +15,10 @@ put-scalar-requires c κs =
 
 put-response-payload-requires : tie.Need-put-response-payload-requires
 put-response-payload-requires c κs =
-    let a = c .before .before .before .before .before .before .before .args in
+    let start = c .before .before .before .before .before .before .before in
+    let a = start .args in
     let p = c .before .before .before .put-scalar in
-    (c .before .before .before .before .before .before .before .pre .0, omega (arith, c .before .before .before .before .before .before .before .pre .1, message-length (scalar errorCodeField (a .code)) (responsePayloadFields (a .payload) (now (a .body))), p .ensures .place, p .kept .0))
+    (start .pre .0, omega (arith, start .pre .1, message-length (scalar errorCodeField (a .code)) (responsePayloadFields (a .payload) (now (a .body))), p .ensures .place, p .kept .0))
 
 returns : tie.Need-returns
 returns c =

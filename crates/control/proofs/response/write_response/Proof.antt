@@ -25,7 +25,8 @@ fine c = sym (c .before .bad-response-payload .ensures) ∙ c .if1 .left
 value : (c : tie.After-sign-extended) → c .sign-extended .result ≡ extended (c .before .before .before .before .before .args .error-code)
 value c = c .sign-extended .ensures ∙ ap extended (toZ-ofZ (c .before .before .before .before .before .fits .error-code))
 
-counted : (c : tie.After-response-len) → c .response-len .result ≡ length (messageBytes (responseFields (extended (c .before .before .before .before .before .before .args .error-code)) (c .before .before .before .before .before .before .args .payload) (now (c .before .before .before .before .before .before .args .body))))
+counted : (c : tie.After-response-len) → let start = c .before .before .before .before .before .before in
+    c .response-len .result ≡ length (messageBytes (responseFields (extended (start .args .error-code)) (start .args .payload) (now (start .args .body))))
 counted c = rw (value (c .before)) at (c .response-len .ensures .0)
 
 returns-2 : tie.Need-returns-2

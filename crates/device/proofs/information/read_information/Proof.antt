@@ -34,10 +34,11 @@ returns c = (rw (refuses (c .before)), (((zero-le, (zero-le, (zero-le, tt))), (e
 returns-2 : tie.Need-returns-2
 unfolding informationOf
 returns-2 c =
+    let place = c .before .before .before .before .before in
     let texts = c .before .before .before .before .before .before .before .read-fields .result .gathered .texts in
-    let inside = fields-within Schema.Information _ 0 _ (read (c .before .before .before .before .before)) in
+    let inside = fields-within Schema.Information _ 0 _ (read place) in
     let each = inside .0 .1 in (
-      rw (read (c .before .before .before .before .before)),
+      rw (read place),
       (
         (
           (within-get _ texts first noPart zero-le each, (within-get _ texts second noPart zero-le each, (within-get _ texts third noPart zero-le each, tt))),

@@ -64,9 +64,10 @@ loop-less c = omega (arith, c .before .before .before .before .before .before .b
 
 loop-again : tie.Need-loop-again Inv-loop μ-loop
 loop-again c =
+    let at-fast-step = c .before .before .before .before .before .before in
     let g = c .before .before .before .before .before .before .before .before .before .before .before .before .before .before in
     let on = running-on (g .before .before .loop .inv) (g .pass .ensures) (g .pass .kept .1 .1 .0) (c .before .before .before .before .before .before .before .before .before .before .rebuilt .ensures) in
-    running-more on (c .before .before .before .before .before .before .fast-step .ensures) (search needs) (c .before .before .rebuilt2 .ensures) (sym (c .before .is-decided .ensures) ∙ c .if2 .left) (c .before .before .before .before .before .before .fast-step .kept .1 .1 .0)
+    running-more on (at-fast-step .fast-step .ensures) (search needs) (c .before .before .rebuilt2 .ensures) (sym (c .before .is-decided .ensures) ∙ c .if2 .left) (at-fast-step .fast-step .kept .1 .1 .0)
 
 pub run-spec : {M : Type 1} → statement M
 run-spec =

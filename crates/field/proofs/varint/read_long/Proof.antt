@@ -34,7 +34,8 @@ digit-fits c d h =
     let l = c .before .before .before .before .loop in
     omega (arith, digits (l .inv .below) h, room-more (l .weight) (l .left) (l .inv .room) (c .if1 .left))
 
-last : (c : tie.Else2 Inv-loop μ-loop) → c .before .before .before .before .before .loop .value + c .before .before .before .before .before .loop .weight * c .before .before .wide64 .result < 2 ^ 64
+last : (c : tie.Else2 Inv-loop μ-loop) → let turn = c .before .before .before .before .before in
+    turn .loop .value + turn .loop .weight * c .before .before .wide64 .result < 2 ^ 64
 last c =
     let l = c .before .before .before .before .before .loop in
     last-fits (l .value) (l .weight) (l .left) _ (l .inv .room) (l .inv .below) (c .before .if1 .taken) (c .if2 .left)

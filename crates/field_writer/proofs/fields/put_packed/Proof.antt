@@ -25,12 +25,13 @@ put-head-requires c κs =
 
 put-varints-requires : tie.Need-put-varints-requires
 put-varints-requires c κs =
-    let a = c .before .before .before .before .before .before .before .before .args in
+    let start = c .before .before .before .before .before .before .before .before in
+    let a = start .args in
     let b = varintsBytes (map extended (now (a .list))) in
     let h = c .before .before .before .put-head in
     omega (
       arith,
-      c .before .before .before .before .before .before .before .before .pre .2,
+      start .pre .2,
       joined-length (headBytes (a .field) (length b)) b (packed-some (a .field) (now (a .list)) (c .before .before .before .before .before .before .if1 .left)),
       rw (c .before .before .before .before .before .varints-len .ensures .0) at (h .ensures .place),
       h .kept .0,

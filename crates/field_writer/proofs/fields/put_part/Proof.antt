@@ -16,16 +16,18 @@ put-head-requires c κs =
 
 copy-requires : tie.Need-copy-requires
 copy-requires c κs =
-    let a = c .before .before .before .before .before .before .before .args in
+    let start = c .before .before .before .before .before .before .before in
+    let a = start .args in
     let s = now (a .bytes) in
     let p = c .before .before .before .put-head in
-    omega (arith, c .before .before .before .before .before .before .before .pre, joined-length (headBytes (a .field) (length s)) s (part-is (a .field) s), p .ensures .place, p .kept .0)
+    omega (arith, start .pre, joined-length (headBytes (a .field) (length s)) s (part-is (a .field) s), p .ensures .place, p .kept .0)
 
 add-result : tie.Need-add-result
 add-result c =
-    let a = c .before .before .before .before .before .before .before .before .before .before .args in
+    let start = c .before .before .before .before .before .before .before .before .before .before in
+    let a = start .args in
     let s = now (a .bytes) in
-    omega (arith, c .before .before .before .before .before .before .before .before .before .before .pre, joined-length (headBytes (a .field) (length s)) s (part-is (a .field) s), c .before .before .before .before .before .before .put-head .ensures .place)
+    omega (arith, start .pre, joined-length (headBytes (a .field) (length s)) s (part-is (a .field) s), c .before .before .before .before .before .before .put-head .ensures .place)
 
 returns : tie.Need-returns
 returns c =

@@ -19,11 +19,12 @@ put-varint-requires c κs =
 
 put-varint-requires-2 : tie.Need-put-varint-requires-2
 put-varint-requires-2 c κs =
-    let a = c .before .before .before .before .before .before .before .args in
+    let start = c .before .before .before .before .before .before .before in
+    let a = start .args in
     let p = c .before .before .before .put-varint in
     omega (
       arith,
-      c .before .before .before .before .before .before .before .pre,
+      start .pre,
       joined-length (varintBytes (a .field * 8 + 0)) (varintBytes (a .value)) (scalar-some (a .field) (a .value) (c .before .before .before .before .before .if1 .left)),
       p .ensures .place,
       p .kept .0,

@@ -37,11 +37,12 @@ value c = c .sign-extended .ensures ∙ entry-read (getD (c .before .before .bef
 
 put-varint-requires : tie.Need-put-varint-requires Inv-loop μ-loop
 put-varint-requires c κs =
+    let start = c .before .before .before .before .before .before in
     let l = c .before .before .before .before .loop in
-    let s = c .before .before .before .before .before .before .args .list .now in
+    let s = start .args .list .now in
     let e = varints-next s (l .i) (search needs) in
     rw (value c)
-    (omega (arith, l .inv .place, l .inv .long, c .before .before .before .before .before .before .pre, joined-length (varintBytes (extended (getD s (l .i) (pos 0)))) (varintsFrom s (l .i + 1)) (sym e)))
+    (omega (arith, l .inv .place, l .inv .long, start .pre, joined-length (varintBytes (extended (getD s (l .i) (pos 0)))) (varintsFrom s (l .i + 1)) (sym e)))
 
 loop-again : tie.Need-loop-again Inv-loop μ-loop
 loop-again c =

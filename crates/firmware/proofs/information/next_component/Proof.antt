@@ -33,12 +33,14 @@ returns-2 c = (c .before .before .before .before .loop .inv .1 ∙ parts-turn _ 
 
 returns-3 : tie.Need-returns-3 Inv-loop μ-loop
 returns-3 c =
+    let start = c .before .before .before .before .before .before .before .before .before .before .before in
+    let at-number = c .before .before .before .before .before in
     let l = c .before .before .before .before .before .before .before .before .before .loop in
     let e = told (c .before .before .before .before) in
     let one = sym (ap partTold (c .before .part .given .1)) ∙ c .before .before .before .component-part .ensures in
-    let f = found-field (now (c .before .before .before .before .before .before .before .before .before .before .before .args .message)) (l .at) (c .before .before .before .before .before .number .given .0 .0) (c .before .before .before .before .before .number .given .0 .1 .0) (c .before .before .before .before .before .number .given .0 .1 .1 .0) e in
-    let w = rw (sym one) at (within-one (now (c .before .before .before .before .before .before .before .before .before .before .before .args .message)) (c .before .before .before .before .before .number .given .0 .0) (c .before .before .before .before .before .number .given .0 .1 .0) (f .1)) in
-    (l .inv .1 ∙ parts-turn _ _ e ∙ ap (λ ps. ps ++ partsFrom (now (c .before .before .before .before .before .before .before .before .before .before .before .args .message)) (c .before .before .before .before .before .number .given .0 .1 .1 .0)) (sym one), (omega (arith, l .inv .0, f .0), w .0))
+    let f = found-field (now (start .args .message)) (l .at) (at-number .number .given .0 .0) (at-number .number .given .0 .1 .0) (at-number .number .given .0 .1 .1 .0) e in
+    let w = rw (sym one) at (within-one (now (start .args .message)) (at-number .number .given .0 .0) (at-number .number .given .0 .1 .0) (f .1)) in
+    (l .inv .1 ∙ parts-turn _ _ e ∙ ap (λ ps. ps ++ partsFrom (now (start .args .message)) (at-number .number .given .0 .1 .1 .0)) (sym one), (omega (arith, l .inv .0, f .0), w .0))
 
 loop-less : tie.Need-loop-less Inv-loop μ-loop
 loop-less c = omega (arith, c .before .before .before .before .before .before .before .loop-test .taken, found-field _ _ _ _ _ (told (c .before .before .before)) .0)

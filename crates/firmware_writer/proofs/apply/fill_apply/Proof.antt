@@ -25,13 +25,18 @@ fine : (c : tie.Start) → badFirmware (now (c .args .texts)) (c .args .apply .�
 fine c = c .pre
 
 -- what it leaves of the output, and the number of its bytes
-left-over : (c : tie.After-known-told) → lessRoom (length (messageBytes (firmwareFields (now (c .before .before .before .before .before .before .before .before .args .texts)) (c .before .before .before .before .before .before .before .before .args .apply .«firmware_information»)))) (Left (length (now (c .before .before .before .before .before .before .before .before .args .out)))) ≡ Left (c .before .rest .given .0 .0)
+left-over : (c : tie.After-known-told) → let start = c .before .before .before .before .before .before .before .before in
+    lessRoom (length (messageBytes (firmwareFields (now (start .args .texts)) (start .args .apply .«firmware_information»)))) (Left (length (now (start .args .out)))) ≡ Left (c .before .rest .given .0 .0)
 left-over c = sym (c .before .before .before .firmware-room .ensures) ∙ c .before .rest .given .1
 
-spent : (c : tie.After-known-told) → (c .before .rest .given .0 .0 ≡ length (now (c .before .before .before .before .before .before .before .before .args .out)) - length (messageBytes (firmwareFields (now (c .before .before .before .before .before .before .before .before .args .texts)) (c .before .before .before .before .before .before .before .before .args .apply .«firmware_information»)))) × (length (messageBytes (firmwareFields (now (c .before .before .before .before .before .before .before .before .args .texts)) (c .before .before .before .before .before .before .before .before .args .apply .«firmware_information»))) ≤ length (now (c .before .before .before .before .before .before .before .before .args .out)))
-spent c = room-rest (length (now (c .before .before .before .before .before .before .before .before .args .out))) (length (messageBytes (firmwareFields (now (c .before .before .before .before .before .before .before .before .args .texts)) (c .before .before .before .before .before .before .before .before .args .apply .«firmware_information»)))) (c .before .rest .given .0 .0) (left-over c)
+spent : (c : tie.After-known-told) → let start = c .before .before .before .before .before .before .before .before in
+    (c .before .rest .given .0 .0 ≡ length (now (start .args .out)) - length (messageBytes (firmwareFields (now (start .args .texts)) (start .args .apply .«firmware_information»)))) × (length (messageBytes (firmwareFields (now (start .args .texts)) (start .args .apply .«firmware_information»))) ≤ length (now (start .args .out)))
+spent c =
+    let start = c .before .before .before .before .before .before .before .before in
+    room-rest (length (now (start .args .out))) (length (messageBytes (firmwareFields (now (start .args .texts)) (start .args .apply .«firmware_information»)))) (c .before .rest .given .0 .0) (left-over c)
 
-counted : (c : tie.After-known-told) → length (now (c .before .before .before .before .before .before .before .before .args .out)) - c .before .rest .given .0 .0 ≡ length (messageBytes (firmwareFields (now (c .before .before .before .before .before .before .before .before .args .texts)) (c .before .before .before .before .before .before .before .before .args .apply .«firmware_information»)))
+counted : (c : tie.After-known-told) → let start = c .before .before .before .before .before .before .before .before in
+    length (now (start .args .out)) - c .before .rest .given .0 .0 ≡ length (messageBytes (firmwareFields (now (start .args .texts)) (start .args .apply .«firmware_information»)))
 counted c = omega (arith, spent c)
 
 firmware-room-requires : tie.Need-firmware-room-requires
@@ -42,8 +47,9 @@ sub-len c = omega (arith, spent c)
 
 returns : tie.Need-returns
 returns c =
+    let start = c .before .before .before .before .before .before .before .before .before .before .before in
     let e = spent (c .before .before .before) in
-    wrote-short _ (applyFields (now (c .before .before .before .before .before .before .before .before .before .before .before .args .texts)) (c .before .before .before .before .before .before .before .before .before .before .before .args .apply)) (now (c .before .before .before .before .before .before .before .before .before .before .before .args .out)) (fine (c .before .before .before .before .before .before .before .before .before .before .before)) (omega (arith, c .if1 .taken, apply-length (now (c .before .before .before .before .before .before .before .before .before .before .before .args .texts)) (c .before .before .before .before .before .before .before .before .before .before .before .args .apply), rw (counted (c .before .before .before)) at (c .before .before .head-len .ensures .0), rw (c .before .before .before .before .before .before .before .bit64 .ensures .0) at (c .before .scalar-len .ensures .0), e))
+    wrote-short _ (applyFields (now (start .args .texts)) (start .args .apply)) (now (start .args .out)) (fine start) (omega (arith, c .if1 .taken, apply-length (now (start .args .texts)) (start .args .apply), rw (counted (c .before .before .before)) at (c .before .before .head-len .ensures .0), rw (c .before .before .before .before .before .before .before .bit64 .ensures .0) at (c .before .scalar-len .ensures .0), e))
 
 put-head-requires : tie.Need-put-head-requires
 put-head-requires c κs =
@@ -64,18 +70,23 @@ put-scalar-requires c κs =
     (search needs, omega (arith, c .before .before .before .before .before .before .before .before .before .if1 .left, c .before .before .before .before .before .before .before .before .before .before .before .head-len .ensures .0, c .before .before .before .before .before .before .before .before .before .before .scalar-len .ensures .0, h .ensures .place, h .kept .0, p .ensures .place, p .kept .0, e))
 
 returns-2 : tie.Need-returns-2
-returns-2 c = wrote-short _ (applyFields (now (c .before .before .before .before .before .before .before .args .texts)) (c .before .before .before .before .before .before .before .args .apply)) (now (c .before .before .before .before .before .before .before .args .out)) (fine (c .before .before .before .before .before .before .before)) (omega (arith, apply-length (now (c .before .before .before .before .before .before .before .args .texts)) (c .before .before .before .before .before .before .before .args .apply), room-short (length (now (c .before .before .before .before .before .before .before .args .out))) (length (messageBytes (firmwareFields (now (c .before .before .before .before .before .before .before .args .texts)) (c .before .before .before .before .before .before .before .args .apply .«firmware_information»)))) (sym (c .before .before .firmware-room .ensures) ∙ c .enum-told .given .1)))
+returns-2 c =
+    let start = c .before .before .before .before .before .before .before in
+    wrote-short _ (applyFields (now (start .args .texts)) (start .args .apply)) (now (start .args .out)) (fine start) (omega (arith, apply-length (now (start .args .texts)) (start .args .apply), room-short (length (now (start .args .out))) (length (messageBytes (firmwareFields (now (start .args .texts)) (start .args .apply .«firmware_information»)))) (sym (c .before .before .firmware-room .ensures) ∙ c .enum-told .given .1)))
 
 returns-3 : tie.Need-returns-3
 returns-3 c =
-    let e = spent (c .before .before .before .before .before .before .before .before .before .before .before .before .before .before .before) in
-    let l = messageBytes (firmwareFields (now (c .before .before .before .before .before .before .before .before .before .before .before .before .before .before .before .before .before .before .before .before .before .before .before .args .texts)) (c .before .before .before .before .before .before .before .before .before .before .before .before .before .before .before .before .before .before .before .before .before .before .before .args .apply .«firmware_information»)) in
-    let b = bit (c .before .before .before .before .before .before .before .before .before .before .before .before .before .before .before .before .before .before .before .before .before .before .before .args .apply .«restart_required») in
-    wrote _ (applyFields (now (c .before .before .before .before .before .before .before .before .before .before .before .before .before .before .before .before .before .before .before .before .before .before .before .args .texts)) (c .before .before .before .before .before .before .before .before .before .before .before .before .before .before .before .before .before .before .before .before .before .before .before .args .apply)) (now (c .before .before .before .before .before .before .before .before .before .before .before .before .before .before .before .before .before .before .before .before .before .before .before .args .out)) (fine (c .before .before .before .before .before .before .before .before .before .before .before .before .before .before .before .before .before .before .before .before .before .before .before))
-    (omega (arith, c .before .before .before .before .before .before .before .before .before .before .before .before .if1 .left, apply-length (now (c .before .before .before .before .before .before .before .before .before .before .before .before .before .before .before .before .before .before .before .before .before .before .before .args .texts)) (c .before .before .before .before .before .before .before .before .before .before .before .before .before .before .before .before .before .before .before .before .before .before .before .args .apply), rw (counted (c .before .before .before .before .before .before .before .before .before .before .before .before .before .before .before)) at (c .before .before .before .before .before .before .before .before .before .before .before .before .before .before .head-len .ensures .0), rw (c .before .before .before .before .before .before .before .before .before .before .before .before .before .before .before .before .before .before .before .bit64 .ensures .0) at (c .before .before .before .before .before .before .before .before .before .before .before .before .before .scalar-len .ensures .0), e))
+    let start = c .before .before .before .before .before .before .before .before .before .before .before .before .before .before .before .before .before .before .before .before .before .before .before in
+    let at-bit64 = c .before .before .before .before .before .before .before .before .before .before .before .before .before .before .before .before .before .before .before in
+    let place2 = c .before .before .before .before .before .before .before .before .before .before .before .before .before .before .before in
+    let e = spent place2 in
+    let l = messageBytes (firmwareFields (now (start .args .texts)) (start .args .apply .«firmware_information»)) in
+    let b = bit (start .args .apply .«restart_required») in
+    wrote _ (applyFields (now (start .args .texts)) (start .args .apply)) (now (start .args .out)) (fine start)
+    (omega (arith, c .before .before .before .before .before .before .before .before .before .before .before .before .if1 .left, apply-length (now (start .args .texts)) (start .args .apply), rw (counted place2) at (c .before .before .before .before .before .before .before .before .before .before .before .before .before .before .head-len .ensures .0), rw (at-bit64 .bit64 .ensures .0) at (c .before .before .before .before .before .before .before .before .before .before .before .before .before .scalar-len .ensures .0), e))
     (put-field (nested firmwareInformationField l) (scalar restartRequiredField b ∷ [])
-    (put-then (headBytes firmwareInformationField (length l)) l (nested-is firmwareInformationField l) (rw (counted (c .before .before .before .before .before .before .before .before .before .before .before .before .before .before .before)) at (c .before .before .before .before .before .before .before .before .before .before .put-head .ensures)) (c .before .before .before .before .before .before .put-firmware .ensures))
-    (put-last (scalar restartRequiredField b) (rw (c .before .before .before .before .before .before .before .before .before .before .before .before .before .before .before .before .before .before .before .bit64 .ensures .0) at (c .before .before .put-scalar .ensures))))
+    (put-then (headBytes firmwareInformationField (length l)) l (nested-is firmwareInformationField l) (rw (counted place2) at (c .before .before .before .before .before .before .before .before .before .before .put-head .ensures)) (c .before .before .before .before .before .before .put-firmware .ensures))
+    (put-last (scalar restartRequiredField b) (rw (at-bit64 .bit64 .ensures .0) at (c .before .before .put-scalar .ensures))))
 
 pub fill-apply-spec : {M : Type 1} → statement M
 fill-apply-spec =

@@ -24,16 +24,18 @@ loop-holds c = (search needs, refl)
 
 returns : tie.Need-returns Inv-loop μ-loop
 returns c =
-    let a = c .before .before .before .before .before .before .args in
+    let start = c .before .before .before .before .before .before in
+    let a = start .args in
     let l = c .before .before .before .before .loop in
-    let e = ap (badComponents (now (a .texts))) (listed-here (a .t2) (a .count) (l .i) (long (c .before .before .before .before .before .before)) (c .before .before .before .loop-test .taken)) in
+    let e = ap (badComponents (now (a .texts))) (listed-here (a .t2) (a .count) (l .i) (long start) (c .before .before .before .loop-test .taken)) in
     sym (l .inv .1 ∙ e ∙ rw (sym (c .before .bad-component .ensures) ∙ c .if1 .taken))
 
 loop-again : tie.Need-loop-again Inv-loop μ-loop
 loop-again c =
-    let a = c .before .before .before .before .before .before .args in
+    let start = c .before .before .before .before .before .before in
+    let a = start .args in
     let l = c .before .before .before .before .loop in
-    let e = ap (badComponents (now (a .texts))) (listed-here (a .t2) (a .count) (l .i) (long (c .before .before .before .before .before .before)) (c .before .before .before .loop-test .taken)) in
+    let e = ap (badComponents (now (a .texts))) (listed-here (a .t2) (a .count) (l .i) (long start) (c .before .before .before .loop-test .taken)) in
     (omega arith, l .inv .1 ∙ e ∙ rw (sym (c .before .bad-component .ensures) ∙ c .if1 .left))
 
 returns-2 : tie.Need-returns-2 Inv-loop μ-loop

@@ -13,19 +13,29 @@ use Rattle.firmware_writer.proofs.information.firmware_room.Statement.{
 use Rattle.firmware_writer.proofs.information.firmware_room.Tie as tie
 
 text-part-len-requires : tie.Need-text-part-len-requires
-text-part-len-requires c κs = (search needs, firmware-fine (now (c .before .before .before .before .before .before .before .before .args .texts)) (c .before .before .before .before .before .before .before .before .args .information) (c .before .before .before .before .before .before .before .before .pre) .name)
+text-part-len-requires c κs =
+    let start = c .before .before .before .before .before .before .before .before in
+    (search needs, firmware-fine (now (start .args .texts)) (start .args .information) (start .pre) .name)
 
 components-room-requires : tie.Need-components-room-requires
-components-room-requires c κs = let f = firmware-fine (now (c .before .before .before .before .before .before .before .before .before .before .args .texts)) (c .before .before .before .before .before .before .before .before .before .before .args .information) (c .before .before .before .before .before .before .before .before .before .before .pre) in (f .most, f .components)
+components-room-requires c κs =
+    let start = c .before .before .before .before .before .before .before .before .before .before in
+    let f = firmware-fine (now (start .args .texts)) (start .args .information) (start .pre) in (f .most, f .components)
 
 text-part-len-requires-2 : tie.Need-text-part-len-requires-2
-text-part-len-requires-2 c κs = (search needs, firmware-fine (now (c .before .before .before .before .before .before .before .before .before .before .before .args .texts)) (c .before .before .before .before .before .before .before .before .before .before .before .args .information) (c .before .before .before .before .before .before .before .before .before .before .before .pre) .locale)
+text-part-len-requires-2 c κs =
+    let start = c .before .before .before .before .before .before .before .before .before .before .before in
+    (search needs, firmware-fine (now (start .args .texts)) (start .args .information) (start .pre) .locale)
 
 text-part-len-requires-3 : tie.Need-text-part-len-requires-3
-text-part-len-requires-3 c κs = (search needs, firmware-fine (now (c .before .before .before .before .before .before .before .before .before .before .before .before .before .args .texts)) (c .before .before .before .before .before .before .before .before .before .before .before .before .before .args .information) (c .before .before .before .before .before .before .before .before .before .before .before .before .before .pre) .version-name)
+text-part-len-requires-3 c κs =
+    let start = c .before .before .before .before .before .before .before .before .before .before .before .before .before in
+    (search needs, firmware-fine (now (start .args .texts)) (start .args .information) (start .pre) .version-name)
 
 returns : tie.Need-returns
 returns c =
+    let at-less = c .before .before .before .before .before .before .before in
+    let at-less2 = c .before .before .before .before .before in
     let a = c .before .before .before .before .before .before .before .before .before .before .before .before .before .before .before .args in
     let i = a .information in
     let f₁ = scalar firmwareVersionField (i .version) in
@@ -33,9 +43,9 @@ returns c =
     let fs = map (componentField (now (a .texts))) (present i) in
     let f₄ = text localeField (bytesOf (now (a .texts)) (i .locale)) in
     let f₅ = text versionNameField (bytesOf (now (a .texts)) (i .«version_name»)) in
-    room-more f₁ (f₂ ∷ (fs ++ (f₄ ∷ f₅ ∷ []))) (Left (a .len)) (c .before .before .before .before .before .before .before .before .scalar-len .ensures .0) (c .before .before .before .before .before .before .before .less .ensures)
-    (room-more f₂ (fs ++ (f₄ ∷ f₅ ∷ [])) (c .before .before .before .before .before .before .before .less .result) (c .before .before .before .before .before .before .text-part-len .ensures) (c .before .before .before .before .before .less2 .ensures)
-    (room-join fs (f₄ ∷ f₅ ∷ []) (c .before .before .before .before .before .less2 .result) (c .before .before .before .before .components-room .ensures)
+    room-more f₁ (f₂ ∷ (fs ++ (f₄ ∷ f₅ ∷ []))) (Left (a .len)) (c .before .before .before .before .before .before .before .before .scalar-len .ensures .0) (at-less .less .ensures)
+    (room-more f₂ (fs ++ (f₄ ∷ f₅ ∷ [])) (at-less .less .result) (c .before .before .before .before .before .before .text-part-len .ensures) (at-less2 .less2 .ensures)
+    (room-join fs (f₄ ∷ f₅ ∷ []) (at-less2 .less2 .result) (c .before .before .before .before .components-room .ensures)
     (room-more f₄ (f₅ ∷ []) (c .before .before .before .before .components-room .result) (c .before .before .before .text-part-len2 .ensures) (c .before .before .less3 .ensures)
     (room-more f₅ [] (c .before .before .less3 .result) (c .before .text-part-len3 .ensures) (c .less4 .ensures) (room-end (c .less4 .result))))))
 

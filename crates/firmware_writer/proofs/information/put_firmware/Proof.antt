@@ -14,34 +14,40 @@ use Rattle.firmware_writer.proofs.information.put_firmware.Statement.{s
 use Rattle.firmware_writer.proofs.information.put_firmware.Tie as tie
 
 put-scalar-requires : tie.Need-put-scalar-requires
-put-scalar-requires c κs = (search needs, omega (arith, c .before .before .before .before .before .before .before .before .pre .1, firmware-length (now (c .before .before .before .before .before .before .before .before .args .texts)) (c .before .before .before .before .before .before .before .before .args .information)))
+put-scalar-requires c κs =
+    let start = c .before .before .before .before .before .before .before .before in
+    (search needs, omega (arith, start .pre .1, firmware-length (now (start .args .texts)) (start .args .information)))
 
 put-text-part-requires : tie.Need-put-text-part-requires
 put-text-part-requires c κs =
+    let start = c .before .before .before .before .before .before .before .before .before .before .before .before in
     let p₁ = c .before .before .before .put-scalar in
-    (search needs, firmware-fine (now (c .before .before .before .before .before .before .before .before .before .before .before .before .args .texts)) (c .before .before .before .before .before .before .before .before .before .before .before .before .args .information) (c .before .before .before .before .before .before .before .before .before .before .before .before .pre .0) .name, omega (arith, c .before .before .before .before .before .before .before .before .before .before .before .before .pre .1, firmware-length (now (c .before .before .before .before .before .before .before .before .before .before .before .before .args .texts)) (c .before .before .before .before .before .before .before .before .before .before .before .before .args .information), p₁ .ensures .place, p₁ .kept .0))
+    (search needs, firmware-fine (now (start .args .texts)) (start .args .information) (start .pre .0) .name, omega (arith, start .pre .1, firmware-length (now (start .args .texts)) (start .args .information), p₁ .ensures .place, p₁ .kept .0))
 
 put-components-requires : tie.Need-put-components-requires
 put-components-requires c κs =
+    let start = c .before .before .before .before .before .before .before .before .before .before .before .before .before .before .before .before in
     let p₁ = c .before .before .before .before .before .before .before .put-scalar in
     let p₂ = c .before .before .before .put-text-part in
-    let f = firmware-fine (now (c .before .before .before .before .before .before .before .before .before .before .before .before .before .before .before .before .args .texts)) (c .before .before .before .before .before .before .before .before .before .before .before .before .before .before .before .before .args .information) (c .before .before .before .before .before .before .before .before .before .before .before .before .before .before .before .before .pre .0) in
-    (f .most, f .components, omega (arith, c .before .before .before .before .before .before .before .before .before .before .before .before .before .before .before .before .pre .1, firmware-length (now (c .before .before .before .before .before .before .before .before .before .before .before .before .before .before .before .before .args .texts)) (c .before .before .before .before .before .before .before .before .before .before .before .before .before .before .before .before .args .information), p₁ .ensures .place, p₁ .kept .0, p₂ .ensures .place, p₂ .kept .0))
+    let f = firmware-fine (now (start .args .texts)) (start .args .information) (start .pre .0) in
+    (f .most, f .components, omega (arith, start .pre .1, firmware-length (now (start .args .texts)) (start .args .information), p₁ .ensures .place, p₁ .kept .0, p₂ .ensures .place, p₂ .kept .0))
 
 put-text-part-requires-2 : tie.Need-put-text-part-requires-2
 put-text-part-requires-2 c κs =
+    let start = c .before .before .before .before .before .before .before .before .before .before .before .before .before .before .before .before .before .before .before .before in
     let p₁ = c .before .before .before .before .before .before .before .before .before .before .before .put-scalar in
     let p₂ = c .before .before .before .before .before .before .before .put-text-part in
     let p₃ = c .before .before .before .put-components in
-    (search needs, firmware-fine (now (c .before .before .before .before .before .before .before .before .before .before .before .before .before .before .before .before .before .before .before .before .args .texts)) (c .before .before .before .before .before .before .before .before .before .before .before .before .before .before .before .before .before .before .before .before .args .information) (c .before .before .before .before .before .before .before .before .before .before .before .before .before .before .before .before .before .before .before .before .pre .0) .locale, omega (arith, c .before .before .before .before .before .before .before .before .before .before .before .before .before .before .before .before .before .before .before .before .pre .1, firmware-length (now (c .before .before .before .before .before .before .before .before .before .before .before .before .before .before .before .before .before .before .before .before .args .texts)) (c .before .before .before .before .before .before .before .before .before .before .before .before .before .before .before .before .before .before .before .before .args .information), p₁ .ensures .place, p₁ .kept .0, p₂ .ensures .place, p₂ .kept .0, p₃ .ensures .place, p₃ .kept .0))
+    (search needs, firmware-fine (now (start .args .texts)) (start .args .information) (start .pre .0) .locale, omega (arith, start .pre .1, firmware-length (now (start .args .texts)) (start .args .information), p₁ .ensures .place, p₁ .kept .0, p₂ .ensures .place, p₂ .kept .0, p₃ .ensures .place, p₃ .kept .0))
 
 put-text-part-requires-3 : tie.Need-put-text-part-requires-3
 put-text-part-requires-3 c κs =
+    let start = c .before .before .before .before .before .before .before .before .before .before .before .before .before .before .before .before .before .before .before .before .before .before .before .before in
     let p₁ = c .before .before .before .before .before .before .before .before .before .before .before .before .before .before .before .put-scalar in
     let p₂ = c .before .before .before .before .before .before .before .before .before .before .before .put-text-part in
     let p₃ = c .before .before .before .before .before .before .before .put-components in
     let p₄ = c .before .before .before .put-text-part2 in
-    (search needs, firmware-fine (now (c .before .before .before .before .before .before .before .before .before .before .before .before .before .before .before .before .before .before .before .before .before .before .before .before .args .texts)) (c .before .before .before .before .before .before .before .before .before .before .before .before .before .before .before .before .before .before .before .before .before .before .before .before .args .information) (c .before .before .before .before .before .before .before .before .before .before .before .before .before .before .before .before .before .before .before .before .before .before .before .before .pre .0) .version-name, omega (arith, c .before .before .before .before .before .before .before .before .before .before .before .before .before .before .before .before .before .before .before .before .before .before .before .before .pre .1, firmware-length (now (c .before .before .before .before .before .before .before .before .before .before .before .before .before .before .before .before .before .before .before .before .before .before .before .before .args .texts)) (c .before .before .before .before .before .before .before .before .before .before .before .before .before .before .before .before .before .before .before .before .before .before .before .before .args .information), p₁ .ensures .place, p₁ .kept .0, p₂ .ensures .place, p₂ .kept .0, p₃ .ensures .place, p₃ .kept .0, p₄ .ensures .place, p₄ .kept .0))
+    (search needs, firmware-fine (now (start .args .texts)) (start .args .information) (start .pre .0) .version-name, omega (arith, start .pre .1, firmware-length (now (start .args .texts)) (start .args .information), p₁ .ensures .place, p₁ .kept .0, p₂ .ensures .place, p₂ .kept .0, p₃ .ensures .place, p₃ .kept .0, p₄ .ensures .place, p₄ .kept .0))
 
 returns : tie.Need-returns
 returns c =

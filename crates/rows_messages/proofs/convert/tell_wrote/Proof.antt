@@ -3,7 +3,9 @@ use Rattle.rows_messages.proofs.convert.tell_wrote.Statement.{statement
 use Rattle.rows_messages.proofs.convert.tell_wrote.Tie as tie
 
 returns : tie.Need-returns
-returns c = (c .before .before .before .before .before .before .text-number .ensures, rw (c .before .before .put .ensures, c .before .before .before .before .before .before .text-number .ensures, c .before .before .before .before .before .text-row .ensures))
+returns c =
+    let at-text-number = c .before .before .before .before .before .before in
+    (at-text-number .text-number .ensures, rw (c .before .before .put .ensures, at-text-number .text-number .ensures, c .before .before .before .before .before .text-row .ensures))
 
 pub tell-wrote-spec : {M : Type 1} → statement M
 tell-wrote-spec =

@@ -30,9 +30,10 @@ loop-holds c = (search needs, refl)
 
 returns : tie.Need-returns Inv-loop μ-loop
 returns c =
+    let place = c .before .before .before .before .before in
     let l = c .before .before .loop in
-    let h : l .i < length (rangesOf (c .before .before .before .before .before)) = omega (arith, size (c .before .before .before .before .before)) in
-    sym (l .inv .1 ∙ begins-short (rangesOf (c .before .before .before .before .before)) _ (l .i) h (c .if1 .taken))
+    let h : l .i < length (rangesOf place) = omega (arith, size place) in
+    sym (l .inv .1 ∙ begins-short (rangesOf place) _ (l .i) h (c .if1 .taken))
 
 array-copy-out-is-within : tie.Need-array-copy-out-is-within Inv-loop μ-loop
 array-copy-out-is-within c = omega (arith, c .before .before .before .before .before .pre .1)

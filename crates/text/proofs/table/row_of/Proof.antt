@@ -35,21 +35,23 @@ loop-holds c = (search needs, refl)
 
 returns : tie.Need-returns Inv-loop μ-loop
 returns c =
+    let at-loop-test = c .before .before .before .before .before in
     let a = c .before .before .before .before .before .before .before .before .args in
     let r = c .before .before .before .before .before .before .before .all-rows in
     let l = c .before .before .before .before .before .before .loop in
-    let w = leads (r .result) (l .i) (a .lead) true (r .ensures) (c .before .before .before .before .before .loop-test .taken) (sym (c .before .is-within .ensures) ∙ c .if1 .taken) in
-    let e = l .inv .1 ∙ row-here (a .lead) (l .i) (c .before .before .before .before .before .loop-test .taken) w in
-    let k : getD (r .result) (l .i) (0, []) ≡ padded (rowOf (a .lead)) = row-at (r .result) (l .i) (r .ensures) (c .before .before .before .before .before .loop-test .taken) ∙ ap padded (sym e) in
+    let w = leads (r .result) (l .i) (a .lead) true (r .ensures) (at-loop-test .loop-test .taken) (sym (c .before .is-within .ensures) ∙ c .if1 .taken) in
+    let e = l .inv .1 ∙ row-here (a .lead) (l .i) (at-loop-test .loop-test .taken) w in
+    let k : getD (r .result) (l .i) (0, []) ≡ padded (rowOf (a .lead)) = row-at (r .result) (l .i) (r .ensures) (at-loop-test .loop-test .taken) ∙ ap padded (sym e) in
     (k, subst (λ (x : Row). x .0 ≤ 4) (sym k) (row-at-most (a .lead)))
 
 loop-again : tie.Need-loop-again Inv-loop μ-loop
 loop-again c =
+    let at-loop-test = c .before .before .before .before .before in
     let a = c .before .before .before .before .before .before .before .before .args in
     let r = c .before .before .before .before .before .before .before .all-rows in
     let l = c .before .before .before .before .before .before .loop in
-    let w = leads (r .result) (l .i) (a .lead) false (r .ensures) (c .before .before .before .before .before .loop-test .taken) (sym (c .before .is-within .ensures) ∙ c .if1 .left) in
-    (omega arith, l .inv .1 ∙ row-later (a .lead) (l .i) (c .before .before .before .before .before .loop-test .taken) w)
+    let w = leads (r .result) (l .i) (a .lead) false (r .ensures) (at-loop-test .loop-test .taken) (sym (c .before .is-within .ensures) ∙ c .if1 .left) in
+    (omega arith, l .inv .1 ∙ row-later (a .lead) (l .i) (at-loop-test .loop-test .taken) w)
 
 returns-2 : tie.Need-returns-2 Inv-loop μ-loop
 returns-2 c =

@@ -95,9 +95,10 @@ text-place-requires c κs = held (c .before .before .before) (c .before .added3 
 
 returns-2 : tie.Need-returns-2 Inv-loop μ-loop
 returns-2 c =
+    let place = c .before .before .before .before .before .before .before in
     let e = c .before .before .before .before .before .added3 .given .1 in
     ap toldKept (c .stop-text .ensures)
-    ∙ sym (halted (c .before .before .before .before .before .before .before .before .before .before .before) _ (went (c .before .before .before .before .before .before .before) e (string-refused _ _ _ _ _ _ (held (c .before .before .before .before .before .before .before) e) (c .before .before .before .text-place .ensures) (c .before .if1 .taken))))
+    ∙ sym (halted (c .before .before .before .before .before .before .before .before .before .before .before) _ (went place e (string-refused _ _ _ _ _ _ (held place e) (c .before .before .before .text-place .ensures) (c .before .if1 .taken))))
 
 with-repeated-requires : tie.Need-with-repeated-requires Inv-loop μ-loop
 with-repeated-requires c κs =
@@ -107,8 +108,9 @@ with-repeated-requires c κs =
 
 returns-3 : tie.Need-returns-3 Inv-loop μ-loop
 returns-3 c =
+    let at-with-transport = c .before .before .before .before .before in
     ap toldKept (c .stop2 .ensures)
-    ∙ sym (halted (c .before .before .before .before .before .before .before .before .before .before .before .before .before) _ (went (c .before .before .before .before .before .before .before .before .before) (c .before .before .before .before .before .before .before .added5 .given .1) (grown-told (c .before .before .before .before .before .with-transport .result) (c .before .before .before .before .before .with-transport .ensures) (c .before .before .verdict .given .1))))
+    ∙ sym (halted (c .before .before .before .before .before .before .before .before .before .before .before .before .before) _ (went (c .before .before .before .before .before .before .before .before .before) (c .before .before .before .before .before .before .before .added5 .given .1) (grown-told (at-with-transport .with-transport .result) (at-with-transport .with-transport .ensures) (c .before .before .verdict .given .1))))
 
 keep-packed-requires : tie.Need-keep-packed-requires Inv-loop μ-loop
 keep-packed-requires c κs =
@@ -118,8 +120,9 @@ keep-packed-requires c κs =
 
 returns-4 : tie.Need-returns-4 Inv-loop μ-loop
 returns-4 c =
+    let at-keep-packed = c .before .before .before .before .before in
     ap toldKept (c .stop3 .ensures)
-    ∙ sym (halted (c .before .before .before .before .before .before .before .before .before .before .before .before .before) _ (went (c .before .before .before .before .before .before .before .before .before) (c .before .before .before .before .before .before .before .added6 .given .1) (grown-told (c .before .before .before .before .before .keep-packed .result) (c .before .before .before .before .before .keep-packed .ensures) (c .before .before .verdict2 .given .1))))
+    ∙ sym (halted (c .before .before .before .before .before .before .before .before .before .before .before .before .before) _ (went (c .before .before .before .before .before .before .before .before .before) (c .before .before .before .before .before .before .before .added6 .given .1) (grown-told (at-keep-packed .keep-packed .result) (at-keep-packed .keep-packed .ensures) (c .before .before .verdict2 .given .1))))
 
 loop-less : tie.Need-loop-less Inv-loop μ-loop
 loop-less c = turn (c .before .before) (c .enum-told .given .1) _ refl .1
@@ -136,9 +139,10 @@ loop-again-2 c = turn (c .before .before .before .before) (c .before .before .ad
 -- a string that is well formed
 kept-text : (c : tie.After-with-text Inv-loop μ-loop) → let k = c .before .before .before .before .before .before .before in withAdded (message k) (added k) (so-far k) ≡ given (c .with-text .result)
 kept-text c =
+    let place = c .before .before .before .before .before .before .before in
     let e = c .before .before .before .before .before .added3 .given .1 in
-    ap (λ a. withAdded (message (c .before .before .before .before .before .before .before)) a (so-far (c .before .before .before .before .before .before .before))) e
-    ∙ string-taken _ _ _ _ _ _ (held (c .before .before .before .before .before .before .before) e) (c .before .before .before .text-place .ensures) (c .before .if1 .left) ∙ ap given (sym (c .with-text .ensures))
+    ap (λ a. withAdded (message place) a (so-far place)) e
+    ∙ string-taken _ _ _ _ _ _ (held place e) (c .before .before .before .text-place .ensures) (c .before .if1 .left) ∙ ap given (sym (c .with-text .ensures))
 
 loop-less-3 : tie.Need-loop-less-3 Inv-loop μ-loop
 loop-less-3 c = turn (c .before .before .before .before .before .before .before) refl _ (kept-text c) .1

@@ -7,13 +7,19 @@ use Rattle.parts.proofs.state.PartProgress.take_pair.Statement.{stateme
 use Rattle.parts.proofs.state.PartProgress.take_pair.Tie as tie
 
 slice-write-out : tie.Need-slice-write-out
-slice-write-out c = omega (arith, (pair-facts (c .before .before .before .before .before .byte-at .result) (c .before .before .before .before .before .before .before .before .args .self .taken) (c .before .before .before .before .before .before .before .before .args .self .total) (length (c .before .before .before .before .before .before .before .before .args .out .now) - c .before .before .before .before .before .before .before .before .args .at) (c .before .before .is-mark .ensures) (c .before .before .before .both .ensures) (c .before .both2 .ensures) (c .if1 .taken)) .2)
+slice-write-out c =
+    let start = c .before .before .before .before .before .before .before .before in
+    omega (arith, (pair-facts (c .before .before .before .before .before .byte-at .result) (start .args .self .taken) (start .args .self .total) (length (start .args .out .now) - start .args .at) (c .before .before .is-mark .ensures) (c .before .before .before .both .ensures) (c .before .both2 .ensures) (c .if1 .taken)) .2)
 
 slice-write-out-2 : tie.Need-slice-write-out-2
-slice-write-out-2 c = simp length-set (omega (arith, (pair-facts (c .before .before .before .before .before .before .byte-at .result) (c .before .before .before .before .before .before .before .before .before .args .self .taken) (c .before .before .before .before .before .before .before .before .before .args .self .total) (length (c .before .before .before .before .before .before .before .before .before .args .out .now) - c .before .before .before .before .before .before .before .before .before .args .at) (c .before .before .before .is-mark .ensures) (c .before .before .before .before .both .ensures) (c .before .before .both2 .ensures) (c .before .if1 .taken)) .2))
+slice-write-out-2 c =
+    let start = c .before .before .before .before .before .before .before .before .before in
+    simp length-set (omega (arith, (pair-facts (c .before .before .before .before .before .before .byte-at .result) (start .args .self .taken) (start .args .self .total) (length (start .args .out .now) - start .args .at) (c .before .before .before .is-mark .ensures) (c .before .before .before .before .both .ensures) (c .before .before .both2 .ensures) (c .before .if1 .taken)) .2))
 
 advanced-requires : tie.Need-advanced-requires
-advanced-requires c κs = omega (arith, (pair-facts (c .before .before .before .before .before .before .before .byte-at .result) (c .before .before .before .before .before .before .before .before .before .before .args .self .taken) (c .before .before .before .before .before .before .before .before .before .before .args .self .total) (length (c .before .before .before .before .before .before .before .before .before .before .args .out .now) - c .before .before .before .before .before .before .before .before .before .before .args .at) (c .before .before .before .before .is-mark .ensures) (c .before .before .before .before .before .both .ensures) (c .before .before .before .both2 .ensures) (c .before .before .if1 .taken)) .1)
+advanced-requires c κs =
+    let start = c .before .before .before .before .before .before .before .before .before .before in
+    omega (arith, (pair-facts (c .before .before .before .before .before .before .before .byte-at .result) (start .args .self .taken) (start .args .self .total) (length (start .args .out .now) - start .args .at) (c .before .before .before .before .is-mark .ensures) (c .before .before .before .before .before .both .ensures) (c .before .before .before .both2 .ensures) (c .before .before .if1 .taken)) .1)
 
 returns : tie.Need-returns
 returns c =
