@@ -5,22 +5,22 @@ use mathlib.Core.List.{List, [], map}
 use lib.IntN.{ℤ}
 use lib.ListN.{getD, take, replicate}
 use Rattle.wire.specs.Told.{Told, given, andThen, Written}
-use Rattle.framing.specs.Frame.{nextSequence}
-use Rattle.frame_writer.specs.Writer as frame
-use Rattle.packet.specs.Header.{extenderBit}
-use Rattle.packet.specs.Reader.{readOf, lenIn}
-use Rattle.acknowledgement.specs.Acknowledgement.{ackOf}
-use Rattle.sender.specs.declared.writer.Sending.{Sending}
-use Rattle.sender.specs.Writer.{Sent, writtenOf}
-use Rattle.sender_claims.specs.Calls.{callsOf}
-use Rattle.slot.specs.declared.Slot.{Slot}
-use Rattle.slot.specs.declared.answer.Accepted.{Accepted}
-use Rattle.slot.specs.Slot.{slotCount}
-use Rattle.receiver.specs.declared.Receiver.{Receiver}
-use Rattle.receiver.specs.Receiver.{openOf, call, PacketLeft, acceptOf}
-use Rattle.control.specs.declared.envelope.Envelope.{Envelope}
-use Rattle.control.specs.declared.envelope.EnvelopePayload.{EnvelopePayload}
-use Rattle.control.specs.Envelope.{envelopeOf, envelopeWritten}
+use Rattle.classic_frame.specs.Frame.{nextSequence}
+use Rattle.classic_writer.specs.Writer as frame
+use Rattle.ble_packet.specs.Header.{extenderBit}
+use Rattle.ble_packet.specs.Reader.{readOf, lenIn}
+use Rattle.ble_ack.specs.Acknowledgement.{ackOf}
+use Rattle.ble_sender.specs.declared.writer.Sending.{Sending}
+use Rattle.ble_sender.specs.Writer.{Sent, writtenOf}
+use Rattle.ble_sender_claims.specs.Calls.{callsOf}
+use Rattle.ble_slot.specs.declared.Slot.{Slot}
+use Rattle.ble_slot.specs.declared.answer.Accepted.{Accepted}
+use Rattle.ble_slot.specs.Slot.{slotCount}
+use Rattle.ble_receiver.specs.declared.Receiver.{Receiver}
+use Rattle.ble_receiver.specs.Receiver.{openOf, call, PacketLeft, acceptOf}
+use Rattle.msg_control.specs.declared.envelope.Envelope.{Envelope}
+use Rattle.msg_control.specs.declared.envelope.EnvelopePayload.{EnvelopePayload}
+use Rattle.msg_control.specs.Envelope.{envelopeOf, envelopeWritten}
 use Rattle.outbox.specs.Format.{formatOf}
 use Rattle.outbox.specs.Reader as outbox
 use Rattle.outbox.specs.Writer.{Stored, appendOf}

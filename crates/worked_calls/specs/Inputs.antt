@@ -2,10 +2,10 @@
 use mathlib.Core.Path.{_≡_}
 use mathlib.Core.List.{List, [], _∷_, _++_, map}
 use lib.ListN.{replicate}
-use Rattle.judge.specs.Input.{inputOf}
+use Rattle.capture_judge.specs.Input.{inputOf}
 use Rattle.wire.specs.Told.{given, refused}
-use Rattle.captures.specs.Capture.{ToldAt}
-use Rattle.judge.specs.Capture.{Answer, lawful, open·ended, unlawful}
+use Rattle.capture_reader.specs.Capture.{ToldAt}
+use Rattle.capture_judge.specs.Capture.{Answer, lawful, open·ended, unlawful}
 
 unfoldable pub inputsRows : List (ToldAt Answer × ToldAt Answer)
 inputsRows =

@@ -3,9 +3,9 @@ use Prim.Native.Nat.{ℕ}
 use mathlib.Core.Path.{_≡_}
 use mathlib.Core.Bool.{Bool, true, false}
 use mathlib.Core.List.{List, [], _∷_, map}
-use Rattle.next_packet.specs.NextPacket.{nextOf}
-use Rattle.sender_slot.specs.declared.SenderSlot.the-variants.{Idle, Open}
-use Rattle.next_packet.specs.declared.NextPacket.{NextPacket}
+use Rattle.capture_next.specs.NextPacket.{nextOf}
+use Rattle.capture_stream.specs.declared.SenderSlot.the-variants.{Idle, Open}
+use Rattle.capture_next.specs.declared.NextPacket.{NextPacket}
 
 -- open, id, sequence, type, length, extender, last
 abbrev expected : Bool → ℕ → ℕ → ℕ → ℕ → Bool → Bool → NextPacket

@@ -3,9 +3,9 @@ use Prim.Native.Nat.{ℕ}
 use mathlib.Core.Path.{_≡_}
 use mathlib.Core.List.{List, [], _∷_, _++_, map}
 use lib.ListN.{replicate}
-use Rattle.calls_receiving.specs.Calls.{receiverAcceptOf, AcceptCalled, replied}
-use Rattle.slot.specs.declared.Slot.{Slot}
-use Rattle.slot.specs.Slot.{idle}
+use Rattle.c_receiving.specs.Calls.{receiverAcceptOf, AcceptCalled, replied}
+use Rattle.ble_slot.specs.declared.Slot.{Slot}
+use Rattle.ble_slot.specs.Slot.{idle}
 
 -- flag, id, last sequence, ACK wanted, total, held
 abbrev slot : ℕ → ℕ → ℕ → ℕ → ℕ → ℕ → Slot

@@ -2,10 +2,10 @@
 use mathlib.Core.Path.{_≡_}
 use mathlib.Core.List.{List, [], _∷_, _++_, map}
 use lib.ListN.{replicate}
-use Rattle.calls_receiving.specs.Calls.{receiverOpenOf}
-use Rattle.calls_sending.specs.Calls.{packetWriteOf, ackWriteOf}
-use Rattle.calls_sending.specs.Convert.{sendingOf}
-use Rattle.rows.specs.Called.{Called, called}
+use Rattle.c_receiving.specs.Calls.{receiverOpenOf}
+use Rattle.c_sending.specs.Calls.{packetWriteOf, ackWriteOf}
+use Rattle.c_sending.specs.Convert.{sendingOf}
+use Rattle.c_rows.specs.Called.{Called, called}
 
 unfoldable pub sendingRows : List (Called × Called)
 sendingRows =

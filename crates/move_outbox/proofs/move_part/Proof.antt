@@ -5,8 +5,8 @@ use lib.ListN.{length}
 use lib.Seq.{length-take-le}
 use borrow.Author.Needs.{needs}
 use denote.Ref.{now}
-use Rattle.moving.specs.Moves.{formatFor, told}
-use Rattle.moving.proofs.Deciding.{written-fits}
+use Rattle.outbox_move.specs.Moves.{formatFor, told}
+use Rattle.outbox_move.proofs.Deciding.{written-fits}
 use Rattle.move_outbox.proofs.move_part.Statement.{statement}
 use Rattle.move_outbox.proofs.move_part.Tie as tie
 

@@ -5,7 +5,7 @@ use lib.ListN.{length, take}
 use lib.Seq.{length-take-le}
 use borrow.Author.Needs.{needs}
 use Rattle.outbox.specs.Format.{formatOf}
-use Rattle.listing.proofs.Parts.{told-within, carried-within}
+use Rattle.cli_listing.proofs.Parts.{told-within, carried-within}
 use Rattle.move_outbox.proofs.pass_over.Statement.{statement}
 use Rattle.move_outbox.proofs.pass_over.Tie as tie
 

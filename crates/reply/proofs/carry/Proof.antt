@@ -5,8 +5,8 @@ use mathlib.Core.List.{List}
 use lib.ListN.{length-append}
 use denote.Ref.{now}
 use Rattle.wire.proofs.Limits.{limit-range}
-use Rattle.packet.proofs.Headers.{in-range-low}
-use Rattle.sender.proofs.Guard.{room-low}
+use Rattle.ble_packet.proofs.Headers.{in-range-low}
+use Rattle.ble_sender.proofs.Guard.{room-low}
 use Rattle.reply_parts.specs.Front.{frontBytes}
 use Rattle.reply_parts.specs.Body.{bodyBy}
 use Rattle.reply.specs.Reply.{boxOf, sendingOf, joinedIn}

@@ -7,10 +7,10 @@ use lib.Seq.{sets}
 use denote.Ref.{now}
 use borrow.Rule.Slice.PartMut.{putMid}
 use Rattle.wire.specs.Told.{given, written}
-use Rattle.sender.specs.Piece.{piecesOf}
-use Rattle.joining.specs.Joined.{joinedOf, sizes}
-use Rattle.joining.proofs.Pieces.{joined-long}
-use Rattle.joining.proofs.Guards.{joined-length}
+use Rattle.ble_sender.specs.Piece.{piecesOf}
+use Rattle.ble_joined.specs.Joined.{joinedOf, sizes}
+use Rattle.ble_joined.proofs.Pieces.{joined-long}
+use Rattle.ble_joined.proofs.Guards.{joined-length}
 use Rattle.reply_parts.specs.Front.{frontBytes}
 use Rattle.reply_parts.specs.Body.{bodyBy}
 use Rattle.reply.specs.Reply.{sendingOf, Replied, sent}

@@ -2,8 +2,8 @@ use native.Mathlib.Omega.{arith}
 use mathlib.Core.Path.{sym, _∙_}
 use lib.ListN.{length}
 use denote.Ref.{now}
-use Rattle.field_writer.proofs.Messages.{room-short}
-use Rattle.field_writer.proofs.Rooms.{room-rest}
+use Rattle.proto_writer.proofs.Messages.{room-short}
+use Rattle.proto_writer.proofs.Rooms.{room-rest}
 use Rattle.reply_parts.specs.Body.{bodyBy}
 use Rattle.reply.proofs.Replies.{whole-by, body-within, counted}
 use borrow.Author.Needs.{needs}

@@ -8,7 +8,7 @@ use borrow.Rule.Slice.PartMut.{putMid}
 use Rattle.wire.proofs.Parts.{sets-part}
 use Rattle.reply_parts.specs.Front.{frontBytes}
 use Rattle.reply_parts.specs.Body.{bodyBy}
-use Rattle.joining.proofs.Pieces.{total-fits}
+use Rattle.ble_joined.proofs.Pieces.{total-fits}
 use Rattle.reply.proofs.Puts.{reply-joined}
 use borrow.Author.Needs.{needs}
 use Rattle.reply.proofs.put_reply.Statement.{statement}

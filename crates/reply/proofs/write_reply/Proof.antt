@@ -3,7 +3,7 @@ use mathlib.Core.Path.{ap, _∙_}
 use mir.Syntax.{w32}
 use mir.Facts.{toZ-ofZ}
 use denote.Ref.{now}
-use Rattle.field.specs.Signed.{extended}
+use Rattle.proto_field.specs.Signed.{extended}
 use Rattle.reply.specs.Reply.{boxOf, sentOf, repliedOf}
 use borrow.Author.Needs.{needs}
 use Rattle.reply.proofs.write_reply.Statement.{statement}

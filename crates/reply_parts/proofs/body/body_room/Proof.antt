@@ -1,7 +1,7 @@
 use native.Mathlib.Omega.{arith}
 use lib.ListN.{length}
-use Rattle.field_writer.specs.Writer.{messageBytes}
-use Rattle.device.specs.Features.{featuresFields}
+use Rattle.proto_writer.specs.Writer.{messageBytes}
+use Rattle.msg_device.specs.Features.{featuresFields}
 use Rattle.reply_parts.proofs.Rooms.{room-over, room-within, room-all}
 use borrow.Author.Needs.{needs}
 use Rattle.reply_parts.proofs.body.body_room.Statement.{statement}

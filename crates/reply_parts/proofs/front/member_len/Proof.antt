@@ -1,4 +1,4 @@
-use Rattle.field_writer.proofs.Messages.{member-fits}
+use Rattle.proto_writer.proofs.Messages.{member-fits}
 use borrow.Author.Needs.{needs}
 use Rattle.reply_parts.proofs.front.member_len.Statement.{statement}
 use Rattle.reply_parts.proofs.front.member_len.Tie as tie

@@ -2,8 +2,8 @@ use native.Mathlib.Omega.{arith}
 use Prim.Native.Nat.{ℕ}
 use mathlib.Core.Path.{ap}
 use lib.ListN.{length}
-use Rattle.field_writer.specs.Writer.{headBytes}
-use Rattle.known_fields.specs.Schema.{responseField}
+use Rattle.proto_writer.specs.Writer.{headBytes}
+use Rattle.proto_schema.specs.Schema.{responseField}
 use Rattle.reply_parts.proofs.Fronts.{front-length, front-put}
 use borrow.Author.Needs.{needs}
 use Rattle.reply_parts.proofs.front.put_front.Statement.{statement}

@@ -1,7 +1,7 @@
 use mathlib.Core.Path.{refl}
 use denote.Ref.{now}
-use Rattle.field_writer.proofs.Runs.{put-none}
-use Rattle.field_writer.proofs.Messages.{member-fits}
+use Rattle.proto_writer.proofs.Runs.{put-none}
+use Rattle.proto_writer.proofs.Messages.{member-fits}
 use borrow.Author.Needs.{needs}
 use Rattle.reply_parts.proofs.front.put_member.Statement.{statement}
 use Rattle.reply_parts.proofs.front.put_member.Tie as tie

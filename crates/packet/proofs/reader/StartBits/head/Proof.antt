@@ -1,9 +1,0 @@
-use borrow.Author.Needs.{needs}
-use Rattle.packet.proofs.reader.StartBits.head.Statement.{statement}
-use Rattle.packet.proofs.reader.StartBits.head.Tie as tie
-
-returns : tie.Need-returns
-returns c = rw (c .stream-of .ensures)
-
-pub head-spec : {M : Type 1} → statement M
-head-spec = tie.close (tie.spec (λ c κs. search needs) returns)
