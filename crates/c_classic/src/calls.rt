@@ -39,7 +39,8 @@ ghost use Rattle.c_classic.specs.Convert.{isExtractor, extractorOf};
 ghost use Rattle.c_classic.specs.Calls.{extractorOpenOf, stepped, extractorStepOf, fedCall, noneUsed, extractorFeedOf, frameWriteOf, nextSequenceOf};
 
 // Opens an extractor for a link with a limit: its empty state.
-pub fn extractor_open(limit: u64, state: &mut [u64]) -> u64
+#[no_mangle]
+pub extern "C" fn pito_extractor_open(limit: u64, state: &mut [u64]) -> u64
     ensures { λ r. ⌜ called r (now (state .exit)) [] [] ≡ extractorOpenOf limit (now (state .entry)) ⌝ }
 {
     if state.len() != STATE {
@@ -56,7 +57,13 @@ pub fn extractor_open(limit: u64, state: &mut [u64]) -> u64
 }
 
 // One byte given to the extractor.
-pub fn extractor_step(state: &mut [u64], buffer: &mut [u8], byte: u8, answer: &mut [u64]) -> u64
+#[no_mangle]
+pub extern "C" fn pito_extractor_step(
+    state: &mut [u64],
+    buffer: &mut [u8],
+    byte: u8,
+    answer: &mut [u64],
+) -> u64
     ensures { λ r. ⌜ called r (now (state .exit)) (now (buffer .exit)) (now (answer .exit))
         ≡ extractorStepOf (now (state .entry)) (now (buffer .entry)) byte (now (answer .entry)) ⌝ }
 {
@@ -101,7 +108,13 @@ fn unfit_feed(answer: &mut [u64]) -> u64
 
 // Many bytes given to the extractor. The answer row tells 0 used under 1, where it has its length. State and buffer are
 // judged here as well as in `feed`: the compiler then judges them once, and keeps nothing for 1 through the bytes.
-pub fn extractor_feed(state: &mut [u64], buffer: &mut [u8], bytes: &[u8], answer: &mut [u64]) -> u64
+#[no_mangle]
+pub extern "C" fn pito_extractor_feed(
+    state: &mut [u64],
+    buffer: &mut [u8],
+    bytes: &[u8],
+    answer: &mut [u64],
+) -> u64
     ensures { λ r. ⌜ called r (now (state .exit)) (now (buffer .exit)) (now (answer .exit))
         ≡ extractorFeedOf (now (state .entry)) (now (buffer .entry)) (now (bytes .entry)) (now (answer .entry)) ⌝ }
 {
@@ -156,7 +169,8 @@ fn feed_fitting(state: &mut [u64], buffer: &mut [u8], bytes: &[u8], answer: &mut
 }
 
 // Writes the frame of a payload, for a link with a limit.
-pub fn frame_write(
+#[no_mangle]
+pub extern "C" fn pito_frame_write(
     sequence: u64,
     limit: u64,
     payload: &[u8],
@@ -175,7 +189,8 @@ pub fn frame_write(
 }
 
 // The sequence byte after a sequence byte.
-pub fn next_sequence(sequence: u8, answer: &mut [u64]) -> u64
+#[no_mangle]
+pub extern "C" fn pito_next_sequence(sequence: u8, answer: &mut [u64]) -> u64
     ensures { λ r. ⌜ called r [] [] (now (answer .exit)) ≡ nextSequenceOf sequence (now (answer .entry)) ⌝ }
 {
     if answer.len() != COUNT_ANSWER {

@@ -34,7 +34,8 @@ fn keep(state: &mut [u64], number: u64, row: &[u64])
 }
 
 // Begins a frame whose payload will have `total` bytes, for a link with a limit.
-pub fn frame_begin(sequence: u64, limit: u64, total: u64, state: &mut [u64]) -> u64
+#[no_mangle]
+pub extern "C" fn pito_frame_begin(sequence: u64, limit: u64, total: u64, state: &mut [u64]) -> u64
     ensures { λ r. ⌜ called r (now (state .exit)) [] [] ≡ frameBeginOf limit sequence total (now (state .entry)) ⌝ }
 {
     if state.len() != STATE {
@@ -54,7 +55,13 @@ pub fn frame_begin(sequence: u64, limit: u64, total: u64, state: &mut [u64]) -> 
 }
 
 // Takes payload and writes the frame on into an output.
-pub fn frame_part(state: &mut [u64], payload: &[u8], output: &mut [u8], answer: &mut [u64]) -> u64
+#[no_mangle]
+pub extern "C" fn pito_frame_part(
+    state: &mut [u64],
+    payload: &[u8],
+    output: &mut [u8],
+    answer: &mut [u64],
+) -> u64
     ensures { λ r. ⌜ called r (now (state .exit)) (now (output .exit)) (now (answer .exit))
         ≡ framePartOf (now (state .entry)) (now (payload .entry)) (now (output .entry)) (now (answer .entry)) ⌝ }
 {

@@ -11,7 +11,13 @@ ghost use Rattle.c_rows.specs.Called.{called};
 ghost use Rattle.c_judge.specs.Calls.{captureJudgeOf};
 
 // Judges a capture for a room and a limit.
-pub fn capture_judge(capture: &[u8], room: u64, limit: u64, answer: &mut [u64]) -> u64
+#[no_mangle]
+pub extern "C" fn pito_capture_judge(
+    capture: &[u8],
+    room: u64,
+    limit: u64,
+    answer: &mut [u64],
+) -> u64
     ensures { λ r. ⌜ called r [] [] (now (answer .exit))
         ≡ captureJudgeOf (now (capture .entry)) room limit (now (answer .entry)) ⌝ }
 {

@@ -21,7 +21,8 @@ ghost use Rattle.c_rows.specs.Called.{called};
 ghost use Rattle.c_outbox.specs.Calls.{outboxNewOf, outboxAppendOf, outboxRecordOf, outboxWholeOf};
 
 // Begins a new outbox.
-pub fn outbox_new(output: &mut [u8], answer: &mut [u64]) -> u64
+#[no_mangle]
+pub extern "C" fn pito_outbox_new(output: &mut [u8], answer: &mut [u64]) -> u64
     ensures { λ r. ⌜ called r [] (now (output .exit)) (now (answer .exit))
         ≡ outboxNewOf (now (output .entry)) (now (answer .entry)) ⌝ }
 {
@@ -33,7 +34,8 @@ pub fn outbox_new(output: &mut [u8], answer: &mut [u64]) -> u64
 }
 
 // Appends a record after the used bytes.
-pub fn outbox_append(
+#[no_mangle]
+pub extern "C" fn pito_outbox_append(
     buffer: &mut [u8],
     used: u64,
     stream: u64,
@@ -52,7 +54,8 @@ pub fn outbox_append(
 }
 
 // Reads the record at a place.
-pub fn outbox_record(bytes: &[u8], place: u64, answer: &mut [u64]) -> u64
+#[no_mangle]
+pub extern "C" fn pito_outbox_record(bytes: &[u8], place: u64, answer: &mut [u64]) -> u64
     ensures { λ r. ⌜ called r [] [] (now (answer .exit))
         ≡ outboxRecordOf (now (bytes .entry)) place (now (answer .entry)) ⌝ }
 {
@@ -64,7 +67,8 @@ pub fn outbox_record(bytes: &[u8], place: u64, answer: &mut [u64]) -> u64
 }
 
 // Whether an outbox is whole.
-pub fn outbox_whole(bytes: &[u8], answer: &mut [u64]) -> u64
+#[no_mangle]
+pub extern "C" fn pito_outbox_whole(bytes: &[u8], answer: &mut [u64]) -> u64
     ensures { λ r. ⌜ called r [] [] (now (answer .exit))
         ≡ outboxWholeOf (now (bytes .entry)) (now (answer .entry)) ⌝ }
 {

@@ -41,17 +41,19 @@ fn outbox_move(file: &[u8], wished: Wished, output: &mut [u8], answer: &mut [u64
 }
 
 // Writes a file as version 01.
-pub fn outbox_to_one(file: &[u8], output: &mut [u8], answer: &mut [u64]) -> u64
+#[no_mangle]
+pub extern "C" fn pito_outbox_to_01(bytes: &[u8], output: &mut [u8], answer: &mut [u64]) -> u64
     ensures { λ r. ⌜ called r [] (now (output .exit)) (now (answer .exit))
-        ≡ outboxMoveOf versionOne (now (file .entry)) (now (output .entry)) (now (answer .entry)) ⌝ }
+        ≡ outboxMoveOf versionOne (now (bytes .entry)) (now (output .entry)) (now (answer .entry)) ⌝ }
 {
-    outbox_move(file, Wished::One, output, answer)
+    outbox_move(bytes, Wished::One, output, answer)
 }
 
 // Writes a file as version 02.
-pub fn outbox_to_two(file: &[u8], output: &mut [u8], answer: &mut [u64]) -> u64
+#[no_mangle]
+pub extern "C" fn pito_outbox_to_02(bytes: &[u8], output: &mut [u8], answer: &mut [u64]) -> u64
     ensures { λ r. ⌜ called r [] (now (output .exit)) (now (answer .exit))
-        ≡ outboxMoveOf versionTwo (now (file .entry)) (now (output .entry)) (now (answer .entry)) ⌝ }
+        ≡ outboxMoveOf versionTwo (now (bytes .entry)) (now (output .entry)) (now (answer .entry)) ⌝ }
 {
-    outbox_move(file, Wished::Two, output, answer)
+    outbox_move(bytes, Wished::Two, output, answer)
 }

@@ -2,11 +2,15 @@
 use crate::convert::ANSWER;
 use crate::convert::answer_number;
 use crate::convert::answer_row;
+use ble_link::accept;
 use ble_receiver::OpenedReceiver;
 use ble_receiver::Receiver;
+use ble_slot::Slot;
 use ble_slot::answer::Answer;
 use c_rows::row::DONE;
+use c_rows::row::OUT_OF_RANGE;
 use c_rows::row::UNFIT;
+use c_rows::row::byte_or;
 use c_rows::row::number_at;
 use c_rows::row::put;
 use c_rows::row::write_row;
@@ -15,7 +19,7 @@ ghost use mathlib.Core.Path.{_≡_};
 ghost use mathlib.Core.List.{[]};
 ghost use Rattle.c_rows.specs.Called.{called};
 ghost use Rattle.ble_slot.specs.Answer.{told};
-ghost use Rattle.c_receiving.specs.Calls.{receiverOpenOf, linkAt, toldRow};
+ghost use Rattle.c_receiving.specs.Calls.{receiverOpenOf, linkAt, toldRow, replied, receiverAcceptOf};
 
 // The numbers of the state row: the limit.
 pub const STATE: usize = 1;
@@ -24,7 +28,8 @@ pub const STATE: usize = 1;
 const BAD_LIMIT: u64 = 17;
 
 // Opens a receiver for a link with a limit: its state.
-pub fn receiver_open(limit: u64, state: &mut [u64]) -> u64
+#[no_mangle]
+pub extern "C" fn pito_receiver_open(limit: u64, state: &mut [u64]) -> u64
     ensures { λ r. ⌜ called r (now (state .exit)) [] [] ≡ receiverOpenOf limit (now (state .entry)) ⌝ }
 {
     if state.len() != STATE {
@@ -65,4 +70,25 @@ pub fn tell_packet(answer: &mut [u64], done: Answer) -> u64
         put(answer, number, &row);
     }
     number
+}
+
+// One packet given to the receiver over a lent row of slots; the ACK that it may want is written in the answer buffer.
+#[no_mangle]
+pub extern "C" fn pito_receiver_accept(
+    state: &[u64],
+    row: &mut [Slot],
+    buffer: &mut [u8],
+    packet: &[u8],
+    sequence: u64,
+    out: &mut [u8],
+    answer: &mut [u64],
+) -> u64
+    ensures { λ r. ⌜ replied r (now (row .exit)) (now (buffer .exit)) (now (answer .exit)) (now (out .exit))
+        ≡ receiverAcceptOf (now (state .entry)) (now (row .entry)) (now (buffer .entry)) (now (packet .entry)) sequence
+        (now (out .entry)) (now (answer .entry)) ⌝ }
+{
+    let link = link_at(state, answer.len());
+    let low = byte_or(OUT_OF_RANGE, sequence);
+    let done = accept(link, row, buffer, packet, low, out);
+    tell_packet(answer, done)
 }

@@ -16,7 +16,8 @@ ghost use Rattle.c_reply.specs.Calls.{replyWriteOf};
 
 // Writes the reply to a message. Transports that are too many or no signed numbers stand for nine, which is out of range
 // where the reply carries them.
-pub fn reply_write(
+#[no_mangle]
+pub extern "C" fn pito_reply_write(
     message: &[u8],
     serial_number: &[u8],
     name: &[u8],

@@ -4,15 +4,17 @@ use crate::convert::REPORT;
 use crate::convert::place_row;
 use crate::convert::put_report;
 use crate::convert::report_at;
+use ble_slot::Slot;
 use c_rows::row::UNFIT;
 use c_rows::row::put;
 use capture_report::CostReport;
 use capture_tally::Answer;
+use capture_tally::add;
 use wire::bytes::wide64;
 use wire::logic::both;
 ghost use mathlib.Core.Path.{_≡_};
 ghost use Rattle.capture_tally.specs.Tally.{told};
-ghost use Rattle.c_report.specs.Calls.{addingTo, added, toldRows};
+ghost use Rattle.c_report.specs.Calls.{addingTo, added, toldRows, reportCalled, reportAddOf};
 
 // What a capture is added to: a report, and the limit of the link that reads it.
 pub struct AddingTo {
@@ -50,4 +52,23 @@ pub fn tell_added(report: &mut [u64], answer: &mut [u64], done: Answer) -> u64
     let place = place_row(done);
     put(answer, number, &place);
     number
+}
+
+// Adds what a capture cost, read by a fresh link of a limit, to a report.
+#[no_mangle]
+pub extern "C" fn pito_report_add(
+    report: &mut [u64],
+    limit: u64,
+    row: &mut [Slot],
+    buffer: &mut [u8],
+    capture: &[u8],
+    answer: &mut [u64],
+) -> u64
+    ensures { λ r. ⌜ reportCalled r (now (report .exit)) (now (row .exit)) (now (buffer .exit)) (now (answer .exit))
+        ≡ reportAddOf (now (report .entry)) limit (now (row .entry)) (now (buffer .entry)) (now (capture .entry))
+        (now (answer .entry)) ⌝ }
+{
+    let to = adding_to(&*report, limit, answer.len());
+    let done = add(to.report, to.limit, row, buffer, capture);
+    tell_added(report, answer, done)
 }

@@ -20,7 +20,8 @@ ghost use Rattle.c_rows.specs.Called.{called};
 ghost use Rattle.c_sending.specs.Calls.{packetWriteOf, ackWriteOf};
 
 // Writes the packet of a message whose piece begins at a place, for a link with a limit.
-pub fn packet_write(
+#[no_mangle]
+pub extern "C" fn pito_packet_write(
     room: u64,
     limit: u64,
     stream: u64,
@@ -48,7 +49,8 @@ pub fn packet_write(
 }
 
 // Writes an ACK, or a NACK where positive is 0.
-pub fn ack_write(
+#[no_mangle]
+pub extern "C" fn pito_ack_write(
     stream: u64,
     id: u64,
     sequence: u64,
