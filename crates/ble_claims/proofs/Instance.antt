@@ -20,17 +20,17 @@ use Rattle.ble_receiver.specs.Receiver.{PacketCall, ready, readIn, acceptOf}
 use Rattle.ble_sender.specs.declared.writer.Sending.{Sending}
 use Rattle.ble_sender.specs.Piece.{sizeFor}
 use Rattle.ble_sender.specs.Writer.{headerBytes, packetOf, roomFits, argumentsFit, writtenOf}
-use Rattle.ble_sender_claims.specs.Calls.{callsFrom, callsOf, Takes}
+use Rattle.ble_sender_claims.specs.Calls.{callsFrom, callsOf, SendableMessage}
 use Rattle.ble_sender_claims.proofs.CallsGiveAll.{takes-all}
 use Rattle.ble_claims.specs.Delivery.{runOf, rowAfter, repliesTo, ours, hasSlot, packetsIn, shown, shownIn, shownTo, allAnswerable, Arrived}
 use Rattle.ble_claims.proofs.MessagesArrive.{round-trip}
-use Rattle.ble_claims.specs.Instance.{limit, how, message, output, slots, buffer, eight, before, first, later, after, Arrives}
+use Rattle.ble_claims.specs.Instance.{limit, how, message, output, slots, buffer, eight, before, first, later, after, ArrivalInstance}
 
 law : lawful limit slots ≡ true
 unfolding lawfulSlot lawful
 law = refl
 
-takes : Takes limit how message output
+takes : SendableMessage limit how message output
 takes = takes-all limit how message output (omega arith) (omega arith) (omega arith) (omega arith) (inr (inr refl)) (omega arith) (omega arith) (omega arith) (omega arith)
 
 begins : first .packet ≡ getD (callsOf limit how message output) 0 []
@@ -56,7 +56,7 @@ arrived : shownTo limit how (repliesTo limit slots buffer before (first ∷ late
 unfolding limitFits isStream streamOf fieldsOf contentOf lines readOf lawfulSlot lawful finish hold dropBy firstStep nextStep ready readIn acceptOf runOf
 arrived = refl
 
-pub arrives : Arrives
+pub arrives : ArrivalInstance
 arrives =
     record {
       law = law;
@@ -73,7 +73,7 @@ arrives =
 -- RoundTrip at both ends of the limits, of whatever is sent there
 round-at : (limit : ℕ) → (limit ≡ 1) ⊎ (limit ≡ 65535)
     → (slots : List Slot) (bytes : List ℕ) (first : PacketCall) (later : List PacketCall) (w : Sending) (m out : List ℕ)
-    → lawful limit slots ≡ true → length bytes ≡ slotCount * limit → Takes limit w m out → first .packet ≡ getD (callsOf limit w m out) 0 []
+    → lawful limit slots ≡ true → length bytes ≡ slotCount * limit → SendableMessage limit w m out → first .packet ≡ getD (callsOf limit w m out) 0 []
     → packetsIn later ≡ drop 1 (callsOf limit w m out) → allAnswerable (first ∷ later) ≡ true → hasSlot slots w ≡ true
     → Arrived w m first later (shownIn limit (runOf limit slots bytes (first ∷ later)))
 round-at limit ends = round-trip limit

@@ -21,7 +21,7 @@ use Rattle.ble_slot.specs.Slot.{idle, isOpen, isIdle, anyOpen, anyIdle, slotCou
 use Rattle.ble_receiver.specs.Buffer.{partOf}
 use Rattle.ble_receiver.specs.Receiver.{isFor, PacketCall, acceptOf}
 use Rattle.ble_sender.specs.declared.writer.Sending.{Sending}
-use Rattle.ble_sender_claims.specs.Calls.{callsOf, Takes}
+use Rattle.ble_sender_claims.specs.Calls.{callsOf, SendableMessage}
 
 -- ---- a run of the receiver
 
@@ -147,7 +147,7 @@ MessagesArrive =
     (limit : ℕ) (slots : List Slot) (bytes : List ℕ) (before : List PacketCall) (first : PacketCall) (later after : List PacketCall) (w : Sending) (m out : List ℕ)
     → lawful limit slots ≡ true
     → length bytes ≡ slotCount * limit
-    → Takes limit w m out
+    → SendableMessage limit w m out
     → first .packet ≡ getD (callsOf limit w m out) 0 []
     → packetsIn (those (ours w) later) ≡ drop 1 (callsOf limit w m out)
     → allAnswerable (first ∷ those (ours w) later) ≡ true
@@ -160,7 +160,7 @@ RoundTrip =
     (limit : ℕ) (slots : List Slot) (bytes : List ℕ) (first : PacketCall) (later : List PacketCall) (w : Sending) (m out : List ℕ)
     → lawful limit slots ≡ true
     → length bytes ≡ slotCount * limit
-    → Takes limit w m out
+    → SendableMessage limit w m out
     → first .packet ≡ getD (callsOf limit w m out) 0 []
     → packetsIn later ≡ drop 1 (callsOf limit w m out)
     → allAnswerable (first ∷ later) ≡ true

@@ -11,7 +11,7 @@ use Rattle.ble_slot.specs.declared.Slot.{Slot}
 use Rattle.ble_slot.specs.Slot.{idle, slotCount, lawful}
 use Rattle.ble_sender.specs.declared.writer.Sending.{Sending}
 use Rattle.ble_receiver.specs.Receiver.{PacketCall, call}
-use Rattle.ble_sender_claims.specs.Calls.{callsOf, Takes}
+use Rattle.ble_sender_claims.specs.Calls.{callsOf, SendableMessage}
 use Rattle.ble_claims.specs.Delivery.{rowAfter, repliesTo, ours, hasSlot, packetsIn, shown, shownTo, allAnswerable, Arrived, MessagesArrive}
 
 -- small, so that the buffer is
@@ -88,10 +88,10 @@ after = call (0x61 ∷ 0x2A ∷ 0x04 ∷ from 32 4) 9 eight ∷ []
 
 -- All that the claim asks for is there, the message is given, at the third packet, with its ACK, at the place of the transaction that it
 -- replaces, and the claim says so.
-pub record Arrives : Type 0 where
+pub record ArrivalInstance : Type 0 where
   pub law : lawful limit slots ≡ true
   pub size : length buffer ≡ slotCount * limit
-  pub takes : Takes limit how message output
+  pub takes : SendableMessage limit how message output
   pub begins : first .packet ≡ getD (callsOf limit how message output) 0 []
   pub sent : packetsIn (those (ours how) later) ≡ drop 1 (callsOf limit how message output)
   pub answerable : allAnswerable (first ∷ those (ours how) later) ≡ true

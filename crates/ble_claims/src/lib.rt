@@ -2,7 +2,7 @@
 ghost use Rattle.ble_claims.specs.AcknowledgementsReturn.{TakesEveryAck, AcknowledgementsReturn};
 ghost use Rattle.ble_claims.specs.Answering.{AnsweredOnly};
 ghost use Rattle.ble_claims.specs.Delivery.{AnswerableAll, SlotEnough, MessagesArrive, RoundTrip, MessageAsked};
-ghost use Rattle.ble_claims.specs.Instance.{Arrives};
+ghost use Rattle.ble_claims.specs.Instance.{ArrivalInstance};
 
 // Each ACK and NACK of the ranges of docs/FORMATS.md is read as it was written.
 pub fn acknowledgements_return()
@@ -32,5 +32,5 @@ pub fn message_asked()
 
 // P4 of docs/FORMATS.md as an instance, by computation.
 pub fn instance_arrives()
-    ensures { λ _. ⌜ Arrives ⌝ }
+    ensures { λ _. ⌜ ArrivalInstance ⌝ }
 {}

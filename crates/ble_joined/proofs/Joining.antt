@@ -17,7 +17,7 @@ use Rattle.ble_sender.specs.declared.writer.Sending.{Sending}
 use Rattle.ble_sender.specs.Piece.{leastRoom, extended, isFirst, sizeFor, piecesOf, pieceFor}
 use Rattle.ble_sender.specs.Writer.{headerBytes, packetOf}
 use Rattle.ble_sender.proofs.Packets.{header-length, packet-length, header-some}
-use Rattle.ble_joined.specs.Joined.{concat, joinedOf, sizes, Places, messageIn, JoinsExactly}
+use Rattle.ble_joined.specs.Joined.{concat, joinedOf, sizes, PacketFits, messageIn, JoinsExactly}
 use Rattle.ble_joined.proofs.Pieces.{restFrom, rest-whole, size-low, size-one, pieces-last, pieces-more, some-left, sizes-rest}
 
 -- ---- stores, and what stands before and after them
@@ -30,7 +30,7 @@ take-sets d at n s e h =
 
 -- a header, and behind it the payload from its later place
 pub placed : (w : Sending) (total : ℕ) (p : Piece) (last : Bool) (out out₁ out₂ : List ℕ) (at from h r : ℕ)
-    → Places w total (length out) at p from
+    → PacketFits w total (length out) at p from
     → h ≡ headerSize (isFirst (p .index)) (extended (p .size))
     → out₁ ≡ sets out (at + 0) (headerBytes w total p last)
     → out₂ ≡ sets out₁ (at + h) (take (p .size) (drop from out₁))

@@ -49,7 +49,7 @@ joinedOver w total out = cond (isExact w total (length out)) (joinedOf w (messag
 -- ---- below the guard
 
 -- the packet of a piece goes to a place, and its bytes stand no earlier than where they go
-pub record Places (w : Sending) (total space at : ℕ) (p : Piece) (from : ℕ) : Type 0 where
+pub record PacketFits (w : Sending) (total space at : ℕ) (p : Piece) (from : ℕ) : Type 0 where
   pub low-stream : w .stream < fourBits
   pub low-id : w .id < fourBits
   pub low-total : total < 65536

@@ -17,7 +17,7 @@ ghost use lib.Seq.{sets};
 ghost use Rattle.wire.specs.Put.{Put};
 ghost use Rattle.ble_sender.specs.Piece.{leastRoom, isFirst, sizeFor, piecesOf};
 ghost use Rattle.ble_sender.specs.Writer.{headerBytes};
-ghost use Rattle.ble_joined.specs.Joined.{joinedOf, sizes, countable, joinedLength, Places, messageIn, JoinsExactly, isExact, joinedOver};
+ghost use Rattle.ble_joined.specs.Joined.{joinedOf, sizes, countable, joinedLength, PacketFits, messageIn, JoinsExactly, isExact, joinedOver};
 
 // How many totals there are: two bytes each.
 const TOTALS: usize = 65536;
@@ -53,7 +53,7 @@ fn put_packet(
     last: bool,
     from: usize,
 ) -> usize
-    requires { ⌜ Places how total (length (now out)) at piece from ⌝ }
+    requires { ⌜ PacketFits how total (length (now out)) at piece from ⌝ }
     ensures { λ r. ⌜ Put (now (out .entry)) at
         (headerBytes how total piece last ++ take (piece .size) (drop from (now (out .entry)))) r (now (out .exit)) ⌝ }
 {

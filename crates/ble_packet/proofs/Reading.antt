@@ -19,7 +19,7 @@ use Rattle.ble_packet.specs.declared.reader.Packet.{Packet}
 use Rattle.ble_packet.specs.declared.reader.Packet.the-variants.{First, Next, Ack, Nack}
 use Rattle.ble_packet.specs.Header.{reservedByte, typeFirst, typeContinuation, typeLast, typeControl, headerSize, lengthPlace, firstByte, secondByte, streamBits, typeBits}
 use Rattle.ble_packet.specs.Control.{ackBytes}
-use Rattle.ble_packet.specs.Reader.{PacketFields, fieldsBy, fieldsOf, isAcknowledgement, lengthAt, isFirst, isControl, headIn, contentOf, lines, judged, readOf, startBitsOf, headBy, fieldsOn}
+use Rattle.ble_packet.specs.Reader.{PacketFields, fieldsBy, fieldsOf, isAcknowledgement, lengthAt, isFirst, isControl, headIn, contentOf, lines, judged, readOf, startBitsOf, headBy, fieldsByStart}
 use Rattle.ble_packet.proofs.Headers.{stream-back, id-back, sequence-back, type-back, ack-back, extender-back}
 
 -- ---- a packet that passes
@@ -125,14 +125,14 @@ judged-next limit f false k known h n = simp (k, known, and-true, le-ltb (f .siz
 -- ---- the same on what the code reads
 
 pub control-judged : (limit : ℕ) (p : List ℕ) (s : StartBits) → 2 ≤ length p → isStream (s .stream) ≡ true
-    → judged limit (fieldsOn p typeControl s)
+    → judged limit (fieldsByStart p typeControl s)
     ≡ table (line 12 (not (isAcknowledgement p (s .ack) (s .extended))) ∷ []) refused (given (cond (s .ack) (Ack (headBy s)) (Nack (headBy s))))
-control-judged limit p s n known = judged-control limit (fieldsOn p typeControl s) refl known n
+control-judged limit p s n known = judged-control limit (fieldsByStart p typeControl s) refl known n
 
 pub first-judged : (limit : ℕ) (p : List ℕ) (s : StartBits) {reserved start len total : ℕ}
     → reserved ≡ getD p 2 0 → start ≡ headerSize true (s .extended) → len ≡ lengthAt p (lengthPlace true) (s .extended) → total ≡ pairOf (getD p 3 0) (getD p 4 0)
     → headerSize true (s .extended) ≤ length p → isStream (s .stream) ≡ true
-    → judged limit (fieldsOn p typeFirst s)
+    → judged limit (fieldsByStart p typeFirst s)
     ≡ table
     (line 4 (not (eqb reserved reservedByte))
     ∷ line 5 (not (eqb (length p) (start + len)))
@@ -142,19 +142,19 @@ pub first-judged : (limit : ℕ) (p : List ℕ) (s : StartBits) {reserved start 
     ∷ [])
     refused
     (given (First (headBy s) (s .ack) total start len))
-first-judged limit p s er es el et n known = judged-first limit (fieldsOn p typeFirst s) refl known (omega arith) n ∙ rw (er, es, el, et)
+first-judged limit p s er es el et n known = judged-first limit (fieldsByStart p typeFirst s) refl known (omega arith) n ∙ rw (er, es, el, et)
 
 pub next-judged : (limit : ℕ) (p : List ℕ) (s : StartBits) (last : Bool) {start len : ℕ}
     → start ≡ headerSize false (s .extended) → len ≡ lengthAt p (lengthPlace false) (s .extended)
     → headerSize false (s .extended) ≤ length p → isStream (s .stream) ≡ true
-    → judged limit (fieldsOn p (cond last typeLast typeContinuation) s)
+    → judged limit (fieldsByStart p (cond last typeLast typeContinuation) s)
     ≡ table (line 5 (not (eqb (length p) (start + len))) ∷ line 7 (eqb len 0) ∷ []) refused (given (Next (headBy s) (s .ack) last start len))
-next-judged limit p s true es el n known = judged-next limit (fieldsOn p typeLast s) true refl known (omega arith) n ∙ rw (es, el)
-next-judged limit p s false es el n known = judged-next limit (fieldsOn p typeContinuation s) false refl known (omega arith) n ∙ rw (es, el)
+next-judged limit p s true es el n known = judged-next limit (fieldsByStart p typeLast s) true refl known (omega arith) n ∙ rw (es, el)
+next-judged limit p s false es el n known = judged-next limit (fieldsByStart p typeContinuation s) false refl known (omega arith) n ∙ rw (es, el)
 
 -- two bytes say which fields are read
 pub read-from : (limit : ℕ) (p : List ℕ) (kind : ℕ) (s : StartBits) → kind ≡ typeBits (getD p 1 0) → s ≡ startBitsOf (getD p 0 0) (getD p 1 0)
-    → readOf limit p ≡ judged limit (fieldsOn p kind s)
+    → readOf limit p ≡ judged limit (fieldsByStart p kind s)
 unfolding readOf fieldsOf
 read-from limit p kind s ek es = rw (ek, es)
 
@@ -166,12 +166,12 @@ no-start limit p l = rw (lt-ltb (length p) 2 l)
 abbrev pub headless : ℕ → ℕ → StartBits → Bool
 headless size kind s = not (eqb kind typeControl) && ltb size (headerSize (eqb kind typeFirst) (s .extended))
 
-pub no-header : (limit : ℕ) (p : List ℕ) (kind : ℕ) (s : StartBits) → 2 ≤ length p → headless (length p) kind s ≡ true → judged limit (fieldsOn p kind s) ≡ refused 2
+pub no-header : (limit : ℕ) (p : List ℕ) (kind : ℕ) (s : StartBits) → 2 ≤ length p → headless (length p) kind s ≡ true → judged limit (fieldsByStart p kind s) ≡ refused 2
 unfolding lines
 no-header limit p kind s n h = rw (le-ltb (length p) 2 n, h)
 
 pub no-stream : (limit : ℕ) (p : List ℕ) (kind : ℕ) (s : StartBits) → 2 ≤ length p → headless (length p) kind s ≡ false → isStream (s .stream) ≡ false
-    → judged limit (fieldsOn p kind s) ≡ refused 3
+    → judged limit (fieldsByStart p kind s) ≡ refused 3
 unfolding lines
 no-stream limit p kind s n h u = rw (le-ltb (length p) 2 n, h, u)
 

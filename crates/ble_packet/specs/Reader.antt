@@ -145,5 +145,5 @@ startBitsOf first second =
 abbrev pub headBy : StartBits → Head
 headBy s = record { stream = streamOf (s .stream); id = s .id; sequence = s .sequence }
 
-abbrev pub fieldsOn : List ℕ → ℕ → StartBits → PacketFields
-fieldsOn p kind s = fieldsBy p (s .stream) (s .id) (s .sequence) kind (s .ack) (s .extended)
+abbrev pub fieldsByStart : List ℕ → ℕ → StartBits → PacketFields
+fieldsByStart p kind s = fieldsBy p (s .stream) (s .id) (s .sequence) kind (s .ack) (s .extended)

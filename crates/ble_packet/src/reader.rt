@@ -14,7 +14,7 @@ ghost use Prim.Native.Nat.{ℕ, _≤_, _<_};
 ghost use lib.ListN.{length};
 ghost use Rattle.wire.specs.Stream.{isStream};
 ghost use Rattle.ble_packet.specs.Header.{headerSize};
-ghost use Rattle.ble_packet.specs.Reader.{lengthAt, isAcknowledgement, headBy, startBitsOf, fieldsOn, headIn, judged, readOf, numberOf, told};
+ghost use Rattle.ble_packet.specs.Reader.{lengthAt, isAcknowledgement, headBy, startBitsOf, fieldsByStart, headIn, judged, readOf, numberOf, told};
 
 pub struct Head {
     pub stream: Stream,
@@ -166,7 +166,7 @@ fn start_bits(first: u8, second: u8) -> StartBits
 
 fn read_control(packet: &[u8], s: StartBits) -> Answer
     requires { ⌜ (2 ≤ length (now packet)) × (isStream (s .stream) ≡ true) ⌝ }
-    ensures { λ r. ⌜ ((limit : ℕ) → told r ≡ judged limit (fieldsOn (now (packet .entry)) 3 s)) ⌝ }
+    ensures { λ r. ⌜ ((limit : ℕ) → told r ≡ judged limit (fieldsByStart (now (packet .entry)) 3 s)) ⌝ }
 {
     let exact = is_acknowledgement(packet, s.ack, s.extended);
     if !exact {
@@ -181,7 +181,7 @@ fn read_control(packet: &[u8], s: StartBits) -> Answer
 
 fn read_first(limit: usize, packet: &[u8], s: StartBits) -> Answer
     requires { ⌜ (headerSize true (s .extended) ≤ length (now packet)) × (isStream (s .stream) ≡ true) ⌝ }
-    ensures { λ r. ⌜ told r ≡ judged limit (fieldsOn (now (packet .entry)) 0 s) ⌝ }
+    ensures { λ r. ⌜ told r ≡ judged limit (fieldsByStart (now (packet .entry)) 0 s) ⌝ }
 {
     let reserved = byte_at(packet, 2);
     if reserved != header::RESERVED {
@@ -215,7 +215,7 @@ fn read_first(limit: usize, packet: &[u8], s: StartBits) -> Answer
 // Last, or a continuation.
 fn read_next(packet: &[u8], s: StartBits, last: bool) -> Answer
     requires { ⌜ (headerSize false (s .extended) ≤ length (now packet)) × (isStream (s .stream) ≡ true) ⌝ }
-    ensures { λ r. ⌜ ((limit : ℕ) → told r ≡ judged limit (fieldsOn (now (packet .entry)) (cond last 2 1) s)) ⌝ }
+    ensures { λ r. ⌜ ((limit : ℕ) → told r ≡ judged limit (fieldsByStart (now (packet .entry)) (cond last 2 1) s)) ⌝ }
 {
     let start = header::header_size(false, s.extended);
     let len = length_at(packet, header::length_place(false), s.extended);

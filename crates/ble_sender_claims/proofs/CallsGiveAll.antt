@@ -22,7 +22,7 @@ use Rattle.ble_sender.proofs.Largest.{size-le, size-some, size-fits}
 use Rattle.ble_sender.proofs.Packets.{packet-length}
 use Rattle.ble_sender.proofs.Guard.{room-low, done}
 use Rattle.ble_sender.proofs.Later.{last-by}
-use Rattle.ble_sender_claims.specs.Calls.{packetsBy, callsFrom, callsOf, Takes, TakesAll, CallsGiveAll}
+use Rattle.ble_sender_claims.specs.Calls.{packetsBy, callsFrom, callsOf, SendableMessage, TakesAll, CallsGiveAll}
 
 told-by : (out : List ℕ) (later : ℕ → List (List ℕ)) (b : Bool) (n next : ℕ)
     → packetsBy out later (given (sentFor b n next)) ≡ take n out ∷ cond b [] (later next)
@@ -89,7 +89,7 @@ module _ (limit : ℕ) (w : Sending) (m : List ℕ) (range : limitFits limit ≡
       (tail-by n rest (eqb n rest) _ _ refl s
       (λ l. calls-from fuel (suc index) (place + n) (rest - n) _ (omega arith) (simp length-sets o) (finds-next fuel index place rest l f)))
 
-pub calls-are : (limit : ℕ) (w : Sending) (m out : List ℕ) → Takes limit w m out → callsOf limit w m out ≡ packetsOf w m
+pub calls-are : (limit : ℕ) (w : Sending) (m out : List ℕ) → SendableMessage limit w m out → callsOf limit w m out ≡ packetsOf w m
 calls-are limit w m out t =
     calls-from limit w m (t .range) (t .room) (t .arguments) (suc (length m)) 0 0 (length m) out (omega arith) (omega arith) (λ q h. refl)
 

@@ -27,7 +27,7 @@ abbrev pub callsOf : ℕ → Sending → List ℕ → List ℕ → List (List �
 callsOf limit w m out = callsFrom (suc (length m)) limit w m out 0
 
 -- what the writer takes
-pub record Takes (limit : ℕ) (w : Sending) (m out : List ℕ) : Type 0 where
+pub record SendableMessage (limit : ℕ) (w : Sending) (m out : List ℕ) : Type 0 where
   -- a limit of 1 to 65,535
   pub range : limitFits limit ≡ true
   -- a room of 20 to 512
@@ -50,10 +50,10 @@ TakesAll =
     → w .sequence ≤ 15
     → length m ≤ limit
     → w .room ≤ length out
-    → Takes limit w m out
+    → SendableMessage limit w m out
 
 -- the calls give all packets of the message, in order, whatever the output held; there is at least one
 abbrev pub CallsGiveAll : Type 0
 CallsGiveAll =
-    (limit : ℕ) (w : Sending) (m out : List ℕ) → Takes limit w m out
+    (limit : ℕ) (w : Sending) (m out : List ℕ) → SendableMessage limit w m out
     → (callsOf limit w m out ≡ packetsOf w m) × (1 ≤ length (callsOf limit w m out))

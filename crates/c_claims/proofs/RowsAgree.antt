@@ -23,7 +23,7 @@ use Rattle.msg_firmware.specs.declared.apply.ApplyFirmware.{ApplyFirmware}
 use Rattle.msg_apply_writer.specs.Apply.{applyWritten}
 use Rattle.proto_field.proofs.Told.{sat-given}
 use Rattle.msg_firmware.specs.Apply.{applyOf}
-use Rattle.msg_firmware_claims.specs.RoundTrip.{Unsigned32, FirmwareTakes}
+use Rattle.msg_firmware_claims.specs.RoundTrip.{Unsigned32, FirmwareWritable}
 use Rattle.msg_firmware_claims.proofs.Told.{Eight, apply-takes, apply-eight}
 use Rattle.msg_firmware_claims.proofs.Segments.{unsigned-trip}
 use Rattle.c_message_rows.specs.Convert.{textCall}
@@ -38,7 +38,7 @@ use Rattle.wire.specs.Limit.{limitFits}
 use Rattle.ble_sender.specs.declared.writer.Sending.{Sending}
 use Rattle.ble_sender.specs.Writer.{packetOf, packetsOf, roomFits, argumentsFit, begins, pieceOf, Sent, sentFor, writtenOf}
 use Rattle.ble_sender.specs.Writer as sender
-use Rattle.ble_sender_claims.specs.Calls.{packetsBy, callsFrom, Takes}
+use Rattle.ble_sender_claims.specs.Calls.{packetsBy, callsFrom, SendableMessage}
 use Rattle.ble_sender_claims.proofs.CallsGiveAll.{calls-give-all}
 use Rattle.c_sending.specs.Convert.{packetRow}
 use Rattle.c_sending.specs.Calls.{packetWriteOf}
@@ -163,7 +163,7 @@ module _ (a : ApplyFirmware) (version : Unsigned32 (a .«firmware_information» 
 told-agrees : (message : List ℕ) (a : ApplyFirmware) (texts out answer : List ℕ) → applyOf message ≡ given a
     → applyWriteOf (wholeRow a) texts out answer ≡ textCall out answer (applyWritten a texts out)
 told-agrees message a texts out answer e =
-    let w = sat-given (λ (x : ApplyFirmware). FirmwareTakes message (x .«firmware_information»)) (applyOf message) a (apply-takes message) e in
+    let w = sat-given (λ (x : ApplyFirmware). FirmwareWritable message (x .«firmware_information»)) (applyOf message) a (apply-takes message) e in
     let eight = sat-given (λ (x : ApplyFirmware). Eight message (x .«firmware_information» .components)) (applyOf message) a (apply-eight message) e in
     apply-agrees a (w .number) (eight .0) (numbers-fit message (a .«firmware_information» .components) (eight .1)) (w .most) texts out answer
 
@@ -263,7 +263,7 @@ module _ (how : Sending) (message : List ℕ) where
       (λ left. packetsFrom calls limit how message left answer) (callsFrom calls limit how message)
       (λ left next. same-calls calls limit left answer next l))
 
-packets-agree : (limit : ℕ) (how : Sending) (message out answer : List ℕ) → Takes limit how message out → length answer ≡ 2
+packets-agree : (limit : ℕ) (how : Sending) (message out answer : List ℕ) → SendableMessage limit how message out → length answer ≡ 2
     → packetsFrom (suc (length message)) limit how message out answer 0 ≡ packetsOf how message
 packets-agree limit how message out answer takes l =
     same-calls how message (suc (length message)) limit out answer 0 l ∙ calls-give-all limit how message out takes .0

@@ -24,7 +24,7 @@ use Rattle.msg_firmware.specs.declared.apply.ApplyFirmware.{ApplyFirmware}
 use Rattle.msg_firmware.specs.Segment.{segmentMade, segmentJudged, segmentOf, segmentParts}
 use Rattle.msg_firmware.specs.Apply.{applyOf}
 use Rattle.msg_firmware.proofs.Segments.{judged-within}
-use Rattle.msg_firmware_claims.specs.RoundTrip.{ComponentsTake, FirmwareTakes}
+use Rattle.msg_firmware_claims.specs.RoundTrip.{ComponentsWritable, FirmwareWritable}
 use Rattle.msg_firmware.proofs.Insides.{Gathers, gathers, text-within}
 use Rattle.msg_firmware_claims.proofs.Told.{apply-takes}
 use Rattle.c_rows.specs.Row.{afterwards}
@@ -96,7 +96,7 @@ module _ (s : List ℕ) where
       let e : length pre + (k + 6) ≡ length pre + k + 6 = omega arith in
       ((at-place pre row k 1 (h .0 .0), at-place pre row k 4 (h .0 .1)), subst (ComponentsLie n s (pre ++ row)) e (components-behind pre row n (k + 6) (h .1)))
 
-  components-lie : (n : ℕ) (cs : List FirmwareComponent) (rest : List ℕ) → n ≤ length cs → ComponentsTake s (take n cs) → ComponentsLie n s (componentRows cs ++ rest) 0
+  components-lie : (n : ℕ) (cs : List FirmwareComponent) (rest : List ℕ) → n ≤ length cs → ComponentsWritable s (take n cs) → ComponentsLie n s (componentRows cs ++ rest) 0
   components-lie zero cs rest l h = tt
   components-lie (suc n) [] rest l h = absurd (omega arith)
   components-lie (suc n) (c ∷ cs) rest l h = (
@@ -104,7 +104,7 @@ module _ (s : List ℕ) where
     components-behind (componentRow c) (componentRows cs ++ rest) n 0 (components-lie n cs rest (omega arith) (h .1)),
   )
 
-  apply-lies : (t : ToldMore ApplyFirmware) → Sat (λ (a : ApplyFirmware). FirmwareTakes s (a .«firmware_information»)) t
+  apply-lies : (t : ToldMore ApplyFirmware) → Sat (λ (a : ApplyFirmware). FirmwareWritable s (a .«firmware_information»)) t
       → LiesAt s (applyRow t) 2 × LiesAt s (applyRow t) 4 × LiesAt s (applyRow t) 6 × ComponentsLie (getD (applyRow t) 8 0) s (applyRow t) 9
   apply-lies (given a) w =
       let f = a .«firmware_information» in

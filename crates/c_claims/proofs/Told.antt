@@ -14,7 +14,7 @@ use Rattle.msg_firmware.specs.declared.component.FirmwareComponent.{FirmwareCom
 use Rattle.msg_firmware.specs.declared.apply.ApplyFirmware.{ApplyFirmware}
 use Rattle.msg_firmware.specs.Apply.{applyOf}
 use Rattle.wire.specs.Bytes.{bit}
-use Rattle.msg_firmware_claims.specs.RoundTrip.{ComponentsTake, FirmwareTakes}
+use Rattle.msg_firmware_claims.specs.RoundTrip.{ComponentsWritable, FirmwareWritable}
 use Rattle.msg_firmware_claims.proofs.Told.{Eight, apply-takes, apply-eight}
 use Rattle.c_message_rows.specs.Convert.{faultOf}
 use Rattle.c_firmware_rows.specs.Apply.{rowSize, answerSize, componentRow, componentRows, headRow, wholeRow, applyRow}
@@ -24,7 +24,7 @@ use Rattle.c_claims.specs.SizesSuffice.{ComponentsFit, RowFits}
 use Rattle.c_claims.specs.RowsAgree.{NumbersFit}
 use Rattle.c_claims.proofs.Strings.{told-row, at-place}
 
-pub numbers-fit : (s : List ℕ) (cs : List FirmwareComponent) → ComponentsTake s cs → NumbersFit cs
+pub numbers-fit : (s : List ℕ) (cs : List FirmwareComponent) → ComponentsWritable s cs → NumbersFit cs
 numbers-fit s [] h = tt
 numbers-fit s (c ∷ cs) h = ((h .0 .0, h .0 .1), numbers-fit s cs (h .1))
 
@@ -43,7 +43,7 @@ module _ (s : List ℕ) where
         subst (ComponentsFit n s (pre ++ row)) e (fits-behind pre row n (k + 6) (h .1)),
       )
 
-  components-fit : (n : ℕ) (cs : List FirmwareComponent) → n ≤ length cs → ComponentsTake s (take n cs) → ComponentsFit n s (componentRows cs) 0
+  components-fit : (n : ℕ) (cs : List FirmwareComponent) → n ≤ length cs → ComponentsWritable s (take n cs) → ComponentsFit n s (componentRows cs) 0
   components-fit zero cs l h = tt
   components-fit (suc n) [] l h = absurd (omega arith)
   components-fit (suc n) (c ∷ cs) l h = (
@@ -51,7 +51,7 @@ module _ (s : List ℕ) where
     fits-behind (componentRow c) (componentRows cs) n 0 (components-fit n cs (omega arith) (h .1)),
   )
 
-  row-fits : (a : ApplyFirmware) → FirmwareTakes s (a .«firmware_information») → RowFits s (wholeRow a)
+  row-fits : (a : ApplyFirmware) → FirmwareWritable s (a .«firmware_information») → RowFits s (wholeRow a)
   row-fits a w =
       let f = a .«firmware_information» in
       let texts = w .strings in
@@ -68,7 +68,7 @@ module _ (s : List ℕ) where
 abbrev Fits : List ℕ → List ℕ → Type 0
 Fits s row = (length (take 57 row) ≡ 57) × RowFits s (take 57 row)
 
-given-fits : (s : List ℕ) (a : ApplyFirmware) → FirmwareTakes s (a .«firmware_information») → Eight s (a .«firmware_information» .components) → Fits s (wholeRow a ++ replicate 2 0)
+given-fits : (s : List ℕ) (a : ApplyFirmware) → FirmwareWritable s (a .«firmware_information») → Eight s (a .«firmware_information» .components) → Fits s (wholeRow a ++ replicate 2 0)
 given-fits s a w eight =
     let cs = a .«firmware_information» .components in
     let long : length (wholeRow a) ≡ 57 = omega (arith, length-append (headRow a) (componentRows cs), rows-length cs, eight .0) in
@@ -82,7 +82,7 @@ zeros-fit s more =
     rw first
     (refl, record { restart = omega arith; version = omega arith; name = (zero-le, empty); locale = (zero-le, empty); version-name = (zero-le, empty); most = omega arith; components = tt })
 
-row-told : (s : List ℕ) (t : ToldMore ApplyFirmware) → Sat (λ (a : ApplyFirmware). FirmwareTakes s (a .«firmware_information»)) t
+row-told : (s : List ℕ) (t : ToldMore ApplyFirmware) → Sat (λ (a : ApplyFirmware). FirmwareWritable s (a .«firmware_information»)) t
     → Sat (λ (a : ApplyFirmware). Eight s (a .«firmware_information» .components)) t → Fits s (applyRow t)
 row-told s (given a) w eight = given-fits s a w eight
 row-told s (refused why) w eight = zeros-fit s (faultOf why)

@@ -32,7 +32,7 @@ use Rattle.c_receiving.specs.Convert as receiving
 use Rattle.c_receiving.specs.Convert.{limitOf}
 use Rattle.ble_sender.specs.declared.writer.Sending.{Sending}
 use Rattle.ble_sender.specs.Writer.{packetsOf}
-use Rattle.ble_sender_claims.specs.Calls.{Takes}
+use Rattle.ble_sender_claims.specs.Calls.{SendableMessage}
 use Rattle.c_sending.specs.Calls.{packetWriteOf}
 use Rattle.outbox_claims.specs.Claims.{Entry}
 use Rattle.outbox_move_claims.specs.Claims.{recordsOf}
@@ -99,7 +99,7 @@ pub record RowsAgree : Type 0 where
       × (convert.stateRow (stateOf row .limit) (stateOf row .progress) ≡ row)
   pub receiver : (x : Receiver) → limitOf (receiving.stateRow x) ≡ x .limit
   -- the calls for a message, each at the next place that the one before it told, give all its packets
-  pub packets : (limit : ℕ) (how : Sending) (message out answer : List ℕ) → Takes limit how message out → length answer ≡ 2
+  pub packets : (limit : ℕ) (how : Sending) (message out answer : List ℕ) → SendableMessage limit how message out → length answer ≡ 2
       → packetsFrom (suc (length message)) limit how message out answer 0 ≡ packetsOf how message
   -- the calls for a file, each at the next place that the one before it told, give all records before its end or its first refusal
   pub records : (file answer : List ℕ) → length answer ≡ 6 → recordsFrom (suc (length file)) file answer 1 ≡ recordsOf file

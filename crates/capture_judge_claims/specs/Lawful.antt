@@ -16,7 +16,7 @@ use Rattle.ble_packet.specs.Header.{isOf}
 use Rattle.ble_packet.specs.Reader.{readOf}
 use Rattle.capture_reader.specs.Capture.{Packets}
 use Rattle.ble_sender.specs.declared.writer.Sending.{Sending}
-use Rattle.ble_sender_claims.specs.Calls.{callsOf, Takes}
+use Rattle.ble_sender_claims.specs.Calls.{callsOf, SendableMessage}
 
 -- ---- what our writer would write
 
@@ -28,7 +28,7 @@ pub record Transaction : Type 0 where
 
 -- one that our writer takes, at this room and limit, on this stream
 pub record Writable (room limit : ℕ) (s : Stream) (t : Transaction) : Type 0 where
-  pub takes : Takes limit (t .how) (t .payload) (t .out)
+  pub takes : SendableMessage limit (t .how) (t .payload) (t .out)
   pub room-is : t .how .room ≡ room
   pub stream-is : t .how .stream ≡ streamNumber s
   pub bytes : AllBytes (t .payload)

@@ -28,7 +28,7 @@ use Rattle.ble_sender.specs.declared.writer.Sending.{Sending}
 use Rattle.ble_sender.specs.Piece as piece
 use Rattle.ble_sender.specs.Writer.{typeFor, headerBytes, isLast, packetOf, packetsOf}
 use Rattle.ble_sender.proofs.Guard.{range-facts}
-use Rattle.ble_sender_claims.specs.Calls.{callsOf, Takes}
+use Rattle.ble_sender_claims.specs.Calls.{callsOf, SendableMessage}
 use Rattle.ble_sender_claims.proofs.CallsGiveAll.{calls-give-all}
 use Rattle.ble_claims.specs.Delivery.{Message, runOf, givenBy, placeIn, hasSlot, packetsIn, CallShown, shown, shownIn, messageOf, allAnswerable, atLast}
 use Rattle.ble_claims.proofs.MessagesArrive.{round-trip}
@@ -192,7 +192,7 @@ idle-slot w Control e = rw e refl
 idle-slot w Ota e = rw e refl
 idle-slot w Alexa e = rw e refl
 
-module _ (limit : ℕ) (bytes : List ℕ) (w : Sending) (m out : List ℕ) (size : length bytes ≡ 12 * limit) (t : Takes limit w m out) where
+module _ (limit : ℕ) (bytes : List ℕ) (w : Sending) (m out : List ℕ) (size : length bytes ≡ 12 * limit) (t : SendableMessage limit w m out) where
   -- by the list of its packets: there is at least one
   pieces-of : (ps : List (List ℕ)) → callsOf limit w m out ≡ ps → Kinds (streamOf (w .stream)) true ps → 1 ≤ length ps
       → Pieces (streamOf (w .stream)) (length m) true (freshRun limit bytes ps .heards)

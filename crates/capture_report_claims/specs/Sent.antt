@@ -5,7 +5,7 @@ use mathlib.Core.List.{List}
 use lib.ListN.{length}
 use Rattle.wire.specs.Stream.{streamOf}
 use Rattle.ble_sender.specs.declared.writer.Sending.{Sending}
-use Rattle.ble_sender_claims.specs.Calls.{callsOf, Takes}
+use Rattle.ble_sender_claims.specs.Calls.{callsOf, SendableMessage}
 use Rattle.capture_report.specs.declared.Costs.{Costs}
 use Rattle.capture_report.specs.Costs.{costsOf}
 use Rattle.capture_report.specs.Report.{freshRun}
@@ -24,5 +24,5 @@ abbrev pub MessageCosts : Type 0
 MessageCosts =
     (limit : ℕ) (bytes : List ℕ) (w : Sending) (m out : List ℕ)
     → length bytes ≡ 12 * limit
-    → Takes limit w m out
+    → SendableMessage limit w m out
     → CostsOne (length m) (costsOf (streamOf (w .stream)) (freshRun limit bytes (callsOf limit w m out) .heards))

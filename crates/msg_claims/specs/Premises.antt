@@ -14,7 +14,7 @@ use Rattle.msg_control.specs.Response.{responseFields, responseWritten}
 use Rattle.msg_control.specs.Envelope.{envelopeFields, envelopeWritten}
 use Rattle.msg_device.specs.Information.{informationFields, informationWritten}
 use Rattle.msg_device.specs.Features.{featuresFields, featuresWritten, featuresOf}
-use Rattle.msg_claims.specs.RoundTrip.{ReadsBack, ResponseTakes, responseAgain, EnvelopeTakes, envelopeAgain, InformationTakes, informationAgain, FeaturesTakes}
+use Rattle.msg_claims.specs.RoundTrip.{ReadsBack, ResponseWritable, responseAgain, EnvelopeWritable, envelopeAgain, InformationWritable, informationAgain, FeaturesWritable}
 
 -- from -2,147,483,648 to 2,147,483,647: negsuc n is -n - 1
 abbrev pub InSigned32 : ℤ → Type 0
@@ -32,22 +32,22 @@ Lendable out = length out ≤ 18446744073709551615
 -- a response with no payload, and with a member's number of 2 to 536,870,911
 pub record ResponsesTaken : Type 0 where
   pub none : (code : ℤ) (body out : List ℕ) → InSigned32 code → Lendable out → length (messageBytes (responseFields (extended code) Inner.None body)) ≤ length out
-      → ResponseTakes code Inner.None body out
+      → ResponseWritable code Inner.None body out
   pub member : (code : ℤ) (field : ℕ) (body out : List ℕ) → InSigned32 code → 2 ≤ field → field ≤ 536870911 → Lendable out
-      → length (messageBytes (responseFields (extended code) (Inner.Member field) body)) ≤ length out → ResponseTakes code (Inner.Member field) body out
+      → length (messageBytes (responseFields (extended code) (Inner.Member field) body)) ≤ length out → ResponseWritable code (Inner.Member field) body out
 
 -- an envelope with no payload, with each response, and with another member's number, which is not 9
 pub record EnvelopesTaken : Type 0 where
   pub none : (command : ℤ) (body out : List ℕ) → InSigned32 command → Lendable out
-      → length (messageBytes (envelopeFields (extended command) Sent.None body)) ≤ length out → EnvelopeTakes command Sent.None body out
+      → length (messageBytes (envelopeFields (extended command) Sent.None body)) ≤ length out → EnvelopeWritable command Sent.None body out
   pub response : (command code : ℤ) (body out : List ℕ) → InSigned32 command → InSigned32 code → Lendable out
       → length (messageBytes (envelopeFields (extended command) (Sent.Response code Inner.None) body)) ≤ length out
-      → EnvelopeTakes command (Sent.Response code Inner.None) body out
+      → EnvelopeWritable command (Sent.Response code Inner.None) body out
   pub response-member : (command code : ℤ) (field : ℕ) (body out : List ℕ) → InSigned32 command → InSigned32 code → 2 ≤ field → field ≤ 536870911 → Lendable out
       → length (messageBytes (envelopeFields (extended command) (Sent.Response code (Inner.Member field)) body)) ≤ length out
-      → EnvelopeTakes command (Sent.Response code (Inner.Member field)) body out
+      → EnvelopeWritable command (Sent.Response code (Inner.Member field)) body out
   pub member : (command : ℤ) (field : ℕ) (body out : List ℕ) → InSigned32 command → 2 ≤ field → field ≤ 536870911 → (field ≡ 9 → ⊥) → Lendable out
-      → length (messageBytes (envelopeFields (extended command) (Sent.Member field) body)) ≤ length out → EnvelopeTakes command (Sent.Member field) body out
+      → length (messageBytes (envelopeFields (extended command) (Sent.Member field) body)) ≤ length out → EnvelopeWritable command (Sent.Member field) body out
 
 -- device information with any strings that are well formed and at most eight transports
 unfoldable pub InformationTaken : Type 0
@@ -55,13 +55,13 @@ InformationTaken =
     (serialNumber name : List ℕ) (transports : List ℤ) (deviceType out : List ℕ) → AllInSigned32 transports → length transports ≤ 8
     → WellFormed serialNumber → WellFormed name → WellFormed deviceType → Lendable out
     → length (messageBytes (informationFields serialNumber name transports deviceType)) ≤ length out
-    → InformationTakes serialNumber name transports deviceType out
+    → InformationWritable serialNumber name transports deviceType out
 
 -- device features of 64 bits
 unfoldable pub FeaturesTaken : Type 0
 FeaturesTaken =
     (features : DeviceFeatures) (out : List ℕ) → features .features ≤ 18446744073709551615 → features .«device_attributes» ≤ 18446744073709551615
-    → length (messageBytes (featuresFields features)) ≤ length out → FeaturesTakes features out
+    → length (messageBytes (featuresFields features)) ≤ length out → FeaturesWritable features out
 
 -- ---- by computation
 -- an output that held something before

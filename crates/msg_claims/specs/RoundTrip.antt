@@ -81,7 +81,7 @@ InnerNumbered Inner.None = Unit {0}
 InnerNumbered (Inner.Member field) = MemberNumber field
 
 -- what a response is written of
-pub record ResponseTakes (code : ℤ) (payload : ResponsePayload) (body out : List ℕ) : Type 0 where
+pub record ResponseWritable (code : ℤ) (payload : ResponsePayload) (body out : List ℕ) : Type 0 where
   pub signed : Signed32 code
   pub numbered : InnerNumbered payload
   pub lent : Lent out
@@ -89,7 +89,7 @@ pub record ResponseTakes (code : ℤ) (payload : ResponsePayload) (body out : Li
 
 unfoldable pub ResponseRoundTrip : Type 0
 ResponseRoundTrip =
-    (code : ℤ) (payload : ResponsePayload) (body out : List ℕ) → ResponseTakes code payload body out
+    (code : ℤ) (payload : ResponsePayload) (body out : List ℕ) → ResponseWritable code payload body out
     → ReadsBack (responseWritten code payload body out) responseAgain (code, payload, innerBytes payload body)
 
 -- ---- the envelope: command, payload and the payload's bytes
@@ -120,7 +120,7 @@ PayloadNumbered (Sent.Response code payload) = InnerNumbered payload
 PayloadNumbered (Sent.Member field) = MemberNumber field × (field ≡ responseField → ⊥)
 
 -- what an envelope is written of
-pub record EnvelopeTakes (command : ℤ) (payload : EnvelopePayload) (body out : List ℕ) : Type 0 where
+pub record EnvelopeWritable (command : ℤ) (payload : EnvelopePayload) (body out : List ℕ) : Type 0 where
   pub signed : Signed32 command
   pub code : CodeSigned32 payload
   pub numbered : PayloadNumbered payload
@@ -129,7 +129,7 @@ pub record EnvelopeTakes (command : ℤ) (payload : EnvelopePayload) (body out :
 
 unfoldable pub EnvelopeRoundTrip : Type 0
 EnvelopeRoundTrip =
-    (command : ℤ) (payload : EnvelopePayload) (body out : List ℕ) → EnvelopeTakes command payload body out
+    (command : ℤ) (payload : EnvelopePayload) (body out : List ℕ) → EnvelopeWritable command payload body out
     → ReadsBack (envelopeWritten command payload body out) envelopeAgain (command, (payload, payloadBytes payload body))
 
 -- ---- device information: the three strings and the transports
@@ -140,7 +140,7 @@ abbrev pub informationAgain : List ℕ → ToldMore (List ℕ × List ℕ × Lis
 informationAgain s = andThen (informationOf s) (λ i. given (informationContents s i))
 
 -- what device information is written of
-pub record InformationTakes (serialNumber name : List ℕ) (transports : List ℤ) (deviceType out : List ℕ) : Type 0 where
+pub record InformationWritable (serialNumber name : List ℕ) (transports : List ℤ) (deviceType out : List ℕ) : Type 0 where
   pub signed : AllSigned32 transports
   pub most : length transports ≤ mostTransports
   pub strings : AllWellFormed (informationStrings serialNumber name deviceType)
@@ -149,15 +149,15 @@ pub record InformationTakes (serialNumber name : List ℕ) (transports : List �
 
 unfoldable pub InformationRoundTrip : Type 0
 InformationRoundTrip =
-    (serialNumber name : List ℕ) (transports : List ℤ) (deviceType out : List ℕ) → InformationTakes serialNumber name transports deviceType out
+    (serialNumber name : List ℕ) (transports : List ℤ) (deviceType out : List ℕ) → InformationWritable serialNumber name transports deviceType out
     → ReadsBack (informationWritten serialNumber name transports deviceType out) informationAgain (serialNumber, name, transports, deviceType)
 
 -- ---- device features: the two numbers
 -- what device features are written of
-pub record FeaturesTakes (features : DeviceFeatures) (out : List ℕ) : Type 0 where
+pub record FeaturesWritable (features : DeviceFeatures) (out : List ℕ) : Type 0 where
   pub first : features .features < 2 ^ 64
   pub second : features .«device_attributes» < 2 ^ 64
   pub room : length (messageBytes (featuresFields features)) ≤ length out
 
 unfoldable pub FeaturesRoundTrip : Type 0
-FeaturesRoundTrip = (features : DeviceFeatures) (out : List ℕ) → FeaturesTakes features out → ReadsBack (featuresWritten features out) featuresOf features
+FeaturesRoundTrip = (features : DeviceFeatures) (out : List ℕ) → FeaturesWritable features out → ReadsBack (featuresWritten features out) featuresOf features

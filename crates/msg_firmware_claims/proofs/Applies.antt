@@ -34,7 +34,7 @@ use Rattle.msg_firmware.proofs.Parts.{parts-end}
 use Rattle.msg_claims.proofs.Values.{At, whole, front, behind}
 use Rattle.msg_claims.proofs.Fields.{reads-end, reads-scalar, reads-text, reads-member, partAt, part-there, part-cut, textAt, fields-read, text-back}
 use Rattle.msg_claims.proofs.RoundTrip.{texts-back, done}
-use Rattle.msg_firmware_claims.specs.RoundTrip.{firmwareContents, applyContents, applyAgain, ComponentsTake, FirmwareTakes, ApplyRoundTrip}
+use Rattle.msg_firmware_claims.specs.RoundTrip.{firmwareContents, applyContents, applyAgain, ComponentsWritable, FirmwareWritable, ApplyRoundTrip}
 use Rattle.msg_firmware_claims.proofs.Segments.{unsigned-trip}
 use Rattle.msg_firmware_claims.proofs.Components.{componentsBytes, partsAt, componentsAt, components-count, withCounted, parts-scalar, parts-text, reads-components, parts-components, components-in, components-contents}
 
@@ -103,10 +103,10 @@ module _ (texts : List ℕ) (f : FirmwareInformation) where
       let b₃ = behind listBytes t₃ b₂ in
       record { version = front versionBytes t₁ b; name = front nameBytes t₂ b₁; list = front listBytes t₃ b₂; locale = front localeBytes t₄ b₃; end = behind localeBytes t₄ b₃ }
 
-  counted : FirmwareTakes texts f → length (present f) ≤ mostRepeated
+  counted : FirmwareWritable texts f → length (present f) ≤ mostRepeated
   counted t = omega (arith, length-take (f .count) (f .components), t .most)
 
-  module _ (t : FirmwareTakes texts f) {s : List ℕ} {at : ℕ} (lent : length s < 2 ^ 64) where
+  module _ (t : FirmwareWritable texts f) {s : List ℕ} {at : ℕ} (lent : length s < 2 ^ 64) where
     fields-there : Laid s at [] → fieldsFrom Schema.Firmware s at ≡ given
         (withText 2 (textAt (versionNamePlace at) versionNameField (bytesOf texts (f .«version_name»)))
         (withText 1 (textAt (localePlace at) localeField (bytesOf texts (f .locale)))
@@ -165,7 +165,7 @@ bool-small : (b : Bool) → bit b < 2 ^ 64
 bool-small true = omega arith
 bool-small false = omega arith
 
-apply-read : (texts : List ℕ) (a : ApplyFirmware) (s : List ℕ) → FirmwareTakes texts (a .«firmware_information») → length s < 2 ^ 64
+apply-read : (texts : List ℕ) (a : ApplyFirmware) (s : List ℕ) → FirmwareWritable texts (a .«firmware_information») → length s < 2 ^ 64
     → At s 0 (messageBytes (applyFields texts a)) [] → applyAgain s ≡ given (applyContents texts a)
 unfolding applyOf firmwareIn roleOf judged fieldBytes
 apply-read texts a s t lent there =
@@ -192,12 +192,12 @@ outside-fine : (texts : List ℕ) (p : Part) → p .start + p .len ≤ length te
 unfolding outside
 outside-fine texts p h = le-ltb (length texts) (p .start + p .len) h
 
-components-fine : (texts : List ℕ) (cs : List FirmwareComponent) → ComponentsTake texts cs → badComponents texts cs ≡ false
+components-fine : (texts : List ℕ) (cs : List FirmwareComponent) → ComponentsWritable texts cs → badComponents texts cs ≡ false
 unfolding badComponent
 components-fine texts [] t = refl
 components-fine texts (c ∷ cs) t = rw (outside-fine texts (c .name) (t .0 .2 .0 .0), outside-fine texts (c .signature) (t .0 .2 .0 .1 .0), components-fine texts cs (t .1))
 
-firmware-fine : (texts : List ℕ) (f : FirmwareInformation) → FirmwareTakes texts f → badFirmware texts f ≡ false
+firmware-fine : (texts : List ℕ) (f : FirmwareInformation) → FirmwareWritable texts f → badFirmware texts f ≡ false
 unfolding badFirmware
 firmware-fine texts f t =
     rw (
@@ -209,11 +209,11 @@ firmware-fine texts f t =
     )
 
 -- their strings are well formed
-components-strings : (texts : List ℕ) (cs : List FirmwareComponent) (others : List (ℕ × List ℕ)) → ComponentsTake texts cs → AllWellFormed others → AllWellFormed (componentsStrings texts cs ++ others)
+components-strings : (texts : List ℕ) (cs : List FirmwareComponent) (others : List (ℕ × List ℕ)) → ComponentsWritable texts cs → AllWellFormed others → AllWellFormed (componentsStrings texts cs ++ others)
 components-strings texts [] others t w = w
 components-strings texts (c ∷ cs) others t w = (t .0 .2 .1 .0, (t .0 .2 .1 .1 .0, components-strings texts cs others (t .1) w))
 
-firmware-strings : (texts : List ℕ) (f : FirmwareInformation) → FirmwareTakes texts f → AllWellFormed (firmwareStrings texts f)
+firmware-strings : (texts : List ℕ) (f : FirmwareInformation) → FirmwareWritable texts f → AllWellFormed (firmwareStrings texts f)
 firmware-strings texts f t =
     (t .strings .1 .0, components-strings texts (present f) ((localeField, bytesOf texts (f .locale)) ∷ (versionNameField, bytesOf texts (f .«version_name»)) ∷ []) (t .components) (t .strings .1 .1 .0, (t .strings .1 .1 .1 .0, tt)))
 

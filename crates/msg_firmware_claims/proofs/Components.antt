@@ -32,7 +32,7 @@ use Rattle.msg_firmware.proofs.Parts.{parts-turn}
 use Rattle.msg_claims.proofs.Values.{At, front, behind, inside, tag-trip, number-trip, part-trip}
 use Rattle.msg_claims.proofs.Fields.{Reads, reads-end, reads-scalar, reads-text, reads-part, within, tag-count, part-count, partAt, part-there, part-cut, textAt, fields-read, text-back}
 use Rattle.msg_claims.proofs.RoundTrip.{done}
-use Rattle.msg_firmware_claims.specs.RoundTrip.{Unsigned32, componentContents, ComponentsTake}
+use Rattle.msg_firmware_claims.specs.RoundTrip.{Unsigned32, componentContents, ComponentsWritable}
 use Rattle.msg_firmware_claims.proofs.Segments.{unsigned-trip}
 
 -- ---- a component by itself
@@ -231,7 +231,7 @@ module _ (texts : List ℕ) {s : List ℕ} (lent : length s < 2 ^ 64) where
       parts-one c (first-there c cs a)
       ∙ ap (λ ps. partAt at componentsField (componentBytes texts c) ∷ ps) (parts-components (after texts at c) rest cs (others-there c cs a) ∙ rw (past texts at c cs))
 
-  pub components-in : (at : ℕ) (rest : List ℕ) (cs : List FirmwareComponent) → ComponentsTake texts cs → At s at (componentsBytes texts cs) rest
+  pub components-in : (at : ℕ) (rest : List ℕ) (cs : List FirmwareComponent) → ComponentsWritable texts cs → At s at (componentsBytes texts cs) rest
       → componentsIn s (partsAt texts at cs) ≡ given (componentsAt texts at cs)
   components-in at rest [] t a = refl
   components-in at rest (c ∷ cs) t a =

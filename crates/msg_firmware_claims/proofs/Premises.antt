@@ -25,7 +25,7 @@ use Rattle.msg_firmware.specs.Information.{partsFrom, componentIn, componentsFr
 use Rattle.msg_apply_writer.specs.Information.{present, badFirmware}
 use Rattle.msg_firmware.specs.Apply.{firmwareIn, applyOf}
 use Rattle.msg_apply_writer.specs.Apply.{applyWritten}
-use Rattle.msg_firmware_claims.specs.RoundTrip.{ComponentsTake}
+use Rattle.msg_firmware_claims.specs.RoundTrip.{ComponentsWritable}
 use Rattle.msg_firmware_claims.specs.Premises.{Digit, decimal, upper, lower, Digits, SegmentsTaken, ComponentsInRange, AppliesTaken, OneFirmwareOfEach}
 
 digit : (b : ℕ) → Digit b → isDigit b ≡ true
@@ -58,7 +58,7 @@ unfolding SegmentsTaken
 segments-taken name size sig out well n long d lent room =
     record { number = omega arith; digits = signature sig long d; strings = (well, (digits-well sig d, tt)); lent = omega arith; room = omega arith }
 
-components : (texts : List ℕ) (cs : List FirmwareComponent) → ComponentsInRange texts cs → ComponentsTake texts cs
+components : (texts : List ℕ) (cs : List FirmwareComponent) → ComponentsInRange texts cs → ComponentsWritable texts cs
 components texts [] h = tt
 components texts (c ∷ cs) h = ((omega (arith, h .0 .0), omega (arith, h .0 .1), ((h .0 .2 .0, (h .0 .3 .0, tt)), (h .0 .2 .1, (h .0 .3 .1, tt)))), components texts cs (h .1))
 

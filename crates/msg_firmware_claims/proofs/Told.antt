@@ -35,7 +35,7 @@ use Rattle.msg_apply_writer.specs.Information.{present}
 use Rattle.msg_firmware.specs.Apply.{firmwareIn, applyOf}
 use Rattle.msg_firmware.proofs.Insides.{Gathers, gathers, text-within}
 use Rattle.msg_claims.specs.RoundTrip.{ReadsBack}
-use Rattle.msg_firmware_claims.specs.RoundTrip.{Unsigned32, segmentAgain, SegmentRoundTrip, SegmentsToldTaken, ComponentTakes, ComponentsTake, FirmwareTakes, ApplyRoundTrip, AppliesToldTaken}
+use Rattle.msg_firmware_claims.specs.RoundTrip.{Unsigned32, segmentAgain, SegmentRoundTrip, SegmentsToldTaken, ComponentWritable, ComponentsWritable, FirmwareWritable, ApplyRoundTrip, AppliesToldTaken}
 use Rattle.msg_firmware_claims.proofs.Segments.{segment-round-trip}
 use Rattle.msg_firmware_claims.proofs.Applies.{apply-round-trip}
 
@@ -96,59 +96,59 @@ segments-told-taken s out m e lent room =
     taken j (suc n) z room = absurd (omega arith)
 
 -- ---- components
-component-takes : (s : List ℕ) (at : ℕ) → Sat (ComponentTakes s) (componentFrom s at)
+component-takes : (s : List ℕ) (at : ℕ) → Sat (ComponentWritable s) (componentFrom s at)
 unfolding componentFrom
 component-takes s at =
-    sat-then (Gathers s) (ComponentTakes s) (fieldsFrom Schema.Component s at) _ (gathers Schema.Component s at)
+    sat-then (Gathers s) (ComponentWritable s) (fieldsFrom Schema.Component s at) _ (gathers Schema.Component s at)
     (λ g w. (unsigned-fits (getD (g .scalars) first 0), unsigned-fits (getD (g .scalars) second 0), ((text-within s g first w, (text-within s g second w, tt)), (text-get s (g .texts) first (w .texts), (text-get s (g .texts) second (w .texts), tt)))))
 
-component-in-takes : (s : List ℕ) (p : Part) → Sat (ComponentTakes s) (componentIn s p)
+component-in-takes : (s : List ℕ) (p : Part) → Sat (ComponentWritable s) (componentIn s p)
 unfolding componentIn
 component-in-takes s p =
     let t = take (p .start + p .len) s in
-    sat-weaken (ComponentTakes t) (ComponentTakes s) (componentFrom t (p .start)) (component-takes t (p .start))
+    sat-weaken (ComponentWritable t) (ComponentWritable s) (componentFrom t (p .start)) (component-takes t (p .start))
     (λ c h. (h .0, h .1, strings-first (p .start + p .len) s (componentParts c) (h .2)))
 
-components-in-take : (s : List ℕ) (ps : List Part) → Sat (ComponentsTake s) (componentsIn s ps)
+components-in-take : (s : List ℕ) (ps : List Part) → Sat (ComponentsWritable s) (componentsIn s ps)
 components-in-take s [] = tt
 components-in-take s (p ∷ ps) =
-    sat-then (ComponentTakes s) (ComponentsTake s) (componentIn s p) _ (component-in-takes s p)
-    (λ c h. sat-then (ComponentsTake s) (ComponentsTake s) (componentsIn s ps) _ (components-in-take s ps) (λ cs k. (h, k)))
+    sat-then (ComponentWritable s) (ComponentsWritable s) (componentIn s p) _ (component-in-takes s p)
+    (λ c h. sat-then (ComponentsWritable s) (ComponentsWritable s) (componentsIn s ps) _ (components-in-take s ps) (λ cs k. (h, k)))
 
-none-take : (s : List ℕ) (n : ℕ) → ComponentsTake s (replicate n noComponent)
+none-take : (s : List ℕ) (n : ℕ) → ComponentsWritable s (replicate n noComponent)
 none-take s zero = tt
 none-take s (suc n) = ((omega arith, omega arith, ((zero-le, (zero-le, tt)), (empty, (empty, tt)))), none-take s n)
 
-set-take : (s : List ℕ) (l : List FirmwareComponent) (i : ℕ) (c : FirmwareComponent) → ComponentTakes s c → ComponentsTake s l → ComponentsTake s (set l i c)
+set-take : (s : List ℕ) (l : List FirmwareComponent) (i : ℕ) (c : FirmwareComponent) → ComponentWritable s c → ComponentsWritable s l → ComponentsWritable s (set l i c)
 set-take s [] i c h w = tt
 set-take s (x ∷ l) zero c h w = (h, w .1)
 set-take s (x ∷ l) (suc i) c h w = (w .0, set-take s l i c h (w .1))
 
-sets-take : (s : List ℕ) (cs l : List FirmwareComponent) (i : ℕ) → ComponentsTake s cs → ComponentsTake s l → ComponentsTake s (sets l i cs)
+sets-take : (s : List ℕ) (cs l : List FirmwareComponent) (i : ℕ) → ComponentsWritable s cs → ComponentsWritable s l → ComponentsWritable s (sets l i cs)
 sets-take s [] l i h w = w
 sets-take s (c ∷ cs) l i h w = sets-take s cs (set l i c) (suc i) (h .1) (set-take s l i c (h .0) w)
 
-first-take : (s : List ℕ) (n : ℕ) (l : List FirmwareComponent) → ComponentsTake s l → ComponentsTake s (take n l)
+first-take : (s : List ℕ) (n : ℕ) (l : List FirmwareComponent) → ComponentsWritable s l → ComponentsWritable s (take n l)
 first-take s zero l w = tt
 first-take s (suc n) [] w = tt
 first-take s (suc n) (c ∷ l) w = (w .0, first-take s n l (w .1))
 
 -- eight places, in range
 abbrev pub Eight : List ℕ → List FirmwareComponent → Type 0
-Eight s cs = (length cs ≡ mostRepeated) × ComponentsTake s cs
+Eight s cs = (length cs ≡ mostRepeated) × ComponentsWritable s cs
 
 components-take : (s : List ℕ) (at : ℕ) → Sat (Eight s) (componentsFrom s at)
 unfolding componentsFrom
 components-take s at =
-    sat-then (ComponentsTake s) (Eight s) (componentsIn s (partsFrom s at)) _ (components-in-take s (partsFrom s at))
+    sat-then (ComponentsWritable s) (Eight s) (componentsIn s (partsFrom s at)) _ (components-in-take s (partsFrom s at))
     (λ cs h. (length-sets (replicate mostRepeated noComponent) 0 cs, sets-take s cs (replicate mostRepeated noComponent) 0 h (none-take s mostRepeated)))
 
 -- ---- firmware information
-firmware-takes : (s : List ℕ) (at : ℕ) → Sat (FirmwareTakes s) (firmwareFrom s at)
+firmware-takes : (s : List ℕ) (at : ℕ) → Sat (FirmwareWritable s) (firmwareFrom s at)
 unfolding firmwareFrom
 firmware-takes s at =
-    sat-then (Gathers s) (FirmwareTakes s) (fieldsFrom Schema.Firmware s at) _ (gathers Schema.Firmware s at)
-    (λ g w. sat-then (Eight s) (FirmwareTakes s) (componentsFrom s at) _ (components-take s at)
+    sat-then (Gathers s) (FirmwareWritable s) (fieldsFrom Schema.Firmware s at) _ (gathers Schema.Firmware s at)
+    (λ g w. sat-then (Eight s) (FirmwareWritable s) (componentsFrom s at) _ (components-take s at)
     (λ cs h. record {
       number = unsigned-fits (getD (g .scalars) first 0);
       strings = ((text-within s g first w, (text-within s g second w, (text-within s g third w, tt))), (text-get s (g .texts) first (w .texts), (text-get s (g .texts) second (w .texts), (text-get s (g .texts) third (w .texts), tt))));
@@ -158,15 +158,15 @@ firmware-takes s at =
     }))
 
 -- in a longer message
-components-longer : (n : ℕ) (s : List ℕ) (cs : List FirmwareComponent) → ComponentsTake (take n s) cs → ComponentsTake s cs
+components-longer : (n : ℕ) (s : List ℕ) (cs : List FirmwareComponent) → ComponentsWritable (take n s) cs → ComponentsWritable s cs
 components-longer n s [] h = tt
 components-longer n s (c ∷ cs) h = ((h .0 .0, h .0 .1, strings-first n s (componentParts c) (h .0 .2)), components-longer n s cs (h .1))
 
-firmware-in-takes : (s : List ℕ) (p : Part) → Sat (FirmwareTakes s) (firmwareIn s p)
+firmware-in-takes : (s : List ℕ) (p : Part) → Sat (FirmwareWritable s) (firmwareIn s p)
 unfolding firmwareIn
 firmware-in-takes s p =
     let t = take (p .start + p .len) s in
-    sat-weaken (FirmwareTakes t) (FirmwareTakes s) (firmwareFrom t (p .start)) (firmware-takes t (p .start))
+    sat-weaken (FirmwareWritable t) (FirmwareWritable s) (firmwareFrom t (p .start)) (firmware-takes t (p .start))
     (λ f h. record {
       number = h .number;
       strings = strings-first (p .start + p .len) s (f .name ∷ f .locale ∷ f .«version_name» ∷ []) (h .strings);
@@ -176,12 +176,12 @@ firmware-in-takes s p =
     })
 
 -- ---- the message
-pub apply-takes : (s : List ℕ) → Sat (λ (a : ApplyFirmware). FirmwareTakes s (a .«firmware_information»)) (applyOf s)
+pub apply-takes : (s : List ℕ) → Sat (λ (a : ApplyFirmware). FirmwareWritable s (a .«firmware_information»)) (applyOf s)
 unfolding applyOf
 apply-takes s =
-    let Q : ApplyFirmware → Type 0 = λ a. FirmwareTakes s (a .«firmware_information») in
+    let Q : ApplyFirmware → Type 0 = λ a. FirmwareWritable s (a .«firmware_information») in
     sat-then (Gathers s) Q (fieldsFrom Schema.Apply s 0) _ (gathers Schema.Apply s 0)
-    (λ g w. sat-then (FirmwareTakes s) Q (firmwareIn s (g .part)) _ (firmware-in-takes s (g .part)) (λ f h. h))
+    (λ g w. sat-then (FirmwareWritable s) Q (firmwareIn s (g .part)) _ (firmware-in-takes s (g .part)) (λ f h. h))
 
 -- .. with eight components, those that are not there in range too
 pub apply-eight : (s : List ℕ) → Sat (λ (a : ApplyFirmware). Eight s (a .«firmware_information» .components)) (applyOf s)
@@ -201,7 +201,7 @@ unfolding AppliesToldTaken ApplyRoundTrip
 applies-told-taken s out a e lent room =
     apply-round-trip a s out
     (record {
-      firmware = sat-given (λ (x : ApplyFirmware). FirmwareTakes s (x .«firmware_information»)) (applyOf s) a (apply-takes s) e;
+      firmware = sat-given (λ (x : ApplyFirmware). FirmwareWritable s (x .«firmware_information»)) (applyOf s) a (apply-takes s) e;
       lent = omega (arith, lent);
       room = omega (arith, room);
     })

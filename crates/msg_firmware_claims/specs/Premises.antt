@@ -19,7 +19,7 @@ use Rattle.msg_apply_writer.specs.Information.{present}
 use Rattle.msg_apply_writer.specs.Apply.{applyFields, applyWritten}
 use Rattle.msg_claims.specs.RoundTrip.{ReadsBack}
 use Rattle.msg_claims.specs.Premises.{Lendable}
-use Rattle.msg_firmware_claims.specs.RoundTrip.{SegmentTakes, segmentAgain, ApplyTakes, applyAgain}
+use Rattle.msg_firmware_claims.specs.RoundTrip.{SegmentWritable, segmentAgain, ApplyWritable, applyAgain}
 
 -- from 0 to 4,294,967,295
 abbrev pub InUnsigned32 : ℕ → Type 0
@@ -39,7 +39,7 @@ Digits (b ∷ l) = Digit b × Digits l
 unfoldable pub SegmentsTaken : Type 0
 SegmentsTaken =
     (name : List ℕ) (size : ℕ) (signature out : List ℕ) → WellFormed name → InUnsigned32 size → length signature ≡ 64 → Digits signature → Lendable out
-    → length (messageBytes (segmentFields name 0 size signature)) ≤ length out → SegmentTakes name size signature out
+    → length (messageBytes (segmentFields name 0 size signature)) ≤ length out → SegmentWritable name size signature out
 
 -- a part that lies within the texts, and is well formed
 abbrev pub Lies : List ℕ → Part → Type 0
@@ -55,7 +55,7 @@ AppliesTaken =
     (a : ApplyFirmware) (texts out : List ℕ) → InUnsigned32 (a .«firmware_information» .version) → length (a .«firmware_information» .components) ≡ 8
     → a .«firmware_information» .count ≤ 8 → Lies texts (a .«firmware_information» .name) → Lies texts (a .«firmware_information» .locale)
     → Lies texts (a .«firmware_information» .«version_name») → ComponentsInRange texts (present (a .«firmware_information»)) → Lendable out
-    → length (messageBytes (applyFields texts a)) ≤ length out → ApplyTakes a texts out
+    → length (messageBytes (applyFields texts a)) ≤ length out → ApplyWritable a texts out
 
 -- ---- by computation
 -- an output that held something before

@@ -44,7 +44,7 @@ abbrev pub segmentAgain : List ℕ → ToldMore (List ℕ × ℕ × ℕ × List 
 segmentAgain s = andThen (segmentOf s) (λ m. given (segmentContents s m))
 
 -- what a segment is written of, beside the offset 0
-pub record SegmentTakes (name : List ℕ) (size : ℕ) (signature out : List ℕ) : Type 0 where
+pub record SegmentWritable (name : List ℕ) (size : ℕ) (signature out : List ℕ) : Type 0 where
   pub number : Unsigned32 size
   pub digits : isSignature signature ≡ true
   pub strings : AllWellFormed (segmentStrings name signature)
@@ -53,7 +53,7 @@ pub record SegmentTakes (name : List ℕ) (size : ℕ) (signature out : List ℕ
 
 unfoldable pub SegmentRoundTrip : Type 0
 SegmentRoundTrip =
-    (name : List ℕ) (size : ℕ) (signature out : List ℕ) → SegmentTakes name size signature out
+    (name : List ℕ) (size : ℕ) (signature out : List ℕ) → SegmentWritable name size signature out
     → ReadsBack (segmentWritten name 0 size signature out) segmentAgain (name, 0, size, signature)
 
 -- a segment that was told of a message, written again into an output that has room for it
@@ -78,29 +78,29 @@ abbrev pub applyAgain : List ℕ → ToldMore (Bool × (ℕ × List ℕ × ℕ �
 applyAgain s = andThen (applyOf s) (λ a. given (applyContents s a))
 
 -- components in range: the numbers, and the strings within the texts and well formed
-abbrev pub ComponentTakes : List ℕ → FirmwareComponent → Type 0
-ComponentTakes texts c = Unsigned32 (c .version) × Unsigned32 (c .size) × Strings texts (componentParts c)
+abbrev pub ComponentWritable : List ℕ → FirmwareComponent → Type 0
+ComponentWritable texts c = Unsigned32 (c .version) × Unsigned32 (c .size) × Strings texts (componentParts c)
 
-abbrev pub ComponentsTake : List ℕ → List FirmwareComponent → Type 0
-ComponentsTake texts [] = Unit {0}
-ComponentsTake texts (c ∷ cs) = ComponentTakes texts c × ComponentsTake texts cs
+abbrev pub ComponentsWritable : List ℕ → List FirmwareComponent → Type 0
+ComponentsWritable texts [] = Unit {0}
+ComponentsWritable texts (c ∷ cs) = ComponentWritable texts c × ComponentsWritable texts cs
 
 -- what firmware information is written of
-pub record FirmwareTakes (texts : List ℕ) (f : FirmwareInformation) : Type 0 where
+pub record FirmwareWritable (texts : List ℕ) (f : FirmwareInformation) : Type 0 where
   pub number : Unsigned32 (f .version)
   pub strings : Strings texts (f .name ∷ f .locale ∷ f .«version_name» ∷ [])
   pub most : f .count ≤ mostRepeated
   pub there : f .count ≤ length (f .components)
-  pub components : ComponentsTake texts (present f)
+  pub components : ComponentsWritable texts (present f)
 
 -- what ApplyFirmware is written of
-pub record ApplyTakes (a : ApplyFirmware) (texts out : List ℕ) : Type 0 where
-  pub firmware : FirmwareTakes texts (a .«firmware_information»)
+pub record ApplyWritable (a : ApplyFirmware) (texts out : List ℕ) : Type 0 where
+  pub firmware : FirmwareWritable texts (a .«firmware_information»)
   pub lent : Lent out
   pub room : length (messageBytes (applyFields texts a)) ≤ length out
 
 unfoldable pub ApplyRoundTrip : Type 0
-ApplyRoundTrip = (a : ApplyFirmware) (texts out : List ℕ) → ApplyTakes a texts out → ReadsBack (applyWritten a texts out) applyAgain (applyContents texts a)
+ApplyRoundTrip = (a : ApplyFirmware) (texts out : List ℕ) → ApplyWritable a texts out → ReadsBack (applyWritten a texts out) applyAgain (applyContents texts a)
 
 -- what was told of a message, written again with the message as the texts, into an output that has room for it
 unfoldable pub AppliesToldTaken : Type 0

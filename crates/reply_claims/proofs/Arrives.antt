@@ -12,7 +12,7 @@ use Rattle.wire.proofs.Stores.{first-bytes}
 use Rattle.ble_sender.specs.declared.writer.Sending.{Sending}
 use Rattle.ble_sender.specs.Writer.{argumentsFit}
 use Rattle.ble_sender.proofs.Guard.{room-low}
-use Rattle.ble_sender_claims.specs.Calls.{callsOf, Takes}
+use Rattle.ble_sender_claims.specs.Calls.{callsOf, SendableMessage}
 use Rattle.ble_sender_claims.proofs.CallsGiveAll.{calls-are}
 use Rattle.ble_claims.proofs.MessagesArrive.{messages-arrive}
 use Rattle.proto_field.specs.Signed.{extended}
@@ -55,7 +55,7 @@ module _ (b : Box) (l : Link) (message : List ℕ) (c : ℤ) (out : List ℕ) (a
   is-written = rw (a .reads, a .question) is-sent
 
   -- the calls of the writer, over some output, give the same packets
-  takes : Takes (l .limit) w reply (replicate (l .room) 0)
+  takes : SendableMessage (l .limit) w reply (replicate (l .room) 0)
   unfolding argumentsFit
   takes =
       record {

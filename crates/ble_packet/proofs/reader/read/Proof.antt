@@ -5,7 +5,7 @@ use lib.ListN.{length, getD}
 use lib.Dec.{eqb}
 use borrow.Author.Tests.{not-true, not-false}
 use Rattle.ble_packet.specs.Header.{typeFirst, typeContinuation, typeLast, typeControl, typeBits}
-use Rattle.ble_packet.specs.Reader.{judged, readOf, startBitsOf, fieldsOn}
+use Rattle.ble_packet.specs.Reader.{judged, readOf, startBitsOf, fieldsByStart}
 use Rattle.ble_packet.proofs.Reading.{headless, read-from, no-start, no-header, no-stream, first-long, next-long, kind-next}
 use borrow.Author.Needs.{needs}
 use Rattle.ble_packet.proofs.reader.read.Statement.{statement}
@@ -22,7 +22,7 @@ start-at c = rw (c .before .before .byte-at2 .ensures, c .before .before .before
 -- what bytes 0 and 1 say
 from : (c : tie.After-type-bits)
     → (let t = c .before .before .before .before .before .before in
-    readOf (t .args .limit) (now (t .args .packet)) ≡ judged (t .args .limit) (fieldsOn (now (t .args .packet)) (c .type-bits .result) (c .before .start-bits .result)))
+    readOf (t .args .limit) (now (t .args .packet)) ≡ judged (t .args .limit) (fieldsByStart (now (t .args .packet)) (c .type-bits .result) (c .before .start-bits .result)))
 from c =
     let t = c .before .before .before .before .before .before in
     read-from (t .args .limit) (now (t .args .packet)) (c .type-bits .result) (c .before .start-bits .result) (kind-at c) (start-at c)

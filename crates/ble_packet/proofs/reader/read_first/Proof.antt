@@ -10,7 +10,7 @@ use Rattle.wire.specs.Bytes.{pairOf}
 use Rattle.wire.specs.Told.{given, refused, line, table}
 use Rattle.ble_packet.specs.declared.reader.Packet.the-variants.{First}
 use Rattle.ble_packet.specs.Header.{reservedByte, typeFirst}
-use Rattle.ble_packet.specs.Reader.{judged, headBy, fieldsOn}
+use Rattle.ble_packet.specs.Reader.{judged, headBy, fieldsByStart}
 use Rattle.ble_packet.proofs.Reading.{first-judged}
 use borrow.Author.Needs.{needs}
 use Rattle.ble_packet.proofs.reader.read_first.Statement.{statement}
@@ -20,7 +20,7 @@ use Rattle.ble_packet.proofs.reader.read_first.Tie as tie
 table-at : (c : tie.After-length-at) {total : ℕ}
     → (let t = c .before .before .before .before .before .before in
     total ≡ pairOf (getD (now (t .args .packet)) 3 0) (getD (now (t .args .packet)) 4 0)
-    → judged (t .args .limit) (fieldsOn (now (t .args .packet)) typeFirst (t .args .s))
+    → judged (t .args .limit) (fieldsByStart (now (t .args .packet)) typeFirst (t .args .s))
     ≡ table
     (line 4 (not (eqb (c .before .before .before .before .byte-at .result) reservedByte))
     ∷ line 5 (not (eqb (length (now (t .args .packet))) (c .before .before .header-size .result + c .length-at .result)))
