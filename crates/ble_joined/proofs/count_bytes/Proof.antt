@@ -1,3 +1,4 @@
+-- The sum so far and the sizes of the pieces from the place on are the sizes of all pieces.
 use Prim.Native.Nat.{suc, _+_, _-_, _*_, _≤_, _<_}
 use native.Mathlib.Omega.{arith}
 use borrow.Author.Needs.{needs}

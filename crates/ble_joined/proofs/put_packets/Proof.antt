@@ -1,3 +1,4 @@
+-- The packets written and those of the message bytes not yet moved join to the whole; a piece always stands behind its packet.
 use Prim.Native.Nat.{_-_, _≤_}
 use native.Mathlib.Omega.{arith}
 use mathlib.Core.Path.{_≡_, refl, _∙_}

@@ -1,3 +1,4 @@
+-- The act that the slots name is the definition's; doing it and acknowledging it is the definition's answer.
 use Prim.Native.Nat.{ℕ, _^_, _<_}
 use Rattle.ble_slot_steps.proofs.Steps.{small}
 use Rattle.wire.proofs.Limits.{limit-range}

@@ -1,3 +1,4 @@
+-- 10, 11, the last and the ones between: each way out is a line of `nextStep` with its tests put in.
 use Rattle.ble_slot_steps.specs.Step.{offTotal, nextStep}
 use borrow.Author.Tests.{eq-eqb, ne-eqb, leb-false}
 use native.Mathlib.Omega.{arith}

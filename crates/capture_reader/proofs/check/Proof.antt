@@ -1,3 +1,4 @@
+-- The loop has walked whole packets up to its place; each turn passes one, or ends at what stands there.
 use Prim.Native.Nat.{_+_, _-_, _≤_}
 use mathlib.Core.Path.{_≡_, refl, sym, ap, _∙_}
 use native.Mathlib.Omega.{arith}

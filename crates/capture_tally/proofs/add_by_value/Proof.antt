@@ -1,3 +1,4 @@
+-- 17, 1 and the capture's own refusals by their tests; then the pass over its packets.
 use mathlib.Core.Path.{sym, ap, _∙_}
 use lib.ListN.{length}
 use borrow.Author.Needs.{needs}

@@ -1,3 +1,4 @@
+-- Adding the packets from the place on, from the tally and buffer so far, gives what adding all gives.
 use Prim.Native.Nat.{ℕ, _+_, _-_, _≤_}
 use native.Mathlib.Omega.{arith}
 use mathlib.Core.Path.{_≡_, sym, ap, _∙_}

@@ -1,3 +1,4 @@
+-- The walk reads whole records up to its place and never goes back.
 use Prim.Native.Nat.{_-_}
 use mathlib.Core.Path.{sym, ap, _∙_}
 use native.Mathlib.Omega.{arith}

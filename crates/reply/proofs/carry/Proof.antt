@@ -1,3 +1,4 @@
+-- Measured first; then the answer is 17, 14 or the reply filled in, by what was measured.
 use native.Mathlib.Omega.{arith}
 use Prim.Native.Nat.{ℕ}
 use mathlib.Core.Path.{sym, ap, _∙_}

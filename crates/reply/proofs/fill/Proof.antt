@@ -1,3 +1,4 @@
+-- The message is its front and body; past the test of room the packets over it are `joinedOf`.
 use Prim.Native.Nat.{ℕ, _+_, _-_, _≤_}
 use native.Mathlib.Omega.{arith}
 use mathlib.Core.Path.{_≡_, sym, ap, _∙_}

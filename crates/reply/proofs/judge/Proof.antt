@@ -1,3 +1,4 @@
+-- Five tests in the table's order; each way out has those before it put in.
 use Rattle.reply.specs.Put.{judgedOf}
 use borrow.Author.Needs.{needs}
 use Rattle.reply.proofs.judge.Statement.{statement}

@@ -1,3 +1,4 @@
+-- What the body leaves of the limit, then what the front leaves of that: together the message's length, or 15.
 use native.Mathlib.Omega.{arith}
 use mathlib.Core.Path.{sym, _∙_}
 use lib.ListN.{length}

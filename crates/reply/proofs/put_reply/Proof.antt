@@ -1,3 +1,4 @@
+-- The message stands at the output's end, front and body; the packets are then made over it from the beginning.
 use Prim.Native.Nat.{_-_, _+_}
 use native.Mathlib.Omega.{arith}
 use mathlib.Core.Path.{ap, _∙_}

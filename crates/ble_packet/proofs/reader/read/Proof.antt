@@ -1,3 +1,4 @@
+-- Bytes 0 and 1 choose the table; each way out is the table from its first line that holds.
 use mathlib.Core.Path.{_≡_, sym, _∙_}
 use denote.Ref.{now}
 use mathlib.Core.Bool.{cond}

@@ -1,3 +1,4 @@
+-- The table of a first packet over what was read; each way out has its tests put in.
 use mathlib.Core.Path.{_≡_, refl, sym, _∙_}
 use denote.Ref.{now}
 use Prim.Native.Nat.{ℕ, _+_}

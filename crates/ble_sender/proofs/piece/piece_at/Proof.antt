@@ -1,3 +1,4 @@
+-- The first piece, a place before its end, or a later one: by division, where a piece begins at the place.
 use Prim.Native.Nat.{_-_}
 use native.Mathlib.Omega.{arith}
 use native.Mathlib.Nat.{div-le-self}

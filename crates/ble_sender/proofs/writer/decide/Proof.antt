@@ -1,3 +1,4 @@
+-- Each way out is the table of `decided` at the tests that led there.
 use native.Mathlib.Omega.{arith}
 use mathlib.Core.Path.{sym, _∙_}
 use borrow.Author.Tests.{not-true, not-false, lt-ltb, le-ltb}

@@ -1,3 +1,4 @@
+-- Each way out is the table of `replyWriteOf` at the tests that led there, with the callees' equations put in.
 use native.Mathlib.Omega.{arith}
 use mathlib.Core.Path.{sym, _∙_}
 use lib.ListN.{length-map}

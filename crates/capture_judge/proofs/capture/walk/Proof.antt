@@ -1,3 +1,4 @@
+-- Judging the packets from the place on, from the verdict so far, gives what judging all gives.
 use Prim.Native.Nat.{ℕ, _+_, _-_, _≤_}
 use mathlib.Core.List.{List}
 use mathlib.Core.Path.{_≡_, sym, ap, _∙_}

@@ -1,3 +1,4 @@
+-- A run and a pair, again and again: each keeps `Onward`, and so does the one after the other.
 use Prim.Native.Nat.{_-_}
 use mathlib.Core.Path.{_≡_, refl, _∙_}
 use lib.ListN.{length}

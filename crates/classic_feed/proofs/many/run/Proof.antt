@@ -1,3 +1,4 @@
+-- A fast pass and then one step: both keep `Running`, which says that feeding the rest gives what feeding all gives.
 use Prim.Native.Nat.{_-_}
 use mathlib.Core.Path.{refl, sym, _∙_}
 use lib.ListN.{length}

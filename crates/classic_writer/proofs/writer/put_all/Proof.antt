@@ -1,3 +1,4 @@
+-- A plain run and then one escaped byte, until nothing is left: `Left` says that both write what the rest wants.
 use Prim.Native.Nat.{_-_, _+_, zero-le}
 use mathlib.Core.Path.{_≡_, refl, _∙_}
 use lib.ListN.{length}

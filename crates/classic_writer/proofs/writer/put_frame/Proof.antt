@@ -1,3 +1,4 @@
+-- Six stores, each behind the one before; `frame-length` says that all fit.
 use mathlib.Core.Path.{sym, _∙_}
 use lib.ListN.{length-set}
 use native.Mathlib.Omega.{arith}

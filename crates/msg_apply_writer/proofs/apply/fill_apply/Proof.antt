@@ -1,3 +1,4 @@
+-- The information is counted first; past the test of room its head, its bytes and the scalar stand one behind the other.
 use Prim.Native.Nat.{_-_, _≤_}
 use mathlib.Core.Bool.{false}
 use mathlib.Core.List.{[], _∷_}

@@ -1,3 +1,4 @@
+-- What all components leave of the room is what those not yet counted leave of what is left.
 use Prim.Native.Nat.{_+_, _-_, _≤_}
 use mathlib.Core.Path.{_≡_, refl, sym, ap, _∙_}
 use mathlib.Core.List.{map}

@@ -1,3 +1,4 @@
+-- The components written and those left join to the bytes of all of them, at every turn.
 use Prim.Native.Nat.{ℕ, _+_, _-_, _≤_}
 use mathlib.Core.Path.{_≡_, refl, sym, ap, _∙_}
 use mathlib.Core.List.{List, map}

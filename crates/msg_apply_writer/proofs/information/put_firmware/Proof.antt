@@ -1,3 +1,4 @@
+-- Five fields, each at the place after the one before; `firmware-length` says that all fit.
 use mathlib.Core.List.{[], _∷_, _++_, map}
 use denote.Ref.{now}
 use Rattle.proto_field.specs.Value.{bytesOf}

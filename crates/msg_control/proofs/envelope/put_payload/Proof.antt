@@ -1,3 +1,4 @@
+-- By the payload's case: a response is its head and then its fields, another member a head and its part, joined by their places.
 use mir.Syntax.{w32}
 use mir.Facts.{toZ-ofZ}
 use native.Mathlib.Omega.{arith}

@@ -1,3 +1,4 @@
+-- What was counted is the length of the bytes, so past the test of room both parts stand where the definition puts them.
 use native.Mathlib.Omega.{arith}
 use mathlib.Core.Path.{_≡_, ap, sym, _∙_}
 use mathlib.Core.Bool.{false}

@@ -1,3 +1,4 @@
+-- Up to the place no field is a component, so the components from the start are those from the place.
 use Prim.Native.Nat.{_-_, _≤_}
 use mathlib.Core.List.{_++_}
 use mathlib.Core.Path.{_≡_, refl, sym, ap, _∙_}

@@ -1,3 +1,4 @@
+-- One test after the other, each a line of `recordAt`; past the last one the record stands whole.
 use Prim.Native.Nat.{_≤_}
 use mathlib.Core.Path.{sym, _∙_}
 use native.Mathlib.Omega.{arith}

@@ -1,3 +1,4 @@
+-- The walk from the place on answers what the walk of the file answers.
 use Prim.Native.Nat.{_-_}
 use mathlib.Core.Path.{_≡_, sym, ap, _∙_}
 use native.Mathlib.Omega.{arith}

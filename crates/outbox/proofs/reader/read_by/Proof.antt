@@ -1,3 +1,4 @@
+-- 40, 15 and the end by their tests; then what was judged at the place is what the definition reads there.
 use Prim.Native.Nat.{_+_, _≤_}
 use mathlib.Core.Path.{_≡_, sym, ap, _∙_}
 use native.Mathlib.Omega.{arith}

@@ -1,3 +1,4 @@
+-- 15 and 14 by their tests; then the used bytes are walked, and the record goes behind them where they are whole.
 use Prim.Native.Nat.{_≤_}
 use mathlib.Core.Path.{_≡_, sym, _∙_}
 use native.Mathlib.Omega.{arith}

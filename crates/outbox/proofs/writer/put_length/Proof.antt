@@ -1,3 +1,4 @@
+-- Two bytes of the value, or its two halves as pairs.
 use Prim.Native.Nat.{ℕ, _-_, _*_, _/_, _%_}
 use mathlib.Core.Path.{_≡_, sym, _∙_}
 use native.Mathlib.Nat.{mod-lt}

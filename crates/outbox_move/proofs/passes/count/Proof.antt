@@ -1,3 +1,4 @@
+-- The total so far and the sizes of the records from the place on are the moved file's size; a record that does not fit ends it.
 use Prim.Native.Nat.{_+_, _-_, _≤_, _<_}
 use mathlib.Core.Path.{sym, ap, _∙_}
 use native.Mathlib.Omega.{arith}

@@ -1,3 +1,4 @@
+-- What is written and the moved records from the place on join to the moved file.
 use Prim.Native.Nat.{_+_, _-_, _≤_, _<_}
 use mathlib.Core.Path.{_≡_, sym, ap, _∙_}
 use native.Mathlib.Omega.{arith}

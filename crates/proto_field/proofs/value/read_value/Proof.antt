@@ -1,3 +1,4 @@
+-- Wire types 1 and 5 skip; 0 and 2 begin with the varint that was read; each test leaves one line of `valueAt`.
 use Prim.Native.Nat.{ℕ, zero, suc, _≤_}
 use mathlib.Core.Path.{_≡_, refl, ap, sym, _∙_}
 use mathlib.Core.Bool.{cond}

@@ -1,3 +1,4 @@
+-- The value so far grown by what the bytes from here tell is the value of the whole; the tenth byte alone can overflow.
 use Prim.Native.Nat.{ℕ, _+_, _-_, _*_, _^_, _<_}
 use mathlib.Core.Path.{_≡_, refl, sym, ap, _∙_}
 use mathlib.Core.List.{List}

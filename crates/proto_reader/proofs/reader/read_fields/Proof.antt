@@ -1,3 +1,4 @@
+-- Walking from the place on, from what was gathered so far, gives what walking all gives; one law for each way through a turn.
 use Prim.Native.Nat.{ℕ, _+_, _-_, _≤_, _<_}
 use mathlib.Core.Path.{_≡_, refl, ap, sym, _∙_}
 use mathlib.Core.List.{List}

@@ -1,3 +1,4 @@
+-- What is written and what is left join to the whole list's bytes, at every turn.
 use Prim.Native.Nat.{ℕ, _+_, _-_, _≤_}
 use mathlib.Core.Path.{_≡_, refl, sym, ap, _∙_}
 use mathlib.Core.List.{List}

@@ -1,3 +1,4 @@
+-- The digits written and those of the rest join to the varint's bytes; the rest is below what the digits left can hold.
 use Prim.Native.Nat.{ℕ, _+_, _-_, _%_, _<_, _^_}
 use mathlib.Core.Path.{_≡_, refl, ap, sym, _∙_}
 use mathlib.Core.List.{List}

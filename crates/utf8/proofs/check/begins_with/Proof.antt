@@ -1,3 +1,4 @@
+-- The ranges passed are those of the bytes passed; what is left decides.
 use Prim.Native.Nat.{_-_, _≤_, _<_}
 use mathlib.Core.Path.{_≡_, refl, sym, _∙_}
 use mathlib.Core.List.{List}

@@ -1,3 +1,4 @@
+-- No row before i leads with the byte, so the row of the table is that of its rest.
 use Prim.Native.Nat.{ℕ, _-_, _≤_, _<_}
 use mathlib.Core.Path.{_≡_, refl, sym, ap, subst, _∙_}
 use mathlib.Core.Bool.{Bool, true, false}

@@ -1,3 +1,4 @@
+-- Blocks of sixteen are copied while they are clear; the first that is not is copied up to its byte.
 use Prim.Native.Nat.{_+_, _-_}
 use mathlib.Core.Path.{sym, _∙_}
 use lib.ListN.{length, length-take}

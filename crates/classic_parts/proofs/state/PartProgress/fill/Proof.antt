@@ -1,3 +1,4 @@
+-- A fast pass and then one byte: both keep `Filling`, which says that filling the rest gives what filling all gives.
 use Prim.Native.Nat.{_-_}
 use mathlib.Core.Path.{sym, ap, _∙_}
 use lib.ListN.{length, length-set}

@@ -1,3 +1,4 @@
+-- A run and a pair, again and again: each keeps `PartOnward`, and so does the one after the other.
 use Prim.Native.Nat.{_-_}
 use mathlib.Core.Path.{_≡_}
 use mathlib.Core.Bool.{true}
