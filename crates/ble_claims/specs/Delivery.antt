@@ -123,7 +123,7 @@ allAnswerable (c ∷ cs) = answerable c && allAnswerable cs
 abbrev pub AnswerableAll : Type 0
 AnswerableAll = (c : PacketCall) → c .sequence ≤ 15 → 6 ≤ length (c .out) → answerable c ≡ true
 
--- the answer buffer of the last call: it begins with the ACK exactly if the writer's wish was one
+-- the answer buffer of the last call: it begins with the ACK exactly if the writer wished for one
 abbrev pub lastOut : Sending → PacketCall → List ℕ
 lastOut w c = cond (w .ack) (sets (c .out) 0 (ackBytes (w .stream) (w .id) (c .sequence) true)) (c .out)
 
@@ -141,7 +141,7 @@ pub record Arrived (w : Sending) (m : List ℕ) (first : PacketCall) (later : Li
 -- that the writer's calls give for a message, a slot is there for it, and those of its stream and id among the packets after it are
 -- exactly the others, in order, with any packets of other streams and other ids between, and none of the message's own gets 15 or 14,
 -- each of them takes a piece, all at one place, the last of them gives the message, and its answer buffer begins with the ACK exactly
--- if the wish was one; no other of them gives any or touches its answer buffer.
+-- if one was wished for; no other of them gives any or touches its answer buffer.
 abbrev pub MessagesArrive : Type 0
 MessagesArrive =
     (limit : ℕ) (slots : List Slot) (bytes : List ℕ) (before : List PacketCall) (first : PacketCall) (later after : List PacketCall) (w : Sending) (m out : List ℕ)
@@ -184,7 +184,7 @@ abbrev pub givenOnly : List CallShown → List Message
 givenOnly [] = []
 givenOnly (s ∷ ss) = givenWith (s .message) (givenOnly ss)
 
--- Whatever packets a writer's calls give, none at all too, both claims ask for the message, and once: no writer that refuses meets them.
+-- Whatever packets a writer's calls give, even none, both claims ask for the message, and once: no writer that refuses meets them.
 abbrev pub MessageAsked : Type 0
 MessageAsked =
     (place : ℕ) (w : Sending) (m : List ℕ) (first : PacketCall) (later : List PacketCall) → givenOnly (atLast place w m first later) ≡ messageOf w m ∷ []

@@ -73,7 +73,7 @@ later =
     ∷ call (0x65 ∷ 0x00 ∷ 0x00 ∷ 0x00 ∷ 0x02 ∷ 0x01 ∷ 0xCC ∷ []) 0 eight
     -- a packet without bytes
     ∷ call [] 0 eight
-    -- a stream that there is not
+    -- an unknown stream
     ∷ call (0x51 ∷ 0x24 ∷ 0x01 ∷ 0xCC ∷ []) 0 eight
     -- an OTA packet that is refused
     ∷ call (0x23 ∷ 0x54 ∷ 0x01 ∷ 0xDD ∷ []) 0 eight

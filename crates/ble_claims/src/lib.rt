@@ -9,7 +9,7 @@ pub fn acknowledgements_return()
     ensures { λ _. ⌜ TakesEveryAck × AcknowledgementsReturn ⌝ }
 {}
 
-// 1 comes first, then 15, then 14, all of them leave all; an ACK is written where one is wanted, and no other answer buffer is touched.
+// 1 comes first, then 15, then 14, and each of them leaves everything; an ACK is written where one is wanted, and no other answer buffer is touched.
 pub fn answered_only()
     ensures { λ _. ⌜ AnsweredOnly ⌝ }
 {}

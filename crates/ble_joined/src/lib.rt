@@ -34,7 +34,7 @@ fn move_down(out: &mut [u8], to: usize, from: usize, n: usize)
     }
 }
 
-// The size of the piece of this index, where so many bytes are left.
+// The size of the piece of this index, where this many bytes are left.
 fn piece_size(room: usize, index: usize, rest: usize) -> usize
     requires { ⌜ leastRoom ≤ room ⌝ }
     ensures { λ r. ⌜ r ≡ sizeFor room (isFirst index) rest ⌝ }
@@ -103,7 +103,7 @@ pub fn joined_len(room: usize, total: usize) -> usize
     0
 }
 
-// Whether a message can be joined in so much output: it is exactly as long as its packets.
+// Whether a message can be joined in this much output: it is exactly as long as its packets.
 fn is_exact(how: Sending, total: usize, space: usize) -> bool
     ensures { λ r. ⌜ r ≡ isExact how total space ⌝ }
 {

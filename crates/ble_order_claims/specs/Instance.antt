@@ -84,7 +84,7 @@ restUnlawful = call (rest .packet) 16 eight
 abbrev pub endUnlawful : PacketCall
 endUnlawful = call (end .packet) 9 five
 
--- a stream that there is not
+-- an unknown stream
 abbrev pub unknown : PacketCall
 unknown = call (0x51 ∷ 0x24 ∷ 0x01 ∷ 0xDD ∷ []) 2 six
 

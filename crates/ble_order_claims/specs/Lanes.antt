@@ -1,4 +1,4 @@
--- Two packets whose stream fields differ, handed in in either order, each with its own answer sequence and answer buffer. A claim about
+-- Two packets whose stream fields differ, given in either order, each with its own answer sequence and answer buffer. A claim about
 -- every pair of packets.
 use Prim.Native.Nat.{ℕ, _+_, _*_, _≤_, _<_}
 use mathlib.Core.Path.{_≡_}

@@ -52,7 +52,7 @@ effect e out = record { outcome = e; out = out }
 abbrev pub answers : ℕ → List ℕ → Outcome → Effect
 answers sequence out e = effect e (answered sequence (e .told) out)
 
--- a packet given to the receiver, over as many slots as are said and the first twelve of them
+-- a packet given to the receiver, by the row's length and its first twelve slots
 unfoldable pub decided : ℕ → ℕ → List Slot → List ℕ → PacketCall → Effect
 decided count limit slots bytes c =
     table (line 1 (not (eqb count slotCount && ready limit slots (length bytes))) ∷ []) (λ n. effect (same (refused n) slots bytes) (c .out))

@@ -60,7 +60,7 @@ abbrev pub acted : ℕ → List Slot → List ℕ → List ℕ → Told Packet �
 acted limit slots bytes packet (refused n) = result (refused n) slots bytes
 acted limit slots bytes packet (given x) = applied limit slots bytes packet (laneStart (headIn x .stream)) (actIn slots x)
 
--- a packet of a stream and an id, by its byte 0; one without bytes is of none
+-- a packet of a stream and an id, by its byte 0; one without bytes belongs to none
 abbrev pub isFor : ℕ → ℕ → List ℕ → Bool
 isFor stream id [] = false
 isFor stream id (b ∷ rest) = eqb b (firstByte stream id)

@@ -137,7 +137,7 @@ unfoldable pub decided : ℕ → Sending → ℕ → ℕ → ℕ → Told Piece
 decided limit w length place space =
     table (lines limit w length (foundAt w length place) space) refused (given (pieceOf (foundAt w length place)))
 
--- the packet of a piece of a message of that length can be written in so much output
+-- the packet of a piece of a message of that length can be written in this much output
 pub record Writes (w : Sending) (length : ℕ) (space : ℕ) (p : Piece) : Type 0 where
   pub low-stream : w .stream < fourBits
   pub low-id : w .id < fourBits

@@ -25,7 +25,7 @@ pub(crate) enum Found {
     At(Piece),
 }
 
-// The size of a piece, of so many bytes that are left: as many as fit the room together with the header.
+// The size of a piece of the bytes that are left: as many as fit the room together with the header.
 pub fn size_for(room: usize, first: bool, rest: usize) -> usize
     ensures { λ r. ⌜ r ≡ sizeFor room first rest ⌝ }
 {

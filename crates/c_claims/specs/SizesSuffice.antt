@@ -1,4 +1,4 @@
--- The claim that the sizes that the C header names are enough: with so much output every writer takes what is in its range. The ranges are the
+-- The claim that the sizes that the C header names are enough: with that much output every writer takes what is in its range. The ranges are the
 -- header's own numbers, as a caller gives them.
 use Prim.Native.Nat.{ℕ, zero, suc, _+_, _*_, _≤_, _<_}
 use mathlib.Core.Path.{_≡_}
@@ -91,7 +91,7 @@ abbrev pub LiesAt : List ℕ → List ℕ → ℕ → Type 0
 LiesAt texts row at =
     (getD row at 0 + getD row (at + 1) 0 ≤ length texts) × WellFormed (bytesOf texts (record { start = getD row at 0; len = getD row (at + 1) 0 }))
 
--- version, name, size and signature of so many components from a place on
+-- version, name, size and signature of this many components from a place on
 abbrev pub ComponentsFit : ℕ → List ℕ → List ℕ → ℕ → Type 0
 ComponentsFit zero texts row at = Unit {0}
 ComponentsFit (suc n) texts row at =

@@ -7,7 +7,7 @@ use Rattle.c_messages.specs.Calls.{informationReadOf}
 use Rattle.c_firmware.specs.Calls.{segmentReadOf, applyReadOf}
 use Rattle.c_claims.specs.SizesSuffice.{LiesAt}
 
--- name and signature of so many components from a place on
+-- name and signature of this many components from a place on
 abbrev pub ComponentsLie : ℕ → List ℕ → List ℕ → ℕ → Type 0
 ComponentsLie zero message row at = Unit {0}
 ComponentsLie (suc n) message row at = (LiesAt message row (at + 1) × LiesAt message row (at + 4)) × ComponentsLie n message row (at + 6)

@@ -93,7 +93,7 @@ abbrev pub anyWide : ℕ → List ℕ → ℕ → Bool
 anyWide zero row at = false
 anyWide (suc n) row at = wideAt row at || anyWide n row (at + componentSize)
 
--- restart_required neither 0 nor 1, a version or size above 32 bits, more components than there may be: no message has these numbers
+-- restart_required neither 0 nor 1, a version or size above 32 bits, too many components: no message has these numbers
 unfoldable pub badRow : List ℕ → Bool
 badRow row =
     ltb 1 (getD row 0 0) || (isWide (getD row 1 0) || (ltb mostRepeated (getD row 8 0) || anyWide (getD row 8 0) row firstComponent))

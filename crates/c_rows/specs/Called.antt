@@ -21,7 +21,7 @@ called n s l a = record { number = n; state = s; lent = l; answer = a }
 abbrev pub ifFit : Bool → List ℕ → List ℕ → List ℕ → Called → Called
 ifFit fit state lent answer done = cond fit done (called 1 state lent answer)
 
--- a call with no state: its answer row has so many numbers; then what it returns, the lent bytes afterwards, and the row that it tells
+-- a call with no state: its answer row has this many numbers; then what it returns, the lent bytes afterwards, and the row that it tells
 abbrev pub answers : ℕ → List ℕ → List ℕ → ℕ → List ℕ → List ℕ → Called
 answers size answer before number after row =
     ifFit (eqb (length answer) size) [] before answer (called number [] after (afterwards number answer row))

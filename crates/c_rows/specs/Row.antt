@@ -23,7 +23,7 @@ sizeTold (refused n) = 0
 abbrev pub countOf : Told ℕ → Count
 countOf t = record { number = numberTold t; size = sizeTold t }
 
--- a number of 64 bits where the library takes a byte: one that is no byte stands for another, which is out of range there
+-- a number of 64 bits where the library takes a byte: one above 255 stands for a byte that is out of range there
 unfoldable pub byteOr : ℕ → ℕ → ℕ
 byteOr other n = cond (ltb n 256) n other
 

@@ -96,7 +96,7 @@ pub fn tell(answer: &mut [u64], count: Count) -> u64
     number
 }
 
-// A number as a byte; one that is no byte stands for another, which the library judges to be out of range.
+// A number as a byte; one above 255 stands for a byte that the library judges to be out of range.
 pub fn byte_or(other: u8, n: u64) -> u8
     ensures { λ r. ⌜ r ≡ byteOr other n ⌝ }
 {

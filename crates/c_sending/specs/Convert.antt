@@ -8,11 +8,11 @@ use Rattle.ble_sender.specs.declared.writer.Sending.{Sending}
 use Rattle.ble_sender.specs.Writer.{Sent, more, last}
 use Rattle.c_rows.specs.Row.{byteOr, outOfRange}
 
--- a stream, where the wish beside it is 0 or 1; with any other wish it stands for none, which is out of range: 15 in the library's order
+-- a stream, where the wish beside it is 0 or 1; with any other wish it stands for no stream, which is out of range: 15 in the library's order
 unfoldable pub streamWith : ℕ → ℕ → ℕ
 streamWith wish stream = cond (ltb wish 2) (byteOr outOfRange stream) outOfRange
 
--- how a message is sent: a number that is no byte stands for one that is out of range
+-- how a message is sent: a number above 255 stands for one that is out of range
 unfoldable pub sendingOf : ℕ → ℕ → ℕ → ℕ → ℕ → Sending
 sendingOf room stream id sequence ack =
     record {

@@ -21,7 +21,7 @@ const WISHES: u64 = 2;
 
 pub const WISHED: u64 = 1;
 
-// A stream; with a wish that is none it stands for no stream, which is out of range.
+// A stream; with a wish other than 0 and 1 it stands for no stream, which is out of range.
 pub fn stream_with(wish: u64, stream: u64) -> u8
     ensures { λ r. ⌜ r ≡ streamWith wish stream ⌝ }
 {

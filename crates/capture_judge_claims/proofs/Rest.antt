@@ -161,7 +161,7 @@ module _ (room limit : ℕ) (low : leastRoom ≤ room) (s : Stream) where
         same-refl (eqb n left),
       )
 
-  -- what is open after a packet of n bytes, where so many were left
+  -- what is open after a packet of n bytes, where this many were left
   rest-after : (id sequence left n fuel : ℕ) (ack : Bool) (rest : List ℕ) (others : List (List ℕ)) → AllBytes rest → id < fourBits → length rest ≡ left - n → n ≤ left → left ≤ fuel + n → Rest room limit s Idle others
       → (last : Bool) → eqb n left ≡ last
       → Rest room limit s (slotFor id (left - n) (sequenceAfter sequence 1)) (cond last [] (later fuel room (streamNumber s) id (sequenceAfter sequence 1) ack rest) ++ others)

@@ -75,7 +75,7 @@ rows =
     ∷ row (input 20 4096 ((0x61 ∷ 0x00 ∷ 0x00 ∷ 0x00 ∷ 0x10 ∷ 0x0E ∷ from 0 14) ∷ (0x61 ∷ 0x19 ∷ 0x00 ∷ 0x02 ∷ 0x0E ∷ 0x0F ∷ []) ∷ [])) (given (unlawful 23))
     -- a packet longer than the room
     ∷ row (input 20 4096 (replicate 600 0 ∷ [])) (given (unlawful 1))
-    -- a stream that there is not, a packet that the reader refuses, another id, another sequence, a first packet inside a transaction
+    -- an unknown stream, a packet that the reader refuses, another id, another sequence, a first packet inside a transaction
     ∷ row (input 20 4096 (ack ∷ (0x51 ∷ 0x00 ∷ 0x00 ∷ 0x00 ∷ 0x00 ∷ 0x00 ∷ []) ∷ [])) (given (unlawful 9))
     ∷ row (input 20 4096 (ack ∷ (0x01 ∷ []) ∷ [])) (given (unlawful 9))
     ∷ row (input 20 35 (first ∷ (0x62 ∷ 0x14 ∷ 0x11 ∷ from 15 17) ∷ [])) (given (unlawful 23))

@@ -27,7 +27,7 @@ Right room limit ps told =
     × (told ≡ given open·ended ↔ (Viable room limit ps × ¬ (LawfulPackets room limit ps)))
     × ((at : ℕ) → told ≡ given (unlawful at) ↔ FirstUnlawful room limit ps at)
 
--- Of every capture whose packets can be had, at a room and limit in range.
+-- Of every capture whose packets can be read, at a room and limit in range.
 abbrev pub CaptureIsRight : Type 0
 CaptureIsRight =
     (room limit : ℕ) (bytes : List ℕ) (ps : List (List ℕ)) → roomFits room ≡ true → limitFits limit ≡ true → AllBytes bytes → packetsOf bytes ≡ given ps

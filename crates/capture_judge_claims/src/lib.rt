@@ -11,12 +11,12 @@ pub fn capture_is_right()
     ensures { λ _. ⌜ CaptureIsRight × WritableAll ⌝ }
 {}
 
-// What a capture is: from that of packets of 1 to 65,535 bytes these packets can be had, and from no other bytes.
+// What a capture is: from that of packets of 1 to 65,535 bytes these packets can be read, and from no other bytes.
 pub fn captures_hold_packets()
     ensures { λ _. ⌜ CapturesHold × CapturesOnly ⌝ }
 {}
 
-// Not lawful, and could be continued so: that is, inside a transaction.
+// Packets that are not lawful but could be continued lawfully are those that end inside a transaction.
 pub fn open_is_inside()
     ensures { λ _. ⌜ OpenIsInside ⌝ }
 {}

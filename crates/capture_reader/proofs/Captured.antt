@@ -47,7 +47,7 @@ version-stands rest = rw (ne-eqb (length (1 ∷ rest)) 0 (λ e. omega arith))
 pub captures-hold : CapturesHold
 captures-hold ps s = packets-begin (captured ps) (version-stands (framed ps)) ∙ held-from (length (captured ps)) 1 ps s (omega arith)
 
--- ---- the bytes from which packets can be had
+-- ---- the bytes from which packets can be read
 
 abbrev Held : List ℕ → List (List ℕ) → Type 0
 Held rest ps = (rest ≡ framed ps) × Sizes ps

@@ -144,7 +144,7 @@ module _ {A : Type 0} (bytes : List ℕ) where
       front-by (given n) e x a = e ∙ ap given (front-within (drop at bytes) n e .1)
       front-by (refused n) e x a = cc (walk-stops n e)
 
-      -- where all can be had, so can the packet at the front
+      -- where all can be read, so can the packet at the front
       pub walk-front : (x : A) → all ≡ given x → frontOf (drop at bytes) ≡ given (lengthIn (drop at bytes))
       walk-front x a = front-by (frontOf (drop at bytes)) refl x a
 

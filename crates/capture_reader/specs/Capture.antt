@@ -45,7 +45,7 @@ frontLines rest = line 42 (leb width (length rest) && eqb (lengthIn rest) 0) ∷
 unfoldable pub frontOf : List ℕ → Told ℕ
 frontOf rest = table (frontLines rest) refused (given (lengthIn rest))
 
--- a packet before the others, if they can be had
+-- a packet before the others, if they can be read
 abbrev pub before : List ℕ → ToldAt (List (List ℕ)) → ToldAt (List (List ℕ))
 before p (given ps) = given (p ∷ ps)
 before p (refused n) = refused n
@@ -66,7 +66,7 @@ otherVersion bytes = eqb (length bytes) 0 || not (eqb (getD bytes 0 0) version)
 unfoldable pub packetsOf : List ℕ → ToldAt (List (List ℕ))
 packetsOf bytes = table (line 40 (otherVersion bytes) ∷ []) (λ n. refused (n, 0)) (packetsFrom (length bytes) 1 (drop 1 bytes))
 
--- whether they can be had, or the refusal
+-- whether they can be read, or the refusal
 unfoldable pub checkedOf : List ℕ → ToldAt (Unit {0})
 checkedOf bytes = andThen (packetsOf bytes) (λ ps. given tt)
 

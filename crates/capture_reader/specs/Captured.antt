@@ -20,10 +20,10 @@ abbrev pub Sizes : List (List ℕ) → Type 0
 Sizes [] = Unit {0}
 Sizes (p ∷ ps) = (1 ≤ length p) × (length p ≤ 65535) × Sizes ps
 
--- every list of such packets can be had from its capture
+-- every list of such packets can be read from its capture
 abbrev pub CapturesHold : Type 0
 CapturesHold = (ps : List (List ℕ)) → Sizes ps → packetsOf (captured ps) ≡ given ps
 
--- bytes from which packets can be had are the capture of these packets
+-- bytes from which packets can be read are the capture of these packets
 abbrev pub CapturesOnly : Type 0
 CapturesOnly = (bytes : List ℕ) (ps : List (List ℕ)) → AllBytes bytes → packetsOf bytes ≡ given ps → (bytes ≡ captured ps) × Sizes ps

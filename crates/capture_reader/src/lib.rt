@@ -34,7 +34,7 @@ pub enum Front {
     Whole(usize),
 }
 
-// Whether every packet of a capture can be had. A refusal tells the place of the packet's length; of the version, 0.
+// Whether every packet of a capture can be read. A refusal tells the place of the packet's length; of the version, 0.
 pub enum Soundness {
     Sound,
     Unsound { why: Refusal, at: usize },

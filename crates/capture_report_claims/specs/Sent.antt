@@ -10,7 +10,7 @@ use Rattle.capture_report.specs.declared.Costs.{Costs}
 use Rattle.capture_report.specs.Costs.{costsOf}
 use Rattle.capture_report.specs.Report.{freshRun}
 
--- one first packet, one transaction finished, and so many payload bytes
+-- one first packet, one transaction finished, and this many payload bytes
 pub record CostsOne (payload : ℕ) (c : Costs) : Type 0 where
   pub one-first : c .firsts ≡ 1
   pub one-finished : c .finished ≡ 1

@@ -78,7 +78,7 @@ abbrev pub alexaWhole : List ℕ
 alexaWhole = 0x61 ∷ 0x00 ∷ 0x00 ∷ 0x00 ∷ 0x01 ∷ 0x01 ∷ 0x09 ∷ []
 
 -- five ids of one stream, the last of which finds no slot; a whole message in place of the first of them; a NACK of OTA; a first packet
--- of a stream that there is not
+-- of an unknown stream
 abbrev pub fiveIds : List (List ℕ)
 fiveIds =
     alexa 1

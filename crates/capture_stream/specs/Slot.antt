@@ -21,7 +21,7 @@ isIdle (Open id left sequence) = false
 abbrev pub same : Bool → Bool → Bool
 same a b = cond a b (not b)
 
--- Of a packet's piece of len bytes, where so many are left: it is the writer's piece, the extender stands only where it must, and the
+-- Of a packet's piece of len bytes, where this many are left: it is the writer's piece, the extender stands only where it must, and the
 -- ACK flag only on the last packet.
 unfoldable pub fitsPiece : ℕ → Bool → ℕ → Bool → ℕ → ℕ → Bool
 fitsPiece room first left ack start len =

@@ -53,7 +53,7 @@ module _ (report : CostReport) (limit : ℕ) (slots : List Slot) (bytes capture 
       rw e (same ∙ sym (turns-add report limit slots bytes ps))
   sound-by (refused n) e h = let z : _≡_ {A = ℕ} 0 1 = cc (rw e at h) in absurd (omega arith)
 
-  -- the packets of a capture that can be had, passed
+  -- the packets of a capture that can be read, passed
   pub sound : given a ≡ passedOf (given report) limit idles bytes capture → a ≡ addedBy report limit slots bytes (packetsOf capture)
   sound h = sound-by (packetsOf capture) refl h
 

@@ -38,7 +38,7 @@ turnOf t limit slots bytes p =
     let l : Result = gaveOf limit slots bytes p in
     captureAdded (onTop t (reportWith (heard p (l .told)))) (l .slots) (l .bytes)
 
--- all packets of a capture, if they can be had
+-- all packets of a capture, if they can be read
 unfoldable pub passedOf : ToldAt CostReport → ℕ → List Slot → List ℕ → List ℕ → ToldAt CaptureAdded
 passedOf t limit slots bytes capture = andThen (packetsOf capture) (λ ps. given (addedFrom t limit slots bytes ps))
 

@@ -179,7 +179,7 @@ fn answer_of(sum: Sum) -> Answer
     }
 }
 
-// A capture added, over as many slots as are said and the first twelve of them.
+// A capture added, by the row's length and its first twelve slots.
 pub fn add_by_value(
     count: usize,
     slots: [Slot; 12],

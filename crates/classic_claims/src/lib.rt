@@ -3,7 +3,7 @@ ghost use Rattle.classic_claims.specs.Recovery.{DamageEnds, FrameReturns
 ghost use Rattle.classic_claims.specs.Premises.{FactsSuffice};
 ghost use Rattle.classic_claims.specs.Example.{DamageExample};
 
-// What is decided in the closing frames is what is undamaged of them, from every lawful state, after any bytes and however the calls cut them.
+// The frames decided in the closing part are its undamaged ones, from every lawful state, after any bytes and however the calls cut them.
 pub fn damage_ends()
     ensures { λ _. ⌜ DamageEnds ⌝ }
 {}

@@ -28,7 +28,7 @@ pub struct Extractor {
     pub progress: Progress,
 }
 
-// An extractor in its empty state, or a limit that is none: refusal 17.
+// An extractor in its empty state, or a limit out of its range: refusal 17.
 pub enum OpenedExtractor {
     Empty(Extractor),
     BadLimit,

@@ -55,7 +55,7 @@ pub record ListsAsWhole : Type 0 where
   pub goes-on : (fmt : Format) (part more : List ℕ) → listedOf fmt false part .over ≡ false
       → let place = listedOf fmt false part .place in
       readAll fmt (part ++ more) ≡ recordsOf (readAll fmt part) ++ allMoved (place - firstPlace) (readAll fmt (fromPlace fmt (part ++ more) place))
-  -- .. which begins with what is carried over, in so many bytes as are told
+  -- .. which begins with what is carried over, in as many bytes as are told
   pub carries : (fmt : Format) (buffer more : List ℕ) (held : ℕ) → held ≤ length buffer
       → let part = take held buffer in
       listedOf fmt false part .over ≡ false

@@ -21,7 +21,7 @@ abbrev pub badComponents : List ℕ → List FirmwareComponent → Bool
 badComponents texts [] = false
 badComponents texts (c ∷ cs) = badComponent texts c || badComponents texts cs
 
--- more components than there may be, or a part that does not lie within the texts
+-- too many components, or a part that does not lie within the texts
 unfoldable pub badFirmware : List ℕ → FirmwareInformation → Bool
 badFirmware texts f =
     ltb mostRepeated (f .count) || (outside texts (f .name) || (badComponents texts (present f) || (outside texts (f .locale) || outside texts (f .«version_name»))))

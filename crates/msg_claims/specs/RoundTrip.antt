@@ -51,7 +51,7 @@ abbrev pub Gives : {N A : Type 0} → ToldOf N A → (A → Type 0) → Type 0
 Gives (given a) P = P a
 Gives (refused n) P = ⊥
 
--- a writer gives the number of its bytes, and of as many first bytes of the output a reader makes a
+-- a writer tells the number of its bytes, and of that many first bytes of the output a reader makes a
 abbrev pub ReadsBack : {N A : Type 0} → WrittenOf N ℕ → (List ℕ → ToldOf N A) → A → Type 0
 ReadsBack w read a = Gives (w .told) (λ n. read (take n (w .out)) ≡ given a)
 

@@ -37,7 +37,7 @@ pub record Movable (limit : ℕ) (file : List ℕ) : Type 0 where
   pub whole : walkOf (formatOf file) file ≡ given tt
   pub short : AllShort limit (recordsOf file)
 
--- so many bytes are written; they are a whole file of the wished version with the same records, and the way back gives the file
+-- this many bytes are written; they are a whole file of the wished version with the same records, and the way back gives the file
 pub record Moves (wished : Format) (file : List ℕ) (size : ℕ) (s : Stored) : Type 0 where
   pub written : s .told ≡ given size
   pub version : formatOf (take size (s .buffer)) ≡ wished

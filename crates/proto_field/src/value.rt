@@ -65,7 +65,7 @@ fn part_of(message: &[u8], value: u64, next: usize) -> ValueRead
     ValueRead::Refused(Refusal::Cut)
 }
 
-// The value of a wire type at a place. A number and a length are read by the same code: so small the compiler inlines it.
+// The value of a wire type at a place. A number and a length are read by the same code, which makes it small enough to be inlined.
 pub fn read_value(message: &[u8], at: usize, wire: u64) -> ValueRead
     ensures { λ r. ⌜ toldValue r ≡ valueAt (now (message .entry)) at wire ⌝ }
     ensures { λ r. ⌜ TellsWithin (now (message .entry)) readParts (toldValue r) ⌝ }

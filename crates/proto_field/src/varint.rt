@@ -17,7 +17,7 @@ pub enum Varint {
     Refused(Refusal),
 }
 
-// The varint at a place. Most have one byte: those are read in the caller's own code, so small is this function.
+// The varint at a place. Most have one byte: this function is small enough that those are read in the caller's own code.
 pub fn read_varint(message: &[u8], at: usize) -> Varint
     ensures { λ r. ⌜ toldVarint r ≡ varintAt (now (message .entry)) at ⌝ }
 {

@@ -59,7 +59,7 @@ fn usage() {
     );
 }
 
-// A number with one digit more; above every limit where that is none, or too large.
+// A number with one digit more; a number above every limit if the byte is no digit or the number too large.
 fn with_digit(value: usize, digit: u8) -> usize {
     if digit < b'0' {
         return NO_LIMIT;

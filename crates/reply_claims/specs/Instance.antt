@@ -214,7 +214,7 @@ abbrev pub begun : PacketCall
 begun = call first 15 six
 
 -- the reply's last packet, and among others: the OTA transaction goes on, the one of another id too, an Alexa message, a packet without
--- bytes, a stream that there is not
+-- bytes, an unknown stream
 abbrev pub later : List PacketCall
 later =
     call (0x23 ∷ 0x04 ∷ 0x02 ∷ 0xAA ∷ 0xBB ∷ []) 16 six

@@ -21,7 +21,7 @@ abbrev pub badIn : ℕ → List ℕ → ℕ
 badIn zero s = 0
 badIn (suc fuel) s = cond (eqb (sequenceAt s) 0) 0 (sequenceAt s + badIn fuel (drop (sequenceAt s) s))
 
--- the place where the first sequence begins that no row describes; the length where there is none
+-- the place of the first sequence that no row describes; the string's length if there is none
 unfoldable pub badPlace : List ℕ → ℕ
 badPlace s = badIn (length s) s
 

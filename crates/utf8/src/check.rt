@@ -60,7 +60,7 @@ fn passed(string: &[u8], at: usize) -> usize
     }
 }
 
-// The place where the first sequence begins that no row describes, from one on before which there is none; the length where there is none.
+// The first place, from a given one on, where a sequence begins that no row describes; the string's length if there is none. No such place is before the given one.
 fn place_from(string: &[u8], from: usize) -> usize
     requires { ⌜ (from ≤ length (now string)) × (badPlace (now string) ≡ from + badPlace (drop from (now string))) ⌝ }
     ensures { λ r. ⌜ r ≡ badPlace (now (string .entry)) ⌝ }
@@ -100,7 +100,7 @@ fn any_above(run: &[u8]) -> bool
     FIRST_ABOVE <= joined
 }
 
-// The place where the first sequence begins that no row describes; the length where there is none. ASCII goes block by block, and what
+// The place of the first sequence that no row describes; the string's length if there is none. ASCII goes block by block, and what
 // is left of it by a last block that begins before. The table has a function of its own, with more callers than one: so the
 // compiler keeps it, and the registers that it takes, out of this one.
 pub fn bad_place(string: &[u8]) -> usize

@@ -80,7 +80,7 @@ unread n packet = case (acceptPacketWithin 64 full packet) (accepted (refused n)
 abbrev pub twoStreams : ℕ → List Slot
 twoStreams id = begun id ∷ (replicate 3 idle ++ (begun id ∷ replicate 7 idle))
 
--- a control transaction of three bytes, id 0, of which so many are held; the last packet had this sequence
+-- a control transaction of three bytes, id 0, of which this many are held; the last packet had this sequence
 abbrev pub holding : ℕ → ℕ → List Slot
 holding held sequence = openWith 0 sequence false 3 held ∷ replicate 11 idle
 

@@ -68,7 +68,7 @@ pub data Question : Type 0 where
   readEnvelope : List ℕ → Question
   -- the record of an outbox at a place
   readRecord : List ℕ → ℕ → Question
-  -- a record of a stream with a payload, after so many used bytes of a buffer
+  -- a record of a stream with a payload, after this many used bytes of a buffer
   appendRecord : List ℕ → ℕ → ℕ → List ℕ → Question
 
 -- what a packet carries: so many bytes, their number in one byte or extended
@@ -97,7 +97,7 @@ pub data Answer : Type 0 where
   -- what an append tells, and the buffer afterwards
   appended : Stored → Answer
 
--- the bytes that a writer wrote: so many, first in the lent output
+-- the bytes that a writer wrote: the first of the lent output, as many as it told
 abbrev pub bytesOf : Written ℕ → Told (List ℕ)
 bytesOf w = andThen (w .told) (λ n. given (take n (w .out)))
 

@@ -68,7 +68,7 @@ module _ {M : Type 1} (𝓤 : URA M) (H : Heap 𝓤) (A : Atoms 𝓤) (W : Given
   abbrev Post : Val → SProp 𝓤
   Post = walkOf 𝓤 H A f.ended stayed (f.clauses 𝓤 H A at-mem run) .post (((κ, tt), (q, tt), tt, a, at), tt)
 
-  -- from what is had at exit, the borrow at the list zs, to the `post`
+  -- from what there is at exit, the borrow at the list zs, to the `post`
   exits : Room T.the-row (length ys) → (zs : List Slot) → length zs ≡ length ys → zs ≡ set ys i s
       → ent 𝓤 (⋆ 𝓤 H A (‵ (fobs γ (codedHoleys T.the-row .code (heres T.the-row zs))) ∷ ‵ (fbor κ (Held T.the-row (length zs) b o γ)) ∷ ‵ (flft κ q) ∷ ‵ (fsep (usize .own i (vint w64 i ∷ [])) (fsep (T.the-row .own s (vals s)) ftrue)) ∷ [])) (Post vunit)
   exits room zs same e =
