@@ -7,4 +7,4 @@ use Rattle.worked_calls.specs.NextPackets.{NextPackets, nextPacketsRows}
 
 pub next-packets : NextPackets
 unfolding NextPackets nextPacketsRows nextOf sizeFor roomFits
-next-packets = refl
+next-packets = (refl, refl)

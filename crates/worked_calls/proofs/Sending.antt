@@ -15,4 +15,4 @@ use Rattle.worked_calls.specs.Sending.{SendingCalls, sendingRows}
 
 pub sending-calls : SendingCalls
 unfolding SendingCalls sendingRows ackOf receiverOpenOf ackWriteOf packetWriteOf sendingOf streamWith inRange openOf byteOr sizeFor argumentsFit headerBytes packetOf roomFits writtenOf limitFits isStream
-sending-calls = refl
+sending-calls = (refl, refl)

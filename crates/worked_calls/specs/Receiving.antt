@@ -22,7 +22,7 @@ receivingRows =
     )
     ∷ (
       receiverAcceptOf (1 ∷ []) (replicate 12 idle) (replicate 12 0x00) [] 0 (0xEE ∷ []) (replicate 9 9),
-      replied 1 (replicate 12 idle) (replicate 12 0x00) (replicate 9 9) (0xEE ∷ []),
+      record { number = 1; slots = replicate 12 idle; lent = replicate 12 0x00; answer = replicate 9 9; out = 0xEE ∷ [] },
     )
     ∷ (receiverAcceptOf (2 ∷ []) (replicate 12 idle) (replicate 24 0x00) [] 0 [] [], replied 1 (replicate 12 idle) (replicate 24 0x00) [] [])
     ∷ (
