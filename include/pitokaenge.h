@@ -684,7 +684,7 @@ PITO_CALL uint64_t pito_apply_read(const uint8_t *message, pito_len message_len,
  * strings_len) bytes are enough, where strings_len is the sum of the lengths of all strings, those of the components too.
  * Answer: field and place go with 36, as in reading, of the first string in writing order: the components' strings
  * stand between name and locale.
- * Returns 0, 1 (also for a row that has not PITO_APPLY_ROW numbers), 15 (restart_required neither 0 nor 1, a version or
+ * Returns 0, 1 (also for a row that does not have PITO_APPLY_ROW numbers), 15 (restart_required neither 0 nor 1, a version or
  * size above 32 bits, more than eight components, a part that does not lie within the texts), 36, 14.
  */
 #define PITO_APPLY_SIZE(components, strings_len) (55 * (components) + (strings_len) + 66)

@@ -1,5 +1,5 @@
 #!/usr/bin/env python3
-"""A second model of the writer's contract and of the claims of crate `delivery`, written from docs/FORMATS.md.
+"""A second model of the writer's contract and of the claims of crate `ble_claims`, written from docs/FORMATS.md.
 
 A must-fail edit shows only that a written proof no longer fits. This model shows that the statement itself is false under it:
 it tries each statement on random instances, in the words of specs/Delivery.antt. As they stand no counterexample may be found;

@@ -33,7 +33,7 @@ CLAIMS = ("records_return", "cuts_are_found", "appends_after_cut", "appends_as_a
 NOTHING = {
     "append_refuses": ("appending refuses everything by 14", {"records_return", "cuts_are_found", "appends_after_cut", "appends_as_alone"}),
     "always_end": ("reading a file that has the version always gives the end", {"records_return", "cuts_are_found", "appends_after_cut", "reads_as_alone"}),
-    "nothing_owed": ("the records that are owed are none", {"records_return", "cuts_are_found", "appends_after_cut"}),
+    "nothing_owed": ("no records are owed", {"records_return", "cuts_are_found", "appends_after_cut"}),
 }
 
 

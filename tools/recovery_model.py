@@ -1,5 +1,5 @@
 #!/usr/bin/env python3
-"""A second model of the claims of crate `recovery`, written from docs/FORMATS.md and not from the specs.
+"""A second model of the claims of crate `classic_claims`, written from docs/FORMATS.md and not from the specs.
 
 It tries the claims on random instances: with the definitions as they are no counterexample may be found, and with each edit
 of a definition one has to be found for the claims named beside it, and none for the others. A proof that no longer fits after
@@ -270,7 +270,7 @@ EDITS = [
     ("many bytes tell one more where they stop", D | F, edit(feed=feed_by(1, lambda r: r[0] != "all used"))),
     ("many bytes tell one less where they stop", F | S, edit(feed=feed_by(-1, lambda r: r[0] != "all used"))),
     ("many bytes tell one less at their end", D | S, edit(feed=feed_by(-1, lambda r: r[0] == "all used"))),
-    # ---- edits of the claims: those of crates/recovery/must-fail, under their names
+    # ---- edits of the claims: those of crates/classic_claims/must-fail, under their names
     ("payload_of_another", D, edit(undamaged=lambda k, items: Link.undamaged(k, items)[::-1])),
     ("payload_not_first", D | F, edit(handed=lambda k, r, l: [(r[1], r[2], l[1:r[2] + 1])] if r[0] == "frame" else [])),
     ("damaged_handed_out", D, edit(undamaged=lambda k, items: [(q, len(p), p) for q, p, turned in items])),

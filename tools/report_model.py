@@ -1,5 +1,5 @@
 #!/usr/bin/env python3
-"""A second model of a report over captures and of the claims of crate `report_claims`, written from docs/FORMATS.md.
+"""A second model of a report over captures and of the claims of crate `capture_report_claims`, written from docs/FORMATS.md.
 
 A must-fail edit shows only that a written proof no longer fits. This model shows that the statement itself is false under it:
 it tries each statement on random captures, in the words of specs/Captures.antt. As they stand no counterexample may be found;
@@ -10,7 +10,7 @@ with each edit one has to be found for the statements named beside it, and none 
   balance  from an empty report, over any captures, refused ones included (`reports_balance`)
   order    where no capture is refused by 19, none is in another order, and the report is the same (`order_is_free`)
 
-An edit that stands in must-fail of crate `report` or `report_claims` has its name here; those in brackets are other wrong rules.
+An edit that stands in must-fail of crate `capture_report` or `capture_report_claims` has its name here; those in brackets are other wrong rules.
 Counts and sums that are wrong alike in every capture balance and come out the same in each order: the worked captures are there
 for them. What is left open, taken as what the other numbers leave, meets all: the balance would then say nothing."""
 import random

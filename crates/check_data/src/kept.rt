@@ -1,11 +1,11 @@
 // The cases of the outbox, P12.
+use check_printing::end;
+use check_printing::number;
+use check_printing::refused;
+use check_printing::text;
 use outbox::reader::Reading;
 use outbox::reader::read;
 use outbox::verdict::Fault;
-use printing::end;
-use printing::number;
-use printing::refused;
-use printing::text;
 
 fn print_record(stream: u8, start: usize, size: usize, next: usize) {
     text(b" record of stream");

@@ -1,17 +1,17 @@
 // The cases of control messages, P10 and P11.
-use control::envelope::Envelope;
-use control::envelope::EnvelopePayload;
-use control::envelope::EnvelopeRead;
-use control::envelope::Payload;
-use control::envelope::write_envelope;
-use control::response::ResponsePayload;
-use field::signed::sign_extended;
-use field_writer::message::Wrote;
-use printing::bytes;
-use printing::digits;
-use printing::end;
-use printing::refused;
-use printing::text;
+use check_printing::bytes;
+use check_printing::digits;
+use check_printing::end;
+use check_printing::refused;
+use check_printing::text;
+use msg_control::envelope::Envelope;
+use msg_control::envelope::EnvelopePayload;
+use msg_control::envelope::EnvelopeRead;
+use msg_control::envelope::Payload;
+use msg_control::envelope::write_envelope;
+use msg_control::response::ResponsePayload;
+use proto_field::signed::sign_extended;
+use proto_writer::message::Wrote;
 use std::num::wrapping_sub_u64;
 
 // The output lent to a writer: more than any case needs.
@@ -63,7 +63,7 @@ fn print_envelope(envelope: Envelope) {
 
 fn read_envelope(label: &[u8], message: &[u8]) {
     text(label);
-    match control::envelope::read_envelope(message) {
+    match msg_control::envelope::read_envelope(message) {
         EnvelopeRead::Read(envelope) => print_envelope(envelope),
         EnvelopeRead::Refused(_) => text(b" refused"),
     }

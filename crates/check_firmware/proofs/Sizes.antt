@@ -9,19 +9,19 @@ use lib.Seq.{sets, length-sets}
 use lib.Dec.{eqb, ltb}
 use borrow.Author.Tests.{ltb-false}
 use Rattle.wire.specs.Told.{WrittenOf, given, refused, written}
-use Rattle.field_writer.specs.Writer.{messageBytes}
-use Rattle.text_writer.specs.declared.TextFault.{TextFault}
-use Rattle.text_writer.specs.declared.TextFault.the-variants.{None, At}
-use Rattle.text_writer.specs.declared.TextWrote.{TextWrote}
-use Rattle.text_writer.specs.Texts.{firstFault, faulted, toldTextWrote, textWroteSize}
-use Rattle.firmware.specs.declared.apply.ApplyFirmware.{ApplyFirmware}
-use Rattle.firmware.specs.Segment.{brokenField}
-use Rattle.segment_writer.specs.declared.SegmentWrote.{SegmentWrote}
-use Rattle.segment_writer.specs.declared.SegmentWrote.the-variants.{Done, BadText, Profile, NoRoom}
-use Rattle.segment_writer.specs.Segment.{segmentStrings, segmentFields, segmentFilled, segmentWritten, toldSegmentWrote, segmentWroteSize}
-use Rattle.firmware_writer.specs.Information.{badFirmware, firmwareStrings}
-use Rattle.firmware_writer.specs.Apply.{applyFields, applyWritten}
-use Rattle.answering.proofs.Sizes.{text-size}
+use Rattle.proto_writer.specs.Writer.{messageBytes}
+use Rattle.proto_strings.specs.declared.TextFault.{TextFault}
+use Rattle.proto_strings.specs.declared.TextFault.the-variants.{None, At}
+use Rattle.proto_strings.specs.declared.TextWrote.{TextWrote}
+use Rattle.proto_strings.specs.Texts.{firstFault, faulted, toldTextWrote, textWroteSize}
+use Rattle.msg_firmware.specs.declared.apply.ApplyFirmware.{ApplyFirmware}
+use Rattle.msg_firmware.specs.Segment.{brokenField}
+use Rattle.msg_segment_writer.specs.declared.SegmentWrote.{SegmentWrote}
+use Rattle.msg_segment_writer.specs.declared.SegmentWrote.the-variants.{Done, BadText, Profile, NoRoom}
+use Rattle.msg_segment_writer.specs.Segment.{segmentStrings, segmentFields, segmentFilled, segmentWritten, toldSegmentWrote, segmentWroteSize}
+use Rattle.msg_apply_writer.specs.Information.{badFirmware, firmwareStrings}
+use Rattle.msg_apply_writer.specs.Apply.{applyFields, applyWritten}
+use Rattle.check_answering.proofs.Sizes.{text-size}
 
 module _ (w : TextWrote) (out l : List ℕ) where
   pub apply-size : (a : ApplyFirmware) (texts : List ℕ) → written (toldTextWrote w) l ≡ applyWritten a texts out → textWroteSize w ≤ length l

@@ -1,24 +1,24 @@
 // Reads a firmware message and writes it again: for comparison with other makers' tools (tools/compare_protoc).
 // Standard input is a letter for the message's kind and the message. Standard output is the answer; 1 is for any other letter, 2 for an
 // input that is too long.
-use answering::NO_KIND;
-use answering::TOO_LONG;
-use answering::bytes_of;
-use answering::refuse;
-use answering::show;
-use answering::show_text;
-use field_writer::message::Wrote;
-use firmware::apply::read_apply;
-use firmware::segment::SegmentRead;
-use firmware::segment::read_segment;
-use firmware_writer::apply::write_apply;
+use check_answering::NO_KIND;
+use check_answering::TOO_LONG;
+use check_answering::bytes_of;
+use check_answering::refuse;
+use check_answering::show;
+use check_answering::show_text;
 use libc::STDIN_FILENO;
-use segment_writer::SegmentWrote;
-use segment_writer::write_segment;
-use walk::refusal::WalkVerdict;
+use msg_apply_writer::apply::write_apply;
+use msg_firmware::apply::read_apply;
+use msg_firmware::segment::SegmentRead;
+use msg_firmware::segment::read_segment;
+use msg_segment_writer::SegmentWrote;
+use msg_segment_writer::write_segment;
+use proto_reader::refusal::WalkVerdict;
+use proto_writer::message::Wrote;
 ghost use Prim.Native.Nat.{_≤_};
 ghost use lib.ListN.{length};
-ghost use Rattle.segment_writer.specs.Segment.{segmentWroteSize};
+ghost use Rattle.msg_segment_writer.specs.Segment.{segmentWroteSize};
 
 const SEGMENT: u8 = b'S';
 

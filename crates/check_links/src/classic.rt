@@ -1,16 +1,16 @@
 // The cases of Classic, P1 to P3.
 use crate::LIMIT;
 use crate::OUTPUT;
-use frame_writer::writer::WriteOutcome;
-use framing::header::next_sequence;
-use printing::bytes;
-use printing::end;
-use printing::refused;
-use printing::text;
+use check_printing::bytes;
+use check_printing::end;
+use check_printing::refused;
+use check_printing::text;
+use classic_frame::header::next_sequence;
+use classic_writer::writer::WriteOutcome;
 
 fn write_frame(label: &[u8], sequence: u8, payload: &[u8]) {
     let mut out = [0u8; OUTPUT];
-    let outcome = frame_writer::writer::write_frame(sequence, LIMIT, payload, &mut out);
+    let outcome = classic_writer::writer::write_frame(sequence, LIMIT, payload, &mut out);
     text(label);
     match outcome {
         WriteOutcome::Frame(n) => bytes(&out, n),

@@ -1,23 +1,23 @@
 // The cases of Low Energy, P4 to P9 and No. 2.
 use crate::LIMIT;
 use crate::OUTPUT;
-use packet::header::extender_bit;
-use packet::reader;
-use packet::reader::Packet;
-use printing::bytes;
-use printing::end;
-use printing::number;
-use printing::refused;
-use printing::text;
-use receiver::SLOT_COUNT;
-use receiver::decide;
-use sender::piece::LARGEST_ROOM;
-use sender::writer;
-use sender::writer::Sending;
-use sender::writer::write_packet;
-use slot::Slot;
-use slot::answer::Accepted;
-use slot::answer::Answer;
+use ble_packet::header::extender_bit;
+use ble_packet::reader;
+use ble_packet::reader::Packet;
+use ble_receiver::SLOT_COUNT;
+use ble_receiver::decide;
+use ble_sender::piece::LARGEST_ROOM;
+use ble_sender::writer;
+use ble_sender::writer::Sending;
+use ble_sender::writer::write_packet;
+use ble_slot::Slot;
+use ble_slot::answer::Accepted;
+use ble_slot::answer::Answer;
+use check_printing::bytes;
+use check_printing::end;
+use check_printing::number;
+use check_printing::refused;
+use check_printing::text;
 use wire::bytes::byte_at;
 use wire::bytes::smaller;
 
@@ -167,11 +167,11 @@ fn accept_packet(label: &[u8], control: Slot, alexa: Slot, packet: &[u8]) {
 
 fn write_acknowledgement(label: &[u8], stream: u8, id: u8, sequence: u8, positive: bool) {
     let mut out = [0u8; OUTPUT];
-    let answer = acknowledgement::write(stream, id, sequence, positive, &mut out);
+    let answer = ble_ack::write(stream, id, sequence, positive, &mut out);
     text(label);
     match answer {
-        acknowledgement::Answer::Written(n) => bytes(&out, n),
-        acknowledgement::Answer::Refused(why) => refused(why.number()),
+        ble_ack::Answer::Written(n) => bytes(&out, n),
+        ble_ack::Answer::Refused(why) => refused(why.number()),
     }
     end();
 }

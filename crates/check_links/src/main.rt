@@ -1,4 +1,4 @@
-// Runs the worked cases of the two links through the library: a line for each row of P1 to P9 of the table in crate `worked`, in its order.
+// Runs the worked cases of the two links through the library: a line for each row of P1 to P9, and for the first two of No. 2, of the table in crate `worked`, in its order.
 mod classic;
 mod low_energy;
 

@@ -1,28 +1,28 @@
 // Reads a control message and writes it again: for comparison with other makers' tools (tools/compare_protoc).
 // Standard input is a letter for the message's kind and the message. Standard output is the answer; 1 is for any other letter, 2 for an
 // input that is too long.
-use answering::NO_KIND;
-use answering::TOO_LONG;
-use answering::bytes_of;
-use answering::refuse;
-use answering::show;
-use answering::show_text;
-use control::envelope::EnvelopePayload;
-use control::envelope::EnvelopeRead;
-use control::envelope::Payload;
-use control::envelope::read_envelope;
-use control::envelope::write_envelope;
-use control::response::ResponsePayload;
-use control::response::ResponseRead;
-use control::response::read_response;
-use control::response::write_response;
-use device::features::FeaturesRead;
-use device::features::read_features;
-use device::features::write_features;
-use device::information::read_information;
-use device::information::write_information;
+use check_answering::NO_KIND;
+use check_answering::TOO_LONG;
+use check_answering::bytes_of;
+use check_answering::refuse;
+use check_answering::show;
+use check_answering::show_text;
 use libc::STDIN_FILENO;
-use walk::refusal::WalkVerdict;
+use msg_control::envelope::EnvelopePayload;
+use msg_control::envelope::EnvelopeRead;
+use msg_control::envelope::Payload;
+use msg_control::envelope::read_envelope;
+use msg_control::envelope::write_envelope;
+use msg_control::response::ResponsePayload;
+use msg_control::response::ResponseRead;
+use msg_control::response::read_response;
+use msg_control::response::write_response;
+use msg_device::features::FeaturesRead;
+use msg_device::features::read_features;
+use msg_device::features::write_features;
+use msg_device::information::read_information;
+use msg_device::information::write_information;
+use proto_reader::refusal::WalkVerdict;
 
 const ENVELOPE: u8 = b'E';
 

@@ -4,10 +4,10 @@ use mathlib.Core.Path.{_≡_, ap}
 use mathlib.Core.List.{List}
 use native.Mathlib.Omega.{arith}
 use lib.ListN.{length, take, drop, length-take}
-use Rattle.extractor.specs.declared.state.Progress.{Progress}
-use Rattle.extractor.specs.Outcome.{Report}
-use Rattle.feed.specs.Feed.{Feed, fed, feedOf}
-use Rattle.feed.proofs.Loop.{feed-within}
+use Rattle.classic_extractor.specs.declared.state.Progress.{Progress}
+use Rattle.classic_extractor.specs.Outcome.{Report}
+use Rattle.classic_feed.specs.Feed.{Feed, fed, feedOf}
+use Rattle.classic_feed.proofs.Loop.{feed-within}
 
 pub used-fits : {r : Report} {n : ℕ} {s′ : Progress} {l′ : List ℕ} (limit : ℕ) (s : Progress) (l bytes : List ℕ) (at : ℕ) → at ≤ length bytes
     → fed r n s′ l′ ≡ feedOf limit s l (take (length bytes - at) (drop at bytes)) → n ≤ length bytes - at

@@ -1,20 +1,20 @@
 // Writes the outbox file given on standard input in the version that the argument names, 01 or 02, to standard output. Where
 // it refuses, standard output gets nothing, and the error output says why. The file may be of any size: one pass judges it, and
 // another writes, each through a buffer that holds the version byte and the bytes from a record's place on.
-use console::Output;
-use console::argument_is;
-use console::complain;
-use console::complain_number;
-use console::sentences::explain_outbox;
+use cli_console::Output;
+use cli_console::argument_is;
+use cli_console::complain;
+use cli_console::complain_number;
+use cli_console::sentences::explain_outbox;
+use cli_listing::carry_over;
+use cli_listing::judge_part;
+use cli_listing::refill;
 use libc::SEEK_SET;
 use libc::STDIN_FILENO;
-use listing::carry_over;
-use listing::judge_part;
-use listing::refill;
-use moving::Moved;
-use moving::Wished;
-use moving::move_file;
 use outbox::format::FIRST_PLACE;
+use outbox_move::Moved;
+use outbox_move::Wished;
+use outbox_move::move_file;
 use std::num::wrapping_add_u64;
 use wire::bytes::smaller;
 use wire::logic::either;
@@ -186,7 +186,7 @@ fn move_input(wished: Wished, buffer: &mut [u8], space: &mut [u8]) {
 }
 
 fn main() {
-    let mut buffer = listing::room();
+    let mut buffer = cli_listing::room();
     let mut space = moved_room();
     match argument() {
         Asked::One => move_input(Wished::One, &mut buffer, &mut space),

@@ -14,7 +14,7 @@ ghost use Rattle.outbox.specs.Reader.{badPlace, readOf, walkOf};
 ghost use Rattle.outbox.specs.Reader.{numberIn, told, toldWalk};
 
 // What stands at a place: a record (its stream, where its payload starts and how long that is, the next place), the end
-// of the outbox, a place that is none, or what is wrong and where.
+// of the outbox, a place out of range, or what is wrong and where.
 pub enum Reading {
     Record {
         stream: u8,

@@ -1,15 +1,14 @@
 -- Reading place after place as a run: record after record, to the end or a refusal. A run is free of the number of turns.
 use Prim.Native.Nat.{ℕ, zero, suc, _+_, _≤_, _<_}
 use mathlib.Core.Path.{_≡_, refl, _∙_}
-use mathlib.Core.Bool.{Bool, true, false}
+use mathlib.Core.Bool.{false}
 use mathlib.Core.List.{List, [], _∷_}
 use native.Mathlib.Decide.{decLt}
 use native.Mathlib.Omega.{arith}
 use lib.ListN.{length, take, drop}
 use Rattle.outbox.specs.declared.format.Format.{Format}
 use Rattle.outbox.specs.Reader.{Answer, Item, FoundRecord, HandedRecord, given, refusedAt, found, end, handed, payloadIn, onward, otherVersion, recordAt, readOf, readings, readAll, firstRefusal, walkOf}
-use Rattle.outbox.proofs.Record.{clash, View, whole, broken, view, front}
-use Rattle.outbox.proofs.Walk.{other-version-walk}
+use Rattle.outbox.proofs.Record.{View, whole, broken, view, front}
 use Rattle.outbox.proofs.Place.{opened, right-place, read-inside, read-end, found-within}
 
 -- what reading place after place hands out from a place on

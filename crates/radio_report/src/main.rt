@@ -1,15 +1,15 @@
 // Prints what the radio cost over some captures. Arguments: the limit of the links, then the names of the captures. A capture that is
 // refused is named on standard output, one that cannot be read on the error output, and the others are added all the same.
-use console::Output;
-use console::complain;
-use receiver::SLOT_COUNT;
-use report::CostReport;
-use report::Costs;
-use slot::Slot;
+use ble_receiver::SLOT_COUNT;
+use ble_slot::Slot;
+use capture_report::CostReport;
+use capture_report::Costs;
+use capture_tally::Answer;
+use capture_tally::add_by_value;
+use cli_console::Output;
+use cli_console::complain;
 use std::num::wrapping_add_u64;
 use std::num::wrapping_sub_u64;
-use tally::Answer;
-use tally::add_by_value;
 use wire::bytes::byte_at;
 use wire::bytes::smaller;
 use wire::limit::limit_fits;
@@ -59,7 +59,7 @@ fn usage() {
     );
 }
 
-// A number with one digit more; above every limit where that is none, or too large.
+// A number with one digit more; a number above every limit if the byte is no digit or the number too large.
 fn with_digit(value: usize, digit: u8) -> usize {
     if digit < b'0' {
         return NO_LIMIT;

@@ -1,11 +1,11 @@
 // Lists the outbox file given on standard input; with --payloads what each record holds, too.
-use console::argument_is;
-use console::complain;
-use listing::RecordView;
+use cli_console::argument_is;
+use cli_console::complain;
+use cli_listing::RecordView;
 
 fn list(view: RecordView) {
-    let mut room = listing::room();
-    listing::list(&mut room, view);
+    let mut room = cli_listing::room();
+    cli_listing::list(&mut room, view);
 }
 
 fn main() {

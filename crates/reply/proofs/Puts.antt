@@ -9,10 +9,10 @@ use borrow.Author.Tests.{lt-ltb, le-ltb}
 use borrow.Rule.Slice.PartMut.{putMid}
 use Rattle.wire.specs.Told.{given, written}
 use Rattle.wire.proofs.Stores.{sets-then}
-use Rattle.sender.specs.declared.writer.Sending.{Sending}
-use Rattle.joining.specs.Joined.{joinedOf, messageIn, joinedOver, JoinsExactly}
-use Rattle.joining.proofs.Pieces.{total-fits}
-use Rattle.joining.proofs.Guards.{joined-over}
+use Rattle.ble_sender.specs.declared.writer.Sending.{Sending}
+use Rattle.ble_joined.specs.Joined.{joinedOf, messageIn, joinedOver, JoinsExactly}
+use Rattle.ble_joined.proofs.Pieces.{total-fits}
+use Rattle.ble_joined.proofs.Guards.{joined-over}
 use Rattle.reply_parts.specs.declared.front.ReplyFront.{ReplyFront}
 use Rattle.reply_parts.specs.Front.{frontBytes}
 use Rattle.reply.specs.Put.{PutsReply}

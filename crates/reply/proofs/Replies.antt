@@ -12,16 +12,16 @@ use Rattle.wire.specs.Limit.{limitFits}
 use Rattle.wire.specs.Told.{ToldMore, given, refused}
 use Rattle.wire.proofs.Tables.{NoneHolds, by-table}
 use Rattle.wire.proofs.Tests.{or-false}
-use Rattle.packet.specs.Header.{inRange}
-use Rattle.sender.specs.Writer.{roomFits}
-use Rattle.field.specs.Signed.{extended}
-use Rattle.field_writer.specs.declared.message.Room.the-variants.{Left}
-use Rattle.field_writer.specs.Message.{badMember, lessRoom}
-use Rattle.field_writer.proofs.Rooms.{room-rest}
-use Rattle.walk.specs.Gathered.{mostTransports}
-use Rattle.control.specs.declared.response.ResponsePayload.{ResponsePayload}
-use Rattle.control.specs.Response.{badResponsePayload}
-use Rattle.device.specs.declared.features.DeviceFeatures.{DeviceFeatures}
+use Rattle.ble_packet.specs.Header.{inRange}
+use Rattle.ble_sender.specs.Writer.{roomFits}
+use Rattle.proto_field.specs.Signed.{extended}
+use Rattle.proto_writer.specs.declared.message.Room.the-variants.{Left}
+use Rattle.proto_writer.specs.Message.{badMember, lessRoom}
+use Rattle.proto_writer.proofs.Rooms.{room-rest}
+use Rattle.proto_reader.specs.Gathered.{mostTransports}
+use Rattle.msg_control.specs.declared.response.ResponsePayload.{ResponsePayload}
+use Rattle.msg_control.specs.Response.{badResponsePayload}
+use Rattle.msg_device.specs.declared.features.DeviceFeatures.{DeviceFeatures}
 use Rattle.reply_parts.specs.declared.body.CommandKind.{CommandKind}
 use Rattle.reply_parts.specs.declared.body.CommandKind.the-variants.{Information, Features, Bare, Other}
 use Rattle.reply_parts.specs.declared.body.Members.{Members}

@@ -6,8 +6,8 @@ use mathlib.Core.List.{List, [], _∷_}
 use lib.ListN.{length}
 use borrow.Author.Tests.{lt-ltb, le-ltb}
 use Rattle.wire.specs.Told.{ToldMore, given, refused, Line, table, WrittenOf, written}
-use Rattle.text_writer.specs.declared.TextFault.the-variants.{None, At}
-use Rattle.text_writer.specs.Texts.{firstFault}
+use Rattle.proto_strings.specs.declared.TextFault.the-variants.{None, At}
+use Rattle.proto_strings.specs.Texts.{firstFault}
 use Rattle.reply_parts.specs.declared.body.CommandKind.{CommandKind}
 use Rattle.reply.specs.declared.Link.{Link}
 use Rattle.reply_parts.specs.Body.{kindOfCommand}

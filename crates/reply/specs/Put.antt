@@ -7,13 +7,13 @@ use lib.IntN.{ℤ}
 use lib.ListN.{length}
 use Rattle.wire.specs.Limit.{limitFits}
 use Rattle.wire.specs.Told.{ToldMore, given, refused, table}
-use Rattle.packet.specs.Header.{fourBits, inRange}
-use Rattle.sender.specs.declared.writer.Sending.{Sending}
-use Rattle.sender.specs.Piece.{leastRoom, piecesOf}
-use Rattle.sender.specs.Writer.{roomFits}
-use Rattle.joining.specs.Joined.{sizes}
-use Rattle.field.specs.Signed.{extended}
-use Rattle.walk.specs.Refusal.{messageNumber}
+use Rattle.ble_packet.specs.Header.{fourBits, inRange}
+use Rattle.ble_sender.specs.declared.writer.Sending.{Sending}
+use Rattle.ble_sender.specs.Piece.{leastRoom, piecesOf}
+use Rattle.ble_sender.specs.Writer.{roomFits}
+use Rattle.ble_joined.specs.Joined.{sizes}
+use Rattle.proto_field.specs.Signed.{extended}
+use Rattle.proto_reader.specs.Refusal.{messageNumber}
 use Rattle.reply_parts.specs.declared.body.CommandKind.{CommandKind}
 use Rattle.reply_parts.specs.declared.body.Members.{Members}
 use Rattle.reply_parts.specs.declared.front.ReplyFront.{ReplyFront}

@@ -8,25 +8,24 @@ use lib.Seq.{sets}
 use lib.Dec.{ltb}
 use Rattle.wire.specs.Limit.{limitFits}
 use Rattle.wire.specs.Told.{Told, given, refused, Line, line, table, WrittenOf, written}
-use Rattle.packet.specs.Header.{inRange}
-use Rattle.sender.specs.declared.writer.Sending.{Sending}
-use Rattle.sender.specs.Writer.{roomFits}
-use Rattle.joining.specs.Joined.{joinedOf}
-use Rattle.field.specs.Signed.{extended}
-use Rattle.field_writer.specs.Writer.{messageBytes}
-use Rattle.field_writer.specs.Message.{badMember}
-use Rattle.text_writer.specs.declared.TextFault.{TextFault}
-use Rattle.text_writer.specs.declared.TextFault.the-variants.{None, At}
-use Rattle.text_writer.specs.Texts.{firstFault, faulted}
-use Rattle.walk.specs.Gathered.{mostTransports}
-use Rattle.control.specs.declared.response.ResponsePayload.{ResponsePayload}
-use Rattle.control.specs.declared.response.ResponsePayload.the-variants as Inner
-use Rattle.control.specs.declared.envelope.Envelope.{Envelope}
-use Rattle.control.specs.declared.envelope.Payload.{Payload}
-use Rattle.control.specs.declared.envelope.Payload.the-variants as Payload
-use Rattle.control.specs.declared.envelope.EnvelopePayload.the-variants as Sent
-use Rattle.control.specs.Envelope.{envelopeOf, envelopeFields}
-use Rattle.device.specs.declared.features.DeviceFeatures.{DeviceFeatures}
+use Rattle.ble_packet.specs.Header.{inRange}
+use Rattle.ble_sender.specs.declared.writer.Sending.{Sending}
+use Rattle.ble_sender.specs.Writer.{roomFits}
+use Rattle.ble_joined.specs.Joined.{joinedOf}
+use Rattle.proto_field.specs.Signed.{extended}
+use Rattle.proto_writer.specs.Writer.{messageBytes}
+use Rattle.proto_writer.specs.Message.{badMember}
+use Rattle.proto_strings.specs.declared.TextFault.the-variants.{None}
+use Rattle.proto_strings.specs.Texts.{firstFault, faulted}
+use Rattle.proto_reader.specs.Gathered.{mostTransports}
+use Rattle.msg_control.specs.declared.response.ResponsePayload.{ResponsePayload}
+use Rattle.msg_control.specs.declared.response.ResponsePayload.the-variants as Inner
+use Rattle.msg_control.specs.declared.envelope.Envelope.{Envelope}
+use Rattle.msg_control.specs.declared.envelope.Payload.{Payload}
+use Rattle.msg_control.specs.declared.envelope.Payload.the-variants as Payload
+use Rattle.msg_control.specs.declared.envelope.EnvelopePayload.the-variants as Sent
+use Rattle.msg_control.specs.Envelope.{envelopeOf, envelopeFields}
+use Rattle.msg_device.specs.declared.features.DeviceFeatures.{DeviceFeatures}
 use Rattle.reply_parts.specs.declared.body.CommandKind.{CommandKind}
 use Rattle.reply_parts.specs.declared.body.CommandKind.the-variants.{Information, Features, Bare, Other}
 use Rattle.reply_parts.specs.declared.body.Members.{Members}

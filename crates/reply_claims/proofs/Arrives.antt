@@ -9,15 +9,15 @@ use lib.Seq.{sets}
 use borrow.Author.Tests.{le-leb, le-ltb}
 use Rattle.wire.specs.Told.{given, WrittenOf, written}
 use Rattle.wire.proofs.Stores.{first-bytes}
-use Rattle.sender.specs.declared.writer.Sending.{Sending}
-use Rattle.sender.specs.Writer.{argumentsFit}
-use Rattle.sender.proofs.Guard.{room-low}
-use Rattle.sender_claims.specs.Calls.{callsOf, Takes}
-use Rattle.sender_claims.proofs.CallsGiveAll.{calls-are}
-use Rattle.delivery.proofs.MessagesArrive.{messages-arrive}
-use Rattle.field.specs.Signed.{extended}
-use Rattle.text_writer.proofs.Texts.{well-faultless}
-use Rattle.joining.specs.Joined.{joinedOf}
+use Rattle.ble_sender.specs.declared.writer.Sending.{Sending}
+use Rattle.ble_sender.specs.Writer.{argumentsFit}
+use Rattle.ble_sender.proofs.Guard.{room-low}
+use Rattle.ble_sender_claims.specs.Calls.{callsOf, SendableMessage}
+use Rattle.ble_sender_claims.proofs.CallsGiveAll.{calls-are}
+use Rattle.ble_claims.proofs.MessagesArrive.{messages-arrive}
+use Rattle.proto_field.specs.Signed.{extended}
+use Rattle.proto_strings.proofs.Texts.{well-faultless}
+use Rattle.ble_joined.specs.Joined.{joinedOf}
 use Rattle.reply.specs.declared.Link.{Link}
 use Rattle.reply_parts.specs.Body.{kindOfCommand}
 use Rattle.reply.specs.Reply.{Box, sendingOf, replyOf, stringsOf, Replied, sent, joinedIn, carriedOf, sentOf, repliedOf}
@@ -55,7 +55,7 @@ module _ (b : Box) (l : Link) (message : List ℕ) (c : ℤ) (out : List ℕ) (a
   is-written = rw (a .reads, a .question) is-sent
 
   -- the calls of the writer, over some output, give the same packets
-  takes : Takes (l .limit) w reply (replicate (l .room) 0)
+  takes : SendableMessage (l .limit) w reply (replicate (l .room) 0)
   unfolding argumentsFit
   takes =
       record {

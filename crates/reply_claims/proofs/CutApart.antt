@@ -9,16 +9,16 @@ use lib.ListN.{length, take, drop, length-append}
 use lib.Seq.{take-at, drop-at}
 use lib.Dec.{eqb}
 use Rattle.wire.specs.Bytes.{pairBytes}
-use Rattle.packet.specs.Header.{typeFirst, headerSize, firstByte, secondByte, sequenceAfter}
-use Rattle.packet.proofs.Headers.{type-back, extender-back}
-use Rattle.sender.specs.declared.piece.Piece.{Piece}
-use Rattle.sender.specs.declared.writer.Sending.{Sending}
-use Rattle.sender.specs.Piece.{leastRoom, extended, isFirst, sizeFor, piecesFrom}
-use Rattle.sender.specs.Writer.{typeFor, totalBytes, headerBytes, isLast, packetOf}
-use Rattle.sender.proofs.Largest.{size-le}
-use Rattle.sender.proofs.Packets.{packet-length, header-some}
-use Rattle.joining.specs.Joined.{concat, joinedOf}
-use Rattle.packet_end.specs.End.{saidBy, saidLength}
+use Rattle.ble_packet.specs.Header.{typeFirst, headerSize, firstByte, secondByte, sequenceAfter}
+use Rattle.ble_packet.proofs.Headers.{type-back, extender-back}
+use Rattle.ble_sender.specs.declared.piece.Piece.{Piece}
+use Rattle.ble_sender.specs.declared.writer.Sending.{Sending}
+use Rattle.ble_sender.specs.Piece.{leastRoom, extended, isFirst, sizeFor, piecesFrom}
+use Rattle.ble_sender.specs.Writer.{typeFor, totalBytes, headerBytes, isLast, packetOf}
+use Rattle.ble_sender.proofs.Largest.{size-le}
+use Rattle.ble_sender.proofs.Packets.{packet-length, header-some}
+use Rattle.ble_joined.specs.Joined.{concat, joinedOf}
+use Rattle.ble_packet_end.specs.End.{saidBy, saidLength}
 use Rattle.reply_claims.specs.Cut.{cutFrom, cutApart, JoinedCutApart}
 
 -- what stands where the payload length does, by the extender

@@ -11,33 +11,33 @@ use Rattle.wire.specs.declared.stream.Stream.the-variants.{Control}
 use Rattle.wire.specs.Limit.{limitFits}
 use Rattle.wire.specs.Those.{those}
 use Rattle.wire.specs.Stream.{isStream, streamOf}
-use Rattle.text.specs.Table.{rows, within, described, rowOf}
-use Rattle.text.specs.WellFormed.{WellFormed, empty, more, sequenceAt, badPlace}
-use Rattle.field.specs.Tag.{tagAt, badTag}
-use Rattle.field.specs.Value.{valueAt}
-use Rattle.field.specs.Varint.{varintAt}
-use Rattle.field_writer.specs.Varint.{varintBytes}
-use Rattle.field_writer.specs.Writer.{tagBytes, headBytes, partBytes, fieldBytes}
-use Rattle.known_fields.specs.Schema.{roleOf}
-use Rattle.walk.specs.Walk.{fieldsFrom, fieldAt, readAt, addedAt, judged}
-use Rattle.control.specs.declared.envelope.Payload.the-variants as Payload
-use Rattle.control.specs.Response.{responseFrom}
-use Rattle.control.specs.Envelope.{payloadOf, envelopeOf}
-use Rattle.packet.specs.Header.{inRange}
-use Rattle.packet.specs.Reader.{fieldsOf, contentOf, lines, readOf}
-use Rattle.sender.specs.Piece.{sizeFor}
-use Rattle.sender.specs.Writer.{headerBytes, packetOf, roomFits}
-use Rattle.slot.specs.Slot.{lawfulSlot, lawful}
-use Rattle.slot_steps.specs.Step.{finish, hold, dropBy, firstStep, nextStep}
-use Rattle.receiver.specs.Receiver.{ready, readIn, acceptOf}
-use Rattle.delivery.specs.Delivery.{runOf, rowAfter, ours, hasSlot, packetsIn, shown, shownTo, repliesTo, allAnswerable}
+use Rattle.utf8.specs.Table.{rows, within, described, rowOf}
+use Rattle.utf8.specs.WellFormed.{WellFormed, empty, more, sequenceAt, badPlace}
+use Rattle.proto_field.specs.Tag.{tagAt, badTag}
+use Rattle.proto_field.specs.Value.{valueAt}
+use Rattle.proto_field.specs.Varint.{varintAt}
+use Rattle.proto_writer.specs.Varint.{varintBytes}
+use Rattle.proto_writer.specs.Writer.{tagBytes, headBytes, partBytes, fieldBytes}
+use Rattle.proto_schema.specs.Schema.{roleOf}
+use Rattle.proto_reader.specs.Walk.{fieldsFrom, fieldAt, readAt, addedAt, judged}
+use Rattle.msg_control.specs.declared.envelope.Payload.the-variants as Payload
+use Rattle.msg_control.specs.Response.{responseFrom}
+use Rattle.msg_control.specs.Envelope.{payloadOf, envelopeOf}
+use Rattle.ble_packet.specs.Header.{inRange}
+use Rattle.ble_packet.specs.Reader.{fieldsOf, contentOf, lines, readOf}
+use Rattle.ble_sender.specs.Piece.{sizeFor}
+use Rattle.ble_sender.specs.Writer.{headerBytes, packetOf, roomFits}
+use Rattle.ble_slot.specs.Slot.{lawfulSlot, lawful}
+use Rattle.ble_slot_steps.specs.Step.{finish, hold, dropBy, firstStep, nextStep}
+use Rattle.ble_receiver.specs.Receiver.{ready, readIn, acceptOf}
+use Rattle.ble_claims.specs.Delivery.{runOf, rowAfter, ours, hasSlot, packetsIn, shown, shownTo, repliesTo, allAnswerable}
 use Rattle.reply_parts.specs.Body.{kindOfCommand}
 use Rattle.wire.specs.Told.{given}
-use Rattle.device.specs.Features.{featuresOf}
-use Rattle.round_trips.specs.RoundTrip.{informationAgain}
-use Rattle.control.specs.declared.response.ResponsePayload.the-variants as Inner
+use Rattle.msg_device.specs.Features.{featuresOf}
+use Rattle.msg_claims.specs.RoundTrip.{informationAgain}
+use Rattle.msg_control.specs.declared.response.ResponsePayload.the-variants as Inner
 use Rattle.reply.specs.Reply.{Box, replyOf, sendingOf, replyBy, joinedIn, carriedOf, sentOf, repliedOf}
-use Rattle.packet_end.specs.End.{saidLength}
+use Rattle.ble_packet_end.specs.End.{saidLength}
 use Rattle.reply_claims.specs.Cut.{cutApart}
 use Rattle.reply_claims.specs.Answers.{Answers, packetsCut}
 use Rattle.reply_claims.specs.ReadAgain.{ResponseReads}

@@ -9,15 +9,15 @@ use lib.ListN.{length}
 use borrow.Author.Tests.{lt-ltb, le-leb, le-ltb, ne-eqb}
 use Rattle.wire.specs.Stream.{isStream}
 use Rattle.wire.proofs.Limits.{range-limit}
-use Rattle.text_writer.specs.Texts.{AllWellFormed}
-use Rattle.field.specs.Tag.{lastField}
-use Rattle.field.specs.Signed.{extended}
-use Rattle.field_writer.specs.Message.{badMember}
-use Rattle.control.specs.declared.response.Response.{Response}
-use Rattle.control.specs.declared.envelope.Payload.{Payload}
-use Rattle.control.specs.declared.envelope.Payload.the-variants as Payload
-use Rattle.packet.specs.Header.{inRange}
-use Rattle.sender.specs.Writer.{roomFits}
+use Rattle.proto_strings.specs.Texts.{AllWellFormed}
+use Rattle.proto_field.specs.Tag.{lastField}
+use Rattle.proto_field.specs.Signed.{extended}
+use Rattle.proto_writer.specs.Message.{badMember}
+use Rattle.msg_control.specs.declared.response.Response.{Response}
+use Rattle.msg_control.specs.declared.envelope.Payload.{Payload}
+use Rattle.msg_control.specs.declared.envelope.Payload.the-variants as Payload
+use Rattle.ble_packet.specs.Header.{inRange}
+use Rattle.ble_sender.specs.Writer.{roomFits}
 use Rattle.reply.specs.declared.Link.{Link}
 use Rattle.reply_parts.specs.declared.body.CommandKind.the-variants.{Other}
 use Rattle.reply_parts.specs.Body.{kindOfCommand}

@@ -11,34 +11,34 @@ use mir.Syntax.{w32}
 use mir.Val.{SFits}
 use mir.ValLaws.{toZ-fits}
 use borrow.Author.Tests.{ltb-false}
-use Rattle.field.specs.Signed.{signedOf, extended}
-use Rattle.field.proofs.Told.{sat-any, sat-then, sat-given}
-use Rattle.field_writer.specs.Writer.{scalar, nested, headBytes, partBytes, fieldBytes, messageBytes}
-use Rattle.known_fields.specs.declared.Schema.the-variants as Schema
-use Rattle.known_fields.specs.Schema.{responseField, first}
-use Rattle.walk.specs.declared.gathered.Gathered.{Gathered}
-use Rattle.walk.specs.Refusal.{numbered}
-use Rattle.walk.specs.Walk.{fieldsFrom}
-use Rattle.control.specs.declared.response.ResponsePayload.{ResponsePayload}
-use Rattle.control.specs.declared.response.ResponsePayload.the-variants as Inner
-use Rattle.control.specs.declared.envelope.EnvelopePayload.the-variants as Sent
-use Rattle.control.specs.Response.{badResponsePayload}
-use Rattle.control.specs.declared.envelope.Envelope.{Envelope}
-use Rattle.control.specs.declared.envelope.Payload.{Payload}
-use Rattle.control.specs.Envelope.{payloadOf, envelopeOf, envelopeFields}
-use Rattle.device.specs.Information.{informationFields}
-use Rattle.device.specs.Features.{featuresOf, featuresFields}
+use Rattle.proto_field.specs.Signed.{signedOf, extended}
+use Rattle.proto_field.proofs.Told.{sat-any, sat-then, sat-given}
+use Rattle.proto_writer.specs.Writer.{scalar, nested, headBytes, partBytes, fieldBytes, messageBytes}
+use Rattle.proto_schema.specs.declared.Schema.the-variants as Schema
+use Rattle.proto_schema.specs.Schema.{responseField, first}
+use Rattle.proto_reader.specs.declared.gathered.Gathered.{Gathered}
+use Rattle.proto_reader.specs.Refusal.{numbered}
+use Rattle.proto_reader.specs.Walk.{fieldsFrom}
+use Rattle.msg_control.specs.declared.response.ResponsePayload.{ResponsePayload}
+use Rattle.msg_control.specs.declared.response.ResponsePayload.the-variants as Inner
+use Rattle.msg_control.specs.declared.envelope.EnvelopePayload.the-variants as Sent
+use Rattle.msg_control.specs.Response.{badResponsePayload}
+use Rattle.msg_control.specs.declared.envelope.Envelope.{Envelope}
+use Rattle.msg_control.specs.declared.envelope.Payload.{Payload}
+use Rattle.msg_control.specs.Envelope.{payloadOf, envelopeOf, envelopeFields}
+use Rattle.msg_device.specs.Information.{informationFields}
+use Rattle.msg_device.specs.Features.{featuresOf, featuresFields}
 use Rattle.wire.specs.Told.{given}
 use Rattle.wire.proofs.Limits.{limit-range}
-use Rattle.round_trips.specs.RoundTrip.{innerBytes, informationAgain}
-use Rattle.round_trips.specs.Premises.{InSigned32}
-use Rattle.round_trips.proofs.Values.{whole}
-use Rattle.round_trips.proofs.Premises.{signed, all-signed}
-use Rattle.round_trips.proofs.RoundTrip.{features-read, information-read, envelope-read}
+use Rattle.msg_claims.specs.RoundTrip.{innerBytes, informationAgain}
+use Rattle.msg_claims.specs.Premises.{InSigned32}
+use Rattle.msg_claims.proofs.Values.{whole}
+use Rattle.msg_claims.proofs.Premises.{signed, all-signed}
+use Rattle.msg_claims.proofs.RoundTrip.{features-read, information-read, envelope-read}
 use Rattle.reply_parts.specs.declared.body.CommandKind.{CommandKind}
 use Rattle.reply_parts.specs.declared.body.CommandKind.the-variants.{Other}
 use Rattle.reply_parts.specs.Body.{kindOfCommand}
-use Rattle.field_writer.specs.Message.{badMember}
+use Rattle.proto_writer.specs.Message.{badMember}
 use Rattle.reply.specs.declared.Link.{Link}
 use Rattle.reply.specs.Reply.{Box, bodyOf, replyBy, replyOf}
 use Rattle.reply_claims.specs.Answers.{Answers}

@@ -8,14 +8,14 @@ use lib.ListN.{length}
 use lib.Seq.{sets}
 use lib.Dec.{ltb}
 use Rattle.wire.specs.Told.{Told, given, refused, Line, table, WrittenOf, written}
-use Rattle.text_writer.specs.declared.TextFault.{TextFault}
-use Rattle.text_writer.specs.declared.TextFault.the-variants.{None, At}
-use Rattle.text_writer.specs.Texts.{firstFault, faulted}
-use Rattle.field.specs.Signed.{extended}
-use Rattle.sender.specs.declared.writer.Sending.{Sending}
-use Rattle.joining.specs.Joined.{joinedOf}
-use Rattle.control.specs.declared.envelope.Envelope.{Envelope}
-use Rattle.control.specs.Envelope.{envelopeOf}
+use Rattle.proto_strings.specs.declared.TextFault.{TextFault}
+use Rattle.proto_strings.specs.declared.TextFault.the-variants.{None, At}
+use Rattle.proto_strings.specs.Texts.{firstFault, faulted}
+use Rattle.proto_field.specs.Signed.{extended}
+use Rattle.ble_sender.specs.declared.writer.Sending.{Sending}
+use Rattle.ble_joined.specs.Joined.{joinedOf}
+use Rattle.msg_control.specs.declared.envelope.Envelope.{Envelope}
+use Rattle.msg_control.specs.Envelope.{envelopeOf}
 use Rattle.reply_parts.specs.declared.body.CommandKind.{CommandKind}
 use Rattle.reply.specs.declared.Link.{Link}
 use Rattle.reply_parts.specs.Body.{kindOfCommand}

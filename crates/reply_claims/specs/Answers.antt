@@ -9,20 +9,20 @@ use lib.Seq.{sets}
 use Rattle.wire.specs.Limit.{limitFits}
 use Rattle.wire.specs.Those.{those}
 use Rattle.wire.specs.Told.{ToldMore, given, refused, WrittenOf, written}
-use Rattle.text.specs.WellFormed.{WellFormed}
-use Rattle.text_writer.specs.Texts.{AllWellFormed}
-use Rattle.field.specs.Signed.{extended}
-use Rattle.packet.specs.Header.{inRange}
-use Rattle.sender.specs.Writer.{roomFits}
-use Rattle.slot.specs.declared.Slot.{Slot}
-use Rattle.slot.specs.Slot.{slotCount, lawful}
-use Rattle.receiver.specs.Receiver.{PacketCall}
-use Rattle.delivery.specs.Delivery.{rowAfter, ours, hasSlot, packetsIn, shownTo, repliesTo, allAnswerable, Arrived}
-use Rattle.control.specs.declared.response.Response.{Response}
-use Rattle.control.specs.declared.envelope.Payload.{Payload}
-use Rattle.control.specs.declared.envelope.Payload.the-variants as Payload
-use Rattle.control.specs.Envelope.{envelopeOf}
-use Rattle.joining.specs.Joined.{joinedOf}
+use Rattle.utf8.specs.WellFormed.{WellFormed}
+use Rattle.proto_strings.specs.Texts.{AllWellFormed}
+use Rattle.proto_field.specs.Signed.{extended}
+use Rattle.ble_packet.specs.Header.{inRange}
+use Rattle.ble_sender.specs.Writer.{roomFits}
+use Rattle.ble_slot.specs.declared.Slot.{Slot}
+use Rattle.ble_slot.specs.Slot.{slotCount, lawful}
+use Rattle.ble_receiver.specs.Receiver.{PacketCall}
+use Rattle.ble_claims.specs.Delivery.{rowAfter, ours, hasSlot, packetsIn, shownTo, repliesTo, allAnswerable, Arrived}
+use Rattle.msg_control.specs.declared.response.Response.{Response}
+use Rattle.msg_control.specs.declared.envelope.Payload.{Payload}
+use Rattle.msg_control.specs.declared.envelope.Payload.the-variants as Payload
+use Rattle.msg_control.specs.Envelope.{envelopeOf}
+use Rattle.ble_joined.specs.Joined.{joinedOf}
 use Rattle.reply.specs.declared.Link.{Link}
 use Rattle.reply_parts.specs.Body.{kindOfCommand}
 use Rattle.reply.specs.Reply.{Box, sendingOf, replyOf, badCarried, stringsOf, isResponse, Replied, silent, sent, repliedOf}

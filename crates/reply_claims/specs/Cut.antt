@@ -3,11 +3,11 @@ use Prim.Native.Nat.{ℕ, zero, suc, _≤_}
 use mathlib.Core.Path.{_≡_}
 use mathlib.Core.List.{List, [], _∷_}
 use lib.ListN.{length, take, drop}
-use Rattle.packet_end.specs.End.{saidLength}
-use Rattle.sender.specs.declared.writer.Sending.{Sending}
-use Rattle.sender.specs.Piece.{leastRoom}
-use Rattle.sender.specs.Writer.{packetsOf}
-use Rattle.joining.specs.Joined.{joinedOf}
+use Rattle.ble_packet_end.specs.End.{saidLength}
+use Rattle.ble_sender.specs.declared.writer.Sending.{Sending}
+use Rattle.ble_sender.specs.Piece.{leastRoom}
+use Rattle.ble_sender.specs.Writer.{packetsOf}
+use Rattle.ble_joined.specs.Joined.{joinedOf}
 
 -- the packets at the head of the bytes, at most so many
 abbrev pub cutFrom : ℕ → List ℕ → List (List ℕ)

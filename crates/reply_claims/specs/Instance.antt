@@ -9,10 +9,10 @@ use lib.ListN.{length, getD, drop, replicate}
 use Rattle.wire.specs.declared.stream.Stream.the-variants.{Control}
 use Rattle.wire.specs.Those.{those}
 use Rattle.wire.specs.Told.{given, refused, WrittenOf, written}
-use Rattle.slot.specs.declared.Slot.{Slot}
-use Rattle.slot.specs.Slot.{idle, slotCount, lawful}
-use Rattle.receiver.specs.Receiver.{PacketCall, call}
-use Rattle.delivery.specs.Delivery.{rowAfter, ours, hasSlot, packetsIn, shown, shownTo, repliesTo, allAnswerable, Arrived}
+use Rattle.ble_slot.specs.declared.Slot.{Slot}
+use Rattle.ble_slot.specs.Slot.{idle, slotCount, lawful}
+use Rattle.ble_receiver.specs.Receiver.{PacketCall, call}
+use Rattle.ble_claims.specs.Delivery.{rowAfter, ours, hasSlot, packetsIn, shown, shownTo, repliesTo, allAnswerable, Arrived}
 use Rattle.reply.specs.declared.Link.{Link}
 use Rattle.reply.specs.Reply.{Box, sendingOf, replyOf, Replied, silent, sent, repliedOf}
 use Rattle.reply_claims.specs.Answers.{Answers, packetsCut, ReplyArrives}
@@ -214,7 +214,7 @@ abbrev pub begun : PacketCall
 begun = call first 15 six
 
 -- the reply's last packet, and among others: the OTA transaction goes on, the one of another id too, an Alexa message, a packet without
--- bytes, a stream that there is not
+-- bytes, an unknown stream
 abbrev pub later : List PacketCall
 later =
     call (0x23 ∷ 0x04 ∷ 0x02 ∷ 0xAA ∷ 0xBB ∷ []) 16 six

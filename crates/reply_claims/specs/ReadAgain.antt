@@ -4,13 +4,13 @@ use mathlib.Core.Path.{_≡_}
 use mathlib.Core.List.{List, []}
 use lib.IntN.{ℤ, pos}
 use Rattle.wire.specs.Told.{given}
-use Rattle.field.specs.Signed.{extended}
-use Rattle.control.specs.declared.response.ResponsePayload.{ResponsePayload}
-use Rattle.control.specs.declared.response.ResponsePayload.the-variants as Inner
-use Rattle.control.specs.declared.envelope.EnvelopePayload.the-variants as Sent
-use Rattle.device.specs.Features.{featuresOf}
-use Rattle.round_trips.specs.RoundTrip.{envelopeAgain, informationAgain}
-use Rattle.round_trips.specs.Premises.{AllInSigned32}
+use Rattle.proto_field.specs.Signed.{extended}
+use Rattle.msg_control.specs.declared.response.ResponsePayload.{ResponsePayload}
+use Rattle.msg_control.specs.declared.response.ResponsePayload.the-variants as Inner
+use Rattle.msg_control.specs.declared.envelope.EnvelopePayload.the-variants as Sent
+use Rattle.msg_device.specs.Features.{featuresOf}
+use Rattle.msg_claims.specs.RoundTrip.{envelopeAgain, informationAgain}
+use Rattle.msg_claims.specs.Premises.{AllInSigned32}
 use Rattle.reply.specs.declared.Link.{Link}
 use Rattle.reply.specs.Reply.{Box, replyOf}
 use Rattle.reply_claims.specs.Answers.{Answers}

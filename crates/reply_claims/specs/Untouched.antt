@@ -4,9 +4,9 @@ use mathlib.Core.Path.{_≡_}
 use mathlib.Core.List.{List, []}
 use lib.IntN.{ℤ}
 use Rattle.wire.specs.Told.{given, refused, written}
-use Rattle.control.specs.declared.response.Response.{Response}
-use Rattle.control.specs.declared.envelope.Payload.the-variants as Payload
-use Rattle.control.specs.Envelope.{envelopeOf}
+use Rattle.msg_control.specs.declared.response.Response.{Response}
+use Rattle.msg_control.specs.declared.envelope.Payload.the-variants as Payload
+use Rattle.msg_control.specs.Envelope.{envelopeOf}
 use Rattle.reply.specs.declared.Link.{Link}
 use Rattle.reply.specs.Reply.{Box, silent, repliedOf}
 

@@ -7,14 +7,14 @@ use mathlib.Core.List.{List, [], _++_, append-assoc, append-nil}
 use lib.IntN.{ℤ}
 use lib.ListN.{length, length-append}
 use Rattle.wire.specs.Put.{Put}
-use Rattle.field.specs.Signed.{extended}
-use Rattle.field_writer.specs.Writer.{scalar, headBytes, partBytes, fieldBytes, messageBytes}
-use Rattle.field_writer.proofs.Runs.{put-then}
-use Rattle.control.specs.declared.response.ResponsePayload.{ResponsePayload}
-use Rattle.control.specs.declared.response.ResponsePayload.the-variants as Inner
-use Rattle.control.specs.declared.envelope.EnvelopePayload.the-variants as Sent
-use Rattle.known_fields.specs.Schema.{commandField, responseField, errorCodeField}
-use Rattle.control.specs.Envelope.{envelopeFields}
+use Rattle.proto_field.specs.Signed.{extended}
+use Rattle.proto_writer.specs.Writer.{scalar, headBytes, partBytes, fieldBytes, messageBytes}
+use Rattle.proto_writer.proofs.Runs.{put-then}
+use Rattle.msg_control.specs.declared.response.ResponsePayload.{ResponsePayload}
+use Rattle.msg_control.specs.declared.response.ResponsePayload.the-variants as Inner
+use Rattle.msg_control.specs.declared.envelope.EnvelopePayload.the-variants as Sent
+use Rattle.proto_schema.specs.Schema.{commandField, responseField, errorCodeField}
+use Rattle.msg_control.specs.Envelope.{envelopeFields}
 use Rattle.reply_parts.specs.declared.front.ReplyFront.{ReplyFront}
 use Rattle.reply_parts.specs.Front.{memberHead, innerLength, frontBytes}
 

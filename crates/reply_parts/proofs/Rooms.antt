@@ -3,9 +3,8 @@ use Prim.Native.Nat.{ℕ, _-_, _≤_, _<_, zero-le}
 use native.Mathlib.Omega.{arith}
 use mathlib.Core.Path.{_≡_, sym, ap, _∙_}
 use borrow.Author.Tests.{lt-ltb, le-ltb}
-use Rattle.field_writer.specs.declared.message.Room.the-variants.{Left, Short}
-use Rattle.field_writer.specs.Message.{lessRoom}
-use Rattle.field_writer.proofs.Messages.{room-left}
+use Rattle.proto_writer.specs.declared.message.Room.the-variants.{Left, Short}
+use Rattle.proto_writer.specs.Message.{lessRoom}
 
 pub room-over : (limit n : ℕ) → limit < n → Short ≡ lessRoom n (Left limit)
 room-over limit n h = rw (lt-ltb limit n h)

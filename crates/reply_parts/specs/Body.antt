@@ -5,11 +5,11 @@ use mathlib.Core.List.{List, []}
 use lib.IntN.{ℤ, pos}
 use lib.ListN.{length}
 use lib.Dec.{eqb}
-use Rattle.field_writer.specs.Writer.{messageBytes}
-use Rattle.walk.specs.Gathered.{mostTransports}
-use Rattle.device.specs.declared.features.DeviceFeatures.{DeviceFeatures}
-use Rattle.device.specs.Information.{informationFields, informationStrings}
-use Rattle.device.specs.Features.{featuresFields}
+use Rattle.proto_writer.specs.Writer.{messageBytes}
+use Rattle.proto_reader.specs.Gathered.{mostTransports}
+use Rattle.msg_device.specs.declared.features.DeviceFeatures.{DeviceFeatures}
+use Rattle.msg_device.specs.Information.{informationFields, informationStrings}
+use Rattle.msg_device.specs.Features.{featuresFields}
 use Rattle.reply_parts.specs.declared.body.CommandKind.{CommandKind}
 use Rattle.reply_parts.specs.declared.body.CommandKind.the-variants.{Information, Features, Bare, Other}
 

@@ -4,11 +4,11 @@ use mathlib.Core.Path.{_≡_}
 use mathlib.Core.Bool.{false}
 use mathlib.Core.List.{List, [], _++_}
 use lib.ListN.{length}
-use Rattle.field_writer.specs.Writer.{scalar, headBytes, fieldBytes}
-use Rattle.known_fields.specs.Schema.{commandField, responseField, errorCodeField}
-use Rattle.control.specs.declared.response.ResponsePayload.{ResponsePayload}
-use Rattle.control.specs.declared.response.ResponsePayload.the-variants as Inner
-use Rattle.control.specs.Response.{badResponsePayload}
+use Rattle.proto_writer.specs.Writer.{scalar, headBytes, fieldBytes}
+use Rattle.proto_schema.specs.Schema.{commandField, responseField, errorCodeField}
+use Rattle.msg_control.specs.declared.response.ResponsePayload.{ResponsePayload}
+use Rattle.msg_control.specs.declared.response.ResponsePayload.the-variants as Inner
+use Rattle.msg_control.specs.Response.{badResponsePayload}
 use Rattle.reply_parts.specs.declared.front.ReplyFront.{ReplyFront}
 
 -- the tag and the length of the response's member, which has n bytes

@@ -1,19 +1,19 @@
 // The kinds of replies, and the bytes of the response's member.
-use device::features::DeviceFeatures;
-use device::features::features_len;
-use device::features::put_features;
-use device::information::information_fault;
-use device::information::information_room;
-use device::information::put_information;
-use field_writer::message::Room;
-use text_writer::TextFault;
+use msg_device::features::DeviceFeatures;
+use msg_device::features::features_len;
+use msg_device::features::put_features;
+use msg_device::information::information_fault;
+use msg_device::information::information_room;
+use msg_device::information::put_information;
+use proto_strings::TextFault;
+use proto_writer::message::Room;
 ghost use mathlib.Core.Path.{_≡_};
 ghost use Prim.Native.Nat.{_≤_};
 ghost use lib.ListN.{length};
 ghost use lib.Seq.{sets};
-ghost use Rattle.field.specs.Signed.{extended};
-ghost use Rattle.field_writer.specs.Message.{lessRoom};
-ghost use Rattle.text_writer.specs.Texts.{firstFault};
+ghost use Rattle.proto_field.specs.Signed.{extended};
+ghost use Rattle.proto_writer.specs.Message.{lessRoom};
+ghost use Rattle.proto_strings.specs.Texts.{firstFault};
 ghost use Rattle.reply_parts.specs.Body.{kindOfCommand, codeOf, bodyBy, stringsBy};
 ghost use Rattle.reply_parts.specs.Body.{FewCarried};
 

@@ -1,18 +1,18 @@
 // What stands before the bytes of the reply's member.
-use control::response::ResponsePayload;
-use field_writer::fields::head_len;
-use field_writer::fields::put_head;
-use field_writer::fields::put_scalar;
-use field_writer::fields::scalar_len;
-use known_fields::COMMAND;
-use known_fields::ERROR_CODE;
-use known_fields::RESPONSE;
+use msg_control::response::ResponsePayload;
+use proto_schema::COMMAND;
+use proto_schema::ERROR_CODE;
+use proto_schema::RESPONSE;
+use proto_writer::fields::head_len;
+use proto_writer::fields::put_head;
+use proto_writer::fields::put_scalar;
+use proto_writer::fields::scalar_len;
 ghost use mathlib.Core.Path.{_≡_};
 ghost use mathlib.Core.Bool.{false};
 ghost use Prim.Native.Nat.{_+_, _≤_, _<_};
 ghost use lib.ListN.{length};
 ghost use Rattle.wire.specs.Put.{Put};
-ghost use Rattle.control.specs.Response.{badResponsePayload};
+ghost use Rattle.msg_control.specs.Response.{badResponsePayload};
 ghost use Rattle.reply_parts.specs.Front.{memberHead, innerLength, frontBytes, FrontFits};
 
 // The varints' values of command and error code, the member, and the number of its bytes.

@@ -3,26 +3,26 @@ use mathlib.Core.Path.{_≡_, refl}
 use mathlib.Core.List.{map}
 use Rattle.wire.specs.Stream.{isStream, streamOf}
 use Rattle.wire.specs.Limit.{limitFits}
-use Rattle.framing.specs.Mark.{kindOf}
-use Rattle.framing.specs.Frame.{escapedOf, sumOf, framed}
-use Rattle.packet.specs.Header.{inRange}
-use Rattle.packet.specs.Reader.{fieldsOf, contentOf, lines, readOf}
-use Rattle.acknowledgement.specs.Acknowledgement.{ackOf}
-use Rattle.sender.specs.Piece.{sizeFor}
-use Rattle.sender.specs.Writer.{headerBytes, packetOf, roomFits, argumentsFit, writtenOf}
-use Rattle.sender_claims.specs.Calls.{callsFrom}
-use Rattle.slot.specs.Slot.{lawfulSlot, lawful}
-use Rattle.slot_steps.specs.Step.{finish, hold, dropBy, firstStep, nextStep}
-use Rattle.receiver.specs.Receiver.{openOf, ready, readIn, acceptOf}
-use Rattle.field.specs.Varint.{varintAt}
-use Rattle.field_writer.specs.Varint.{varintBytes}
-use Rattle.field.specs.Tag.{badTag, tagAt}
-use Rattle.field.specs.Value.{valueAt}
-use Rattle.field_writer.specs.Writer.{tagBytes, headBytes, partBytes, fieldBytes}
-use Rattle.known_fields.specs.Schema.{roleOf}
-use Rattle.walk.specs.Walk.{judged, addedAt, readAt, fieldAt, fieldsFrom}
-use Rattle.control.specs.Response.{responseFrom}
-use Rattle.control.specs.Envelope.{payloadOf, envelopeOf, envelopeWritten}
+use Rattle.classic_frame.specs.Mark.{kindOf}
+use Rattle.classic_frame.specs.Frame.{escapedOf, sumOf, framed}
+use Rattle.ble_packet.specs.Header.{inRange}
+use Rattle.ble_packet.specs.Reader.{fieldsOf, contentOf, lines, readOf}
+use Rattle.ble_ack.specs.Acknowledgement.{ackOf}
+use Rattle.ble_sender.specs.Piece.{sizeFor}
+use Rattle.ble_sender.specs.Writer.{headerBytes, packetOf, roomFits, argumentsFit, writtenOf}
+use Rattle.ble_sender_claims.specs.Calls.{callsFrom}
+use Rattle.ble_slot.specs.Slot.{lawfulSlot, lawful}
+use Rattle.ble_slot_steps.specs.Step.{finish, hold, dropBy, firstStep, nextStep}
+use Rattle.ble_receiver.specs.Receiver.{openOf, ready, readIn, acceptOf}
+use Rattle.proto_field.specs.Varint.{varintAt}
+use Rattle.proto_writer.specs.Varint.{varintBytes}
+use Rattle.proto_field.specs.Tag.{badTag, tagAt}
+use Rattle.proto_field.specs.Value.{valueAt}
+use Rattle.proto_writer.specs.Writer.{tagBytes, headBytes, partBytes, fieldBytes}
+use Rattle.proto_schema.specs.Schema.{roleOf}
+use Rattle.proto_reader.specs.Walk.{judged, addedAt, readAt, fieldAt, fieldsFrom}
+use Rattle.msg_control.specs.Response.{responseFrom}
+use Rattle.msg_control.specs.Envelope.{payloadOf, envelopeOf, envelopeWritten}
 use Rattle.outbox.specs.Format.{isOne, formatOf, numberOf, bytesOf, recordBytes}
 use Rattle.outbox.specs.Reader as outbox
 use Rattle.outbox.specs.Writer.{badRecord, appendOf}

@@ -8,17 +8,17 @@ use lib.ListN.{take, drop, set, replicate}
 use Rattle.wire.specs.Bytes.{bit}
 use Rattle.wire.specs.declared.stream.Stream.the-variants.{Control, Ota, Alexa}
 use Rattle.wire.specs.Told.{given, refused, written}
-use Rattle.sender.specs.declared.writer.Sending.{Sending}
-use Rattle.slot.specs.declared.Slot.{Slot}
-use Rattle.slot.specs.declared.answer.Accepted.the-variants.{Taken, Finished}
-use Rattle.slot.specs.Slot.{idle, idles}
-use Rattle.receiver.specs.Receiver.{linkOf}
-use Rattle.sender.specs.Writer.{last}
-use Rattle.control.specs.declared.envelope.Envelope.{Envelope}
-use Rattle.control.specs.declared.envelope.Payload.the-variants as Payload
-use Rattle.control.specs.declared.envelope.EnvelopePayload.the-variants.{Response}
-use Rattle.control.specs.declared.response.ResponsePayload.the-variants.{None}
-use Rattle.walk.specs.Gathered.{noPart}
+use Rattle.ble_sender.specs.declared.writer.Sending.{Sending}
+use Rattle.ble_slot.specs.declared.Slot.{Slot}
+use Rattle.ble_slot.specs.declared.answer.Accepted.the-variants.{Taken, Finished}
+use Rattle.ble_slot.specs.Slot.{idle, idles}
+use Rattle.ble_receiver.specs.Receiver.{linkOf}
+use Rattle.ble_sender.specs.Writer.{last}
+use Rattle.msg_control.specs.declared.envelope.Envelope.{Envelope}
+use Rattle.msg_control.specs.declared.envelope.Payload.the-variants as Payload
+use Rattle.msg_control.specs.declared.envelope.EnvelopePayload.the-variants.{Response}
+use Rattle.msg_control.specs.declared.response.ResponsePayload.the-variants.{None}
+use Rattle.proto_reader.specs.Gathered.{noPart}
 use Rattle.outbox.specs.Reader as outbox
 use Rattle.outbox.specs.Writer.{stored}
 use Rattle.worked.specs.Question.{Question, writeFrame, writeFrameWithin, writeFrameInto, nextSequenceByte, writePackets, readPieces, writePacketWithin, writePacketInto, openReceiver, acceptPacket, answerPacket, acceptPacketWithin, writeAcknowledgement, writeAcknowledgementInto, writeEnvelope, readEnvelope, readRecord, appendRecord}
@@ -80,7 +80,7 @@ unread n packet = case (acceptPacketWithin 64 full packet) (accepted (refused n)
 abbrev pub twoStreams : ℕ → List Slot
 twoStreams id = begun id ∷ (replicate 3 idle ++ (begun id ∷ replicate 7 idle))
 
--- a control transaction of three bytes, id 0, of which so many are held; the last packet had this sequence
+-- a control transaction of three bytes, id 0, of which this many are held; the last packet had this sequence
 abbrev pub holding : ℕ → ℕ → List Slot
 holding held sequence = openWith 0 sequence false 3 held ∷ replicate 11 idle
 

@@ -3,10 +3,10 @@ use Prim.Native.Nat.{ℕ, _+_, _*_}
 use mathlib.Core.Path.{_≡_}
 use mathlib.Core.Bool.{Bool, true, false}
 use mathlib.Core.List.{List, [], _∷_, map}
-use Rattle.extractor.specs.State.{outside}
-use Rattle.extractor.specs.State as extractor
-use Rattle.slot.specs.Slot.{slotCount, idles}
-use Rattle.receiver.specs.Receiver as receiver
+use Rattle.classic_extractor.specs.State.{outside}
+use Rattle.classic_extractor.specs.State as extractor
+use Rattle.ble_slot.specs.Slot.{slotCount, idles}
+use Rattle.ble_receiver.specs.Receiver as receiver
 
 abbrev ends : List ℕ
 ends = 0 ∷ 1 ∷ 65535 ∷ 65536 ∷ []

@@ -5,22 +5,22 @@ use mathlib.Core.List.{List, [], map}
 use lib.IntN.{ℤ}
 use lib.ListN.{getD, take, replicate}
 use Rattle.wire.specs.Told.{Told, given, andThen, Written}
-use Rattle.framing.specs.Frame.{nextSequence}
-use Rattle.frame_writer.specs.Writer as frame
-use Rattle.packet.specs.Header.{extenderBit}
-use Rattle.packet.specs.Reader.{readOf, lenIn}
-use Rattle.acknowledgement.specs.Acknowledgement.{ackOf}
-use Rattle.sender.specs.declared.writer.Sending.{Sending}
-use Rattle.sender.specs.Writer.{Sent, writtenOf}
-use Rattle.sender_claims.specs.Calls.{callsOf}
-use Rattle.slot.specs.declared.Slot.{Slot}
-use Rattle.slot.specs.declared.answer.Accepted.{Accepted}
-use Rattle.slot.specs.Slot.{slotCount}
-use Rattle.receiver.specs.declared.Receiver.{Receiver}
-use Rattle.receiver.specs.Receiver.{openOf, call, PacketLeft, acceptOf}
-use Rattle.control.specs.declared.envelope.Envelope.{Envelope}
-use Rattle.control.specs.declared.envelope.EnvelopePayload.{EnvelopePayload}
-use Rattle.control.specs.Envelope.{envelopeOf, envelopeWritten}
+use Rattle.classic_frame.specs.Frame.{nextSequence}
+use Rattle.classic_writer.specs.Writer as frame
+use Rattle.ble_packet.specs.Header.{extenderBit}
+use Rattle.ble_packet.specs.Reader.{readOf, lenIn}
+use Rattle.ble_ack.specs.Acknowledgement.{ackOf}
+use Rattle.ble_sender.specs.declared.writer.Sending.{Sending}
+use Rattle.ble_sender.specs.Writer.{Sent, writtenOf}
+use Rattle.ble_sender_claims.specs.Calls.{callsOf}
+use Rattle.ble_slot.specs.declared.Slot.{Slot}
+use Rattle.ble_slot.specs.declared.answer.Accepted.{Accepted}
+use Rattle.ble_slot.specs.Slot.{slotCount}
+use Rattle.ble_receiver.specs.declared.Receiver.{Receiver}
+use Rattle.ble_receiver.specs.Receiver.{openOf, call, PacketLeft, acceptOf}
+use Rattle.msg_control.specs.declared.envelope.Envelope.{Envelope}
+use Rattle.msg_control.specs.declared.envelope.EnvelopePayload.{EnvelopePayload}
+use Rattle.msg_control.specs.Envelope.{envelopeOf, envelopeWritten}
 use Rattle.outbox.specs.Format.{formatOf}
 use Rattle.outbox.specs.Reader as outbox
 use Rattle.outbox.specs.Writer.{Stored, appendOf}
@@ -68,7 +68,7 @@ pub data Question : Type 0 where
   readEnvelope : List ℕ → Question
   -- the record of an outbox at a place
   readRecord : List ℕ → ℕ → Question
-  -- a record of a stream with a payload, after so many used bytes of a buffer
+  -- a record of a stream with a payload, after this many used bytes of a buffer
   appendRecord : List ℕ → ℕ → ℕ → List ℕ → Question
 
 -- what a packet carries: so many bytes, their number in one byte or extended
@@ -97,7 +97,7 @@ pub data Answer : Type 0 where
   -- what an append tells, and the buffer afterwards
   appended : Stored → Answer
 
--- the bytes that a writer wrote: so many, first in the lent output
+-- the bytes that a writer wrote: the first of the lent output, as many as it told
 abbrev pub bytesOf : Written ℕ → Told (List ℕ)
 bytesOf w = andThen (w .told) (λ n. given (take n (w .out)))
 

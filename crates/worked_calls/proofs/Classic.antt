@@ -1,21 +1,21 @@
 -- The extractor and the frame writers, called from C, by computation.
 use mathlib.Core.Path.{refl}
-use Rattle.calls_classic.specs.Calls.{extractorFeedOf, extractorOpenOf, extractorStepOf, frameWriteOf, nextSequenceOf, noneUsed}
-use Rattle.calls_classic.specs.Convert.{extractorOf, isExtractor, phaseOf}
-use Rattle.calls_parts.specs.Calls.{frameBeginOf, framePartOf}
-use Rattle.calls_parts.specs.Convert.{isState, pendingOf, stageOf, stateOf}
-use Rattle.extractor.specs.Action.{codeOf}
-use Rattle.extractor.specs.State.{openOf, ready}
-use Rattle.extractor.specs.Step.{advanceOf, endOf, storeOf}
-use Rattle.feed.specs.Feed.{feedFrom}
-use Rattle.framing.specs.Frame.{checked, escapedOf, framed, sumOf}
-use Rattle.framing.specs.Mark.{kindOf}
-use Rattle.parts.specs.Byte.{bodyByte, byteOf}
-use Rattle.parts.specs.Fill.{fillOf}
-use Rattle.rows.specs.Row.{byteOr}
+use Rattle.c_classic.specs.Calls.{extractorFeedOf, extractorOpenOf, extractorStepOf, frameWriteOf, nextSequenceOf, noneUsed}
+use Rattle.c_classic.specs.Convert.{extractorOf, isExtractor, phaseOf}
+use Rattle.c_classic_parts.specs.Calls.{frameBeginOf, framePartOf}
+use Rattle.c_classic_parts.specs.Convert.{isState, pendingOf, stageOf, stateOf}
+use Rattle.classic_extractor.specs.Action.{codeOf}
+use Rattle.classic_extractor.specs.State.{openOf, ready}
+use Rattle.classic_extractor.specs.Step.{advanceOf, endOf, storeOf}
+use Rattle.classic_feed.specs.Feed.{feedFrom}
+use Rattle.classic_frame.specs.Frame.{checked, escapedOf, framed, sumOf}
+use Rattle.classic_frame.specs.Mark.{kindOf}
+use Rattle.classic_parts.specs.Byte.{bodyByte, byteOf}
+use Rattle.classic_parts.specs.Fill.{fillOf}
+use Rattle.c_rows.specs.Row.{byteOr}
 use Rattle.wire.specs.Limit.{limitFits}
-use Rattle.extractor.specs.State as extractorState
-use Rattle.parts.specs.State as partsState
+use Rattle.classic_extractor.specs.State as extractorState
+use Rattle.classic_parts.specs.State as partsState
 use Rattle.worked_calls.specs.Classic.{ClassicCalls, classicRows}
 
 pub classic-calls : ClassicCalls

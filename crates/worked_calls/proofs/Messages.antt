@@ -1,21 +1,21 @@
 -- Control messages, called from C, by computation.
 use mathlib.Core.Path.{refl}
-use Rattle.calls_messages.specs.Calls.{envelopeReadOf, envelopeWriteOf, featuresReadOf, featuresWriteOf, informationReadOf, informationWriteOf, responseReadOf, responseWriteOf}
-use Rattle.control.specs.Envelope.{envelopeOf, envelopeWritten, payloadOf}
-use Rattle.control.specs.Response.{responseFrom, responseWritten}
-use Rattle.device.specs.Features.{featuresOf, featuresWritten}
-use Rattle.device.specs.Information.{informationOf, informationWritten}
-use Rattle.field.specs.Tag.{badTag, tagAt}
-use Rattle.field.specs.Value.{valueAt}
-use Rattle.field.specs.Varint.{varintAt}
-use Rattle.field_writer.specs.Varint.{varintBytes}
-use Rattle.field_writer.specs.Writer.{fieldBytes, headBytes, partBytes, tagBytes}
-use Rattle.known_fields.specs.Schema.{roleOf}
-use Rattle.rows_messages.specs.Convert.{allSigned, isSigned, payloadFor, responsePayloadOf}
-use Rattle.text.specs.Table.{rowOf, rows, within}
-use Rattle.text.specs.WellFormed.{badPlace, sequenceAt}
-use Rattle.walk.specs.Gathered.{withTransport}
-use Rattle.walk.specs.Walk.{addedAt, entryAt, fieldAt, fieldsFrom, judged, packedFrom, readAt, withString}
+use Rattle.c_messages.specs.Calls.{envelopeReadOf, envelopeWriteOf, featuresReadOf, featuresWriteOf, informationReadOf, informationWriteOf, responseReadOf, responseWriteOf}
+use Rattle.msg_control.specs.Envelope.{envelopeOf, envelopeWritten, payloadOf}
+use Rattle.msg_control.specs.Response.{responseFrom, responseWritten}
+use Rattle.msg_device.specs.Features.{featuresOf, featuresWritten}
+use Rattle.msg_device.specs.Information.{informationOf, informationWritten}
+use Rattle.proto_field.specs.Tag.{badTag, tagAt}
+use Rattle.proto_field.specs.Value.{valueAt}
+use Rattle.proto_field.specs.Varint.{varintAt}
+use Rattle.proto_writer.specs.Varint.{varintBytes}
+use Rattle.proto_writer.specs.Writer.{fieldBytes, headBytes, partBytes, tagBytes}
+use Rattle.proto_schema.specs.Schema.{roleOf}
+use Rattle.c_message_rows.specs.Convert.{allSigned, isSigned, payloadFor, responsePayloadOf}
+use Rattle.utf8.specs.Table.{rowOf, rows, within}
+use Rattle.utf8.specs.WellFormed.{badPlace, sequenceAt}
+use Rattle.proto_reader.specs.Gathered.{withTransport}
+use Rattle.proto_reader.specs.Walk.{addedAt, entryAt, fieldAt, fieldsFrom, judged, packedFrom, readAt, withString}
 use Rattle.worked_calls.specs.Messages.{MessageCalls, messagesRows}
 
 pub message-calls : MessageCalls

@@ -1,26 +1,26 @@
 -- The reply to a control transaction, called from C, by computation.
 use mathlib.Core.Path.{refl}
-use Rattle.calls_reply.specs.Calls.{replyWriteOf}
-use Rattle.calls_reply.specs.Convert.{fewSigned, linkOf}
-use Rattle.control.specs.Envelope.{envelopeOf, payloadOf}
-use Rattle.control.specs.Response.{responseFrom}
-use Rattle.field.specs.Tag.{badTag, tagAt}
-use Rattle.field.specs.Value.{valueAt}
-use Rattle.field.specs.Varint.{varintAt}
-use Rattle.field_writer.specs.Varint.{varintBytes}
-use Rattle.field_writer.specs.Writer.{fieldBytes, headBytes, partBytes, tagBytes}
-use Rattle.known_fields.specs.Schema.{roleOf}
-use Rattle.packet.specs.Header.{inRange}
+use Rattle.c_reply.specs.Calls.{replyWriteOf}
+use Rattle.c_reply.specs.Convert.{fewSigned, linkOf}
+use Rattle.msg_control.specs.Envelope.{envelopeOf, payloadOf}
+use Rattle.msg_control.specs.Response.{responseFrom}
+use Rattle.proto_field.specs.Tag.{badTag, tagAt}
+use Rattle.proto_field.specs.Value.{valueAt}
+use Rattle.proto_field.specs.Varint.{varintAt}
+use Rattle.proto_writer.specs.Varint.{varintBytes}
+use Rattle.proto_writer.specs.Writer.{fieldBytes, headBytes, partBytes, tagBytes}
+use Rattle.proto_schema.specs.Schema.{roleOf}
+use Rattle.ble_packet.specs.Header.{inRange}
 use Rattle.reply.specs.Reply.{carriedOf, joinedIn, repliedOf, replyBy, sentOf}
 use Rattle.reply_parts.specs.Body.{kindOfCommand}
-use Rattle.rows.specs.Row.{byteOr}
-use Rattle.rows_messages.specs.Convert.{allSigned, isSigned}
-use Rattle.sender.specs.Piece.{sizeFor}
-use Rattle.sender.specs.Writer.{headerBytes, packetOf, roomFits}
-use Rattle.text.specs.Table.{rowOf, rows, within}
-use Rattle.text.specs.WellFormed.{badPlace, sequenceAt}
-use Rattle.walk.specs.Gathered.{withTransport}
-use Rattle.walk.specs.Walk.{addedAt, entryAt, fieldAt, fieldsFrom, judged, packedFrom, readAt, withString}
+use Rattle.c_rows.specs.Row.{byteOr}
+use Rattle.c_message_rows.specs.Convert.{allSigned, isSigned}
+use Rattle.ble_sender.specs.Piece.{sizeFor}
+use Rattle.ble_sender.specs.Writer.{headerBytes, packetOf, roomFits}
+use Rattle.utf8.specs.Table.{rowOf, rows, within}
+use Rattle.utf8.specs.WellFormed.{badPlace, sequenceAt}
+use Rattle.proto_reader.specs.Gathered.{withTransport}
+use Rattle.proto_reader.specs.Walk.{addedAt, entryAt, fieldAt, fieldsFrom, judged, packedFrom, readAt, withString}
 use Rattle.wire.specs.Limit.{limitFits}
 use Rattle.wire.specs.Stream.{isStream}
 use Rattle.worked_calls.specs.Reply.{ReplyCalls, replyRows}

@@ -2,8 +2,8 @@
 use mathlib.Core.Path.{_≡_}
 use mathlib.Core.List.{List, [], _∷_, _++_, map}
 use lib.ListN.{replicate}
-use Rattle.calls_captures.specs.Calls.{captureJudgeOf}
-use Rattle.rows.specs.Called.{Called, called}
+use Rattle.c_judge.specs.Calls.{captureJudgeOf}
+use Rattle.c_rows.specs.Called.{Called, called}
 
 unfoldable pub capturesRows : List (Called × Called)
 capturesRows =

@@ -2,9 +2,9 @@
 use mathlib.Core.Path.{_≡_}
 use mathlib.Core.List.{List, [], _∷_, _++_, map}
 use lib.ListN.{replicate}
-use Rattle.calls_classic.specs.Calls.{extractorOpenOf, extractorStepOf, extractorFeedOf, nextSequenceOf, frameWriteOf}
-use Rattle.calls_parts.specs.Calls.{frameBeginOf, framePartOf}
-use Rattle.rows.specs.Called.{Called, called}
+use Rattle.c_classic.specs.Calls.{extractorOpenOf, extractorStepOf, extractorFeedOf, nextSequenceOf, frameWriteOf}
+use Rattle.c_classic_parts.specs.Calls.{frameBeginOf, framePartOf}
+use Rattle.c_rows.specs.Called.{Called, called}
 
 unfoldable pub classicRows : List (Called × Called)
 classicRows =

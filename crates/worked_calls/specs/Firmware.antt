@@ -2,10 +2,10 @@
 use mathlib.Core.Path.{_≡_}
 use mathlib.Core.List.{List, [], _∷_, _++_, map}
 use lib.ListN.{replicate}
-use Rattle.calls_firmware.specs.Calls.{segmentReadOf, segmentWriteOf, applyReadOf, applyWriteOf, fieldReadOf}
-use Rattle.rows.specs.Called.{Called, called}
+use Rattle.c_firmware.specs.Calls.{segmentReadOf, segmentWriteOf, applyReadOf, applyWriteOf, fieldReadOf}
+use Rattle.c_rows.specs.Called.{Called, called}
 use Rattle.wire.specs.Told.{given, refused}
-use Rattle.field.specs.Fields.{foundAt, end}
+use Rattle.proto_field.specs.Fields.{foundAt, end}
 
 unfoldable pub firmwareRows : List (Called × Called)
 firmwareRows =

@@ -2,15 +2,17 @@
 use mathlib.Core.Path.{_≡_}
 use mathlib.Core.List.{List, [], _∷_, _++_, map}
 use lib.ListN.{replicate}
-use Rattle.judge.specs.Input.{inputOf}
+use Rattle.capture_judge.specs.Input.{inputOf}
 use Rattle.wire.specs.Told.{given, refused}
-use Rattle.captures.specs.Capture.{ToldAt}
-use Rattle.judge.specs.Capture.{Answer, lawful, open·ended, unlawful}
+use Rattle.capture_reader.specs.Capture.{ToldAt}
+use Rattle.capture_judge.specs.Capture.{Answer, lawful, open·ended, unlawful}
 
 unfoldable pub inputsRows : List (ToldAt Answer × ToldAt Answer)
 inputsRows =
     -- the program lawful: pins allIdle, withSlot, otherVersion, nextFits
     (inputOf (0x00 ∷ 0x14 ∷ 0x01 ∷ 0x00 ∷ 0x00 ∷ []), refused (40, 0))
+    -- a room of one byte: the absent one is 0
+    ∷ (inputOf (0x02 ∷ []), refused (17, 0))
     ∷ (
       inputOf (0x00 ∷ 0x15 ∷ 0x00 ∷ 0x23 ∷ 0x01 ∷ 0x00 ∷ 0x08 ∷ (replicate 4 0x00 ++ (0x02 ∷ 0x02 ∷ 0x00 ∷ 0x00 ∷ 0x00 ∷ 0x15 ∷ 0x6F ∷ 0xE0 ∷ 0x00 ∷ 0x00 ∷ 0x10 ∷ 0x0F ∷ (replicate 16 0x00 ++ (0x04 ∷ 0x6F ∷ 0xEA ∷ 0x01 ∷ 0x00 ∷ []))))),
       given (unlawful 34),

@@ -2,9 +2,9 @@
 use mathlib.Core.Path.{_≡_}
 use mathlib.Core.List.{List, [], _∷_, _++_, map}
 use lib.ListN.{replicate}
-use Rattle.calls_messages.specs.Calls.{envelopeReadOf, envelopeWriteOf, responseReadOf, responseWriteOf, featuresReadOf, featuresWriteOf, informationReadOf, informationWriteOf}
-use Rattle.rows_messages.specs.Convert.{payloadFor}
-use Rattle.rows.specs.Called.{Called, called}
+use Rattle.c_messages.specs.Calls.{envelopeReadOf, envelopeWriteOf, responseReadOf, responseWriteOf, featuresReadOf, featuresWriteOf, informationReadOf, informationWriteOf}
+use Rattle.c_message_rows.specs.Convert.{payloadFor}
+use Rattle.c_rows.specs.Called.{Called, called}
 
 unfoldable pub messagesRows : List (Called × Called)
 messagesRows =

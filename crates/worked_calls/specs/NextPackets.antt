@@ -1,11 +1,13 @@
--- What the program why says is expected: what is left, and one table whose rows all hold.
+-- What the program why says is expected, and why it says a packet is refused: one table whose rows all hold.
 use Prim.Native.Nat.{ℕ}
 use mathlib.Core.Path.{_≡_}
 use mathlib.Core.Bool.{Bool, true, false}
 use mathlib.Core.List.{List, [], _∷_, map}
-use Rattle.next_packet.specs.NextPacket.{nextOf}
-use Rattle.sender_slot.specs.declared.SenderSlot.the-variants.{Idle, Open}
-use Rattle.next_packet.specs.declared.NextPacket.{NextPacket}
+use Rattle.capture_next.specs.NextPacket.{nextOf}
+use Rattle.capture_stream.specs.declared.SenderSlot.the-variants.{Idle, Open}
+use Rattle.capture_next.specs.declared.NextPacket.{NextPacket}
+use Rattle.ble_packet.specs.declared.reader.Refusal.the-variants.{Short, UnknownStream, BadControl, Reserved, Length, TotalOver, Empty, AboveTotal}
+use Rattle.ble_packet.specs.Reader.{numberOf}
 
 -- open, id, sequence, type, length, extender, last
 abbrev expected : Bool → ℕ → ℕ → ℕ → ℕ → Bool → Bool → NextPacket
@@ -22,6 +24,9 @@ nextPacketsRows =
     ∷ (nextOf 21 (Open 10 256 0) 1, expected true 10 0 1 18 false false)
     ∷ []
 
--- each call leaves what its row says
+-- each call leaves what its row says; the names of a packet's refusals, which the program puts into words, have these numbers
 unfoldable pub NextPackets : Type 0
-NextPackets = map (λ c. c .0) nextPacketsRows ≡ map (λ c. c .1) nextPacketsRows
+NextPackets =
+    (map (λ c. c .0) nextPacketsRows ≡ map (λ c. c .1) nextPacketsRows)
+    × (map numberOf (Short ∷ UnknownStream ∷ BadControl ∷ Reserved ∷ Length ∷ TotalOver ∷ Empty ∷ AboveTotal ∷ [])
+    ≡ 2 ∷ 3 ∷ 12 ∷ 4 ∷ 5 ∷ 6 ∷ 7 ∷ 8 ∷ [])

@@ -2,10 +2,10 @@
 use mathlib.Core.Path.{_≡_}
 use mathlib.Core.List.{List, [], _∷_, _++_, map}
 use lib.ListN.{replicate}
-use Rattle.calls_outbox.specs.Calls.{outboxNewOf, outboxAppendOf, outboxRecordOf, outboxWholeOf}
-use Rattle.calls_moving.specs.Calls.{outboxMoveOf}
+use Rattle.c_outbox.specs.Calls.{outboxNewOf, outboxAppendOf, outboxRecordOf, outboxWholeOf}
+use Rattle.c_outbox_move.specs.Calls.{outboxMoveOf}
 use Rattle.outbox.specs.Format.{versionOne, versionTwo}
-use Rattle.rows.specs.Called.{Called, called}
+use Rattle.c_rows.specs.Called.{Called, called}
 
 unfoldable pub outboxRows : List (Called × Called)
 outboxRows =

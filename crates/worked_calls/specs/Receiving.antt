@@ -3,9 +3,9 @@ use Prim.Native.Nat.{ℕ}
 use mathlib.Core.Path.{_≡_}
 use mathlib.Core.List.{List, [], _∷_, _++_, map}
 use lib.ListN.{replicate}
-use Rattle.calls_receiving.specs.Calls.{receiverAcceptOf, AcceptCalled, replied}
-use Rattle.slot.specs.declared.Slot.{Slot}
-use Rattle.slot.specs.Slot.{idle}
+use Rattle.c_receiving.specs.Calls.{receiverAcceptOf, AcceptCalled, replied}
+use Rattle.ble_slot.specs.declared.Slot.{Slot}
+use Rattle.ble_slot.specs.Slot.{idle}
 
 -- flag, id, last sequence, ACK wanted, total, held
 abbrev slot : ℕ → ℕ → ℕ → ℕ → ℕ → ℕ → Slot
@@ -22,7 +22,7 @@ receivingRows =
     )
     ∷ (
       receiverAcceptOf (1 ∷ []) (replicate 12 idle) (replicate 12 0x00) [] 0 (0xEE ∷ []) (replicate 9 9),
-      replied 1 (replicate 12 idle) (replicate 12 0x00) (replicate 9 9) (0xEE ∷ []),
+      record { number = 1; slots = replicate 12 idle; lent = replicate 12 0x00; answer = replicate 9 9; out = 0xEE ∷ [] },
     )
     ∷ (receiverAcceptOf (2 ∷ []) (replicate 12 idle) (replicate 24 0x00) [] 0 [] [], replied 1 (replicate 12 idle) (replicate 24 0x00) [] [])
     ∷ (

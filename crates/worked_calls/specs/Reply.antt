@@ -2,9 +2,9 @@
 use mathlib.Core.Path.{_≡_}
 use mathlib.Core.List.{List, [], _∷_, _++_, map}
 use lib.ListN.{replicate}
-use Rattle.calls_reply.specs.Calls.{replyWriteOf}
-use Rattle.calls_reply.specs.Convert.{featuresOf, membersOf, linkOf}
-use Rattle.rows.specs.Called.{Called, called}
+use Rattle.c_reply.specs.Calls.{replyWriteOf}
+use Rattle.c_reply.specs.Convert.{featuresOf, membersOf, linkOf}
+use Rattle.c_rows.specs.Called.{Called, called}
 
 unfoldable pub replyRows : List (Called × Called)
 replyRows =

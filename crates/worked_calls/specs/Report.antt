@@ -3,9 +3,9 @@ use Prim.Native.Nat.{ℕ}
 use mathlib.Core.Path.{_≡_}
 use mathlib.Core.List.{List, [], _∷_, _++_, map}
 use lib.ListN.{replicate}
-use Rattle.calls_report.specs.Calls.{reportAddOf, ReportCalled, reportCalled}
-use Rattle.slot.specs.declared.Slot.{Slot}
-use Rattle.slot.specs.Slot.{idle}
+use Rattle.c_report.specs.Calls.{reportAddOf, ReportCalled, reportCalled}
+use Rattle.ble_slot.specs.declared.Slot.{Slot}
+use Rattle.ble_slot.specs.Slot.{idle}
 
 -- flag, id, last sequence, ACK wanted, total, held
 abbrev slot : ℕ → ℕ → ℕ → ℕ → ℕ → ℕ → Slot
@@ -17,7 +17,7 @@ reportRows =
     -- pito_report_add: pins costsRow, reportAddOf, costsAt, costsFit, reportRowsFit, reportRow, reportCalled, ..
     (reportAddOf [] 0 [] [] [] (9 ∷ []), reportCalled 1 [] [] [] (9 ∷ []))
     ∷ (reportAddOf (replicate 21 0) 0 [] [] [] [], reportCalled 1 (replicate 21 0) [] [] [])
-    ∷ (reportAddOf (replicate 21 0) 1 [] [] [] (9 ∷ []), reportCalled 1 (replicate 21 0) [] [] (9 ∷ []))
+    ∷ (reportAddOf (replicate 21 0) 1 [] [] [] (9 ∷ []), record { number = 1; report = replicate 21 0; slots = []; lent = []; answer = 9 ∷ [] })
     ∷ (reportAddOf (replicate 22 0) 0 [] [] [] (9 ∷ []), reportCalled 1 (replicate 22 0) [] [] (9 ∷ []))
     ∷ (reportAddOf (replicate 21 0) 0 [] [] (0x00 ∷ []) (9 ∷ 9 ∷ []), reportCalled 1 (replicate 21 0) [] [] (9 ∷ 9 ∷ []))
     ∷ (

@@ -2,10 +2,14 @@
 use mathlib.Core.Path.{_≡_}
 use mathlib.Core.List.{List, [], _∷_, _++_, map}
 use lib.ListN.{replicate}
-use Rattle.calls_receiving.specs.Calls.{receiverOpenOf}
-use Rattle.calls_sending.specs.Calls.{packetWriteOf, ackWriteOf}
-use Rattle.calls_sending.specs.Convert.{sendingOf}
-use Rattle.rows.specs.Called.{Called, called}
+use Rattle.c_receiving.specs.Calls.{receiverOpenOf}
+use Rattle.c_sending.specs.Calls.{packetWriteOf, ackWriteOf}
+use Rattle.c_sending.specs.Convert.{sendingOf}
+use Rattle.c_rows.specs.Called.{Called, called}
+use Rattle.wire.specs.Told.{given, refused}
+use Rattle.ble_sender.specs.declared.writer.Refusal.the-variants.{Room, Limit, Argument, Output}
+use Rattle.ble_sender.specs.declared.writer.Answer.the-variants.{Refused, More, Last}
+use Rattle.ble_sender.specs.Writer.{more, last, told}
 
 unfoldable pub sendingRows : List (Called × Called)
 sendingRows =
@@ -18,7 +22,10 @@ sendingRows =
     ∷ (packetWriteOf 0 (sendingOf 0 0 0 0 0) [] 0 (0xEE ∷ []) [], called 1 [] (0xEE ∷ []) [])
     ∷ (packetWriteOf 1 (sendingOf 21 0 0 16 0) [] 0 [] (9 ∷ 9 ∷ []), called 15 [] [] (0 ∷ 0 ∷ []))
     ∷ (packetWriteOf 1 (sendingOf 22 0 16 0 0) [] 0 [] (9 ∷ 9 ∷ []), called 15 [] [] (0 ∷ 0 ∷ []))
-    ∷ (packetWriteOf 1 (sendingOf 21 0 0 0 0) [] 0 (replicate 20 0xEE) (9 ∷ 9 ∷ []), called 14 [] (replicate 20 0xEE) (0 ∷ 0 ∷ []))
+    ∷ (
+      packetWriteOf 1 (sendingOf 21 0 0 0 0) [] 0 (replicate 20 0xEE) (9 ∷ 9 ∷ []),
+      record { number = 14; state = []; lent = replicate 20 0xEE; answer = 0 ∷ 0 ∷ [] },
+    )
     ∷ (
       packetWriteOf 15 (sendingOf 20 0 0 0 0) (replicate 11 0x00 ++ (0x0C ∷ 0x0D ∷ 0x0E ∷ 0x0F ∷ [])) 0 (replicate 20 0xEE) (9 ∷ 9 ∷ []),
       called 0 [] (replicate 4 0x00 ++ (0x0F ∷ 0x0E ∷ (replicate 11 0x00 ++ (0x0C ∷ 0x0D ∷ 0x0E ∷ [])))) (20 ∷ 14 ∷ []),
@@ -49,6 +56,9 @@ sendingRows =
     ∷ (ackWriteOf 0 15 3 1 (replicate 6 0xEE) (9 ∷ []), called 0 [] (0x0F ∷ 0x3E ∷ 0x00 ∷ 0x02 ∷ 0x01 ∷ 0x00 ∷ []) (6 ∷ []))
     ∷ []
 
--- each call leaves what its row says
+-- each call leaves what its row says; the writer's answers, which the program check_links takes apart, tell this
 unfoldable pub SendingCalls : Type 0
-SendingCalls = map (λ c. c .0) sendingRows ≡ map (λ c. c .1) sendingRows
+SendingCalls =
+    (map (λ c. c .0) sendingRows ≡ map (λ c. c .1) sendingRows)
+    × (map told (More 1 2 ∷ Last 1 ∷ Refused Room ∷ Refused Limit ∷ Refused Argument ∷ Refused Output ∷ [])
+    ≡ given (more 1 2) ∷ given (last 1) ∷ refused 13 ∷ refused 17 ∷ refused 15 ∷ refused 14 ∷ [])

@@ -2,12 +2,12 @@
 use mathlib.Core.Path.{_≡_, refl}
 use mathlib.Core.List.{map}
 use Rattle.wire.specs.Limit.{limitFits}
-use Rattle.framing.specs.Mark.{kindOf}
-use Rattle.framing.specs.Frame.{sumOf, checked}
-use Rattle.extractor.specs.Action.{codeOf}
-use Rattle.extractor.specs.State.{lawful, ready, openOf}
-use Rattle.extractor.specs.Step.{storeOf, endOf, advanceOf}
-use Rattle.feed.specs.Feed.{feedFrom}
+use Rattle.classic_frame.specs.Mark.{kindOf}
+use Rattle.classic_frame.specs.Frame.{sumOf, checked}
+use Rattle.classic_extractor.specs.Action.{codeOf}
+use Rattle.classic_extractor.specs.State.{lawful, ready, openOf}
+use Rattle.classic_extractor.specs.Step.{storeOf, endOf, advanceOf}
+use Rattle.classic_feed.specs.Feed.{feedFrom}
 use Rattle.worked_extractor.specs.ExtractorCases.{stepsOf, feedsOf, answerTo, ExtractorCase, cases, ExtractorCases}
 use Rattle.worked_extractor.proofs.Rows.{agree}
 

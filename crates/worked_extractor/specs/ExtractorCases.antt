@@ -5,14 +5,14 @@ use mathlib.Core.List.{List, [], _∷_, _++_, List·Memᴰ}
 use lib.ListN.{drop, replicate}
 use Rattle.wire.specs.Told as told
 use Rattle.wire.specs.Told.{Told}
-use Rattle.extractor.specs.declared.state.Progress.{Progress}
-use Rattle.extractor.specs.declared.state.Extractor.{Extractor}
-use Rattle.extractor.specs.declared.state.Phase.{Phase}
-use Rattle.extractor.specs.declared.state.Phase.the-variants.{Outside, ErrorId, Sequence, Escaped}
-use Rattle.extractor.specs.Outcome.{Report, skipped, taken, allUsed, frame, refused}
-use Rattle.extractor.specs.State.{outside, begun, body, empty, openOf}
-use Rattle.extractor.specs.Step.{ByteStep, step, byteStepOf}
-use Rattle.feed.specs.Feed.{Feed, fed, feedOf}
+use Rattle.classic_extractor.specs.declared.state.Progress.{Progress}
+use Rattle.classic_extractor.specs.declared.state.Extractor.{Extractor}
+use Rattle.classic_extractor.specs.declared.state.Phase.{Phase}
+use Rattle.classic_extractor.specs.declared.state.Phase.the-variants.{Outside, ErrorId, Sequence, Escaped}
+use Rattle.classic_extractor.specs.Outcome.{Report, skipped, taken, allUsed, frame, refused}
+use Rattle.classic_extractor.specs.State.{outside, begun, body, empty, openOf}
+use Rattle.classic_extractor.specs.Step.{ByteStep, step, byteStepOf}
+use Rattle.classic_feed.specs.Feed.{Feed, fed, feedOf}
 
 -- the lent buffer has 4 bytes
 abbrev limit : ℕ

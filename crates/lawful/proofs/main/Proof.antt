@@ -4,51 +4,12 @@ use borrow.Author.Needs.{needs}
 use Rattle.lawful.proofs.main.Statement.{statement}
 use Rattle.lawful.proofs.main.Tie as tie
 
-slice-aggregate-is-alone : tie.Need-slice-aggregate-is-alone
-slice-aggregate-is-alone c = search needs
-
-is-alone-requires : tie.Need-is-alone-requires
-is-alone-requires c κs = search needs
-
-returns : tie.Need-returns
-returns c = search needs
-
-slice-aggregate-read-full : tie.Need-slice-aggregate-read-full
-slice-aggregate-read-full c = search needs
-
-read-full-requires : tie.Need-read-full-requires
-read-full-requires c κs = search needs
-
-returns-2 : tie.Need-returns-2
-returns-2 c = search needs
-
-array-share-prefix-space : tie.Need-array-share-prefix-space
-array-share-prefix-space c = search needs
-
 slice-aggregate-judge-input : tie.Need-slice-aggregate-judge-input
 slice-aggregate-judge-input c = sym (length-take-le _ _ (c .before .before .before .read-full .ensures))
-
-judge-input-requires : tie.Need-judge-input-requires
-judge-input-requires c κs = search needs
-
-show-requires : tie.Need-show-requires
-show-requires c κs = search needs
-
-returns-3 : tie.Need-returns-3
-returns-3 c = search needs
 
 pub main-spec : {M : Type 1} → statement M
 main-spec =
     tie.close
-    (tie.spec
-    slice-aggregate-is-alone
-    is-alone-requires
-    returns
-    slice-aggregate-read-full
-    read-full-requires
-    returns-2
-    array-share-prefix-space
-    slice-aggregate-judge-input
-    judge-input-requires
-    show-requires
-    returns-3)
+    (tie.spec (λ c. search needs) (λ c κs. search needs) (λ c. search needs) (λ c. search needs)
+    (λ c κs. search needs) (λ c. search needs) (λ c. search needs) slice-aggregate-judge-input (λ c κs. search needs)
+    (λ c κs. search needs) (λ c. search needs))

@@ -8,18 +8,6 @@ use borrow.Author.Needs.{needs}
 use Rattle.reply.proofs.answer.Statement.{statement}
 use Rattle.reply.proofs.answer.Tie as tie
 
-kind-of-command-requires : tie.Need-kind-of-command-requires
-kind-of-command-requires c κs = search needs
-
-judge-requires : tie.Need-judge-requires
-judge-requires c κs = search needs
-
-enum-known-why : tie.Need-enum-known-why
-enum-known-why c = search needs
-
-enum-told : tie.Need-enum-told
-enum-told c = search needs
-
 carry-requires : tie.Need-carry-requires
 carry-requires c κs =
     let a = c .before .before .before .before .before .before .before .before .before .args in
@@ -31,25 +19,16 @@ returns c =
     is-refused (boxOf (now (a .serial-number)) (now (a .name)) (now (a .transports)) (now (a .device-type)) (a .features) (a .members)) (a .link) (a .value) (c .before .before .before .before .kind-of-command .result) (now (a .out)) (c .before .before .before .before .kind-of-command .ensures) _
     (sym (c .before .before .before .judge .ensures) ∙ ap verdictOf (c .before .why .given .1))
 
-same-length : tie.Need-same-length
-same-length c = search needs
-
 returns-2 : tie.Need-returns-2
 returns-2 c =
+    let at-kind-of-command = c .before .before .before .before .before .before .before in
     let a = c .before .before .before .before .before .before .before .before .before .before .before .before .args in
     c .before .before .carry .ensures
-    ∙ goes-on (boxOf (now (a .serial-number)) (now (a .name)) (now (a .transports)) (now (a .device-type)) (a .features) (a .members)) (a .link) (a .value) (c .before .before .before .before .before .before .before .kind-of-command .result) (now (a .out)) (c .before .before .before .before .before .before .before .kind-of-command .ensures)
+    ∙ goes-on (boxOf (now (a .serial-number)) (now (a .name)) (now (a .transports)) (now (a .device-type)) (a .features) (a .members)) (a .link) (a .value) (at-kind-of-command .kind-of-command .result) (now (a .out)) (at-kind-of-command .kind-of-command .ensures)
     (sym (c .before .before .before .before .before .before .judge .ensures) ∙ ap verdictOf (c .before .before .before .before .enum-told .given .1))
 
 pub answer-spec : {M : Type 1} → statement M
 answer-spec =
     tie.close
-    (tie.spec
-    kind-of-command-requires
-    judge-requires
-    enum-known-why
-    enum-told
-    carry-requires
-    returns
-    same-length
-    returns-2)
+    (tie.spec (λ c κs. search needs) (λ c κs. search needs) (λ c. search needs) (λ c. search needs) carry-requires
+    returns (λ c. search needs) returns-2)

@@ -1,3 +1,4 @@
+-- Measured first; then the answer is 17, 14 or the reply filled in, by what was measured.
 use native.Mathlib.Omega.{arith}
 use Prim.Native.Nat.{ℕ}
 use mathlib.Core.Path.{sym, ap, _∙_}
@@ -5,8 +6,8 @@ use mathlib.Core.List.{List}
 use lib.ListN.{length-append}
 use denote.Ref.{now}
 use Rattle.wire.proofs.Limits.{limit-range}
-use Rattle.packet.proofs.Headers.{in-range-low}
-use Rattle.sender.proofs.Guard.{room-low}
+use Rattle.ble_packet.proofs.Headers.{in-range-low}
+use Rattle.ble_sender.proofs.Guard.{room-low}
 use Rattle.reply_parts.specs.Front.{frontBytes}
 use Rattle.reply_parts.specs.Body.{bodyBy}
 use Rattle.reply.specs.Reply.{boxOf, sendingOf, joinedIn}
@@ -25,30 +26,16 @@ measure-requires c κs =
       member-fine (a .members) _ (a .kind) (s .pre .carried),
     )
 
-enum-told : tie.Need-enum-told
-enum-told c = search needs
-
-enum-known-front : tie.Need-enum-known-front
-enum-known-front c = search needs
-
-fault-of-requires : tie.Need-fault-of-requires
-fault-of-requires c κs = search needs
-
-enum-known-field : tie.Need-enum-known-field
-enum-known-field c = search needs
-
-enum-told-2 : tie.Need-enum-told-2
-enum-told-2 c = search needs
-
 fill-requires : tie.Need-fill-requires
 fill-requires c κs =
+    let at-front = c .before .before .before .before .before in
     let s = c .before .before .before .before .before .before .before .before .before .before .before .before in
     let a = s .args in
-    let w = rw (c .before .before .before .before .before .front .given .1) at (c .before .before .before .before .before .before .before .measure .ensures) in
+    let w = rw (at-front .front .given .1) at (c .before .before .before .before .before .before .before .measure .ensures) in
     let high = limit-range (a .link .limit) (s .pre .limit) .1 in
     let body = bodyBy (now (a .serial-number)) (now (a .name)) (now (a .transports)) (now (a .device-type)) (a .features) (a .kind) in
     let long = ap lib.ListN.length (w .whole) in
-    let parts = length-append (frontBytes (c .before .before .before .before .before .front .given .0 .0)) body in (
+    let parts = length-append (frontBytes (at-front .front .given .0 .0)) body in (
       few-by (a .members) (now (a .transports)) (a .kind) (s .pre .carried),
       record {
         fits = w .fits;
@@ -70,9 +57,6 @@ returns-2 c =
     let w = rw (c .before .before .before .before .before .front .given .1) at (c .before .before .before .before .before .before .before .measure .ensures) in
     bad-text (boxOf (now (a .serial-number)) (now (a .name)) (now (a .transports)) (now (a .device-type)) (a .features) (a .members)) (a .link) (a .value) (a .kind) (now (a .out)) (w .within) _ _ (sym (c .before .before .before .fault-of .ensures) ∙ c .before .field .given .1)
 
-same-length : tie.Need-same-length
-same-length c = search needs
-
 returns-3 : tie.Need-returns-3
 returns-3 c =
     let a = c .before .before .before .before .before .before .before .before .before .before .before .before .before .before .before .args in
@@ -84,15 +68,5 @@ returns-3 c =
 pub carry-spec : {M : Type 1} → statement M
 carry-spec =
     tie.close
-    (tie.spec
-    measure-requires
-    enum-told
-    enum-known-front
-    fault-of-requires
-    enum-known-field
-    enum-told-2
-    fill-requires
-    returns
-    returns-2
-    same-length
-    returns-3)
+    (tie.spec measure-requires (λ c. search needs) (λ c. search needs) (λ c κs. search needs) (λ c. search needs)
+    (λ c. search needs) fill-requires returns returns-2 (λ c. search needs) returns-3)

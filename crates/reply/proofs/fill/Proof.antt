@@ -1,3 +1,4 @@
+-- The message is its front and body; past the test of room the packets over it are `joinedOf`.
 use Prim.Native.Nat.{ℕ, _+_, _-_, _≤_}
 use native.Mathlib.Omega.{arith}
 use mathlib.Core.Path.{_≡_, sym, ap, _∙_}
@@ -7,10 +8,10 @@ use lib.Seq.{sets}
 use denote.Ref.{now}
 use borrow.Rule.Slice.PartMut.{putMid}
 use Rattle.wire.specs.Told.{given, written}
-use Rattle.sender.specs.Piece.{piecesOf}
-use Rattle.joining.specs.Joined.{joinedOf, sizes}
-use Rattle.joining.proofs.Pieces.{joined-long}
-use Rattle.joining.proofs.Guards.{joined-length}
+use Rattle.ble_sender.specs.Piece.{piecesOf}
+use Rattle.ble_joined.specs.Joined.{joinedOf, sizes}
+use Rattle.ble_joined.proofs.Pieces.{joined-long}
+use Rattle.ble_joined.proofs.Guards.{joined-length}
 use Rattle.reply_parts.specs.Front.{frontBytes}
 use Rattle.reply_parts.specs.Body.{bodyBy}
 use Rattle.reply.specs.Reply.{sendingOf, Replied, sent}
@@ -24,9 +25,6 @@ front-len-requires c κs = c .before .before .before .before .pre .1 .fits
 
 add-total : tie.Need-add-total
 add-total c = omega (arith, c .before .before .before .before .before .before .pre .1 .low-total, c .before .front-len .ensures .0)
-
-joined-len-requires : tie.Need-joined-len-requires
-joined-len-requires c κs = search needs
 
 returns : tie.Need-returns
 returns c =
@@ -43,15 +41,6 @@ returns c =
     let long : length j ≡ c .before .joined-len .result =
     joined-long (sendingOf l) m (s .pre .1 .room) ∙ ap (λ (n : ℕ). sizes (piecesOf (l .room) n)) total ∙ sym (c .before .joined-len .ensures ∙ counted) in
     no-output (sendingOf l) m o (omega (arith, long, c .if1 .taken))
-
-sub-put-reply : tie.Need-sub-put-reply
-sub-put-reply c = search needs
-
-part-put-reply-start : tie.Need-part-put-reply-start
-part-put-reply-start c = search needs
-
-part-put-reply-end : tie.Need-part-put-reply-end
-part-put-reply-end c = search needs
 
 put-reply-requires : tie.Need-put-reply-requires
 put-reply-requires c κs =
@@ -71,25 +60,24 @@ put-reply-requires c κs =
       },
     )
 
-same-length : tie.Need-same-length
-same-length c = search needs
-
 returns-2 : tie.Need-returns-2
 returns-2 c =
+    let at-front-len = c .before .before .before .before .before .before .before in
+    let at-joined-len = c .before .before .before .before .before in
     let s = c .before .before .before .before .before .before .before .before .before .before .before .before in
     let a = s .args in
     let l = a .link in
     let o = now (a .out) in
     let body = bodyBy (now (a .serial-number)) (now (a .name)) (now (a .transports)) (now (a .device-type)) (a .features) (a .kind) in
     let m = frontBytes (a .front) ++ body in
-    let total : length m ≡ c .before .before .before .before .before .before .before .front-len .result + a .front .body =
-    length-append (frontBytes (a .front)) body ∙ omega (arith, c .before .before .before .before .before .before .before .front-len .ensures .0, s .pre .1 .long) in
+    let total : length m ≡ at-front-len .front-len .result + a .front .body =
+    length-append (frontBytes (a .front)) body ∙ omega (arith, at-front-len .front-len .ensures .0, s .pre .1 .long) in
     let j : List ℕ = joinedOf (sendingOf l) m in
-    let counted = joined-length (l .room) (c .before .before .before .before .before .before .before .front-len .result + a .front .body) (s .pre .1 .room) (omega (arith, s .pre .1 .low-total, c .before .before .before .before .before .before .before .front-len .ensures .0)) in
-    let long : length j ≡ c .before .before .before .before .before .joined-len .result =
-    joined-long (sendingOf l) m (s .pre .1 .room) ∙ ap (λ (n : ℕ). sizes (piecesOf (l .room) n)) total ∙ sym (c .before .before .before .before .before .joined-len .ensures ∙ counted) in
+    let counted = joined-length (l .room) (at-front-len .front-len .result + a .front .body) (s .pre .1 .room) (omega (arith, s .pre .1 .low-total, at-front-len .front-len .ensures .0)) in
+    let long : length j ≡ at-joined-len .joined-len .result =
+    joined-long (sendingOf l) m (s .pre .1 .room) ∙ ap (λ (n : ℕ). sizes (piecesOf (l .room) n)) total ∙ sym (at-joined-len .joined-len .ensures ∙ counted) in
     let space : length j ≤ length o = omega (arith, long, c .before .before .before .before .if1 .left) in
-    let k = c .before .before .before .before .before .joined-len .result in
+    let k = at-joined-len .joined-len .result in
     let e =
     ap (putMid 0 (k - 0) o) (c .before .before .put-reply .ensures) ∙ over-first o j (k - 0) (omega (arith, long)) (omega (arith, long, space)) in
     ap (λ (x : List ℕ). written {A = Replied} (given (sent k)) x) e
@@ -99,14 +87,5 @@ returns-2 c =
 pub fill-spec : {M : Type 1} → statement M
 fill-spec =
     tie.close
-    (tie.spec
-    front-len-requires
-    add-total
-    joined-len-requires
-    returns
-    sub-put-reply
-    part-put-reply-start
-    part-put-reply-end
-    put-reply-requires
-    same-length
-    returns-2)
+    (tie.spec front-len-requires add-total (λ c κs. search needs) returns (λ c. search needs) (λ c. search needs)
+    (λ c. search needs) put-reply-requires (λ c. search needs) returns-2)

@@ -3,14 +3,8 @@ use borrow.Author.Needs.{needs}
 use Rattle.reply.proofs.front_for.Statement.{statement}
 use Rattle.reply.proofs.front_for.Tie as tie
 
-code-of-requires : tie.Need-code-of-requires
-code-of-requires c κs = search needs
-
-member-of-requires : tie.Need-member-of-requires
-member-of-requires c κs = search needs
-
 returns : tie.Need-returns
 returns c = record { value = refl; code = c .before .code-of .ensures; member = c .member-of .ensures; body = refl }
 
 pub front-for-spec : {M : Type 1} → statement M
-front-for-spec = tie.close (tie.spec code-of-requires member-of-requires returns)
+front-for-spec = tie.close (tie.spec (λ c κs. search needs) (λ c κs. search needs) returns)

@@ -1,26 +1,18 @@
+-- Five tests in the table's order; each way out has those before it put in.
 use Rattle.reply.specs.Put.{judgedOf}
 use borrow.Author.Needs.{needs}
 use Rattle.reply.proofs.judge.Statement.{statement}
 use Rattle.reply.proofs.judge.Tie as tie
 
-room-fits-requires : tie.Need-room-fits-requires
-room-fits-requires c κs = search needs
-
 returns : tie.Need-returns
 unfolding judgedOf
 returns c = rw (← (c .before .room-fits .ensures), c .if1 .taken)
-
-limit-fits-requires : tie.Need-limit-fits-requires
-limit-fits-requires c κs = search needs
 
 returns-2 : tie.Need-returns-2
 unfolding judgedOf
 returns-2 c =
     let i = c .before .before in
     rw (← (i .before .room-fits .ensures), i .if1 .left, ← (c .before .limit-fits .ensures), c .if2 .taken)
-
-in-range-requires : tie.Need-in-range-requires
-in-range-requires c κs = search needs
 
 returns-3 : tie.Need-returns-3
 unfolding judgedOf
@@ -35,9 +27,6 @@ returns-3 c =
       ← (c .before .in-range .ensures),
       c .if3 .taken,
     )
-
-bad-carried-requires : tie.Need-bad-carried-requires
-bad-carried-requires c κs = search needs
 
 returns-4 : tie.Need-returns-4
 unfolding judgedOf
@@ -76,13 +65,5 @@ returns-5 c =
 pub judge-spec : {M : Type 1} → statement M
 judge-spec =
     tie.close
-    (tie.spec
-    room-fits-requires
-    returns
-    limit-fits-requires
-    returns-2
-    in-range-requires
-    returns-3
-    bad-carried-requires
-    returns-4
-    returns-5)
+    (tie.spec (λ c κs. search needs) returns (λ c κs. search needs) returns-2 (λ c κs. search needs) returns-3
+    (λ c κs. search needs) returns-4 returns-5)

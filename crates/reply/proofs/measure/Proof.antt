@@ -1,9 +1,10 @@
+-- What the body leaves of the limit, then what the front leaves of that: together the message's length, or 15.
 use native.Mathlib.Omega.{arith}
 use mathlib.Core.Path.{sym, _∙_}
 use lib.ListN.{length}
 use denote.Ref.{now}
-use Rattle.field_writer.proofs.Messages.{room-short}
-use Rattle.field_writer.proofs.Rooms.{room-rest}
+use Rattle.proto_writer.proofs.Messages.{room-short}
+use Rattle.proto_writer.proofs.Rooms.{room-rest}
 use Rattle.reply_parts.specs.Body.{bodyBy}
 use Rattle.reply.proofs.Replies.{whole-by, body-within, counted}
 use borrow.Author.Needs.{needs}
@@ -13,19 +14,10 @@ use Rattle.reply.proofs.measure.Tie as tie
 body-room-requires : tie.Need-body-room-requires
 body-room-requires c κs = c .before .before .before .pre .1
 
-enum-told : tie.Need-enum-told
-enum-told c = search needs
-
-enum-known-left : tie.Need-enum-known-left
-enum-known-left c = search needs
-
 sub-body : tie.Need-sub-body
 sub-body c =
     let a = c .before .before .before .before .before .before .before .args in
     omega (arith, room-rest (a .limit) _ _ (sym (c .before .before .before .body-room .ensures) ∙ c .before .left .given .1) .0)
-
-front-for-requires : tie.Need-front-for-requires
-front-for-requires c κs = search needs
 
 front-len-requires : tie.Need-front-len-requires
 front-len-requires c κs =
@@ -76,13 +68,5 @@ returns-3 c =
 pub measure-spec : {M : Type 1} → statement M
 measure-spec =
     tie.close
-    (tie.spec
-    body-room-requires
-    enum-told
-    enum-known-left
-    sub-body
-    front-for-requires
-    front-len-requires
-    returns
-    returns-2
-    returns-3)
+    (tie.spec body-room-requires (λ c. search needs) (λ c. search needs) sub-body (λ c κs. search needs)
+    front-len-requires returns returns-2 returns-3)

@@ -1,3 +1,4 @@
+-- The message stands at the output's end, front and body; the packets are then made over it from the beginning.
 use Prim.Native.Nat.{_-_, _+_}
 use native.Mathlib.Omega.{arith}
 use mathlib.Core.Path.{ap, _∙_}
@@ -8,7 +9,7 @@ use borrow.Rule.Slice.PartMut.{putMid}
 use Rattle.wire.proofs.Parts.{sets-part}
 use Rattle.reply_parts.specs.Front.{frontBytes}
 use Rattle.reply_parts.specs.Body.{bodyBy}
-use Rattle.joining.proofs.Pieces.{total-fits}
+use Rattle.ble_joined.proofs.Pieces.{total-fits}
 use Rattle.reply.proofs.Puts.{reply-joined}
 use borrow.Author.Needs.{needs}
 use Rattle.reply.proofs.put_reply.Statement.{statement}
@@ -24,40 +25,16 @@ sub-middle c =
     let s = c .before .before .before .before .before in
     omega (arith, s .pre .1 .long, s .pre .1 .long-total, total-fits (s .args .how .room) (s .args .total) (s .pre .1 .room))
 
-sub-put-front : tie.Need-sub-put-front
-sub-put-front c = search needs
-
-part-put-front-start : tie.Need-part-put-front-start
-part-put-front-start c = search needs
-
-part-put-front-end : tie.Need-part-put-front-end
-part-put-front-end c = search needs
-
 put-front-requires : tie.Need-put-front-requires
 put-front-requires c κs =
     let s = c .before .before .before .before .before .before in
     (s .pre .1 .fits, simp (length-take, length-drop) (omega (arith, s .pre .1 .long, s .pre .1 .long-total, total-fits (s .args .how .room) (s .args .total) (s .pre .1 .room))))
-
-sub-put-body : tie.Need-sub-put-body
-sub-put-body c = search needs
-
-part-put-body-start : tie.Need-part-put-body-start
-part-put-body-start c = search needs
-
-part-put-body-end : tie.Need-part-put-body-end
-part-put-body-end c = search needs
 
 put-body-requires : tie.Need-put-body-requires
 put-body-requires c κs =
     let s = c .before .before .before .before .before .before .before .before .before .before in
     let k = c .before .before .before .put-front .kept .0 in
     (s .pre .0, simp (length-take, length-drop) (omega (arith, k, s .pre .1 .long, s .pre .1 .long-body, s .pre .1 .long-total, total-fits (s .args .how .room) (s .args .total) (s .pre .1 .room))))
-
-join-requires : tie.Need-join-requires
-join-requires c κs = search needs
-
-same-length : tie.Need-same-length
-same-length c = search needs
 
 returns : tie.Need-returns
 returns c =
@@ -80,17 +57,6 @@ returns c =
 pub put-reply-spec : {M : Type 1} → statement M
 put-reply-spec =
     tie.close
-    (tie.spec
-    sub-start
-    sub-middle
-    sub-put-front
-    part-put-front-start
-    part-put-front-end
-    put-front-requires
-    sub-put-body
-    part-put-body-start
-    part-put-body-end
-    put-body-requires
-    join-requires
-    same-length
-    returns)
+    (tie.spec sub-start sub-middle (λ c. search needs) (λ c. search needs) (λ c. search needs) put-front-requires
+    (λ c. search needs) (λ c. search needs) (λ c. search needs) put-body-requires (λ c κs. search needs)
+    (λ c. search needs) returns)

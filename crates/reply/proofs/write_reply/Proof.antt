@@ -3,23 +3,11 @@ use mathlib.Core.Path.{ap, _∙_}
 use mir.Syntax.{w32}
 use mir.Facts.{toZ-ofZ}
 use denote.Ref.{now}
-use Rattle.field.specs.Signed.{extended}
+use Rattle.proto_field.specs.Signed.{extended}
 use Rattle.reply.specs.Reply.{boxOf, sentOf, repliedOf}
 use borrow.Author.Needs.{needs}
 use Rattle.reply.proofs.write_reply.Statement.{statement}
 use Rattle.reply.proofs.write_reply.Tie as tie
-
-read-envelope-requires : tie.Need-read-envelope-requires
-read-envelope-requires c κs = search needs
-
-enum-known-e : tie.Need-enum-known-e
-enum-known-e c = search needs
-
-enum-known-envelope : tie.Need-enum-known-envelope
-enum-known-envelope c = search needs
-
-is-response-requires : tie.Need-is-response-requires
-is-response-requires c κs = search needs
 
 returns : tie.Need-returns
 unfolding repliedOf
@@ -31,18 +19,9 @@ returns c =
       c .if1 .taken,
     )
 
-sign-extended-requires : tie.Need-sign-extended-requires
-sign-extended-requires c κs = search needs
-
-answer-requires : tie.Need-answer-requires
-answer-requires c κs = search needs
-
 returns-2 : tie.Need-returns-2
 unfolding repliedOf
 returns-2 c = rw (← (c .before .before .before .read-envelope .ensures .0), c .before .e .given .1)
-
-same-length : tie.Need-same-length
-same-length c = search needs
 
 returns-3 : tie.Need-returns-3
 unfolding repliedOf
@@ -61,14 +40,5 @@ returns-3 c =
 pub write-reply-spec : {M : Type 1} → statement M
 write-reply-spec =
     tie.close
-    (tie.spec
-    read-envelope-requires
-    enum-known-e
-    enum-known-envelope
-    is-response-requires
-    returns
-    sign-extended-requires
-    answer-requires
-    returns-2
-    same-length
-    returns-3)
+    (tie.spec (λ c κs. search needs) (λ c. search needs) (λ c. search needs) (λ c κs. search needs) returns
+    (λ c κs. search needs) (λ c κs. search needs) returns-2 (λ c. search needs) returns-3)

@@ -3,12 +3,9 @@ use Rattle.outbox.specs.Format.{isOne}
 use Rattle.outbox.proofs.format.is_one.Statement.{statement}
 use Rattle.outbox.proofs.format.is_one.Tie as tie
 
-byte-at-requires : tie.Need-byte-at-requires
-byte-at-requires c κs = search needs
-
 returns : tie.Need-returns
 unfolding isOne
 returns c = rw (c .byte-at .ensures)
 
 pub is-one-spec : {M : Type 1} → statement M
-is-one-spec = tie.close (tie.spec byte-at-requires returns)
+is-one-spec = tie.close (tie.spec (λ c κs. search needs) returns)

@@ -3,15 +3,9 @@ use Rattle.outbox.specs.Reader.{otherVersion}
 use Rattle.outbox.proofs.format.other_version.Statement.{statement}
 use Rattle.outbox.proofs.format.other_version.Tie as tie
 
-byte-at-requires : tie.Need-byte-at-requires
-byte-at-requires c κs = search needs
-
-either-requires : tie.Need-either-requires
-either-requires c κs = search needs
-
 returns : tie.Need-returns
 unfolding otherVersion
 returns c = rw (c .either .ensures, c .before .before .byte-at .ensures)
 
 pub other-version-spec : {M : Type 1} → statement M
-other-version-spec = tie.close (tie.spec byte-at-requires either-requires returns)
+other-version-spec = tie.close (tie.spec (λ c κs. search needs) (λ c κs. search needs) returns)

@@ -1,3 +1,4 @@
+-- One test after the other, each a line of `recordAt`; past the last one the record stands whole.
 use Prim.Native.Nat.{_≤_}
 use mathlib.Core.Path.{sym, _∙_}
 use native.Mathlib.Omega.{arith}
@@ -11,14 +12,8 @@ use Rattle.outbox.proofs.judging.judge.Tie as tie
 returns : tie.Need-returns
 returns c place = let s = c .before .before in sym (field-cut-read (s .args .fmt) (now (s .args .rest)) place (c .if1 .taken))
 
-length-in-requires : tie.Need-length-in-requires
-length-in-requires c κs = search needs
-
 add-either : tie.Need-add-either
 add-either c = let s = c .before .before .before .before in omega (arith, known-small (s .args .fmt) (s .pre) .2)
-
-either-requires : tie.Need-either-requires
-either-requires c κs = search needs
 
 returns-2 : tie.Need-returns-2
 returns-2 c place =
@@ -33,9 +28,6 @@ returns-2 c place =
     (n .before .if1 .left)
     place
     (sym (c .before .either .ensures) ∙ c .if2 .taken))
-
-sub-if3 : tie.Need-sub-if3
-sub-if3 c = search needs
 
 returns-3 : tie.Need-returns-3
 returns-3 c place =
@@ -59,9 +51,6 @@ positive c = range-passed _ _ (sym (c .before .either .ensures) ∙ c .if2 .left
 
 shared-slice-read-stream : tie.Need-shared-slice-read-stream
 shared-slice-read-stream c = omega (arith, positive (c .before .before))
-
-is-stream-requires : tie.Need-is-stream-requires
-is-stream-requires c κs = search needs
 
 sub-size : tie.Need-sub-size
 sub-size c = positive (c .before .before .before .before)
@@ -105,16 +94,5 @@ returns-5 c place =
 pub judge-spec : {M : Type 1} → statement M
 judge-spec =
     tie.close
-    (tie.spec
-    returns
-    length-in-requires
-    add-either
-    either-requires
-    returns-2
-    sub-if3
-    returns-3
-    shared-slice-read-stream
-    is-stream-requires
-    sub-size
-    returns-4
-    returns-5)
+    (tie.spec returns (λ c κs. search needs) add-either (λ c κs. search needs) returns-2 (λ c. search needs) returns-3
+    shared-slice-read-stream (λ c κs. search needs) sub-size returns-4 returns-5)

@@ -17,9 +17,6 @@ shared-slice-read-pair-2 c =
     let s = c .before .before .before in
     omega (arith, s .pre .1, known-small (s .args .fmt) (s .pre .0) .0)
 
-pair-requires : tie.Need-pair-requires
-pair-requires c κs = search needs
-
 returns : tie.Need-returns
 returns c =
     let s = c .before .before .before .before .before .before in
@@ -37,15 +34,6 @@ shared-slice-read-pair-3 c = omega (arith, four (c .before), c .before .before .
 shared-slice-read-pair-4 : tie.Need-shared-slice-read-pair-4
 shared-slice-read-pair-4 c = omega (arith, four (c .before .before), c .before .before .before .before .before .before .before .before .pre .1)
 
-pair-requires-2 : tie.Need-pair-requires-2
-pair-requires-2 c κs = search needs
-
-mul-result : tie.Need-mul-result
-mul-result c = search needs
-
-add-result : tie.Need-add-result
-add-result c = search needs
-
 returns-2 : tie.Need-returns-2
 returns-2 c =
     let e = c .before .before .before in
@@ -55,14 +43,5 @@ returns-2 c =
 pub length-in-spec : {M : Type 1} → statement M
 length-in-spec =
     tie.close
-    (tie.spec
-    shared-slice-read-pair
-    shared-slice-read-pair-2
-    pair-requires
-    returns
-    shared-slice-read-pair-3
-    shared-slice-read-pair-4
-    pair-requires-2
-    mul-result
-    add-result
-    returns-2)
+    (tie.spec shared-slice-read-pair shared-slice-read-pair-2 (λ c κs. search needs) returns shared-slice-read-pair-3
+    shared-slice-read-pair-4 (λ c κs. search needs) (λ c. search needs) (λ c. search needs) returns-2)

@@ -8,27 +8,12 @@ use Rattle.outbox.proofs.Walk.{decided-end, decided-here}
 use Rattle.outbox.proofs.judging.walk_records.Statement.{statement}
 use Rattle.outbox.proofs.judging.walk_records.Tie as tie
 
-whole-up-to-requires : tie.Need-whole-up-to-requires
-whole-up-to-requires c κs = search needs
-
 returns : tie.Need-returns
 returns c =
     let u = c .before in
     let s = u .before .before in
     let d = u .whole-up-to .ensures in
     sym (decided-end (s .args .fmt) (now (s .args .file)) (s .pre .1) (u .whole-up-to .result) (d .0) (d .2) (c .if1 .taken))
-
-sub-judge : tie.Need-sub-judge
-sub-judge c = search needs
-
-part-judge-start : tie.Need-part-judge-start
-part-judge-start c = search needs
-
-part-judge-end : tie.Need-part-judge-end
-part-judge-end c = search needs
-
-judge-requires : tie.Need-judge-requires
-judge-requires c κs = search needs
 
 -- what was judged decides
 judged : (c : tie.After-judge)
@@ -45,12 +30,6 @@ judged c a e =
     let there = c .judge .ensures place ∙ ap (recordAt (s .args .fmt) place) (rest-lent (now (s .args .file)) place) in
     decided-here (s .args .fmt) (now (s .args .file)) (s .pre .1) place (d .0) (d .2) (omega (arith, d .1, t .if1 .left)) a (sym there ∙ e)
 
-enum-told : tie.Need-enum-told
-enum-told c = search needs
-
-enum-known-fault : tie.Need-enum-known-fault
-enum-known-fault c = search needs
-
 returns-2 : tie.Need-returns-2
 returns-2 c =
     let j = c .before .before in
@@ -66,14 +45,5 @@ returns-3 c =
 pub walk-records-spec : {M : Type 1} → statement M
 walk-records-spec =
     tie.close
-    (tie.spec
-    whole-up-to-requires
-    returns
-    sub-judge
-    part-judge-start
-    part-judge-end
-    judge-requires
-    enum-told
-    enum-known-fault
-    returns-2
-    returns-3)
+    (tie.spec (λ c κs. search needs) returns (λ c. search needs) (λ c. search needs) (λ c. search needs)
+    (λ c κs. search needs) (λ c. search needs) (λ c. search needs) returns-2 returns-3)

@@ -24,15 +24,6 @@ returns c =
     let s = c .before .before in
     sym (alone-whole (s .args .fmt) (now (s .args .file)) (s .pre .1) (c .if1 .taken))
 
-sub-walk-records : tie.Need-sub-walk-records
-sub-walk-records c = search needs
-
-part-walk-records-start : tie.Need-part-walk-records-start
-part-walk-records-start c = search needs
-
-part-walk-records-end : tie.Need-part-walk-records-end
-part-walk-records-end c = search needs
-
 walk-records-requires : tie.Need-walk-records-requires
 walk-records-requires c κs = let s = c .before .before .before in rw (same (s .args .fmt) (s .pre .0), all (now (s .args .file))) (s .pre)
 
@@ -40,4 +31,6 @@ returns-2 : tie.Need-returns-2
 returns-2 c = let s = c .before .before .before .before in rw (same (s .args .fmt) (s .pre .0), all (now (s .args .file))) at (c .walk-records .ensures)
 
 pub walk-used-spec : {M : Type 1} → statement M
-walk-used-spec = tie.close (tie.spec returns sub-walk-records part-walk-records-start part-walk-records-end walk-records-requires returns-2)
+walk-used-spec =
+    tie.close
+    (tie.spec returns (λ c. search needs) (λ c. search needs) (λ c. search needs) walk-records-requires returns-2)

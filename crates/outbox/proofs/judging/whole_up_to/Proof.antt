@@ -1,3 +1,4 @@
+-- The walk from the place on answers what the walk of the file answers.
 use Prim.Native.Nat.{_-_}
 use mathlib.Core.Path.{_≡_, sym, ap, _∙_}
 use native.Mathlib.Omega.{arith}
@@ -20,18 +21,6 @@ abbrev μ-loop : tie.MeasureT-loop
 loop-holds : tie.Need-loop-holds Inv-loop μ-loop
 loop-holds c = let s = c .before in walk-begins (s .args .fmt) (now (s .args .file)) (s .pre .1)
 
-sub-judge : tie.Need-sub-judge Inv-loop μ-loop
-sub-judge c = search needs
-
-part-judge-start : tie.Need-part-judge-start Inv-loop μ-loop
-part-judge-start c = search needs
-
-part-judge-end : tie.Need-part-judge-end Inv-loop μ-loop
-part-judge-end c = search needs
-
-judge-requires : tie.Need-judge-requires Inv-loop μ-loop
-judge-requires c κs = search needs
-
 -- what was judged is what stands there
 judged : (c : tie.After-judge Inv-loop μ-loop)
     → let l = c .before .before .before in
@@ -41,9 +30,6 @@ judged c =
     let l = c .before .before .before in
     let s = l .before .before in
     c .judge .ensures (l .loop .place) ∙ ap (recordAt (s .args .fmt) (l .loop .place)) (rest-lent (now (s .args .file)) (l .loop .place))
-
-enum-known-size : tie.Need-enum-known-size Inv-loop μ-loop
-enum-known-size c = search needs
 
 -- the record of this turn
 stood : (c : tie.After-known-told Inv-loop μ-loop)
@@ -77,9 +63,6 @@ loop-less c =
     let s = l .before .before in
     omega (arith, found-within (s .args .fmt) (now (s .args .file)) (l .loop .place) _ (l .loop .inv .inside) (stood (c .before)) .0)
 
-enum-told : tie.Need-enum-told Inv-loop μ-loop
-enum-told c = search needs
-
 returns : tie.Need-returns Inv-loop μ-loop
 returns c =
     let j = c .before .before in
@@ -100,20 +83,6 @@ returns-2 c =
 pub whole-up-to-spec : {M : Type 1} → statement M
 whole-up-to-spec =
     tie.close
-    (tie.spec
-    Inv-loop
-    μ-loop
-    loop-holds
-    sub-judge
-    part-judge-start
-    part-judge-end
-    judge-requires
-    enum-known-size
-    add-head
-    add-place
-    add-place-2
-    loop-less
-    loop-again
-    enum-told
-    returns
-    returns-2)
+    (tie.spec Inv-loop μ-loop loop-holds (λ c. search needs) (λ c. search needs) (λ c. search needs)
+    (λ c κs. search needs) (λ c. search needs) add-head add-place add-place-2 loop-less loop-again (λ c. search needs)
+    returns returns-2)

@@ -3,12 +3,9 @@ use Rattle.outbox.specs.Reader.{badPlace}
 use Rattle.outbox.proofs.reader.bad_place.Statement.{statement}
 use Rattle.outbox.proofs.reader.bad_place.Tie as tie
 
-either-requires : tie.Need-either-requires
-either-requires c κs = search needs
-
 returns : tie.Need-returns
 unfolding badPlace
 returns c = c .either .ensures
 
 pub bad-place-spec : {M : Type 1} → statement M
-bad-place-spec = tie.close (tie.spec either-requires returns)
+bad-place-spec = tie.close (tie.spec (λ c κs. search needs) returns)

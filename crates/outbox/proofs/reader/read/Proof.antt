@@ -6,17 +6,8 @@ use Rattle.outbox.proofs.Versions.{format-one, format-two, known-one, k
 use Rattle.outbox.proofs.reader.read.Statement.{statement}
 use Rattle.outbox.proofs.reader.read.Tie as tie
 
-is-one-requires : tie.Need-is-one-requires
-is-one-requires c κs = search needs
-
-one-requires : tie.Need-one-requires
-one-requires c κs = search needs
-
 read-by-requires : tie.Need-read-by-requires
 read-by-requires c κs = known-one (c .one .result) (c .one .ensures)
-
-two-requires : tie.Need-two-requires
-two-requires c κs = search needs
 
 read-by-requires-2 : tie.Need-read-by-requires-2
 read-by-requires-2 c κs = known-two (c .two .result) (c .two .ensures)
@@ -40,4 +31,5 @@ returns-2 c =
 pub read-spec : {M : Type 1} → statement M
 read-spec =
     tie.close
-    (tie.spec is-one-requires one-requires read-by-requires two-requires read-by-requires-2 returns returns-2)
+    (tie.spec (λ c κs. search needs) (λ c κs. search needs) read-by-requires (λ c κs. search needs) read-by-requires-2
+    returns returns-2)

@@ -1,3 +1,4 @@
+-- 40, 15 and the end by their tests; then what was judged at the place is what the definition reads there.
 use Prim.Native.Nat.{_+_, _≤_}
 use mathlib.Core.Path.{_≡_, sym, ap, _∙_}
 use native.Mathlib.Omega.{arith}
@@ -12,15 +13,9 @@ use Rattle.outbox.proofs.Place.{place-within, read-inside, found-within
 use Rattle.outbox.proofs.reader.read_by.Statement.{statement}
 use Rattle.outbox.proofs.reader.read_by.Tie as tie
 
-other-version-requires : tie.Need-other-version-requires
-other-version-requires c κs = search needs
-
 returns : tie.Need-returns
 unfolding readOf
 returns c = rw (sym (c .before .other-version .ensures) ∙ c .if1 .taken)
-
-bad-place-requires : tie.Need-bad-place-requires
-bad-place-requires c κs = search needs
 
 returns-2 : tie.Need-returns-2
 unfolding readOf
@@ -45,15 +40,6 @@ sub-judge c = let d = c .before in place-within (now (c .before .before .before 
 
 part-judge-start : tie.Need-part-judge-start
 part-judge-start c = sub-judge c
-
-part-judge-end : tie.Need-part-judge-end
-part-judge-end c = search needs
-
-judge-requires : tie.Need-judge-requires
-judge-requires c κs = search needs
-
-enum-known-stream : tie.Need-enum-known-stream
-enum-known-stream c = search needs
 
 -- what was judged is what is read
 judged : (c : tie.After-judge)
@@ -97,9 +83,6 @@ add-start c = omega (arith, within (c .before))
 add-next : tie.Need-add-next
 add-next c = omega (arith, within (c .before))
 
-enum-known-fault : tie.Need-enum-known-fault
-enum-known-fault c = search needs
-
 returns-4 : tie.Need-returns-4
 returns-4 c =
     let t = c .before in
@@ -120,20 +103,6 @@ returns-5 c =
 pub read-by-spec : {M : Type 1} → statement M
 read-by-spec =
     tie.close
-    (tie.spec
-    other-version-requires
-    returns
-    bad-place-requires
-    returns-2
-    returns-3
-    sub-judge
-    part-judge-start
-    part-judge-end
-    judge-requires
-    enum-known-stream
-    add-head
-    add-start
-    add-next
-    enum-known-fault
-    returns-4
-    returns-5)
+    (tie.spec (λ c κs. search needs) returns (λ c κs. search needs) returns-2 returns-3 sub-judge part-judge-start
+    (λ c. search needs) (λ c κs. search needs) (λ c. search needs) add-head add-start add-next (λ c. search needs)
+    returns-4 returns-5)

@@ -6,17 +6,8 @@ use Rattle.outbox.proofs.Versions.{format-one, format-two, known-one, k
 use Rattle.outbox.proofs.reader.walk.Statement.{statement}
 use Rattle.outbox.proofs.reader.walk.Tie as tie
 
-is-one-requires : tie.Need-is-one-requires
-is-one-requires c κs = search needs
-
-one-requires : tie.Need-one-requires
-one-requires c κs = search needs
-
 walk-by-requires : tie.Need-walk-by-requires
 walk-by-requires c κs = known-one (c .one .result) (c .one .ensures)
-
-two-requires : tie.Need-two-requires
-two-requires c κs = search needs
 
 walk-by-requires-2 : tie.Need-walk-by-requires-2
 walk-by-requires-2 c κs = known-two (c .two .result) (c .two .ensures)
@@ -40,4 +31,5 @@ returns-2 c =
 pub walk-spec : {M : Type 1} → statement M
 walk-spec =
     tie.close
-    (tie.spec is-one-requires one-requires walk-by-requires two-requires walk-by-requires-2 returns returns-2)
+    (tie.spec (λ c κs. search needs) (λ c κs. search needs) walk-by-requires (λ c κs. search needs) walk-by-requires-2
+    returns returns-2)

@@ -5,9 +5,6 @@ use Rattle.outbox.proofs.Walk.{other-version-walk}
 use Rattle.outbox.proofs.reader.walk_by.Statement.{statement}
 use Rattle.outbox.proofs.reader.walk_by.Tie as tie
 
-other-version-requires : tie.Need-other-version-requires
-other-version-requires c κs = search needs
-
 returns : tie.Need-returns
 returns c =
     let s = c .before .before .before in
@@ -20,5 +17,4 @@ returns-2 : tie.Need-returns-2
 returns-2 c = c .walk-records .ensures
 
 pub walk-by-spec : {M : Type 1} → statement M
-walk-by-spec =
-    tie.close (tie.spec other-version-requires returns walk-records-requires returns-2)
+walk-by-spec = tie.close (tie.spec (λ c κs. search needs) returns walk-records-requires returns-2)

@@ -13,29 +13,14 @@ returns : tie.Need-returns
 unfolding appendOf
 returns c = rw (lt-ltb _ _ (c .if1 .taken))
 
-slice-reshare-prefix-is-one : tie.Need-slice-reshare-prefix-is-one
-slice-reshare-prefix-is-one c = search needs
-
 slice-aggregate-is-one : tie.Need-slice-aggregate-is-one
 slice-aggregate-is-one c = sym (length-take-le _ _ (c .before .if1 .left))
-
-is-one-requires : tie.Need-is-one-requires
-is-one-requires c κs = search needs
-
-one-requires : tie.Need-one-requires
-one-requires c κs = search needs
 
 append-in-requires : tie.Need-append-in-requires
 append-in-requires c κs = (known-one (c .one .result) (c .one .ensures), c .before .before .before .before .before .if1 .left)
 
-two-requires : tie.Need-two-requires
-two-requires c κs = search needs
-
 append-in-requires-2 : tie.Need-append-in-requires-2
 append-in-requires-2 c κs = (known-two (c .two .result) (c .two .ensures), c .before .before .before .before .before .if1 .left)
-
-same-length : tie.Need-same-length
-same-length c = search needs
 
 returns-2 : tie.Need-returns-2
 returns-2 c =
@@ -45,9 +30,6 @@ returns-2 c =
     c .before .before .append-in .ensures
     ∙ ap (λ fmt. appendOf fmt (now (s .args .buffer)) (s .args .used) (s .args .stream) (now (s .args .payload)))
     (c .before .before .before .one .ensures ∙ sym (format-one file (sym (t .before .is-one .ensures) ∙ t .if2 .taken)))
-
-same-length-2 : tie.Need-same-length-2
-same-length-2 c = search needs
 
 returns-3 : tie.Need-returns-3
 returns-3 c =
@@ -61,16 +43,6 @@ returns-3 c =
 pub append-spec : {M : Type 1} → statement M
 append-spec =
     tie.close
-    (tie.spec
-    returns
-    slice-reshare-prefix-is-one
-    slice-aggregate-is-one
-    is-one-requires
-    one-requires
-    append-in-requires
-    two-requires
-    append-in-requires-2
-    same-length
-    returns-2
-    same-length-2
+    (tie.spec returns (λ c. search needs) slice-aggregate-is-one (λ c κs. search needs) (λ c κs. search needs)
+    append-in-requires (λ c κs. search needs) append-in-requires-2 (λ c. search needs) returns-2 (λ c. search needs)
     returns-3)

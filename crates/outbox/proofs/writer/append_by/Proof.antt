@@ -1,3 +1,4 @@
+-- 15 and 14 by their tests; then the used bytes are walked, and the record goes behind them where they are whole.
 use Prim.Native.Nat.{_≤_}
 use mathlib.Core.Path.{_≡_, sym, _∙_}
 use native.Mathlib.Omega.{arith}
@@ -12,9 +13,6 @@ use Rattle.outbox.proofs.Versions.{known-small}
 use Rattle.outbox.proofs.Stored.{length-record, within-limit, append-bad, append-no-room, append-judged}
 use Rattle.outbox.proofs.writer.append_by.Statement.{statement}
 use Rattle.outbox.proofs.writer.append_by.Tie as tie
-
-bad-record-requires : tie.Need-bad-record-requires
-bad-record-requires c κs = search needs
 
 returns : tie.Need-returns
 returns c =
@@ -45,9 +43,6 @@ add-size c =
     let small = known-small (s .args .fmt) (s .pre .0) in
     omega (arith, small .1, small .2, short (c .before))
 
-sub-if2 : tie.Need-sub-if2
-sub-if2 c = search needs
-
 returns-2 : tie.Need-returns-2
 returns-2 c =
     let d = c .before .before in
@@ -64,17 +59,8 @@ returns-2 c =
     (sym (d .before .bad-record .ensures) ∙ d .if1 .left)
     (c .if2 .taken))
 
-slice-reshare-prefix-walk-used : tie.Need-slice-reshare-prefix-walk-used
-slice-reshare-prefix-walk-used c = search needs
-
 slice-aggregate-walk-used : tie.Need-slice-aggregate-walk-used
 slice-aggregate-walk-used c = sym (length-take-le _ _ (c .before .before .before .before .before .before .before .pre .1))
-
-walk-used-requires : tie.Need-walk-used-requires
-walk-used-requires c κs = search needs
-
-enum-told : tie.Need-enum-told
-enum-told c = search needs
 
 -- past the tests the used bytes decide
 decided : (c : tie.After-walk-used)
@@ -107,15 +93,6 @@ put-record-requires c κs =
     let s = d .before .before .before .before in
     (s .pre .0, omega (arith, e .if2 .left, s .pre .1), short d)
 
-add-end : tie.Need-add-end
-add-end c = search needs
-
-enum-known-fault : tie.Need-enum-known-fault
-enum-known-fault c = search needs
-
-same-length : tie.Need-same-length
-same-length c = search needs
-
 returns-3 : tie.Need-returns-3
 returns-3 c =
     let e = c .before .before .before .before in
@@ -129,30 +106,12 @@ returns-3 c =
       sym (c .before .before .put-record .ensures),
     ))
 
-same-length-2 : tie.Need-same-length-2
-same-length-2 c = search needs
-
 returns-4 : tie.Need-returns-4
 returns-4 c = sym (decided (c .before .before .before) ∙ rw (c .before .fault .given .1))
 
 pub append-by-spec : {M : Type 1} → statement M
 append-by-spec =
     tie.close
-    (tie.spec
-    bad-record-requires
-    returns
-    add-head
-    add-size
-    sub-if2
-    returns-2
-    slice-reshare-prefix-walk-used
-    slice-aggregate-walk-used
-    walk-used-requires
-    enum-told
-    put-record-requires
-    add-end
-    enum-known-fault
-    same-length
-    returns-3
-    same-length-2
-    returns-4)
+    (tie.spec (λ c κs. search needs) returns add-head add-size (λ c. search needs) returns-2 (λ c. search needs)
+    slice-aggregate-walk-used (λ c κs. search needs) (λ c. search needs) put-record-requires (λ c. search needs)
+    (λ c. search needs) (λ c. search needs) returns-3 (λ c. search needs) returns-4)

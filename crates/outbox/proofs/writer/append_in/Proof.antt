@@ -6,17 +6,8 @@ use Rattle.outbox.proofs.Stored.{append-other}
 use Rattle.outbox.proofs.writer.append_in.Statement.{statement}
 use Rattle.outbox.proofs.writer.append_in.Tie as tie
 
-slice-reshare-prefix-other-version : tie.Need-slice-reshare-prefix-other-version
-slice-reshare-prefix-other-version c = search needs
-
 slice-aggregate-other-version : tie.Need-slice-aggregate-other-version
 slice-aggregate-other-version c = sym (length-take-le _ _ (c .before .before .before .pre .1))
-
-other-version-requires : tie.Need-other-version-requires
-other-version-requires c κs = search needs
-
-same-length : tie.Need-same-length
-same-length c = search needs
 
 returns : tie.Need-returns
 returns c =
@@ -37,21 +28,11 @@ append-by-requires c κs =
     let s = d .before .before .before .before .before in
     (s .pre .0, s .pre .1, sym (d .before .other-version .ensures) ∙ d .if1 .left)
 
-same-length-2 : tie.Need-same-length-2
-same-length-2 c = search needs
-
 returns-2 : tie.Need-returns-2
 returns-2 c = c .before .before .append-by .ensures
 
 pub append-in-spec : {M : Type 1} → statement M
 append-in-spec =
     tie.close
-    (tie.spec
-    slice-reshare-prefix-other-version
-    slice-aggregate-other-version
-    other-version-requires
-    same-length
-    returns
-    append-by-requires
-    same-length-2
-    returns-2)
+    (tie.spec (λ c. search needs) slice-aggregate-other-version (λ c κs. search needs) (λ c. search needs) returns
+    append-by-requires (λ c. search needs) returns-2)

@@ -1,3 +1,4 @@
+-- Two bytes of the value, or its two halves as pairs.
 use Prim.Native.Nat.{ℕ, _-_, _*_, _/_, _%_}
 use mathlib.Core.Path.{_≡_, sym, _∙_}
 use native.Mathlib.Nat.{mod-lt}
@@ -32,15 +33,6 @@ put-pair-requires-2 c κs =
     let small = known-small (s .args .fmt) (s .pre .0) in
     (omega (arith, s .pre .1, four e), omega (arith, s .pre .2, small .2))
 
-add-put-pair : tie.Need-add-put-pair
-add-put-pair c = search needs
-
-mul-put-pair : tie.Need-mul-put-pair
-mul-put-pair c = search needs
-
-sub-put-pair : tie.Need-sub-put-pair
-sub-put-pair c = search needs
-
 put-pair-requires-3 : tie.Need-put-pair-requires-3
 put-pair-requires-3 c κs =
     let p = c .before .before .before in
@@ -48,18 +40,12 @@ put-pair-requires-3 c κs =
     let s = e .before .before .before in
     (omega (arith, p .put-pair2 .kept .0, s .pre .1, four e), rw (low (s .args .n)) (mod-lt (s .args .n) (omega arith)))
 
-same-length : tie.Need-same-length
-same-length c = search needs
-
 returns : tie.Need-returns
 returns c =
     let p = c .before .before in
     let t = p .before .before in
     let s = t .before .before .before in
     rw (t .if1 .taken, bytes-pair (s .args .n)) (p .put-pair .ensures)
-
-same-length-2 : tie.Need-same-length-2
-same-length-2 c = search needs
 
 returns-2 : tie.Need-returns-2
 returns-2 c =
@@ -73,14 +59,5 @@ returns-2 c =
 pub put-length-spec : {M : Type 1} → statement M
 put-length-spec =
     tie.close
-    (tie.spec
-    put-pair-requires
-    put-pair-requires-2
-    add-put-pair
-    mul-put-pair
-    sub-put-pair
-    put-pair-requires-3
-    same-length
-    returns
-    same-length-2
-    returns-2)
+    (tie.spec put-pair-requires put-pair-requires-2 (λ c. search needs) (λ c. search needs) (λ c. search needs)
+    put-pair-requires-3 (λ c. search needs) returns (λ c. search needs) returns-2)

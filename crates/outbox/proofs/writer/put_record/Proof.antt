@@ -8,24 +8,6 @@ use Rattle.outbox.proofs.Stored.{record-stored}
 use Rattle.outbox.proofs.writer.put_record.Statement.{statement}
 use Rattle.outbox.proofs.writer.put_record.Tie as tie
 
-add-put-length : tie.Need-add-put-length
-add-put-length c = search needs
-
-put-length-requires : tie.Need-put-length-requires
-put-length-requires c κs = search needs
-
-add-buffer : tie.Need-add-buffer
-add-buffer c = search needs
-
-slice-write-buffer : tie.Need-slice-write-buffer
-slice-write-buffer c = search needs
-
-add-copy : tie.Need-add-copy
-add-copy c = search needs
-
-add-copy-2 : tie.Need-add-copy-2
-add-copy-2 c = search needs
-
 copy-requires : tie.Need-copy-requires
 copy-requires c κs = simp length-set (omega arith)
 
@@ -45,13 +27,5 @@ returns c =
 pub put-record-spec : {M : Type 1} → statement M
 put-record-spec =
     tie.close
-    (tie.spec
-    add-put-length
-    put-length-requires
-    add-buffer
-    slice-write-buffer
-    add-copy
-    add-copy-2
-    copy-requires
-    same-length
-    returns)
+    (tie.spec (λ c. search needs) (λ c κs. search needs) (λ c. search needs) (λ c. search needs) (λ c. search needs)
+    (λ c. search needs) copy-requires same-length returns)

@@ -1,34 +1,19 @@
 use native.Mathlib.Omega.{arith}
 use lib.ListN.{length}
-use Rattle.field_writer.specs.Writer.{messageBytes}
-use Rattle.device.specs.Features.{featuresFields}
+use Rattle.proto_writer.specs.Writer.{messageBytes}
+use Rattle.msg_device.specs.Features.{featuresFields}
 use Rattle.reply_parts.proofs.Rooms.{room-over, room-within, room-all}
 use borrow.Author.Needs.{needs}
 use Rattle.reply_parts.proofs.body.body_room.Statement.{statement}
 use Rattle.reply_parts.proofs.body.body_room.Tie as tie
 
-enum-told : tie.Need-enum-told
-enum-told c = search needs
-
 information-room-requires : tie.Need-information-room-requires
 information-room-requires c κs = rw (c .enum-told .given .1) at (c .before .before .before .before .before .pre)
-
-enum-told-2 : tie.Need-enum-told-2
-enum-told-2 c = search needs
-
-features-len-requires : tie.Need-features-len-requires
-features-len-requires c κs = search needs
 
 returns : tie.Need-returns
 returns c =
     let a = c .before .before .before .before .before .before .before .args in
     rw (c .before .before .enum-told2 .given .1) (room-over (a .limit) (length (messageBytes (featuresFields (a .features)))) (omega (arith, c .before .features-len .ensures, c .if1 .taken)))
-
-enum-told-3 : tie.Need-enum-told-3
-enum-told-3 c = search needs
-
-enum-told-4 : tie.Need-enum-told-4
-enum-told-4 c = search needs
 
 returns-2 : tie.Need-returns-2
 returns-2 c = rw (c .before .enum-told .given .1) (c .information-room .ensures)
@@ -48,15 +33,5 @@ returns-5 c = rw (c .enum-told4 .given .1) (room-all (c .before .before .before 
 pub body-room-spec : {M : Type 1} → statement M
 body-room-spec =
     tie.close
-    (tie.spec
-    enum-told
-    information-room-requires
-    enum-told-2
-    features-len-requires
-    returns
-    enum-told-3
-    enum-told-4
-    returns-2
-    returns-3
-    returns-4
-    returns-5)
+    (tie.spec (λ c. search needs) information-room-requires (λ c. search needs) (λ c κs. search needs) returns
+    (λ c. search needs) (λ c. search needs) returns-2 returns-3 returns-4 returns-5)

@@ -2,21 +2,6 @@ use borrow.Author.Needs.{needs}
 use Rattle.reply_parts.proofs.body.fault_of.Statement.{statement}
 use Rattle.reply_parts.proofs.body.fault_of.Tie as tie
 
-enum-told : tie.Need-enum-told
-enum-told c = search needs
-
-information-fault-requires : tie.Need-information-fault-requires
-information-fault-requires c κs = search needs
-
-enum-told-2 : tie.Need-enum-told-2
-enum-told-2 c = search needs
-
-enum-told-3 : tie.Need-enum-told-3
-enum-told-3 c = search needs
-
-enum-told-4 : tie.Need-enum-told-4
-enum-told-4 c = search needs
-
 returns : tie.Need-returns
 returns c = rw (c .before .enum-told .given .1) (c .information-fault .ensures)
 
@@ -32,13 +17,5 @@ returns-4 c = rw (c .enum-told4 .given .1)
 pub fault-of-spec : {M : Type 1} → statement M
 fault-of-spec =
     tie.close
-    (tie.spec
-    enum-told
-    information-fault-requires
-    enum-told-2
-    enum-told-3
-    enum-told-4
-    returns
-    returns-2
-    returns-3
-    returns-4)
+    (tie.spec (λ c. search needs) (λ c κs. search needs) (λ c. search needs) (λ c. search needs) (λ c. search needs)
+    returns returns-2 returns-3 returns-4)

@@ -2,32 +2,14 @@ use borrow.Author.Needs.{needs}
 use Rattle.reply_parts.proofs.body.put_body.Statement.{statement}
 use Rattle.reply_parts.proofs.body.put_body.Tie as tie
 
-enum-told : tie.Need-enum-told
-enum-told c = search needs
-
 put-information-requires : tie.Need-put-information-requires
 put-information-requires c κs = rw (c .before .enum-told .given .1) at (c .before .before .before .before .before .before .before .pre)
-
-enum-told-2 : tie.Need-enum-told-2
-enum-told-2 c = search needs
 
 put-features-requires : tie.Need-put-features-requires
 put-features-requires c κs = rw (c .before .enum-told2 .given .1) at (c .before .before .before .before .before .before .before .pre .1)
 
-enum-told-3 : tie.Need-enum-told-3
-enum-told-3 c = search needs
-
-enum-told-4 : tie.Need-enum-told-4
-enum-told-4 c = search needs
-
-same-length : tie.Need-same-length
-same-length c = search needs
-
 returns : tie.Need-returns
 returns c = rw (c .before .before .before .before .enum-told .given .1) (c .before .before .put-information .ensures .stored)
-
-same-length-2 : tie.Need-same-length-2
-same-length-2 c = search needs
 
 returns-2 : tie.Need-returns-2
 returns-2 c = rw (c .before .before .before .before .enum-told2 .given .1) (c .before .before .put-features .ensures .stored)
@@ -41,16 +23,6 @@ returns-4 c = rw (c .enum-told4 .given .1)
 pub put-body-spec : {M : Type 1} → statement M
 put-body-spec =
     tie.close
-    (tie.spec
-    enum-told
-    put-information-requires
-    enum-told-2
-    put-features-requires
-    enum-told-3
-    enum-told-4
-    same-length
-    returns
-    same-length-2
-    returns-2
-    returns-3
+    (tie.spec (λ c. search needs) put-information-requires (λ c. search needs) put-features-requires
+    (λ c. search needs) (λ c. search needs) (λ c. search needs) returns (λ c. search needs) returns-2 returns-3
     returns-4)

@@ -4,30 +4,6 @@ use borrow.Author.Needs.{needs}
 use Rattle.reply_parts.proofs.front.front_len.Statement.{statement}
 use Rattle.reply_parts.proofs.front.front_len.Tie as tie
 
-inner-len-requires : tie.Need-inner-len-requires
-inner-len-requires c κs = search needs
-
-scalar-len-requires : tie.Need-scalar-len-requires
-scalar-len-requires c κs = search needs
-
-head-len-requires : tie.Need-head-len-requires
-head-len-requires c κs = search needs
-
-scalar-len-requires-2 : tie.Need-scalar-len-requires-2
-scalar-len-requires-2 c κs = search needs
-
-member-len-requires : tie.Need-member-len-requires
-member-len-requires c κs = search needs
-
-add-result : tie.Need-add-result
-add-result c = search needs
-
-add-result-2 : tie.Need-add-result-2
-add-result-2 c = search needs
-
-add-result-3 : tie.Need-add-result-3
-add-result-3 c = search needs
-
 returns : tie.Need-returns
 returns c =
     let m = c .member-len .ensures in
@@ -41,13 +17,5 @@ returns c =
 pub front-len-spec : {M : Type 1} → statement M
 front-len-spec =
     tie.close
-    (tie.spec
-    inner-len-requires
-    scalar-len-requires
-    head-len-requires
-    scalar-len-requires-2
-    member-len-requires
-    add-result
-    add-result-2
-    add-result-3
-    returns)
+    (tie.spec (λ c κs. search needs) (λ c κs. search needs) (λ c κs. search needs) (λ c κs. search needs)
+    (λ c κs. search needs) (λ c. search needs) (λ c. search needs) (λ c. search needs) returns)

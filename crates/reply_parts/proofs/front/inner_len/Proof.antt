@@ -4,18 +4,6 @@ use borrow.Author.Needs.{needs}
 use Rattle.reply_parts.proofs.front.inner_len.Statement.{statement}
 use Rattle.reply_parts.proofs.front.inner_len.Tie as tie
 
-scalar-len-requires : tie.Need-scalar-len-requires
-scalar-len-requires c κs = search needs
-
-member-len-requires : tie.Need-member-len-requires
-member-len-requires c κs = search needs
-
-add-result : tie.Need-add-result
-add-result c = search needs
-
-add-result-2 : tie.Need-add-result-2
-add-result-2 c = search needs
-
 returns : tie.Need-returns
 unfolding innerLength
 returns c =
@@ -25,4 +13,5 @@ returns c =
 
 pub inner-len-spec : {M : Type 1} → statement M
 inner-len-spec =
-    tie.close (tie.spec scalar-len-requires member-len-requires add-result add-result-2 returns)
+    tie.close
+    (tie.spec (λ c κs. search needs) (λ c κs. search needs) (λ c. search needs) (λ c. search needs) returns)

@@ -2,15 +2,12 @@ use native.Mathlib.Omega.{arith}
 use Prim.Native.Nat.{ℕ}
 use mathlib.Core.Path.{ap}
 use lib.ListN.{length}
-use Rattle.field_writer.specs.Writer.{headBytes}
-use Rattle.known_fields.specs.Schema.{responseField}
+use Rattle.proto_writer.specs.Writer.{headBytes}
+use Rattle.proto_schema.specs.Schema.{responseField}
 use Rattle.reply_parts.proofs.Fronts.{front-length, front-put}
 use borrow.Author.Needs.{needs}
 use Rattle.reply_parts.proofs.front.put_front.Statement.{statement}
 use Rattle.reply_parts.proofs.front.put_front.Tie as tie
-
-inner-len-requires : tie.Need-inner-len-requires
-inner-len-requires c κs = search needs
 
 put-scalar-requires : tie.Need-put-scalar-requires
 put-scalar-requires c κs =
@@ -40,9 +37,6 @@ put-member-requires c κs =
     let i = ap (λ (n : ℕ). length (headBytes responseField n)) (c .before .before .before .before .before .before .before .before .before .before .before .before .before .inner-len .ensures .0) in
     (s .pre .0 .member, omega (arith, front-length (s .args .front), s .pre .1, p .ensures .place, p .kept .0, q .ensures .place, q .kept .0, r .ensures .place, r .kept .0, i))
 
-same-length : tie.Need-same-length
-same-length c = search needs
-
 returns : tie.Need-returns
 returns c =
     let s = c .before .before .before .before .before .before .before .before .before .before .before .before .before .before .before .before .before .before in
@@ -51,11 +45,5 @@ returns c =
 pub put-front-spec : {M : Type 1} → statement M
 put-front-spec =
     tie.close
-    (tie.spec
-    inner-len-requires
-    put-scalar-requires
-    put-head-requires
-    put-scalar-requires-2
-    put-member-requires
-    same-length
-    returns)
+    (tie.spec (λ c κs. search needs) put-scalar-requires put-head-requires put-scalar-requires-2 put-member-requires
+    (λ c. search needs) returns)

@@ -3,12 +3,9 @@ use Rattle.wire.specs.Limit.{limitFits}
 use Rattle.wire.proofs.limit.limit_fits.Statement.{statement}
 use Rattle.wire.proofs.limit.limit_fits.Tie as tie
 
-both-requires : tie.Need-both-requires
-both-requires c κs = search needs
-
 returns : tie.Need-returns
 unfolding limitFits
 returns c = c .both .ensures
 
 pub limit-fits-spec : {M : Type 1} → statement M
-limit-fits-spec = tie.close (tie.spec both-requires returns)
+limit-fits-spec = tie.close (tie.spec (λ c κs. search needs) returns)

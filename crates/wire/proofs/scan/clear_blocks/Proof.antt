@@ -16,29 +16,8 @@ abbrev μ-loop : tie.MeasureT-loop
 loop-holds : tie.Need-loop-holds Inv-loop μ-loop
 loop-holds c = clear-none
 
-sub-loop : tie.Need-sub-loop Inv-loop μ-loop
-sub-loop c = search needs
-
-add-end : tie.Need-add-end Inv-loop μ-loop
-add-end c = search needs
-
-sub-any-in-range : tie.Need-sub-any-in-range Inv-loop μ-loop
-sub-any-in-range c = search needs
-
-part-any-in-range-start : tie.Need-part-any-in-range-start Inv-loop μ-loop
-part-any-in-range-start c = search needs
-
-part-any-in-range-end : tie.Need-part-any-in-range-end Inv-loop μ-loop
-part-any-in-range-end c = search needs
-
-any-in-range-requires : tie.Need-any-in-range-requires Inv-loop μ-loop
-any-in-range-requires c κs = search needs
-
 returns : tie.Need-returns Inv-loop μ-loop
 returns c = c .before .before .before .before .loop .inv
-
-loop-less : tie.Need-loop-less Inv-loop μ-loop
-loop-less c = search needs
 
 loop-again : tie.Need-loop-again Inv-loop μ-loop
 loop-again c = clear-block (c .before .before .before .before .loop .inv) _ (search needs) (search needs) (sym (c .before .any-in-range .ensures) ∙ c .if1 .left)
@@ -49,17 +28,5 @@ returns-2 c = c .before .loop .inv
 pub clear-blocks-spec : {M : Type 1} → statement M
 clear-blocks-spec =
     tie.close
-    (tie.spec
-    Inv-loop
-    μ-loop
-    loop-holds
-    sub-loop
-    add-end
-    sub-any-in-range
-    part-any-in-range-start
-    part-any-in-range-end
-    any-in-range-requires
-    returns
-    loop-less
-    loop-again
-    returns-2)
+    (tie.spec Inv-loop μ-loop loop-holds (λ c. search needs) (λ c. search needs) (λ c. search needs)
+    (λ c. search needs) (λ c. search needs) (λ c κs. search needs) returns (λ c. search needs) loop-again returns-2)

@@ -1,3 +1,4 @@
+-- Blocks of sixteen are copied while they are clear; the first that is not is copied up to its byte.
 use Prim.Native.Nat.{_+_, _-_}
 use mathlib.Core.Path.{sym, _∙_}
 use lib.ListN.{length, length-take}
@@ -17,24 +18,6 @@ abbrev μ-loop : tie.MeasureT-loop
 
 loop-holds : tie.Need-loop-holds Inv-loop μ-loop
 loop-holds c = copied-none
-
-sub-loop : tie.Need-sub-loop Inv-loop μ-loop
-sub-loop c = search needs
-
-add-end : tie.Need-add-end Inv-loop μ-loop
-add-end c = search needs
-
-sub-any-in-range : tie.Need-sub-any-in-range Inv-loop μ-loop
-sub-any-in-range c = search needs
-
-part-any-in-range-start : tie.Need-part-any-in-range-start Inv-loop μ-loop
-part-any-in-range-start c = search needs
-
-part-any-in-range-end : tie.Need-part-any-in-range-end Inv-loop μ-loop
-part-any-in-range-end c = search needs
-
-any-in-range-requires : tie.Need-any-in-range-requires Inv-loop μ-loop
-any-in-range-requires c κs = search needs
 
 slice-aggregate-copy-until : tie.Need-slice-aggregate-copy-until Inv-loop μ-loop
 slice-aggregate-copy-until c = sym (length-take-le _ _ (omega arith))
@@ -62,26 +45,11 @@ returns c =
     let until = u .copy-until .ensures _ (copied-into {e = s .loop .i + 16} (omega arith) (s .loop .inv)) in
     copied-out {e = s .loop .i + 16} (omega (arith, until .clear .within, length-take (s .loop .i + 16) (s .before .before .before .args .run .now))) until
 
-add-copy-block : tie.Need-add-copy-block Inv-loop μ-loop
-add-copy-block c = search needs
-
-sub-copy-block : tie.Need-sub-copy-block Inv-loop μ-loop
-sub-copy-block c = search needs
-
-part-copy-block-start : tie.Need-part-copy-block-start Inv-loop μ-loop
-part-copy-block-start c = search needs
-
-part-copy-block-end : tie.Need-part-copy-block-end Inv-loop μ-loop
-part-copy-block-end c = search needs
-
 copy-block-requires : tie.Need-copy-block-requires Inv-loop μ-loop
 copy-block-requires c κs =
     let i = c .before .before .before .before .before .before in
     let size = c .copy-block-arg2 .given .1 in
     (omega (arith, size), omega (arith, size, copied-length (i .loop .inv)))
-
-loop-less : tie.Need-loop-less Inv-loop μ-loop
-loop-less c = search needs
 
 loop-again : tie.Need-loop-again Inv-loop μ-loop
 loop-again c =
@@ -90,25 +58,10 @@ loop-again c =
     let k = t .before .before .before .loop .inv in
     copied-more k _ (omega arith) (clear-block (k .clear) _ (omega arith) (omega arith) (sym (t .any-in-range .ensures) ∙ b .before .before .before .if1 .left)) (b .copy-block .ensures)
 
-add-copy-bytes : tie.Need-add-copy-bytes Inv-loop μ-loop
-add-copy-bytes c = search needs
-
-sub-copy-bytes : tie.Need-sub-copy-bytes Inv-loop μ-loop
-sub-copy-bytes c = search needs
-
-part-copy-bytes-start : tie.Need-part-copy-bytes-start Inv-loop μ-loop
-part-copy-bytes-start c = search needs
-
-part-copy-bytes-end : tie.Need-part-copy-bytes-end Inv-loop μ-loop
-part-copy-bytes-end c = search needs
-
 copy-bytes-requires : tie.Need-copy-bytes-requires Inv-loop μ-loop
 copy-bytes-requires c κs =
     let i = c .before .before .before in
     omega (arith, c .copy-bytes-arg2 .given .1, i .loop .inv .clear .within, copied-length (i .loop .inv))
-
-add-result : tie.Need-add-result Inv-loop μ-loop
-add-result c = search needs
 
 same-length-2 : tie.Need-same-length-2 Inv-loop μ-loop
 same-length-2 c = c .before .before .copy-bytes .kept .0 ∙ copied-length (c .before .before .before .before .before .before .loop .inv)
@@ -121,32 +74,8 @@ returns-2 c =
 pub copy-clear-spec : {M : Type 1} → statement M
 copy-clear-spec =
     tie.close
-    (tie.spec
-    Inv-loop
-    μ-loop
-    loop-holds
-    sub-loop
-    add-end
-    sub-any-in-range
-    part-any-in-range-start
-    part-any-in-range-end
-    any-in-range-requires
-    slice-aggregate-copy-until
-    copy-until-requires
-    same-length
-    returns
-    add-copy-block
-    sub-copy-block
-    part-copy-block-start
-    part-copy-block-end
-    copy-block-requires
-    loop-less
-    loop-again
-    add-copy-bytes
-    sub-copy-bytes
-    part-copy-bytes-start
-    part-copy-bytes-end
-    copy-bytes-requires
-    add-result
-    same-length-2
-    returns-2)
+    (tie.spec Inv-loop μ-loop loop-holds (λ c. search needs) (λ c. search needs) (λ c. search needs)
+    (λ c. search needs) (λ c. search needs) (λ c κs. search needs) slice-aggregate-copy-until copy-until-requires
+    same-length returns (λ c. search needs) (λ c. search needs) (λ c. search needs) (λ c. search needs)
+    copy-block-requires (λ c. search needs) loop-again (λ c. search needs) (λ c. search needs) (λ c. search needs)
+    (λ c. search needs) copy-bytes-requires (λ c. search needs) same-length-2 returns-2)

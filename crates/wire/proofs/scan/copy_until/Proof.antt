@@ -22,12 +22,6 @@ loop-holds c = (refl, c .before .before .pre .1 .1, λ l k. k)
 shared-slice-read-b : tie.Need-shared-slice-read-b Inv-loop μ-loop
 shared-slice-read-b c = clear-short (c .before .before .before .before .pre .1 .0) (c .before .loop .inv .1)
 
-in-range-requires : tie.Need-in-range-requires Inv-loop μ-loop
-in-range-requires c κs = search needs
-
-same-length : tie.Need-same-length Inv-loop μ-loop
-same-length c = search needs
-
 returns : tie.Need-returns Inv-loop μ-loop
 returns c = c .before .before .before .loop .inv .2
 
@@ -57,16 +51,5 @@ loop-again c =
 pub copy-until-spec : {M : Type 1} → statement M
 copy-until-spec =
     tie.close
-    (tie.spec
-    Inv-loop
-    μ-loop
-    loop-holds
-    shared-slice-read-b
-    in-range-requires
-    same-length
-    returns
-    add-out
-    slice-write-out
-    add-i
-    loop-less
-    loop-again)
+    (tie.spec Inv-loop μ-loop loop-holds shared-slice-read-b (λ c κs. search needs) (λ c. search needs) returns
+    add-out slice-write-out add-i loop-less loop-again)

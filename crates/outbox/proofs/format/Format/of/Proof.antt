@@ -5,15 +5,6 @@ use Rattle.outbox.proofs.Versions.{format-one, format-two}
 use Rattle.outbox.proofs.format.Format.of.Statement.{statement}
 use Rattle.outbox.proofs.format.Format.of.Tie as tie
 
-is-one-requires : tie.Need-is-one-requires
-is-one-requires c κs = search needs
-
-one-requires : tie.Need-one-requires
-one-requires c κs = search needs
-
-two-requires : tie.Need-two-requires
-two-requires c κs = search needs
-
 returns : tie.Need-returns
 returns c =
     let t = c .before in
@@ -27,4 +18,4 @@ returns-2 c =
     c .two .ensures ∙ sym (format-two (now (s .args .file)) (sym (t .before .is-one .ensures) ∙ t .if1 .left))
 
 pub of-spec : {M : Type 1} → statement M
-of-spec = tie.close (tie.spec is-one-requires one-requires two-requires returns returns-2)
+of-spec = tie.close (tie.spec (λ c κs. search needs) (λ c κs. search needs) (λ c κs. search needs) returns returns-2)

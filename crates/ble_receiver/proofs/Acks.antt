@@ -1,0 +1,48 @@
+-- A finished transaction's id has four bits.
+use Prim.Native.Nat.{ℕ, _+_, _<_}
+use mathlib.Core.List.{List}
+use lib.ListN.{getD}
+use Rattle.ble_packet.specs.declared.reader.Head.{Head}
+use Rattle.ble_packet.specs.declared.reader.Packet.{Packet}
+use Rattle.ble_packet.specs.declared.reader.Packet.the-variants.{First, Next, Ack, Nack}
+use Rattle.ble_packet.specs.Header.{fourBits}
+use Rattle.ble_packet.proofs.Reading.{PayloadWithin}
+use Rattle.ble_slot.specs.declared.Slot.{Slot}
+use Rattle.ble_slot.specs.Slot.{idle}
+use Rattle.ble_slot_steps.specs.Step.{Step, Act, still, step, finish, hold, dropBy, firstStep, nextStep, openPlace, firstPlace, actOf}
+use Rattle.ble_slot_steps.proofs.Each.{EachStep, first-each, next-each, at-each}
+use Rattle.ble_receiver.specs.Outcome.{changed}
+use Rattle.ble_receiver.specs.Ack.{IdLow}
+
+abbrev StepLow : Step → Type 0
+StepLow s = IdLow (s .told)
+
+abbrev pub ActLow : Act → Type 0
+ActLow (still t) = IdLow t
+ActLow (step place s) = StepLow s
+
+each-low : (h : Head) → h .id < fourBits → EachStep h StepLow
+unfolding finish hold dropBy
+each-low h low =
+    record {
+      finished = λ at wanted total replaced payload. low;
+      held = λ at wanted total replaced payload. tt;
+      ten = tt;
+      eleven = tt;
+    }
+
+-- what a packet that was read does
+pub act-low : (limit k first : ℕ) (lane : List Slot) (x : Packet) → PayloadWithin limit k x → ActLow (actOf first lane x)
+act-low limit k first lane (First h ack total start len) w =
+    at-each ActLow 18 (λ place. firstStep (first + place) (getD lane place idle) h ack total start len) (firstPlace lane (h .id)) tt (λ place e.
+    first-each StepLow (each-low h (w .4 .0)) (first + place) (getD lane place idle) ack total start len)
+act-low limit k first lane (Next h ack last start len) w =
+    at-each ActLow 9 (λ place. nextStep (first + place) (getD lane place idle) h ack last start len) (openPlace lane (h .id)) tt (λ place e.
+    next-each StepLow (each-low h (w .1 .0)) (first + place) (getD lane place idle) ack last start len)
+act-low limit k first lane (Ack h) w = tt
+act-low limit k first lane (Nack h) w = tt
+
+-- and what is told of it
+pub changed-low : (limit first : ℕ) (slots : List Slot) (bytes p : List ℕ) (act : Act) → ActLow act → IdLow (changed limit slots bytes p first act .told)
+changed-low limit first slots bytes p (still t) low = low
+changed-low limit first slots bytes p (step place s) low = low

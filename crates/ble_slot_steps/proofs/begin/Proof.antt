@@ -1,0 +1,42 @@
+use Rattle.ble_slot_steps.proofs.Steps.{chosen-below}
+use Rattle.ble_slot_steps.specs.Step.{step}
+use native.Mathlib.Omega.{arith}
+use mathlib.Core.Path.{ap}
+use borrow.Author.Needs.{needs}
+use Rattle.ble_slot_steps.proofs.begin.Statement.{statement}
+use Rattle.ble_slot_steps.proofs.begin.Tie as tie
+
+mul-slot : tie.Need-mul-slot
+mul-slot c =
+    let e = rw (c .before .spot .given .1) at (c .before .before .before .find-first .ensures) in
+    let s = c .before .before .before .before in
+    let l = chosen-below (s .args .t2) (s .args .head .id) (c .before .spot .given .0 .0) (s .good .1 .0 .1 .0 .1) e in
+    omega (arith, l)
+
+array-copy-out-slot : tie.Need-array-copy-out-slot
+array-copy-out-slot c =
+    let e = rw (c .before .spot .given .1) at (c .before .before .before .find-first .ensures) in
+    let s = c .before .before .before .before in
+    let l = chosen-below (s .args .t2) (s .args .head .id) (c .before .spot .given .0 .0) (s .good .1 .0 .1 .0 .1) e in
+    l
+
+add-on-first : tie.Need-add-on-first
+add-on-first c =
+    let e = rw (c .before .before .spot .given .1) at (c .before .before .before .before .find-first .ensures) in
+    let s = c .before .before .before .before .before in
+    let l = chosen-below (s .args .t2) (s .args .head .id) (c .before .before .spot .given .0 .0) (s .good .1 .0 .1 .0 .1) e in
+    omega (arith, l, s .pre .0)
+
+returns : tie.Need-returns
+returns c = rw (← c .before .before .find-first .ensures, c .enum-told .given .1)
+
+returns-2 : tie.Need-returns-2
+returns-2 c =
+    let spot = c .before .before .before .spot .given in
+    rw (← c .before .before .before .before .before .find-first .ensures, spot .1) (ap (step (spot .0 .0)) (c .on-first .ensures))
+
+pub begin-spec : {M : Type 1} → statement M
+begin-spec =
+    tie.close
+    (tie.spec (λ c κs. search needs) (λ c. search needs) (λ c. search needs) mul-slot array-copy-out-slot add-on-first
+    (λ c κs. search needs) returns returns-2)

@@ -1,0 +1,135 @@
+-- What a packet does to the slots of its stream: nothing but an answer, or a step of one slot.
+use Prim.Native.Nat.{ℕ, suc, _+_}
+use mathlib.Core.List.{List, [], _∷_}
+use mathlib.Core.Option.{Option, none, some}
+use mathlib.Core.Bool.{Bool, false, not, cond, _||_}
+use lib.ListN.{getD}
+use lib.Dec.{leb, eqb}
+use Rattle.wire.specs.Bytes.{bit}
+use Rattle.wire.specs.Told.{Told, given, refused, Line, line, table}
+use Rattle.ble_packet.specs.declared.reader.Head.{Head}
+use Rattle.ble_packet.specs.declared.reader.Packet.{Packet}
+use Rattle.ble_packet.specs.declared.reader.Packet.the-variants.{First, Next, Ack, Nack}
+use Rattle.ble_packet.specs.Header.{sequenceAfter}
+use Rattle.ble_slot.specs.declared.Slot.{Slot}
+use Rattle.ble_slot_steps.specs.declared.PayloadPlace.{PayloadPlace}
+use Rattle.ble_slot.specs.declared.answer.Accepted.{Accepted}
+use Rattle.ble_slot.specs.declared.answer.Accepted.the-variants.{Taken, Finished, Acked, Nacked}
+use Rattle.ble_slot_steps.specs.declared.Step as code
+use Rattle.ble_slot_steps.specs.declared.Act as acts
+use Rattle.ble_slot_steps.specs.declared.Act.the-variants.{Still, Step as Stepped}
+use Rattle.ble_slot_steps.specs.declared.place.Spot.{Spot}
+use Rattle.ble_slot_steps.specs.declared.place.Spot.the-variants.{Nowhere, At}
+use Rattle.ble_slot.specs.Slot.{opens, wants, idle, isOpen, isIdle}
+use Rattle.ble_slot.specs.Answer as answer
+
+-- what is told, the slot afterwards, and the payload that is written
+pub record Step : Type 0 where
+  pub told : Told Accepted
+  pub slot : Slot
+  pub payload : PayloadPlace
+
+-- what is done with a packet: an answer that leaves all, or a step of the slot at a place among its stream's
+pub data Act : Type 0 where
+  still : Told Accepted → Act
+  step : ℕ → Step → Act
+
+-- ---- a step of the slot at a place of the row
+
+-- no bytes
+abbrev pub nothing : PayloadPlace
+nothing = record { at = 0; start = 0; len = 0 }
+
+-- the transaction is finished: its wish for an ACK is told, and its slot idle
+unfoldable pub finish : ℕ → Head → Bool → ℕ → Bool → PayloadPlace → Step
+finish place head wanted total replaced payload =
+    record { told = given (Finished place (head .stream) (head .id) total wanted replaced); slot = idle; payload = payload }
+
+-- more is to come: the slot holds all up to the payload's end, and remembers the wish
+unfoldable pub hold : ℕ → Head → Bool → ℕ → Bool → PayloadPlace → Step
+hold place head wanted total replaced payload =
+    record {
+      told = given (Taken place (head .stream) (head .id) replaced);
+      slot = record { opened = 1; id = head .id; sequence = head .sequence; wanted = bit wanted; total = total; held = payload .at + payload .len };
+      payload = payload;
+    }
+
+-- the transaction is dropped: its slot is idle, its wish forgotten, and nothing is written
+unfoldable pub dropBy : ℕ → Step
+dropBy n = record { told = refused n; slot = idle; payload = nothing }
+
+-- a first packet replaces what is open, its wish too; one whose payload equals its total finishes at once
+unfoldable pub firstStep : ℕ → Slot → Head → Bool → ℕ → ℕ → ℕ → Step
+firstStep place s head ack total start len =
+    cond (eqb len total) (finish place head ack total (opens s) (record { at = 0; start = start; len = len }))
+    (hold place head ack total (opens s) (record { at = 0; start = start; len = len }))
+
+-- type 1 reaches or passes the total, or type 2 misses it
+abbrev pub offTotal : Bool → ℕ → ℕ → Bool
+offTotal last held total = cond last (not (eqb held total)) (leb total held)
+
+-- the lines of the table on a packet that follows in an open transaction
+abbrev pub lines : Slot → Head → Bool → ℕ → List Line
+lines s head last len =
+    line 10 (not (eqb (head .sequence) (sequenceAfter (s .sequence) 1)))
+    ∷ line 11 (offTotal last (s .held + len) (s .total))
+    ∷ []
+
+-- it is written behind what is held, and adds its flag to the wish; 10 and 11 drop the transaction
+unfoldable pub nextStep : ℕ → Slot → Head → Bool → Bool → ℕ → ℕ → Step
+nextStep place s head ack last start len =
+    table (lines s head last len) dropBy
+    (cond last (finish place head (wants s || ack) (s .total) false (record { at = s .held; start = start; len = len }))
+    (hold place head (wants s || ack) (s .total) false (record { at = s .held; start = start; len = len })))
+
+-- ---- the slots of a stream
+
+-- one place further
+abbrev pub further : Option ℕ → Option ℕ
+further none = none
+further (some place) = some (suc place)
+
+abbrev pub orElse : Option ℕ → Option ℕ → Option ℕ
+orElse none other = other
+orElse (some place) other = some place
+
+-- the place of the first slot that passes a test
+abbrev pub placeWhere : (Slot → Bool) → List Slot → Option ℕ
+placeWhere test [] = none
+placeWhere test (s ∷ ss) = cond (test s) (some 0) (further (placeWhere test ss))
+
+-- a step at the place that was found, or a refusal that leaves all
+abbrev pub atPlace : ℕ → (ℕ → Step) → Option ℕ → Act
+atPlace n f none = still (refused n)
+atPlace n f (some place) = step place (f place)
+
+-- where the id of a packet is open
+abbrev pub openPlace : List Slot → ℕ → Option ℕ
+openPlace lane id = placeWhere (isOpen id) lane
+
+-- where the id of a first packet is open, or else the lowest idle slot
+abbrev pub firstPlace : List Slot → ℕ → Option ℕ
+firstPlace lane id = orElse (openPlace lane id) (placeWhere isIdle lane)
+
+-- what a packet does to its stream's slots, which begin at a place of the row: 18 where a first packet finds no slot, 9 where no
+-- transaction of a later one's id is open
+abbrev pub actOf : ℕ → List Slot → Packet → Act
+actOf first lane (First head ack total start len) =
+    atPlace 18 (λ place. firstStep (first + place) (getD lane place idle) head ack total start len) (firstPlace lane (head .id))
+actOf first lane (Next head ack last start len) =
+    atPlace 9 (λ place. nextStep (first + place) (getD lane place idle) head ack last start len) (openPlace lane (head .id))
+actOf first lane (Ack head) = still (given (Acked head))
+actOf first lane (Nack head) = still (given (Nacked head))
+
+-- ---- what the code decides
+
+abbrev pub spotOf : Spot → Option ℕ
+spotOf Nowhere = none
+spotOf (At place) = some place
+
+unfoldable pub stepOf : code.Step → Step
+stepOf s = record { told = answer.told (s .answer); slot = s .slot; payload = s .payload }
+
+abbrev pub actBy : acts.Act → Act
+actBy (Still told) = still (answer.told told)
+actBy (Stepped place s) = step place (stepOf s)

@@ -1,0 +1,250 @@
+// What a packet does to the slots of its stream.
+pub mod place;
+
+use crate::place::Spot;
+use ble_packet::header;
+use ble_packet::reader::Head;
+use ble_packet::reader::Packet;
+use ble_slot::Slot;
+use ble_slot::answer::Accepted;
+use ble_slot::answer::Answer;
+use ble_slot::answer::Refusal;
+use ble_slot::narrow;
+use ble_slot::wide;
+use wire::bytes::bit;
+use wire::logic::either;
+ghost use mathlib.Core.Path.{_≡_};
+ghost use Prim.Native.Nat.{_+_, _^_, _≤_, _<_};
+ghost use Rattle.ble_packet.specs.declared.reader.Packet.the-variants.{First, Next};
+ghost use Rattle.ble_slot.specs.Answer.{numberOf};
+ghost use Rattle.ble_slot_steps.specs.Step.{stepOf, actBy, finish, hold, dropBy, firstStep, offTotal, nextStep, actOf};
+ghost use Rattle.ble_slot_steps.specs.Fit.{Small};
+
+// The payload that is written: from start on in its packet, and its place in the slot's part of the buffer.
+pub struct PayloadPlace {
+    pub at: usize,
+    pub start: usize,
+    pub len: usize,
+}
+
+// The answer, the slot afterwards, and the payload that is written.
+pub struct Step {
+    pub answer: Answer,
+    pub slot: Slot,
+    pub payload: PayloadPlace,
+}
+
+// An answer that leaves all, or a step of the slot at a place among its stream's.
+pub enum Act {
+    Still(Answer),
+    Step { place: usize, step: Step },
+}
+
+// The transaction is finished: its wish for an ACK is told, and its slot idle.
+fn finish(
+    place: usize,
+    head: Head,
+    wanted: bool,
+    total: usize,
+    replaced: bool,
+    payload: PayloadPlace,
+) -> Step
+    ensures { λ r. ⌜ stepOf r ≡ finish place head wanted total replaced payload ⌝ }
+{
+    let stream = head.stream;
+    let slot = Slot::idle();
+    Step {
+        answer: Answer::Given(Accepted::Finished {
+            place,
+            stream,
+            id: head.id,
+            total,
+            ack: wanted,
+            replaced,
+        }),
+        slot,
+        payload,
+    }
+}
+
+// More is to come: the slot holds all up to the payload's end, and remembers the wish.
+fn hold(
+    place: usize,
+    head: Head,
+    wanted: bool,
+    total: usize,
+    replaced: bool,
+    payload: PayloadPlace,
+) -> Step
+    requires { ⌜ (payload .at + payload .len < 65536) × (total < 65536) ⌝ }
+    ensures { λ r. ⌜ stepOf r ≡ hold place head wanted total replaced payload ⌝ }
+{
+    let stream = head.stream;
+    let flag = bit(wanted);
+    let whole = narrow(total);
+    let held = narrow(payload.at + payload.len);
+    Step {
+        answer: Answer::Given(Accepted::Taken {
+            place,
+            stream,
+            id: head.id,
+            replaced,
+        }),
+        slot: Slot {
+            opened: 1,
+            id: head.id,
+            sequence: head.sequence,
+            wanted: flag,
+            total: whole,
+            held,
+        },
+        payload,
+    }
+}
+
+// The transaction is dropped: its slot is idle, and nothing is written.
+fn drop_by(why: Refusal) -> Step
+    ensures { λ r. ⌜ stepOf r ≡ dropBy (numberOf why) ⌝ }
+{
+    let slot = Slot::idle();
+    Step {
+        answer: Answer::Refused(why),
+        slot,
+        payload: PayloadPlace {
+            at: 0,
+            start: 0,
+            len: 0,
+        },
+    }
+}
+
+// A first packet replaces what is open, its wish too; one whose payload equals its total finishes at once.
+fn on_first(
+    place: usize,
+    slot: Slot,
+    head: Head,
+    ack: bool,
+    total: usize,
+    start: usize,
+    len: usize,
+) -> Step
+    requires { ⌜ (len ≤ total) × (total < 65536) ⌝ }
+    ensures { λ r. ⌜ stepOf r ≡ firstStep place slot head ack total start len ⌝ }
+{
+    let replaced = slot.opens();
+    let payload = PayloadPlace { at: 0, start, len };
+    if len == total {
+        return finish(place, head, ack, total, replaced, payload);
+    }
+    hold(place, head, ack, total, replaced, payload)
+}
+
+// Whether type 1 reaches or passes the total, or type 2 misses it.
+fn off_total(last: bool, held: usize, total: usize) -> bool
+    ensures { λ r. ⌜ r ≡ offTotal last held total ⌝ }
+{
+    if last { held != total } else { total <= held }
+}
+
+// A packet that follows in an open transaction is written behind what is held, and adds its flag to the wish.
+fn on_next(
+    place: usize,
+    slot: Slot,
+    head: Head,
+    ack: bool,
+    last: bool,
+    start: usize,
+    len: usize,
+) -> Step
+    requires { ⌜ len < 2 ^ 63 ⌝ }
+    ensures { λ r. ⌜ stepOf r ≡ nextStep place slot head ack last start len ⌝ }
+{
+    let awaited = header::sequence_after(slot.sequence, 1);
+    if head.sequence != awaited {
+        return drop_by(Refusal::Sequence);
+    }
+    let at = wide(slot.held);
+    let total = wide(slot.total);
+    if off_total(last, at + len, total) {
+        return drop_by(Refusal::Amount);
+    }
+    let wanted = either(slot.wants(), ack);
+    let payload = PayloadPlace { at, start, len };
+    if last {
+        return finish(place, head, wanted, total, false, payload);
+    }
+    hold(place, head, wanted, total, false, payload)
+}
+
+// A first packet: what it does where there is a slot for it.
+fn begin(
+    first: usize,
+    lane: [Slot; 4],
+    head: Head,
+    ack: bool,
+    total: usize,
+    start: usize,
+    len: usize,
+) -> Act
+    requires { ⌜ (first ≤ 8) × (len ≤ total) × (total < 65536) ⌝ }
+    ensures { λ r. ⌜ actBy r ≡ actOf first lane (First head ack total start len) ⌝ }
+{
+    let spot = place::find_first(lane, head.id);
+    match spot {
+        Spot::Nowhere => Act::Still(Answer::Refused(Refusal::NoSlot)),
+        Spot::At(place) => {
+            let slot = lane[place];
+            let step = on_first(first + place, slot, head, ack, total, start, len);
+            Act::Step { place, step }
+        }
+    }
+}
+
+// A packet that follows: what it does where its transaction is open.
+fn follow(
+    first: usize,
+    lane: [Slot; 4],
+    head: Head,
+    ack: bool,
+    last: bool,
+    start: usize,
+    len: usize,
+) -> Act
+    requires { ⌜ (first ≤ 8) × (len < 2 ^ 63) ⌝ }
+    ensures { λ r. ⌜ actBy r ≡ actOf first lane (Next head ack last start len) ⌝ }
+{
+    let spot = place::find_open(lane, head.id);
+    match spot {
+        Spot::Nowhere => Act::Still(Answer::Refused(Refusal::NoTransaction)),
+        Spot::At(place) => {
+            let slot = lane[place];
+            let step = on_next(first + place, slot, head, ack, last, start, len);
+            Act::Step { place, step }
+        }
+    }
+}
+
+// What a packet does to its stream's slots, the first of which has a place in the row.
+pub fn act_on(first: usize, lane: [Slot; 4], packet: Packet) -> Act
+    requires { ⌜ (first ≤ 8) × Small packet ⌝ }
+    ensures { λ r. ⌜ actBy r ≡ actOf first lane packet ⌝ }
+{
+    match packet {
+        Packet::First {
+            head,
+            ack,
+            total,
+            start,
+            len,
+        } => begin(first, lane, head, ack, total, start, len),
+        Packet::Next {
+            head,
+            ack,
+            last,
+            start,
+            len,
+        } => follow(first, lane, head, ack, last, start, len),
+        Packet::Ack(head) => Act::Still(Answer::Given(Accepted::Acked(head))),
+        Packet::Nack(head) => Act::Still(Answer::Given(Accepted::Nacked(head))),
+    }
+}

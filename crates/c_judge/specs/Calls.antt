@@ -1,0 +1,12 @@
+-- Captures for C: the calls.
+use Prim.Native.Nat.{ℕ}
+use mathlib.Core.List.{List, []}
+use Rattle.capture_reader.specs.Capture.{numberIn}
+use Rattle.capture_judge.specs.Capture.{judgedOf}
+use Rattle.c_rows.specs.Called.{Called, answers}
+use Rattle.c_judge.specs.Convert.{judgedRow}
+
+unfoldable pub captureJudgeOf : List ℕ → ℕ → ℕ → List ℕ → Called
+captureJudgeOf bytes room limit answer =
+    let a = judgedOf room limit bytes in
+    answers 2 answer [] (numberIn a) [] (judgedRow a)

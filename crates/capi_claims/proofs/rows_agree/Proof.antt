@@ -1,9 +1,0 @@
-use Rattle.capi_claims.proofs.RowsAgree.{rows-agree}
-use Rattle.capi_claims.proofs.rows_agree.Statement.{statement}
-use Rattle.capi_claims.proofs.rows_agree.Tie as tie
-
-returns : tie.Need-returns
-returns c = rows-agree
-
-pub rows-agree-spec : {M : Type 1} → statement M
-rows-agree-spec = tie.close (tie.spec returns)

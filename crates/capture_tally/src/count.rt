@@ -1,0 +1,187 @@
+// What one packet adds to a report, and what the open slots add at the end.
+use ble_packet::header;
+use ble_slot::Slot;
+use ble_slot::answer::Accepted;
+use ble_slot::answer::Answer;
+use ble_slot::lane_of;
+use capture_report::CostReport;
+use capture_report::Costs;
+use wire::bytes::bit64;
+use wire::bytes::byte_at;
+use wire::logic::both;
+use wire::logic::either;
+use wire::stream::Stream;
+ghost use mathlib.Core.Path.{_≡_};
+ghost use mathlib.Core.Bool.{cond, _&&_, _||_};
+ghost use lib.Dec.{eqb};
+ghost use lib.ListN.{length};
+ghost use Rattle.wire.specs.Told.{given};
+ghost use Rattle.wire.specs.Those.{those};
+ghost use Rattle.ble_packet.specs.Header as headers;
+ghost use Rattle.ble_packet.specs.Reader as reader;
+ghost use Rattle.ble_slot.specs.Slot.{opens};
+ghost use Rattle.ble_slot.specs.Answer.{told};
+ghost use Rattle.capture_report.specs.Costs.{heard};
+ghost use Rattle.capture_report.specs.Turns.{costsBy, reportWith, openCosts, openReport};
+ghost use Rattle.capture_tally.specs.Count.{marksOf};
+
+// What of an answer counts.
+struct Marks {
+    accepts: bool,
+    finishes: bool,
+    replaces: bool,
+    drops: bool,
+    payload: u64,
+}
+
+fn amount_if(b: bool, n: u64) -> u64
+    ensures { λ r. ⌜ r ≡ cond b n 0 ⌝ }
+{
+    if b { n } else { 0 }
+}
+
+// Whether a refusal drops a transaction.
+fn is_drop(number: u8) -> bool
+    ensures { λ r. ⌜ r ≡ (eqb number 10 || eqb number 11) ⌝ }
+{
+    either(number == 10, number == 11)
+}
+
+fn noted(accepts: bool, finishes: bool, replaces: bool, drops: bool, payload: u64) -> Marks
+    ensures { λ r. ⌜ r ≡ record { accepts = accepts; finishes = finishes; replaces = replaces; drops = drops; payload = payload } ⌝ }
+{
+    Marks {
+        accepts,
+        finishes,
+        replaces,
+        drops,
+        payload,
+    }
+}
+
+fn marks_accepted(accepted: Accepted) -> Marks
+    ensures { λ r. ⌜ r ≡ marksOf (given accepted) ⌝ }
+{
+    match accepted {
+        Accepted::Taken {
+            place: _,
+            stream: _,
+            id: _,
+            replaced,
+        } => noted(true, false, replaced, false, 0),
+        Accepted::Finished {
+            place: _,
+            stream: _,
+            id: _,
+            total,
+            ack: _,
+            replaced,
+        } => noted(true, true, replaced, false, total as u64),
+        Accepted::Acked(_) => noted(false, false, false, false, 0),
+        Accepted::Nacked(_) => noted(false, false, false, false, 0),
+    }
+}
+
+fn marks_of(answer: Answer) -> Marks
+    ensures { λ r. ⌜ r ≡ marksOf (told answer) ⌝ }
+{
+    match answer {
+        Answer::Refused(why) => {
+            let drops = is_drop(why.number());
+            noted(false, false, false, drops, 0)
+        }
+        Answer::Given(accepted) => marks_accepted(accepted),
+    }
+}
+
+fn is_first(packet: &[u8]) -> bool
+    ensures { λ r. ⌜ r ≡ reader.isFirst (reader.fieldsOf (now (packet .entry))) ⌝ }
+{
+    header::type_bits(byte_at(packet, 1)) == 0
+}
+
+fn is_of(packet: &[u8], number: u8) -> bool
+    ensures { λ r. ⌜ r ≡ headers.isOf number (now (packet .entry)) ⌝ }
+{
+    if packet.len() == 0 {
+        return false;
+    }
+    header::stream_bits(packet[0]) == number
+}
+
+fn costs_of(mine: bool, first: bool, marks: Marks, size: u64) -> Costs
+    ensures { λ r. ⌜ r
+        ≡ costsBy mine (marks .accepts && first) (marks .finishes) (marks .replaces) (marks .drops) (marks .payload) size ⌝ }
+{
+    let firsts = bit64(both(mine, both(marks.accepts, first)));
+    let finished = bit64(both(mine, marks.finishes));
+    let replaced = bit64(both(mine, marks.replaces));
+    let dropped = bit64(both(mine, marks.drops));
+    let payload = amount_if(both(mine, marks.finishes), marks.payload);
+    let bytes = amount_if(mine, size);
+    Costs {
+        firsts,
+        finished,
+        replaced,
+        dropped,
+        pending: 0,
+        payload,
+        bytes,
+    }
+}
+
+// What a packet and what was told of it add.
+pub fn report_with(packet: &[u8], answer: Answer) -> CostReport
+    ensures { λ r. ⌜ r ≡ reportWith (heard (now (packet .entry)) (told answer)) ⌝ }
+{
+    let marks = marks_of(answer);
+    let first = is_first(packet);
+    let size = packet.len() as u64;
+    let control = costs_of(is_of(packet, 0), first, marks, size);
+    let ota = costs_of(is_of(packet, 2), first, marks, size);
+    let alexa = costs_of(is_of(packet, 6), first, marks, size);
+    CostReport {
+        control,
+        ota,
+        alexa,
+    }
+}
+
+// How many of a stream's slots are open.
+fn open_among(lane: [Slot; 4]) -> u64
+    ensures { λ r. ⌜ r ≡ length (those opens lane) ⌝ }
+{
+    let a = bit64(lane[0].opens());
+    let b = bit64(lane[1].opens());
+    let c = bit64(lane[2].opens());
+    let d = bit64(lane[3].opens());
+    a + (b + (c + d))
+}
+
+fn open_costs(pending: u64) -> Costs
+    ensures { λ r. ⌜ r ≡ openCosts pending ⌝ }
+{
+    Costs {
+        firsts: 0,
+        finished: 0,
+        replaced: 0,
+        dropped: 0,
+        pending,
+        payload: 0,
+        bytes: 0,
+    }
+}
+
+// What the open slots of a row add.
+pub fn open_report(slots: [Slot; 12]) -> CostReport
+    ensures { λ r. ⌜ r ≡ openReport slots ⌝ }
+{
+    let control = open_costs(open_among(lane_of(slots, Stream::Control)));
+    let ota = open_costs(open_among(lane_of(slots, Stream::Ota)));
+    let alexa = open_costs(open_among(lane_of(slots, Stream::Alexa)));
+    CostReport {
+        control,
+        ota,
+        alexa,
+    }
+}

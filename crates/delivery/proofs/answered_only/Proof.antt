@@ -1,9 +1,0 @@
-use Rattle.delivery.proofs.Answering.{answered-only}
-use Rattle.delivery.proofs.answered_only.Statement.{statement}
-use Rattle.delivery.proofs.answered_only.Tie as tie
-
-returns : tie.Need-returns
-returns c = answered-only
-
-pub answered-only-spec : {M : Type 1} → statement M
-answered-only-spec = tie.close (tie.spec returns)

@@ -1,9 +1,0 @@
-use Rattle.delivery.proofs.Instance.{arrives}
-use Rattle.delivery.proofs.instance_arrives.Statement.{statement}
-use Rattle.delivery.proofs.instance_arrives.Tie as tie
-
-returns : tie.Need-returns
-returns c = arrives
-
-pub instance-arrives-spec : {M : Type 1} → statement M
-instance-arrives-spec = tie.close (tie.spec returns)

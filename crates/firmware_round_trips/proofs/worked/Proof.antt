@@ -1,9 +1,0 @@
-use Rattle.firmware_round_trips.proofs.ByHand.{worked-firmware}
-use Rattle.firmware_round_trips.proofs.worked.Statement.{statement}
-use Rattle.firmware_round_trips.proofs.worked.Tie as tie
-
-returns : tie.Need-returns
-returns c = worked-firmware
-
-pub worked-spec : {M : Type 1} → statement M
-worked-spec = tie.close (tie.spec returns)

@@ -1,9 +1,0 @@
-use Rattle.parts_claims.proofs.Joined.{parts-join}
-use Rattle.parts_claims.proofs.parts_join.Statement.{statement}
-use Rattle.parts_claims.proofs.parts_join.Tie as tie
-
-returns : tie.Need-returns
-returns c = parts-join
-
-pub parts-join-spec : {M : Type 1} → statement M
-parts-join-spec = tie.close (tie.spec returns)

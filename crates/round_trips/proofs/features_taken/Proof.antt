@@ -1,9 +1,0 @@
-use Rattle.round_trips.proofs.Premises.{features-taken}
-use Rattle.round_trips.proofs.features_taken.Statement.{statement}
-use Rattle.round_trips.proofs.features_taken.Tie as tie
-
-returns : tie.Need-returns
-returns c = features-taken
-
-pub features-taken-spec : {M : Type 1} → statement M
-features-taken-spec = tie.close (tie.spec returns)

@@ -1,9 +1,0 @@
-use Rattle.round_trips.proofs.RoundTrip.{information-round-trip}
-use Rattle.round_trips.proofs.information.Statement.{statement}
-use Rattle.round_trips.proofs.information.Tie as tie
-
-returns : tie.Need-returns
-returns c = information-round-trip
-
-pub information-spec : {M : Type 1} → statement M
-information-spec = tie.close (tie.spec returns)

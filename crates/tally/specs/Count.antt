@@ -1,8 +1,0 @@
--- What of a packet and its answer counts.
-use Rattle.wire.specs.Told.{Told}
-use Rattle.slot.specs.declared.answer.Accepted.{Accepted}
-use Rattle.report.specs.Costs.{accepts, finishes, replaces, drops, payloadIn}
-use Rattle.tally.specs.declared.count.Marks.{Marks}
-
-abbrev pub marksOf : Told Accepted → Marks
-marksOf t = record { accepts = accepts t; finishes = finishes t; replaces = replaces t; drops = drops t; payload = payloadIn t }

@@ -1,0 +1,11 @@
+use mathlib.Core.Path.{refl}
+use Rattle.utf8.specs.Table.{rows}
+use Rattle.utf8.proofs.table.all_rows.Statement.{statement}
+use Rattle.utf8.proofs.table.all_rows.Tie as tie
+
+returns : tie.Need-returns
+unfolding rows
+returns c = refl
+
+pub all-rows-spec : {M : Type 1} → statement M
+all-rows-spec = tie.close (tie.spec returns)
