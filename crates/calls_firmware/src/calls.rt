@@ -1,4 +1,5 @@
 // Firmware messages for C, read and written, and the reader of any field.
+use field::fields::found_at;
 use field::unsigned::low_unsigned;
 use field_writer::message::WriteRefusal;
 use firmware::apply::read_apply;
@@ -12,7 +13,7 @@ use rows_firmware::apply::apply_at;
 use rows_firmware::apply::bad_row;
 use rows_firmware::apply::put_apply;
 use rows_firmware::field_row::FIELD_ANSWER;
-use rows_firmware::field_row::told_field;
+use rows_firmware::field_row::found_row;
 use rows_firmware::segment::SEGMENT_ANSWER;
 use rows_firmware::segment::is_wide;
 use rows_firmware::segment::segment_number;
@@ -123,7 +124,7 @@ pub fn field_read(message: &[u8], place: u64, answer: &mut [u64]) -> u64
     if answer.len() != FIELD_ANSWER {
         return UNFIT;
     }
-    let told = told_field(message, place as usize);
+    let told = found_row(found_at(message, place as usize));
     let number = told.number;
     let row = told.row;
     put(answer, number, &row);

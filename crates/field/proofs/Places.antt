@@ -30,7 +30,7 @@ abbrev pub Held : List ℕ → ℕ → Value × ℕ → Type 0
 Held s at q = (at ≤ q .1) × Within s (valueParts (q .0))
 
 skipped-held : (s : List ℕ) (at n : ℕ) → Sat (Held s at) (skippedAt s at n)
-skipped-held s at n = sat-cond (Held s at) (ltb (length s) (at + n)) (refused 30) (given (Skipped, at + n)) (λ _. tt) (λ _. (omega arith, tt))
+skipped-held s at n = sat-cond (Held s at) (ltb (length s) (at + n)) (refused 30) (given (Skipped (record { start = at; len = n }), at + n)) (λ _. tt) (λ _. (omega arith, tt))
 
 part-held : (s : List ℕ) (at : ℕ) (p : ℕ × ℕ) → Ends at (length s) p → Sat (Held s at) (partOf s p)
 part-held s at p e =

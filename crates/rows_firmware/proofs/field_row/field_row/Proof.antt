@@ -8,11 +8,11 @@ enum-known-value c = search needs
 enum-known-value-2 : tie.Need-enum-known-value-2
 enum-known-value-2 c = search needs
 
-enum-told : tie.Need-enum-told
-enum-told c = search needs
+enum-known-value-3 : tie.Need-enum-known-value-3
+enum-known-value-3 c = search needs
 
-fixed-size-requires : tie.Need-fixed-size-requires
-fixed-size-requires c κs = search needs
+fixed-kind-requires : tie.Need-fixed-kind-requires
+fixed-kind-requires c κs = search needs
 
 returns : tie.Need-returns
 returns c = rw (c .before .value .given .1)
@@ -21,7 +21,7 @@ returns-2 : tie.Need-returns-2
 returns-2 c = rw (c .before .value2 .given .1)
 
 returns-3 : tie.Need-returns-3
-returns-3 c = rw (c .before .enum-told .given .1, c .fixed-size .ensures)
+returns-3 c = rw (c .before .before .value3 .given .1, c .fixed-kind .ensures)
 
 pub field-row-spec : {M : Type 1} → statement M
 field-row-spec =
@@ -29,8 +29,8 @@ field-row-spec =
     (tie.spec
     enum-known-value
     enum-known-value-2
-    enum-told
-    fixed-size-requires
+    enum-known-value-3
+    fixed-kind-requires
     returns
     returns-2
     returns-3)
