@@ -5,9 +5,6 @@ use Rattle.extractor.proofs.state.Progress.perform.Tie as tie
 enum-told : tie.Need-enum-told
 enum-told c = search needs
 
-skip-requires : tie.Need-skip-requires
-skip-requires c κs = search needs
-
 enum-told-2 : tie.Need-enum-told-2
 enum-told-2 c = search needs
 
@@ -26,14 +23,8 @@ refuse-requires c κs = search needs
 enum-known-action : tie.Need-enum-known-action
 enum-known-action c = search needs
 
-go-on-requires : tie.Need-go-on-requires
-go-on-requires c κs = search needs
-
 enum-told-4 : tie.Need-enum-told-4
 enum-told-4 c = search needs
-
-go-on-requires-2 : tie.Need-go-on-requires-2
-go-on-requires-2 c κs = search needs
 
 enum-known-action-2 : tie.Need-enum-known-action-2
 enum-known-action-2 c = search needs
@@ -60,7 +51,7 @@ refuse-requires-2 : tie.Need-refuse-requires-2
 refuse-requires-2 c κs = search needs
 
 returns : tie.Need-returns
-returns c = λ limit e. rw (c .before .enum-told .given .1, c .skip .ensures)
+returns c = λ limit e. rw (c .enum-told .given .1)
 
 returns-2 : tie.Need-returns-2
 returns-2 c = λ limit e. rw (c .before .enum-told2 .given .1, c .begun .ensures)
@@ -69,10 +60,10 @@ returns-3 : tie.Need-returns-3
 returns-3 c = λ limit e. rw (c .before .before .enum-told3 .given .1, c .refuse .ensures, c .before .begun2 .ensures)
 
 returns-4 : tie.Need-returns-4
-returns-4 c = λ limit e. rw (c .before .before .action .given .1, c .go-on .ensures)
+returns-4 c = λ limit e. rw (c .before .action .given .1)
 
 returns-5 : tie.Need-returns-5
-returns-5 c = λ limit e. rw (c .before .enum-told4 .given .1, c .go-on2 .ensures)
+returns-5 c = λ limit e. rw (c .enum-told4 .given .1)
 
 same-length : tie.Need-same-length
 same-length c = search needs
@@ -96,16 +87,13 @@ perform-spec =
     tie.close
     (tie.spec
     enum-told
-    skip-requires
     enum-told-2
     begun-requires
     enum-told-3
     begun-requires-2
     refuse-requires
     enum-known-action
-    go-on-requires
     enum-told-4
-    go-on-requires-2
     enum-known-action-2
     store-requires
     enum-told-5
