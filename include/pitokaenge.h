@@ -81,11 +81,11 @@ typedef char pito_rows_are_aligned_to_8_bytes[offsetof(struct pito_aligned, numb
 /*
  * The archive's own version, which is PITO_VERSION. The number is in the name, and every file that includes this header
  * refers to the function, so that a program does not link with an archive of another version. (Where the compiler is not
- * GCC or Clang, or older than 11 and 13 with --gc-sections, a call of it does the same.)
+ * GCC or Clang, or with --gc-sections on a chip or by a compiler older than 11 and 13, a call of it does the same.)
  */
 uint64_t pito_version_6(void);
 #if defined(__GNUC__) && defined(__has_attribute)
-#if __has_attribute(retain)
+#if __has_attribute(retain) && defined(__linux__)
 static uint64_t (*const pito_archive_version)(void) __attribute__((used, retain)) = pito_version_6;
 #else
 static uint64_t (*const pito_archive_version)(void) __attribute__((used)) = pito_version_6;
