@@ -3,7 +3,6 @@ pub mod count;
 pub mod sums;
 
 use crate::count::open_report;
-use crate::count::report_with;
 use crate::sums::Sum;
 use ble_link::load;
 use ble_link::save;
@@ -120,9 +119,8 @@ fn take(limit: usize, tally: Tally, buffer: &mut [u8], packet: &[u8]) -> Tally
     let slots = tally.slots;
     let done = give(limit, slots, buffer, packet);
     let answer = done.answer;
-    let more = report_with(packet, answer);
     let so_far = tally.sum;
-    let sum = so_far.with(more);
+    let sum = so_far.with_packet(packet, answer);
     let row = with_slot(slots, done.place, done.slot);
     Tally { slots: row, sum }
 }

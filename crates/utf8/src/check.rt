@@ -80,11 +80,11 @@ fn place_from(string: &[u8], from: usize) -> usize
 fn short_place(string: &[u8]) -> usize
     ensures { λ r. ⌜ r ≡ badPlace (now (string .entry)) ⌝ }
 {
-    let run = clear_run(string, FIRST_ABOVE, LAST_ABOVE);
+    let run = clear_run(&string[..], FIRST_ABOVE, LAST_ABOVE);
     if string.len() <= run {
         return run;
     }
-    place_from(string, run)
+    place_from(&string[..], run)
 }
 
 // Whether any of these bytes lies above ASCII. Joined, they have the high bit if one of them has it, so that one test is enough.
@@ -107,19 +107,19 @@ pub fn bad_place(string: &[u8]) -> usize
     ensures { λ r. ⌜ r ≡ badPlace (now (string .entry)) ⌝ }
 {
     if string.len() < BLOCK {
-        return short_place(string);
+        return short_place(&string[..]);
     }
     let mut at = 0;
     while BLOCK <= string.len() - at {
         let end = at + BLOCK;
         if any_above(&string[at..end]) {
-            return place_from(string, at);
+            return place_from(&string[..], at);
         }
         at = end;
     }
     let last = string.len() - BLOCK;
     if any_above(&string[last..]) {
-        return place_from(string, at);
+        return place_from(&string[..], at);
     }
     string.len()
 }
