@@ -2,6 +2,7 @@
 use crate::table::Row;
 use crate::table::is_within;
 use crate::table::row_of;
+use crate::usual::usual_len;
 use wire::bytes::byte_at;
 use wire::scan::clear_run;
 ghost use mathlib.Core.Path.{_≡_};
@@ -39,12 +40,20 @@ fn begins_with(bytes: &[u8], row: Row) -> bool
     true
 }
 
-// How many bytes the sequence has that they begin with; 0 where no row describes one.
-fn sequence_len(bytes: &[u8]) -> usize
+// How many bytes the sequence has that they begin with, by a search through the table; 0 where no row describes one.
+fn searched_len(bytes: &[u8]) -> usize
     ensures { λ r. ⌜ r ≡ sequenceAt (now (bytes .entry)) ⌝ }
 {
     let row = row_of(byte_at(bytes, 0));
     if begins_with(bytes, row) { row.0 } else { 0 }
+}
+
+// How many bytes the sequence has that they begin with; 0 where no row describes one.
+fn sequence_len(bytes: &[u8]) -> usize
+    ensures { λ r. ⌜ r ≡ sequenceAt (now (bytes .entry)) ⌝ }
+{
+    let n = usual_len(bytes);
+    if n == 0 { searched_len(bytes) } else { n }
 }
 
 // How many bytes of whole sequences stand at a place: a run of ASCII, or one sequence. 0 where no row describes one.
