@@ -169,7 +169,7 @@ fn accept_read(
 }
 
 // A packet under a lawful row and a buffer of the right size, with what an ACK needs.
-fn process(
+pub fn process(
     limit: usize,
     slots: [Slot; 12],
     buffer: &mut [u8],

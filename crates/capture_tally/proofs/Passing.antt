@@ -4,19 +4,22 @@ use native.Mathlib.Omega.{arith}
 use mathlib.Core.Path.{_≡_, refl, sym, ap, _∙_}
 use mathlib.Core.List.{List}
 use mathlib.Core.Bool.{Bool, true, false}
-use lib.ListN.{length, getD, set, take, drop, length-drop}
+use lib.ListN.{length, getD, set, take, drop, replicate, length-drop}
 use lib.Seq.{getD-drop}
 use Rattle.wire.specs.Told.{Told, given, refused}
 use Rattle.wire.specs.Bytes.{pairOf}
 use Rattle.capture_reader.specs.Capture.{ToldAt, width, lengthIn, frontOf, otherVersion, packetsOf, checkedOf}
 use Rattle.capture_reader.proofs.Walking.{PacketWalk, check-refused, walk-begins, walk-ends, walk-front, walk-goes, front-within}
 use Rattle.ble_slot.specs.declared.Slot.{Slot}
-use Rattle.ble_slot.specs.Slot.{slotCount}
+use Rattle.ble_slot.specs.Slot.{slotCount, lawful}
+use Rattle.ble_packet.specs.Control.{ackSize}
+use Rattle.ble_packet.specs.Reader.{readOf}
 use Rattle.ble_slot.specs.declared.answer.Accepted.{Accepted}
 use Rattle.ble_slot.specs.Answer.{told}
 use Rattle.ble_receiver.specs.declared.Outcome as code
-use Rattle.ble_receiver.specs.Receiver.{Result, result, PacketLeft, acceptOf}
-use Rattle.ble_receiver.specs.Outcome.{effect, outcomeOf, decided, leftBy}
+use Rattle.ble_receiver.specs.Receiver.{Result, result, PacketLeft, ready, readIn, acceptOf}
+use Rattle.ble_receiver.specs.Outcome.{effect, outcomeOf, answers, changedBy, decided, leftBy}
+use Rattle.ble_receiver.proofs.Accepting.{SlotsFit, ready-next}
 use Rattle.ble_receiver.proofs.Outcomes.{twelve, decided-left}
 use Rattle.capture_report.specs.declared.CostReport.{CostReport}
 use Rattle.capture_report.specs.Costs.{heard}
@@ -34,6 +37,12 @@ module _ (limit : ℕ) (slots : List Slot) (bytes p : List ℕ) (e : length slot
       ∙ ap (λ (l : List Slot). leftBy slots (decided (length slots) limit l bytes (callFor p))) (sym (twelve slots e))
       ∙ decided-left limit slots bytes (callFor p)
 
+  -- a row that is ready is not judged again
+  pub unjudged : ready limit slots (length bytes) ≡ true
+      → answers 0 (replicate ackSize 0) (changedBy limit slots bytes p (readOf limit p)) ≡ decided slotCount limit slots bytes (callFor p)
+  unfolding decided readIn
+  unjudged r = rw r
+
   -- what the rules decide is what the link does
   pub given-is : (d : code.Outcome) (after out : List ℕ) → effect (outcomeOf d after) out ≡ decided slotCount limit slots bytes (callFor p)
       → result (told (d .answer)) (set slots (d .place) (d .slot)) after ≡ gaveOf limit slots bytes p
@@ -46,6 +55,18 @@ pub counted-is : (t : ToldAt CostReport) (limit : ℕ) (slots : List Slot) (byte
 unfolding turnOf
 counted-is t limit slots bytes p answer row after e = ap (λ (r : Result). captureAdded (onTop t (reportWith (heard p (r .told)))) (r .slots) (r .bytes)) e
 
+-- the row and the buffer that a packet leaves are ready for the next
+stay-fit : (t : ToldAt CostReport) (limit : ℕ) (slots : List Slot) (bytes p : List ℕ) (next : Tally) (left : List ℕ) → tallied next left ≡ turnOf t limit slots bytes p
+    → SlotsFit limit slots bytes → SlotsFit limit (next .slots) left
+unfolding turnOf gaveOf
+stay-fit t limit slots bytes p next left e r =
+    let n = ready-next limit slots bytes (callFor p) r in
+    record {
+      range = r .range;
+      law = ap (λ (a : CaptureAdded). lawful limit (a .slots)) e ∙ n .law;
+      size = ap (λ (a : CaptureAdded). length (a .bytes)) e ∙ n .size;
+    }
+
 -- ---- all of them
 
 module _ (limit : ℕ) (start : Tally) (lent capture : List ℕ) where
@@ -53,6 +74,7 @@ module _ (limit : ℕ) (start : Tally) (lent capture : List ℕ) where
   pub record Passing (at : ℕ) (t : Tally) (bytes : List ℕ) : Type 0 where
     pub walk : PacketWalk capture (passedOf (toldSum (start .sum)) limit (start .slots) lent capture) at (λ ps. given (addedFrom (toldSum (t .sum)) limit (t .slots) bytes ps))
     pub size : length bytes ≡ length lent
+    pub fits : SlotsFit limit (t .slots) bytes
 
   had-by : (t : ToldAt (List (List ℕ))) → packetsOf capture ≡ t → checkedOf capture ≡ given tt
       → (x : CaptureAdded) × (passedOf (toldSum (start .sum)) limit (start .slots) lent capture ≡ given x)
@@ -68,12 +90,13 @@ module _ (limit : ℕ) (start : Tally) (lent capture : List ℕ) where
   version-by false e h = e
 
   module _ (h : checkedOf capture ≡ given tt) where
-    pub passing-begins : Passing 1 start lent
+    pub passing-begins : SlotsFit limit (start .slots) lent → Passing 1 start lent
     unfolding passedOf
-    passing-begins =
+    passing-begins r =
         record {
           walk = walk-begins capture (λ ps. given (addedFrom (toldSum (start .sum)) limit (start .slots) lent ps)) (version-by (otherVersion capture) refl h);
           size = refl;
+          fits = r;
         }
 
     module _ {at : ℕ} {t : Tally} {bytes : List ℕ} (j : Passing at t bytes) where
@@ -105,4 +128,5 @@ module _ (limit : ℕ) (start : Tally) (lent capture : List ℕ) where
                   walk-goes capture (j .walk) l n p (λ ps. given (addedFrom (toldSum (next .sum)) limit (next .slots) left ps)) (front ∙ ap given (sym ne)) pe
                   (λ ps. ap given (sym (ap (λ (a : CaptureAdded). addedFrom (a .told) limit (a .slots) (a .bytes) ps) te)));
               size = le ∙ j .size;
+              fits = stay-fit (toldSum (t .sum)) limit (t .slots) bytes p next left te (j .fits);
             }

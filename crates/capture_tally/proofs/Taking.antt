@@ -8,12 +8,15 @@ use lib.Dec.{eqb}
 use lib.ListN.{length}
 use borrow.Author.Tests.{eqb-true}
 use Rattle.wire.specs.Limit.{limitFits}
+use Rattle.wire.proofs.Tests.{and-right}
 use Rattle.wire.specs.Told.{given, refused}
 use Rattle.capture_reader.specs.Capture.{ToldAt, packetsOf, checkedOf}
 use Rattle.ble_slot.specs.declared.Slot.{Slot}
 use Rattle.ble_slot.specs.Slot.{slotCount, idles}
 use Rattle.capture_report.specs.declared.CostReport.{CostReport}
+use Rattle.ble_receiver.specs.Receiver.{ready}
 use Rattle.ble_receiver.specs.Outcome.{firstTwelve}
+use Rattle.capture_report.proofs.Runs.{idles-lawful}
 use Rattle.ble_link.specs.Row.{savedRow}
 use Rattle.ble_link.proofs.Rows.{saved-loaded, saved-twelve}
 use Rattle.capture_report.specs.Report.{CaptureAdded, captureAdded, takenOf, addedBy, addedOf}
@@ -34,6 +37,11 @@ module _ (limit count size : ℕ) (capture : List ℕ) where
     pub taken-is : (eqb count slotCount && eqb size (slotCount * limit)) ≡ true → takenOf limit count size capture ≡ packetsOf capture
     unfolding takenOf
     taken-is l = rw (f, l)
+
+-- a fresh link over what was lent
+pub fresh-ready : (limit count size : ℕ) → limitFits limit ≡ true → (eqb count slotCount && eqb size (slotCount * limit)) ≡ true → ready limit idles size ≡ true
+unfolding ready
+fresh-ready limit count size f l = rw (f, and-right (eqb count slotCount) _ l, idles-lawful limit)
 
 unsound-by : (capture : List ℕ) (t : ToldAt (List (List ℕ))) (why : ℕ × ℕ) → packetsOf capture ≡ t → checkedOf capture ≡ refused why → packetsOf capture ≡ refused why
 unfolding checkedOf

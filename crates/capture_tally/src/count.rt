@@ -12,7 +12,7 @@ use wire::logic::both;
 use wire::logic::either;
 use wire::stream::Stream;
 ghost use mathlib.Core.Path.{_≡_};
-ghost use mathlib.Core.Bool.{cond, _&&_, _||_};
+ghost use mathlib.Core.Bool.{true, cond, _&&_, _||_};
 ghost use lib.Dec.{eqb};
 ghost use lib.ListN.{length};
 ghost use Rattle.wire.specs.Told.{given};
@@ -21,9 +21,12 @@ ghost use Rattle.ble_packet.specs.Header as headers;
 ghost use Rattle.ble_packet.specs.Reader as reader;
 ghost use Rattle.ble_slot.specs.Slot.{opens};
 ghost use Rattle.ble_slot.specs.Answer.{told};
-ghost use Rattle.capture_report.specs.Costs.{heard};
-ghost use Rattle.capture_report.specs.Turns.{costsBy, reportWith, openCosts, openReport};
+ghost use Rattle.capture_report.specs.Costs.{heard, begins, finishes, replaces, drops, payloadIn};
+ghost use Rattle.capture_report.specs.Turns.{costsBy, openCosts, openReport};
 ghost use Rattle.capture_tally.specs.Count.{marksOf};
+
+// No stream's number.
+const NO_STREAM: u8 = 255;
 
 // What of an answer counts.
 struct Marks {
@@ -100,25 +103,27 @@ fn is_first(packet: &[u8]) -> bool
     header::type_bits(byte_at(packet, 1)) == 0
 }
 
-fn is_of(packet: &[u8], number: u8) -> bool
-    ensures { λ r. ⌜ r ≡ headers.isOf number (now (packet .entry)) ⌝ }
+// The stream field of a packet; one without bytes is of no stream.
+pub fn stream_field(packet: &[u8]) -> u8
+    ensures { λ r. ⌜ (headers.isOf 0 (now (packet .entry)) ≡ eqb r 0)
+        × (headers.isOf 2 (now (packet .entry)) ≡ eqb r 2)
+        × (headers.isOf 6 (now (packet .entry)) ≡ eqb r 6) ⌝ }
 {
     if packet.len() == 0 {
-        return false;
+        return NO_STREAM;
     }
-    header::stream_bits(packet[0]) == number
+    header::stream_bits(packet[0])
 }
 
-fn costs_of(mine: bool, first: bool, marks: Marks, size: u64) -> Costs
+fn costs_of(first: bool, marks: Marks, size: u64) -> Costs
     ensures { λ r. ⌜ r
-        ≡ costsBy mine (marks .accepts && first) (marks .finishes) (marks .replaces) (marks .drops) (marks .payload) size ⌝ }
+        ≡ costsBy true (marks .accepts && first) (marks .finishes) (marks .replaces) (marks .drops) (marks .payload) size ⌝ }
 {
-    let firsts = bit64(both(mine, both(marks.accepts, first)));
-    let finished = bit64(both(mine, marks.finishes));
-    let replaced = bit64(both(mine, marks.replaces));
-    let dropped = bit64(both(mine, marks.drops));
-    let payload = amount_if(both(mine, marks.finishes), marks.payload);
-    let bytes = amount_if(mine, size);
+    let firsts = bit64(both(marks.accepts, first));
+    let finished = bit64(marks.finishes);
+    let replaced = bit64(marks.replaces);
+    let dropped = bit64(marks.drops);
+    let payload = amount_if(marks.finishes, marks.payload);
     Costs {
         firsts,
         finished,
@@ -126,25 +131,18 @@ fn costs_of(mine: bool, first: bool, marks: Marks, size: u64) -> Costs
         dropped,
         pending: 0,
         payload,
-        bytes,
+        bytes: size,
     }
 }
 
-// What a packet and what was told of it add.
-pub fn report_with(packet: &[u8], answer: Answer) -> CostReport
-    ensures { λ r. ⌜ r ≡ reportWith (heard (now (packet .entry)) (told answer)) ⌝ }
+// What a packet and what was told of it add to its own stream.
+pub fn costs_with(packet: &[u8], answer: Answer) -> Costs
+    ensures { λ r. ⌜ r ≡ costsBy true (begins (heard (now (packet .entry)) (told answer))) (finishes (told answer))
+        (replaces (told answer)) (drops (told answer)) (payloadIn (told answer)) (length (now (packet .entry))) ⌝ }
 {
     let marks = marks_of(answer);
     let first = is_first(packet);
-    let size = packet.len() as u64;
-    let control = costs_of(is_of(packet, 0), first, marks, size);
-    let ota = costs_of(is_of(packet, 2), first, marks, size);
-    let alexa = costs_of(is_of(packet, 6), first, marks, size);
-    CostReport {
-        control,
-        ota,
-        alexa,
-    }
+    costs_of(first, marks, packet.len() as u64)
 }
 
 // How many of a stream's slots are open.

@@ -3,14 +3,13 @@ pub mod count;
 pub mod sums;
 
 use crate::count::open_report;
-use crate::count::report_with;
 use crate::sums::Sum;
 use ble_link::load;
 use ble_link::save;
 use ble_packet::control::ACK_SIZE;
 use ble_receiver::Outcome;
 use ble_receiver::SLOT_COUNT;
-use ble_receiver::decide;
+use ble_receiver::process;
 use ble_slot::Slot;
 use capture_reader::Soundness;
 use capture_reader::WIDTH;
@@ -29,7 +28,7 @@ ghost use Rattle.wire.specs.Limit.{limitFits};
 ghost use Rattle.capture_reader.specs.Capture.{numberIn, checkedOf};
 ghost use Rattle.ble_slot.specs.Slot.{idles, slotCount};
 ghost use Rattle.ble_slot.specs.Answer as answer;
-ghost use Rattle.ble_receiver.specs.Receiver.{result};
+ghost use Rattle.ble_receiver.specs.Receiver.{ready, result};
 ghost use Rattle.capture_report.specs.Report.{captureAdded, takenOf, addedBy, addedOf};
 ghost use Rattle.capture_tally.specs.Tally.{toldSum, tallied, gaveOf, turnOf, passedOf, numberOf, told};
 ghost use Rattle.capture_tally.specs.declared.Answer.the-variants.{Refused};
@@ -103,33 +102,34 @@ fn with_slot(slots: [Slot; 12], place: usize, slot: Slot) -> [Slot; 12]
     row
 }
 
-// A packet given to the link. The answer sequence and the answer buffer are the call's own.
+// A packet given to the link, whose row and buffer are its own work: nothing of them is judged again. The answer sequence and the answer buffer are the call's own.
 fn give(limit: usize, slots: [Slot; 12], buffer: &mut [u8], packet: &[u8]) -> Outcome
+    requires { ⌜ ready limit slots (length (now buffer)) ≡ true ⌝ }
     ensures { λ r. ⌜ result (answer.told (r .answer)) (set slots (r .place) (r .slot)) (now (buffer .exit))
         ≡ gaveOf limit slots (now (buffer .entry)) (now (packet .entry)) ⌝ }
 {
     let mut out = [0u8; ACK_SIZE];
-    decide(SLOT_COUNT, slots, limit, buffer, packet, 0, &mut out)
+    process(limit, slots, buffer, packet, 0, &mut out)
 }
 
 // A packet given to the link and counted.
 fn take(limit: usize, tally: Tally, buffer: &mut [u8], packet: &[u8]) -> Tally
+    requires { ⌜ ready limit (tally .slots) (length (now buffer)) ≡ true ⌝ }
     ensures { λ r. ⌜ tallied r (now (buffer .exit))
         ≡ turnOf (toldSum (tally .sum)) limit (tally .slots) (now (buffer .entry)) (now (packet .entry)) ⌝ }
 {
     let slots = tally.slots;
     let done = give(limit, slots, buffer, packet);
     let answer = done.answer;
-    let more = report_with(packet, answer);
     let so_far = tally.sum;
-    let sum = so_far.with(more);
+    let sum = so_far.with_packet(packet, answer);
     let row = with_slot(slots, done.place, done.slot);
     Tally { slots: row, sum }
 }
 
 // Every packet of a sound capture given to a fresh link, and what is open at the end.
 fn pass(report: CostReport, limit: usize, buffer: &mut [u8], capture: &[u8]) -> Tally
-    requires { ⌜ checkedOf (now capture) ≡ given tt ⌝ }
+    requires { ⌜ (checkedOf (now capture) ≡ given tt) × (ready limit idles (length (now buffer)) ≡ true) ⌝ }
     ensures { λ r. ⌜ given (tallied r (now (buffer .exit)))
         ≡ passedOf (given report) limit idles (now (buffer .entry)) (now (capture .entry)) ⌝ }
 {

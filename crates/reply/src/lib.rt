@@ -376,7 +376,7 @@ pub fn write_reply(
         (boxOf (now («serial_number» .entry)) (now (name .entry)) (now (transports .entry)) (now («device_type» .entry)) features
         members) link (now (message .entry)) (now (out .entry)) ⌝ }
 {
-    match read_envelope(message) {
+    match read_envelope(&message[..]) {
         EnvelopeRead::Refused(e) => Reply::Refused(Refusal::Message(e)),
         EnvelopeRead::Read(envelope) => {
             let payload = envelope.payload;

@@ -1,7 +1,7 @@
 -- Laws of the table: what a row describes, and that a byte begins sequences of one row only.
 use Prim.Native.Nat.{ℕ, zero, suc, _+_, _-_, _≤_, _<_, zero-le}
 use mathlib.Core.Path.{_≡_, refl, sym, ap, _∙_}
-use mathlib.Core.Bool.{Bool, true, false, cond, _&&_, _||_, false≢true}
+use mathlib.Core.Bool.{Bool, true, false, cond, _&&_, _||_, false≢true, and-false}
 use mathlib.Core.List.{List, [], _∷_, _++_}
 use native.Mathlib.Numerals.{add-one}
 use native.Mathlib.Omega.{arith}
@@ -253,3 +253,74 @@ sequence-by s row t e b =
     let r = rowOf (getD s 0 0) in
     let same : begins (take (row .0) (row .1)) s ≡ begins r s = ap (λ (x : Row). begins (take (x .0) (x .1)) s) e ∙ ap (λ (l : List Range). begins l s) (take-append-seam r (replicate (4 - length r) noRange)) in
     rw (b ∙ same) (ap (λ (x : Row). cond (begins r s) (x .0) 0) e)
+
+-- ---- a sequence of a row that is known by its place in the table
+
+over : (r : Range) (b : ℕ) → r .1 < b → within r b ≡ false
+unfolding within
+over r b h = rw (lt-leb b (r .1) h) (and-false (leb (r .0) b))
+
+from : (r : Range) (b : ℕ) → within r b ≡ true → r .0 ≤ b
+unfolding within
+from r b e = leb-true (r .0) b (and-left (leb (r .0) b) (leb b (r .1)) e)
+
+-- a byte that leads a later row lies above those before it
+lead-least : (n : ℕ) (rs : List (List Range)) (i b : ℕ) → rising n rs ≡ true → i < length rs → within (first (getD rs i [])) b ≡ true → n ≤ b
+lead-least n [] i b e h w = absurd (let z : i < 0 = h in omega arith)
+lead-least n (r ∷ rs) zero b e h w = omega (arith, rise-first n r rs e, from (first r) b w)
+lead-least n (r ∷ rs) (suc i) b e h w =
+    omega (arith, rise-first n r rs e, rise-last n r rs e, lead-least (suc (first r .1)) rs i b (rise-rest n r rs e) (omega arith) w)
+
+lead-is : (n : ℕ) (rs : List (List Range)) (i b : ℕ) → rising n rs ≡ true → i < length rs → within (first (getD rs i [])) b ≡ true → leadRow rs b ≡ getD rs i []
+lead-is n [] i b e h w = absurd (let z : i < 0 = h in omega arith)
+lead-is n (r ∷ rs) zero b e h w = rw w
+lead-is n (r ∷ rs) (suc i) b e h w =
+    let l = lead-least (suc (first r .1)) rs i b (rise-rest n r rs e) (omega arith) w in
+    rw (over (first r) b (omega arith)) (lead-is (suc (first r .1)) rs i b (rise-rest n r rs e) (omega arith) w)
+
+four-first : (s : List ℕ) → 4 ≤ length s → s ≡ getD s 0 0 ∷ getD s 1 0 ∷ getD s 2 0 ∷ getD s 3 0 ∷ drop 4 s
+four-first [] h = absurd (omega arith)
+four-first (a ∷ []) h = absurd (omega arith)
+four-first (a ∷ b ∷ []) h = absurd (omega arith)
+four-first (a ∷ b ∷ c ∷ []) h = absurd (omega arith)
+four-first (a ∷ b ∷ c ∷ d ∷ s) h = refl
+
+module _ (i : ℕ) (h : i < 9) (s : List ℕ) (k : 4 ≤ length s) where
+  row-is : within (first (getD rows i [])) (getD s 0 0) ≡ true → rowOf (getD s 0 0) ≡ getD rows i []
+  unfolding rowOf
+  row-is w = lead-is 0 rows i (getD s 0 0) rows-rise (omega (arith, nine)) w
+
+  -- where four bytes are there, those of the row decide
+  row-decides : (r : List Range) → getD rows i [] ≡ r → within (first r) (getD s 0 0) ≡ true
+      → begins r (getD s 0 0 ∷ getD s 1 0 ∷ getD s 2 0 ∷ getD s 3 0 ∷ drop 4 s) ≡ true → length r ≡ sequenceAt s
+  unfolding sequenceAt
+  row-decides r e w b =
+      let row : rowOf (getD s 0 0) ≡ r = row-is (rw (sym e) at w) ∙ e in
+      let all : begins r s ≡ true = ap (begins r) (four-first s k) ∙ b in
+      rw (row, all)
+
+  pub two-decide : (q r : Range) → getD rows i [] ≡ q ∷ r ∷ [] → (within q (getD s 0 0) && within r (getD s 1 0)) ≡ true → 2 ≡ sequenceAt s
+  two-decide q r e f =
+      let a = and-left (within q (getD s 0 0)) _ f in
+      let b = and-right (within q (getD s 0 0)) _ f in
+      row-decides (q ∷ r ∷ []) e a (rw (a, b))
+
+  pub three-decide : (q r t : Range) → getD rows i [] ≡ q ∷ r ∷ t ∷ []
+      → ((within q (getD s 0 0) && within r (getD s 1 0)) && within t (getD s 2 0)) ≡ true → 3 ≡ sequenceAt s
+  three-decide q r t e f =
+      let g = and-left (within q (getD s 0 0) && within r (getD s 1 0)) _ f in
+      let a = and-left (within q (getD s 0 0)) _ g in
+      let b = and-right (within q (getD s 0 0)) _ g in
+      let c = and-right (within q (getD s 0 0) && within r (getD s 1 0)) _ f in
+      row-decides (q ∷ r ∷ t ∷ []) e a (rw (a, b, c))
+
+  pub four-decide : (q r t u : Range) → getD rows i [] ≡ q ∷ r ∷ t ∷ u ∷ []
+      → (((within q (getD s 0 0) && within r (getD s 1 0)) && within t (getD s 2 0)) && within u (getD s 3 0)) ≡ true → 4 ≡ sequenceAt s
+  four-decide q r t u e f =
+      let g = and-left ((within q (getD s 0 0) && within r (getD s 1 0)) && within t (getD s 2 0)) _ f in
+      let j = and-left (within q (getD s 0 0) && within r (getD s 1 0)) _ g in
+      let a = and-left (within q (getD s 0 0)) _ j in
+      let b = and-right (within q (getD s 0 0)) _ j in
+      let c = and-right (within q (getD s 0 0) && within r (getD s 1 0)) _ g in
+      let d = and-right ((within q (getD s 0 0) && within r (getD s 1 0)) && within t (getD s 2 0)) _ f in
+      row-decides (q ∷ r ∷ t ∷ u ∷ []) e a (rw (a, b, c, d))

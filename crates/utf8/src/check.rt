@@ -2,6 +2,7 @@
 use crate::table::Row;
 use crate::table::is_within;
 use crate::table::row_of;
+use crate::usual::usual_len;
 use wire::bytes::byte_at;
 use wire::scan::clear_run;
 ghost use mathlib.Core.Path.{_≡_};
@@ -39,12 +40,20 @@ fn begins_with(bytes: &[u8], row: Row) -> bool
     true
 }
 
-// How many bytes the sequence has that they begin with; 0 where no row describes one.
-fn sequence_len(bytes: &[u8]) -> usize
+// How many bytes the sequence has that they begin with, by a search through the table; 0 where no row describes one.
+fn searched_len(bytes: &[u8]) -> usize
     ensures { λ r. ⌜ r ≡ sequenceAt (now (bytes .entry)) ⌝ }
 {
     let row = row_of(byte_at(bytes, 0));
     if begins_with(bytes, row) { row.0 } else { 0 }
+}
+
+// How many bytes the sequence has that they begin with; 0 where no row describes one.
+fn sequence_len(bytes: &[u8]) -> usize
+    ensures { λ r. ⌜ r ≡ sequenceAt (now (bytes .entry)) ⌝ }
+{
+    let n = usual_len(bytes);
+    if n == 0 { searched_len(bytes) } else { n }
 }
 
 // How many bytes of whole sequences stand at a place: a run of ASCII, or one sequence. 0 where no row describes one.
@@ -80,11 +89,11 @@ fn place_from(string: &[u8], from: usize) -> usize
 fn short_place(string: &[u8]) -> usize
     ensures { λ r. ⌜ r ≡ badPlace (now (string .entry)) ⌝ }
 {
-    let run = clear_run(string, FIRST_ABOVE, LAST_ABOVE);
+    let run = clear_run(&string[..], FIRST_ABOVE, LAST_ABOVE);
     if string.len() <= run {
         return run;
     }
-    place_from(string, run)
+    place_from(&string[..], run)
 }
 
 // Whether any of these bytes lies above ASCII. Joined, they have the high bit if one of them has it, so that one test is enough.
@@ -107,19 +116,19 @@ pub fn bad_place(string: &[u8]) -> usize
     ensures { λ r. ⌜ r ≡ badPlace (now (string .entry)) ⌝ }
 {
     if string.len() < BLOCK {
-        return short_place(string);
+        return short_place(&string[..]);
     }
     let mut at = 0;
     while BLOCK <= string.len() - at {
         let end = at + BLOCK;
         if any_above(&string[at..end]) {
-            return place_from(string, at);
+            return place_from(&string[..], at);
         }
         at = end;
     }
     let last = string.len() - BLOCK;
     if any_above(&string[last..]) {
-        return place_from(string, at);
+        return place_from(&string[..], at);
     }
     string.len()
 }

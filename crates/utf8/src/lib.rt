@@ -2,3 +2,4 @@
 pub mod check;
 pub mod claims;
 pub mod table;
+mod usual;

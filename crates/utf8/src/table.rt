@@ -37,7 +37,7 @@ pub(crate) fn is_within(range: Range, b: u8) -> bool
 }
 
 // The table, as the definitions have it.
-fn all_rows() -> [Row; 9]
+pub(crate) fn all_rows() -> [Row; 9]
     ensures { λ r. ⌜ r ≡ map padded rows ⌝ }
 {
     ROWS

@@ -5,7 +5,7 @@ use borrow.Author.Needs.{needs}
 use borrow.Author.Tests.{not-true, not-false}
 use denote.Ref.{now}
 use Rattle.capture_reader.specs.Capture.{soundnessTold}
-use Rattle.capture_tally.proofs.Taking.{limit-refused, lent-refused, taken-is, unsound, sound}
+use Rattle.capture_tally.proofs.Taking.{limit-refused, lent-refused, taken-is, fresh-ready, unsound, sound}
 use Rattle.capture_tally.proofs.add_by_value.Statement.{statement}
 use Rattle.capture_tally.proofs.add_by_value.Tie as tie
 
@@ -29,7 +29,14 @@ returns-2 c =
     )
 
 pass-requires : tie.Need-pass-requires
-pass-requires c κs = sym (c .before .before .before .check .ensures) ∙ ap soundnessTold (c .before .enum-told .given .1)
+pass-requires c κs =
+    let l = c .before .before .before .before .before in
+    let f = l .before .before in
+    let s = f .before .before .before in (
+      sym (c .before .before .before .check .ensures) ∙ ap soundnessTold (c .before .enum-told .given .1),
+      fresh-ready (s .args .limit) (s .args .count) (length (now (s .args .buffer))) (sym (f .limit-fits .ensures) ∙ not-false (f .limit-fits .result) (l .before .if1 .left))
+          (sym (l .lent-fits .ensures) ∙ not-false (l .lent-fits .result) (c .before .before .before .before .if2 .left)),
+    )
 
 returns-3 : tie.Need-returns-3
 returns-3 c =
