@@ -1,12 +1,11 @@
--- The packet at a place of a capture, and place after place.
-use Prim.Native.Nat.{ℕ, zero, suc, _+_}
-use mathlib.Core.Path.{_≡_}
+-- The packet at a place of a capture.
+use Prim.Native.Nat.{ℕ, _+_}
 use mathlib.Core.Bool.{Bool, cond, _||_}
 use mathlib.Core.List.{List, [], _∷_}
-use lib.ListN.{length, take, drop}
+use lib.ListN.{length, drop}
 use lib.Dec.{eqb, ltb}
 use Rattle.wire.specs.Told.{given, refused, andThen, line, table}
-use Rattle.capture_reader.specs.Capture.{width, ToldAt, located, frontOf, before, otherVersion, packetsOf, numberOf}
+use Rattle.capture_reader.specs.Capture.{width, ToldAt, located, frontOf, otherVersion, numberOf}
 use Rattle.capture_packet.specs.declared.PacketStanding.{PacketStanding}
 use Rattle.capture_packet.specs.declared.PacketStanding.the-variants as standing
 
@@ -35,20 +34,6 @@ packetAt bytes place =
     (line 40 (otherVersion bytes) ∷ line 15 (badPlace bytes place) ∷ [])
     (λ n. refused (n, 0))
     (cond (eqb place (length bytes)) (given end) (andThen (located place (frontOf (drop place bytes))) (λ n. given (found (foundAt place n)))))
-
--- a packet before those from the next place on
-abbrev pub onward : List ℕ → (ℕ → ToldAt (List (List ℕ))) → PacketItem → ToldAt (List (List ℕ))
-onward bytes later (found f) = before (take (f .size) (drop (f .start) bytes)) (later (f .next))
-onward bytes later end = given []
-
--- reading place after place, at most so many times
-unfoldable pub packetsAt : ℕ → List ℕ → ℕ → ToldAt (List (List ℕ))
-packetsAt zero bytes place = given []
-packetsAt (suc turns) bytes place = andThen (packetAt bytes place) (onward bytes (packetsAt turns bytes))
-
--- From place 1 on, place after place, all packets of a capture are read, or its refusal with its place: what packetsOf tells.
-abbrev pub PlacesGiveAll : Type 0
-PlacesGiveAll = (bytes : List ℕ) → packetsAt (suc (length bytes)) bytes 1 ≡ packetsOf bytes
 
 -- what the code tells
 abbrev pub standingTold : PacketStanding → ToldAt PacketItem
