@@ -7,6 +7,7 @@ use ble_packet::reader::Answer;
 use ble_packet::reader::Head;
 use ble_packet::reader::Packet;
 use c_rows::row::DONE;
+use capture_packet::PacketStanding;
 use wire::bytes::bit64;
 use wire::bytes::wide64;
 use wire::stream::Stream;
@@ -16,11 +17,17 @@ ghost use Rattle.wire.specs.Bytes.{bit};
 ghost use Rattle.wire.specs.Stream.{streamNumber};
 ghost use Rattle.ble_packet.specs.Header.{typeContinuation, typeLast};
 ghost use Rattle.ble_packet.specs.Reader.{told};
+ghost use Rattle.capture_packet.specs.Place.{standingTold};
 ghost use Rattle.c_rows.specs.Row.{numberTold};
-ghost use Rattle.c_packets.specs.Convert.{headRow, packetRow, frontRow};
+ghost use Rattle.c_packets.specs.Convert.{headRow, packetRow, frontRow, capturedRow};
 
-// The numbers of the answer row.
+// The numbers of the answer rows.
 pub const READ_ANSWER: usize = 10;
+
+pub const CAPTURE_ANSWER: usize = 5;
+
+// The outcome that is a packet.
+const PACKET: u64 = 1;
 
 pub fn front_number(answer: Answer) -> u64
     ensures { λ r. ⌜ r ≡ numberTold (told answer) ⌝ }
@@ -100,5 +107,18 @@ pub fn front_row(end: usize, extended: bool, answer: Answer) -> [u64; 10]
     match answer {
         Answer::Refused(_) => [0u64; 10],
         Answer::Read(packet) => packet_row(end, extended, packet),
+    }
+}
+
+pub fn captured_row(standing: PacketStanding) -> [u64; 5]
+    ensures { λ r. ⌜ r ≡ capturedRow (standingTold standing) ⌝ }
+{
+    match standing {
+        PacketStanding::Packet { start, size, next } => {
+            [PACKET, start as u64, size as u64, next as u64, 0]
+        }
+        PacketStanding::End => [0u64; 5],
+        PacketStanding::BadPlace => [0u64; 5],
+        PacketStanding::Broken { why: _, at } => [0, 0, 0, 0, at as u64],
     }
 }
