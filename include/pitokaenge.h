@@ -48,7 +48,11 @@
 extern "C" {
 #endif
 
-/* The version of this interface: one more with each change that a caller has to follow. */
+/*
+ * The version of this interface: one more with each change that a caller has to follow. A call that is only added leaves it:
+ * pito_packet_read and pito_capture_packet came to version 6 later than the others, and a program that calls them does not
+ * link with an archive from before.
+ */
 #define PITO_VERSION 6
 
 /*
@@ -317,6 +321,43 @@ enum { PITO_ACK_WRITE_WRITTEN, PITO_ACK_WRITE_ANSWER };
 PITO_CALL uint64_t pito_ack_write(uint64_t stream, uint64_t id, uint64_t sequence, uint64_t positive, uint8_t *output,
                                   pito_len output_len, uint64_t *answer, pito_len answer_len);
 
+/* The types of a packet. */
+#define PITO_PACKET_FIRST 0        /* of a message, the first or only one */
+#define PITO_PACKET_CONTINUATION 1 /* one between the first and the last */
+#define PITO_PACKET_LAST 2
+#define PITO_PACKET_CONTROL 3 /* an ACK or a NACK */
+
+/*
+ * Reads the packet at the front of some bytes, and tells where it ends. Packets that stand joined, as those of a reply, are
+ * cut apart so: the next one begins where this one ends, until no bytes are left. A packet of which the bytes have not all is
+ * refused; what stands behind it is not looked at.
+ *   limit  the largest total that is taken, any number: the link's limit, or PITO_LARGEST_LIMIT, which takes every total
+ * Answer:
+ *   end            how many bytes the packet has
+ *   stream, id, sequence  the packet's
+ *   kind           its type, PITO_PACKET_FIRST to PITO_PACKET_CONTROL
+ *   ack            its ACK flag: 1 if an ACK is wanted, else 0; of an ACK 1, of a NACK 0
+ *   extended       1 if its payload's length has two bytes, else 0
+ *   total          the message's length, of a first packet; else 0
+ *   start, length  of the payload, within the bytes; 0 of an ACK and a NACK
+ * Returns 0, 1, or what pito_receiver_accept returns of the packet by itself: 2, 3, 12, 4, 5, 6, 7, 8.
+ */
+enum {
+    PITO_PACKET_READ_END,
+    PITO_PACKET_READ_STREAM,
+    PITO_PACKET_READ_ID,
+    PITO_PACKET_READ_SEQUENCE,
+    PITO_PACKET_READ_KIND,
+    PITO_PACKET_READ_ACK,
+    PITO_PACKET_READ_EXTENDED,
+    PITO_PACKET_READ_TOTAL,
+    PITO_PACKET_READ_START,
+    PITO_PACKET_READ_LENGTH,
+    PITO_PACKET_READ_ANSWER
+};
+PITO_CALL uint64_t pito_packet_read(const uint8_t *bytes, pito_len bytes_len, uint64_t limit, uint64_t *answer,
+                                    pito_len answer_len);
+
 /* ------------------------------------------------------------------------------------------------------------
  * Low Energy: receiving
  *
@@ -407,6 +448,29 @@ PITO_CALL uint64_t pito_receiver_accept(const uint64_t *state, pito_len state_le
                                         uint8_t *buffer, pito_len buffer_len, const uint8_t *packet,
                                         pito_len packet_len, uint64_t sequence, uint8_t *out, pito_len out_len,
                                         uint64_t *answer, pito_len answer_len);
+
+/*
+ * Reads the packet at a place of a capture of one direction: the byte 01, then each packet with its length of two bytes,
+ * big-endian, before it. The place is that of a packet's length: begin at place 1 and go on at the next place that each call
+ * tells, until the outcome is the end. What comes after the packet is not looked at.
+ * Answer, all 0 at the end:
+ *   outcome        PITO_PACKET, or PITO_END
+ *   start, length  the packet's, within the capture
+ *   next           the place behind the packet
+ *   place          41 and 42: the place that was asked for; else 0
+ * Returns 0, 1, 40, 15 (place 0, or beyond the bytes), 42 (a length of 0), 41.
+ */
+#define PITO_PACKET 1
+enum {
+    PITO_CAPTURE_PACKET_OUTCOME,
+    PITO_CAPTURE_PACKET_START,
+    PITO_CAPTURE_PACKET_LENGTH,
+    PITO_CAPTURE_PACKET_NEXT,
+    PITO_CAPTURE_PACKET_PLACE,
+    PITO_CAPTURE_PACKET_ANSWER
+};
+PITO_CALL uint64_t pito_capture_packet(const uint8_t *capture, pito_len capture_len, uint64_t place, uint64_t *answer,
+                                       pito_len answer_len);
 
 /* Outcomes; a capture that is refused has none, and 0 stands there. */
 #define PITO_LAWFUL 1   /* our writer writes these packets, for some transactions */
@@ -696,7 +760,7 @@ PITO_CALL uint64_t pito_apply_write(const uint64_t *row, pito_len row_len, const
  * Any message, field by field
  */
 
-/* Outcomes of a reading at a place: the end of the message or file, a field of a message, a record of an outbox. */
+/* Outcomes of a reading at a place: the end of the message, capture or file, a field of a message, a record of an outbox. */
 #define PITO_END 0
 #define PITO_FIELD 1
 #define PITO_RECORD 1
@@ -737,7 +801,7 @@ PITO_CALL uint64_t pito_field_read(const uint8_t *message, pito_len message_len,
 /*
  * Writes the reply to a finished control transaction: what to send where pito_receiver_accept tells PITO_FINISHED on the
  * control stream. Device information answers command 20, device features 28, a bare success 94 and 95, "unsupported"
- * any other. The reply stands in the output as its packets, joined; each packet's own header says where it ends. A message
+ * any other. The reply stands in the output as its packets, joined; pito_packet_read tells where each ends. A message
  * that is itself a response gets no reply: 0 bytes written.
  *   message             the transaction's payload
  *   transports          at most eight signed 32-bit numbers, each in 64 bits

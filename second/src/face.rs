@@ -17,7 +17,7 @@ use crate::classic::{self, Decided, Extractor, Next, Outcome, Parts, Standing};
 use crate::control::{self, Envelope, Features, Given, Information, Member, Payload, Response};
 use crate::implementation::{Implementation, Lent, Operation, Slot};
 use crate::judge;
-use crate::low_energy::{self, Accepted, Open, Receiver, Reply, Slots, Stream, Wish};
+use crate::low_energy::{self, Accepted, Open, Part, Receiver, Reply, Slots, Stream, Wish};
 use crate::outbox::{self, Broken, Record, Version, ONE, TWO};
 use crate::refusal::{self, Refusal};
 use crate::reply::{self, Own};
@@ -69,6 +69,7 @@ impl Implementation for Model {
                 };
                 ack_write([*stream, *id, *sequence, *positive], lent, answer)
             }
+            Operation::PacketRead => packet_read(&inputs[0], numbers[0], answer),
             Operation::ReceiverOpen => receiver_open(numbers[0], state),
             Operation::ReceiverAccept => {
                 let reply = Reply {
@@ -77,6 +78,7 @@ impl Implementation for Model {
                 };
                 receiver_accept(state, slots, lent, &inputs[0], reply, answer)
             }
+            Operation::CapturePacket => capture_packet(&inputs[0], numbers[0], answer),
             Operation::CaptureJudge => capture_judge(&inputs[0], numbers[0], numbers[1], answer),
             Operation::ReportAdd => report_add(state, numbers[0], slots, lent, &inputs[0], answer),
             Operation::EnvelopeRead => envelope_read(&inputs[0], answer),
@@ -412,6 +414,35 @@ pub fn ack_write(wish: [u64; 4], output: &mut [u8], answer: &mut [u64]) -> u64 {
         let made = low_energy::acknowledgement(wish.stream, wish.id, wish.sequence, wish.ack);
         let written = crate::refusal::deliver(&made, output)?;
         Ok([wide(written)])
+    })
+}
+
+/// Answer `end, stream, id, sequence, kind, ack, extended, total, start, length`: the type as on the wire, 0 for what an ACK
+/// or NACK has not.
+pub fn packet_read(bytes: &[u8], limit: u64, answer: &mut [u64]) -> u64 {
+    ask(answer, || {
+        let (whole, packet) = low_energy::front(limit, bytes)?;
+        let (kind, total, piece) = match packet.part {
+            Part::First { total, piece } => (0, total, Some(piece)),
+            Part::Continuation { piece } => (1, 0, Some(piece)),
+            Part::Last { piece } => (2, 0, Some(piece)),
+            Part::Acknowledgement => (3, 0, None),
+        };
+        // The payload is what a packet ends with.
+        let length = piece.map_or(0, <[u8]>::len);
+        let start = piece.map_or(0, |piece| whole.len() - piece.len());
+        Ok([
+            wide(whole.len()),
+            u64::from(packet.stream.number()),
+            u64::from(packet.id),
+            u64::from(packet.sequence),
+            kind,
+            u64::from(packet.flag),
+            u64::from(whole[1] & 1),
+            wide(total),
+            wide(start),
+            wide(length),
+        ])
     })
 }
 
@@ -776,6 +807,24 @@ pub fn outbox_whole(bytes: &[u8], answer: &mut [u64]) -> u64 {
     ask(answer, || {
         outbox::whole(bytes).map_err(broken_out::<1>)?;
         Ok([0])
+    })
+}
+
+/// Answer `outcome, start, length, next, place` with outcome 0 the end, 1 a packet; the place goes with 41 and 42.
+pub fn capture_packet(capture: &[u8], place: u64, answer: &mut [u64]) -> u64 {
+    ask(answer, || {
+        let found = judge::packet_at(capture, place)
+            .map_err(|(refusal, place)| Refused(refusal, vec![(4, wide(place))]))?;
+        Ok(match found {
+            None => [0; 5],
+            Some(packet) => [
+                1,
+                wide(packet.start),
+                wide(packet.len()),
+                wide(packet.end),
+                0,
+            ],
+        })
     })
 }
 

@@ -14,8 +14,10 @@ pub enum Operation {
     NextSequence,
     PacketWrite,
     AckWrite,
+    PacketRead,
     ReceiverOpen,
     ReceiverAccept,
+    CapturePacket,
     CaptureJudge,
     ReportAdd,
     EnvelopeRead,
@@ -255,7 +257,7 @@ const MESSAGE_READ: &[u64] = &[0, 1, 30, 31, 32, 33, 34];
 const STRINGS_READ: &[u64] = &[0, 1, 30, 31, 32, 33, 34, 36];
 
 impl Operation {
-    pub const ALL: [Operation; 33] = [
+    pub const ALL: [Operation; 35] = [
         Operation::ExtractorOpen,
         Operation::ExtractorStep,
         Operation::ExtractorFeed,
@@ -265,8 +267,10 @@ impl Operation {
         Operation::NextSequence,
         Operation::PacketWrite,
         Operation::AckWrite,
+        Operation::PacketRead,
         Operation::ReceiverOpen,
         Operation::ReceiverAccept,
+        Operation::CapturePacket,
         Operation::CaptureJudge,
         Operation::ReportAdd,
         Operation::EnvelopeRead,
@@ -388,6 +392,17 @@ impl Operation {
                 returns: &[0, 1, 14, 15],
                 ..empty
             },
+            Operation::PacketRead => Shape {
+                name: "packet read",
+                numbers: &["limit"],
+                inputs: &["bytes"],
+                answer: &[
+                    "end", "stream", "id", "sequence", "kind", "ack", "extended", "total", "start",
+                    "length",
+                ],
+                returns: &[0, 1, 2, 3, 4, 5, 6, 7, 8, 12],
+                ..empty
+            },
             Operation::ReceiverOpen => Shape {
                 name: "receiver open",
                 numbers: &["limit"],
@@ -414,6 +429,14 @@ impl Operation {
                 lent: "buffer",
                 reply: "answer buffer",
                 returns: &[0, 1, 2, 3, 4, 5, 6, 7, 8, 9, 10, 11, 12, 14, 15, 18],
+                ..empty
+            },
+            Operation::CapturePacket => Shape {
+                name: "capture packet",
+                numbers: &["place"],
+                inputs: &["capture"],
+                answer: &["outcome", "start", "length", "next", "place"],
+                returns: &[0, 1, 15, 40, 41, 42],
                 ..empty
             },
             Operation::CaptureJudge => Shape {

@@ -3,6 +3,7 @@
 
 use crate::low_energy::{acknowledgement, packet, pieces, Piece, Stream, Wish};
 use crate::refusal::{limit_in, Refusal};
+use std::ops::Range;
 
 /// "version byte 01".
 const VERSION: u8 = 1;
@@ -21,25 +22,53 @@ pub enum Answer {
 /// A refusal, and the place that it is about: that of a length for 41 and 42, and else 0.
 pub type Refused = (Refusal, usize);
 
-/// "then each packet with a two-byte big-endian length before it": the packets with the places of their lengths.
+/// The bytes behind "version byte 01".
+fn behind_version(capture: &[u8]) -> Result<&[u8], Refused> {
+    match capture.split_first() {
+        Some((&VERSION, rest)) => Ok(rest),
+        _ => Err((Refusal::Version, 0)),
+    }
+}
+
+/// "each packet with a two-byte big-endian length before it": how long the one at the front of these bytes is.
+fn length_of(rest: &[u8]) -> Result<usize, Refusal> {
+    let (length, after) = rest.split_first_chunk().ok_or(Refusal::RecordCut)?;
+    let length = usize::from(u16::from_be_bytes(*length));
+    if length == 0 {
+        return Err(Refusal::RecordLength);
+    }
+    if after.len() < length {
+        return Err(Refusal::RecordCut);
+    }
+    Ok(length)
+}
+
+/// The packets with the places of their lengths.
 pub(crate) fn packets(capture: &[u8]) -> Result<Vec<(usize, &[u8])>, Refused> {
-    let Some((&VERSION, mut rest)) = capture.split_first() else {
-        return Err((Refusal::Version, 0));
-    };
+    let mut rest = behind_version(capture)?;
     let mut found = Vec::new();
     while !rest.is_empty() {
         let place = capture.len() - rest.len();
-        let cut = (Refusal::RecordCut, place);
-        let (length, after) = rest.split_first_chunk::<2>().ok_or(cut)?;
-        let length = usize::from(u16::from_be_bytes(*length));
-        if length == 0 {
-            return Err((Refusal::RecordLength, place));
-        }
-        let (packet, after) = after.split_at_checked(length).ok_or(cut)?;
+        let length = length_of(rest).map_err(|refusal| (refusal, place))?;
+        let (packet, after) = rest[2..].split_at(length);
         found.push((place, packet));
         rest = after;
     }
     Ok(found)
+}
+
+/// Where the packet lies whose length stands at a place, as a record of an outbox is read: nothing at the end, and 15 for
+/// place 0 and beyond the end.
+pub fn packet_at(capture: &[u8], place: u64) -> Result<Option<Range<usize>>, Refused> {
+    behind_version(capture)?;
+    let place = usize::try_from(place).unwrap_or(usize::MAX);
+    let rest = capture.get(place..).filter(|_| place != 0);
+    let rest = rest.ok_or((Refusal::Argument, 0))?;
+    if rest.is_empty() {
+        return Ok(None);
+    }
+    let length = length_of(rest).map_err(|refusal| (refusal, place))?;
+    Ok(Some(place + 2..place + 2 + length))
 }
 
 /// A transaction some of whose packets have come: what its first packet told, and the bytes so far.

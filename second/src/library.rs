@@ -74,6 +74,10 @@ impl Implementation for Library {
                     };
                     pito_ack_write(stream, id, sequence, positive, bytes, size, told, tells)
                 }
+                Operation::PacketRead => {
+                    let (packets, length) = input(0);
+                    pito_packet_read(packets, length, numbers[0], told, tells)
+                }
                 Operation::ReceiverOpen => pito_receiver_open(numbers[0], row, rows),
                 Operation::ReceiverAccept => {
                     let (packet, length) = input(0);
@@ -84,6 +88,10 @@ impl Implementation for Library {
                         row, rows, slot, slots, bytes, size, packet, length, numbers[0], out, room,
                         told, tells,
                     )
+                }
+                Operation::CapturePacket => {
+                    let (capture, length) = input(0);
+                    pito_capture_packet(capture, length, numbers[0], told, tells)
                 }
                 Operation::CaptureJudge => {
                     let (capture, length) = input(0);

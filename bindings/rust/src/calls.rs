@@ -100,10 +100,14 @@ calls! {
     pito_packet_write(room: u64, limit: u64, stream: u64, id: u64, sequence: u64, ack: u64, message: &[u8], place: u64,
         output: &mut [u8]) -> PacketWrite { written: u64, next_place: u64 };
     pito_ack_write(stream: u64, id: u64, sequence: u64, positive: u64, output: &mut [u8]) -> AckWrite { written: u64 };
+    pito_packet_read(bytes: &[u8], limit: u64) -> PacketRead { end: u64, stream: u64, id: u64, sequence: u64, kind: u64,
+        ack: u64, extended: u64, total: u64, start: u64, length: u64 };
     pito_receiver_open(limit: u64, state: &mut [u64]) -> Nothing;
     pito_receiver_accept(state: &[u64], row: &mut [pito_slot], buffer: &mut [u8], packet: &[u8], sequence: u64,
         out: &mut [u8]) -> Accept { outcome: u64, stream: u64, id: u64, sequence: u64, total: u64, ack_wanted: u64,
         replaced: u64, place: u64 };
+    pito_capture_packet(capture: &[u8], place: u64) -> CapturePacket { outcome: u64, start: u64, length: u64, next: u64,
+        place: u64 };
     pito_capture_judge(capture: &[u8], room: u64, limit: u64) -> CaptureJudge { outcome: u64, place: u64 };
     pito_report_add(report: &mut [u64], limit: u64, row: &mut [pito_slot], buffer: &mut [u8], capture: &[u8])
         -> ReportAdd { place: u64 };

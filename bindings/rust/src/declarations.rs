@@ -108,6 +108,14 @@ extern "C" {
         answer: *mut u64,
         answer_len: usize,
     ) -> u64;
+    /// Reads the packet at the front of some bytes.
+    pub fn pito_packet_read(
+        bytes: *const u8,
+        bytes_len: usize,
+        limit: u64,
+        answer: *mut u64,
+        answer_len: usize,
+    ) -> u64;
     /// Opens a receiver: the state of a limit.
     pub fn pito_receiver_open(limit: u64, state: *mut u64, state_len: usize) -> u64;
     /// One packet, accepted and answered.
@@ -123,6 +131,14 @@ extern "C" {
         sequence: u64,
         out: *mut u8,
         out_len: usize,
+        answer: *mut u64,
+        answer_len: usize,
+    ) -> u64;
+    /// Reads the packet at a place of a capture.
+    pub fn pito_capture_packet(
+        capture: *const u8,
+        capture_len: usize,
+        place: u64,
         answer: *mut u64,
         answer_len: usize,
     ) -> u64;

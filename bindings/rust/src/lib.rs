@@ -6,6 +6,7 @@
 //! |---|---|
 //! | Classic frames, taken and written | [`Extractor`], [`write_frame`], [`FrameWriter`] |
 //! | Low Energy packets, taken and written | [`Link`], [`Transaction`], [`ack`], [`nack`] |
+//! | one packet read, by itself or in a capture | [`read_packet`], [`CapturedPackets`] |
 //! | control and firmware messages | [`Envelope`], [`DeviceInformation`], [`UpdateComponentSegment`], .. |
 //! | the reply to the handshake | [`Device::reply`] |
 //! | the outbox file | [`Outbox`], [`Records`], [`write_as`] |
@@ -35,6 +36,7 @@ mod judge;
 mod link;
 mod link_numbers;
 mod outbox;
+mod packet;
 mod refusal;
 mod reply;
 mod report;
@@ -51,6 +53,9 @@ pub use judge::{judge, Verdict};
 pub use link::{Accepted, Link, Message, OwnedLink, Row, Slot};
 pub use link_numbers::{Limit, Room, Stream};
 pub use outbox::{read_record, whole, write_as, Outbox, Record, Records, Version};
+pub use packet::{
+    read_captured, read_packet, CapturedPacket, CapturedPackets, PacketKind, ReadPacket,
+};
 pub use refusal::{Refusal, Refused};
 pub use reply::Device;
 pub use report::{Costs, Report};

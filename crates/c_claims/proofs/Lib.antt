@@ -9,6 +9,7 @@ mod Applies
 mod Strings
 mod Told
 mod SizesSuffice
+mod Fronts
 mod RowsAgree
 mod NumbersJudged
 mod Instances

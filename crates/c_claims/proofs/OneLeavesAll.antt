@@ -70,6 +70,7 @@ use Rattle.c_classic.specs.Calls.{opened, stepped, fedCall, noneUsed, extractor
 use Rattle.c_classic_parts.specs.Convert.{isState, stateOf}
 use Rattle.c_classic_parts.specs.Calls.{begun, parted, frameBeginOf, framePartOf}
 use Rattle.c_sending.specs.Calls.{packetWriteOf, ackWriteOf}
+use Rattle.c_packets.specs.Calls.{packetReadOf, capturePacketOf}
 use Rattle.c_receiving.specs.Calls.{replied, accepted, sizesFit, receiverOpenOf, receiverAcceptOf}
 use Rattle.c_receiving.specs.Calls as receiving
 use Rattle.c_messages.specs.Calls.{envelopeReadOf, envelopeWriteOf, responseReadOf, responseWriteOf, informationReadOf, informationWriteOf, featuresReadOf, featuresWriteOf}
@@ -371,7 +372,7 @@ move-keeps wished file out answer =
     (by-table (StoredKeeps out) (line 14 (ltb (length out) (length bytes)) ∷ []) (λ n. stored (outbox.refused n) out) (storedAt out 0 bytes) (λ n e. refl) (λ h. never))))
 
 pub one-leaves-all : OneLeavesAll
-unfolding nextSequenceOf captureJudgeOf envelopeReadOf responseReadOf informationReadOf featuresReadOf segmentReadOf applyReadOf fieldReadOf outboxRecordOf outboxWholeOf
+unfolding nextSequenceOf packetReadOf capturePacketOf captureJudgeOf envelopeReadOf responseReadOf informationReadOf featuresReadOf segmentReadOf applyReadOf fieldReadOf outboxRecordOf outboxWholeOf
 one-leaves-all = record {
   extractor-open = open-keeps;
   extractor-step = step-keeps;
@@ -382,8 +383,10 @@ one-leaves-all = record {
   next-sequence = λ sequence answer. keeps-if (eqb (length answer) 1) [] [] answer _ never;
   packet-write = packet-keeps;
   ack-write = ack-keeps;
+  packet-read = λ limit bytes answer. keeps-answers 10 _ [] answer _ _ (λ e. refl);
   receiver-open = receiver-open-keeps;
   receiver-accept = accept-keeps;
+  capture-packet = λ place capture answer. keeps-answers 5 _ [] answer _ _ (λ e. refl);
   capture-judge = λ room limit capture answer. keeps-answers 2 _ [] answer _ _ (λ e. refl);
   report-add = report-keeps;
   envelope-read = λ message answer. keeps-answers 6 _ [] answer _ _ (λ e. refl);

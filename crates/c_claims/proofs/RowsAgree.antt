@@ -53,6 +53,7 @@ use Rattle.c_rows.specs.Row.{afterwards, numberTold}
 use Rattle.c_rows.specs.Called.{called}
 use Rattle.c_claims.specs.RowsAgree.{NumbersFit, rowStanding, packetBy, packetsFrom, recordBy, recordsFrom, RowsAgree}
 use Rattle.c_claims.proofs.Applies.{not-wide}
+use Rattle.c_claims.proofs.Fronts.{joined-agrees, captured-agrees}
 use Rattle.c_claims.proofs.Told.{numbers-fit}
 
 -- ---- an ApplyFirmware
@@ -305,4 +306,6 @@ rows-agree = record {
   receiver = λ x. refl;
   packets = packets-agree;
   records = records-agree;
+  joined = joined-agrees;
+  captured = captured-agrees;
 }

@@ -13,6 +13,7 @@ use Rattle.c_rows.specs.Called.{Called, called}
 use Rattle.c_classic.specs.Calls.{noneUsed, extractorOpenOf, extractorStepOf, extractorFeedOf, frameWriteOf, nextSequenceOf}
 use Rattle.c_classic_parts.specs.Calls.{frameBeginOf, framePartOf}
 use Rattle.c_sending.specs.Calls.{packetWriteOf, ackWriteOf}
+use Rattle.c_packets.specs.Calls.{packetReadOf, capturePacketOf}
 use Rattle.c_receiving.specs.Calls.{AcceptCalled, replied, receiverOpenOf, receiverAcceptOf}
 use Rattle.c_judge.specs.Calls.{captureJudgeOf}
 use Rattle.c_report.specs.Calls.{ReportCalled, reportCalled, reportAddOf}
@@ -46,9 +47,11 @@ pub record OneLeavesAll : Type 0 where
   pub packet-write : (limit : ℕ) (how : Sending) (place : ℕ) (message out answer : List ℕ)
       → Keeps [] out answer (packetWriteOf limit how message place out answer)
   pub ack-write : (stream id sequence positive : ℕ) (out answer : List ℕ) → Keeps [] out answer (ackWriteOf stream id sequence positive out answer)
+  pub packet-read : (limit : ℕ) (bytes answer : List ℕ) → Keeps [] [] answer (packetReadOf bytes limit answer)
   pub receiver-open : (limit : ℕ) (state : List ℕ) → Keeps state [] [] (receiverOpenOf limit state)
   pub receiver-accept : (sequence : ℕ) (slots : List Slot) (packet state lent out answer : List ℕ)
       → KeepsRow slots lent out answer (receiverAcceptOf state slots lent packet sequence out answer)
+  pub capture-packet : (place : ℕ) (capture answer : List ℕ) → Keeps [] [] answer (capturePacketOf capture place answer)
   pub capture-judge : (room limit : ℕ) (capture answer : List ℕ) → Keeps [] [] answer (captureJudgeOf capture room limit answer)
   pub report-add : (limit : ℕ) (slots : List Slot) (report lent capture answer : List ℕ)
       → KeepsReport report slots lent answer (reportAddOf report limit slots lent capture answer)

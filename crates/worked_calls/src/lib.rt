@@ -2,6 +2,7 @@
 ghost use Rattle.worked_calls.specs.Classic.{ClassicCalls};
 ghost use Rattle.worked_calls.specs.Receiving.{ReceivingCalls};
 ghost use Rattle.worked_calls.specs.Sending.{SendingCalls};
+ghost use Rattle.worked_calls.specs.Packets.{PacketCalls};
 ghost use Rattle.worked_calls.specs.Outbox.{OutboxCalls};
 ghost use Rattle.worked_calls.specs.Messages.{MessageCalls};
 ghost use Rattle.worked_calls.specs.Firmware.{FirmwareCalls};
@@ -26,6 +27,11 @@ pub fn receiving_calls()
 // A receiver opened, packets and ACKs written, called from C.
 pub fn sending_calls()
     ensures { λ _. ⌜ SendingCalls ⌝ }
+{}
+
+// One packet read, called from C.
+pub fn packet_calls()
+    ensures { λ _. ⌜ PacketCalls ⌝ }
 {}
 
 // The outbox, called from C.

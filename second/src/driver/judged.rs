@@ -167,7 +167,7 @@ fn every_list(c: &mut Comparison<'_>) -> Compared<()> {
 
 /// A room, a limit, and a capture of transactions of all streams, mixed, with ACKs between; in a third of them one packet
 /// is damaged, left out, doubled or moved.
-fn generated(rng: &mut Rng) -> (u64, u64, Vec<u8>) {
+pub(super) fn generated(rng: &mut Rng) -> (u64, u64, Vec<u8>) {
     let room = *rng.pick(&[20, 21, 35, 61, 244, 259, 260, 261, 262, 263, 264, 512]);
     let limit = *rng.pick(&[1, 20, 300, 4_096, 65_535]);
     let mut lanes: Vec<Vec<Vec<u8>>> = Stream::ALL

@@ -88,6 +88,9 @@ fn ordinary(rng: &mut Rng, operation: Operation) -> Call {
         Operation::AckWrite => call
             .numbers(&[stream, rng.below(16), rng.below(16), rng.below(2)])
             .lent(rng.bytes(6)),
+        Operation::PacketRead => call
+            .numbers(&[limit])
+            .inputs(&[&[0x61, 0x02, 0, 0, 1, 1, 0xAA]]),
         Operation::ReceiverOpen => call.numbers(&[limit]),
         Operation::ReceiverAccept => {
             // An ACK, or a message that wants one.
@@ -104,6 +107,7 @@ fn ordinary(rng: &mut Rng, operation: Operation) -> Call {
                 .lent(rng.bytes(low_energy::buffer(RECEIVED)))
                 .reply(rng.bytes(room))
         }
+        Operation::CapturePacket => call.numbers(&[1]).inputs(&[&[1, 0, 1, 9]]),
         Operation::CaptureJudge => call.numbers(&[20, 300]).inputs(&[&[1, 0, 1, 9]]),
         Operation::ReportAdd => {
             let mut report = [0; 21];
