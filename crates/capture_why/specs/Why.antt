@@ -1,5 +1,5 @@
 -- Why a sender is not lawful: of the packet that decides what came and what was expected; of a capture that goes on what is open.
-use Prim.Native.Nat.{ℕ, _+_}
+use Prim.Native.Nat.{ℕ}
 use mathlib.Core.Bool.{Bool, true, false, cond}
 use mathlib.Core.List.{List}
 use lib.ListN.{length, getD, take, drop}

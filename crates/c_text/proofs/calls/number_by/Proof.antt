@@ -1,5 +1,4 @@
 use borrow.Author.Tests.{eq-eqb, ne-eqb}
-use borrow.Author.Needs.{needs}
 use Rattle.c_text.proofs.calls.number_by.Statement.{statement}
 use Rattle.c_text.proofs.calls.number_by.Tie as tie
 
