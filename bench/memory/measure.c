@@ -198,6 +198,7 @@ static void accept(const uint8_t *packet, size_t count)
     CALL(pito_receiver_accept, A(receiver), PITO_RECEIVER_STATE, A(slots), length(PITO_SLOTS), A(buffer),
          length(sizeof buffer), A(packet), count, below(once_in(60) ? 20 : 16), A(ack), length(sizeof ack), A(answer),
          PITO_ACCEPT_ANSWER);
+    CALL(pito_packet_read, A(packet), count, any_limit(), A(answer), length(PITO_PACKET_READ_ANSWER));
     add_to_capture(packet, count);
 }
 
@@ -214,10 +215,20 @@ static void add_to_report(void)
          length(sizeof buffer), A(capture), captured, A(answer), length(PITO_REPORT_ADD_ANSWER));
 }
 
+/* The packets of the capture, place after place. */
+static void read_capture(void)
+{
+    uint64_t place = once_in(20) ? any_number() : 1;
+    while (CALL(pito_capture_packet, A(capture), captured, place, A(answer), length(PITO_CAPTURE_PACKET_ANSWER)) == 0 &&
+           answer[PITO_CAPTURE_PACKET_OUTCOME] == PITO_PACKET)
+        place = answer[PITO_CAPTURE_PACKET_NEXT];
+}
+
 static void judge(uint64_t room, uint64_t limit)
 {
     captured = once_in(20) ? damage(capture, captured) : captured;
     add_to_report();
+    read_capture();
     CALL(pito_capture_judge, A(capture), captured, once_in(20) ? below(600) : room, once_in(20) ? any_number() : limit,
          A(answer), length(PITO_CAPTURE_JUDGE_ANSWER));
     CALL(pito_capture_why, A(capture), captured, once_in(20) ? below(600) : room, once_in(20) ? any_number() : limit,

@@ -27,9 +27,11 @@ calls! {
         place: u64, output: *mut u8, size: usize, answer: *mut u64, answers: usize);
     AckWrite(stream: u64, id: u64, sequence: u64, positive: u64, output: *mut u8, size: usize, answer: *mut u64,
         answers: usize);
+    PacketRead(bytes: *const u8, length: usize, limit: u64, answer: *mut u64, answers: usize);
     ReceiverAccept(state: *const u64, states: usize, row: *mut pito_slot, slots: usize, buffer: *mut u8, size: usize,
         packet: *const u8, length: usize, sequence: u64, out: *mut u8, room: usize, answer: *mut u64, answers: usize)
         plain_receiver_accept;
+    CapturePacket(capture: *const u8, length: usize, place: u64, answer: *mut u64, answers: usize);
     CaptureJudge(capture: *const u8, length: usize, room: u64, limit: u64, answer: *mut u64, answers: usize);
     CaptureWhy(capture: *const u8, length: usize, room: u64, limit: u64, answer: *mut u64, answers: usize);
     ReportAdd(report: *mut u64, reports: usize, limit: u64, row: *mut pito_slot, slots: usize, buffer: *mut u8,

@@ -52,6 +52,17 @@ pub fn rows() -> Vec<Row> {
         accept_job(inputs::acks(ACKS))
     }));
     rows.extend(refused_rows());
+    for (name, read) in [
+        ("packets read", read_job as fn(Vec<Vec<u8>>) -> Job),
+        ("captures read", captured_job),
+    ] {
+        rows.push(Row::new(name, "4,096 bytes, room 244", move || {
+            read(inputs::packets(&inputs::messages(65_536, 4_096), 244))
+        }));
+        rows.push(Row::new(name, "ACK and NACK", move || {
+            read(inputs::acks(ACKS))
+        }));
+    }
     for (size, name) in SIZES {
         for room in ROOMS {
             rows.push(Row::new(
@@ -127,6 +138,36 @@ fn write_acks_job() -> Job {
             work!(low_energy::write_acks(rust::ack_write, ACKS)),
         )
         .with(Subject::Own, work!(low_energy::write_acks_own(ACKS)))
+}
+
+/// Joined packets read one by one.
+fn read_job(packets: Vec<Vec<u8>>) -> Job {
+    let count = packets.len();
+    let [a, b] = share(packets.concat());
+    Job::of("packet", count)
+        .with(
+            Subject::Archive,
+            work!(low_energy::read(pito_packet_read, &a)),
+        )
+        .with(
+            Subject::Rust,
+            work!(low_energy::read(rust::packet_read, &b)),
+        )
+}
+
+/// The packets of a capture read one by one.
+fn captured_job(packets: Vec<Vec<u8>>) -> Job {
+    let count = packets.len();
+    let [a, b] = share(capture(&packets));
+    Job::of("packet", count)
+        .with(
+            Subject::Archive,
+            work!(low_energy::captured(pito_capture_packet, &a)),
+        )
+        .with(
+            Subject::Rust,
+            work!(low_energy::captured(rust::capture_packet, &b)),
+        )
 }
 
 /// A capture of packets judged at a room.

@@ -48,10 +48,13 @@ shims! {
         face::packet_write([room, limit], [stream, id, sequence, ack], given(message, length), place, lent(output, size), told);
     ack_write(stream: u64, id: u64, sequence: u64, positive: u64, output: *mut u8, size: usize) told
         face::ack_write([stream, id, sequence, positive], lent(output, size), told);
+    packet_read(bytes: *const u8, length: usize, limit: u64) told face::packet_read(given(bytes, length), limit, told);
     receiver_accept(state: *const u64, states: usize, row: *mut pito_slot, slots: usize, buffer: *mut u8, size: usize,
         packet: *const u8, length: usize, sequence: u64, out: *mut u8, room: usize) told
         face::receiver_accept(given(state, states), lent(row.cast(), slots), lent(buffer, size), given(packet, length),
             Reply { sequence, buffer: lent(out, room) }, told);
+    capture_packet(capture: *const u8, length: usize, place: u64) told
+        face::capture_packet(given(capture, length), place, told);
     capture_judge(capture: *const u8, length: usize, room: u64, limit: u64) told
         face::capture_judge(given(capture, length), room, limit, told);
     capture_why(capture: *const u8, length: usize, room: u64, limit: u64) told

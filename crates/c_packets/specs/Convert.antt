@@ -19,12 +19,12 @@ abbrev pub headRow : ℕ → Head → ℕ → ℕ → ℕ → ℕ → ℕ → �
 headRow end h kind ack extended total start length =
     end ∷ streamNumber (h .stream) ∷ h .id ∷ h .sequence ∷ kind ∷ ack ∷ extended ∷ total ∷ start ∷ length ∷ []
 
--- 0 where a packet has no such number; the flag of an ACK is 1, that of a NACK 0
+-- 0 where a packet has no such number; an ACK and a NACK have no extender, and the flag 1 and 0
 abbrev pub packetRow : ℕ → ℕ → Packet → List ℕ
 packetRow end extended (First h ack total start len) = headRow end h typeFirst (bit ack) extended total start len
 packetRow end extended (Next h ack last start len) = headRow end h (cond last typeLast typeContinuation) (bit ack) extended 0 start len
-packetRow end extended (Ack h) = headRow end h typeControl 1 extended 0 0 0
-packetRow end extended (Nack h) = headRow end h typeControl 0 extended 0 0 0
+packetRow end extended (Ack h) = headRow end h typeControl 1 0 0 0 0
+packetRow end extended (Nack h) = headRow end h typeControl 0 0 0 0 0
 
 abbrev pub frontRow : ℕ → ℕ → Told Packet → List ℕ
 frontRow end extended (given packet) = packetRow end extended packet

@@ -96,8 +96,8 @@ fn packet_row(end: usize, extended: bool, packet: Packet) -> [u64; 10]
             start,
             len,
         } => head_row(end, head, kind_after(last), ack, extended, 0, start, len),
-        Packet::Ack(head) => head_row(end, head, TYPE_CONTROL, true, extended, 0, 0, 0),
-        Packet::Nack(head) => head_row(end, head, TYPE_CONTROL, false, extended, 0, 0, 0),
+        Packet::Ack(head) => head_row(end, head, TYPE_CONTROL, true, false, 0, 0, 0),
+        Packet::Nack(head) => head_row(end, head, TYPE_CONTROL, false, false, 0, 0, 0),
     }
 }
 

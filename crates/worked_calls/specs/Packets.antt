@@ -31,8 +31,8 @@ packetsRows =
     )
     -- a continuation that asks for an ACK, and a last packet with a length in two bytes that does not
     ∷ (
-      packetReadOf (0x03 ∷ 0x16 ∷ 0x01 ∷ 0x07 ∷ 0x07 ∷ []) 0 (replicate 10 9),
-      called 0 [] [] (4 ∷ 0 ∷ 3 ∷ 1 ∷ 1 ∷ 1 ∷ 0 ∷ 0 ∷ 3 ∷ 1 ∷ []),
+      packetReadOf (0x03 ∷ 0x16 ∷ 0x05 ∷ replicate 6 0x07) 0 (replicate 10 9),
+      called 0 [] [] (8 ∷ 0 ∷ 3 ∷ 1 ∷ 1 ∷ 1 ∷ 0 ∷ 0 ∷ 3 ∷ 5 ∷ []),
     )
     ∷ (
       packetReadOf (0x62 ∷ 0x29 ∷ 0x00 ∷ 0x02 ∷ 0x07 ∷ 0x07 ∷ []) 0 (replicate 10 9),
