@@ -231,6 +231,8 @@ static void judge(uint64_t room, uint64_t limit)
     read_capture();
     CALL(pito_capture_judge, A(capture), captured, once_in(20) ? below(600) : room, once_in(20) ? any_number() : limit,
          A(answer), length(PITO_CAPTURE_JUDGE_ANSWER));
+    CALL(pito_capture_why, A(capture), captured, once_in(20) ? below(600) : room, once_in(20) ? any_number() : limit,
+         A(answer), length(PITO_CAPTURE_WHY_ANSWER));
     captured = 0;
 }
 
@@ -408,8 +410,11 @@ static void read_outbox(size_t used)
     uint64_t place = once_in(40) ? below(used + 3) : !once_in(40);
     CALL(pito_outbox_whole, A(bytes), used, A(answer), length(PITO_OUTBOX_WHOLE_ANSWER));
     while (CALL(pito_outbox_record, A(bytes), used, place, A(answer), length(PITO_OUTBOX_RECORD_ANSWER)) == 0 &&
-           answer[0] == PITO_RECORD)
+           answer[0] == PITO_RECORD) {
+        uint64_t start = answer[2], payload_length = answer[3];
         place = answer[4];
+        CALL(pito_text, A(bytes) + start, payload_length, A(answer), length(PITO_TEXT_ANSWER));
+    }
 }
 
 static void move_outbox(size_t used)

@@ -33,6 +33,7 @@ calls! {
         plain_receiver_accept;
     CapturePacket(capture: *const u8, length: usize, place: u64, answer: *mut u64, answers: usize);
     CaptureJudge(capture: *const u8, length: usize, room: u64, limit: u64, answer: *mut u64, answers: usize);
+    CaptureWhy(capture: *const u8, length: usize, room: u64, limit: u64, answer: *mut u64, answers: usize);
     ReportAdd(report: *mut u64, reports: usize, limit: u64, row: *mut pito_slot, slots: usize, buffer: *mut u8,
         size: usize, capture: *const u8, length: usize, answer: *mut u64, answers: usize);
     MessageRead(message: *const u8, length: usize, answer: *mut u64, answers: usize)
@@ -65,6 +66,7 @@ calls! {
         answer: *mut u64, answers: usize);
     OutboxRecord(bytes: *const u8, length: usize, place: u64, answer: *mut u64, answers: usize);
     OutboxWhole(bytes: *const u8, length: usize, answer: *mut u64, answers: usize);
+    Text(text: *const u8, length: usize, answer: *mut u64, answers: usize);
     OutboxTo(bytes: *const u8, length: usize, output: *mut u8, size: usize, answer: *mut u64, answers: usize);
 }
 

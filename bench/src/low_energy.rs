@@ -1,8 +1,8 @@
 //! Loops over Low Energy packets.
 
 use crate::calls::{
-    pito_slot, AckWrite, CaptureJudge, CapturePacket, PacketRead, PacketWrite, ReceiverAccept,
-    ReportAdd,
+    pito_slot, AckWrite, CaptureJudge, CapturePacket, CaptureWhy, PacketRead, PacketWrite,
+    ReceiverAccept, ReportAdd,
 };
 use crate::digest::Digest;
 use second::classic::LIMIT;
@@ -208,9 +208,22 @@ pub fn captured<const WHOLE: bool>(read: CapturePacket, capture: &[u8]) -> u64 {
 
 /// A capture judged, in one call.
 pub fn judge<const WHOLE: bool>(judge: CaptureJudge, capture: &[u8], room: usize) -> u64 {
+    judged::<WHOLE, 2>(judge, capture, room)
+}
+
+/// .. and told why.
+pub fn why<const WHOLE: bool>(why: CaptureWhy, capture: &[u8], room: usize) -> u64 {
+    judged::<WHOLE, 31>(why, capture, room)
+}
+
+fn judged<const WHOLE: bool, const N: usize>(
+    judge: CaptureJudge,
+    capture: &[u8],
+    room: usize,
+) -> u64 {
     let judge = black_box(judge);
     let mut digest = Digest::<WHOLE>::new();
-    let mut answer = [0; 2];
+    let mut answer = [0; N];
     let number = unsafe {
         judge(
             capture.as_ptr(),

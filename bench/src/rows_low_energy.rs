@@ -77,6 +77,13 @@ pub fn rows() -> Vec<Row> {
     }));
     for (size, name) in SIZES {
         rows.push(Row::new(
+            "captures judged",
+            format!("{name} bytes, room 244, and told why"),
+            move || why_job(inputs::packets(&inputs::messages(65_536, size), 244), 244),
+        ));
+    }
+    for (size, name) in SIZES {
+        rows.push(Row::new(
             "captures in a report",
             format!("{name} bytes, room 244"),
             move || report_job(inputs::packets(&inputs::messages(65_536, size), 244)),
@@ -175,6 +182,21 @@ pub fn judge_job(packets: Vec<Vec<u8>>, room: usize) -> Job {
         .with(
             Subject::Rust,
             work!(low_energy::judge(rust::capture_judge, &b, room)),
+        )
+}
+
+/// .. and told why.
+pub fn why_job(packets: Vec<Vec<u8>>, room: usize) -> Job {
+    let count = packets.len();
+    let [a, b] = share(capture(&packets));
+    Job::of("packet", count)
+        .with(
+            Subject::Archive,
+            work!(low_energy::why(pito_capture_why, &a, room)),
+        )
+        .with(
+            Subject::Rust,
+            work!(low_energy::why(rust::capture_why, &b, room)),
         )
 }
 

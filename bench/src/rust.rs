@@ -57,6 +57,8 @@ shims! {
         face::capture_packet(given(capture, length), place, told);
     capture_judge(capture: *const u8, length: usize, room: u64, limit: u64) told
         face::capture_judge(given(capture, length), room, limit, told);
+    capture_why(capture: *const u8, length: usize, room: u64, limit: u64) told
+        face::capture_why(given(capture, length), room, limit, told);
     report_add(report: *mut u64, reports: usize, limit: u64, row: *mut pito_slot, slots: usize, buffer: *mut u8,
         size: usize, capture: *const u8, length: usize) told
         face::report_add(lent(report, reports), limit, lent(row.cast(), slots), lent(buffer, size),
@@ -98,6 +100,7 @@ shims! {
     outbox_record(bytes: *const u8, length: usize, place: u64) told
         face::outbox_record(given(bytes, length), place, told);
     outbox_whole(bytes: *const u8, length: usize) told face::outbox_whole(given(bytes, length), told);
+    text(text: *const u8, length: usize) told face::text_places(given(text, length), told);
     outbox_to_01(bytes: *const u8, length: usize, output: *mut u8, size: usize) told
         face::outbox_write_as(ONE, given(bytes, length), lent(output, size), told);
     outbox_to_02(bytes: *const u8, length: usize, output: *mut u8, size: usize) told

@@ -62,6 +62,10 @@ fn kinds(operation: Operation) -> Kinds {
         Operation::OutboxRecord => &[(0, &["end", "record"])],
         Operation::CapturePacket => &[(0, &["end", "packet"])],
         Operation::CaptureJudge => &[(0, &["", "lawful", "open", "unlawful"])],
+        Operation::CaptureWhy => &[
+            (0, &["", "lawful", "open", "unlawful"]),
+            (24, &["", "any first expected", "first expected", "next expected"]),
+        ],
         _ => &[],
     }
 }

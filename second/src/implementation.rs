@@ -19,6 +19,7 @@ pub enum Operation {
     ReceiverAccept,
     CapturePacket,
     CaptureJudge,
+    CaptureWhy,
     ReportAdd,
     EnvelopeRead,
     EnvelopeWrite,
@@ -40,6 +41,7 @@ pub enum Operation {
     OutboxWhole,
     OutboxTo01,
     OutboxTo02,
+    Text,
 }
 
 /// A slot as the caller lends it: 8 bytes. "the slots come lent by the caller as a row of records" (No.
@@ -111,6 +113,39 @@ const REPORT: &[&str] = &[
     "Alexa.left open",
     "Alexa.payload",
     "Alexa.bytes",
+];
+const WHY: &[&str] = &[
+    "outcome",
+    "place",
+    "control.opened",
+    "control.id",
+    "control.left",
+    "control.sequence",
+    "OTA.opened",
+    "OTA.id",
+    "OTA.left",
+    "OTA.sequence",
+    "Alexa.opened",
+    "Alexa.id",
+    "Alexa.left",
+    "Alexa.sequence",
+    "refusal",
+    "size",
+    "stream",
+    "id",
+    "sequence",
+    "kind",
+    "ack",
+    "extended",
+    "total",
+    "length",
+    "expected",
+    "expected id",
+    "expected sequence",
+    "expected kind",
+    "expected length",
+    "expected extended",
+    "expected last",
 ];
 const INFORMATION: &[&str] = &[
     "serial_number.start",
@@ -257,7 +292,7 @@ const MESSAGE_READ: &[u64] = &[0, 1, 30, 31, 32, 33, 34];
 const STRINGS_READ: &[u64] = &[0, 1, 30, 31, 32, 33, 34, 36];
 
 impl Operation {
-    pub const ALL: [Operation; 35] = [
+    pub const ALL: [Operation; 37] = [
         Operation::ExtractorOpen,
         Operation::ExtractorStep,
         Operation::ExtractorFeed,
@@ -272,6 +307,7 @@ impl Operation {
         Operation::ReceiverAccept,
         Operation::CapturePacket,
         Operation::CaptureJudge,
+        Operation::CaptureWhy,
         Operation::ReportAdd,
         Operation::EnvelopeRead,
         Operation::EnvelopeWrite,
@@ -293,6 +329,7 @@ impl Operation {
         Operation::OutboxWhole,
         Operation::OutboxTo01,
         Operation::OutboxTo02,
+        Operation::Text,
     ];
 
     // Each shape is written alike, also the one that has every part.
@@ -444,6 +481,14 @@ impl Operation {
                 numbers: &["room", "limit"],
                 inputs: &["capture"],
                 answer: &["outcome", "place"],
+                returns: &[0, 1, 13, 17, 40, 41, 42],
+                ..empty
+            },
+            Operation::CaptureWhy => Shape {
+                name: "capture why",
+                numbers: &["room", "limit"],
+                inputs: &["capture"],
+                answer: WHY,
                 returns: &[0, 1, 13, 17, 40, 41, 42],
                 ..empty
             },
@@ -647,6 +692,13 @@ impl Operation {
                 lent: "output",
                 // Every payload of 01 is short enough for 02.
                 returns: &[0, 1, 14, 40, 41, 42, 43],
+                ..empty
+            },
+            Operation::Text => Shape {
+                name: "text",
+                inputs: &["text"],
+                answer: &["bad", "hidden"],
+                returns: &[0, 1, 36],
                 ..empty
             },
         }

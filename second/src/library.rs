@@ -97,6 +97,10 @@ impl Implementation for Library {
                     let (capture, length) = input(0);
                     pito_capture_judge(capture, length, numbers[0], numbers[1], told, tells)
                 }
+                Operation::CaptureWhy => {
+                    let (capture, length) = input(0);
+                    pito_capture_why(capture, length, numbers[0], numbers[1], told, tells)
+                }
                 Operation::ReportAdd => {
                     let (capture, length) = input(0);
                     let (slot, slots) = (slots.as_mut_ptr().cast(), slots.len());
@@ -187,6 +191,10 @@ impl Implementation for Library {
                 Operation::OutboxTo02 => {
                     let (outbox, length) = input(0);
                     pito_outbox_to_02(outbox, length, bytes, size, told, tells)
+                }
+                Operation::Text => {
+                    let (text, length) = input(0);
+                    pito_text(text, length, told, tells)
                 }
             }
         }

@@ -151,6 +151,15 @@ extern "C" {
         answer: *mut u64,
         answer_len: usize,
     ) -> u64;
+    /// Judges another sender, and tells what came and what was expected.
+    pub fn pito_capture_why(
+        capture: *const u8,
+        capture_len: usize,
+        room: u64,
+        limit: u64,
+        answer: *mut u64,
+        answer_len: usize,
+    ) -> u64;
     /// Adds a capture to a report of what the radio cost.
     pub fn pito_report_add(
         report: *mut u64,
@@ -360,6 +369,13 @@ extern "C" {
         bytes_len: usize,
         output: *mut u8,
         output_len: usize,
+        answer: *mut u64,
+        answer_len: usize,
+    ) -> u64;
+    /// Tells where bytes are not text.
+    pub fn pito_text(
+        text: *const u8,
+        text_len: usize,
         answer: *mut u64,
         answer_len: usize,
     ) -> u64;

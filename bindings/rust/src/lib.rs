@@ -10,8 +10,9 @@
 //! | control and firmware messages | [`Envelope`], [`DeviceInformation`], [`UpdateComponentSegment`], .. |
 //! | the reply to the handshake | [`Device::reply`] |
 //! | the outbox file | [`Outbox`], [`Records`], [`write_as`] |
-//! | another sender, judged | [`judge`] |
+//! | another sender, judged, and why | [`judge`], [`why`] |
 //! | what the radio cost, by captures | [`Report`] |
+//! | bytes that may be text | [`Text`] |
 //! | sizes of buffers and outputs | [`sizes`] |
 //! | refusals, by number | [`Refusal`], [`Refused`] |
 //!
@@ -42,8 +43,10 @@ mod reply;
 mod report;
 mod sending;
 pub mod sizes;
+mod text;
 mod told;
 mod up_to_eight;
+mod why;
 
 pub use classic::{next_sequence, write_frame, Buffer, Event, Extractor, Frame, FrameWriter, Step};
 pub use control::{DeviceFeatures, DeviceInformation, Envelope, Member, Payload, Response};
@@ -60,7 +63,9 @@ pub use refusal::{Refusal, Refused};
 pub use reply::Device;
 pub use report::{Costs, Report};
 pub use sending::{ack, nack, Joined, Packet, Packets, Transaction};
+pub use text::Text;
 pub use up_to_eight::UpToEight;
+pub use why::{why, Came, Expected, NextPacket, OpenTransaction, Why};
 
 /// The README's example, run as a test.
 #[cfg(doctest)]

@@ -10,6 +10,7 @@ mod Strings
 mod Told
 mod SizesSuffice
 mod Fronts
+mod Whys
 mod RowsAgree
 mod NumbersJudged
 mod Instances

@@ -55,6 +55,7 @@ use Rattle.c_claims.specs.RowsAgree.{NumbersFit, rowStanding, packetBy, 
 use Rattle.c_claims.proofs.Applies.{not-wide}
 use Rattle.c_claims.proofs.Fronts.{joined-agrees, captured-agrees}
 use Rattle.c_claims.proofs.Told.{numbers-fit}
+use Rattle.c_claims.proofs.Whys.{why-agrees}
 
 -- ---- an ApplyFirmware
 -- what stands before does not count
@@ -308,4 +309,5 @@ rows-agree = record {
   records = records-agree;
   joined = joined-agrees;
   captured = captured-agrees;
+  why = why-agrees;
 }

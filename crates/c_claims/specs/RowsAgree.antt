@@ -1,7 +1,8 @@
 -- The claim that rows agree with what the library itself tells: what a C caller carries from one call to the next is taken as what the first
 -- told of. The row of an ApplyFirmware, the row of a report and the state rows are taken as what they were made of; the row of a field tells what
 -- stands at the place; who goes on at each next place gets all packets of a message and of a capture and all records of a file; and who cuts
--- joined packets where each is told to end gets the writer's, each with a row of what the writer was given.
+-- joined packets where each is told to end gets the writer's, each with a row of what the writer was given. Why a capture is not lawful is told
+-- with the judge's verdict.
 use Prim.Native.Nat.{ℕ, zero, suc, _+_, _≤_, _<_}
 use mathlib.Core.Path.{_≡_}
 use mathlib.Core.Bool.{true, cond, _&&_}
@@ -43,6 +44,7 @@ use Rattle.c_sending.specs.Calls.{packetWriteOf}
 use Rattle.capture_reader.specs.Capture as capture
 use Rattle.capture_reader.specs.Capture.{ToldAt, before}
 use Rattle.c_packets.specs.Calls.{packetReadOf, capturePacketOf}
+use Rattle.c_judge.specs.Calls.{captureJudgeOf, captureWhyOf}
 use Rattle.outbox_claims.specs.Claims.{Entry}
 use Rattle.outbox_move_claims.specs.Claims.{recordsOf}
 use Rattle.c_outbox.specs.Calls.{outboxRecordOf}
@@ -150,3 +152,8 @@ pub record RowsAgree : Type 0 where
       ≡ map (λ (p : Piece). (packetOf how message p, rowFor how (length message) p)) (piecesOf (how .room) (length message))
   -- the calls for a capture, each at the next place that the one before it told, give all its packets, or its refusal with its place
   pub captured : (bytes answer : List ℕ) → length answer ≡ 5 → capturedFrom (suc (length bytes)) bytes answer 1 ≡ capture.packetsOf bytes
+  -- the judge's number, and its row in front
+  pub why : (room limit : ℕ) (capture answer row : List ℕ) → length answer ≡ 31 → length row ≡ 2
+      → let w = captureWhyOf capture room limit answer in
+      let j = captureJudgeOf capture room limit row in
+      (w .number ≡ j .number) × ((w .number ≡ 1 → ⊥) → take 2 (w .answer) ≡ j .answer)

@@ -108,7 +108,9 @@ fn ordinary(rng: &mut Rng, operation: Operation) -> Call {
                 .reply(rng.bytes(room))
         }
         Operation::CapturePacket => call.numbers(&[1]).inputs(&[&[1, 0, 1, 9]]),
-        Operation::CaptureJudge => call.numbers(&[20, 300]).inputs(&[&[1, 0, 1, 9]]),
+        Operation::CaptureJudge | Operation::CaptureWhy => {
+            call.numbers(&[20, 300]).inputs(&[&[1, 0, 1, 9]])
+        }
         Operation::ReportAdd => {
             let mut report = [0; 21];
             rng.fill_row(&mut report);
@@ -172,6 +174,7 @@ fn ordinary(rng: &mut Rng, operation: Operation) -> Call {
         Operation::OutboxWhole => call.inputs(&[&[1, 0, 2, 6, 9]]),
         Operation::OutboxTo01 => call.inputs(&[&[2, 0, 0, 0, 2, 6, 9]]).lent(rng.bytes(8)),
         Operation::OutboxTo02 => call.inputs(&[&[1, 0, 2, 6, 9]]).lent(rng.bytes(8)),
+        Operation::Text => call.inputs(&[&text]),
     }
 }
 

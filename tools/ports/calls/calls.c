@@ -364,6 +364,14 @@ static uint64_t capture_judge(void)
     return CALL(pito_capture_judge(input, count, room, limit, answer, told));
 }
 
+static uint64_t capture_why(void)
+{
+    uint32_t count = some_capture();
+    uint64_t room = mostly(20), limit = mostly(60);
+    pito_len told = length(PITO_CAPTURE_WHY_ANSWER);
+    return CALL(pito_capture_why(input, count, room, limit, answer, told));
+}
+
 static uint64_t report_add(void)
 {
     uint32_t count = some_capture();
@@ -637,6 +645,14 @@ static uint64_t outbox_to_02(void)
     return CALL(pito_outbox_to_02(input, count, output, size, answer, told));
 }
 
+static uint64_t text(void)
+{
+    uint32_t count = below(60);
+    fill(input, count, one_in(4) ? ANY : TEXT);
+    pito_len told = length(PITO_TEXT_ANSWER);
+    return CALL(pito_text(input, count, answer, told));
+}
+
 /* ---- all of them */
 
 #define KIND(name, times) {"pito_" #name, name, times}
@@ -653,6 +669,7 @@ static const struct {
     KIND(envelope_write, 1),    KIND(response_write, 1), KIND(information_write, 1), KIND(features_write, 1),
     KIND(segment_write, 1),     KIND(apply_write, 1),    KIND(reply_write, 1),     KIND(outbox_new, 1),    KIND(outbox_append, 1),
     KIND(outbox_record, 1),     KIND(outbox_whole, 1),   KIND(outbox_to_01, 1),    KIND(outbox_to_02, 1),
+    KIND(capture_why, 1),       KIND(text, 1),
 };
 
 /* Every step can be undone, so a difference does not vanish by itself. */
