@@ -6,6 +6,7 @@ a guard left out, or two exchanged; a named number for another of its file."""
 import re
 
 from reader import argtypes, bare, clause, result
+from tables import names
 from world import Unread
 
 NUM = {"u8", "u16", "u32", "u64", "usize"}
@@ -453,15 +454,44 @@ def edited(text, edits, lo, hi):
     return s + text[pos:hi]
 
 
-def compiled(w, x):
-    m, d = (x.m, x.d)
-    cl = []
-    for pats, body, s, e in d.clauses:
+def changed(x):
+    """the clauses of a definition with a change"""
+    out = []
+    for pats, body, s, e in x.d.clauses:
         mine = [q for q in x.edits if s <= q[0] < e]
-        if mine:
-            cl.append(clause(edited(m.text, mine, s, e), s))
-        else:
-            cl.append((pats, body, s, e))
-    t = w.python(m, d, cl)
-    ns = {}
-    return compile(t, f"{m.rel}.{d.name}*", "exec")
+        out.append(clause(edited(x.m.text, mine, s, e), s) if mine else (pats, body, s, e))
+    return out
+
+
+def compiled(w, x):
+    return compile(w.python(x.m, x.d, changed(x)), f"{x.m.rel}.{x.d.name}*", "exec")
+
+
+def calls_of(name, n):
+    """the arguments of each place where a term names a definition"""
+    if n is None or isinstance(n, (str, int)):
+        return
+    if isinstance(n, (list, tuple)):
+        for x in n:
+            yield from calls_of(name, x)
+        return
+    if n.k == "var":
+        if n.a == name:
+            yield []
+        return
+    if n.k == "app" and bare(n.a).k == "var" and bare(n.a).a == name:
+        yield n.b
+        yield from calls_of(name, n.b)
+        return
+    for x in (n.a, n.b, n.c):
+        yield from calls_of(name, x)
+
+
+def descends(name, clauses):
+    """whether one argument is a part of its own pattern wherever a definition calls itself: the checker takes no other"""
+
+    def lower(place, pats, args):
+        return place < len(args) and bare(pats[place]).k != "var" and bare(args[place]).k == "var" and bare(args[place]).a in set(names(pats[place]))
+
+    every = [(pats, args) for pats, body, _, _ in clauses for args in calls_of(name, body)]
+    return not every or any(all(lower(k, pats, args) for pats, args in every) for k in range(len(clauses[0][0])))
