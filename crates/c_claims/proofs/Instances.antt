@@ -1,4 +1,4 @@
--- An instance of each field of SizesSuffice but apply-write: the ends of its ranges, and just the output that the header names; the reply's only at the largest room and limit. The append also by computation.
+-- An instance of each field of SizesSuffice but apply-write: the ends of its ranges, and just the output that the header names. The append also by computation.
 use Prim.Native.Nat.{ℕ, zero, suc, _≤_, zero-le}
 use mathlib.Core.Path.{_≡_, refl}
 use mathlib.Core.Logic.{inl, inr}
@@ -135,6 +135,14 @@ reply-widest =
     sizes-suffice .reply-write (8 ∷ 94 ∷ []) [] [] [] [] most members 512 65535 0 0 (record { command = pos 94; payload = Payload.None }) (bytes 360) (7 ∷ 7 ∷ 7 ∷ []) refl refl
     (omega arith) (omega arith) (omega arith) (omega arith) (omega arith) (omega arith) (omega arith, omega arith) (omega arith, omega arith)
     tt (omega arith) empty empty empty (omega arith) (omega arith)
+
+-- .. and at the least room, with the last id and sequence, where the limit is the reply's own length: eight transports of ten bytes each, and strings
+reply-fits : Done (replyWriteOf (8 ∷ 20 ∷ []) (65 ∷ []) (66 ∷ []) (67 ∷ []) (map extended transports) most members (linkOf 20 101 15 15) (bytes 366) (7 ∷ 7 ∷ 7 ∷ []))
+unfolding replyBy kindOfCommand fewSigned allSigned varintAt varintBytes badTag tagAt valueAt tagBytes headBytes partBytes fieldBytes roleOf judged addedAt readAt fieldAt fieldsFrom payloadOf envelopeOf
+reply-fits =
+    sizes-suffice .reply-write (8 ∷ 20 ∷ []) (65 ∷ []) (66 ∷ []) (67 ∷ []) transports most members 20 101 15 15 (record { command = pos 20; payload = Payload.None }) (bytes 366) (7 ∷ 7 ∷ 7 ∷ []) refl refl
+    (omega arith) (omega arith) (omega arith) (omega arith) (omega arith) (omega arith) (omega arith, omega arith) (omega arith, omega arith)
+    all-least (omega arith) (letter 65 (omega arith)) (letter 66 (omega arith)) (letter 67 (omega arith)) (omega arith) (omega arith)
 
 told-again : (message told : List ℕ) → let c = applyReadOf message told in let row = take 57 (c .answer) in
     c .number ≡ 0 → Done (applyWriteOf row message (bytes (applySize (getD row 8 0) (stringsOf row))) (7 ∷ 7 ∷ 7 ∷ []))

@@ -1,18 +1,20 @@
--- An instance of each new field of RowsAgree, and each of NumbersJudged at the least number that is no byte.
+-- An instance of fields of RowsAgree, and each of NumbersJudged at the least number that is no byte.
 use Prim.Native.Nat.{ℕ, suc, _≤_}
 use mathlib.Core.Path.{_≡_, refl}
 use mathlib.Core.Logic.{_⊎_}
-use mathlib.Core.List.{List, [], _∷_}
+use mathlib.Core.Bool.{true}
+use mathlib.Core.List.{List, [], _∷_, _++_}
 use native.Mathlib.Omega.{arith}
 use lib.ListN.{length, replicate}
-use Rattle.wire.specs.Told.{given}
 use Rattle.ble_slot.specs.declared.Slot.{Slot}
 use Rattle.ble_sender.specs.declared.writer.Sending.{Sending}
 use Rattle.ble_sender.specs.Writer.{packetsOf}
 use Rattle.ble_sender_claims.proofs.CallsGiveAll.{takes-all}
 use Rattle.outbox_move_claims.specs.Claims.{recordsOf}
+use Rattle.proto_reader.specs.Gathered.{noPart}
 use Rattle.msg_firmware.specs.declared.apply.ApplyFirmware.{ApplyFirmware}
-use Rattle.msg_firmware.specs.Apply.{applyOf}
+use Rattle.msg_firmware.specs.Component.{noComponent}
+use Rattle.msg_firmware.specs.Apply.{applyOf, noApply}
 use Rattle.msg_apply_writer.specs.Apply.{applyWritten}
 use Rattle.c_message_rows.specs.Convert.{textCall}
 use Rattle.c_firmware_rows.specs.Apply.{wholeRow}
@@ -38,9 +40,39 @@ packets limit how message out least most low high stream id sequence short space
 records : (file : List ℕ) → recordsFrom (suc (length file)) file (replicate 6 7) 1 ≡ recordsOf file
 records file = rows-agree .records file (replicate 6 7) refl
 
-apply-told : (message : List ℕ) (a : ApplyFirmware) (texts out answer : List ℕ) → applyOf message ≡ given a
-    → applyWriteOf (wholeRow a) texts out answer ≡ textCall out answer (applyWritten a texts out)
-apply-told message a texts out answer e = rows-agree .apply-told message a texts out answer e
+-- the least that is told: no bytes at all
+apply-none : (texts out answer : List ℕ) → applyWriteOf (wholeRow noApply) texts out answer ≡ textCall out answer (applyWritten noApply texts out)
+unfolding applyOf
+apply-none texts out answer = rows-agree .apply-told [] noApply texts out answer refl
+
+-- .. and the most: restart, eight components, and of the last of them the largest numbers
+abbrev eight : List ℕ
+eight =
+    0x0A ∷ 0x22
+    ∷ 0x08 ∷ 0xFF ∷ 0xFF ∷ 0xFF ∷ 0xFF ∷ 0x0F
+    ∷ 0x1A ∷ 0x00 ∷ 0x1A ∷ 0x00 ∷ 0x1A ∷ 0x00 ∷ 0x1A ∷ 0x00 ∷ 0x1A ∷ 0x00 ∷ 0x1A ∷ 0x00 ∷ 0x1A ∷ 0x00
+    ∷ 0x1A ∷ 0x0C ∷ 0x08 ∷ 0xFF ∷ 0xFF ∷ 0xFF ∷ 0xFF ∷ 0x0F ∷ 0x18 ∷ 0xFF ∷ 0xFF ∷ 0xFF ∷ 0xFF ∷ 0x0F
+    ∷ 0x10 ∷ 0x01
+    ∷ []
+
+abbrev largest : ApplyFirmware
+largest =
+    record {
+      «firmware_information» =
+          record {
+            version = 4294967295;
+            name = noPart;
+            components = replicate 7 noComponent ++ (record { version = 4294967295; name = noPart; size = 4294967295; signature = noPart } ∷ []);
+            count = 8;
+            locale = noPart;
+            «version_name» = noPart;
+          };
+      «restart_required» = true;
+    }
+
+apply-most : (texts out answer : List ℕ) → applyWriteOf (wholeRow largest) texts out answer ≡ textCall out answer (applyWritten largest texts out)
+unfolding applyOf
+apply-most texts out answer = rows-agree .apply-told eight largest texts out answer refl
 
 module _ (limit room stream id sequence ack positive total used : ℕ) (slots : List Slot) (state lent packet payload buffer out answer : List ℕ) where
   frames : (frameWriteOf limit 256 payload out answer ≡ frameWriteOf limit 0xF0 payload out answer) × (frameBeginOf limit 256 total state ≡ frameBeginOf limit 0xF0 total state)

@@ -37,10 +37,6 @@ classicRows =
       called 1 (1 ∷ (replicate 4 0)) (0x00 ∷ 0x00 ∷ 0x00 ∷ []) (9 ∷ 9 ∷ 9 ∷ []),
     )
     ∷ (
-      extractorStepOf (2 ∷ 5 ∷ 0 ∷ 0 ∷ []) (0x00 ∷ 0x80 ∷ 0x00 ∷ 0x00 ∷ []) 0x00 (9 ∷ 9 ∷ 9 ∷ []),
-      called 0 (2 ∷ 4 ∷ 0 ∷ 1 ∷ []) (0xF2 ∷ 0x80 ∷ 0x00 ∷ 0x00 ∷ []) (1 ∷ 0 ∷ 0 ∷ []),
-    )
-    ∷ (
       extractorStepOf (2 ∷ 4 ∷ 0 ∷ 0 ∷ []) (replicate 4 0x00) 0xF2 (9 ∷ 9 ∷ 9 ∷ []),
       called 0 (2 ∷ 5 ∷ 0 ∷ 0 ∷ []) (replicate 4 0x00) (1 ∷ 0 ∷ 0 ∷ []),
     )
