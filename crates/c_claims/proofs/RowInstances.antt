@@ -11,10 +11,17 @@ use Rattle.ble_sender.specs.declared.writer.Sending.{Sending}
 use Rattle.ble_sender.specs.Writer.{packetsOf}
 use Rattle.ble_sender_claims.proofs.CallsGiveAll.{takes-all}
 use Rattle.outbox_move_claims.specs.Claims.{recordsOf}
+use Rattle.proto_field.specs.Fields.{foundAt}
+use Rattle.proto_field.specs.Tag.{tagAt, badTag}
+use Rattle.proto_field.specs.Value.{valueAt}
+use Rattle.proto_field.specs.Varint.{varintAt}
+use Rattle.proto_schema.specs.Schema.{roleOf}
 use Rattle.proto_reader.specs.Gathered.{noPart}
+use Rattle.proto_reader.specs.Walk.{fieldsFrom, fieldAt, readAt, addedAt, judged}
 use Rattle.msg_firmware.specs.declared.apply.ApplyFirmware.{ApplyFirmware}
-use Rattle.msg_firmware.specs.Component.{noComponent}
-use Rattle.msg_firmware.specs.Apply.{applyOf, noApply}
+use Rattle.msg_firmware.specs.Component.{noComponent, componentFrom}
+use Rattle.msg_firmware.specs.Information.{partsFrom, componentIn, componentsFrom, firmwareFrom}
+use Rattle.msg_firmware.specs.Apply.{firmwareIn, applyOf, noApply}
 use Rattle.msg_apply_writer.specs.Apply.{applyWritten}
 use Rattle.c_message_rows.specs.Convert.{textCall}
 use Rattle.c_firmware_rows.specs.Apply.{wholeRow}
@@ -42,7 +49,7 @@ records file = rows-agree .records file (replicate 6 7) refl
 
 -- the least that is told: no bytes at all
 apply-none : (texts out answer : List ℕ) → applyWriteOf (wholeRow noApply) texts out answer ≡ textCall out answer (applyWritten noApply texts out)
-unfolding applyOf
+unfolding componentFrom partsFrom componentIn componentsFrom firmwareFrom firmwareIn applyOf fieldsFrom fieldAt readAt addedAt judged roleOf foundAt tagAt badTag valueAt varintAt
 apply-none texts out answer = rows-agree .apply-told [] noApply texts out answer refl
 
 -- .. and the most: restart, eight components, and of the last of them the largest numbers
@@ -71,7 +78,7 @@ largest =
     }
 
 apply-most : (texts out answer : List ℕ) → applyWriteOf (wholeRow largest) texts out answer ≡ textCall out answer (applyWritten largest texts out)
-unfolding applyOf
+unfolding componentFrom partsFrom componentIn componentsFrom firmwareFrom firmwareIn applyOf fieldsFrom fieldAt readAt addedAt judged roleOf foundAt tagAt badTag valueAt varintAt
 apply-most texts out answer = rows-agree .apply-told eight largest texts out answer refl
 
 module _ (limit room stream id sequence ack positive total used : ℕ) (slots : List Slot) (state lent packet payload buffer out answer : List ℕ) where
