@@ -17,33 +17,10 @@ sys.dont_write_bytecode = True
 from changes import changed, changes, compiled, descends, ty
 from contracts import seen
 from reader import result
-from tables import collect
+from tables import collect, coverage
 from world import UNK, Unread, World, deep
 
 SAME = os.path.join(os.path.dirname(os.path.abspath(__file__)), "same")
-
-
-def coverage(w, rows):
-    """which definitions each row calls, and what it takes"""
-    saved, hit = {}, set()
-    for i in w.back:
-        f = w.ns.get(i)
-        if callable(f):
-            saved[i] = f
-            w.ns[i] = (lambda f, i: lambda *a: (hit.add(i), f(*a))[1])(f, i)
-    for r in rows:
-        w.cache.clear()
-        hit.clear()
-        began = time.perf_counter()
-        r.run()
-        r.cost, r.uses = time.perf_counter() - began, frozenset(hit)
-    w.ns.update(saved)
-    w.cache.clear()
-    by = defaultdict(list)
-    for r in sorted(rows, key=lambda r: r.cost):
-        for i in r.uses:
-            by[i].append(r)
-    return by
 
 
 def tried(row):
