@@ -2,7 +2,8 @@
 
 A number one more or one less; a comparison turned, let through one more or one less; lines of a table exchanged or left out; a truth
 turned; one side of `and`, `or`, `++`; a condition's branches; arguments, fields, variables and constructors of one type exchanged;
-a guard left out, or two exchanged; a named number for another of its file."""
+a guard left out, or two exchanged; a named number for another of its file; a call left out for an argument of its type, where that is no
+number."""
 import re
 
 from reader import argtypes, bare, clause, result
@@ -204,6 +205,21 @@ def changes(w, m, d):
         ts = [ty(mm, x) for x in argtypes(dd.sig)]
         return len(ts) >= 2 and len(n.b) == len(ts) and (ts[-1] == ty(mm, result(dd.sig))) and (ts[-1] not in ("ℕ", "Bool", "List ℕ"))
 
+    def carried(name, count):
+        """the arguments of a whole call that have the type of what it gives"""
+        try:
+            r = w.resolve(m, name)
+        except Unread:
+            return []
+        if r and r[0] == "builtin":
+            return {"take": [1], "drop": [1], "set": [0], "sets": [0]}.get(name, []) if count == {"take": 2, "drop": 2}.get(name, 3) else []
+        if not r or r[0] != "def" or w.mods[r[1]].defs[r[2]].sig is None:
+            return []
+        mm = w.mods[r[1]]
+        sig = mm.defs[r[2]].sig
+        ts = [ty(mm, x) for x in argtypes(sig)]
+        return [i for i, t in enumerate(ts) if t == ty(mm, result(sig)) and t != "ℕ"] if len(ts) == count else []
+
     def walk(n, env, inchain=False, head=False):
         k = n.k
         if k == "par":
@@ -326,6 +342,9 @@ def changes(w, m, d):
                         for j in range(i + 1, min(len(a), len(ts))):
                             if ts[i] == ts[j] and " ".join(T(a[i]).split()) != " ".join(T(a[j]).split()):
                                 add("arguments", T(n), f"{T(a[i])} <-> {T(a[j])}", (a[i].s, a[i].e, T(a[j])), (a[j].s, a[j].e, T(a[i])))
+            if name and name not in env:
+                for i in carried(name, len(a)):
+                    repl("call dropped", n, pl(a[i]))
             walk(n.a, env, head=True)
             for x in a:
                 walk(x, env)

@@ -185,8 +185,8 @@ applyWrites =
     ∷ writeCase (applyWritten (record { «firmware_information» = listing [] 9; «restart_required» = false }) [] []) (refused (15, [])) []
     ∷ writeCase (applyWritten (record { «firmware_information» = listing (record { version = 0; name = noPart; size = 0; signature = part 1 1 } ∷ []) 1; «restart_required» = false }) (7 ∷ []) []) (refused (15, [])) []
     ∷ writeCase (applyWritten (record { «firmware_information» = listing (record { version = 0; name = noPart; size = 0; signature = part 1 1 } ∷ []) 0; «restart_required» = false }) (7 ∷ []) (9 ∷ 9 ∷ [])) (given 2) (0x0A ∷ 0x00 ∷ [])
-    -- a name and a locale of one byte each, a component named after them, version 5 and size 6
-    ∷ writeCase (applyWritten (record { «firmware_information» = named; «restart_required» = false }) (0x41 ∷ 0x42 ∷ 0x43 ∷ []) (replicate 17 9)) (given 17)
+    -- a name and a locale of one byte each, a component named after them, version 5 and size 6; in the texts a byte that no string has
+    ∷ writeCase (applyWritten (record { «firmware_information» = named; «restart_required» = false }) (0x41 ∷ 0x42 ∷ 0x43 ∷ 0xC3 ∷ []) (replicate 17 9)) (given 17)
     (0x0A ∷ 0x0F ∷ 0x12 ∷ 0x01 ∷ 0x41 ∷ 0x1A ∷ 0x07 ∷ 0x08 ∷ 0x05 ∷ 0x12 ∷ 0x01 ∷ 0x42 ∷ 0x18 ∷ 0x06 ∷ 0x22 ∷ 0x01 ∷ 0x43 ∷ [])
     -- the locale is C3 and the component is named 41 80: its name is written first; the locale alone, where the component is not there
     ∷ writeCase (applyWritten (record { «firmware_information» = misnamed 1; «restart_required» = false }) (0x41 ∷ 0x80 ∷ 0xC3 ∷ []) (9 ∷ [])) (refused (36, 2 ∷ 1 ∷ [])) (9 ∷ [])

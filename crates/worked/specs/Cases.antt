@@ -237,9 +237,10 @@ cases =
     ∷ case (readRecord (0x02 ∷ 0x00 ∷ 0x00 ∷ 0x00 ∷ []) 1) (reading (outbox.refusedAt 41 1))
     ∷ case (readRecord (0x02 ∷ 0x00 ∷ 0x01 ∷ 0x00 ∷ 0x01 ∷ []) 1) (reading (outbox.refusedAt 42 1))
     ∷ case (readRecord (0x02 ∷ 0x00 ∷ 0x01 ∷ 0x00 ∷ 0x00 ∷ []) 1) (reading (outbox.refusedAt 41 1))
-    -- appending: 1 before 40, 40 before 15, then 15; a record
+    -- appending: 1 before 40, 40 before 15 (another version; no byte used), then 15; a record
     ∷ case (appendRecord (0x03 ∷ []) 2 9 []) (appended (stored (outbox.refused 1) (0x03 ∷ [])))
     ∷ case (appendRecord (0x03 ∷ []) 1 9 []) (appended (stored (outbox.refusedAt 40 0) (0x03 ∷ [])))
+    ∷ case (appendRecord (0x02 ∷ []) 0 9 []) (appended (stored (outbox.refusedAt 40 0) (0x02 ∷ [])))
     ∷ case (appendRecord (0x02 ∷ []) 1 9 []) (appended (stored (outbox.refused 15) (0x02 ∷ [])))
     ∷ case (appendRecord (0x02 ∷ zeros 8) 1 6 (0x41 ∷ 0x42 ∷ []))
     (appended (stored (outbox.given 8) (0x02 ∷ 0x00 ∷ 0x00 ∷ 0x00 ∷ 0x03 ∷ 0x06 ∷ 0x41 ∷ 0x42 ∷ 0x00 ∷ [])))
