@@ -91,6 +91,20 @@ fiveIds =
     ∷ (0x11 ∷ 0x00 ∷ 0x00 ∷ 0x00 ∷ 0x02 ∷ 0x01 ∷ 0x07 ∷ [])
     ∷ []
 
+-- a message of three bytes in three packets, over sequence 15 and with an ACK wanted; between them an ACK of its stream and id, a packet of
+-- its stream and id that is refused by 5, and an empty message; on Alexa the same id without the last packet
+abbrev pub threePieces : List (List ℕ)
+threePieces =
+    (0x27 ∷ 0xF2 ∷ 0x00 ∷ 0x00 ∷ 0x03 ∷ 0x01 ∷ 0x0A ∷ [])
+    ∷ (0x27 ∷ 0x0E ∷ 0x00 ∷ 0x02 ∷ 0x01 ∷ 0x00 ∷ [])
+    ∷ (0x27 ∷ 0x04 ∷ 0x02 ∷ 0x0B ∷ [])
+    ∷ (0x67 ∷ 0x00 ∷ 0x00 ∷ 0x00 ∷ 0x03 ∷ 0x01 ∷ 0x0A ∷ [])
+    ∷ (0x27 ∷ 0x04 ∷ 0x01 ∷ 0x0B ∷ [])
+    ∷ (0x67 ∷ 0x14 ∷ 0x01 ∷ 0x0B ∷ [])
+    ∷ (0x28 ∷ 0x00 ∷ 0x00 ∷ 0x00 ∷ 0x00 ∷ 0x00 ∷ [])
+    ∷ (0x27 ∷ 0x18 ∷ 0x01 ∷ 0x0C ∷ [])
+    ∷ []
+
 -- ---- what is lent
 
 -- slots that no link has, and bytes of no message
@@ -145,16 +159,44 @@ rows =
     ∷ leaves emptyReport 2 (captured fiveIds) (given (report noCosts (costs 0 0 0 0 0 0 6) (costs 5 1 1 0 3 1 42)))
     (replicate 9 idle ++ (begun 2 ∷ begun 3 ∷ begun 4 ∷ []))
     (replicate 16 0xEE ++ (0x09 ∷ 0xEE ∷ 0x07 ∷ 0xEE ∷ 0x07 ∷ 0xEE ∷ 0x07 ∷ 0xEE ∷ []))
+    -- 9 drops nothing
+    ∷ leaves emptyReport 2 (captured (reaches ∷ [])) (given (report (costs 0 0 0 0 0 0 4) noCosts noCosts)) (replicate 12 idle) oddBytes
+    -- at limit 3
+    ∷ record {
+      before = emptyReport;
+      limit = 3;
+      slots = oddRow;
+      bytes = replicate 36 0xEE;
+      capture = captured threePieces;
+      after =
+          captureAdded (given (report noCosts (costs 2 2 0 0 0 3 31) (costs 1 0 0 0 1 0 11)))
+          (replicate 8 idle ++ (record { opened = 1; id = 7; sequence = 1; wanted = 0; total = 3; held = 2 } ∷ replicate 3 idle))
+          (replicate 12 0xEE ++ (0x0A ∷ 0x0B ∷ 0x0C ∷ (replicate 9 0xEE ++ (0x0A ∷ 0x0B ∷ replicate 10 0xEE))));
+    }
     -- no packets: all is idle, and the buffer as it was
     ∷ leaves emptyReport 2 (0x01 ∷ []) (given emptyReport) (replicate 12 idle) oddBytes
-    -- one number of the 21 that would pass 64 bits is enough, Alexa's payload bytes: 19 leaves row and buffer as after the last packet
+    -- the most that there is, and one more: 19 leaves row and buffer as after the last packet
+    ∷ leaves (report (costs 0 0 0 0 0 0 18446744073709551608) noCosts noCosts) 2 (captured (three ∷ [])) (given (report (costs 1 0 0 0 1 0 most) noCosts noCosts))
+    (begun 3 ∷ replicate 11 idle) (0x07 ∷ replicate 23 0xEE)
+    ∷ leaves (report (costs most 0 0 0 0 0 0) noCosts noCosts) 2 (captured (three ∷ whole ∷ [])) (refused (19, 0)) (begun 3 ∷ replicate 11 idle)
+    (0x07 ∷ (replicate 7 0xEE ++ (0x09 ∷ replicate 15 0xEE)))
+    -- one number of the 21 is enough: Alexa's payload bytes
     ∷ leaves (report noCosts noCosts (costs 0 0 0 0 0 most 0)) 2 (captured (alexaWhole ∷ [])) (refused (19, 0)) (replicate 12 idle)
     (replicate 16 0xEE ++ (0x09 ∷ replicate 7 0xEE))
-    -- 17 before 1, 1 before 40, both before 19, and both leave row and buffer
+    -- 17 before 1, 1 before 40, all of them before 19, and all of these leave row and buffer
     ∷ keeps 0 [] [] [] (17, 0)
+    ∷ keeps 65536 oddRow oddBytes (captured mixed) (17, 0)
+    ∷ keeps 65535 oddRow oddBytes [] (1, 0)
     ∷ keeps 1 oddRow oddBytes [] (1, 0)
+    ∷ keeps 2 (replicate 11 odd) oddBytes [] (1, 0)
     ∷ keeps 2 (replicate 13 odd) oddBytes (captured mixed) (1, 0)
     ∷ keeps 2 oddRow (replicate 23 0xEE) [] (1, 0)
+    ∷ keeps 2 oddRow (replicate 25 0xEE) (captured mixed) (1, 0)
+    ∷ keeps 2 oddRow oddBytes [] (40, 0)
+    ∷ keeps 2 oddRow oddBytes (0x02 ∷ []) (40, 0)
+    -- the whole capture is judged before a packet is taken
+    ∷ keeps 2 oddRow oddBytes (captured (three ∷ []) ++ (0x00 ∷ 0x00 ∷ [])) (42, 10)
+    ∷ keeps 2 oddRow oddBytes (captured (three ∷ []) ++ (0x00 ∷ 0x02 ∷ 0x03 ∷ [])) (41, 10)
     ∷ []
 
 -- each row is what adding its capture leaves

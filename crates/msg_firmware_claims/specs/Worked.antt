@@ -154,6 +154,8 @@ applyCases =
     }))
     -- restart_required 2 ^ 32
     ∷ applyCase (0x10 ∷ 0x80 ∷ 0x80 ∷ 0x80 ∷ 0x80 ∷ 0x10 ∷ []) (given (record { «firmware_information» = noFirmware; «restart_required» = true }))
+    -- a component that is broken, and a locale of another wire type after it
+    ∷ applyCase (0x0A ∷ 0x05 ∷ 0x1A ∷ 0x01 ∷ 0x08 ∷ 0x20 ∷ 0x00 ∷ []) (refused (33, []))
     -- a locale and, before it, a component's name that are not well formed: the outer message goes first; the name alone
     ∷ applyCase (0x0A ∷ 0x09 ∷ 0x1A ∷ 0x04 ∷ 0x12 ∷ 0x02 ∷ 0x41 ∷ 0x80 ∷ 0x22 ∷ 0x01 ∷ 0xC3 ∷ []) (refused (36, 4 ∷ 0 ∷ []))
     ∷ applyCase (0x0A ∷ 0x06 ∷ 0x1A ∷ 0x04 ∷ 0x12 ∷ 0x02 ∷ 0x41 ∷ 0x80 ∷ []) (refused (36, 2 ∷ 1 ∷ []))

@@ -155,12 +155,15 @@ cases =
     -- No. 2: the flag on the first packet only; an ACK is wanted
     ∷ case (acceptPacket idles (0x61 ∷ 0x02 ∷ 0x00 ∷ 0x00 ∷ 0x02 ∷ 0x01 ∷ 0xAA ∷ [])) (accepted (given (Taken 8 Alexa 1 false)) asking)
     ∷ case (acceptPacket asking (0x61 ∷ 0x18 ∷ 0x01 ∷ 0xBB ∷ [])) (accepted (given (Finished 8 Alexa 1 2 true false)) idles)
-    -- No. 9: the second of them with answer sequence 9 and an answer buffer of 8: the ACK is written first in it, and two bytes stay
+    -- No. 9: the same two with answer sequence 9 and an answer buffer of 8: the first leaves it, the second writes the ACK first in it
+    ∷ case (answerPacket idles (0x61 ∷ 0x02 ∷ 0x00 ∷ 0x00 ∷ 0x02 ∷ 0x01 ∷ 0xAA ∷ []) 9 eight) (answered (given (Taken 8 Alexa 1 false)) asking eight)
     ∷ case (answerPacket asking (0x61 ∷ 0x18 ∷ 0x01 ∷ 0xBB ∷ []) 9 eight)
     (answered (given (Finished 8 Alexa 1 2 true false)) idles (0x61 ∷ 0x9E ∷ 0x00 ∷ 0x02 ∷ 0x01 ∷ 0x00 ∷ 0xEE ∷ 0xEE ∷ []))
-    -- 15 before 14, and both before the packet's own 2
+    -- 1 (no byte is held) before 15, 15 before 14, and both before the packet's own 2
+    ∷ case (answerPacket (holding 0 0) [] 16 []) (answered (refused 1) (holding 0 0) [])
     ∷ case (answerPacket asking [] 16 []) (answered (refused 15) asking [])
     ∷ case (answerPacket asking [] 15 (zeros 5)) (answered (refused 14) asking (zeros 5))
+    ∷ case (answerPacket asking [] 15 (zeros 6)) (answered (refused 2) asking (zeros 6))
     -- No. 11, with a limit of 64: ids 3, 1, 2 and 0 take the places 0 to 3
     ∷ case (acceptPacketWithin 64 idles (beginning 3)) (accepted (given (Taken 0 Control 3 false)) (opening (3 ∷ [])))
     ∷ case (acceptPacketWithin 64 (opening (3 ∷ [])) (beginning 1)) (accepted (given (Taken 1 Control 1 false)) (opening (3 ∷ 1 ∷ [])))

@@ -142,6 +142,7 @@ cases =
     ∷ leaves outside lent 0xF1 skipped outside
     ∷ leaves outside lent 0xF2 skipped outside
     -- 20: F0 in the header (not 22), after F2 (not 23) and in a full body (not 24) begins a frame
+    ∷ leaves begun lent 0xF0 (refused 20) begun
     ∷ leaves (header Sequence) lent 0xF0 (refused 20) begun
     ∷ leaves (escaped 7 1) lent 0xF0 (refused 20) begun
     ∷ leaves (body 7 4) full 0xF0 (refused 20) begun
@@ -156,15 +157,17 @@ cases =
     ∷ leaves (header Sequence) lent 0xF1 (refused 21) outside
     ∷ leaves (body 7 0) lent 0xF1 (refused 21) outside
     ∷ leaves (body 7 1) lent 0xF1 (refused 21) outside
-    -- 22: another error id, and F2 in the header (not 23)
+    -- 22: another packet id, another error id, and F2 in the header (not 23)
+    ∷ leaves begun lent 0x00 (refused 22) outside
     ∷ leaves (header ErrorId) lent 0x02 (refused 22) outside
     ∷ leaves begun lent 0xF2 (refused 22) outside
     ∷ leaves (header ErrorId) lent 0xF2 (refused 22) outside
     ∷ leaves (header Sequence) lent 0xF2 (refused 22) outside
-    -- 24: a fifth byte to store, plain or by its code; F2 stores none and is taken
+    -- 24: a fifth byte to store, plain or by its code; F2 stores none and is taken, and so is a fourth byte
     ∷ leaves (body 7 4) full 0x06 (refused 24) outside
     ∷ leaves (escaped 7 4) full 0x03 (refused 24) outside
     ∷ leaves (body 7 4) full 0xF2 taken (escaped 7 4)
+    ∷ case (stepWith (escaped 7 3) lent 0x03) (stepped (step taken (body 7 4) (four 0xEE 0xEE 0xEE 0xF1) ∷ []))
     -- 25: a checksum with its bytes exchanged
     ∷ leaves (body 7 4) (four 0x01 0x02 0x05 0x00) 0xF1 (refused 25) outside
     -- a sum of 65,537 is 1
