@@ -7,64 +7,50 @@ what the checker proves. Only definitions that can be seen count (contracts.py):
 of one that a program calls. Any other is tied to one of these by a proof.
 
 A change that no row refuses has a line in tools/mutate/same: file | definition | change | why it changes nothing that can be seen.
-`*` stands for every change of a definition; a reason that begins with `open` is not judged yet. It fails on a change with no line, and
-on a line that is not needed. --list prints the lines that are missing. The score by crate, as in docs/promises/mutants.md."""
+`*` stands for every change of a definition; a reason that begins with `open` is not judged yet. It fails on a change with no line, on
+one that has no value, and on a line that is not needed. --list prints the lines that are missing. The score by crate, as in docs/promises/mutants.md."""
 import os, sys, time
 from collections import Counter, defaultdict
 
 sys.dont_write_bytecode = True
 
-from changes import changes, compiled, ty
+from changes import changed, changes, compiled, descends, ty
 from contracts import seen
 from reader import result
-from tables import collect
+from tables import collect, coverage
 from world import UNK, Unread, World, deep
 
 SAME = os.path.join(os.path.dirname(os.path.abspath(__file__)), "same")
 
 
-def coverage(w, rows):
-    """which definitions each row calls, and what it takes"""
-    saved, hit = {}, set()
-    for i in w.back:
-        f = w.ns.get(i)
-        if callable(f):
-            saved[i] = f
-            w.ns[i] = (lambda f, i: lambda *a: (hit.add(i), f(*a))[1])(f, i)
-    for r in rows:
-        w.cache.clear()
-        hit.clear()
-        began = time.perf_counter()
-        r.run()
-        r.cost, r.uses = time.perf_counter() - began, frozenset(hit)
-    w.ns.update(saved)
-    w.cache.clear()
-    by = defaultdict(list)
-    for r in sorted(rows, key=lambda r: r.cost):
-        for i in r.uses:
-            by[i].append(r)
-    return by
+def tried(row):
+    try:
+        return row.run()
+    except (IndexError, RecursionError, MemoryError, OverflowError):
+        return UNK
 
 
 def judged(w, x, rows):
-    """refused: a row is false; broken: it does not end or has no value; else survives"""
+    """refused: a row is false; endless: it calls itself without end, and the checker takes no such definition; broken: it has no value; else
+    survives"""
     i = w.ids[x.m.rel, x.d.name]
-    old = w.ns[i]
+    old, unknown = w.ns[i], False
     try:
         exec(compiled(w, x), w.ns)
         w.cache.clear()
-        broken = False
         for r in rows:
-            v = r.run()
+            v = tried(r)
             if v is False:
                 return "refused"
-            broken = broken or v is UNK
-        return "broken" if broken else "survives"
-    except (Unread, SyntaxError, IndexError, RecursionError, MemoryError, OverflowError):
-        return "broken"
+            unknown = unknown or v is UNK
+    except (Unread, SyntaxError):
+        unknown = True
     finally:
         w.ns[i] = old
         w.cache.clear()
+    if not unknown:
+        return "survives"
+    return "broken" if descends(x.d.name, changed(x)) else "endless"
 
 
 def all_changes(w, root, wanted):
@@ -96,6 +82,8 @@ def score(all_, reasons):
     for x in all_:
         crate = x.m.rel.split("/")[0]
         kind = x.status
+        if kind == "broken":
+            missing.append(x)
         if kind == "survives":
             key = next((k for k in ((x.path(), x.d.name, x.text()), (x.path(), x.d.name, "*")) if k in reasons), None)
             if key is None:
@@ -103,12 +91,12 @@ def score(all_, reasons):
             used.add(key)
             kind = "open" if key is None or reasons[key].startswith("open") else "same"
         table[crate][kind] += 1
-    print("| crate | changes | refused by a row | no difference | open | broken |\n|---|---|---|---|---|---|")
+    print("| crate | changes | refused by a row | no difference | open | endless | broken |\n|---|---|---|---|---|---|---|")
     total = Counter()
     for crate, c in sorted(table.items()):
         total.update(c)
-        print(f"| {crate} | {sum(c.values())} | {c['refused']} | {c['same']} | {c['open']} | {c['broken']} |")
-    print(f"| all | {sum(total.values())} | {total['refused']} | {total['same']} | {total['open']} | {total['broken']} |")
+        print(f"| {crate} | {sum(c.values())} | {c['refused']} | {c['same']} | {c['open']} | {c['endless']} | {c['broken']} |")
+    print(f"| all | {sum(total.values())} | {total['refused']} | {total['same']} | {total['open']} | {total['endless']} | {total['broken']} |")
     return missing, set(reasons) - used
 
 

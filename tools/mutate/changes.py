@@ -2,10 +2,12 @@
 
 A number one more or one less; a comparison turned, let through one more or one less; lines of a table exchanged or left out; a truth
 turned; one side of `and`, `or`, `++`; a condition's branches; arguments, fields, variables and constructors of one type exchanged;
-a guard left out, or two exchanged; a named number for another of its file."""
+a guard left out, or two exchanged; a named number for another of its file; a call left out for an argument of its type, where that is no
+number."""
 import re
 
 from reader import argtypes, bare, clause, result
+from tables import names
 from world import Unread
 
 NUM = {"u8", "u16", "u32", "u64", "usize"}
@@ -203,6 +205,21 @@ def changes(w, m, d):
         ts = [ty(mm, x) for x in argtypes(dd.sig)]
         return len(ts) >= 2 and len(n.b) == len(ts) and (ts[-1] == ty(mm, result(dd.sig))) and (ts[-1] not in ("ℕ", "Bool", "List ℕ"))
 
+    def carried(name, count):
+        """the arguments of a whole call that have the type of what it gives"""
+        try:
+            r = w.resolve(m, name)
+        except Unread:
+            return []
+        if r and r[0] == "builtin":
+            return {"take": [1], "drop": [1], "set": [0], "sets": [0]}.get(name, []) if count == {"take": 2, "drop": 2}.get(name, 3) else []
+        if not r or r[0] != "def" or w.mods[r[1]].defs[r[2]].sig is None:
+            return []
+        mm = w.mods[r[1]]
+        sig = mm.defs[r[2]].sig
+        ts = [ty(mm, x) for x in argtypes(sig)]
+        return [i for i, t in enumerate(ts) if t == ty(mm, result(sig)) and t != "ℕ"] if len(ts) == count else []
+
     def walk(n, env, inchain=False, head=False):
         k = n.k
         if k == "par":
@@ -325,6 +342,9 @@ def changes(w, m, d):
                         for j in range(i + 1, min(len(a), len(ts))):
                             if ts[i] == ts[j] and " ".join(T(a[i]).split()) != " ".join(T(a[j]).split()):
                                 add("arguments", T(n), f"{T(a[i])} <-> {T(a[j])}", (a[i].s, a[i].e, T(a[j])), (a[j].s, a[j].e, T(a[i])))
+            if name and name not in env:
+                for i in carried(name, len(a)):
+                    repl("call dropped", n, pl(a[i]))
             walk(n.a, env, head=True)
             for x in a:
                 walk(x, env)
@@ -453,15 +473,44 @@ def edited(text, edits, lo, hi):
     return s + text[pos:hi]
 
 
-def compiled(w, x):
-    m, d = (x.m, x.d)
-    cl = []
-    for pats, body, s, e in d.clauses:
+def changed(x):
+    """the clauses of a definition with a change"""
+    out = []
+    for pats, body, s, e in x.d.clauses:
         mine = [q for q in x.edits if s <= q[0] < e]
-        if mine:
-            cl.append(clause(edited(m.text, mine, s, e), s))
-        else:
-            cl.append((pats, body, s, e))
-    t = w.python(m, d, cl)
-    ns = {}
-    return compile(t, f"{m.rel}.{d.name}*", "exec")
+        out.append(clause(edited(x.m.text, mine, s, e), s) if mine else (pats, body, s, e))
+    return out
+
+
+def compiled(w, x):
+    return compile(w.python(x.m, x.d, changed(x)), f"{x.m.rel}.{x.d.name}*", "exec")
+
+
+def calls_of(name, n):
+    """the arguments of each place where a term names a definition"""
+    if n is None or isinstance(n, (str, int)):
+        return
+    if isinstance(n, (list, tuple)):
+        for x in n:
+            yield from calls_of(name, x)
+        return
+    if n.k == "var":
+        if n.a == name:
+            yield []
+        return
+    if n.k == "app" and bare(n.a).k == "var" and bare(n.a).a == name:
+        yield n.b
+        yield from calls_of(name, n.b)
+        return
+    for x in (n.a, n.b, n.c):
+        yield from calls_of(name, x)
+
+
+def descends(name, clauses):
+    """whether one argument is a part of its own pattern wherever a definition calls itself: the checker takes no other"""
+
+    def lower(place, pats, args):
+        return place < len(args) and bare(pats[place]).k != "var" and bare(args[place]).k == "var" and bare(args[place]).a in set(names(pats[place]))
+
+    every = [(pats, args) for pats, body, _, _ in clauses for args in calls_of(name, body)]
+    return not every or any(all(lower(k, pats, args) for pats, args in every) for k in range(len(clauses[0][0])))

@@ -9,7 +9,7 @@ import ast, glob, os, sys
 sys.dont_write_bytecode = True
 
 from changes import Change, compiled
-from tables import collect
+from tables import collect, coverage
 from world import World, deep
 
 # a function of the toolkit, and a wrong one in its place
@@ -81,6 +81,7 @@ def must_fail(w, tables):
 def by_hand(w, rows):
     """the wrong rules of tools/mutate/wrong: each is refused"""
     bad, tried = [], 0
+    by = coverage(w, rows)
     here = os.path.dirname(os.path.abspath(__file__))
     for part in open(os.path.join(here, "wrong"), encoding="utf-8").read().split("\n\n"):
         lines = [l for l in part.split("\n") if l and not l.startswith("#")]
@@ -100,9 +101,10 @@ def by_hand(w, rows):
         right = w.ns[i]
         exec(compiled(w, Change(m, d, [(at, at + len(old), new)], "by hand", old, new)), w.ns)
         w.cache.clear()
-        if not any(r.run() is False for r in rows):
+        if not any(r.run() is False for r in by[i]):
             bad.append(f"{path} {name}: {new} is refused by no row")
         w.ns[i] = right
+        w.cache.clear()
     return bad, tried
 
 

@@ -1,11 +1,11 @@
--- An instance of each field of SizesSuffice but apply-write: the ends of its ranges, and just the output that the header names; the reply's only at the largest room and limit. The append also by computation.
+-- An instance of each field of SizesSuffice but apply-write: the ends of its ranges, and just the output that the header names. The append also by computation.
 use Prim.Native.Nat.{ℕ, zero, suc, _≤_, zero-le}
 use mathlib.Core.Path.{_≡_, refl}
 use mathlib.Core.Logic.{inl, inr}
 use mathlib.Core.List.{List, [], _∷_, _++_, map}
 use native.Mathlib.Omega.{arith}
 use lib.IntN.{ℤ, pos, negsuc}
-use lib.ListN.{take, getD, replicate, length-append, length-replicate}
+use lib.ListN.{length, take, getD, replicate, length-append, length-replicate}
 use Rattle.proto_field.specs.Signed.{extended}
 use borrow.Author.Tests.{le-leb}
 use Rattle.proto_field.specs.Tag.{tagAt, badTag}
@@ -20,7 +20,7 @@ use Rattle.msg_control.specs.Envelope.{payloadOf, envelopeOf}
 use Rattle.msg_device.specs.declared.features.DeviceFeatures.{DeviceFeatures}
 use Rattle.reply_parts.specs.declared.body.Members.{Members}
 use Rattle.reply_parts.specs.Body.{kindOfCommand}
-use Rattle.reply.specs.Reply.{replyBy}
+use Rattle.reply.specs.Reply.{boxOf, replyBy, replyOf}
 use Rattle.utf8.specs.Table.{rows, within, described}
 use Rattle.utf8.specs.WellFormed.{WellFormed, empty, more}
 use Rattle.wire.specs.Stream.{isStream}
@@ -39,9 +39,9 @@ use Rattle.c_rows.specs.Called.{called}
 use Rattle.c_classic.specs.Calls.{frameWriteOf}
 use Rattle.c_sending.specs.Convert.{sendingOf}
 use Rattle.c_sending.specs.Calls.{packetWriteOf, ackWriteOf}
-use Rattle.c_message_rows.specs.Convert.{payloadFor, allSigned}
+use Rattle.c_message_rows.specs.Convert.{payloadFor, allSigned, isSigned}
 use Rattle.c_messages.specs.Calls.{envelopeWriteOf, responseWriteOf, informationWriteOf, featuresWriteOf}
-use Rattle.c_reply.specs.Convert.{linkOf, fewSigned}
+use Rattle.c_reply.specs.Convert.{linkOf, fewSigned, transportsFor}
 use Rattle.c_reply.specs.Calls.{replyWriteOf}
 use Rattle.c_firmware.specs.Calls.{segmentWriteOf, applyReadOf, applyWriteOf}
 use Rattle.c_outbox.specs.Calls.{outboxNewOf, outboxAppendOf}
@@ -135,6 +135,18 @@ reply-widest =
     sizes-suffice .reply-write (8 ∷ 94 ∷ []) [] [] [] [] most members 512 65535 0 0 (record { command = pos 94; payload = Payload.None }) (bytes 360) (7 ∷ 7 ∷ 7 ∷ []) refl refl
     (omega arith) (omega arith) (omega arith) (omega arith) (omega arith) (omega arith) (omega arith, omega arith) (omega arith, omega arith)
     tt (omega arith) empty empty empty (omega arith) (omega arith)
+
+-- .. and at the least room, with the last id and sequence, where the limit is the reply's own length: eight transports of ten bytes each, and strings
+reply-length : length (replyOf (boxOf (65 ∷ []) (66 ∷ []) (transportsFor (map extended transports)) (67 ∷ []) most members) (extended (pos 20))) ≡ 101
+unfolding replyBy kindOfCommand fewSigned allSigned isSigned varintBytes tagBytes headBytes partBytes fieldBytes
+reply-length = refl
+
+reply-fits : Done (replyWriteOf (8 ∷ 20 ∷ []) (65 ∷ []) (66 ∷ []) (67 ∷ []) (map extended transports) most members (linkOf 20 101 15 15) (bytes 366) (7 ∷ 7 ∷ 7 ∷ []))
+unfolding varintAt badTag tagAt valueAt roleOf judged addedAt readAt fieldAt fieldsFrom payloadOf envelopeOf
+reply-fits =
+    sizes-suffice .reply-write (8 ∷ 20 ∷ []) (65 ∷ []) (66 ∷ []) (67 ∷ []) transports most members 20 101 15 15 (record { command = pos 20; payload = Payload.None }) (bytes 366) (7 ∷ 7 ∷ 7 ∷ []) refl refl
+    (omega arith) (omega arith) (omega arith) (omega arith) (omega arith) (omega arith) (omega arith, omega arith) (omega arith, omega arith)
+    all-least (omega arith) (letter 65 (omega arith)) (letter 66 (omega arith)) (letter 67 (omega arith)) (omega (arith, reply-length)) (omega arith)
 
 told-again : (message told : List ℕ) → let c = applyReadOf message told in let row = take 57 (c .answer) in
     c .number ≡ 0 → Done (applyWriteOf row message (bytes (applySize (getD row 8 0) (stringsOf row))) (7 ∷ 7 ∷ 7 ∷ []))

@@ -1,11 +1,11 @@
--- An instance of each new field of RowsAgree, and each of NumbersJudged at the least number that is no byte.
+-- An instance of fields of RowsAgree, and each of NumbersJudged at the least number that is no byte.
 use Prim.Native.Nat.{ℕ, suc, _≤_}
 use mathlib.Core.Path.{_≡_, refl}
 use mathlib.Core.Logic.{_⊎_}
-use mathlib.Core.List.{List, [], _∷_, map}
+use mathlib.Core.Bool.{true}
+use mathlib.Core.List.{List, [], _∷_, _++_, map}
 use native.Mathlib.Omega.{arith}
 use lib.ListN.{length, replicate, length-replicate}
-use Rattle.wire.specs.Told.{given}
 use Rattle.ble_slot.specs.declared.Slot.{Slot}
 use Rattle.ble_sender.specs.declared.piece.Piece.{Piece}
 use Rattle.ble_sender.specs.declared.writer.Sending.{Sending}
@@ -15,8 +15,17 @@ use Rattle.ble_joined.specs.Joined.{joinedOf}
 use Rattle.capture_reader.specs.Capture as capture
 use Rattle.ble_sender_claims.proofs.CallsGiveAll.{takes-all}
 use Rattle.outbox_move_claims.specs.Claims.{recordsOf}
+use Rattle.proto_field.specs.Fields.{foundAt}
+use Rattle.proto_field.specs.Tag.{tagAt, badTag}
+use Rattle.proto_field.specs.Value.{valueAt}
+use Rattle.proto_field.specs.Varint.{varintAt}
+use Rattle.proto_schema.specs.Schema.{roleOf}
+use Rattle.proto_reader.specs.Gathered.{noPart}
+use Rattle.proto_reader.specs.Walk.{fieldsFrom, fieldAt, readAt, addedAt, judged}
 use Rattle.msg_firmware.specs.declared.apply.ApplyFirmware.{ApplyFirmware}
-use Rattle.msg_firmware.specs.Apply.{applyOf}
+use Rattle.msg_firmware.specs.Component.{noComponent, componentFrom}
+use Rattle.msg_firmware.specs.Information.{partsFrom, componentIn, componentsFrom, firmwareFrom}
+use Rattle.msg_firmware.specs.Apply.{firmwareIn, applyOf, noApply}
 use Rattle.msg_apply_writer.specs.Apply.{applyWritten}
 use Rattle.c_message_rows.specs.Convert.{textCall}
 use Rattle.c_firmware_rows.specs.Apply.{wholeRow}
@@ -55,9 +64,39 @@ joined limit how message least most low high stream id sequence short =
 captured : (bytes : List ℕ) → capturedFrom (suc (length bytes)) bytes (replicate 5 7) 1 ≡ capture.packetsOf bytes
 captured bytes = rows-agree .captured bytes (replicate 5 7) refl
 
-apply-told : (message : List ℕ) (a : ApplyFirmware) (texts out answer : List ℕ) → applyOf message ≡ given a
-    → applyWriteOf (wholeRow a) texts out answer ≡ textCall out answer (applyWritten a texts out)
-apply-told message a texts out answer e = rows-agree .apply-told message a texts out answer e
+-- the least that is told: no bytes at all
+apply-none : (texts out answer : List ℕ) → applyWriteOf (wholeRow noApply) texts out answer ≡ textCall out answer (applyWritten noApply texts out)
+unfolding componentFrom partsFrom componentIn componentsFrom firmwareFrom firmwareIn applyOf fieldsFrom fieldAt readAt addedAt judged roleOf foundAt tagAt badTag valueAt varintAt
+apply-none texts out answer = rows-agree .apply-told [] noApply texts out answer refl
+
+-- .. and the most: restart, eight components, and of the last of them the largest numbers
+abbrev eight : List ℕ
+eight =
+    0x0A ∷ 0x22
+    ∷ 0x08 ∷ 0xFF ∷ 0xFF ∷ 0xFF ∷ 0xFF ∷ 0x0F
+    ∷ 0x1A ∷ 0x00 ∷ 0x1A ∷ 0x00 ∷ 0x1A ∷ 0x00 ∷ 0x1A ∷ 0x00 ∷ 0x1A ∷ 0x00 ∷ 0x1A ∷ 0x00 ∷ 0x1A ∷ 0x00
+    ∷ 0x1A ∷ 0x0C ∷ 0x08 ∷ 0xFF ∷ 0xFF ∷ 0xFF ∷ 0xFF ∷ 0x0F ∷ 0x18 ∷ 0xFF ∷ 0xFF ∷ 0xFF ∷ 0xFF ∷ 0x0F
+    ∷ 0x10 ∷ 0x01
+    ∷ []
+
+abbrev largest : ApplyFirmware
+largest =
+    record {
+      «firmware_information» =
+          record {
+            version = 4294967295;
+            name = noPart;
+            components = replicate 7 noComponent ++ (record { version = 4294967295; name = noPart; size = 4294967295; signature = noPart } ∷ []);
+            count = 8;
+            locale = noPart;
+            «version_name» = noPart;
+          };
+      «restart_required» = true;
+    }
+
+apply-most : (texts out answer : List ℕ) → applyWriteOf (wholeRow largest) texts out answer ≡ textCall out answer (applyWritten largest texts out)
+unfolding componentFrom partsFrom componentIn componentsFrom firmwareFrom firmwareIn applyOf fieldsFrom fieldAt readAt addedAt judged roleOf foundAt tagAt badTag valueAt varintAt
+apply-most texts out answer = rows-agree .apply-told eight largest texts out answer refl
 
 module _ (limit room stream id sequence ack positive total used : ℕ) (slots : List Slot) (state lent packet payload buffer out answer : List ℕ) where
   frames : (frameWriteOf limit 256 payload out answer ≡ frameWriteOf limit 0xF0 payload out answer) × (frameBeginOf limit 256 total state ≡ frameBeginOf limit 0xF0 total state)

@@ -73,8 +73,6 @@ rows =
     -- an extender that need not stand, on a first packet and on one that follows
     ∷ row (input 20 4096 ((0x00 ∷ 0x01 ∷ 0x00 ∷ 0x00 ∷ 0x01 ∷ 0x00 ∷ 0x01 ∷ 0xAA ∷ []) ∷ [])) (given (unlawful 1))
     ∷ row (input 20 4096 ((0x61 ∷ 0x00 ∷ 0x00 ∷ 0x00 ∷ 0x10 ∷ 0x0E ∷ from 0 14) ∷ (0x61 ∷ 0x19 ∷ 0x00 ∷ 0x02 ∷ 0x0E ∷ 0x0F ∷ []) ∷ [])) (given (unlawful 23))
-    -- a packet longer than the room
-    ∷ row (input 20 4096 (replicate 600 0 ∷ [])) (given (unlawful 1))
     -- an unknown stream, a packet that the reader refuses, another id, another sequence, a first packet inside a transaction
     ∷ row (input 20 4096 (ack ∷ (0x51 ∷ 0x00 ∷ 0x00 ∷ 0x00 ∷ 0x00 ∷ 0x00 ∷ []) ∷ [])) (given (unlawful 9))
     ∷ row (input 20 4096 (ack ∷ (0x01 ∷ []) ∷ [])) (given (unlawful 9))
@@ -86,18 +84,13 @@ rows =
     ∷ row (input 20 35 (first ∷ second ∷ (0x61 ∷ 0x24 ∷ 0x04 ∷ from 32 4) ∷ [])) (given (unlawful 45))
     -- a packet that follows where nothing is open
     ∷ row (input 20 35 (second ∷ [])) (given (unlawful 1))
-    -- mixed with another stream, an ACK and a NACK between; an empty message
-    ∷ row (input 20 35 (first ∷ ack ∷ message ∷ second ∷ nack ∷ third ∷ [])) (given lawful)
-    ∷ row (input 20 1 ((0x23 ∷ 0xF2 ∷ 0x00 ∷ 0x00 ∷ 0x00 ∷ 0x00 ∷ []) ∷ [])) (given lawful)
     -- the refusals; a room that is refused comes before a limit, a limit before a version, the whole capture before its packets
     ∷ row [] (refused (13, 0))
-    ∷ row (0x02 ∷ 0x01 ∷ []) (refused (13, 0))
     ∷ row (0x00 ∷ 0x14 ∷ []) (refused (17, 0))
     ∷ row (0x00 ∷ 0x14 ∷ 0x10 ∷ []) (refused (40, 0))
     ∷ row (0x00 ∷ 0x14 ∷ 0x10 ∷ 0x00 ∷ 0x02 ∷ []) (refused (40, 0))
     ∷ row (0x00 ∷ 0x14 ∷ 0x10 ∷ 0x00 ∷ 0x01 ∷ []) (given lawful)
     ∷ row (input 20 4096 (tooLong ∷ []) ++ 0x00 ∷ 0x00 ∷ []) (refused (42, 13))
-    ∷ row (input 20 4096 (tooLong ∷ []) ++ 0x00 ∷ []) (refused (41, 13))
     ∷ row (input 20 4096 (tooLong ∷ []) ++ 0x00 ∷ 0x02 ∷ 0x01 ∷ []) (refused (41, 13))
     ∷ []
 

@@ -16,12 +16,12 @@ use Rattle.cli_listing.proofs.Parts.{lists-as-whole}
 abbrev tiny : Format
 tiny = record { version = 1; width = 1; limit = 1 }
 
--- the records 41 for Alexa and 42 for the OTA stream; of the second the length is in the first part
+-- the record 41 for Alexa and an empty one for the OTA stream; of the second the length is in the first part
 abbrev buffer : List ℕ
-buffer = 1 ∷ 2 ∷ 6 ∷ 65 ∷ 2 ∷ 9 ∷ []
+buffer = 1 ∷ 2 ∷ 6 ∷ 65 ∷ 1 ∷ 9 ∷ []
 
 abbrev more : List ℕ
-more = 2 ∷ 66 ∷ []
+more = 2 ∷ []
 
 -- the part is listed up to the second record, and that is carried over
 stops : listedOf tiny false (take 5 buffer) ≡ listed false 4
@@ -33,12 +33,12 @@ ends : (listedOf tiny true (take 5 buffer) ≡ listed true 4) × (listedOf tiny 
 unfolding listedOf isStream walkOf readAll readings readOf otherVersion badPlace recordAt badLength cutShort badStream numberOf
 ends = (refl, refl, refl)
 
-carries : (carryOf buffer 4 5 ≡ carried 2 (1 ∷ 2 ∷ 6 ∷ 65 ∷ 2 ∷ 9 ∷ [])) × (fromPlace tiny (take 5 buffer ++ more) 4 ≡ 1 ∷ 2 ∷ 2 ∷ 66 ∷ [])
+carries : (carryOf buffer 4 5 ≡ carried 2 (1 ∷ 1 ∷ 6 ∷ 65 ∷ 1 ∷ 9 ∷ [])) × (fromPlace tiny (take 5 buffer ++ more) 4 ≡ 1 ∷ 1 ∷ 2 ∷ [])
 unfolding carryOf
 carries = (refl, refl)
 
 -- the two parts' records are the file's
-whole : readAll tiny (take 5 buffer ++ more) ≡ recordsOf (readAll tiny (take 5 buffer)) ++ allMoved 3 (readAll tiny (1 ∷ 2 ∷ 2 ∷ 66 ∷ []))
+whole : readAll tiny (take 5 buffer ++ more) ≡ recordsOf (readAll tiny (take 5 buffer)) ++ allMoved 3 (readAll tiny (1 ∷ 1 ∷ 2 ∷ []))
 unfolding isStream readAll readings readOf otherVersion badPlace recordAt badLength cutShort badStream numberOf
 whole = refl
 

@@ -6,7 +6,6 @@ use lib.IntN.{pos}
 use lib.ListN.{replicate}
 use Rattle.wire.specs.Told.{ToldMore, ToldOf, given, refused, WrittenOf, written}
 use Rattle.proto_field.specs.declared.value.Part.{Part}
-use Rattle.proto_reader.specs.Gathered.{mostTransports, noPart}
 use Rattle.msg_device.specs.declared.information.DeviceInformation.{DeviceInformation}
 use Rattle.msg_device.specs.Information.{noInformation, informationOf, informationWritten}
 
@@ -22,24 +21,16 @@ pub record InformationCase : Type 0 where
 abbrev pub informationCase : List ℕ → ToldMore DeviceInformation → InformationCase
 informationCase s t = record { bytes = s; told = t }
 
--- a device type and nothing else
-abbrev pub typed : Part → ToldMore DeviceInformation
-typed p = given (record { «serial_number» = noPart; name = noPart; transports = replicate mostTransports (pos 0); count = 0; «device_type» = p })
-
 unfoldable pub informationCases : List InformationCase
 informationCases =
     -- a name that is not well formed: replaced by an empty one; before a field that ends early; cut short
     informationCase (0x12 ∷ 0x01 ∷ 0xFF ∷ 0x12 ∷ 0x00 ∷ []) (refused (36, 2 ∷ 0 ∷ []))
     ∷ informationCase (0x12 ∷ 0x01 ∷ 0xFF ∷ 0x1A ∷ []) (refused (36, 2 ∷ 0 ∷ []))
     ∷ informationCase (0x12 ∷ 0x02 ∷ 0xFF ∷ []) (refused (30, []))
-    -- after a tag of another wire type
-    ∷ informationCase (0x0B ∷ 0x12 ∷ 0x01 ∷ 0xFF ∷ []) (refused (32, []))
     -- bytes of a field that is passed over
     ∷ informationCase (0x2A ∷ 0x01 ∷ 0xFF ∷ []) (given noInformation)
-    -- a sequence broken off; the euro sign; one that the string's end cuts
+    -- a sequence broken off
     ∷ informationCase (0x0A ∷ 0x04 ∷ 0x41 ∷ 0xE2 ∷ 0x82 ∷ 0x41 ∷ []) (refused (36, 1 ∷ 1 ∷ []))
-    ∷ informationCase (0x22 ∷ 0x03 ∷ 0xE2 ∷ 0x82 ∷ 0xAC ∷ []) (typed (part 2 3))
-    ∷ informationCase (0x22 ∷ 0x02 ∷ 0x41 ∷ 0xC3 ∷ []) (refused (36, 4 ∷ 1 ∷ []))
     ∷ []
 
 -- ---- writing

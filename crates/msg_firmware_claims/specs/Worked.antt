@@ -102,8 +102,7 @@ segmentCases =
     ∷ segmentCase (0x10 ∷ 0x01 ∷ 0x08 ∷ 0x00 ∷ []) (refused (33, []))
     -- the last offset is 2 ^ 32
     ∷ segmentCase (0x10 ∷ 0x01 ∷ 0x10 ∷ 0x80 ∷ 0x80 ∷ 0x80 ∷ 0x80 ∷ 0x10 ∷ 0x22 ∷ 0x40 ∷ digits) (segment noPart 0 (part 10 64))
-    -- 63 digits; a byte before 0, after 9, before A, after F, before a, after f
-    ∷ segmentCase (0x22 ∷ 0x3F ∷ replicate 63 0x37) (refused (50, 4 ∷ []))
+    -- 65 digits; a byte before 0, after 9, before A, after F, before a, after f
     ∷ segmentCase (0x22 ∷ 0x41 ∷ replicate 65 0x37) (refused (50, 4 ∷ []))
     ∷ segmentCase (0x22 ∷ 0x40 ∷ replicate 63 0x37 ++ (0x2F ∷ [])) (refused (50, 4 ∷ []))
     ∷ segmentCase (0x22 ∷ 0x40 ∷ replicate 63 0x37 ++ (0x3A ∷ [])) (refused (50, 4 ∷ []))
@@ -111,10 +110,6 @@ segmentCases =
     ∷ segmentCase (0x22 ∷ 0x40 ∷ replicate 63 0x37 ++ (0x47 ∷ [])) (refused (50, 4 ∷ []))
     ∷ segmentCase (0x22 ∷ 0x40 ∷ replicate 63 0x37 ++ (0x60 ∷ [])) (refused (50, 4 ∷ []))
     ∷ segmentCase (0x22 ∷ 0x40 ∷ replicate 63 0x37 ++ (0x67 ∷ [])) (refused (50, 4 ∷ []))
-    -- a name that is not well formed, and the message ends inside the next field; one cut short; a signature, before the profile
-    ∷ segmentCase (0x0A ∷ 0x02 ∷ 0x41 ∷ 0x80 ∷ 0x10 ∷ []) (refused (36, 1 ∷ 1 ∷ []))
-    ∷ segmentCase (0x0A ∷ 0x02 ∷ 0xFF ∷ []) (refused (30, []))
-    ∷ segmentCase (0x10 ∷ 0x01 ∷ 0x22 ∷ 0x01 ∷ 0xC3 ∷ []) (refused (36, 4 ∷ 0 ∷ []))
     ∷ []
 
 unfoldable pub applyCases : List ApplyCase
@@ -131,12 +126,9 @@ applyCases =
     ∷ applyCase (0x0A ∷ 0x11 ∷ 0x1A ∷ 0x00 ∷ 0x1A ∷ 0x00 ∷ 0x1A ∷ 0x00 ∷ 0x1A ∷ 0x00 ∷ 0x1A ∷ 0x00 ∷ 0x1A ∷ 0x00 ∷ 0x1A ∷ 0x00 ∷ 0x1A ∷ 0x00 ∷ 0x1A ∷ []) (refused (34, []))
     -- a ninth with another wire type
     ∷ applyCase (0x0A ∷ 0x11 ∷ 0x1A ∷ 0x00 ∷ 0x1A ∷ 0x00 ∷ 0x1A ∷ 0x00 ∷ 0x1A ∷ 0x00 ∷ 0x1A ∷ 0x00 ∷ 0x1A ∷ 0x00 ∷ 0x1A ∷ 0x00 ∷ 0x1A ∷ 0x00 ∷ 0x18 ∷ []) (refused (33, []))
-    -- eight
-    ∷ applyCase (0x0A ∷ 0x10 ∷ 0x1A ∷ 0x00 ∷ 0x1A ∷ 0x00 ∷ 0x1A ∷ 0x00 ∷ 0x1A ∷ 0x00 ∷ 0x1A ∷ 0x00 ∷ 0x1A ∷ 0x00 ∷ 0x1A ∷ 0x00 ∷ 0x1A ∷ 0x00 ∷ []) (given (record { «firmware_information» = listing [] 8; «restart_required» = false }))
     -- the outer message goes first
     ∷ applyCase (0x0A ∷ 0x02 ∷ 0x1A ∷ 0x05 ∷ 0x0B ∷ []) (refused (32, []))
     ∷ applyCase (0x0A ∷ 0x02 ∷ 0x1A ∷ 0x05 ∷ []) (refused (30, []))
-    ∷ applyCase (0x0A ∷ 0x01 ∷ 0x08 ∷ 0x0A ∷ []) (refused (34, []))
     -- two components that are broken: the first is told
     ∷ applyCase (0x0A ∷ 0x06 ∷ 0x1A ∷ 0x01 ∷ 0x08 ∷ 0x1A ∷ 0x01 ∷ 0x0B ∷ []) (refused (30, []))
     -- a name of no bytes has its own place
@@ -152,8 +144,7 @@ applyCases =
           record { version = 6; name = noPart; components = sets (replicate 8 noComponent) 0 (record { version = 5; name = noPart; size = 7; signature = noPart } ∷ []); count = 1; locale = noPart; «version_name» = noPart };
       «restart_required» = false;
     }))
-    -- fields that are not known: of each wire type, two of a length, in each of the three messages
-    ∷ applyCase (0x3A ∷ 0x02 ∷ 0x1A ∷ 0x00 ∷ 0x3A ∷ 0x01 ∷ 0xFF ∷ 0x3D ∷ 0x01 ∷ 0x02 ∷ 0x03 ∷ 0x04 ∷ 0x38 ∷ 0x05 ∷ []) (given noApply)
+    -- fields that are not known, two of a length, in the inner messages
     ∷ applyCase (0x0A ∷ 0x0C ∷ 0x3A ∷ 0x01 ∷ 0xFF ∷ 0x3A ∷ 0x00 ∷ 0x1A ∷ 0x05 ∷ 0x3A ∷ 0x01 ∷ 0xFF ∷ 0x3A ∷ 0x00 ∷ []) (given (record { «firmware_information» = listing [] 1; «restart_required» = false }))
     -- a string given twice
     ∷ applyCase (0x0A ∷ 0x06 ∷ 0x22 ∷ 0x01 ∷ 0x41 ∷ 0x22 ∷ 0x01 ∷ 0x42 ∷ [])
@@ -165,23 +156,9 @@ applyCases =
     ∷ applyCase (0x10 ∷ 0x80 ∷ 0x80 ∷ 0x80 ∷ 0x80 ∷ 0x10 ∷ []) (given (record { «firmware_information» = noFirmware; «restart_required» = true }))
     -- a component that is broken, and a locale of another wire type after it
     ∷ applyCase (0x0A ∷ 0x05 ∷ 0x1A ∷ 0x01 ∷ 0x08 ∷ 0x20 ∷ 0x00 ∷ []) (refused (33, []))
-    -- a component sees its own bytes only
-    ∷ applyCase (0x0A ∷ 0x05 ∷ 0x1A ∷ 0x02 ∷ 0x12 ∷ 0x01 ∷ 0x41 ∷ []) (refused (30, []))
-    -- a name and a locale of one byte each, a component named after them, version 5 and size 6
-    ∷ applyCase (0x0A ∷ 0x0F ∷ 0x12 ∷ 0x01 ∷ 0x41 ∷ 0x1A ∷ 0x07 ∷ 0x08 ∷ 0x05 ∷ 0x12 ∷ 0x01 ∷ 0x42 ∷ 0x18 ∷ 0x06 ∷ 0x22 ∷ 0x01 ∷ 0x43 ∷ [])
-    (given (record {
-      «firmware_information» =
-          record { version = 0; name = part 4 1; components = sets (replicate 8 noComponent) 0 (record { version = 5; name = part 11 1; size = 6; signature = noPart } ∷ []); count = 1; locale = part 16 1; «version_name» = noPart };
-      «restart_required» = false;
-    }))
     -- a locale and, before it, a component's name that are not well formed: the outer message goes first; the name alone
     ∷ applyCase (0x0A ∷ 0x09 ∷ 0x1A ∷ 0x04 ∷ 0x12 ∷ 0x02 ∷ 0x41 ∷ 0x80 ∷ 0x22 ∷ 0x01 ∷ 0xC3 ∷ []) (refused (36, 4 ∷ 0 ∷ []))
     ∷ applyCase (0x0A ∷ 0x06 ∷ 0x1A ∷ 0x04 ∷ 0x12 ∷ 0x02 ∷ 0x41 ∷ 0x80 ∷ []) (refused (36, 2 ∷ 1 ∷ []))
-    -- version_name
-    ∷ applyCase (0x0A ∷ 0x03 ∷ 0x2A ∷ 0x01 ∷ 0xC3 ∷ []) (refused (36, 5 ∷ 0 ∷ []))
-    -- a component's signature; a name that an empty one replaces
-    ∷ applyCase (0x0A ∷ 0x05 ∷ 0x1A ∷ 0x03 ∷ 0x22 ∷ 0x01 ∷ 0xFF ∷ []) (refused (36, 4 ∷ 0 ∷ []))
-    ∷ applyCase (0x0A ∷ 0x05 ∷ 0x12 ∷ 0x01 ∷ 0xFF ∷ 0x12 ∷ 0x00 ∷ []) (refused (36, 2 ∷ 0 ∷ []))
     ∷ []
 
 -- ---- writing
@@ -193,7 +170,6 @@ segmentWrites =
     ∷ writeCase (segmentWritten [] 0 7 digits (replicate 67 9)) (refused (14, [])) (replicate 67 9)
     -- the profile, before the room: the lowest field
     ∷ writeCase (segmentWritten [] 1 7 [] []) (refused (50, 2 ∷ [])) []
-    ∷ writeCase (segmentWritten [] 0 7 (0x47 ∷ []) []) (refused (50, 4 ∷ [])) []
     ∷ writeCase (segmentWritten [] 1 7 digits (replicate 70 9)) (refused (50, 2 ∷ [])) (replicate 70 9)
     -- a name or a signature that is not well formed, before the profile and the room
     ∷ writeCase (segmentWritten (0x41 ∷ 0x80 ∷ []) 1 7 (0xC3 ∷ []) (9 ∷ [])) (refused (36, 1 ∷ 1 ∷ [])) (9 ∷ [])
@@ -207,23 +183,18 @@ applyWrites =
     -- two empty components, restart
     ∷ writeCase (applyWritten (record { «firmware_information» = listing [] 2; «restart_required» = true }) [] (replicate 8 9)) (given 8)
     (0x0A ∷ 0x04 ∷ 0x1A ∷ 0x00 ∷ 0x1A ∷ 0x00 ∷ 0x10 ∷ 0x01 ∷ [])
-    -- an output of one byte too few
-    ∷ writeCase (applyWritten (record { «firmware_information» = listing [] 2; «restart_required» = true }) [] (replicate 7 9)) (refused (14, [])) (replicate 7 9)
     -- nine components; a part beyond the texts, before the room; one of a component that is not there
     ∷ writeCase (applyWritten (record { «firmware_information» = listing [] 9; «restart_required» = false }) [] []) (refused (15, [])) []
     ∷ writeCase (applyWritten (record { «firmware_information» = listing (record { version = 0; name = noPart; size = 0; signature = part 1 1 } ∷ []) 1; «restart_required» = false }) (7 ∷ []) []) (refused (15, [])) []
     ∷ writeCase (applyWritten (record { «firmware_information» = listing (record { version = 0; name = noPart; size = 0; signature = part 1 1 } ∷ []) 0; «restart_required» = false }) (7 ∷ []) (9 ∷ 9 ∷ [])) (given 2) (0x0A ∷ 0x00 ∷ [])
-    -- a name and a locale of one byte each, a component named after them, version 5 and size 6
-    ∷ writeCase (applyWritten (record { «firmware_information» = named; «restart_required» = false }) (0x41 ∷ 0x42 ∷ 0x43 ∷ []) (replicate 17 9)) (given 17)
+    -- a name and a locale of one byte each, a component named after them, version 5 and size 6; in the texts a byte that no string has
+    ∷ writeCase (applyWritten (record { «firmware_information» = named; «restart_required» = false }) (0x41 ∷ 0x42 ∷ 0x43 ∷ 0xC3 ∷ []) (replicate 17 9)) (given 17)
     (0x0A ∷ 0x0F ∷ 0x12 ∷ 0x01 ∷ 0x41 ∷ 0x1A ∷ 0x07 ∷ 0x08 ∷ 0x05 ∷ 0x12 ∷ 0x01 ∷ 0x42 ∷ 0x18 ∷ 0x06 ∷ 0x22 ∷ 0x01 ∷ 0x43 ∷ [])
-    -- the locale is C3 and the component is named 41 80: its name is written first; with nine components; the locale alone
+    -- the locale is C3 and the component is named 41 80: its name is written first; the locale alone, where the component is not there
     ∷ writeCase (applyWritten (record { «firmware_information» = misnamed 1; «restart_required» = false }) (0x41 ∷ 0x80 ∷ 0xC3 ∷ []) (9 ∷ [])) (refused (36, 2 ∷ 1 ∷ [])) (9 ∷ [])
-    ∷ writeCase (applyWritten (record { «firmware_information» = misnamed 9; «restart_required» = false }) (0x41 ∷ 0x80 ∷ 0xC3 ∷ []) (9 ∷ [])) (refused (15, [])) (9 ∷ [])
     ∷ writeCase (applyWritten (record { «firmware_information» = misnamed 0; «restart_required» = false }) (0x41 ∷ 0x80 ∷ 0xC3 ∷ []) (9 ∷ [])) (refused (36, 4 ∷ 0 ∷ [])) (9 ∷ [])
-    -- name, signature and version_name are C3: the name first; the other two; version_name alone
+    -- name, signature and version_name are C3: the name first
     ∷ writeCase (applyWritten (record { «firmware_information» = ending (part 0 1) (part 0 1) (part 0 1); «restart_required» = false }) (0xC3 ∷ []) []) (refused (36, 2 ∷ 0 ∷ [])) []
-    ∷ writeCase (applyWritten (record { «firmware_information» = ending noPart (part 0 1) (part 0 1); «restart_required» = false }) (0xC3 ∷ []) []) (refused (36, 4 ∷ 0 ∷ [])) []
-    ∷ writeCase (applyWritten (record { «firmware_information» = ending noPart noPart (part 0 1); «restart_required» = false }) (0xC3 ∷ []) []) (refused (36, 5 ∷ 0 ∷ [])) []
     ∷ []
 
 -- every line of the tables holds

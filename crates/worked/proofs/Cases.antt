@@ -13,7 +13,7 @@ use Rattle.ble_sender.specs.Writer.{headerBytes, packetOf, roomFits, argumentsF
 use Rattle.ble_sender_claims.specs.Calls.{callsFrom}
 use Rattle.ble_slot.specs.Slot.{lawfulSlot, lawful}
 use Rattle.ble_slot_steps.specs.Step.{finish, hold, dropBy, firstStep, nextStep}
-use Rattle.ble_receiver.specs.Receiver.{openOf, ready, readIn, acceptOf}
+use Rattle.ble_receiver.specs.Receiver.{ready, readIn, acceptOf}
 use Rattle.proto_field.specs.Varint.{varintAt}
 use Rattle.proto_writer.specs.Varint.{varintBytes}
 use Rattle.proto_field.specs.Tag.{badTag, tagAt}
@@ -32,7 +32,7 @@ use Rattle.worked.specs.Cases.{Case, cases, WorkedCases}
 
 -- the whole table, computed
 holds : map (λ (c : Case). answerTo (c .question)) cases ≡ map (λ (c : Case). c .expected) cases
-unfolding answerTo cases limitFits isStream streamOf kindOf escapedOf sumOf framed inRange fieldsOf contentOf lines readOf ackOf sizeFor headerBytes packetOf roomFits argumentsFit writtenOf callsFrom lawfulSlot lawful finish hold dropBy firstStep nextStep openOf ready readIn acceptOf varintAt varintBytes badTag tagAt valueAt tagBytes headBytes partBytes fieldBytes roleOf judged addedAt readAt fieldAt fieldsFrom responseFrom payloadOf envelopeOf envelopeWritten isOne formatOf numberOf outbox.otherVersion outbox.badPlace outbox.badLength outbox.cutShort outbox.badStream outbox.recordAt outbox.readOf outbox.readings outbox.readAll outbox.walkOf bytesOf recordBytes badRecord appendOf
+unfolding answerTo cases limitFits isStream streamOf kindOf escapedOf sumOf framed inRange fieldsOf contentOf lines readOf ackOf sizeFor headerBytes packetOf roomFits argumentsFit writtenOf callsFrom lawfulSlot lawful finish hold dropBy firstStep nextStep ready readIn acceptOf varintAt varintBytes badTag tagAt valueAt tagBytes headBytes partBytes fieldBytes roleOf judged addedAt readAt fieldAt fieldsFrom responseFrom payloadOf envelopeOf envelopeWritten isOne formatOf numberOf outbox.otherVersion outbox.badPlace outbox.badLength outbox.cutShort outbox.badStream outbox.recordAt outbox.readOf outbox.readings outbox.readAll outbox.walkOf bytesOf recordBytes badRecord appendOf
 holds = refl
 
 pub worked-cases : WorkedCases

@@ -4,15 +4,14 @@ use mathlib.Core.Path.{_≡_}
 use mathlib.Core.Bool.{Bool, true, false}
 use mathlib.Core.List.{List, [], _∷_, _++_, map, List·Memᴰ}
 use lib.IntN.{ℤ, pos, negℤ}
-use lib.ListN.{take, drop, set, replicate}
+use lib.ListN.{take, set, replicate}
 use Rattle.wire.specs.Bytes.{bit}
-use Rattle.wire.specs.declared.stream.Stream.the-variants.{Control, Ota, Alexa}
+use Rattle.wire.specs.declared.stream.Stream.the-variants.{Control, Alexa}
 use Rattle.wire.specs.Told.{given, refused, written}
 use Rattle.ble_sender.specs.declared.writer.Sending.{Sending}
 use Rattle.ble_slot.specs.declared.Slot.{Slot}
 use Rattle.ble_slot.specs.declared.answer.Accepted.the-variants.{Taken, Finished}
 use Rattle.ble_slot.specs.Slot.{idle, idles}
-use Rattle.ble_receiver.specs.Receiver.{linkOf}
 use Rattle.ble_sender.specs.Writer.{last}
 use Rattle.msg_control.specs.declared.envelope.Envelope.{Envelope}
 use Rattle.msg_control.specs.declared.envelope.Payload.the-variants as Payload
@@ -21,8 +20,8 @@ use Rattle.msg_control.specs.declared.response.ResponsePayload.the-variants.{No
 use Rattle.proto_reader.specs.Gathered.{noPart}
 use Rattle.outbox.specs.Reader as outbox
 use Rattle.outbox.specs.Writer.{stored}
-use Rattle.worked.specs.Question.{Question, writeFrame, writeFrameWithin, writeFrameInto, nextSequenceByte, writePackets, readPieces, writePacketWithin, writePacketInto, openReceiver, acceptPacket, answerPacket, acceptPacketWithin, writeAcknowledgement, writeAcknowledgementInto, writeEnvelope, readEnvelope, readRecord, appendRecord}
-use Rattle.worked.specs.Question.{Answer, bytes, output, sequenceByte, packets, pieces, sent, sentInto, opened, accepted, answered, envelope, reading, appended, plain, extended, zeros, answerTo}
+use Rattle.worked.specs.Question.{Question, writeFrame, writeFrameWithin, writeFrameInto, nextSequenceByte, writePackets, readPieces, writePacketWithin, writePacketInto, acceptPacket, answerPacket, acceptPacketWithin, writeAcknowledgement, writeAcknowledgementInto, writeEnvelope, readEnvelope, readRecord, appendRecord}
+use Rattle.worked.specs.Question.{Answer, bytes, output, sequenceByte, packets, pieces, sent, sentInto, accepted, answered, envelope, reading, appended, plain, extended, zeros, answerTo}
 
 -- a row: what is asked, and what comes back
 pub record Case : Type 0 where
@@ -76,10 +75,6 @@ unlawful slots = case (acceptPacketWithin 64 slots (beginning 1)) (accepted (ref
 abbrev pub unread : ℕ → List ℕ → Case
 unread n packet = case (acceptPacketWithin 64 full packet) (accepted (refused n) full)
 
--- a transaction of this id in the control stream and one in the OTA stream
-abbrev pub twoStreams : ℕ → List Slot
-twoStreams id = begun id ∷ (replicate 3 idle ++ (begun id ∷ replicate 7 idle))
-
 -- a control transaction of three bytes, id 0, of which this many are held; the last packet had this sequence
 abbrev pub holding : ℕ → ℕ → List Slot
 holding held sequence = openWith 0 sequence false 3 held ∷ replicate 11 idle
@@ -113,16 +108,11 @@ cases =
     case (writeFrame 0 []) (bytes (given (0xF0 ∷ 0x02 ∷ 0x00 ∷ 0x00 ∷ 0x00 ∷ 0x02 ∷ 0xF1 ∷ [])))
     -- P2 payload F0, sequence 5
     ∷ case (writeFrame 5 (0xF0 ∷ [])) (bytes (given (0xF0 ∷ 0x02 ∷ 0x00 ∷ 0x05 ∷ 0xF2 ∷ 0x02 ∷ 0x00 ∷ 0xF2 ∷ 0x00 ∷ 0xF1 ∷ [])))
-    -- 17 before 15, 15 before 14; a payload of as many bytes as the limit
+    -- 17 before 15, 15 for a payload of a byte more than the limit
     ∷ case (writeFrameWithin 0 0xF0 []) (bytes (refused 17))
-    ∷ case (writeFrameWithin 65536 5 []) (bytes (refused 17))
-    ∷ case (writeFrameWithin 65535 0xF0 (zeros 33)) (bytes (refused 15))
     ∷ case (writeFrameWithin 1 5 (0x41 ∷ 0x42 ∷ [])) (bytes (refused 15))
-    ∷ case (writeFrameWithin 1 5 (0x41 ∷ [])) (bytes (given (0xF0 ∷ 0x02 ∷ 0x00 ∷ 0x05 ∷ 0x41 ∷ 0x00 ∷ 0x43 ∷ 0xF1 ∷ [])))
-    -- what is behind a frame stays, and so does all under 17, 15 and 14
+    -- a payload of as many bytes as the limit, and what is behind its frame stays; 14 leaves all
     ∷ case (writeFrameInto 1 5 (0x41 ∷ []) (replicate 9 0xEE)) (output (written (given 8) (0xF0 ∷ 0x02 ∷ 0x00 ∷ 0x05 ∷ 0x41 ∷ 0x00 ∷ 0x43 ∷ 0xF1 ∷ 0xEE ∷ [])))
-    ∷ case (writeFrameInto 0 5 [] (replicate 9 0xEE)) (output (written (refused 17) (replicate 9 0xEE)))
-    ∷ case (writeFrameInto 1 0xF1 [] (replicate 9 0xEE)) (output (written (refused 15) (replicate 9 0xEE)))
     ∷ case (writeFrameInto 1 5 (0x41 ∷ []) (replicate 7 0xEE)) (output (written (refused 14) (replicate 7 0xEE)))
     -- P3 sequence bytes after EF, FF, 00
     ∷ case (nextSequenceByte 0xEF) (sequenceByte 0xF3)
@@ -140,24 +130,16 @@ cases =
     -- P6 300 bytes, rooms 262 and 263
     ∷ case (readPieces (inRoom 262) (zeros 300)) (pieces (given (plain 255) ∷ given (plain 45) ∷ []))
     ∷ case (readPieces (inRoom 263) (zeros 300)) (pieces (given (extended 256) ∷ given (plain 44) ∷ []))
-    -- 13 before 17, 17 before 15; a message of as many bytes as the limit
+    -- 13 before 17, 17 before 15, 15 for a message of a byte more than the limit
     ∷ case (writePacketWithin 0 (sending 19 6 1 0 false) []) (sent (refused 13))
     ∷ case (writePacketWithin 0 (sending 20 9 1 0 false) []) (sent (refused 17))
-    ∷ case (writePacketWithin 65536 (sending 20 6 1 0 false) []) (sent (refused 17))
     ∷ case (writePacketWithin 1 (sending 20 6 1 0 false) (zeros 2)) (sent (refused 15))
-    ∷ case (writePacketWithin 2 (sending 20 6 1 0 false) (zeros 2)) (sent (given (last 8)))
     -- 14: the last piece of one byte wants an output of the room too; what is behind its packet stays
     ∷ case (writePacketInto (sending 20 6 1 0 false) (zeros 15) 14 (replicate 19 0xEE)) (sentInto (written (refused 14) (replicate 19 0xEE)))
     ∷ case (writePacketInto (sending 20 6 1 0 false) (zeros 15) 14 (replicate 20 0xEE))
     (sentInto (written (given (last 4)) (0x61 ∷ 0x18 ∷ 0x01 ∷ 0x00 ∷ replicate 16 0xEE)))
-    -- an opening: 17 where the limit is 0 or above 65,535
-    ∷ case (openReceiver 0) (opened (refused 17))
-    ∷ case (openReceiver 1) (opened (given (linkOf 1)))
-    ∷ case (openReceiver 65535) (opened (given (linkOf 65535)))
-    ∷ case (openReceiver 65536) (opened (refused 17))
-    -- a total of the limit, and one above it; a state whose limit is 0
+    -- a total of the limit is taken; a state whose limit is 0 is refused by 1
     ∷ case (acceptPacketWithin 2 idles (0x61 ∷ 0x02 ∷ 0x00 ∷ 0x00 ∷ 0x02 ∷ 0x01 ∷ 0xAA ∷ [])) (accepted (given (Taken 8 Alexa 1 false)) asking)
-    ∷ case (acceptPacketWithin 1 idles (0x61 ∷ 0x02 ∷ 0x00 ∷ 0x00 ∷ 0x02 ∷ 0x01 ∷ 0xAA ∷ [])) (accepted (refused 6) idles)
     ∷ case (acceptPacketWithin 0 idles (zeros 6)) (accepted (refused 1) idles)
     -- P7 after sequence 15: a continuation of one byte with sequence 0, which is held, and one with sequence 10, which leaves the slot idle
     ∷ case (acceptPacket (holding 1 15) (0x00 ∷ 0x04 ∷ 0x01 ∷ 0x00 ∷ [])) (accepted (given (Taken 0 Control 0 false)) (holding 2 0))
@@ -165,9 +147,8 @@ cases =
     -- P8 ACK and NACK for P4, sequence 0
     ∷ case (writeAcknowledgement 6 1 0 true) (bytes (given (0x61 ∷ 0x0E ∷ 0x00 ∷ 0x02 ∷ 0x01 ∷ 0x00 ∷ [])))
     ∷ case (writeAcknowledgement 6 1 0 false) (bytes (given (0x61 ∷ 0x0C ∷ 0x00 ∷ 0x02 ∷ 0x01 ∷ 0x03 ∷ [])))
-    -- .. 14 under six bytes, and what is behind it stays
+    -- .. 14 under six bytes
     ∷ case (writeAcknowledgementInto 6 1 0 true (replicate 5 0xEE)) (output (written (refused 14) (replicate 5 0xEE)))
-    ∷ case (writeAcknowledgementInto 6 1 0 true (replicate 7 0xEE)) (output (written (given 6) (0x61 ∷ 0x0E ∷ 0x00 ∷ 0x02 ∷ 0x01 ∷ 0x00 ∷ 0xEE ∷ [])))
     -- P9 empty transaction, stream, id, sequence 0; and a receiver finishes it at once, its slot idle
     ∷ case (writePackets (sending 20 0 0 0 false) []) (packets (zeros 6 ∷ []))
     ∷ case (acceptPacket idles (zeros 6)) (accepted (given (Finished 0 Control 0 0 false false)) idles)
@@ -188,32 +169,26 @@ cases =
     ∷ case (acceptPacketWithin 64 (opening (3 ∷ [])) (beginning 1)) (accepted (given (Taken 1 Control 1 false)) (opening (3 ∷ 1 ∷ [])))
     ∷ case (acceptPacketWithin 64 (opening (3 ∷ 1 ∷ [])) (beginning 2)) (accepted (given (Taken 2 Control 2 false)) (opening (3 ∷ 1 ∷ 2 ∷ [])))
     ∷ case (acceptPacketWithin 64 (opening (3 ∷ 1 ∷ 2 ∷ [])) (beginning 0)) (accepted (given (Taken 3 Control 0 false)) full)
-    -- id 4 finds no slot, a total of 0 neither; id 2 is open, and replaced at its place; another stream has slots of its own
+    -- id 4 finds no slot, a total of 0 neither; id 2 is open, and replaced at its place
     ∷ case (acceptPacketWithin 64 full (beginning 4)) (accepted (refused 18) full)
     ∷ case (acceptPacketWithin 64 full (0x09 ∷ zeros 5)) (accepted (refused 18) full)
     ∷ case (acceptPacketWithin 64 full (beginning 2)) (accepted (given (Taken 2 Control 2 true)) full)
-    ∷ case (acceptPacketWithin 64 full (beginning 0x24)) (accepted (given (Taken 4 Ota 4 false)) (take 4 full ++ (begun 4 ∷ replicate 7 idle)))
-    -- the last piece of id 1: its place is told, and its slot alone is idle; then id 4 takes the lowest idle slot
-    ∷ case (acceptPacketWithin 64 full (0x01 ∷ 0x18 ∷ 0x01 ∷ 0x08 ∷ [])) (accepted (given (Finished 1 Control 1 2 false false)) withoutOne)
-    ∷ case (acceptPacketWithin 64 withoutOne (beginning 4)) (accepted (given (Taken 1 Control 4 false)) (opening (3 ∷ 4 ∷ 2 ∷ 0 ∷ [])))
-    -- 10 and 11 make that slot alone idle; 9 where the id is open in another stream only
-    ∷ case (acceptPacketWithin 64 full (0x01 ∷ 0x28 ∷ 0x01 ∷ 0x08 ∷ [])) (accepted (refused 10) withoutOne)
+    -- 11 makes that slot alone idle; 9 where the id is open in another stream only
     ∷ case (acceptPacketWithin 64 full (0x01 ∷ 0x14 ∷ 0x01 ∷ 0x08 ∷ [])) (accepted (refused 11) withoutOne)
     ∷ case (acceptPacketWithin 64 full (0x21 ∷ 0x18 ∷ 0x01 ∷ 0x08 ∷ [])) (accepted (refused 9) full)
     -- 8 before 18
     ∷ case (acceptPacketWithin 64 full (0x04 ∷ 0x00 ∷ 0x00 ∷ 0x00 ∷ 0x01 ∷ 0x02 ∷ 0x07 ∷ 0x07 ∷ [])) (accepted (refused 8) full)
-    -- one that finishes at once: at its place, replaced; at the lowest idle slot. Alexa's slots are full by themselves
-    ∷ case (acceptPacketWithin 64 full (0x02 ∷ 0x00 ∷ 0x00 ∷ 0x00 ∷ 0x01 ∷ 0x01 ∷ 0x07 ∷ []))
-    (accepted (given (Finished 2 Control 2 1 false true)) (set full 2 idle))
+    -- one that finishes at once, at the lowest idle slot
     ∷ case (acceptPacketWithin 64 withoutOne (0x04 ∷ 0x00 ∷ 0x00 ∷ 0x00 ∷ 0x01 ∷ 0x01 ∷ 0x07 ∷ []))
     (accepted (given (Finished 1 Control 4 1 false false)) withoutOne)
-    ∷ case (acceptPacketWithin 64 (drop 4 full ++ take 4 full) (beginning 0x64)) (accepted (refused 18) (drop 4 full ++ take 4 full))
-    -- No. 2: a flag on a continuation alone is remembered, and asks at the last
+    -- No. 2: a first packet without the flag replaces one that asked, and its wish too: it is held, or finishes at once
+    ∷ case (acceptPacket asking (0x61 ∷ 0x00 ∷ 0x00 ∷ 0x00 ∷ 0x02 ∷ 0x01 ∷ 0xAA ∷ []))
+    (accepted (given (Taken 8 Alexa 1 true)) (replicate 8 idle ++ (begun 1 ∷ replicate 3 idle)))
+    ∷ case (acceptPacket asking (0x61 ∷ 0x00 ∷ 0x00 ∷ 0x00 ∷ 0x01 ∷ 0x01 ∷ 0xAA ∷ [])) (accepted (given (Finished 8 Alexa 1 1 false true)) idles)
+    -- .. a flag on a continuation alone is remembered
     ∷ case (acceptPacketWithin 64 (alone 8 1 1 0 0 3 1) (0x61 ∷ 0x16 ∷ 0x01 ∷ 0xBB ∷ [])) (accepted (given (Taken 8 Alexa 1 false)) (alone 8 1 1 1 1 3 2))
-    ∷ case (acceptPacketWithin 64 (alone 8 1 1 1 1 3 2) (0x61 ∷ 0x28 ∷ 0x01 ∷ 0xCC ∷ [])) (accepted (given (Finished 8 Alexa 1 3 true false)) idles)
-    -- a packet's own refusals, each where the next in order holds too: 2 before 3, 3 before 12, 12, 4 before 5, 5 before 6, 6 before 7, 7 before 9
+    -- a packet's own refusals: 2 before 3, 3 before 12, 12 (too short, with the extender, with the other's code, too long), 4 before 5, 5 before 6, 5 of a packet that follows, 6 before 7, 7 before 9
     ∷ unread 2 (0x71 ∷ 0x00 ∷ 0x00 ∷ 0x00 ∷ 0x01 ∷ [])
-    ∷ unread 2 (0x71 ∷ 0x05 ∷ 0x01 ∷ [])
     ∷ unread 3 (0x71 ∷ 0x0C ∷ 0x00 ∷ [])
     ∷ unread 12 (0x01 ∷ 0x0E ∷ [])
     ∷ unread 12 (0x01 ∷ 0x0F ∷ 0x00 ∷ 0x02 ∷ 0x01 ∷ 0x00 ∷ [])
@@ -223,7 +198,6 @@ cases =
     ∷ unread 5 (0x01 ∷ 0x00 ∷ 0x00 ∷ 0x00 ∷ 0x41 ∷ 0x02 ∷ 0x07 ∷ [])
     ∷ unread 5 (0x01 ∷ 0x18 ∷ 0x01 ∷ 0x08 ∷ 0x08 ∷ [])
     ∷ unread 6 (0x01 ∷ 0x00 ∷ 0x00 ∷ 0x00 ∷ 0x41 ∷ 0x00 ∷ [])
-    ∷ unread 7 (0x01 ∷ 0x00 ∷ 0x00 ∷ 0x00 ∷ 0x02 ∷ 0x00 ∷ [])
     ∷ unread 7 (0x09 ∷ 0x18 ∷ 0x00 ∷ [])
     -- the extender on a length of 1: two bytes, big-endian
     ∷ case (acceptPacketWithin 64 full (0x01 ∷ 0x19 ∷ 0x00 ∷ 0x01 ∷ 0x08 ∷ [])) (accepted (given (Finished 1 Control 1 2 false false)) withoutOne)
@@ -247,8 +221,6 @@ cases =
     ∷ unlawful (alone 5 0 0 0 1 0 0)
     ∷ unlawful (alone 6 0 0 0 0 1 0)
     ∷ unlawful (alone 9 0 0 0 0 0 1)
-    -- one id in two streams is lawful
-    ∷ case (acceptPacketWithin 64 (twoStreams 3) (0x03 ∷ 0x18 ∷ 0x01 ∷ 0x08 ∷ [])) (accepted (given (Finished 0 Control 3 2 false false)) (idle ∷ drop 1 (twoStreams 3)))
     -- P10 command 94 with success, 20 with unsupported; and each read back
     ∷ case (writeEnvelope (pos 94) (Response success None)) (bytes (given (0x08 ∷ 0x5E ∷ 0x4A ∷ 0x00 ∷ [])))
     ∷ case (readEnvelope (0x08 ∷ 0x5E ∷ 0x4A ∷ 0x00 ∷ [])) (envelope (given (responseRead 94 success)))
@@ -262,24 +234,20 @@ cases =
     (reading (outbox.given (outbox.found (record { stream = 6; start = 4; size = 2; next = 6 }))))
     ∷ case (readRecord (0x01 ∷ 0x00 ∷ 0x03 ∷ 0x06 ∷ 0x41 ∷ 0x42 ∷ []) 6) (reading (outbox.given outbox.end))
     ∷ case (readRecord (take 5 (0x01 ∷ 0x00 ∷ 0x03 ∷ 0x06 ∷ 0x41 ∷ 0x42 ∷ [])) 1) (reading (outbox.refusedAt 41 1))
-    -- No. 6: a record of version 02; a cut length, a length of 65,537, one of 65,536 with nothing behind it; another version, and none
+    -- No. 6: a record of version 02; a cut length, a length of 65,537, one of 65,536 with nothing behind it
     ∷ case (readRecord (0x02 ∷ 0x00 ∷ 0x00 ∷ 0x00 ∷ 0x03 ∷ 0x06 ∷ 0x41 ∷ 0x42 ∷ []) 1)
     (reading (outbox.given (outbox.found (record { stream = 6; start = 6; size = 2; next = 8 }))))
     ∷ case (readRecord (0x02 ∷ 0x00 ∷ 0x00 ∷ 0x00 ∷ []) 1) (reading (outbox.refusedAt 41 1))
     ∷ case (readRecord (0x02 ∷ 0x00 ∷ 0x01 ∷ 0x00 ∷ 0x01 ∷ []) 1) (reading (outbox.refusedAt 42 1))
     ∷ case (readRecord (0x02 ∷ 0x00 ∷ 0x01 ∷ 0x00 ∷ 0x00 ∷ []) 1) (reading (outbox.refusedAt 41 1))
-    ∷ case (readRecord (0x03 ∷ []) 1) (reading (outbox.refusedAt 40 0))
-    ∷ case (readRecord [] 1) (reading (outbox.refusedAt 40 0))
-    -- appending: 1 before 40, 40 before 15, then 15; a record in each version
+    -- appending: 1 before 40, 40 before 15 (another version; no byte used), then 15; a record
     ∷ case (appendRecord (0x03 ∷ []) 2 9 []) (appended (stored (outbox.refused 1) (0x03 ∷ [])))
     ∷ case (appendRecord (0x03 ∷ []) 1 9 []) (appended (stored (outbox.refusedAt 40 0) (0x03 ∷ [])))
+    ∷ case (appendRecord (0x02 ∷ []) 0 9 []) (appended (stored (outbox.refusedAt 40 0) (0x02 ∷ [])))
     ∷ case (appendRecord (0x02 ∷ []) 1 9 []) (appended (stored (outbox.refused 15) (0x02 ∷ [])))
     ∷ case (appendRecord (0x02 ∷ zeros 8) 1 6 (0x41 ∷ 0x42 ∷ []))
     (appended (stored (outbox.given 8) (0x02 ∷ 0x00 ∷ 0x00 ∷ 0x00 ∷ 0x03 ∷ 0x06 ∷ 0x41 ∷ 0x42 ∷ 0x00 ∷ [])))
-    ∷ case (appendRecord (0x01 ∷ zeros 6) 1 6 (0x41 ∷ 0x42 ∷ []))
-    (appended (stored (outbox.given 6) (0x01 ∷ 0x00 ∷ 0x03 ∷ 0x06 ∷ 0x41 ∷ 0x42 ∷ 0x00 ∷ [])))
-    -- 15: place 0, and one beyond; 42: a length of 0; 43
-    ∷ case (readRecord (0x02 ∷ []) 0) (reading (outbox.refused 15))
+    -- 15: a place beyond the bytes; 42: a length of 0; 43
     ∷ case (readRecord (0x02 ∷ []) 2) (reading (outbox.refused 15))
     ∷ case (readRecord (0x01 ∷ 0x00 ∷ 0x00 ∷ []) 1) (reading (outbox.refusedAt 42 1))
     ∷ case (readRecord (0x01 ∷ 0x00 ∷ 0x01 ∷ 0x01 ∷ []) 1) (reading (outbox.refusedAt 43 1))

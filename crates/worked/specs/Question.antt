@@ -16,8 +16,7 @@ use Rattle.ble_sender_claims.specs.Calls.{callsOf}
 use Rattle.ble_slot.specs.declared.Slot.{Slot}
 use Rattle.ble_slot.specs.declared.answer.Accepted.{Accepted}
 use Rattle.ble_slot.specs.Slot.{slotCount}
-use Rattle.ble_receiver.specs.declared.Receiver.{Receiver}
-use Rattle.ble_receiver.specs.Receiver.{openOf, call, PacketLeft, acceptOf}
+use Rattle.ble_receiver.specs.Receiver.{call, PacketLeft, acceptOf}
 use Rattle.msg_control.specs.declared.envelope.Envelope.{Envelope}
 use Rattle.msg_control.specs.declared.envelope.EnvelopePayload.{EnvelopePayload}
 use Rattle.msg_control.specs.Envelope.{envelopeOf, envelopeWritten}
@@ -51,8 +50,6 @@ pub data Question : Type 0 where
   writePacketWithin : ℕ → Sending → List ℕ → Question
   -- .. at a place, into an output that is lent
   writePacketInto : Sending → List ℕ → ℕ → List ℕ → Question
-  -- a receiver, opened with a limit
-  openReceiver : ℕ → Question
   -- a packet, given to a receiver with these slots
   acceptPacket : List Slot → List ℕ → Question
   -- .. with another limit
@@ -87,7 +84,6 @@ pub data Answer : Type 0 where
   sent : Told Sent → Answer
   -- .. and the output afterwards
   sentInto : Written Sent → Answer
-  opened : Told Receiver → Answer
   -- what is told of a packet, and the slots afterwards
   accepted : Told Accepted → List Slot → Answer
   -- .. and the answer buffer
@@ -129,7 +125,6 @@ answerTo (writePackets w m) = packets (packetsOf w m)
 answerTo (readPieces w m) = pieces (map pieceLengthOf (packetsOf w m))
 answerTo (writePacketWithin limit w m) = sent (writtenOf limit w m 0 (zeros (w .room)) .told)
 answerTo (writePacketInto w m place out) = sentInto (writtenOf limit w m place out)
-answerTo (openReceiver limit) = opened (openOf limit)
 answerTo (acceptPacketWithin limit slots p) = acceptedBy (acceptOf limit slots (zeros (slotCount * limit)) (call p 0 room))
 answerTo (acceptPacket slots p) = acceptedBy (acceptOf limit slots (zeros (slotCount * limit)) (call p 0 room))
 answerTo (answerPacket slots p sequence out) = answeredBy (acceptOf limit slots (zeros (slotCount * limit)) (call p sequence out))

@@ -37,10 +37,6 @@ classicRows =
       called 1 (1 ∷ (replicate 4 0)) (0x00 ∷ 0x00 ∷ 0x00 ∷ []) (9 ∷ 9 ∷ 9 ∷ []),
     )
     ∷ (
-      extractorStepOf (2 ∷ 5 ∷ 0 ∷ 0 ∷ []) (0x00 ∷ 0x80 ∷ 0x00 ∷ 0x00 ∷ []) 0x00 (9 ∷ 9 ∷ 9 ∷ []),
-      called 0 (2 ∷ 4 ∷ 0 ∷ 1 ∷ []) (0xF2 ∷ 0x80 ∷ 0x00 ∷ 0x00 ∷ []) (1 ∷ 0 ∷ 0 ∷ []),
-    )
-    ∷ (
       extractorStepOf (2 ∷ 4 ∷ 0 ∷ 0 ∷ []) (replicate 4 0x00) 0xF2 (9 ∷ 9 ∷ 9 ∷ []),
       called 0 (2 ∷ 5 ∷ 0 ∷ 0 ∷ []) (replicate 4 0x00) (1 ∷ 0 ∷ 0 ∷ []),
     )
@@ -160,8 +156,8 @@ classicRows =
       called 0 (5 ∷ 0 ∷ 2 ∷ 2 ∷ 256 ∷ 7 ∷ 0 ∷ []) (0x01 ∷ 0x00 ∷ 0xF1 ∷ 0xEE ∷ []) (0 ∷ 3 ∷ 1 ∷ []),
     )
     ∷ (
-      framePartOf (2 ∷ 0 ∷ 2 ∷ 0 ∷ 0 ∷ 2 ∷ 0 ∷ []) (0x00 ∷ 0x00 ∷ []) (replicate 5 0xEE) (9 ∷ 9 ∷ 9 ∷ []),
-      called 0 (2 ∷ 0 ∷ 2 ∷ 2 ∷ 0 ∷ 5 ∷ 0 ∷ []) (replicate 5 0x00) (2 ∷ 5 ∷ 0 ∷ []),
+      framePartOf (2 ∷ 0 ∷ 2 ∷ 0 ∷ 0 ∷ 2 ∷ 0 ∷ []) (0x41 ∷ 0x42 ∷ []) (replicate 5 0xEE) (9 ∷ 9 ∷ 9 ∷ []),
+      called 0 (2 ∷ 0 ∷ 2 ∷ 2 ∷ 131 ∷ 5 ∷ 0 ∷ []) (0x00 ∷ 0x00 ∷ 0x41 ∷ 0x42 ∷ 0x00 ∷ []) (2 ∷ 5 ∷ 0 ∷ []),
     )
     ∷ (
       framePartOf (1 ∷ 0 ∷ 1 ∷ (replicate 4 0)) (0xF2 ∷ []) (replicate 5 0xEE) (9 ∷ 9 ∷ 9 ∷ []),

@@ -20,7 +20,6 @@ firmwareRows =
     )
     -- pito_segment_write: pins segmentStored, segmentWriteOf, segmentFields
     ∷ (segmentWriteOf [] 0 0 [] (0xEE ∷ []) (replicate 4 9), called 1 [] (0xEE ∷ []) (replicate 4 9))
-    ∷ (segmentWriteOf (0x80 ∷ []) 0 0 [] (0xEE ∷ []) (9 ∷ 9 ∷ 9 ∷ []), called 36 [] (0xEE ∷ []) (0 ∷ 1 ∷ 0 ∷ []))
     ∷ (segmentWriteOf [] 0 4294967296 [] [] (9 ∷ 9 ∷ 9 ∷ []), called 15 [] [] (0 ∷ 0 ∷ 0 ∷ []))
     ∷ (segmentWriteOf [] 4294967296 0 [] (0xEE ∷ []) (9 ∷ 9 ∷ 9 ∷ []), called 15 [] (0xEE ∷ []) (0 ∷ 0 ∷ 0 ∷ []))
     ∷ (
@@ -29,10 +28,6 @@ firmwareRows =
     )
     -- pito_apply_read: pins applyRow, applyReadOf, headRow, knownFields, otherFields, componentRow, partRow, ..
     ∷ (applyReadOf (0x0A ∷ 0x08 ∷ 0x12 ∷ 0x01 ∷ 0x00 ∷ 0x1D ∷ (replicate 4 0x00)) (replicate 59 9), called 33 [] [] (replicate 59 0))
-    ∷ (
-      applyReadOf (0x0A ∷ 0x09 ∷ 0x1A ∷ 0x00 ∷ 0x08 ∷ 0x80 ∷ 0x00 ∷ 0x08 ∷ 0x00 ∷ 0x08 ∷ 0x00 ∷ 0x10 ∷ 0x00 ∷ []) (replicate 59 9),
-      called 0 [] [] (replicate 8 0 ++ (1 ∷ (replicate 50 0))),
-    )
     ∷ (
       applyReadOf (0x0A ∷ 0x13 ∷ 0x1A ∷ 0x11 ∷ 0x18 ∷ (replicate 4 0x80 ++ (0x00 ∷ 0x51 ∷ (replicate 5 0x00 ++ (0x8B ∷ 0xDB ∷ 0xD7 ∷ 0x00 ∷ 0x04 ∷ []))))) (replicate 59 9),
       called 32 [] [] (replicate 59 0),

@@ -10,7 +10,7 @@ unfoldable pub messagesRows : List (Called × Called)
 messagesRows =
     -- pito_envelope_read: pins envelopeReadOf, payloadRow, knownFields, otherFields, envelopeRow, payloadOf, badTag, ..
     (envelopeReadOf (0x4D ∷ []) (replicate 6 9), called 33 [] [] (replicate 6 0))
-    ∷ (envelopeReadOf (0x4A ∷ 0x00 ∷ []) (replicate 6 9), called 0 [] [] (0 ∷ 1 ∷ (replicate 4 0)))
+    ∷ (envelopeReadOf (0x4A ∷ 0x00 ∷ 0x08 ∷ 0x05 ∷ []) (replicate 6 9), called 0 [] [] (5 ∷ 1 ∷ (replicate 4 0)))
     ∷ (envelopeReadOf (0x5A ∷ 0x00 ∷ []) (replicate 6 9), called 0 [] [] (0 ∷ 2 ∷ 0 ∷ 11 ∷ 2 ∷ 0 ∷ []))
     ∷ (envelopeReadOf (0x2D ∷ (replicate 4 0x00)) (replicate 6 9), called 0 [] [] (replicate 6 0))
     ∷ (

@@ -42,10 +42,6 @@ outboxRows =
     ∷ (outboxMoveOf versionOne (0x01 ∷ 0x00 ∷ []) [] (9 ∷ 9 ∷ []), called 41 [] [] (0 ∷ 1 ∷ []))
     ∷ (outboxMoveOf versionTwo (0x00 ∷ []) [] (9 ∷ 9 ∷ 9 ∷ []), called 1 [] [] (9 ∷ 9 ∷ 9 ∷ []))
     ∷ (
-      outboxMoveOf versionTwo (0x01 ∷ 0x00 ∷ 0x02 ∷ 0x06 ∷ 0x41 ∷ []) (0x07 ∷ 0x07 ∷ 0x07 ∷ []) (9 ∷ 9 ∷ []),
-      called 14 [] (0x07 ∷ 0x07 ∷ 0x07 ∷ []) (0 ∷ 0 ∷ []),
-    )
-    ∷ (
       outboxMoveOf versionTwo (0x01 ∷ 0x00 ∷ 0x01 ∷ 0x00 ∷ 0x00 ∷ 0x03 ∷ 0x00 ∷ 0x00 ∷ 0x00 ∷ []) (replicate 13 0x00) (9 ∷ 9 ∷ []),
       called 0 [] (0x02 ∷ 0x00 ∷ 0x00 ∷ 0x00 ∷ 0x01 ∷ (replicate 4 0x00 ++ (0x03 ∷ 0x00 ∷ 0x00 ∷ 0x00 ∷ []))) (13 ∷ 0 ∷ []),
     )

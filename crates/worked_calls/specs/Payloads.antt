@@ -8,10 +8,8 @@ use Rattle.outbox.specs.Format.{versionOne, versionTwo}
 unfoldable pub payloadsRows : List (Bool × Bool)
 payloadsRows =
     -- the longest payload of each version: pins badRecord
-    (badRecord versionOne 6 4096, false)
-    ∷ (badRecord versionOne 6 4097, true)
+    (badRecord versionOne 6 4097, true)
     ∷ (badRecord versionTwo 6 65535, false)
-    ∷ (badRecord versionTwo 6 65536, true)
     ∷ []
 
 -- each call leaves what its row says

@@ -30,10 +30,6 @@ receivingRows =
       replied 7 (replicate 12 idle) (replicate 12 0x00) (replicate 8 0) (replicate 6 0xEE),
     )
     ∷ (
-      receiverAcceptOf (2 ∷ []) (replicate 8 idle ++ ((slot 1 15 15 0 2 1) ∷ idle ∷ idle ∷ idle ∷ [])) (replicate 24 0x00) (0x6F ∷ 0x0B ∷ 0x00 ∷ 0x01 ∷ 0x00 ∷ []) 0 (replicate 6 0xEE) (replicate 8 9),
-      replied 0 (replicate 12 idle) (replicate 24 0x00) (1 ∷ 6 ∷ 15 ∷ 0 ∷ 2 ∷ 1 ∷ 0 ∷ 8 ∷ []) (0x6F ∷ 0x0E ∷ 0x00 ∷ 0x02 ∷ 0x01 ∷ 0x00 ∷ []),
-    )
-    ∷ (
       receiverAcceptOf (2 ∷ []) (replicate 12 idle) (replicate 24 0x00) (0x00 ∷ 0xFE ∷ 0x00 ∷ 0x02 ∷ 0x01 ∷ 0x00 ∷ []) 0 (replicate 6 0xEE) (replicate 8 9),
       replied 0 (replicate 12 idle) (replicate 24 0x00) (2 ∷ 0 ∷ 0 ∷ 15 ∷ (replicate 4 0)) (replicate 6 0xEE),
     )
@@ -46,20 +42,12 @@ receivingRows =
       replied 1 (replicate 6 idle ++ ((slot 1 1 0 0 2 1) ∷ (slot 1 1 0 0 2 1) ∷ (replicate 4 idle))) (replicate 48 0x00) (replicate 8 9) (0xEE ∷ []),
     )
     ∷ (
-      receiverAcceptOf (2 ∷ []) ((slot 1 0 0 0 0 0) ∷ (replicate 11 idle)) (replicate 24 0x77) (replicate 6 0x00) 0 (replicate 6 0xEE) (replicate 8 9),
-      replied 1 ((slot 1 0 0 0 0 0) ∷ (replicate 11 idle)) (replicate 24 0x77) (replicate 8 9) (replicate 6 0xEE),
-    )
-    ∷ (
       receiverAcceptOf (4 ∷ []) (replicate 9 idle ++ ((slot 1 15 14 0 3 1) ∷ idle ∷ idle ∷ [])) (replicate 48 0x00) (0x6F ∷ 0xF8 ∷ 0x01 ∷ 0x00 ∷ []) 0 (replicate 6 0xEE) (replicate 8 9),
       replied 11 (replicate 12 idle) (replicate 48 0x00) (replicate 8 0) (replicate 6 0xEE),
     )
     ∷ (
       receiverAcceptOf (4 ∷ []) (idle ∷ idle ∷ idle ∷ (slot 1 15 14 0 3 1) ∷ (replicate 8 idle)) (replicate 48 0x00) (0x0F ∷ 0x48 ∷ 0x04 ∷ (replicate 4 0x00)) 0 (replicate 6 0xEE) (replicate 8 9),
       replied 10 (replicate 12 idle) (replicate 48 0x00) (replicate 8 0) (replicate 6 0xEE),
-    )
-    ∷ (
-      receiverAcceptOf (5 ∷ []) (replicate 12 idle) (replicate 60 0x00) (0x00 ∷ 0x00 ∷ []) 0 (replicate 6 0xEE) (replicate 8 9),
-      replied 2 (replicate 12 idle) (replicate 60 0x00) (replicate 8 0) (replicate 6 0xEE),
     )
     ∷ (
       receiverAcceptOf (5 ∷ []) (replicate 12 idle) (replicate 60 0x00) (0x01 ∷ 0x6C ∷ 0x00 ∷ 0x02 ∷ 0x01 ∷ 0x03 ∷ []) 0 (replicate 6 0xEE) (replicate 8 9),

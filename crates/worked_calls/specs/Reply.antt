@@ -26,20 +26,12 @@ replyRows =
       called 1 [] (replicate 10 0xEE) (replicate 4 9),
     )
     ∷ (
-      replyWriteOf (0x08 ∷ 0x14 ∷ []) (0xEE ∷ 0x80 ∷ 0x80 ∷ []) (0xE1 ∷ 0x80 ∷ 0x80 ∷ 0xF0 ∷ 0x90 ∷ 0x80 ∷ 0x80 ∷ []) [] [] (featuresOf 0 0) (membersOf 3 0) (linkOf 262 65535 0 0) (replicate 5 0xEE) (9 ∷ 9 ∷ 9 ∷ []),
-      called 14 [] (replicate 5 0xEE) (0 ∷ 0 ∷ 0 ∷ []),
-    )
-    ∷ (
       replyWriteOf (0x08 ∷ 0x1C ∷ []) [] [] [] [] (featuresOf 0 1) (membersOf 0 16) (linkOf 262 1000 1 0) (replicate 15 0xEE) (9 ∷ 9 ∷ 9 ∷ []),
       called 0 [] (0x01 ∷ 0x00 ∷ 0x00 ∷ 0x00 ∷ 0x09 ∷ 0x09 ∷ 0x08 ∷ 0x1C ∷ 0x4A ∷ 0x05 ∷ 0x82 ∷ 0x01 ∷ 0x02 ∷ 0x10 ∷ 0x01 ∷ []) (15 ∷ 0 ∷ 0 ∷ []),
     )
     ∷ (
       replyWriteOf (0x08 ∷ 0x14 ∷ []) (0xED ∷ 0x9F ∷ 0xBF ∷ []) (0xE0 ∷ 0xA0 ∷ 0x80 ∷ []) (0x80 ∷ []) [] (featuresOf 0 0) (membersOf 4 4) (linkOf 22 1000 1 1) (replicate 14 0xEE) (9 ∷ 9 ∷ 9 ∷ []),
       called 36 [] (replicate 14 0xEE) (0 ∷ 4 ∷ 0 ∷ []),
-    )
-    ∷ (
-      replyWriteOf (0x08 ∷ 0x14 ∷ []) [] (0xDF ∷ 0xBF ∷ []) (0xF4 ∷ 0x8F ∷ 0xBF ∷ 0xBF ∷ []) [] (featuresOf 0 0) (membersOf 10 0) (linkOf 262 65535 0 0) (replicate 34 0xEE) (9 ∷ 9 ∷ 9 ∷ []),
-      called 0 [] (replicate 4 0x00 ++ (0x10 ∷ 0x10 ∷ 0x08 ∷ 0x14 ∷ 0x4A ∷ 0x0C ∷ 0x52 ∷ 0x0A ∷ 0x12 ∷ 0x02 ∷ 0xDF ∷ 0xBF ∷ 0x22 ∷ 0x04 ∷ 0xF4 ∷ 0x8F ∷ 0xBF ∷ 0xBF ∷ (replicate 12 0xEE))) (22 ∷ 0 ∷ 0 ∷ []),
     )
     ∷ (
       replyWriteOf (0x08 ∷ 0x14 ∷ []) [] (replicate 4 0x00) (0xF4 ∷ 0x8F ∷ 0xBF ∷ 0xBF ∷ []) (0 ∷ 300 ∷ 4 ∷ 300 ∷ 2 ∷ 4 ∷ 2 ∷ 4 ∷ []) (featuresOf 0 4294967295) (membersOf 16 3) (linkOf 21 1000 0 15) (replicate 60 0xEE) (9 ∷ 9 ∷ 9 ∷ []),

