@@ -3,7 +3,8 @@ use ble_slot_steps::PayloadPlace;
 use wire::bytes::copy;
 use wire::stream::Stream;
 ghost use mathlib.Core.Path.{_≡_};
-ghost use Prim.Native.Nat.{_+_, _*_, _≤_, _<_};
+ghost use mathlib.Core.List.{List};
+ghost use Prim.Native.Nat.{ℕ, _+_, _*_, _≤_, _<_};
 ghost use lib.ListN.{length, take};
 ghost use lib.Seq.{sets};
 ghost use Rattle.ble_slot.specs.Slot.{slotCount, laneStart};
@@ -34,23 +35,23 @@ fn copy_block(out: &mut [u8], at: usize, run: &[u8])
     copy(out, at, &block);
 }
 
-// Copies a run of more than two blocks but for its last one, or less.
-fn copy_front(out: &mut [u8], at: usize, run: &[u8]) -> usize
-    requires { ⌜ (16 ≤ length (now run)) × (at + length (now run) ≤ length (now out)) ⌝ }
-    ensures { λ r. ⌜ (now (out .exit) ≡ sets (now (out .entry)) at (take r (now (run .entry))))
+// Copies blocks from a place of a run on while more than one is left, and returns up to where.
+fn copy_blocks(out: &mut [u8], at: usize, run: &[u8], from: usize) -> usize
+    requires { ⌜ (from ≤ length (now run)) × (at + length (now run) ≤ length (now out)) ⌝ }
+    ensures { λ r. ⌜ ((l : List ℕ) → now (out .entry) ≡ sets l at (take from (now (run .entry)))
+        → now (out .exit) ≡ sets l at (take r (now (run .entry))))
         × (length (now (run .entry)) ≤ r + 16)
         × (r ≤ length (now (run .entry))) ⌝ }
 {
-    let mut i = BLOCK;
-    copy_block(out, at, &run[..BLOCK]);
-    while i + BLOCK < run.len() {
+    let mut i = from;
+    while BLOCK < run.len() - i {
         copy_block(out, at + i, &run[i..i + BLOCK]);
         i = i + BLOCK;
     }
     i
 }
 
-// Copies a run by blocks, of which the last may begin inside of the one before.
+// Copies a run by blocks, of which the last may begin inside the one before.
 fn copy_run(out: &mut [u8], at: usize, run: &[u8])
     requires { ⌜ at + length (now run) ≤ length (now out) ⌝ }
     ensures { λ _. ⌜ now (out .exit) ≡ sets (now (out .entry)) at (now (run .entry)) ⌝ }
@@ -59,7 +60,8 @@ fn copy_run(out: &mut [u8], at: usize, run: &[u8])
         copy(out, at, run);
         return;
     }
-    copy_front(out, at, run);
+    copy_block(out, at, &run[..BLOCK]);
+    copy_blocks(out, at, run, BLOCK);
     let last = run.len() - BLOCK;
     copy_block(out, at + last, &run[last..]);
 }
