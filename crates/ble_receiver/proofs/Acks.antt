@@ -9,9 +9,8 @@ use Rattle.ble_packet.specs.Header.{fourBits}
 use Rattle.ble_packet.proofs.Reading.{PayloadWithin}
 use Rattle.ble_slot.specs.declared.Slot.{Slot}
 use Rattle.ble_slot.specs.Slot.{idle}
-use Rattle.ble_slot_steps.specs.Step.{Step, Act, still, step, finish, hold, dropBy, firstStep, nextStep, openPlace, firstPlace, actOf}
+use Rattle.ble_slot_steps.specs.Step.{Step, Act, still, step, finish, hold, dropBy, firstStep, nextStep, openPlace, firstPlace, actOf, actAt}
 use Rattle.ble_slot_steps.proofs.Each.{EachStep, first-each, next-each, at-each}
-use Rattle.ble_receiver.specs.Outcome.{changed}
 use Rattle.ble_receiver.specs.Ack.{IdLow}
 
 abbrev StepLow : Step → Type 0
@@ -43,6 +42,6 @@ act-low limit k first lane (Ack h) w = tt
 act-low limit k first lane (Nack h) w = tt
 
 -- and what is told of it
-pub changed-low : (limit first : ℕ) (slots : List Slot) (bytes p : List ℕ) (act : Act) → ActLow act → IdLow (changed limit slots bytes p first act .told)
-changed-low limit first slots bytes p (still t) low = low
-changed-low limit first slots bytes p (step place s) low = low
+pub at-low : (first : ℕ) (lane : List Slot) (act : Act) → ActLow act → IdLow (actAt first lane act .step .told)
+at-low first lane (still t) low = low
+at-low first lane (step place s) low = low

@@ -11,7 +11,7 @@ use ble_slot::answer::Answer;
 use ble_slot::answer::Refusal;
 use ble_slot::are_lawful;
 use ble_slot::lane_of;
-use ble_slot_steps::Act;
+use ble_slot_steps::PayloadPlace;
 use ble_slot_steps::Step;
 use ble_slot_steps::act_on;
 use wire::limit::limit_fits;
@@ -19,19 +19,16 @@ use wire::logic::both;
 ghost use mathlib.Core.Path.{_≡_};
 ghost use mathlib.Core.Bool.{true, _&&_};
 ghost use mathlib.Core.List.{List};
-ghost use Prim.Native.Nat.{ℕ, _*_, _≤_, _<_};
+ghost use Prim.Native.Nat.{ℕ, _≤_, _<_};
 ghost use lib.Dec.{eqb};
-ghost use lib.ListN.{length};
+ghost use lib.ListN.{length, getD};
 ghost use Rattle.wire.specs.Told.{given, refused};
-ghost use Rattle.wire.specs.Limit.{limitFits};
 ghost use Rattle.ble_packet.specs.Reader.{readOf};
-ghost use Rattle.ble_slot.specs.Slot.{slotCount};
+ghost use Rattle.ble_slot.specs.declared.Slot.{Slot};
+ghost use Rattle.ble_slot.specs.Slot.{idle, slotCount};
 ghost use Rattle.ble_slot.specs.Answer.{numberOf};
-ghost use Rattle.ble_slot_steps.specs.Step.{stepOf, actBy};
-ghost use Rattle.ble_slot_steps.specs.Fit.{InsidePart, ActFits};
-ghost use Rattle.ble_receiver.specs.Buffer.{stored};
-ghost use Rattle.ble_receiver.specs.Receiver.{openOf, toldOpen, ready, call};
-ghost use Rattle.ble_receiver.specs.Outcome.{outcome, same, changed, changedBy, effect, answers, decided, outcomeOf};
+ghost use Rattle.ble_receiver.specs.Receiver.{openOf, toldOpen, acted, ready, call, left, leaves, acceptOf};
+ghost use Rattle.ble_receiver.specs.Outcome.{leftBy, firstTwelve};
 
 // The state of a link: its limit. Its slots are lent as a row of twelve, four for each stream: control, OTA, Alexa.
 pub struct Receiver {
@@ -42,13 +39,6 @@ pub struct Receiver {
 pub enum OpenedReceiver {
     Link(Receiver),
     BadLimit,
-}
-
-// The answer to a packet, and the one slot that is stored, at a place of the row.
-pub struct Outcome {
-    pub answer: Answer,
-    pub place: usize,
-    pub slot: Slot,
 }
 
 // The lent buffer has a part as long as the limit for each slot.
@@ -80,59 +70,6 @@ fn is_ready(count: usize, limit: usize, slots: [Slot; 12], size: usize) -> bool
     }
 }
 
-// A step of the slot at a place of the row: its payload is written.
-fn store(limit: usize, buffer: &mut [u8], packet: &[u8], place: usize, step: Step) -> Outcome
-    requires { ⌜ (limitFits limit ≡ true)
-        × (length (now buffer) ≡ slotCount * limit)
-        × (place < slotCount)
-        × InsidePart limit (length (now packet)) (step .payload) ⌝ }
-    ensures { λ r. ⌜ outcomeOf r (now (buffer .exit))
-        ≡ outcome (stepOf step .told) place (stepOf step .slot)
-        (stored limit place (now (buffer .entry)) (now (packet .entry)) (stepOf step .payload)) ⌝ }
-{
-    let payload = step.payload;
-    let at = payload.at;
-    let start = payload.start;
-    let end = start + payload.len;
-    buffer::write_payload(buffer, limit, place, at, &packet[start..end]);
-    let slot = step.slot;
-    let answer = step.answer;
-    Outcome {
-        answer,
-        place,
-        slot,
-    }
-}
-
-// What is done to a stream's slots, which begin at a place of the row, and their parts of the buffer.
-fn apply(
-    limit: usize,
-    slots: [Slot; 12],
-    buffer: &mut [u8],
-    packet: &[u8],
-    first: usize,
-    act: Act,
-) -> Outcome
-    requires { ⌜ (limitFits limit ≡ true)
-        × (length (now buffer) ≡ slotCount * limit)
-        × (first ≤ 8)
-        × ActFits limit (length (now packet)) (actBy act) ⌝ }
-    ensures { λ r. ⌜ outcomeOf r (now (buffer .exit))
-        ≡ changed limit slots (now (buffer .entry)) (now (packet .entry)) first (actBy act) ⌝ }
-{
-    match act {
-        Act::Still(answer) => {
-            let slot = slots[0];
-            Outcome {
-                answer,
-                place: 0,
-                slot,
-            }
-        }
-        Act::Step { place, step } => store(limit, buffer, packet, first + place, step),
-    }
-}
-
 // A packet that was read: what it does, and the ACK where it finishes a transaction that wants one.
 fn accept_read(
     limit: usize,
@@ -142,30 +79,23 @@ fn accept_read(
     read: Packet,
     sequence: u8,
     out: &mut [u8],
-) -> Outcome
+) -> Step
     requires { ⌜ (ready limit slots (length (now buffer)) ≡ true)
         × (readOf limit (now packet) ≡ given read)
         × (sequence < 16)
         × (6 ≤ length (now out)) ⌝ }
-    ensures { λ r. ⌜ effect (outcomeOf r (now (buffer .exit))) (now (out .exit))
-        ≡ answers sequence (now (out .entry))
-        (changedBy limit slots (now (buffer .entry)) (now (packet .entry)) (given read)) ⌝ }
+    ensures { λ r. ⌜ leftBy slots r (now (buffer .exit)) (now (out .exit))
+        ≡ leaves sequence (now (out .entry)) (acted limit slots (now (buffer .entry)) (now (packet .entry)) (given read)) ⌝ }
 {
     let head = read.head();
     let stream = head.stream;
     let first = buffer::lane_start(stream);
     let lane = lane_of(slots, stream);
-    let act = act_on(first, lane, read);
-    let done = apply(limit, slots, buffer, packet, first, act);
-    let answer = done.answer;
-    let place = done.place;
-    let slot = done.slot;
+    let step = act_on(first, lane, read);
+    let answer = step.answer;
+    buffer::write_payload(buffer, limit, step.place, step.payload, packet);
     ack::acknowledge(answer, sequence, out);
-    Outcome {
-        answer,
-        place,
-        slot,
-    }
+    step
 }
 
 // A packet under a lawful row and a buffer of the right size, with what an ACK needs.
@@ -176,13 +106,13 @@ pub fn process(
     packet: &[u8],
     sequence: u8,
     out: &mut [u8],
-) -> Outcome
+) -> Step
     requires { ⌜ (ready limit slots (length (now buffer)) ≡ true)
         × (sequence < 16)
         × (6 ≤ length (now out)) ⌝ }
-    ensures { λ r. ⌜ effect (outcomeOf r (now (buffer .exit))) (now (out .exit))
-        ≡ answers sequence (now (out .entry))
-        (changedBy limit slots (now (buffer .entry)) (now (packet .entry)) (readOf limit (now (packet .entry)))) ⌝ }
+    ensures { λ r. ⌜ leftBy slots r (now (buffer .exit)) (now (out .exit))
+        ≡ leaves sequence (now (out .entry))
+        (acted limit slots (now (buffer .entry)) (now (packet .entry)) (readOf limit (now (packet .entry)))) ⌝ }
 {
     let answer = reader::read(limit, packet);
     match answer {
@@ -194,19 +124,26 @@ pub fn process(
 }
 
 // A refusal that leaves all: the first slot is stored as it was.
-fn refuse(slots: [Slot; 12], why: Refusal) -> Outcome
-    ensures { λ r. ⌜ ((bytes : List ℕ) → outcomeOf r bytes ≡ same (refused (numberOf why)) slots bytes) ⌝ }
+fn refuse(slots: [Slot; 12], why: Refusal) -> Step
+    ensures { λ r. ⌜ ((row : List Slot) (bytes out : List ℕ) → getD row 0 idle ≡ getD slots 0 idle
+        → leftBy row r bytes out ≡ left (refused (numberOf why)) row bytes out) ⌝ }
 {
     let slot = slots[0];
-    Outcome {
+    Step {
         answer: Answer::Refused(why),
         place: 0,
         slot,
+        payload: PayloadPlace {
+            at: 0,
+            start: 0,
+            len: 0,
+        },
     }
 }
 
-// The answer to one packet and the one slot of the row that changes. Count is how many slots were lent. A finished message stands first
-// in its slot's part of the buffer, and the ACK that it wants, with the caller's sequence, first in the answer buffer.
+// The answer to one packet and the one slot of the row that changes. Count is how many slots were lent, of which these are the first
+// twelve. A finished message stands first in its slot's part of the buffer, and the ACK that it wants, with the caller's sequence, first in
+// the answer buffer.
 pub fn decide(
     count: usize,
     slots: [Slot; 12],
@@ -215,9 +152,10 @@ pub fn decide(
     packet: &[u8],
     sequence: u8,
     out: &mut [u8],
-) -> Outcome
-    ensures { λ r. ⌜ effect (outcomeOf r (now (buffer .exit))) (now (out .exit))
-        ≡ decided count limit slots (now (buffer .entry)) (call (now (packet .entry)) sequence (now (out .entry))) ⌝ }
+) -> Step
+    ensures { λ r. ⌜ ((row : List Slot) → length row ≡ count → slots ≡ firstTwelve row
+        → leftBy row r (now (buffer .exit)) (now (out .exit))
+        ≡ acceptOf limit row (now (buffer .entry)) (call (now (packet .entry)) sequence (now (out .entry)))) ⌝ }
 {
     if !is_ready(count, limit, slots, buffer.len()) {
         return refuse(slots, Refusal::BadStateOrBuffer);

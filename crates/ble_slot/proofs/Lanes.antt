@@ -122,14 +122,11 @@ LawFour limit lane =
 pub law-four : (limit : ℕ) (lane : List Slot) → length lane ≡ slotsEach → LawFour limit lane
 law-four limit = by-four (LawFour limit) (λ a b c d. simp (and-true, and-false))
 
--- four idle ones
-abbrev IdleFour : ℕ → List Slot → Type 0
-IdleFour limit lane =
-    (idleLaw (getD lane 0 idle) && (idleLaw (getD lane 1 idle) && (idleLaw (getD lane 2 idle) && idleLaw (getD lane 3 idle)))) ≡ true
-    → laneLaw limit lane ≡ true
-
-pub idle-four : (limit : ℕ) (lane : List Slot) → length lane ≡ slotsEach → IdleFour limit lane
-idle-four limit = by-four (IdleFour limit) (λ a b c d e. idle-lane limit (a ∷ b ∷ c ∷ d ∷ []) (simp (and-true) e))
+-- four idle slots of a row from a place on
+pub idle-four : (limit at : ℕ) (l : List Slot) → at + slotsEach ≤ length l
+    → (idleLaw (getD l at idle) && (idleLaw (getD l (suc at) idle) && (idleLaw (getD l (suc (suc at)) idle) && idleLaw (getD l (suc (suc (suc at))) idle)))) ≡ true
+    → laneLaw limit (take slotsEach (drop at l)) ≡ true
+idle-four limit at l h e = rw (lane-four at l h) (idle-lane limit (getD l at idle ∷ getD l (suc at) idle ∷ getD l (suc (suc at)) idle ∷ getD l (suc (suc (suc at))) idle ∷ []) (simp (and-true) e))
 
 all-split : (limit n : ℕ) (l : List Slot) → allLawful limit l ≡ (allLawful limit (take n l) && allLawful limit (drop n l))
 all-split limit zero l = refl

@@ -1,11 +1,13 @@
 -- Laws of lawful slots and rows.
-use Prim.Native.Nat.{ℕ, zero, suc, _+_, _*_, _≤_, _<_}
+use Prim.Native.Nat.{ℕ, zero, suc, _+_, _*_, _/_, _%_, _^_, _≤_, _<_}
+use native.Mathlib.Nat.{mod-eq-of-lt}
 use native.Mathlib.Omega.{arith}
-use mathlib.Core.Path.{_≡_, refl, sym, _∙_}
+use mathlib.Core.Path.{_≡_, refl, sym, ap, _∙_}
 use mathlib.Core.List.{List, [], _∷_}
 use mathlib.Core.Bool.{Bool, true, false, not, _&&_, false≢true}
 use lib.ListN.{length, getD, set, take, drop}
-use lib.Dec.{ltb, leb, eqb}
+use lib.Dec.{ltb, leb, eqb, lit<}
+use lib.Bits.{bitAnd, and-mask, and-block, and-high}
 use borrow.Author.Tests.{eq-eqb, eqb-true, ltb-true, leb-true, lt-ltb, le-leb, ne-eqb, not-true}
 use Rattle.wire.specs.declared.stream.Stream.{Stream}
 use Rattle.wire.specs.declared.stream.Stream.the-variants.{Control, Ota, Alexa}
@@ -61,6 +63,58 @@ both-same a b i low =
     let zb : b ≡ i = eqb-true b i (and-right (eqb a 1) _ t) in
     eq-eqb (b * 256 + a) (i * 256 + 1) (omega arith))
 
+-- four bytes, read as one number, have what is fixed of an open slot where the first is 1 and the others are low
+fixed-bits : (a b c d : ℕ) → a < 256 → b < 256 → c < 256
+    → bitAnd (b * 256 + a + c * 65536 + d * 16777216) 4277203199 ≡ (d / 2 % 128 * 2) * 16777216 + (c / 16 % 16 * 16) * 65536 + (b / 16 % 16 * 16) * 256 + a
+fixed-bits a b c d la lb lc =
+    let whole : b * 256 + a + c * 65536 + d * 16777216 ≡ ((d * 2 ^ 8 + c) * 2 ^ 8 + b) * 2 ^ 8 + a = omega arith in
+    let low : bitAnd a 255 ≡ a = and-mask a 8 ∙ mod-eq-of-lt la in
+    ap (λ (n : ℕ). bitAnd n 4277203199) whole
+    ∙ and-block 8 ((d * 2 ^ 8 + c) * 2 ^ 8 + b) 16707824 a 255 la (lit< tt)
+    ∙ ap (λ (n : ℕ). n * 2 ^ 8 + bitAnd a 255) (and-block 8 (d * 2 ^ 8 + c) 65264 b 240 lb (lit< tt))
+    ∙ ap (λ (n : ℕ). (n * 2 ^ 8 + bitAnd b 240) * 2 ^ 8 + bitAnd a 255) (and-block 8 d 254 c 240 lc (lit< tt))
+    ∙ rw (and-high d 7 1, and-high c 4 4, and-high b 4 4, low) (omega arith)
+
+parts-of-one : (x y z a : ℕ) → x * 16777216 + y * 65536 + z * 256 + a ≡ 1 → (x ≡ 0) × (y ≡ 0) × (z ≡ 0) × (a ≡ 1)
+parts-of-one x y z a e = (omega arith, omega arith, omega arith, omega arith)
+
+low-sixteen : (b : ℕ) → b < 256 → b / 16 % 16 * 16 ≡ 0 → b < 16
+low-sixteen b h e =
+    let q : b / 16 < 16 = omega arith in
+    let z : b / 16 * 16 ≡ 0 = ap (λ (n : ℕ). n * 16) (sym (mod-eq-of-lt q)) ∙ e in
+    omega (arith, z)
+
+low-two : (d : ℕ) → d < 256 → d / 2 % 128 * 2 ≡ 0 → d < 2
+low-two d h e =
+    let q : d / 2 < 128 = omega arith in
+    let z : d / 2 * 2 ≡ 0 = ap (λ (n : ℕ). n * 2) (sym (mod-eq-of-lt q)) ∙ e in
+    omega (arith, z)
+
+pub open-bits : (a b c d : ℕ) → a < 256 → b < 256 → c < 256 → d < 256
+    → eqb (bitAnd (b * 256 + a + c * 65536 + d * 16777216) 4277203199) 1 ≡ (eqb a 1 && (ltb b 16 && (ltb c 16 && ltb d 2)))
+open-bits a b c d la lb lc ld =
+    same-test _ _
+    (λ t.
+    let p = parts-of-one (d / 2 % 128 * 2) (c / 16 % 16 * 16) (b / 16 % 16 * 16) a (sym (fixed-bits a b c d la lb lc) ∙ eqb-true _ 1 t) in
+    rw (eq-eqb a 1 (p .3), lt-ltb b 16 (low-sixteen b lb (p .2)), lt-ltb c 16 (low-sixteen c lc (p .1)), lt-ltb d 2 (low-two d ld (p .0))))
+    (λ t.
+    let t1 = and-right (eqb a 1) _ t in
+    let t2 = and-right (ltb b 16) _ t1 in
+    let xa : a ≡ 1 = eqb-true a 1 (and-left (eqb a 1) _ t) in
+    let xb : b < 16 = ltb-true b 16 (and-left (ltb b 16) _ t1) in
+    let xc : c < 16 = ltb-true c 16 (and-left (ltb c 16) _ t2) in
+    let xd : d < 2 = ltb-true d 2 (and-right (ltb c 16) _ t2) in
+    let zb : b / 16 ≡ 0 = omega arith in
+    let zc : c / 16 ≡ 0 = omega arith in
+    let zd : d / 2 ≡ 0 = omega arith in
+    eq-eqb _ 1 (fixed-bits a b c d la lb lc ∙ rw (zb, zc, zd, xa)))
+
+pub regrouped : (a b c d e : Bool) → ((a && (b && (c && d))) && e) ≡ (a && (b && (c && (d && e))))
+regrouped false b c d e = refl
+regrouped true false c d e = refl
+regrouped true true false d e = refl
+regrouped true true true d e = refl
+
 -- the numbers of an open slot
 pub record OpenSlot (limit : ℕ) (s : Slot) : Type 0 where
   pub id-low : s .id < 16
@@ -112,9 +166,15 @@ idle-shut s e =
     let zero : s .opened ≡ 0 = eqb-true (s .opened) 0 (and-left (eqb (s .opened) 0) _ e) in
     ne-eqb (s .opened) 1 (λ one. omega arith)
 
-idle-says : (limit : ℕ) (s : Slot) → idleLaw s ≡ true → lawfulSlot limit s ≡ true
+pub idle-says : (limit : ℕ) (s : Slot) → idleLaw s ≡ true → lawfulSlot limit s ≡ true
 unfolding lawfulSlot
 idle-says limit s e = rw (idle-shut s e) e
+
+-- a slot that is not idle and lawful is lawful where it is open so
+pub open-says : (limit : ℕ) (s : Slot) (b : Bool) → opens s ≡ b → idleLaw s ≡ false → lawfulSlot limit s ≡ (opens s && openLaw limit s)
+unfolding lawfulSlot
+open-says limit s true o e = rw o
+open-says limit s false o e = rw o e
 
 -- slots that are idle and lawful
 abbrev pub eachIdle : List Slot → Bool

@@ -10,7 +10,8 @@ use wire::stream::Stream;
 ghost use mathlib.Core.Path.{_≡_};
 ghost use mathlib.Core.Bool.{not, _&&_};
 ghost use mathlib.Core.List.{[], _∷_};
-ghost use Prim.Native.Nat.{_<_};
+ghost use Prim.Native.Nat.{_+_, _*_, _<_};
+ghost use Rattle.wire.specs.declared.stream.Stream.the-variants.{Control, Ota, Alexa};
 ghost use Rattle.ble_slot.specs.Slot.{opens, wants, idle, openLaw, idleLaw, isOpen, isIdle, lawfulSlot, anyOpen, laneLaw, laneOf, lawful};
 
 // As C lays it out, in eight bytes. A flag is 0 or 1.
@@ -24,10 +25,14 @@ pub struct Slot {
     pub held: u16,
 }
 
-// The flag that is set, and what a flag can be.
+// The flag that is set.
 const SET: u8 = 1;
 
-const FLAGS: u8 = 2;
+// What is fixed in the first four bytes of an open slot, read as one number: its flag, and the upper bits of id, sequence and wish. They
+// are 1 and 0.
+const FIXED: usize = 4277203199;
+
+const OPEN: usize = 1;
 
 // What a byte of a number of eight counts: the third, fourth, fifth and seventh.
 const THIRD: usize = 65536;
@@ -78,23 +83,31 @@ impl Slot {
         self.wanted == SET
     }
 
+    // Its first four bytes as one number.
+    fn head(self) -> usize
+        ensures { λ r. ⌜ (r ≡ self .id * 256 + self .opened + self .sequence * 65536 + self .wanted * 16777216)
+            × (r < 4294967296) ⌝ }
+    {
+        let three = pair(self.id, self.opened) + bytes::wide(self.sequence) * THIRD;
+        three + bytes::wide(self.wanted) * FOURTH
+    }
+
+    // Whether it is open and lawful: flag, id, sequence and wish by one comparison in place of four.
     fn open_law(self, limit: usize) -> bool
-        ensures { λ r. ⌜ r ≡ openLaw limit self ⌝ }
+        ensures { λ r. ⌜ r ≡ (opens self && openLaw limit self) ⌝ }
     {
         let total = wide(self.total);
-        let begun = both(1 <= self.held, self.held < self.total);
-        let counts = both(self.wanted < FLAGS, both(total <= limit, begun));
-        let low = both(self.sequence < header::FOUR_BITS, counts);
-        both(self.id < header::FOUR_BITS, low)
+        let held = wide(self.held);
+        let fixed = self.head() & FIXED;
+        let begun = both(1 <= held, held < total);
+        both(fixed == OPEN, both(total <= limit, begun))
     }
 
     // Its six numbers are 0 where the one number that they make is: one comparison in place of six.
     fn idle_law(self) -> bool
         ensures { λ r. ⌜ r ≡ idleLaw self ⌝ }
     {
-        let three = pair(self.id, self.opened) + bytes::wide(self.sequence) * THIRD;
-        let four = three + bytes::wide(self.wanted) * FOURTH;
-        let six = four + wide(self.total) * FIFTH;
+        let six = self.head() + wide(self.total) * FIFTH;
         six + wide(self.held) * SEVENTH == 0
     }
 
@@ -114,11 +127,10 @@ impl Slot {
     pub fn is_lawful(self, limit: usize) -> bool
         ensures { λ r. ⌜ r ≡ lawfulSlot limit self ⌝ }
     {
-        if self.opens() {
-            self.open_law(limit)
-        } else {
-            self.idle_law()
+        if self.idle_law() {
+            return true;
         }
+        self.open_law(limit)
     }
 
     // Whether none of three slots is open with the id of one that is.
@@ -180,9 +192,6 @@ fn lane_lawful(limit: usize, lane: [Slot; 4]) -> bool
     let b = lane[1];
     let c = lane[2];
     let d = lane[3];
-    if are_idle(a, b, c, d) {
-        return true;
-    }
     if !each_lawful(limit, a, b, c, d) {
         return false;
     }
@@ -200,12 +209,45 @@ pub fn lane_of(slots: [Slot; 12], stream: Stream) -> [Slot; 4]
     }
 }
 
+// Whether the slots of the control stream are lawful. Four idle ones are, at one look.
+fn control_lawful(limit: usize, slots: [Slot; 12]) -> bool
+    ensures { λ r. ⌜ r ≡ laneLaw limit (laneOf Control slots) ⌝ }
+{
+    if are_idle(slots[0], slots[1], slots[2], slots[3]) {
+        return true;
+    }
+    lane_lawful(limit, lane_of(slots, Stream::Control))
+}
+
+// Whether those of OTA are.
+fn ota_lawful(limit: usize, slots: [Slot; 12]) -> bool
+    ensures { λ r. ⌜ r ≡ laneLaw limit (laneOf Ota slots) ⌝ }
+{
+    if are_idle(slots[4], slots[5], slots[6], slots[7]) {
+        return true;
+    }
+    lane_lawful(limit, lane_of(slots, Stream::Ota))
+}
+
+// Whether those of Alexa are.
+fn alexa_lawful(limit: usize, slots: [Slot; 12]) -> bool
+    ensures { λ r. ⌜ r ≡ laneLaw limit (laneOf Alexa slots) ⌝ }
+{
+    if are_idle(slots[8], slots[9], slots[10], slots[11]) {
+        return true;
+    }
+    lane_lawful(limit, lane_of(slots, Stream::Alexa))
+}
+
 // Whether a row is lawful for a limit: the slots of each stream are.
 pub fn are_lawful(limit: usize, slots: [Slot; 12]) -> bool
     ensures { λ r. ⌜ r ≡ lawful limit slots ⌝ }
 {
-    let control = lane_lawful(limit, lane_of(slots, Stream::Control));
-    let ota = lane_lawful(limit, lane_of(slots, Stream::Ota));
-    let alexa = lane_lawful(limit, lane_of(slots, Stream::Alexa));
-    both(control, both(ota, alexa))
+    if !control_lawful(limit, slots) {
+        return false;
+    }
+    if !ota_lawful(limit, slots) {
+        return false;
+    }
+    alexa_lawful(limit, slots)
 }

@@ -16,8 +16,6 @@ use Rattle.ble_slot_steps.specs.declared.PayloadPlace.{PayloadPlace}
 use Rattle.ble_slot.specs.declared.answer.Accepted.{Accepted}
 use Rattle.ble_slot.specs.declared.answer.Accepted.the-variants.{Taken, Finished, Acked, Nacked}
 use Rattle.ble_slot_steps.specs.declared.Step as code
-use Rattle.ble_slot_steps.specs.declared.Act as acts
-use Rattle.ble_slot_steps.specs.declared.Act.the-variants.{Still, Step as Stepped}
 use Rattle.ble_slot_steps.specs.declared.place.Spot.{Spot}
 use Rattle.ble_slot_steps.specs.declared.place.Spot.the-variants.{Nowhere, At}
 use Rattle.ble_slot.specs.Slot.{opens, wants, idle, isOpen, isIdle}
@@ -127,9 +125,18 @@ abbrev pub spotOf : Spot → Option ℕ
 spotOf Nowhere = none
 spotOf (At place) = some place
 
-unfoldable pub stepOf : code.Step → Step
-stepOf s = record { told = answer.told (s .answer); slot = s .slot; payload = s .payload }
+-- a step with the place of its slot in the row
+pub record StepAt : Type 0 where
+  pub place : ℕ
+  pub step : Step
 
-abbrev pub actBy : acts.Act → Act
-actBy (Still told) = still (answer.told told)
-actBy (Stepped place s) = step place (stepOf s)
+abbrev pub stepAt : ℕ → Step → StepAt
+stepAt place s = record { place = place; step = s }
+
+-- what is done, by the one slot that is stored: what leaves all stores the first of its stream's slots as it was, and writes nothing
+abbrev pub actAt : ℕ → List Slot → Act → StepAt
+actAt first lane (still t) = stepAt first (record { told = t; slot = getD lane 0 idle; payload = nothing })
+actAt first lane (step place s) = stepAt (first + place) s
+
+unfoldable pub stepOf : code.Step → StepAt
+stepOf s = stepAt (s .place) (record { told = answer.told (s .answer); slot = s .slot; payload = s .payload })

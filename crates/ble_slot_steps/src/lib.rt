@@ -16,8 +16,8 @@ use wire::logic::either;
 ghost use mathlib.Core.Path.{_≡_};
 ghost use Prim.Native.Nat.{_+_, _^_, _≤_, _<_};
 ghost use Rattle.ble_packet.specs.declared.reader.Packet.the-variants.{First, Next};
-ghost use Rattle.ble_slot.specs.Answer.{numberOf};
-ghost use Rattle.ble_slot_steps.specs.Step.{stepOf, actBy, finish, hold, dropBy, firstStep, offTotal, nextStep, actOf};
+ghost use Rattle.ble_slot.specs.Answer.{numberOf, told};
+ghost use Rattle.ble_slot_steps.specs.Step.{stepOf, stepAt, actAt, still, nothing, finish, hold, dropBy, firstStep, offTotal, nextStep, actOf};
 ghost use Rattle.ble_slot_steps.specs.Fit.{Small};
 
 // The payload that is written: from start on in its packet, and its place in the slot's part of the buffer.
@@ -27,17 +27,12 @@ pub struct PayloadPlace {
     pub len: usize,
 }
 
-// The answer, the slot afterwards, and the payload that is written.
+// The answer, the one slot that is stored, at a place of the row, and the payload that is written in its part.
 pub struct Step {
     pub answer: Answer,
+    pub place: usize,
     pub slot: Slot,
     pub payload: PayloadPlace,
-}
-
-// An answer that leaves all, or a step of the slot at a place among its stream's.
-pub enum Act {
-    Still(Answer),
-    Step { place: usize, step: Step },
 }
 
 // The transaction is finished: its wish for an ACK is told, and its slot idle.
@@ -49,7 +44,7 @@ fn finish(
     replaced: bool,
     payload: PayloadPlace,
 ) -> Step
-    ensures { λ r. ⌜ stepOf r ≡ finish place head wanted total replaced payload ⌝ }
+    ensures { λ r. ⌜ stepOf r ≡ stepAt place (finish place head wanted total replaced payload) ⌝ }
 {
     let stream = head.stream;
     let slot = Slot::idle();
@@ -62,6 +57,7 @@ fn finish(
             ack: wanted,
             replaced,
         }),
+        place,
         slot,
         payload,
     }
@@ -77,7 +73,7 @@ fn hold(
     payload: PayloadPlace,
 ) -> Step
     requires { ⌜ (payload .at + payload .len < 65536) × (total < 65536) ⌝ }
-    ensures { λ r. ⌜ stepOf r ≡ hold place head wanted total replaced payload ⌝ }
+    ensures { λ r. ⌜ stepOf r ≡ stepAt place (hold place head wanted total replaced payload) ⌝ }
 {
     let stream = head.stream;
     let flag = bit(wanted);
@@ -90,6 +86,7 @@ fn hold(
             id: head.id,
             replaced,
         }),
+        place,
         slot: Slot {
             opened: 1,
             id: head.id,
@@ -102,13 +99,13 @@ fn hold(
     }
 }
 
-// The transaction is dropped: its slot is idle, and nothing is written.
-fn drop_by(why: Refusal) -> Step
-    ensures { λ r. ⌜ stepOf r ≡ dropBy (numberOf why) ⌝ }
+// Nothing is written: a transaction is dropped, or a slot is stored as it was.
+fn put_slot(place: usize, slot: Slot, answer: Answer) -> Step
+    ensures { λ r. ⌜ stepOf r ≡ stepAt place (record { told = told answer; slot = slot; payload = nothing }) ⌝ }
 {
-    let slot = Slot::idle();
     Step {
-        answer: Answer::Refused(why),
+        answer,
+        place,
         slot,
         payload: PayloadPlace {
             at: 0,
@@ -116,6 +113,20 @@ fn drop_by(why: Refusal) -> Step
             len: 0,
         },
     }
+}
+
+// The transaction is dropped: its slot is idle.
+fn drop_by(place: usize, why: Refusal) -> Step
+    ensures { λ r. ⌜ stepOf r ≡ stepAt place (dropBy (numberOf why)) ⌝ }
+{
+    put_slot(place, Slot::idle(), Answer::Refused(why))
+}
+
+// What leaves all: the first of the stream's slots is stored as it was.
+fn stay(first: usize, lane: [Slot; 4], answer: Answer) -> Step
+    ensures { λ r. ⌜ stepOf r ≡ actAt first lane (still (told answer)) ⌝ }
+{
+    put_slot(first, lane[0], answer)
 }
 
 // A first packet replaces what is open, its wish too; one whose payload equals its total finishes at once.
@@ -129,7 +140,7 @@ fn on_first(
     len: usize,
 ) -> Step
     requires { ⌜ (len ≤ total) × (total < 65536) ⌝ }
-    ensures { λ r. ⌜ stepOf r ≡ firstStep place slot head ack total start len ⌝ }
+    ensures { λ r. ⌜ stepOf r ≡ stepAt place (firstStep place slot head ack total start len) ⌝ }
 {
     let replaced = slot.opens();
     let payload = PayloadPlace { at: 0, start, len };
@@ -157,16 +168,16 @@ fn on_next(
     len: usize,
 ) -> Step
     requires { ⌜ len < 2 ^ 63 ⌝ }
-    ensures { λ r. ⌜ stepOf r ≡ nextStep place slot head ack last start len ⌝ }
+    ensures { λ r. ⌜ stepOf r ≡ stepAt place (nextStep place slot head ack last start len) ⌝ }
 {
     let awaited = header::sequence_after(slot.sequence, 1);
     if head.sequence != awaited {
-        return drop_by(Refusal::Sequence);
+        return drop_by(place, Refusal::Sequence);
     }
     let at = wide(slot.held);
     let total = wide(slot.total);
     if off_total(last, at + len, total) {
-        return drop_by(Refusal::Amount);
+        return drop_by(place, Refusal::Amount);
     }
     let wanted = either(slot.wants(), ack);
     let payload = PayloadPlace { at, start, len };
@@ -185,17 +196,16 @@ fn begin(
     total: usize,
     start: usize,
     len: usize,
-) -> Act
+) -> Step
     requires { ⌜ (first ≤ 8) × (len ≤ total) × (total < 65536) ⌝ }
-    ensures { λ r. ⌜ actBy r ≡ actOf first lane (First head ack total start len) ⌝ }
+    ensures { λ r. ⌜ stepOf r ≡ actAt first lane (actOf first lane (First head ack total start len)) ⌝ }
 {
     let spot = place::find_first(lane, head.id);
     match spot {
-        Spot::Nowhere => Act::Still(Answer::Refused(Refusal::NoSlot)),
+        Spot::Nowhere => stay(first, lane, Answer::Refused(Refusal::NoSlot)),
         Spot::At(place) => {
             let slot = lane[place];
-            let step = on_first(first + place, slot, head, ack, total, start, len);
-            Act::Step { place, step }
+            on_first(first + place, slot, head, ack, total, start, len)
         }
     }
 }
@@ -209,25 +219,24 @@ fn follow(
     last: bool,
     start: usize,
     len: usize,
-) -> Act
+) -> Step
     requires { ⌜ (first ≤ 8) × (len < 2 ^ 63) ⌝ }
-    ensures { λ r. ⌜ actBy r ≡ actOf first lane (Next head ack last start len) ⌝ }
+    ensures { λ r. ⌜ stepOf r ≡ actAt first lane (actOf first lane (Next head ack last start len)) ⌝ }
 {
     let spot = place::find_open(lane, head.id);
     match spot {
-        Spot::Nowhere => Act::Still(Answer::Refused(Refusal::NoTransaction)),
+        Spot::Nowhere => stay(first, lane, Answer::Refused(Refusal::NoTransaction)),
         Spot::At(place) => {
             let slot = lane[place];
-            let step = on_next(first + place, slot, head, ack, last, start, len);
-            Act::Step { place, step }
+            on_next(first + place, slot, head, ack, last, start, len)
         }
     }
 }
 
 // What a packet does to its stream's slots, the first of which has a place in the row.
-pub fn act_on(first: usize, lane: [Slot; 4], packet: Packet) -> Act
+pub fn act_on(first: usize, lane: [Slot; 4], packet: Packet) -> Step
     requires { ⌜ (first ≤ 8) × Small packet ⌝ }
-    ensures { λ r. ⌜ actBy r ≡ actOf first lane packet ⌝ }
+    ensures { λ r. ⌜ stepOf r ≡ actAt first lane (actOf first lane packet) ⌝ }
 {
     match packet {
         Packet::First {
@@ -244,7 +253,7 @@ pub fn act_on(first: usize, lane: [Slot; 4], packet: Packet) -> Act
             start,
             len,
         } => follow(first, lane, head, ack, last, start, len),
-        Packet::Ack(head) => Act::Still(Answer::Given(Accepted::Acked(head))),
-        Packet::Nack(head) => Act::Still(Answer::Given(Accepted::Nacked(head))),
+        Packet::Ack(head) => stay(first, lane, Answer::Given(Accepted::Acked(head))),
+        Packet::Nack(head) => stay(first, lane, Answer::Given(Accepted::Nacked(head))),
     }
 }

@@ -34,11 +34,19 @@ fn first_of(a: bool, b: bool, c: bool, d: bool) -> Spot
 pub fn find_open(lane: [Slot; 4], id: u8) -> Spot
     ensures { λ r. ⌜ spotOf r ≡ openPlace lane id ⌝ }
 {
-    let a = lane[0].is_open(id);
-    let b = lane[1].is_open(id);
-    let c = lane[2].is_open(id);
-    let d = lane[3].is_open(id);
-    first_of(a, b, c, d)
+    if lane[0].is_open(id) {
+        return Spot::At(0);
+    }
+    if lane[1].is_open(id) {
+        return Spot::At(1);
+    }
+    if lane[2].is_open(id) {
+        return Spot::At(2);
+    }
+    if lane[3].is_open(id) {
+        return Spot::At(3);
+    }
+    Spot::Nowhere
 }
 
 // The lowest idle slot.

@@ -16,11 +16,10 @@ use Rattle.ble_packet.specs.Control.{ackSize}
 use Rattle.ble_packet.specs.Reader.{readOf}
 use Rattle.ble_slot.specs.declared.answer.Accepted.{Accepted}
 use Rattle.ble_slot.specs.Answer.{told}
-use Rattle.ble_receiver.specs.declared.Outcome as code
-use Rattle.ble_receiver.specs.Receiver.{Result, result, PacketLeft, ready, readIn, acceptOf}
-use Rattle.ble_receiver.specs.Outcome.{effect, outcomeOf, answers, changedBy, decided, leftBy}
+use Rattle.ble_slot_steps.specs.declared.Step.{Step}
+use Rattle.ble_receiver.specs.Receiver.{Result, result, PacketLeft, acted, ready, leaves, readIn, acceptOf}
+use Rattle.ble_receiver.specs.Outcome.{leftBy}
 use Rattle.ble_receiver.proofs.Accepting.{SlotsFit, ready-next}
-use Rattle.ble_receiver.proofs.Outcomes.{twelve, decided-left}
 use Rattle.capture_report.specs.declared.CostReport.{CostReport}
 use Rattle.capture_report.specs.Costs.{heard}
 use Rattle.capture_report.specs.Report.{callFor, CaptureAdded, captureAdded}
@@ -30,24 +29,18 @@ use Rattle.capture_tally.specs.Tally.{toldSum, tallied, gaveOf, turnOf, 
 
 -- ---- one packet
 
-module _ (limit : ℕ) (slots : List Slot) (bytes p : List ℕ) (e : length slots ≡ slotCount) where
-  accepted : leftBy slots (decided slotCount limit slots bytes (callFor p)) ≡ acceptOf limit slots bytes (callFor p)
-  accepted =
-      ap (λ (n : ℕ). leftBy slots (decided n limit slots bytes (callFor p))) (sym e)
-      ∙ ap (λ (l : List Slot). leftBy slots (decided (length slots) limit l bytes (callFor p))) (sym (twelve slots e))
-      ∙ decided-left limit slots bytes (callFor p)
-
+module _ (limit : ℕ) (slots : List Slot) (bytes p : List ℕ) where
   -- a row that is ready is not judged again
   pub unjudged : ready limit slots (length bytes) ≡ true
-      → answers 0 (replicate ackSize 0) (changedBy limit slots bytes p (readOf limit p)) ≡ decided slotCount limit slots bytes (callFor p)
-  unfolding decided readIn
+      → leaves 0 (replicate ackSize 0) (acted limit slots bytes p (readOf limit p)) ≡ acceptOf limit slots bytes (callFor p)
+  unfolding acceptOf readIn
   unjudged r = rw r
 
   -- what the rules decide is what the link does
-  pub given-is : (d : code.Outcome) (after out : List ℕ) → effect (outcomeOf d after) out ≡ decided slotCount limit slots bytes (callFor p)
+  pub given-is : (d : Step) (after out : List ℕ) → leftBy slots d after out ≡ acceptOf limit slots bytes (callFor p)
       → result (told (d .answer)) (set slots (d .place) (d .slot)) after ≡ gaveOf limit slots bytes p
-  unfolding outcomeOf gaveOf
-  given-is d after out h = ap (λ (l : PacketLeft). result (l .told) (l .slots) (l .bytes)) (ap (leftBy slots) h ∙ accepted)
+  unfolding gaveOf
+  given-is d after out h = ap (λ (l : PacketLeft). result (l .told) (l .slots) (l .bytes)) h
 
 -- and counted
 pub counted-is : (t : ToldAt CostReport) (limit : ℕ) (slots : List Slot) (bytes p : List ℕ) (answer : Told Accepted) (row : List Slot) (after : List ℕ)

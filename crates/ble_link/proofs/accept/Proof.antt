@@ -44,10 +44,9 @@ use denote.Exit.{yes}
 use Rattle.ble_slot.specs.declared.Slot.{Slot}
 use Rattle.ble_slot.specs.Answer.{told}
 use Rattle.ble_receiver.specs.declared.Receiver.{Receiver}
-use Rattle.ble_receiver.specs.declared.Outcome.{Outcome}
+use Rattle.ble_slot_steps.specs.declared.Step.{Step}
 use Rattle.ble_receiver.specs.Receiver.{call, left, acceptOf}
-use Rattle.ble_receiver.specs.Outcome.{effect, outcomeOf, decided, leftBy, firstTwelve}
-use Rattle.ble_receiver.proofs.Outcomes.{decided-left}
+use Rattle.ble_receiver.specs.Outcome.{leftBy, firstTwelve}
 use Rattle.ble_link.proofs.load as load
 use Rattle.ble_link.proofs.load.Symbol as load-def
 use Rattle.ble_link.proofs.load.Symbol.{name as #load}
@@ -64,8 +63,8 @@ use Rattle.ble_slot.proofs.Slot as T
 use Rattle.ble_slot.proofs.Slot.Laws as T′
 use Rattle.ble_receiver.proofs.Receiver as R
 use Rattle.ble_receiver.proofs.Receiver.Laws as R′
-use Rattle.ble_receiver.proofs.Outcome as D
-use Rattle.ble_receiver.proofs.Outcome.Laws as D′
+use Rattle.ble_slot_steps.proofs.Step as D
+use Rattle.ble_slot_steps.proofs.Step.Laws as D′
 use Rattle.ble_slot.proofs.answer.Answer as N
 use Rattle.ble_slot.proofs.answer.Answer.Laws as N′
 use Rattle.ble_link.proofs.Slots.{val}
@@ -151,11 +150,13 @@ module _ {M : Type 1} (𝓤 : URA M) (H : Heap 𝓤) (A : Atoms 𝓤) (W : Given
   abbrev Post : Val → SProp 𝓤
   Post = walkOf 𝓤 H A f.ended stayed (f.clauses 𝓤 H A at-mem run) .post bound
 
+  -- what `decide` promises of its step
+  abbrev Decided : List Slot → Step → List ℕ → List ℕ → Type 0
+  Decided slots d zs₃ zs₆ = (row : List Slot) → length row ≡ length ys₂ → slots ≡ firstTwelve row → leftBy row d zs₃ zs₆ ≡ acceptOf (link .limit) row ys₃ (call ys₄ n₅ ys₆)
+
   -- the three callees' equations make the contract's
-  together : (slots : List Slot) (d : Outcome) (zs₃ : List ℕ) (zs₆ : List ℕ) (ws : List Slot) → slots ≡ firstTwelve ys₂ → effect (outcomeOf d zs₃) zs₆ ≡ decided (length ys₂) (link .limit) slots ys₃ (call ys₄ n₅ ys₆) → ws ≡ set ys₂ (d .place) (d .slot) → left (told (d .answer)) ws zs₃ zs₆ ≡ acceptOf (link .limit) ys₂ ys₃ (call ys₄ n₅ ys₆)
-  unfolding outcomeOf
-  together slots d zs₃ zs₆ ws e₁ e₂ e₃ =
-      ap (λ (l : List Slot). left (told (d .answer)) l zs₃ zs₆) e₃ ∙ ap (leftBy ys₂) (e₂ ∙ ap (λ (s : List Slot). decided (length ys₂) (link .limit) s ys₃ (call ys₄ n₅ ys₆)) e₁) ∙ decided-left (link .limit) ys₂ ys₃ (call ys₄ n₅ ys₆)
+  together : (slots : List Slot) (d : Step) (zs₃ : List ℕ) (zs₆ : List ℕ) (ws : List Slot) → slots ≡ firstTwelve ys₂ → Decided slots d zs₃ zs₆ → ws ≡ set ys₂ (d .place) (d .slot) → left (told (d .answer)) ws zs₃ zs₆ ≡ acceptOf (link .limit) ys₂ ys₃ (call ys₄ n₅ ys₆)
+  together slots d zs₃ zs₆ ws e₁ e₂ e₃ = ap (λ (l : List Slot). left (told (d .answer)) l zs₃ zs₆) e₃ ∙ e₂ ys₂ refl e₁
 
   -- `load`, at a lifetime ν of the call, on the row under the name δ
   abbrev xr : GName → RefT (List Slot)
@@ -172,13 +173,13 @@ module _ {M : Type 1} (𝓤 : URA M) (H : Heap 𝓤) (A : Atoms 𝓤) (W : Given
   said-load ν δ r = exE 𝓤 _ (λ ws. snd∗ 𝓤 (sem 𝓤 H A (lasts load.ended (ν ∷ [], tt) (xr δ, tt) ws)) (fact 𝓤 (r ≡ firstTwelve ys₂)))
 
   -- `set_slot`, at the row's own lifetime
-  abbrev args-set : Outcome → Args set-slot.signature (κ₂, tt)
+  abbrev args-set : Step → Args set-slot.signature (κ₂, tt)
   args-set d = (x₂, (d .place, (d .slot, tt)))
 
-  abbrev to-set : Outcome → SetSlot 𝓤 H A at-mem run .Ghost
+  abbrev to-set : Step → SetSlot 𝓤 H A at-mem run .Ghost
   to-set d = (((κ₂, tt), (q₂, tt), tt, args-set d, (v₂ ∷ [], (vint w64 (d .place) ∷ [], (val (d .slot) ∷ [], tt)))), tt)
 
-  goes-set : (d : Outcome) → d .place < 2 ^ 64 → Is T.the-row (d .slot) (val (d .slot) ∷ []) → ent 𝓤 (⋆ 𝓤 H A (‵ (flft κ₂ q₂) ∷ ‵ Own₂ ∷ [])) (SetSlot 𝓤 H A at-mem run .pre (to-set d))
+  goes-set : (d : Step) → d .place < 2 ^ 64 → Is T.the-row (d .slot) (val (d .slot) ∷ []) → ent 𝓤 (⋆ 𝓤 H A (‵ (flft κ₂ q₂) ∷ ‵ Own₂ ∷ [])) (SetSlot 𝓤 H A at-mem run .pre (to-set d))
   goes-set d fits is = qed W (‵ (flft κ₂ q₂) ∷ ‵ Own₂ ∷ []) ∵
       nothing ! $ owned ! T.the-row (Is T.the-row) (LL.makes T.the-type T′.the-plain 𝓤 H A) (d .slot) _ is $ fjoin ! $ owned ! usize (Is usize) (uint-makes 𝓤 H A W w64) (d .place) _ (refl, fits) $ fjoin ! $
       move ! (2 ∷ 0 ∷ []) $ fjoin ! $ nothing ! $ move ! (2 ∷ 0 ∷ []) $ join ! $ join ! $ nothing ! $ move ! (1 ∷ 0 ∷ []) $ join ! $ done !
@@ -190,7 +191,7 @@ module _ {M : Type 1} (𝓤 : URA M) (H : Heap 𝓤) (A : Atoms 𝓤) (W : Given
   abbrev to-decide : List Slot → Val → Decide 𝓤 H A at-mem run .Ghost
   to-decide slots u = (((κ₃, (κ₄, (κ₆, tt))), (q₃, (q₄, (q₆, tt))), tt, args-decide slots, (vint w64 (length ys₂) ∷ [], (u ∷ [], (vint w64 (link .limit) ∷ [], (v₃ ∷ [], (v₄ ∷ [], (v₅ ∷ [], (v₆ ∷ [], tt)))))))), tt)
 
-  exits : (d : Outcome) (v : Val) → Is N.the-row (d .answer) (v ∷ []) → (ws : List Slot) (zs₃ : List ℕ) (zs₆ : List ℕ) → length ws ≡ length ys₂ → length zs₃ ≡ length ys₃ → length zs₆ ≡ length ys₆ → left (told (d .answer)) ws zs₃ zs₆ ≡ acceptOf (link .limit) ys₂ ys₃ (call ys₄ n₅ ys₆)
+  exits : (d : Step) (v : Val) → Is N.the-row (d .answer) (v ∷ []) → (ws : List Slot) (zs₃ : List ℕ) (zs₆ : List ℕ) → length ws ≡ length ys₂ → length zs₃ ≡ length ys₃ → length zs₆ ≡ length ys₆ → left (told (d .answer)) ws zs₃ zs₆ ≡ acceptOf (link .limit) ys₂ ys₃ (call ys₄ n₅ ys₆)
       → ent 𝓤 (⋆ 𝓤 H A ((‵ (flft κ₂ q₂) ⊛ ‵ ftrue) ∷ (‵ (flft κ₃ q₃) ⊛ ‵ (flft κ₄ q₄) ⊛ ‵ (flft κ₆ q₆) ⊛ ‵ ftrue) ∷ ‵ (finally T.the-row γ₂ ws) ∷ ‵ (finally u8 γ₃ zs₃) ∷ ‵ (finally u8 γ₆ zs₆) ∷ [])) (Post v)
   exits d v is ws zs₃ zs₆ len₂ len₃ len₆ e =
       qed W ((‵ (flft κ₂ q₂) ⊛ ‵ ftrue) ∷ (‵ (flft κ₃ q₃) ⊛ ‵ (flft κ₄ q₄) ⊛ ‵ (flft κ₆ q₆) ⊛ ‵ ftrue) ∷ ‵ (finally T.the-row γ₂ ws) ∷ ‵ (finally u8 γ₃ zs₃) ∷ ‵ (finally u8 γ₆ zs₆) ∷ []) ∵
@@ -227,8 +228,8 @@ module _ {M : Type 1} (𝓤 : URA M) (H : Heap 𝓤) (A : Atoms 𝓤) (W : Given
           assigns ! (agg ! (and-then ! (load ! (from ! (stop !)) (look ! 16 refl)) (and-then ! (load ! (from ! (fld ! refl (stop !))) (look-in ! 32 (sub ! 1 refl (whole !)))) (no-more !)))) (from ! (stop !)) (init ! 14 refl (tt, (tt, (record { fits = room₆ .0 }, tt)))) $
           move ! (7 ∷ 6 ∷ 5 ∷ 4 ∷ 3 ∷ 2 ∷ []) $ move ! (1 ∷ 0 ∷ []) $ join ! $ move ! (1 ∷ 0 ∷ []) $ join ! $ move ! (1 ∷ 0 ∷ []) $ join ! $ move ! (1 ∷ 0 ∷ []) $ join ! $ move ! (1 ∷ 0 ∷ []) $ join ! $ use1 W (raw (Decide 𝓤 H A at-mem run .pre (to-decide slots u))) (goes-decide slots u is₁) $
           calls-at ! fm (Decide 𝓤 H A at-mem run) known-decide (to-decide slots u) (and-then ! (load ! (from ! (stop !)) (look ! 25 refl)) (and-then ! (load ! (from ! (stop !)) (look ! 23 refl)) (and-then ! (load ! (from ! (fld ! refl (stop !))) (look-in ! 37 (sub ! 0 refl (whole !)))) (and-then ! (load ! (from ! (stop !)) (look ! 13 refl)) (and-then ! (load ! (from ! (stop !)) (look ! 31 refl)) (and-then ! (load ! (from ! (stop !)) (look ! 29 refl)) (and-then ! (load ! (from ! (stop !)) (look ! 9 refl)) (no-more !)))))))) (λ w.
-          use1 W (later (some (λ (d : Outcome). ((‵ (flft κ₃ q₃) ⊛ ‵ (flft κ₄ q₄) ⊛ ‵ (flft κ₆ q₆) ⊛ ‵ ftrue) ⊛ ‵ (D.the-row .own d (w ∷ []))) ⊛ raw (ensured 𝓤 H A decide.ended (decide.clauses 𝓤 H A at-mem run) (κ₃, (κ₄, (κ₆, tt))) (args-decide slots) tt d)))) (id⊢ 𝓤 _) $ await ! tt $ pick ! (λ d.
-          split ! $ move ! (1 ∷ []) $ use1 W (some (λ (zs : Unit {0} × (Unit {0} × (Unit {0} × (List ℕ × (Unit {0} × (Unit {0} × (List ℕ × Unit {0}))))))). ‵ (lasts decide.ended (κ₃, (κ₄, (κ₆, tt))) (args-decide slots) zs) ⊛ raw (fact 𝓤 (effect (outcomeOf d (zs .1 .1 .1 .0)) (zs .1 .1 .1 .1 .1 .1 .0) ≡ decided (length ys₂) (link .limit) slots ys₃ (call ys₄ n₅ ys₆))))) (id⊢ 𝓤 _) $ pick ! (λ zs. split ! $ move ! (1 ∷ []) $ heard ! (effect (outcomeOf d (zs .1 .1 .1 .0)) (zs .1 .1 .1 .1 .1 .1 .0) ≡ decided (length ys₂) (link .limit) slots ys₃ (call ys₄ n₅ ys₆)) (λ e₂.
+          use1 W (later (some (λ (d : Step). ((‵ (flft κ₃ q₃) ⊛ ‵ (flft κ₄ q₄) ⊛ ‵ (flft κ₆ q₆) ⊛ ‵ ftrue) ⊛ ‵ (D.the-row .own d (w ∷ []))) ⊛ raw (ensured 𝓤 H A decide.ended (decide.clauses 𝓤 H A at-mem run) (κ₃, (κ₄, (κ₆, tt))) (args-decide slots) tt d)))) (id⊢ 𝓤 _) $ await ! tt $ pick ! (λ d.
+          split ! $ move ! (1 ∷ []) $ use1 W (some (λ (zs : Unit {0} × (Unit {0} × (Unit {0} × (List ℕ × (Unit {0} × (Unit {0} × (List ℕ × Unit {0}))))))). ‵ (lasts decide.ended (κ₃, (κ₄, (κ₆, tt))) (args-decide slots) zs) ⊛ raw (fact 𝓤 (Decided slots d (zs .1 .1 .1 .0) (zs .1 .1 .1 .1 .1 .1 .0))))) (id⊢ 𝓤 _) $ pick ! (λ zs. split ! $ move ! (1 ∷ []) $ heard ! (Decided slots d (zs .1 .1 .1 .0) (zs .1 .1 .1 .1 .1 .1 .0)) (λ e₂.
           fsplit ! $ drop ! $ fsplit ! $ drop ! $ fsplit ! $ drop ! $ fsplit ! $ fsplit ! $ move ! (1 ∷ []) $ feqL ! (λ len₃. move ! (1 ∷ []) $ fsplit ! $ drop ! $ fsplit ! $ drop ! $ fsplit ! $ fsplit ! $ move ! (1 ∷ []) $ feqL ! (λ len₆. move ! (1 ∷ []) $ drop ! $ move ! (2 ∷ []) $ split ! $ move ! (1 ∷ []) $
           facts ! D.the-row (Is D.the-row) (shows 𝓤 H A D.the-row) d (w ∷ []) (λ is₂.
           let parts = LL.owed D.the-type D′.the-laws d (w ∷ []) is₂ in

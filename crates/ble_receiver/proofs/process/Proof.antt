@@ -1,7 +1,6 @@
 use Rattle.ble_packet.specs.Reader as reader
-use Rattle.ble_receiver.specs.Outcome.{Outcome, effect}
 use denote.Ref.{now}
-use mathlib.Core.Path.{sym, ap, _∙_}
+use mathlib.Core.Path.{refl, sym, ap, _∙_}
 use borrow.Author.Needs.{needs}
 use Rattle.ble_receiver.proofs.process.Statement.{statement}
 use Rattle.ble_receiver.proofs.process.Tie as tie
@@ -16,7 +15,7 @@ returns : tie.Need-returns
 returns c =
     let s = c .before .before .before .before .before .before .before .before in
     rw (← c .before .before .before .before .read .ensures, c .before .before .answer .given .1)
-    (ap (λ (o : Outcome). effect o (now (s .args .out))) (c .refuse .ensures (now (s .args .buffer))))
+    (c .refuse .ensures (s .args .slots) (now (s .args .buffer)) (now (s .args .out)) refl)
 
 returns-2 : tie.Need-returns-2
 returns-2 c =

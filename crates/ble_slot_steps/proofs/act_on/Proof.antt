@@ -17,13 +17,13 @@ returns-2 : tie.Need-returns-2
 returns-2 c = rw (c .before .before .packet2 .given .1) (c .follow .ensures)
 
 returns-3 : tie.Need-returns-3
-returns-3 c = rw (c .before .packet3 .given .1)
+returns-3 c = rw (c .before .before .packet3 .given .1) (c .stay .ensures)
 
 returns-4 : tie.Need-returns-4
-returns-4 c = rw (c .before .packet4 .given .1)
+returns-4 c = rw (c .before .before .packet4 .given .1) (c .stay2 .ensures)
 
 pub act-on-spec : {M : Type 1} → statement M
 act-on-spec =
     tie.close
-    (tie.spec (λ c. search needs) begin-requires (λ c. search needs) follow-requires (λ c. search needs)
-    (λ c. search needs) returns returns-2 returns-3 returns-4)
+    (tie.spec (λ c. search needs) begin-requires (λ c. search needs) follow-requires (λ c. search needs) (λ c κs. search needs)
+    (λ c. search needs) (λ c κs. search needs) returns returns-2 returns-3 returns-4)

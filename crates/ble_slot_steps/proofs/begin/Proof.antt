@@ -1,7 +1,5 @@
 use Rattle.ble_slot_steps.proofs.Steps.{chosen-below}
-use Rattle.ble_slot_steps.specs.Step.{step}
 use native.Mathlib.Omega.{arith}
-use mathlib.Core.Path.{ap}
 use borrow.Author.Needs.{needs}
 use Rattle.ble_slot_steps.proofs.begin.Statement.{statement}
 use Rattle.ble_slot_steps.proofs.begin.Tie as tie
@@ -28,15 +26,15 @@ add-on-first c =
     omega (arith, l, s .pre .0)
 
 returns : tie.Need-returns
-returns c = rw (← c .before .before .find-first .ensures, c .enum-told .given .1)
+returns c = rw (← c .before .before .before .find-first .ensures, c .before .enum-told .given .1) (c .stay .ensures)
 
 returns-2 : tie.Need-returns-2
 returns-2 c =
     let spot = c .before .before .before .spot .given in
-    rw (← c .before .before .before .before .before .find-first .ensures, spot .1) (ap (step (spot .0 .0)) (c .on-first .ensures))
+    rw (← c .before .before .before .before .before .find-first .ensures, spot .1) (c .on-first .ensures)
 
 pub begin-spec : {M : Type 1} → statement M
 begin-spec =
     tie.close
-    (tie.spec (λ c κs. search needs) (λ c. search needs) (λ c. search needs) mul-slot array-copy-out-slot add-on-first
+    (tie.spec (λ c κs. search needs) (λ c. search needs) (λ c κs. search needs) (λ c. search needs) mul-slot array-copy-out-slot add-on-first
     (λ c κs. search needs) returns returns-2)
