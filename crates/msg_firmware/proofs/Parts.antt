@@ -125,13 +125,13 @@ quiet-counts s Role.Nested f (Bytes p) next g h = (refl, refl)
 quiet-counts s Role.Repeated f (Bytes p) next g h = absurd h
 quiet-counts s Role.Member f (Bytes p) next g h = (refl, refl)
 quiet-counts s Role.Unknown f (Bytes p) next g h = (refl, refl)
-quiet-counts s role f Skipped next g h = (refl, refl)
+quiet-counts s role f (Skipped p) next g h = (refl, refl)
 
 component-counts : (s : List ℕ) (v : Value) (next : ℕ) (g : Gathered)
     → Sat (Counted (length (valueParts v) + g .count) next) (andThen (withAdded s (valueAdded Role.Repeated 3 v) g) (placed next))
 component-counts s (Number v) next g = (omega arith, refl)
 component-counts s (Bytes p) next g = (omega arith, refl)
-component-counts s Skipped next g = (omega arith, refl)
+component-counts s (Skipped p) next g = (omega arith, refl)
 
 value-counts : (s : List ℕ) (f : ℕ) (v : Value) (next : ℕ) (g : Gathered)
     → Sat (Counted (length (partOfComponent f v) + g .count) next) (andThen (withAdded s (valueAdded (roleOf Schema.Firmware f) f v) g) (placed next))

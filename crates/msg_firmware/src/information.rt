@@ -66,7 +66,7 @@ fn component_part(number: u64, value: Value) -> ComponentPart
     match value {
         Value::Number(_) => ComponentPart::None,
         Value::Bytes(part) => ComponentPart::At(part),
-        Value::Skipped => ComponentPart::None,
+        Value::Skipped(_) => ComponentPart::None,
     }
 }
 
