@@ -93,9 +93,11 @@ field-inside s at number value next e = by-end (leb (length s) at) refl
 
 pub passed-over : (s : List ℕ) (at : ℕ) (t : Told Standing) → foundAt s at ≡ t → isOther t ≡ true
     → (at < length s) × (at < behind at t) × (partsFrom s at ≡ partsFrom s (behind at t))
-passed-over s at (given (field number value next)) e o =
-    (field-inside s at number value next e, found-field s at number value next e .0,
-    parts-turn s at e ∙ ap (λ ps. ps ++ partsFrom s next) (by-part (partOfComponent number value) o))
+passed-over s at (given (field number value next)) e o = (
+  field-inside s at number value next e,
+  found-field s at number value next e .0,
+  parts-turn s at e ∙ ap (λ ps. ps ++ partsFrom s next) (by-part (partOfComponent number value) o),
+)
   where
     by-part : (ps : List Part) → isNone ps ≡ true → ps ≡ []
     by-part [] h = refl
