@@ -4,19 +4,14 @@ use mathlib.Core.Path.{_≡_, refl, ap, _∙_}
 use mathlib.Core.Bool.{Bool, true, false, cond, not, _&&_}
 use mathlib.Core.List.{List, [], _∷_, _++_}
 use native.Mathlib.Omega.{arith}
-use lib.ListN.{length, getD, take, drop, replicate, length-append}
+use lib.ListN.{length, getD, take, drop, length-append}
 use lib.Seq.{sets, getD-append-add}
-use lib.Dec.{leb, eqb, ltb}
+use lib.Dec.{eqb, ltb}
 use borrow.Author.Tests.{le-ltb, eq-eqb, ne-eqb}
-use Rattle.wire.specs.Told.{Told, given, refused, andThen, Written, written, line, writes}
+use Rattle.wire.specs.Told.{given, refused, Written, written, line, writes}
 use Rattle.wire.specs.Bytes.{bit}
-use Rattle.proto_field.specs.declared.tag.FieldHead.{FieldHead}
-use Rattle.proto_field.specs.declared.value.Value.{Value}
 use Rattle.proto_field.specs.declared.value.Value.the-variants.{Number, Bytes, Skipped}
 use Rattle.proto_field.specs.Unsigned.{unsignedOf}
-use Rattle.proto_field.specs.Varint.{varintAt}
-use Rattle.proto_field.specs.Tag.{tagAt}
-use Rattle.proto_field.specs.Value.{skippedAt, partOf, valueAt}
 use Rattle.proto_field.specs.Fields.{Standing, field, end}
 use Rattle.msg_firmware.specs.declared.component.FirmwareComponent.{FirmwareComponent}
 use Rattle.msg_firmware.specs.declared.apply.ApplyFirmware.{ApplyFirmware}
