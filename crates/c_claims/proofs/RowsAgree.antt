@@ -4,20 +4,15 @@ use mathlib.Core.Path.{_≡_, refl, ap, _∙_}
 use mathlib.Core.Bool.{Bool, true, false, cond, not, _&&_}
 use mathlib.Core.List.{List, [], _∷_, _++_}
 use native.Mathlib.Omega.{arith}
-use lib.ListN.{length, getD, take, drop, replicate, length-append}
+use lib.ListN.{length, getD, take, drop, length-append}
 use lib.Seq.{sets, getD-append-add}
-use lib.Dec.{leb, eqb, ltb}
+use lib.Dec.{eqb, ltb}
 use borrow.Author.Tests.{le-ltb, eq-eqb, ne-eqb}
-use Rattle.wire.specs.Told.{Told, given, refused, andThen, Written, written, line, writes}
+use Rattle.wire.specs.Told.{given, refused, Written, written, line, writes}
 use Rattle.wire.specs.Bytes.{bit}
-use Rattle.proto_field.specs.declared.tag.FieldHead.{FieldHead}
-use Rattle.proto_field.specs.declared.value.Value.{Value}
 use Rattle.proto_field.specs.declared.value.Value.the-variants.{Number, Bytes, Skipped}
 use Rattle.proto_field.specs.Unsigned.{unsignedOf}
-use Rattle.proto_field.specs.Varint.{varintAt}
-use Rattle.proto_field.specs.Tag.{tagAt}
-use Rattle.proto_field.specs.Value.{skippedAt, partOf, valueAt}
-use Rattle.proto_field.specs.Fields.{Standing, field, end, foundAt}
+use Rattle.proto_field.specs.Fields.{Standing, field, end}
 use Rattle.msg_firmware.specs.declared.component.FirmwareComponent.{FirmwareComponent}
 use Rattle.msg_firmware.specs.declared.apply.ApplyFirmware.{ApplyFirmware}
 use Rattle.msg_apply_writer.specs.Apply.{applyWritten}
@@ -28,7 +23,7 @@ use Rattle.msg_firmware_claims.proofs.Told.{Eight, apply-takes, apply-eight}
 use Rattle.msg_firmware_claims.proofs.Segments.{unsigned-trip}
 use Rattle.c_message_rows.specs.Convert.{textCall}
 use Rattle.c_firmware_rows.specs.Apply.{componentRow, componentRows, headRow, wholeRow, componentAt, componentsAt, applyAt, wideAt, anyWide, badRow}
-use Rattle.c_firmware_rows.specs.FieldRow.{fieldRow, fieldAt}
+use Rattle.c_firmware_rows.specs.FieldRow.{fixedKind, standingRow}
 use Rattle.c_firmware_rows.proofs.Components.{rows-length}
 use Rattle.c_firmware.specs.Calls.{applyStored, applyWriteOf}
 use Rattle.c_report.specs.Convert.{reportAt}
@@ -170,63 +165,16 @@ told-agrees message a texts out answer e =
     apply-agrees a (w .number) (eight .0) (numbers-fit message (a .«firmware_information» .components) (eight .1)) (w .most) texts out answer
 
 -- ---- a field
-module _ (s : List ℕ) (h : FieldHead) where
-  -- as rowValue, by the two tests of the kind
-  abbrev told : Bool → Bool → List ℕ → Standing
-  told number bytes row =
-      field (getD row 1 0) (cond number (Number (getD row 3 0)) (cond bytes (Bytes (record { start = getD row 4 0; len = getD row 5 0 })) Skipped)) (getD row 6 0)
-
-  abbrev Agrees : Bool → Bool → Told (Value × ℕ) → Type 0
-  Agrees number bytes t =
-      andThen (andThen t (λ v. given (fieldRow h (v .0) (v .1)))) (λ row. given (told number bytes row)) ≡ andThen t (λ v. given (field (h .field) (v .0) (v .1)))
-
-  number-agrees : (bytes : Bool) (t : Told (ℕ × ℕ)) → Agrees true bytes (andThen t (λ p. given (Number (p .0), p .1)))
-  number-agrees bytes (given p) = refl
-  number-agrees bytes (refused n) = refl
-
-  part-agrees : (t : Told (ℕ × ℕ)) → Agrees false true (andThen t (partOf s))
-  part-agrees (given p) = go (ltb (length s) (p .1 + p .0))
-    where
-      go : (short : Bool) → Agrees false true (cond short (refused 30) (given (Bytes (record { start = p .1; len = p .0 }), p .1 + p .0)))
-      go true = refl
-      go false = refl
-  part-agrees (refused n) = refl
-
-  skipped-agrees : (n : ℕ) → Agrees false false (skippedAt s (h .next) n)
-  skipped-agrees n = go (ltb (length s) (h .next + n))
-    where
-      go : (short : Bool) → Agrees false false (cond short (refused 30) (given (Skipped, h .next + n)))
-      go true = refl
-      go false = refl
-
-  value-agrees : Agrees (eqb (h .wire) 0) (eqb (h .wire) 2) (valueAt s (h .next) (h .wire))
-  unfolding valueAt
-  value-agrees = go (eqb (h .wire) 0) (eqb (h .wire) 2) (eqb (h .wire) 1) (eqb (h .wire) 5)
-    where
-      go : (number bytes eight four : Bool)
-          → Agrees number bytes (cond number (andThen (varintAt s (h .next)) (λ p. given (Number (p .0), p .1))) (cond bytes (andThen (varintAt s (h .next)) (partOf s)) (cond eight (skippedAt s (h .next) 8) (cond four (skippedAt s (h .next) 4) (refused 32)))))
-      go true bytes eight four = number-agrees bytes (varintAt s (h .next))
-      go false true eight four = part-agrees (varintAt s (h .next))
-      go false false true four = skipped-agrees 8
-      go false false false true = skipped-agrees 4
-      go false false false false = refl
-
-  -- a row of the field tells its kind
-  kind-told : (t : Told (Value × ℕ)) → let rows = andThen t (λ v. given (fieldRow h (v .0) (v .1))) in
-      andThen rows (λ row. given (rowStanding row)) ≡ andThen rows (λ row. given (told (eqb (h .wire) 0) (eqb (h .wire) 2) row))
-  kind-told (given v) = refl
-  kind-told (refused n) = refl
-
-field-agrees : (s : List ℕ) (at : ℕ) → andThen (fieldAt s at) (λ row. given (rowStanding row)) ≡ foundAt s at
-unfolding fieldAt foundAt
-field-agrees s at = go (leb (length s) at) (tagAt s at)
+field-agrees : (s : Standing) → rowStanding (standingRow s) ≡ s
+unfolding fixedKind
+field-agrees (field number (Number v) next) = refl
+field-agrees (field number (Bytes p) next) = refl
+field-agrees (field number (Skipped p) next) = go (eqb (p .len) 8)
   where
-    go : (over : Bool) (t : Told FieldHead)
-        → andThen (cond over (given (replicate 7 0)) (andThen t (λ h. andThen (valueAt s (h .next) (h .wire)) (λ v. given (fieldRow h (v .0) (v .1)))))) (λ row. given (rowStanding row))
-        ≡ cond over (given end) (andThen t (λ h. andThen (valueAt s (h .next) (h .wire)) (λ v. given (field (h .field) (v .0) (v .1)))))
-    go true t = refl
-    go false (given h) = kind-told s h (valueAt s (h .next) (h .wire)) ∙ value-agrees s h
-    go false (refused n) = refl
+    go : (eight : Bool) → rowStanding (1 ∷ number ∷ cond eight 1 5 ∷ 0 ∷ p .start ∷ p .len ∷ next ∷ []) ≡ field number (Skipped p) next
+    go true = refl
+    go false = refl
+field-agrees end = refl
 
 -- ---- packets, place after place
 module _ (how : Sending) (message : List ℕ) where

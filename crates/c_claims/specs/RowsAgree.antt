@@ -11,9 +11,10 @@ use lib.ListN.{length, getD, take, drop}
 use lib.Dec.{eqb}
 use Rattle.wire.specs.Bytes.{bit}
 use Rattle.wire.specs.Told.{given, refused, andThen}
+use Rattle.proto_field.specs.declared.value.Part.{Part}
 use Rattle.proto_field.specs.declared.value.Value.{Value}
 use Rattle.proto_field.specs.declared.value.Value.the-variants.{Number, Bytes, Skipped}
-use Rattle.proto_field.specs.Fields.{Standing, field, end, foundAt}
+use Rattle.proto_field.specs.Fields.{Standing, field, end}
 use Rattle.msg_firmware.specs.declared.component.FirmwareComponent.{FirmwareComponent}
 use Rattle.msg_firmware.specs.declared.apply.ApplyFirmware.{ApplyFirmware}
 use Rattle.msg_firmware.specs.Apply.{applyOf}
@@ -21,7 +22,7 @@ use Rattle.msg_apply_writer.specs.Apply.{applyWritten}
 use Rattle.msg_firmware_claims.specs.RoundTrip.{Unsigned32}
 use Rattle.c_message_rows.specs.Convert.{textCall}
 use Rattle.c_firmware_rows.specs.Apply.{wholeRow}
-use Rattle.c_firmware_rows.specs.FieldRow.{fieldAt}
+use Rattle.c_firmware_rows.specs.FieldRow.{standingRow}
 use Rattle.c_firmware.specs.Calls.{applyWriteOf}
 use Rattle.capture_report.specs.declared.CostReport.{CostReport}
 use Rattle.c_report.specs.Convert.{reportRow, reportAt}
@@ -57,8 +58,8 @@ NumbersFit (c ∷ cs) = (Unsigned32 (c .version) × Unsigned32 (c .size)) × Num
 -- what a field's row tells: kind 0 is a number, kind 2 a part, any other bytes that are passed over
 abbrev pub rowValue : List ℕ → Value
 rowValue row =
-    cond (eqb (getD row 2 0) 0) (Number (getD row 3 0))
-    (cond (eqb (getD row 2 0) 2) (Bytes (record { start = getD row 4 0; len = getD row 5 0 })) Skipped)
+    let part : Part = record { start = getD row 4 0; len = getD row 5 0 } in
+    cond (eqb (getD row 2 0) 0) (Number (getD row 3 0)) (cond (eqb (getD row 2 0) 2) (Bytes part) (Skipped part))
 
 abbrev pub rowStanding : List ℕ → Standing
 rowStanding row = cond (eqb (getD row 0 0) 0) end (field (getD row 1 0) (rowValue row) (getD row 6 0))
@@ -128,7 +129,7 @@ pub record RowsAgree : Type 0 where
   -- .. as every one is that was told of a message
   pub apply-told : (message : List ℕ) (a : ApplyFirmware) (texts out answer : List ℕ) → applyOf message ≡ given a
       → applyWriteOf (wholeRow a) texts out answer ≡ textCall out answer (applyWritten a texts out)
-  pub field : (message : List ℕ) (place : ℕ) → andThen (fieldAt message place) (λ row. given (rowStanding row)) ≡ foundAt message place
+  pub field : (s : Standing) → rowStanding (standingRow s) ≡ s
   pub report : (r : CostReport) → reportAt (reportRow r) ≡ r
   -- a state row that was written is taken as that state, and one that is taken is the row of its state: no number of it is cut
   pub extractor : (limit : ℕ) (s : Progress) → s .sequence < 256

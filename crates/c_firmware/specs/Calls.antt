@@ -6,6 +6,7 @@ use lib.ListN.{length}
 use lib.Dec.{eqb}
 use Rattle.wire.specs.Told.{refused, written, WrittenOf}
 use Rattle.proto_field.specs.Unsigned.{unsignedOf}
+use Rattle.proto_field.specs.Fields.{foundAt}
 use Rattle.proto_reader.specs.Refusal.{numberMore}
 use Rattle.msg_firmware.specs.Segment.{segmentOf}
 use Rattle.msg_segment_writer.specs.Segment.{segmentWritten}
@@ -17,7 +18,7 @@ use Rattle.c_message_rows.specs.Convert.{textCall}
 use Rattle.c_firmware_rows.specs.More.{isWide}
 use Rattle.c_firmware_rows.specs.Segment.{segmentRow}
 use Rattle.c_firmware_rows.specs.Apply.{rowSize, answerSize, applyRow, badRow, applyAt}
-use Rattle.c_firmware_rows.specs.FieldRow.{fieldAt, rowTold}
+use Rattle.c_firmware_rows.specs.FieldRow.{rowTold}
 
 unfoldable pub segmentReadOf : List ℕ → List ℕ → Called
 segmentReadOf message answer = answers 8 answer [] (numberMore (segmentOf message)) [] (segmentRow (segmentOf message))
@@ -43,4 +44,4 @@ applyWriteOf row texts out answer =
     ifFit (eqb (length row) rowSize) [] out answer (textCall out answer (applyStored row texts out))
 
 unfoldable pub fieldReadOf : List ℕ → ℕ → List ℕ → Called
-fieldReadOf message place answer = answers 7 answer [] (numberTold (fieldAt message place)) [] (rowTold (fieldAt message place))
+fieldReadOf message place answer = answers 7 answer [] (numberTold (foundAt message place)) [] (rowTold (foundAt message place))

@@ -5,7 +5,7 @@ use c_firmware_rows::apply::apply_at;
 use c_firmware_rows::apply::bad_row;
 use c_firmware_rows::apply::put_apply;
 use c_firmware_rows::field_row::FIELD_ANSWER;
-use c_firmware_rows::field_row::told_field;
+use c_firmware_rows::field_row::found_row;
 use c_firmware_rows::segment::SEGMENT_ANSWER;
 use c_firmware_rows::segment::is_wide;
 use c_firmware_rows::segment::segment_number;
@@ -21,6 +21,7 @@ use msg_apply_writer::apply::write_apply;
 use msg_firmware::apply::read_apply;
 use msg_firmware::segment::read_segment;
 use msg_segment_writer::write_segment;
+use proto_field::fields::found_at;
 use proto_field::unsigned::low_unsigned;
 use proto_strings::TextWrote;
 use proto_writer::message::WriteRefusal;
@@ -123,7 +124,7 @@ pub fn field_read(message: &[u8], place: u64, answer: &mut [u64]) -> u64
     if answer.len() != FIELD_ANSWER {
         return UNFIT;
     }
-    let told = told_field(message, place as usize);
+    let told = found_row(found_at(message, place as usize));
     let number = told.number;
     let row = told.row;
     put(answer, number, &row);

@@ -1,7 +1,7 @@
 -- Laws of the parts of components: a turn of the walk that finds them, that they lie within the message, and that the walk of firmware information counted them.
 use Prim.Native.Nat.{ℕ, zero, suc, _+_, _≤_, _<_}
 use mathlib.Core.Path.{_≡_, refl, sym, ap, _∙_}
-use mathlib.Core.Bool.{Bool, true, false, cond}
+use mathlib.Core.Bool.{Bool, true, false, cond, true≢false}
 use mathlib.Core.List.{List, [], _∷_, _++_}
 use native.Mathlib.Omega.{arith}
 use native.Mathlib.Decide.{ℕ-discrete}
@@ -17,7 +17,7 @@ use Rattle.proto_field.specs.declared.value.Value.the-variants.{Number, Bytes, 
 use Rattle.proto_field.specs.Tag.{tagAt}
 use Rattle.proto_field.specs.Value.{valueAt, Within, valueParts, bytesOf}
 use Rattle.utf8.specs.WellFormed.{badPlace}
-use Rattle.proto_field.specs.Fields.{Standing, field, end, foundAt}
+use Rattle.proto_field.specs.Fields.{Standing, field, end, foundAt, behind}
 use Rattle.proto_field.proofs.Told.{Sat, sat-then, sat-weaken, sat-given}
 use Rattle.proto_field.proofs.Places.{tag-ends, Held, value-held}
 use Rattle.proto_reader.specs.declared.gathered.Gathered.{Gathered}
@@ -29,7 +29,7 @@ use Rattle.proto_reader.specs.Gathered.{nothing, withText}
 use Rattle.proto_reader.specs.declared.reader.Added.{Added}
 use Rattle.proto_reader.specs.Walk.{walk, placed, judged, valueAdded, addedAt, readAt, withString, withAdded, fieldAt, fieldsFrom}
 use Rattle.proto_reader.proofs.Steps.{field-forward, fields-within}
-use Rattle.msg_firmware.specs.Information.{partOfComponent, partsOnward, partsWalked, partsFrom}
+use Rattle.msg_firmware.specs.Information.{partOfComponent, partsOnward, partsWalked, partsFrom, isNone, isOther, componentBy, componentOf, laid, ComponentOnward}
 
 -- ---- a field ends after its place, and its part lies within the message
 abbrev Stands : List ℕ → ℕ → Standing → Type 0
@@ -78,6 +78,56 @@ within-one s number value h = by-test (eqb number 3)
     by-test true = h
     by-test false = tt
 
+-- ---- the walk over the fields: a field that is no component is passed over, and what is none of these is the answer
+field-inside : (s : List ℕ) (at number : ℕ) (value : Value) (next : ℕ) → foundAt s at ≡ given (field number value next) → at < length s
+field-inside s at number value next e = by-end (leb (length s) at) refl
+  where
+    isField : Told Standing → Bool
+    isField (given (field n v k)) = true
+    isField (given end) = false
+    isField (refused n) = false
+
+    by-end : (b : Bool) → leb (length s) at ≡ b → at < length s
+    by-end true t = absurd (true≢false (ap isField (sym e ∙ found-end s at (leb-true (length s) at t))))
+    by-end false t = leb-false (length s) at t
+
+pub passed-over : (s : List ℕ) (at : ℕ) (t : Told Standing) → foundAt s at ≡ t → isOther t ≡ true
+    → (at < length s) × (at < behind at t) × (partsFrom s at ≡ partsFrom s (behind at t))
+passed-over s at (given (field number value next)) e o = (
+  field-inside s at number value next e,
+  found-field s at number value next e .0,
+  parts-turn s at e ∙ ap (λ ps. ps ++ partsFrom s next) (by-part (partOfComponent number value) o),
+)
+  where
+    by-part : (ps : List Part) → isNone ps ≡ true → ps ≡ []
+    by-part [] h = refl
+    by-part (p ∷ ps) h = absurd (true≢false (sym h))
+passed-over s at (given end) e o = absurd (true≢false (sym o))
+passed-over s at (refused n) e o = absurd (true≢false (sym o))
+
+pub stopped-at : (s : List ℕ) (at : ℕ) (t : Told Standing) → foundAt s at ≡ t → isOther t ≡ false
+    → (partsFrom s at ≡ laid s (componentOf t)) × ComponentOnward s at (componentOf t)
+stopped-at s at (given (field number (Number v) next)) e o = by-number (eqb number 3) o
+  where
+    by-number : (b : Bool) → isNone (cond b [] []) ≡ false → (partsFrom s at ≡ laid s (componentBy next (cond b [] []))) × ComponentOnward s at (componentBy next (cond b [] []))
+    by-number true h = absurd (true≢false h)
+    by-number false h = absurd (true≢false h)
+stopped-at s at (given (field number (Bytes p) next)) e o =
+    let f = found-field s at number (Bytes p) next e in
+    by-number (eqb number 3) o (parts-turn s at e) (f .0) (f .1 .0)
+  where
+    by-number : (b : Bool) → isNone (cond b (p ∷ []) []) ≡ false → partsFrom s at ≡ cond b (p ∷ []) [] ++ partsFrom s next → at < next → p .start + p .len ≤ length s
+        → (partsFrom s at ≡ laid s (componentBy next (cond b (p ∷ []) []))) × ComponentOnward s at (componentBy next (cond b (p ∷ []) []))
+    by-number true h turn l w = (turn, (l, w))
+    by-number false h turn l w = absurd (true≢false h)
+stopped-at s at (given (field number (Skipped p) next)) e o = by-number (eqb number 3) o
+  where
+    by-number : (b : Bool) → isNone (cond b [] []) ≡ false → (partsFrom s at ≡ laid s (componentBy next (cond b [] []))) × ComponentOnward s at (componentBy next (cond b [] []))
+    by-number true h = absurd (true≢false h)
+    by-number false h = absurd (true≢false h)
+stopped-at s at (given end) e o = (parts-turn s at e, tt)
+stopped-at s at (refused n) e o = (parts-turn s at e, tt)
+
 -- ---- the walk of firmware information counts them
 -- roles that count nothing
 abbrev Quiet : Role → Type 0
@@ -125,13 +175,13 @@ quiet-counts s Role.Nested f (Bytes p) next g h = (refl, refl)
 quiet-counts s Role.Repeated f (Bytes p) next g h = absurd h
 quiet-counts s Role.Member f (Bytes p) next g h = (refl, refl)
 quiet-counts s Role.Unknown f (Bytes p) next g h = (refl, refl)
-quiet-counts s role f Skipped next g h = (refl, refl)
+quiet-counts s role f (Skipped p) next g h = (refl, refl)
 
 component-counts : (s : List ℕ) (v : Value) (next : ℕ) (g : Gathered)
     → Sat (Counted (length (valueParts v) + g .count) next) (andThen (withAdded s (valueAdded Role.Repeated 3 v) g) (placed next))
 component-counts s (Number v) next g = (omega arith, refl)
 component-counts s (Bytes p) next g = (omega arith, refl)
-component-counts s Skipped next g = (omega arith, refl)
+component-counts s (Skipped p) next g = (omega arith, refl)
 
 value-counts : (s : List ℕ) (f : ℕ) (v : Value) (next : ℕ) (g : Gathered)
     → Sat (Counted (length (partOfComponent f v) + g .count) next) (andThen (withAdded s (valueAdded (roleOf Schema.Firmware f) f v) g) (placed next))

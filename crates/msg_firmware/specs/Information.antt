@@ -1,6 +1,6 @@
 -- FirmwareInformation: a number of 32 bits, three strings and at most eight components.
 use Prim.Native.Nat.{ℕ, zero, suc, _+_, _≤_, _<_}
-use mathlib.Core.Bool.{cond}
+use mathlib.Core.Bool.{Bool, true, false, cond}
 use mathlib.Core.List.{List, [], _∷_, _++_}
 use lib.ListN.{length, getD, take, replicate}
 use lib.Seq.{sets}
@@ -49,6 +49,26 @@ partsFrom s at = partsWalked (length s) s at
 abbrev pub partTold : ComponentPart → List Part
 partTold (ComponentPart.At p) = p ∷ []
 partTold ComponentPart.None = []
+
+abbrev pub isNone : List Part → Bool
+isNone [] = true
+isNone (p ∷ ps) = false
+
+-- a field that is no component
+abbrev pub isOther : Told Standing → Bool
+isOther (given (field number value next)) = isNone (partOfComponent number value)
+isOther (given end) = false
+isOther (refused n) = false
+
+abbrev pub componentBy : ℕ → List Part → NextComponent
+componentBy next [] = NextComponent.None
+componentBy next (p ∷ ps) = NextComponent.At p next
+
+-- what was found, if it is a component
+abbrev pub componentOf : Told Standing → NextComponent
+componentOf (given (field number value next)) = componentBy next (partOfComponent number value)
+componentOf (given end) = NextComponent.None
+componentOf (refused n) = NextComponent.None
 
 abbrev pub laid : List ℕ → NextComponent → List Part
 laid s (NextComponent.At p next) = p ∷ partsFrom s next

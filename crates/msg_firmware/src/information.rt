@@ -3,7 +3,8 @@ use crate::component::ComponentRead;
 use crate::component::FirmwareComponent;
 use crate::component::component_from;
 use proto_field::fields::Found;
-use proto_field::fields::found_at;
+use proto_field::fields::new;
+use proto_field::fields::next;
 use proto_field::unsigned::low_unsigned;
 use proto_field::value::Part;
 use proto_field::value::Value;
@@ -19,9 +20,10 @@ use proto_schema::THIRD;
 ghost use mathlib.Core.Path.{_≡_};
 ghost use Prim.Native.Nat.{_+_, _≤_};
 ghost use lib.ListN.{length};
+ghost use Rattle.proto_field.specs.Fields.{toldFound};
 ghost use Rattle.proto_reader.specs.Gathered.{mostRepeated};
 ghost use Rattle.msg_firmware.specs.Component.{toldComponent};
-ghost use Rattle.msg_firmware.specs.Information.{partOfComponent, partTold, partsFrom, laid, ComponentOnward, componentIn, componentsFrom, firmwareMade, firmwareFrom, noFirmware, toldComponents, toldFirmware, withFirmware};
+ghost use Rattle.msg_firmware.specs.Information.{partOfComponent, partTold, partsFrom, isOther, componentOf, laid, ComponentOnward, componentIn, componentsFrom, firmwareMade, firmwareFrom, noFirmware, toldComponents, toldFirmware, withFirmware};
 
 // Strings are parts of the lent message; of the components the first count are there.
 pub struct FirmwareInformation {
@@ -66,31 +68,56 @@ fn component_part(number: u64, value: Value) -> ComponentPart
     match value {
         Value::Number(_) => ComponentPart::None,
         Value::Bytes(part) => ComponentPart::At(part),
-        Value::Skipped => ComponentPart::None,
+        Value::Skipped(_) => ComponentPart::None,
     }
 }
 
-// The next component from a place on.
-fn next_component(message: &[u8], from: usize) -> NextComponent
-    ensures { λ r. ⌜ partsFrom (now (message .entry)) from ≡ laid (now (message .entry)) r ⌝ }
-    ensures { λ r. ⌜ ComponentOnward (now (message .entry)) from r ⌝ }
+// Whether what was found is a field that is no component.
+fn is_other(found: Found) -> bool
+    ensures { λ r. ⌜ r ≡ isOther (toldFound found) ⌝ }
 {
-    let mut at = from;
-    while at < message.len() {
-        match found_at(message, at) {
-            Found::End => return NextComponent::None,
-            Found::Refused(_) => return NextComponent::None,
-            Found::Field {
-                number,
-                value,
-                next,
-            } => match component_part(number, value) {
-                ComponentPart::At(part) => return NextComponent::At { part, next },
-                ComponentPart::None => at = next,
-            },
-        }
+    match found {
+        Found::Field {
+            number,
+            value,
+            next: _,
+        } => match component_part(number, value) {
+            ComponentPart::At(_) => false,
+            ComponentPart::None => true,
+        },
+        Found::End => false,
+        Found::Refused(_) => false,
     }
-    NextComponent::None
+}
+
+// What was found, if it is a component.
+fn component_found(found: Found) -> NextComponent
+    ensures { λ r. ⌜ r ≡ componentOf (toldFound found) ⌝ }
+{
+    match found {
+        Found::Field {
+            number,
+            value,
+            next,
+        } => match component_part(number, value) {
+            ComponentPart::At(part) => NextComponent::At { part, next },
+            ComponentPart::None => NextComponent::None,
+        },
+        Found::End => NextComponent::None,
+        Found::Refused(_) => NextComponent::None,
+    }
+}
+
+// The next component from a place on: the reader moves over the fields before it.
+fn next_component(message: &[u8], from: usize) -> NextComponent
+    ensures { λ r. ⌜ (partsFrom (now (message .entry)) from ≡ laid (now (message .entry)) r)
+        × ComponentOnward (now (message .entry)) from r ⌝ }
+{
+    let mut step = next(new(message, from));
+    while is_other(step.found) {
+        step = next(step.rest);
+    }
+    component_found(step.found)
 }
 
 // The component within a part of the message.

@@ -3,12 +3,15 @@ use Prim.Native.Nat.{ℕ, zero, suc, _+_, _-_, _/_, _%_, _≤_, _<_}
 use mathlib.Core.Path.{_≡_, sym, subst}
 use mathlib.Core.List.{List, [], _∷_}
 use native.Mathlib.Omega.{arith}
+use denote.Ref.{now}
 use lib.ListN.{length, getD, set}
 use lib.Dec.{ltb, eqb}
 use borrow.Author.Tests.{ltb-false}
 use Rattle.wire.specs.Told.{Told, given, refused}
 use Rattle.wire.proofs.Tests.{by-cond}
+use Rattle.proto_field.specs.declared.fields.Fields.{Fields}
 use Rattle.proto_field.specs.declared.fields.Found.{Found}
+use Rattle.proto_field.specs.declared.fields.NextField.{NextField}
 use Rattle.proto_field.specs.declared.tag.FieldHead.{FieldHead}
 use Rattle.proto_field.specs.declared.value.Part.{Part}
 use Rattle.proto_field.specs.declared.value.Value.{Value}
@@ -16,7 +19,7 @@ use Rattle.proto_field.specs.declared.value.Value.the-variants.{Number, 
 use Rattle.proto_field.specs.Varint.{varintAt}
 use Rattle.proto_field.specs.Tag.{badTag, headOf, tagAt}
 use Rattle.proto_field.specs.Value.{skippedAt, partOf, valueAt, Within, TellsWithin, valueParts, readParts}
-use Rattle.proto_field.specs.Fields.{foundAt, toldFound, standingParts}
+use Rattle.proto_field.specs.Fields.{foundAt, toldFound, behind, standingParts}
 use Rattle.proto_field.proofs.Told.{Sat, sat-then}
 use Rattle.proto_field.proofs.Varints.{Ends, varint-ends}
 
@@ -31,7 +34,7 @@ abbrev pub Held : List ℕ → ℕ → Value × ℕ → Type 0
 Held s at q = (at ≤ q .1) × Within s (valueParts (q .0))
 
 skipped-held : (s : List ℕ) (at n : ℕ) → Sat (Held s at) (skippedAt s at n)
-skipped-held s at n = by-cond (Sat (Held s at)) (ltb (length s) (at + n)) (refused 30) (given (Skipped, at + n)) (λ _. tt) (λ _. (omega arith, tt))
+skipped-held s at n = by-cond (Sat (Held s at)) (ltb (length s) (at + n)) (refused 30) (given (Skipped (record { start = at; len = n }), at + n)) (λ _. tt) (λ _. (omega arith, tt))
 
 part-held : (s : List ℕ) (at : ℕ) (p : ℕ × ℕ) → Ends at (length s) p → Sat (Held s at) (partOf s p)
 part-held s at p e =
@@ -60,6 +63,11 @@ value-told s at wire t e = (e, go t (subst (Sat (Held s at)) (sym e) (value-held
 -- what is told of a place: what stands there, and its part lies within the message
 abbrev pub TellsField : List ℕ → ℕ → Found → Type 0
 TellsField s at r = (toldFound r ≡ foundAt s at) × TellsWithin s standingParts (toldFound r)
+
+-- what `next` hands back at a reader: what is told of its place, and the reader with its place behind it
+abbrev pub TellsNext : Fields → NextField → Type 0
+TellsNext d x =
+    TellsField (now (d .message)) (d .at) (x .found) × (x .rest .message ≡ d .message) × (x .rest .at ≡ behind (d .at) (toldFound (x .found)))
 
 -- ---- parts within a message: in a longer one, with one of them replaced, and each by itself
 pub within-longer : (s t : List ℕ) (ps : List Part) → length s ≤ length t → Within s ps → Within t ps

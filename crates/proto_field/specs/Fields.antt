@@ -30,6 +30,12 @@ toldFound (Field number value next) = given (field number value next)
 toldFound End = given end
 toldFound (Refused e) = refused (numberOf e)
 
+-- the place behind what stands at a place: that of a field's end, or the same place where there is none
+abbrev pub behind : ℕ → Told Standing → ℕ
+behind at (given (field number value next)) = next
+behind at (given end) = at
+behind at (refused n) = at
+
 -- the part of what stands at a place, if it has one
 abbrev pub standingParts : Standing → List Part
 standingParts (field number value next) = valueParts value

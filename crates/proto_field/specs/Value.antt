@@ -16,7 +16,7 @@ use Rattle.proto_field.specs.Tag.{varintType, fixed64Type, lengthType, f
 
 -- n bytes that are passed over
 abbrev pub skippedAt : List ℕ → ℕ → ℕ → Told (Value × ℕ)
-skippedAt s at n = table (line 30 (ltb (length s) (at + n)) ∷ []) refused (given (Skipped, at + n))
+skippedAt s at n = table (line 30 (ltb (length s) (at + n)) ∷ []) refused (given (Skipped (record { start = at; len = n }), at + n))
 
 -- the part of a length and the place after the length
 abbrev pub partOf : List ℕ → ℕ × ℕ → Told (Value × ℕ)
@@ -50,11 +50,11 @@ abbrev pub TellsWithin : {N A : Type 0} → List ℕ → (A → List Part) → T
 TellsWithin s parts (given a) = Within s (parts a)
 TellsWithin s parts (refused n) = Unit {0}
 
--- the part of a value, if it has one
+-- the part of a value whose length is told
 abbrev pub valueParts : Value → List Part
 valueParts (Number v) = []
 valueParts (Bytes p) = p ∷ []
-valueParts Skipped = []
+valueParts (Skipped p) = []
 
 -- .. of a value with the place after it
 abbrev pub readParts : Value × ℕ → List Part

@@ -7,7 +7,7 @@ use crate::value::ValueRead;
 use crate::value::read_value;
 ghost use mathlib.Core.Path.{_≡_};
 ghost use Rattle.proto_field.specs.Value.{TellsWithin};
-ghost use Rattle.proto_field.specs.Fields.{foundAt, toldFound, standingParts};
+ghost use Rattle.proto_field.specs.Fields.{foundAt, toldFound, behind, standingParts};
 
 pub struct Fields<'a> {
     pub message: &'a [u8],
@@ -25,8 +25,14 @@ pub enum Found {
     Refused(Refusal),
 }
 
+// A field, and the reader behind it.
+pub struct NextField<'a> {
+    pub found: Found,
+    pub rest: Fields<'a>,
+}
+
 // The field at a place of a message.
-pub fn field_at(message: &[u8], at: usize) -> Found
+fn field_at(message: &[u8], at: usize) -> Found
     ensures { λ r. ⌜ (toldFound r ≡ foundAt (now (message .entry)) at)
         × TellsWithin (now (message .entry)) standingParts (toldFound r) ⌝ }
 {
@@ -49,6 +55,21 @@ pub fn field_at(message: &[u8], at: usize) -> Found
     }
 }
 
+// The place behind what was found at a place: a field's end, or the same place where there is none.
+fn place_behind(found: Found, at: usize) -> usize
+    ensures { λ r. ⌜ r ≡ behind at (toldFound found) ⌝ }
+{
+    match found {
+        Found::Field {
+            number: _,
+            value: _,
+            next,
+        } => next,
+        Found::End => at,
+        Found::Refused(_) => at,
+    }
+}
+
 // At a place of a message.
 pub fn new<'a>(message: &'a [u8], at: usize) -> Fields<'a>
     ensures { λ r. ⌜ (r .message ≡ message .entry) × (r .at ≡ at) ⌝ }
@@ -56,12 +77,24 @@ pub fn new<'a>(message: &'a [u8], at: usize) -> Fields<'a>
     Fields { message, at }
 }
 
-// The field at the reader's place.
-pub fn next<'a>(r: Fields<'a>) -> Found
-    ensures { λ s. ⌜ (toldFound s ≡ foundAt (now (r .entry .message)) (r .entry .at))
-        × TellsWithin (now (r .entry .message)) standingParts (toldFound s) ⌝ }
+// The field at the reader's place, and the reader with its place behind it.
+pub fn next<'a>(r: Fields<'a>) -> NextField<'a>
+    ensures { λ s. ⌜ ((toldFound (s .found) ≡ foundAt (now (r .entry .message)) (r .entry .at))
+        × TellsWithin (now (r .entry .message)) standingParts (toldFound (s .found)))
+        × (s .rest .message ≡ r .entry .message)
+        × (s .rest .at ≡ behind (r .entry .at) (toldFound (s .found))) ⌝ }
 {
-    field_at(r.message, r.at)
+    let message = r.message;
+    let at = r.at;
+    let found = field_at(message, at);
+    let behind = place_behind(found, at);
+    NextField {
+        found,
+        rest: Fields {
+            message,
+            at: behind,
+        },
+    }
 }
 
 // The field at a place, by the record. Its parameters are a plain slice and a place, so its callers need no walk by hand.
@@ -69,5 +102,6 @@ pub fn found_at(message: &[u8], at: usize) -> Found
     ensures { λ r. ⌜ (toldFound r ≡ foundAt (now (message .entry)) at)
         × TellsWithin (now (message .entry)) standingParts (toldFound r) ⌝ }
 {
-    next(new(message, at))
+    let step = next(new(message, at));
+    step.found
 }

@@ -17,11 +17,11 @@ pub struct Part {
     pub len: usize,
 }
 
-// What a field holds: a number, a part of the message, or bytes that are passed over.
+// What a field holds: a number, a part of the message whose length is told, or eight or four bytes that are passed over.
 pub enum Value {
     Number(u64),
     Bytes(Part),
-    Skipped,
+    Skipped(Part),
 }
 
 // A value and the place after it, or why there is none.
@@ -39,7 +39,7 @@ fn skip(message: &[u8], at: usize, n: usize) -> ValueRead
         if n <= size - at {
             let next = at + n;
             return ValueRead::Read {
-                value: Value::Skipped,
+                value: Value::Skipped(Part { start: at, len: n }),
                 next,
             };
         }

@@ -79,7 +79,7 @@ value-within s Nested field (Bytes p) h = h
 value-within s Repeated field (Bytes p) h = tt
 value-within s Member field (Bytes p) h = h
 value-within s Unknown field (Bytes p) h = tt
-value-within s role field Skipped h = tt
+value-within s role field (Skipped p) h = tt
 
 -- there is room for one message more of a repeated field
 abbrev Counts : ℕ → Added → Type 0
@@ -115,7 +115,7 @@ value-counts count Nested field (Bytes p) h = tt
 value-counts count Repeated field (Bytes p) h = h refl
 value-counts count Member field (Bytes p) h = tt
 value-counts count Unknown field (Bytes p) h = tt
-value-counts count role field Skipped h = tt
+value-counts count role field (Skipped p) h = tt
 
 abbrev Adds : List ℕ → ℕ → ℕ → Added × ℕ → Type 0
 Adds s at count q = (at < q .1) × Within s (addedParts (q .0)) × Counts count (q .0)

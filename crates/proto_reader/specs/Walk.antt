@@ -71,7 +71,7 @@ partAdded Unknown field p = Added.Nothing
 abbrev pub valueAdded : Role → ℕ → Value → Added
 valueAdded role field (Number v) = numberAdded role v
 valueAdded role field (Bytes p) = partAdded role field p
-valueAdded role field Skipped = Added.Nothing
+valueAdded role field (Skipped p) = Added.Nothing
 
 -- what a field whose tag was judged adds, and the place after it
 unfoldable pub addedAt : List ℕ → ℕ → ℕ → Role → ℕ → Told (Added × ℕ)

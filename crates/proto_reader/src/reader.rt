@@ -173,7 +173,7 @@ fn value_added(role: Role, field: u64, value: Value) -> Added
     match value {
         Value::Number(n) => number_added(role, n),
         Value::Bytes(part) => part_added(role, field, part),
-        Value::Skipped => Added::Nothing,
+        Value::Skipped(_) => Added::Nothing,
     }
 }
 

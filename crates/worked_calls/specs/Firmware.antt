@@ -95,7 +95,7 @@ firmwareRows =
       applyWriteOf (replicate 7 0 ++ (10 ∷ (replicate 49 0))) (0xBF ∷ 0x80 ∷ 0xE2 ∷ 0x82 ∷ 0xAC ∷ 0xE0 ∷ 0xA0 ∷ 0x80 ∷ 0xE2 ∷ 0x82 ∷ 0xAC ∷ []) (replicate 90 0xEE) (9 ∷ 9 ∷ 9 ∷ []),
       called 36 [] (replicate 90 0xEE) (0 ∷ 5 ∷ 0 ∷ []),
     )
-    -- pito_field_read: pins valueAt, contentRow, fieldReadOf, fieldAt, fieldRow, badTag, fixedSize, ..
+    -- pito_field_read: pins valueAt, fieldReadOf, foundAt, standingRow, fieldRow, valueRow, badTag, fixedKind, ..
     ∷ (fieldReadOf (0x00 ∷ []) 1 (replicate 7 9), called 0 [] [] (replicate 7 0))
     ∷ (fieldReadOf (0x00 ∷ []) 0 (replicate 7 9), called 32 [] [] (replicate 7 0))
     ∷ (fieldReadOf (0x32 ∷ 0x00 ∷ []) 0 (replicate 7 9), called 0 [] [] (1 ∷ 6 ∷ 2 ∷ 0 ∷ 2 ∷ 0 ∷ 2 ∷ []))

@@ -9,7 +9,7 @@ returns-2 : tie.Need-returns-2
 returns-2 c = rw (c .before .value2 .given .1)
 
 returns-3 : tie.Need-returns-3
-returns-3 c = rw (c .before .enum-told .given .1, c .fixed-size .ensures)
+returns-3 c = rw (c .before .before .value3 .given .1, c .fixed-kind .ensures)
 
 pub field-row-spec : {M : Type 1} → statement M
 field-row-spec =
