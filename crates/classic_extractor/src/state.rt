@@ -19,8 +19,8 @@ pub enum Phase {
 // Where in a frame the extractor is, and what it holds of it.
 pub struct Progress {
     pub phase: Phase,
-    pub sequence: u8,
     pub held: usize,
+    pub sequence: u8,
 }
 
 pub struct Extractor {

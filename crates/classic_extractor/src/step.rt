@@ -10,7 +10,7 @@ use classic_frame::checksum::is_checked;
 ghost use mathlib.Core.Path.{_≡_};
 ghost use Prim.Native.Nat.{ℕ, _+_, _≤_};
 ghost use lib.ListN.{length};
-ghost use Rattle.classic_extractor.specs.declared.outcome.StepOutcome.the-variants.{Refused};
+ghost use Rattle.classic_extractor.specs.declared.outcome.StepOutcome.the-variants.{Skipped, Taken, Refused};
 ghost use Rattle.classic_extractor.specs.Outcome.{told};
 ghost use Rattle.classic_extractor.specs.Step.{step, storeOf, endOf, performOf, advanceOf, byteStepOf};
 
@@ -71,6 +71,21 @@ impl Progress {
         }
     }
 
+    // The byte is skipped. The state is made by its fields: one moved whole takes its padding along, through memory.
+    fn skip(self) -> Advanced
+        ensures { λ r. ⌜ r ≡ record { outcome = Skipped; next = self } ⌝ }
+    {
+        let phase = self.phase;
+        Advanced {
+            outcome: StepOutcome::Skipped,
+            next: Progress {
+                phase,
+                sequence: self.sequence,
+                held: self.held,
+            },
+        }
+    }
+
     // Does what the byte b asks for.
     fn perform(self, buffer: &mut [u8], b: u8, action: Action) -> Advanced
         requires { ⌜ self .held ≤ length (now buffer) ⌝ }
@@ -79,17 +94,14 @@ impl Progress {
             ≡ performOf limit self (now (buffer .entry)) b action) ⌝ }
     {
         match action {
-            Action::Skip => {
-                let phase = self.phase;
-                leave(StepOutcome::Skipped, phase, self.sequence, self.held)
-            }
+            Action::Skip => self.skip(),
             Action::Begin => Advanced {
                 outcome: StepOutcome::Taken,
                 next: Progress::begun(),
             },
             Action::Restart => refuse(Refusal::StartInside, Progress::begun()),
-            Action::Go(phase) => leave(StepOutcome::Taken, phase, self.sequence, self.held),
-            Action::Number => leave(StepOutcome::Taken, Phase::Body, b, self.held),
+            Action::Go(phase) => go_on(phase, self.sequence, self.held),
+            Action::Number => go_on(Phase::Body, b, self.held),
             Action::Store(x) => self.store(buffer, x),
             Action::Finish => Advanced {
                 outcome: self.end(buffer),
@@ -151,13 +163,13 @@ fn refuse(why: Refusal, next: Progress) -> Advanced
     }
 }
 
-// The state is made by its fields: one moved whole takes its padding along, through memory.
-fn leave(outcome: StepOutcome, phase: Phase, sequence: u8, held: usize) -> Advanced
+// The byte is taken, and leaves this state.
+fn go_on(phase: Phase, sequence: u8, held: usize) -> Advanced
     ensures { λ r. ⌜ r
-        ≡ record { outcome = outcome; next = record { phase = phase; sequence = sequence; held = held } } ⌝ }
+        ≡ record { outcome = Taken; next = record { phase = phase; sequence = sequence; held = held } } ⌝ }
 {
     Advanced {
-        outcome,
+        outcome: StepOutcome::Taken,
         next: Progress {
             phase,
             sequence,

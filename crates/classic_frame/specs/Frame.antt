@@ -3,6 +3,7 @@ use Prim.Native.Nat.{ℕ, _+_, _%_}
 use mathlib.Core.Bool.{Bool, cond}
 use mathlib.Core.List.{List, [], _∷_, _++_}
 use lib.ListN.{getD, take}
+use lib.Bits.{bitXor}
 use lib.Dec.{eqb}
 use Rattle.wire.specs.Bytes.{pairOf, pairBytes}
 use Rattle.classic_frame.specs.declared.mark.Kind.{Kind}
@@ -15,7 +16,11 @@ packetId = 0x02
 abbrev pub errorId : ℕ
 errorId = 0x00
 
--- what stands after F2 for each mark: F2 xor the mark
+-- what stands after F2 for a mark
+unfoldable pub codeFor : ℕ → ℕ
+codeFor b = bitXor escapeMark b
+
+-- .. for each of the three
 abbrev pub startCode : ℕ
 startCode = 0x02
 

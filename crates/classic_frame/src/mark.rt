@@ -1,6 +1,7 @@
 // The marks of a frame, and what stands for them within it.
 ghost use mathlib.Core.Path.{_≡_};
 ghost use Rattle.classic_frame.specs.Mark.{kindOf, isMark};
+ghost use Rattle.classic_frame.specs.Frame.{codeFor};
 
 // The bytes that start a frame, end it and escape a byte.
 pub struct Mark;
@@ -51,4 +52,11 @@ pub fn is_mark(b: u8) -> bool
         Kind::Escape => true,
         Kind::Plain => false,
     }
+}
+
+// What stands after F2 for a mark.
+pub fn code_for(mark: u8) -> u8
+    ensures { λ r. ⌜ r ≡ codeFor mark ⌝ }
+{
+    Mark::ESCAPE ^ mark
 }

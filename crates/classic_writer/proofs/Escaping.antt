@@ -2,7 +2,7 @@
 use Prim.Native.Nat.{ℕ, _+_, _-_, _*_, _<_, _≤_, zero-le}
 use mathlib.Core.Path.{_≡_, refl, sym, ap, _∙_}
 use mathlib.Core.List.{List, [], _∷_, _++_, append-assoc, append-nil}
-use mathlib.Core.Bool.{false}
+use mathlib.Core.Bool.{true, false}
 use native.Mathlib.Nat.{add-assoc, add-sub-cancel-left}
 use native.Mathlib.Numerals.{add-one}
 use native.Mathlib.Omega.{arith}
@@ -14,18 +14,18 @@ use Rattle.wire.proofs.Runs.{any-first, part-long, part-none, part-length, part
 use Rattle.wire.proofs.Stores.{sets-append}
 use Rattle.classic_frame.specs.declared.mark.Kind.{Kind}
 use Rattle.classic_frame.specs.declared.mark.Kind.the-variants.{Start, End, Escape, Plain}
-use Rattle.classic_frame.specs.Mark.{startMark, endMark, escapeMark, kindOf}
-use Rattle.classic_frame.specs.Frame.{escapedBy, escapedOf, headerOf, framed}
-use Rattle.classic_frame.proofs.Marks.{clear-plain}
+use Rattle.classic_frame.specs.Mark.{startMark, endMark, escapeMark, kindOf, isMark}
+use Rattle.classic_frame.specs.Frame.{codeFor, escapedBy, escapedOf, headerOf, framed}
+use Rattle.classic_frame.proofs.Marks.{clear-plain, unmarked-plain, mark-escaped}
 use Rattle.classic_writer.specs.Writer.{Left}
 
 -- one byte as a frame has it
 abbrev pub unit : ℕ → List ℕ
 unit b = escapedBy (kindOf b) b
 
--- .. once its kind is known
-pub unit-of : (b : ℕ) {k : Kind} → kindOf b ≡ k → unit b ≡ escapedBy k b
-unit-of b e = rw e
+-- .. that is no mark
+pub plain-unit : (b : ℕ) → isMark b ≡ false → unit b ≡ b ∷ []
+plain-unit b e = rw (unmarked-plain (kindOf b) e)
 
 -- the escaped rest of a list: its first byte, and the rest after it
 pub rest-step : (l : List ℕ) (i : ℕ) → i < length l → escapedOf (drop i l) ≡ unit (getD l i 0) ++ escapedOf (drop (i + 1) l)
@@ -117,6 +117,11 @@ left-byte bytes out at i h =
       size = rw (rest-step bytes i h, length-append, add-assoc);
       stored = rw (rest-step bytes i h) (sym (sets-append out at (unit (getD bytes i 0)) (escapedOf (drop (i + 1) bytes))));
     }
+
+-- .. that is a mark
+pub left-mark : (bytes out : List ℕ) (at i : ℕ) → i < length bytes → isMark (getD bytes i 0) ≡ true
+    → Left bytes out at i (sets out at (escapeMark ∷ codeFor (getD bytes i 0) ∷ [])) (at + 2) (i + 1)
+left-mark bytes out at i h m = rw (mark-escaped (getD bytes i 0) m) at (left-byte bytes out at i h)
 
 module _ (bytes : List ℕ) (i : ℕ) (h : i ≤ length bytes) where
   -- what is left is no longer than it is written

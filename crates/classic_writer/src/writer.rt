@@ -2,11 +2,9 @@
 use classic_frame::checksum::checksum;
 use classic_frame::header::ERROR_ID;
 use classic_frame::header::PACKET_ID;
-use classic_frame::mark::END_CODE;
-use classic_frame::mark::ESCAPE_CODE;
 use classic_frame::mark::Kind;
 use classic_frame::mark::Mark;
-use classic_frame::mark::START_CODE;
+use classic_frame::mark::code_for;
 use classic_frame::mark::is_mark;
 use classic_frame::mark::kind_of;
 use wire::limit::limit_fits;
@@ -14,7 +12,7 @@ use wire::scan::copy_clear;
 ghost use mathlib.Core.Path.{_≡_};
 ghost use mathlib.Core.Bool.{true, false};
 ghost use mathlib.Core.List.{[], _∷_, _++_};
-ghost use Prim.Native.Nat.{_+_, _-_, _≤_, _<_};
+ghost use Prim.Native.Nat.{_+_, _-_, _*_, _≤_, _<_};
 ghost use lib.ListN.{length, drop};
 ghost use lib.Dec.{leb};
 ghost use lib.Seq.{sets};
@@ -101,15 +99,11 @@ fn put_escaped(out: &mut [u8], at: usize, b: u8) -> usize
     ensures { λ r. ⌜ (r ≡ at + length (escapedBy (kindOf b) b))
         × (now (out .exit) ≡ sets (now (out .entry)) at (escapedBy (kindOf b) b)) ⌝ }
 {
-    match kind_of(b) {
-        Kind::Start => put_code(out, at, START_CODE),
-        Kind::End => put_code(out, at, END_CODE),
-        Kind::Escape => put_code(out, at, ESCAPE_CODE),
-        Kind::Plain => {
-            out[at] = b;
-            at + 1
-        }
+    if is_mark(b) {
+        return put_code(out, at, code_for(b));
     }
+    out[at] = b;
+    at + 1
 }
 
 // Writes the plain bytes from i on at a place, and returns where they end.
@@ -119,6 +113,25 @@ fn put_plain(out: &mut [u8], place: usize, bytes: &[u8], i: usize) -> usize
     ensures { λ r. ⌜ Left (now (bytes .entry)) (now (out .entry)) place i (now (out .exit)) (place + (r - i)) r ⌝ }
 {
     i + copy_clear(out, place, &bytes[i..], Mark::START, Mark::ESCAPE)
+}
+
+// Writes the marks from i on, escaped, at a place, and returns where they end.
+fn put_marks(out: &mut [u8], place: usize, bytes: &[u8], i: usize) -> usize
+    requires { ⌜ i ≤ length (now bytes) ⌝ }
+    requires { ⌜ place + length (escapedOf (drop i (now bytes))) ≤ length (now out) ⌝ }
+    ensures { λ r. ⌜ Left (now (bytes .entry)) (now (out .entry)) place i (now (out .exit)) (place + 2 * (r - i)) r ⌝ }
+{
+    let mut at = place;
+    let mut end = i;
+    while end < bytes.len() {
+        let b = bytes[end];
+        if !is_mark(b) {
+            return end;
+        }
+        at = put_code(out, at, code_for(b));
+        end += 1;
+    }
+    end
 }
 
 // Writes a run, escaped, from a place, and returns the place after it.
@@ -136,7 +149,9 @@ fn put_all(out: &mut [u8], at: usize, bytes: &[u8]) -> usize
             return place;
         }
         place = put_escaped(out, place, bytes[end]);
-        i = end + 1;
+        let next = end + 1;
+        i = put_marks(out, place, bytes, next);
+        place += 2 * (i - next);
     }
 }
 

@@ -54,26 +54,69 @@ put-escaped-requires c κs =
     let b = left-byte (s .args .bytes .now) (g .put-plain .last .0) (k .place + (g .put-plain .result - k .i)) (g .put-plain .result) (search needs) in
     omega (arith, on .size, b .size, g .put-plain .kept .0, k .inv .0, s .pre)
 
+add-next : tie.Need-add-next Inv-loop μ-loop
+add-next c = search needs
+
+put-marks-requires : tie.Need-put-marks-requires Inv-loop μ-loop
+put-marks-requires c κs =
+    let e = c .before .before .before in
+    let g = e .before .before .before .before .before .before in
+    let k = g .before .before .loop in
+    let on = left-then (k .inv .1) (g .put-plain .ensures) in
+    let s = g .before .before .before .before .before in
+    let b = left-byte (s .args .bytes .now) (g .put-plain .last .0) (k .place + (g .put-plain .result - k .i)) (g .put-plain .result) (search needs) in
+    (b .within, omega (arith, on .size, b .size, e .put-escaped .ensures .0, e .put-escaped .kept .0, g .put-plain .kept .0, k .inv .0, s .pre))
+
+sub-place-2 : tie.Need-sub-place-2 Inv-loop μ-loop
+sub-place-2 c = c .before .before .put-marks .ensures .from
+
+mul-place : tie.Need-mul-place Inv-loop μ-loop
+mul-place c =
+    let m = c .before .before in
+    let e = m .before .before .before .before in
+    let g = e .before .before .before .before .before .before in
+    let k = g .before .before .loop in
+    let on = left-then (k .inv .1) (g .put-plain .ensures) in
+    let s = g .before .before .before .before .before in
+    let b = left-byte (s .args .bytes .now) (g .put-plain .last .0) (k .place + (g .put-plain .result - k .i)) (g .put-plain .result) (search needs) in
+    omega (arith, on .size, b .size, e .put-escaped .ensures .0, m .put-marks .ensures .size, s .pre)
+
+add-place-2 : tie.Need-add-place-2 Inv-loop μ-loop
+add-place-2 c =
+    let m = c .before .before in
+    let e = m .before .before .before .before in
+    let g = e .before .before .before .before .before .before in
+    let k = g .before .before .loop in
+    let on = left-then (k .inv .1) (g .put-plain .ensures) in
+    let s = g .before .before .before .before .before in
+    let b = left-byte (s .args .bytes .now) (g .put-plain .last .0) (k .place + (g .put-plain .result - k .i)) (g .put-plain .result) (search needs) in
+    omega (arith, on .size, b .size, e .put-escaped .ensures .0, m .put-marks .ensures .size, s .pre)
+
 loop-less : tie.Need-loop-less Inv-loop μ-loop
 loop-less c =
-    let g = c .before .before .before .before .before .before .before .before in
-    omega (arith, g .put-plain .ensures .from)
+    let m = c .before .before in
+    let g = m .before .before .before .before .before .before .before .before .before .before in
+    omega (arith, m .put-marks .ensures .from, g .put-plain .ensures .from)
 
 loop-again : tie.Need-loop-again Inv-loop μ-loop
 loop-again c =
-    let g = c .before .before .before .before .before .before .before .before in
+    let m = c .before .before in
+    let e = m .before .before .before .before in
+    let g = e .before .before .before .before .before .before in
     let k = g .before .before .loop in
     let on = left-then (k .inv .1) (g .put-plain .ensures) in
-    let e = c .before .before in
     let s = g .before .before .before .before .before in (
-      e .put-escaped .kept .0 ∙ g .put-plain .kept .0 ∙ k .inv .0,
-      left-then on
+      m .put-marks .kept .0 ∙ e .put-escaped .kept .0 ∙ g .put-plain .kept .0 ∙ k .inv .0,
+      left-then
+          (left-then on
           (rw (e .put-escaped .ensures .0, e .put-escaped .ensures .1)
-          (left-byte (s .args .bytes .now) (g .put-plain .last .0) (k .place + (g .put-plain .result - k .i)) (g .put-plain .result) (search needs))),
+          (left-byte (s .args .bytes .now) (g .put-plain .last .0) (k .place + (g .put-plain .result - k .i)) (g .put-plain .result) (search needs))))
+          (m .put-marks .ensures),
     )
 
 pub put-all-spec : {M : Type 1} → statement M
 put-all-spec =
     tie.close
     (tie.spec Inv-loop μ-loop loop-holds put-plain-requires sub-place add-place same-length returns
-    (λ c. search needs) put-escaped-requires (λ c. search needs) loop-less loop-again)
+    (λ c. search needs) put-escaped-requires add-next put-marks-requires sub-place-2 mul-place add-place-2 loop-less
+    loop-again)

@@ -3,7 +3,7 @@ use Rattle.classic_extractor.proofs.state.Progress.perform.Statement.{s
 use Rattle.classic_extractor.proofs.state.Progress.perform.Tie as tie
 
 returns : tie.Need-returns
-returns c = λ limit e. rw (c .before .enum-told .given .1, c .leave .ensures)
+returns c = λ limit e. rw (c .before .enum-told .given .1, c .skip .ensures)
 
 returns-2 : tie.Need-returns-2
 returns-2 c = λ limit e. rw (c .before .enum-told2 .given .1, c .begun .ensures)
@@ -12,10 +12,10 @@ returns-3 : tie.Need-returns-3
 returns-3 c = λ limit e. rw (c .before .before .enum-told3 .given .1, c .refuse .ensures, c .before .begun2 .ensures)
 
 returns-4 : tie.Need-returns-4
-returns-4 c = λ limit e. rw (c .before .before .action .given .1, c .leave2 .ensures)
+returns-4 c = λ limit e. rw (c .before .before .action .given .1, c .go-on .ensures)
 
 returns-5 : tie.Need-returns-5
-returns-5 c = λ limit e. rw (c .before .enum-told4 .given .1, c .leave3 .ensures)
+returns-5 c = λ limit e. rw (c .before .enum-told4 .given .1, c .go-on2 .ensures)
 
 returns-6 : tie.Need-returns-6
 returns-6 c = λ limit e.
