@@ -14,10 +14,10 @@ use Rattle.ble_slot.specs.declared.Slot.{Slot}
 use Rattle.ble_slot.specs.Slot.{slotCount}
 use Rattle.ble_slot.specs.declared.answer.Accepted.{Accepted}
 use Rattle.ble_slot.specs.Answer.{told}
-use Rattle.ble_receiver.specs.declared.Outcome as code
+use Rattle.ble_slot_steps.specs.declared.Step.{Step}
 use Rattle.ble_receiver.specs.Receiver.{Result, result, PacketLeft, acceptOf}
-use Rattle.ble_receiver.specs.Outcome.{effect, outcomeOf, decided, leftBy}
-use Rattle.ble_receiver.proofs.Outcomes.{twelve, decided-left}
+use Rattle.ble_receiver.specs.Outcome.{leftBy, firstTwelve}
+use Rattle.ble_receiver.proofs.Outcomes.{twelve}
 use Rattle.capture_report.specs.declared.CostReport.{CostReport}
 use Rattle.capture_report.specs.Costs.{heard}
 use Rattle.capture_report.specs.Report.{callFor, CaptureAdded, captureAdded}
@@ -28,17 +28,12 @@ use Rattle.capture_tally.specs.Tally.{toldSum, tallied, gaveOf, turnOf, 
 -- ---- one packet
 
 module _ (limit : ℕ) (slots : List Slot) (bytes p : List ℕ) (e : length slots ≡ slotCount) where
-  accepted : leftBy slots (decided slotCount limit slots bytes (callFor p)) ≡ acceptOf limit slots bytes (callFor p)
-  accepted =
-      ap (λ (n : ℕ). leftBy slots (decided n limit slots bytes (callFor p))) (sym e)
-      ∙ ap (λ (l : List Slot). leftBy slots (decided (length slots) limit l bytes (callFor p))) (sym (twelve slots e))
-      ∙ decided-left limit slots bytes (callFor p)
-
   -- what the rules decide is what the link does
-  pub given-is : (d : code.Outcome) (after out : List ℕ) → effect (outcomeOf d after) out ≡ decided slotCount limit slots bytes (callFor p)
+  pub given-is : (d : Step) (after out : List ℕ)
+      → ((row : List Slot) → length row ≡ slotCount → slots ≡ firstTwelve row → leftBy row d after out ≡ acceptOf limit row bytes (callFor p))
       → result (told (d .answer)) (set slots (d .place) (d .slot)) after ≡ gaveOf limit slots bytes p
-  unfolding outcomeOf gaveOf
-  given-is d after out h = ap (λ (l : PacketLeft). result (l .told) (l .slots) (l .bytes)) (ap (leftBy slots) h ∙ accepted)
+  unfolding gaveOf
+  given-is d after out h = ap (λ (l : PacketLeft). result (l .told) (l .slots) (l .bytes)) (h slots e (sym (twelve slots e)))
 
 -- and counted
 pub counted-is : (t : ToldAt CostReport) (limit : ℕ) (slots : List Slot) (bytes p : List ℕ) (answer : Told Accepted) (row : List Slot) (after : List ℕ)

@@ -8,10 +8,10 @@ use crate::sums::Sum;
 use ble_link::load;
 use ble_link::save;
 use ble_packet::control::ACK_SIZE;
-use ble_receiver::Outcome;
 use ble_receiver::SLOT_COUNT;
 use ble_receiver::decide;
 use ble_slot::Slot;
+use ble_slot_steps::Step;
 use capture_reader::Soundness;
 use capture_reader::WIDTH;
 use capture_reader::check;
@@ -104,7 +104,7 @@ fn with_slot(slots: [Slot; 12], place: usize, slot: Slot) -> [Slot; 12]
 }
 
 // A packet given to the link. The answer sequence and the answer buffer are the call's own.
-fn give(limit: usize, slots: [Slot; 12], buffer: &mut [u8], packet: &[u8]) -> Outcome
+fn give(limit: usize, slots: [Slot; 12], buffer: &mut [u8], packet: &[u8]) -> Step
     ensures { λ r. ⌜ result (answer.told (r .answer)) (set slots (r .place) (r .slot)) (now (buffer .exit))
         ≡ gaveOf limit slots (now (buffer .entry)) (now (packet .entry)) ⌝ }
 {
