@@ -78,12 +78,12 @@ packet-ours : (w : Sending) (m : List ℕ) (p : Piece) (sequence : ℕ) (out : L
 unfolding packetOf headerBytes
 packet-ours w m p sequence out = eq-eqb (firstByte (w .stream) (w .id)) (firstByte (w .stream) (w .id)) refl
 
--- calls without packets are none
+-- where there are no packets there are no calls
 no-calls : (cs : List PacketCall) → packetsIn cs ≡ [] → cs ≡ []
 no-calls [] e = refl
 no-calls (c ∷ cs) e = let z = ap length e in absurd (omega arith)
 
--- what calls show that are all of a message's from one on
+-- what the calls of a message show, from one of them on
 abbrev fromNext : ℕ → Sending → List ℕ → List PacketCall → List CallShown
 fromNext at w m [] = []
 fromNext at w m (c ∷ cs) = atLast at w m c cs

@@ -42,7 +42,7 @@ use Rattle.ble_claims.proofs.Growing.{part-grows}
 
 -- ---- a ready receiver
 
--- it does what was read, where neither 15 nor 14 is given
+-- what was read is done, where neither 15 nor 14 is given
 read-answerable : (limit : ℕ) (c : PacketCall) → answerable c ≡ true → readIn limit c ≡ readOf limit (c .packet)
 unfolding readIn
 read-answerable limit c a =
@@ -85,7 +85,7 @@ pub record Holding (limit : ℕ) (w : Sending) (m : List ℕ) (i index place : �
   pub slot : getD (laneFor w slots) i idle ≡ openSlot w m index place
   pub held : take place (partOf limit (placeFor w i) bytes) ≡ take place m
 
--- what a packet that more follow does
+-- what a packet does that is not the last
 pub record More (limit : ℕ) (w : Sending) (m : List ℕ) (i index place : ℕ) (out : List ℕ) (l : PacketLeft) : Type 0 where
   pub here : placeIn (l .told) ≡ some (placeFor w i)
   pub nothing : gives limit l ≡ none
@@ -168,7 +168,7 @@ module _ (limit : ℕ) (w : Sending) (m : List ℕ) (ok : SendingInRange limit w
   abbrev begun : PacketCall
   begun = call (packetOf w m piece) sequence out
 
-  -- what the slot was that is taken
+  -- the slot that is taken, as it was before
   abbrev was : Slot
   was = getD (laneFor w slots) i idle
 

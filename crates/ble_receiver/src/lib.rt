@@ -35,7 +35,7 @@ pub struct Receiver {
     pub limit: usize,
 }
 
-// A link's state, or a limit that is none: refusal 17.
+// A link's state, or refusal 17 for a limit out of its range.
 pub enum OpenedReceiver {
     Link(Receiver),
     BadLimit,

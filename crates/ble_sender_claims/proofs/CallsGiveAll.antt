@@ -30,7 +30,7 @@ told-by out later true n next = refl
 told-by out later false n next = refl
 
 module _ (limit : ℕ) (w : Sending) (m : List ℕ) (range : limitFits limit ≡ true) (fits : roomFits (w .room) ≡ true) (fit : argumentsFit limit w (length m) ≡ true) where
-  -- the next piece, where so many bytes are left from a place on
+  -- the next piece, where `rest` bytes are left from a place on
   abbrev size : ℕ → ℕ → ℕ
   size index rest = sizeFor (w .room) (isFirst index) rest
 

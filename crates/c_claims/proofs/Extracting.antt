@@ -22,11 +22,11 @@ use Rattle.classic_extractor.specs.Step.{step, advanceOf, performOf, storeOf, e
 use Rattle.classic_feed.specs.Feed.{decides, feedReport, feedFrom, fed}
 use Rattle.c_classic.specs.Convert.{replyOf}
 
--- a report that is no refusal by 1
+-- a report that is not a refusal by 1
 abbrev NotOne : Report → Type 0
 NotOne r = replyOf r .number ≡ 1 → ⊥
 
--- an action that refuses by no 1
+-- an action that does not refuse by 1
 abbrev Named : Action → Type 0
 Named Skip = Unit {0}
 Named Begin = Unit {0}

@@ -27,7 +27,7 @@ use Rattle.reply.specs.declared.Link.{Link}
 use Rattle.reply_parts.specs.Body.{kindOfCommand}
 use Rattle.reply.specs.Reply.{Box, sendingOf, replyOf, linkLines, stringsOf, Replied, silent, sent, refusing, joinedIn, carriedOf, sentOf, isResponse, repliedBy}
 
--- ---- under 1, which no reply tells, the output stays
+-- ---- 1, which no reply tells, leaves the output
 
 abbrev Left : List ℕ → WrittenOf (ℕ × List ℕ) Replied → Type 0
 Left out w = numberMore (w .told) ≡ 1 → w .out ≡ out

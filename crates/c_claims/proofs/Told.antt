@@ -75,7 +75,7 @@ given-fits s a w eight =
     let first : take 57 (wholeRow a ++ replicate 2 0) ≡ wholeRow a = take-at (wholeRow a) (replicate 2 0) 57 long in
     subst (λ (row : List ℕ). (length row ≡ 57) × RowFits s row) (sym first) (long, row-fits s a w)
 
--- a refusal's row is of zeros
+-- the row of a refusal is all zeros
 zeros-fit : (s more : List ℕ) → Fits s (replicate rowSize 0 ++ more)
 zeros-fit s more =
     let first : take 57 (replicate rowSize 0 ++ more) ≡ replicate rowSize 0 = take-at (replicate rowSize 0) more 57 refl in

@@ -77,7 +77,7 @@ leavesOpen h = begins h && not (finishes (h .told))
 abbrev pub closes : Heard → Bool
 closes h = begins h || (finishes (h .told) || drops (h .told))
 
--- one of some packets does so to a byte 0
+-- one of the packets does so to a transaction with this byte 0
 abbrev pub closedIn : ℕ → List Heard → Bool
 closedIn first [] = false
 closedIn first (h ∷ hs) = (closes h && eqb (byteZero h) first) || closedIn first hs

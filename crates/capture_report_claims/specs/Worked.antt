@@ -136,7 +136,7 @@ abbrev leaves : CostReport → ℕ → List ℕ → ToldAt CostReport → List S
 leaves before limit capture told slots bytes =
     record { before = before; limit = limit; slots = oddRow; bytes = oddBytes; capture = capture; after = captureAdded told slots bytes }
 
--- numbers none of which may grow
+-- numbers that are all the largest
 abbrev full : CostReport
 full = report (costs most most most most most most most) (costs most most most most most most most) (costs most most most most most most most)
 

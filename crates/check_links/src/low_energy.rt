@@ -176,7 +176,7 @@ fn write_acknowledgement(label: &[u8], stream: u8, id: u8, sequence: u8, positiv
     end();
 }
 
-// How a message is sent of which only the room is said.
+// How a message is sent at a room: stream, id and sequence 0, no ACK wanted.
 fn in_room(room: usize) -> Sending {
     Sending {
         room,

@@ -63,7 +63,7 @@ spelt x = go (kindOf x) refl (mark-is x)
     go Escape e m = rw (← m) (coded escapeCode refl escape-code)
     go Plain e m = itself e
 
--- a byte after F2 is a code, or it is none
+-- a byte after F2 is a code, or it is not
 pub data Meaning (c : ℕ) : Type 0 where
   stands-for : (x : ℕ) → Code c x → Meaning c
   unknown : codeOf c ≡ Refuse BadEscape → Meaning c

@@ -85,7 +85,7 @@ features = 0x08 ∷ 0x1C ∷ []
 abbrev minusOne : List ℕ
 minusOne = replicate 9 0xFF ++ (0x01 ∷ [])
 
--- one packet of so few bytes
+-- the one packet of a short reply
 abbrev told : List ℕ → List ℕ
 told reply = 0x01 ∷ 0x20 ∷ 0x00 ∷ 0x00 ∷ length reply ∷ length reply ∷ reply
 
