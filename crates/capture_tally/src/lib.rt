@@ -2,6 +2,7 @@
 pub mod count;
 pub mod sums;
 
+use crate::count::count_packet;
 use crate::count::open_report;
 use crate::sums::Sum;
 use ble_link::load;
@@ -122,7 +123,7 @@ fn take(limit: usize, tally: Tally, buffer: &mut [u8], packet: &[u8]) -> Tally
     let done = give(limit, slots, buffer, packet);
     let answer = done.answer;
     let so_far = tally.sum;
-    let sum = so_far.with_packet(packet, answer);
+    let sum = count_packet(so_far, packet, answer);
     let row = with_slot(slots, done.place, done.slot);
     Tally { slots: row, sum }
 }
