@@ -44,7 +44,7 @@ fn copy_blocks(out: &mut [u8], at: usize, run: &[u8], from: usize) -> usize
         × (r ≤ length (now (run .entry))) ⌝ }
 {
     let mut i = from;
-    while BLOCK < run.len() - i {
+    while i + BLOCK < run.len() {
         copy_block(out, at + i, &run[i..i + BLOCK]);
         i = i + BLOCK;
     }
