@@ -21,8 +21,7 @@ use Rattle.classic_frame.proofs.Marks.{clear-plain, unmarked-plain, start-kind,
 use Rattle.classic_extractor.specs.declared.state.Progress.{Progress}
 use Rattle.classic_extractor.specs.declared.state.Phase.{Phase}
 use Rattle.classic_extractor.specs.declared.state.Phase.the-variants.{Outside, Body, Escaped}
-use Rattle.classic_extractor.specs.declared.action.Action.the-variants.{Store}
-use Rattle.classic_extractor.specs.Action.{codeOf}
+use Rattle.classic_extractor.specs.Action.{Store, codeOf}
 use Rattle.classic_extractor.specs.Outcome.{taken}
 use Rattle.classic_extractor.specs.State.{body, Fits}
 use Rattle.classic_extractor.specs.Step.{step, storeOf, advanceOf}

@@ -85,8 +85,7 @@ fn run(start: Progress, limit: usize, buffer: &mut [u8], bytes: &[u8]) -> Fed
         }
         let done = fast_step(state, limit, buffer, bytes[i]);
         i += 1;
-        let then = done.next;
-        state = rebuilt(then);
+        state = done.next;
         let outcome = done.outcome;
         if is_decided(outcome) {
             return Fed {
