@@ -85,7 +85,8 @@ fn run(start: Progress, limit: usize, buffer: &mut [u8], bytes: &[u8]) -> Fed
         }
         let done = fast_step(state, limit, buffer, bytes[i]);
         i += 1;
-        state = done.next;
+        let then = done.next;
+        state = rebuilt(then);
         let outcome = done.outcome;
         if is_decided(outcome) {
             return Fed {

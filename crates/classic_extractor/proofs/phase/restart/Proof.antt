@@ -2,14 +2,8 @@ use borrow.Author.Needs.{needs}
 use Rattle.classic_extractor.proofs.phase.restart.Statement.{statement}
 use Rattle.classic_extractor.proofs.phase.restart.Tie as tie
 
-begun-requires : tie.Need-begun-requires
-begun-requires c κs = search needs
-
-refuse-requires : tie.Need-refuse-requires
-refuse-requires c κs = search needs
-
 returns : tie.Need-returns
 returns c = rw (c .refuse .ensures, c .before .begun .ensures)
 
 pub restart-spec : {M : Type 1} → statement M
-restart-spec = tie.close (tie.spec begun-requires refuse-requires returns)
+restart-spec = tie.close (tie.spec (λ c κs. search needs) (λ c κs. search needs) returns)

@@ -2,30 +2,6 @@ use borrow.Author.Needs.{needs}
 use Rattle.classic_extractor.proofs.state.Progress.at_escaped.Statement.{statement}
 use Rattle.classic_extractor.proofs.state.Progress.at_escaped.Tie as tie
 
-enum-told : tie.Need-enum-told
-enum-told c = search needs
-
-restart-requires : tie.Need-restart-requires
-restart-requires c κs = search needs
-
-enum-told-2 : tie.Need-enum-told-2
-enum-told-2 c = search needs
-
-drop-frame-requires : tie.Need-drop-frame-requires
-drop-frame-requires c κs = search needs
-
-enum-told-3 : tie.Need-enum-told-3
-enum-told-3 c = search needs
-
-drop-frame-requires-2 : tie.Need-drop-frame-requires-2
-drop-frame-requires-2 c κs = search needs
-
-enum-told-4 : tie.Need-enum-told-4
-enum-told-4 c = search needs
-
-decode-requires : tie.Need-decode-requires
-decode-requires c κs = search needs
-
 returns : tie.Need-returns
 returns c = λ limit e. rw (c .before .enum-told .given .1, c .restart .ensures)
 
@@ -35,9 +11,6 @@ returns-2 c = λ limit e. rw (c .before .enum-told2 .given .1, c .drop-frame .en
 returns-3 : tie.Need-returns-3
 returns-3 c = λ limit e. rw (c .before .enum-told3 .given .1, c .drop-frame2 .ensures)
 
-same-length : tie.Need-same-length
-same-length c = search needs
-
 returns-4 : tie.Need-returns-4
 returns-4 c = λ limit e.
     let s = c .before .before in
@@ -46,17 +19,6 @@ returns-4 c = λ limit e.
 pub at-escaped-spec : {M : Type 1} → statement M
 at-escaped-spec =
     tie.close
-    (tie.spec
-    enum-told
-    restart-requires
-    enum-told-2
-    drop-frame-requires
-    enum-told-3
-    drop-frame-requires-2
-    enum-told-4
-    decode-requires
-    returns
-    returns-2
-    returns-3
-    same-length
-    returns-4)
+    (tie.spec (λ c. search needs) (λ c κs. search needs) (λ c. search needs) (λ c κs. search needs)
+    (λ c. search needs) (λ c κs. search needs) (λ c. search needs) (λ c κs. search needs) returns returns-2 returns-3
+    (λ c. search needs) returns-4)

@@ -4,23 +4,11 @@ use borrow.Author.Needs.{needs}
 use Rattle.classic_extractor.proofs.state.Progress.decode.Statement.{statement}
 use Rattle.classic_extractor.proofs.state.Progress.decode.Tie as tie
 
-store-requires : tie.Need-store-requires
-store-requires c κs = search needs
-
-same-length : tie.Need-same-length
-same-length c = search needs
-
 returns : tie.Need-returns
 unfolding codeOf
 returns c = λ limit e.
     let s = c .before .before in
     rw (eq-eqb _ _ (s .before .before .if1 .taken)) (s .store .ensures limit e)
-
-store-requires-2 : tie.Need-store-requires-2
-store-requires-2 c κs = search needs
-
-same-length-2 : tie.Need-same-length-2
-same-length-2 c = search needs
 
 returns-2 : tie.Need-returns-2
 unfolding codeOf
@@ -29,21 +17,12 @@ returns-2 c = λ limit e.
     let t = s .before .before in
     rw (ne-eqb _ _ (t .before .if1 .left), eq-eqb _ _ (t .if2 .taken)) (s .store2 .ensures limit e)
 
-store-requires-3 : tie.Need-store-requires-3
-store-requires-3 c κs = search needs
-
-same-length-3 : tie.Need-same-length-3
-same-length-3 c = search needs
-
 returns-3 : tie.Need-returns-3
 unfolding codeOf
 returns-3 c = λ limit e.
     let s = c .before .before in
     let t = s .before .before in
     rw (ne-eqb _ _ (t .before .before .if1 .left), ne-eqb _ _ (t .before .if2 .left), eq-eqb _ _ (t .if3 .taken)) (s .store3 .ensures limit e)
-
-drop-frame-requires : tie.Need-drop-frame-requires
-drop-frame-requires c κs = search needs
 
 returns-4 : tie.Need-returns-4
 unfolding codeOf
@@ -54,15 +33,5 @@ returns-4 c = λ limit e.
 pub decode-spec : {M : Type 1} → statement M
 decode-spec =
     tie.close
-    (tie.spec
-    store-requires
-    same-length
-    returns
-    store-requires-2
-    same-length-2
-    returns-2
-    store-requires-3
-    same-length-3
-    returns-3
-    drop-frame-requires
-    returns-4)
+    (tie.spec (λ c κs. search needs) (λ c. search needs) returns (λ c κs. search needs) (λ c. search needs) returns-2
+    (λ c κs. search needs) (λ c. search needs) returns-3 (λ c κs. search needs) returns-4)

@@ -3,12 +3,6 @@ use borrow.Author.Needs.{needs}
 use Rattle.classic_extractor.proofs.state.Progress.expect.Statement.{statement}
 use Rattle.classic_extractor.proofs.state.Progress.expect.Tie as tie
 
-go-on-requires : tie.Need-go-on-requires
-go-on-requires c κs = search needs
-
-drop-frame-requires : tie.Need-drop-frame-requires
-drop-frame-requires c κs = search needs
-
 returns : tie.Need-returns
 returns c = λ limit l. simp (eq-eqb _ _ (c .before .if1 .taken), c .go-on .ensures)
 
@@ -16,4 +10,4 @@ returns-2 : tie.Need-returns-2
 returns-2 c = λ limit l. simp (ne-eqb _ _ (c .before .if1 .left), c .drop-frame .ensures)
 
 pub expect-spec : {M : Type 1} → statement M
-expect-spec = tie.close (tie.spec go-on-requires drop-frame-requires returns returns-2)
+expect-spec = tie.close (tie.spec (λ c κs. search needs) (λ c κs. search needs) returns returns-2)
