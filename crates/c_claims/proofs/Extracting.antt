@@ -13,9 +13,7 @@ use Rattle.classic_frame.specs.Frame.{packetId, errorId, startCode, endCode, es
 use Rattle.classic_extractor.specs.declared.state.Phase.{Phase}
 use Rattle.classic_extractor.specs.declared.state.Phase.the-variants.{Outside, PacketId, ErrorId, Sequence, Body, Escaped}
 use Rattle.classic_extractor.specs.declared.state.Progress.{Progress}
-use Rattle.classic_extractor.specs.declared.action.Action.{Action}
-use Rattle.classic_extractor.specs.declared.action.Action.the-variants.{Skip, Begin, Restart, Go, Number, Store, Finish, Refuse}
-use Rattle.classic_extractor.specs.Action.{outsideBy, headerBy, sequenceBy, bodyBy, codeOf, codeBy, actionBy}
+use Rattle.classic_extractor.specs.Action.{Action, Skip, Begin, Restart, Go, Number, Store, Finish, Refuse, outsideBy, headerBy, sequenceBy, bodyBy, codeOf, codeBy, actionBy}
 use Rattle.classic_extractor.specs.Outcome.{Report, skipped, taken, allUsed, frame, refused, numberOf}
 use Rattle.classic_extractor.specs.State.{outside, body}
 use Rattle.classic_extractor.specs.Step.{step, advanceOf, performOf, storeOf, endOf}

@@ -9,9 +9,8 @@ use Rattle.classic_frame.specs.declared.mark.Kind.{Kind}
 use Rattle.classic_frame.specs.declared.mark.Kind.the-variants.{Start, End, Escape, Plain}
 use Rattle.classic_frame.specs.Mark.{startMark, endMark, escapeMark, kindOf}
 use Rattle.classic_frame.specs.Frame.{startCode, endCode, escapeCode, escapedBy}
-use Rattle.classic_extractor.specs.declared.action.Action.the-variants.{Store, Refuse}
 use Rattle.classic_extractor.specs.declared.outcome.Refusal.the-variants.{BadEscape}
-use Rattle.classic_extractor.specs.Action.{codeOf}
+use Rattle.classic_extractor.specs.Action.{Store, Refuse, codeOf}
 
 -- the byte that a kind stands for
 abbrev byteBy : Kind → ℕ → ℕ
