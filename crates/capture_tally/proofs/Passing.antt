@@ -38,7 +38,7 @@ module _ (limit : ℕ) (slots : List Slot) (bytes p : List ℕ) where
 
   -- what the rules decide is what the link does
   pub given-is : (d : Step) (after out : List ℕ) → leftBy slots d after out ≡ acceptOf limit slots bytes (callFor p)
-      → result (told (d .answer)) (set slots (d .place) (d .slot)) after ≡ gaveOf limit slots bytes p
+      → result (told (d .answer)) (set slots (d .index) (d .slot)) after ≡ gaveOf limit slots bytes p
   unfolding gaveOf
   given-is d after out h = ap (λ (l : PacketLeft). result (l .told) (l .slots) (l .bytes)) h
 

@@ -70,13 +70,13 @@ fn marks_accepted(accepted: Accepted) -> Marks
 {
     match accepted {
         Accepted::Taken {
-            place: _,
+            index: _,
             stream: _,
             id: _,
             replaced,
         } => noted(true, false, replaced, false, 0),
         Accepted::Finished {
-            place: _,
+            index: _,
             stream: _,
             id: _,
             total,

@@ -93,12 +93,12 @@ fn idle_row() -> [Slot; 12]
     [Slot::idle(); 12]
 }
 
-fn with_slot(slots: [Slot; 12], place: usize, slot: Slot) -> [Slot; 12]
-    ensures { λ r. ⌜ r ≡ set slots place slot ⌝ }
+fn with_slot(slots: [Slot; 12], index: usize, slot: Slot) -> [Slot; 12]
+    ensures { λ r. ⌜ r ≡ set slots index slot ⌝ }
 {
     let mut row = slots;
-    if place < SLOT_COUNT {
-        row[place] = slot;
+    if index < SLOT_COUNT {
+        row[index] = slot;
     }
     row
 }
@@ -106,7 +106,7 @@ fn with_slot(slots: [Slot; 12], place: usize, slot: Slot) -> [Slot; 12]
 // A packet given to the link, whose row and buffer are its own work: nothing of them is judged again. The answer sequence and the answer buffer are the call's own.
 fn give(limit: usize, slots: [Slot; 12], buffer: &mut [u8], packet: &[u8]) -> Step
     requires { ⌜ ready limit slots (length (now buffer)) ≡ true ⌝ }
-    ensures { λ r. ⌜ result (answer.told (r .answer)) (set slots (r .place) (r .slot)) (now (buffer .exit))
+    ensures { λ r. ⌜ result (answer.told (r .answer)) (set slots (r .index) (r .slot)) (now (buffer .exit))
         ≡ gaveOf limit slots (now (buffer .entry)) (now (packet .entry)) ⌝ }
 {
     let mut out = [0u8; ACK_SIZE];
@@ -124,7 +124,7 @@ fn take(limit: usize, tally: Tally, buffer: &mut [u8], packet: &[u8]) -> Tally
     let answer = done.answer;
     let so_far = tally.sum;
     let sum = count_packet(so_far, packet, answer);
-    let row = with_slot(slots, done.place, done.slot);
+    let row = with_slot(slots, done.index, done.slot);
     Tally { slots: row, sum }
 }
 

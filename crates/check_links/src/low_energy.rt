@@ -113,13 +113,13 @@ fn write_packets(label: &[u8], shown: Shown, how: Sending, message: &[u8]) {
 fn print_accepted(accepted: Accepted) {
     match accepted {
         Accepted::Taken {
-            place: _,
+            index: _,
             stream: _,
             id: _,
             replaced: _,
         } => text(b" taken"),
         Accepted::Finished {
-            place: _,
+            index: _,
             stream: _,
             id: _,
             total: _,

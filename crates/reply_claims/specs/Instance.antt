@@ -229,7 +229,7 @@ later =
 abbrev pub after : List PacketCall
 after = call second 0 six ∷ []
 
--- All that the claim asks for is there, the reply is given, at its second packet, at the place of the transaction that it replaces, and the
+-- All that the claim asks for is there, the reply is given, at its second packet, at the index of the transaction that it replaces, and the
 -- claim says so.
 pub record OneReplyArrives : Type 0 where
   pub law : lawful 40 slots ≡ true

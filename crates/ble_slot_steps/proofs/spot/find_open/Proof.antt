@@ -1,8 +1,8 @@
 use Rattle.ble_slot_steps.proofs.Steps.{where-four}
 use Rattle.ble_slot.specs.Slot.{isOpen}
 use borrow.Author.Needs.{needs}
-use Rattle.ble_slot_steps.proofs.place.find_open.Statement.{statement}
-use Rattle.ble_slot_steps.proofs.place.find_open.Tie as tie
+use Rattle.ble_slot_steps.proofs.spot.find_open.Statement.{statement}
+use Rattle.ble_slot_steps.proofs.spot.find_open.Tie as tie
 
 returns : tie.Need-returns
 returns c =

@@ -1,6 +1,6 @@
 use borrow.Author.Needs.{needs}
-use Rattle.ble_slot_steps.proofs.place.find_first.Statement.{statement}
-use Rattle.ble_slot_steps.proofs.place.find_first.Tie as tie
+use Rattle.ble_slot_steps.proofs.spot.find_first.Statement.{statement}
+use Rattle.ble_slot_steps.proofs.spot.find_first.Tie as tie
 
 returns : tie.Need-returns
 returns c = rw (← c .before .before .before .find-open .ensures, c .before .enum-told .given .1) (c .find-idle .ensures)

@@ -4,14 +4,14 @@ ghost use mathlib.Core.Path.{_≡_};
 ghost use mathlib.Core.Bool.{cond};
 ghost use mathlib.Core.Option.{none, some};
 ghost use Rattle.ble_slot.specs.Slot.{isIdle};
-ghost use Rattle.ble_slot_steps.specs.Step.{placeWhere, openPlace, firstPlace, spotOf};
+ghost use Rattle.ble_slot_steps.specs.Step.{spotWhere, openSpot, firstSpot, spotOf};
 
 pub enum Spot {
     Nowhere,
     At(usize),
 }
 
-// The place of the first test that holds.
+// The spot of the first test that holds.
 fn first_of(a: bool, b: bool, c: bool, d: bool) -> Spot
     ensures { λ r. ⌜ spotOf r ≡ cond a (some 0) (cond b (some 1) (cond c (some 2) (cond d (some 3) none))) ⌝ }
 {
@@ -32,7 +32,7 @@ fn first_of(a: bool, b: bool, c: bool, d: bool) -> Spot
 
 // Where an id is open.
 pub fn find_open(lane: [Slot; 4], id: u8) -> Spot
-    ensures { λ r. ⌜ spotOf r ≡ openPlace lane id ⌝ }
+    ensures { λ r. ⌜ spotOf r ≡ openSpot lane id ⌝ }
 {
     if lane[0].is_open(id) {
         return Spot::At(0);
@@ -51,7 +51,7 @@ pub fn find_open(lane: [Slot; 4], id: u8) -> Spot
 
 // The lowest idle slot.
 fn find_idle(lane: [Slot; 4]) -> Spot
-    ensures { λ r. ⌜ spotOf r ≡ placeWhere isIdle lane ⌝ }
+    ensures { λ r. ⌜ spotOf r ≡ spotWhere isIdle lane ⌝ }
 {
     let a = lane[0].is_idle();
     let b = lane[1].is_idle();
@@ -62,11 +62,11 @@ fn find_idle(lane: [Slot; 4]) -> Spot
 
 // Where an id is open, or else the lowest idle slot.
 pub fn find_first(lane: [Slot; 4], id: u8) -> Spot
-    ensures { λ r. ⌜ spotOf r ≡ firstPlace lane id ⌝ }
+    ensures { λ r. ⌜ spotOf r ≡ firstSpot lane id ⌝ }
 {
     let open = find_open(lane, id);
     match open {
         Spot::Nowhere => find_idle(lane),
-        Spot::At(place) => Spot::At(place),
+        Spot::At(spot) => Spot::At(spot),
     }
 }
