@@ -10,7 +10,7 @@ use mathlib.Core.List.{List, [], _∷_, map}
 use lib.ListN.{length, getD, take, drop}
 use lib.Dec.{eqb}
 use Rattle.wire.specs.Bytes.{bit}
-use Rattle.wire.specs.Told.{given, refused, andThen}
+use Rattle.wire.specs.Told.{given, refused}
 use Rattle.proto_field.specs.declared.value.Part.{Part}
 use Rattle.proto_field.specs.declared.value.Value.{Value}
 use Rattle.proto_field.specs.declared.value.Value.the-variants.{Number, Bytes, Skipped}

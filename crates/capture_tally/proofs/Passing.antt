@@ -11,7 +11,7 @@ use Rattle.wire.specs.Bytes.{pairOf}
 use Rattle.capture_reader.specs.Capture.{ToldAt, width, lengthIn, frontOf, otherVersion, packetsOf, checkedOf}
 use Rattle.capture_reader.proofs.Walking.{PacketWalk, check-refused, walk-begins, walk-ends, walk-front, walk-goes, front-within}
 use Rattle.ble_slot.specs.declared.Slot.{Slot}
-use Rattle.ble_slot.specs.Slot.{slotCount, lawful}
+use Rattle.ble_slot.specs.Slot.{lawful}
 use Rattle.ble_packet.specs.Control.{ackSize}
 use Rattle.ble_packet.specs.Reader.{readOf}
 use Rattle.ble_slot.specs.declared.answer.Accepted.{Accepted}
