@@ -70,8 +70,8 @@ ack-stored stream id sequence out h =
     ∙ ap (λ (b : ℕ). (stream * 16 + id) ∷ b ∷ 0 ∷ 2 ∷ 1 ∷ 0 ∷ drop 6 out) second
 
 others-leave : (sequence : ℕ) (t : Told Accepted) (out : List ℕ) → wantsAck t ≡ false → answered sequence t out ≡ out
-others-leave sequence (given (Finished place stream id total ack replaced)) out e = rw e
-others-leave sequence (given (Taken place stream id replaced)) out e = refl
+others-leave sequence (given (Finished index stream id total ack replaced)) out e = rw e
+others-leave sequence (given (Taken index stream id replaced)) out e = refl
 others-leave sequence (given (Acked head)) out e = refl
 others-leave sequence (given (Nacked head)) out e = refl
 others-leave sequence (refused n) out e = refl
@@ -83,12 +83,12 @@ module _ (limit : ℕ) (slots : List Slot) (bytes : List ℕ) (c : PacketCall) w
   abbrev toldOf : Told Accepted
   toldOf = acted limit slots bytes (c .packet) heard .told
 
-  ack-written : (place : ℕ) (stream : Stream) (id total : ℕ) (replaced : Bool)
-      → acceptOf limit slots bytes c .told ≡ given (Finished place stream id total true replaced)
+  ack-written : (index : ℕ) (stream : Stream) (id total : ℕ) (replaced : Bool)
+      → acceptOf limit slots bytes c .told ≡ given (Finished index stream id total true replaced)
       → acceptOf limit slots bytes c .out ≡ (streamNumber stream * 16 + id) ∷ (c .sequence * 16 + 14) ∷ 0 ∷ 2 ∷ 1 ∷ 0 ∷ drop 6 (c .out)
-  ack-written place stream id total replaced e =
+  ack-written index stream id total replaced e =
       let all = accept-heard limit slots bytes c in
-      let told : toldOf ≡ given (Finished place stream id total true replaced) = sym (ap (λ l. l .told) all) ∙ e in
+      let told : toldOf ≡ given (Finished index stream id total true replaced) = sym (ap (λ l. l .told) all) ∙ e in
       ap (λ l. l .out) all
       ∙ ap (λ (t : Told Accepted). answered (c .sequence) t (c .out)) told
       ∙ ack-stored (streamNumber stream) id (c .sequence) (c .out)

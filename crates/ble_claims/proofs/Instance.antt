@@ -70,7 +70,7 @@ arrives =
       claimed = λ claim. claim limit slots buffer before first later after how message output law refl takes begins sent can-answer free;
     }
 
--- RoundTrip at both ends of the limits, of whatever is sent there
+-- RoundTrip at the smallest and the largest limit, of any message
 round-at : (limit : ℕ) → (limit ≡ 1) ⊎ (limit ≡ 65535)
     → (slots : List Slot) (bytes : List ℕ) (first : PacketCall) (later : List PacketCall) (w : Sending) (m out : List ℕ)
     → lawful limit slots ≡ true → length bytes ≡ slotCount * limit → SendableMessage limit w m out → first .packet ≡ getD (callsOf limit w m out) 0 []

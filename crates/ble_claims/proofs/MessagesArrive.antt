@@ -14,7 +14,7 @@ use Rattle.ble_packet.specs.Header.{fourBits, firstByte}
 use Rattle.ble_packet.specs.Control.{ackSize}
 use Rattle.ble_slot.specs.declared.Slot.{Slot}
 use Rattle.ble_slot.specs.Slot.{idle, isIdle, anyOpen, anyIdle}
-use Rattle.ble_slot_steps.specs.Step.{firstPlace}
+use Rattle.ble_slot_steps.specs.Step.{firstSpot}
 use Rattle.ble_slot.proofs.Slots.{any-at}
 use Rattle.ble_slot_steps.proofs.Steps.{Some, first-found}
 use Rattle.ble_receiver.specs.Receiver.{PacketCall, call, PacketLeft, acceptOf}
@@ -26,9 +26,9 @@ use Rattle.ble_sender.specs.Writer.{headerBytes, packetOf, packetsOf}
 use Rattle.ble_sender.proofs.Largest.{size-le, size-some}
 use Rattle.ble_sender.proofs.Guard.{SendingInRange, room-low, range-facts}
 use Rattle.ble_sender_claims.proofs.CallsGiveAll.{calls-are}
-use Rattle.ble_claims.specs.Delivery.{PacketReply, runOf, rowAfter, placeIn, ours, packetsIn, CallShown, shown, shownIn, shownTo, answerable, allAnswerable, AnswerableAll, atLast, Arrived, MessagesArrive, RoundTrip, SlotEnough, MessageAsked}
+use Rattle.ble_claims.specs.Delivery.{PacketReply, runOf, rowAfter, indexIn, ours, packetsIn, CallShown, shown, shownIn, shownTo, answerable, allAnswerable, AnswerableAll, atLast, Arrived, MessagesArrive, RoundTrip, SlotEnough, MessageAsked}
 use Rattle.wire.proofs.Tests.{and-left, and-right, or-true}
-use Rattle.ble_claims.proofs.Steps.{gives, laneFor, placeFor, Holding, Awaits, start, within, holding-kept, last-step, more-step}
+use Rattle.ble_claims.proofs.Steps.{gives, laneFor, indexFor, Holding, Awaits, opening, within, holding-kept, last-step, more-step}
 
 pub answerable-all : AnswerableAll
 answerable-all c low room = rw (lt-ltb (c .sequence) fourBits (omega arith), le-leb ackSize (length (c .out)) room)
@@ -44,7 +44,7 @@ module _ (limit : ℕ) (w : Sending) (slots : List Slot) (bytes : List ℕ) (q :
 
   looked-at : ours w q ≡ true
       → shownTo limit w (runOf limit slots bytes (q ∷ ds))
-      ≡ shown (placeIn (acceptOf limit slots bytes q .told)) (gives limit (acceptOf limit slots bytes q)) (acceptOf limit slots bytes q .out)
+      ≡ shown (indexIn (acceptOf limit slots bytes q .told)) (gives limit (acceptOf limit slots bytes q)) (acceptOf limit slots bytes q .out)
       ∷ shownTo limit w (runOf limit (acceptOf limit slots bytes q .slots) (acceptOf limit slots bytes q .bytes) ds)
   unfolding runOf
   looked-at e = rw e
@@ -78,108 +78,108 @@ packet-ours : (w : Sending) (m : List ℕ) (p : Piece) (sequence : ℕ) (out : L
 unfolding packetOf headerBytes
 packet-ours w m p sequence out = eq-eqb (firstByte (w .stream) (w .id)) (firstByte (w .stream) (w .id)) refl
 
--- calls without packets are none
+-- where there are no packets there are no calls
 no-calls : (cs : List PacketCall) → packetsIn cs ≡ [] → cs ≡ []
 no-calls [] e = refl
 no-calls (c ∷ cs) e = let z = ap length e in absurd (omega arith)
 
--- what calls show that are all of a message's from one on
+-- what the calls of a message show, from one of them on
 abbrev fromNext : ℕ → Sending → List ℕ → List PacketCall → List CallShown
 fromNext at w m [] = []
 fromNext at w m (c ∷ cs) = atLast at w m c cs
 
 -- where packets are still to come, a call shows nothing
-more-come : (at : ℕ) (w : Sending) (m : List ℕ) (c : PacketCall) (cs : List PacketCall) (fuel index place rest : ℕ) → 1 ≤ fuel
-    → packetsIn cs ≡ map (packetOf w m) (piecesFrom fuel (w .room) index place rest)
+more-come : (at : ℕ) (w : Sending) (m : List ℕ) (c : PacketCall) (cs : List PacketCall) (fuel index start rest : ℕ) → 1 ≤ fuel
+    → packetsIn cs ≡ map (packetOf w m) (piecesFrom fuel (w .room) index start rest)
     → atLast at w m c cs ≡ shown (some at) none (c .out) ∷ fromNext at w m cs
-more-come at w m c cs zero index place rest l e = absurd (omega arith)
-more-come at w m c [] (suc fuel) index place rest l e = let z = ap length e in absurd (omega arith)
-more-come at w m c (d ∷ cs) (suc fuel) index place rest l e = refl
+more-come at w m c cs zero index start rest l e = absurd (omega arith)
+more-come at w m c [] (suc fuel) index start rest l e = let z = ap length e in absurd (omega arith)
+more-come at w m c (d ∷ cs) (suc fuel) index start rest l e = refl
 
 module _ (limit : ℕ) (w : Sending) (m : List ℕ) (room : leastRoom ≤ w .room) (ok : SendingInRange limit w (length m)) (i : ℕ) where
-  -- the place in the row of the message's slot
-  abbrev at-place : ℕ
-  at-place = placeFor w i
+  -- the index in the row of the message's slot
+  abbrev at-index : ℕ
+  at-index = indexFor w i
 
   abbrev packetsFrom : ℕ → ℕ → ℕ → ℕ → List (List ℕ)
-  packetsFrom fuel index place rest = map (packetOf w m) (piecesFrom fuel (w .room) index place rest)
+  packetsFrom fuel index start rest = map (packetOf w m) (piecesFrom fuel (w .room) index start rest)
 
   -- those after a piece of n bytes, which may be the last
   abbrev packetsAfter : Bool → ℕ → ℕ → ℕ → ℕ → ℕ → List (List ℕ)
-  packetsAfter last fuel index place rest n = map (packetOf w m) (cond last [] (piecesFrom fuel (w .room) (suc index) (place + n) (rest - n)))
+  packetsAfter last fuel index start rest n = map (packetOf w m) (cond last [] (piecesFrom fuel (w .room) (suc index) (start + n) (rest - n)))
 
-  -- what is held is all before a place, and the packets of the pieces from there on are all that come of the message in ds, each answerable
+  -- what is held is all before a piece's start, and the packets of the pieces from there on are all that come of the message in ds, each answerable
   abbrev Rest : List PacketCall → Type 0
   Rest ds =
-      (fuel index place rest : ℕ) (slots : List Slot) (bytes : List ℕ) → Holding limit w m i index place slots bytes → place + rest ≡ length m → rest < fuel
-      → 1 ≤ rest → packetsIn (those (ours w) ds) ≡ packetsFrom fuel (suc index) place rest → allAnswerable (those (ours w) ds) ≡ true
-      → shownTo limit w (runOf limit slots bytes ds) ≡ fromNext at-place w m (those (ours w) ds)
+      (fuel index start rest : ℕ) (slots : List Slot) (bytes : List ℕ) → Holding limit w m i index start slots bytes → start + rest ≡ length m → rest < fuel
+      → 1 ≤ rest → packetsIn (those (ours w) ds) ≡ packetsFrom fuel (suc index) start rest → allAnswerable (those (ours w) ds) ≡ true
+      → shownTo limit w (runOf limit slots bytes ds) ≡ fromNext at-index w m (those (ours w) ds)
 
   -- the awaited packet comes
-  awaited : (ds : List PacketCall) → Rest ds → (fuel index place rest n sequence : ℕ) (out : List ℕ) (slots : List Slot) (bytes : List ℕ)
-      → Awaits limit w m i slots bytes index place
-      → place + rest ≡ length m → rest < suc fuel → n ≡ sizeFor (w .room) (isFirst index) rest
-      → answerable (call (packetOf w m (pieceFor index place n)) sequence out) ≡ true → allAnswerable (those (ours w) ds) ≡ true
-      → (last : Bool) → eqb n rest ≡ last → packetsIn (those (ours w) ds) ≡ packetsAfter last fuel index place rest n
-      → shownTo limit w (runOf limit slots bytes (call (packetOf w m (pieceFor index place n)) sequence out ∷ ds))
-      ≡ atLast at-place w m (call (packetOf w m (pieceFor index place n)) sequence out) (those (ours w) ds)
-  awaited ds later fuel index place rest n sequence out slots bytes a t f en can each true b e =
-      let c : PacketCall = call (packetOf w m (pieceFor index place n)) sequence out in
+  awaited : (ds : List PacketCall) → Rest ds → (fuel index start rest n sequence : ℕ) (out : List ℕ) (slots : List Slot) (bytes : List ℕ)
+      → Awaits limit w m i slots bytes index start
+      → start + rest ≡ length m → rest < suc fuel → n ≡ sizeFor (w .room) (isFirst index) rest
+      → answerable (call (packetOf w m (pieceFor index start n)) sequence out) ≡ true → allAnswerable (those (ours w) ds) ≡ true
+      → (last : Bool) → eqb n rest ≡ last → packetsIn (those (ours w) ds) ≡ packetsAfter last fuel index start rest n
+      → shownTo limit w (runOf limit slots bytes (call (packetOf w m (pieceFor index start n)) sequence out ∷ ds))
+      ≡ atLast at-index w m (call (packetOf w m (pieceFor index start n)) sequence out) (those (ours w) ds)
+  awaited ds later fuel index start rest n sequence out slots bytes a t f en can each true b e =
+      let c : PacketCall = call (packetOf w m (pieceFor index start n)) sequence out in
       let nr : n ≡ rest = eqb-true n rest b in
       let none-left : those (ours w) ds ≡ [] = no-calls (those (ours w) ds) e in
       let ends = last-step limit w m ok slots bytes i n sequence out a can (omega arith) in
-      looked-at limit w slots bytes c ds (packet-ours w m (pieceFor index place n) sequence out)
+      looked-at limit w slots bytes c ds (packet-ours w m (pieceFor index start n) sequence out)
       ∙ rw (ends .here, ends .message, ends .answer, quiet limit w ds (acceptOf limit slots bytes c .slots) (acceptOf limit slots bytes c .bytes) none-left, none-left)
-  awaited ds later fuel index place rest n sequence out slots bytes a t f en can each false b e =
-      let c : PacketCall = call (packetOf w m (pieceFor index place n)) sequence out in
+  awaited ds later fuel index start rest n sequence out slots bytes a t f en can each false b e =
+      let c : PacketCall = call (packetOf w m (pieceFor index start n)) sequence out in
       let l : PacketLeft = acceptOf limit slots bytes c in
       let d : (n ≡ rest → ⊥) = eqb-false n rest b in
       let s2 : n ≤ rest = rw en (size-le (w .room) (isFirst index) room rest) in
       let s1 : 1 ≤ n = rw en (size-some (w .room) (isFirst index) room rest (omega arith)) in
       let more = more-step limit w m ok slots bytes i n sequence out a can s1 (omega arith) in
-      looked-at limit w slots bytes c ds (packet-ours w m (pieceFor index place n) sequence out)
+      looked-at limit w slots bytes c ds (packet-ours w m (pieceFor index start n) sequence out)
       ∙ rw (
         more .here,
         more .nothing,
         more .same-out,
-        later fuel index (place + n) (rest - n) (l .slots) (l .bytes) (more .holding) (omega arith) (omega arith) (omega arith) e each,
+        later fuel index (start + n) (rest - n) (l .slots) (l .bytes) (more .holding) (omega arith) (omega arith) (omega arith) e each,
       )
-      (sym (more-come at-place w m c (those (ours w) ds) fuel (suc index) (place + n) (rest - n) (omega arith) e))
+      (sym (more-come at-index w m c (those (ours w) ds) fuel (suc index) (start + n) (rest - n) (omega arith) e))
 
   rest-by : (q : PacketCall) (ds : List PacketCall) → Rest ds → (b : Bool) → ours w q ≡ b → Rest (q ∷ ds)
-  rest-by q ds later b g zero index place rest slots bytes h t f s e each = absurd (omega arith)
-  rest-by q ds later true g (suc fuel) index place rest slots bytes h t f s e each =
+  rest-by q ds later b g zero index start rest slots bytes h t f s e each = absurd (omega arith)
+  rest-by q ds later true g (suc fuel) index start rest slots bytes h t f s e each =
       let n : ℕ = sizeFor (w .room) (isFirst (suc index)) rest in
-      let p : List ℕ = packetOf w m (pieceFor (suc index) place n) in
-      let both : q .packet ∷ packetsIn (those (ours w) ds) ≡ p ∷ packetsAfter (eqb n rest) fuel (suc index) place rest n
+      let p : List ℕ = packetOf w m (pieceFor (suc index) start n) in
+      let both : q .packet ∷ packetsIn (those (ours w) ds) ≡ p ∷ packetsAfter (eqb n rest) fuel (suc index) start rest n
       = ap packetsIn (sym (put-in (ours w) q ds g)) ∙ e in
       let head : q .packet ≡ p = cc in
-      let tail : packetsIn (those (ours w) ds) ≡ packetsAfter (eqb n rest) fuel (suc index) place rest n = cc in
+      let tail : packetsIn (those (ours w) ds) ≡ packetsAfter (eqb n rest) fuel (suc index) start rest n = cc in
       let same : q ≡ call p (q .sequence) (q .out) = ap (λ (bs : List ℕ). call bs (q .sequence) (q .out)) head in
       let can : (answerable q && allAnswerable (those (ours w) ds)) ≡ true = ap allAnswerable (sym (put-in (ours w) q ds g)) ∙ each in
       let now-can : answerable (call p (q .sequence) (q .out)) ≡ true = ap answerable (sym same) ∙ and-left (answerable q) _ can in
       let later-can : allAnswerable (those (ours w) ds) ≡ true = and-right (answerable q) _ can in
       ap (λ (c : PacketCall). shownTo limit w (runOf limit slots bytes (c ∷ ds))) same
-      ∙ awaited ds later fuel (suc index) place rest n (q .sequence) (q .out) slots bytes (within h (omega arith)) t f refl now-can later-can (eqb n rest) refl tail
-      ∙ ap (λ (c : PacketCall). atLast at-place w m c (those (ours w) ds)) (sym same)
-      ∙ ap (fromNext at-place w m) (sym (put-in (ours w) q ds g))
-  rest-by q ds later false g (suc fuel) index place rest slots bytes h t f s e each =
+      ∙ awaited ds later fuel (suc index) start rest n (q .sequence) (q .out) slots bytes (within h (omega arith)) t f refl now-can later-can (eqb n rest) refl tail
+      ∙ ap (λ (c : PacketCall). atLast at-index w m c (those (ours w) ds)) (sym same)
+      ∙ ap (fromNext at-index w m) (sym (put-in (ours w) q ds g))
+  rest-by q ds later false g (suc fuel) index start rest slots bytes h t f s e each =
       skipped limit w slots bytes q ds g
-      ∙ later (suc fuel) index place rest _ _ (holding-kept q (ok .known) g h) t f s (ap packetsIn (sym (left-out (ours w) q ds g)) ∙ e)
+      ∙ later (suc fuel) index start rest _ _ (holding-kept q (ok .known) g h) t f s (ap packetsIn (sym (left-out (ours w) q ds g)) ∙ e)
       (ap allAnswerable (sym (left-out (ours w) q ds g)) ∙ each)
-      ∙ ap (fromNext at-place w m) (sym (left-out (ours w) q ds g))
+      ∙ ap (fromNext at-index w m) (sym (left-out (ours w) q ds g))
 
   rest-shown : (ds : List PacketCall) → Rest ds
-  rest-shown [] zero index place rest slots bytes h t f s e each = absurd (omega arith)
-  rest-shown [] (suc fuel) index place rest slots bytes h t f s e each = let z = ap length e in absurd (omega arith)
-  rest-shown (q ∷ ds) fuel index place rest slots bytes h t f s e each =
-      rest-by q ds (rest-shown ds) (ours w q) refl fuel index place rest slots bytes h t f s e each
+  rest-shown [] zero index start rest slots bytes h t f s e each = absurd (omega arith)
+  rest-shown [] (suc fuel) index start rest slots bytes h t f s e each = let z = ap length e in absurd (omega arith)
+  rest-shown (q ∷ ds) fuel index start rest slots bytes h t f s e each =
+      rest-by q ds (rest-shown ds) (ours w q) refl fuel index start rest slots bytes h t f s e each
 
   -- the first packet comes, and later the others
-  all-shown : (first : PacketCall) (later : List PacketCall) (slots : List Slot) (bytes : List ℕ) → SlotsFit limit slots bytes → firstPlace (laneFor w slots) (w .id) ≡ some i
+  all-shown : (first : PacketCall) (later : List PacketCall) (slots : List Slot) (bytes : List ℕ) → SlotsFit limit slots bytes → firstSpot (laneFor w slots) (w .id) ≡ some i
       → first .packet ≡ getD (packetsOf w m) 0 [] → packetsIn (those (ours w) later) ≡ drop 1 (packetsOf w m)
       → allAnswerable (first ∷ those (ours w) later) ≡ true
-      → shownTo limit w (runOf limit slots bytes (first ∷ later)) ≡ atLast at-place w m first (those (ours w) later)
+      → shownTo limit w (runOf limit slots bytes (first ∷ later)) ≡ atLast at-index w m first (those (ours w) later)
   all-shown first later slots bytes o taken begins e each =
       let n : ℕ = sizeFor (w .room) (isFirst 0) (length m) in
       let p : List ℕ = packetOf w m (pieceFor 0 0 n) in
@@ -187,9 +187,9 @@ module _ (limit : ℕ) (w : Sending) (m : List ℕ) (room : leastRoom ≤ w .roo
       let now-can : answerable (call p (first .sequence) (first .out)) ≡ true = ap answerable (sym same) ∙ and-left (answerable first) _ each in
       let later-can : allAnswerable (those (ours w) later) ≡ true = and-right (answerable first) _ each in
       ap (λ (c : PacketCall). shownTo limit w (runOf limit slots bytes (c ∷ later))) same
-      ∙ awaited later (rest-shown later) (length m) 0 0 (length m) n (first .sequence) (first .out) slots bytes (start o taken) (omega arith) (omega arith) refl
+      ∙ awaited later (rest-shown later) (length m) 0 0 (length m) n (first .sequence) (first .out) slots bytes (opening o taken) (omega arith) (omega arith) refl
       now-can later-can (eqb n (length m)) refl e
-      ∙ ap (λ (c : PacketCall). atLast at-place w m c (those (ours w) later)) (sym same)
+      ∙ ap (λ (c : PacketCall). atLast at-index w m c (those (ours w) later)) (sym same)
 
 -- ---- whatever came before, whatever comes after
 
@@ -215,15 +215,15 @@ run-cut limit slots bytes (q ∷ ds) after = rw (run-cut limit (acceptOf limit s
 during-shown : (limit : ℕ) (slots : List Slot) (first : PacketCall) (later after : List PacketCall) (w : Sending) (m : List ℕ) (replies : List PacketReply)
     → leastRoom ≤ w .room → SendingInRange limit w (length m) → first .packet ≡ getD (packetsOf w m) 0 []
     → packetsIn (those (ours w) later) ≡ drop 1 (packetsOf w m) → allAnswerable (first ∷ those (ours w) later) ≡ true
-    → Later limit slots replies ((first ∷ later) ++ after) → Some (firstPlace (laneFor w slots) (w .id))
+    → Later limit slots replies ((first ∷ later) ++ after) → Some (firstSpot (laneFor w slots) (w .id))
     → Arrived w m first (those (ours w) later) (shownTo limit w (take (length (first ∷ later)) replies))
 during-shown limit slots first later after w m replies room ok begins e each l s =
     record {
-      place = placeFor w (s .place);
+      index = indexFor w (s .spot);
       as-said =
           ap (λ (rs : List PacketReply). shownTo limit w (take (length (first ∷ later)) rs)) (l .same)
           ∙ ap (shownTo limit w) (run-cut limit slots (l .bytes) (first ∷ later) after)
-          ∙ all-shown limit w m room ok (s .place) first later slots (l .bytes) (l .is-ready) (s .is) begins e each;
+          ∙ all-shown limit w m room ok (s .spot) first later slots (l .bytes) (l .is-ready) (s .is) begins e each;
     }
 
 pub messages-arrive : MessagesArrive
@@ -277,19 +277,19 @@ round-trip limit slots bytes first later w m out law size t begins e each free =
     let own : those (ours w) later ≡ later = all-ours w m later (drop 1 (piecesOf (w .room) (length m))) tail in
     let k = first-found (laneFor w slots) (w .id) free in
     record {
-      place = placeFor w (k .place);
+      index = indexFor w (k .spot);
       as-said =
           ap (shownIn limit) (sym (replies-ours limit slots bytes w m (first ∷ later) (piecesOf (w .room) (length m)) whole))
-          ∙ all-shown limit w m (room-low (w .room) (t .room)) ok (k .place) first later slots bytes (record { range = t .range; law = law; size = size }) (k .is)
+          ∙ all-shown limit w m (room-low (w .room) (t .room)) ok (k .spot) first later slots bytes (record { range = t .range; law = law; size = size }) (k .is)
           head (ap packetsIn own ∙ tail) (ap (λ (cs : List PacketCall). allAnswerable (first ∷ cs)) own ∙ each)
-          ∙ ap (atLast (placeFor w (k .place)) w m first) own;
+          ∙ ap (atLast (indexFor w (k .spot)) w m first) own;
     }
 
 -- ---- the message is asked for
 
 pub message-asked : MessageAsked
-message-asked place w m first [] = refl
-message-asked place w m first (d ∷ later) = message-asked place w m d later
+message-asked index w m first [] = refl
+message-asked index w m first (d ∷ later) = message-asked index w m d later
 
 -- ---- one slot is enough
 

@@ -24,15 +24,15 @@ abbrev pub headFor : Sending → Piece → Head
 headFor w p = record { stream = streamOf (w .stream); id = w .id; sequence = sequenceAfter (w .sequence) (p .index) }
 
 module _ (limit : ℕ) (w : Sending) (m : List ℕ) (p : Piece) (known : isStream (w .stream) ≡ true) (low : w .id < fourBits)
-    (inside : p .place + p .size ≤ length m) where
+    (inside : p .start + p .size ≤ length m) where
   abbrev ack : Bool
   ack = isLast (length m) p && w .ack
 
   abbrev payload : List ℕ
-  payload = take (p .size) (drop (p .place) m)
+  payload = take (p .size) (drop (p .start) m)
 
   size : length payload ≡ p .size
-  size = length-part m (p .place) (p .size) inside
+  size = length-part m (p .start) (p .size) inside
 
   pub first-read : isFirst (p .index) ≡ true → length m ≤ limit → (p .size ≡ 0 → length m ≡ 0)
       → readOf limit (packetOf w m p) ≡ given (First (headFor w p) ack (length m) (headerSize true (extended (p .size))) (p .size))
@@ -57,9 +57,9 @@ module _ (limit : ℕ) (w : Sending) (m : List ℕ) (p : Piece) (known : isStrea
 
 -- what stands behind the header is the piece
 pub payload-read : (w : Sending) (m : List ℕ) (p : Piece)
-    → take (p .size) (drop (headerSize (isFirst (p .index)) (extended (p .size))) (packetOf w m p)) ≡ take (p .size) (drop (p .place) m)
+    → take (p .size) (drop (headerSize (isFirst (p .index)) (extended (p .size))) (packetOf w m p)) ≡ take (p .size) (drop (p .start) m)
 unfolding packetOf
 payload-read w m p =
     let header : List ℕ = headerBytes w (length m) p (isLast (length m) p) in
-    let payload : List ℕ = take (p .size) (drop (p .place) m) in
-    rw (drop-at header payload _ (header-length w (length m) p (isLast (length m) p))) (take-take (p .size) (p .size) (drop (p .place) m) (omega arith))
+    let payload : List ℕ = take (p .size) (drop (p .start) m) in
+    rw (drop-at header payload _ (header-length w (length m) p (isLast (length m) p))) (take-take (p .size) (p .size) (drop (p .start) m) (omega arith))

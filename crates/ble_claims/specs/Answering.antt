@@ -14,8 +14,8 @@ use Rattle.ble_receiver.specs.Receiver.{PacketCall, left, ready, acceptOf}
 
 -- a finished transaction that wants an ACK, and nothing else
 abbrev pub wantsAck : Told Accepted → Bool
-wantsAck (given (Finished place stream id total ack replaced)) = ack
-wantsAck (given (Taken place stream id replaced)) = false
+wantsAck (given (Finished index stream id total ack replaced)) = ack
+wantsAck (given (Taken index stream id replaced)) = false
 wantsAck (given (Acked head)) = false
 wantsAck (given (Nacked head)) = false
 wantsAck (refused n) = false
@@ -28,8 +28,8 @@ pub record CallAnswers (limit : ℕ) (slots : List Slot) (bytes : List ℕ) (c :
   pub fourteen : ready limit slots (length bytes) ≡ true → c .sequence ≤ 15 → length (c .out) ≤ 5
       → acceptOf limit slots bytes c ≡ left (refused 14) slots bytes (c .out)
   -- the ACK's six bytes, and no other byte of the answer buffer
-  pub ack : (place : ℕ) (stream : Stream) (id total : ℕ) (replaced : Bool)
-      → acceptOf limit slots bytes c .told ≡ given (Finished place stream id total true replaced)
+  pub ack : (index : ℕ) (stream : Stream) (id total : ℕ) (replaced : Bool)
+      → acceptOf limit slots bytes c .told ≡ given (Finished index stream id total true replaced)
       → acceptOf limit slots bytes c .out ≡ (streamNumber stream * 16 + id) ∷ (c .sequence * 16 + 14) ∷ 0 ∷ 2 ∷ 1 ∷ 0 ∷ drop 6 (c .out)
   -- every other outcome leaves the answer buffer
   pub others : wantsAck (acceptOf limit slots bytes c .told) ≡ false → acceptOf limit slots bytes c .out ≡ c .out

@@ -61,20 +61,20 @@ pub record Message : Type 0 where
 
 -- a message is given when the answer is finished: what it tells, and the first bytes of its slot's part of the buffer
 abbrev pub givenBy : ℕ → Told Accepted → List ℕ → Option Message
-givenBy limit (given (Finished place stream id total ack replaced)) bytes =
-    some (record { stream = stream; id = id; total = total; ack = ack; payload = take total (partOf limit place bytes) })
-givenBy limit (given (Taken place stream id replaced)) bytes = none
+givenBy limit (given (Finished index stream id total ack replaced)) bytes =
+    some (record { stream = stream; id = id; total = total; ack = ack; payload = take total (partOf limit index bytes) })
+givenBy limit (given (Taken index stream id replaced)) bytes = none
 givenBy limit (given (Acked head)) bytes = none
 givenBy limit (given (Nacked head)) bytes = none
 givenBy limit (refused n) bytes = none
 
--- the place that is told of a piece, the last one too
-abbrev pub placeIn : Told Accepted → Option ℕ
-placeIn (given (Taken place stream id replaced)) = some place
-placeIn (given (Finished place stream id total ack replaced)) = some place
-placeIn (given (Acked head)) = none
-placeIn (given (Nacked head)) = none
-placeIn (refused n) = none
+-- the slot's index that is told of a piece, the last one too
+abbrev pub indexIn : Told Accepted → Option ℕ
+indexIn (given (Taken index stream id replaced)) = some index
+indexIn (given (Finished index stream id total ack replaced)) = some index
+indexIn (given (Acked head)) = none
+indexIn (given (Nacked head)) = none
+indexIn (refused n) = none
 
 -- a packet of the message's stream and id; all others may come between
 abbrev pub ours : Sending → PacketCall → Bool
@@ -88,18 +88,18 @@ hasSlot slots w = anyOpen (w .id) (laneOf (streamOf (w .stream)) slots) || anyId
 abbrev pub packetsIn : List PacketCall → List (List ℕ)
 packetsIn cs = map (λ (c : PacketCall). c .packet) cs
 
--- what a call shows: the place of its slot, the message that it gives, if any, and its answer buffer afterwards
+-- what a call shows: the index of its slot, the message that it gives, if any, and its answer buffer afterwards
 pub record CallShown : Type 0 where
-  pub place : Option ℕ
+  pub index : Option ℕ
   pub message : Option Message
   pub out : List ℕ
 
 abbrev pub shown : Option ℕ → Option Message → List ℕ → CallShown
-shown place message out = record { place = place; message = message; out = out }
+shown index message out = record { index = index; message = message; out = out }
 
 -- what replies show, one each
 abbrev pub shownIn : ℕ → List PacketReply → List CallShown
-shownIn limit replies = map (λ (r : PacketReply). shown (placeIn (r .told)) (givenBy limit (r .told) (r .bytes)) (r .out)) replies
+shownIn limit replies = map (λ (r : PacketReply). shown (indexIn (r .told)) (givenBy limit (r .told) (r .bytes)) (r .out)) replies
 
 -- what the replies to the message's own packets show
 abbrev pub shownTo : ℕ → Sending → List PacketReply → List CallShown
@@ -127,20 +127,20 @@ AnswerableAll = (c : PacketCall) → c .sequence ≤ 15 → 6 ≤ length (c .out
 abbrev pub lastOut : Sending → PacketCall → List ℕ
 lastOut w c = cond (w .ack) (sets (c .out) 0 (ackBytes (w .stream) (w .id) (c .sequence) true)) (c .out)
 
--- each call takes a piece at the one place; each but the last gives nothing and leaves its answer buffer, and the last gives the message
+-- each call takes a piece at the one index; each but the last gives nothing and leaves its answer buffer, and the last gives the message
 abbrev pub atLast : ℕ → Sending → List ℕ → PacketCall → List PacketCall → List CallShown
-atLast place w m c [] = shown (some place) (some (messageOf w m)) (lastOut w c) ∷ []
-atLast place w m c (d ∷ later) = shown (some place) none (c .out) ∷ atLast place w m d later
+atLast index w m c [] = shown (some index) (some (messageOf w m)) (lastOut w c) ∷ []
+atLast index w m c (d ∷ later) = shown (some index) none (c .out) ∷ atLast index w m d later
 
--- so it is, at some place
+-- so it is, at some index
 pub record Arrived (w : Sending) (m : List ℕ) (first : PacketCall) (later : List PacketCall) (shows : List CallShown) : Type 0 where
-  pub place : ℕ
-  pub as-said : shows ≡ atLast place w m first later
+  pub index : ℕ
+  pub as-said : shows ≡ atLast index w m first later
 
 -- From every lawful row and buffer of the right size, whatever packets come before and after: where a packet is the first of those
 -- that the writer's calls give for a message, a slot is there for it, and those of its stream and id among the packets after it are
 -- exactly the others, in order, with any packets of other streams and other ids between, and none of the message's own gets 15 or 14,
--- each of them takes a piece, all at one place, the last of them gives the message, and its answer buffer begins with the ACK exactly
+-- each of them takes a piece, all at one index, the last of them gives the message, and its answer buffer begins with the ACK exactly
 -- if one was wished for; no other of them gives any or touches its answer buffer.
 abbrev pub MessagesArrive : Type 0
 MessagesArrive =
@@ -187,4 +187,4 @@ givenOnly (s ∷ ss) = givenWith (s .message) (givenOnly ss)
 -- Whatever packets a writer's calls give, even none, both claims ask for the message, and once: no writer that refuses meets them.
 abbrev pub MessageAsked : Type 0
 MessageAsked =
-    (place : ℕ) (w : Sending) (m : List ℕ) (first : PacketCall) (later : List PacketCall) → givenOnly (atLast place w m first later) ≡ messageOf w m ∷ []
+    (index : ℕ) (w : Sending) (m : List ℕ) (first : PacketCall) (later : List PacketCall) → givenOnly (atLast index w m first later) ≡ messageOf w m ∷ []

@@ -86,7 +86,7 @@ later =
 abbrev pub after : List PacketCall
 after = call (0x61 ∷ 0x2A ∷ 0x04 ∷ from 32 4) 9 eight ∷ []
 
--- All that the claim asks for is there, the message is given, at the third packet, with its ACK, at the place of the transaction that it
+-- All that the claim asks for is there, the message is given, at the third packet, with its ACK, at the index of the transaction that it
 -- replaces, and the claim says so.
 pub record ArrivalInstance : Type 0 where
   pub law : lawful limit slots ≡ true

@@ -11,38 +11,38 @@ use Rattle.ble_sender.specs.Piece.{leastRoom, extended, isFirst, sizeFor, piece
 use Rattle.ble_joined.specs.Joined.{sizes}
 use Rattle.ble_joined.proofs.Pieces.{restFrom, rest-whole, size-low, size-one, pieces-last, pieces-more}
 
-pub record CountingPackets (room total index place sum : ℕ) (going : Bool) : Type 0 where
-  pub low : place ≤ total
-  pub few : going ≡ true → index ≤ place
-  pub some : index ≤ place + 1
-  pub bound : sum ≤ place + 7 * index
-  pub left : sum + sizes (cond going (restFrom room total index place) []) ≡ sizes (piecesOf room total)
+pub record CountingPackets (room total index start sum : ℕ) (going : Bool) : Type 0 where
+  pub low : start ≤ total
+  pub few : going ≡ true → index ≤ start
+  pub some : index ≤ start + 1
+  pub bound : sum ≤ start + 7 * index
+  pub left : sum + sizes (cond going (restFrom room total index start) []) ≡ sizes (piecesOf room total)
 
 module _ (room total : ℕ) (enough : leastRoom ≤ room) where
   pub counting-start : CountingPackets room total 0 0 0 true
   counting-start = record { low = omega arith; few = λ e. omega arith; some = omega arith; bound = omega arith; left = omega (arith, ap sizes (rest-whole room total)) }
 
-  module _ (index place sum n h : ℕ) (c : CountingPackets room total index place sum true) (en : n ≡ sizeFor room (isFirst index) (total - place))
+  module _ (index start sum n h : ℕ) (c : CountingPackets room total index start sum true) (en : n ≡ sizeFor room (isFirst index) (total - start))
       (eh : h ≡ headerSize (isFirst index) (extended n)) (lh : h < 8) where
-    counted : (b : Bool) → ltb n (total - place) ≡ b → CountingPackets room total (index + 1) (place + n) (sum + (h + n)) b
+    counted : (b : Bool) → ltb n (total - start) ≡ b → CountingPackets room total (index + 1) (start + n) (sum + (h + n)) b
     counted true e =
-        let x : n < total - place = ltb-true n (total - place) e in
+        let x : n < total - start = ltb-true n (total - start) e in
         let few = c .few refl in
-        let s = size-one room total index place n enough en x in
-        let p = ap sizes (pieces-more room total index place n enough en few x) in
+        let s = size-one room total index start n enough en x in
+        let p = ap sizes (pieces-more room total index start n enough en few x) in
         let l = c .left in
         record { low = omega arith; few = λ e. omega arith; some = omega arith; bound = omega (arith, c .bound); left = omega arith }
     counted false e =
-        let x : total - place ≤ n = ltb-false n (total - place) e in
-        let y : n ≤ total - place = size-low room total index place n enough en in
+        let x : total - start ≤ n = ltb-false n (total - start) e in
+        let y : n ≤ total - start = size-low room total index start n enough en in
         let few = c .few refl in
         let low = c .low in
-        let p = ap sizes (pieces-last room total index place n enough en (omega arith)) in
+        let p = ap sizes (pieces-last room total index start n enough en (omega arith)) in
         let l = c .left in
         record { low = omega arith; few = λ e. absurd (false≢true e); some = omega arith; bound = omega (arith, c .bound); left = omega arith }
 
-    pub counting-next : CountingPackets room total (index + 1) (place + n) (sum + (h + n)) (ltb n (total - place))
-    counting-next = counted (ltb n (total - place)) refl
+    pub counting-next : CountingPackets room total (index + 1) (start + n) (sum + (h + n)) (ltb n (total - start))
+    counting-next = counted (ltb n (total - start)) refl
 
-  pub counting-end : (index place sum : ℕ) → CountingPackets room total index place sum false → sum ≡ sizes (piecesOf room total)
-  counting-end index place sum c = let l = c .left in omega arith
+  pub counting-end : (index start sum : ℕ) → CountingPackets room total index start sum false → sum ≡ sizes (piecesOf room total)
+  counting-end index start sum c = let l = c .left in omega arith

@@ -48,66 +48,66 @@ placed w total p last out out₁ out₂ at from h r f eh e₁ e₂ er =
       stored = e₂ ∙ rw (same, s₁) (sets-then out at (at + h) header (take (p .size) (drop from out)) (omega arith));
     }
 
-pub record StillJoining (w : Sending) (m : List ℕ) (total end : ℕ) (out : List ℕ) (index place at : ℕ) : Type 0 where
-  pub low : place ≤ total
-  pub few : index ≤ place
-  pub size : at + sizes (restFrom (w .room) total index place) ≡ end
-  pub rest : drop (end - (total - place)) out ≡ drop place m
-  pub whole : take at out ++ concat (map (packetOf w m) (restFrom (w .room) total index place)) ≡ joinedOf w m
+pub record StillJoining (w : Sending) (m : List ℕ) (total end : ℕ) (out : List ℕ) (index start at : ℕ) : Type 0 where
+  pub low : start ≤ total
+  pub few : index ≤ start
+  pub size : at + sizes (restFrom (w .room) total index start) ≡ end
+  pub rest : drop (end - (total - start)) out ≡ drop start m
+  pub whole : take at out ++ concat (map (packetOf w m) (restFrom (w .room) total index start)) ≡ joinedOf w m
 
-pub data Joining (w : Sending) (m : List ℕ) (total end : ℕ) (out : List ℕ) (index place at : ℕ) : Type 0 where
-  done : at ≡ end → out ≡ joinedOf w m → Joining w m total end out index place at
-  going : StillJoining w m total end out index place at → Joining w m total end out index place at
+pub data Joining (w : Sending) (m : List ℕ) (total end : ℕ) (out : List ℕ) (index start at : ℕ) : Type 0 where
+  done : at ≡ end → out ≡ joinedOf w m → Joining w m total end out index start at
+  going : StillJoining w m total end out index start at → Joining w m total end out index start at
 
 -- a piece is the last where it takes all the rest
-last-by : (place n total length : ℕ) (b : Bool) → eqb n (total - place) ≡ b → place ≤ total → length ≡ total → eqb (place + n) length ≡ b
-last-by place n total length true e l t = let s = eqb-true n (total - place) e in eq-eqb (place + n) length (omega arith)
-last-by place n total length false e l t =
-    let d : (n ≡ total - place → ⊥) = eqb-false n (total - place) e in ne-eqb (place + n) length (λ s. d (omega arith))
+last-by : (start n total length : ℕ) (b : Bool) → eqb n (total - start) ≡ b → start ≤ total → length ≡ total → eqb (start + n) length ≡ b
+last-by start n total length true e l t = let s = eqb-true n (total - start) e in eq-eqb (start + n) length (omega arith)
+last-by start n total length false e l t =
+    let d : (n ≡ total - start → ⊥) = eqb-false n (total - start) e in ne-eqb (start + n) length (λ s. d (omega arith))
 
 module _ (w : Sending) (m : List ℕ) (total end : ℕ) (enough : leastRoom ≤ w .room) (len : length m ≡ total) where
-  pub left-fits : {out : List ℕ} {index place at : ℕ} → StillJoining w m total end out index place at → at + (total - place) ≤ end
-  left-fits {out} {index} {place} {at} g =
+  pub left-fits : {out : List ℕ} {index start at : ℕ} → StillJoining w m total end out index start at → at + (total - start) ≤ end
+  left-fits {out} {index} {start} {at} g =
       let few = g .few in
-      let s = sizes-rest (suc (total - index)) (w .room) index place (total - place) enough (omega arith) in
+      let s = sizes-rest (suc (total - index)) (w .room) index start (total - start) enough (omega arith) in
       omega (arith, g .size)
 
-  module _ (out : List ℕ) (index place at n : ℕ) (long : length out ≡ end) (g : StillJoining w m total end out index place at)
-      (en : n ≡ sizeFor (w .room) (isFirst index) (total - place)) where
+  module _ (out : List ℕ) (index start at n : ℕ) (long : length out ≡ end) (g : StillJoining w m total end out index start at)
+      (en : n ≡ sizeFor (w .room) (isFirst index) (total - start)) where
     abbrev p : Piece
-    p = pieceFor index place n
+    p = pieceFor index start n
 
     abbrev h : ℕ
     h = headerSize (isFirst index) (extended n)
 
-    pub small : n ≤ total - place
-    small = size-low (w .room) total index place n enough en
+    pub small : n ≤ total - start
+    small = size-low (w .room) total index start n enough en
 
     -- room for the packet before the rest
-    fits-by : (b : Bool) → eqb n (total - place) ≡ b → at + h + (total - place) ≤ end
+    fits-by : (b : Bool) → eqb n (total - start) ≡ b → at + h + (total - start) ≤ end
     fits-by true e =
-        let x : n ≡ total - place = eqb-true n (total - place) e in
-        let z = ap sizes (pieces-last (w .room) total index place n enough en x) in
+        let x : n ≡ total - start = eqb-true n (total - start) e in
+        let z = ap sizes (pieces-last (w .room) total index start n enough en x) in
         omega (arith, g .size)
     fits-by false e =
-        let x : n < total - place = some-left n (total - place) small e in
+        let x : n < total - start = some-left n (total - start) small e in
         let few = g .few in
         let low = g .low in
-        let s1 = size-one (w .room) total index place n enough en x in
-        let z = ap sizes (pieces-more (w .room) total index place n enough en few x) in
-        let s = sizes-rest (suc (total - (index + 1))) (w .room) (index + 1) (place + n) (total - (place + n)) enough (omega arith) in
+        let s1 = size-one (w .room) total index start n enough en x in
+        let z = ap sizes (pieces-more (w .room) total index start n enough en few x) in
+        let s = sizes-rest (suc (total - (index + 1))) (w .room) (index + 1) (start + n) (total - (start + n)) enough (omega arith) in
         omega (arith, g .size)
 
-    pub packet-fits : at + h + (total - place) ≤ end
-    packet-fits = fits-by (eqb n (total - place)) refl
+    pub packet-fits : at + h + (total - start) ≤ end
+    packet-fits = fits-by (eqb n (total - start)) refl
 
     module _ (out′ : List ℕ) (at′ : ℕ)
-        (put : Put out at (headerBytes w total p (eqb n (total - place)) ++ take n (drop (end - (total - place)) out)) at′ out′) where
-      is-packet : headerBytes w total p (eqb n (total - place)) ++ take n (drop (end - (total - place)) out) ≡ packetOf w m p
+        (put : Put out at (headerBytes w total p (eqb n (total - start)) ++ take n (drop (end - (total - start)) out)) at′ out′) where
+      is-packet : headerBytes w total p (eqb n (total - start)) ++ take n (drop (end - (total - start)) out) ≡ packetOf w m p
       unfolding packetOf
-      is-packet = rw (g .rest, len, last-by place n total total (eqb n (total - place)) refl (g .low) refl)
+      is-packet = rw (g .rest, len, last-by start n total total (eqb n (total - start)) refl (g .low) refl)
 
-      inside : place + n ≤ length m
+      inside : start + n ≤ length m
       inside = let s = small in let low = g .low in omega (arith, len)
 
       packet-size : length (packetOf w m p) ≡ h + n
@@ -134,10 +134,10 @@ module _ (w : Sending) (m : List ℕ) (total end : ℕ) (enough : leastRoom ≤ 
       after : (k : ℕ) → at′ ≤ k → drop k out′ ≡ drop k out
       after k l = let z = next in let s = packet-size in rw stored (drop-sets k out at (packetOf w m p) (omega arith))
 
-      joined-by : (b : Bool) → eqb n (total - place) ≡ b → Joining w m total end out′ (index + 1) (place + n) at′
+      joined-by : (b : Bool) → eqb n (total - start) ≡ b → Joining w m total end out′ (index + 1) (start + n) at′
       joined-by true e =
-          let x : n ≡ total - place = eqb-true n (total - place) e in
-          let q = pieces-last (w .room) total index place n enough en x in
+          let x : n ≡ total - start = eqb-true n (total - start) e in
+          let q = pieces-last (w .room) total index start n enough en x in
           let z = ap sizes q in
           let f : at′ ≡ end = omega (arith, next, g .size) in
           let l : length out′ ≡ end = rw stored (length-sets out at (packetOf w m p) ∙ long) in
@@ -145,30 +145,30 @@ module _ (w : Sending) (m : List ℕ) (total end : ℕ) (enough : leastRoom ≤ 
           (sym (take-all at′ out′ (omega arith)) ∙ before ∙ ap (λ (s : List ℕ). take at out ++ s) (sym (append-nil (packetOf w m p)))
           ∙ ap (λ (ps : List Piece). take at out ++ concat (map (packetOf w m) ps)) (sym q) ∙ g .whole)
       joined-by false e =
-          let x : n < total - place = some-left n (total - place) small e in
+          let x : n < total - start = some-left n (total - start) small e in
           let few = g .few in
           let low = g .low in
-          let s1 = size-one (w .room) total index place n enough en x in
-          let q = pieces-more (w .room) total index place n enough en few x in
+          let s1 = size-one (w .room) total index start n enough en x in
+          let q = pieces-more (w .room) total index start n enough en few x in
           let z = ap sizes q in
           let f = packet-fits in
-          let k : end - (total - (place + n)) ≡ end - (total - place) + n = omega arith in
-          let later : List Piece = restFrom (w .room) total (index + 1) (place + n) in
+          let k : end - (total - (start + n)) ≡ end - (total - start) + n = omega arith in
+          let later : List Piece = restFrom (w .room) total (index + 1) (start + n) in
           going (record {
             low = omega arith;
             few = omega arith;
             size = omega (arith, next, g .size);
             rest =
                 rw k
-                (after (end - (total - place) + n) (omega (arith, next)) ∙ sym (drop-drop n (end - (total - place)) out) ∙ ap (drop n) (g .rest) ∙ drop-drop n place m);
+                (after (end - (total - start) + n) (omega (arith, next)) ∙ sym (drop-drop n (end - (total - start)) out) ∙ ap (drop n) (g .rest) ∙ drop-drop n start m);
             whole =
                 rw before
                 (append-assoc (take at out) (packetOf w m p) (concat (map (packetOf w m) later))
                 ∙ ap (λ (ps : List Piece). take at out ++ concat (map (packetOf w m) ps)) (sym q) ∙ g .whole);
           })
 
-      pub joining-next : Joining w m total end out′ (index + 1) (place + n) at′
-      joining-next = joined-by (eqb n (total - place)) refl
+      pub joining-next : Joining w m total end out′ (index + 1) (start + n) at′
+      joining-next = joined-by (eqb n (total - start)) refl
 
 -- the start: the message stands at the end of the output
 module _ (w : Sending) (total : ℕ) (out : List ℕ) (j : JoinsExactly w total out) where
@@ -191,14 +191,14 @@ module _ (w : Sending) (total : ℕ) (out : List ℕ) (j : JoinsExactly w total 
       })
 
 -- before the end it goes on, at the end it is done
-pub going-on : {w : Sending} {m : List ℕ} {total end : ℕ} {out : List ℕ} {index place at : ℕ} → Joining w m total end out index place at → at < end → StillJoining w m total end out index place at
+pub going-on : {w : Sending} {m : List ℕ} {total end : ℕ} {out : List ℕ} {index start at : ℕ} → Joining w m total end out index start at → at < end → StillJoining w m total end out index start at
 going-on (done e f) l = absurd (omega arith)
 going-on (going g) l = g
 
-some-sizes : (room total index place : ℕ) → 3 ≤ sizes (restFrom room total index place)
-some-sizes room total index place =
-    let h = header-some (isFirst index) (extended (sizeFor room (isFirst index) (total - place))) in omega arith
+some-sizes : (room total index start : ℕ) → 3 ≤ sizes (restFrom room total index start)
+some-sizes room total index start =
+    let h = header-some (isFirst index) (extended (sizeFor room (isFirst index) (total - start))) in omega arith
 
-pub finished : {w : Sending} {m : List ℕ} {total end : ℕ} {out : List ℕ} {index place at : ℕ} → Joining w m total end out index place at → end ≤ at → out ≡ joinedOf w m
+pub finished : {w : Sending} {m : List ℕ} {total end : ℕ} {out : List ℕ} {index start at : ℕ} → Joining w m total end out index start at → end ≤ at → out ≡ joinedOf w m
 finished (done e f) l = f
-finished {w} {m} {total} {end} {out} {index} {place} {at} (going g) l = let s = some-sizes (w .room) total index place in absurd (omega (arith, g .size))
+finished {w} {m} {total} {end} {out} {index} {start} {at} (going g) l = let s = some-sizes (w .room) total index start in absurd (omega (arith, g .size))

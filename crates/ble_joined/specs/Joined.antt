@@ -53,7 +53,7 @@ pub record PacketFits (w : Sending) (total space at : ℕ) (p : Piece) (from : �
   pub low-stream : w .stream < fourBits
   pub low-id : w .id < fourBits
   pub low-total : total < 65536
-  pub inside : p .place + p .size ≤ total
+  pub inside : p .start + p .size ≤ total
   pub earlier : at + headerSize (isFirst (p .index)) (extended (p .size)) ≤ from
   pub within : from + p .size ≤ space
 

@@ -71,15 +71,15 @@ fn count_bytes(room: usize, total: usize) -> usize
     ensures { λ r. ⌜ r ≡ sizes (piecesOf room total) ⌝ }
 {
     let mut index = 0;
-    let mut place = 0;
+    let mut start = 0;
     let mut sum = 0;
     let mut going = true;
     while going {
-        let rest = total - place;
+        let rest = total - start;
         let size = piece_size(room, index, rest);
         let head = header::header_size(index == 0, ONE_BYTE_LENGTH < size);
         sum += head + size;
-        place += size;
+        start += size;
         index += 1;
         going = size < rest;
     }
@@ -124,14 +124,14 @@ fn put_packets(out: &mut [u8], how: Sending, total: usize)
     let end = out.len();
     let room = how.room;
     let mut index = 0;
-    let mut place = 0;
+    let mut start = 0;
     let mut at = 0;
     while at < end {
-        let rest = total - place;
+        let rest = total - start;
         let size = piece_size(room, index, rest);
-        let piece = Piece { index, place, size };
+        let piece = Piece { index, start, size };
         at = put_packet(out, at, how, total, piece, size == rest, end - rest);
-        place += size;
+        start += size;
         index += 1;
     }
 }

@@ -36,7 +36,7 @@ entry-place o i = place-is (mem T.the-row .size) o i
 pub entry-fits : (i n : ℕ) → i < n → Room T.the-row n → i * mem T.the-row .size < 2 ^ 64
 entry-fits i n l room = within (mem T.the-row .size) i n l (room .1)
 
--- an idle slot is one: what whoever builds it owes, field by field
+-- an idle slot is a slot, field by field
 pub is-idle : Is T.the-row idleSlot (vals idleSlot)
 is-idle = LL.owes T.the-type T′.the-laws idleSlot ((refl, lit< tt), ((refl, lit< tt), ((refl, lit< tt), ((refl, lit< tt), ((refl, lit< tt), ((refl, lit< tt), tt))))))
 

@@ -5,7 +5,7 @@ use lib.ListN.{getD, set}
 use Rattle.ble_slot.specs.declared.Slot.{Slot}
 use Rattle.ble_slot.specs.Slot.{idle, slotCount}
 
--- the first slots of a row, so many, become those of a list; past the row's end nothing is stored
+-- the first slots of a row become those of a list; past the row's end nothing is stored
 abbrev pub storedUpTo : ℕ → List Slot → List Slot → List Slot
 storedUpTo zero slots row = row
 storedUpTo (suc i) slots row = set (storedUpTo i slots row) i (getD slots i idle)

@@ -12,7 +12,7 @@ ghost use Rattle.ble_receiver.specs.Receiver.{call, left, acceptOf};
 ghost use Rattle.ble_receiver.specs.Outcome.{firstTwelve};
 ghost use Rattle.ble_link.specs.Row.{savedRow};
 
-// The slot at a place; idle past the end.
+// The slot at an index; idle past the end.
 pub fn slot_at(row: &[Slot], i: usize) -> Slot
     ensures { λ r. ⌜ r ≡ getD (now (row .entry)) i idle ⌝ }
 {
@@ -59,7 +59,7 @@ pub fn load(row: &[Slot]) -> [Slot; 12]
     ]
 }
 
-// The slot at a place of a row as a value; idle past the end.
+// The slot at an index of a row as a value; idle past the end.
 fn slot_in(slots: [Slot; 12], i: usize) -> Slot
     ensures { λ r. ⌜ r ≡ getD slots i idle ⌝ }
 {
@@ -97,6 +97,6 @@ pub fn accept(
     let count = row.len();
     let slots = load(&*row);
     let done = decide(count, slots, link.limit, buffer, packet, sequence, out);
-    set_slot(row, done.place, done.slot);
+    set_slot(row, done.index, done.slot);
     done.answer
 }

@@ -39,13 +39,13 @@ unfolding lawfulSlot lawful
 idle-law = refl
 
 abbrev leads : Told Accepted → Bool
-leads (given (Taken place stream id replaced)) = eqb place 0
-leads (given (Finished place stream id total ack replaced)) = eqb place 0
+leads (given (Taken index stream id replaced)) = eqb index 0
+leads (given (Finished index stream id total ack replaced)) = eqb index 0
 leads (given (Acked head)) = false
 leads (given (Nacked head)) = false
 leads (refused n) = false
 
--- the place that is told of the first packet says which of the two orders it was
+-- the index that is told of the first packet says which of the two orders it was
 needed : ByFirstBytes → ⊥
 unfolding limitFits isStream streamOf fieldsOf contentOf lines readOf lawfulSlot lawful finish hold dropBy firstStep nextStep ready readIn acceptOf
 needed claim =

@@ -24,7 +24,7 @@ use Rattle.ble_slot.specs.Slot.{opens, isOpen, anyOpen, distinct, laneStart, la
 use Rattle.ble_slot_steps.specs.Step.{Act, still, step}
 use Rattle.ble_slot_steps.specs.Fit.{ActFits}
 use Rattle.ble_slot.proofs.Slots.{open-lawful, idle-lawful, unlike, lawful-holds}
-use Rattle.ble_slot.proofs.Lanes.{place-other}
+use Rattle.ble_slot.proofs.Lanes.{spot-other}
 use Rattle.ble_slot_steps.proofs.Steps.{act-other}
 use Rattle.ble_receiver.specs.Buffer.{partStart, payloadBytes}
 use Rattle.ble_receiver.specs.Receiver.{Result, actIn, acted, PacketCall, answered, readIn, acceptOf}
@@ -94,7 +94,7 @@ module _ (limit : ℕ) (slots : List Slot) (bytes : List ℕ) (c d : PacketCall)
   turned-act (still t) (step j s) ex ey fx fy = rw (ex, ey, act-other b a slots j (s .slot) x (λ e. other (sym e)) (fy .within) ∙ ex)
   turned-act (step i s) (still u) ex ey fx fy = rw (ex, ey, act-other a b slots i (s .slot) y other (fx .within) ∙ ey, ex)
   turned-act (step i s) (step j t) ex ey fx fy =
-      let apart : laneStart a + i ≢ laneStart b + j = place-other a b i j other (fx .within) (fy .within) in
+      let apart : laneStart a + i ≢ laneStart b + j = spot-other a b i j other (fx .within) (fy .within) in
       rw (
         ex,
         ey,

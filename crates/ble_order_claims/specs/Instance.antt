@@ -124,7 +124,7 @@ pub record Computed : Type 0 where
 abbrev pub other : PacketCall
 other = call (0x02 ∷ 0x00 ∷ 0x00 ∷ 0x00 ∷ 0x03 ∷ 0x01 ∷ 0xEE ∷ []) 0 six
 
--- The claim with less asked for: that the first bytes differ, not the stream fields.
+-- The claim with a weaker premise: that the first bytes differ, not the stream fields.
 abbrev pub ByFirstBytes : Type 0
 ByFirstBytes =
     (limit : ℕ) (slots : List Slot) (bytes : List ℕ) (c d : PacketCall)

@@ -84,7 +84,7 @@ by-guard P limit slots bytes c a b =
 applied-length : (limit first : ℕ) (slots : List Slot) (bytes p : List ℕ) (act : Act)
     → length (applied limit slots bytes p first act .bytes) ≡ length bytes
 applied-length limit first slots bytes p (still t) = refl
-applied-length limit first slots bytes p (step place s) = simp length-sets
+applied-length limit first slots bytes p (step spot s) = simp length-sets
 
 acted-length : (limit : ℕ) (slots : List Slot) (bytes p : List ℕ) (t : Told Packet) → length (acted limit slots bytes p t .bytes) ≡ length bytes
 acted-length limit slots bytes p (refused n) = refl
@@ -114,8 +114,8 @@ in-owns limit slots x law =
 applied-lawful : (limit k id : ℕ) (a : Stream) (slots : List Slot) (bytes p : List ℕ) (act : Act) → lawful limit slots ≡ true → ActFits limit k act
     → ActOwns id (laneOf a slots) act → lawful limit (applied limit slots bytes p (laneStart a) act .slots) ≡ true
 applied-lawful limit k id a slots bytes p (still t) law f o = law
-applied-lawful limit k id a slots bytes p (step place s) law f o =
-    lawful-holds limit (set slots (laneStart a + place) (s .slot)) (lawful-set limit a slots place (s .slot) (lawful-says limit slots law) (f .within) (f .left) (o .alone))
+applied-lawful limit k id a slots bytes p (step spot s) law f o =
+    lawful-holds limit (set slots (laneStart a + spot) (s .slot)) (lawful-set limit a slots spot (s .slot) (lawful-says limit slots law) (f .within) (f .left) (o .alone))
 
 acted-lawful : (limit n : ℕ) (slots : List Slot) (bytes p : List ℕ) (t : Told Packet) → lawful limit slots ≡ true
     → IfGiven (LinesPass limit (length p) n) t → lawful limit (acted limit slots bytes p t .slots) ≡ true

@@ -9,7 +9,7 @@ use Rattle.ble_packet.specs.Header.{fourBits}
 use Rattle.ble_packet.proofs.Reading.{PayloadWithin}
 use Rattle.ble_slot.specs.declared.Slot.{Slot}
 use Rattle.ble_slot.specs.Slot.{idle}
-use Rattle.ble_slot_steps.specs.Step.{Step, Act, still, step, finish, hold, dropBy, firstStep, nextStep, openPlace, firstPlace, actOf, actAt}
+use Rattle.ble_slot_steps.specs.Step.{Step, Act, still, step, finish, hold, dropBy, firstStep, nextStep, openSpot, firstSpot, actOf, actAt}
 use Rattle.ble_slot_steps.proofs.Each.{EachStep, first-each, next-each, at-each}
 use Rattle.ble_receiver.specs.Ack.{IdLow}
 
@@ -18,7 +18,7 @@ StepLow s = IdLow (s .told)
 
 abbrev pub ActLow : Act → Type 0
 ActLow (still t) = IdLow t
-ActLow (step place s) = StepLow s
+ActLow (step spot s) = StepLow s
 
 each-low : (h : Head) → h .id < fourBits → EachStep h StepLow
 unfolding finish hold dropBy
@@ -33,15 +33,15 @@ each-low h low =
 -- what a packet that was read does
 pub act-low : (limit k first : ℕ) (lane : List Slot) (x : Packet) → PayloadWithin limit k x → ActLow (actOf first lane x)
 act-low limit k first lane (First h ack total start len) w =
-    at-each ActLow 18 (λ place. firstStep (first + place) (getD lane place idle) h ack total start len) (firstPlace lane (h .id)) tt (λ place e.
-    first-each StepLow (each-low h (w .4 .0)) (first + place) (getD lane place idle) ack total start len)
+    at-each ActLow 18 (λ spot. firstStep (first + spot) (getD lane spot idle) h ack total start len) (firstSpot lane (h .id)) tt (λ spot e.
+    first-each StepLow (each-low h (w .4 .0)) (first + spot) (getD lane spot idle) ack total start len)
 act-low limit k first lane (Next h ack last start len) w =
-    at-each ActLow 9 (λ place. nextStep (first + place) (getD lane place idle) h ack last start len) (openPlace lane (h .id)) tt (λ place e.
-    next-each StepLow (each-low h (w .1 .0)) (first + place) (getD lane place idle) ack last start len)
+    at-each ActLow 9 (λ spot. nextStep (first + spot) (getD lane spot idle) h ack last start len) (openSpot lane (h .id)) tt (λ spot e.
+    next-each StepLow (each-low h (w .1 .0)) (first + spot) (getD lane spot idle) ack last start len)
 act-low limit k first lane (Ack h) w = tt
 act-low limit k first lane (Nack h) w = tt
 
 -- and what is told of it
 pub at-low : (first : ℕ) (lane : List Slot) (act : Act) → ActLow act → IdLow (actAt first lane act .step .told)
 at-low first lane (still t) low = low
-at-low first lane (step place s) low = low
+at-low first lane (step spot s) low = low

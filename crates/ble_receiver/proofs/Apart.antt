@@ -23,7 +23,7 @@ use Rattle.ble_slot.specs.declared.Slot.{Slot}
 use Rattle.ble_slot.specs.Slot.{opens, idle, isOpen, slotsEach, laneNumber, laneStart, laneOf, lawful}
 use Rattle.ble_slot_steps.specs.Step.{Step, Act, still, step}
 use Rattle.ble_slot_steps.specs.Fit.{Fit, ActFits, Own, ActOwns}
-use Rattle.ble_slot.proofs.Lanes.{same-stream, place-other, lane-other, lane-set}
+use Rattle.ble_slot.proofs.Lanes.{same-stream, spot-other, lane-other, lane-set}
 use Rattle.ble_receiver.specs.Buffer.{partOf, payloadBytes}
 use Rattle.ble_receiver.specs.Receiver.{Result, result, applied, actIn, acted, isFor, PacketCall, call, answerLines, readIn, acceptOf}
 use Rattle.ble_receiver.proofs.Parts.{part-elsewhere}
@@ -86,10 +86,10 @@ not-for limit stream id sequence (b ∷ p) out known o =
 
 -- ---- a slot and its part
 
--- the slot at a place of a stream's, and its part, are as they were
-pub record KeptSlots (limit : ℕ) (t : Stream) (place : ℕ) (slots : List Slot) (bytes : List ℕ) (next : List Slot) (later : List ℕ) : Type 0 where
-  pub same-slot : getD (laneOf t next) place idle ≡ getD (laneOf t slots) place idle
-  pub same-part : partOf limit (laneStart t + place) later ≡ partOf limit (laneStart t + place) bytes
+-- the slot at a spot of a stream's, and its part, are as they were
+pub record KeptSlots (limit : ℕ) (t : Stream) (spot : ℕ) (slots : List Slot) (bytes : List ℕ) (next : List Slot) (later : List ℕ) : Type 0 where
+  pub same-slot : getD (laneOf t next) spot idle ≡ getD (laneOf t slots) spot idle
+  pub same-part : partOf limit (laneStart t + spot) later ≡ partOf limit (laneStart t + spot) bytes
 
 module _ (limit : ℕ) (t : Stream) (id i : ℕ) (slots : List Slot) (bytes : List ℕ) (low : i < slotsEach) (known : isOpen id (getD (laneOf t slots) i idle) ≡ true) where
   abbrev KeptBy : Result → Type 0
@@ -99,34 +99,34 @@ module _ (limit : ℕ) (t : Stream) (id i : ℕ) (slots : List Slot) (bytes : Li
   kept-all r es eb = record { same-slot = rw es; same-part = rw eb }
 
   -- a step of another stream's slot
-  other-kept : (p : List ℕ) (a : Stream) (place : ℕ) (s : Step) → a ≢ t → Fit limit (length p) place s
-      → KeptBy (applied limit slots bytes p (laneStart a) (step place s))
-  other-kept p a place s d f =
+  other-kept : (p : List ℕ) (a : Stream) (spot : ℕ) (s : Step) → a ≢ t → Fit limit (length p) spot s
+      → KeptBy (applied limit slots bytes p (laneStart a) (step spot s))
+  other-kept p a spot s d f =
       record {
-        same-slot = ap (λ (lane : List Slot). getD lane i idle) (lane-other a t slots place (s .slot) d (f .within));
+        same-slot = ap (λ (lane : List Slot). getD lane i idle) (lane-other a t slots spot (s .slot) d (f .within));
         same-part =
-            part-elsewhere limit (laneStart t + i) (laneStart a + place) (s .payload .at) bytes (payloadBytes p (s .payload))
-            (place-other t a i place (λ e. d (sym e)) low (f .within)) (payload-length limit (length p) p (s .payload) (f .inside));
+            part-elsewhere limit (laneStart t + i) (laneStart a + spot) (s .payload .at) bytes (payloadBytes p (s .payload))
+            (spot-other t a i spot (λ e. d (sym e)) low (f .within)) (payload-length limit (length p) p (s .payload) (f .inside));
       }
 
   -- a step of another slot of the stream
-  beside-kept : (p : List ℕ) (place : ℕ) (s : Step) → i ≢ place → Fit limit (length p) place s
-      → KeptBy (applied limit slots bytes p (laneStart t) (step place s))
-  beside-kept p place s d f =
+  beside-kept : (p : List ℕ) (spot : ℕ) (s : Step) → i ≢ spot → Fit limit (length p) spot s
+      → KeptBy (applied limit slots bytes p (laneStart t) (step spot s))
+  beside-kept p spot s d f =
       record {
         same-slot =
-            ap (λ (lane : List Slot). getD lane i idle) (lane-set t slots place (s .slot) (f .within))
-            ∙ getD-set-other (laneOf t slots) place i (s .slot) idle d;
+            ap (λ (lane : List Slot). getD lane i idle) (lane-set t slots spot (s .slot) (f .within))
+            ∙ getD-set-other (laneOf t slots) spot i (s .slot) idle d;
         same-part =
-            part-elsewhere limit (laneStart t + i) (laneStart t + place) (s .payload .at) bytes (payloadBytes p (s .payload)) (λ e. d (omega arith))
+            part-elsewhere limit (laneStart t + i) (laneStart t + spot) (s .payload .at) bytes (payloadBytes p (s .payload)) (λ e. d (omega arith))
             (payload-length limit (length p) p (s .payload) (f .inside));
       }
 
   -- a packet's own slot is not one that is open with another id
-  not-here : (a : Stream) (n place : ℕ) (s : Step) → a ≡ t → n ≢ id → Own n (laneOf a slots) place s → i ≢ place
-  not-here a n place s same d o e =
-      let z : getD (laneOf a slots) place idle ≡ getD (laneOf t slots) i idle
-      = ap (λ (u : Stream). getD (laneOf u slots) place idle) same ∙ ap (λ (k : ℕ). getD (laneOf t slots) k idle) (sym e) in
+  not-here : (a : Stream) (n spot : ℕ) (s : Step) → a ≡ t → n ≢ id → Own n (laneOf a slots) spot s → i ≢ spot
+  not-here a n spot s same d o e =
+      let z : getD (laneOf a slots) spot idle ≡ getD (laneOf t slots) i idle
+      = ap (λ (u : Stream). getD (laneOf u slots) spot idle) same ∙ ap (λ (k : ℕ). getD (laneOf t slots) k idle) (sym e) in
       let here : Slot = getD (laneOf t slots) i idle in
       d
       (sym (o .was (ap (λ (x : Slot). opens x) z ∙ and-left (opens here) _ known))
@@ -136,12 +136,12 @@ module _ (limit : ℕ) (t : Stream) (id i : ℕ) (slots : List Slot) (bytes : Li
   applied-kept : (p : List ℕ) (a : Stream) (n : ℕ) (act : Act) (b : Bool) → eqb (laneNumber a) (laneNumber t) ≡ b → (a ≡ t → n ≢ id)
       → ActFits limit (length p) act → ActOwns n (laneOf a slots) act → KeptBy (applied limit slots bytes p (laneStart a) act)
   applied-kept p a n (still told) b e d f o = kept-all (result told slots bytes) refl refl
-  applied-kept p a n (step place s) false e d f o =
-      other-kept p a place s (λ same. eqb-false (laneNumber a) (laneNumber t) e (ap laneNumber same)) f
-  applied-kept p a n (step place s) true e d f o =
+  applied-kept p a n (step spot s) false e d f o =
+      other-kept p a spot s (λ same. eqb-false (laneNumber a) (laneNumber t) e (ap laneNumber same)) f
+  applied-kept p a n (step spot s) true e d f o =
       let same : a ≡ t = same-stream a t (eqb-true (laneNumber a) (laneNumber t) e) in
-      let apart : i ≢ place = not-here a n place s same (d same) o in
-      rw same (beside-kept p place s apart f)
+      let apart : i ≢ spot = not-here a n spot s same (d same) o in
+      rw same (beside-kept p spot s apart f)
 
   acted-kept : (p : List ℕ) (m : ℕ) (told : Told Packet) → lawful limit slots ≡ true → IfGiven (LinesPass limit (length p) m) told → Other t id told
       → KeptBy (acted limit slots bytes p told)

@@ -3,10 +3,10 @@ use Prim.Native.Nat.{ℕ, suc, _+_, _-_, _≤_, _<_}
 use native.Mathlib.Omega.{arith}
 use native.Mathlib.Nat.{not-suc-le-zero, le-of-suc-le-suc}
 use mathlib.Core.Path.{_≡_, refl, sym, ap, _∙_}
-use mathlib.Core.List.{List, [], _∷_, _++_}
+use mathlib.Core.List.{List, [], _∷_}
 use lib.ListN.{length, set, take, drop, length-take, length-drop, take-append-drop}
 use lib.Seq.{sets, set-set, set-comm, take-add, take-length, length-take-le}
-use Rattle.wire.proofs.Stores.{sets-append, sets-then}
+use Rattle.wire.proofs.Stores.{sets-then}
 
 -- a store before a run
 set-before : (l : List ℕ) (i j a : ℕ) (run : List ℕ) → i < j → set (sets l j run) i a ≡ sets (set l i a) j run

@@ -19,7 +19,7 @@ use Rattle.ble_packet.specs.Reader.{readOf}
 use Rattle.ble_slot.specs.declared.Slot.{Slot}
 use Rattle.ble_slot.specs.declared.answer.Accepted.{Accepted}
 use Rattle.ble_slot.specs.Slot.{idle, slotsEach, slotCount, laneStart, laneOf, lawful}
-use Rattle.ble_slot.proofs.Lanes.{place-low}
+use Rattle.ble_slot.proofs.Lanes.{spot-low}
 use Rattle.ble_slot_steps.specs.declared.Step.{Step}
 use Rattle.ble_slot_steps.specs.Step.{Act, still, step, StepAt, actAt}
 use Rattle.ble_slot_steps.specs.Fit.{InsidePart, ActFits}
@@ -51,7 +51,7 @@ same-left t at row s bytes out e = ap (λ (l : List Slot). left t l bytes out) (
 -- what a step at its place leaves
 abbrev pub leftAt : ℕ → ℕ → List Slot → List ℕ → List ℕ → List ℕ → StepAt → PacketLeft
 leftAt limit sequence slots bytes p out d =
-    left (d .step .told) (set slots (d .place) (d .step .slot)) (stored limit (d .place) bytes p (d .step .payload)) (answered sequence (d .step .told) out)
+    left (d .step .told) (set slots (d .index) (d .step .slot)) (stored limit (d .index) bytes p (d .step .payload)) (answered sequence (d .step .told) out)
 
 lane-first : (t : Stream) (slots : List Slot) → getD slots (laneStart t) idle ≡ getD (laneOf t slots) 0 idle
 lane-first t slots =
@@ -63,13 +63,13 @@ pub acted-left : (limit sequence : ℕ) (t : Stream) (slots : List Slot) (bytes 
     → leftAt limit sequence slots bytes p out (actAt (laneStart t) (laneOf t slots) act) ≡ leaves sequence out (applied limit slots bytes p (laneStart t) act)
 acted-left limit sequence t slots bytes p out (still a) =
     same-left a (laneStart t) slots (getD (laneOf t slots) 0 idle) bytes (answered sequence a out) (lane-first t slots)
-acted-left limit sequence t slots bytes p out (step place s) = refl
+acted-left limit sequence t slots bytes p out (step spot s) = refl
 
 -- it is at a place of the row, and its payload within its packet and its part
 pub at-fits : (limit k : ℕ) (t : Stream) (lane : List Slot) (act : Act) → ActFits limit k act
-    → (actAt (laneStart t) lane act .place < slotCount) × InsidePart limit k (actAt (laneStart t) lane act .step .payload)
-at-fits limit k t lane (still a) f = let low = place-low t 0 (omega arith) in (omega (arith, low), (omega arith, omega arith))
-at-fits limit k t lane (step place s) f = (place-low t place (f .within), f .inside)
+    → (actAt (laneStart t) lane act .index < slotCount) × InsidePart limit k (actAt (laneStart t) lane act .step .payload)
+at-fits limit k t lane (still a) f = let low = spot-low t 0 (omega arith) in (omega (arith, low), (omega arith, omega arith))
+at-fits limit k t lane (step spot s) f = (spot-low t spot (f .within), f .inside)
 
 -- ---- a row of any length
 

@@ -15,10 +15,10 @@ use Rattle.ble_slot.specs.Slot.{slotCount}
 use Rattle.ble_receiver.specs.Buffer.{partStart, partOf}
 
 -- the part of a slot lies within the buffer
-pub part-inside : (limit place : ℕ) → place < slotCount → partStart limit place + limit ≤ slotCount * limit
-part-inside limit place low =
-    let u : suc place * limit ≤ slotCount * limit = mul-le-mul-right limit low in
-    omega (arith, suc-mul place limit)
+pub part-inside : (limit index : ℕ) → index < slotCount → partStart limit index + limit ≤ slotCount * limit
+part-inside limit index low =
+    let u : suc index * limit ≤ slotCount * limit = mul-le-mul-right limit low in
+    omega (arith, suc-mul index limit)
 
 elsewhere-by : (limit i j at : ℕ) (d run : List ℕ) (b : Bool) → ltb i j ≡ b → i ≢ j → at + length run ≤ limit
     → partOf limit i (sets d (partStart limit j + at) run) ≡ partOf limit i d

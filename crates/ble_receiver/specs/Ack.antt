@@ -7,8 +7,8 @@ use Rattle.ble_slot.specs.declared.answer.Accepted.the-variants.{Taken, Finishe
 
 -- the id of a finished transaction has four bits
 abbrev pub IdLow : Told Accepted → Type 0
-IdLow (given (Finished place stream id total ack replaced)) = id < fourBits
-IdLow (given (Taken place stream id replaced)) = Unit {0}
+IdLow (given (Finished index stream id total ack replaced)) = id < fourBits
+IdLow (given (Taken index stream id replaced)) = Unit {0}
 IdLow (given (Acked head)) = Unit {0}
 IdLow (given (Nacked head)) = Unit {0}
 IdLow (refused n) = Unit {0}

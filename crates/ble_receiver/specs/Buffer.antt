@@ -7,11 +7,11 @@ use Rattle.ble_slot_steps.specs.declared.PayloadPlace.{PayloadPlace}
 
 -- where the part of a slot begins
 abbrev pub partStart : ℕ → ℕ → ℕ
-partStart limit place = place * limit
+partStart limit index = index * limit
 
 -- the part of a slot
 abbrev pub partOf : ℕ → ℕ → List ℕ → List ℕ
-partOf limit place bytes = take limit (drop (partStart limit place) bytes)
+partOf limit index bytes = take limit (drop (partStart limit index) bytes)
 
 -- the bytes of a payload in its packet
 abbrev pub payloadBytes : List ℕ → PayloadPlace → List ℕ
@@ -19,4 +19,4 @@ payloadBytes packet payload = take (payload .len) (drop (payload .start) packet)
 
 -- the payload is written in the part of a slot, and no other byte changes
 abbrev pub stored : ℕ → ℕ → List ℕ → List ℕ → PayloadPlace → List ℕ
-stored limit place bytes packet payload = sets bytes (partStart limit place + payload .at) (payloadBytes packet payload)
+stored limit index bytes packet payload = sets bytes (partStart limit index + payload .at) (payloadBytes packet payload)

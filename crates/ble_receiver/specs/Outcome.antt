@@ -10,9 +10,9 @@ use Rattle.ble_receiver.specs.Receiver.{PacketLeft, left}
 
 -- what a step leaves of a row
 abbrev pub leftBy : List Slot → Step → List ℕ → List ℕ → PacketLeft
-leftBy row s bytes out = left (told (s .answer)) (set row (s .place) (s .slot)) bytes out
+leftBy row s bytes out = left (told (s .answer)) (set row (s .index) (s .slot)) bytes out
 
--- slots of a row from a place on, idle where it has none
+-- slots of a row from an index on, idle where it has none
 abbrev pub slotsFrom : ℕ → ℕ → List Slot → List Slot
 slotsFrom zero at row = []
 slotsFrom (suc n) at row = getD row at idle ∷ slotsFrom n (suc at) row

@@ -45,11 +45,11 @@ pub record Result : Type 0 where
 abbrev pub result : Told Accepted → List Slot → List ℕ → Result
 result t slots bytes = record { told = t; slots = slots; bytes = bytes }
 
--- what is done to the row and the buffer: nothing, or a step at the place of its slot; the stream's slots begin at `first`
+-- what is done to the row and the buffer: nothing, or a step at the spot of its slot; the stream's slots begin at `first`
 abbrev pub applied : ℕ → List Slot → List ℕ → List ℕ → ℕ → Act → Result
 applied limit slots bytes packet first (still t) = result t slots bytes
-applied limit slots bytes packet first (step place s) =
-    result (s .told) (set slots (first + place) (s .slot)) (stored limit (first + place) bytes packet (s .payload))
+applied limit slots bytes packet first (step spot s) =
+    result (s .told) (set slots (first + spot) (s .slot)) (stored limit (first + spot) bytes packet (s .payload))
 
 -- what a packet that was read does to its stream's slots
 abbrev pub actIn : List Slot → Packet → Act
@@ -92,8 +92,8 @@ left t slots bytes out = record { told = t; slots = slots; bytes = bytes; out = 
 
 -- a finished transaction that wants an ACK writes it first in the answer buffer; every other answer leaves all of it
 abbrev pub answered : ℕ → Told Accepted → List ℕ → List ℕ
-answered sequence (given (Finished place stream id total ack replaced)) out = cond ack (sets out 0 (ackBytes (streamNumber stream) id sequence true)) out
-answered sequence (given (Taken place stream id replaced)) out = out
+answered sequence (given (Finished index stream id total ack replaced)) out = cond ack (sets out 0 (ackBytes (streamNumber stream) id sequence true)) out
+answered sequence (given (Taken index stream id replaced)) out = out
 answered sequence (given (Acked head)) out = out
 answered sequence (given (Nacked head)) out = out
 answered sequence (refused n) out = out

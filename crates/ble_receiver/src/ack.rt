@@ -32,13 +32,13 @@ fn confirm_accepted(accepted: Accepted, sequence: u8, out: &mut [u8])
 {
     match accepted {
         Accepted::Taken {
-            place: _,
+            index: _,
             stream: _,
             id: _,
             replaced: _,
         } => {}
         Accepted::Finished {
-            place: _,
+            index: _,
             stream,
             id,
             total: _,

@@ -14,7 +14,7 @@ ghost use Rattle.ble_receiver.specs.Buffer.{stored};
 // The bytes that are copied at once.
 const BLOCK: usize = 16;
 
-// The place of a stream's first slot and part.
+// The index of a stream's first slot and part.
 pub fn lane_start(stream: Stream) -> usize
     ensures { λ r. ⌜ (r ≡ laneStart stream) × (r ≤ 8) ⌝ }
 {
@@ -44,7 +44,7 @@ fn copy_blocks(out: &mut [u8], at: usize, run: &[u8], from: usize) -> usize
         × (r ≤ length (now (run .entry))) ⌝ }
 {
     let mut i = from;
-    while BLOCK < run.len() - i {
+    while i + BLOCK < run.len() {
         copy_block(out, at + i, &run[i..i + BLOCK]);
         i = i + BLOCK;
     }
@@ -70,17 +70,17 @@ fn copy_run(out: &mut [u8], at: usize, run: &[u8])
 pub fn write_payload(
     buffer: &mut [u8],
     limit: usize,
-    place: usize,
+    index: usize,
     payload: PayloadPlace,
     packet: &[u8],
 )
     requires { ⌜ (limit ≤ 65535)
-        × (place < slotCount)
+        × (index < slotCount)
         × (length (now buffer) ≡ slotCount * limit)
         × InsidePart limit (length (now packet)) payload ⌝ }
-    ensures { λ _. ⌜ now (buffer .exit) ≡ stored limit place (now (buffer .entry)) (now (packet .entry)) payload ⌝ }
+    ensures { λ _. ⌜ now (buffer .exit) ≡ stored limit index (now (buffer .entry)) (now (packet .entry)) payload ⌝ }
 {
-    let start = place * limit;
+    let start = index * limit;
     let end = start + limit;
     let at = payload.at;
     let from = payload.start;

@@ -35,7 +35,7 @@ pub struct Receiver {
     pub limit: usize,
 }
 
-// A link's state, or a limit that is none: refusal 17.
+// A link's state, or refusal 17 for a limit out of its range.
 pub enum OpenedReceiver {
     Link(Receiver),
     BadLimit,
@@ -93,7 +93,7 @@ fn accept_read(
     let lane = lane_of(slots, stream);
     let step = act_on(first, lane, read);
     let answer = step.answer;
-    buffer::write_payload(buffer, limit, step.place, step.payload, packet);
+    buffer::write_payload(buffer, limit, step.index, step.payload, packet);
     ack::acknowledge(answer, sequence, out);
     step
 }
@@ -131,7 +131,7 @@ fn refuse(slots: [Slot; 12], why: Refusal) -> Step
     let slot = slots[0];
     Step {
         answer: Answer::Refused(why),
-        place: 0,
+        index: 0,
         slot,
         payload: PayloadPlace {
             at: 0,

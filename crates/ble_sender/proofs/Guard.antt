@@ -53,9 +53,9 @@ WritesFound w length space (some p) = Writes w length space p
 
 module _ (limit : ℕ) (w : Sending) (length space : ℕ) (small : limit < 65536) (room : leastRoom ≤ w .room) (range : SendingInRange limit w length)
     (enough : w .room ≤ space) where
-  head-writes : (index place rest : ℕ) → place + rest ≤ length
-      → Writes w length space (record { index = index; place = place; size = sizeFor (w .room) (isFirst index) rest })
-  head-writes index place rest h =
+  head-writes : (index start rest : ℕ) → start + rest ≤ length
+      → Writes w length space (record { index = index; start = start; size = sizeFor (w .room) (isFirst index) rest })
+  head-writes index start rest h =
       let n = size-le (w .room) (isFirst index) room rest in
       let f = size-fits (w .room) (isFirst index) room rest in
       let k : length ≤ limit = range .within in
@@ -75,13 +75,13 @@ module _ (limit : ℕ) (w : Sending) (length space : ℕ) (small : limit < 65536
   pieces-by true p o h g = h
   pieces-by false p o h g = g
 
-  pieces-write : (fuel index place rest q : ℕ) → place + rest ≤ length → WritesFound w length space (pieceAt q (piecesFrom fuel (w .room) index place rest))
-  pieces-write zero index place rest q h = tt
-  pieces-write (suc fuel) index place rest q h =
+  pieces-write : (fuel index start rest q : ℕ) → start + rest ≤ length → WritesFound w length space (pieceAt q (piecesFrom fuel (w .room) index start rest))
+  pieces-write zero index start rest q h = tt
+  pieces-write (suc fuel) index start rest q h =
       let n : ℕ = sizeFor (w .room) (isFirst index) rest in
       let l : n ≤ rest = size-le (w .room) (isFirst index) room rest in
-      pieces-by (eqb place q) _ _ (head-writes index place rest h)
-      (tail-by (eqb n rest) q _ (pieces-write fuel (suc index) (place + n) (rest - n) q (omega arith)))
+      pieces-by (eqb start q) _ _ (head-writes index start rest h)
+      (tail-by (eqb n rest) q _ (pieces-write fuel (suc index) (start + n) (rest - n) q (omega arith)))
 
   pub found-writes : (place : ℕ) (p : Piece) → foundAt w length place ≡ some p → Writes w length space p
   found-writes place p e = rw e at (pieces-write (suc length) 0 0 length place (omega arith))

@@ -1,4 +1,4 @@
--- The writer's packets for a transaction, without places: the first, and those for the bytes that are left after it.
+-- The writer's packets for a transaction, without starts: the first, and those for the bytes that are left after it.
 use Prim.Native.Nat.{ℕ, zero, suc, _+_, _-_, _≤_, _<_}
 use native.Mathlib.Omega.{arith}
 use mathlib.Core.Path.{_≡_, refl, ap, _∙_}
@@ -18,7 +18,7 @@ use Rattle.ble_sender.proofs.Largest.{size-le, size-some}
 
 module _ (w : Sending) (m : List ℕ) where
   packet-first : (n : ℕ) → w .sequence < fourBits → n ≤ length m
-      → packetOf w m (record { index = 0; place = 0; size = n })
+      → packetOf w m (record { index = 0; start = 0; size = n })
       ≡ firstPacket (w .stream) (w .id) (w .sequence) (eqb n (length m) && w .ack) (extended n) (length m) (take n m)
   unfolding packetOf headerBytes
   packet-first n l h =
@@ -27,12 +27,12 @@ module _ (w : Sending) (m : List ℕ) where
       let s : length (take n m) ≡ n = length-part m 0 n (omega arith) in
       rw (z, q, s)
 
-  packet-next : (i place n : ℕ) → place + n ≤ length m
-      → packetOf w m (record { index = suc i; place = place; size = n })
-      ≡ nextPacket (w .stream) (w .id) (sequenceAfter (w .sequence) (suc i)) (eqb (place + n) (length m)) (eqb (place + n) (length m) && w .ack) (extended n) (take n (drop place m))
+  packet-next : (i start n : ℕ) → start + n ≤ length m
+      → packetOf w m (record { index = suc i; start = start; size = n })
+      ≡ nextPacket (w .stream) (w .id) (sequenceAfter (w .sequence) (suc i)) (eqb (start + n) (length m)) (eqb (start + n) (length m) && w .ack) (extended n) (take n (drop start m))
   unfolding packetOf headerBytes
-  packet-next i place n h =
-      let s : length (take n (drop place m)) ≡ n = length-part m place n h in
+  packet-next i start n h =
+      let s : length (take n (drop start m)) ≡ n = length-part m start n h in
       rw (ne-eqb (suc i) 0 (λ e. omega arith), s)
 
 -- ---- the packets for what is left
@@ -56,24 +56,24 @@ map-cond f true xs = refl
 map-cond f false xs = refl
 
 -- a piece is the last where it takes all the rest
-pub last-by : (place n rest length : ℕ) (b : Bool) → eqb n rest ≡ b → place + rest ≡ length → eqb (place + n) length ≡ b
-last-by place n rest length true e t = let s = eqb-true n rest e in eq-eqb (place + n) length (omega arith)
-last-by place n rest length false e t =
-    let d : (n ≡ rest → ⊥) = eqb-false n rest e in ne-eqb (place + n) length (λ s. d (omega arith))
+pub last-by : (start n rest length : ℕ) (b : Bool) → eqb n rest ≡ b → start + rest ≡ length → eqb (start + n) length ≡ b
+last-by start n rest length true e t = let s = eqb-true n rest e in eq-eqb (start + n) length (omega arith)
+last-by start n rest length false e t =
+    let d : (n ≡ rest → ⊥) = eqb-false n rest e in ne-eqb (start + n) length (λ s. d (omega arith))
 
 module _ (w : Sending) (m : List ℕ) (low : leastRoom ≤ w .room) where
-  pub later-is : (fuel i place rest : ℕ) → place + rest ≡ length m
-      → map (packetOf w m) (piecesFrom fuel (w .room) (suc i) place rest)
-      ≡ later fuel (w .room) (w .stream) (w .id) (sequenceAfter (w .sequence) (suc i)) (w .ack) (drop place m)
+  pub later-is : (fuel i start rest : ℕ) → start + rest ≡ length m
+      → map (packetOf w m) (piecesFrom fuel (w .room) (suc i) start rest)
+      ≡ later fuel (w .room) (w .stream) (w .id) (sequenceAfter (w .sequence) (suc i)) (w .ack) (drop start m)
   unfolding later
-  later-is zero i place rest t = refl
-  later-is (suc fuel) i place rest t =
-      let r : length (drop place m) ≡ rest = length-drop place m ∙ omega arith in
+  later-is zero i start rest t = refl
+  later-is (suc fuel) i start rest t =
+      let r : length (drop start m) ≡ rest = length-drop start m ∙ omega arith in
       let n : ℕ = sizeFor (w .room) false rest in
       let k : n ≤ rest = size-le (w .room) false low rest in
       let q : sequenceAfter (sequenceAfter (w .sequence) (suc i)) 1 ≡ sequenceAfter (w .sequence) (suc (suc i)) = omega arith in
-      rw (ne-eqb (suc i) 0 (λ e. omega arith), r, drop-drop n place m, q, packet-next w m i place n (omega arith), last-by place n rest (length m) (eqb n rest) refl t)
-      (rw (map-cond (packetOf w m) (eqb n rest) (piecesFrom fuel (w .room) (suc (suc i)) (place + n) (rest - n)), later-is fuel (suc i) (place + n) (rest - n) (omega arith)))
+      rw (ne-eqb (suc i) 0 (λ e. omega arith), r, drop-drop n start m, q, packet-next w m i start n (omega arith), last-by start n rest (length m) (eqb n rest) refl t)
+      (rw (map-cond (packetOf w m) (eqb n rest) (piecesFrom fuel (w .room) (suc (suc i)) (start + n) (rest - n)), later-is fuel (suc i) (start + n) (rest - n) (omega arith)))
 
   -- the packets of a transaction: the first, and those for what is left
   pub packets-are : w .sequence < fourBits

@@ -56,7 +56,7 @@ module _ (w : Sending) (total : ℕ) (p : Piece) (last : Bool) where
       rw (sets-then out 0 startSize start middle refl)
       (sets-then out 0 (lengthPlace first) (start ++ middle) (lengthBytes (p .size)) (simp length-append (omega arith)))
 
-module _ (w : Sending) (m : List ℕ) (p : Piece) (inside : p .place + p .size ≤ length m) where
+module _ (w : Sending) (m : List ℕ) (p : Piece) (inside : p .start + p .size ≤ length m) where
   abbrev header : List ℕ
   header = headerBytes w (length m) p (isLast (length m) p)
 
@@ -64,19 +64,19 @@ module _ (w : Sending) (m : List ℕ) (p : Piece) (inside : p .place + p .size �
   unfolding packetOf
   packet-length =
       let h = header-length w (length m) p (isLast (length m) p) in
-      let l = length-part m (p .place) (p .size) inside in
+      let l = length-part m (p .start) (p .size) inside in
       simp length-append (omega arith)
 
   -- the payload copied behind the header, and what is told
   pub packet-stored : (out : List ℕ) (at : ℕ) → at ≡ headerSize (isFirst (p .index)) (extended (p .size))
       → _≡_ {A = Written Sent}
-      (written (given (sentFor (isLast (length m) p) (at + p .size) (p .place + p .size)))
-      (sets (sets out 0 header) at (take (p .place + p .size - p .place) (drop (p .place) m))))
+      (written (given (sentFor (isLast (length m) p) (at + p .size) (p .start + p .size)))
+      (sets (sets out 0 header) at (take (p .start + p .size - p .start) (drop (p .start) m))))
       (written (given (sentOf w m p)) (sets out 0 (packetOf w m p)))
   unfolding packetOf
   packet-stored out at e =
-      let z : p .place + p .size - p .place ≡ p .size = omega arith in
+      let z : p .start + p .size - p .start ≡ p .size = omega arith in
       let h = header-length w (length m) p (isLast (length m) p) in
-      let payload : List ℕ = take (p .size) (drop (p .place) m) in
+      let payload : List ℕ = take (p .size) (drop (p .start) m) in
       let l : length (header ++ payload) ≡ at + p .size = packet-length ∙ ap (λ (n : ℕ). n + p .size) (sym e) in
       rw (z, sets-then out 0 at header payload (omega arith), l)

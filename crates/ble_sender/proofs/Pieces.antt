@@ -21,82 +21,82 @@ module _ (room c : ℕ) (enough : leastRoom ≤ room) (full : c ≡ fullSize roo
   some-full = rw full (full-some room false enough)
 
   -- one turn, with the size in closed form
-  turn : (q fuel index place rest : ℕ)
-      → pieceAt q (piecesFrom (suc fuel) room (suc index) place rest)
-      ≡ cond (eqb place q) (some (record { index = suc index; place = place; size = min rest c }))
-      (pieceAt q (cond (eqb (min rest c) rest) [] (piecesFrom fuel room (suc (suc index)) (place + min rest c) (rest - min rest c))))
-  turn q fuel index place rest = rw (later-size index rest)
+  turn : (q fuel index start rest : ℕ)
+      → pieceAt q (piecesFrom (suc fuel) room (suc index) start rest)
+      ≡ cond (eqb start q) (some (record { index = suc index; start = start; size = min rest c }))
+      (pieceAt q (cond (eqb (min rest c) rest) [] (piecesFrom fuel room (suc (suc index)) (start + min rest c) (rest - min rest c))))
+  turn q fuel index start rest = rw (later-size index rest)
 
   -- k full pieces on, one begins
-  hit : (k fuel index place rest q : ℕ) → q ≡ place + k * c → q < place + rest → rest ≤ fuel
-      → pieceAt q (piecesFrom fuel room (suc index) place rest) ≡ some (record { index = suc index + k; place = q; size = min (place + rest - q) c })
-  hit k zero index place rest q e l f = absurd (omega arith)
-  hit zero (suc fuel) index place rest q e l f =
-      let z : q ≡ place = omega (arith, zero-mul c) in
+  hit : (k fuel index start rest q : ℕ) → q ≡ start + k * c → q < start + rest → rest ≤ fuel
+      → pieceAt q (piecesFrom fuel room (suc index) start rest) ≡ some (record { index = suc index + k; start = q; size = min (start + rest - q) c })
+  hit k zero index start rest q e l f = absurd (omega arith)
+  hit zero (suc fuel) index start rest q e l f =
+      let z : q ≡ start = omega (arith, zero-mul c) in
       let i : suc index + 0 ≡ suc index = omega arith in
-      let s : place + rest - place ≡ rest = omega arith in
-      turn q fuel index place rest ∙ rw (z, eq-eqb place place refl, i, s)
-  hit (suc k) (suc fuel) index place rest q e l f =
+      let s : start + rest - start ≡ rest = omega arith in
+      turn q fuel index start rest ∙ rw (z, eq-eqb start start refl, i, s)
+  hit (suc k) (suc fuel) index start rest q e l f =
       let u = suc-mul k c in
       let w = some-full in
       let m : min rest c ≡ c = omega arith in
       let i : suc (suc index) + k ≡ suc index + suc k = omega arith in
-      let s : place + c + (rest - c) - q ≡ place + rest - q = omega arith in
-      turn q fuel index place rest
-      ∙ rw (ne-eqb place q (λ d. omega arith), m, ne-eqb c rest (λ d. omega arith))
-      (hit k fuel (suc index) (place + c) (rest - c) q (omega arith) (omega arith) (omega arith) ∙ rw (i, s))
+      let s : start + c + (rest - c) - q ≡ start + rest - q = omega arith in
+      turn q fuel index start rest
+      ∙ rw (ne-eqb start q (λ d. omega arith), m, ne-eqb c rest (λ d. omega arith))
+      (hit k fuel (suc index) (start + c) (rest - c) q (omega arith) (omega arith) (omega arith) ∙ rw (i, s))
 
   -- where no piece begins
-  pub data Missing (place rest q : ℕ) : Type 0 where
-    below : q < place → Missing place rest q
-    beyond : place + rest ≤ q → Missing place rest q
-    between : ((q - place) % c ≡ 0 → ⊥) → Missing place rest q
+  pub data Missing (start rest q : ℕ) : Type 0 where
+    below : q < start → Missing start rest q
+    beyond : start + rest ≤ q → Missing start rest q
+    between : ((q - start) % c ≡ 0 → ⊥) → Missing start rest q
 
-  elsewhere : {place rest q : ℕ} → 1 ≤ rest → Missing place rest q → place ≡ q → ⊥
+  elsewhere : {start rest q : ℕ} → 1 ≤ rest → Missing start rest q → start ≡ q → ⊥
   elsewhere l (below h) e = omega arith
   elsewhere l (beyond h) e = omega arith
-  elsewhere {place} {rest} {q} l (between d) e = let z : q - place ≡ 0 = omega arith in d (rw z (zero-mod c))
+  elsewhere {start} {rest} {q} l (between d) e = let z : q - start ≡ 0 = omega arith in d (rw z (zero-mod c))
 
-  between-next : (place rest q : ℕ) (b : Bool) → ltb q (place + c) ≡ b → ((q - place) % c ≡ 0 → ⊥) → Missing (place + c) rest q
-  between-next place rest q true e d = below (ltb-true q (place + c) e)
-  between-next place rest q false e d =
-      let h : place + c ≤ q = ltb-false q (place + c) e in
-      let g : c ≤ q - place = omega arith in
-      let s : q - place - c ≡ q - (place + c) = omega arith in
+  between-next : (start rest q : ℕ) (b : Bool) → ltb q (start + c) ≡ b → ((q - start) % c ≡ 0 → ⊥) → Missing (start + c) rest q
+  between-next start rest q true e d = below (ltb-true q (start + c) e)
+  between-next start rest q false e d =
+      let h : start + c ≤ q = ltb-false q (start + c) e in
+      let g : c ≤ q - start = omega arith in
+      let s : q - start - c ≡ q - (start + c) = omega arith in
       between (λ z. d (mod-eq-sub-mod g ∙ ap (λ (x : ℕ). x % c) s ∙ z))
 
-  missing-next : {place rest q : ℕ} → c < rest → Missing place rest q → Missing (place + c) (rest - c) q
+  missing-next : {start rest q : ℕ} → c < rest → Missing start rest q → Missing (start + c) (rest - c) q
   missing-next l (below h) = below (omega arith)
   missing-next l (beyond h) = beyond (omega arith)
-  missing-next {place} {rest} {q} l (between d) = between-next place (rest - c) q (ltb q (place + c)) refl d
+  missing-next {start} {rest} {q} l (between d) = between-next start (rest - c) q (ltb q (start + c)) refl d
 
-  miss-by : (fuel index place rest q : ℕ) (b : Bool) → eqb (min rest c) rest ≡ b
-      → (c < rest → pieceAt q (piecesFrom fuel room (suc (suc index)) (place + c) (rest - c)) ≡ none)
-      → pieceAt q (cond b [] (piecesFrom fuel room (suc (suc index)) (place + min rest c) (rest - min rest c))) ≡ none
-  miss-by fuel index place rest q true e later = refl
-  miss-by fuel index place rest q false e later =
+  miss-by : (fuel index start rest q : ℕ) (b : Bool) → eqb (min rest c) rest ≡ b
+      → (c < rest → pieceAt q (piecesFrom fuel room (suc (suc index)) (start + c) (rest - c)) ≡ none)
+      → pieceAt q (cond b [] (piecesFrom fuel room (suc (suc index)) (start + min rest c) (rest - min rest c))) ≡ none
+  miss-by fuel index start rest q true e later = refl
+  miss-by fuel index start rest q false e later =
       let d : (min rest c ≡ rest → ⊥) = eqb-false (min rest c) rest e in
       let l : c < rest = omega arith in
       let m : min rest c ≡ c = omega arith in
       rw m (later l)
 
-  miss : (fuel index place rest q : ℕ) → 1 ≤ rest → Missing place rest q → pieceAt q (piecesFrom fuel room (suc index) place rest) ≡ none
-  miss zero index place rest q l h = refl
-  miss (suc fuel) index place rest q l h =
-      turn q fuel index place rest
-      ∙ rw (ne-eqb place q (elsewhere l h))
-      (miss-by fuel index place rest q (eqb (min rest c) rest) refl
-      (λ u. miss fuel (suc index) (place + c) (rest - c) q (omega arith) (missing-next u h)))
+  miss : (fuel index start rest q : ℕ) → 1 ≤ rest → Missing start rest q → pieceAt q (piecesFrom fuel room (suc index) start rest) ≡ none
+  miss zero index start rest q l h = refl
+  miss (suc fuel) index start rest q l h =
+      turn q fuel index start rest
+      ∙ rw (ne-eqb start q (elsewhere l h))
+      (miss-by fuel index start rest q (eqb (min rest c) rest) refl
+      (λ u. miss fuel (suc index) (start + c) (rest - c) q (omega arith) (missing-next u h)))
 
 -- ---- the piece at a place q of a whole message: f is the size of a full first piece, c of a full one after it
 
 module _ (room length q f : ℕ) (enough : leastRoom ≤ room) (fullf : f ≡ fullSize room true) where
   begin : pieceAt q (piecesOf room length)
-      ≡ cond (eqb 0 q) (some (record { index = 0; place = 0; size = min length f }))
+      ≡ cond (eqb 0 q) (some (record { index = 0; start = 0; size = min length f }))
       (pieceAt q (cond (eqb (min length f) length) [] (piecesFrom length room 1 (0 + min length f) (length - min length f))))
   begin = let e : sizeFor room true length ≡ min length f = rw fullf (size-is room true enough length) in rw e
 
-  pub place-first : q ≡ 0 → pieceAt q (piecesOf room length) ≡ some (record { index = 0; place = 0; size = min length f })
+  pub place-first : q ≡ 0 → pieceAt q (piecesOf room length) ≡ some (record { index = 0; start = 0; size = min length f })
   place-first z = begin ∙ rw (eq-eqb 0 q (sym z))
 
   module _ (c : ℕ) (fullc : c ≡ fullSize room false) (some-place : q ≡ 0 → ⊥) where
@@ -113,7 +113,7 @@ module _ (room length q f : ℕ) (enough : leastRoom ≤ room) (fullf : f ≡ fu
     place-none h = begin ∙ rw (ne-eqb 0 q (λ e. some-place (sym e))) (none-by (eqb (min length f) length) refl h)
 
     pub place-hit : f ≤ q → q < length → (q - f) % c ≡ 0
-        → pieceAt q (piecesOf room length) ≡ some (record { index = (q - f) / c + 1; place = q; size = min (length - q) c })
+        → pieceAt q (piecesOf room length) ≡ some (record { index = (q - f) / c + 1; start = q; size = min (length - q) c })
     place-hit g l z =
         let w : 0 < f = rw fullf (full-some room true enough) in
         let k : ℕ = (q - f) / c in

@@ -9,9 +9,9 @@ use Rattle.ble_sender.specs.declared.piece.Piece.{Piece}
 use Rattle.ble_sender.specs.declared.piece.Found.{Found}
 use Rattle.ble_sender.specs.declared.piece.Found.the-variants.{Nowhere, At}
 
--- n bytes from a place on
+-- n bytes from a start on
 abbrev pub pieceFor : ℕ → ℕ → ℕ → Piece
-pieceFor index place n = record { index = index; place = place; size = n }
+pieceFor index start n = record { index = index; start = start; size = n }
 
 -- the rooms: the largest whole packet, in bytes
 abbrev pub leastRoom : ℕ
@@ -49,13 +49,13 @@ fullSize room first = sizeFor room first room
 abbrev pub isFirst : ℕ → Bool
 isFirst index = eqb index 0
 
--- the pieces of the rest of a message from a place on, until one takes all of it
+-- the pieces of the rest of a message from a start on, until one takes all of it
 abbrev pub piecesFrom : ℕ → ℕ → ℕ → ℕ → ℕ → List Piece
-piecesFrom zero room index place rest = []
-piecesFrom (suc fuel) room index place rest =
-    record { index = index; place = place; size = sizeFor room (isFirst index) rest }
+piecesFrom zero room index start rest = []
+piecesFrom (suc fuel) room index start rest =
+    record { index = index; start = start; size = sizeFor room (isFirst index) rest }
     ∷ cond (eqb (sizeFor room (isFirst index) rest) rest) []
-    (piecesFrom fuel room (suc index) (place + sizeFor room (isFirst index) rest) (rest - sizeFor room (isFirst index) rest))
+    (piecesFrom fuel room (suc index) (start + sizeFor room (isFirst index) rest) (rest - sizeFor room (isFirst index) rest))
 
 -- all pieces of a message of that length; an empty message has one, of no bytes
 abbrev pub piecesOf : ℕ → ℕ → List Piece
@@ -63,8 +63,8 @@ piecesOf room length = piecesFrom (suc length) room 0 0 length
 
 -- the piece that begins at a place
 abbrev pub pieceAt : ℕ → List Piece → Option Piece
-pieceAt place [] = none
-pieceAt place (p ∷ ps) = cond (eqb (p .place) place) (some p) (pieceAt place ps)
+pieceAt start [] = none
+pieceAt start (p ∷ ps) = cond (eqb (p .start) start) (some p) (pieceAt start ps)
 
 -- what the code found
 abbrev pub foundOf : Found → Option Piece

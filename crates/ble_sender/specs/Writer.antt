@@ -47,11 +47,11 @@ headerBytes w total p last = startBytes w p last ++ totalBytes (isFirst (p .inde
 
 -- the last piece ends where the message ends
 abbrev pub isLast : ℕ → Piece → Bool
-isLast length p = eqb (p .place + p .size) length
+isLast length p = eqb (p .start + p .size) length
 
 -- the packet of a piece: its header, then its bytes
 unfoldable pub packetOf : Sending → List ℕ → Piece → List ℕ
-packetOf w m p = headerBytes w (length m) p (isLast (length m) p) ++ take (p .size) (drop (p .place) m)
+packetOf w m p = headerBytes w (length m) p (isLast (length m) p) ++ take (p .size) (drop (p .start) m)
 
 -- all packets of a message, in order
 abbrev pub packetsOf : Sending → List ℕ → List (List ℕ)
@@ -105,7 +105,7 @@ sentFor final n next = cond final (last n) (more n next)
 
 -- what is told of the packet of a piece
 abbrev pub sentOf : Sending → List ℕ → Piece → Sent
-sentOf w m p = sentFor (isLast (length m) p) (length (packetOf w m p)) (p .place + p .size)
+sentOf w m p = sentFor (isLast (length m) p) (length (packetOf w m p)) (p .start + p .size)
 
 -- the number of a refusal, or what was sent
 abbrev pub told : Answer → Told Sent
@@ -115,7 +115,7 @@ told (Last n) = given (last n)
 
 -- the piece that is written, where one begins
 abbrev pub pieceOf : Option Piece → Piece
-pieceOf found = Option·getD found (record { index = 0; place = 0; size = 0 })
+pieceOf found = Option·getD found (record { index = 0; start = 0; size = 0 })
 
 -- the packet of the piece that begins at the place stands first in the output, and nothing else changes
 unfoldable pub writtenOf : ℕ → Sending → List ℕ → ℕ → List ℕ → Written Sent
@@ -142,7 +142,7 @@ pub record Writes (w : Sending) (length : ℕ) (space : ℕ) (p : Piece) : Type 
   pub low-stream : w .stream < fourBits
   pub low-id : w .id < fourBits
   pub low-total : length < 65536
-  pub inside : p .place + p .size ≤ length
+  pub inside : p .start + p .size ≤ length
   pub header-fits : headerSize (isFirst (p .index)) (extended (p .size)) + p .size ≤ space
 
 -- the same of a decision to write

@@ -16,7 +16,7 @@ pub const ONE_BYTE_LENGTH: usize = 255;
 // The part of a message that one packet carries.
 pub struct Piece {
     pub index: usize,
-    pub place: usize,
+    pub start: usize,
     pub size: usize,
 }
 
@@ -49,36 +49,36 @@ pub fn full_size(room: usize, first: bool) -> usize
 }
 
 // The piece of a message of that length which begins at the place, if one does: the pieces before it are full.
-pub(crate) fn piece_at(room: usize, length: usize, place: usize) -> Found
+pub(crate) fn piece_at(room: usize, length: usize, start: usize) -> Found
     requires { ⌜ leastRoom ≤ room ⌝ }
-    ensures { λ r. ⌜ foundOf r ≡ pieceAt place (piecesOf room length) ⌝ }
+    ensures { λ r. ⌜ foundOf r ≡ pieceAt start (piecesOf room length) ⌝ }
 {
     let first = full_size(room, true);
-    if place == 0 {
+    if start == 0 {
         let size = smaller(length, first);
         return Found::At(Piece {
             index: 0,
-            place: 0,
+            start: 0,
             size,
         });
     }
-    if length < place {
+    if length < start {
         return Found::Nowhere;
     }
-    let rest = length - place;
+    let rest = length - start;
     if rest == 0 {
         return Found::Nowhere;
     }
-    if place < first {
+    if start < first {
         return Found::Nowhere;
     }
     let next = full_size(room, false);
-    let past = place - first;
+    let past = start - first;
     let over = past % next;
     if over != 0 {
         return Found::Nowhere;
     }
     let index = past / next + 1;
     let size = smaller(rest, next);
-    Found::At(Piece { index, place, size })
+    Found::At(Piece { index, start, size })
 }

@@ -184,12 +184,12 @@ fn write_piece(how: Sending, message: &[u8], piece: Piece, out: &mut [u8]) -> An
         ≡ written (given (sentOf how (now (message .entry)) piece))
         (sets (now (out .entry)) 0 (packetOf how (now (message .entry)) piece)) ⌝ }
 {
-    let place = piece.place;
+    let start = piece.start;
     let size = piece.size;
-    let end = place + size;
+    let end = start + size;
     let last = end == message.len();
     let header = put_header(out, how, message.len(), piece, last);
-    copy(out, header, &message[place..end]);
+    copy(out, header, &message[start..end]);
     answer_for(last, header + size, end)
 }
 

@@ -30,12 +30,12 @@ told-by out later true n next = refl
 told-by out later false n next = refl
 
 module _ (limit : ℕ) (w : Sending) (m : List ℕ) (range : limitFits limit ≡ true) (fits : roomFits (w .room) ≡ true) (fit : argumentsFit limit w (length m) ≡ true) where
-  -- the next piece, where so many bytes are left from a place on
+  -- the next piece, where `rest` bytes are left from a place on
   abbrev size : ℕ → ℕ → ℕ
   size index rest = sizeFor (w .room) (isFirst index) rest
 
   abbrev piece : ℕ → ℕ → ℕ → Piece
-  piece index place rest = record { index = index; place = place; size = size index rest }
+  piece index start rest = record { index = index; start = start; size = size index rest }
 
   low : leastRoom ≤ w .room
   low = room-low (w .room) fits
@@ -46,48 +46,48 @@ module _ (limit : ℕ) (w : Sending) (m : List ℕ) (range : limitFits limit ≡
   call out place p o e = simp (fits, range, fit, e, le-ltb (length out) (w .room) o)
 
   -- a call where a piece begins gives its packet, and after it, unless it is the last, what the calls from the next place on give
-  gives : (calls index place rest : ℕ) (out : List ℕ) → place + rest ≡ length m → w .room ≤ length out
-      → foundAt w (length m) place ≡ some (piece index place rest)
-      → callsFrom (suc calls) limit w m out place
-      ≡ packetOf w m (piece index place rest)
-      ∷ cond (eqb (size index rest) rest) [] (callsFrom calls limit w m (sets out 0 (packetOf w m (piece index place rest))) (place + size index rest))
+  gives : (calls index start rest : ℕ) (out : List ℕ) → start + rest ≡ length m → w .room ≤ length out
+      → foundAt w (length m) start ≡ some (piece index start rest)
+      → callsFrom (suc calls) limit w m out start
+      ≡ packetOf w m (piece index start rest)
+      ∷ cond (eqb (size index rest) rest) [] (callsFrom calls limit w m (sets out 0 (packetOf w m (piece index start rest))) (start + size index rest))
   unfolding callsFrom
-  gives calls index place rest out t o e =
-      let p : Piece = piece index place rest in
+  gives calls index start rest out t o e =
+      let p : Piece = piece index start rest in
       let l = size-le (w .room) (isFirst index) low rest in
       let k = packet-length w m p (omega arith) in
       let f = size-fits (w .room) (isFirst index) low rest in
-      rw (call out place p o e)
+      rw (call out start p o e)
       (told-by (sets out 0 (packetOf w m p)) (callsFrom calls limit w m (sets out 0 (packetOf w m p))) (isLast (length m) p) _ _
-      ∙ rw (first-bytes out (packetOf w m p) (omega arith), last-by place (size index rest) rest (length m) (eqb (size index rest) rest) refl t))
+      ∙ rw (first-bytes out (packetOf w m p) (omega arith), last-by start (size index rest) rest (length m) (eqb (size index rest) rest) refl t))
 
   -- from a place on, the pieces are found in what is left of the list
   abbrev Finds : ℕ → List Piece → Type 0
-  Finds place ps = (q : ℕ) → place ≤ q → foundAt w (length m) q ≡ pieceAt q ps
+  Finds start ps = (q : ℕ) → start ≤ q → foundAt w (length m) q ≡ pieceAt q ps
 
-  finds-next : (fuel index place rest : ℕ) → size index rest < rest → Finds place (piecesFrom (suc fuel) (w .room) index place rest)
-      → Finds (place + size index rest) (piecesFrom fuel (w .room) (suc index) (place + size index rest) (rest - size index rest))
-  finds-next fuel index place rest l f q h =
+  finds-next : (fuel index start rest : ℕ) → size index rest < rest → Finds start (piecesFrom (suc fuel) (w .room) index start rest)
+      → Finds (start + size index rest) (piecesFrom fuel (w .room) (suc index) (start + size index rest) (rest - size index rest))
+  finds-next fuel index start rest l f q h =
       let s = size-some (w .room) (isFirst index) low rest (omega arith) in
-      f q (omega arith) ∙ rw (ne-eqb place q (λ e. omega arith), ne-eqb (size index rest) rest (λ e. omega arith))
+      f q (omega arith) ∙ rw (ne-eqb start q (λ e. omega arith), ne-eqb (size index rest) rest (λ e. omega arith))
 
   tail-by : (n rest : ℕ) (b : Bool) (xs : List (List ℕ)) (ps : List Piece) → eqb n rest ≡ b → n ≤ rest → (n < rest → xs ≡ map (packetOf w m) ps)
       → cond b [] xs ≡ map (packetOf w m) (cond b [] ps)
   tail-by n rest true xs ps e l h = refl
   tail-by n rest false xs ps e l h = let d : (n ≡ rest → ⊥) = eqb-false n rest e in h (omega arith)
 
-  calls-from : (fuel index place rest : ℕ) (out : List ℕ) → place + rest ≡ length m → w .room ≤ length out
-      → Finds place (piecesFrom fuel (w .room) index place rest)
-      → callsFrom fuel limit w m out place ≡ map (packetOf w m) (piecesFrom fuel (w .room) index place rest)
+  calls-from : (fuel index start rest : ℕ) (out : List ℕ) → start + rest ≡ length m → w .room ≤ length out
+      → Finds start (piecesFrom fuel (w .room) index start rest)
+      → callsFrom fuel limit w m out start ≡ map (packetOf w m) (piecesFrom fuel (w .room) index start rest)
   unfolding callsFrom
-  calls-from zero index place rest out t o f = refl
-  calls-from (suc fuel) index place rest out t o f =
+  calls-from zero index start rest out t o f = refl
+  calls-from (suc fuel) index start rest out t o f =
       let n : ℕ = size index rest in
       let s = size-le (w .room) (isFirst index) low rest in
-      gives fuel index place rest out t o (f place (omega arith) ∙ rw (eq-eqb place place refl))
-      ∙ ap (λ (ps : List (List ℕ)). packetOf w m (piece index place rest) ∷ ps)
+      gives fuel index start rest out t o (f start (omega arith) ∙ rw (eq-eqb start start refl))
+      ∙ ap (λ (ps : List (List ℕ)). packetOf w m (piece index start rest) ∷ ps)
       (tail-by n rest (eqb n rest) _ _ refl s
-      (λ l. calls-from fuel (suc index) (place + n) (rest - n) _ (omega arith) (simp length-sets o) (finds-next fuel index place rest l f)))
+      (λ l. calls-from fuel (suc index) (start + n) (rest - n) _ (omega arith) (simp length-sets o) (finds-next fuel index start rest l f)))
 
 pub calls-are : (limit : ℕ) (w : Sending) (m out : List ℕ) → SendableMessage limit w m out → callsOf limit w m out ≡ packetsOf w m
 calls-are limit w m out t =

@@ -16,7 +16,7 @@ packetsBy out later (refused n) = []
 packetsBy out later (given (more n next)) = take n out ∷ later next
 packetsBy out later (given (last n)) = take n out ∷ []
 
--- the packets of at most so many calls, each at the place that the one before it told, until one tells that it was the last
+-- the packets of at most `calls` calls, each at the place that the one before it told, until one tells that it was the last
 unfoldable pub callsFrom : ℕ → ℕ → Sending → List ℕ → List ℕ → ℕ → List (List ℕ)
 callsFrom zero limit w m out place = []
 callsFrom (suc calls) limit w m out place =

@@ -30,15 +30,15 @@ stream-back Alexa = refl
 pub same-stream : (a b : Stream) → laneNumber a ≡ laneNumber b → a ≡ b
 same-stream a b e = sym (stream-back a) ∙ ap streamAt e ∙ stream-back b
 
--- a stream's place is one of all
-pub place-low : (t : Stream) (place : ℕ) → place < slotsEach → laneStart t + place < slotCount
-place-low Control place low = omega arith
-place-low Ota place low = omega arith
-place-low Alexa place low = omega arith
+-- a stream's spot is an index of the row
+pub spot-low : (t : Stream) (spot : ℕ) → spot < slotsEach → laneStart t + spot < slotCount
+spot-low Control spot low = omega arith
+spot-low Ota spot low = omega arith
+spot-low Alexa spot low = omega arith
 
--- places of different streams differ
-pub place-other : (a b : Stream) (i j : ℕ) → a ≢ b → i < slotsEach → j < slotsEach → laneStart a + i ≢ laneStart b + j
-place-other a b i j d u v e = d (same-stream a b (omega arith))
+-- spots of different streams differ in the row
+pub spot-other : (a b : Stream) (i j : ℕ) → a ≢ b → i < slotsEach → j < slotsEach → laneStart a + i ≢ laneStart b + j
+spot-other a b i j d u v e = d (same-stream a b (omega arith))
 
 outside : (n k : ℕ) (l : List Slot) (at : ℕ) (s : Slot) (b : Bool) → ltb at k ≡ b → (k ≤ at → k + n ≤ at)
     → take n (drop k (set l at s)) ≡ take n (drop k l)
@@ -51,38 +51,38 @@ outside n k l at s false e h =
     ∙ ap (take n) (drop-set-add k l (at - k) s)
     ∙ take-set-le n (drop k l) (at - k) s (omega arith)
 
--- a store at another stream's place
-pub lane-other : (a t : Stream) (slots : List Slot) (place : ℕ) (s : Slot) → a ≢ t → place < slotsEach
-    → laneOf t (set slots (laneStart a + place) s) ≡ laneOf t slots
-lane-other a t slots place s d low =
+-- a store at another stream's spot
+pub lane-other : (a t : Stream) (slots : List Slot) (spot : ℕ) (s : Slot) → a ≢ t → spot < slotsEach
+    → laneOf t (set slots (laneStart a + spot) s) ≡ laneOf t slots
+lane-other a t slots spot s d low =
     let apart : (laneNumber a ≡ laneNumber t → ⊥) = λ e. d (same-stream a t e) in
-    outside slotsEach (laneStart t) slots (laneStart a + place) s (ltb (laneStart a + place) (laneStart t)) refl (λ h. omega arith)
+    outside slotsEach (laneStart t) slots (laneStart a + spot) s (ltb (laneStart a + spot) (laneStart t)) refl (λ h. omega arith)
 
 -- a store at one of its own
-pub lane-set : (t : Stream) (slots : List Slot) (place : ℕ) (s : Slot) → place < slotsEach
-    → laneOf t (set slots (laneStart t + place) s) ≡ set (laneOf t slots) place s
-lane-set t slots place s low =
-    ap (take slotsEach) (drop-set-add (laneStart t) slots place s) ∙ take-set-lt slotsEach (drop (laneStart t) slots) place s low
+pub lane-set : (t : Stream) (slots : List Slot) (spot : ℕ) (s : Slot) → spot < slotsEach
+    → laneOf t (set slots (laneStart t + spot) s) ≡ set (laneOf t slots) spot s
+lane-set t slots spot s low =
+    ap (take slotsEach) (drop-set-add (laneStart t) slots spot s) ∙ take-set-lt slotsEach (drop (laneStart t) slots) spot s low
 
 -- a lawful slot in place of another, whose id no other of its stream has
-distinct-next : (t u : Stream) (slots : List Slot) (place : ℕ) (s : Slot) (b : Bool) → eqb (laneNumber t) (laneNumber u) ≡ b
-    → distinct (laneOf u slots) ≡ true → place < slotsEach
-    → ((id : ℕ) → isOpen id s ≡ true → anyOpen id (set (laneOf t slots) place idle) ≡ false)
-    → distinct (laneOf u (set slots (laneStart t + place) s)) ≡ true
-distinct-next t u slots place s true e law low alone =
+distinct-next : (t u : Stream) (slots : List Slot) (spot : ℕ) (s : Slot) (b : Bool) → eqb (laneNumber t) (laneNumber u) ≡ b
+    → distinct (laneOf u slots) ≡ true → spot < slotsEach
+    → ((id : ℕ) → isOpen id s ≡ true → anyOpen id (set (laneOf t slots) spot idle) ≡ false)
+    → distinct (laneOf u (set slots (laneStart t + spot) s)) ≡ true
+distinct-next t u slots spot s true e law low alone =
     let same : t ≡ u = same-stream t u (eqb-true (laneNumber t) (laneNumber u) e) in
-    rw (← same) (rw (lane-set t slots place s low) (distinct-set (laneOf t slots) place s (rw (← same) at law) alone))
-distinct-next t u slots place s false e law low alone =
-    rw (lane-other t u slots place s (λ d. eqb-false (laneNumber t) (laneNumber u) e (ap laneNumber d)) low) law
+    rw (← same) (rw (lane-set t slots spot s low) (distinct-set (laneOf t slots) spot s (rw (← same) at law) alone))
+distinct-next t u slots spot s false e law low alone =
+    rw (lane-other t u slots spot s (λ d. eqb-false (laneNumber t) (laneNumber u) e (ap laneNumber d)) low) law
 
-pub lawful-set : (limit : ℕ) (t : Stream) (slots : List Slot) (place : ℕ) (s : Slot) → LawfulRow limit slots → place < slotsEach
-    → lawfulSlot limit s ≡ true → ((id : ℕ) → isOpen id s ≡ true → anyOpen id (set (laneOf t slots) place idle) ≡ false)
-    → LawfulRow limit (set slots (laneStart t + place) s)
-lawful-set limit t slots place s law low left alone =
+pub lawful-set : (limit : ℕ) (t : Stream) (slots : List Slot) (spot : ℕ) (s : Slot) → LawfulRow limit slots → spot < slotsEach
+    → lawfulSlot limit s ≡ true → ((id : ℕ) → isOpen id s ≡ true → anyOpen id (set (laneOf t slots) spot idle) ≡ false)
+    → LawfulRow limit (set slots (laneStart t + spot) s)
+lawful-set limit t slots spot s law low left alone =
     record {
-      count = length-set slots (laneStart t + place) s ∙ law .count;
-      each = all-set limit slots (laneStart t + place) s (law .each) left;
-      apart = λ u. distinct-next t u slots place s (eqb (laneNumber t) (laneNumber u)) refl (law .apart u) low alone;
+      count = length-set slots (laneStart t + spot) s ∙ law .count;
+      each = all-set limit slots (laneStart t + spot) s (law .each) left;
+      apart = λ u. distinct-next t u slots spot s (eqb (laneNumber t) (laneNumber u)) refl (law .apart u) low alone;
     }
 
 -- ---- the row slot by slot, as the code has it
@@ -122,7 +122,7 @@ LawFour limit lane =
 pub law-four : (limit : ℕ) (lane : List Slot) → length lane ≡ slotsEach → LawFour limit lane
 law-four limit = by-four (LawFour limit) (λ a b c d. simp (and-true, and-false))
 
--- four idle slots of a row from a place on
+-- four idle slots of a row from an index on
 pub idle-four : (limit at : ℕ) (l : List Slot) → at + slotsEach ≤ length l
     → (idleLaw (getD l at idle) && (idleLaw (getD l (suc at) idle) && (idleLaw (getD l (suc (suc at)) idle) && idleLaw (getD l (suc (suc (suc at))) idle)))) ≡ true
     → laneLaw limit (take slotsEach (drop at l)) ≡ true

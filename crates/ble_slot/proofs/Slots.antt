@@ -215,7 +215,7 @@ all-drop limit (suc n) (s ∷ l) e = all-drop limit n l (and-right (lawfulSlot l
 open-self : (s : Slot) → opens s ≡ true → isOpen (s .id) s ≡ true
 open-self s o = rw (o, eq-eqb (s .id) (s .id) refl)
 
--- an id that is open at a place is open
+-- an id that is open at one index is open
 pub any-at : (id : ℕ) (l : List Slot) (i : ℕ) → isOpen id (getD l i idle) ≡ true → anyOpen id l ≡ true
 any-at id [] i o = absurd (false≢true o)
 any-at id (x ∷ l) zero o = rw o

@@ -79,7 +79,7 @@ laneNumber Control = 0
 laneNumber Ota = 1
 laneNumber Alexa = 2
 
--- the place of a stream's first slot
+-- the index of a stream's first slot
 abbrev pub laneStart : Stream → ℕ
 laneStart stream = laneNumber stream * slotsEach
 

@@ -5,17 +5,17 @@ use wire::stream::Stream;
 ghost use mathlib.Core.Path.{_≡_};
 ghost use Rattle.ble_slot.specs.Answer.{numberOf};
 
-// A packet that is not refused: a piece of a transaction with more to come, its last piece, an ACK or a NACK. Place: of its slot in the
+// A packet that is not refused: a piece of a transaction with more to come, its last piece, an ACK or a NACK. Index: of its slot in the
 // row. Replaced: an open transaction of its stream and id was replaced. ACK: one of the transaction's packets asked for it.
 pub enum Accepted {
     Taken {
-        place: usize,
+        index: usize,
         stream: Stream,
         id: u8,
         replaced: bool,
     },
     Finished {
-        place: usize,
+        index: usize,
         stream: Stream,
         id: u8,
         total: usize,

@@ -10,7 +10,7 @@ use Rattle.ble_packet.specs.declared.reader.Head.{Head}
 use Rattle.ble_packet.specs.Header.{sequenceAfter}
 use Rattle.ble_slot.specs.declared.Slot.{Slot}
 use Rattle.ble_slot_steps.specs.declared.PayloadPlace.{PayloadPlace}
-use Rattle.ble_slot_steps.specs.Step.{Step, Act, still, step, finish, hold, dropBy, firstStep, offTotal, nextStep, atPlace}
+use Rattle.ble_slot_steps.specs.Step.{Step, Act, still, step, finish, hold, dropBy, firstStep, offTotal, nextStep, atSpot}
 
 -- of a packet with this head
 pub record EachStep (h : Head) (P : Step → Type 0) : Type 0 where
@@ -32,8 +32,8 @@ module _ {h : Head} (P : Step → Type 0) (each : EachStep h P) (at : ℕ) (s : 
       by-cond P (offTotal last (s .held + len) (s .total)) _ _ (λ _. each .eleven) (λ _.
       by-cond P last _ _ (λ _. each .finished at _ (s .total) _ _) (λ _. each .held at _ (s .total) _ _)))
 
--- a step at the place that was found, or a refusal
-pub at-each : (Q : Act → Type 0) (n : ℕ) (f : ℕ → Step) (o : Option ℕ) → Q (still (refused n)) → ((place : ℕ) → o ≡ some place → Q (step place (f place)))
-    → Q (atPlace n f o)
+-- a step at the spot that was found, or a refusal
+pub at-each : (Q : Act → Type 0) (n : ℕ) (f : ℕ → Step) (o : Option ℕ) → Q (still (refused n)) → ((spot : ℕ) → o ≡ some spot → Q (step spot (f spot)))
+    → Q (atSpot n f o)
 at-each Q n f none r h = r
-at-each Q n f (some place) r h = h place refl
+at-each Q n f (some spot) r h = h spot refl

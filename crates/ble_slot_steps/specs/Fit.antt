@@ -15,25 +15,25 @@ use Rattle.ble_slot_steps.specs.Step.{Step, Act, still, step}
 abbrev pub InsidePart : ℕ → ℕ → PayloadPlace → Type 0
 InsidePart limit k payload = (payload .start + payload .len ≤ k) × (payload .at + payload .len ≤ limit)
 
--- a step is at one of its stream's places, its payload keeps within bounds, and it leaves its slot lawful
-pub record Fit (limit k place : ℕ) (s : Step) : Type 0 where
-  pub within : place < slotsEach
+-- a step is at one of its stream's spots, its payload keeps within bounds, and it leaves its slot lawful
+pub record Fit (limit k spot : ℕ) (s : Step) : Type 0 where
+  pub within : spot < slotsEach
   pub inside : InsidePart limit k (s .payload)
   pub left : lawfulSlot limit (s .slot) ≡ true
 
 abbrev pub ActFits : ℕ → ℕ → Act → Type 0
 ActFits limit k (still told) = Unit {0}
-ActFits limit k (step place s) = Fit limit k place s
+ActFits limit k (step spot s) = Fit limit k spot s
 
--- a step of a packet's own slot among its stream's: an id that it leaves open is open at no other place, and what was open there had the
+-- a step of a packet's own slot among its stream's: an id that it leaves open is open at no other spot, and what was open there had the
 -- packet's id
-pub record Own (id : ℕ) (lane : List Slot) (place : ℕ) (s : Step) : Type 0 where
-  pub alone : (i : ℕ) → isOpen i (s .slot) ≡ true → anyOpen i (set lane place idle) ≡ false
-  pub was : opens (getD lane place idle) ≡ true → getD lane place idle .id ≡ id
+pub record Own (id : ℕ) (lane : List Slot) (spot : ℕ) (s : Step) : Type 0 where
+  pub alone : (i : ℕ) → isOpen i (s .slot) ≡ true → anyOpen i (set lane spot idle) ≡ false
+  pub was : opens (getD lane spot idle) ≡ true → getD lane spot idle .id ≡ id
 
 abbrev pub ActOwns : ℕ → List Slot → Act → Type 0
 ActOwns id lane (still told) = Unit {0}
-ActOwns id lane (step place s) = Own id lane place s
+ActOwns id lane (step spot s) = Own id lane spot s
 
 -- numbers of a packet that a slot can hold
 abbrev pub Small : Packet → Type 0

@@ -16,8 +16,8 @@ use Rattle.ble_slot_steps.specs.declared.PayloadPlace.{PayloadPlace}
 use Rattle.ble_slot.specs.declared.answer.Accepted.{Accepted}
 use Rattle.ble_slot.specs.declared.answer.Accepted.the-variants.{Taken, Finished, Acked, Nacked}
 use Rattle.ble_slot_steps.specs.declared.Step as code
-use Rattle.ble_slot_steps.specs.declared.place.Spot.{Spot}
-use Rattle.ble_slot_steps.specs.declared.place.Spot.the-variants.{Nowhere, At}
+use Rattle.ble_slot_steps.specs.declared.spot.Spot.{Spot}
+use Rattle.ble_slot_steps.specs.declared.spot.Spot.the-variants.{Nowhere, At}
 use Rattle.ble_slot.specs.Slot.{opens, wants, idle, isOpen, isIdle}
 use Rattle.ble_slot.specs.Answer as answer
 
@@ -27,12 +27,12 @@ pub record Step : Type 0 where
   pub slot : Slot
   pub payload : PayloadPlace
 
--- what is done with a packet: an answer that leaves all, or a step of the slot at a place among its stream's
+-- what is done with a packet: an answer that leaves all, or a step of the slot at a spot among its stream's
 pub data Act : Type 0 where
   still : Told Accepted → Act
   step : ℕ → Step → Act
 
--- ---- a step of the slot at a place of the row
+-- ---- a step of the slot at an index of the row
 
 -- no bytes
 abbrev pub nothing : PayloadPlace
@@ -40,14 +40,14 @@ nothing = record { at = 0; start = 0; len = 0 }
 
 -- the transaction is finished: its wish for an ACK is told, and its slot idle
 unfoldable pub finish : ℕ → Head → Bool → ℕ → Bool → PayloadPlace → Step
-finish place head wanted total replaced payload =
-    record { told = given (Finished place (head .stream) (head .id) total wanted replaced); slot = idle; payload = payload }
+finish index head wanted total replaced payload =
+    record { told = given (Finished index (head .stream) (head .id) total wanted replaced); slot = idle; payload = payload }
 
 -- more is to come: the slot holds all up to the payload's end, and remembers the wish
 unfoldable pub hold : ℕ → Head → Bool → ℕ → Bool → PayloadPlace → Step
-hold place head wanted total replaced payload =
+hold index head wanted total replaced payload =
     record {
-      told = given (Taken place (head .stream) (head .id) replaced);
+      told = given (Taken index (head .stream) (head .id) replaced);
       slot = record { opened = 1; id = head .id; sequence = head .sequence; wanted = bit wanted; total = total; held = payload .at + payload .len };
       payload = payload;
     }
@@ -58,9 +58,9 @@ dropBy n = record { told = refused n; slot = idle; payload = nothing }
 
 -- a first packet replaces what is open, its wish too; one whose payload equals its total finishes at once
 unfoldable pub firstStep : ℕ → Slot → Head → Bool → ℕ → ℕ → ℕ → Step
-firstStep place s head ack total start len =
-    cond (eqb len total) (finish place head ack total (opens s) (record { at = 0; start = start; len = len }))
-    (hold place head ack total (opens s) (record { at = 0; start = start; len = len }))
+firstStep index s head ack total start len =
+    cond (eqb len total) (finish index head ack total (opens s) (record { at = 0; start = start; len = len }))
+    (hold index head ack total (opens s) (record { at = 0; start = start; len = len }))
 
 -- type 1 reaches or passes the total, or type 2 misses it
 abbrev pub offTotal : Bool → ℕ → ℕ → Bool
@@ -75,47 +75,47 @@ lines s head last len =
 
 -- it is written behind what is held, and adds its flag to the wish; 10 and 11 drop the transaction
 unfoldable pub nextStep : ℕ → Slot → Head → Bool → Bool → ℕ → ℕ → Step
-nextStep place s head ack last start len =
+nextStep index s head ack last start len =
     table (lines s head last len) dropBy
-    (cond last (finish place head (wants s || ack) (s .total) false (record { at = s .held; start = start; len = len }))
-    (hold place head (wants s || ack) (s .total) false (record { at = s .held; start = start; len = len })))
+    (cond last (finish index head (wants s || ack) (s .total) false (record { at = s .held; start = start; len = len }))
+    (hold index head (wants s || ack) (s .total) false (record { at = s .held; start = start; len = len })))
 
 -- ---- the slots of a stream
 
--- one place further
+-- one spot further
 abbrev pub further : Option ℕ → Option ℕ
 further none = none
-further (some place) = some (suc place)
+further (some spot) = some (suc spot)
 
 abbrev pub orElse : Option ℕ → Option ℕ → Option ℕ
 orElse none other = other
-orElse (some place) other = some place
+orElse (some spot) other = some spot
 
--- the place of the first slot that passes a test
-abbrev pub placeWhere : (Slot → Bool) → List Slot → Option ℕ
-placeWhere test [] = none
-placeWhere test (s ∷ ss) = cond (test s) (some 0) (further (placeWhere test ss))
+-- the spot of the first slot that passes a test
+abbrev pub spotWhere : (Slot → Bool) → List Slot → Option ℕ
+spotWhere test [] = none
+spotWhere test (s ∷ ss) = cond (test s) (some 0) (further (spotWhere test ss))
 
--- a step at the place that was found, or a refusal that leaves all
-abbrev pub atPlace : ℕ → (ℕ → Step) → Option ℕ → Act
-atPlace n f none = still (refused n)
-atPlace n f (some place) = step place (f place)
+-- a step at the spot that was found, or a refusal that leaves all
+abbrev pub atSpot : ℕ → (ℕ → Step) → Option ℕ → Act
+atSpot n f none = still (refused n)
+atSpot n f (some spot) = step spot (f spot)
 
 -- where the id of a packet is open
-abbrev pub openPlace : List Slot → ℕ → Option ℕ
-openPlace lane id = placeWhere (isOpen id) lane
+abbrev pub openSpot : List Slot → ℕ → Option ℕ
+openSpot lane id = spotWhere (isOpen id) lane
 
 -- where the id of a first packet is open, or else the lowest idle slot
-abbrev pub firstPlace : List Slot → ℕ → Option ℕ
-firstPlace lane id = orElse (openPlace lane id) (placeWhere isIdle lane)
+abbrev pub firstSpot : List Slot → ℕ → Option ℕ
+firstSpot lane id = orElse (openSpot lane id) (spotWhere isIdle lane)
 
--- what a packet does to its stream's slots, which begin at a place of the row: 18 where a first packet finds no slot, 9 where no
+-- what a packet does to its stream's slots, which begin at an index of the row: 18 where a first packet finds no slot, 9 where no
 -- transaction of a later one's id is open
 abbrev pub actOf : ℕ → List Slot → Packet → Act
 actOf first lane (First head ack total start len) =
-    atPlace 18 (λ place. firstStep (first + place) (getD lane place idle) head ack total start len) (firstPlace lane (head .id))
+    atSpot 18 (λ spot. firstStep (first + spot) (getD lane spot idle) head ack total start len) (firstSpot lane (head .id))
 actOf first lane (Next head ack last start len) =
-    atPlace 9 (λ place. nextStep (first + place) (getD lane place idle) head ack last start len) (openPlace lane (head .id))
+    atSpot 9 (λ spot. nextStep (first + spot) (getD lane spot idle) head ack last start len) (openSpot lane (head .id))
 actOf first lane (Ack head) = still (given (Acked head))
 actOf first lane (Nack head) = still (given (Nacked head))
 
@@ -123,20 +123,20 @@ actOf first lane (Nack head) = still (given (Nacked head))
 
 abbrev pub spotOf : Spot → Option ℕ
 spotOf Nowhere = none
-spotOf (At place) = some place
+spotOf (At spot) = some spot
 
--- a step with the place of its slot in the row
+-- a step with the index of its slot in the row
 pub record StepAt : Type 0 where
-  pub place : ℕ
+  pub index : ℕ
   pub step : Step
 
 abbrev pub stepAt : ℕ → Step → StepAt
-stepAt place s = record { place = place; step = s }
+stepAt index s = record { index = index; step = s }
 
 -- what is done, by the one slot that is stored: what leaves all stores the first of its stream's slots as it was, and writes nothing
 abbrev pub actAt : ℕ → List Slot → Act → StepAt
 actAt first lane (still t) = stepAt first (record { told = t; slot = getD lane 0 idle; payload = nothing })
-actAt first lane (step place s) = stepAt (first + place) s
+actAt first lane (step spot s) = stepAt (first + spot) s
 
 unfoldable pub stepOf : code.Step → StepAt
-stepOf s = stepAt (s .place) (record { told = answer.told (s .answer); slot = s .slot; payload = s .payload })
+stepOf s = stepAt (s .index) (record { told = answer.told (s .answer); slot = s .slot; payload = s .payload })

@@ -1,7 +1,7 @@
 // What a packet does to the slots of its stream.
-pub mod place;
+pub mod spot;
 
-use crate::place::Spot;
+use crate::spot::Spot;
 use ble_packet::header;
 use ble_packet::reader::Head;
 use ble_packet::reader::Packet;
@@ -27,37 +27,37 @@ pub struct PayloadPlace {
     pub len: usize,
 }
 
-// The answer, the one slot that is stored, at a place of the row, and the payload that is written in its part.
+// The answer, the one slot that is stored, at an index of the row, and the payload that is written in its part.
 pub struct Step {
     pub answer: Answer,
-    pub place: usize,
+    pub index: usize,
     pub slot: Slot,
     pub payload: PayloadPlace,
 }
 
 // The transaction is finished: its wish for an ACK is told, and its slot idle.
 fn finish(
-    place: usize,
+    index: usize,
     head: Head,
     wanted: bool,
     total: usize,
     replaced: bool,
     payload: PayloadPlace,
 ) -> Step
-    ensures { λ r. ⌜ stepOf r ≡ stepAt place (finish place head wanted total replaced payload) ⌝ }
+    ensures { λ r. ⌜ stepOf r ≡ stepAt index (finish index head wanted total replaced payload) ⌝ }
 {
     let stream = head.stream;
     let slot = Slot::idle();
     Step {
         answer: Answer::Given(Accepted::Finished {
-            place,
+            index,
             stream,
             id: head.id,
             total,
             ack: wanted,
             replaced,
         }),
-        place,
+        index,
         slot,
         payload,
     }
@@ -65,7 +65,7 @@ fn finish(
 
 // More is to come: the slot holds all up to the payload's end, and remembers the wish.
 fn hold(
-    place: usize,
+    index: usize,
     head: Head,
     wanted: bool,
     total: usize,
@@ -73,7 +73,7 @@ fn hold(
     payload: PayloadPlace,
 ) -> Step
     requires { ⌜ (payload .at + payload .len < 65536) × (total < 65536) ⌝ }
-    ensures { λ r. ⌜ stepOf r ≡ stepAt place (hold place head wanted total replaced payload) ⌝ }
+    ensures { λ r. ⌜ stepOf r ≡ stepAt index (hold index head wanted total replaced payload) ⌝ }
 {
     let stream = head.stream;
     let flag = bit(wanted);
@@ -81,12 +81,12 @@ fn hold(
     let held = narrow(payload.at + payload.len);
     Step {
         answer: Answer::Given(Accepted::Taken {
-            place,
+            index,
             stream,
             id: head.id,
             replaced,
         }),
-        place,
+        index,
         slot: Slot {
             opened: 1,
             id: head.id,
@@ -100,12 +100,12 @@ fn hold(
 }
 
 // Nothing is written: a transaction is dropped, or a slot is stored as it was.
-fn put_slot(place: usize, slot: Slot, answer: Answer) -> Step
-    ensures { λ r. ⌜ stepOf r ≡ stepAt place (record { told = told answer; slot = slot; payload = nothing }) ⌝ }
+fn put_slot(index: usize, slot: Slot, answer: Answer) -> Step
+    ensures { λ r. ⌜ stepOf r ≡ stepAt index (record { told = told answer; slot = slot; payload = nothing }) ⌝ }
 {
     Step {
         answer,
-        place,
+        index,
         slot,
         payload: PayloadPlace {
             at: 0,
@@ -116,10 +116,10 @@ fn put_slot(place: usize, slot: Slot, answer: Answer) -> Step
 }
 
 // The transaction is dropped: its slot is idle.
-fn drop_by(place: usize, why: Refusal) -> Step
-    ensures { λ r. ⌜ stepOf r ≡ stepAt place (dropBy (numberOf why)) ⌝ }
+fn drop_by(index: usize, why: Refusal) -> Step
+    ensures { λ r. ⌜ stepOf r ≡ stepAt index (dropBy (numberOf why)) ⌝ }
 {
-    put_slot(place, Slot::idle(), Answer::Refused(why))
+    put_slot(index, Slot::idle(), Answer::Refused(why))
 }
 
 // What leaves all: the first of the stream's slots is stored as it was.
@@ -131,7 +131,7 @@ fn stay(first: usize, lane: [Slot; 4], answer: Answer) -> Step
 
 // A first packet replaces what is open, its wish too; one whose payload equals its total finishes at once.
 fn on_first(
-    place: usize,
+    index: usize,
     slot: Slot,
     head: Head,
     ack: bool,
@@ -140,14 +140,14 @@ fn on_first(
     len: usize,
 ) -> Step
     requires { ⌜ (len ≤ total) × (total < 65536) ⌝ }
-    ensures { λ r. ⌜ stepOf r ≡ stepAt place (firstStep place slot head ack total start len) ⌝ }
+    ensures { λ r. ⌜ stepOf r ≡ stepAt index (firstStep index slot head ack total start len) ⌝ }
 {
     let replaced = slot.opens();
     let payload = PayloadPlace { at: 0, start, len };
     if len == total {
-        return finish(place, head, ack, total, replaced, payload);
+        return finish(index, head, ack, total, replaced, payload);
     }
-    hold(place, head, ack, total, replaced, payload)
+    hold(index, head, ack, total, replaced, payload)
 }
 
 // Whether type 1 reaches or passes the total, or type 2 misses it.
@@ -159,7 +159,7 @@ fn off_total(last: bool, held: usize, total: usize) -> bool
 
 // A packet that follows in an open transaction is written behind what is held, and adds its flag to the wish.
 fn on_next(
-    place: usize,
+    index: usize,
     slot: Slot,
     head: Head,
     ack: bool,
@@ -168,23 +168,23 @@ fn on_next(
     len: usize,
 ) -> Step
     requires { ⌜ len < 2 ^ 63 ⌝ }
-    ensures { λ r. ⌜ stepOf r ≡ stepAt place (nextStep place slot head ack last start len) ⌝ }
+    ensures { λ r. ⌜ stepOf r ≡ stepAt index (nextStep index slot head ack last start len) ⌝ }
 {
     let awaited = header::sequence_after(slot.sequence, 1);
     if head.sequence != awaited {
-        return drop_by(place, Refusal::Sequence);
+        return drop_by(index, Refusal::Sequence);
     }
     let at = wide(slot.held);
     let total = wide(slot.total);
     if off_total(last, at + len, total) {
-        return drop_by(place, Refusal::Amount);
+        return drop_by(index, Refusal::Amount);
     }
     let wanted = either(slot.wants(), ack);
     let payload = PayloadPlace { at, start, len };
     if last {
-        return finish(place, head, wanted, total, false, payload);
+        return finish(index, head, wanted, total, false, payload);
     }
-    hold(place, head, wanted, total, false, payload)
+    hold(index, head, wanted, total, false, payload)
 }
 
 // A first packet: what it does where there is a slot for it.
@@ -200,12 +200,12 @@ fn begin(
     requires { ⌜ (first ≤ 8) × (len ≤ total) × (total < 65536) ⌝ }
     ensures { λ r. ⌜ stepOf r ≡ actAt first lane (actOf first lane (First head ack total start len)) ⌝ }
 {
-    let spot = place::find_first(lane, head.id);
-    match spot {
+    let found = spot::find_first(lane, head.id);
+    match found {
         Spot::Nowhere => stay(first, lane, Answer::Refused(Refusal::NoSlot)),
-        Spot::At(place) => {
-            let slot = lane[place];
-            on_first(first + place, slot, head, ack, total, start, len)
+        Spot::At(spot) => {
+            let slot = lane[spot];
+            on_first(first + spot, slot, head, ack, total, start, len)
         }
     }
 }
@@ -223,17 +223,17 @@ fn follow(
     requires { ⌜ (first ≤ 8) × (len < 2 ^ 63) ⌝ }
     ensures { λ r. ⌜ stepOf r ≡ actAt first lane (actOf first lane (Next head ack last start len)) ⌝ }
 {
-    let spot = place::find_open(lane, head.id);
-    match spot {
+    let found = spot::find_open(lane, head.id);
+    match found {
         Spot::Nowhere => stay(first, lane, Answer::Refused(Refusal::NoTransaction)),
-        Spot::At(place) => {
-            let slot = lane[place];
-            on_next(first + place, slot, head, ack, last, start, len)
+        Spot::At(spot) => {
+            let slot = lane[spot];
+            on_next(first + spot, slot, head, ack, last, start, len)
         }
     }
 }
 
-// What a packet does to its stream's slots, the first of which has a place in the row.
+// What a packet does to its stream's slots, the first of which has an index in the row.
 pub fn act_on(first: usize, lane: [Slot; 4], packet: Packet) -> Step
     requires { ⌜ (first ≤ 8) × Small packet ⌝ }
     ensures { λ r. ⌜ stepOf r ≡ actAt first lane (actOf first lane packet) ⌝ }

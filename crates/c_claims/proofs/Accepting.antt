@@ -11,7 +11,7 @@ use Rattle.ble_packet.specs.declared.reader.Packet.{Packet}
 use Rattle.ble_packet.specs.declared.reader.Packet.the-variants.{First, Next, Ack, Nack}
 use Rattle.ble_slot.specs.declared.Slot.{Slot}
 use Rattle.ble_slot.specs.Slot.{idle, laneStart, laneOf}
-use Rattle.ble_slot_steps.specs.Step.{Step, Act, still, step, finish, hold, dropBy, openPlace, firstPlace, actOf}
+use Rattle.ble_slot_steps.specs.Step.{Step, Act, still, step, finish, hold, dropBy, openSpot, firstSpot, actOf}
 use Rattle.ble_slot.specs.declared.answer.Accepted.{Accepted}
 use Rattle.ble_slot_steps.proofs.Each.{EachStep, first-each, next-each, at-each}
 use Rattle.ble_receiver.specs.Receiver.{applied, actIn, acted, answered}
@@ -35,13 +35,13 @@ each-not h =
 -- an act that is refused by 1 leaves all
 abbrev ActNotOne : Act → Type 0
 ActNotOne (still told) = Unit {0}
-ActNotOne (step place s) = NotOne s
+ActNotOne (step spot s) = NotOne s
 
 act-not : (first : ℕ) (lane : List Slot) (x : Packet) → ActNotOne (actOf first lane x)
 act-not first lane (First head ack total start len) =
-    at-each ActNotOne 18 _ (firstPlace lane (head .id)) tt (λ place e. first-each NotOne (each-not head) (first + place) (getD lane place idle) ack total start len)
+    at-each ActNotOne 18 _ (firstSpot lane (head .id)) tt (λ spot e. first-each NotOne (each-not head) (first + spot) (getD lane spot idle) ack total start len)
 act-not first lane (Next head ack last start len) =
-    at-each ActNotOne 9 _ (openPlace lane (head .id)) tt (λ place e. next-each NotOne (each-not head) (first + place) (getD lane place idle) ack last start len)
+    at-each ActNotOne 9 _ (openSpot lane (head .id)) tt (λ spot e. next-each NotOne (each-not head) (first + spot) (getD lane spot idle) ack last start len)
 act-not first lane (Ack head) = tt
 act-not first lane (Nack head) = tt
 
@@ -49,7 +49,7 @@ applied-keeps : (limit first : ℕ) (slots : List Slot) (bytes packet : List ℕ
     → numberTold (applied limit slots bytes packet first act .told) ≡ 1
     → (applied limit slots bytes packet first act .slots ≡ slots) × (applied limit slots bytes packet first act .bytes ≡ bytes)
 applied-keeps limit first slots bytes packet (still told) h e = (refl, refl)
-applied-keeps limit first slots bytes packet (step place s) h e = absurd (h e)
+applied-keeps limit first slots bytes packet (step spot s) h e = absurd (h e)
 
 pub acted-keeps : (limit : ℕ) (slots : List Slot) (bytes packet : List ℕ) (t : Told Packet)
     → numberTold (acted limit slots bytes packet t .told) ≡ 1

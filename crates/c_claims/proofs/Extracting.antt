@@ -13,20 +13,18 @@ use Rattle.classic_frame.specs.Frame.{packetId, errorId, startCode, endCode, es
 use Rattle.classic_extractor.specs.declared.state.Phase.{Phase}
 use Rattle.classic_extractor.specs.declared.state.Phase.the-variants.{Outside, PacketId, ErrorId, Sequence, Body, Escaped}
 use Rattle.classic_extractor.specs.declared.state.Progress.{Progress}
-use Rattle.classic_extractor.specs.declared.action.Action.{Action}
-use Rattle.classic_extractor.specs.declared.action.Action.the-variants.{Skip, Begin, Restart, Go, Number, Store, Finish, Refuse}
-use Rattle.classic_extractor.specs.Action.{outsideBy, headerBy, sequenceBy, bodyBy, codeOf, codeBy, actionBy}
+use Rattle.classic_extractor.specs.Action.{Action, Skip, Begin, Restart, Go, Number, Store, Finish, Refuse, outsideBy, headerBy, sequenceBy, bodyBy, codeOf, codeBy, actionBy}
 use Rattle.classic_extractor.specs.Outcome.{Report, skipped, taken, allUsed, frame, refused, numberOf}
 use Rattle.classic_extractor.specs.State.{outside, body}
 use Rattle.classic_extractor.specs.Step.{step, advanceOf, performOf, storeOf, endOf}
 use Rattle.classic_feed.specs.Feed.{decides, feedReport, feedFrom, fed}
 use Rattle.c_classic.specs.Convert.{replyOf}
 
--- a report that is no refusal by 1
+-- a report that is not a refusal by 1
 abbrev NotOne : Report → Type 0
 NotOne r = replyOf r .number ≡ 1 → ⊥
 
--- an action that refuses by no 1
+-- an action that does not refuse by 1
 abbrev Named : Action → Type 0
 Named Skip = Unit {0}
 Named Begin = Unit {0}

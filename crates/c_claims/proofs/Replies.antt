@@ -27,7 +27,7 @@ use Rattle.reply.specs.declared.Link.{Link}
 use Rattle.reply_parts.specs.Body.{kindOfCommand}
 use Rattle.reply.specs.Reply.{Box, sendingOf, replyOf, linkLines, stringsOf, Replied, silent, sent, refusing, joinedIn, carriedOf, sentOf, isResponse, repliedBy}
 
--- ---- under 1, which no reply tells, the output stays
+-- ---- 1, which no reply tells, leaves the output
 
 abbrev Left : List ℕ → WrittenOf (ℕ × List ℕ) Replied → Type 0
 Left out w = numberMore (w .told) ≡ 1 → w .out ≡ out
@@ -91,12 +91,12 @@ piece-most false first n rest ps e low some later = omega (arith, some refl, hea
 next-least : (index : ℕ) → leastHeader (isFirst (suc index)) ≡ 3
 next-least index = rw (ne-eqb (suc index) 0 (λ e. omega arith))
 
-pieces-most : (fuel room index place rest : ℕ) → leastRoom ≤ room → sizes (piecesFrom fuel room index place rest) ≤ 2 * rest + leastHeader (isFirst index)
-pieces-most zero room index place rest enough = omega arith
-pieces-most (suc fuel) room index place rest enough =
+pieces-most : (fuel room index start rest : ℕ) → leastRoom ≤ room → sizes (piecesFrom fuel room index start rest) ≤ 2 * rest + leastHeader (isFirst index)
+pieces-most zero room index start rest enough = omega arith
+pieces-most (suc fuel) room index start rest enough =
     let n : ℕ = sizeFor room (isFirst index) rest in
-    let ps : List Piece = piecesFrom fuel room (suc index) (place + n) (rest - n) in
-    let later : sizes ps ≤ 2 * (rest - n) + 3 = omega (arith, pieces-most fuel room (suc index) (place + n) (rest - n) enough, next-least index) in
+    let ps : List Piece = piecesFrom fuel room (suc index) (start + n) (rest - n) in
+    let later : sizes ps ≤ 2 * (rest - n) + 3 = omega (arith, pieces-most fuel room (suc index) (start + n) (rest - n) enough, next-least index) in
     piece-most (eqb n rest) (isFirst index) n rest ps refl (size-le room (isFirst index) enough rest) (size-four room (isFirst index) rest enough) later
 
 pub joined-most : (w : Sending) (m : List ℕ) → leastRoom ≤ w .room → length (joinedOf w m) ≤ 2 * length m + 6

@@ -41,7 +41,7 @@ use Rattle.c_claims.specs.RowsAgree.{packetsFrom, recordsFrom, rowFor, f
 use Rattle.c_claims.proofs.RowsAgree.{rows-agree}
 use Rattle.c_claims.proofs.NumbersJudged.{numbers-judged}
 
--- whatever the ranges of docs/FORMATS.md hold
+-- any arguments in the ranges of docs/FORMATS.md
 packets : (limit : ℕ) (how : Sending) (message out : List ℕ) → 1 ≤ limit → limit ≤ 65535 → 20 ≤ how .room → how .room ≤ 512
     → (how .stream ≡ 0) ⊎ (how .stream ≡ 2) ⊎ (how .stream ≡ 6) → how .id ≤ 15 → how .sequence ≤ 15 → length message ≤ limit → how .room ≤ length out
     → packetsFrom (suc (length message)) limit how message out (7 ∷ 7 ∷ []) 0 ≡ packetsOf how message

@@ -209,7 +209,7 @@ module _ (how : Sending) (message : List ℕ) where
       let p = pieceOf found in
       rw (eq-eqb (length answer) 2 l)
       (same-call (not (roomFits (how .room))) (not (limitFits limit)) (not (argumentsFit limit how (length message) && begins found)) (ltb (length out) (how .room))
-      (length (packetOf how message p)) (p .place + p .size) out (sets out 0 (packetOf how message p)) answer
+      (length (packetOf how message p)) (p .start + p .size) out (sets out 0 (packetOf how message p)) answer
       (λ left. packetsFrom calls limit how message left answer) (callsFrom calls limit how message)
       (λ left next. same-calls calls limit left answer next l))
 

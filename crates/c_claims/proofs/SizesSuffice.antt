@@ -517,7 +517,7 @@ move-done times some wished file out answer grows l whole short h =
       le-ltb (length out) (length (movedTo wished fmt file)) (omega (arith, moved-most times some wished fmt grows file whole)),
     ))
 
--- no record is over a limit that its own version does not pass
+-- no record is over a limit that is at least its own version's
 not-over : (limit : ℕ) (file : List ℕ) → formatOf file .limit ≤ limit → walkOf (formatOf file) file ≡ outbox.given tt
     → overFrom limit firstPlace (outbox.readAll (formatOf file) file) ≡ outbox.given tt
 not-over limit file h whole =

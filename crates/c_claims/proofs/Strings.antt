@@ -88,8 +88,8 @@ module _ (s : List ℕ) where
       let next : getD (pre ++ row) (length pre + k + 1) 0 ≡ getD row (k + 1) 0 = ap (λ (x : ℕ). getD (pre ++ row) x 0) e ∙ getD-append-add pre row (k + 1) 0 in
       rw (getD-append-add pre row k 0, next) h
 
-  pub at-place : (pre row : List ℕ) (k n : ℕ) → LiesAt s row (k + n) → LiesAt s (pre ++ row) (length pre + k + n)
-  at-place pre row k n h =
+  pub at-index : (pre row : List ℕ) (k n : ℕ) → LiesAt s row (k + n) → LiesAt s (pre ++ row) (length pre + k + n)
+  at-index pre row k n h =
       let e : length pre + (k + n) ≡ length pre + k + n = omega arith in
       subst (LiesAt s (pre ++ row)) e (lies-behind pre row (k + n) h)
 
@@ -97,7 +97,7 @@ module _ (s : List ℕ) where
   components-behind pre row zero k h = tt
   components-behind pre row (suc n) k h =
       let e : length pre + (k + 6) ≡ length pre + k + 6 = omega arith in
-      ((at-place pre row k 1 (h .0 .0), at-place pre row k 4 (h .0 .1)), subst (ComponentsLie n s (pre ++ row)) e (components-behind pre row n (k + 6) (h .1)))
+      ((at-index pre row k 1 (h .0 .0), at-index pre row k 4 (h .0 .1)), subst (ComponentsLie n s (pre ++ row)) e (components-behind pre row n (k + 6) (h .1)))
 
   components-lie : (n : ℕ) (cs : List FirmwareComponent) (rest : List ℕ) → n ≤ length cs → ComponentsWritable s (take n cs) → ComponentsLie n s (componentRows cs ++ rest) 0
   components-lie zero cs rest l h = tt

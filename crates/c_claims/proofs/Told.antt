@@ -22,7 +22,7 @@ use Rattle.c_firmware_rows.proofs.Components.{rows-length}
 use Rattle.c_firmware.specs.Calls.{applyReadOf}
 use Rattle.c_claims.specs.SizesSuffice.{ComponentsFit, RowFits}
 use Rattle.c_claims.specs.RowsAgree.{NumbersFit}
-use Rattle.c_claims.proofs.Strings.{told-row, at-place}
+use Rattle.c_claims.proofs.Strings.{told-row, at-index}
 
 pub numbers-fit : (s : List ℕ) (cs : List FirmwareComponent) → ComponentsWritable s cs → NumbersFit cs
 numbers-fit s [] h = tt
@@ -39,7 +39,7 @@ module _ (s : List ℕ) where
       let e : length pre + (k + 6) ≡ length pre + k + 6 = omega arith in
       let three : length pre + k + 3 ≡ length pre + (k + 3) = omega arith in
       let size : getD (pre ++ row) (length pre + k + 3) 0 ≡ getD row (k + 3) 0 = ap (λ (x : ℕ). getD (pre ++ row) x 0) three ∙ getD-append-add pre row (k + 3) 0 in (
-        (rw (getD-append-add pre row k 0) (h .0 .0), at-place s pre row k 1 (h .0 .1), rw size (h .0 .2), at-place s pre row k 4 (h .0 .3)),
+        (rw (getD-append-add pre row k 0) (h .0 .0), at-index s pre row k 1 (h .0 .1), rw size (h .0 .2), at-index s pre row k 4 (h .0 .3)),
         subst (ComponentsFit n s (pre ++ row)) e (fits-behind pre row n (k + 6) (h .1)),
       )
 
@@ -75,7 +75,7 @@ given-fits s a w eight =
     let first : take 57 (wholeRow a ++ replicate 2 0) ≡ wholeRow a = take-at (wholeRow a) (replicate 2 0) 57 long in
     subst (λ (row : List ℕ). (length row ≡ 57) × RowFits s row) (sym first) (long, row-fits s a w)
 
--- a refusal's row is of zeros
+-- the row of a refusal is all zeros
 zeros-fit : (s more : List ℕ) → Fits s (replicate rowSize 0 ++ more)
 zeros-fit s more =
     let first : take 57 (replicate rowSize 0 ++ more) ≡ replicate rowSize 0 = take-at (replicate rowSize 0) more 57 refl in

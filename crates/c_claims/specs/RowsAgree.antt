@@ -10,7 +10,7 @@ use mathlib.Core.List.{List, [], _∷_, map}
 use lib.ListN.{length, getD, take, drop}
 use lib.Dec.{eqb}
 use Rattle.wire.specs.Bytes.{bit}
-use Rattle.wire.specs.Told.{given, refused, andThen}
+use Rattle.wire.specs.Told.{given, refused}
 use Rattle.proto_field.specs.declared.value.Part.{Part}
 use Rattle.proto_field.specs.declared.value.Value.{Value}
 use Rattle.proto_field.specs.declared.value.Value.the-variants.{Number, Bytes, Skipped}
@@ -71,7 +71,7 @@ packetBy size later c =
     (take (getD (c .answer) 0 0) (c .lent) ∷ cond (eqb (getD (c .answer) 1 0) size) [] (later (getD (c .answer) 1 0)))
     []
 
--- at most so many calls, over one output and one answer row
+-- at most `calls` calls, over one output and one answer row
 unfoldable pub packetsFrom : ℕ → ℕ → Sending → List ℕ → List ℕ → List ℕ → ℕ → List (List ℕ)
 packetsFrom zero limit how message out answer place = []
 packetsFrom (suc calls) limit how message out answer place =
@@ -126,7 +126,7 @@ pub record RowsAgree : Type 0 where
   pub apply : (a : ApplyFirmware) (texts out answer : List ℕ) → Unsigned32 (a .«firmware_information» .version)
       → length (a .«firmware_information» .components) ≡ 8 → NumbersFit (a .«firmware_information» .components) → a .«firmware_information» .count ≤ 8
       → applyWriteOf (wholeRow a) texts out answer ≡ textCall out answer (applyWritten a texts out)
-  -- .. as every one is that was told of a message
+  -- .. as is every one that was read from a message
   pub apply-told : (message : List ℕ) (a : ApplyFirmware) (texts out answer : List ℕ) → applyOf message ≡ given a
       → applyWriteOf (wholeRow a) texts out answer ≡ textCall out answer (applyWritten a texts out)
   pub field : (s : Standing) → rowStanding (standingRow s) ≡ s

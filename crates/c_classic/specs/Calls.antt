@@ -50,7 +50,7 @@ extractorFeedOf state lent bytes answer =
     let x = extractorOf state in
     ifFit (eqb (length answer) 4 && isExtractor state) state lent (noneUsed answer) (fedCall state (x .limit) (feedOf (x .limit) (x .progress) lent bytes))
 
--- a sequence that is no byte stands for a mark: 15
+-- a sequence above 255 counts as a mark: 15
 unfoldable pub frameWriteOf : ℕ → ℕ → List ℕ → List ℕ → List ℕ → Called
 frameWriteOf limit sequence payload out answer = writerCall out answer (writeOf limit (byteOr startMark sequence) payload out)
 

@@ -148,21 +148,21 @@ fn feed_fitting(state: &mut [u64], buffer: &mut [u8], bytes: &[u8], answer: &mut
     match outcome {
         FeedOutcome::AllUsed => {
             let row = [ALL_USED, used, 0, 0];
-            put_progress(state, DONE, progress);
             write_row(answer, &row);
+            put_progress(state, DONE, progress);
             DONE
         }
         FeedOutcome::Frame { sequence, len } => {
             let row = [FRAME, used, wide64(sequence), len as u64];
-            put_progress(state, DONE, progress);
             write_row(answer, &row);
+            put_progress(state, DONE, progress);
             DONE
         }
         FeedOutcome::Refused(why) => {
             let number = wide64(why.number());
             let row = [NOTHING, used, 0, 0];
-            put_progress(state, number, progress);
             write_row(answer, &row);
+            put_progress(state, number, progress);
             number
         }
     }

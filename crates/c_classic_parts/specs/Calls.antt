@@ -21,7 +21,7 @@ abbrev pub begun : List ℕ → Told PartWriter → Called
 begun state (given s) = called 0 (stateRow (s .limit) (s .progress)) [] []
 begun state (refused n) = called n state [] []
 
--- a sequence that is no byte stands for a mark: 15
+-- a sequence above 255 counts as a mark: 15
 unfoldable pub frameBeginOf : ℕ → ℕ → ℕ → List ℕ → Called
 frameBeginOf limit sequence total state =
     ifFit (eqb (length state) 7) state [] [] (begun state (beginOf limit (byteOr startMark sequence) total))

@@ -65,7 +65,7 @@ componentAt row at =
       signature = partAt row (at + 4);
     }
 
--- so many components from a place on
+-- n components of a row, from an index on
 abbrev pub componentsAt : ℕ → List ℕ → ℕ → List FirmwareComponent
 componentsAt zero row at = []
 componentsAt (suc n) row at = componentAt row at ∷ componentsAt n row (at + componentSize)
@@ -85,7 +85,7 @@ applyAt row =
       «restart_required» = eqb (getD row 0 0) 1;
     }
 
--- whether a component has a number above 32 bits, and whether one of so many from a place on has
+-- whether a component has a number above 32 bits, and whether one of n from an index on has
 unfoldable pub wideAt : List ℕ → ℕ → Bool
 wideAt row at = isWide (getD row at 0) || isWide (getD row (at + 3) 0)
 

@@ -1,3 +1,4 @@
 pub mod Signed
 pub mod Mapped
+pub mod Readings
 pub mod Information

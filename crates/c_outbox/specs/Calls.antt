@@ -14,7 +14,7 @@ outboxNewOf buffer answer =
     let s = newOf versionTwo buffer in
     answers 1 answer buffer (numberIn (s .told)) (s .buffer) (usedIn (s .told) ∷ [])
 
--- a stream above 255 stands for no stream, which is out of range
+-- a stream above 255 counts as no stream, which is out of range
 unfoldable pub outboxAppendOf : List ℕ → ℕ → ℕ → List ℕ → List ℕ → Called
 outboxAppendOf buffer used stream payload answer =
     let s = appendOf (formatOf (take used buffer)) buffer used (byteOr outOfRange stream) payload in

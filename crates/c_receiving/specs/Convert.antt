@@ -26,8 +26,8 @@ headRow outcome head = outcome ∷ streamNumber (head .stream) ∷ head .id ∷ 
 
 -- outcomes: 0 taken with more to come, 1 finished, 2 an ACK, 3 a NACK
 abbrev pub acceptedRow : Accepted → List ℕ
-acceptedRow (Taken place stream id replaced) = 0 ∷ streamNumber stream ∷ id ∷ 0 ∷ 0 ∷ 0 ∷ bit replaced ∷ place ∷ []
-acceptedRow (Finished place stream id total ack replaced) = 1 ∷ streamNumber stream ∷ id ∷ 0 ∷ total ∷ bit ack ∷ bit replaced ∷ place ∷ []
+acceptedRow (Taken index stream id replaced) = 0 ∷ streamNumber stream ∷ id ∷ 0 ∷ 0 ∷ 0 ∷ bit replaced ∷ index ∷ []
+acceptedRow (Finished index stream id total ack replaced) = 1 ∷ streamNumber stream ∷ id ∷ 0 ∷ total ∷ bit ack ∷ bit replaced ∷ index ∷ []
 acceptedRow (Acked head) = headRow 2 head
 acceptedRow (Nacked head) = headRow 3 head
 

@@ -24,7 +24,7 @@ ghost use Rattle.c_receiving.specs.Calls.{receiverOpenOf, linkAt, toldRo
 // The numbers of the state row: the limit.
 pub const STATE: usize = 1;
 
-// The refusal of a limit that is none.
+// The refusal of a limit out of its range.
 const BAD_LIMIT: u64 = 17;
 
 // Opens a receiver for a link with a limit: its state.

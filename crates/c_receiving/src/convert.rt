@@ -61,7 +61,7 @@ fn accepted_row(accepted: Accepted) -> [u64; 8]
 {
     match accepted {
         Accepted::Taken {
-            place,
+            index,
             stream,
             id,
             replaced,
@@ -73,10 +73,10 @@ fn accepted_row(accepted: Accepted) -> [u64; 8]
             0,
             0,
             wide64(bit(replaced)),
-            place as u64,
+            index as u64,
         ],
         Accepted::Finished {
-            place,
+            index,
             stream,
             id,
             total,
@@ -90,7 +90,7 @@ fn accepted_row(accepted: Accepted) -> [u64; 8]
             total as u64,
             wide64(bit(ack)),
             wide64(bit(replaced)),
-            place as u64,
+            index as u64,
         ],
         Accepted::Acked(head) => head_row(ACKED, head),
         Accepted::Nacked(head) => head_row(NACKED, head),

@@ -15,7 +15,7 @@ use Rattle.reply.specs.Reply.{Replied, silent, sent}
 use Rattle.c_rows.specs.Row.{byteOr, outOfRange}
 use Rattle.c_message_rows.specs.Convert.{allSigned, faultOf}
 
--- a number above 255 stands for one that is out of range
+-- a number above 255 counts as one that is out of range
 unfoldable pub linkOf : ℕ → ℕ → ℕ → ℕ → Link
 linkOf room limit id sequence = record { room = room; limit = limit; id = byteOr outOfRange id; sequence = byteOr outOfRange sequence }
 

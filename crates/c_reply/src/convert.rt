@@ -18,7 +18,7 @@ ghost use Rattle.reply.specs.Put.{whyOf, told};
 ghost use Rattle.c_rows.specs.Row.{afterwards};
 ghost use Rattle.c_reply.specs.Convert.{linkOf, featuresOf, membersOf, fewSigned, replyRow};
 
-// A number that is no byte stands for one that is out of range.
+// A number above 255 counts as one that is out of range.
 pub fn link_for(room: u64, limit: u64, id: u64, sequence: u64) -> Link
     ensures { λ r. ⌜ r ≡ linkOf room limit id sequence ⌝ }
 {

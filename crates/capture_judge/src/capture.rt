@@ -13,7 +13,7 @@ ghost use Rattle.wire.specs.Told.{given};
 ghost use Rattle.capture_reader.specs.Capture.{numberIn};
 ghost use Rattle.capture_judge.specs.Capture.{goneOn, walkedOf, tracedOf, answerIn, answerOf, judgedOf, numberOf, traceTold, told};
 
-// Long is the program's: a capture that is longer than it reads.
+// Long is the program's: a capture longer than it reads.
 pub enum Refusal {
     Long,
     Room,

@@ -257,7 +257,7 @@ pub record SentAs (room limit : ℕ) (s : Stream) (qs : List (List ℕ)) : Type 
   pub writable : AllWritable room limit s sent
   pub packets-are : qs ≡ packetsIn limit sent
 
--- all that comes where nothing is open are transactions
+-- what comes where nothing is open is a list of transactions
 pub sent-of : {room limit : ℕ} {s : Stream} {slot : SenderSlot} {qs : List (List ℕ)} → Rest room limit s slot qs → slot ≡ Idle → SentAs room limit s qs
 sent-of (done e) i = record { sent = []; writable = tt; packets-are = e }
 sent-of {room} {limit} {s} (begins t others w o e) i =

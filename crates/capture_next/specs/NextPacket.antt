@@ -8,7 +8,7 @@ use Rattle.capture_stream.specs.declared.SenderSlot.{SenderSlot}
 use Rattle.capture_stream.specs.declared.SenderSlot.the-variants.{Idle, Open}
 use Rattle.capture_next.specs.declared.NextPacket.{NextPacket}
 
--- of so many bytes that are left, a piece of this length
+-- where `left` bytes are left, a piece of `len`
 abbrev pub nextBy : Bool → ℕ → ℕ → ℕ → ℕ → NextPacket
 nextBy opened id sequence left len =
     record {

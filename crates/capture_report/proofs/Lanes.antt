@@ -143,33 +143,33 @@ TurnKeeps s slots after h hs =
     keptSum s after hs ≡ counts s h (leavesOpen h && not (closedIn (byteZero h) hs)) + keptSum s slots (h ∷ hs)
 
 module _ (limit : ℕ) (slots : List Slot) (law : LawfulRow limit slots) where
-  module _ (h : Heard) (t : Stream) (place : ℕ) (x : Slot) (m : SlotMove t slots place x h) where
+  module _ (h : Heard) (t : Stream) (spot : ℕ) (x : Slot) (m : SlotMove t slots spot x h) where
     abbrev after : List Slot
-    after = set slots (laneStart t + place) x
+    after = set slots (laneStart t + spot) x
 
-    low : place < slotsEach
+    low : spot < slotsEach
     low = let n = length-take slotsEach (drop (laneStart t) slots) in omega (arith, n, m .below)
 
     mine : isOf (streamNumber t) (h .packet) ≡ true
     mine = m .head .of t ∙ eq-eqb (streamNumber t) (streamNumber t) refl
 
-    lane-is : laneOf t after ≡ set (laneOf t slots) place x
-    lane-is = lane-set t slots place x low
+    lane-is : laneOf t after ≡ set (laneOf t slots) spot x
+    lane-is = lane-set t slots spot x low
 
     flows-own : TurnFlows t slots after h
     flows-own =
-        let a : openSum t after ≡ sumOf openWeight (set (laneOf t slots) place x) = ap (sumOf openWeight) lane-is in
-        let b = sum-set openWeight (laneOf t slots) place x idle (m .below) in
+        let a : openSum t after ≡ sumOf openWeight (set (laneOf t slots) spot x) = ap (sumOf openWeight) lane-is in
+        let b = sum-set openWeight (laneOf t slots) spot x idle (m .below) in
         rw mine (omega (arith, a, b, m .flow .flow))
 
     keeps-own : (hs : List Heard) → TurnKeeps t slots after h hs
     keeps-own hs =
-        let a : keptSum t after hs ≡ sumOf (keptWeight t hs) (set (laneOf t slots) place x) = ap (sumOf (keptWeight t hs)) lane-is in
-        let b = sum-set (keptWeight t hs) (laneOf t slots) place x idle (m .below) in
-        let c = sum-set (keptWeight t hs) (laneOf t slots) place idle idle (m .below) in
-        let d = sum-set (keptWeight t (h ∷ hs)) (laneOf t slots) place idle idle (m .below) in
-        let e = others-same t h hs (m .id) (m .head .zero-is) (set (laneOf t slots) place idle) (m .others) in
-        let f = own-by t h hs (m .id) (m .head .zero-is) x (getD (laneOf t slots) place idle) (closes h) refl (m .flow) (m .was) in
+        let a : keptSum t after hs ≡ sumOf (keptWeight t hs) (set (laneOf t slots) spot x) = ap (sumOf (keptWeight t hs)) lane-is in
+        let b = sum-set (keptWeight t hs) (laneOf t slots) spot x idle (m .below) in
+        let c = sum-set (keptWeight t hs) (laneOf t slots) spot idle idle (m .below) in
+        let d = sum-set (keptWeight t (h ∷ hs)) (laneOf t slots) spot idle idle (m .below) in
+        let e = others-same t h hs (m .id) (m .head .zero-is) (set (laneOf t slots) spot idle) (m .others) in
+        let f = own-by t h hs (m .id) (m .head .zero-is) x (getD (laneOf t slots) spot idle) (closes h) refl (m .flow) (m .was) in
         rw mine (omega (arith, a, b, c, d, e, f))
 
     module _ (s : Stream) (n : eqb (streamNumber t) (streamNumber s) ≡ false) where
@@ -180,7 +180,7 @@ module _ (limit : ℕ) (slots : List Slot) (law : LawfulRow limit slots) where
       theirs = m .head .of s ∙ n
 
       lane-same : laneOf s after ≡ laneOf s slots
-      lane-same = lane-other t s slots place x differ low
+      lane-same = lane-other t s slots spot x differ low
 
       flows-other : TurnFlows s slots after h
       flows-other =
@@ -219,7 +219,7 @@ module _ (limit : ℕ) (slots : List Slot) (law : LawfulRow limit slots) where
       let a : openSum s next ≡ openSum s slots = ap (openSum s) e in
       let o : Bool = isOf (streamNumber s) (h .packet) in
       omega (arith, a, and-no o (finishes (h .told)) (q .not-finished), and-no o (replaces (h .told)) (q .not-replaced), and-no o (drops (h .told)) (q .not-dropped), and-no o (begins h) (begins-not h q))
-  flows next h s (moved t place x e m) = rw e (flows-by h t place x m s (eqb (streamNumber t) (streamNumber s)) refl)
+  flows next h s (moved t spot x e m) = rw e (flows-by h t spot x m s (eqb (streamNumber t) (streamNumber s)) refl)
 
   pub keeps : (next : List Slot) (h : Heard) (s : Stream) (hs : List Heard) → Did slots next h → TurnKeeps s slots next h hs
   keeps next h s hs (quiet e q) =
@@ -229,4 +229,4 @@ module _ (limit : ℕ) (slots : List Slot) (law : LawfulRow limit slots) where
       let c : leavesOpen h ≡ false = ap (λ (b : Bool). b && not (finishes (h .told))) n in
       let d : (leavesOpen h && not (closedIn (byteZero h) hs)) ≡ false = ap (λ (b : Bool). b && not (closedIn (byteZero h) hs)) c in
       omega (arith, a, b, and-no (isOf (streamNumber s) (h .packet)) (leavesOpen h && not (closedIn (byteZero h) hs)) d)
-  keeps next h s hs (moved t place x e m) = rw e (keeps-by h t place x m s hs (eqb (streamNumber t) (streamNumber s)) refl)
+  keeps next h s hs (moved t spot x e m) = rw e (keeps-by h t spot x m s hs (eqb (streamNumber t) (streamNumber s)) refl)

@@ -21,7 +21,7 @@ use Rattle.ble_slot.specs.declared.Slot.{Slot}
 use Rattle.ble_slot.specs.declared.answer.Accepted.{Accepted}
 use Rattle.ble_slot.specs.Slot.{opens, wants, idle, laneStart, laneOf, isOpen, anyOpen}
 use Rattle.ble_slot.proofs.Slots.{any-set, alone-at, LawfulRow}
-use Rattle.ble_slot_steps.specs.Step.{Step, finish, hold, dropBy, firstStep, lines, nextStep, firstPlace, openPlace, atPlace}
+use Rattle.ble_slot_steps.specs.Step.{Step, finish, hold, dropBy, firstStep, lines, nextStep, firstSpot, openSpot, atSpot}
 use Rattle.ble_slot_steps.proofs.Steps.{FoundSlot, found, FirstSlot, again, fresh, chosen}
 use Rattle.ble_receiver.specs.Receiver.{Result, applied, acted}
 use Rattle.capture_report.specs.Costs.{Heard, heard, accepts, finishes, replaces, drops, begins, leavesOpen, closes}
@@ -75,14 +75,14 @@ module _ (p : List ℕ) (at : ℕ) (s : Slot) (h : Head) (o : opens s ≡ true) 
 
 -- ---- the row
 
--- a store at a place among the packet's stream's slots, where no other is open with its id
-pub record SlotMove (t : Stream) (slots : List Slot) (place : ℕ) (x : Slot) (h : Heard) : Type 0 where
+-- a store at a spot among the packet's stream's slots, where no other is open with its id
+pub record SlotMove (t : Stream) (slots : List Slot) (spot : ℕ) (x : Slot) (h : Heard) : Type 0 where
   pub id : ℕ
   pub head : NamedPacket (h .packet) t id
-  pub below : place < length (laneOf t slots)
-  pub was : opens (getD (laneOf t slots) place idle) ≡ true → getD (laneOf t slots) place idle .id ≡ id
-  pub others : anyOpen id (set (laneOf t slots) place idle) ≡ false
-  pub flow : SlotFlow id (getD (laneOf t slots) place idle) x h
+  pub below : spot < length (laneOf t slots)
+  pub was : opens (getD (laneOf t slots) spot idle) ≡ true → getD (laneOf t slots) spot idle .id ≡ id
+  pub others : anyOpen id (set (laneOf t slots) spot idle) ≡ false
+  pub flow : SlotFlow id (getD (laneOf t slots) spot idle) x h
 
 -- nothing is told that counts
 pub record Quiet (t : Told Accepted) : Type 0 where
@@ -93,7 +93,7 @@ pub record Quiet (t : Told Accepted) : Type 0 where
 
 pub data Did (slots after : List Slot) (h : Heard) : Type 0 where
   quiet : after ≡ slots → Quiet (h .told) → Did slots after h
-  moved : (t : Stream) (place : ℕ) (x : Slot) → after ≡ set slots (laneStart t + place) x → SlotMove t slots place x h → Did slots after h
+  moved : (t : Stream) (spot : ℕ) (x : Slot) → after ≡ set slots (laneStart t + spot) x → SlotMove t slots spot x h → Did slots after h
 
 refused-quiet : (n : ℕ) → DropsNone n → Quiet (refused n)
 refused-quiet n q = record { not-accepted = refl; not-finished = refl; not-replaced = refl; not-dropped = q }
@@ -102,50 +102,50 @@ abbrev ResultDid : List Slot → List ℕ → Result → Type 0
 ResultDid slots p r = Did slots (r .slots) (heard p (r .told))
 
 at-did : (limit : ℕ) (slots : List Slot) (bytes p : List ℕ) (t : Stream) (n : ℕ) (f : ℕ → Step) (o : Option ℕ) → DropsNone n
-    → ((place : ℕ) → o ≡ some place → SlotMove t slots place (f place .slot) (heard p (f place .told)))
-    → ResultDid slots p (applied limit slots bytes p (laneStart t) (atPlace n f o))
+    → ((spot : ℕ) → o ≡ some spot → SlotMove t slots spot (f spot .slot) (heard p (f spot .told)))
+    → ResultDid slots p (applied limit slots bytes p (laneStart t) (atSpot n f o))
 at-did limit slots bytes p t n f none q h = quiet refl (refused-quiet n q)
-at-did limit slots bytes p t n f (some place) q h = moved t place (f place .slot) refl (h place refl)
+at-did limit slots bytes p t n f (some spot) q h = moved t spot (f spot .slot) refl (h spot refl)
 
 module _ (limit : ℕ) (slots : List Slot) (law : LawfulRow limit slots) (bytes p : List ℕ) where
   abbrev at : Stream → ℕ → Slot
-  at t place = getD (laneOf t slots) place idle
+  at t spot = getD (laneOf t slots) spot idle
 
-  again-move : (t : Stream) (id place : ℕ) (x : Slot) (told : Told Accepted) → NamedPacket p t id → FoundSlot (isOpen id) (laneOf t slots) place
-      → SlotFlow id (at t place) x (heard p told) → SlotMove t slots place x (heard p told)
-  again-move t id place x told n f u =
+  again-move : (t : Stream) (id spot : ℕ) (x : Slot) (told : Told Accepted) → NamedPacket p t id → FoundSlot (isOpen id) (laneOf t slots) spot
+      → SlotFlow id (at t spot) x (heard p told) → SlotMove t slots spot x (heard p told)
+  again-move t id spot x told n f u =
       record {
         id = id;
         head = n;
         below = f .below;
-        was = λ o. eqb-true (at t place .id) id (and-right (opens (at t place)) _ (f .passes));
-        others = alone-at id (laneOf t slots) place (law .apart t) (f .passes);
+        was = λ o. eqb-true (at t spot .id) id (and-right (opens (at t spot)) _ (f .passes));
+        others = alone-at id (laneOf t slots) spot (law .apart t) (f .passes);
         flow = u;
       }
 
-  chosen-move : (t : Stream) (id place : ℕ) (x : Slot) (told : Told Accepted) → NamedPacket p t id → FirstSlot (laneOf t slots) id place
-      → SlotFlow id (at t place) x (heard p told) → SlotMove t slots place x (heard p told)
-  chosen-move t id place x told n (again f) u = again-move t id place x told n f u
-  chosen-move t id place x told n (fresh f e) u =
+  chosen-move : (t : Stream) (id spot : ℕ) (x : Slot) (told : Told Accepted) → NamedPacket p t id → FirstSlot (laneOf t slots) id spot
+      → SlotFlow id (at t spot) x (heard p told) → SlotMove t slots spot x (heard p told)
+  chosen-move t id spot x told n (again f) u = again-move t id spot x told n f u
+  chosen-move t id spot x told n (fresh f e) u =
       record {
         id = id;
         head = n;
         below = f .below;
-        was = λ o. absurd (false≢true (sym (not-true (opens (at t place)) (f .passes)) ∙ o));
-        others = any-set id (laneOf t slots) place idle e refl;
+        was = λ o. absurd (false≢true (sym (not-true (opens (at t spot)) (f .passes)) ∙ o));
+        others = any-set id (laneOf t slots) spot idle e refl;
         flow = u;
       }
 
   act-did : (y : Packet) → NamedBy p y → KindBy (isFirst (fieldsOf p)) y → ResultDid slots p (acted limit slots bytes p (given y))
   act-did (First h ack total start len) n kind =
-      at-did limit slots bytes p (h .stream) 18 _ (firstPlace (laneOf (h .stream) slots) (h .id)) refl (λ place o.
-      chosen-move (h .stream) (h .id) place _ _ n (chosen (laneOf (h .stream) slots) (h .id) place o)
-      (first-flow p (laneStart (h .stream) + place) (at (h .stream) place) h ack total start len kind))
+      at-did limit slots bytes p (h .stream) 18 _ (firstSpot (laneOf (h .stream) slots) (h .id)) refl (λ spot o.
+      chosen-move (h .stream) (h .id) spot _ _ n (chosen (laneOf (h .stream) slots) (h .id) spot o)
+      (first-flow p (laneStart (h .stream) + spot) (at (h .stream) spot) h ack total start len kind))
   act-did (Next h ack last start len) n kind =
-      at-did limit slots bytes p (h .stream) 9 _ (openPlace (laneOf (h .stream) slots) (h .id)) refl (λ place o.
-      let f = found (isOpen (h .id)) (laneOf (h .stream) slots) place o in
-      again-move (h .stream) (h .id) place _ _ n f
-      (next-flow p (laneStart (h .stream) + place) (at (h .stream) place) h (and-left (opens (at (h .stream) place)) _ (f .passes)) kind ack last start len))
+      at-did limit slots bytes p (h .stream) 9 _ (openSpot (laneOf (h .stream) slots) (h .id)) refl (λ spot o.
+      let f = found (isOpen (h .id)) (laneOf (h .stream) slots) spot o in
+      again-move (h .stream) (h .id) spot _ _ n f
+      (next-flow p (laneStart (h .stream) + spot) (at (h .stream) spot) h (and-left (opens (at (h .stream) spot)) _ (f .passes)) kind ack last start len))
   act-did (Ack h) n kind = quiet refl (record { not-accepted = refl; not-finished = refl; not-replaced = refl; not-dropped = refl })
   act-did (Nack h) n kind = quiet refl (record { not-accepted = refl; not-finished = refl; not-replaced = refl; not-dropped = refl })
 

@@ -26,24 +26,24 @@ heard packet told = record { packet = packet; told = told }
 
 -- a piece was taken, or the last one
 abbrev pub accepts : Told Accepted → Bool
-accepts (given (Taken place stream id replaced)) = true
-accepts (given (Finished place stream id total ack replaced)) = true
+accepts (given (Taken index stream id replaced)) = true
+accepts (given (Finished index stream id total ack replaced)) = true
 accepts (given (Acked head)) = false
 accepts (given (Nacked head)) = false
 accepts (refused n) = false
 
 -- a transaction is finished
 abbrev pub finishes : Told Accepted → Bool
-finishes (given (Taken place stream id replaced)) = false
-finishes (given (Finished place stream id total ack replaced)) = true
+finishes (given (Taken index stream id replaced)) = false
+finishes (given (Finished index stream id total ack replaced)) = true
 finishes (given (Acked head)) = false
 finishes (given (Nacked head)) = false
 finishes (refused n) = false
 
 -- it is noted that one is replaced
 abbrev pub replaces : Told Accepted → Bool
-replaces (given (Taken place stream id replaced)) = replaced
-replaces (given (Finished place stream id total ack replaced)) = replaced
+replaces (given (Taken index stream id replaced)) = replaced
+replaces (given (Finished index stream id total ack replaced)) = replaced
 replaces (given (Acked head)) = false
 replaces (given (Nacked head)) = false
 replaces (refused n) = false
@@ -55,8 +55,8 @@ drops (refused n) = eqb n 10 || eqb n 11
 
 -- the payload bytes of a finished transaction
 abbrev pub payloadIn : Told Accepted → ℕ
-payloadIn (given (Taken place stream id replaced)) = 0
-payloadIn (given (Finished place stream id total ack replaced)) = total
+payloadIn (given (Taken index stream id replaced)) = 0
+payloadIn (given (Finished index stream id total ack replaced)) = total
 payloadIn (given (Acked head)) = 0
 payloadIn (given (Nacked head)) = 0
 payloadIn (refused n) = 0
@@ -77,7 +77,7 @@ leavesOpen h = begins h && not (finishes (h .told))
 abbrev pub closes : Heard → Bool
 closes h = begins h || (finishes (h .told) || drops (h .told))
 
--- one of some packets does so to a byte 0
+-- one of the packets does so to a transaction with this byte 0
 abbrev pub closedIn : ℕ → List Heard → Bool
 closedIn first [] = false
 closedIn first (h ∷ hs) = (closes h && eqb (byteZero h) first) || closedIn first hs

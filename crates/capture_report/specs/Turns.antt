@@ -44,7 +44,7 @@ reportWith h = record { control = costsWith Control h; ota = costsWith Ota h; al
 abbrev pub openIn : Stream → List Slot → ℕ
 openIn s slots = length (those opens (laneOf s slots))
 
--- so many left open, and nothing else
+-- n transactions left open, and nothing else
 abbrev pub openCosts : ℕ → Costs
 openCosts n = record { firsts = 0; finished = 0; replaced = 0; dropped = 0; pending = n; payload = 0; bytes = 0 }
 

@@ -20,12 +20,12 @@ use Rattle.capture_report.proofs.Runs.{guard-refused}
 applied-told : (limit first : ℕ) (slots : List Slot) (bytes other p : List ℕ) (act : Act)
     → applied limit slots bytes p first act .told ≡ applied limit slots other p first act .told
 applied-told limit first slots bytes other p (still t) = refl
-applied-told limit first slots bytes other p (step place s) = refl
+applied-told limit first slots bytes other p (step spot s) = refl
 
 applied-slots : (limit first : ℕ) (slots : List Slot) (bytes other p : List ℕ) (act : Act)
     → applied limit slots bytes p first act .slots ≡ applied limit slots other p first act .slots
 applied-slots limit first slots bytes other p (still t) = refl
-applied-slots limit first slots bytes other p (step place s) = refl
+applied-slots limit first slots bytes other p (step spot s) = refl
 
 acted-told : (limit : ℕ) (slots : List Slot) (bytes other p : List ℕ) (t : Told Packet) → acted limit slots bytes p t .told ≡ acted limit slots other p t .told
 acted-told limit slots bytes other p (refused n) = refl

@@ -20,7 +20,7 @@ use Rattle.capture_report.proofs.Adding.{plus-assoc, plus-empty, plus-swap, plu
 use Rattle.capture_report_claims.specs.Captures.{LentCapture, toldOf, reportAfter, CaptureSizes, sizesOf, isOver, noneOver, OrderIsFree, InBits, FitsAll, FitsOnly}
 use Rattle.capture_report_claims.proofs.Contents.{same-report}
 
--- ---- a refusal before a packet is taken is none by 19
+-- ---- a refusal before any packet is taken is not 19
 
 abbrev NotOver : ℕ × ℕ → Type 0
 NotOver why = eqb (why .0) 19 ≡ false

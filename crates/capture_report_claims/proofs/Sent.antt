@@ -30,7 +30,7 @@ use Rattle.ble_sender.specs.Writer.{typeFor, headerBytes, isLast, packetOf, pac
 use Rattle.ble_sender.proofs.Guard.{range-facts}
 use Rattle.ble_sender_claims.specs.Calls.{callsOf, SendableMessage}
 use Rattle.ble_sender_claims.proofs.CallsGiveAll.{calls-give-all}
-use Rattle.ble_claims.specs.Delivery.{Message, runOf, givenBy, placeIn, hasSlot, packetsIn, CallShown, shown, shownIn, messageOf, allAnswerable, atLast}
+use Rattle.ble_claims.specs.Delivery.{Message, runOf, givenBy, indexIn, hasSlot, packetsIn, CallShown, shown, shownIn, messageOf, allAnswerable, atLast}
 use Rattle.ble_claims.proofs.MessagesArrive.{round-trip}
 use Rattle.capture_report.specs.Costs.{Heard, heard, accepts, finishes, drops, payloadIn, begins, followedIn, costsIn, costsOf}
 use Rattle.capture_report.specs.Report.{callFor, linkRun, freshRun}
@@ -47,12 +47,12 @@ abbrev totalIn : Option Message → ℕ
 totalIn none = 0
 totalIn (some x) = x .total
 
-place-accepts : (t : Told Accepted) (place : ℕ) → placeIn t ≡ some place → accepts t ≡ true
-place-accepts (given (Taken at stream id replaced)) place e = refl
-place-accepts (given (Finished at stream id total ack replaced)) place e = refl
-place-accepts (given (Acked head)) place e = absurd (false≢true (ap isSome e))
-place-accepts (given (Nacked head)) place e = absurd (false≢true (ap isSome e))
-place-accepts (refused n) place e = absurd (false≢true (ap isSome e))
+index-accepts : (t : Told Accepted) (index : ℕ) → indexIn t ≡ some index → accepts t ≡ true
+index-accepts (given (Taken at stream id replaced)) index e = refl
+index-accepts (given (Finished at stream id total ack replaced)) index e = refl
+index-accepts (given (Acked head)) index e = absurd (false≢true (ap isSome e))
+index-accepts (given (Nacked head)) index e = absurd (false≢true (ap isSome e))
+index-accepts (refused n) index e = absurd (false≢true (ap isSome e))
 
 given-finishes : (limit : ℕ) (t : Told Accepted) (bytes : List ℕ) → isSome (givenBy limit t bytes) ≡ finishes t
 given-finishes limit (given (Taken at stream id replaced)) bytes = refl
@@ -122,30 +122,30 @@ Kinds s first [] = Unit {0}
 Kinds s first (p ∷ ps) = (isOf (streamNumber s) p ≡ true) × (isFirst (fieldsOf p) ≡ first) × Kinds s false ps
 
 -- what was shown of one packet
-shown-head : (place : ℕ) (message : Option Message) (out : List ℕ) (t : Told Accepted) (limit : ℕ) (bytes o : List ℕ) (xs ys : List CallShown)
-    → shown (placeIn t) (givenBy limit t bytes) o ∷ xs ≡ shown (some place) message out ∷ ys
-    → (placeIn t ≡ some place) × (givenBy limit t bytes ≡ message) × (xs ≡ ys)
-shown-head place message out t limit bytes o xs ys e =
-    let head : shown (placeIn t) (givenBy limit t bytes) o ≡ shown (some place) message out = cc in
+shown-head : (index : ℕ) (message : Option Message) (out : List ℕ) (t : Told Accepted) (limit : ℕ) (bytes o : List ℕ) (xs ys : List CallShown)
+    → shown (indexIn t) (givenBy limit t bytes) o ∷ xs ≡ shown (some index) message out ∷ ys
+    → (indexIn t ≡ some index) × (givenBy limit t bytes ≡ message) × (xs ≡ ys)
+shown-head index message out t limit bytes o xs ys e =
+    let head : shown (indexIn t) (givenBy limit t bytes) o ≡ shown (some index) message out = cc in
     let tail : xs ≡ ys = cc in
-    (ap (λ (x : CallShown). x .place) head, ap (λ (x : CallShown). x .message) head, tail)
+    (ap (λ (x : CallShown). x .index) head, ap (λ (x : CallShown). x .message) head, tail)
 
-pieces-by : (limit place : ℕ) (w : Sending) (m : List ℕ) (s : Stream) (first : Bool) (slots : List Slot) (bytes p : List ℕ) (ps : List (List ℕ))
+pieces-by : (limit index : ℕ) (w : Sending) (m : List ℕ) (s : Stream) (first : Bool) (slots : List Slot) (bytes p : List ℕ) (ps : List (List ℕ))
     → Kinds s first (p ∷ ps)
-    → shownIn limit (runOf limit slots bytes (map callFor (p ∷ ps))) ≡ atLast place w m (callFor p) (map callFor ps)
+    → shownIn limit (runOf limit slots bytes (map callFor (p ∷ ps))) ≡ atLast index w m (callFor p) (map callFor ps)
     → Pieces s (length m) first (linkRun limit slots bytes (p ∷ ps) .heards)
 unfolding runOf linkRun
-pieces-by limit place w m s first slots bytes p [] k e =
+pieces-by limit index w m s first slots bytes p [] k e =
     let l : PacketLeft = acceptOf limit slots bytes (callFor p) in
-    let h = shown-head place (some (messageOf w m)) _ (l .told) limit (l .bytes) (l .out) [] [] e in
-    ends first (heard p (l .told)) (record { mine = k .0; kind = k .1; taken = place-accepts (l .told) place (h .0) })
+    let h = shown-head index (some (messageOf w m)) _ (l .told) limit (l .bytes) (l .out) [] [] e in
+    ends first (heard p (l .told)) (record { mine = k .0; kind = k .1; taken = index-accepts (l .told) index (h .0) })
     (sym (given-finishes limit (l .told) (l .bytes)) ∙ ap isSome (h .1)) (sym (given-payload limit (l .told) (l .bytes)) ∙ ap totalIn (h .1))
-pieces-by limit place w m s first slots bytes p (q ∷ ps) k e =
+pieces-by limit index w m s first slots bytes p (q ∷ ps) k e =
     let l : PacketLeft = acceptOf limit slots bytes (callFor p) in
-    let h = shown-head place none _ (l .told) limit (l .bytes) (l .out) _ _ e in
-    goes first (heard p (l .told)) _ (record { mine = k .0; kind = k .1; taken = place-accepts (l .told) place (h .0) })
+    let h = shown-head index none _ (l .told) limit (l .bytes) (l .out) _ _ e in
+    goes first (heard p (l .told)) _ (record { mine = k .0; kind = k .1; taken = index-accepts (l .told) index (h .0) })
     (sym (given-finishes limit (l .told) (l .bytes)) ∙ ap isSome (h .1))
-    (pieces-by limit place w m s false (l .slots) (l .bytes) q ps (k .2) (h .2))
+    (pieces-by limit index w m s false (l .slots) (l .bytes) q ps (k .2) (h .2))
 
 -- ---- the writer's packets
 
@@ -168,14 +168,14 @@ module _ (w : Sending) (m : List ℕ) (known : isStream (w .stream) ≡ true) (l
   kinds-on true ps k = tt
   kinds-on false ps k = k
 
-  kinds-from : (fuel index place rest : ℕ) (first : Bool) → piece.isFirst index ≡ first
-      → Kinds (streamOf (w .stream)) first (map (packetOf w m) (piece.piecesFrom fuel (w .room) index place rest))
-  kinds-from zero index place rest first e = tt
-  kinds-from (suc fuel) index place rest first e =
+  kinds-from : (fuel index start rest : ℕ) (first : Bool) → piece.isFirst index ≡ first
+      → Kinds (streamOf (w .stream)) first (map (packetOf w m) (piece.piecesFrom fuel (w .room) index start rest))
+  kinds-from zero index start rest first e = tt
+  kinds-from (suc fuel) index start rest first e =
       let n : ℕ = piece.sizeFor (w .room) (piece.isFirst index) rest in
-      let p : Piece = record { index = index; place = place; size = n } in
-      let later = kinds-from fuel (suc index) (place + n) (rest - n) false (ne-eqb (suc index) 0 (λ z. omega (arith, z))) in
-      (packet-of p, packet-kind p ∙ e, kinds-on (eqb n rest) (piece.piecesFrom fuel (w .room) (suc index) (place + n) (rest - n)) later)
+      let p : Piece = record { index = index; start = start; size = n } in
+      let later = kinds-from fuel (suc index) (start + n) (rest - n) false (ne-eqb (suc index) 0 (λ z. omega (arith, z))) in
+      (packet-of p, packet-kind p ∙ e, kinds-on (eqb n rest) (piece.piecesFrom fuel (w .room) (suc index) (start + n) (rest - n)) later)
 
 -- ---- a message
 
@@ -200,7 +200,7 @@ module _ (limit : ℕ) (bytes : List ℕ) (w : Sending) (m out : List ℕ) (size
   pieces-of (p ∷ ps) e k low =
       let a = round-trip limit idles bytes (callFor p) (map callFor ps) w m out (idles-lawful limit) size t (sym (ap (λ (qs : List (List ℕ)). getD qs 0 []) e))
       (packets-are ps ∙ sym (ap (λ (qs : List (List ℕ)). drop 1 qs) e)) (can-answer (p ∷ ps)) (idle-slot w (streamOf (w .stream)) refl) in
-      pieces-by limit (a .place) w m (streamOf (w .stream)) true idles bytes p ps k (a .as-said)
+      pieces-by limit (a .index) w m (streamOf (w .stream)) true idles bytes p ps k (a .as-said)
 
   calls-counted : Counted (streamOf (w .stream)) (length m) true (freshRun limit bytes (callsOf limit w m out) .heards)
   calls-counted =

@@ -71,7 +71,7 @@ pub record CapturesAdd : Type 0 where
       → packetsOf capture ≡ refused why
       → addedOf report limit slots bytes capture ≡ captureAdded (refused why) slots bytes
 
--- what there is of limits, of what is lent and of captures
+-- every limit, whatever is lent and every capture is one of these
 pub data CaptureCase (limit : ℕ) (slots : List Slot) (bytes capture : List ℕ) : Type 0 where
   of-limit : (limit < 1) ⊎ (65535 < limit) → CaptureCase limit slots bytes capture
   of-lent : 1 ≤ limit → limit ≤ 65535 → (length slots ≡ 12 → ⊥) ⊎ (length bytes ≡ 12 * limit → ⊥) → CaptureCase limit slots bytes capture

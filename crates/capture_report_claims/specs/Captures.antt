@@ -101,6 +101,6 @@ InBits c =
 abbrev pub FitsAll : Type 0
 FitsAll = (r : CostReport) → ((s : Stream) → InBits (costsFor r s)) → reportFits r ≡ true
 
--- no less: one number that has more is enough for 19
+-- and only then: one number that has more is enough for 19
 abbrev pub FitsOnly : Type 0
 FitsOnly = (r : CostReport) (s : Stream) → reportFits r ≡ true → InBits (costsFor r s)

@@ -51,7 +51,7 @@ seven = lent 2 oddRow oddBytes (captured (three ∷ []))
 abbrev pub four : LentCapture
 four = lent 2 oddRow oddBytes (captured (reaches ∷ []))
 
--- the claim with less asked for
+-- the claim with a weaker premise
 abbrev pub OrderAlwaysFree : Type 0
 OrderAlwaysFree =
     (r : CostReport) (cs ds : List LentCapture)

@@ -136,7 +136,7 @@ abbrev leaves : CostReport → ℕ → List ℕ → ToldAt CostReport → List S
 leaves before limit capture told slots bytes =
     record { before = before; limit = limit; slots = oddRow; bytes = oddBytes; capture = capture; after = captureAdded told slots bytes }
 
--- numbers none of which may grow
+-- numbers that are all the largest
 abbrev full : CostReport
 full = report (costs most most most most most most most) (costs most most most most most most most) (costs most most most most most most most)
 
@@ -151,7 +151,7 @@ rows =
     (given (report (costs 3 0 1 1 1 0 26) (costs 1 1 0 0 0 1 7) (costs 0 0 0 0 0 0 6)))
     (begun 5 ∷ replicate 11 idle)
     (0x07 ∷ (replicate 7 0xEE ++ (0x09 ∷ replicate 15 0xEE)))
-    -- id 5 is open at the second place; on top of another report
+    -- id 5 is open at the second spot; on top of another report
     ∷ leaves (report (costs 1 2 3 4 5 6 7) (costs 11 12 13 14 15 16 17) (costs 21 22 23 24 25 26 27)) 2 (captured twoIds)
     (given (report (costs 5 3 4 5 6 8 44) (costs 12 13 13 14 15 17 24) (costs 21 22 23 24 25 26 27)))
     (idle ∷ begun 5 ∷ replicate 10 idle)

@@ -27,7 +27,7 @@ unfoldable pub fitsPiece : ℕ → Bool → ℕ → Bool → ℕ → ℕ → Boo
 fitsPiece room first left ack start len =
     eqb len (sizeFor room first left) && (eqb start (headerSize first (extended len)) && (not ack || eqb len left))
 
--- what is open when so many bytes are still to come
+-- what is open when `left` bytes are still to come
 abbrev pub slotFor : ℕ → ℕ → ℕ → SenderSlot
 slotFor id left sequence = cond (eqb left 0) Idle (Open id left sequence)
 

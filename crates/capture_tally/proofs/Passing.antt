@@ -11,7 +11,7 @@ use Rattle.wire.specs.Bytes.{pairOf}
 use Rattle.capture_reader.specs.Capture.{ToldAt, width, lengthIn, frontOf, otherVersion, packetsOf, checkedOf}
 use Rattle.capture_reader.proofs.Walking.{PacketWalk, check-refused, walk-begins, walk-ends, walk-front, walk-goes, front-within}
 use Rattle.ble_slot.specs.declared.Slot.{Slot}
-use Rattle.ble_slot.specs.Slot.{slotCount, lawful}
+use Rattle.ble_slot.specs.Slot.{lawful}
 use Rattle.ble_packet.specs.Control.{ackSize}
 use Rattle.ble_packet.specs.Reader.{readOf}
 use Rattle.ble_slot.specs.declared.answer.Accepted.{Accepted}
@@ -38,7 +38,7 @@ module _ (limit : ℕ) (slots : List Slot) (bytes p : List ℕ) where
 
   -- what the rules decide is what the link does
   pub given-is : (d : Step) (after out : List ℕ) → leftBy slots d after out ≡ acceptOf limit slots bytes (callFor p)
-      → result (told (d .answer)) (set slots (d .place) (d .slot)) after ≡ gaveOf limit slots bytes p
+      → result (told (d .answer)) (set slots (d .index) (d .slot)) after ≡ gaveOf limit slots bytes p
   unfolding gaveOf
   given-is d after out h = ap (λ (l : PacketLeft). result (l .told) (l .slots) (l .bytes)) h
 

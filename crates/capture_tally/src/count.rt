@@ -1,4 +1,6 @@
 // What one packet adds to a report, and what the open slots add at the end.
+use crate::sums::Sum;
+use crate::sums::add_own;
 use ble_packet::header;
 use ble_slot::Slot;
 use ble_slot::answer::Accepted;
@@ -22,8 +24,9 @@ ghost use Rattle.ble_packet.specs.Reader as reader;
 ghost use Rattle.ble_slot.specs.Slot.{opens};
 ghost use Rattle.ble_slot.specs.Answer.{told};
 ghost use Rattle.capture_report.specs.Costs.{heard, begins, finishes, replaces, drops, payloadIn};
-ghost use Rattle.capture_report.specs.Turns.{costsBy, openCosts, openReport};
+ghost use Rattle.capture_report.specs.Turns.{costsBy, reportWith, openCosts, openReport, onTop};
 ghost use Rattle.capture_tally.specs.Count.{marksOf};
+ghost use Rattle.capture_tally.specs.Tally.{toldSum};
 
 // No stream's number.
 const NO_STREAM: u8 = 255;
@@ -67,13 +70,13 @@ fn marks_accepted(accepted: Accepted) -> Marks
 {
     match accepted {
         Accepted::Taken {
-            place: _,
+            index: _,
             stream: _,
             id: _,
             replaced,
         } => noted(true, false, replaced, false, 0),
         Accepted::Finished {
-            place: _,
+            index: _,
             stream: _,
             id: _,
             total,
@@ -104,7 +107,7 @@ fn is_first(packet: &[u8]) -> bool
 }
 
 // The stream field of a packet; one without bytes is of no stream.
-pub fn stream_field(packet: &[u8]) -> u8
+fn stream_field(packet: &[u8]) -> u8
     ensures { λ r. ⌜ (headers.isOf 0 (now (packet .entry)) ≡ eqb r 0)
         × (headers.isOf 2 (now (packet .entry)) ≡ eqb r 2)
         × (headers.isOf 6 (now (packet .entry)) ≡ eqb r 6) ⌝ }
@@ -136,13 +139,27 @@ fn costs_of(first: bool, marks: Marks, size: u64) -> Costs
 }
 
 // What a packet and what was told of it add to its own stream.
-pub fn costs_with(packet: &[u8], answer: Answer) -> Costs
+fn costs_with(packet: &[u8], answer: Answer) -> Costs
     ensures { λ r. ⌜ r ≡ costsBy true (begins (heard (now (packet .entry)) (told answer))) (finishes (told answer))
         (replaces (told answer)) (drops (told answer)) (payloadIn (told answer)) (length (now (packet .entry))) ⌝ }
 {
     let marks = marks_of(answer);
     let first = is_first(packet);
     costs_of(first, marks, packet.len() as u64)
+}
+
+// The sums with a packet and what was told of it; what is over stays over.
+pub fn count_packet(sum: Sum, packet: &[u8], answer: Answer) -> Sum
+    ensures { λ r. ⌜ toldSum r ≡ onTop (toldSum sum) (reportWith (heard (now (packet .entry)) (told answer))) ⌝ }
+{
+    match sum {
+        Sum::Over => Sum::Over,
+        Sum::Within(report) => {
+            let number = stream_field(packet);
+            let more = costs_with(packet, answer);
+            add_own(report, number, more)
+        }
+    }
 }
 
 // How many of a stream's slots are open.

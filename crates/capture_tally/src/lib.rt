@@ -2,6 +2,7 @@
 pub mod count;
 pub mod sums;
 
+use crate::count::count_packet;
 use crate::count::open_report;
 use crate::sums::Sum;
 use ble_link::load;
@@ -92,12 +93,12 @@ fn idle_row() -> [Slot; 12]
     [Slot::idle(); 12]
 }
 
-fn with_slot(slots: [Slot; 12], place: usize, slot: Slot) -> [Slot; 12]
-    ensures { λ r. ⌜ r ≡ set slots place slot ⌝ }
+fn with_slot(slots: [Slot; 12], index: usize, slot: Slot) -> [Slot; 12]
+    ensures { λ r. ⌜ r ≡ set slots index slot ⌝ }
 {
     let mut row = slots;
-    if place < SLOT_COUNT {
-        row[place] = slot;
+    if index < SLOT_COUNT {
+        row[index] = slot;
     }
     row
 }
@@ -105,7 +106,7 @@ fn with_slot(slots: [Slot; 12], place: usize, slot: Slot) -> [Slot; 12]
 // A packet given to the link, whose row and buffer are its own work: nothing of them is judged again. The answer sequence and the answer buffer are the call's own.
 fn give(limit: usize, slots: [Slot; 12], buffer: &mut [u8], packet: &[u8]) -> Step
     requires { ⌜ ready limit slots (length (now buffer)) ≡ true ⌝ }
-    ensures { λ r. ⌜ result (answer.told (r .answer)) (set slots (r .place) (r .slot)) (now (buffer .exit))
+    ensures { λ r. ⌜ result (answer.told (r .answer)) (set slots (r .index) (r .slot)) (now (buffer .exit))
         ≡ gaveOf limit slots (now (buffer .entry)) (now (packet .entry)) ⌝ }
 {
     let mut out = [0u8; ACK_SIZE];
@@ -122,8 +123,8 @@ fn take(limit: usize, tally: Tally, buffer: &mut [u8], packet: &[u8]) -> Tally
     let done = give(limit, slots, buffer, packet);
     let answer = done.answer;
     let so_far = tally.sum;
-    let sum = so_far.with_packet(packet, answer);
-    let row = with_slot(slots, done.place, done.slot);
+    let sum = count_packet(so_far, packet, answer);
+    let row = with_slot(slots, done.index, done.slot);
     Tally { slots: row, sum }
 }
 

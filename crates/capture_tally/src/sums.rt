@@ -1,7 +1,4 @@
 // Sums of a report's numbers, each within 64 bits.
-use crate::count::costs_with;
-use crate::count::stream_field;
-use ble_slot::answer::Answer;
 use capture_report::CostReport;
 use capture_report::Costs;
 use wire::logic::both;
@@ -10,9 +7,7 @@ ghost use mathlib.Core.Path.{_≡_};
 ghost use mathlib.Core.Bool.{true};
 ghost use lib.Dec.{ltb};
 ghost use Rattle.capture_report.specs.Report.{costsPlus, plus, past64, costsFit, reportFits, summed};
-ghost use Rattle.ble_slot.specs.Answer.{told};
-ghost use Rattle.capture_report.specs.Costs.{heard};
-ghost use Rattle.capture_report.specs.Turns.{onTop, reportWith};
+ghost use Rattle.capture_report.specs.Turns.{onTop};
 ghost use Rattle.capture_tally.specs.Count.{only};
 ghost use Rattle.capture_tally.specs.Tally.{toldSum};
 
@@ -85,7 +80,7 @@ fn add_reports(a: CostReport, b: CostReport) -> Sum
 }
 
 // What a packet of a stream adds: the numbers of the other two stay. No stream, nothing.
-fn add_own(report: CostReport, number: u8, more: Costs) -> Sum
+pub fn add_own(report: CostReport, number: u8, more: Costs) -> Sum
     ensures { λ r. ⌜ toldSum r ≡ summed (plus report (only number more)) ⌝ }
 {
     let control = report.control;
@@ -135,20 +130,6 @@ impl Sum {
         match self {
             Sum::Over => Sum::Over,
             Sum::Within(report) => add_reports(report, more),
-        }
-    }
-
-    // With a packet and what was told of it; what is over stays over.
-    pub fn with_packet(self, packet: &[u8], answer: Answer) -> Self
-        ensures { λ r. ⌜ toldSum r ≡ onTop (toldSum self) (reportWith (heard (now (packet .entry)) (told answer))) ⌝ }
-    {
-        match self {
-            Sum::Over => Sum::Over,
-            Sum::Within(report) => {
-                let number = stream_field(packet);
-                let more = costs_with(packet, answer);
-                add_own(report, number, more)
-            }
         }
     }
 }

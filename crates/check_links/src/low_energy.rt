@@ -113,13 +113,13 @@ fn write_packets(label: &[u8], shown: Shown, how: Sending, message: &[u8]) {
 fn print_accepted(accepted: Accepted) {
     match accepted {
         Accepted::Taken {
-            place: _,
+            index: _,
             stream: _,
             id: _,
             replaced: _,
         } => text(b" taken"),
         Accepted::Finished {
-            place: _,
+            index: _,
             stream: _,
             id: _,
             total: _,
@@ -176,7 +176,7 @@ fn write_acknowledgement(label: &[u8], stream: u8, id: u8, sequence: u8, positiv
     end();
 }
 
-// How a message is sent of which only the room is said.
+// How a message is sent at a room: stream, id and sequence 0, no ACK wanted.
 fn in_room(room: usize) -> Sending {
     Sending {
         room,

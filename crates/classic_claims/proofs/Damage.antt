@@ -14,9 +14,8 @@ use Rattle.classic_frame.specs.Mark.{endMark, kindOf}
 use Rattle.classic_frame.specs.Frame.{escapedOf}
 use Rattle.classic_extractor.specs.declared.state.Progress.{Progress}
 use Rattle.classic_extractor.specs.declared.state.Phase.{Phase}
-use Rattle.classic_extractor.specs.declared.action.Action.the-variants.{Refuse}
 use Rattle.classic_extractor.specs.declared.outcome.Refusal.the-variants.{BadEscape}
-use Rattle.classic_extractor.specs.Action.{headerBy, codeOf}
+use Rattle.classic_extractor.specs.Action.{Refuse, headerBy, codeOf}
 use Rattle.classic_extractor.specs.State.{outside, body}
 use Rattle.classic_extractor.specs.Step.{performOf, advanceOf}
 use Rattle.classic_claims.specs.Run.{Given, handedBy}

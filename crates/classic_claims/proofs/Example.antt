@@ -45,7 +45,7 @@ none-before : handedOut 0 (runOf limit (replicate 4 (many 26)) 0 state buffer (b
 unfolding limitFits kindOf escapedOf sumOf framed codeOf lawful ready storeOf checked endOf advanceOf feedFrom callOf runOf handedOut bytesOf undamaged
 none-before = damage-ends limit state buffer [] closing (replicate 4 (many 26)) (damage-example .standing) (damage-example .premises) refl
 
--- FrameReturns at both ends of the limits, of whatever is sent there
+-- FrameReturns at the smallest and the largest limit, of any frame
 returns-least : (m : FrameToSend) (buffer : List ℕ) → Sendable 1 m → length buffer ≡ 3
     → (let r = feedOf 1 outside buffer (sent 1 m) in (handedBy (r .report) (r .buffer) ≡ givenOf m ∷ []) × (r .used ≡ length (sent 1 m)))
 returns-least m buffer = frame-returns 1 m buffer

@@ -16,9 +16,7 @@ use Rattle.classic_frame.specs.Frame.{packetId, errorId, startCode, endCode, es
 use Rattle.classic_extractor.specs.declared.state.Progress.{Progress}
 use Rattle.classic_extractor.specs.declared.state.Phase.{Phase}
 use Rattle.classic_extractor.specs.declared.state.Phase.the-variants.{Outside, PacketId, ErrorId, Sequence, Body, Escaped}
-use Rattle.classic_extractor.specs.declared.action.Action.{Action}
-use Rattle.classic_extractor.specs.declared.action.Action.the-variants.{Skip, Begin, Restart, Go, Number, Store, Finish, Refuse}
-use Rattle.classic_extractor.specs.Action.{codeOf, actionBy, actionOf}
+use Rattle.classic_extractor.specs.Action.{Action, Skip, Begin, Restart, Go, Number, Store, Finish, Refuse, codeOf, actionBy, actionOf}
 use Rattle.classic_extractor.specs.State.{sequenceRead, lawfulAfter, lawful, ready}
 use Rattle.classic_extractor.specs.Step.{ByteStep, storeOf, performOf, advanceOf, byteStepOf}
 use Rattle.classic_feed.specs.Feed.{Feed, decides, feedFrom, feedOf}

@@ -9,9 +9,8 @@ use Rattle.classic_frame.specs.declared.mark.Kind.{Kind}
 use Rattle.classic_frame.specs.declared.mark.Kind.the-variants.{Start, End, Escape, Plain}
 use Rattle.classic_frame.specs.Mark.{startMark, endMark, escapeMark, kindOf}
 use Rattle.classic_frame.specs.Frame.{startCode, endCode, escapeCode, escapedBy}
-use Rattle.classic_extractor.specs.declared.action.Action.the-variants.{Store, Refuse}
 use Rattle.classic_extractor.specs.declared.outcome.Refusal.the-variants.{BadEscape}
-use Rattle.classic_extractor.specs.Action.{codeOf}
+use Rattle.classic_extractor.specs.Action.{Store, Refuse, codeOf}
 
 -- the byte that a kind stands for
 abbrev byteBy : Kind → ℕ → ℕ
@@ -63,7 +62,7 @@ spelt x = go (kindOf x) refl (mark-is x)
     go Escape e m = rw (← m) (coded escapeCode refl escape-code)
     go Plain e m = itself e
 
--- a byte after F2 is a code, or it is none
+-- a byte after F2 is a code, or it is not
 pub data Meaning (c : ℕ) : Type 0 where
   stands-for : (x : ℕ) → Code c x → Meaning c
   unknown : codeOf c ≡ Refuse BadEscape → Meaning c

@@ -8,9 +8,14 @@ use Rattle.classic_frame.specs.Mark.{startMark, endMark, escapeMark, kindOf}
 use Rattle.classic_frame.specs.Frame.{packetId, errorId, startCode, endCode, escapeCode}
 use Rattle.classic_extractor.specs.declared.state.Phase.{Phase}
 use Rattle.classic_extractor.specs.declared.state.Phase.the-variants.{Outside, PacketId, ErrorId, Sequence, Body, Escaped}
+use Rattle.classic_extractor.specs.declared.outcome.Refusal.{Refusal}
 use Rattle.classic_extractor.specs.declared.outcome.Refusal.the-variants.{BadEscape, EarlyEnd, BadHeader}
-use Rattle.classic_extractor.specs.declared.action.Action.{Action}
-use Rattle.classic_extractor.specs.declared.action.Action.the-variants.{Skip, Begin, Restart, Go, Number, Store, Finish, Refuse}
+
+pub data Action : Type 0 where
+  Skip Begin Restart Number Finish : Action
+  Go : Phase → Action
+  Store : ℕ → Action
+  Refuse : Refusal → Action
 
 abbrev pub outsideBy : Kind → Action
 outsideBy Start = Begin

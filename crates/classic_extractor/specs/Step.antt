@@ -7,11 +7,9 @@ use lib.Dec.{ltb}
 use Rattle.wire.specs.Told.{line, table}
 use Rattle.classic_frame.specs.Frame.{checked}
 use Rattle.classic_extractor.specs.declared.state.Progress.{Progress}
-use Rattle.classic_extractor.specs.declared.action.Action.{Action}
-use Rattle.classic_extractor.specs.declared.action.Action.the-variants.{Skip, Begin, Restart, Go, Number, Store, Finish, Refuse}
 use Rattle.classic_extractor.specs.Outcome.{Report, taken, skipped, frame, refused, numberOf}
 use Rattle.classic_extractor.specs.State.{outside, begun, body, ready}
-use Rattle.classic_extractor.specs.Action.{actionOf}
+use Rattle.classic_extractor.specs.Action.{Action, Skip, Begin, Restart, Go, Number, Store, Finish, Refuse, actionOf}
 
 -- what a step leaves: its report, the next state and the lent buffer
 pub record ByteStep : Type 0 where

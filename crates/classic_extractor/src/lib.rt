@@ -1,5 +1,5 @@
 // The extractor of Classic frames, one byte to a step.
-mod action;
 pub mod outcome;
+pub mod phase;
 pub mod state;
 pub mod step;

@@ -10,9 +10,7 @@ use lib.Seq.{drop-cons}
 use lib.Dec.{ltb}
 use borrow.Author.Tests.{ltb-true}
 use Rattle.classic_extractor.specs.declared.state.Progress.{Progress}
-use Rattle.classic_extractor.specs.declared.action.Action.{Action}
-use Rattle.classic_extractor.specs.declared.action.Action.the-variants.{Skip, Begin, Restart, Go, Number, Store, Finish, Refuse}
-use Rattle.classic_extractor.specs.Action.{actionOf}
+use Rattle.classic_extractor.specs.Action.{Action, Skip, Begin, Restart, Go, Number, Store, Finish, Refuse, actionOf}
 use Rattle.classic_extractor.specs.Outcome.{Report, refused, allUsed}
 use Rattle.classic_extractor.specs.State.{ready, Fits}
 use Rattle.classic_extractor.specs.Step.{ByteStep, storeOf, performOf, advanceOf}

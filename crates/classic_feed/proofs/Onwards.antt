@@ -21,10 +21,9 @@ use Rattle.classic_frame.proofs.Marks.{clear-plain, unmarked-plain, start-kind,
 use Rattle.classic_extractor.specs.declared.state.Progress.{Progress}
 use Rattle.classic_extractor.specs.declared.state.Phase.{Phase}
 use Rattle.classic_extractor.specs.declared.state.Phase.the-variants.{Outside, Body, Escaped}
-use Rattle.classic_extractor.specs.declared.action.Action.the-variants.{Store}
-use Rattle.classic_extractor.specs.Action.{codeOf}
+use Rattle.classic_extractor.specs.Action.{Store, codeOf}
 use Rattle.classic_extractor.specs.Outcome.{taken}
-use Rattle.classic_extractor.specs.State.{body, Fits}
+use Rattle.classic_extractor.specs.State.{begun, body, Fits}
 use Rattle.classic_extractor.specs.Step.{step, storeOf, advanceOf}
 use Rattle.classic_feed.specs.Feed.{feedFrom}
 use Rattle.classic_feed.specs.FastPath.{markOf, markAt, isHeader, headerAt, Onward}
@@ -86,6 +85,23 @@ onward-outside {limit} {s} {l} bytes i e k fits p h w clear =
           sym
           (rw (take-append-drop k (drop i bytes), part-length startMark startMark bytes i e k h w clear, drop-drop k i bytes)
           at (outside-run limit i s l (take k (drop i bytes)) (drop k (drop i bytes)) p (part-none startMark startMark bytes i e k h w clear)));
+    }
+
+-- a start mark begins a frame
+start-one : (limit n : ℕ) (s : Progress) (l ys : List ℕ) → s .phase ≡ Outside
+    → feedFrom limit n s l (startMark ∷ ys) ≡ feedFrom limit (n + 1) begun l ys
+unfolding feedFrom advanceOf
+start-one limit n s l ys p = rw (p, start-kind)
+
+pub onward-start : {limit : ℕ} {s : Progress} {l : List ℕ} (bytes : List ℕ) (i : ℕ) → Fits limit s l → s .phase ≡ Outside → i < length bytes
+    → getD bytes i 0 ≡ startMark → Onward limit bytes s l i begun l (i + 1)
+onward-start {limit} {s} {l} bytes i fits p h e =
+    let split : drop i bytes ≡ startMark ∷ drop (i + 1) bytes = rw (drop-cons bytes i 0 h, e, add-one) in
+    record {
+      from = omega arith;
+      within = omega arith;
+      fits = record { room = zero-le; size = fits .size };
+      rest = rw split (sym (start-one limit i s l (drop (i + 1) bytes) p));
     }
 
 -- ---- plain bytes of a body

@@ -2,7 +2,7 @@
 use Prim.Native.Nat.{ℕ, _+_, _-_, _≤_}
 use mathlib.Core.Path.{_≡_}
 use mathlib.Core.List.{List}
-use mathlib.Core.Bool.{Bool, not, cond, true, false, _&&_}
+use mathlib.Core.Bool.{Bool, not, cond, false, _&&_}
 use lib.ListN.{length, drop, getD}
 use lib.Dec.{ltb, eqb}
 use Rattle.classic_frame.specs.Mark.{startMark, endMark, escapeMark, isMark}
@@ -33,14 +33,6 @@ startReport ErrorId = refused 20
 startReport Sequence = refused 20
 startReport Body = refused 20
 startReport Escaped = refused 20
-
-abbrev pub isBody : Phase → Bool
-isBody Outside = false
-isBody PacketId = false
-isBody ErrorId = false
-isBody Sequence = false
-isBody Body = true
-isBody Escaped = false
 
 -- four bytes that are a frame's header
 abbrev pub isHeader : ℕ → ℕ → ℕ → ℕ → Bool

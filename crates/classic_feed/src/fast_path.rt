@@ -1,10 +1,10 @@
 // The fast path over many bytes: what passes bytes at once promises only that nothing is lost by it.
 use classic_extractor::outcome::Refusal;
 use classic_extractor::outcome::StepOutcome;
+use classic_extractor::phase::Advanced;
 use classic_extractor::state::CHECKSUM;
 use classic_extractor::state::Phase;
 use classic_extractor::state::Progress;
-use classic_extractor::step::Advanced;
 use classic_frame::header::ERROR_ID;
 use classic_frame::header::PACKET_ID;
 use classic_frame::mark::END_CODE;
@@ -12,6 +12,7 @@ use classic_frame::mark::ESCAPE_CODE;
 use classic_frame::mark::Mark;
 use classic_frame::mark::START_CODE;
 use classic_frame::mark::is_mark;
+use classic_frame::mark::kind_of;
 use wire::bytes::byte_at;
 use wire::bytes::smaller;
 use wire::logic::both;
@@ -26,7 +27,10 @@ ghost use Rattle.classic_extractor.specs.declared.state.Phase.the-variants.{Out
 ghost use Rattle.classic_extractor.specs.Outcome.{told};
 ghost use Rattle.classic_extractor.specs.State.{Fits};
 ghost use Rattle.classic_extractor.specs.Step.{step, advanceOf};
-ghost use Rattle.classic_feed.specs.FastPath.{markOf, markAt, startReport, isBody, isHeader, headerAt, Onward};
+ghost use Rattle.classic_feed.specs.FastPath.{markOf, markAt, startReport, isHeader, headerAt, Onward};
+
+// The bytes before the body.
+const HEADER: usize = 4;
 
 // The state, and the place of the first byte that was not passed.
 pub struct Passed {
@@ -61,6 +65,9 @@ fn find_frame(state: Progress, limit: usize, buffer: &mut [u8], bytes: &[u8], i:
         (r .next) (now (buffer .exit)) (r .at) ⌝ }
 {
     let at = i + before_start(&bytes[i..]);
+    if bytes.len() - at < HEADER {
+        return Passed { next: state, at };
+    }
     if header_at(bytes, at) {
         let sequence = bytes[at + 3];
         let body = Progress {
@@ -68,10 +75,16 @@ fn find_frame(state: Progress, limit: usize, buffer: &mut [u8], bytes: &[u8], i:
             sequence,
             held: 0,
         };
-        take_body(body, limit, buffer, bytes, at + 4)
-    } else {
-        Passed { next: state, at }
+        return take_body(body, limit, buffer, bytes, at + 4);
     }
+    if byte_at(bytes, at) == Mark::START {
+        let after = at + 1;
+        return Passed {
+            next: Progress::begun(),
+            at: after,
+        };
+    }
+    Passed { next: state, at }
 }
 
 // How many bytes stand before a start mark. Most frames follow the one before at once.
@@ -229,7 +242,7 @@ fn header_at(bytes: &[u8], at: usize) -> bool
     requires { ⌜ at ≤ length (now bytes) ⌝ }
     ensures { λ r. ⌜ r ≡ headerAt (now (bytes .entry)) at ⌝ }
 {
-    if bytes.len() - at < 4 {
+    if bytes.len() - at < HEADER {
         false
     } else {
         is_header(bytes[at], bytes[at + 1], bytes[at + 2], bytes[at + 3])
@@ -250,20 +263,7 @@ fn at_start(phase: Phase) -> StepOutcome
     }
 }
 
-fn is_body(phase: Phase) -> bool
-    ensures { λ r. ⌜ r ≡ isBody phase ⌝ }
-{
-    match phase {
-        Phase::Outside => false,
-        Phase::PacketId => false,
-        Phase::ErrorId => false,
-        Phase::Sequence => false,
-        Phase::Body => true,
-        Phase::Escaped => false,
-    }
-}
-
-// One byte of many. A start mark, and an end mark in the body, decide most calls and are taken here.
+// One byte of many, as `advance` takes it: a function of its own is compiled into the loop. A start mark is looked for first.
 pub fn fast_step(state: Progress, limit: usize, buffer: &mut [u8], b: u8) -> Advanced
     requires { ⌜ Fits limit state (now buffer) ⌝ }
     ensures { λ r. ⌜ step (told (r .outcome)) (r .next) (now (buffer .exit))
@@ -276,11 +276,13 @@ pub fn fast_step(state: Progress, limit: usize, buffer: &mut [u8], b: u8) -> Adv
             next: Progress::begun(),
         };
     }
-    if both(b == Mark::END, is_body(phase)) {
-        return Advanced {
-            outcome: state.end(buffer),
-            next: Progress::outside(),
-        };
+    let kind = kind_of(b);
+    match phase {
+        Phase::Outside => state.at_outside(kind),
+        Phase::PacketId => state.at_header(kind, PACKET_ID, Phase::ErrorId, b),
+        Phase::ErrorId => state.at_header(kind, ERROR_ID, Phase::Sequence, b),
+        Phase::Sequence => state.at_sequence(kind, b),
+        Phase::Body => state.at_body(buffer, kind, b),
+        Phase::Escaped => state.at_escaped(buffer, kind, b),
     }
-    state.advance(buffer, b)
 }

@@ -17,15 +17,15 @@ use Rattle.wire.proofs.Tests.{and-left, and-right}
 use Rattle.classic_frame.specs.declared.mark.Kind.{Kind}
 use Rattle.classic_frame.specs.declared.mark.Kind.the-variants.{Start, End, Escape, Plain}
 use Rattle.classic_frame.specs.Mark.{startMark, escapeMark, kindOf, isMarkKind, isMark}
-use Rattle.classic_frame.specs.Frame.{sumOf}
-use Rattle.classic_frame.proofs.Marks.{clear-plain, unmarked-plain}
+use Rattle.classic_frame.specs.Frame.{codeFor, escapedBy, sumOf}
+use Rattle.classic_frame.proofs.Marks.{clear-plain, unmarked-plain, mark-escaped}
 use Rattle.classic_parts.specs.declared.state.Stage.{Stage}
 use Rattle.classic_parts.specs.declared.state.Stage.the-variants as stage
 use Rattle.classic_parts.specs.declared.state.PartProgress.{PartProgress}
 use Rattle.classic_parts.specs.State.{missing, isPayload, inPayload}
 use Rattle.classic_parts.specs.Byte.{bodyByte, byteOf}
 use Rattle.classic_parts.specs.Fill.{Filled, fillOf}
-use Rattle.classic_parts.specs.FastPath.{codeBy, body, resumed, PartOnward}
+use Rattle.classic_parts.specs.FastPath.{body, resumed, PartOnward}
 
 -- ---- bytes that are passed
 
@@ -106,7 +106,7 @@ module _ (q t : ℕ) where
 
   -- ---- a mark: F2 and its code
   pair-by : (k : Kind) (x : ℕ) (l : List ℕ) (room h c : ℕ) → kindOf x ≡ k → isMarkKind k ≡ true → h < t
-      → fillOf (suc (suc room)) (body q t h c) (x ∷ l) ≡ prefixed (escapeMark ∷ codeBy k ∷ []) 1 (fillOf room (body q t (h + 1) ((c + x) % 65536)) l)
+      → fillOf (suc (suc room)) (body q t h c) (x ∷ l) ≡ prefixed (escapedBy k x) 1 (fillOf room (body q t (h + 1) ((c + x) % 65536)) l)
   unfolding fillOf byteOf bodyByte
   pair-by Start x l room h c k m e = rw (lt-ltb h t e, k, zero-add)
   pair-by End x l room h c k m e = rw (lt-ltb h t e, k, zero-add)
@@ -159,14 +159,14 @@ module _ (payload : List ℕ) (s : PartProgress) (out : List ℕ) (taken i : ℕ
 
   -- a mark, with its code
   pub onward-pair : (b : ℕ) → b ≡ getD payload taken 0 → isMark b ≡ true → s .taken < s .total → 2 ≤ length out - i
-      → PartOnward payload s out taken i (body (s .sequence) (s .total) (s .taken + 1) ((s .sum + b) % 65536)) (set (set out i escapeMark) (i + 1) (codeBy (kindOf b))) (taken + 1) (i + 2)
+      → PartOnward payload s out taken i (body (s .sequence) (s .total) (s .taken + 1) ((s .sum + b) % 65536)) (set (set out i escapeMark) (i + 1) (codeFor b)) (taken + 1) (i + 2)
   onward-pair b at mark lacks fits =
       let rest = length out - (i + 2) in
       let before = body (s .sequence) (s .total) (s .taken) (s .sum) in
       let inside = mark-inside payload taken (rw at at mark) in
       let split : drop taken payload ≡ b ∷ drop (taken + 1) payload = drop-cons payload taken 0 inside ∙ rw (← at, add-one) in
       let two : 2 + rest ≡ suc (suc rest) = omega arith in
-      let whole = pair-by (s .sequence) (s .total) (kindOf b) b (drop (taken + 1) payload) rest (s .taken) (s .sum) refl mark lacks in
-      onward-by (escapeMark ∷ codeBy (kindOf b) ∷ []) 2 1 (body (s .sequence) (s .total) (s .taken + 1) ((s .sum + b) % 65536)) (set (set out i escapeMark) (i + 1) (codeBy (kindOf b)))
+      let whole = rw (mark-escaped b mark) at (pair-by (s .sequence) (s .total) (kindOf b) b (drop (taken + 1) payload) rest (s .taken) (s .sum) refl mark lacks) in
+      onward-by (escapeMark ∷ codeFor b ∷ []) 2 1 (body (s .sequence) (s .total) (s .taken + 1) ((s .sum + b) % 65536)) (set (set out i escapeMark) (i + 1) (codeFor b))
       refl (rw add-one) (omega (arith, inside)) (omega arith)
       (ap (λ (k : ℕ). fillOf k before (drop taken payload)) two ∙ ap (λ (l : List ℕ). fillOf (suc (suc rest)) before l) split ∙ whole)

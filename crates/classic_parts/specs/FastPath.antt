@@ -5,21 +5,12 @@ use mathlib.Core.List.{List}
 use lib.ListN.{length, drop}
 use lib.Seq.{sets}
 use Rattle.wire.specs.Told.{given}
-use Rattle.classic_frame.specs.declared.mark.Kind.{Kind}
-use Rattle.classic_frame.specs.declared.mark.Kind.the-variants.{Start, End, Escape, Plain}
-use Rattle.classic_frame.specs.Frame.{startCode, endCode, escapeCode}
+use Rattle.classic_frame.specs.declared.mark.Kind.the-variants.{Plain}
 use Rattle.classic_parts.specs.declared.state.Stage.the-variants as stage
 use Rattle.classic_parts.specs.declared.state.PartProgress.{PartProgress}
 use Rattle.classic_parts.specs.State.{ended}
 use Rattle.classic_parts.specs.Fill.{Filled, fillOf}
 use Rattle.classic_parts.specs.Writer.{PartWrote, wrote, count}
-
--- what follows F2 for a mark
-abbrev pub codeBy : Kind → ℕ
-codeBy Start = startCode
-codeBy End = endCode
-codeBy Escape = escapeCode
-codeBy Plain = escapeCode
 
 -- in the payload, with nothing pending
 abbrev pub body : ℕ → ℕ → ℕ → ℕ → PartProgress

@@ -3,13 +3,10 @@ use crate::state::PartProgress;
 use crate::state::Stage;
 use classic_frame::checksum::add_all;
 use classic_frame::checksum::add_byte;
-use classic_frame::mark::END_CODE;
-use classic_frame::mark::ESCAPE_CODE;
 use classic_frame::mark::Kind;
 use classic_frame::mark::Mark;
-use classic_frame::mark::START_CODE;
+use classic_frame::mark::code_for;
 use classic_frame::mark::is_mark;
-use classic_frame::mark::kind_of;
 use wire::bytes::byte_at;
 use wire::bytes::smaller;
 use wire::logic::both;
@@ -18,27 +15,14 @@ ghost use mathlib.Core.Path.{_≡_};
 ghost use mathlib.Core.Bool.{true};
 ghost use Prim.Native.Nat.{_+_, _≤_, _<_};
 ghost use lib.ListN.{length};
-ghost use Rattle.classic_frame.specs.Mark.{kindOf};
 ghost use Rattle.classic_parts.specs.State.{missing, inPayload};
-ghost use Rattle.classic_parts.specs.FastPath.{codeBy, body, PartOnward};
+ghost use Rattle.classic_parts.specs.FastPath.{body, PartOnward};
 
 // The state, the payload bytes taken and the bytes written so far.
 pub struct PartPassed {
     pub next: PartProgress,
     pub taken: usize,
     pub at: usize,
-}
-
-// What follows F2 for a mark.
-fn code(b: u8) -> u8
-    ensures { λ r. ⌜ r ≡ codeBy (kindOf b) ⌝ }
-{
-    match kind_of(b) {
-        Kind::Start => START_CODE,
-        Kind::End => END_CODE,
-        Kind::Escape => ESCAPE_CODE,
-        Kind::Plain => ESCAPE_CODE,
-    }
 }
 
 impl PartProgress {
@@ -117,7 +101,7 @@ impl PartProgress {
         let fits = both(self.taken < self.total, 2 <= out.len() - at);
         if both(is_mark(b), fits) {
             out[at] = Mark::ESCAPE;
-            out[at + 1] = code(b);
+            out[at + 1] = code_for(b);
             let sum = add_byte(self.sum, b);
             PartPassed {
                 next: self.advanced(1, sum),

@@ -38,7 +38,7 @@ parts-example =
       byOnes = refl;
     }
 
--- The claims at both ends of the limits, of whatever is sent there
+-- The claims at the smallest and the largest limit, of any frame
 joins-at : (limit : ℕ) → (limit ≡ 1) ⊎ (limit ≡ 65535) → (m : FrameToSend) (calls : List PartCall) → Sendable limit m
     → (let s = beginning limit (m .sequence) (length (m .payload)) in Joins (sent limit m) m calls (runOf (s .limit) calls (s .progress) (m .payload)))
 joins-at limit ends m calls h = parts-join limit m calls h .2

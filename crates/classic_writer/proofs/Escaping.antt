@@ -124,7 +124,7 @@ pub left-mark : (bytes out : List ℕ) (at i : ℕ) → i < length bytes → isM
 left-mark bytes out at i h m = rw (mark-escaped (getD bytes i 0) m) at (left-byte bytes out at i h)
 
 module _ (bytes : List ℕ) (i : ℕ) (h : i ≤ length bytes) where
-  -- what is left is no longer than it is written
+  -- what is left is no longer than its escaped bytes
   pub rest-short : length (take (length bytes - i) (drop i bytes)) ≤ length (escapedOf (drop i bytes))
   rest-short = rw (take-all (length bytes - i) (drop i bytes) (rw (length-drop i bytes) (omega arith))) (escaped-least (drop i bytes))
 

@@ -82,7 +82,7 @@ fn is_same(a: &[u8], b: &[u8]) -> bool {
     true
 }
 
-// Whether the program's argument at a place is these words.
+// Whether the program's argument at an index is these words.
 pub fn argument_is(i: usize, words: &[u8]) -> bool {
     let mut space = [0u8; 64];
     let n = os::arg(i, &mut space);

@@ -36,7 +36,7 @@ ends-uncut : (b : Bool) → not (b && not false) ≡ true → b ≡ false
 ends-uncut true e = absurd (clash (cc))
 ends-uncut false e = refl
 
--- what is refused in reading place after place has its place
+-- a refusal met in reading place after place is told with its place
 run-never-refused : (fmt : Format) (file : List ℕ) {place : ℕ} {hs : List HandedRecord} → RecordRun fmt file place hs → (n : ℕ) → firstRefusal hs ≡ refused n → ⊥
 run-never-refused fmt file (ends place e) n r = clash (cc)
 run-never-refused fmt file (stops place inside e) n r = clash (cc)

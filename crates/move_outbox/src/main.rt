@@ -21,7 +21,7 @@ use wire::logic::either;
 ghost use mathlib.Core.Path.{_≡_};
 ghost use lib.ListN.{length};
 
-// A part has less than twice its bytes in any version.
+// In any version a part has less than twice its bytes.
 const MOVED_ROOM: usize = 131082;
 
 // The argument.

@@ -10,7 +10,7 @@ use Rattle.msg_firmware.specs.declared.component.FirmwareComponent.{FirmwareCom
 use Rattle.msg_firmware.specs.Component.{noComponent}
 
 module _ (cs : List FirmwareComponent) (count i : ℕ) (fits : count ≤ length cs) where
-  -- those from place i on
+  -- those from index i on
   pub listed-here : i < count → drop i (take count cs) ≡ getD cs i noComponent ∷ drop (i + 1) (take count cs)
   listed-here h =
       let inside : i < length (take count cs) = omega (arith, length-take-le count cs fits) in

@@ -22,7 +22,7 @@ use Rattle.proto_writer.specs.Writer.{tagBytes}
 use Rattle.proto_field.proofs.Varints.{top}
 use Rattle.proto_writer.proofs.Varints.{varint-count}
 
--- l stands at place at of s, and then rest
+-- l stands in s from `at` on, and then rest
 pub record At (s : List ℕ) (at : ℕ) (l rest : List ℕ) : Type 0 where
   pub there : drop at s ≡ l ++ rest
 

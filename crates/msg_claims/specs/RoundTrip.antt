@@ -1,4 +1,4 @@
--- Reading what a writer wrote gives back every value and the bytes of every part, for all that docs/FORMATS.md has a writer take, whatever the output held before.
+-- Reading what a writer wrote gives back every value and the bytes of every part, for all that a writer takes by docs/FORMATS.md, whatever the output held before.
 use Prim.Native.Nat.{ℕ, _≤_, _<_, _^_}
 use mathlib.Core.Path.{_≡_}
 use mathlib.Core.Bool.{cond}

@@ -24,7 +24,7 @@ pub fn features()
     ensures { λ _. ⌜ FeaturesRoundTrip ⌝ }
 {}
 
-// Each claim speaks of all that docs/FORMATS.md has a writer take.
+// Each claim covers all that a writer takes by docs/FORMATS.md.
 pub fn envelopes_taken()
     ensures { λ _. ⌜ EnvelopesTaken ⌝ }
 {}

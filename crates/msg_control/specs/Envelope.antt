@@ -1,4 +1,4 @@
--- The control envelope: a command, and a payload that is none, a response, or another member.
+-- The control envelope: a command and its payload: none, a response, or another member.
 use Prim.Native.Nat.{ℕ, _+_}
 use mathlib.Core.Bool.{Bool, false, cond, _||_}
 use mathlib.Core.List.{List, [], _∷_}
@@ -67,7 +67,7 @@ payloadFields (Sent.Member field) body = nested field body ∷ []
 abbrev pub envelopeFields : ℕ → EnvelopePayload → List ℕ → List Field
 envelopeFields command payload body = scalar commandField command ∷ payloadFields payload body
 
--- a payload that an envelope is not written with
+-- a payload with which no envelope is written
 abbrev pub badPayload : EnvelopePayload → Bool
 badPayload Sent.None = false
 badPayload (Sent.Response code payload) = badResponsePayload payload

@@ -45,7 +45,7 @@ responsePayloadFields (Member field) body = nested field body ∷ []
 abbrev pub responseFields : ℕ → ResponsePayload → List ℕ → List Field
 responseFields code payload body = scalar errorCodeField code ∷ responsePayloadFields payload body
 
--- a payload that a response is not written with
+-- a payload with which no response is written
 abbrev pub badResponsePayload : ResponsePayload → Bool
 badResponsePayload None = false
 badResponsePayload (Member field) = badMember field

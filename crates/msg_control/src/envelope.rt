@@ -111,7 +111,7 @@ pub fn read_envelope(message: &[u8]) -> EnvelopeRead
     }
 }
 
-// Whether an envelope is not written with this payload.
+// Whether no envelope is written with this payload.
 fn bad_payload(payload: EnvelopePayload) -> bool
     ensures { λ r. ⌜ r ≡ badPayload payload ⌝ }
 {

@@ -73,7 +73,7 @@ pub fn read_response(message: &[u8]) -> ResponseRead
     response_from(message, 0)
 }
 
-// Whether a response is not written with this payload.
+// Whether no response is written with this payload.
 pub(crate) fn bad_response_payload(payload: ResponsePayload) -> bool
     ensures { λ r. ⌜ r ≡ badResponsePayload payload ⌝ }
 {

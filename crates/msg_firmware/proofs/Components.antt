@@ -35,7 +35,7 @@ module _ {s : List ℕ} {from at : ℕ} {kept : List FirmwareComponent} {count :
       rw w (ap given (sym (R .stored)))
 
   module _ (p : Part) (next : ℕ) (laid : partsFrom s at ≡ p ∷ partsFrom s next) where
-    -- there is a place for it
+    -- there is room for it
     pub reading-room : count < mostRepeated
     reading-room = omega (arith, R .many, R .room, ap length laid)
 

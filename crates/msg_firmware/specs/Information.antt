@@ -88,7 +88,7 @@ abbrev pub componentsIn : List ℕ → List Part → ToldMore (List FirmwareComp
 componentsIn s [] = given []
 componentsIn s (p ∷ ps) = andThen (componentIn s p) (λ c. andThen (componentsIn s ps) (λ cs. given (c ∷ cs)))
 
--- components at the first places of eight
+-- components as the first of eight
 abbrev pub placed : List FirmwareComponent → List FirmwareComponent
 placed cs = sets (replicate mostRepeated noComponent) 0 cs
 

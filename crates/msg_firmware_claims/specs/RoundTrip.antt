@@ -1,4 +1,4 @@
--- Reading a firmware message that was written gives back every number and the bytes of every string, for all that docs/FORMATS.md has a writer take, strings that are well formed among it, whatever the output held before. And a writer takes whatever a reader tells.
+-- Reading a firmware message that was written gives back every number and the bytes of every string, for all that a writer takes by docs/FORMATS.md, strings that are well formed among it, whatever the output held before. And a writer takes whatever a reader tells.
 use Prim.Native.Nat.{ℕ, _≤_, _<_, _^_}
 use mathlib.Core.Path.{_≡_}
 use mathlib.Core.Bool.{Bool, true}

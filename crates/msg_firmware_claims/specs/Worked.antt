@@ -92,7 +92,7 @@ unfoldable pub segmentCases : List SegmentCase
 segmentCases =
     -- no name, offset 0, size 7, 64 digits
     segmentCase (0x18 ∷ 0x07 ∷ 0x22 ∷ 0x40 ∷ digits) (segment noPart 7 (part 4 64))
-    -- an offset of 1; the signature is none either
+    -- an offset of 1, and a signature that is not one
     ∷ segmentCase (0x10 ∷ 0x01 ∷ []) (refused (50, 2 ∷ []))
     -- no bytes
     ∷ segmentCase [] (refused (50, 4 ∷ []))

@@ -25,7 +25,7 @@ pub fn applies_told_taken()
     ensures { λ _. ⌜ AppliesToldTaken ⌝ }
 {}
 
-// Each claim speaks of all that docs/FORMATS.md has a writer take.
+// Each claim covers all that a writer takes by docs/FORMATS.md.
 pub fn segments_taken()
     ensures { λ _. ⌜ SegmentsTaken ⌝ }
 {}

@@ -30,7 +30,7 @@ first-byte fmt b l m e =
     let both = or-eq-false-eq-eq-false-and-eq-false (eqb (length (b ∷ l)) 0) (not (eqb b (fmt .version))) .0 e in
     rw (ne-eqb (length (b ∷ m)) 0 (omega arith)) (both .1)
 
--- bytes with the right version are not none
+-- bytes with the right version are not empty
 pub opened : (fmt : Format) (file : List ℕ) → otherVersion fmt file ≡ false → 1 ≤ length file
 unfolding otherVersion
 opened fmt file e =

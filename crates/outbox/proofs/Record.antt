@@ -216,14 +216,14 @@ module _ (fmt : Format) (rest more : List ℕ) where
       next-is : f .next ≡ place + (fmt .width + lengthIn fmt (rest ++ more))
       next-is = rw (found-stands fmt place (rest ++ more) f e .1) (omega (arith, stands .positive))
 
-      -- .. nor do they when they go
+      -- .. nor does it change when they are taken away
       pub record-kept : f .next ≤ place + length rest → recordAt fmt place rest ≡ given (found f)
       record-kept h =
           let s = stands-kept (omega (arith, next-is)) stands in
           stands-read fmt rest place s
           ∙ rw (found-stands fmt place (rest ++ more) f e .1, length-same (omega (arith, s .inside)), stream-same (omega (arith, s .inside, s .positive)))
 
-      -- a record whose last bytes go is cut short
+      -- a record whose last bytes are taken away is cut short
       pub record-cut : place + length rest < f .next → recordAt fmt place rest ≡ refusedAt 41 place
       unfolding recordAt
       record-cut h = let c = stands-cut stands (omega (arith, next-is)) in rw (c .0, c .1)

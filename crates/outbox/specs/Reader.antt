@@ -111,7 +111,7 @@ onward (given end) go = []
 onward (refused n) go = []
 onward (refusedAt n place) go = []
 
--- reading place after place, at most so many times
+-- reading place after place, at most `turns` times
 unfoldable pub readings : ℕ → Format → List ℕ → ℕ → List HandedRecord
 readings zero fmt file place = []
 readings (suc turns) fmt file place =

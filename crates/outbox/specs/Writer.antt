@@ -32,7 +32,7 @@ newOf fmt buffer =
     (λ n. stored (refused n) buffer)
     (storedAt buffer 0 (newBytes fmt))
 
--- 15: a stream that is none, or a payload over the limit
+-- 15: no stream's number, or a payload over the limit
 unfoldable pub badRecord : Format → ℕ → ℕ → Bool
 badRecord fmt stream size = not (isStream stream) || ltb (fmt .limit) size
 

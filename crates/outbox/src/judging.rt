@@ -96,7 +96,7 @@ pub fn walk_records(file: &[u8], fmt: Format) -> Walked
 }
 
 // The same before an append: an outbox that has its version byte alone, which is what a box appends to, is not walked.
-// Slice and format are made anew, so that they are put into memory only where it is.
+// Slice and format are built again, so that they are put into memory only where it is walked.
 pub fn walk_used(file: &[u8], fmt: Format) -> Walked
     requires { ⌜ Known fmt × (otherVersion fmt (now file) ≡ false) ⌝ }
     ensures { λ r. ⌜ toldWalk r ≡ walkOf fmt (now (file .entry)) ⌝ }

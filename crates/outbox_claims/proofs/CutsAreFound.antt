@@ -18,7 +18,7 @@ nothing-kept : (fmt : Format) (file : List ℕ) → readAll fmt (take 0 file) �
 unfolding readAll readings readOf otherVersion
 nothing-kept fmt file = refl
 
--- the length of what is kept, beside what goes
+-- the length of what is kept, with what is cut off
 kept-length : (kept : ℕ) (file : List ℕ) → length (take kept file) ≡ min kept (length (take kept file) + length (drop kept file))
 kept-length kept file =
     let all : length (take kept file) + length (drop kept file) ≡ length file
@@ -37,7 +37,7 @@ whole-cut : (fmt : Format) (file : List ℕ) (kept : ℕ) → walkOf fmt file �
 whole-cut fmt file zero whole = nothing-kept fmt file
 whole-cut fmt file (suc k) whole = some-kept fmt file k whole
 
--- records that are owed are no refusals
+-- records that the writer must take are no refusals
 pub expected-passes : (fmt : Format) (place : ℕ) (es : List Entry) → firstRefusal (expected fmt place es) ≡ given tt
 expected-passes fmt place [] = refl
 expected-passes fmt place (e ∷ es) = expected-passes fmt (after fmt place e) es

@@ -20,7 +20,7 @@ pub record Entry : Type 0 where
   pub stream : ℕ
   pub payload : List ℕ
 
--- one that the writer owes to take: said by the rules and not by the writer's own test, so that one that refuses more breaks the claims
+-- one that the writer must take: said by the rules and not by the writer's own test, so that one that refuses more breaks the claims
 pub record EntryTaken (fmt : Format) (e : Entry) : Type 0 where
   pub known : isStream (e .stream) ≡ true
   pub short : length (e .payload) ≤ fmt .limit
@@ -29,7 +29,7 @@ pub record EntryTaken (fmt : Format) (e : Entry) : Type 0 where
 abbrev pub after : Format → ℕ → Entry → ℕ
 after fmt place e = place + headSize fmt + length (e .payload)
 
--- what reading place after place owes for some records: each at its place with its payload, then the end
+-- what reading place after place must give for some records: each at its place with its payload, then the end
 abbrev pub expected : Format → ℕ → List Entry → List HandedRecord
 expected fmt place [] = handed (given end) [] ∷ []
 expected fmt place (e ∷ es) =
@@ -43,7 +43,7 @@ abbrev pub afterAll : Format → ℕ → List Entry → ℕ
 afterAll fmt place [] = place
 afterAll fmt place (e ∷ es) = afterAll fmt (after fmt place e) es
 
--- each of them is one that the writer owes to take
+-- each of them is one that the writer must take
 abbrev pub AllTaken : Format → List Entry → Type 0
 AllTaken fmt [] = Unit {0}
 AllTaken fmt (e ∷ es) = EntryTaken fmt e × AllTaken fmt es
@@ -109,7 +109,7 @@ usable (given whole) file = length file
 usable (refused n) file = 0
 usable (refusedAt n place) file = place
 
--- a reading that is a record's
+-- a reading that gives a record
 abbrev pub recordOf : HandedRecord → Answer Item → List HandedRecord
 recordOf h (given (found f)) = h ∷ []
 recordOf h (given end) = []
@@ -154,7 +154,7 @@ AppendsAsAlone =
 
 -- ---- (e) the bytes from a place on in an outbox of their own
 
--- places told, so many bytes further on
+-- what is told, with its places d bytes further on
 abbrev pub movedFound : ℕ → FoundRecord → FoundRecord
 movedFound d f = record { stream = f .stream; start = f .start + d; size = f .size; next = f .next + d }
 

@@ -29,7 +29,7 @@ abbrev pub AllAllowed : ℕ → List Entry → Type 0
 AllAllowed limit [] = Unit {0}
 AllAllowed limit (e ∷ es) = Allowed limit e × AllAllowed limit es
 
--- the bytes of some records: so many before each payload
+-- the number of bytes of some records, with `head` bytes before each payload
 abbrev pub sizeOf : ℕ → List Entry → ℕ
 sizeOf head [] = 0
 sizeOf head (e ∷ es) = head + length (e .payload) + sizeOf head es

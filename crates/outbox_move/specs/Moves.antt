@@ -72,7 +72,7 @@ sizeUnless (given none) n = given n
 sizeUnless (refused n) k = refused n
 sizeUnless (refusedAt n place) k = refusedAt n place
 
--- 46 from a place on, or so many bytes and those of the records
+-- 46 from a place on, or n bytes and those of the records
 unfoldable pub countOf : Format → ℕ → ℕ → List HandedRecord → Answer ℕ
 countOf wished place n hs = sizeUnless (overFrom (wished .limit) place hs) (n + length (recordsIn wished hs))
 

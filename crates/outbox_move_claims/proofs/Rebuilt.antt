@@ -75,7 +75,7 @@ rebuilt fmt file b (goes place {f = f} {payload = payload} {hs = hs} inside e p 
     let stream : f .stream ≡ getD rest (fmt .width) 0 = rw (s .1) in
     record-again fmt rest (s .0) (bytes-drop place file b) ∙ rw (at-next, later, same, stream)
 
--- ---- its records are such that a version with the limit takes them
+-- ---- a version with the limit takes its records
 
 pub taken : (wished fmt : Format) (file : List ℕ) {place : ℕ} {hs : List HandedRecord} → RecordRun fmt file place hs → AllShort (wished .limit) (entriesOf hs)
     → AllTaken wished (entriesOf hs)

@@ -21,7 +21,7 @@ taken zero l = zero-le
 taken (suc n) [] = omega arith
 taken (suc n) (x ∷ l) = omega (arith, taken n l)
 
--- where each record has at most so many times its bytes, so have all
+-- where each record grows at most by a factor, so do all together
 module _ (times : ℕ) (wished fmt : Format) (grows : (n : ℕ) → headSize wished + n ≤ times * (headSize fmt + n)) (file : List ℕ) where
   records-most : {place : ℕ} {hs : List HandedRecord} → RecordRun fmt file place hs → times * place + length (recordsIn wished hs) ≤ times * length file
   records-most (ends place e) = rw e (omega arith)

@@ -153,7 +153,7 @@ isMember Repeated wire = false
 isMember Member wire = eqb wire lengthType
 isMember Unknown wire = false
 
--- the fields of which there may be some, and no more
+-- the messages within that may be repeated, and are counted
 abbrev pub isRepeated : Role → Bool
 isRepeated (Scalar slot) = false
 isRepeated (Text slot) = false

@@ -75,15 +75,15 @@ pub enum Schema {
 
 // What a field is to its message.
 pub enum Role {
-    // A scalar, kept at a place among the scalars.
+    // A scalar, kept at an index among the scalars.
     Scalar(usize),
-    // A string, kept at a place among the strings.
+    // A string, kept at an index among the strings.
     Text(usize),
     // Transports, one or a packed list.
     Transports,
     // A message within, known by its number: the member.
     Nested,
-    // A message within of which there may be some: they are counted.
+    // A message within that may be repeated: they are counted.
     Repeated,
     // Any other field: the member where it is length-delimited, and passed over where not.
     Member,

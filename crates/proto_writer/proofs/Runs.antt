@@ -82,7 +82,7 @@ pub packed-some : (f : ℕ) (l : List ℤ) → (length l ≡ 0 → ⊥)
 unfolding fieldBytes partBytes
 packed-some f l n = rw (ne-eqb (length (map extended l)) 0 (λ e. n (sym (length-map l extended) ∙ e)))
 
--- ---- a list of signed numbers as varints: those from place i on
+-- ---- a list of signed numbers as varints: those from index i on
 abbrev pub varintsFrom : List ℤ → ℕ → List ℕ
 varintsFrom l i = varintsBytes (map extended (drop i l))
 

@@ -25,7 +25,7 @@ const LARGEST_BUFFER: usize = 786420;
 // More than any limit.
 const NO_LIMIT: usize = 65536;
 
-// The digits of the largest limit, and some.
+// The digits of the largest limit, and a few more.
 const LIMIT_WORD: usize = 8;
 
 // The digits that a column of numbers has room for.

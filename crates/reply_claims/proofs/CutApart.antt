@@ -58,7 +58,7 @@ module _ (w : Sending) (m : List ℕ) (p : Piece) where
       simp append-assoc
       (rw (t, e, kind-first first last)
       (said-by first (extended (p .size)) (w .stream) (w .id) sequence (typeFor first last) (last && w .ack) (length m) (p .size)
-      (take (p .size) (drop (p .place) m) ++ rest)))
+      (take (p .size) (drop (p .start) m) ++ rest)))
 
 cut-none : (fuel : ℕ) → cutFrom fuel [] ≡ []
 cut-none zero = refl
@@ -73,7 +73,7 @@ module _ (w : Sending) (m : List ℕ) where
   abbrev Cuts : List Piece → Type 0
   Cuts ps = (fuel : ℕ) → length (concat (map (packetOf w m) ps)) ≤ fuel → cutFrom fuel (concat (map (packetOf w m) ps)) ≡ map (packetOf w m) ps
 
-  cuts-first : (p : Piece) (ps : List Piece) → p .place + p .size ≤ length m → Cuts ps → Cuts (p ∷ ps)
+  cuts-first : (p : Piece) (ps : List Piece) → p .start + p .size ≤ length m → Cuts ps → Cuts (p ∷ ps)
   cuts-first p ps inside later zero l =
       let n = packet-length w m p inside in
       let h = header-some (isFirst (p .index)) (extended (p .size)) in
@@ -93,14 +93,14 @@ module _ (w : Sending) (m : List ℕ) where
   cuts-tail true ps later fuel l = cut-none fuel
   cuts-tail false ps later fuel l = later fuel l
 
-  cuts-from : leastRoom ≤ w .room → (fuel index place rest : ℕ) → place + rest ≤ length m → Cuts (piecesFrom fuel (w .room) index place rest)
-  cuts-from room zero index place rest h fuel l = cut-none fuel
-  cuts-from room (suc fuel) index place rest h bytes k =
+  cuts-from : leastRoom ≤ w .room → (fuel index start rest : ℕ) → start + rest ≤ length m → Cuts (piecesFrom fuel (w .room) index start rest)
+  cuts-from room zero index start rest h fuel l = cut-none fuel
+  cuts-from room (suc fuel) index start rest h bytes k =
       let n : ℕ = sizeFor (w .room) (isFirst index) rest in
       let l : n ≤ rest = size-le (w .room) (isFirst index) room rest in
-      let p : Piece = record { index = index; place = place; size = n } in
-      let ps : List Piece = piecesFrom fuel (w .room) (suc index) (place + n) (rest - n) in
-      cuts-first p (cond (eqb n rest) [] ps) (omega arith) (cuts-tail (eqb n rest) ps (cuts-from room fuel (suc index) (place + n) (rest - n) (omega arith))) bytes k
+      let p : Piece = record { index = index; start = start; size = n } in
+      let ps : List Piece = piecesFrom fuel (w .room) (suc index) (start + n) (rest - n) in
+      cuts-first p (cond (eqb n rest) [] ps) (omega arith) (cuts-tail (eqb n rest) ps (cuts-from room fuel (suc index) (start + n) (rest - n) (omega arith))) bytes k
 
 pub joined-cut-apart : JoinedCutApart
 unfolding cutApart

@@ -96,7 +96,7 @@ packetsCut w = cutTold (w .told) (w .out)
 -- From every lawful row and buffer of the link's limit, whatever packets come before and after: where a packet is the first of those
 -- that the call's bytes are cut into, a slot is there for it, and those of the control stream and the link's id among the packets after
 -- it are exactly the others, in order, with any packets of other streams and other ids between, and none of the reply's own gets 15 or
--- 14, each of them takes a piece, all at one place, the last of them gives exactly the reply, and no other of them gives any; none
+-- 14, each of them takes a piece, all at one index, the last of them gives exactly the reply, and no other of them gives any; none
 -- touches its answer buffer, since no ACK is wanted. A call that writes nothing has no packets, and does not meet it.
 abbrev pub ReplyArrives : Type 0
 ReplyArrives =

@@ -9,7 +9,7 @@ use Rattle.ble_sender.specs.Piece.{leastRoom}
 use Rattle.ble_sender.specs.Writer.{packetsOf}
 use Rattle.ble_joined.specs.Joined.{joinedOf}
 
--- the packets at the head of the bytes, at most so many
+-- the packets at the head of the bytes, at most `fuel` of them
 abbrev pub cutFrom : ℕ → List ℕ → List (List ℕ)
 cutFrom zero s = []
 cutFrom (suc fuel) [] = []

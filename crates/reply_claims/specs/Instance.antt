@@ -85,7 +85,7 @@ features = 0x08 ∷ 0x1C ∷ []
 abbrev minusOne : List ℕ
 minusOne = replicate 9 0xFF ++ (0x01 ∷ [])
 
--- one packet of so few bytes
+-- the one packet of a short reply
 abbrev told : List ℕ → List ℕ
 told reply = 0x01 ∷ 0x20 ∷ 0x00 ∷ 0x00 ∷ length reply ∷ length reply ∷ reply
 
@@ -229,7 +229,7 @@ later =
 abbrev pub after : List PacketCall
 after = call second 0 six ∷ []
 
--- All that the claim asks for is there, the reply is given, at its second packet, at the place of the transaction that it replaces, and the
+-- All that the claim asks for is there, the reply is given, at its second packet, at the index of the transaction that it replaces, and the
 -- claim says so.
 pub record OneReplyArrives : Type 0 where
   pub law : lawful 40 slots ≡ true

@@ -12,26 +12,26 @@ use borrow.Author.Tests.{leb-true, le-leb, lt-leb, eqb-true, eqb-false}
 use Rattle.wire.proofs.Tests.{and-left, and-right, or-true}
 use Rattle.utf8.specs.declared.table.Range.{Range}
 use Rattle.utf8.specs.declared.table.Row.{Row}
-use Rattle.utf8.specs.Table.{rows, within, describes, anyDescribes, described, begins, noRange, leadRow, rowOf, padded}
+use Rattle.utf8.specs.Table.{rows, within, rowDescribes, anyDescribes, described, begins, noRange, leadRow, rowOf, padded}
 use Rattle.utf8.specs.WellFormed.{sequenceAt}
 
 -- ---- bytes that begin with a sequence of a row
-pub begins-describes : (r : List Range) (s : List ℕ) → begins r s ≡ true → describes r (take (length r) s) ≡ true
+pub begins-describes : (r : List Range) (s : List ℕ) → begins r s ≡ true → rowDescribes r (take (length r) s) ≡ true
 begins-describes [] s e = refl
 begins-describes (a ∷ r) [] e = absurd (false≢true e)
 begins-describes (a ∷ r) (b ∷ s) e = rw (and-left (within a b) (begins r s) e) (begins-describes r s (and-right (within a b) (begins r s) e))
 
-pub describes-begins : (r : List Range) (q s : List ℕ) → describes r q ≡ true → begins r (q ++ s) ≡ true
+pub describes-begins : (r : List Range) (q s : List ℕ) → rowDescribes r q ≡ true → begins r (q ++ s) ≡ true
 describes-begins [] [] s e = refl
 describes-begins [] (b ∷ q) s e = absurd (false≢true e)
 describes-begins (a ∷ r) [] s e = absurd (false≢true e)
-describes-begins (a ∷ r) (b ∷ q) s e = rw (and-left (within a b) (describes r q) e) (describes-begins r q s (and-right (within a b) (describes r q) e))
+describes-begins (a ∷ r) (b ∷ q) s e = rw (and-left (within a b) (rowDescribes r q) e) (describes-begins r q s (and-right (within a b) (rowDescribes r q) e))
 
-pub describes-length : (r : List Range) (q : List ℕ) → describes r q ≡ true → length q ≡ length r
+pub describes-length : (r : List Range) (q : List ℕ) → rowDescribes r q ≡ true → length q ≡ length r
 describes-length [] [] e = refl
 describes-length [] (b ∷ q) e = absurd (false≢true e)
 describes-length (a ∷ r) [] e = absurd (false≢true e)
-describes-length (a ∷ r) (b ∷ q) e = ap suc (describes-length r q (and-right (within a b) (describes r q) e))
+describes-length (a ∷ r) (b ∷ q) e = ap suc (describes-length r q (and-right (within a b) (rowDescribes r q) e))
 
 pub begins-within : (r : List Range) (s : List ℕ) → begins r s ≡ true → length r ≤ length s
 begins-within [] s e = zero-le
@@ -87,7 +87,7 @@ unfolding within
 up-to r b e = leb-true b (r .1) (and-right (leb (r .0) b) (leb b (r .1)) e)
 
 -- a described sequence begins in the first range
-describes-first : (r : List Range) (b : ℕ) (q : List ℕ) → within (first r) b ≡ false → describes r (b ∷ q) ≡ false
+describes-first : (r : List Range) (b : ℕ) (q : List ℕ) → within (first r) b ≡ false → rowDescribes r (b ∷ q) ≡ false
 describes-first [] b q e = refl
 describes-first (a ∷ r) b q e = rw e
 
@@ -102,27 +102,27 @@ one-left : (a b : Bool) → (a || b) ≡ true → b ≡ false → a ≡ true
 one-left true b e f = refl
 one-left false b e f = absurd (false≢true (sym f ∙ e))
 
-only-row : (n : ℕ) (rs : List (List Range)) (b : ℕ) (q : List ℕ) → rising n rs ≡ true → anyDescribes rs (b ∷ q) ≡ true → describes (leadRow rs b) (b ∷ q) ≡ true
+only-row : (n : ℕ) (rs : List (List Range)) (b : ℕ) (q : List ℕ) → rising n rs ≡ true → anyDescribes rs (b ∷ q) ≡ true → rowDescribes (leadRow rs b) (b ∷ q) ≡ true
 only-row n [] b q e d = absurd (false≢true d)
 only-row n (r ∷ rs) b q e d = by-first (within (first r) b) refl (λ k. only-row (suc (first r .1)) rs b q (rise-rest n r rs e) k)
   where
-    by-first : (t : Bool) → within (first r) b ≡ t → (anyDescribes rs (b ∷ q) ≡ true → describes (leadRow rs b) (b ∷ q) ≡ true)
-        → describes (cond t r (leadRow rs b)) (b ∷ q) ≡ true
+    by-first : (t : Bool) → within (first r) b ≡ t → (anyDescribes rs (b ∷ q) ≡ true → rowDescribes (leadRow rs b) (b ∷ q) ≡ true)
+        → rowDescribes (cond t r (leadRow rs b)) (b ∷ q) ≡ true
     by-first true w h =
         let l = up-to (first r) b w in
-        one-left (describes r (b ∷ q)) (anyDescribes rs (b ∷ q)) d (none-below (suc (first r .1)) rs b q (rise-rest n r rs e) (omega arith))
+        one-left (rowDescribes r (b ∷ q)) (anyDescribes rs (b ∷ q)) d (none-below (suc (first r .1)) rs b q (rise-rest n r rs e) (omega arith))
     by-first false w h = h (rw (describes-first r b q w) at d)
 
 -- a row that a byte begins is one of the table
-lead-any : (rs : List (List Range)) (b : ℕ) (q : List ℕ) → (length q ≡ 0 → ⊥) → describes (leadRow rs b) q ≡ true → anyDescribes rs q ≡ true
+lead-any : (rs : List (List Range)) (b : ℕ) (q : List ℕ) → (length q ≡ 0 → ⊥) → rowDescribes (leadRow rs b) q ≡ true → anyDescribes rs q ≡ true
 lead-any [] b [] n d = absurd (n refl)
 lead-any [] b (x ∷ q) n d = absurd (false≢true d)
 lead-any (r ∷ rs) b q n d = by-first (within (first r) b) d (λ k. lead-any rs b q n k)
   where
-    by-first : (t : Bool) → describes (cond t r (leadRow rs b)) q ≡ true → (describes (leadRow rs b) q ≡ true → anyDescribes rs q ≡ true)
-        → (describes r q || anyDescribes rs q) ≡ true
+    by-first : (t : Bool) → rowDescribes (cond t r (leadRow rs b)) q ≡ true → (rowDescribes (leadRow rs b) q ≡ true → anyDescribes rs q ≡ true)
+        → (rowDescribes r q || anyDescribes rs q) ≡ true
     by-first true k h = rw k
-    by-first false k h = or-true (describes r q) (anyDescribes rs q) (h k)
+    by-first false k h = or-true (rowDescribes r q) (anyDescribes rs q) (h k)
 
 -- ---- the loop over the rows
 nine : length rows ≡ 9
@@ -209,7 +209,7 @@ pub described-sequence : (q rest : List ℕ) → described q ≡ true → (seque
 unfolding sequenceAt described rowOf
 described-sequence [] rest d = absurd (false≢true (sym nothing-described ∙ d))
 described-sequence (b ∷ q) rest d =
-    let k : describes (leadRow rows b) (b ∷ q) ≡ true = only-row 0 rows b q rows-rise d in
+    let k : rowDescribes (leadRow rows b) (b ∷ q) ≡ true = only-row 0 rows b q rows-rise d in
     (rw (describes-begins (leadRow rows b) (b ∷ q) rest k) (sym (describes-length (leadRow rows b) (b ∷ q) k)), omega arith)
 
 pub nothing-at-end : (n : ℕ) → described (take n []) ≡ false

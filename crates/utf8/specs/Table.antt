@@ -29,15 +29,15 @@ unfoldable pub within : Range → ℕ → Bool
 within r b = leb (r .0) b && leb b (r .1)
 
 -- a row describes a sequence: a byte in each of its ranges, and no more
-abbrev pub describes : List Range → List ℕ → Bool
-describes [] [] = true
-describes [] (b ∷ s) = false
-describes (r ∷ rs) [] = false
-describes (r ∷ rs) (b ∷ s) = within r b && describes rs s
+abbrev pub rowDescribes : List Range → List ℕ → Bool
+rowDescribes [] [] = true
+rowDescribes [] (b ∷ s) = false
+rowDescribes (r ∷ rs) [] = false
+rowDescribes (r ∷ rs) (b ∷ s) = within r b && rowDescribes rs s
 
 abbrev pub anyDescribes : List (List Range) → List ℕ → Bool
 anyDescribes [] s = false
-anyDescribes (r ∷ rs) s = describes r s || anyDescribes rs s
+anyDescribes (r ∷ rs) s = rowDescribes r s || anyDescribes rs s
 
 -- one of the nine rows describes a sequence
 unfoldable pub described : List ℕ → Bool

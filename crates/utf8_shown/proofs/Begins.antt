@@ -1,7 +1,7 @@
 -- In a well-formed string a hidden character stands where a sequence begins: no row of theirs begins with a byte that follows in one.
 use Prim.Native.Nat.{ℕ, suc, _+_, _≤_}
-use mathlib.Core.Path.{_≡_, refl, sym, ap, subst, _∙_}
-use mathlib.Core.Bool.{Bool, true, false, cond, _&&_, _||_, false≢true}
+use mathlib.Core.Path.{_≡_, refl, sym, subst}
+use mathlib.Core.Bool.{Bool, true, false, _&&_, _||_, false≢true}
 use mathlib.Core.List.{List, [], _∷_, _++_}
 use native.Mathlib.Omega.{arith}
 use lib.ListN.{length, take}
@@ -10,7 +10,7 @@ use lib.Dec.{leb}
 use borrow.Author.Tests.{leb-true, lt-leb}
 use Rattle.wire.proofs.Tests.{and-left, and-right}
 use Rattle.utf8.specs.declared.table.Range.{Range}
-use Rattle.utf8.specs.Table.{rows, within, describes, anyDescribes, described}
+use Rattle.utf8.specs.Table.{rows, within, rowDescribes, anyDescribes, described}
 use Rattle.utf8.specs.WellFormed.{WellFormed, empty, more}
 use Rattle.utf8_shown.specs.Shown.{hiddenRows, isHidden, hiddenPlace}
 use Rattle.utf8_shown.specs.Claims.{HiddenBegins}
@@ -43,23 +43,23 @@ in-range r b e w =
     let under = leb-true b (r .1) (and-right (leb (r .0) b) _ w) in
     (omega arith, omega arith)
 
-describes-follow : (rs : List Range) (q : List ℕ) → following rs ≡ true → describes rs q ≡ true → Follow q
+describes-follow : (rs : List Range) (q : List ℕ) → following rs ≡ true → rowDescribes rs q ≡ true → Follow q
 unfolding following
 describes-follow [] [] f d = tt
 describes-follow [] (b ∷ q) f d = absurd (false≢true d)
 describes-follow (r ∷ rs) [] f d = absurd (false≢true d)
 describes-follow (r ∷ rs) (b ∷ q) f d =
     let inside = leb 0x80 (r .0) && leb (r .1) 0xBF in
-    let i = in-range r b (and-left inside (following rs) f) (and-left (within r b) (describes rs q) d) in
-    (i .0, i .1, describes-follow rs q (and-right inside (following rs) f) (and-right (within r b) (describes rs q) d))
+    let i = in-range r b (and-left inside (following rs) f) (and-left (within r b) (rowDescribes rs q) d) in
+    (i .0, i .1, describes-follow rs q (and-right inside (following rs) f) (and-right (within r b) (rowDescribes rs q) d))
 
 any-follow : (rs : List (List Range)) (b : ℕ) (q : List ℕ) → behind-first rs ≡ true → anyDescribes rs (b ∷ q) ≡ true → Follow q
 unfolding behind-first
 any-follow [] b q f d = absurd (false≢true d)
 any-follow ([] ∷ rs) b q f d = any-follow rs b q f d
-any-follow ((r ∷ row) ∷ rs) b q f d = by (describes (r ∷ row) (b ∷ q)) refl d (λ h. any-follow rs b q (and-right (following row) _ f) h)
+any-follow ((r ∷ row) ∷ rs) b q f d = by (rowDescribes (r ∷ row) (b ∷ q)) refl d (λ h. any-follow rs b q (and-right (following row) _ f) h)
   where
-    by : (t : Bool) → describes (r ∷ row) (b ∷ q) ≡ t → (t || anyDescribes rs (b ∷ q)) ≡ true → (anyDescribes rs (b ∷ q) ≡ true → Follow q) → Follow q
+    by : (t : Bool) → rowDescribes (r ∷ row) (b ∷ q) ≡ t → (t || anyDescribes rs (b ∷ q)) ≡ true → (anyDescribes rs (b ∷ q) ≡ true → Follow q) → Follow q
     by true k h later = describes-follow row q (and-left (following row) _ f) (and-right (within r b) _ k)
     by false k h later = later h
 

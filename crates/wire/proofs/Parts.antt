@@ -8,7 +8,7 @@ use lib.ListN.{length, take, drop, length-take, length-drop, take-append-drop}
 use lib.Seq.{sets, sets-eq, take-all, take-take, drop-drop, take-add, length-take-le, drop-append-le}
 use borrow.Rule.Slice.PartMut.{midOf, putMid}
 
--- k elements from place a on are k, where there are so many
+-- the k elements from index a on are k, where there are as many
 pub length-part : (l : List ℕ) (a k : ℕ) → a + k ≤ length l → length (take k (drop a l)) ≡ k
 length-part l a k h = simp (length-take, length-drop) (omega arith)
 

@@ -13,6 +13,6 @@ streamNumber Alexa = 6
 unfoldable pub isStream : ℕ → Bool
 isStream n = eqb n 0 || eqb n 2 || eqb n 6
 
--- the stream of a number that is one's
+-- the stream of a number that is a stream's
 unfoldable pub streamOf : ℕ → Stream
 streamOf n = cond (eqb n 0) Control (cond (eqb n 2) Ota Alexa)

@@ -35,7 +35,7 @@ case q a = record { question = q; expected = a }
 abbrev pub sending : ℕ → ℕ → ℕ → ℕ → Bool → Sending
 sending room stream id sequence ack = record { room = room; stream = stream; id = id; sequence = sequence; ack = ack }
 
--- a message of which only the room is said: stream, id and sequence 0, no ACK wanted
+-- a message sent at a room: stream, id and sequence 0, no ACK wanted
 abbrev pub inRoom : ℕ → Sending
 inRoom room = sending room 0 0 0 false
 
@@ -62,10 +62,10 @@ full = opening (3 ∷ 1 ∷ 2 ∷ 0 ∷ [])
 abbrev pub withoutOne : List Slot
 withoutOne = begun 3 ∷ idle ∷ begun 2 ∷ begun 0 ∷ replicate 8 idle
 
--- a slot of these numbers, at a place, all others idle
+-- a slot of these numbers, at an index, all others idle
 abbrev pub alone : ℕ → ℕ → ℕ → ℕ → ℕ → ℕ → ℕ → List Slot
-alone place flag id sequence wanted total held =
-    set idles place (record { opened = flag; id = id; sequence = sequence; wanted = wanted; total = total; held = held })
+alone index flag id sequence wanted total held =
+    set idles index (record { opened = flag; id = id; sequence = sequence; wanted = wanted; total = total; held = held })
 
 -- a row over which a packet is refused by 1, which leaves it
 abbrev pub unlawful : List Slot → Case
@@ -164,7 +164,7 @@ cases =
     ∷ case (answerPacket asking [] 16 []) (answered (refused 15) asking [])
     ∷ case (answerPacket asking [] 15 (zeros 5)) (answered (refused 14) asking (zeros 5))
     ∷ case (answerPacket asking [] 15 (zeros 6)) (answered (refused 2) asking (zeros 6))
-    -- No. 11, with a limit of 64: ids 3, 1, 2 and 0 take the places 0 to 3
+    -- No. 11, with a limit of 64: ids 3, 1, 2 and 0 take the indexes 0 to 3
     ∷ case (acceptPacketWithin 64 idles (beginning 3)) (accepted (given (Taken 0 Control 3 false)) (opening (3 ∷ [])))
     ∷ case (acceptPacketWithin 64 (opening (3 ∷ [])) (beginning 1)) (accepted (given (Taken 1 Control 1 false)) (opening (3 ∷ 1 ∷ [])))
     ∷ case (acceptPacketWithin 64 (opening (3 ∷ 1 ∷ [])) (beginning 2)) (accepted (given (Taken 2 Control 2 false)) (opening (3 ∷ 1 ∷ 2 ∷ [])))

@@ -68,7 +68,7 @@ pub data Question : Type 0 where
   -- a record of a stream with a payload, after this many used bytes of a buffer
   appendRecord : List ℕ → ℕ → ℕ → List ℕ → Question
 
--- what a packet carries: so many bytes, their number in one byte or extended
+-- what a packet carries: n bytes, their number in one byte or extended
 pub data PieceLength : Type 0 where
   plain extended : ℕ → PieceLength
 

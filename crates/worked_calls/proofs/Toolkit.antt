@@ -1,4 +1,4 @@
--- The toolkit's functions at their ends, by computation.
+-- The toolkit's functions at the ends of their ranges, by computation.
 use mathlib.Core.Path.{refl}
 use Rattle.worked_calls.specs.Toolkit.{ToolkitEnds, toolkitRows}
 

@@ -91,7 +91,7 @@ pub fn payload_limits()
     ensures { λ _. ⌜ PayloadLimits ⌝ }
 {}
 
-// The toolkit's functions at their ends.
+// The toolkit's functions at the ends of their ranges.
 pub fn toolkit_ends()
     ensures { λ _. ⌜ ToolkitEnds ⌝ }
 {}

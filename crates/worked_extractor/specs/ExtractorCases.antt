@@ -25,7 +25,7 @@ pub data ExtractorQuestion : Type 0 where
   stepEach : Progress → List ℕ → List ℕ → ExtractorQuestion
   -- a call for many bytes
   feedWith : Progress → List ℕ → List ℕ → ExtractorQuestion
-  -- so many calls for many bytes, each with all that the ones before left
+  -- n calls for many bytes, each with all that the ones before left
   feedEach : ℕ → Progress → List ℕ → List ℕ → ExtractorQuestion
 
 -- what each step or call leaves: its report, the number used by a call, the next state and the lent buffer

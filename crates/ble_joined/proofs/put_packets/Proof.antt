@@ -11,11 +11,11 @@ use Rattle.ble_joined.proofs.put_packets.Statement.{statement}
 use Rattle.ble_joined.proofs.put_packets.Tie as tie
 
 abbrev Inv-loop : tie.InvT-loop
-Inv-loop out₀ how total end room index₀ place₀ at₀ out index place at =
-    (length out ≡ length out₀) × (at ≤ length out₀) × Joining how (messageIn total out₀) total (length out₀) out index place at
+Inv-loop out₀ how total end room index₀ start₀ at₀ out index start at =
+    (length out ≡ length out₀) × (at ≤ length out₀) × Joining how (messageIn total out₀) total (length out₀) out index start at
 
 abbrev μ-loop : tie.MeasureT-loop
-μ-loop out₀ how total end room index₀ place₀ at₀ out index place at = length out₀ - at
+μ-loop out₀ how total end room index₀ start₀ at₀ out index start at = length out₀ - at
 
 loop-holds : tie.Need-loop-holds Inv-loop μ-loop
 loop-holds c = let s = c .before in (refl, omega arith, joining-start (s .args .how) (s .args .total) (now (s .args .out)) (s .pre))
@@ -40,8 +40,8 @@ put-packet-requires c κs =
     let g = going-on (l .inv .2) (c .before .before .loop-test .taken) in
     let o = now (s .args .out) in
     let n = c .before .piece-size .result in
-    let f = packet-fits (s .args .how) (messageIn (s .args .total) o) (s .args .total) (length o) (s .pre .room) (message-length (s .args .how) (s .args .total) o (s .pre)) (l .out) (l .index) (l .place) (l .at) n (l .inv .0) g (c .before .piece-size .ensures) in
-    let q = size-low (s .args .how .room) (s .args .total) (l .index) (l .place) n (s .pre .room) (c .before .piece-size .ensures) in
+    let f = packet-fits (s .args .how) (messageIn (s .args .total) o) (s .args .total) (length o) (s .pre .room) (message-length (s .args .how) (s .args .total) o (s .pre)) (l .out) (l .index) (l .start) (l .at) n (l .inv .0) g (c .before .piece-size .ensures) in
+    let q = size-low (s .args .how .room) (s .args .total) (l .index) (l .start) n (s .pre .room) (c .before .piece-size .ensures) in
     record {
       low-stream = s .pre .low-stream;
       low-id = s .pre .low-id;
@@ -51,12 +51,12 @@ put-packet-requires c κs =
       within = omega (arith, f, q, l .inv .0);
     }
 
-add-place : tie.Need-add-place Inv-loop μ-loop
-add-place c =
+add-start : tie.Need-add-start Inv-loop μ-loop
+add-start c =
     let s = c .before .before .before .before .before .before .before .before in
     let l = c .before .before .before .before .before .before .loop in
     let g = going-on (l .inv .2) (c .before .before .before .before .before .loop-test .taken) in
-    let q = size-low (s .args .how .room) (s .args .total) (l .index) (l .place) _ (s .pre .room) (c .before .before .before .before .piece-size .ensures) in
+    let q = size-low (s .args .how .room) (s .args .total) (l .index) (l .start) _ (s .pre .room) (c .before .before .before .before .piece-size .ensures) in
     omega (arith, q, g .low, s .pre .low-total)
 
 add-index : tie.Need-add-index Inv-loop μ-loop
@@ -74,7 +74,7 @@ loop-less c =
     let g = going-on (l .inv .2) t in
     let o = now (s .args .out) in
     let n = c .before .before .before .before .piece-size .result in
-    let f = further (s .args .how) (messageIn (s .args .total) o) (s .args .total) (length o) (s .pre .room) (message-length (s .args .how) (s .args .total) o (s .pre)) (l .out) (l .index) (l .place) (l .at) n (l .inv .0) g (c .before .before .before .before .piece-size .ensures) _ _ (c .before .before .put-packet .ensures) in
+    let f = further (s .args .how) (messageIn (s .args .total) o) (s .args .total) (length o) (s .pre .room) (message-length (s .args .how) (s .args .total) o (s .pre)) (l .out) (l .index) (l .start) (l .at) n (l .inv .0) g (c .before .before .before .before .piece-size .ensures) _ _ (c .before .before .put-packet .ensures) in
     omega (arith, f, t)
 
 loop-again : tie.Need-loop-again Inv-loop μ-loop
@@ -86,8 +86,8 @@ loop-again c =
     let o = now (s .args .out) in
     let n = c .before .before .before .before .piece-size .result in
     let k = message-length (s .args .how) (s .args .total) o (s .pre) in
-    let f = up-to (s .args .how) (messageIn (s .args .total) o) (s .args .total) (length o) (s .pre .room) k (l .out) (l .index) (l .place) (l .at) n (l .inv .0) g (c .before .before .before .before .piece-size .ensures) _ _ (c .before .before .put-packet .ensures) in
-    let j = joining-next (s .args .how) (messageIn (s .args .total) o) (s .args .total) (length o) (s .pre .room) k (l .out) (l .index) (l .place) (l .at) n (l .inv .0) g (c .before .before .before .before .piece-size .ensures) _ _ (c .before .before .put-packet .ensures) in
+    let f = up-to (s .args .how) (messageIn (s .args .total) o) (s .args .total) (length o) (s .pre .room) k (l .out) (l .index) (l .start) (l .at) n (l .inv .0) g (c .before .before .before .before .piece-size .ensures) _ _ (c .before .before .put-packet .ensures) in
+    let j = joining-next (s .args .how) (messageIn (s .args .total) o) (s .args .total) (length o) (s .pre .room) k (l .out) (l .index) (l .start) (l .at) n (l .inv .0) g (c .before .before .before .before .piece-size .ensures) _ _ (c .before .before .put-packet .ensures) in
     (c .before .before .put-packet .kept .0 ∙ l .inv .0, f, j)
 
 same-length : tie.Need-same-length Inv-loop μ-loop
@@ -110,7 +110,7 @@ put-packets-spec =
     piece-size-requires
     sub-put-packet
     put-packet-requires
-    add-place
+    add-start
     add-index
     loop-less
     loop-again

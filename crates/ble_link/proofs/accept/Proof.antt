@@ -155,7 +155,7 @@ module _ {M : Type 1} (𝓤 : URA M) (H : Heap 𝓤) (A : Atoms 𝓤) (W : Given
   Decided slots d zs₃ zs₆ = (row : List Slot) → length row ≡ length ys₂ → slots ≡ firstTwelve row → leftBy row d zs₃ zs₆ ≡ acceptOf (link .limit) row ys₃ (call ys₄ n₅ ys₆)
 
   -- the three callees' equations make the contract's
-  together : (slots : List Slot) (d : Step) (zs₃ : List ℕ) (zs₆ : List ℕ) (ws : List Slot) → slots ≡ firstTwelve ys₂ → Decided slots d zs₃ zs₆ → ws ≡ set ys₂ (d .place) (d .slot) → left (told (d .answer)) ws zs₃ zs₆ ≡ acceptOf (link .limit) ys₂ ys₃ (call ys₄ n₅ ys₆)
+  together : (slots : List Slot) (d : Step) (zs₃ : List ℕ) (zs₆ : List ℕ) (ws : List Slot) → slots ≡ firstTwelve ys₂ → Decided slots d zs₃ zs₆ → ws ≡ set ys₂ (d .index) (d .slot) → left (told (d .answer)) ws zs₃ zs₆ ≡ acceptOf (link .limit) ys₂ ys₃ (call ys₄ n₅ ys₆)
   together slots d zs₃ zs₆ ws e₁ e₂ e₃ = ap (λ (l : List Slot). left (told (d .answer)) l zs₃ zs₆) e₃ ∙ e₂ ys₂ refl e₁
 
   -- `load`, at a lifetime ν of the call, on the row under the name δ
@@ -174,14 +174,14 @@ module _ {M : Type 1} (𝓤 : URA M) (H : Heap 𝓤) (A : Atoms 𝓤) (W : Given
 
   -- `set_slot`, at the row's own lifetime
   abbrev args-set : Step → Args set-slot.signature (κ₂, tt)
-  args-set d = (x₂, (d .place, (d .slot, tt)))
+  args-set d = (x₂, (d .index, (d .slot, tt)))
 
   abbrev to-set : Step → SetSlot 𝓤 H A at-mem run .Ghost
-  to-set d = (((κ₂, tt), (q₂, tt), tt, args-set d, (v₂ ∷ [], (vint w64 (d .place) ∷ [], (val (d .slot) ∷ [], tt)))), tt)
+  to-set d = (((κ₂, tt), (q₂, tt), tt, args-set d, (v₂ ∷ [], (vint w64 (d .index) ∷ [], (val (d .slot) ∷ [], tt)))), tt)
 
-  goes-set : (d : Step) → d .place < 2 ^ 64 → Is T.the-row (d .slot) (val (d .slot) ∷ []) → ent 𝓤 (⋆ 𝓤 H A (‵ (flft κ₂ q₂) ∷ ‵ Own₂ ∷ [])) (SetSlot 𝓤 H A at-mem run .pre (to-set d))
+  goes-set : (d : Step) → d .index < 2 ^ 64 → Is T.the-row (d .slot) (val (d .slot) ∷ []) → ent 𝓤 (⋆ 𝓤 H A (‵ (flft κ₂ q₂) ∷ ‵ Own₂ ∷ [])) (SetSlot 𝓤 H A at-mem run .pre (to-set d))
   goes-set d fits is = qed W (‵ (flft κ₂ q₂) ∷ ‵ Own₂ ∷ []) ∵
-      nothing ! $ owned ! T.the-row (Is T.the-row) (LL.makes T.the-type T′.the-plain 𝓤 H A) (d .slot) _ is $ fjoin ! $ owned ! usize (Is usize) (uint-makes 𝓤 H A W w64) (d .place) _ (refl, fits) $ fjoin ! $
+      nothing ! $ owned ! T.the-row (Is T.the-row) (LL.makes T.the-type T′.the-plain 𝓤 H A) (d .slot) _ is $ fjoin ! $ owned ! usize (Is usize) (uint-makes 𝓤 H A W w64) (d .index) _ (refl, fits) $ fjoin ! $
       move ! (2 ∷ 0 ∷ []) $ fjoin ! $ nothing ! $ move ! (2 ∷ 0 ∷ []) $ join ! $ join ! $ nothing ! $ move ! (1 ∷ 0 ∷ []) $ join ! $ done !
 
   -- `decide`, at the other parameters' own lifetimes
@@ -240,7 +240,7 @@ module _ {M : Type 1} (𝓤 : URA M) (H : Heap 𝓤) (A : Atoms 𝓤) (W : Given
           move ! (4 ∷ 3 ∷ []) $ use2 W (raw (SetSlot 𝓤 H A at-mem run .pre (to-set d))) (goes-set d (parts .1 .0 .1) (parts .1 .1 .0)) $
           calls-at ! fm (SetSlot 𝓤 H A at-mem run) known-set (to-set d) (and-then ! (load ! (from ! (stop !)) (look ! 4 refl)) (and-then ! (load ! (from ! (fld ! refl (stop !))) (look-in ! 22 (sub ! 1 refl (whole !)))) (and-then ! (load ! (from ! (fld ! refl (stop !))) (look-in ! 22 (sub ! 2 refl (whole !)))) (no-more !)))) (λ z.
           use1 W (later (some (λ (t : Unit {0}). ((‵ (flft κ₂ q₂) ⊛ ‵ ftrue) ⊛ ‵ (Nothing .own t (z ∷ []))) ⊛ raw (ensured 𝓤 H A set-slot.ended (set-slot.clauses 𝓤 H A at-mem run) (κ₂, tt) (args-set d) tt t)))) (id⊢ 𝓤 _) $ await ! tt $ pick ! (λ t.
-          split ! $ move ! (1 ∷ []) $ use1 W (some (λ (ws : List Slot × (Unit {0} × (Unit {0} × Unit {0}))). ‵ (lasts set-slot.ended (κ₂, tt) (args-set d) ws) ⊛ raw (fact 𝓤 (ws .0 ≡ set ys₂ (d .place) (d .slot))))) (id⊢ 𝓤 _) $ pick ! (λ ws. split ! $ move ! (1 ∷ []) $ heard ! (ws .0 ≡ set ys₂ (d .place) (d .slot)) (λ e₃. fsplit ! $ fsplit ! $ move ! (1 ∷ []) $ feqL ! (λ len₂.
+          split ! $ move ! (1 ∷ []) $ use1 W (some (λ (ws : List Slot × (Unit {0} × (Unit {0} × Unit {0}))). ‵ (lasts set-slot.ended (κ₂, tt) (args-set d) ws) ⊛ raw (fact 𝓤 (ws .0 ≡ set ys₂ (d .index) (d .slot))))) (id⊢ 𝓤 _) $ pick ! (λ ws. split ! $ move ! (1 ∷ []) $ heard ! (ws .0 ≡ set ys₂ (d .index) (d .slot)) (λ e₃. fsplit ! $ fsplit ! $ move ! (1 ∷ []) $ feqL ! (λ len₂.
           move ! (1 ∷ []) $ drop ! $ move ! (1 ∷ []) $ split ! $ move ! (1 ∷ []) $ facts ! Nothing (Is Nothing) (shows 𝓤 H A Nothing) t (z ∷ []) (λ is₃.
           land ! (from ! (stop !)) (init ! 9 refl (nothing-lawful 𝓤 H A W .typed t _ is₃ .0)) $
           assigns ! (of-opd ! (load ! (from ! (fld ! refl (stop !))) (look-in ! 23 (sub ! 0 refl (whole !))))) (from ! (stop !)) (init ! 41 refl (EL.lawful N.the-type N′.the-laws 𝓤 H A W tt .typed (d .answer) _ (parts .0) .0)) $

@@ -45,7 +45,7 @@ step-at c =
     ∙ ap (λ (l : List Slot). actAt (laneStart t) l (actOf (laneStart t) l (a .read))) lane
 
 -- it keeps to the packet and to the slot's part
-fits-at : (c : tie.After-act-on) → (let a = c .before .before .before .before .before .before .before .args in (c .act-on .result .place < slotCount) × InsidePart (a .limit) (length (now (a .packet))) (c .act-on .result .payload))
+fits-at : (c : tie.After-act-on) → (let a = c .before .before .before .before .before .before .before .args in (c .act-on .result .index < slotCount) × InsidePart (a .limit) (length (now (a .packet))) (c .act-on .result .payload))
 unfolding stepOf
 fits-at c =
     let s = c .before .before .before .before .before .before .before in
@@ -53,7 +53,7 @@ fits-at c =
     let t = headIn (a .read) .stream in
     let k = length (now (a .packet)) in
     let f = at-fits (a .limit) k t (laneOf t (a .slots)) (actIn (a .slots) (a .read)) (in-fits (a .limit) k (streamBits (getD (now (a .packet)) 0 0)) (a .slots) (a .read) (ready-at s .law) (passes-at s)) in (
-      subst (λ (n : ℕ). n < slotCount) (sym (ap (λ (d : StepAt). d .place) (step-at c))) (f .0),
+      subst (λ (n : ℕ). n < slotCount) (sym (ap (λ (d : StepAt). d .index) (step-at c))) (f .0),
       subst (InsidePart (a .limit) k) (sym (ap (λ (d : StepAt). d .step .payload) (step-at c))) (f .1),
     )
 

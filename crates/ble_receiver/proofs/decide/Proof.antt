@@ -1,5 +1,4 @@
 use mathlib.Core.Path.{sym, _∙_}
-use mathlib.Core.List.{List}
 use lib.Dec.{eqb}
 use denote.Ref.{now}
 use borrow.Author.Tests.{lt-ltb, le-ltb, not-true, not-false}

@@ -1,6 +1,5 @@
 use mathlib.Core.Path.{refl}
 use Rattle.ble_slot_steps.specs.Step.{stepOf}
-use borrow.Author.Needs.{needs}
 use Rattle.ble_slot_steps.proofs.put_slot.Statement.{statement}
 use Rattle.ble_slot_steps.proofs.put_slot.Tie as tie
 

@@ -8,7 +8,7 @@ use Rattle.capture_tally.proofs.take.Tie as tie
 returns : tie.Need-returns
 returns c =
     let s = c .before .before .before .before .before .before .before .before .before in
-    rw (c .before .with-packet .ensures, c .with-slot .ensures)
+    rw (c .before .count-packet .ensures, c .with-slot .ensures)
     (counted-is (toldSum (s .args .tally .sum)) (s .args .limit) (s .args .tally .slots) (now (s .args .buffer)) (now (s .args .packet)) _ _ _ (c .before .before .before .before .give .ensures))
 
 pub take-spec : {M : Type 1} → statement M

@@ -20,34 +20,25 @@ loop-holds c = (search needs, refl)
 same-length : tie.Need-same-length Inv-loop μ-loop
 same-length c = c .before .before .before .feed .kept .1 .0 ∙ c .before .before .before .before .before .before .before .before .loop .inv .1
 
+-- a call uses no more than is left of the block
+used : (c : tie.After-feed Inv-loop μ-loop) → c .feed .result .used ≤ length (c .before .before .before .before .before .before .before .before .args .bytes .now) - c .before .before .before .before .before .loop .at
+used c =
+    let k = c .before .before .before .before .before .loop in
+    used-fits (k .now .state .limit) (k .now .state .progress) (k .buffer) (c .before .before .before .before .before .before .before .before .args .bytes .now) (k .at) (k .inv .0) (c .feed .ensures .0)
+
 add-end : tie.Need-add-end Inv-loop μ-loop
-add-end c =
-    let f = c .before .before .before in
-    let k = f .before .before .before .before .before .loop in
-    let s = f .before .before .before .before .before .before .before .before in
-    let w = used-fits (k .now .state .limit) (k .now .state .progress) (k .buffer) (s .args .bytes .now) (k .at) (k .inv .0) (f .feed .ensures .0) in
-    omega (arith, w, s .good .1 .1 .0 .1)
+add-end c = omega (arith, used (c .before .before .before), c .before .before .before .before .before .before .before .before .before .before .before .good .1 .1 .0 .1)
 
 part-list-call-end : tie.Need-part-list-call-end Inv-loop μ-loop
-part-list-call-end c =
-    let f = c .before .before .before in
-    let k = f .before .before .before .before .before .loop in
-    let w = used-fits (k .now .state .limit) (k .now .state .progress) (k .buffer) (f .before .before .before .before .before .before .before .before .args .bytes .now) (k .at) (k .inv .0) (f .feed .ensures .0) in
-    omega (arith, w)
+part-list-call-end c = omega (arith, used (c .before .before .before))
 
 loop-less : tie.Need-loop-less Inv-loop μ-loop
-loop-less c =
-    let f = c .before .before .before .before .before in
-    let k = f .before .before .before .before .before .loop in
-    let w = used-fits (k .now .state .limit) (k .now .state .progress) (k .buffer) (f .before .before .before .before .before .before .before .before .args .bytes .now) (k .at) (k .inv .0) (f .feed .ensures .0) in
-    omega (arith, w)
+loop-less c = omega (arith, used (c .before .before .before .before .before))
 
 loop-again : tie.Need-loop-again Inv-loop μ-loop
 loop-again c =
     let f = c .before .before .before .before .before in
-    let k = f .before .before .before .before .before .loop in
-    let w = used-fits (k .now .state .limit) (k .now .state .progress) (k .buffer) (f .before .before .before .before .before .before .before .before .args .bytes .now) (k .at) (k .inv .0) (f .feed .ensures .0) in
-    (omega (arith, w), f .feed .kept .1 .0 ∙ k .inv .1)
+    (omega (arith, used f), f .feed .kept .1 .0 ∙ f .before .before .before .before .before .loop .inv .1)
 
 pub list-block-spec : {M : Type 1} → statement M
 list-block-spec =

@@ -1,3 +1,4 @@
+-- Each turn moves a whole part and carries the rest over: what is held always lies within the buffer.
 use Prim.Native.Nat.{_≤_}
 use mathlib.Core.Path.{_≡_, sym}
 use native.Mathlib.Omega.{arith}

@@ -1,12 +1,16 @@
 -- What the body leaves of the limit, then what the front leaves of that: together the message's length, or 15.
+use Prim.Native.Nat.{ℕ}
 use native.Mathlib.Omega.{arith}
 use mathlib.Core.Path.{sym, _∙_}
+use mathlib.Core.List.{List}
 use lib.ListN.{length}
 use denote.Ref.{now}
 use Rattle.proto_writer.proofs.Messages.{room-short}
 use Rattle.proto_writer.proofs.Rooms.{room-rest}
 use Rattle.reply_parts.specs.Body.{bodyBy}
-use Rattle.reply.proofs.Replies.{whole-by, body-within, counted}
+use Rattle.reply_parts.proofs.Fronts.{Whole}
+use Rattle.reply.specs.Reply.{memberOf}
+use Rattle.reply.proofs.Replies.{CountedReply, whole-by, body-within, counted}
 use borrow.Author.Needs.{needs}
 use Rattle.reply.proofs.measure.Statement.{statement}
 use Rattle.reply.proofs.measure.Tie as tie
@@ -19,47 +23,43 @@ sub-body c =
     let a = c .before .before .before .before .before .before .before .args in
     omega (arith, room-rest (a .limit) _ _ (sym (c .before .before .before .body-room .ensures) ∙ c .before .left .given .1) .0)
 
+-- the bytes of the member
+abbrev body : tie.Start → List ℕ
+body s = bodyBy (now (s .args .serial-number)) (now (s .args .name)) (now (s .args .transports)) (now (s .args .device-type)) (s .args .features) (s .args .kind)
+
+whole : (s : tie.Start) → Whole (memberOf (s .args .members) (s .args .kind)) (body s)
+whole s = whole-by (now (s .args .serial-number)) (now (s .args .name)) (now (s .args .transports)) (now (s .args .device-type)) (s .args .features) (s .args .members) (s .args .kind)
+
+-- the reply by what the body left of the limit, and the front for that
+known : (c : tie.After-front-for)
+    → let s = c .before .before .before .before .before .before .before .before in
+    CountedReply (s .args .value) (s .args .kind) (s .args .members) (body s) (s .args .limit) (c .before .before .left .given .0 .0) (c .front-for .result)
+known c =
+    let s = c .before .before .before .before .before .before .before .before in
+    let left = c .before .before .left .given in
+    counted (s .args .value) (s .args .kind) (s .args .members) (body s) (s .args .limit) (left .0 .0) (c .front-for .result) (whole s) (sym (c .before .before .before .before .body-room .ensures) ∙ left .1) (c .front-for .ensures)
+
 front-len-requires : tie.Need-front-len-requires
 front-len-requires c κs =
     let s = c .before .before .before .before .before .before .before .before in
-    let a = s .args in
-    let body = bodyBy (now (a .serial-number)) (now (a .name)) (now (a .transports)) (now (a .device-type)) (a .features) (a .kind) in
-    let none = whole-by (now (a .serial-number)) (now (a .name)) (now (a .transports)) (now (a .device-type)) (a .features) (a .members) (a .kind) in
-    let front = c .front-for in
-    let left = c .before .before .left .given in
-    let k = counted (a .value) (a .kind) (a .members) body (a .limit) (left .0 .0) (front .result) none (sym (c .before .before .before .before .body-room .ensures) ∙ left .1) (front .ensures) in
-    record { member = rw (front .ensures .member) (s .pre .2); body = omega (arith, s .pre .0, k .low) }
+    record { member = rw (c .front-for .ensures .member) (s .pre .2); body = omega (arith, s .pre .0, known c .low) }
 
 returns : tie.Need-returns
-returns c =
-    let s = c .before .before .before .before .before .before .before .before .before .before in
-    let a = s .args in
-    let body = bodyBy (now (a .serial-number)) (now (a .name)) (now (a .transports)) (now (a .device-type)) (a .features) (a .kind) in
-    let none = whole-by (now (a .serial-number)) (now (a .name)) (now (a .transports)) (now (a .device-type)) (a .features) (a .members) (a .kind) in
-    let front = c .before .before .front-for in
-    let left = c .before .before .before .before .left .given in
-    let k = counted (a .value) (a .kind) (a .members) body (a .limit) (left .0 .0) (front .result) none (sym (c .before .before .before .before .before .before .body-room .ensures) ∙ left .1) (front .ensures) in
-    omega (arith, k .under, k .total, c .before .front-len .ensures .0, c .if1 .taken)
+returns c = let k = known (c .before .before) in omega (arith, k .under, k .total, c .before .front-len .ensures .0, c .if1 .taken)
 
 returns-2 : tie.Need-returns-2
 returns-2 c =
-    let a = c .before .before .before .before .before .before .args in
-    let body = bodyBy (now (a .serial-number)) (now (a .name)) (now (a .transports)) (now (a .device-type)) (a .features) (a .kind) in
-    let none = whole-by (now (a .serial-number)) (now (a .name)) (now (a .transports)) (now (a .device-type)) (a .features) (a .members) (a .kind) in
-    let short = room-short (a .limit) (length body) (sym (c .before .before .body-room .ensures) ∙ c .enum-told .given .1) in
-    omega (arith, short, body-within (a .value) (a .kind) (a .members) body none)
+    let s = c .before .before .before .before .before .before in
+    let short = room-short (s .args .limit) (length (body s)) (sym (c .before .before .body-room .ensures) ∙ c .enum-told .given .1) in
+    omega (arith, short, body-within (s .args .value) (s .args .kind) (s .args .members) (body s) (whole s))
 
 returns-3 : tie.Need-returns-3
 returns-3 c =
-    let s = c .before .before .before .before .before .before .before .before .before .before in
-    let a = s .args in
-    let body = bodyBy (now (a .serial-number)) (now (a .name)) (now (a .transports)) (now (a .device-type)) (a .features) (a .kind) in
-    let none = whole-by (now (a .serial-number)) (now (a .name)) (now (a .transports)) (now (a .device-type)) (a .features) (a .members) (a .kind) in
-    let front = c .before .before .front-for in
-    let left = c .before .before .before .before .left .given in
-    let k = counted (a .value) (a .kind) (a .members) body (a .limit) (left .0 .0) (front .result) none (sym (c .before .before .before .before .before .before .body-room .ensures) ∙ left .1) (front .ensures) in
+    let f = c .before .before in
+    let s = f .before .before .before .before .before .before .before .before in
+    let k = known f in
     record {
-      fits = record { member = rw (front .ensures .member) (s .pre .2); body = omega (arith, s .pre .0, k .low) };
+      fits = record { member = rw (f .front-for .ensures .member) (s .pre .2); body = omega (arith, s .pre .0, k .low) };
       long = k .long;
       whole = k .whole;
       within = omega (arith, k .under, k .total, c .before .front-len .ensures .0, c .if1 .left);

@@ -16,8 +16,8 @@ use Rattle.ble_receiver.proofs.buffer.write_payload.Statement.{statemen
 use Rattle.ble_receiver.proofs.buffer.write_payload.Tie as tie
 
 -- the part that is lent lies within the buffer
-inside : (c : tie.Start) → partStart (c .args .limit) (c .args .place) + c .args .limit ≤ slotCount * c .args .limit
-inside c = part-inside (c .args .limit) (c .args .place) (c .pre .1)
+inside : (c : tie.Start) → partStart (c .args .limit) (c .args .index) + c .args .limit ≤ slotCount * c .args .limit
+inside c = part-inside (c .args .limit) (c .args .index) (c .pre .1)
 
 mul-start : tie.Need-mul-start
 mul-start c = let s = c .before .before in omega (arith, s .pre .0, inside s)
@@ -34,7 +34,7 @@ shorter n k l = simp (length-take, length-drop) (omega arith)
 returns : tie.Need-returns
 returns c =
     let s = c .before .before .before .before .before .before .before .before in
-    let start = s .args .place * s .args .limit in
+    let start = s .args .index * s .args .limit in
     let size = start + s .args .limit - start in
     let payload = s .args .payload in
     let n = payload .start + payload .len - payload .start in

@@ -15,14 +15,14 @@ returns c =
     let s = c .before .before .before in
     let a = s .args in
     rw (c .smaller .ensures .0)
-    (sym (place-first (a .room) (a .length) (a .place) _ (s .pre) (c .before .before .full-size .ensures .0) (c .before .if1 .taken)))
+    (sym (place-first (a .room) (a .length) (a .start) _ (s .pre) (c .before .before .full-size .ensures .0) (c .before .if1 .taken)))
 
 returns-2 : tie.Need-returns-2
 returns-2 c =
     let s = c .before .before .before in
     let a = s .args in
     sym
-    (place-beyond (a .room) (a .length) (a .place) _ (s .pre) (c .before .before .full-size .ensures .0) (fullSize (a .room) false) refl
+    (place-beyond (a .room) (a .length) (a .start) _ (s .pre) (c .before .before .full-size .ensures .0) (fullSize (a .room) false) refl
     (c .before .if1 .left) (omega arith))
 
 returns-3 : tie.Need-returns-3
@@ -30,7 +30,7 @@ returns-3 c =
     let s = c .before .before .before .before in
     let a = s .args in
     sym
-    (place-beyond (a .room) (a .length) (a .place) _ (s .pre) (c .before .before .before .full-size .ensures .0) (fullSize (a .room) false) refl
+    (place-beyond (a .room) (a .length) (a .start) _ (s .pre) (c .before .before .before .full-size .ensures .0) (fullSize (a .room) false) refl
     (c .before .before .if1 .left) (omega arith))
 
 returns-4 : tie.Need-returns-4
@@ -38,7 +38,7 @@ returns-4 c =
     let s = c .before .before .before .before .before in
     let a = s .args in
     sym
-    (place-before (a .room) (a .length) (a .place) _ (s .pre) (c .before .before .before .before .full-size .ensures .0) (fullSize (a .room) false) refl
+    (place-before (a .room) (a .length) (a .start) _ (s .pre) (c .before .before .before .before .full-size .ensures .0) (fullSize (a .room) false) refl
     (c .before .before .before .if1 .left) (omega arith))
 
 returns-5 : tie.Need-returns-5
@@ -46,14 +46,14 @@ returns-5 c =
     let s = c .before .before .before .before .before .before .before in
     let a = s .args in
     sym
-    (place-between (a .room) (a .length) (a .place) _ (s .pre) (c .before .before .before .before .before .before .full-size .ensures .0) _
+    (place-between (a .room) (a .length) (a .start) _ (s .pre) (c .before .before .before .before .before .before .full-size .ensures .0) _
     (c .before .full-size2 .ensures .0) (c .before .before .before .before .before .if1 .left) (c .if5 .taken))
 
 add-index : tie.Need-add-index
 add-index c =
     let f = c .before .full-size2 in
     let s = c .before .before .before .before .before .before in
-    omega (arith, div-le-self (s .before .args .place - s .full-size .result) (f .result))
+    omega (arith, div-le-self (s .before .args .start - s .full-size .result) (f .result))
 
 returns-6 : tie.Need-returns-6
 returns-6 c =
@@ -61,7 +61,7 @@ returns-6 c =
     let a = s .args in
     rw (c .smaller2 .ensures .0)
     (sym
-    (place-hit (a .room) (a .length) (a .place) _ (s .pre) (c .before .before .before .before .before .before .before .full-size .ensures .0) _
+    (place-hit (a .room) (a .length) (a .start) _ (s .pre) (c .before .before .before .before .before .before .before .full-size .ensures .0) _
     (c .before .before .full-size2 .ensures .0) (c .before .before .before .before .before .before .if1 .left) (omega arith)
     (omega arith) (c .before .if5 .left)))
 

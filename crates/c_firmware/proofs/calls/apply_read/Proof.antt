@@ -1,7 +1,7 @@
 use borrow.Author.Tests.{eq-eqb, ne-eqb}
 use Rattle.c_firmware.specs.Calls.{applyReadOf}
 use Rattle.msg_firmware.specs.Apply.{applyOf}
-use Rattle.c_firmware_rows.proofs.Readings.{read-number, read-row}
+use Rattle.c_firmware_rows.proofs.Readings.{apply-number, apply-row}
 use borrow.Author.Needs.{needs}
 use Rattle.c_firmware.proofs.calls.apply_read.Statement.{statement}
 use Rattle.c_firmware.proofs.calls.apply_read.Tie as tie
@@ -18,8 +18,8 @@ returns-2 c =
     let read = s .read-apply .result in
     rw (
       eq-eqb _ _ (c .before .before .before .before .before .before .before .if1 .left),
-      ← (read-number (read .verdict) (read .apply) told (s .read-apply .ensures .0)),
-      ← (read-row (read .verdict) (read .apply) told (s .read-apply .ensures .0)),
+      ← (apply-number (read .verdict) (read .apply) told (s .read-apply .ensures .0)),
+      ← (apply-row (read .verdict) (read .apply) told (s .read-apply .ensures .0)),
       c .before .before .put-apply .ensures,
       c .before .before .before .before .verdict-number .ensures,
     )

@@ -5,7 +5,7 @@ use lib.ListN.{length, length-append}
 use Rattle.wire.proofs.Stores.{sets-then}
 use Rattle.proto_reader.specs.Refusal.{toldVerdict}
 use Rattle.c_message_rows.specs.Convert.{faultRow}
-use Rattle.c_message_rows.proofs.Information.{fault-length}
+use Rattle.c_message_rows.proofs.Readings.{fault-length}
 use Rattle.c_firmware_rows.specs.Apply.{headRow, componentRows, wholeRow}
 use Rattle.c_rows.proofs.Wholes.{sets-both}
 use borrow.Author.Tests.{eq-eqb, ne-eqb}

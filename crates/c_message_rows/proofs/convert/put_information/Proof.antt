@@ -5,7 +5,7 @@ use Rattle.proto_field.specs.Signed.{extended}
 use Rattle.proto_reader.specs.Refusal.{toldVerdict}
 use Rattle.c_rows.proofs.Wholes.{sets-three}
 use Rattle.c_message_rows.specs.Convert.{partsRow, transportsRow, faultRow}
-use Rattle.c_message_rows.proofs.Information.{fault-length}
+use Rattle.c_message_rows.proofs.Readings.{fault-length}
 use borrow.Author.Needs.{needs}
 use Rattle.c_message_rows.proofs.convert.put_information.Statement.{statement}
 use Rattle.c_message_rows.proofs.convert.put_information.Tie as tie

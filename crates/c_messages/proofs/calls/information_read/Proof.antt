@@ -1,7 +1,7 @@
 use borrow.Author.Tests.{eq-eqb, ne-eqb}
 use Rattle.c_messages.specs.Calls.{informationReadOf}
 use Rattle.msg_device.specs.Information.{informationOf}
-use Rattle.c_message_rows.proofs.Information.{read-number, read-row}
+use Rattle.c_message_rows.proofs.Information.{information-number, information-row}
 use borrow.Author.Needs.{needs}
 use Rattle.c_messages.proofs.calls.information_read.Statement.{statement}
 use Rattle.c_messages.proofs.calls.information_read.Tie as tie
@@ -18,8 +18,8 @@ returns-2 c =
     let read = s .read-information .result in
     rw (
       eq-eqb _ _ (s .before .if1 .left),
-      ← (read-number (read .verdict) (read .information) told (s .read-information .ensures .0)),
-      ← (read-row (read .verdict) (read .information) told (s .read-information .ensures .0)),
+      ← (information-number (read .verdict) (read .information) told (s .read-information .ensures .0)),
+      ← (information-row (read .verdict) (read .information) told (s .read-information .ensures .0)),
       c .before .before .put-information .ensures,
       c .before .before .before .before .verdict-number .ensures,
     )

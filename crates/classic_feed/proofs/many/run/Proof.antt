@@ -21,23 +21,23 @@ loop-holds c = record { within = search needs; fits = c .before .before .pre; sa
 pass-requires : tie.Need-pass-requires Inv-loop μ-loop
 pass-requires c κs = (c .before .loop .inv .fits, c .before .loop .inv .within)
 
+-- what holds at the test, once bytes were passed
+passed : (c : tie.After-rebuilt Inv-loop μ-loop)
+    → let g = c .before .before .before .before in
+    let s = g .before .before .before .before .before in
+    Running (s .args .limit) (s .args .bytes .now) (s .args .buffer .now) (s .args .start) (g .pass .last .1 .1 .0) (c .rebuilt .result) (g .pass .result .at)
+passed c =
+    let g = c .before .before .before .before in
+    running-on (g .before .before .loop .inv) (g .pass .ensures) (g .pass .kept .1 .1 .0) (c .rebuilt .ensures)
+
 same-length : tie.Need-same-length Inv-loop μ-loop
-same-length c =
-    let g = c .before .before .before .before .before in
-    let on = running-on (g .before .before .loop .inv) (g .pass .ensures) (g .pass .kept .1 .1 .0) (c .before .rebuilt .ensures) in
-    on .same
+same-length c = passed (c .before) .same
 
 returns : tie.Need-returns Inv-loop μ-loop
-returns c =
-    let g = c .before .before .before .before .before in
-    let on = running-on (g .before .before .loop .inv) (g .pass .ensures) (g .pass .kept .1 .1 .0) (c .before .rebuilt .ensures) in
-    (running-end on (search needs), refl)
+returns c = (running-end (passed (c .before)) (search needs), refl)
 
 fast-step-requires : tie.Need-fast-step-requires Inv-loop μ-loop
-fast-step-requires c κs =
-    let g = c .before .before .before .before .before .before .before in
-    let on = running-on (g .before .before .loop .inv) (g .pass .ensures) (g .pass .kept .1 .1 .0) (c .before .before .before .rebuilt .ensures) in
-    on .fits
+fast-step-requires c κs = passed (c .before .before .before) .fits
 
 add-i : tie.Need-add-i Inv-loop μ-loop
 add-i c =
@@ -46,17 +46,13 @@ add-i c =
     omega (arith, on .within)
 
 same-length-2 : tie.Need-same-length-2 Inv-loop μ-loop
-same-length-2 c =
-    let g = c .before .before .before .before .before .before .before .before .before .before .before .before .before .before .before in
-    let on = running-on (g .before .before .loop .inv) (g .pass .ensures) (g .pass .kept .1 .1 .0) (c .before .before .before .before .before .before .before .before .before .before .before .rebuilt .ensures) in
-    c .before .before .before .before .before .before .before .fast-step .kept .1 .1 .0 ∙ on .same
+same-length-2 c = let k = c .before .before .before .before .before .before .before in k .fast-step .kept .1 .1 .0 ∙ passed (k .before .before .before .before) .same
 
 returns-2 : tie.Need-returns-2 Inv-loop μ-loop
 returns-2 c =
-    let g = c .before .before .before .before .before .before .before .before .before .before .before .before .before .before .before in
-    let on = running-on (g .before .before .loop .inv) (g .pass .ensures) (g .pass .kept .1 .1 .0) (c .before .before .before .before .before .before .before .before .before .before .before .rebuilt .ensures) in (
+    let k = c .before .before .before .before .before .before .before in (
       rw (c .feed-outcome .ensures)
-          (running-stop on (c .before .before .before .before .before .before .before .fast-step .ensures) (c .before .before .before .before .before .before .before .before .before .before .if1 .left) (c .before .before .before .rebuilt2 .ensures) (sym (c .before .before .is-decided .ensures) ∙ c .before .if2 .taken)),
+          (running-stop (passed (k .before .before .before .before)) (k .fast-step .ensures) (k .before .before .before .if1 .left) (c .before .before .before .rebuilt2 .ensures) (sym (c .before .before .is-decided .ensures) ∙ c .before .if2 .taken)),
       refl,
     )
 
@@ -65,10 +61,8 @@ loop-less c = omega (arith, c .before .before .before .before .before .before .b
 
 loop-again : tie.Need-loop-again Inv-loop μ-loop
 loop-again c =
-    let at-fast-step = c .before .before .before .before .before .before in
-    let g = c .before .before .before .before .before .before .before .before .before .before .before .before .before .before in
-    let on = running-on (g .before .before .loop .inv) (g .pass .ensures) (g .pass .kept .1 .1 .0) (c .before .before .before .before .before .before .before .before .before .before .rebuilt .ensures) in
-    running-more on (at-fast-step .fast-step .ensures) (search needs) (c .before .before .rebuilt2 .ensures) (sym (c .before .is-decided .ensures) ∙ c .if2 .left) (at-fast-step .fast-step .kept .1 .1 .0)
+    let k = c .before .before .before .before .before .before in
+    running-more (passed (k .before .before .before .before)) (k .fast-step .ensures) (search needs) (c .before .before .rebuilt2 .ensures) (sym (c .before .is-decided .ensures) ∙ c .if2 .left) (k .fast-step .kept .1 .1 .0)
 
 pub run-spec : {M : Type 1} → statement M
 run-spec =

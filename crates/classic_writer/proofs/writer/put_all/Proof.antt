@@ -54,9 +54,6 @@ put-escaped-requires c κs =
     let b = left-byte (s .args .bytes .now) (g .put-plain .last .0) (k .place + (g .put-plain .result - k .i)) (g .put-plain .result) (search needs) in
     omega (arith, on .size, b .size, g .put-plain .kept .0, k .inv .0, s .pre)
 
-add-next : tie.Need-add-next Inv-loop μ-loop
-add-next c = search needs
-
 put-marks-requires : tie.Need-put-marks-requires Inv-loop μ-loop
 put-marks-requires c κs =
     let e = c .before .before .before in
@@ -118,5 +115,5 @@ pub put-all-spec : {M : Type 1} → statement M
 put-all-spec =
     tie.close
     (tie.spec Inv-loop μ-loop loop-holds put-plain-requires sub-place add-place same-length returns
-    (λ c. search needs) put-escaped-requires add-next put-marks-requires sub-place-2 mul-place add-place-2 loop-less
-    loop-again)
+    (λ c. search needs) put-escaped-requires (λ c. search needs) put-marks-requires sub-place-2 mul-place add-place-2
+    loop-less loop-again)

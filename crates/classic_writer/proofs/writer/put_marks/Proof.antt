@@ -20,9 +20,6 @@ abbrev μ-loop : tie.MeasureT-loop
 loop-holds : tie.Need-loop-holds Inv-loop μ-loop
 loop-holds c = (refl, omega arith, left-here (c .before .before .pre .0))
 
-shared-slice-read-b : tie.Need-shared-slice-read-b Inv-loop μ-loop
-shared-slice-read-b c = search needs
-
 same-length : tie.Need-same-length Inv-loop μ-loop
 same-length c = c .before .before .before .before .loop .inv .0
 
@@ -36,12 +33,6 @@ put-code-requires c κs =
     let s = t .before .before .before .before .before .before .before in
     let b = left-mark (s .args .bytes .now) (k .out) (k .at) (k .end) (search needs) (sym (t .before .is-mark .ensures) ∙ not-false _ (t .if1 .left)) in
     omega (arith, k .inv .2 .size, b .size, k .inv .0, s .pre .1)
-
-add-end : tie.Need-add-end Inv-loop μ-loop
-add-end c = search needs
-
-loop-less : tie.Need-loop-less Inv-loop μ-loop
-loop-less c = omega arith
 
 loop-again : tie.Need-loop-again Inv-loop μ-loop
 loop-again c =
@@ -64,5 +55,5 @@ returns-2 c = let k = c .before .loop .inv in rw (k .1) at (k .2)
 pub put-marks-spec : {M : Type 1} → statement M
 put-marks-spec =
     tie.close
-    (tie.spec Inv-loop μ-loop loop-holds shared-slice-read-b (λ c κs. search needs) same-length returns
-    (λ c κs. search needs) put-code-requires add-end loop-less loop-again same-length-2 returns-2)
+    (tie.spec Inv-loop μ-loop loop-holds (λ c. search needs) (λ c κs. search needs) same-length returns
+    (λ c κs. search needs) put-code-requires (λ c. search needs) (λ c. omega arith) loop-again same-length-2 returns-2)

@@ -15,7 +15,7 @@ Inv-loop texts count components i₀ i = (i ≤ count) × (badComponents texts (
 abbrev μ-loop : tie.MeasureT-loop
 μ-loop texts count components i₀ i = count - i
 
--- there are as many as may be there
+-- there are no more than the array holds
 long : (c : tie.Start Inv-loop μ-loop) → c .args .count ≤ length (c .args .t2)
 long c = omega (arith, c .pre, c .good .1 .0 .1 .0 .1)
 

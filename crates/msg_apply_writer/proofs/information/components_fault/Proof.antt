@@ -21,7 +21,7 @@ Inv-loop texts count components found₀ i₀ found i =
 abbrev μ-loop : tie.MeasureT-loop
 μ-loop texts count components found₀ i₀ found i = count - i
 
--- there are as many as may be there
+-- there are no more than the array holds
 long : (c : tie.Start Inv-loop μ-loop) → c .args .count ≤ length (c .args .t3)
 long c = omega (arith, c .pre .0, c .good .1 .1 .0 .1 .0 .1)
 

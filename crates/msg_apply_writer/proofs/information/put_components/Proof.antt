@@ -20,7 +20,7 @@ use borrow.Author.Needs.{needs}
 use Rattle.msg_apply_writer.proofs.information.put_components.Statement.{statement}
 use Rattle.msg_apply_writer.proofs.information.put_components.Tie as tie
 
--- the components from place i on, as fields
+-- the components from index i on, as fields
 abbrev fieldsAt : List ℕ → List FirmwareComponent → ℕ → ℕ → List Field
 fieldsAt texts cs count i = map (componentField texts) (drop i (take count cs))
 
@@ -38,7 +38,7 @@ Inv-loop out₀ from texts count components at₀ i₀ out at i = Left out₀ fr
 abbrev μ-loop : tie.MeasureT-loop
 μ-loop out₀ from texts count components at₀ i₀ out at i = count - i
 
--- there are as many as may be there
+-- there are no more than the array holds
 room : (c : tie.Start Inv-loop μ-loop) → c .args .count ≤ length (c .args .t4)
 room c = omega (arith, c .pre .0, c .good .1 .1 .1 .0 .1 .0 .1)
 

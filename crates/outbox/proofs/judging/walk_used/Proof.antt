@@ -11,7 +11,7 @@ use Rattle.outbox.proofs.Walk.{alone-whole}
 use Rattle.outbox.proofs.judging.walk_used.Statement.{statement}
 use Rattle.outbox.proofs.judging.walk_used.Tie as tie
 
--- what is made anew is what it was made of
+-- a format built again of its fields is the same
 same : (fmt : Format) → Known fmt → record { version = fmt .version; width = fmt .width; limit = fmt .limit } ≡ fmt
 same fmt one = refl
 same fmt two = refl

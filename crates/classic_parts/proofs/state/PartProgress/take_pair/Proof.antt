@@ -26,7 +26,7 @@ returns c =
     let k = c .before .before .before in
     let h = pair-facts (k .before .before .before .before .before .byte-at .result) (k .before .before .before .before .before .before .before .before .args .self .taken) (k .before .before .before .before .before .before .before .before .args .self .total) (length (k .before .before .before .before .before .before .before .before .args .out .now) - k .before .before .before .before .before .before .before .before .args .at) (k .before .before .is-mark .ensures) (k .before .before .before .both .ensures) (k .before .both2 .ensures) (k .if1 .taken) in
     let s = k .before .before .before .before .before .before .before .before in (
-      rw (c .advanced .ensures .0, c .before .add-byte .ensures, c .before .before .code .ensures)
+      rw (c .advanced .ensures .0, c .before .add-byte .ensures, c .before .before .code-for .ensures)
           (onward-pair (s .args .payload .now) (s .args .self) (s .args .out .now) (s .args .taken) (s .args .at) (s .pre .0) (s .pre .1 .0) (s .pre .1 .1)
           (k .before .before .before .before .before .byte-at .result) (k .before .before .before .before .before .byte-at .ensures) (h .0) (h .1) (h .2)),
       rw (c .advanced .ensures .0),
