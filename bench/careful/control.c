@@ -96,34 +96,32 @@ uint64_t pito_information_read(const uint8_t *message, pito_len message_len, uin
 
 static inline uint64_t read_features(struct reader reader, uint64_t *row)
 {
-    while (reader.next < reader.end) {
-        uint64_t field, value, number;
+    uint64_t number = PITO_DONE;
+
+    while (number == PITO_DONE && reader.next < reader.end) {
+        uint64_t field, value;
         unsigned kind;
 
         if ((number = read_tag(&reader, &field, &kind)))
             return number;
-        if (field > 2) {
-            if ((number = skip(&reader, kind)))
-                return number;
-            continue;
-        }
-        if (kind != VARINT)
-            return PITO_REFUSED_WIRE_TYPE;
-        if ((number = read_varint(&reader, &value)))
-            return number;
-        row[field - 1] = value;
+        if (field > 2)
+            number = skip(&reader, kind);
+        else if (kind != VARINT)
+            number = PITO_REFUSED_WIRE_TYPE;
+        else if (!(number = read_varint(&reader, &value)))
+            row[field - 1] = value;
     }
-    return PITO_DONE;
+    return number;
 }
 
 uint64_t pito_features_read(const uint8_t *message, pito_len message_len, uint64_t *answer, pito_len answer_len)
 {
     if (answer_len != PITO_FEATURES_READ_ANSWER)
         return PITO_REFUSED_UNFIT;
-    struct reader whole = {message, message + message_len};
-    uint64_t row[PITO_FEATURES_READ_ANSWER] = {0}, number = read_features(whole, row);
-    answer[PITO_FEATURES_READ_FEATURES] = number ? 0 : row[PITO_FEATURES_READ_FEATURES];
-    answer[PITO_FEATURES_READ_DEVICE_ATTRIBUTES] = number ? 0 : row[PITO_FEATURES_READ_DEVICE_ATTRIBUTES];
+    clear(answer, PITO_FEATURES_READ_ANSWER);
+    uint64_t number = read_features((struct reader){message, message + message_len}, answer);
+    if (number)
+        clear(answer, PITO_FEATURES_READ_ANSWER);
     return number;
 }
 

@@ -39,13 +39,13 @@ static inline uint64_t read_response(const uint8_t *message, struct reader reade
     return PITO_DONE;
 }
 
-/* The envelope's own fields: its command, and the payload's field and part. */
-static inline uint64_t read_outer(struct reader reader, uint64_t *command, uint64_t *payload, struct reader *part)
+/* The envelope's own fields: its command, and the payload's field, start and length, whatever it is. */
+static inline uint64_t read_outer(const uint8_t *message, struct reader reader, uint64_t *row)
 {
-    *payload = 0;
     while (reader.next < reader.end) {
         uint64_t field, value, number;
         unsigned kind;
+        struct reader part;
 
         if ((number = read_tag(&reader, &field, &kind)))
             return number;
@@ -54,13 +54,14 @@ static inline uint64_t read_outer(struct reader reader, uint64_t *command, uint6
                 return PITO_REFUSED_WIRE_TYPE;
             if ((number = read_varint(&reader, &value)))
                 return number;
-            *command = signed_number(value);
+            row[PITO_ENVELOPE_READ_COMMAND] = signed_number(value);
         } else if (kind == BYTES) {
-            if (*payload)
+            if (row[PITO_ENVELOPE_READ_FIELD])
                 return PITO_REFUSED_TOO_MANY;
-            *payload = field;
-            if ((number = read_part(&reader, part)))
+            if ((number = read_part(&reader, &part)))
                 return number;
+            row[PITO_ENVELOPE_READ_FIELD] = field;
+            tell_part(row + PITO_ENVELOPE_READ_START, message, part);
         } else if (field == RESPONSE_FIELD) {
             return PITO_REFUSED_WIRE_TYPE;
         } else if ((number = skip(&reader, kind))) {
@@ -73,20 +74,18 @@ static inline uint64_t read_outer(struct reader reader, uint64_t *command, uint6
 /* The answer row of an envelope, which is all 0 before. */
 static inline uint64_t read_envelope(const uint8_t *message, size_t length, uint64_t *row)
 {
-    uint64_t payload;
-    struct reader whole = {message, message + length}, part = whole;
-    uint64_t number = read_outer(whole, row + PITO_ENVELOPE_READ_COMMAND, &payload, &part);
+    uint64_t number = read_outer(message, (struct reader){message, message + length}, row);
 
-    if (number || payload == 0)
+    if (number || row[PITO_ENVELOPE_READ_FIELD] == 0)
         return number;
-    if (payload == RESPONSE_FIELD) {
-        row[PITO_ENVELOPE_READ_PAYLOAD] = PITO_PAYLOAD_RESPONSE;
-        return read_response(message, part, row + PITO_ENVELOPE_READ_ERROR_CODE, row + PITO_ENVELOPE_READ_FIELD);
-    }
     row[PITO_ENVELOPE_READ_PAYLOAD] = PITO_PAYLOAD_MEMBER;
-    row[PITO_ENVELOPE_READ_FIELD] = payload;
-    tell_part(row + PITO_ENVELOPE_READ_START, message, part);
-    return PITO_DONE;
+    if (row[PITO_ENVELOPE_READ_FIELD] != RESPONSE_FIELD)
+        return PITO_DONE;
+    const uint8_t *inner = message + row[PITO_ENVELOPE_READ_START];
+    struct reader response = {inner, inner + row[PITO_ENVELOPE_READ_LENGTH]};
+    row[PITO_ENVELOPE_READ_PAYLOAD] = PITO_PAYLOAD_RESPONSE;
+    clear(row + PITO_ENVELOPE_READ_FIELD, 3);
+    return read_response(message, response, row + PITO_ENVELOPE_READ_ERROR_CODE, row + PITO_ENVELOPE_READ_FIELD);
 }
 
 /* A response's size; field 0 is no payload. */

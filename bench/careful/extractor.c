@@ -51,14 +51,14 @@ static inline uint64_t finish(const uint8_t *buffer, size_t held, size_t *length
     return PITO_DONE;
 }
 
-/* A byte of the header, by its phase. */
+/* A byte of the header, by its phase; none is a start. */
 static inline uint64_t header_byte(uint64_t phase, uint8_t byte)
 {
     if (byte == END)
         return PITO_REFUSED_FRAME_SHORT;
-    if (phase == BEFORE_SEQUENCE)
-        return byte == ESCAPE ? PITO_REFUSED_HEADER : PITO_DONE;
-    return byte == (phase == BEFORE_PACKET_ID ? 2 : 0) ? PITO_DONE : PITO_REFUSED_HEADER;
+    if (phase == BEFORE_SEQUENCE ? byte == ESCAPE : byte != (phase == BEFORE_PACKET_ID ? 2 : 0))
+        return PITO_REFUSED_HEADER;
+    return PITO_DONE;
 }
 
 static inline uint64_t told(uint64_t *answer, uint64_t outcome, uint64_t sequence, uint64_t length)
@@ -240,8 +240,10 @@ static inline void feed_outside(struct feed *feed)
 static inline uint64_t feed_header(struct feed *feed)
 {
     uint8_t byte = *feed->next++;
-    uint64_t number = byte == START ? PITO_REFUSED_START_INSIDE : header_byte(feed->phase, byte);
 
+    if (byte == START)
+        return PITO_REFUSED_START_INSIDE;
+    uint64_t number = header_byte(feed->phase, byte);
     if (number)
         return number;
     if (feed->phase++ == BEFORE_SEQUENCE) {
@@ -251,21 +253,24 @@ static inline uint64_t feed_header(struct feed *feed)
     return 0;
 }
 
+/* What stands before the body, then the body. */
 static inline uint64_t feed_on(struct feed *feed)
 {
-    uint64_t decided = 0;
+    while (feed->phase != BODY) {
+        uint64_t decided = 0;
 
-    while (decided == 0 && feed->next < feed->end) {
-        if (feed->phase == BODY)
-            decided = feed_body(feed);
-        else if (feed->phase == OUTSIDE)
+        if (feed->next == feed->end)
+            return 0;
+        if (feed->phase == OUTSIDE)
             feed_outside(feed);
         else if (feed->phase == ESCAPED)
             decided = feed_escaped(feed);
         else
             decided = feed_header(feed);
+        if (decided)
+            return decided;
     }
-    return decided;
+    return feed_body(feed);
 }
 
 static inline void tell(uint64_t *answer, uint64_t outcome, uint64_t used, uint64_t sequence, uint64_t length)
