@@ -214,6 +214,7 @@ uint64_t pito_next_sequence(uint8_t sequence, uint64_t *answer, pito_len answer_
 {
     if (answer_len != PITO_NEXT_SEQUENCE_ANSWER)
         return PITO_REFUSED_UNFIT;
-    answer[PITO_NEXT_SEQUENCE_NEXT] = sequence == START - 1 ? ESCAPE + 1 : (uint8_t)(sequence + 1);
+    uint8_t next = (uint8_t)(sequence + 1);
+    answer[PITO_NEXT_SEQUENCE_NEXT] = is_mark(next) ? ESCAPE + 1 : next;
     return PITO_DONE;
 }
