@@ -102,7 +102,7 @@ fn tables(word: &str) -> Result<(), String> {
 
 /// The counts of a row, which have to go with the same answers, and its times.
 fn line(row: &Row, counts: &mut impl Iterator<Item = Counted>) -> Result<Measured, String> {
-    let mut job = (row.make)();
+    let job = (row.make)();
     let counts: Vec<_> = job.subjects().into_iter().zip(counts).collect();
     let digest = counts[0].1.digest;
     if counts.iter().any(|(_, counted)| counted.digest != digest) {
@@ -111,12 +111,10 @@ fn line(row: &Row, counts: &mut impl Iterator<Item = Counted>) -> Result<Measure
             row.key()
         ));
     }
-    let times = time_all(&mut job);
-    let unit = job.unit;
     Ok(Measured {
-        unit,
+        unit: job.unit,
         counts,
-        times,
+        times: time_all(&row.make),
     })
 }
 

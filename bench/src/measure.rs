@@ -92,27 +92,29 @@ fn own_time() -> Duration {
     Duration::new(time.seconds as u64, time.nanoseconds as u32)
 }
 
-/// The best time of each subject that is timed, over many short rounds in which each has its turn.
-pub fn time_all(job: &mut Job) -> Vec<(Subject, Duration)> {
-    const ROUNDS: usize = 25;
-    const ENOUGH: Duration = Duration::from_millis(400);
-    let mut best: Vec<_> = job
-        .subjects()
-        .into_iter()
-        .filter(|subject| Subject::TIMED.contains(subject))
-        .map(|subject| (subject, Duration::MAX))
-        .collect();
-    let (mut rounds, begin) = (0, own_time());
-    while rounds < ROUNDS || own_time() - begin < ENOUGH {
-        for (subject, time) in &mut best {
-            let work = job.work(*subject);
-            let start = own_time();
-            std::hint::black_box(work(false));
-            *time = (own_time() - start).min(*time);
+/// The best time of each subject that is timed, over many short rounds in which each has its turn. The inputs are made anew
+/// several times, each time elsewhere: a place that bytes have in common with others costs some subject more.
+pub fn time_all(make: &dyn Fn() -> Job) -> Vec<(Subject, Duration)> {
+    const PLACES: usize = 6;
+    const ROUNDS: usize = 5;
+    const ENOUGH: Duration = Duration::from_millis(70);
+    let mut best = Subject::TIMED.map(|subject| (subject, Duration::MAX));
+    let mut between = Vec::new();
+    for place in 0..PLACES {
+        between.push(vec![0_u8; 1_000 * place + 16]);
+        let mut job = make();
+        let (mut rounds, begin) = (0, own_time());
+        while rounds < ROUNDS || own_time() - begin < ENOUGH {
+            for (subject, time) in &mut best {
+                let work = job.work(*subject);
+                let start = own_time();
+                std::hint::black_box(work(false));
+                *time = (own_time() - start).min(*time);
+            }
+            rounds += 1;
         }
-        rounds += 1;
     }
-    best
+    best.to_vec()
 }
 
 /// Runs every subject with every byte in its digest.
