@@ -26,8 +26,8 @@
  * NUMBERS. Each function returns 0 or the number of a refusal, PITO_REFUSED_.. below.
  * After every call that does not return 1 the whole answer row is written. After a refusal it is 0 throughout, but
  * for what is said below (the number of bytes used by pito_extractor_feed, the place that goes with 41, of a capture
- * with 42 too, and with 40 to 43 and 46 where an outbox is moved, the field and the place that go with 36, the field
- * that goes with 50).
+ * with 42 too, and with 40 to 43 and 46 where an outbox is moved, the field and the place that go with 36, the places of
+ * pito_text, the field that goes with 50).
  * A refusal leaves state, slots and lent bytes as they were, except that 20 to 25 leave the extractor outside a frame
  * (20: at the begin of the new one), 10 and 11 leave the transaction's slot idle, 19 leaves slots and buffer as the
  * capture's last packet left them, and pito_extractor_feed has by then stored what came before the refused byte, in state
@@ -48,7 +48,11 @@
 extern "C" {
 #endif
 
-/* The version of this interface: one more with each change that a caller has to follow. */
+/*
+ * The version of this interface: one more with each change that a caller has to follow. A call that is only added leaves it:
+ * pito_packet_read and pito_capture_packet came to version 6 later than the others, and a program that calls them does not
+ * link with an archive from before.
+ */
 #define PITO_VERSION 6
 
 /*
@@ -317,6 +321,43 @@ enum { PITO_ACK_WRITE_WRITTEN, PITO_ACK_WRITE_ANSWER };
 PITO_CALL uint64_t pito_ack_write(uint64_t stream, uint64_t id, uint64_t sequence, uint64_t positive, uint8_t *output,
                                   pito_len output_len, uint64_t *answer, pito_len answer_len);
 
+/* The types of a packet. */
+#define PITO_PACKET_FIRST 0        /* of a message, the first or only one */
+#define PITO_PACKET_CONTINUATION 1 /* one between the first and the last */
+#define PITO_PACKET_LAST 2
+#define PITO_PACKET_CONTROL 3 /* an ACK or a NACK */
+
+/*
+ * Reads the packet at the front of some bytes, and tells where it ends. Packets that stand joined, as those of a reply, are
+ * cut apart so: the next one begins where this one ends, until no bytes are left. A packet of which the bytes have not all is
+ * refused; what stands behind it is not looked at.
+ *   limit  the largest total that is taken, any number: the link's limit, or PITO_LARGEST_LIMIT, which takes every total
+ * Answer:
+ *   end            how many bytes the packet has
+ *   stream, id, sequence  the packet's
+ *   kind           its type, PITO_PACKET_FIRST to PITO_PACKET_CONTROL
+ *   ack            its ACK flag: 1 if an ACK is wanted, else 0; of an ACK 1, of a NACK 0
+ *   extended       1 if its payload's length has two bytes, else 0
+ *   total          the message's length, of a first packet; else 0
+ *   start, length  of the payload, within the bytes; 0 of an ACK and a NACK
+ * Returns 0, 1, or what pito_receiver_accept returns of the packet by itself: 2, 3, 12, 4, 5, 6, 7, 8.
+ */
+enum {
+    PITO_PACKET_READ_END,
+    PITO_PACKET_READ_STREAM,
+    PITO_PACKET_READ_ID,
+    PITO_PACKET_READ_SEQUENCE,
+    PITO_PACKET_READ_KIND,
+    PITO_PACKET_READ_ACK,
+    PITO_PACKET_READ_EXTENDED,
+    PITO_PACKET_READ_TOTAL,
+    PITO_PACKET_READ_START,
+    PITO_PACKET_READ_LENGTH,
+    PITO_PACKET_READ_ANSWER
+};
+PITO_CALL uint64_t pito_packet_read(const uint8_t *bytes, pito_len bytes_len, uint64_t limit, uint64_t *answer,
+                                    pito_len answer_len);
+
 /* ------------------------------------------------------------------------------------------------------------
  * Low Energy: receiving
  *
@@ -408,6 +449,29 @@ PITO_CALL uint64_t pito_receiver_accept(const uint64_t *state, pito_len state_le
                                         pito_len packet_len, uint64_t sequence, uint8_t *out, pito_len out_len,
                                         uint64_t *answer, pito_len answer_len);
 
+/*
+ * Reads the packet at a place of a capture of one direction: the byte 01, then each packet with its length of two bytes,
+ * big-endian, before it. The place is that of a packet's length: begin at place 1 and go on at the next place that each call
+ * tells, until the outcome is the end. What comes after the packet is not looked at.
+ * Answer, all 0 at the end:
+ *   outcome        PITO_PACKET, or PITO_END
+ *   start, length  the packet's, within the capture
+ *   next           the place behind the packet
+ *   place          41 and 42: the place that was asked for; else 0
+ * Returns 0, 1, 40, 15 (place 0, or beyond the bytes), 42 (a length of 0), 41.
+ */
+#define PITO_PACKET 1
+enum {
+    PITO_CAPTURE_PACKET_OUTCOME,
+    PITO_CAPTURE_PACKET_START,
+    PITO_CAPTURE_PACKET_LENGTH,
+    PITO_CAPTURE_PACKET_NEXT,
+    PITO_CAPTURE_PACKET_PLACE,
+    PITO_CAPTURE_PACKET_ANSWER
+};
+PITO_CALL uint64_t pito_capture_packet(const uint8_t *capture, pito_len capture_len, uint64_t place, uint64_t *answer,
+                                       pito_len answer_len);
+
 /* Outcomes; a capture that is refused has none, and 0 stands there. */
 #define PITO_LAWFUL 1   /* our writer writes these packets, for some transactions */
 #define PITO_OPEN 2     /* the capture ends inside a transaction */
@@ -426,6 +490,72 @@ PITO_CALL uint64_t pito_receiver_accept(const uint64_t *state, pito_len state_le
 enum { PITO_CAPTURE_JUDGE_OUTCOME, PITO_CAPTURE_JUDGE_PLACE, PITO_CAPTURE_JUDGE_ANSWER };
 PITO_CALL uint64_t pito_capture_judge(const uint8_t *capture, pito_len capture_len, uint64_t room, uint64_t limit,
                                       uint64_t *answer, pito_len answer_len);
+
+/* What was expected of a packet that is not lawful; 0: nothing, its stream is none. */
+#define PITO_EXPECTED_ANY_FIRST 1 /* a first packet of any message: nothing is open, and what came has no total */
+#define PITO_EXPECTED_FIRST 2     /* the first packet of a message of this total, with any id and sequence */
+#define PITO_EXPECTED_NEXT 3      /* the next packet of the transaction that is open */
+
+/*
+ * Judges a capture as pito_capture_judge does, and tells why.
+ * Answer:
+ *   outcome, place  as pito_capture_judge tells them
+ *   control, ota, alexa: what is open on each stream, at the end of a lawful or open capture, and of an unlawful one before the
+ *   packet that decides; all 0 where nothing is
+ *     .._opened     1
+ *     .._id         the transaction's
+ *     .._left       the bytes still to come
+ *     .._sequence   the next packet's
+ *   what came, if it is unlawful; else 0. The fields of a byte that the packet does not have are 0
+ *     refusal       the number by which pito_receiver_accept refuses this packet whatever is open: 2 to 8 or 12; else 0
+ *     size          of the packet, in bytes
+ *     stream        whatever number stands there, 0 to 15
+ *     id, sequence, kind (0 to 3, its type), ack, extended
+ *     total         a first packet's, if it is not refused; else 0
+ *     length        the payload's, if it is not refused; else 0
+ *   what was expected, if it is unlawful; else 0
+ *     expected      PITO_EXPECTED_.., or 0
+ *     expected_id, expected_sequence  of PITO_EXPECTED_NEXT; else 0
+ *     expected_kind, expected_length, expected_extended
+ *     expected_last 1 if the packet takes all that is left: only then may its ACK flag be 1
+ * Returns what pito_capture_judge returns: 0, 1, 13, 17, 40, 42 (a length of 0), 41.
+ */
+enum {
+    PITO_CAPTURE_WHY_OUTCOME,
+    PITO_CAPTURE_WHY_PLACE,
+    PITO_CAPTURE_WHY_CONTROL_OPENED,
+    PITO_CAPTURE_WHY_CONTROL_ID,
+    PITO_CAPTURE_WHY_CONTROL_LEFT,
+    PITO_CAPTURE_WHY_CONTROL_SEQUENCE,
+    PITO_CAPTURE_WHY_OTA_OPENED,
+    PITO_CAPTURE_WHY_OTA_ID,
+    PITO_CAPTURE_WHY_OTA_LEFT,
+    PITO_CAPTURE_WHY_OTA_SEQUENCE,
+    PITO_CAPTURE_WHY_ALEXA_OPENED,
+    PITO_CAPTURE_WHY_ALEXA_ID,
+    PITO_CAPTURE_WHY_ALEXA_LEFT,
+    PITO_CAPTURE_WHY_ALEXA_SEQUENCE,
+    PITO_CAPTURE_WHY_REFUSAL,
+    PITO_CAPTURE_WHY_SIZE,
+    PITO_CAPTURE_WHY_STREAM,
+    PITO_CAPTURE_WHY_ID,
+    PITO_CAPTURE_WHY_SEQUENCE,
+    PITO_CAPTURE_WHY_KIND,
+    PITO_CAPTURE_WHY_ACK,
+    PITO_CAPTURE_WHY_EXTENDED,
+    PITO_CAPTURE_WHY_TOTAL,
+    PITO_CAPTURE_WHY_LENGTH,
+    PITO_CAPTURE_WHY_EXPECTED,
+    PITO_CAPTURE_WHY_EXPECTED_ID,
+    PITO_CAPTURE_WHY_EXPECTED_SEQUENCE,
+    PITO_CAPTURE_WHY_EXPECTED_KIND,
+    PITO_CAPTURE_WHY_EXPECTED_LENGTH,
+    PITO_CAPTURE_WHY_EXPECTED_EXTENDED,
+    PITO_CAPTURE_WHY_EXPECTED_LAST,
+    PITO_CAPTURE_WHY_ANSWER
+};
+PITO_CALL uint64_t pito_capture_why(const uint8_t *capture, pito_len capture_len, uint64_t room, uint64_t limit,
+                                    uint64_t *answer, pito_len answer_len);
 
 /* ------------------------------------------------------------------------------------------------------------
  * Reports: what the radio cost
@@ -696,7 +826,7 @@ PITO_CALL uint64_t pito_apply_write(const uint64_t *row, pito_len row_len, const
  * Any message, field by field
  */
 
-/* Outcomes of a reading at a place: the end of the message or file, a field of a message, a record of an outbox. */
+/* Outcomes of a reading at a place: the end of the message, capture or file, a field of a message, a record of an outbox. */
 #define PITO_END 0
 #define PITO_FIELD 1
 #define PITO_RECORD 1
@@ -737,7 +867,7 @@ PITO_CALL uint64_t pito_field_read(const uint8_t *message, pito_len message_len,
 /*
  * Writes the reply to a finished control transaction: what to send where pito_receiver_accept tells PITO_FINISHED on the
  * control stream. Device information answers command 20, device features 28, a bare success 94 and 95, "unsupported"
- * any other. The reply stands in the output as its packets, joined; each packet's own header says where it ends. A message
+ * any other. The reply stands in the output as its packets, joined; pito_packet_read tells where each ends. A message
  * that is itself a response gets no reply: 0 bytes written.
  *   message             the transaction's payload
  *   transports          at most eight signed 32-bit numbers, each in 64 bits
@@ -842,6 +972,20 @@ PITO_CALL uint64_t pito_outbox_to_01(const uint8_t *bytes, pito_len bytes_len, u
 enum { PITO_OUTBOX_TO_02_SIZE, PITO_OUTBOX_TO_02_PLACE, PITO_OUTBOX_TO_02_ANSWER };
 PITO_CALL uint64_t pito_outbox_to_02(const uint8_t *bytes, pito_len bytes_len, uint8_t *output, pito_len output_len,
                                      uint64_t *answer, pito_len answer_len);
+
+/* ------------------------------------------------------------------------------------------------------------
+ * Text
+ *
+ * Tells where bytes are not text: a record's payload, a string of a message. Well formed is UTF-8 by Unicode's Table 3-7. Not
+ * shown are the characters that a terminal or a page would follow: control characters (U+0000 to U+001F, U+007F to U+009F),
+ * U+061C, U+200E, U+200F, U+2028 to U+202E and U+2066 to U+2069. The bytes are text if both places are their length.
+ * Answer, after 36 too:
+ *   bad     where the first sequence begins that is not well formed; the length if there is none
+ *   hidden  where the first character begins that is not shown, whatever stands before it; the length if there is none
+ * Returns 0, 1, 36 (a sequence is not well formed).
+ */
+enum { PITO_TEXT_BAD, PITO_TEXT_HIDDEN, PITO_TEXT_ANSWER };
+PITO_CALL uint64_t pito_text(const uint8_t *text, pito_len text_len, uint64_t *answer, pito_len answer_len);
 
 #ifdef __cplusplus
 }

@@ -2,8 +2,9 @@
 export const STREAMS = { 0: "control", 2: "OTA", 6: "Alexa" };
 export const COLUMNS = ["firsts", "finished", "replaced", "dropped", "open", "payload", "bytes"];
 export const LARGEST_LIMIT = 65535;
-export const SLOT_SIZE = 8, SLOTS = 12, SLOT_BYTES = SLOT_SIZE * SLOTS;
-const LARGEST_PACKET = 512, REPORT_WORDS = 21, SLACK = 1024, PAGE = 65536;
+const SLOTS = 12, SLOT_BYTES = 8 * SLOTS;
+const REPORT_WORDS = 21, WHY_WORDS = 31, SLACK = 1024, PAGE = 65536;
+const VERDICTS = ["refused", "lawful", "open", "unlawful"], ANY_FIRST = 1, NEXT = 3;
 
 export const emptyReport = () => new BigUint64Array(REPORT_WORDS);
 
@@ -19,14 +20,16 @@ export class Library {
     this.state = this.answer + 512;
     this.slots = this.state + 64;
     this.sums = this.slots + SLOT_BYTES;
-    this.packet = this.sums + 8 * REPORT_WORDS + 8;
-    this.ack = this.packet + LARGEST_PACKET;
-    this.buffer = this.ack + 16;
+    this.buffer = this.sums + 8 * REPORT_WORDS + 8;
     this.message = this.buffer + SLOTS * (LARGEST_LIMIT + 1);
     this.input = this.message + LARGEST_LIMIT + 1;
     this.length = bytes.length;
     this.reserve(this.input + this.length + SLACK);
     this.memory.set(bytes, this.input);
+  }
+  // The version is in the name of a function, which returns it.
+  version() {
+    return Number(this.call[Object.keys(this.call).find((name) => name.startsWith("pito_version_"))]());
   }
   // Growing takes the old views away, so they are made anew here and kept nowhere else.
   reserve(end) {
@@ -117,30 +120,48 @@ export class Library {
   }
 
   // ---- a capture
-  judge(room, limit, length = this.length) {
-    const number = Number(this.call.pito_capture_judge(this.input, BigInt(length), BigInt(room), BigInt(limit), this.answer, 2n));
-    const [outcome, place] = this.numbers(this.answer, 2);
-    return { number, place, verdict: ["refused", "lawful", "open", "unlawful"][outcome] };
-  }
-  // Adds the first bytes of the capture to a report; the slots are then as its last packet left them.
-  add(report, limit, length = this.length) {
+  add(report, limit) {
     this.words.set(report, this.sums >>> 3);
     const number = Number(this.call.pito_report_add(this.sums, BigInt(REPORT_WORDS), BigInt(limit), this.slots, BigInt(SLOTS),
-      this.buffer, BigInt(SLOTS * limit), this.input, BigInt(length), this.answer, 1n));
+      this.buffer, BigInt(SLOTS * limit), this.input, BigInt(this.length), this.answer, 1n));
     const [place] = this.numbers(this.answer, 1);
     return { number, place, report: this.words.slice(this.sums >>> 3, (this.sums >>> 3) + REPORT_WORDS) };
   }
-  // The receiver's number for a packet.
-  accept(limit, at, length) {
-    this.words[this.state >>> 3] = BigInt(limit);
-    return Number(this.call.pito_receiver_accept(this.state, 1n, this.slots, BigInt(SLOTS), this.buffer, BigInt(SLOTS * limit), at,
-      BigInt(length), 0n, this.ack, 6n, this.answer, 8n));
+  // The first of a stream's four numbers is 1 where a transaction is open.
+  openIn(row) {
+    return Object.keys(STREAMS).map((stream, i) => [Number(stream), ...row.slice(4 * i, 4 * i + 4)]).filter(([, opened]) => opened)
+      .map(([stream, , id, left, sequence]) => ({ stream, id, left, sequence }));
   }
-  // A packet of a message of zeros, by our writer: its size, and whether it is the last; null where the writer refuses.
-  writePacket(room, limit, head, total, place) {
-    const number = this.call.pito_packet_write(BigInt(room), BigInt(limit), BigInt(head.stream), BigInt(head.id), BigInt(head.sequence), 0n,
-      this.message, BigInt(total), BigInt(place), this.packet, BigInt(LARGEST_PACKET), this.answer, 2n);
-    const [size, next] = this.numbers(this.answer, 2);
-    return number === 0n ? { size, last: next === total } : null;
+  // The verdict; what is open; and of the packet that decides what came, by which number the reader refuses it, and what was expected.
+  why(room, limit) {
+    const number = Number(this.call.pito_capture_why(this.input, BigInt(this.length), BigInt(room), BigInt(limit), this.answer, BigInt(WHY_WORDS)));
+    const [outcome, place, ...row] = this.numbers(this.answer, WHY_WORDS), verdict = VERDICTS[outcome];
+    const told = { number, place, verdict, open: this.openIn(row) };
+    if (verdict !== "unlawful") return told;
+    const [reader, size, stream, id, sequence, type, flag, extender, total, length, kind, ...next] = row.slice(12);
+    const [expectedId, expectedSequence, expectedType, expectedLength, expectedExtender, last] = next;
+    const expected = kind === 0 ? null : {
+      opened: kind === NEXT, sized: kind !== ANY_FIRST, id: expectedId, sequence: expectedSequence, type: expectedType,
+      length: expectedLength, extender: expectedExtender, last: last === 1, flag: 0,
+    };
+    const packet = this.packetAt(place), at = this.input + packet.start, bytes = this.memory.slice(at, at + packet.length);
+    return { ...told, reader, expected, came: { size, stream, id, sequence, type, flag, extender, total, length }, bytes };
+  }
+  packetAt(place) {
+    const number = Number(this.call.pito_capture_packet(this.input, BigInt(this.length), BigInt(place), this.answer, 5n));
+    const [outcome, start, length, next] = this.numbers(this.answer, 4);
+    return { ended: number !== 0 || outcome === 0, start, length, next };
+  }
+  longestPacket() {
+    let longest = 0;
+    for (let packet = this.packetAt(1); !packet.ended; packet = this.packetAt(packet.next)) longest = Math.max(longest, packet.length);
+    return longest;
+  }
+
+  // ---- text
+  // Whether bytes in the memory are well formed, and each character is shown.
+  isText(at, length) {
+    this.call.pito_text(at, BigInt(length), this.answer, 2n);
+    return this.numbers(this.answer, 2).every((place) => place === length);
   }
 }

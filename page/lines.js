@@ -1,6 +1,5 @@
 // The lines of the programs, made of the module's answers.
 import { COLUMNS, STREAMS } from "./library.js";
-import { isText } from "./decides.js";
 import { textOf } from "./logs.js";
 import { SENTENCES } from "./sentences.js";
 
@@ -15,7 +14,7 @@ export const toDo = (kind, number) => {
 // A payload for people: its kind, the words of its first bytes, and how many bytes follow these.
 export function payloadOf(library, at, length, most = Infinity) {
   if (length === 0) return { kind: "empty", words: "", more: 0 };
-  const kind = isText(library, at, length) ? "text" : "bytes", shown = Math.min(length, kind === "text" ? most : most / 8);
+  const kind = library.isText(at, length) ? "text" : "bytes", shown = Math.min(length, kind === "text" ? most : most / 8);
   const bytes = library.memory.slice(at, at + shown);
   return { kind, words: kind === "text" ? textOf(bytes) : hexOf(bytes), more: length - shown };
 }
@@ -45,9 +44,9 @@ function packetLines({ came, expected, reader }) {
   if (reader) lines.push(`our reader refuses it: ${reader}, ${SENTENCES.reader[reader].program}`);
   return lines;
 }
-function expectedWords({ opened, id, sequence, type, size, length, last, extender }) {
+function expectedWords({ opened, id, sequence, type, sized, length, last, extender }) {
   const head = (opened ? `id ${id}, sequence ${sequence}` : "any id, any sequence") + `, type ${type}`;
-  return size ? `${head}, ${length} bytes, flag ${last ? "0 or 1" : "0"}, extender ${extender}` : head;
+  return sized ? `${head}, ${length} bytes, flag ${last ? "0 or 1" : "0"}, extender ${extender}` : head;
 }
 function cameWords({ size, id, sequence, type, length, flag, extender, total }, reader) {
   const head = `id ${id}, sequence ${sequence}, type ${type}`, body = `, ${length} bytes, flag ${flag}, extender ${extender}`;

@@ -1,8 +1,9 @@
 // Files, tabs and fields.
+import { Library } from "./library.js";
 import { showOutbox } from "./outbox.js";
 import { readCaptures, showRadio } from "./radio.js";
 import { showSerial } from "./serial.js";
-import { $, LONG, begin, bytesOf, plural, progressBar, say, shown } from "./show.js";
+import { $, LONG, begin, bytesOf, module, plural, progressBar, say, shown } from "./show.js";
 
 const LARGEST_FILE = 256 << 20, STEP = 4 << 20;
 let captures = null, serial = null;
@@ -89,6 +90,7 @@ addEventListener("drop", (event) => {
   document.body.classList.remove("over");
   take(panelOf(tabs.find((tab) => tab.tabIndex === 0)), event.dataTransfer.files);
 });
+$("version").textContent = (await Library.open(module, new Uint8Array(0))).version();
 choose(tabs[0]);
 $("old").remove();
 document.documentElement.dataset.ready = "yes";

@@ -14,7 +14,7 @@ function wanted(expected, field) {
   if (!expected) return "";
   if (field === "type") return expected.type;
   if (field === "id" || field === "sequence") return expected.opened ? expected[field] : "any";
-  if (!expected.size) return "by its total";
+  if (!expected.sized) return "by its total";
   return field === "flag" && expected.last ? "0 or 1" : expected[field];
 }
 function hintsOf({ came, expected, reader }, off) {
@@ -38,7 +38,6 @@ function whyNodes(told) {
     ...came.size > 1 && (expected || !reader) ? fieldTable(came, expected, fields, off) : [],
     reader && el("p", {}, el("b", {}, `Our box refuses it too: ${reader}, ${SENTENCES.reader[reader].says}.`)),
     ...hintsOf(told, off).map((hint) => SENTENCES.hint[hint].means),
-    told.sure === false && "The judge does not take what is said to be expected: tell the engineers",
     el("p", {}, el("small", {}, `The packet, ${plural(came.size, "byte")}: `), el("span", { class: "hex" }, hex)),
   ];
 }

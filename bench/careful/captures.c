@@ -1,4 +1,4 @@
-/* Captures judged, and added to a report. */
+/* Captures read packet by packet, judged, judged with the reasons, and added to a report. */
 #include "packets.h"
 
 static inline size_t length_at(const uint8_t *capture, size_t place)
@@ -72,37 +72,152 @@ static inline bool is_next(struct transaction *own, const struct link *link, con
     return true;
 }
 
-uint64_t pito_capture_judge(const uint8_t *capture, pito_len capture_len, uint64_t room, uint64_t limit, uint64_t *answer,
-                            pito_len answer_len)
+/* The packets up to the first that is not lawful; answers its place, or the capture's size. */
+static inline size_t walk(const uint8_t *capture, size_t size, const struct link *link, struct transaction *of_each)
 {
-    if (answer_len != PITO_CAPTURE_JUDGE_ANSWER)
-        return PITO_REFUSED_UNFIT;
-    clear(answer, PITO_CAPTURE_JUDGE_ANSWER);
-    if (!is_room(room))
-        return PITO_REFUSED_ROOM;
-    if (!is_limit(limit))
-        return PITO_REFUSED_LIMIT;
-    size_t size = (size_t)capture_len;
-    uint64_t number = look_through(capture, size, answer + PITO_CAPTURE_JUDGE_PLACE);
-    if (number)
-        return number;
-    struct transaction of_each[3] = {{0}};
-    struct link link = {limit, piece_of((size_t)room, FIRST_HEADER), piece_of((size_t)room, LATER_HEADER)};
-    for (size_t at = 1, length; at < size; at += 2 + length) {
+    size_t at = 1;
+
+    for (size_t length; at < size; at += 2 + length) {
         const uint8_t *packet = capture + at + 2;
         unsigned stream = packet[0] >> 4;
 
         length = length_at(capture, at);
         if (is_stream(stream) && length == PITO_ACK_SIZE && (packet[1] & 13) == CONTROL << 2 && is_ack(packet))
             continue;
-        if (!is_stream(stream) || !is_next(of_each + lane_of(stream), &link, packet, length)) {
-            answer[PITO_CAPTURE_JUDGE_OUTCOME] = PITO_UNLAWFUL;
-            answer[PITO_CAPTURE_JUDGE_PLACE] = at;
-            return PITO_DONE;
-        }
+        if (!is_stream(stream) || !is_next(of_each + lane_of(stream), link, packet, length))
+            return at;
+    }
+    return size;
+}
+
+/* Judges into the first two numbers of an answer row, which is all 0 before. */
+static inline uint64_t judge(const uint8_t *capture, size_t size, uint64_t room, uint64_t limit, struct link *link,
+                             struct transaction *of_each, uint64_t *answer)
+{
+    if (!is_room(room))
+        return PITO_REFUSED_ROOM;
+    if (!is_limit(limit))
+        return PITO_REFUSED_LIMIT;
+    uint64_t number = look_through(capture, size, answer + PITO_CAPTURE_JUDGE_PLACE);
+    if (number)
+        return number;
+    *link = (struct link){limit, piece_of((size_t)room, FIRST_HEADER), piece_of((size_t)room, LATER_HEADER)};
+    size_t at = walk(capture, size, link, of_each);
+    if (at != size) {
+        answer[PITO_CAPTURE_JUDGE_OUTCOME] = PITO_UNLAWFUL;
+        answer[PITO_CAPTURE_JUDGE_PLACE] = at;
+        return PITO_DONE;
     }
     bool open = of_each[0].open | of_each[1].open | of_each[2].open;
     answer[PITO_CAPTURE_JUDGE_OUTCOME] = open ? PITO_OPEN : PITO_LAWFUL;
+    return PITO_DONE;
+}
+
+uint64_t pito_capture_judge(const uint8_t *capture, pito_len capture_len, uint64_t room, uint64_t limit, uint64_t *answer,
+                            pito_len answer_len)
+{
+    struct transaction of_each[3] = {{0}};
+    struct link link;
+
+    if (answer_len != PITO_CAPTURE_JUDGE_ANSWER)
+        return PITO_REFUSED_UNFIT;
+    clear(answer, PITO_CAPTURE_JUDGE_ANSWER);
+    return judge(capture, (size_t)capture_len, room, limit, &link, of_each, answer);
+}
+
+/* What came, a packet that is not lawful. */
+static inline uint64_t tell_came(const uint8_t *bytes, size_t size, uint64_t limit, uint64_t *answer)
+{
+    struct packet packet;
+    size_t total;
+    uint8_t second = size < 2 ? 0 : bytes[1];
+    uint64_t number = read_packet(bytes, size, true, limit, &packet, &total);
+
+    answer[PITO_CAPTURE_WHY_REFUSAL] = number;
+    answer[PITO_CAPTURE_WHY_SIZE] = size;
+    answer[PITO_CAPTURE_WHY_STREAM] = bytes[0] >> 4;
+    answer[PITO_CAPTURE_WHY_ID] = bytes[0] & 15;
+    answer[PITO_CAPTURE_WHY_SEQUENCE] = second >> 4;
+    answer[PITO_CAPTURE_WHY_KIND] = second >> 2 & 3;
+    answer[PITO_CAPTURE_WHY_ACK] = second >> 1 & 1;
+    answer[PITO_CAPTURE_WHY_EXTENDED] = second & 1;
+    answer[PITO_CAPTURE_WHY_TOTAL] = number ? 0 : total;
+    answer[PITO_CAPTURE_WHY_LENGTH] = number ? 0 : packet.length;
+    return number;
+}
+
+/* What was expected in its place: the next packet of what is open, or the first one of its own total. */
+static inline void tell_expected(const struct transaction *own, const struct link *link, bool is_first, uint64_t *answer)
+{
+    if (!own->open && !is_first) {
+        answer[PITO_CAPTURE_WHY_EXPECTED] = PITO_EXPECTED_ANY_FIRST;
+        return;
+    }
+    size_t rest = own->open ? own->total - own->come : (size_t)answer[PITO_CAPTURE_WHY_TOTAL];
+    size_t most = own->open ? link->later : link->first, length = rest < most ? rest : most;
+    bool last = length == rest;
+    answer[PITO_CAPTURE_WHY_EXPECTED] = own->open ? PITO_EXPECTED_NEXT : PITO_EXPECTED_FIRST;
+    answer[PITO_CAPTURE_WHY_EXPECTED_ID] = own->open ? own->head & 15 : 0;
+    answer[PITO_CAPTURE_WHY_EXPECTED_SEQUENCE] = own->open ? own->sequence : 0;
+    answer[PITO_CAPTURE_WHY_EXPECTED_KIND] = !own->open ? FIRST : last ? LAST : CONTINUATION;
+    answer[PITO_CAPTURE_WHY_EXPECTED_LENGTH] = length;
+    answer[PITO_CAPTURE_WHY_EXPECTED_EXTENDED] = length > 255;
+    answer[PITO_CAPTURE_WHY_EXPECTED_LAST] = last;
+}
+
+uint64_t pito_capture_why(const uint8_t *capture, pito_len capture_len, uint64_t room, uint64_t limit, uint64_t *answer,
+                          pito_len answer_len)
+{
+    struct transaction of_each[3] = {{0}};
+    struct link link;
+
+    if (answer_len != PITO_CAPTURE_WHY_ANSWER)
+        return PITO_REFUSED_UNFIT;
+    memset(answer, 0, PITO_CAPTURE_WHY_ANSWER * sizeof *answer);
+    uint64_t number = judge(capture, (size_t)capture_len, room, limit, &link, of_each, answer);
+    if (number)
+        return number;
+    for (int i = 0; i < 3; i++) {
+        uint64_t *row = answer + PITO_CAPTURE_WHY_CONTROL_OPENED
+                        + i * (PITO_CAPTURE_WHY_OTA_OPENED - PITO_CAPTURE_WHY_CONTROL_OPENED);
+
+        if (!of_each[i].open)
+            continue;
+        row[0] = 1;
+        row[1] = of_each[i].head & 15;
+        row[2] = of_each[i].total - of_each[i].come;
+        row[3] = of_each[i].sequence;
+    }
+    if (answer[PITO_CAPTURE_WHY_OUTCOME] != PITO_UNLAWFUL)
+        return PITO_DONE;
+    size_t at = (size_t)answer[PITO_CAPTURE_WHY_PLACE];
+    uint64_t refusal = tell_came(capture + at + 2, length_at(capture, at), limit, answer);
+    unsigned stream = capture[at + 2] >> 4;
+    if (is_stream(stream))
+        tell_expected(of_each + lane_of(stream), &link, refusal == PITO_DONE && answer[PITO_CAPTURE_WHY_KIND] == FIRST, answer);
+    return PITO_DONE;
+}
+
+uint64_t pito_capture_packet(const uint8_t *capture, pito_len capture_len, uint64_t place, uint64_t *answer, pito_len answer_len)
+{
+    if (answer_len != PITO_CAPTURE_PACKET_ANSWER)
+        return PITO_REFUSED_UNFIT;
+    clear(answer, PITO_CAPTURE_PACKET_ANSWER);
+    if (capture_len == 0 || capture[0] != 1)
+        return PITO_REFUSED_VERSION;
+    if (place - 1 >= capture_len)
+        return PITO_REFUSED_ARGUMENT;
+    if (place == capture_len)
+        return PITO_DONE;
+    size_t left = (size_t)(capture_len - place), length = left < 2 ? 0 : length_at(capture, (size_t)place);
+    if (left < 2 || length == 0 || left - 2 < length) {
+        answer[PITO_CAPTURE_PACKET_PLACE] = place;
+        return left >= 2 && length == 0 ? PITO_REFUSED_RECORD_LENGTH : PITO_REFUSED_RECORD_CUT;
+    }
+    answer[PITO_CAPTURE_PACKET_OUTCOME] = PITO_PACKET;
+    answer[PITO_CAPTURE_PACKET_START] = place + 2;
+    answer[PITO_CAPTURE_PACKET_LENGTH] = length;
+    answer[PITO_CAPTURE_PACKET_NEXT] = place + 2 + length;
     return PITO_DONE;
 }
 

@@ -196,4 +196,39 @@ static inline uint64_t take_packet(uint64_t limit, pito_slot *row, uint8_t *buff
     return number;
 }
 
+/* A packet by itself, and the total of a first one; of `whole` bytes all are the packet's, else the first of them. */
+static inline uint64_t read_packet(const uint8_t *bytes, size_t size, bool whole, uint64_t limit, struct packet *packet, size_t *total)
+{
+    *total = 0;
+    if (size < 2)
+        return PITO_REFUSED_PACKET_SHORT;
+    *packet = (struct packet){bytes[0] >> 4, bytes[0] & 15, bytes[1] >> 4, bytes[1] >> 2 & 3, bytes[1] >> 1 & 1, 0, 0};
+    unsigned extended = bytes[1] & 1;
+    packet->header = (packet->type == FIRST ? FIRST_HEADER : LATER_HEADER) + extended;
+    if (packet->type != CONTROL && size < packet->header)
+        return PITO_REFUSED_PACKET_SHORT;
+    if (!is_stream(packet->stream))
+        return PITO_REFUSED_STREAM;
+    if (UNLIKELY(packet->type == CONTROL)) {
+        packet->header = PITO_ACK_SIZE;
+        if (size < PITO_ACK_SIZE || (whole && size != PITO_ACK_SIZE) || extended || !is_ack(bytes))
+            return PITO_REFUSED_CONTROL_PACKET;
+        return PITO_DONE;
+    }
+    packet->length = bytes[packet->header - 1] | (extended ? (size_t)bytes[packet->header - 2] << 8 : 0);
+    if (packet->type == FIRST && bytes[2] != 0)
+        return PITO_REFUSED_RESERVED_BYTE;
+    size_t end = packet->header + packet->length;
+    if (size < end || (whole && size != end))
+        return PITO_REFUSED_PACKET_LENGTH;
+    if (packet->type != FIRST)
+        return packet->length == 0 ? PITO_REFUSED_EMPTY_PAYLOAD : PITO_DONE;
+    *total = (size_t)bytes[3] << 8 | bytes[4];
+    if (*total > limit)
+        return PITO_REFUSED_TOTAL;
+    if (packet->length == 0 && *total != 0)
+        return PITO_REFUSED_EMPTY_PAYLOAD;
+    return packet->length > *total ? PITO_REFUSED_ABOVE_TOTAL : PITO_DONE;
+}
+
 #endif

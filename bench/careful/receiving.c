@@ -1,4 +1,4 @@
-/* The receiver: a slot is judged as one number. */
+/* The receiver: a slot is judged as one number. And a packet read by itself. */
 #include "packets.h"
 
 uint64_t pito_receiver_open(uint64_t limit, uint64_t *state, pito_len state_len)
@@ -60,4 +60,29 @@ uint64_t pito_receiver_accept(const uint64_t *state, pito_len state_len, pito_sl
     if (out_len < PITO_ACK_SIZE)
         return PITO_REFUSED_OUTPUT;
     return take_packet(limit, row, buffer, packet, (size_t)packet_len, sequence, out, answer);
+}
+
+uint64_t pito_packet_read(const uint8_t *bytes, pito_len bytes_len, uint64_t limit, uint64_t *answer, pito_len answer_len)
+{
+    struct packet packet;
+    size_t total;
+
+    if (answer_len != PITO_PACKET_READ_ANSWER)
+        return PITO_REFUSED_UNFIT;
+    uint64_t number = read_packet(bytes, (size_t)bytes_len, false, limit, &packet, &total);
+    if (number) {
+        clear(answer, PITO_PACKET_READ_ANSWER);
+        return number;
+    }
+    answer[PITO_PACKET_READ_END] = packet.header + packet.length;
+    answer[PITO_PACKET_READ_STREAM] = packet.stream;
+    answer[PITO_PACKET_READ_ID] = packet.id;
+    answer[PITO_PACKET_READ_SEQUENCE] = packet.sequence;
+    answer[PITO_PACKET_READ_KIND] = packet.type;
+    answer[PITO_PACKET_READ_ACK] = packet.flag;
+    answer[PITO_PACKET_READ_EXTENDED] = bytes[1] & 1;
+    answer[PITO_PACKET_READ_TOTAL] = total;
+    answer[PITO_PACKET_READ_START] = packet.type == CONTROL ? 0 : packet.header;
+    answer[PITO_PACKET_READ_LENGTH] = packet.length;
+    return PITO_DONE;
 }

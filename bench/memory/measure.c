@@ -198,6 +198,7 @@ static void accept(const uint8_t *packet, size_t count)
     CALL(pito_receiver_accept, A(receiver), PITO_RECEIVER_STATE, A(slots), length(PITO_SLOTS), A(buffer),
          length(sizeof buffer), A(packet), count, below(once_in(60) ? 20 : 16), A(ack), length(sizeof ack), A(answer),
          PITO_ACCEPT_ANSWER);
+    CALL(pito_packet_read, A(packet), count, any_limit(), A(answer), length(PITO_PACKET_READ_ANSWER));
     add_to_capture(packet, count);
 }
 
@@ -214,12 +215,24 @@ static void add_to_report(void)
          length(sizeof buffer), A(capture), captured, A(answer), length(PITO_REPORT_ADD_ANSWER));
 }
 
+/* The packets of the capture, place after place. */
+static void read_capture(void)
+{
+    uint64_t place = once_in(20) ? any_number() : 1;
+    while (CALL(pito_capture_packet, A(capture), captured, place, A(answer), length(PITO_CAPTURE_PACKET_ANSWER)) == 0 &&
+           answer[PITO_CAPTURE_PACKET_OUTCOME] == PITO_PACKET)
+        place = answer[PITO_CAPTURE_PACKET_NEXT];
+}
+
 static void judge(uint64_t room, uint64_t limit)
 {
     captured = once_in(20) ? damage(capture, captured) : captured;
     add_to_report();
+    read_capture();
     CALL(pito_capture_judge, A(capture), captured, once_in(20) ? below(600) : room, once_in(20) ? any_number() : limit,
          A(answer), length(PITO_CAPTURE_JUDGE_ANSWER));
+    CALL(pito_capture_why, A(capture), captured, once_in(20) ? below(600) : room, once_in(20) ? any_number() : limit,
+         A(answer), length(PITO_CAPTURE_WHY_ANSWER));
     captured = 0;
 }
 
@@ -397,8 +410,11 @@ static void read_outbox(size_t used)
     uint64_t place = once_in(40) ? below(used + 3) : !once_in(40);
     CALL(pito_outbox_whole, A(bytes), used, A(answer), length(PITO_OUTBOX_WHOLE_ANSWER));
     while (CALL(pito_outbox_record, A(bytes), used, place, A(answer), length(PITO_OUTBOX_RECORD_ANSWER)) == 0 &&
-           answer[0] == PITO_RECORD)
+           answer[0] == PITO_RECORD) {
+        uint64_t start = answer[2], payload_length = answer[3];
         place = answer[4];
+        CALL(pito_text, A(bytes) + start, payload_length, A(answer), length(PITO_TEXT_ANSWER));
+    }
 }
 
 static void move_outbox(size_t used)

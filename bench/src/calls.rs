@@ -21,11 +21,13 @@ macro_rules! all_calls {
                 length: usize, place: u64, output: *mut u8, size: usize, answer: *mut u64, answers: usize) packet_write;
             AckWrite(stream: u64, id: u64, sequence: u64, positive: u64, output: *mut u8, size: usize, answer: *mut u64,
                 answers: usize) ack_write;
+            PacketRead(bytes: *const u8, length: usize, limit: u64, answer: *mut u64, answers: usize) packet_read;
             ReceiverAccept(state: *const u64, states: usize, row: *mut pito_slot, slots: usize, buffer: *mut u8,
                 size: usize, packet: *const u8, length: usize, sequence: u64, out: *mut u8, room: usize,
                 answer: *mut u64, answers: usize) receiver_accept;
+            CapturePacket(capture: *const u8, length: usize, place: u64, answer: *mut u64, answers: usize) capture_packet;
             CaptureJudge(capture: *const u8, length: usize, room: u64, limit: u64, answer: *mut u64, answers: usize)
-                capture_judge;
+                capture_judge capture_why;
             ReportAdd(report: *mut u64, reports: usize, limit: u64, row: *mut pito_slot, slots: usize, buffer: *mut u8,
                 size: usize, capture: *const u8, length: usize, answer: *mut u64, answers: usize) report_add;
             FieldRead(message: *const u8, length: usize, place: u64, answer: *mut u64, answers: usize) field_read;
@@ -38,6 +40,7 @@ macro_rules! all_calls {
                 answer: *mut u64, answers: usize) outbox_append;
             OutboxRecord(bytes: *const u8, length: usize, place: u64, answer: *mut u64, answers: usize) outbox_record;
             OutboxWhole(bytes: *const u8, length: usize, answer: *mut u64, answers: usize) outbox_whole;
+            Text(text: *const u8, length: usize, answer: *mut u64, answers: usize) text;
             OutboxTo(bytes: *const u8, length: usize, output: *mut u8, size: usize, answer: *mut u64, answers: usize)
                 outbox_to_01 outbox_to_02;
         }

@@ -1,6 +1,9 @@
 //! Loops over Low Energy packets.
 
-use crate::calls::{pito_slot, AckWrite, CaptureJudge, PacketWrite, ReceiverAccept, ReportAdd};
+use crate::calls::{
+    pito_slot, AckWrite, CaptureJudge, CapturePacket, PacketRead, PacketWrite, ReceiverAccept,
+    ReportAdd,
+};
 use crate::digest::Digest;
 use second::classic::LIMIT;
 use second::low_energy::{self, Stream, Wish, SLOTS};
@@ -121,11 +124,72 @@ pub fn accept<const WHOLE: bool>(
     digest.value()
 }
 
+/// Packets that stand joined, each read from where the one before it ends.
+pub fn read<const WHOLE: bool>(read: PacketRead, joined: &[u8]) -> u64 {
+    let read = black_box(read);
+    let mut digest = Digest::<WHOLE>::new();
+    let mut answer = [0; 10];
+    let mut rest = joined;
+    while !rest.is_empty() {
+        let number = unsafe {
+            read(
+                rest.as_ptr(),
+                rest.len(),
+                LIMIT,
+                answer.as_mut_ptr(),
+                answer.len(),
+            )
+        };
+        digest.number(number);
+        digest.row(&answer);
+        rest = &rest[answer[0] as usize..];
+    }
+    digest.value()
+}
+
+/// The packets of a capture, place after place.
+pub fn captured<const WHOLE: bool>(read: CapturePacket, capture: &[u8]) -> u64 {
+    let read = black_box(read);
+    let mut digest = Digest::<WHOLE>::new();
+    let mut answer = [0; 5];
+    let mut place = 1;
+    loop {
+        let number = unsafe {
+            read(
+                capture.as_ptr(),
+                capture.len(),
+                place,
+                answer.as_mut_ptr(),
+                answer.len(),
+            )
+        };
+        digest.number(number);
+        digest.row(&answer);
+        if answer[0] == 0 {
+            return digest.value();
+        }
+        place = answer[3];
+    }
+}
+
 /// A capture judged, in one call.
 pub fn judge<const WHOLE: bool>(judge: CaptureJudge, capture: &[u8], room: usize) -> u64 {
+    judged::<WHOLE, 2>(judge, capture, room)
+}
+
+/// .. and told why.
+pub fn why<const WHOLE: bool>(why: CaptureJudge, capture: &[u8], room: usize) -> u64 {
+    judged::<WHOLE, 31>(why, capture, room)
+}
+
+fn judged<const WHOLE: bool, const N: usize>(
+    judge: CaptureJudge,
+    capture: &[u8],
+    room: usize,
+) -> u64 {
     let judge = black_box(judge);
     let mut digest = Digest::<WHOLE>::new();
-    let mut answer = [0; 2];
+    let mut answer = [0; N];
     let number = unsafe {
         judge(
             capture.as_ptr(),

@@ -1,6 +1,6 @@
 //! Loops over outboxes.
 
-use crate::calls::{OutboxAppend, OutboxRecord, OutboxTo, OutboxWhole};
+use crate::calls::{OutboxAppend, OutboxRecord, OutboxTo, OutboxWhole, Text};
 use crate::digest::Digest;
 use std::hint::black_box;
 
@@ -76,6 +76,26 @@ pub fn whole<const WHOLE: bool>(whole: OutboxWhole, bytes: &[u8], rounds: usize)
             whole(
                 bytes.as_ptr(),
                 bytes.len(),
+                answer.as_mut_ptr(),
+                answer.len(),
+            )
+        };
+        digest.number(number);
+        digest.row(&answer);
+    }
+    digest.value()
+}
+
+/// Each payload judged as text.
+pub fn texts<const WHOLE: bool>(text: Text, payloads: &[Vec<u8>]) -> u64 {
+    let text = black_box(text);
+    let mut digest = Digest::<WHOLE>::new();
+    let mut answer = [0; 2];
+    for payload in payloads {
+        let number = unsafe {
+            text(
+                payload.as_ptr(),
+                payload.len(),
                 answer.as_mut_ptr(),
                 answer.len(),
             )

@@ -47,6 +47,17 @@ pub fn rows() -> Vec<Row> {
         accept_job(inputs::acks(ACKS))
     }));
     rows.extend(refused_rows());
+    for (name, read) in [
+        ("packets read", read_job as fn(Vec<Vec<u8>>) -> Job),
+        ("captures read", captured_job),
+    ] {
+        rows.push(Row::new(name, "4,096 bytes, room 244", move || {
+            read(inputs::packets(&inputs::messages(65_536, 4_096), 244))
+        }));
+        rows.push(Row::new(name, "ACK and NACK", move || {
+            read(inputs::acks(ACKS))
+        }));
+    }
     for (size, name) in SIZES {
         for room in ROOMS {
             rows.push(Row::new(
@@ -59,6 +70,13 @@ pub fn rows() -> Vec<Row> {
     rows.push(Row::new("captures judged", "ACK and NACK", || {
         judge_job(inputs::acks(ACKS), 20)
     }));
+    for (size, name) in SIZES {
+        rows.push(Row::new(
+            "captures judged",
+            format!("{name} bytes, room 244, and told why"),
+            move || why_job(inputs::packets(&inputs::messages(65_536, size), 244), 244),
+        ));
+    }
     for (size, name) in SIZES {
         rows.push(Row::new(
             "captures in a report",
@@ -100,6 +118,24 @@ fn write_acks_job() -> Job {
     })
 }
 
+/// Joined packets read one by one.
+fn read_job(packets: Vec<Vec<u8>>) -> Job {
+    let joined = Rc::new(packets.concat());
+    Job::of("packet", packets.len()).each(of_each!(PacketRead packet_read), |call| {
+        let joined = joined.clone();
+        work!(low_energy::read(call, &joined))
+    })
+}
+
+/// The packets of a capture read one by one.
+fn captured_job(packets: Vec<Vec<u8>>) -> Job {
+    let capture = Rc::new(capture(&packets));
+    Job::of("packet", packets.len()).each(of_each!(CapturePacket capture_packet), |call| {
+        let capture = capture.clone();
+        work!(low_energy::captured(call, &capture))
+    })
+}
+
 /// A capture of packets judged at a room.
 pub fn judge_job(packets: Vec<Vec<u8>>, room: usize) -> Job {
     let count = packets.len();
@@ -107,6 +143,15 @@ pub fn judge_job(packets: Vec<Vec<u8>>, room: usize) -> Job {
     Job::of("packet", count).each(of_each!(CaptureJudge capture_judge), |call| {
         let capture = capture.clone();
         work!(low_energy::judge(call, &capture, room))
+    })
+}
+
+/// .. and told why.
+pub fn why_job(packets: Vec<Vec<u8>>, room: usize) -> Job {
+    let capture = Rc::new(capture(&packets));
+    Job::of("packet", packets.len()).each(of_each!(CaptureJudge capture_why), |call| {
+        let capture = capture.clone();
+        work!(low_energy::why(call, &capture, room))
     })
 }
 

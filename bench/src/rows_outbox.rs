@@ -50,7 +50,24 @@ pub fn rows() -> Vec<Row> {
             "1,000 records of 100 bytes, version 02 written as 01",
             || moved_job(inputs::outbox(TWO, 1_000, PAYLOAD), ONE, 4),
         ),
+        line("payloads of 100 bytes of ASCII, as text", || {
+            texts_job("Kiln seven: 1,240 degrees. ")
+        }),
+        line(
+            "payloads of 100 bytes with characters of two and three, as text",
+            || texts_job("Glühe: 1 240 °C – fünf. "),
+        ),
     ]
+}
+
+/// Payloads of one text, again and again, judged as text.
+pub fn texts_job(text: &str) -> Job {
+    let payload: Vec<u8> = text.bytes().cycle().take(PAYLOAD).collect();
+    let payloads = Rc::new(vec![payload; 2_048]);
+    Job::of("byte", 2_048 * PAYLOAD).each(of_each!(Text text), |call| {
+        let payloads = payloads.clone();
+        work!(outbox::texts(call, &payloads))
+    })
 }
 
 fn cut(mut bytes: Vec<u8>) -> Vec<u8> {

@@ -50,12 +50,17 @@ shims! {
         face::packet_write([room, limit], [stream, id, sequence, ack], given(message, length), place, lent(output, size), told);
     ack_write(stream: u64, id: u64, sequence: u64, positive: u64, output: *mut u8, size: usize) told
         face::ack_write([stream, id, sequence, positive], lent(output, size), told);
+    packet_read(bytes: *const u8, length: usize, limit: u64) told face::packet_read(given(bytes, length), limit, told);
     receiver_accept(state: *const u64, states: usize, row: *mut pito_slot, slots: usize, buffer: *mut u8, size: usize,
         packet: *const u8, length: usize, sequence: u64, out: *mut u8, room: usize) told
         face::receiver_accept(given(state, states), lent(row.cast(), slots), lent(buffer, size), given(packet, length),
             Reply { sequence, buffer: lent(out, room) }, told);
+    capture_packet(capture: *const u8, length: usize, place: u64) told
+        face::capture_packet(given(capture, length), place, told);
     capture_judge(capture: *const u8, length: usize, room: u64, limit: u64) told
         face::capture_judge(given(capture, length), room, limit, told);
+    capture_why(capture: *const u8, length: usize, room: u64, limit: u64) told
+        face::capture_why(given(capture, length), room, limit, told);
     report_add(report: *mut u64, reports: usize, limit: u64, row: *mut pito_slot, slots: usize, buffer: *mut u8,
         size: usize, capture: *const u8, length: usize) told
         face::report_add(lent(report, reports), limit, lent(row.cast(), slots), lent(buffer, size),
@@ -99,6 +104,7 @@ shims! {
     outbox_record(bytes: *const u8, length: usize, place: u64) told
         face::outbox_record(given(bytes, length), place, told);
     outbox_whole(bytes: *const u8, length: usize) told face::outbox_whole(given(bytes, length), told);
+    text(text: *const u8, length: usize) told face::text_places(given(text, length), told);
     outbox_to_01(bytes: *const u8, length: usize, output: *mut u8, size: usize) told
         face::outbox_write_as(ONE, given(bytes, length), lent(output, size), told);
     outbox_to_02(bytes: *const u8, length: usize, output: *mut u8, size: usize) told

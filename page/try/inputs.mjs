@@ -66,11 +66,13 @@ export class Inputs {
     const total = Math.min(limit, this.choose(0, 1, 14, 20, 300, 2000, this.random(600))), packets = [];
     const [id, sequence] = [this.random(16), this.random(16)], { library } = this;
     for (let place = 0, last = false; !last;) {
-      const written = library.writePacket(room, limit, { stream, id, sequence }, total, place);
-      if (!written) break;
-      last = written.last;
-      place = library.numbers(library.answer, 2)[1];
-      packets.push(library.memory.slice(library.packet, library.packet + written.size));
+      const { call, message, buffer, answer } = library;
+      const number = call.pito_packet_write(BigInt(room), BigInt(limit), BigInt(stream), BigInt(id), BigInt(sequence), 0n,
+        message, BigInt(total), BigInt(place), buffer, BigInt(room), answer, 2n);
+      const [size, next] = library.numbers(answer, 2);
+      if (number) break;
+      [place, last] = [next, next === total];
+      packets.push(library.memory.slice(buffer, buffer + size));
       if (last && this.random(2)) packets[packets.length - 1][1] |= 2;
     }
     return packets;

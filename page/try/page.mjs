@@ -6,7 +6,7 @@ import path from "node:path";
 export const ROOT = path.resolve(new URL("../..", import.meta.url).pathname);
 export const BUILT = path.join(ROOT, "target/page/pitokaenge.html");
 const NAMES = ["Library", "TASKS", "SENTENCES", "captureOf", "emptyReport", "endLine", "frameLine", "hexOf", "lawfulLine", "readLog", "recordLine",
-  "reportLines", "whyLines", "whyOf"];
+  "reportLines", "whyLines"];
 
 export async function builtPage() {
   const html = fs.readFileSync(BUILT, "utf8"), core = /<script id="core">\n([\s\S]*?)<\/script>/.exec(html)[1];

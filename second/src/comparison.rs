@@ -56,10 +56,16 @@ fn kinds(operation: Operation) -> Kinds {
             (0, &["held", "finished", "ACK", "NACK"]),
             (5, &["", "answered"]),
         ],
+        Operation::PacketRead => &[(4, &["first", "continuation", "last", "ACK or NACK"])],
         Operation::EnvelopeRead => &[(1, &["no payload", "response", "other member"])],
         Operation::FieldRead => &[(0, &["end", "field"])],
         Operation::OutboxRecord => &[(0, &["end", "record"])],
+        Operation::CapturePacket => &[(0, &["end", "packet"])],
         Operation::CaptureJudge => &[(0, &["", "lawful", "open", "unlawful"])],
+        Operation::CaptureWhy => &[
+            (0, &["", "lawful", "open", "unlawful"]),
+            (24, &["", "any first expected", "first expected", "next expected"]),
+        ],
         _ => &[],
     }
 }

@@ -7,8 +7,8 @@
 //!   changes: neither state, lent bytes nor answer. Only `feed` tells then that 0 bytes were used,
 //!   where its answer row has the right length.
 //! - Every other call writes the whole answer row. After a refusal it is 0 throughout, but for what
-//!   the paper tells then: the number used by `feed`, the place that goes with 41, and the field that
-//!   goes with 50.
+//!   the paper tells then: the number used by `feed`, the place that goes with 41, the field that
+//!   goes with 50, and the places of a text.
 //! - Signed 32-bit numbers stand in two's complement, extended to 64 bits. A number that is no such
 //!   one is out of a writer's range, 15; so is an unsigned one above 32 bits, and a wish other than 0
 //!   or 1.
@@ -17,11 +17,12 @@ use crate::classic::{self, Decided, Extractor, Next, Outcome, Parts, Standing};
 use crate::control::{self, Envelope, Features, Given, Information, Member, Payload, Response};
 use crate::implementation::{Implementation, Lent, Operation, Slot};
 use crate::judge;
-use crate::low_energy::{self, Accepted, Open, Receiver, Reply, Slots, Stream, Wish};
+use crate::low_energy::{self, Accepted, Open, Part, Receiver, Reply, Slots, Stream, Wish};
 use crate::outbox::{self, Broken, Record, Version, ONE, TWO};
 use crate::refusal::{self, Refusal};
 use crate::reply::{self, Own};
 use crate::report::{self, Costs, Report, NUMBERS};
+use crate::text;
 use std::ops::Range;
 
 pub mod firmware;
@@ -69,6 +70,7 @@ impl Implementation for Model {
                 };
                 ack_write([*stream, *id, *sequence, *positive], lent, answer)
             }
+            Operation::PacketRead => packet_read(&inputs[0], numbers[0], answer),
             Operation::ReceiverOpen => receiver_open(numbers[0], state),
             Operation::ReceiverAccept => {
                 let reply = Reply {
@@ -77,7 +79,9 @@ impl Implementation for Model {
                 };
                 receiver_accept(state, slots, lent, &inputs[0], reply, answer)
             }
+            Operation::CapturePacket => capture_packet(&inputs[0], numbers[0], answer),
             Operation::CaptureJudge => capture_judge(&inputs[0], numbers[0], numbers[1], answer),
+            Operation::CaptureWhy => capture_why(&inputs[0], numbers[0], numbers[1], answer),
             Operation::ReportAdd => report_add(state, numbers[0], slots, lent, &inputs[0], answer),
             Operation::EnvelopeRead => envelope_read(&inputs[0], answer),
             Operation::EnvelopeWrite => {
@@ -127,6 +131,7 @@ impl Implementation for Model {
             Operation::OutboxWhole => outbox_whole(&inputs[0], answer),
             Operation::OutboxTo01 => outbox_write_as(ONE, &inputs[0], lent, answer),
             Operation::OutboxTo02 => outbox_write_as(TWO, &inputs[0], lent, answer),
+            Operation::Text => text_places(&inputs[0], answer),
         }
     }
 }
@@ -412,6 +417,35 @@ pub fn ack_write(wish: [u64; 4], output: &mut [u8], answer: &mut [u64]) -> u64 {
         let made = low_energy::acknowledgement(wish.stream, wish.id, wish.sequence, wish.ack);
         let written = crate::refusal::deliver(&made, output)?;
         Ok([wide(written)])
+    })
+}
+
+/// Answer `end, stream, id, sequence, kind, ack, extended, total, start, length`: the type as on the wire, 0 for what an ACK
+/// or NACK has not.
+pub fn packet_read(bytes: &[u8], limit: u64, answer: &mut [u64]) -> u64 {
+    ask(answer, || {
+        let (whole, packet) = low_energy::front(limit, bytes)?;
+        let (kind, total, piece) = match packet.part {
+            Part::First { total, piece } => (0, total, Some(piece)),
+            Part::Continuation { piece } => (1, 0, Some(piece)),
+            Part::Last { piece } => (2, 0, Some(piece)),
+            Part::Acknowledgement => (3, 0, None),
+        };
+        // The payload is what a packet ends with.
+        let length = piece.map_or(0, <[u8]>::len);
+        let start = piece.map_or(0, |piece| whole.len() - piece.len());
+        Ok([
+            wide(whole.len()),
+            u64::from(packet.stream.number()),
+            u64::from(packet.id),
+            u64::from(packet.sequence),
+            kind,
+            u64::from(packet.flag),
+            u64::from(whole[1] & 1),
+            wide(total),
+            wide(start),
+            wide(length),
+        ])
     })
 }
 
@@ -779,16 +813,105 @@ pub fn outbox_whole(bytes: &[u8], answer: &mut [u64]) -> u64 {
     })
 }
 
+/// Answer `outcome, start, length, next, place` with outcome 0 the end, 1 a packet; the place goes with 41 and 42.
+pub fn capture_packet(capture: &[u8], place: u64, answer: &mut [u64]) -> u64 {
+    ask(answer, || {
+        let found = judge::packet_at(capture, place)
+            .map_err(|(refusal, place)| Refused(refusal, vec![(4, wide(place))]))?;
+        Ok(match found {
+            None => [0; 5],
+            Some(packet) => [
+                1,
+                wide(packet.start),
+                wide(packet.len()),
+                wide(packet.end),
+                0,
+            ],
+        })
+    })
+}
+
 /// Answer `outcome, place` with outcome 1 lawful, 2 open, 3 unlawful; the place goes with 3, 41 and 42.
 pub fn capture_judge(capture: &[u8], room: u64, limit: u64, answer: &mut [u64]) -> u64 {
     ask(answer, || {
         let judged = judge::judge(capture, room, limit)
             .map_err(|(refusal, place)| Refused(refusal, vec![(1, wide(place))]))?;
-        Ok(match judged {
-            judge::Answer::Lawful => [1, 0],
-            judge::Answer::Open => [2, 0],
-            judge::Answer::Unlawful(place) => [3, wide(place)],
-        })
+        Ok(outcome_out(judged).into())
+    })
+}
+
+/// Answer `outcome, place`, then of each stream `opened, id, left, sequence`, then what came (`refusal, size, stream, id,
+/// sequence, kind, ack, extended, total, length`) and what was expected (`expected, id, sequence, kind, length, extended,
+/// last`) with expected 1 any first packet, 2 the first one of this total, 3 the next one of what is open.
+pub fn capture_why(capture: &[u8], room: u64, limit: u64, answer: &mut [u64]) -> u64 {
+    ask(answer, || {
+        let why = judge::why(capture, room, limit)
+            .map_err(|(refusal, place)| Refused(refusal, vec![(1, wide(place))]))?;
+        let mut row = [0; 31];
+        (row[0], row[1]) = outcome_out(why.answer);
+        for (place, open) in why.open.iter().enumerate() {
+            if let Some(open) = open {
+                let numbers = [1, open.id.into(), wide(open.left), open.sequence.into()];
+                row[2 + 4 * place..][..4].copy_from_slice(&numbers);
+            }
+        }
+        if let Some((came, expected)) = why.stopped {
+            row[14..24].copy_from_slice(&came_out(&came));
+            row[24..].copy_from_slice(&expected_out(expected));
+        }
+        Ok(row)
+    })
+}
+
+fn outcome_out(answer: judge::Answer) -> (u64, u64) {
+    match answer {
+        judge::Answer::Lawful => (1, 0),
+        judge::Answer::Open => (2, 0),
+        judge::Answer::Unlawful(place) => (3, wide(place)),
+    }
+}
+
+fn came_out(came: &judge::Came) -> [u64; 10] {
+    [
+        came.refusal.map_or(0, Refusal::number),
+        wide(came.size),
+        came.stream.into(),
+        came.id.into(),
+        came.sequence.into(),
+        came.kind.into(),
+        came.flag.into(),
+        came.extended.into(),
+        wide(came.total),
+        wide(came.length),
+    ]
+}
+
+fn expected_out(expected: judge::Expected) -> [u64; 7] {
+    let (kind, next) = match expected {
+        judge::Expected::Nothing => return [0; 7],
+        judge::Expected::AnyFirst => return [1, 0, 0, 0, 0, 0, 0],
+        judge::Expected::First(next) => (2, next),
+        judge::Expected::Next(next) => (3, next),
+    };
+    [
+        kind,
+        next.id.into(),
+        next.sequence.into(),
+        next.kind.into(),
+        wide(next.length),
+        next.extended.into(),
+        next.last.into(),
+    ]
+}
+
+/// Answer `bad, hidden`: two places, the length where there is none; 36 tells them too.
+pub fn text_places(bytes: &[u8], answer: &mut [u64]) -> u64 {
+    ask(answer, || {
+        let hidden = wide(text::hidden_place(bytes).unwrap_or(bytes.len()));
+        match text::bad_place(bytes) {
+            None => Ok([wide(bytes.len()), hidden]),
+            Some(bad) => Err(Refused(Refusal::Text, vec![(0, wide(bad)), (1, hidden)])),
+        }
     })
 }
 

@@ -14,9 +14,12 @@ pub enum Operation {
     NextSequence,
     PacketWrite,
     AckWrite,
+    PacketRead,
     ReceiverOpen,
     ReceiverAccept,
+    CapturePacket,
     CaptureJudge,
+    CaptureWhy,
     ReportAdd,
     EnvelopeRead,
     EnvelopeWrite,
@@ -38,6 +41,7 @@ pub enum Operation {
     OutboxWhole,
     OutboxTo01,
     OutboxTo02,
+    Text,
 }
 
 /// A slot as the caller lends it: 8 bytes. "the slots come lent by the caller as a row of records" (No.
@@ -109,6 +113,39 @@ const REPORT: &[&str] = &[
     "Alexa.left open",
     "Alexa.payload",
     "Alexa.bytes",
+];
+const WHY: &[&str] = &[
+    "outcome",
+    "place",
+    "control.opened",
+    "control.id",
+    "control.left",
+    "control.sequence",
+    "OTA.opened",
+    "OTA.id",
+    "OTA.left",
+    "OTA.sequence",
+    "Alexa.opened",
+    "Alexa.id",
+    "Alexa.left",
+    "Alexa.sequence",
+    "refusal",
+    "size",
+    "stream",
+    "id",
+    "sequence",
+    "kind",
+    "ack",
+    "extended",
+    "total",
+    "length",
+    "expected",
+    "expected id",
+    "expected sequence",
+    "expected kind",
+    "expected length",
+    "expected extended",
+    "expected last",
 ];
 const INFORMATION: &[&str] = &[
     "serial_number.start",
@@ -255,7 +292,7 @@ const MESSAGE_READ: &[u64] = &[0, 1, 30, 31, 32, 33, 34];
 const STRINGS_READ: &[u64] = &[0, 1, 30, 31, 32, 33, 34, 36];
 
 impl Operation {
-    pub const ALL: [Operation; 33] = [
+    pub const ALL: [Operation; 37] = [
         Operation::ExtractorOpen,
         Operation::ExtractorStep,
         Operation::ExtractorFeed,
@@ -265,9 +302,12 @@ impl Operation {
         Operation::NextSequence,
         Operation::PacketWrite,
         Operation::AckWrite,
+        Operation::PacketRead,
         Operation::ReceiverOpen,
         Operation::ReceiverAccept,
+        Operation::CapturePacket,
         Operation::CaptureJudge,
+        Operation::CaptureWhy,
         Operation::ReportAdd,
         Operation::EnvelopeRead,
         Operation::EnvelopeWrite,
@@ -289,6 +329,7 @@ impl Operation {
         Operation::OutboxWhole,
         Operation::OutboxTo01,
         Operation::OutboxTo02,
+        Operation::Text,
     ];
 
     // Each shape is written alike, also the one that has every part.
@@ -388,6 +429,17 @@ impl Operation {
                 returns: &[0, 1, 14, 15],
                 ..empty
             },
+            Operation::PacketRead => Shape {
+                name: "packet read",
+                numbers: &["limit"],
+                inputs: &["bytes"],
+                answer: &[
+                    "end", "stream", "id", "sequence", "kind", "ack", "extended", "total", "start",
+                    "length",
+                ],
+                returns: &[0, 1, 2, 3, 4, 5, 6, 7, 8, 12],
+                ..empty
+            },
             Operation::ReceiverOpen => Shape {
                 name: "receiver open",
                 numbers: &["limit"],
@@ -416,11 +468,27 @@ impl Operation {
                 returns: &[0, 1, 2, 3, 4, 5, 6, 7, 8, 9, 10, 11, 12, 14, 15, 18],
                 ..empty
             },
+            Operation::CapturePacket => Shape {
+                name: "capture packet",
+                numbers: &["place"],
+                inputs: &["capture"],
+                answer: &["outcome", "start", "length", "next", "place"],
+                returns: &[0, 1, 15, 40, 41, 42],
+                ..empty
+            },
             Operation::CaptureJudge => Shape {
                 name: "capture judge",
                 numbers: &["room", "limit"],
                 inputs: &["capture"],
                 answer: &["outcome", "place"],
+                returns: &[0, 1, 13, 17, 40, 41, 42],
+                ..empty
+            },
+            Operation::CaptureWhy => Shape {
+                name: "capture why",
+                numbers: &["room", "limit"],
+                inputs: &["capture"],
+                answer: WHY,
                 returns: &[0, 1, 13, 17, 40, 41, 42],
                 ..empty
             },
@@ -624,6 +692,13 @@ impl Operation {
                 lent: "output",
                 // Every payload of 01 is short enough for 02.
                 returns: &[0, 1, 14, 40, 41, 42, 43],
+                ..empty
+            },
+            Operation::Text => Shape {
+                name: "text",
+                inputs: &["text"],
+                answer: &["bad", "hidden"],
+                returns: &[0, 1, 36],
                 ..empty
             },
         }

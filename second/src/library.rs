@@ -74,6 +74,10 @@ impl Implementation for Library {
                     };
                     pito_ack_write(stream, id, sequence, positive, bytes, size, told, tells)
                 }
+                Operation::PacketRead => {
+                    let (packets, length) = input(0);
+                    pito_packet_read(packets, length, numbers[0], told, tells)
+                }
                 Operation::ReceiverOpen => pito_receiver_open(numbers[0], row, rows),
                 Operation::ReceiverAccept => {
                     let (packet, length) = input(0);
@@ -85,9 +89,17 @@ impl Implementation for Library {
                         told, tells,
                     )
                 }
+                Operation::CapturePacket => {
+                    let (capture, length) = input(0);
+                    pito_capture_packet(capture, length, numbers[0], told, tells)
+                }
                 Operation::CaptureJudge => {
                     let (capture, length) = input(0);
                     pito_capture_judge(capture, length, numbers[0], numbers[1], told, tells)
+                }
+                Operation::CaptureWhy => {
+                    let (capture, length) = input(0);
+                    pito_capture_why(capture, length, numbers[0], numbers[1], told, tells)
                 }
                 Operation::ReportAdd => {
                     let (capture, length) = input(0);
@@ -179,6 +191,10 @@ impl Implementation for Library {
                 Operation::OutboxTo02 => {
                     let (outbox, length) = input(0);
                     pito_outbox_to_02(outbox, length, bytes, size, told, tells)
+                }
+                Operation::Text => {
+                    let (text, length) = input(0);
+                    pito_text(text, length, told, tells)
                 }
             }
         }

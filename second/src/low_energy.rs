@@ -168,6 +168,27 @@ impl<'a> Packet<'a> {
     }
 }
 
+/// How many bytes the packet at the front of some bytes has, by its own header; nothing if the bytes end before it does.
+fn length_of(bytes: &[u8]) -> Option<usize> {
+    let mut left = bytes.iter();
+    let (_, first) = (left.next()?, left.next()?);
+    let kind = first >> 2 & 3;
+    if kind == 3 {
+        // "Six bytes".
+        return Some(6);
+    }
+    let fields = Fields::read(&mut left, kind == 0, first & 1 != 0)?;
+    Some(bytes.len() - left.len() + fields.length)
+}
+
+/// The packet at the front of some bytes, and what it says; bytes that end before it does are refused as a packet is.
+pub fn front(limit: u64, bytes: &[u8]) -> Result<(&[u8], Packet<'_>), Refusal> {
+    let whole = length_of(bytes)
+        .and_then(|length| bytes.get(..length))
+        .unwrap_or(bytes);
+    Ok((whole, Packet::read(limit, whole)?))
+}
+
 /// An open transaction: "id, total, count held and last sequence", and, by request No. 2, whether an
 /// ACK is wanted: "An open slot remembers it".
 #[derive(Clone, Copy, Debug, PartialEq, Eq)]

@@ -43,6 +43,37 @@ pub fn bad_place(text: &[u8]) -> Option<usize> {
     None
 }
 
+/// Issue 39, 6: "right-to-left marks shown safely". The characters that are followed and not shown.
+const HIDDEN: [RangeInclusive<u32>; 7] = [
+    0x0000..=0x001F,
+    0x007F..=0x007F,
+    0x0080..=0x009F,
+    0x061C..=0x061C,
+    0x200E..=0x200F,
+    0x2028..=0x202E,
+    0x2066..=0x2069,
+];
+
+/// The character that the bytes begin with, by its number.
+fn character(bytes: &[u8]) -> Option<u32> {
+    let (&first, tail) = bytes[..sequence(bytes)?].split_first()?;
+    let lead = match tail.len() {
+        0 => first,
+        more => first & (0x3F >> more),
+    };
+    let joined = |sum: u32, byte: &u8| sum << 6 | u32::from(byte & 0x3F);
+    Some(tail.iter().fold(lead.into(), joined))
+}
+
+/// The place of the first character that is not shown, whatever stands before it.
+pub fn hidden_place(text: &[u8]) -> Option<usize> {
+    let is_hidden = |&place: &usize| {
+        let number = character(&text[place..]);
+        number.is_some_and(|number| HIDDEN.iter().any(|range| range.contains(&number)))
+    };
+    (0..text.len()).find(is_hidden)
+}
+
 /// "36 a string not well formed, told with its field and the place"
 pub fn judge(field: u64, text: &[u8]) -> Result<(), Broken> {
     match bad_place(text) {

@@ -100,11 +100,22 @@ calls! {
     pito_packet_write(room: u64, limit: u64, stream: u64, id: u64, sequence: u64, ack: u64, message: &[u8], place: u64,
         output: &mut [u8]) -> PacketWrite { written: u64, next_place: u64 };
     pito_ack_write(stream: u64, id: u64, sequence: u64, positive: u64, output: &mut [u8]) -> AckWrite { written: u64 };
+    pito_packet_read(bytes: &[u8], limit: u64) -> PacketRead { end: u64, stream: u64, id: u64, sequence: u64, kind: u64,
+        ack: u64, extended: u64, total: u64, start: u64, length: u64 };
     pito_receiver_open(limit: u64, state: &mut [u64]) -> Nothing;
     pito_receiver_accept(state: &[u64], row: &mut [pito_slot], buffer: &mut [u8], packet: &[u8], sequence: u64,
         out: &mut [u8]) -> Accept { outcome: u64, stream: u64, id: u64, sequence: u64, total: u64, ack_wanted: u64,
         replaced: u64, place: u64 };
+    pito_capture_packet(capture: &[u8], place: u64) -> CapturePacket { outcome: u64, start: u64, length: u64, next: u64,
+        place: u64 };
     pito_capture_judge(capture: &[u8], room: u64, limit: u64) -> CaptureJudge { outcome: u64, place: u64 };
+    pito_capture_why(capture: &[u8], room: u64, limit: u64) -> CaptureWhy { outcome: u64, place: u64,
+        control_opened: u64, control_id: u64, control_left: u64, control_sequence: u64,
+        ota_opened: u64, ota_id: u64, ota_left: u64, ota_sequence: u64,
+        alexa_opened: u64, alexa_id: u64, alexa_left: u64, alexa_sequence: u64,
+        refusal: u64, size: u64, stream: u64, id: u64, sequence: u64, kind: u64, ack: u64, extended: u64, total: u64,
+        length: u64, expected: u64, expected_id: u64, expected_sequence: u64, expected_kind: u64, expected_length: u64,
+        expected_extended: u64, expected_last: u64 };
     pito_report_add(report: &mut [u64], limit: u64, row: &mut [pito_slot], buffer: &mut [u8], capture: &[u8])
         -> ReportAdd { place: u64 };
     pito_envelope_read(message: &[u8])
@@ -142,4 +153,5 @@ calls! {
     pito_outbox_whole(bytes: &[u8]) -> OutboxWhole { cut_place: u64 };
     pito_outbox_to_01(bytes: &[u8], output: &mut [u8]) -> OutboxTo01 { size: u64, place: u64 };
     pito_outbox_to_02(bytes: &[u8], output: &mut [u8]) -> OutboxTo02 { size: u64, place: u64 };
+    pito_text(text: &[u8]) -> Text { bad: u64, hidden: u64 };
 }

@@ -108,6 +108,14 @@ extern "C" {
         answer: *mut u64,
         answer_len: usize,
     ) -> u64;
+    /// Reads the packet at the front of some bytes.
+    pub fn pito_packet_read(
+        bytes: *const u8,
+        bytes_len: usize,
+        limit: u64,
+        answer: *mut u64,
+        answer_len: usize,
+    ) -> u64;
     /// Opens a receiver: the state of a limit.
     pub fn pito_receiver_open(limit: u64, state: *mut u64, state_len: usize) -> u64;
     /// One packet, accepted and answered.
@@ -126,8 +134,25 @@ extern "C" {
         answer: *mut u64,
         answer_len: usize,
     ) -> u64;
+    /// Reads the packet at a place of a capture.
+    pub fn pito_capture_packet(
+        capture: *const u8,
+        capture_len: usize,
+        place: u64,
+        answer: *mut u64,
+        answer_len: usize,
+    ) -> u64;
     /// Judges another sender by a capture.
     pub fn pito_capture_judge(
+        capture: *const u8,
+        capture_len: usize,
+        room: u64,
+        limit: u64,
+        answer: *mut u64,
+        answer_len: usize,
+    ) -> u64;
+    /// Judges another sender, and tells what came and what was expected.
+    pub fn pito_capture_why(
         capture: *const u8,
         capture_len: usize,
         room: u64,
@@ -344,6 +369,13 @@ extern "C" {
         bytes_len: usize,
         output: *mut u8,
         output_len: usize,
+        answer: *mut u64,
+        answer_len: usize,
+    ) -> u64;
+    /// Tells where bytes are not text.
+    pub fn pito_text(
+        text: *const u8,
+        text_len: usize,
         answer: *mut u64,
         answer_len: usize,
     ) -> u64;

@@ -1,7 +1,7 @@
 //! Low Energy: messages cut into packets, ACKs and NACKs.
 
 use crate::calls;
-use crate::sizes::{ACK_SIZE, LARGEST_ROOM};
+use crate::sizes::{ACK_SIZE, LARGEST_LIMIT, LARGEST_ROOM};
 use crate::{told, Limit, Refusal, Room, Stream};
 use core::fmt;
 use core::ops::Deref;
@@ -198,23 +198,13 @@ impl<'a> Joined<'a> {
     }
 }
 
-/// How long the first of joined packets of a message is: a first packet has three bytes more before its length, and the
-/// length two bytes if bit 0 says so.
-fn packet_length(bytes: &[u8]) -> Option<usize> {
-    let kind = *bytes.get(1)?;
-    let place = if kind >> 2 & 3 == 0 { 5 } else { 2 };
-    let first = usize::from(*bytes.get(place)?);
-    match kind & 1 {
-        0 => Some(place + 1 + first),
-        _ => Some(place + 2 + (first << 8 | usize::from(*bytes.get(place + 1)?))),
-    }
-}
-
 impl<'a> Iterator for Joined<'a> {
     type Item = &'a [u8];
 
     fn next(&mut self) -> Option<&'a [u8]> {
-        let (packet, rest) = self.0.split_at_checked(packet_length(self.0)?)?;
+        // Of whatever total: the limit was the reply's.
+        let row = calls::pito_packet_read(self.0, LARGEST_LIMIT as u64).ok()?;
+        let (packet, rest) = self.0.split_at_checked(row.end as usize)?;
         self.0 = rest;
         Some(packet)
     }

@@ -29,7 +29,7 @@ pub const MOST_TRANSPORTS: usize = 8;
 pub const MOST_COMPONENTS: usize = 8;
 /// The largest payload of a record in an outbox of version 01.
 pub const VERSION_01_LIMIT: usize = 4096;
-/// Where the first record of an outbox stands.
+/// Where the first record of an outbox stands, and the first packet's length in a capture.
 pub const FIRST_PLACE: usize = 1;
 
 /// What a link with this limit lends to its extractor.
@@ -101,9 +101,15 @@ pub const fn one_record(payload_len: usize) -> usize {
 // Outcomes and kinds.
 pub(crate) const SKIPPED: u64 = 0;
 pub(crate) const FRAME: u64 = 2;
+pub(crate) const PACKET_FIRST: u64 = 0;
+pub(crate) const PACKET_CONTINUATION: u64 = 1;
+pub(crate) const PACKET_LAST: u64 = 2;
 pub(crate) const PIECE_TAKEN: u64 = 0;
 pub(crate) const FINISHED: u64 = 1;
 pub(crate) const ACKED: u64 = 2;
+pub(crate) const EXPECTED_ANY_FIRST: u64 = 1;
+pub(crate) const EXPECTED_FIRST: u64 = 2;
+pub(crate) const EXPECTED_NEXT: u64 = 3;
 pub(crate) const LAWFUL: u64 = 1;
 pub(crate) const OPEN: u64 = 2;
 pub(crate) const PAYLOAD_NONE: u64 = 0;

@@ -407,3 +407,77 @@ fn every_refusal_has_its_number() {
         assert!(!refusal.meaning().is_empty());
     }
 }
+
+#[test]
+fn packets_read_one_by_one() {
+    let transaction = Transaction {
+        room: Room::LEAST,
+        limit: LIMIT,
+        stream: Stream::Ota,
+        id: 3,
+        sequence: 14,
+        ack_wanted: true,
+    };
+    let message: Vec<u8> = (0..64).collect();
+    let sent: Vec<_> = transaction.packets(&message).unwrap().collect();
+    let mut joined: Vec<u8> = sent.iter().flat_map(|packet| packet.to_vec()).collect();
+    joined.extend(nack(Stream::Alexa, 9, 5).unwrap());
+    let mut rest = &joined[..];
+    let mut payload: Vec<u8> = Vec::new();
+    for (index, packet) in sent.iter().enumerate() {
+        let read = read_packet(rest, LIMIT).unwrap();
+        assert_eq!(read.bytes, &packet[..]);
+        assert_eq!((read.stream, read.id), (Stream::Ota, 3));
+        assert_eq!(usize::from(read.sequence), (14 + index) % 16);
+        let last = index + 1 == sent.len();
+        let kind = match index {
+            0 => PacketKind::First { total: 64 },
+            _ if last => PacketKind::Last,
+            _ => PacketKind::Continuation,
+        };
+        assert_eq!((read.kind, read.ack_wanted), (kind, last));
+        // Whatever is left out of it, it is refused.
+        for length in 0..packet.len() {
+            assert!(read_packet(&rest[..length], LIMIT).is_err());
+        }
+        payload.extend(read.payload);
+        rest = &rest[read.bytes.len()..];
+    }
+    assert_eq!(payload, message);
+    let read = read_packet(rest, LIMIT).unwrap();
+    assert_eq!((read.kind, read.sequence), (PacketKind::Nack, 5));
+    assert_eq!((read.payload, read.ack_wanted), (&[][..], false));
+    assert_eq!(read_packet(&[], LIMIT), Err(Refusal::PacketShort));
+    let small = Limit::of::<63>();
+    assert_eq!(read_packet(&joined, small), Err(Refusal::Total));
+}
+
+#[test]
+fn captures_cut_anywhere() {
+    let capture = b"\x01\x00\x02AB\x00\x01C";
+    let whole: Vec<_> = CapturedPackets::of(capture).map(Result::unwrap).collect();
+    assert_eq!(whole.len(), 2);
+    for length in 0..=capture.len() {
+        let mut packets = CapturedPackets::of(&capture[..length]);
+        for packet in whole.iter().filter(|packet| packet.next <= length) {
+            assert_eq!(packets.next(), Some(Ok(*packet)));
+        }
+        match length {
+            1 | 5 | 8 => assert_eq!(packets.next(), None),
+            0 => {
+                let refused = packets.next().unwrap().unwrap_err();
+                assert_eq!((refused.refusal, refused.place), (Refusal::Version, None));
+            }
+            _ => {
+                let refused = packets.next().unwrap().unwrap_err();
+                let place = if length < 5 { 1 } else { 5 };
+                assert_eq!(refused.refusal, Refusal::RecordCut);
+                assert_eq!(refused.place, Some(place));
+            }
+        }
+        assert_eq!(packets.next(), None);
+    }
+    let refused = read_captured(capture, 9).unwrap_err();
+    assert_eq!((refused.refusal, refused.place), (Refusal::Argument, None));
+    assert_eq!(read_captured(capture, 0), Err(Refusal::Argument.into()));
+}

@@ -9,6 +9,8 @@ mod Applies
 mod Strings
 mod Told
 mod SizesSuffice
+mod Fronts
+mod Whys
 mod RowsAgree
 mod NumbersJudged
 mod Instances

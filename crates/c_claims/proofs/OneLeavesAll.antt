@@ -55,6 +55,7 @@ use Rattle.outbox.specs.Format.{versionTwo, formatOf, newBytes, recordBytes, fi
 use Rattle.outbox.specs.Reader.{Answer, otherVersion, readAll, walkOf, numberIn}
 use Rattle.outbox_move.specs.Moves.{overFrom, movedTo, moveOf}
 use Rattle.c_outbox_move.specs.Calls.{movedRow, outboxMoveOf}
+use Rattle.c_text.specs.Calls.{textOf}
 use Rattle.outbox.specs.Reader as outbox
 use Rattle.outbox.specs.Writer.{Stored, stored, storedAt, newOf, badRecord, appendOf, ifWhole}
 use Rattle.c_rows.specs.Row.{numberTold, byteOr, outOfRange}
@@ -70,6 +71,7 @@ use Rattle.c_classic.specs.Calls.{opened, stepped, fedCall, noneUsed, extractor
 use Rattle.c_classic_parts.specs.Convert.{isState, stateOf}
 use Rattle.c_classic_parts.specs.Calls.{begun, parted, frameBeginOf, framePartOf}
 use Rattle.c_sending.specs.Calls.{packetWriteOf, ackWriteOf}
+use Rattle.c_packets.specs.Calls.{packetReadOf, capturePacketOf}
 use Rattle.c_receiving.specs.Calls.{replied, accepted, sizesFit, receiverOpenOf, receiverAcceptOf}
 use Rattle.c_receiving.specs.Calls as receiving
 use Rattle.c_messages.specs.Calls.{envelopeReadOf, envelopeWriteOf, responseReadOf, responseWriteOf, informationReadOf, informationWriteOf, featuresReadOf, featuresWriteOf}
@@ -79,7 +81,7 @@ use Rattle.reply.specs.Reply.{boxOf, repliedOf}
 use Rattle.c_reply.specs.Convert.{transportsFor, replyRow}
 use Rattle.c_reply.specs.Calls.{replyWriteOf}
 use Rattle.c_firmware.specs.Calls.{segmentReadOf, segmentStored, segmentWriteOf, applyReadOf, applyStored, applyWriteOf, fieldReadOf}
-use Rattle.c_judge.specs.Calls.{captureJudgeOf}
+use Rattle.c_judge.specs.Calls.{captureJudgeOf, captureWhyOf}
 use Rattle.c_outbox.specs.Calls.{outboxNewOf, outboxAppendOf, outboxRecordOf, outboxWholeOf}
 use Rattle.c_claims.specs.OneLeavesAll.{Keeps, KeepsRow, OneLeavesAll}
 use Rattle.c_claims.proofs.Rows.{keeps-if, keeps-answers, writes-keeps, keeps-writer, keeps-text, never}
@@ -371,7 +373,7 @@ move-keeps wished file out answer =
     (by-table (StoredKeeps out) (line 14 (ltb (length out) (length bytes)) ∷ []) (λ n. stored (outbox.refused n) out) (storedAt out 0 bytes) (λ n e. refl) (λ h. never))))
 
 pub one-leaves-all : OneLeavesAll
-unfolding nextSequenceOf captureJudgeOf envelopeReadOf responseReadOf informationReadOf featuresReadOf segmentReadOf applyReadOf fieldReadOf outboxRecordOf outboxWholeOf
+unfolding captureWhyOf textOf nextSequenceOf packetReadOf capturePacketOf captureJudgeOf envelopeReadOf responseReadOf informationReadOf featuresReadOf segmentReadOf applyReadOf fieldReadOf outboxRecordOf outboxWholeOf
 one-leaves-all = record {
   extractor-open = open-keeps;
   extractor-step = step-keeps;
@@ -382,9 +384,12 @@ one-leaves-all = record {
   next-sequence = λ sequence answer. keeps-if (eqb (length answer) 1) [] [] answer _ never;
   packet-write = packet-keeps;
   ack-write = ack-keeps;
+  packet-read = λ limit bytes answer. keeps-answers 10 _ [] answer _ _ (λ e. refl);
   receiver-open = receiver-open-keeps;
   receiver-accept = accept-keeps;
+  capture-packet = λ place capture answer. keeps-answers 5 _ [] answer _ _ (λ e. refl);
   capture-judge = λ room limit capture answer. keeps-answers 2 _ [] answer _ _ (λ e. refl);
+  capture-why = λ room limit capture answer. keeps-answers 31 _ [] answer _ _ (λ e. refl);
   report-add = report-keeps;
   envelope-read = λ message answer. keeps-answers 6 _ [] answer _ _ (λ e. refl);
   envelope-write = envelope-keeps;
@@ -405,4 +410,5 @@ one-leaves-all = record {
   outbox-record = λ place file answer. keeps-answers 6 _ [] answer _ _ (λ e. refl);
   outbox-whole = λ file answer. keeps-answers 1 _ [] answer _ _ (λ e. refl);
   outbox-move = move-keeps;
+  text = λ text answer. keeps-answers 2 _ [] answer _ _ (λ e. refl);
 }

@@ -2,13 +2,17 @@
 use Prim.Native.Nat.{ℕ, suc, _≤_}
 use mathlib.Core.Path.{_≡_, refl}
 use mathlib.Core.Logic.{_⊎_}
-use mathlib.Core.List.{List, [], _∷_}
+use mathlib.Core.List.{List, [], _∷_, map}
 use native.Mathlib.Omega.{arith}
-use lib.ListN.{length, replicate}
+use lib.ListN.{length, replicate, length-replicate}
 use Rattle.wire.specs.Told.{given}
 use Rattle.ble_slot.specs.declared.Slot.{Slot}
+use Rattle.ble_sender.specs.declared.piece.Piece.{Piece}
 use Rattle.ble_sender.specs.declared.writer.Sending.{Sending}
-use Rattle.ble_sender.specs.Writer.{packetsOf}
+use Rattle.ble_sender.specs.Piece.{piecesOf}
+use Rattle.ble_sender.specs.Writer.{packetOf, packetsOf}
+use Rattle.ble_joined.specs.Joined.{joinedOf}
+use Rattle.capture_reader.specs.Capture as capture
 use Rattle.ble_sender_claims.proofs.CallsGiveAll.{takes-all}
 use Rattle.outbox_move_claims.specs.Claims.{recordsOf}
 use Rattle.msg_firmware.specs.declared.apply.ApplyFirmware.{ApplyFirmware}
@@ -24,7 +28,7 @@ use Rattle.c_receiving.specs.Calls.{receiverAcceptOf}
 use Rattle.c_reply.specs.Convert.{linkOf}
 use Rattle.c_firmware.specs.Calls.{applyWriteOf}
 use Rattle.c_outbox.specs.Calls.{outboxAppendOf}
-use Rattle.c_claims.specs.RowsAgree.{packetsFrom, recordsFrom}
+use Rattle.c_claims.specs.RowsAgree.{packetsFrom, recordsFrom, rowFor, frontsFrom, capturedFrom}
 use Rattle.c_claims.proofs.RowsAgree.{rows-agree}
 use Rattle.c_claims.proofs.NumbersJudged.{numbers-judged}
 
@@ -37,6 +41,19 @@ packets limit how message out least most low high stream id sequence short space
 
 records : (file : List ℕ) → recordsFrom (suc (length file)) file (replicate 6 7) 1 ≡ recordsOf file
 records file = rows-agree .records file (replicate 6 7) refl
+
+-- the joined packets of any message in these ranges
+joined : (limit : ℕ) (how : Sending) (message : List ℕ) → 1 ≤ limit → limit ≤ 65535 → 20 ≤ how .room → how .room ≤ 512
+    → (how .stream ≡ 0) ⊎ (how .stream ≡ 2) ⊎ (how .stream ≡ 6) → how .id ≤ 15 → how .sequence ≤ 15 → length message ≤ limit
+    → frontsFrom (suc (length (joinedOf how message))) limit (replicate 10 7) (joinedOf how message)
+    ≡ map (λ (p : Piece). (packetOf how message p, rowFor how (length message) p)) (piecesOf (how .room) (length message))
+joined limit how message least most low high stream id sequence short =
+    let out : List ℕ = replicate (how .room) 0 in
+    rows-agree .joined limit how message out (replicate 10 7)
+    (takes-all limit how message out least most low high stream id sequence short (omega (arith, length-replicate {A = ℕ} (how .room) 0))) refl
+
+captured : (bytes : List ℕ) → capturedFrom (suc (length bytes)) bytes (replicate 5 7) 1 ≡ capture.packetsOf bytes
+captured bytes = rows-agree .captured bytes (replicate 5 7) refl
 
 apply-told : (message : List ℕ) (a : ApplyFirmware) (texts out answer : List ℕ) → applyOf message ≡ given a
     → applyWriteOf (wholeRow a) texts out answer ≡ textCall out answer (applyWritten a texts out)

@@ -53,7 +53,9 @@ use Rattle.c_rows.specs.Row.{afterwards, numberTold}
 use Rattle.c_rows.specs.Called.{called}
 use Rattle.c_claims.specs.RowsAgree.{NumbersFit, rowStanding, packetBy, packetsFrom, recordBy, recordsFrom, RowsAgree}
 use Rattle.c_claims.proofs.Applies.{not-wide}
+use Rattle.c_claims.proofs.Fronts.{joined-agrees, captured-agrees}
 use Rattle.c_claims.proofs.Told.{numbers-fit}
+use Rattle.c_claims.proofs.Whys.{why-agrees}
 
 -- ---- an ApplyFirmware
 -- what stands before does not count
@@ -305,4 +307,7 @@ rows-agree = record {
   receiver = λ x. refl;
   packets = packets-agree;
   records = records-agree;
+  joined = joined-agrees;
+  captured = captured-agrees;
+  why = why-agrees;
 }

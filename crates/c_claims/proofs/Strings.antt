@@ -1,15 +1,17 @@
 -- Every string that a reader's row tells lies within the message and is well formed.
 use Prim.Native.Nat.{ℕ, zero, suc, _+_, _≤_, zero-le}
-use mathlib.Core.Path.{_≡_, sym, ap, subst, _∙_}
-use mathlib.Core.Bool.{Bool, true, false}
+use mathlib.Core.Path.{_≡_, refl, sym, ap, subst, _∙_}
+use mathlib.Core.Bool.{Bool, true, false, cond}
 use mathlib.Core.List.{List, [], _∷_, _++_}
 use native.Mathlib.Omega.{arith}
 use lib.ListN.{length, take, getD, replicate}
 use lib.Seq.{getD-append-add}
 use lib.Dec.{eqb}
+use borrow.Author.Tests.{eq-eqb, eqb-true}
 use Rattle.wire.specs.Told.{ToldMore, given, refused, andThen}
 use Rattle.proto_field.proofs.Told.{Sat, sat-then}
-use Rattle.utf8.specs.WellFormed.{empty}
+use Rattle.utf8.specs.WellFormed.{WellFormed, empty, badPlace}
+use Rattle.utf8.proofs.Places.{well-formed-whole, whole-well-formed}
 use Rattle.proto_reader.specs.declared.gathered.Gathered.{Gathered}
 use Rattle.proto_schema.specs.declared.Schema.the-variants as Schema
 use Rattle.proto_schema.specs.Schema.{first, second, third}
@@ -34,6 +36,7 @@ use Rattle.c_firmware_rows.specs.Segment.{segmentRow}
 use Rattle.c_firmware_rows.specs.Apply.{answerSize, componentRow, componentRows, headRow, applyRow}
 use Rattle.c_messages.specs.Calls.{informationReadOf}
 use Rattle.c_firmware.specs.Calls.{segmentReadOf, applyReadOf}
+use Rattle.c_text.specs.Calls.{textOf}
 use Rattle.c_claims.specs.SizesSuffice.{LiesAt}
 use Rattle.c_claims.specs.StringsWellFormed.{ComponentsLie, StringsWellFormed}
 
@@ -116,6 +119,17 @@ module _ (s : List ℕ) where
       )
   apply-lies (refused why) w = ((zero-le, empty), (zero-le, empty), (zero-le, empty), tt)
 
+-- a text by whether it is well formed
+text-exactly : (text answer : List ℕ) → length answer ≡ 2 → (textOf text answer .number ≡ 0 → WellFormed text) × (WellFormed text → textOf text answer .number ≡ 0)
+unfolding textOf
+text-exactly text answer e =
+    rw (eq-eqb (length answer) 2 e)
+    (λ z. whole-well-formed text (whole (eqb (badPlace text) (length text)) refl z), λ w. rw (eq-eqb (badPlace text) (length text) (well-formed-whole text w)))
+  where
+    whole : (t : Bool) → eqb (badPlace text) (length text) ≡ t → _≡_ {A = ℕ} (cond t 0 36) 0 → badPlace text ≡ length text
+    whole true k z = eqb-true (badPlace text) (length text) k
+    whole false k z = absurd (omega (arith, z))
+
 pub strings-well-formed : StringsWellFormed
 unfolding informationReadOf segmentReadOf applyReadOf
 strings-well-formed = record {
@@ -128,4 +142,5 @@ strings-well-formed = record {
   apply-read = λ message answer.
       let t = applyOf message in
       told-row answerSize (numberMore t) answer (applyRow t) (λ row. LiesAt message row 2 × LiesAt message row 4 × LiesAt message row 6 × ComponentsLie (getD row 8 0) message row 9) (apply-lies message t (apply-takes message));
+  text = text-exactly;
 }

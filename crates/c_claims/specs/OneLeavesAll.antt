@@ -13,8 +13,9 @@ use Rattle.c_rows.specs.Called.{Called, called}
 use Rattle.c_classic.specs.Calls.{noneUsed, extractorOpenOf, extractorStepOf, extractorFeedOf, frameWriteOf, nextSequenceOf}
 use Rattle.c_classic_parts.specs.Calls.{frameBeginOf, framePartOf}
 use Rattle.c_sending.specs.Calls.{packetWriteOf, ackWriteOf}
+use Rattle.c_packets.specs.Calls.{packetReadOf, capturePacketOf}
 use Rattle.c_receiving.specs.Calls.{AcceptCalled, replied, receiverOpenOf, receiverAcceptOf}
-use Rattle.c_judge.specs.Calls.{captureJudgeOf}
+use Rattle.c_judge.specs.Calls.{captureJudgeOf, captureWhyOf}
 use Rattle.c_report.specs.Calls.{ReportCalled, reportCalled, reportAddOf}
 use Rattle.c_messages.specs.Calls.{envelopeReadOf, envelopeWriteOf, responseReadOf, responseWriteOf, informationReadOf, informationWriteOf, featuresReadOf, featuresWriteOf}
 use Rattle.c_reply.specs.Calls.{replyWriteOf}
@@ -22,6 +23,7 @@ use Rattle.c_firmware.specs.Calls.{segmentReadOf, segmentWriteOf, applyReadOf, 
 use Rattle.c_outbox.specs.Calls.{outboxNewOf, outboxAppendOf, outboxRecordOf, outboxWholeOf}
 use Rattle.outbox.specs.declared.format.Format.{Format}
 use Rattle.c_outbox_move.specs.Calls.{outboxMoveOf}
+use Rattle.c_text.specs.Calls.{textOf}
 
 -- if it returns 1, state row, lent bytes and answer row are what they were
 abbrev pub Keeps : List ℕ → List ℕ → List ℕ → Called → Type 0
@@ -46,10 +48,13 @@ pub record OneLeavesAll : Type 0 where
   pub packet-write : (limit : ℕ) (how : Sending) (place : ℕ) (message out answer : List ℕ)
       → Keeps [] out answer (packetWriteOf limit how message place out answer)
   pub ack-write : (stream id sequence positive : ℕ) (out answer : List ℕ) → Keeps [] out answer (ackWriteOf stream id sequence positive out answer)
+  pub packet-read : (limit : ℕ) (bytes answer : List ℕ) → Keeps [] [] answer (packetReadOf bytes limit answer)
   pub receiver-open : (limit : ℕ) (state : List ℕ) → Keeps state [] [] (receiverOpenOf limit state)
   pub receiver-accept : (sequence : ℕ) (slots : List Slot) (packet state lent out answer : List ℕ)
       → KeepsRow slots lent out answer (receiverAcceptOf state slots lent packet sequence out answer)
+  pub capture-packet : (place : ℕ) (capture answer : List ℕ) → Keeps [] [] answer (capturePacketOf capture place answer)
   pub capture-judge : (room limit : ℕ) (capture answer : List ℕ) → Keeps [] [] answer (captureJudgeOf capture room limit answer)
+  pub capture-why : (room limit : ℕ) (capture answer : List ℕ) → Keeps [] [] answer (captureWhyOf capture room limit answer)
   pub report-add : (limit : ℕ) (slots : List Slot) (report lent capture answer : List ℕ)
       → KeepsReport report slots lent answer (reportAddOf report limit slots lent capture answer)
   pub envelope-read : (message answer : List ℕ) → Keeps [] [] answer (envelopeReadOf message answer)
@@ -75,3 +80,4 @@ pub record OneLeavesAll : Type 0 where
   pub outbox-record : (place : ℕ) (file answer : List ℕ) → Keeps [] [] answer (outboxRecordOf file place answer)
   pub outbox-whole : (file answer : List ℕ) → Keeps [] [] answer (outboxWholeOf file answer)
   pub outbox-move : (wished : Format) (file out answer : List ℕ) → Keeps [] out answer (outboxMoveOf wished file out answer)
+  pub text : (text answer : List ℕ) → Keeps [] [] answer (textOf text answer)

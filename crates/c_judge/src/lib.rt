@@ -1,3 +1,3 @@
-// Captures for C: whether one is lawful.
+// Captures for C: whether one is lawful, and why not.
 pub mod calls;
 mod convert;

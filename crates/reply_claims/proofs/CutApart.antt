@@ -45,7 +45,7 @@ sequence-low sequence n = omega arith
 
 -- a packet says how long it is, whatever follows it
 module _ (w : Sending) (m : List ℕ) (p : Piece) where
-  said : (rest : List ℕ) → saidLength (packetOf w m p ++ rest) ≡ headerSize (isFirst (p .index)) (extended (p .size)) + p .size
+  pub said : (rest : List ℕ) → saidLength (packetOf w m p ++ rest) ≡ headerSize (isFirst (p .index)) (extended (p .size)) + p .size
   unfolding saidLength packetOf headerBytes
   said rest =
       let first : Bool = isFirst (p .index) in

@@ -1,33 +1,26 @@
 // Says why a sender is not lawful: the same input as `lawful`, its line, and then of 41 and 42 their place, of the packet that decides
 // what was expected and what came, or what is still open at the end.
 use ble_packet::header;
-use ble_packet::reader;
-use ble_packet::reader::Packet;
 use capture_judge::State;
-use capture_judge::capture::Judgement;
 use capture_judge::capture::Refusal;
-use capture_judge::capture::Traced;
 use capture_judge::input::LARGEST_CAPTURE;
 use capture_judge::input::SETTINGS;
 use capture_judge::input::limit_in;
 use capture_judge::input::room_in;
 use capture_judge::input::trace_input;
 use capture_next::NextPacket;
-use capture_next::next_packet;
-use capture_reader::Front;
-use capture_reader::WIDTH;
-use capture_reader::front_of;
 use capture_stream::SenderSlot;
+use capture_why::Came;
+use capture_why::Expected;
+use capture_why::Explained;
+use capture_why::Why;
 use cli_console::Output;
 use cli_console::is_alone;
 use cli_console::read_full;
 use cli_console::sentences::explain_capture;
-use wire::bytes::byte_at;
 use wire::bytes::smaller;
 use wire::bytes::wide;
 use wire::stream::Stream;
-use wire::stream::is_stream;
-use wire::stream::stream_of;
 
 // Room, limit, the largest capture, and one byte more, by which a larger one is told.
 const SPACE: usize = SETTINGS + LARGEST_CAPTURE + 1;
@@ -72,152 +65,80 @@ fn say_expected(output: Output, next: NextPacket) -> Output {
     say_bit(flagged, b", extender ", next.extended).text(b"\n")
 }
 
-// Where nothing is open, the length depends on a total, which only a first packet has.
-fn say_expected_by(
-    output: Output,
-    room: usize,
-    slot: SenderSlot,
-    total: usize,
-    first: bool,
-) -> Output {
-    match slot {
-        SenderSlot::Idle => {
-            if first {
-                say_expected(output, next_packet(room, slot, total))
-            } else {
-                output.text(b"expected: any id, any sequence, type 0\n")
-            }
-        }
-        SenderSlot::Open {
-            id: _,
-            left: _,
-            sequence: _,
-        } => say_expected(output, next_packet(room, slot, total)),
+fn say_expected_by(output: Output, expected: Expected) -> Output {
+    match expected {
+        Expected::Nothing => output,
+        Expected::AnyFirst => output.text(b"expected: any id, any sequence, type 0\n"),
+        Expected::This(next) => say_expected(output, next),
     }
 }
 
 // The fields that each packet of two bytes has.
-fn say_came(output: Output, packet: &[u8]) -> Output {
-    let named = say_number(
-        output,
-        b"came: id ",
-        wide(header::id_bits(byte_at(packet, 0))),
-    );
-    let second = byte_at(packet, 1);
-    let numbered = say_number(named, b", sequence ", wide(header::sequence_bits(second)));
-    say_number(numbered, b", type ", wide(header::type_bits(second)))
+fn say_came(output: Output, came: Came) -> Output {
+    let named = say_number(output, b"came: id ", wide(came.id));
+    let numbered = say_number(named, b", sequence ", wide(came.sequence));
+    say_number(numbered, b", type ", wide(came.kind))
 }
 
-fn say_payload(output: Output, packet: &[u8], len: usize) -> Output {
-    let came = say_came(output, packet);
-    let second = byte_at(packet, 1);
-    let sized = say_number(came, b", ", len).text(b" bytes");
-    let flagged = say_bit(sized, b", flag ", header::ack_bit(second));
-    say_bit(flagged, b", extender ", header::extender_bit(second))
+fn say_payload(output: Output, came: Came) -> Output {
+    let read = came.read;
+    let sized = say_number(say_came(output, came), b", ", read.len).text(b" bytes");
+    let flagged = say_bit(sized, b", flag ", came.ack);
+    say_bit(flagged, b", extender ", came.extended)
 }
 
-fn say_size(output: Output, text: &[u8], packet: &[u8]) -> Output {
-    say_number(output, text, packet.len()).text(b" bytes in all\n")
+fn say_size(output: Output, text: &[u8], size: usize) -> Output {
+    say_number(output, text, size).text(b" bytes in all\n")
 }
 
-fn say_reason(output: Output, why: reader::Refusal) -> Output {
-    match why {
-        reader::Refusal::Short => output.text(b", it is shorter than its header\n"),
-        reader::Refusal::UnknownStream => output.text(b", its stream is not 0, 2 or 6\n"),
-        reader::Refusal::BadControl => output.text(b", of type 3 and neither an ACK nor a NACK\n"),
-        reader::Refusal::Reserved => output.text(b", its reserved byte is not 0\n"),
-        reader::Refusal::Length => {
-            output.text(b", it is not as long as its header and payload\n")
-        }
-        reader::Refusal::TotalOver => output.text(b", its total is above the limit\n"),
-        reader::Refusal::Empty => output.text(b", its payload is empty\n"),
-        reader::Refusal::AboveTotal => output.text(b", its payload is above its total\n"),
+// By the number of our reader's refusal.
+fn say_reason(output: Output, number: u8) -> Output {
+    match number {
+        2 => output.text(b", it is shorter than its header\n"),
+        3 => output.text(b", its stream is not 0, 2 or 6\n"),
+        12 => output.text(b", of type 3 and neither an ACK nor a NACK\n"),
+        4 => output.text(b", its reserved byte is not 0\n"),
+        5 => output.text(b", it is not as long as its header and payload\n"),
+        6 => output.text(b", its total is above the limit\n"),
+        7 => output.text(b", its payload is empty\n"),
+        _ => output.text(b", its payload is above its total\n"),
     }
 }
 
-fn say_refused_size(output: Output, packet: &[u8]) -> Output {
-    if packet.len() < header::START_SIZE {
-        say_size(output, b"came: ", packet)
+fn say_refused_size(output: Output, came: Came) -> Output {
+    if came.size < header::START_SIZE {
+        say_size(output, b"came: ", came.size)
     } else {
-        say_size(say_came(output, packet), b"; ", packet)
+        say_size(say_came(output, came), b"; ", came.size)
     }
 }
 
-fn say_refused_packet(output: Output, packet: &[u8], why: reader::Refusal) -> Output {
-    let sized = say_refused_size(output, packet);
-    let refused = say_number(sized, b"our reader refuses it: ", wide(why.number()));
-    say_reason(refused, why)
+fn say_refused_packet(output: Output, came: Came) -> Output {
+    let read = came.read;
+    let sized = say_refused_size(output, came);
+    let refused = say_number(sized, b"our reader refuses it: ", wide(read.number));
+    say_reason(refused, read.number)
 }
 
-// What was expected, and what was read.
-fn say_read(output: Output, packet: &[u8], room: usize, slot: SenderSlot, read: Packet) -> Output {
-    match read {
-        Packet::First {
-            head: _,
-            ack: _,
-            total,
-            start: _,
-            len,
-        } => {
-            let expected = say_expected_by(output, room, slot, total, true);
-            let came = say_payload(expected, packet, len);
-            say_number(came, b", total ", total)
-        }
-        Packet::Next {
-            head: _,
-            ack: _,
-            last: _,
-            start: _,
-            len,
-        } => {
-            let expected = say_expected_by(output, room, slot, 0, false);
-            say_payload(expected, packet, len)
-        }
-        Packet::Ack(_) => say_came(output, packet),
-        Packet::Nack(_) => say_came(output, packet),
-    }
-}
-
-fn say_refused_read(
-    output: Output,
-    packet: &[u8],
-    room: usize,
-    slot: SenderSlot,
-    why: reader::Refusal,
-) -> Output {
-    let number = header::stream_bits(byte_at(packet, 0));
-    if is_stream(number) {
-        let expected = say_expected_by(output, room, slot, 0, false);
-        say_refused_packet(expected, packet, why)
+fn say_read(output: Output, came: Came) -> Output {
+    let read = came.read;
+    let said = say_payload(output, came);
+    if read.first {
+        say_size(say_number(said, b", total ", read.total), b"; ", came.size)
     } else {
-        say_refused_packet(output, packet, why)
+        say_size(said, b"; ", came.size)
     }
 }
 
-fn say_packet(output: Output, packet: &[u8], room: usize, limit: usize, state: State) -> Output {
-    let number = header::stream_bits(byte_at(packet, 0));
-    let named = say_number(output, b"stream ", wide(number)).text(b"\n");
-    let slot = state.slot(stream_of(number));
-    let answer = reader::read(limit, packet);
-    match answer {
-        reader::Answer::Refused(why) => say_refused_read(named, packet, room, slot, why),
-        reader::Answer::Read(read) => {
-            say_size(say_read(named, packet, room, slot, read), b"; ", packet)
-        }
+// What was expected, and what came.
+fn say_packet(output: Output, came: Came, expected: Expected) -> Output {
+    let read = came.read;
+    let named = say_number(output, b"stream ", wide(came.stream)).text(b"\n");
+    let held = say_expected_by(named, expected);
+    if read.number != 0 {
+        return say_refused_packet(held, came);
     }
-}
-
-// The packet whose length stands at the front of some bytes.
-fn say_front(output: Output, rest: &[u8], room: usize, limit: usize, state: State) -> Output {
-    let front = front_of(rest);
-    match front {
-        Front::Broken(_) => output,
-        Front::Whole(n) => {
-            let start = smaller(rest.len(), WIDTH);
-            let size = smaller(rest.len() - start, n);
-            say_packet(output, &rest[start..start + size], room, limit, state)
-        }
-    }
+    say_read(held, came)
 }
 
 fn say_open(output: Output, state: State, stream: Stream) -> Output {
@@ -258,24 +179,29 @@ fn say_refused(output: Output, why: Refusal, at: usize) -> Output {
     said
 }
 
-fn say_stopped(output: Output, input: &[u8], at: usize, state: State) -> Output {
-    let placed = say_number(output, b"unlawful at ", at).text(b"\n");
-    let start = smaller(input.len(), SETTINGS);
-    let from = smaller(input.len() - start, at);
-    let room = room_in(input);
-    let limit = limit_in(input);
-    say_front(placed, &input[start + from..], room, limit, state)
+fn say_explained(output: Output, explained: Explained) -> Output {
+    match explained {
+        Explained::Ended(state) => say_end(output, state),
+        Explained::Stopped {
+            at,
+            state: _,
+            came,
+            expected,
+        } => {
+            let placed = say_number(output, b"unlawful at ", at).text(b"\n");
+            say_packet(placed, came, expected)
+        }
+    }
 }
 
 fn explain(input: &[u8]) -> Output {
     let output = Output::new();
+    let start = smaller(input.len(), SETTINGS);
     let traced = trace_input(input);
-    match traced {
-        Traced::Barred { why, at } => say_refused(output, why, at),
-        Traced::Ended(verdict) => match verdict {
-            Judgement::Going(state) => say_end(output, state),
-            Judgement::Stopped { at, state } => say_stopped(output, input, at, state),
-        },
+    let why = capture_why::explain(&input[start..], room_in(input), limit_in(input), traced);
+    match why {
+        Why::Barred { why, at } => say_refused(output, why, at),
+        Why::Told(explained) => say_explained(output, explained),
     }
 }
 

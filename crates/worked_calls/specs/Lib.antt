@@ -1,11 +1,14 @@
 pub mod Classic
 pub mod Receiving
 pub mod Sending
+pub mod Packets
 pub mod Outbox
+pub mod Texts
 pub mod Messages
 pub mod Firmware
 pub mod Reply
 pub mod Captures
+pub mod Whys
 pub mod Report
 pub mod NextPackets
 pub mod Inputs

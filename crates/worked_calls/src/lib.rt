@@ -2,11 +2,14 @@
 ghost use Rattle.worked_calls.specs.Classic.{ClassicCalls};
 ghost use Rattle.worked_calls.specs.Receiving.{ReceivingCalls};
 ghost use Rattle.worked_calls.specs.Sending.{SendingCalls};
+ghost use Rattle.worked_calls.specs.Packets.{PacketCalls};
 ghost use Rattle.worked_calls.specs.Outbox.{OutboxCalls};
+ghost use Rattle.worked_calls.specs.Texts.{TextCalls};
 ghost use Rattle.worked_calls.specs.Messages.{MessageCalls};
 ghost use Rattle.worked_calls.specs.Firmware.{FirmwareCalls};
 ghost use Rattle.worked_calls.specs.Reply.{ReplyCalls};
 ghost use Rattle.worked_calls.specs.Captures.{CaptureCalls};
+ghost use Rattle.worked_calls.specs.Whys.{WhyCalls};
 ghost use Rattle.worked_calls.specs.Report.{ReportCalls};
 ghost use Rattle.worked_calls.specs.NextPackets.{NextPackets};
 ghost use Rattle.worked_calls.specs.Inputs.{InputAnswers};
@@ -28,9 +31,19 @@ pub fn sending_calls()
     ensures { λ _. ⌜ SendingCalls ⌝ }
 {}
 
+// One packet read, called from C.
+pub fn packet_calls()
+    ensures { λ _. ⌜ PacketCalls ⌝ }
+{}
+
 // The outbox, called from C.
 pub fn outbox_calls()
     ensures { λ _. ⌜ OutboxCalls ⌝ }
+{}
+
+// Texts, called from C.
+pub fn text_calls()
+    ensures { λ _. ⌜ TextCalls ⌝ }
 {}
 
 // Control messages, called from C.
@@ -51,6 +64,11 @@ pub fn reply_calls()
 // A capture judged, called from C.
 pub fn capture_calls()
     ensures { λ _. ⌜ CaptureCalls ⌝ }
+{}
+
+// Why a capture is not lawful, called from C.
+pub fn why_calls()
+    ensures { λ _. ⌜ WhyCalls ⌝ }
 {}
 
 // A capture added to a report, called from C.

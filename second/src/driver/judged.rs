@@ -55,6 +55,17 @@ pub fn capture(packets: &[Vec<u8>]) -> Vec<u8> {
     made
 }
 
+/// Judged, and told why: the verdict and its place are the same.
+fn judged(c: &mut Comparison<'_>, room: u64, limit: u64, capture: &[u8]) -> Compared<()> {
+    let mut judge = call(room, limit, capture);
+    let returned = c.run(&mut judge)?;
+    let mut why = Call::new(Operation::CaptureWhy)
+        .numbers(&[room, limit])
+        .inputs(&[capture]);
+    let same = c.run(&mut why)? == returned && why.answer[..2] == judge.answer[..];
+    c.hold(same, "the verdict of the judge", &why)
+}
+
 fn call(room: u64, limit: u64, capture: &[u8]) -> Call {
     Call::new(Operation::CaptureJudge)
         .numbers(&[room, limit])
@@ -92,7 +103,7 @@ pub fn run(c: &mut Comparison<'_>, rng: &mut Rng, plan: Plan) -> Compared<()> {
             2 => made.extend([0, 0]),
             _ => {}
         }
-        c.run(&mut call(room, limit, &made))?;
+        judged(c, room, limit, &made)?;
     }
     Ok(())
 }
@@ -146,8 +157,7 @@ fn pool() -> Vec<Vec<u8>> {
 fn every_list(c: &mut Comparison<'_>) -> Compared<()> {
     let pool = pool();
     let judge = |c: &mut Comparison<'_>, list: &[Vec<u8>]| -> Compared<()> {
-        c.run(&mut call(20, 35, &capture(list)))?;
-        Ok(())
+        judged(c, 20, 35, &capture(list))
     };
     c.at = format!(
         "captures judged, all lists of up to three of {} packets",
@@ -167,7 +177,7 @@ fn every_list(c: &mut Comparison<'_>) -> Compared<()> {
 
 /// A room, a limit, and a capture of transactions of all streams, mixed, with ACKs between; in a third of them one packet
 /// is damaged, left out, doubled or moved.
-fn generated(rng: &mut Rng) -> (u64, u64, Vec<u8>) {
+pub(super) fn generated(rng: &mut Rng) -> (u64, u64, Vec<u8>) {
     let room = *rng.pick(&[20, 21, 35, 61, 244, 259, 260, 261, 262, 263, 264, 512]);
     let limit = *rng.pick(&[1, 20, 300, 4_096, 65_535]);
     let mut lanes: Vec<Vec<Vec<u8>>> = Stream::ALL
@@ -243,7 +253,7 @@ const ROOMS: [u64; 4] = [20, 21, 244, 512];
 pub fn judge_capture(c: &mut Comparison<'_>, of: &Capture) -> Compared<()> {
     c.at = format!("capture {} judged", of.name);
     for room in ROOMS {
-        c.run(&mut call(room, 4_096, &capture(&of.chunks)))?;
+        judged(c, room, 4_096, &capture(&of.chunks))?;
     }
     Ok(())
 }

@@ -9,6 +9,7 @@ pub mod orders;
 pub mod outboxes;
 pub mod packets;
 pub mod parts;
+pub mod reads;
 pub mod replies;
 pub mod reports;
 pub mod rooms;
@@ -70,6 +71,10 @@ pub const PARTS: &[Part] = &[
     Part {
         name: "packets of two streams in either order",
         run: orders::run,
+    },
+    Part {
+        name: "packets read",
+        run: reads::run,
     },
     Part {
         name: "captures judged",

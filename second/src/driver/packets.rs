@@ -211,7 +211,7 @@ fn foreign(rng: &mut Rng, wish: Wish, message: &[u8]) -> Vec<Vec<u8>> {
     }
 }
 
-fn any_byte(rng: &mut Rng) -> u8 {
+pub(super) fn any_byte(rng: &mut Rng) -> u8 {
     match rng.below(3) {
         0 => rng.byte(),
         1 => *rng.pick(&[0x00, 0x01, 0x02, 0x03, 0x0E, 0x0C, 0xFF, 0x10]),
@@ -304,7 +304,12 @@ pub(super) fn directed(rng: &mut Rng, limit: u64, slots: &[Slot]) -> Vec<u8> {
 }
 
 /// The packets of one message on this stream, with an id below `ids`.
-fn message_packets(rng: &mut Rng, stream: Stream, ids: u64, limit: u64) -> VecDeque<Vec<u8>> {
+pub(super) fn message_packets(
+    rng: &mut Rng,
+    stream: Stream,
+    ids: u64,
+    limit: u64,
+) -> VecDeque<Vec<u8>> {
     let size = match rng.below(20) {
         0 => 0,
         1 => near(rng, limit, 96, 0),

@@ -217,8 +217,13 @@ fn arrives(c: &mut Comparison<'_>, rng: &mut Rng, asked: &Call, joined: &[u8]) -
         receiver.lent = vec![0xCC; low_energy::buffer(limit)];
     }
     let packets = cut(joined);
+    let mut reader = Call::new(Operation::PacketRead).numbers(&[limit]);
     let mut place = 0;
+    let mut begin = 0;
     for (index, packet) in packets.iter().enumerate() {
+        reader.inputs[0] = joined[begin..].to_vec();
+        c.expect(&mut reader, 0, |call| call.answer[0] == packet.len() as u64)?;
+        begin += packet.len();
         writer.numbers = vec![room, limit, 0, id, sequence, 0, place];
         writer.lent = vec![0xCC; room as usize];
         c.expect(&mut writer, 0, |call| {

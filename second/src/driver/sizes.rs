@@ -88,6 +88,9 @@ fn ordinary(rng: &mut Rng, operation: Operation) -> Call {
         Operation::AckWrite => call
             .numbers(&[stream, rng.below(16), rng.below(16), rng.below(2)])
             .lent(rng.bytes(6)),
+        Operation::PacketRead => call
+            .numbers(&[limit])
+            .inputs(&[&[0x61, 0x02, 0, 0, 1, 1, 0xAA]]),
         Operation::ReceiverOpen => call.numbers(&[limit]),
         Operation::ReceiverAccept => {
             // An ACK, or a message that wants one.
@@ -104,7 +107,10 @@ fn ordinary(rng: &mut Rng, operation: Operation) -> Call {
                 .lent(rng.bytes(low_energy::buffer(RECEIVED)))
                 .reply(rng.bytes(room))
         }
-        Operation::CaptureJudge => call.numbers(&[20, 300]).inputs(&[&[1, 0, 1, 9]]),
+        Operation::CapturePacket => call.numbers(&[1]).inputs(&[&[1, 0, 1, 9]]),
+        Operation::CaptureJudge | Operation::CaptureWhy => {
+            call.numbers(&[20, 300]).inputs(&[&[1, 0, 1, 9]])
+        }
         Operation::ReportAdd => {
             let mut report = [0; 21];
             rng.fill_row(&mut report);
@@ -168,6 +174,7 @@ fn ordinary(rng: &mut Rng, operation: Operation) -> Call {
         Operation::OutboxWhole => call.inputs(&[&[1, 0, 2, 6, 9]]),
         Operation::OutboxTo01 => call.inputs(&[&[2, 0, 0, 0, 2, 6, 9]]).lent(rng.bytes(8)),
         Operation::OutboxTo02 => call.inputs(&[&[1, 0, 2, 6, 9]]).lent(rng.bytes(8)),
+        Operation::Text => call.inputs(&[&text]),
     }
 }
 

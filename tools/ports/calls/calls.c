@@ -278,6 +278,25 @@ static uint32_t some_packet(const pito_slot *own)
     return header + count;
 }
 
+/* A packet with others behind it, or like one. */
+static uint64_t packet_read(void)
+{
+    fill(input, 120, PACKETS);
+    uint32_t count = 1 + below(40);
+    if (below(6)) {
+        fill_slots();
+        count += some_packet(slots);
+    }
+    if (one_in(4)) {
+        uint32_t at = below(6);
+        input[at] ^= (uint8_t)(1 << below(8));
+    }
+    count = one_in(4) ? below(count) : count;
+    uint64_t limit = mostly(40);
+    pito_len told = length(10);
+    return CALL(pito_packet_read(input, count, limit, answer, told));
+}
+
 static uint64_t receiver_accept(void)
 {
     pito_slot *own = (pito_slot *)(lent.link_slots + (SHIFT & 6));
@@ -325,12 +344,32 @@ static uint32_t some_capture(void)
     return one_in(6) ? below(count + 1) : count;
 }
 
+/* From place to place, or anywhere. */
+static uint64_t capture_packet(void)
+{
+    static uint64_t next;
+    uint32_t count = some_capture();
+    uint64_t place = below(3) ? 1 : below(2) ? next : below(2) ? below(count + 2) : any();
+    pito_len told = length(5);
+    uint64_t number = CALL(pito_capture_packet(input, count, place, answer, told));
+    next = number == 0 && told == 5 ? answer[PITO_CAPTURE_PACKET_NEXT] : 1;
+    return number;
+}
+
 static uint64_t capture_judge(void)
 {
     uint32_t count = some_capture();
     uint64_t room = mostly(20), limit = mostly(60);
     pito_len told = length(2);
     return CALL(pito_capture_judge(input, count, room, limit, answer, told));
+}
+
+static uint64_t capture_why(void)
+{
+    uint32_t count = some_capture();
+    uint64_t room = mostly(20), limit = mostly(60);
+    pito_len told = length(PITO_CAPTURE_WHY_ANSWER);
+    return CALL(pito_capture_why(input, count, room, limit, answer, told));
 }
 
 static uint64_t report_add(void)
@@ -606,6 +645,14 @@ static uint64_t outbox_to_02(void)
     return CALL(pito_outbox_to_02(input, count, output, size, answer, told));
 }
 
+static uint64_t text(void)
+{
+    uint32_t count = below(60);
+    fill(input, count, one_in(4) ? ANY : TEXT);
+    pito_len told = length(PITO_TEXT_ANSWER);
+    return CALL(pito_text(input, count, answer, told));
+}
+
 /* ---- all of them */
 
 #define KIND(name, times) {"pito_" #name, name, times}
@@ -615,12 +662,14 @@ static const struct {
     uint32_t times;
 } kinds[] = {
     KIND(extractor_open, 1),    KIND(extractor_step, 1), KIND(extractor_feed, 1),  KIND(frame_write, 1),   KIND(frame_begin, 1),
-    KIND(frame_part, 1),        KIND(next_sequence, 1),  KIND(packet_write, 1),    KIND(ack_write, 1),     KIND(receiver_open, 1),
-    KIND(receiver_accept, 3),   KIND(capture_judge, 1),  KIND(report_add, 1),      KIND(envelope_read, 1), KIND(response_read, 1),
+    KIND(frame_part, 1),        KIND(next_sequence, 1),  KIND(packet_write, 1),    KIND(ack_write, 1),     KIND(packet_read, 1),
+    KIND(receiver_open, 1),     KIND(receiver_accept, 3), KIND(capture_packet, 1), KIND(capture_judge, 1), KIND(report_add, 1),
+    KIND(envelope_read, 1),     KIND(response_read, 1),
     KIND(information_read, 1),  KIND(features_read, 1),  KIND(segment_read, 1),    KIND(apply_read, 2),    KIND(field_read, 1),
     KIND(envelope_write, 1),    KIND(response_write, 1), KIND(information_write, 1), KIND(features_write, 1),
     KIND(segment_write, 1),     KIND(apply_write, 1),    KIND(reply_write, 1),     KIND(outbox_new, 1),    KIND(outbox_append, 1),
     KIND(outbox_record, 1),     KIND(outbox_whole, 1),   KIND(outbox_to_01, 1),    KIND(outbox_to_02, 1),
+    KIND(capture_why, 1),       KIND(text, 1),
 };
 
 /* Every step can be undone, so a difference does not vanish by itself. */

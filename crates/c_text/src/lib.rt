@@ -1,0 +1,2 @@
+// Texts for C.
+pub mod calls;
