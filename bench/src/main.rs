@@ -15,7 +15,6 @@ mod job;
 mod low_energy;
 mod measure;
 mod outbox;
-mod reasons;
 mod replies;
 mod rows;
 mod rows_classic;

@@ -2,15 +2,12 @@
 
 use crate::job::{Growth, Row, Subject};
 use crate::measure::Counted;
-use crate::reasons;
 use std::time::Duration;
 
 /// Twice, to two decimals: the end of an input can cost less than the rest of it.
 const TWICE: f64 = 2.005;
 /// A time is marked where it is so many times what the instructions say.
 const SLOW: f64 = 1.3;
-/// Rows above are listed with a reason.
-const GOAL: f64 = 1.5;
 
 /// What one row measured.
 pub struct Measured {
@@ -62,7 +59,6 @@ pub fn print(rows: &[Row], measured: &[Measured]) {
             print_line(&row.name, &subjects, measured);
         }
     }
-    print_above(&lines);
 }
 
 fn head(subject: Subject) -> &'static str {
@@ -98,27 +94,6 @@ fn print_line(name: &str, subjects: &[Subject], measured: &Measured) {
         measured.instructions(),
         measured.marked_time(),
     );
-}
-
-/// The rows that take far more than C, with the reason.
-fn print_above(lines: &[(&Row, &Measured)]) {
-    println!("\n### rows above 1.5 of the careful C\n");
-    println!("| row | archive / C | time, archive / C | why |");
-    println!("|---|--:|--:|---|");
-    let mut above: Vec<_> = lines
-        .iter()
-        .filter(|(_, measured)| measured.instructions() > GOAL)
-        .collect();
-    above.sort_by(|(_, one), (_, next)| next.instructions().total_cmp(&one.instructions()));
-    for (row, measured) in above {
-        println!(
-            "| {} | {:.2} | {} | {} |",
-            row.key(),
-            measured.instructions(),
-            measured.marked_time(),
-            reasons::why(row),
-        );
-    }
 }
 
 /// Two decimals where a number is small, none where it is large.
