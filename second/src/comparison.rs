@@ -64,7 +64,10 @@ fn kinds(operation: Operation) -> Kinds {
         Operation::CaptureJudge => &[(0, &["", "lawful", "open", "unlawful"])],
         Operation::CaptureWhy => &[
             (0, &["", "lawful", "open", "unlawful"]),
-            (24, &["", "any first expected", "first expected", "next expected"]),
+            (
+                24,
+                &["", "any first expected", "first expected", "next expected"],
+            ),
         ],
         _ => &[],
     }

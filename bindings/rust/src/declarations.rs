@@ -373,10 +373,5 @@ extern "C" {
         answer_len: usize,
     ) -> u64;
     /// Tells where bytes are not text.
-    pub fn pito_text(
-        text: *const u8,
-        text_len: usize,
-        answer: *mut u64,
-        answer_len: usize,
-    ) -> u64;
+    pub fn pito_text(text: *const u8, text_len: usize, answer: *mut u64, answer_len: usize) -> u64;
 }

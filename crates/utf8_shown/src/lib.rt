@@ -8,6 +8,7 @@ ghost use Prim.Native.Nat.{_<_};
 ghost use lib.ListN.{length};
 ghost use Rattle.utf8.specs.Table.{within};
 ghost use Rattle.utf8_shown.specs.Shown.{isHidden, hiddenPlace, isText, hiddenOne, hiddenTwo, hiddenThree, hiddenBy};
+ghost use Rattle.utf8_shown.specs.Claims.{HiddenBegins};
 
 fn between(low: u8, b: u8, high: u8) -> bool
     ensures { λ r. ⌜ r ≡ within (low, high) b ⌝ }
@@ -76,3 +77,8 @@ pub fn is_text(string: &[u8]) -> bool
     let len = string.len();
     both(bad_place(string) == len, hidden_place(string) == len)
 }
+
+// In a well-formed string the place is one at which a character begins.
+pub fn hidden_begins()
+    ensures { λ _. ⌜ HiddenBegins ⌝ }
+{}

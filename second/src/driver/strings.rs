@@ -58,9 +58,13 @@ fn judge_text(c: &mut Comparison<'_>, call: &mut Call, string: &[u8]) -> Compare
     call.inputs[0].extend(string);
     let returned = c.run(call)?;
     let decoded = std::str::from_utf8(string);
-    let bad = decoded.err().map_or(string.len(), |error| error.valid_up_to());
+    let bad = decoded
+        .err()
+        .map_or(string.len(), |error| error.valid_up_to());
     let hidden = decoded.is_ok_and(|text| {
-        let found = text.char_indices().find(|&(_, character)| is_hidden(character));
+        let found = text
+            .char_indices()
+            .find(|&(_, character)| is_hidden(character));
         call.answer[1] != found.map_or(string.len(), |(place, _)| place) as u64
     });
     let number = if decoded.is_ok() { 0 } else { 36 };
