@@ -75,7 +75,8 @@ def main(archive, scratch):
     symbols = (line.split() for line in run("nm", "--defined-only", archive).splitlines())
     exported = [row[2] for row in symbols if len(row) == 3 and row[1] == "T"]
     group_of = {name: group for name in exported for group, words in GROUPS.items() if name.split("_")[1] in words}
-    if len(group_of) != len(exported):
+    # The version is in every box, and in no group.
+    if len(group_of) + 1 != len(exported):
         sys.exit("code.py: a function belongs to no group")
     print_functions(archive, scratch, exported)
     print_kept(archive, scratch, group_of)

@@ -9,12 +9,11 @@ use lib.Seq.{take-at, drop-at}
 use lib.Dec.{eqb, leb, ltb}
 use borrow.Author.Tests.{eq-eqb, ne-eqb, eqb-true, eqb-false}
 use Rattle.wire.specs.Bytes.{bit}
-use Rattle.wire.specs.Stream.{streamNumber, streamOf}
-use Rattle.wire.specs.Told.{Told, given, refused, andThen, line, table}
+use Rattle.wire.specs.Told.{Told, given, refused, andThen}
 use Rattle.wire.proofs.Streams.{number-back}
 use Rattle.ble_packet.specs.declared.reader.Packet.{Packet}
 use Rattle.ble_packet.specs.declared.reader.Packet.the-variants.{First, Next}
-use Rattle.ble_packet.specs.Header.{typeFirst, typeControl, typeBits, extenderBit, headerSize, sequenceAfter}
+use Rattle.ble_packet.specs.Header.{typeControl, typeBits, extenderBit, headerSize, sequenceAfter}
 use Rattle.ble_packet.specs.Control.{ackSize}
 use Rattle.ble_packet.specs.Reader.{fieldsOf, lines, readOf}
 use Rattle.ble_packet.proofs.Headers.{type-back, extender-back}
@@ -34,9 +33,9 @@ use Rattle.capture_reader.specs.Capture as capture
 use Rattle.capture_reader.specs.Capture.{ToldAt, located, lengthIn, otherVersion}
 use Rattle.capture_packet.specs.Place.{PacketItem, found, end, foundAt, badPlace, packetAt}
 use Rattle.capture_packet.proofs.Places.{onward, packetsAt, places-give-all}
-use Rattle.c_rows.specs.Row.{afterwards, numberTold}
-use Rattle.c_rows.specs.Called.{Called, called, answers}
-use Rattle.c_packets.specs.Convert.{packetRow, frontRow, capturedRow}
+use Rattle.c_rows.specs.Row.{afterwards}
+use Rattle.c_rows.specs.Called.{called}
+use Rattle.c_packets.specs.Convert.{packetRow, capturedRow}
 use Rattle.c_packets.specs.Calls.{packetReadOf, capturePacketOf}
 use Rattle.c_claims.specs.RowsAgree.{rowFor, frontBy, frontsFrom, capturedBy, capturedFrom}
 

@@ -1,7 +1,7 @@
 -- One packet read, at the front of some bytes and at a place of a capture, called from C: what is left, and one table whose rows all hold.
 use Prim.Native.Nat.{ℕ}
 use mathlib.Core.Path.{_≡_}
-use mathlib.Core.List.{List, [], _∷_, _++_, map}
+use mathlib.Core.List.{List, [], _∷_, map}
 use lib.ListN.{replicate}
 use Rattle.c_packets.specs.Calls.{packetReadOf, capturePacketOf}
 use Rattle.c_rows.specs.Called.{Called, called}

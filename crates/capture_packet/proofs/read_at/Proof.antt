@@ -5,7 +5,7 @@ use native.Mathlib.Omega.{arith}
 use lib.ListN.{length, drop}
 use borrow.Author.Needs.{needs}
 use denote.Ref.{now}
-use Rattle.wire.specs.Told.{given, refused}
+use Rattle.wire.specs.Told.{given}
 use Rattle.wire.proofs.Parts.{rest-lent}
 use Rattle.capture_reader.specs.Capture.{width, frontOf, frontTold}
 use Rattle.capture_packet.specs.Place.{packetAt}
