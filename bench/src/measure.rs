@@ -92,26 +92,31 @@ fn own_time() -> Duration {
     Duration::new(time.seconds as u64, time.nanoseconds as u32)
 }
 
-/// The best time of each subject that is timed, over many short rounds in which each has its turn. The inputs are made anew
-/// several times, each time elsewhere: a place that bytes have in common with others costs some subject more.
+/// The time of each subject that is timed, over many short rounds in which each has its turn: that than which a quarter of the
+/// rounds was faster, since on a busy machine the clock errs both ways. The inputs are made anew several times, each time
+/// elsewhere, and the best place counts.
 pub fn time_all(make: &dyn Fn() -> Job) -> Vec<(Subject, Duration)> {
     const PLACES: usize = 6;
-    const ROUNDS: usize = 5;
+    const ROUNDS: usize = 8;
     const ENOUGH: Duration = Duration::from_millis(70);
     let mut best = Subject::TIMED.map(|subject| (subject, Duration::MAX));
     let mut between = Vec::new();
     for place in 0..PLACES {
         between.push(vec![0_u8; 1_000 * place + 16]);
         let mut job = make();
-        let (mut rounds, begin) = (0, own_time());
-        while rounds < ROUNDS || own_time() - begin < ENOUGH {
-            for (subject, time) in &mut best {
-                let work = job.work(*subject);
+        let mut times = Subject::TIMED.map(|_| Vec::new());
+        let begin = own_time();
+        while times[0].len() < ROUNDS || own_time() - begin < ENOUGH {
+            for (times, subject) in times.iter_mut().zip(Subject::TIMED) {
+                let work = job.work(subject);
                 let start = own_time();
                 std::hint::black_box(work(false));
-                *time = (own_time() - start).min(*time);
+                times.push(own_time() - start);
             }
-            rounds += 1;
+        }
+        for ((_, best), times) in best.iter_mut().zip(&mut times) {
+            times.sort_unstable();
+            *best = times[times.len() / 4].min(*best);
         }
     }
     best.to_vec()
