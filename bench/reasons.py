@@ -20,6 +20,8 @@ REASONS = [
      "C 8"),
     ("frame writer", "marks only", "each mark is found as the end of a run, and a run of no bytes is copied before it; C stays with the marks"),
     ("packets written", "", f"the copy is {COPY}; gcc makes one instruction of it, `rep movs`, which takes longer than it counts"),
+    ("packets read", "", "where the packet ends is told by its header, which the receiver's reader then reads and judges once more: 28 "
+     "comparisons and 13 moves of the stack, in C 11 and none"),
     ("packets accepted", "", "the packet, the slot that it finds and what comes of it are values: 114 moves of the stack at room 20, in C 32, "
      "and 55 with a packet that is refused at once, in C 13; an open slot is judged field by field, in C as one number"),
     ("captures judged", "", "the three streams' transactions are values: 73 moves of the stack a packet, in C 4"),
