@@ -28,7 +28,7 @@ use Rattle.ble_sender.proofs.Guard.{SendingInRange, room-low, range-facts}
 use Rattle.ble_sender_claims.specs.Calls.{SendableMessage}
 use Rattle.ble_joined.specs.Joined.{concat, joinedOf}
 use Rattle.ble_claims.proofs.Reading.{headFor, first-read, next-read}
-use Rattle.reply_claims.proofs.CutApart.{said}
+use Rattle.reply_claims.proofs.CutApart.{kind-low, said}
 use Rattle.capture_reader.specs.Capture as capture
 use Rattle.capture_reader.specs.Capture.{ToldAt, located, lengthIn, otherVersion}
 use Rattle.capture_packet.specs.Place.{PacketItem, found, end, foundAt, badPlace, packetAt}
@@ -77,11 +77,6 @@ kind-message : (first last : Bool) → eqb (typeFor first last) typeControl ≡ 
 kind-message true last = refl
 kind-message false true = refl
 kind-message false false = refl
-
-kind-low : (first last : Bool) → typeFor first last < 4
-kind-low true last = omega arith
-kind-low false true = omega arith
-kind-low false false = omega arith
 
 -- a packet that was written, whatever follows it
 module _ (w : Sending) (m : List ℕ) (p : Piece) (inside : p .place + p .size ≤ length m) (rest : List ℕ) where
