@@ -79,7 +79,7 @@ kind-message false true = refl
 kind-message false false = refl
 
 -- a packet that was written, whatever follows it
-module _ (w : Sending) (m : List ℕ) (p : Piece) (inside : p .place + p .size ≤ length m) (rest : List ℕ) where
+module _ (w : Sending) (m : List ℕ) (p : Piece) (inside : p .start + p .size ≤ length m) (rest : List ℕ) where
   abbrev packet : List ℕ
   packet = packetOf w m p
 
@@ -128,7 +128,7 @@ module _ (limit : ℕ) (w : Sending) (m answer : List ℕ) (room : leastRoom ≤
   none-left (suc calls) h = rw (eq-eqb (length answer) 10 l)
 
   -- what the writer was given is what is read
-  module _ (p : Piece) (inside : p .place + p .size ≤ length m) where
+  module _ (p : Piece) (inside : p .start + p .size ≤ length m) where
     abbrev size : ℕ
     size = length (packetOf w m p)
 
@@ -162,18 +162,18 @@ module _ (limit : ℕ) (w : Sending) (m answer : List ℕ) (room : leastRoom ≤
       let d : (n ≡ rest → ⊥) = eqb-false n rest e in
       later (omega arith)
 
-  fronts-later : (fuel index place rest : ℕ) → 1 ≤ rest → place + rest ≤ length m → Fronts (piecesFrom fuel (w .room) (suc index) place rest)
-  fronts-later zero index place rest some h = none-left
-  fronts-later (suc fuel) index place rest some h =
+  fronts-later : (fuel index start rest : ℕ) → 1 ≤ rest → start + rest ≤ length m → Fronts (piecesFrom fuel (w .room) (suc index) start rest)
+  fronts-later zero index start rest some h = none-left
+  fronts-later (suc fuel) index start rest some h =
       let n : ℕ = sizeFor (w .room) (isFirst (suc index)) rest in
       let below : n ≤ rest = size-le (w .room) (isFirst (suc index)) room rest in
-      let p : Piece = pieceFor (suc index) place n in
-      let ps : List Piece = piecesFrom fuel (w .room) (suc (suc index)) (place + n) (rest - n) in
+      let p : Piece = pieceFor (suc index) start n in
+      let ps : List Piece = piecesFrom fuel (w .room) (suc (suc index)) (start + n) (rest - n) in
       let i : isFirst (suc index) ≡ false = ne-eqb (suc index) 0 (λ e. omega arith) in
-      let inside : place + n ≤ length m = omega arith in
+      let inside : start + n ≤ length m = omega arith in
       fronts-cons p inside (cond (eqb n rest) [] ps) _
       (next-read limit w m p (ok .known) (ok .id) inside i (size-some (w .room) (isFirst (suc index)) room rest some)) (next-row p inside i)
-      (fronts-tail n rest (eqb n rest) ps below refl (λ more. fronts-later fuel (suc index) (place + n) (rest - n) more (omega arith)))
+      (fronts-tail n rest (eqb n rest) ps below refl (λ more. fronts-later fuel (suc index) (start + n) (rest - n) more (omega arith)))
 
   fronts-all : Fronts (piecesFrom (suc (length m)) (w .room) 0 0 (length m))
   fronts-all =
