@@ -94,7 +94,7 @@ frontBy bytes later c =
     ((take (getD (c .answer) 0 0) bytes, c .answer) ∷ later (drop (getD (c .answer) 0 0) bytes))
     []
 
--- at most so many calls, over one answer row
+-- at most `calls` calls, over one answer row
 unfoldable pub frontsFrom : ℕ → ℕ → List ℕ → List ℕ → List (List ℕ × List ℕ)
 frontsFrom zero limit answer bytes = []
 frontsFrom (suc calls) limit answer bytes = frontBy bytes (frontsFrom calls limit answer) (packetReadOf bytes limit answer)

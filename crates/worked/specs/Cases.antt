@@ -171,7 +171,7 @@ cases =
     ∷ case (acceptPacketWithin 64 (opening (3 ∷ [])) (beginning 1)) (accepted (given (Taken 1 Control 1 false)) (opening (3 ∷ 1 ∷ [])))
     ∷ case (acceptPacketWithin 64 (opening (3 ∷ 1 ∷ [])) (beginning 2)) (accepted (given (Taken 2 Control 2 false)) (opening (3 ∷ 1 ∷ 2 ∷ [])))
     ∷ case (acceptPacketWithin 64 (opening (3 ∷ 1 ∷ 2 ∷ [])) (beginning 0)) (accepted (given (Taken 3 Control 0 false)) full)
-    -- id 4 finds no slot, a total of 0 neither; id 2 is open, and replaced at its place
+    -- id 4 finds no slot, a total of 0 neither; id 2 is open, and replaced at its index
     ∷ case (acceptPacketWithin 64 full (beginning 4)) (accepted (refused 18) full)
     ∷ case (acceptPacketWithin 64 full (0x09 ∷ zeros 5)) (accepted (refused 18) full)
     ∷ case (acceptPacketWithin 64 full (beginning 2)) (accepted (given (Taken 2 Control 2 true)) full)
