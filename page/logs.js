@@ -1,6 +1,7 @@
 // Captures out of logs: a btsnoop file, or lines in base 16. This stays JavaScript; what comes out is judged by the module.
 const WAYS = { 0x12: "written to", 0x52: "written to", 0x1b: "sent by", 0x1d: "sent by" };
-const PARTS = { 0x16: "a part of a long write", 0xd2: "a signed write" };
+const PARTS = { 0x16: "a part of a long write", 0xd2: "a signed write", 0x23: "several notifications in one" };
+const WAYS_OF_PARTS = { 0x16: "written to", 0xd2: "written to", 0x23: "sent by" };
 const ATT = 4, LEAST_MTU = 23, LEAST_ROOM = 20, LARGEST_ROOM = 512, LARGEST_TEXT = 1 << 24;
 
 const DECODER = new TextDecoder("utf-8", { ignoreBOM: true });
@@ -150,26 +151,31 @@ function joined(a, b) {
   both.set(b, a.length);
   return both;
 }
+// The answer to a question of the other side: the MTU, and since which record it is this one.
+function agree(room, asker, answered, number) {
+  const agreed = Math.max(LEAST_MTU, Math.min(room.asked[asker], answered));
+  delete room.asked[asker];
+  if (agreed !== room.agreed) Object.assign(room, { agreed, since: number });
+}
 // The packets by connection, ATT handle, direction and kind; and the room that each connection agreed on.
 function sortOut({ number, connection, received, data }, groups, rooms) {
-  if (!rooms.has(connection)) rooms.set(connection, { asked: {}, agreed: null, before: {} });
-  const room = rooms.get(connection), way = WAYS[data[0]] ?? (data[0] in PARTS && data.length >= 3 ? WAYS[0x12] : null);
+  if (!rooms.has(connection)) rooms.set(connection, { asked: {}, agreed: null, since: 0 });
+  const room = rooms.get(connection), way = WAYS[data[0]] ?? (data.length >= 3 ? WAYS_OF_PARTS[data[0]] : null);
   if (data.length === 3 && data[0] === 2) room.asked[received] = little(data, 1);
-  if (data.length === 3 && data[0] === 3 && 1 - received in room.asked) room.agreed = Math.min(room.asked[1 - received], little(data, 1));
+  if (data.length === 3 && data[0] === 3 && 1 - received in room.asked) agree(room, 1 - received, little(data, 1), number);
   if (!way) return;
   if (data.length < 3) throw new LogError(`The message that begins in record ${number} has no ATT handle.`);
-  if (room.agreed === null && data[0] in WAYS) room.before[way] = (room.before[way] ?? 0) + 1;
   const handle = little(data, 1), key = [connection, handle, received, way].join();
-  if (!groups.has(key)) groups.set(key, { connection, handle, received, way, packets: [], error: null });
+  if (!groups.has(key)) groups.set(key, { connection, handle, received, way, packets: [], first: number, error: null });
   const group = groups.get(key);
   if (data[0] in PARTS) group.error ??= `The message that begins in record ${number} is ${PARTS[data[0]]}, and no packet of its own.`;
   else if (data.length === 3) group.error ??= `The message that begins in record ${number} has a packet of no bytes.`;
   else group.packets.push(data.subarray(3));
 }
-function wayOf({ connection, handle, received, way, packets, error }, { agreed, before }) {
-  const hex = handle.toString(16).padStart(4, "0"), mtu = agreed === null ? null : Math.max(agreed, LEAST_MTU);
+function wayOf({ connection, handle, received, way, packets, first, error }, { agreed: mtu, since }) {
+  const hex = handle.toString(16).padStart(4, "0");
   const name = `${packets.length} packets ${way} handle 0x${hex}, connection ${connection}, ${received ? "received" : "sent"}`;
   const told = { name, packets: packets.length, connection, handle, received, way, error, capture: captureOf(packets) };
-  if (mtu === null || before[way]) return { ...told, note: mtu === null ? "The log has no MTU exchange of this connection." : "The log's MTU exchange came after some of these packets." };
+  if (mtu === null || first < since) return { ...told, note: mtu === null ? "The log has no MTU exchange of this connection." : "The log's MTU exchange came after some of these packets." };
   return { ...told, mtu, room: Math.min(mtu - 3, LARGEST_ROOM) };
 }

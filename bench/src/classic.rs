@@ -2,7 +2,7 @@
 
 use crate::calls::{ExtractorFeed, ExtractorStep, FrameBegin, FramePart, FrameWrite};
 use crate::digest::Digest;
-use second::classic::{write_frame, Decided, Extractor, Outcome, Parts, Standing, LIMIT};
+use second::classic::LIMIT;
 use std::hint::black_box;
 
 const FRAME: u64 = 2;
@@ -53,31 +53,7 @@ pub fn feed<const WHOLE: bool>(
         }
     }
     digest.row(&state);
-    digest.lent(buffer);
-    digest.value()
-}
-
-/// The same by the types of second/.
-pub fn feed_own<const WHOLE: bool>(stream: &[u8], size: usize, buffer: &mut [u8]) -> u64 {
-    let mut digest = Digest::<WHOLE>::new();
-    let mut state = Extractor::open(LIMIT).expect("a limit");
-    for mut rest in stream.chunks(size) {
-        while !rest.is_empty() {
-            let (next, used, decided) = state.feed(buffer, rest);
-            state = next;
-            match decided {
-                Decided::AllUsed => digest.row(&[0, 0, used as u64, 0, 0]),
-                Decided::Refused(refusal) => digest.row(&[refusal.number(), 0, used as u64, 0, 0]),
-                Decided::Frame { sequence, length } => {
-                    digest.row(&[0, FRAME, used as u64, u64::from(sequence), length as u64]);
-                    digest.bytes(&buffer[..length]);
-                }
-            }
-            rest = &rest[used..];
-        }
-    }
-    digest.row(&state_row(state));
-    digest.lent(buffer);
+    digest.bytes(buffer);
     digest.value()
 }
 
@@ -104,44 +80,8 @@ pub fn step<const WHOLE: bool>(step: ExtractorStep, stream: &[u8], buffer: &mut 
         }
     }
     digest.row(&state);
-    digest.lent(buffer);
+    digest.bytes(buffer);
     digest.value()
-}
-
-pub fn step_own<const WHOLE: bool>(stream: &[u8], buffer: &mut [u8]) -> u64 {
-    let mut digest = Digest::<WHOLE>::new();
-    let mut state = Extractor::open(LIMIT).expect("a limit");
-    for &byte in stream {
-        let (next, told) = state.step(buffer, byte);
-        state = next;
-        match told {
-            Ok(Outcome::Skipped) => digest.row(&[0, 0, 0, 0]),
-            Ok(Outcome::Taken) => digest.row(&[0, 1, 0, 0]),
-            Ok(Outcome::Frame { sequence, length }) => {
-                digest.row(&[0, FRAME, u64::from(sequence), length as u64]);
-                digest.bytes(&buffer[..length]);
-            }
-            Err(refusal) => digest.row(&[refusal.number(), 0, 0, 0]),
-        }
-    }
-    digest.row(&state_row(state));
-    digest.lent(buffer);
-    digest.value()
-}
-
-fn state_row(state: Extractor) -> [u64; 4] {
-    let [phase, sequence, held] = match state.standing {
-        Standing::Outside => [0; 3],
-        Standing::PacketId => [1, 0, 0],
-        Standing::ErrorId => [2, 0, 0],
-        Standing::Sequence => [3, 0, 0],
-        Standing::Body {
-            sequence,
-            held,
-            escape,
-        } => [4 + u64::from(escape), u64::from(sequence), held as u64],
-    };
-    [state.limit, phase, sequence, held]
 }
 
 pub fn write<const WHOLE: bool>(write: FrameWrite, payloads: &[Payload], output: &mut [u8]) -> u64 {
@@ -165,27 +105,7 @@ pub fn write<const WHOLE: bool>(write: FrameWrite, payloads: &[Payload], output:
         digest.row(&answer);
         digest.bytes(&output[..answer[0] as usize]);
     }
-    digest.lent(output);
-    digest.value()
-}
-
-pub fn write_own<const WHOLE: bool>(payloads: &[Payload], output: &mut [u8]) -> u64 {
-    let mut digest = Digest::<WHOLE>::new();
-    for payload in payloads {
-        match write_frame(
-            payload.sequence,
-            LIMIT,
-            &payload.bytes,
-            &mut output[..payload.room],
-        ) {
-            Ok(written) => {
-                digest.row(&[0, written as u64]);
-                digest.bytes(&output[..written]);
-            }
-            Err(refusal) => digest.row(&[refusal.number(), 0]),
-        }
-    }
-    digest.lent(output);
+    digest.bytes(output);
     digest.value()
 }
 
@@ -227,40 +147,6 @@ pub fn parts<const WHOLE: bool>(
         }
     }
     digest.row(&state);
-    digest.lent(output);
+    digest.bytes(output);
     digest.value()
-}
-
-/// The same by the types of second/.
-pub fn parts_own<const WHOLE: bool>(payloads: &[Payload], output: &mut [u8]) -> u64 {
-    let mut digest = Digest::<WHOLE>::new();
-    let mut last = [0; 7];
-    for payload in payloads {
-        let total = payload.bytes.len() as u64;
-        let mut state = Parts::begin(payload.sequence, LIMIT, total).expect("in range");
-        digest.number(0);
-        let mut rest = &payload.bytes[..];
-        loop {
-            let (next, told) = state.write(rest, &mut output[..payload.room]);
-            let told = told.expect("in range");
-            let (taken, written) = (told.taken as u64, told.written as u64);
-            state = next;
-            digest.row(&[0, taken, written, u64::from(told.ended)]);
-            digest.bytes(&output[..told.written]);
-            rest = &rest[told.taken..];
-            if told.ended {
-                break;
-            }
-        }
-        last = ended_row(state);
-    }
-    digest.row(&last);
-    digest.lent(output);
-    digest.value()
-}
-
-/// The row of a frame that has ended.
-fn ended_row(state: Parts) -> [u64; 7] {
-    let (sequence, sum) = (u64::from(state.sequence), u64::from(state.sum));
-    [state.limit, sequence, state.total, state.taken, sum, 7, 0]
 }

@@ -1,7 +1,7 @@
-//! What a loop makes of the answers, so that every subject has to give them all and the same ones.
+//! What a loop makes of the answers, so that every subject has to give the same ones.
 
-/// In the counted runs (`WHOLE` false) bytes count by their first and last, a few instructions; in
-/// the pass that verifies (`WHOLE` true) all of them do.
+/// In the pass that verifies (`WHOLE` true) every number and byte counts; in the runs that are measured
+/// only what the calls return, so that the loop costs next to nothing.
 pub struct Digest<const WHOLE: bool>(u64);
 
 impl<const WHOLE: bool> Digest<WHOLE> {
@@ -9,6 +9,7 @@ impl<const WHOLE: bool> Digest<WHOLE> {
         Digest(0)
     }
 
+    /// What a call returned.
     #[inline(always)]
     pub fn number(&mut self, number: u64) {
         self.0 = self.0.rotate_left(5) ^ number;
@@ -19,8 +20,8 @@ impl<const WHOLE: bool> Digest<WHOLE> {
 
     #[inline(always)]
     pub fn row(&mut self, row: &[u64]) {
-        for &number in row {
-            self.number(number);
+        if WHOLE {
+            row.iter().for_each(|&number| self.number(number));
         }
     }
 
@@ -28,17 +29,6 @@ impl<const WHOLE: bool> Digest<WHOLE> {
     pub fn bytes(&mut self, bytes: &[u8]) {
         if WHOLE {
             bytes.iter().for_each(|&byte| self.number(u64::from(byte)));
-        } else if let (Some(first), Some(last)) = (bytes.first(), bytes.last()) {
-            self.number(u64::from(*first) << 8 | u64::from(*last));
-        }
-    }
-
-    /// Lent bytes that a call may have changed beyond what it told: looked at in the pass that
-    /// verifies only.
-    #[inline(always)]
-    pub fn lent(&mut self, bytes: &[u8]) {
-        if WHOLE {
-            self.bytes(bytes);
         }
     }
 

@@ -276,7 +276,7 @@ fn name(string: Vec<u8>) -> Vec<u8> {
 
 fn information(message: Vec<u8>) -> Job {
     let (count, messages) = (message.len(), vec![message]);
-    let reader = Reader::in_message(pito_information_read);
+    let reader = Reader::in_message(archive::information_read);
     Job::of("byte", count).with(
         Subject::Archive,
         work!(control::read_information(reader, &messages)),
@@ -285,7 +285,7 @@ fn information(message: Vec<u8>) -> Job {
 
 fn features(message: Vec<u8>) -> Job {
     let (count, messages) = (message.len(), vec![message]);
-    let reader = Reader::in_message(pito_features_read);
+    let reader = Reader::in_message(archive::features_read);
     Job::of("byte", count).with(
         Subject::Archive,
         work!(control::read_features(reader, &messages)),
@@ -294,7 +294,7 @@ fn features(message: Vec<u8>) -> Job {
 
 fn envelope(message: Vec<u8>) -> Job {
     let (count, messages) = (message.len(), vec![message]);
-    let reader = Reader::in_message(pito_envelope_read);
+    let reader = Reader::in_message(archive::envelope_read);
     Job::of("byte", count).with(
         Subject::Archive,
         work!(control::read_envelope(reader, &messages)),

@@ -162,16 +162,6 @@ pub fn packets_by_turns(messages: &[Vec<u8>], room: usize) -> Vec<Vec<u8>> {
     packets
 }
 
-/// The pieces that stand in those packets.
-pub fn pieces(messages: &[Vec<u8>], room: usize) -> Vec<Vec<u8>> {
-    let of = |message: &Vec<u8>| -> Vec<Vec<u8>> {
-        low_energy::pieces(message.len(), room)
-            .map(|piece| message[piece.place..piece.place + piece.size].to_vec())
-            .collect()
-    };
-    messages.iter().flat_map(of).collect()
-}
-
 /// ACKs and NACKs by turns.
 pub fn acks(count: usize) -> Vec<Vec<u8>> {
     let one = |turn| {

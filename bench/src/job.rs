@@ -1,33 +1,31 @@
 //! One row of the table: the input made ahead, and what each subject does with it.
 
-use crate::{copies, work};
-use std::rc::Rc;
-
 #[derive(Clone, Copy, Debug, PartialEq, Eq)]
 pub enum Subject {
-    /// The library's archive, through its C interface.
+    /// The library's archive.
     Archive,
-    /// The plain Rust of second/, behind the same C calls.
+    /// The careful C of bench/careful, by gcc and by clang.
+    Gcc,
+    Clang,
+    /// The plain Rust of second/.
     Rust,
-    /// The same plain Rust called directly, on its own types.
-    Own,
-    /// Plain C for frames and packets, nanopb for messages.
-    Other,
-    /// protobuf-c for messages.
+    /// Messages by nanopb and by protobuf-c.
+    Nanopb,
     ProtobufC,
-    /// A copy of the same payload bytes.
-    Memcpy,
 }
 
 impl Subject {
     pub const ALL: [Subject; 6] = [
         Subject::Archive,
+        Subject::Gcc,
+        Subject::Clang,
         Subject::Rust,
-        Subject::Own,
-        Subject::Other,
+        Subject::Nanopb,
         Subject::ProtobufC,
-        Subject::Memcpy,
     ];
+
+    /// Those whose time is taken.
+    pub const TIMED: [Subject; 3] = [Subject::Archive, Subject::Gcc, Subject::Clang];
 
     pub fn name(self) -> String {
         format!("{self:?}").to_lowercase()
@@ -38,6 +36,18 @@ impl Subject {
             .into_iter()
             .find(|subject| subject.name() == name)
     }
+
+    /// The functions whose instructions count, as callgrind's patterns. nanopb's replies are cut by the archive's packet writer.
+    pub fn counted(self) -> &'static [&'static str] {
+        match self {
+            Subject::Archive => &["pito_*"],
+            Subject::Gcc => &["gcc_*"],
+            Subject::Clang => &["clang_*"],
+            Subject::Rust => &["plain_*"],
+            Subject::Nanopb => &["nanopb_*", "pito_packet_write"],
+            Subject::ProtobufC => &["pbc_*"],
+        }
+    }
 }
 
 /// Goes through the whole input once and gives the digest of all answers; the argument says whether
@@ -47,25 +57,32 @@ pub type Work = Box<dyn FnMut(bool) -> u64>;
 /// What one row measures.
 pub struct Job {
     /// What the input counts as, as ("byte", 4,194,304).
-    pub units: Vec<(&'static str, u64)>,
+    pub unit: (&'static str, u64),
     pub works: Vec<(Subject, Work)>,
 }
 
 impl Job {
     pub fn of(unit: &'static str, count: usize) -> Job {
         Job {
-            units: vec![(unit, count as u64)],
+            unit: (unit, count as u64),
             works: Vec::new(),
         }
     }
 
-    pub fn and(mut self, unit: &'static str, count: usize) -> Job {
-        self.units.push((unit, count as u64));
+    pub fn with(mut self, subject: Subject, work: Work) -> Job {
+        self.works.push((subject, work));
         self
     }
 
-    pub fn with(mut self, subject: Subject, work: Work) -> Job {
-        self.works.push((subject, work));
+    /// A work for each subject, of its call.
+    pub fn each<C, const N: usize>(
+        mut self,
+        calls: [(Subject, C); N],
+        work: impl Fn(C) -> Work,
+    ) -> Job {
+        for (subject, call) in calls {
+            self.works.push((subject, work(call)));
+        }
         self
     }
 
@@ -103,17 +120,6 @@ impl Row {
     pub fn key(&self) -> String {
         format!("{}: {}", self.group, self.name)
     }
-}
-
-/// One input for several works.
-pub fn share<T, const N: usize>(input: T) -> [Rc<T>; N] {
-    let input = Rc::new(input);
-    [(); N].map(|()| input.clone())
-}
-
-/// A copy of the payload bytes beside a job, part after part.
-pub fn with_copy(job: Job, parts: Vec<Vec<u8>>) -> Job {
-    job.with(Subject::Memcpy, work!(copies::copy(&parts; 4_096)))
 }
 
 /// An input that grows: the counts at each size show whether the work is linear.

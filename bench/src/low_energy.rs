@@ -1,15 +1,12 @@
 //! Loops over Low Energy packets.
 
 use crate::calls::{
-    pito_slot, AckWrite, CaptureJudge, CapturePacket, CaptureWhy, PacketRead, PacketWrite,
-    ReceiverAccept, ReportAdd,
+    pito_slot, AckWrite, CaptureJudge, CapturePacket, PacketRead, PacketWrite, ReceiverAccept,
+    ReportAdd,
 };
 use crate::digest::Digest;
 use second::classic::LIMIT;
-use second::low_energy::{
-    self, accept as accept_packet, acknowledgement, write_packet, Accepted, Open, Receiver, Reply,
-    Stream, Wish, SLOTS,
-};
+use second::low_energy::{self, Stream, Wish, SLOTS};
 use std::hint::black_box;
 
 const FINISHED: u64 = 1;
@@ -58,27 +55,7 @@ pub fn write<const WHOLE: bool>(write: PacketWrite, messages: &[Vec<u8>], room: 
             }
         }
     }
-    digest.lent(&output);
-    digest.value()
-}
-
-pub fn write_own<const WHOLE: bool>(messages: &[Vec<u8>], room: usize) -> u64 {
-    let mut digest = Digest::<WHOLE>::new();
-    let mut output = [0; 512];
-    for message in messages {
-        let mut place = 0;
-        loop {
-            let told = write_packet(room as u64, LIMIT, Some(WISH), message, place, &mut output);
-            let (written, next) = told.expect("a lawful wish");
-            digest.row(&[0, written as u64, next as u64]);
-            digest.bytes(&output[..written]);
-            place = next as u64;
-            if next == message.len() {
-                break;
-            }
-        }
-    }
-    digest.lent(&output);
+    digest.bytes(&output);
     digest.value()
 }
 
@@ -103,17 +80,6 @@ pub fn write_acks<const WHOLE: bool>(write: AckWrite, count: usize) -> u64 {
         digest.number(number);
         digest.row(&answer);
         digest.bytes(&output);
-    }
-    digest.value()
-}
-
-pub fn write_acks_own<const WHOLE: bool>(count: usize) -> u64 {
-    let mut digest = Digest::<WHOLE>::new();
-    for turn in 0..count {
-        let (id, sequence) = (turn % 16, turn / 16 % 16);
-        let made = acknowledgement(WISH.stream, id as u8, sequence as u8, turn % 2 == 1);
-        digest.row(&[0, made.len() as u64]);
-        digest.bytes(&black_box(made));
     }
     digest.value()
 }
@@ -154,7 +120,7 @@ pub fn accept<const WHOLE: bool>(
         }
     }
     row.iter().for_each(|slot| digest.row(&lent_row(slot)));
-    digest.lent(buffer);
+    digest.bytes(buffer);
     digest.value()
 }
 
@@ -212,7 +178,7 @@ pub fn judge<const WHOLE: bool>(judge: CaptureJudge, capture: &[u8], room: usize
 }
 
 /// .. and told why.
-pub fn why<const WHOLE: bool>(why: CaptureWhy, capture: &[u8], room: usize) -> u64 {
+pub fn why<const WHOLE: bool>(why: CaptureJudge, capture: &[u8], room: usize) -> u64 {
     judged::<WHOLE, 31>(why, capture, room)
 }
 
@@ -263,7 +229,7 @@ pub fn report<const WHOLE: bool>(add: ReportAdd, capture: &[u8], buffer: &mut [u
     digest.row(&answer);
     digest.row(&report);
     row.iter().for_each(|slot| digest.row(&lent_row(slot)));
-    digest.lent(buffer);
+    digest.bytes(buffer);
     digest.value()
 }
 
@@ -286,80 +252,4 @@ fn lent_row(slot: &pito_slot) -> [u64; 6] {
     let [opened, id, sequence, wanted] =
         [slot.opened, slot.id, slot.sequence, slot.wanted].map(u64::from);
     [opened, id, total, held, sequence, wanted]
-}
-
-pub fn accept_own<const WHOLE: bool>(packets: &[Vec<u8>], buffer: &mut [u8]) -> u64 {
-    let mut digest = Digest::<WHOLE>::new();
-    let mut state = Receiver::open(LIMIT).expect("a limit");
-    let mut ack = [0; 6];
-    for packet in packets {
-        let reply = Reply {
-            sequence: ANSWER,
-            buffer: &mut ack,
-        };
-        let (after, told) = accept_packet(state, buffer, packet, reply);
-        state = after;
-        match told {
-            Err(refusal) => digest.row(&[refusal.number(), 0, 0, 0, 0, 0, 0, 0, 0]),
-            Ok(accepted) => {
-                let row = accepted_row(accepted);
-                digest.number(0);
-                digest.row(&row);
-                if row[0] == FINISHED {
-                    digest.bytes(part(buffer, row[7], row[4] as usize));
-                    digest.bytes(&ack);
-                }
-            }
-        }
-    }
-    let slots = state.slots;
-    slots.iter().for_each(|slot| digest.row(&slot_row(slot)));
-    digest.lent(buffer);
-    digest.value()
-}
-
-fn accepted_row(accepted: Accepted) -> [u64; 8] {
-    let of = |stream: Stream, id: u8| (u64::from(stream.number()), u64::from(id));
-    match accepted {
-        Accepted::Held {
-            place,
-            stream,
-            id,
-            replaced,
-        } => {
-            let (stream, id) = of(stream, id);
-            [0, stream, id, 0, 0, 0, u64::from(replaced), place as u64]
-        }
-        Accepted::Finished {
-            place,
-            stream,
-            id,
-            total,
-            ack_wanted,
-            replaced,
-        } => {
-            let (stream, id) = of(stream, id);
-            let (ack, replaced) = (u64::from(ack_wanted), u64::from(replaced));
-            let (total, place) = (total as u64, place as u64);
-            [FINISHED, stream, id, 0, total, ack, replaced, place]
-        }
-        Accepted::Acknowledgement {
-            stream,
-            id,
-            sequence,
-            positive,
-        } => {
-            let (stream, id) = of(stream, id);
-            let outcome = if positive { 2 } else { 3 };
-            [outcome, stream, id, u64::from(sequence), 0, 0, 0, 0]
-        }
-    }
-}
-
-fn slot_row(slot: &Option<Open>) -> [u64; 6] {
-    slot.map_or([0; 6], |open| {
-        let (id, sequence) = (u64::from(open.id), u64::from(open.sequence));
-        let wanted = u64::from(open.wanted);
-        [1, id, open.total as u64, open.held as u64, sequence, wanted]
-    })
 }

@@ -1,4 +1,4 @@
-//! Instruction counts and wall time of the library's archive beside plain Rust, plain C and nanopb.
+//! Instructions and time of the library's archive beside careful C, plain Rust, nanopb and protobuf-c.
 //!
 //! `bench` prints the tables as Markdown; `bench --only WORD` those lines whose group or name has
 //! the word. `bench count ROW SUBJECT` and `bench grow INPUT SIZE` are the runs that callgrind
@@ -7,7 +7,6 @@
 mod calls;
 mod classic;
 mod control;
-mod copies;
 mod digest;
 mod firmware;
 mod growth;
@@ -28,7 +27,7 @@ mod rust;
 mod table;
 
 use job::{Row, Subject};
-use measure::{count_all, measured, time_all, verify, Counted};
+use measure::{count_all, time_all, verify, Counted, Run};
 use std::env;
 use std::process::ExitCode;
 use table::Measured;
@@ -60,8 +59,7 @@ fn count_one(row: &str, subject: &str) -> Result<(), String> {
         .ok_or("no such row")?;
     let subject = Subject::named(subject).ok_or("no such subject")?;
     let mut job = (row.make)();
-    let work = job.work(subject);
-    println!("{}", measured(&mut || work(false)));
+    println!("{}", job.work(subject)(false));
     Ok(())
 }
 
@@ -73,8 +71,7 @@ fn grow_one(input: &str, size: &str) -> Result<(), String> {
         .ok_or("no such input")?;
     let size = size.parse().map_err(|_| "no such size")?;
     let mut job = (growth.make)(size);
-    let work = job.work(Subject::Archive);
-    println!("{}", measured(&mut || work(false)));
+    println!("{}", job.work(Subject::Archive)(false));
     Ok(())
 }
 
@@ -87,8 +84,11 @@ fn tables(word: &str) -> Result<(), String> {
     for row in &rows {
         let mut job = (row.make)();
         verify(&mut job).map_err(|reason| format!("{}: {reason}", row.key()))?;
-        let words = |subject: Subject| vec!["count".to_string(), row.key(), subject.name()];
-        runs.extend(job.subjects().into_iter().map(words));
+        let run = |subject: Subject| Run {
+            words: vec!["count".to_string(), row.key(), subject.name()],
+            functions: subject.counted(),
+        };
+        runs.extend(job.subjects().into_iter().map(run));
     }
     let mut counts = count_all(&runs).into_iter();
     let mut lines = Vec::new();
@@ -101,23 +101,20 @@ fn tables(word: &str) -> Result<(), String> {
 
 /// The counts of a row, which have to go with the same answers, and its times.
 fn line(row: &Row, counts: &mut impl Iterator<Item = Counted>) -> Result<Measured, String> {
-    let mut job = (row.make)();
-    let subjects: Vec<_> = time_all(&mut job)
-        .into_iter()
-        .map(|(subject, time)| (subject, counts.next().expect("a count for each"), time))
-        .collect();
-    let answers = subjects
-        .iter()
-        .filter(|(subject, ..)| *subject != Subject::Memcpy);
-    let digests: Vec<u64> = answers.map(|(_, counted, _)| counted.digest).collect();
-    if digests.iter().any(|digest| *digest != digests[0]) {
+    let job = (row.make)();
+    let counts: Vec<_> = job.subjects().into_iter().zip(counts).collect();
+    let digest = counts[0].1.digest;
+    if counts.iter().any(|(_, counted)| counted.digest != digest) {
         return Err(format!(
             "{}: the answers differ in the counted run",
             row.key()
         ));
     }
-    let units = job.units;
-    Ok(Measured { units, subjects })
+    Ok(Measured {
+        unit: job.unit,
+        counts,
+        times: time_all(&row.make),
+    })
 }
 
 /// Fails if doubling an input more than doubles the count.
@@ -126,8 +123,11 @@ fn growth_table(word: &str) -> Result<(), String> {
     all.retain(|growth| growth.name.contains(word));
     let mut runs = Vec::new();
     for growth in &all {
-        let words = |size: usize| vec!["grow".to_string(), growth.name.clone(), size.to_string()];
-        runs.extend(growth.sizes.map(words));
+        let run = |size: usize| Run {
+            words: vec!["grow".to_string(), growth.name.clone(), size.to_string()],
+            functions: Subject::Archive.counted(),
+        };
+        runs.extend(growth.sizes.map(run));
     }
     let counts = count_all(&runs);
     let counts: Vec<_> = counts

@@ -2,7 +2,6 @@
 
 use crate::calls::{OutboxAppend, OutboxRecord, OutboxTo, OutboxWhole, Text};
 use crate::digest::Digest;
-use second::outbox::{self, Version};
 use std::hint::black_box;
 
 const ALEXA: u64 = 6;
@@ -35,18 +34,7 @@ pub fn append<const WHOLE: bool>(
         digest.row(&answer);
         digest.bytes(&bytes[used..answer[0] as usize]);
     }
-    digest.lent(bytes);
-    digest.value()
-}
-
-pub fn append_own<const WHOLE: bool>(bytes: &mut [u8], used: usize, payloads: &[Vec<u8>]) -> u64 {
-    let mut digest = Digest::<WHOLE>::new();
-    for payload in payloads {
-        let after = outbox::append(bytes, used as u64, ALEXA, payload).expect("a whole outbox");
-        digest.row(&[0, after as u64, 0]);
-        digest.bytes(&bytes[used..after]);
-    }
-    digest.lent(bytes);
+    digest.bytes(bytes);
     digest.value()
 }
 
@@ -75,22 +63,6 @@ pub fn records<const WHOLE: bool>(record: OutboxRecord, bytes: &[u8], rounds: us
             digest.bytes(&bytes[answer[2] as usize..][..answer[3] as usize]);
             place = answer[4];
         }
-    }
-    digest.value()
-}
-
-pub fn records_own<const WHOLE: bool>(bytes: &[u8], rounds: usize) -> u64 {
-    let mut digest = Digest::<WHOLE>::new();
-    for _ in 0..rounds {
-        let mut place = 1;
-        while let Some(told) = outbox::record(bytes, place).expect("a whole outbox") {
-            let (start, length) = (told.start as u64, told.length as u64);
-            let stream = u64::from(told.stream.number());
-            digest.row(&[0, 1, stream, start, length, told.next as u64, 0]);
-            digest.bytes(&bytes[told.start..][..told.length]);
-            place = told.next as u64;
-        }
-        digest.row(&[0; 7]);
     }
     digest.value()
 }
@@ -134,23 +106,12 @@ pub fn texts<const WHOLE: bool>(text: Text, payloads: &[Vec<u8>]) -> u64 {
     digest.value()
 }
 
-pub fn whole_own<const WHOLE: bool>(bytes: &[u8], rounds: usize) -> u64 {
-    let mut digest = Digest::<WHOLE>::new();
-    for _ in 0..rounds {
-        match outbox::whole(bytes) {
-            Ok(_) => digest.row(&[0, 0]),
-            Err(broken) => digest.row(&[broken.refusal.number(), broken.place.unwrap_or(0) as u64]),
-        }
-    }
-    digest.value()
-}
-
 /// The outbox written as another version, as often as is said.
 pub fn moved<const WHOLE: bool>(
     moved: OutboxTo,
     bytes: &[u8],
-    output: &mut [u8],
     rounds: usize,
+    output: &mut [u8],
 ) -> u64 {
     let moved = black_box(moved);
     let mut digest = Digest::<WHOLE>::new();
@@ -169,21 +130,6 @@ pub fn moved<const WHOLE: bool>(
         digest.number(number);
         digest.row(&answer);
     }
-    digest.lent(output);
-    digest.value()
-}
-
-pub fn moved_own<const WHOLE: bool>(
-    wished: Version,
-    bytes: &[u8],
-    output: &mut [u8],
-    rounds: usize,
-) -> u64 {
-    let mut digest = Digest::<WHOLE>::new();
-    for _ in 0..rounds {
-        let size = outbox::write_as(wished, bytes, output).expect("a whole outbox");
-        digest.row(&[0, size as u64, 0]);
-    }
-    digest.lent(output);
+    digest.bytes(output);
     digest.value()
 }

@@ -1,9 +1,8 @@
 //! Loops over replies to the handshake.
 
 use crate::calls::*;
-use crate::control::{told, write_each, FeaturesGiven, InformationGiven, OUTPUT};
+use crate::control::{write_each, FeaturesGiven, InformationGiven, OUTPUT};
 use second::low_energy::{Stream, Wish};
-use second::reply::{self, Own};
 use std::cell::RefCell;
 use std::hint::black_box;
 
@@ -64,24 +63,12 @@ pub fn write<const WHOLE: bool>(
     })
 }
 
-pub fn write_own<const WHOLE: bool>(
-    asked: &[(Vec<u8>, Own<'static>)],
-    rounds: usize,
-    room: usize,
-) -> u64 {
-    write_each::<WHOLE, 3, _>(asked, rounds, |(message, own), output, answer| {
-        let written = reply::write(message, own, room as u64, LIMIT, Some(WISH), output);
-        let written = written.map(|written| written.expect("a question"));
-        told(written.map_err(|broken| broken.refusal), answer)
-    })
-}
-
 /// The question read and the envelope encoded by nanopb, then cut into packets by the archive's packet writer.
 pub fn write_nanopb<const WHOLE: bool>(asked: &[Asked], rounds: usize, room: usize) -> u64 {
     let (read, encode, write) = black_box((
-        nanopb_envelope_read as MessageRead,
-        nanopb_envelope_write as EnvelopeWrite,
-        pito_packet_write as PacketWrite,
+        nanopb::envelope_read as MessageRead,
+        nanopb::envelope_write as EnvelopeWrite,
+        archive::packet_write as PacketWrite,
     ));
     let envelope = RefCell::new([0; OUTPUT]);
     write_each::<WHOLE, 3, _>(asked, rounds, |asked, output, answer| unsafe {

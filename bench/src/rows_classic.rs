@@ -2,8 +2,9 @@
 
 use crate::calls::*;
 use crate::classic::{Payload, BUFFER, OUTPUT};
-use crate::job::{share, with_copy, Job, Row, Subject};
-use crate::{classic, inputs, rust, work};
+use crate::job::{Job, Row, Subject};
+use crate::{classic, inputs, of_each, work};
+use std::rc::Rc;
 
 const MEGABYTE: usize = 1 << 20;
 /// The input of the lines that are no goal's: enough for steady counts.
@@ -23,41 +24,19 @@ pub fn rows() -> Vec<Row> {
 
 /// The extractor over a stream, with every subject.
 pub fn feed_job(stream: Vec<u8>, size: usize) -> Job {
-    let bytes = stream.len();
-    let [a, b, c, d] = share(stream);
-    Job::of("byte", bytes)
-        .with(
-            Subject::Archive,
-            work!(classic::feed(pito_extractor_feed, &a, size; BUFFER)),
-        )
-        .with(
-            Subject::Rust,
-            work!(classic::feed(rust::extractor_feed, &b, size; BUFFER)),
-        )
-        .with(Subject::Own, work!(classic::feed_own(&c, size; BUFFER)))
-        .with(
-            Subject::Other,
-            work!(classic::feed(plain_extractor_feed, &d, size; BUFFER)),
-        )
+    let stream = Rc::new(stream);
+    Job::of("byte", stream.len()).each(of_each!(ExtractorFeed extractor_feed), |call| {
+        let stream = stream.clone();
+        work!(classic::feed(call, &stream, size; BUFFER))
+    })
 }
 
 fn step_job(stream: Vec<u8>) -> Job {
-    let bytes = stream.len();
-    let [a, b, c, d] = share(stream);
-    Job::of("byte", bytes)
-        .with(
-            Subject::Archive,
-            work!(classic::step(pito_extractor_step, &a; BUFFER)),
-        )
-        .with(
-            Subject::Rust,
-            work!(classic::step(rust::extractor_step, &b; BUFFER)),
-        )
-        .with(Subject::Own, work!(classic::step_own(&c; BUFFER)))
-        .with(
-            Subject::Other,
-            work!(classic::step(plain_extractor_step, &d; BUFFER)),
-        )
+    let stream = Rc::new(stream);
+    Job::of("byte", stream.len()).each(of_each!(ExtractorStep extractor_step), |call| {
+        let stream = stream.clone();
+        work!(classic::step(call, &stream; BUFFER))
+    })
 }
 
 const FEED: &str = "feed, 65,536 bytes a call";
@@ -79,8 +58,7 @@ fn feed_rows() -> Vec<Row> {
     ];
     let framed = framed.into_iter().map(|(name, total, payloads)| {
         Row::new(FEED, name, move || {
-            let payloads = payloads(total);
-            with_copy(feed_job(inputs::frames(&payloads), LARGE_CALL), payloads)
+            feed_job(inputs::frames(&payloads(total)), LARGE_CALL)
         })
     });
     framed.chain(stream_rows()).collect()
@@ -144,22 +122,11 @@ pub fn write_job(parts: Vec<Vec<u8>>, exact: bool) -> Job {
             }
         })
         .collect();
-    let [a, b, c, d] = share(payloads);
-    let job = Job::of("byte", bytes)
-        .with(
-            Subject::Archive,
-            work!(classic::write(pito_frame_write, &a; OUTPUT)),
-        )
-        .with(
-            Subject::Rust,
-            work!(classic::write(rust::frame_write, &b; OUTPUT)),
-        )
-        .with(Subject::Own, work!(classic::write_own(&c; OUTPUT)))
-        .with(
-            Subject::Other,
-            work!(classic::write(plain_frame_write, &d; OUTPUT)),
-        );
-    with_copy(job, parts)
+    let payloads = Rc::new(payloads);
+    Job::of("byte", bytes).each(of_each!(FrameWrite frame_write), |call| {
+        let payloads = payloads.clone();
+        work!(classic::write(call, &payloads; OUTPUT))
+    })
 }
 
 fn writer_rows() -> Vec<Row> {
@@ -213,22 +180,19 @@ pub fn parts_job(parts: Vec<Vec<u8>>, room: usize) -> Job {
             room,
         })
         .collect();
-    let [a, b, c, d] = share(payloads);
-    let job = Job::of("byte written", bytes)
-        .with(
-            Subject::Archive,
-            work!(classic::parts((pito_frame_begin, pito_frame_part), &a; room)),
-        )
-        .with(
-            Subject::Rust,
-            work!(classic::parts((rust::frame_begin, rust::frame_part), &b; room)),
-        )
-        .with(Subject::Own, work!(classic::parts_own(&c; room)))
-        .with(
-            Subject::Other,
-            work!(classic::parts((plain_frame_begin, plain_frame_part), &d; room)),
-        );
-    with_copy(job, parts)
+    let payloads = Rc::new(payloads);
+    let begins = of_each!(FrameBegin frame_begin).into_iter();
+    let parts = of_each!(FramePart frame_part).into_iter();
+    begins.zip(parts).fold(
+        Job::of("byte written", bytes),
+        |job, ((subject, begin), (_, part))| {
+            let payloads = payloads.clone();
+            job.with(
+                subject,
+                work!(classic::parts((begin, part), &payloads; room)),
+            )
+        },
+    )
 }
 
 fn part_rows() -> Vec<Row> {

@@ -2,9 +2,10 @@
 
 use crate::calls::*;
 use crate::control::{EnvelopeGiven, FeaturesGiven, InformationGiven, Reader, ResponseGiven};
-use crate::job::{share, Job, Row, Subject};
-use crate::{control, inputs, rust, work};
+use crate::job::{Job, Row, Subject};
+use crate::{control, inputs, of_each, of_messages, work};
 use second::control::{write_envelope, write_features, write_information, write_response, Given};
+use std::rc::Rc;
 
 /// Different messages in each line, and how often each is read or written.
 pub const MESSAGES: usize = 64;
@@ -43,6 +44,50 @@ pub fn rows() -> Vec<Row> {
         ),
         write("features", write_features_job),
     ]
+    .into_iter()
+    .chain(text_rows())
+    .chain([Row::new("any message by fields", "information", fields_job)])
+    .collect()
+}
+
+/// Device information with a name of 4,096 bytes, judged byte by byte.
+fn text_rows() -> Vec<Row> {
+    let texts = [
+        ("ASCII", "A"),
+        ("letters of two bytes", "\u{DF}"),
+        ("letters of three bytes", "\u{20AC}"),
+        ("letters of four bytes", "\u{10FFFF}"),
+        ("ASCII and letters of two bytes in turn", "A\u{DF}A"),
+        ("German text", "Gr\u{FC}\u{DF}e aus K\u{F6}ln, "),
+    ];
+    let row = |(name, text): (&'static str, &'static str)| {
+        Row::new("strings read", name, move || text_job(text))
+    };
+    texts.map(row).into()
+}
+
+fn text_job(text: &str) -> Job {
+    let name = text.repeat(4_096 / text.len());
+    let mut message = vec![0; 4_200];
+    let written = write_information(b"", name.as_bytes(), &[], b"", &mut message).expect("lawful");
+    message.truncate(written);
+    let messages = Rc::new(vec![message; 16]);
+    Job::of("byte", 16 * name.len()).each(of_each!(MessageRead information_read), |call| {
+        let messages = messages.clone();
+        work!(control::read_information(
+            Reader::in_message(call),
+            &messages
+        ))
+    })
+}
+
+fn fields_job() -> Job {
+    let messages = Rc::new(information_messages());
+    let fields = messages.len() * 4;
+    Job::of("field", fields).each(of_each!(FieldRead field_read), |call| {
+        let messages = messages.clone();
+        work!(control::read_fields(call, &messages))
+    })
 }
 
 pub fn many<T>(mut one: impl FnMut(&mut second::rng::Rng) -> T) -> Vec<T> {
@@ -104,24 +149,27 @@ pub fn bytes<T>(messages: &[T], write: impl Fn(&T, &mut [u8]) -> usize) -> Vec<V
         .collect()
 }
 
-/// A job of reading: the messages, and the loops `$loops::$read` and `$loops::$own`.
+/// A reader for each subject, of its call.
+pub fn readers(calls: [(Subject, MessageRead); 6]) -> [(Subject, Reader); 6] {
+    calls.map(|(subject, read)| {
+        let decoded = match subject {
+            Subject::Nanopb => Some(unsafe { nanopb::decoded() }),
+            Subject::ProtobufC => Some(unsafe { pbc::decoded() }),
+            _ => None,
+        };
+        (subject, Reader { read, decoded })
+    })
+}
+
+/// A job of reading: the messages, the loop and the call.
 macro_rules! read_job {
-    ($loops:ident, $messages:expr, $read:ident, $own:ident, $archive:ident, $rust:ident, $nanopb:ident, $pbc:ident) => {{
-        let messages = $messages;
-        let count = messages.len();
-        let [a, b, c, d, e] = share(messages);
-        let [x, y, z, w] = [
-            Reader::in_message($archive),
-            Reader::in_message(rust::$rust),
-            Reader::in_struct($nanopb, nanopb_decoded),
-            Reader::in_struct($pbc, pbc_decoded),
-        ];
-        Job::of("message", count)
-            .with(Subject::Archive, work!($loops::$read(x, &a)))
-            .with(Subject::Rust, work!($loops::$read(y, &b)))
-            .with(Subject::Own, work!($loops::$own(&c)))
-            .with(Subject::Other, work!($loops::$read(z, &d)))
-            .with(Subject::ProtobufC, work!($loops::$read(w, &e)))
+    ($messages:expr, $loops:ident::$read:ident, $call:ident) => {{
+        let messages = Rc::new($messages);
+        let calls = readers(of_messages!(MessageRead $call));
+        Job::of("message", messages.len()).each(calls, |reader| {
+            let messages = messages.clone();
+            work!($loops::$read(reader, &messages))
+        })
     }};
 }
 
@@ -145,16 +193,7 @@ fn read_envelope_job(envelopes: Vec<EnvelopeGiven>) -> Job {
     let messages = bytes(&envelopes, |one, output| {
         write_envelope(one.command as i32, given(one), output).expect("lawful")
     });
-    read_job!(
-        control,
-        messages,
-        read_envelope,
-        read_envelope_own,
-        pito_envelope_read,
-        envelope_read,
-        nanopb_envelope_read,
-        pbc_envelope_read
-    )
+    read_job!(messages, control::read_envelope, envelope_read)
 }
 
 fn read_response_job() -> Job {
@@ -162,32 +201,21 @@ fn read_response_job() -> Job {
         let member = Some((one.field, &one.bytes[..]));
         write_response(one.error_code as i32, member, output).expect("lawful")
     });
-    read_job!(
-        control,
-        messages,
-        read_response,
-        read_response_own,
-        pito_response_read,
-        response_read,
-        nanopb_response_read,
-        pbc_response_read
-    )
+    read_job!(messages, control::read_response, response_read)
+}
+
+fn information_messages() -> Vec<Vec<u8>> {
+    bytes(&informations(), |one, output| {
+        let [serial_number, name, device_type] = &one.strings;
+        write_information(serial_number, name, &narrow(one), device_type, output).expect("lawful")
+    })
 }
 
 fn read_information_job() -> Job {
-    let messages = bytes(&informations(), |one, output| {
-        let [serial_number, name, device_type] = &one.strings;
-        write_information(serial_number, name, &narrow(one), device_type, output).expect("lawful")
-    });
     read_job!(
-        control,
-        messages,
-        read_information,
-        read_information_own,
-        pito_information_read,
-        information_read,
-        nanopb_information_read,
-        pbc_information_read
+        information_messages(),
+        control::read_information,
+        information_read
     )
 }
 
@@ -200,16 +228,7 @@ fn read_features_job() -> Job {
         };
         write_features(told, output).expect("lawful")
     });
-    read_job!(
-        control,
-        messages,
-        read_features,
-        read_features_own,
-        pito_features_read,
-        features_read,
-        nanopb_features_read,
-        pbc_features_read
-    )
+    read_job!(messages, control::read_features, features_read)
 }
 
 /// Transports as the writer of second/ takes them.
@@ -221,23 +240,14 @@ fn narrow(information: &InformationGiven) -> Vec<i32> {
         .collect()
 }
 
-/// A job of writing, with the loops `$loops::$write` and `$loops::$own`.
+/// A job of writing: the messages, the loop and the call.
 macro_rules! write_job {
-    ($loops:ident, $messages:expr, $own_messages:expr, $write:ident, $own:ident, $archive:ident, $rust:ident, $nanopb:ident, $pbc:ident) => {{
-        let [a, b, d, e] = share($messages);
-        let c = $own_messages;
-        Job::of("message", MESSAGES * ROUNDS)
-            .with(
-                Subject::Archive,
-                work!($loops::$write($archive, &a, ROUNDS)),
-            )
-            .with(
-                Subject::Rust,
-                work!($loops::$write(rust::$rust, &b, ROUNDS)),
-            )
-            .with(Subject::Own, work!($loops::$own(&c, ROUNDS)))
-            .with(Subject::Other, work!($loops::$write($nanopb, &d, ROUNDS)))
-            .with(Subject::ProtobufC, work!($loops::$write($pbc, &e, ROUNDS)))
+    ($messages:expr, $loops:ident::$write:ident, $type:ident) => {{
+        let messages = Rc::new($messages);
+        Job::of("message", MESSAGES * ROUNDS).each(of_messages!($type $write), |call| {
+            let messages = messages.clone();
+            work!($loops::$write(call, &messages, ROUNDS))
+        })
     }};
 }
 
@@ -246,8 +256,8 @@ pub(crate) use {read_job, write_job};
 /// Before the messages of a line are filled ahead.
 pub fn forget() {
     unsafe {
-        nanopb_forget();
-        pbc_forget();
+        nanopb::forget();
+        pbc::forget();
     }
 }
 
@@ -255,7 +265,7 @@ fn write_envelope_job(payload: u64) -> Job {
     forget();
     for one in &envelopes(payload) {
         let (bytes, length) = (one.bytes.as_ptr(), one.bytes.len());
-        for prepare in [nanopb_envelope_prepare, pbc_envelope_prepare] {
+        for prepare in [nanopb::envelope_prepare, pbc::envelope_prepare] {
             unsafe {
                 prepare(
                     one.command,
@@ -268,39 +278,18 @@ fn write_envelope_job(payload: u64) -> Job {
             };
         }
     }
-    let [messages, own] = [envelopes(payload), envelopes(payload)];
-    write_job!(
-        control,
-        messages,
-        own,
-        envelope_write,
-        envelope_write_own,
-        pito_envelope_write,
-        envelope_write,
-        nanopb_envelope_write,
-        pbc_envelope_write
-    )
+    write_job!(envelopes(payload), control::envelope_write, EnvelopeWrite)
 }
 
 fn write_response_job() -> Job {
     forget();
     for one in &responses() {
         let (bytes, length) = (one.bytes.as_ptr(), one.bytes.len());
-        for prepare in [nanopb_response_prepare, pbc_response_prepare] {
+        for prepare in [nanopb::response_prepare, pbc::response_prepare] {
             unsafe { prepare(one.error_code, one.field, bytes, length) };
         }
     }
-    write_job!(
-        control,
-        responses(),
-        responses(),
-        response_write,
-        response_write_own,
-        pito_response_write,
-        response_write,
-        nanopb_response_write,
-        pbc_response_write
-    )
+    write_job!(responses(), control::response_write, ResponseWrite)
 }
 
 fn write_information_job() -> Job {
@@ -311,46 +300,19 @@ fn write_information_job() -> Job {
             .each_ref()
             .map(|string| (string.as_ptr(), string.len()));
         let (transports, count) = (one.transports.as_ptr(), one.transports.len());
-        for prepare in [nanopb_information_prepare, pbc_information_prepare] {
+        for prepare in [nanopb::information_prepare, pbc::information_prepare] {
             unsafe { prepare(a.0, a.1, b.0, b.1, c.0, c.1, transports, count) };
         }
     }
-    let own: Vec<_> = informations()
-        .into_iter()
-        .map(|one| {
-            let transports = narrow(&one);
-            (one, transports)
-        })
-        .collect();
-    write_job!(
-        control,
-        informations(),
-        own,
-        information_write,
-        information_write_own,
-        pito_information_write,
-        information_write,
-        nanopb_information_write,
-        pbc_information_write
-    )
+    write_job!(informations(), control::information_write, InformationWrite)
 }
 
 fn write_features_job() -> Job {
     forget();
     for one in &features() {
-        for prepare in [nanopb_features_prepare, pbc_features_prepare] {
+        for prepare in [nanopb::features_prepare, pbc::features_prepare] {
             unsafe { prepare(one.features, one.device_attributes) };
         }
     }
-    write_job!(
-        control,
-        features(),
-        features(),
-        features_write,
-        features_write_own,
-        pito_features_write,
-        features_write,
-        nanopb_features_write,
-        pbc_features_write
-    )
+    write_job!(features(), control::features_write, FeaturesWrite)
 }

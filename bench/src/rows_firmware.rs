@@ -1,17 +1,19 @@
 //! Lines about firmware messages.
 
 use crate::calls::*;
-use crate::control::Reader;
 use crate::firmware::{ApplyGiven, SegmentGiven, ROW};
-use crate::job::{share, Job, Row, Subject};
-use crate::rows_control::{bytes, forget, letters, many, read_job, write_job, MESSAGES, ROUNDS};
-use crate::{firmware, rust, work};
+use crate::job::{Job, Row, Subject};
+use crate::rows_control::{
+    bytes, forget, letters, many, read_job, readers, write_job, MESSAGES, ROUNDS,
+};
+use crate::{firmware, of_messages, work};
 use second::driver::firmware::digits;
 use second::firmware::{write_apply, write_segment, Apply, Component, Information};
+use std::rc::Rc;
 
 pub fn rows() -> Vec<Row> {
-    let read = |name, make: fn() -> Job| Row::new("messages read", name, make);
-    let write = |name, make: fn() -> Job| Row::new("messages written", name, make);
+    let read = |name, make: fn() -> Job| Row::new("firmware messages read", name, make);
+    let write = |name, make: fn() -> Job| Row::new("firmware messages written", name, make);
     vec![
         read("segment", read_segment_job),
         read("firmware, 1 component", || read_apply_job(1)),
@@ -90,39 +92,21 @@ fn read_segment_job() -> Job {
     let messages = bytes(&segments(), |one, output| {
         write_segment(&one.name, 0, one.size as u32, &one.signature, output).expect("lawful")
     });
-    read_job!(
-        firmware,
-        messages,
-        read_segment,
-        read_segment_own,
-        pito_segment_read,
-        segment_read,
-        nanopb_segment_read,
-        pbc_segment_read
-    )
+    read_job!(messages, firmware::read_segment, segment_read)
 }
 
 fn read_apply_job(components: usize) -> Job {
     let messages = bytes(&applies(components), |(apply, texts), output| {
         write_apply(texts, apply, output).expect("lawful")
     });
-    read_job!(
-        firmware,
-        messages,
-        read_apply,
-        read_apply_own,
-        pito_apply_read,
-        apply_read,
-        nanopb_apply_read,
-        pbc_apply_read
-    )
+    read_job!(messages, firmware::read_apply, apply_read)
 }
 
 fn write_segment_job() -> Job {
     forget();
     for one in &segments() {
         let (name, signature) = (&one.name, &one.signature);
-        for prepare in [nanopb_segment_prepare, pbc_segment_prepare] {
+        for prepare in [nanopb::segment_prepare, pbc::segment_prepare] {
             unsafe {
                 prepare(
                     name.as_ptr(),
@@ -135,36 +119,20 @@ fn write_segment_job() -> Job {
             };
         }
     }
-    write_job!(
-        firmware,
-        segments(),
-        segments(),
-        segment_write,
-        segment_write_own,
-        pito_segment_write,
-        segment_write,
-        nanopb_segment_write,
-        pbc_segment_write
-    )
+    write_job!(segments(), firmware::segment_write, SegmentWrite)
 }
 
 fn write_apply_job(components: usize) -> Job {
     forget();
     for one in &given(applies(components)) {
         let (row, texts) = (&one.row, &one.texts);
-        for prepare in [nanopb_apply_prepare, pbc_apply_prepare] {
+        for prepare in [nanopb::apply_prepare, pbc::apply_prepare] {
             unsafe { prepare(row.as_ptr(), row.len(), texts.as_ptr(), texts.len()) };
         }
     }
     write_job!(
-        firmware,
         given(applies(components)),
-        applies(components),
-        apply_write,
-        apply_write_own,
-        pito_apply_write,
-        apply_write,
-        nanopb_apply_write,
-        pbc_apply_write
+        firmware::apply_write,
+        ApplyWrite
     )
 }

@@ -1,10 +1,11 @@
 //! Lines about Low Energy packets.
 
 use crate::calls::*;
-use crate::job::{share, with_copy, Job, Row, Subject};
+use crate::job::{Job, Row, Subject};
 use crate::low_energy::BUFFER;
-use crate::{inputs, low_energy, rust, work};
+use crate::{inputs, low_energy, of_each, work};
 use second::driver::judged::capture;
+use std::rc::Rc;
 
 /// Messages by their size in bytes.
 const SIZES: [(usize, &str); 2] = [(4_096, "4,096"), (100, "100")];
@@ -28,12 +29,7 @@ pub fn rows() -> Vec<Row> {
             rows.push(Row::new(
                 "packets accepted",
                 format!("{name} bytes, room {room}"),
-                move || {
-                    let messages = inputs::messages(65_536, size);
-                    let job = accept_job(inputs::packets(&messages, room));
-                    let bytes = messages.iter().map(Vec::len).sum();
-                    with_copy(job.and("byte", bytes), inputs::pieces(&messages, room))
-                },
+                move || accept_job(inputs::packets(&inputs::messages(65_536, size), room)),
             ));
         }
     }
@@ -43,8 +39,7 @@ pub fn rows() -> Vec<Row> {
             format!("100 bytes, room {room}, twelve at a time"),
             move || {
                 let messages = inputs::messages(65_536, 100);
-                let job = accept_job(inputs::packets_by_turns(&messages, room));
-                job.and("byte", messages.iter().map(Vec::len).sum())
+                accept_job(inputs::packets_by_turns(&messages, room))
             },
         ));
     }
@@ -110,127 +105,71 @@ fn refused_rows() -> Vec<Row> {
 /// All packets of messages at a room, with every subject.
 pub fn write_packets_job(messages: Vec<Vec<u8>>, room: usize) -> Job {
     let packets = inputs::packets(&messages, room).len();
-    let bytes = messages.iter().map(Vec::len).sum();
-    let pieces = inputs::pieces(&messages, room);
-    let [a, b, c] = share(messages);
-    let job = Job::of("packet", packets)
-        .and("byte", bytes)
-        .with(
-            Subject::Archive,
-            work!(low_energy::write(pito_packet_write, &a, room)),
-        )
-        .with(
-            Subject::Rust,
-            work!(low_energy::write(rust::packet_write, &b, room)),
-        )
-        .with(Subject::Own, work!(low_energy::write_own(&c, room)));
-    with_copy(job, pieces)
+    let messages = Rc::new(messages);
+    Job::of("packet", packets).each(of_each!(PacketWrite packet_write), |call| {
+        let messages = messages.clone();
+        work!(low_energy::write(call, &messages, room))
+    })
 }
 
 fn write_acks_job() -> Job {
-    Job::of("packet", ACKS)
-        .with(
-            Subject::Archive,
-            work!(low_energy::write_acks(pito_ack_write, ACKS)),
-        )
-        .with(
-            Subject::Rust,
-            work!(low_energy::write_acks(rust::ack_write, ACKS)),
-        )
-        .with(Subject::Own, work!(low_energy::write_acks_own(ACKS)))
+    Job::of("packet", ACKS).each(of_each!(AckWrite ack_write), |call| {
+        work!(low_energy::write_acks(call, ACKS))
+    })
 }
 
 /// Joined packets read one by one.
 fn read_job(packets: Vec<Vec<u8>>) -> Job {
-    let count = packets.len();
-    let [a, b] = share(packets.concat());
-    Job::of("packet", count)
-        .with(
-            Subject::Archive,
-            work!(low_energy::read(pito_packet_read, &a)),
-        )
-        .with(
-            Subject::Rust,
-            work!(low_energy::read(rust::packet_read, &b)),
-        )
+    let joined = Rc::new(packets.concat());
+    Job::of("packet", packets.len()).each(of_each!(PacketRead packet_read), |call| {
+        let joined = joined.clone();
+        work!(low_energy::read(call, &joined))
+    })
 }
 
 /// The packets of a capture read one by one.
 fn captured_job(packets: Vec<Vec<u8>>) -> Job {
-    let count = packets.len();
-    let [a, b] = share(capture(&packets));
-    Job::of("packet", count)
-        .with(
-            Subject::Archive,
-            work!(low_energy::captured(pito_capture_packet, &a)),
-        )
-        .with(
-            Subject::Rust,
-            work!(low_energy::captured(rust::capture_packet, &b)),
-        )
+    let capture = Rc::new(capture(&packets));
+    Job::of("packet", packets.len()).each(of_each!(CapturePacket capture_packet), |call| {
+        let capture = capture.clone();
+        work!(low_energy::captured(call, &capture))
+    })
 }
 
 /// A capture of packets judged at a room.
 pub fn judge_job(packets: Vec<Vec<u8>>, room: usize) -> Job {
     let count = packets.len();
-    let [a, b] = share(capture(&packets));
-    Job::of("packet", count)
-        .with(
-            Subject::Archive,
-            work!(low_energy::judge(pito_capture_judge, &a, room)),
-        )
-        .with(
-            Subject::Rust,
-            work!(low_energy::judge(rust::capture_judge, &b, room)),
-        )
+    let capture = Rc::new(capture(&packets));
+    Job::of("packet", count).each(of_each!(CaptureJudge capture_judge), |call| {
+        let capture = capture.clone();
+        work!(low_energy::judge(call, &capture, room))
+    })
 }
 
 /// .. and told why.
 pub fn why_job(packets: Vec<Vec<u8>>, room: usize) -> Job {
-    let count = packets.len();
-    let [a, b] = share(capture(&packets));
-    Job::of("packet", count)
-        .with(
-            Subject::Archive,
-            work!(low_energy::why(pito_capture_why, &a, room)),
-        )
-        .with(
-            Subject::Rust,
-            work!(low_energy::why(rust::capture_why, &b, room)),
-        )
+    let capture = Rc::new(capture(&packets));
+    Job::of("packet", packets.len()).each(of_each!(CaptureJudge capture_why), |call| {
+        let capture = capture.clone();
+        work!(low_energy::why(call, &capture, room))
+    })
 }
 
 /// A capture of packets added to a report.
 pub fn report_job(packets: Vec<Vec<u8>>) -> Job {
     let count = packets.len();
-    let [a, b] = share(capture(&packets));
-    Job::of("packet", count)
-        .with(
-            Subject::Archive,
-            work!(low_energy::report(pito_report_add, &a; BUFFER)),
-        )
-        .with(
-            Subject::Rust,
-            work!(low_energy::report(rust::report_add, &b; BUFFER)),
-        )
+    let capture = Rc::new(capture(&packets));
+    Job::of("packet", count).each(of_each!(ReportAdd report_add), |call| {
+        let capture = capture.clone();
+        work!(low_energy::report(call, &capture; BUFFER))
+    })
 }
 
 /// The receiver over packets, with every subject.
 pub fn accept_job(packets: Vec<Vec<u8>>) -> Job {
-    let count = packets.len();
-    let [a, b, c, d] = share(packets);
-    Job::of("packet", count)
-        .with(
-            Subject::Archive,
-            work!(low_energy::accept(pito_receiver_accept, &a; BUFFER)),
-        )
-        .with(
-            Subject::Rust,
-            work!(low_energy::accept(rust::receiver_accept, &b; BUFFER)),
-        )
-        .with(Subject::Own, work!(low_energy::accept_own(&c; BUFFER)))
-        .with(
-            Subject::Other,
-            work!(low_energy::accept(plain_receiver_accept, &d; BUFFER)),
-        )
+    let packets = Rc::new(packets);
+    Job::of("packet", packets.len()).each(of_each!(ReceiverAccept receiver_accept), |call| {
+        let packets = packets.clone();
+        work!(low_energy::accept(call, &packets; BUFFER))
+    })
 }

@@ -1,9 +1,10 @@
 //! Lines about the outbox.
 
 use crate::calls::*;
-use crate::job::{share, with_copy, Job, Row, Subject};
-use crate::{inputs, outbox, rust, work};
+use crate::job::{Job, Row, Subject};
+use crate::{inputs, of_each, outbox, work};
 use second::outbox::{Version, ONE, TWO};
+use std::rc::Rc;
 
 /// The payload of each record.
 const PAYLOAD: usize = 100;
@@ -62,10 +63,11 @@ pub fn rows() -> Vec<Row> {
 /// Payloads of one text, again and again, judged as text.
 pub fn texts_job(text: &str) -> Job {
     let payload: Vec<u8> = text.bytes().cycle().take(PAYLOAD).collect();
-    let [a, b] = share(vec![payload; 2_048]);
-    Job::of("byte", 2_048 * PAYLOAD)
-        .with(Subject::Archive, work!(outbox::texts(pito_text, &a)))
-        .with(Subject::Rust, work!(outbox::texts(rust::text, &b)))
+    let payloads = Rc::new(vec![payload; 2_048]);
+    Job::of("byte", 2_048 * PAYLOAD).each(of_each!(Text text), |call| {
+        let payloads = payloads.clone();
+        work!(outbox::texts(call, &payloads))
+    })
 }
 
 fn cut(mut bytes: Vec<u8>) -> Vec<u8> {
@@ -76,81 +78,45 @@ fn cut(mut bytes: Vec<u8>) -> Vec<u8> {
 /// A payload of one size appended to the same outbox, call after call.
 pub fn append_job(bytes: Vec<u8>, payload: usize, calls: usize) -> Job {
     let used = bytes.len();
-    let room = || {
+    let payloads = Rc::new(inputs::messages(calls * payload, payload));
+    Job::of("call", calls).each(of_each!(OutboxAppend outbox_append), |call| {
+        let payloads = payloads.clone();
         let mut buffer = bytes.clone();
         buffer.resize(used + payload + 5, 0);
-        buffer
-    };
-    let payloads = inputs::messages(calls * payload, payload);
-    let [a, b, c] = share(payloads.clone());
-    let [mut x, mut y, mut z] = [room(), room(), room()];
-    let job = Job::of("call", calls)
-        .with(
-            Subject::Archive,
-            work!(outbox::append(pito_outbox_append, &mut x, used, &a)),
-        )
-        .with(
-            Subject::Rust,
-            work!(outbox::append(rust::outbox_append, &mut y, used, &b)),
-        )
-        .with(Subject::Own, work!(outbox::append_own(&mut z, used, &c)));
-    with_copy(job, payloads)
+        work!(outbox::append(call, &mut buffer, used, &payloads))
+    })
 }
 
 /// All records read, as often as is said.
 pub fn records_job(bytes: Vec<u8>, rounds: usize) -> Job {
-    let records = inputs::records(&bytes);
-    let [a, b, c] = share(bytes);
-    Job::of("record", records * rounds)
-        .with(
-            Subject::Archive,
-            work!(outbox::records(pito_outbox_record, &a, rounds)),
-        )
-        .with(
-            Subject::Rust,
-            work!(outbox::records(rust::outbox_record, &b, rounds)),
-        )
-        .with(Subject::Own, work!(outbox::records_own(&c, rounds)))
+    let count = inputs::records(&bytes) * rounds;
+    let bytes = Rc::new(bytes);
+    Job::of("record", count).each(of_each!(OutboxRecord outbox_record), |call| {
+        let bytes = bytes.clone();
+        work!(outbox::records(call, &bytes, rounds))
+    })
 }
 
 /// The whole outbox judged, as often as is said.
 pub fn whole_job(bytes: Vec<u8>, rounds: usize) -> Job {
-    let records = inputs::records(&bytes);
-    let [a, b, c] = share(bytes);
-    Job::of("record", records * rounds)
-        .with(
-            Subject::Archive,
-            work!(outbox::whole(pito_outbox_whole, &a, rounds)),
-        )
-        .with(
-            Subject::Rust,
-            work!(outbox::whole(rust::outbox_whole, &b, rounds)),
-        )
-        .with(Subject::Own, work!(outbox::whole_own(&c, rounds)))
+    let count = inputs::records(&bytes) * rounds;
+    let bytes = Rc::new(bytes);
+    Job::of("record", count).each(of_each!(OutboxWhole outbox_whole), |call| {
+        let bytes = bytes.clone();
+        work!(outbox::whole(call, &bytes, rounds))
+    })
 }
 
 /// The whole outbox written as another version, as often as is said.
 pub fn moved_job(bytes: Vec<u8>, wished: Version, rounds: usize) -> Job {
-    let records = inputs::records(&bytes);
-    let room = || vec![0; 2 * bytes.len()];
-    let [mut x, mut y, mut z] = [room(), room(), room()];
-    let (archive, plain): (OutboxTo, OutboxTo) = if wished == ONE {
-        (pito_outbox_to_01, rust::outbox_to_01)
-    } else {
-        (pito_outbox_to_02, rust::outbox_to_02)
+    let count = inputs::records(&bytes) * rounds;
+    let calls = match wished == ONE {
+        true => of_each!(OutboxTo outbox_to_01),
+        false => of_each!(OutboxTo outbox_to_02),
     };
-    let [a, b, c] = share(bytes);
-    Job::of("record", records * rounds)
-        .with(
-            Subject::Archive,
-            work!(outbox::moved(archive, &a, &mut x, rounds)),
-        )
-        .with(
-            Subject::Rust,
-            work!(outbox::moved(plain, &b, &mut y, rounds)),
-        )
-        .with(
-            Subject::Own,
-            work!(outbox::moved_own(wished, &c, &mut z, rounds)),
-        )
+    let bytes = Rc::new(bytes);
+    Job::of("record", count).each(calls, |call| {
+        let bytes = bytes.clone();
+        work!(outbox::moved(call, &bytes, rounds; 2 * bytes.len()))
+    })
 }

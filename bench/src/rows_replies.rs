@@ -2,12 +2,11 @@
 
 use crate::calls::*;
 use crate::control::{FeaturesGiven, InformationGiven};
-use crate::job::{share, Job, Row, Subject};
+use crate::job::{Job, Row, Subject};
 use crate::replies::Asked;
 use crate::rows_control::{forget, letters, many, MESSAGES, ROUNDS};
-use crate::{replies, rust, work};
-use second::control::Features;
-use second::reply::Own;
+use crate::{of_each, replies, work};
+use std::rc::Rc;
 
 const QUESTIONS: [(u64, &str); 2] = [(20, "device information"), (28, "features")];
 const ROOMS: [usize; 2] = [20, 244];
@@ -42,25 +41,6 @@ fn asked(command: u64) -> Vec<Asked> {
     })
 }
 
-/// The same on the types of second/; the strings stay for the whole run.
-fn own(asked: Asked) -> (Vec<u8>, Own<'static>) {
-    let [serial_number, name, device_type] =
-        asked.information.strings.map(|string| &*string.leak());
-    let own = Own {
-        serial_number,
-        name,
-        device_type,
-        transports: Some(vec![1, 2, 3]),
-        features: Features {
-            features: asked.features.features,
-            device_attributes: asked.features.device_attributes,
-        },
-        information_member: replies::INFORMATION,
-        features_member: replies::FEATURES,
-    };
-    (asked.message, own)
-}
-
 fn job(command: u64, room: usize) -> Job {
     forget();
     for one in &asked(command) {
@@ -71,7 +51,7 @@ fn job(command: u64, room: usize) -> Job {
             .map(|string| (string.as_ptr(), string.len()));
         let transports = &one.information.transports;
         unsafe {
-            nanopb_reply_prepare(
+            nanopb::reply_prepare(
                 one.command,
                 a.0,
                 a.1,
@@ -86,20 +66,15 @@ fn job(command: u64, room: usize) -> Job {
             )
         };
     }
-    let [a, b, c] = share(asked(command));
-    let own: Vec<_> = asked(command).into_iter().map(own).collect();
+    let asked = Rc::new(asked(command));
+    let nanopb = asked.clone();
     Job::of("reply", MESSAGES * ROUNDS)
+        .each(of_each!(ReplyWrite reply_write), |call| {
+            let asked = asked.clone();
+            work!(replies::write(call, &asked, ROUNDS, room))
+        })
         .with(
-            Subject::Archive,
-            work!(replies::write(pito_reply_write, &a, ROUNDS, room)),
-        )
-        .with(
-            Subject::Rust,
-            work!(replies::write(rust::reply_write, &b, ROUNDS, room)),
-        )
-        .with(Subject::Own, work!(replies::write_own(&own, ROUNDS, room)))
-        .with(
-            Subject::Other,
-            work!(replies::write_nanopb(&c, ROUNDS, room)),
+            Subject::Nanopb,
+            work!(replies::write_nanopb(&nanopb, ROUNDS, room)),
         )
 }

@@ -1,5 +1,5 @@
 //! The plain Rust of second/ behind the same C calls: each is its function of `face`, on the lent
-//! slices.
+//! slices, and has a name for callgrind.
 
 use crate::calls::pito_slot;
 use second::face::{self, firmware};
@@ -15,6 +15,7 @@ unsafe fn given<'a, T>(start: *const T, length: usize) -> &'a [T] {
     slice::from_raw_parts(start, length)
 }
 
+#[export_name = "plain_frame_begin"]
 pub unsafe extern "C" fn frame_begin(
     sequence: u64,
     limit: u64,
@@ -27,7 +28,8 @@ pub unsafe extern "C" fn frame_begin(
 
 macro_rules! shims {
     ($($name:ident($($argument:ident: $kind:ty),*) $answer:ident $call:expr;)*) => {
-        $(pub unsafe extern "C" fn $name($($argument: $kind,)* answer: *mut u64, answers: usize) -> u64 {
+        $(#[export_name = concat!("plain_", stringify!($name))]
+        pub unsafe extern "C" fn $name($($argument: $kind,)* answer: *mut u64, answers: usize) -> u64 {
             let $answer = lent(answer, answers);
             $call
         })*
@@ -87,6 +89,8 @@ shims! {
         face::reply_write([features, device_attributes, information_member, features_member, room, limit, id, sequence],
             given(transports, transports_length), [given(message, length), given(serial_number, serial_number_length),
             given(name, name_length), given(device_type, device_type_length)], lent(output, size), told);
+    field_read(message: *const u8, length: usize, place: u64) told
+        firmware::field_read(given(message, length), place, told);
     segment_read(message: *const u8, length: usize) told firmware::segment_read(given(message, length), told);
     apply_read(message: *const u8, length: usize) told firmware::apply_read(given(message, length), told);
     segment_write(name: *const u8, name_length: usize, offset: u64, segment_size: u64, signature: *const u8,

@@ -2,82 +2,97 @@
 
 use crate::job::{Growth, Row, Subject};
 use crate::measure::Counted;
+use std::time::Duration;
 
 /// Twice, to two decimals: the end of an input can cost less than the rest of it.
 const TWICE: f64 = 2.005;
+/// A time is marked where it is so many times what the instructions say.
+const SLOW: f64 = 1.3;
 
-const HEAD: [&str; 12] = [
-    "input",
-    "instructions a",
-    "archive",
-    "plain Rust",
-    "Rust, own types",
-    "C or nanopb",
-    "protobuf-c",
-    "memcpy",
-    "archive / Rust",
-    "archive / C or nanopb",
-    "time, archive / Rust",
-    "time, archive / C or nanopb",
-];
-
-/// What one row measured: for each subject its count and its best time in seconds.
+/// What one row measured.
 pub struct Measured {
-    pub units: Vec<(&'static str, u64)>,
-    pub subjects: Vec<(Subject, Counted, f64)>,
+    pub unit: (&'static str, u64),
+    pub counts: Vec<(Subject, Counted)>,
+    pub times: Vec<(Subject, Duration)>,
 }
 
 impl Measured {
     fn count(&self, subject: Subject) -> Option<f64> {
-        let found = self.subjects.iter().find(|(one, ..)| *one == subject)?;
+        let found = self.counts.iter().find(|(one, _)| *one == subject)?;
         Some(found.1.instructions as f64)
     }
 
     fn time(&self, subject: Subject) -> Option<f64> {
-        let found = self.subjects.iter().find(|(one, ..)| *one == subject)?;
-        Some(found.2)
+        let found = self.times.iter().find(|(one, _)| *one == subject)?;
+        Some(found.1.as_secs_f64())
     }
 
-    /// What the archive takes by what another subject takes, as text.
-    fn beside(&self, subject: Subject, of: fn(&Measured, Subject) -> Option<f64>) -> String {
-        let ratio = of(self, Subject::Archive).zip(of(self, subject));
-        ratio.map_or_else(String::new, |(archive, other)| {
-            format!("{:.2}", archive / other)
-        })
+    /// What the archive takes by what the better of the two C takes.
+    fn beside_c(&self, of: fn(&Measured, Subject) -> Option<f64>) -> f64 {
+        let taken = |subject| of(self, subject).expect("a subject of every row");
+        taken(Subject::Archive) / taken(Subject::Gcc).min(taken(Subject::Clang))
+    }
+
+    fn instructions(&self) -> f64 {
+        self.beside_c(Measured::count)
+    }
+
+    /// The ratio of the times, with a mark where it is far above that of the instructions.
+    fn marked_time(&self) -> String {
+        let time = self.beside_c(Measured::time);
+        let mark = if time > SLOW * self.instructions() {
+            " *"
+        } else {
+            ""
+        };
+        format!("{time:.2}{mark}")
     }
 }
 
 pub fn print(rows: &[Row], measured: &[Measured]) {
-    let mut group = "";
-    for (row, measured) in rows.iter().zip(measured) {
-        if row.group != group {
-            group = row.group;
-            print_head(group);
-        }
-        for &(unit, count) in &measured.units {
-            print_line(&row.name, unit, count, measured);
+    let lines: Vec<_> = rows.iter().zip(measured).collect();
+    for group in lines.chunk_by(|(one, _), (next, _)| one.group == next.group) {
+        let there = |subject: &Subject| group.iter().any(|(_, row)| row.count(*subject).is_some());
+        let subjects: Vec<_> = Subject::ALL.into_iter().filter(there).collect();
+        print_head(group[0].0.group, &subjects);
+        for (row, measured) in group {
+            print_line(&row.name, &subjects, measured);
         }
     }
 }
 
-fn print_head(group: &str) {
-    println!("\n### {group}\n");
-    println!("| {} |", HEAD.join(" | "));
-    println!("|---|---|{}", "--:|".repeat(HEAD.len() - 2));
+fn head(subject: Subject) -> &'static str {
+    match subject {
+        Subject::Archive => "archive",
+        Subject::Gcc => "C, gcc",
+        Subject::Clang => "C, clang",
+        Subject::Rust => "plain Rust",
+        Subject::Nanopb => "nanopb",
+        Subject::ProtobufC => "protobuf-c",
+    }
 }
 
-fn print_line(name: &str, unit: &str, count: u64, measured: &Measured) {
-    let each = Subject::ALL.map(|subject| {
+fn print_head(group: &str, subjects: &[Subject]) {
+    let heads: Vec<_> = subjects.iter().map(|subject| head(*subject)).collect();
+    println!("\n### {group}\n");
+    println!(
+        "| input | instructions a | {} | archive / C | time, archive / C |",
+        heads.join(" | ")
+    );
+    println!("|---|---|{}", "--:|".repeat(heads.len() + 2));
+}
+
+fn print_line(name: &str, subjects: &[Subject], measured: &Measured) {
+    let (unit, count) = measured.unit;
+    let each = subjects.iter().map(|&subject| {
         let number = measured.count(subject).map(|number| number / count as f64);
         number.map_or_else(String::new, figures)
     });
     println!(
-        "| {name} | {unit} | {} | {} | {} | {} | {} |",
-        each.join(" | "),
-        measured.beside(Subject::Rust, Measured::count),
-        measured.beside(Subject::Other, Measured::count),
-        measured.beside(Subject::Rust, Measured::time),
-        measured.beside(Subject::Other, Measured::time),
+        "| {name} | {unit} | {} | {:.2} | {} |",
+        each.collect::<Vec<_>>().join(" | "),
+        measured.instructions(),
+        measured.marked_time(),
     );
 }
 

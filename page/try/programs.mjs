@@ -13,8 +13,12 @@ let compared = 0, different = 0, deepest = 0;
 const met = {};
 
 const meet = (what) => { met[what] = (met[what] ?? 0) + 1; };
+// The input is a file: move_outbox reads it twice.
 function run(name, input, ...words) {
-  const { stdout, stderr, status } = spawnSync(path.join(ROOT, name), words, { input, maxBuffer: 1 << 28 });
+  const file = path.join(page.folder, "input");
+  fs.writeFileSync(file, input);
+  const given = fs.openSync(file), { stdout, stderr, status } = spawnSync(path.join(ROOT, name), words, { stdio: [given, "pipe", "pipe"], maxBuffer: 1 << 28 });
+  fs.closeSync(given);
   return { out: stdout, said: stderr.toString(), status };
 }
 function same(what, ours, theirs, input) {

@@ -1,5 +1,5 @@
 -- Packets read one by one, by the rows: joined ones from end to end, and those of a capture from place to place.
-use Prim.Native.Nat.{ℕ, zero, suc, _+_, _-_, _≤_, _<_}
+use Prim.Native.Nat.{ℕ, zero, suc, _+_, _-_, _≤_, _<_, zero-le}
 use native.Mathlib.Omega.{arith}
 use mathlib.Core.Path.{_≡_, refl, sym, ap, _∙_}
 use mathlib.Core.Bool.{Bool, true, false, cond, _&&_}
@@ -12,12 +12,13 @@ use Rattle.wire.specs.Bytes.{bit}
 use Rattle.wire.specs.Told.{Told, given, refused, andThen}
 use Rattle.wire.proofs.Streams.{number-back}
 use Rattle.ble_packet.specs.declared.reader.Packet.{Packet}
-use Rattle.ble_packet.specs.declared.reader.Packet.the-variants.{First, Next}
+use Rattle.ble_packet.specs.declared.reader.Packet.the-variants.{First, Next, Ack, Nack}
 use Rattle.ble_packet.specs.Header.{typeControl, typeBits, extenderBit, headerSize, sequenceAfter}
 use Rattle.ble_packet.specs.Control.{ackSize}
 use Rattle.ble_packet.specs.Reader.{fieldsOf, lines, readOf}
 use Rattle.ble_packet.proofs.Headers.{type-back, extender-back}
 use Rattle.ble_packet_end.specs.End.{saidLength, endOf, frontOf}
+use Rattle.ble_packet_end.proofs.Ends.{front-ends}
 use Rattle.ble_sender.specs.declared.piece.Piece.{Piece}
 use Rattle.ble_sender.specs.declared.writer.Sending.{Sending}
 use Rattle.ble_sender.specs.Piece.{leastRoom, extended, isFirst, sizeFor, piecesFrom, piecesOf, pieceFor}
@@ -28,15 +29,16 @@ use Rattle.ble_sender.proofs.Guard.{SendingInRange, room-low, range-facts}
 use Rattle.ble_sender_claims.specs.Calls.{SendableMessage}
 use Rattle.ble_joined.specs.Joined.{concat, joinedOf}
 use Rattle.ble_claims.proofs.Reading.{headFor, first-read, next-read}
-use Rattle.reply_claims.proofs.CutApart.{said}
+use Rattle.reply_claims.proofs.CutApart.{kind-low, said}
 use Rattle.capture_reader.specs.Capture as capture
 use Rattle.capture_reader.specs.Capture.{ToldAt, located, lengthIn, otherVersion}
 use Rattle.capture_packet.specs.Place.{PacketItem, found, end, foundAt, badPlace, packetAt}
 use Rattle.capture_packet.proofs.Places.{onward, packetsAt, places-give-all}
-use Rattle.c_rows.specs.Row.{afterwards}
+use Rattle.c_rows.specs.Row.{afterwards, numberTold}
 use Rattle.c_rows.specs.Called.{called}
-use Rattle.c_packets.specs.Convert.{packetRow, capturedRow}
+use Rattle.c_packets.specs.Convert.{packetRow, frontRow, capturedRow}
 use Rattle.c_packets.specs.Calls.{packetReadOf, capturePacketOf}
+use Rattle.c_claims.proofs.Strings.{told-row}
 use Rattle.c_claims.specs.RowsAgree.{rowFor, frontBy, frontsFrom, capturedBy, capturedFrom}
 
 -- ---- captures, place after place
@@ -78,13 +80,8 @@ kind-message true last = refl
 kind-message false true = refl
 kind-message false false = refl
 
-kind-low : (first last : Bool) → typeFor first last < 4
-kind-low true last = omega arith
-kind-low false true = omega arith
-kind-low false false = omega arith
-
 -- a packet that was written, whatever follows it
-module _ (w : Sending) (m : List ℕ) (p : Piece) (inside : p .place + p .size ≤ length m) (rest : List ℕ) where
+module _ (w : Sending) (m : List ℕ) (p : Piece) (inside : p .start + p .size ≤ length m) (rest : List ℕ) where
   abbrev packet : List ℕ
   packet = packetOf w m p
 
@@ -133,7 +130,7 @@ module _ (limit : ℕ) (w : Sending) (m answer : List ℕ) (room : leastRoom ≤
   none-left (suc calls) h = rw (eq-eqb (length answer) 10 l)
 
   -- what the writer was given is what is read
-  module _ (p : Piece) (inside : p .place + p .size ≤ length m) where
+  module _ (p : Piece) (inside : p .start + p .size ≤ length m) where
     abbrev size : ℕ
     size = length (packetOf w m p)
 
@@ -167,18 +164,18 @@ module _ (limit : ℕ) (w : Sending) (m answer : List ℕ) (room : leastRoom ≤
       let d : (n ≡ rest → ⊥) = eqb-false n rest e in
       later (omega arith)
 
-  fronts-later : (fuel index place rest : ℕ) → 1 ≤ rest → place + rest ≤ length m → Fronts (piecesFrom fuel (w .room) (suc index) place rest)
-  fronts-later zero index place rest some h = none-left
-  fronts-later (suc fuel) index place rest some h =
+  fronts-later : (fuel index start rest : ℕ) → 1 ≤ rest → start + rest ≤ length m → Fronts (piecesFrom fuel (w .room) (suc index) start rest)
+  fronts-later zero index start rest some h = none-left
+  fronts-later (suc fuel) index start rest some h =
       let n : ℕ = sizeFor (w .room) (isFirst (suc index)) rest in
       let below : n ≤ rest = size-le (w .room) (isFirst (suc index)) room rest in
-      let p : Piece = pieceFor (suc index) place n in
-      let ps : List Piece = piecesFrom fuel (w .room) (suc (suc index)) (place + n) (rest - n) in
+      let p : Piece = pieceFor (suc index) start n in
+      let ps : List Piece = piecesFrom fuel (w .room) (suc (suc index)) (start + n) (rest - n) in
       let i : isFirst (suc index) ≡ false = ne-eqb (suc index) 0 (λ e. omega arith) in
-      let inside : place + n ≤ length m = omega arith in
+      let inside : start + n ≤ length m = omega arith in
       fronts-cons p inside (cond (eqb n rest) [] ps) _
       (next-read limit w m p (ok .known) (ok .id) inside i (size-some (w .room) (isFirst (suc index)) room rest some)) (next-row p inside i)
-      (fronts-tail n rest (eqb n rest) ps below refl (λ more. fronts-later fuel (suc index) (place + n) (rest - n) more (omega arith)))
+      (fronts-tail n rest (eqb n rest) ps below refl (λ more. fronts-later fuel (suc index) (start + n) (rest - n) more (omega arith)))
 
   fronts-all : Fronts (piecesFrom (suc (length m)) (w .room) 0 0 (length m))
   fronts-all =
@@ -205,3 +202,17 @@ pub joined-agrees : (limit : ℕ) (how : Sending) (message out answer : List ℕ
 joined-agrees limit how message out answer takes l =
     fronts-all limit how message answer (room-low (how .room) (takes .room)) (range-facts limit how (length message) (takes .arguments)) l
     (suc (length (joinedOf how message))) (omega arith)
+
+-- ---- an end that is told
+pub packet-within : (limit : ℕ) (bytes answer : List ℕ) → let c = packetReadOf bytes limit answer in c .number ≡ 0 → getD (c .answer) 0 0 ≤ length bytes
+unfolding packetReadOf
+packet-within limit bytes answer =
+    let front = frontOf limit bytes in
+    told-row 10 (numberTold front) answer (frontRow (endOf bytes) (bit (extenderBit (getD bytes 1 0))) front) (λ (row : List ℕ). getD row 0 0 ≤ length bytes) (lies front refl)
+  where
+    lies : (t : Told Packet) → frontOf limit bytes ≡ t → getD (frontRow (endOf bytes) (bit (extenderBit (getD bytes 1 0))) t) 0 0 ≤ length bytes
+    lies (refused n) e = zero-le
+    lies (given (First h ack total start len)) e = front-ends bytes limit _ e
+    lies (given (Next h ack last start len)) e = front-ends bytes limit _ e
+    lies (given (Ack h)) e = front-ends bytes limit _ e
+    lies (given (Nack h)) e = front-ends bytes limit _ e

@@ -2,7 +2,7 @@
 use Prim.Native.Nat.{ℕ, _+_, _-_, _≤_, _<_}
 use mathlib.Core.Path.{_≡_}
 use mathlib.Core.Bool.{false}
-use mathlib.Core.List.{List, [], _∷_}
+use mathlib.Core.List.{List}
 use native.Mathlib.Omega.{arith}
 use native.Mathlib.Decide.{decLt}
 use lib.ListN.{length}
@@ -12,7 +12,7 @@ use Rattle.wire.proofs.Tests.{or-false}
 use Rattle.proto_field.specs.declared.value.Part.{Part}
 use Rattle.proto_field.specs.Value.{bytesOf}
 use Rattle.proto_writer.specs.Writer.{scalar, text, fieldBytes, messageBytes}
-use Rattle.proto_writer.proofs.Runs.{message-length}
+use Rattle.proto_writer.proofs.Runs.{four-length}
 use Rattle.proto_schema.specs.Schema.{firmwareComponentVersionField, firmwareComponentNameField, firmwareComponentSizeField, firmwareComponentSignatureField}
 use Rattle.msg_firmware.specs.declared.component.FirmwareComponent.{FirmwareComponent}
 use Rattle.msg_component_writer.specs.Component.{outside, badComponent, componentFields}
@@ -38,8 +38,5 @@ pub component-length : (texts : List ℕ) (c : FirmwareComponent) → length (me
     ≡ length (fieldBytes (scalar firmwareComponentVersionField (c .version))) + length (fieldBytes (text firmwareComponentNameField (bytesOf texts (c .name))))
     + length (fieldBytes (scalar firmwareComponentSizeField (c .size))) + length (fieldBytes (text firmwareComponentSignatureField (bytesOf texts (c .signature))))
 component-length texts c =
-    let f₁ = scalar firmwareComponentVersionField (c .version) in
-    let f₂ = text firmwareComponentNameField (bytesOf texts (c .name)) in
-    let f₃ = scalar firmwareComponentSizeField (c .size) in
-    let f₄ = text firmwareComponentSignatureField (bytesOf texts (c .signature)) in
-    omega (arith, message-length f₁ (f₂ ∷ f₃ ∷ f₄ ∷ []), message-length f₂ (f₃ ∷ f₄ ∷ []), message-length f₃ (f₄ ∷ []), message-length f₄ [])
+    four-length (scalar firmwareComponentVersionField (c .version)) (text firmwareComponentNameField (bytesOf texts (c .name)))
+    (scalar firmwareComponentSizeField (c .size)) (text firmwareComponentSignatureField (bytesOf texts (c .signature)))

@@ -8,7 +8,7 @@ use lib.ListN.{length}
 use Rattle.wire.specs.Put.{Put}
 use Rattle.proto_field.specs.Signed.{extended}
 use Rattle.proto_writer.specs.Writer.{Field, text, packed, fieldBytes, messageBytes}
-use Rattle.proto_writer.proofs.Runs.{put-end, put-field, message-length}
+use Rattle.proto_writer.proofs.Runs.{put-end, put-field, four-length}
 use Rattle.proto_writer.proofs.Messages.{less-less}
 use Rattle.proto_writer.specs.declared.message.Room.{Room}
 use Rattle.proto_writer.specs.declared.message.Room.the-variants.{Left}
@@ -20,12 +20,7 @@ module _ (serial name : List ℕ) (transports : List ℤ) (kind : List ℕ) wher
   pub information-length : length (messageBytes (informationFields serial name transports kind))
       ≡ length (fieldBytes (text serialNumberField serial)) + length (fieldBytes (text nameField name)) + length (fieldBytes (packed transportsField (map extended transports)))
       + length (fieldBytes (text deviceTypeField kind))
-  information-length =
-      let f₁ = text serialNumberField serial in
-      let f₂ = text nameField name in
-      let f₃ = packed transportsField (map extended transports) in
-      let f₄ = text deviceTypeField kind in
-      omega (arith, message-length f₁ (f₂ ∷ f₃ ∷ f₄ ∷ []), message-length f₂ (f₃ ∷ f₄ ∷ []), message-length f₃ (f₄ ∷ []), message-length f₄ [])
+  information-length = four-length (text serialNumberField serial) (text nameField name) (packed transportsField (map extended transports)) (text deviceTypeField kind)
 
   -- the room that is left after the four fields
   pub room-of : (len n₁ n₂ n₃ n₄ : ℕ) (r₁ r₂ r₃ r₄ : Room) → r₁ ≡ lessRoom n₁ (Left len) → r₂ ≡ lessRoom n₂ r₁ → r₃ ≡ lessRoom n₃ r₂ → r₄ ≡ lessRoom n₄ r₃

@@ -12,7 +12,7 @@ use Rattle.proto_strings.specs.declared.TextFault.the-variants.{None, At}
 use Rattle.proto_strings.specs.Texts.{firstFault, faulted}
 use Rattle.wire.specs.Put.{Put}
 use Rattle.proto_writer.specs.Writer.{scalar, text, fieldBytes, messageBytes}
-use Rattle.proto_writer.proofs.Runs.{message-length, scalar-none}
+use Rattle.proto_writer.proofs.Runs.{four-length, scalar-none}
 use Rattle.proto_schema.specs.Schema.{componentNameField, componentOffsetField, segmentSizeField, segmentSignatureField}
 use Rattle.msg_firmware.specs.Segment.{brokenField}
 use Rattle.msg_segment_writer.specs.Segment.{segmentStrings, segmentFields, segmentFilled, segmentWritten}
@@ -21,11 +21,11 @@ use Rattle.msg_firmware.proofs.Segments.{offset-none}
 pub segment-length : (name : List ℕ) (size : ℕ) (signature : List ℕ) → length (messageBytes (segmentFields name 0 size signature))
     ≡ length (fieldBytes (text componentNameField name)) + length (fieldBytes (scalar segmentSizeField size)) + length (fieldBytes (text segmentSignatureField signature))
 segment-length name size signature =
-    let f₁ = text componentNameField name in
-    let f₂ = scalar componentOffsetField 0 in
-    let f₃ = scalar segmentSizeField size in
-    let f₄ = text segmentSignatureField signature in
-    omega (arith, message-length f₁ (f₂ ∷ f₃ ∷ f₄ ∷ []), message-length f₂ (f₃ ∷ f₄ ∷ []), message-length f₃ (f₄ ∷ []), message-length f₄ [], ap length (scalar-none componentOffsetField 0 refl))
+    omega (
+      arith,
+      four-length (text componentNameField name) (scalar componentOffsetField 0) (scalar segmentSizeField size) (text segmentSignatureField signature),
+      ap length (scalar-none componentOffsetField 0 refl),
+    )
 
 -- ---- the writer, by the broken field
 module _ (name : List ℕ) (offset size : ℕ) (signature out : List ℕ) (n : ℕ) (is : n ≡ brokenField offset signature) where

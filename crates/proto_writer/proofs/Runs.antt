@@ -43,6 +43,11 @@ put-field f fs p q = put-then (fieldBytes f) (messageBytes fs) refl p q
 pub message-length : (f : Field) (fs : List Field) → length (messageBytes (f ∷ fs)) ≡ length (fieldBytes f) + length (messageBytes fs)
 message-length f fs = length-append (fieldBytes f) (messageBytes fs)
 
+pub four-length : (f₁ f₂ f₃ f₄ : Field)
+    → length (messageBytes (f₁ ∷ f₂ ∷ f₃ ∷ f₄ ∷ [])) ≡ length (fieldBytes f₁) + length (fieldBytes f₂) + length (fieldBytes f₃) + length (fieldBytes f₄)
+four-length f₁ f₂ f₃ f₄ =
+    omega (arith, message-length f₁ (f₂ ∷ f₃ ∷ f₄ ∷ []), message-length f₂ (f₃ ∷ f₄ ∷ []), message-length f₃ (f₄ ∷ []), message-length f₄ [])
+
 -- ---- what a field is made of
 pub scalar-none : (f v : ℕ) → v ≡ 0 → fieldBytes (scalar f v) ≡ []
 unfolding fieldBytes

@@ -35,7 +35,7 @@ kind-first true last = refl
 kind-first false true = refl
 kind-first false false = refl
 
-kind-low : (first last : Bool) → typeFor first last < 4
+pub kind-low : (first last : Bool) → typeFor first last < 4
 kind-low true last = omega arith
 kind-low false true = omega arith
 kind-low false false = omega arith
