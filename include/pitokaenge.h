@@ -50,8 +50,8 @@ extern "C" {
 
 /*
  * The version of this interface: one more with each change that a caller has to follow. A call that is only added leaves it:
- * pito_packet_read and pito_capture_packet came to version 6 later than the others, and a program that calls them does not
- * link with an archive from before.
+ * pito_packet_read, pito_capture_packet, pito_capture_why and pito_text came to version 6 later than the others, and a program
+ * that calls them does not link with an archive from before.
  */
 #define PITO_VERSION 6
 
@@ -330,7 +330,8 @@ PITO_CALL uint64_t pito_ack_write(uint64_t stream, uint64_t id, uint64_t sequenc
 /*
  * Reads the packet at the front of some bytes, and tells where it ends. Packets that stand joined, as those of a reply, are
  * cut apart so: the next one begins where this one ends, until no bytes are left. A packet of which the bytes have not all is
- * refused; what stands behind it is not looked at.
+ * refused: one that is right so far by 2 where they end in its head, by 5 in its payload, and an ACK or NACK by 2 in its first
+ * two bytes and by 12 behind them. What stands behind a packet is not looked at.
  *   limit  the largest total that is taken, any number: the link's limit, or PITO_LARGEST_LIMIT, which takes every total
  * Answer:
  *   end            how many bytes the packet has
