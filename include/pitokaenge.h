@@ -329,12 +329,12 @@ PITO_CALL uint64_t pito_ack_write(uint64_t stream, uint64_t id, uint64_t sequenc
 
 /*
  * Reads the packet at the front of some bytes, and tells where it ends. Packets that stand joined, as those of a reply, are
- * cut apart so: the next one begins where this one ends, until no bytes are left. A packet of which the bytes have not all is
- * refused: one that is right so far by 2 where they end in its head, by 5 in its payload, and an ACK or NACK by 2 in its first
- * two bytes and by 12 behind them. What stands behind a packet is not looked at.
+ * cut apart so: the next one begins where this one ends, until no bytes are left. Bytes that end before the packet does are
+ * refused: where it is right so far by 2 in its head and by 5 in its payload, an ACK or NACK by 2 under two bytes and by 12 from
+ * there on. What stands behind a packet is not looked at.
  *   limit  the largest total that is taken, any number: the link's limit, or PITO_LARGEST_LIMIT, which takes every total
  * Answer:
- *   end            how many bytes the packet has
+ *   end            how many bytes the packet has, at most bytes_len
  *   stream, id, sequence  the packet's
  *   kind           its type, PITO_PACKET_FIRST to PITO_PACKET_CONTROL
  *   ack            its ACK flag: 1 if an ACK is wanted, else 0; of an ACK 1, of a NACK 0
@@ -493,8 +493,8 @@ PITO_CALL uint64_t pito_capture_judge(const uint8_t *capture, pito_len capture_l
                                       uint64_t *answer, pito_len answer_len);
 
 /* What was expected of a packet that is not lawful; 0: nothing, its stream is none. */
-#define PITO_EXPECTED_ANY_FIRST 1 /* a first packet of any message: nothing is open, and what came has no total */
-#define PITO_EXPECTED_FIRST 2     /* the first packet of a message of this total, with any id and sequence */
+#define PITO_EXPECTED_ANY_FIRST 1 /* a first packet of any message: nothing is open, and what came is refused or no first one */
+#define PITO_EXPECTED_FIRST 2     /* the first packet of a message of the total that came, with any id and sequence */
 #define PITO_EXPECTED_NEXT 3      /* the next packet of the transaction that is open */
 
 /*
@@ -508,7 +508,8 @@ PITO_CALL uint64_t pito_capture_judge(const uint8_t *capture, pito_len capture_l
  *     .._left       the bytes still to come
  *     .._sequence   the next packet's
  *   what came, if it is unlawful; else 0. The fields of a byte that the packet does not have are 0
- *     refusal       the number by which pito_receiver_accept refuses this packet whatever is open: 2 to 8 or 12; else 0
+ *     refusal       the number by which pito_receiver_accept, at this limit, refuses this packet whatever is open: 2 to 8 or
+ *                   12; else 0
  *     size          of the packet, in bytes
  *     stream        whatever number stands there, 0 to 15
  *     id, sequence, kind (0 to 3, its type), ack, extended
@@ -517,8 +518,8 @@ PITO_CALL uint64_t pito_capture_judge(const uint8_t *capture, pito_len capture_l
  *   what was expected, if it is unlawful; else 0
  *     expected      PITO_EXPECTED_.., or 0
  *     expected_id, expected_sequence  of PITO_EXPECTED_NEXT; else 0
- *     expected_kind, expected_length, expected_extended
- *     expected_last 1 if the packet takes all that is left: only then may its ACK flag be 1
+ *     expected_kind, expected_length, expected_extended  of PITO_EXPECTED_FIRST and PITO_EXPECTED_NEXT; else 0
+ *     expected_last 1 if that packet takes all that is left: only then may its ACK flag be 1; else 0
  * Returns what pito_capture_judge returns: 0, 1, 13, 17, 40, 42 (a length of 0), 41.
  */
 enum {

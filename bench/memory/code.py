@@ -15,6 +15,7 @@ GROUPS = {
     "replies": ("reply",),
     "firmware messages and fields": ("segment", "apply", "field"),
     "outbox": ("outbox",),
+    "text": ("text",),
 }
 
 

@@ -7,8 +7,8 @@
 //!   changes: neither state, lent bytes nor answer. Only `feed` tells then that 0 bytes were used,
 //!   where its answer row has the right length.
 //! - Every other call writes the whole answer row. After a refusal it is 0 throughout, but for what
-//!   the paper tells then: the number used by `feed`, the place that goes with 41, the field that
-//!   goes with 50, and the places of a text.
+//!   the paper tells then: the number used by `feed`, the place that goes with 41, and of a
+//!   capture with 42, the field that goes with 50, and the places of a text.
 //! - Signed 32-bit numbers stand in two's complement, extended to 64 bits. A number that is no such
 //!   one is out of a writer's range, 15; so is an unsigned one above 32 bits, and a wish other than 0
 //!   or 1.

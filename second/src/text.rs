@@ -43,7 +43,7 @@ pub fn bad_place(text: &[u8]) -> Option<usize> {
     None
 }
 
-/// Issue 39, 6: "right-to-left marks shown safely". The characters that are followed and not shown.
+/// The characters that a terminal or a page would follow and not show (docs/FORMATS.md, "Text").
 const HIDDEN: [RangeInclusive<u32>; 7] = [
     0x0000..=0x001F,
     0x007F..=0x007F,

@@ -18,7 +18,7 @@ pub struct OpenTransaction {
 /// A packet that came and is not lawful. The fields of a byte that it does not have are 0.
 #[derive(Clone, Copy, Debug, PartialEq, Eq)]
 pub struct Came {
-    /// What a [`Link`](crate::Link) refuses it by, whatever is open; `None` if it is a packet that another could take.
+    /// What a [`Link`](crate::Link) refuses it by, whatever is open; `None` if it is a packet that one could take.
     pub refusal: Option<Refusal>,
     /// Its bytes in all.
     pub size: usize,

@@ -127,12 +127,12 @@ AnswerableAll = (c : PacketCall) → c .sequence ≤ 15 → 6 ≤ length (c .out
 abbrev pub lastOut : Sending → PacketCall → List ℕ
 lastOut w c = cond (w .ack) (sets (c .out) 0 (ackBytes (w .stream) (w .id) (c .sequence) true)) (c .out)
 
--- each call takes a piece at the one index; each but the last gives nothing and leaves its answer buffer, and the last gives the message
+-- each call takes a piece at one index of the row; each but the last gives nothing and leaves its answer buffer, and the last gives the message
 abbrev pub atLast : ℕ → Sending → List ℕ → PacketCall → List PacketCall → List CallShown
 atLast index w m c [] = shown (some index) (some (messageOf w m)) (lastOut w c) ∷ []
 atLast index w m c (d ∷ later) = shown (some index) none (c .out) ∷ atLast index w m d later
 
--- so it is, at some index
+-- so it is, at some index of the row
 pub record Arrived (w : Sending) (m : List ℕ) (first : PacketCall) (later : List PacketCall) (shows : List CallShown) : Type 0 where
   pub index : ℕ
   pub as-said : shows ≡ atLast index w m first later

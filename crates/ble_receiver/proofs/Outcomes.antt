@@ -48,7 +48,7 @@ same-left t at row s bytes out e = ap (λ (l : List Slot). left t l bytes out) (
 
 -- ---- a step
 
--- what a step at its place leaves
+-- what a step at its index leaves
 abbrev pub leftAt : ℕ → ℕ → List Slot → List ℕ → List ℕ → List ℕ → StepAt → PacketLeft
 leftAt limit sequence slots bytes p out d =
     left (d .step .told) (set slots (d .index) (d .step .slot)) (stored limit (d .index) bytes p (d .step .payload)) (answered sequence (d .step .told) out)
@@ -65,7 +65,7 @@ acted-left limit sequence t slots bytes p out (still a) =
     same-left a (laneStart t) slots (getD (laneOf t slots) 0 idle) bytes (answered sequence a out) (lane-first t slots)
 acted-left limit sequence t slots bytes p out (step spot s) = refl
 
--- it is at a place of the row, and its payload within its packet and its part
+-- it is at an index of the row, and its payload within its packet and its part
 pub at-fits : (limit k : ℕ) (t : Stream) (lane : List Slot) (act : Act) → ActFits limit k act
     → (actAt (laneStart t) lane act .index < slotCount) × InsidePart limit k (actAt (laneStart t) lane act .step .payload)
 at-fits limit k t lane (still a) f = let low = spot-low t 0 (omega arith) in (omega (arith, low), (omega arith, omega arith))

@@ -9,7 +9,7 @@ use Rattle.ble_sender.specs.declared.piece.Piece.{Piece}
 use Rattle.ble_sender.specs.declared.piece.Found.{Found}
 use Rattle.ble_sender.specs.declared.piece.Found.the-variants.{Nowhere, At}
 
--- n bytes from a start on
+-- n bytes from a place on
 abbrev pub pieceFor : ℕ → ℕ → ℕ → Piece
 pieceFor index start n = record { index = index; start = start; size = n }
 
@@ -49,7 +49,7 @@ fullSize room first = sizeFor room first room
 abbrev pub isFirst : ℕ → Bool
 isFirst index = eqb index 0
 
--- the pieces of the rest of a message from a start on, until one takes all of it
+-- the pieces of the rest of a message from a place on, until one takes all of it
 abbrev pub piecesFrom : ℕ → ℕ → ℕ → ℕ → ℕ → List Piece
 piecesFrom zero room index start rest = []
 piecesFrom (suc fuel) room index start rest =

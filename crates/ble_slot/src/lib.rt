@@ -28,13 +28,13 @@ pub struct Slot {
 // The flag that is set.
 const SET: u8 = 1;
 
-// What is fixed in the first four bytes of an open slot, read as one number: its flag, and the upper bits of id, sequence and wish. They
-// are 1 and 0.
+// What is fixed in the first four bytes of an open slot, read as one number: its flag, which is 1,
+// and the upper bits of id, sequence and wish, which are 0.
 const FIXED: usize = 4277203199;
 
 const OPEN: usize = 1;
 
-// What a byte of a number of eight counts: the third, fourth, fifth and seventh.
+// What the third, fourth, fifth and seventh byte of a number count.
 const THIRD: usize = 65536;
 
 const FOURTH: usize = 16777216;

@@ -1,5 +1,5 @@
 -- Packets read one by one, by the rows: joined ones from end to end, and those of a capture from place to place.
-use Prim.Native.Nat.{ℕ, zero, suc, _+_, _-_, _≤_, _<_}
+use Prim.Native.Nat.{ℕ, zero, suc, _+_, _-_, _≤_, _<_, zero-le}
 use native.Mathlib.Omega.{arith}
 use mathlib.Core.Path.{_≡_, refl, sym, ap, _∙_}
 use mathlib.Core.Bool.{Bool, true, false, cond, _&&_}
@@ -12,12 +12,13 @@ use Rattle.wire.specs.Bytes.{bit}
 use Rattle.wire.specs.Told.{Told, given, refused, andThen}
 use Rattle.wire.proofs.Streams.{number-back}
 use Rattle.ble_packet.specs.declared.reader.Packet.{Packet}
-use Rattle.ble_packet.specs.declared.reader.Packet.the-variants.{First, Next}
+use Rattle.ble_packet.specs.declared.reader.Packet.the-variants.{First, Next, Ack, Nack}
 use Rattle.ble_packet.specs.Header.{typeControl, typeBits, extenderBit, headerSize, sequenceAfter}
 use Rattle.ble_packet.specs.Control.{ackSize}
 use Rattle.ble_packet.specs.Reader.{fieldsOf, lines, readOf}
 use Rattle.ble_packet.proofs.Headers.{type-back, extender-back}
 use Rattle.ble_packet_end.specs.End.{saidLength, endOf, frontOf}
+use Rattle.ble_packet_end.proofs.Ends.{front-ends}
 use Rattle.ble_sender.specs.declared.piece.Piece.{Piece}
 use Rattle.ble_sender.specs.declared.writer.Sending.{Sending}
 use Rattle.ble_sender.specs.Piece.{leastRoom, extended, isFirst, sizeFor, piecesFrom, piecesOf, pieceFor}
@@ -33,10 +34,11 @@ use Rattle.capture_reader.specs.Capture as capture
 use Rattle.capture_reader.specs.Capture.{ToldAt, located, lengthIn, otherVersion}
 use Rattle.capture_packet.specs.Place.{PacketItem, found, end, foundAt, badPlace, packetAt}
 use Rattle.capture_packet.proofs.Places.{onward, packetsAt, places-give-all}
-use Rattle.c_rows.specs.Row.{afterwards}
+use Rattle.c_rows.specs.Row.{afterwards, numberTold}
 use Rattle.c_rows.specs.Called.{called}
-use Rattle.c_packets.specs.Convert.{packetRow, capturedRow}
+use Rattle.c_packets.specs.Convert.{packetRow, frontRow, capturedRow}
 use Rattle.c_packets.specs.Calls.{packetReadOf, capturePacketOf}
+use Rattle.c_claims.proofs.Strings.{told-row}
 use Rattle.c_claims.specs.RowsAgree.{rowFor, frontBy, frontsFrom, capturedBy, capturedFrom}
 
 -- ---- captures, place after place
@@ -200,3 +202,17 @@ pub joined-agrees : (limit : ℕ) (how : Sending) (message out answer : List ℕ
 joined-agrees limit how message out answer takes l =
     fronts-all limit how message answer (room-low (how .room) (takes .room)) (range-facts limit how (length message) (takes .arguments)) l
     (suc (length (joinedOf how message))) (omega arith)
+
+-- ---- an end that is told
+pub packet-within : (limit : ℕ) (bytes answer : List ℕ) → let c = packetReadOf bytes limit answer in c .number ≡ 0 → getD (c .answer) 0 0 ≤ length bytes
+unfolding packetReadOf
+packet-within limit bytes answer =
+    let front = frontOf limit bytes in
+    told-row 10 (numberTold front) answer (frontRow (endOf bytes) (bit (extenderBit (getD bytes 1 0))) front) (λ (row : List ℕ). getD row 0 0 ≤ length bytes) (lies front refl)
+  where
+    lies : (t : Told Packet) → frontOf limit bytes ≡ t → getD (frontRow (endOf bytes) (bit (extenderBit (getD bytes 1 0))) t) 0 0 ≤ length bytes
+    lies (refused n) e = zero-le
+    lies (given (First h ack total start len)) e = front-ends bytes limit _ e
+    lies (given (Next h ack last start len)) e = front-ends bytes limit _ e
+    lies (given (Ack h)) e = front-ends bytes limit _ e
+    lies (given (Nack h)) e = front-ends bytes limit _ e

@@ -1,18 +1,22 @@
--- An instance of fields of RowsAgree, and each of NumbersJudged at the least number that is no byte.
+-- An instance of fields of RowsAgree and StringsWellFormed, and each of NumbersJudged at the least number that is no byte.
 use Prim.Native.Nat.{ℕ, suc, _≤_}
 use mathlib.Core.Path.{_≡_, refl}
 use mathlib.Core.Logic.{_⊎_}
 use mathlib.Core.Bool.{true}
 use mathlib.Core.List.{List, [], _∷_, _++_, map}
 use native.Mathlib.Omega.{arith}
-use lib.ListN.{length, replicate, length-replicate}
+use lib.ListN.{length, take, replicate, length-replicate}
 use Rattle.ble_slot.specs.declared.Slot.{Slot}
 use Rattle.ble_sender.specs.declared.piece.Piece.{Piece}
 use Rattle.ble_sender.specs.declared.writer.Sending.{Sending}
 use Rattle.ble_sender.specs.Piece.{piecesOf}
-use Rattle.ble_sender.specs.Writer.{packetOf, packetsOf}
+use Rattle.ble_sender.specs.Writer.{packetOf, packetsOf, roomFits}
 use Rattle.ble_joined.specs.Joined.{joinedOf}
 use Rattle.capture_reader.specs.Capture as capture
+use Rattle.capture_judge.specs.Capture.{tracedOf, walkedOf}
+use Rattle.capture_why.specs.Why.{whyOf}
+use Rattle.utf8.specs.WellFormed.{WellFormed}
+use Rattle.wire.specs.Limit.{limitFits}
 use Rattle.ble_sender_claims.proofs.CallsGiveAll.{takes-all}
 use Rattle.outbox_move_claims.specs.Claims.{recordsOf}
 use Rattle.proto_field.specs.Fields.{foundAt}
@@ -35,11 +39,14 @@ use Rattle.c_sending.specs.Convert.{sendingOf}
 use Rattle.c_sending.specs.Calls.{ackWriteOf}
 use Rattle.c_receiving.specs.Calls.{receiverAcceptOf}
 use Rattle.c_reply.specs.Convert.{linkOf}
+use Rattle.c_text.specs.Calls.{textOf}
+use Rattle.c_judge.specs.Calls.{captureJudgeOf, captureWhyOf}
 use Rattle.c_firmware.specs.Calls.{applyWriteOf}
 use Rattle.c_outbox.specs.Calls.{outboxAppendOf}
 use Rattle.c_claims.specs.RowsAgree.{packetsFrom, recordsFrom, rowFor, frontsFrom, capturedFrom}
 use Rattle.c_claims.proofs.RowsAgree.{rows-agree}
 use Rattle.c_claims.proofs.NumbersJudged.{numbers-judged}
+use Rattle.c_claims.proofs.Strings.{strings-well-formed}
 
 -- any arguments in the ranges of docs/FORMATS.md
 packets : (limit : ℕ) (how : Sending) (message out : List ℕ) → 1 ≤ limit → limit ≤ 65535 → 20 ≤ how .room → how .room ≤ 512
@@ -63,6 +70,17 @@ joined limit how message least most low high stream id sequence short =
 
 captured : (bytes : List ℕ) → capturedFrom (suc (length bytes)) bytes (replicate 5 7) 1 ≡ capture.packetsOf bytes
 captured bytes = rows-agree .captured bytes (replicate 5 7) refl
+
+-- the judge's row stands in front of a refusal too: a length of one byte
+abbrev cut : List ℕ
+cut = 0x01 ∷ 0x00 ∷ []
+
+why-cut : take 2 (captureWhyOf cut 20 1 (replicate 31 7) .answer) ≡ captureJudgeOf cut 20 1 (7 ∷ 7 ∷ []) .answer
+unfolding captureWhyOf whyOf tracedOf walkedOf capture.packetsOf capture.packetsFrom capture.frontOf capture.otherVersion roomFits limitFits
+why-cut = rows-agree .why 20 1 cut (replicate 31 7) (7 ∷ 7 ∷ []) refl refl .1 (λ e. omega arith)
+
+text : (s : List ℕ) → (textOf s (7 ∷ 7 ∷ []) .number ≡ 0 → WellFormed s) × (WellFormed s → textOf s (7 ∷ 7 ∷ []) .number ≡ 0)
+text s = strings-well-formed .text s (7 ∷ 7 ∷ []) refl
 
 -- the least that is told: no bytes at all
 apply-none : (texts out answer : List ℕ) → applyWriteOf (wholeRow noApply) texts out answer ≡ textCall out answer (applyWritten noApply texts out)

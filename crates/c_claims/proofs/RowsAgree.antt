@@ -48,7 +48,7 @@ use Rattle.c_rows.specs.Row.{afterwards, numberTold}
 use Rattle.c_rows.specs.Called.{called}
 use Rattle.c_claims.specs.RowsAgree.{NumbersFit, rowStanding, packetBy, packetsFrom, recordBy, recordsFrom, RowsAgree}
 use Rattle.c_claims.proofs.Applies.{not-wide}
-use Rattle.c_claims.proofs.Fronts.{joined-agrees, captured-agrees}
+use Rattle.c_claims.proofs.Fronts.{packet-within, joined-agrees, captured-agrees}
 use Rattle.c_claims.proofs.Told.{numbers-fit}
 use Rattle.c_claims.proofs.Whys.{why-agrees}
 
@@ -256,6 +256,7 @@ rows-agree = record {
   packets = packets-agree;
   records = records-agree;
   joined = joined-agrees;
+  packet-within = packet-within;
   captured = captured-agrees;
   why = why-agrees;
 }

@@ -94,7 +94,7 @@ frontBy bytes later c =
     ((take (getD (c .answer) 0 0) bytes, c .answer) ∷ later (drop (getD (c .answer) 0 0) bytes))
     []
 
--- at most so many calls, over one answer row
+-- at most `calls` calls, over one answer row
 unfoldable pub frontsFrom : ℕ → ℕ → List ℕ → List ℕ → List (List ℕ × List ℕ)
 frontsFrom zero limit answer bytes = []
 frontsFrom (suc calls) limit answer bytes = frontBy bytes (frontsFrom calls limit answer) (packetReadOf bytes limit answer)
@@ -151,6 +151,8 @@ pub record RowsAgree : Type 0 where
   pub joined : (limit : ℕ) (how : Sending) (message out answer : List ℕ) → SendableMessage limit how message out → length answer ≡ 10
       → frontsFrom (suc (length (joinedOf how message))) limit answer (joinedOf how message)
       ≡ map (λ (p : Piece). (packetOf how message p, rowFor how (length message) p)) (piecesOf (how .room) (length message))
+  -- a packet that a call tells ends within the bytes, whatever they are
+  pub packet-within : (limit : ℕ) (bytes answer : List ℕ) → let c = packetReadOf bytes limit answer in c .number ≡ 0 → getD (c .answer) 0 0 ≤ length bytes
   -- the calls for a capture, each at the next place that the one before it told, give all its packets, or its refusal with its place
   pub captured : (bytes answer : List ℕ) → length answer ≡ 5 → capturedFrom (suc (length bytes)) bytes answer 1 ≡ capture.packetsOf bytes
   -- the judge's number, and its row in front

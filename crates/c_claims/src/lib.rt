@@ -17,12 +17,13 @@ pub fn sizes_suffice()
 {}
 
 // What a caller carries from call to call is taken as what was told: the row of an ApplyFirmware, of a report and of a state; a field's row
-// tells what stands at its place; place after place, all packets of a message and all records of a file are given.
+// tells what stands at its place; place after place, all packets of a message and of a capture and all records of a file are given; joined
+// packets are cut where each is told to end; why a capture is not lawful is told with the judge's verdict.
 pub fn rows_agree()
     ensures { λ _. ⌜ RowsAgree ⌝ }
 {}
 
-// Every string that a reader's row tells lies within the message and is well formed.
+// Every string that a reader's row tells lies within the message and is well formed; a text is taken exactly if it is.
 pub fn strings_well_formed()
     ensures { λ _. ⌜ StringsWellFormed ⌝ }
 {}

@@ -13,7 +13,7 @@ use Rattle.c_rows.specs.Row.{numberTold}
 use Rattle.c_message_rows.specs.Convert.{partRow}
 use Rattle.c_firmware_rows.specs.declared.field_row.FieldTold.{FieldTold}
 
--- the kind of bytes that are passed over, so many
+-- the kind of a field whose bytes, of this number, are passed over
 unfoldable pub fixedKind : ℕ → ℕ
 fixedKind len = cond (eqb len 8) fixed64Type fixed32Type
 

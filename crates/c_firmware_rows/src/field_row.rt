@@ -38,7 +38,7 @@ fn refused_field(why: Refusal) -> FieldTold
     }
 }
 
-// The kind of bytes that are passed over, so many.
+// The kind of a field whose bytes, of this number, are passed over.
 fn fixed_kind(len: usize) -> u64
     ensures { λ r. ⌜ r ≡ fixedKind len ⌝ }
 {

@@ -84,6 +84,9 @@ rows =
     ∷ row (input 20 35 (first ∷ second ∷ (0x61 ∷ 0x24 ∷ 0x04 ∷ from 32 4) ∷ [])) (given (unlawful 45))
     -- a packet that follows where nothing is open
     ∷ row (input 20 35 (second ∷ [])) (given (unlawful 1))
+    -- an ACK of the stream inside its transaction; an empty message with a wish
+    ∷ row (input 20 35 (first ∷ (0x61 ∷ 0x0E ∷ 0x00 ∷ 0x02 ∷ 0x01 ∷ 0x00 ∷ []) ∷ second ∷ third ∷ [])) (given lawful)
+    ∷ row (input 20 1 ((0x23 ∷ 0xF2 ∷ 0x00 ∷ 0x00 ∷ 0x00 ∷ 0x00 ∷ []) ∷ [])) (given lawful)
     -- the refusals; a room that is refused comes before a limit, a limit before a version, the whole capture before its packets
     ∷ row [] (refused (13, 0))
     ∷ row (0x00 ∷ 0x14 ∷ []) (refused (17, 0))

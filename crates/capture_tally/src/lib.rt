@@ -103,7 +103,8 @@ fn with_slot(slots: [Slot; 12], index: usize, slot: Slot) -> [Slot; 12]
     row
 }
 
-// A packet given to the link, whose row and buffer are its own work: nothing of them is judged again. The answer sequence and the answer buffer are the call's own.
+// A packet given to the link. Row and buffer are this call's own work, so nothing of them is judged again; so are the answer sequence and
+// the answer buffer.
 fn give(limit: usize, slots: [Slot; 12], buffer: &mut [u8], packet: &[u8]) -> Step
     requires { ⌜ ready limit slots (length (now buffer)) ≡ true ⌝ }
     ensures { λ r. ⌜ result (answer.told (r .answer)) (set slots (r .index) (r .slot)) (now (buffer .exit))

@@ -42,7 +42,7 @@ pub struct Came {
     pub read: ReadNumbers,
 }
 
-// What was expected: nothing on a stream that is none; a first packet of any message, where nothing is open; or just this packet.
+// What was expected: nothing where the stream field is no stream's; a first packet of any message, where nothing is open; or just this packet.
 pub enum Expected {
     Nothing,
     AnyFirst,

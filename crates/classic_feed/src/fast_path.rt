@@ -56,7 +56,8 @@ pub fn pass(state: Progress, limit: usize, buffer: &mut [u8], bytes: &[u8], i: u
     }
 }
 
-// Passes the bytes up to a start mark and, where a whole header stands there, the header and the body.
+// Passes the bytes up to a start mark; where four bytes stand there, also the header and the body, or, if they are no header, the start
+// mark alone.
 fn find_frame(state: Progress, limit: usize, buffer: &mut [u8], bytes: &[u8], i: usize) -> Passed
     requires { ⌜ Fits limit state (now buffer) ⌝ }
     requires { ⌜ i ≤ length (now bytes) ⌝ }

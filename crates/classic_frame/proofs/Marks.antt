@@ -16,10 +16,6 @@ pub start-kind : kindOf startMark ≡ Start
 unfolding kindOf
 start-kind = refl
 
-pub end-kind : kindOf endMark ≡ End
-unfolding kindOf
-end-kind = refl
-
 pub escape-kind : kindOf escapeMark ≡ Escape
 unfolding kindOf
 escape-kind = refl

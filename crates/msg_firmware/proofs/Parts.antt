@@ -70,14 +70,6 @@ parts-turn s at e = parts-any s (length s) (suc (length s)) at (omega arith) (om
 pub parts-end : (s : List ℕ) (at : ℕ) → length s ≤ at → partsFrom s at ≡ []
 parts-end s at h = parts-turn s at (found-end s at h)
 
--- ---- the part of a component lies within the message
-pub within-one : (s : List ℕ) (number : ℕ) (value : Value) → Within s (valueParts value) → Within s (partOfComponent number value)
-within-one s number value h = by-test (eqb number 3)
-  where
-    by-test : (b : Bool) → Within s (cond b (valueParts value) [])
-    by-test true = h
-    by-test false = tt
-
 -- ---- the walk over the fields: a field that is no component is passed over, and what is none of these is the answer
 field-inside : (s : List ℕ) (at number : ℕ) (value : Value) (next : ℕ) → foundAt s at ≡ given (field number value next) → at < length s
 field-inside s at number value next e = by-end (leb (length s) at) refl

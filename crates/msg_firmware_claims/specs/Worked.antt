@@ -102,14 +102,15 @@ segmentCases =
     ∷ segmentCase (0x10 ∷ 0x01 ∷ 0x08 ∷ 0x00 ∷ []) (refused (33, []))
     -- the last offset is 2 ^ 32
     ∷ segmentCase (0x10 ∷ 0x01 ∷ 0x10 ∷ 0x80 ∷ 0x80 ∷ 0x80 ∷ 0x80 ∷ 0x10 ∷ 0x22 ∷ 0x40 ∷ digits) (segment noPart 0 (part 10 64))
-    -- 65 digits; a byte before 0, after 9, before A, after F, before a, after f
+    -- 63 and 65 digits; a byte before 0, after 9, before A, after F, before a, after f
+    ∷ segmentCase (0x22 ∷ 0x3F ∷ replicate 63 0x37) (refused (50, 4 ∷ []))
     ∷ segmentCase (0x22 ∷ 0x41 ∷ replicate 65 0x37) (refused (50, 4 ∷ []))
     ∷ segmentCase (0x22 ∷ 0x40 ∷ replicate 63 0x37 ++ (0x2F ∷ [])) (refused (50, 4 ∷ []))
     ∷ segmentCase (0x22 ∷ 0x40 ∷ replicate 63 0x37 ++ (0x3A ∷ [])) (refused (50, 4 ∷ []))
     ∷ segmentCase (0x22 ∷ 0x40 ∷ replicate 63 0x37 ++ (0x40 ∷ [])) (refused (50, 4 ∷ []))
     ∷ segmentCase (0x22 ∷ 0x40 ∷ replicate 63 0x37 ++ (0x47 ∷ [])) (refused (50, 4 ∷ []))
     ∷ segmentCase (0x22 ∷ 0x40 ∷ replicate 63 0x37 ++ (0x60 ∷ [])) (refused (50, 4 ∷ []))
-    ∷ segmentCase (0x22 ∷ 0x40 ∷ replicate 63 0x37 ++ (0x67 ∷ [])) (refused (50, 4 ∷ []))
+    ∷ segmentCase (0x22 ∷ 0x40 ∷ 0x67 ∷ replicate 63 0x37) (refused (50, 4 ∷ []))
     ∷ []
 
 unfoldable pub applyCases : List ApplyCase

@@ -110,6 +110,7 @@ cases =
     ∷ case (writeFrame 5 (0xF0 ∷ [])) (bytes (given (0xF0 ∷ 0x02 ∷ 0x00 ∷ 0x05 ∷ 0xF2 ∷ 0x02 ∷ 0x00 ∷ 0xF2 ∷ 0x00 ∷ 0xF1 ∷ [])))
     -- 17 before 15, 15 for a payload of a byte more than the limit
     ∷ case (writeFrameWithin 0 0xF0 []) (bytes (refused 17))
+    ∷ case (writeFrameWithin 65536 5 []) (bytes (refused 17))
     ∷ case (writeFrameWithin 1 5 (0x41 ∷ 0x42 ∷ [])) (bytes (refused 15))
     -- a payload of as many bytes as the limit, and what is behind its frame stays; 14 leaves all
     ∷ case (writeFrameInto 1 5 (0x41 ∷ []) (replicate 9 0xEE)) (output (written (given 8) (0xF0 ∷ 0x02 ∷ 0x00 ∷ 0x05 ∷ 0x41 ∷ 0x00 ∷ 0x43 ∷ 0xF1 ∷ 0xEE ∷ [])))
@@ -133,6 +134,7 @@ cases =
     -- 13 before 17, 17 before 15, 15 for a message of a byte more than the limit
     ∷ case (writePacketWithin 0 (sending 19 6 1 0 false) []) (sent (refused 13))
     ∷ case (writePacketWithin 0 (sending 20 9 1 0 false) []) (sent (refused 17))
+    ∷ case (writePacketWithin 65536 (sending 20 6 1 0 false) []) (sent (refused 17))
     ∷ case (writePacketWithin 1 (sending 20 6 1 0 false) (zeros 2)) (sent (refused 15))
     -- 14: the last piece of one byte wants an output of the room too; what is behind its packet stays
     ∷ case (writePacketInto (sending 20 6 1 0 false) (zeros 15) 14 (replicate 19 0xEE)) (sentInto (written (refused 14) (replicate 19 0xEE)))
@@ -169,7 +171,7 @@ cases =
     ∷ case (acceptPacketWithin 64 (opening (3 ∷ [])) (beginning 1)) (accepted (given (Taken 1 Control 1 false)) (opening (3 ∷ 1 ∷ [])))
     ∷ case (acceptPacketWithin 64 (opening (3 ∷ 1 ∷ [])) (beginning 2)) (accepted (given (Taken 2 Control 2 false)) (opening (3 ∷ 1 ∷ 2 ∷ [])))
     ∷ case (acceptPacketWithin 64 (opening (3 ∷ 1 ∷ 2 ∷ [])) (beginning 0)) (accepted (given (Taken 3 Control 0 false)) full)
-    -- id 4 finds no slot, a total of 0 neither; id 2 is open, and replaced at its place
+    -- id 4 finds no slot, a total of 0 neither; id 2 is open, and replaced at its index
     ∷ case (acceptPacketWithin 64 full (beginning 4)) (accepted (refused 18) full)
     ∷ case (acceptPacketWithin 64 full (0x09 ∷ zeros 5)) (accepted (refused 18) full)
     ∷ case (acceptPacketWithin 64 full (beginning 2)) (accepted (given (Taken 2 Control 2 true)) full)
@@ -185,10 +187,15 @@ cases =
     ∷ case (acceptPacket asking (0x61 ∷ 0x00 ∷ 0x00 ∷ 0x00 ∷ 0x02 ∷ 0x01 ∷ 0xAA ∷ []))
     (accepted (given (Taken 8 Alexa 1 true)) (replicate 8 idle ++ (begun 1 ∷ replicate 3 idle)))
     ∷ case (acceptPacket asking (0x61 ∷ 0x00 ∷ 0x00 ∷ 0x00 ∷ 0x01 ∷ 0x01 ∷ 0xAA ∷ [])) (accepted (given (Finished 8 Alexa 1 1 false true)) idles)
+    -- .. one with the flag gets its ACK
+    ∷ case (answerPacket asking (0x61 ∷ 0x02 ∷ 0x00 ∷ 0x00 ∷ 0x01 ∷ 0x01 ∷ 0xAA ∷ []) 8 eight)
+    (answered (given (Finished 8 Alexa 1 1 true true)) idles (0x61 ∷ 0x8E ∷ 0x00 ∷ 0x02 ∷ 0x01 ∷ 0x00 ∷ 0xEE ∷ 0xEE ∷ []))
     -- .. a flag on a continuation alone is remembered
     ∷ case (acceptPacketWithin 64 (alone 8 1 1 0 0 3 1) (0x61 ∷ 0x16 ∷ 0x01 ∷ 0xBB ∷ [])) (accepted (given (Taken 8 Alexa 1 false)) (alone 8 1 1 1 1 3 2))
-    -- a packet's own refusals: 2 before 3, 3 before 12, 12 (too short, with the extender, with the other's code, too long), 4 before 5, 5 before 6, 5 of a packet that follows, 6 before 7, 7 before 9
+    -- a packet's own refusals: 2 before 3 (a header of 6, 7 and 4 bytes cut), 3 before 12, 12 (too short, with the extender, with the other's code, too long), 4 before 5, 5 before 6, 5 of a packet that follows, 6 before 7, 7 before 9, 8 of a length of two bytes
     ∷ unread 2 (0x71 ∷ 0x00 ∷ 0x00 ∷ 0x00 ∷ 0x01 ∷ [])
+    ∷ unread 2 (0x71 ∷ 0x01 ∷ 0x00 ∷ 0x00 ∷ 0x02 ∷ 0x00 ∷ [])
+    ∷ unread 2 (0x71 ∷ 0x05 ∷ 0x01 ∷ [])
     ∷ unread 3 (0x71 ∷ 0x0C ∷ 0x00 ∷ [])
     ∷ unread 12 (0x01 ∷ 0x0E ∷ [])
     ∷ unread 12 (0x01 ∷ 0x0F ∷ 0x00 ∷ 0x02 ∷ 0x01 ∷ 0x00 ∷ [])
@@ -199,6 +206,7 @@ cases =
     ∷ unread 5 (0x01 ∷ 0x18 ∷ 0x01 ∷ 0x08 ∷ 0x08 ∷ [])
     ∷ unread 6 (0x01 ∷ 0x00 ∷ 0x00 ∷ 0x00 ∷ 0x41 ∷ 0x00 ∷ [])
     ∷ unread 7 (0x09 ∷ 0x18 ∷ 0x00 ∷ [])
+    ∷ unread 8 (0x09 ∷ 0x01 ∷ 0x00 ∷ 0x00 ∷ 0x01 ∷ 0x00 ∷ 0x02 ∷ 0xAA ∷ 0xBB ∷ [])
     -- the extender on a length of 1: two bytes, big-endian
     ∷ case (acceptPacketWithin 64 full (0x01 ∷ 0x19 ∷ 0x00 ∷ 0x01 ∷ 0x08 ∷ [])) (accepted (given (Finished 1 Control 1 2 false false)) withoutOne)
     -- unlawful rows: one id twice in a stream, eleven slots and thirteen
@@ -212,6 +220,7 @@ cases =
     ∷ unlawful (alone 4 1 0 0 2 2 1)
     ∷ unlawful (alone 7 1 0 0 0 65 1)
     ∷ unlawful (alone 8 1 0 0 0 2 2)
+    ∷ unlawful (alone 8 1 0 0 0 0 0)
     ∷ unlawful (alone 10 1 0 0 0 2 0)
     ∷ case (acceptPacketWithin 64 (alone 11 1 15 15 1 64 63) (0x6F ∷ 0x08 ∷ 0x01 ∷ 0x07 ∷ [])) (accepted (given (Finished 11 Alexa 15 64 true false)) idles)
     -- a flag of 2, and an idle slot whose id, sequence, wish, total or count held is not 0

@@ -12,6 +12,7 @@ classicRows =
     (extractorOpenOf 0 (9 ∷ 9 ∷ 9 ∷ []), called 1 (9 ∷ 9 ∷ 9 ∷ []) [] [])
     ∷ (extractorOpenOf 1 (replicate 4 9), called 0 (1 ∷ 0 ∷ 0 ∷ 0 ∷ []) [] [])
     ∷ (extractorOpenOf 0 (replicate 4 9), called 17 (replicate 4 9) [] [])
+    ∷ (extractorOpenOf 65536 (replicate 4 9), called 17 (replicate 4 9) [] [])
     ∷ (extractorOpenOf 0 (replicate 5 9), called 1 (replicate 5 9) [] [])
     -- pito_extractor_step: pins extractorStepOf, phaseOf, stepRow, replyOf, isExtractor, stepped, phaseNumber, ..
     ∷ (extractorStepOf (1 ∷ 0 ∷ 0 ∷ 0 ∷ []) (0x00 ∷ 0x00 ∷ 0x00 ∷ []) 0x00 [], called 1 (1 ∷ 0 ∷ 0 ∷ 0 ∷ []) (0x00 ∷ 0x00 ∷ 0x00 ∷ []) [])

@@ -8,7 +8,7 @@ use Rattle.c_rows.specs.Called.{Called, called}
 
 -- two packets, of two bytes and of one
 abbrev twoPackets : List ℕ
-twoPackets = 0x01 ∷ 0x00 ∷ 0x02 ∷ 0x61 ∷ 0x62 ∷ 0x00 ∷ 0x01 ∷ 0x63 ∷ []
+twoPackets = 0x01 ∷ 0x00 ∷ 0x02 ∷ 0xFF ∷ 0xFF ∷ 0x00 ∷ 0x01 ∷ 0x63 ∷ []
 
 unfoldable pub packetsRows : List (Called × Called)
 packetsRows =
@@ -24,9 +24,9 @@ packetsRows =
       packetReadOf (0x6F ∷ 0x52 ∷ 0x00 ∷ 0x01 ∷ 0x02 ∷ 0x02 ∷ 0x07 ∷ 0x07 ∷ 0x61 ∷ 0x00 ∷ []) 257 (replicate 10 9),
       called 6 [] [] (replicate 10 0),
     )
-    -- its length in two bytes
+    -- its length in two bytes, and a limit that is no link's
     ∷ (
-      packetReadOf (0x21 ∷ 0xF1 ∷ 0x00 ∷ 0x01 ∷ 0x00 ∷ 0x01 ∷ 0x00 ∷ replicate 256 0x07) 65535 (replicate 10 9),
+      packetReadOf (0x21 ∷ 0xF1 ∷ 0x00 ∷ 0x01 ∷ 0x00 ∷ 0x01 ∷ 0x00 ∷ replicate 256 0x07) 4294967296 (replicate 10 9),
       called 0 [] [] (263 ∷ 2 ∷ 1 ∷ 15 ∷ 0 ∷ 0 ∷ 1 ∷ 256 ∷ 7 ∷ 256 ∷ []),
     )
     -- a continuation that asks for an ACK, and a last packet with a length in two bytes that does not
@@ -60,8 +60,8 @@ packetsRows =
     ∷ (capturePacketOf twoPackets 8 (replicate 5 9), called 0 [] [] (replicate 5 0))
     ∷ (capturePacketOf twoPackets 9 (replicate 5 9), called 15 [] [] (replicate 5 0))
     ∷ (capturePacketOf twoPackets 0 (replicate 5 9), called 15 [] [] (replicate 5 0))
-    -- any place is taken, be it that of a packet or not
-    ∷ (capturePacketOf twoPackets 2 (replicate 5 9), called 41 [] [] (0 ∷ 0 ∷ 0 ∷ 0 ∷ 2 ∷ []))
+    -- any place is taken, be it that of a packet or not, and every length but 0
+    ∷ (capturePacketOf twoPackets 3 (replicate 5 9), called 41 [] [] (0 ∷ 0 ∷ 0 ∷ 0 ∷ 3 ∷ []))
     -- a length of 0, a packet that is cut, another version, no bytes
     ∷ (capturePacketOf (0x01 ∷ 0x00 ∷ 0x01 ∷ 0x61 ∷ 0x00 ∷ 0x00 ∷ []) 4 (replicate 5 9), called 42 [] [] (0 ∷ 0 ∷ 0 ∷ 0 ∷ 4 ∷ []))
     ∷ (capturePacketOf (0x01 ∷ 0x00 ∷ 0x01 ∷ 0x61 ∷ 0x00 ∷ []) 4 (replicate 5 9), called 41 [] [] (0 ∷ 0 ∷ 0 ∷ 0 ∷ 4 ∷ []))

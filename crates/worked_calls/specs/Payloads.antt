@@ -10,6 +10,7 @@ payloadsRows =
     -- the longest payload of each version: pins badRecord
     (badRecord versionOne 6 4097, true)
     ∷ (badRecord versionTwo 6 65535, false)
+    ∷ (badRecord versionTwo 6 65536, true)
     ∷ []
 
 -- each call leaves what its row says

@@ -17,6 +17,7 @@ sendingRows =
     (receiverOpenOf 0 [], called 1 [] [] [])
     ∷ (receiverOpenOf 1 (9 ∷ []), called 0 (1 ∷ []) [] [])
     ∷ (receiverOpenOf 0 (9 ∷ []), called 17 (9 ∷ []) [] [])
+    ∷ (receiverOpenOf 65536 (9 ∷ []), called 17 (9 ∷ []) [] [])
     ∷ (receiverOpenOf 0 (9 ∷ 9 ∷ []), called 1 (9 ∷ 9 ∷ []) [] [])
     -- pito_packet_write: pins packetRow, sendingOf, lines, packetWriteOf, packetCall, argumentsFit, pairBytes, ..
     ∷ (packetWriteOf 0 (sendingOf 0 0 0 0 0) [] 0 (0xEE ∷ []) [], called 1 [] (0xEE ∷ []) [])
@@ -50,8 +51,9 @@ sendingRows =
     ∷ (ackWriteOf 0 0 0 2 [] (9 ∷ []), called 15 [] [] (0 ∷ []))
     ∷ (ackWriteOf 0 0 16 0 [] (9 ∷ []), called 15 [] [] (0 ∷ []))
     ∷ (ackWriteOf 0 16 0 0 [] (9 ∷ []), called 15 [] [] (0 ∷ []))
+    ∷ (ackWriteOf 5 0 0 0 [] (9 ∷ []), called 15 [] [] (0 ∷ []))
     ∷ (ackWriteOf 0 0 0 0 (0xEE ∷ []) [], called 1 [] (0xEE ∷ []) [])
-    ∷ (ackWriteOf 2 0 0 0 (replicate 6 0xEE) (9 ∷ []), called 0 [] (0x20 ∷ 0x0C ∷ 0x00 ∷ 0x02 ∷ 0x01 ∷ 0x03 ∷ []) (6 ∷ []))
+    ∷ (ackWriteOf 2 0 0 0 (replicate 7 0xEE) (9 ∷ []), called 0 [] (0x20 ∷ 0x0C ∷ 0x00 ∷ 0x02 ∷ 0x01 ∷ 0x03 ∷ 0xEE ∷ []) (6 ∷ []))
     ∷ (ackWriteOf 0 15 3 1 (replicate 6 0xEE) (9 ∷ []), called 0 [] (0x0F ∷ 0x3E ∷ 0x00 ∷ 0x02 ∷ 0x01 ∷ 0x00 ∷ []) (6 ∷ []))
     ∷ []
 

@@ -131,6 +131,7 @@ cases =
     ∷ []))
     -- 1: a sequence that is a mark, more held than there is room for, numbers that are not read yet, a buffer of another size
     ∷ leaves (body 0xF0 1) lent 0x00 (refused 1) (body 0xF0 1)
+    ∷ leaves (escaped 0xF2 1) lent 0x00 (refused 1) (escaped 0xF2 1)
     ∷ leaves (body 7 5) lent 0xF1 (refused 1) (body 7 5)
     ∷ leaves heldOutside lent 0xF0 (refused 1) heldOutside
     ∷ leaves numberedEarly lent 0x07 (refused 1) numberedEarly
@@ -138,7 +139,8 @@ cases =
     ∷ leaves outside (drop 1 lent) 0xF0 (refused 1) outside
     -- .. and a call uses no byte
     ∷ case (feedWith (body 0xF1 1) lent twenty) (called (fed (refused 1) 0 (body 0xF1 1) lent ∷ []))
-    -- outside F1 and F2 are skipped
+    -- outside every byte but F0 is skipped: a packet id too
+    ∷ leaves outside lent 0x02 skipped outside
     ∷ leaves outside lent 0xF1 skipped outside
     ∷ leaves outside lent 0xF2 skipped outside
     -- 20: F0 in the header (not 22), after F2 (not 23) and in a full body (not 24) begins a frame

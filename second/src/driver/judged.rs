@@ -131,7 +131,7 @@ fn pool() -> Vec<Vec<u8>> {
     pool.extend(message(Stream::Ota, 2, 3, true, 2));
     pool.push(acknowledgement(Stream::Alexa, 1, 7, true).to_vec());
     pool.push(acknowledgement(Stream::Ota, 1, 7, false).to_vec());
-    // One field another: id, sequence, type, flag, extender, reserved byte, stream.
+    // One field another: id, sequence, type, flag, extender, reserved byte, total (also above the limit), stream.
     let first = pool[0].clone();
     let next = pool[4].clone();
     let changed = |packet: &[u8], place: usize, flip: u8| {
@@ -139,18 +139,20 @@ fn pool() -> Vec<Vec<u8>> {
         packet[place] ^= flip;
         packet
     };
-    for (place, flip) in [(1, 2), (1, 1), (2, 1), (4, 1), (5, 1), (0, 0x10)] {
+    for (place, flip) in [(1, 2), (1, 1), (2, 1), (4, 1), (4, 4), (5, 1), (0, 0x10)] {
         pool.push(changed(&first, place, flip));
     }
     for (place, flip) in [(0, 1), (1, 0x20), (1, 0x0C), (1, 2), (1, 1), (2, 1)] {
         pool.push(changed(&next, place, flip));
     }
     // An extender that need not stand, on a message of one byte and on the last packet of 16; a packet of one byte; an ACK
-    // with another code.
+    // with another code; no payload, and one above its total.
     pool.push(bytes("61 01 00 00 01 00 01 AA"));
     pool.push(bytes("61 19 00 02 0E 0F"));
     pool.push(vec![0x61]);
     pool.push(bytes("61 7E 00 02 01 03"));
+    pool.push(bytes("61 14 00"));
+    pool.push(bytes("61 00 00 00 01 02 AA BB"));
     pool
 }
 
