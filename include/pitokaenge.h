@@ -329,8 +329,9 @@ PITO_CALL uint64_t pito_ack_write(uint64_t stream, uint64_t id, uint64_t sequenc
 
 /*
  * Reads the packet at the front of some bytes, and tells where it ends. Packets that stand joined, as those of a reply, are
- * cut apart so: the next one begins where this one ends, until no bytes are left. Bytes that end before the packet does
- * are refused; what stands behind it is not looked at.
+ * cut apart so: the next one begins where this one ends, until no bytes are left. Bytes that end before the packet does are
+ * refused: where it is right so far by 2 in its head and by 5 in its payload, an ACK or NACK by 2 under two bytes and by 12 from
+ * there on. What stands behind a packet is not looked at.
  *   limit  the largest total that is taken, any number: the link's limit, or PITO_LARGEST_LIMIT, which takes every total
  * Answer:
  *   end            how many bytes the packet has, at most bytes_len

@@ -11,10 +11,20 @@ export const textOf = (bytes) => DECODER.decode(bytes);
 export function readLog(bytes) {
   if (textOf(bytes.subarray(0, 8)) === "btsnoop\0") return fromBtsnoop(bytes);
   if (isPrinted(bytes.subarray(0, 4096))) return fromText(bytes);
+  const other = OTHERS.find(([begin]) => begin.every((byte, i) => bytes[i] === byte));
+  if (other) return { error: other[1] };
   const front = frontOf(bytes);
   if (front) return { ways: [{ name: "capture with room and limit in front", capture: bytes.slice(4), ...front }], notes: [] };
   return { ways: [{ name: "capture", capture: bytes }], notes: [] };
 }
+// Files that are taken for a log and are none, by what they begin with.
+const PCAP = "This is a pcap or pcapng file, which this page does not read: tshark gives its packets as lines (docs/CREW.md).";
+const OTHERS = [
+  [[0x50, 0x4b, 3, 4], "This is a zip file: a bug report has the log in it, as btsnoop_hci.log. Unpack it first."],
+  [[0x1f, 0x8b], "This is a gzip file: unpack it first."],
+  [[0x0a, 0x0d, 0x0d, 0x0a], PCAP], [[0xa1, 0xb2, 0xc3, 0xd4], PCAP], [[0xd4, 0xc3, 0xb2, 0xa1], PCAP],
+  [[0xa1, 0xb2, 0x3c, 0x4d], PCAP], [[0x4d, 0x3c, 0xb2, 0xa1], PCAP],
+];
 function isPrinted(bytes) {
   return bytes.length > 0 && bytes.every((b) => b === 9 || b === 10 || b === 13 || (b > 31 && b < 127));
 }

@@ -1,6 +1,6 @@
 //! Links the library's archive: the file that PITO_ARCHIVE names by its full path, or lib/libpitokaenge.a of the release that
 //! this crate stands in, or target/staticlib/libpitokaenge.a of the repository, which `tools/archive` writes. A changed archive
-//! is linked anew. An archive for another machine than the one that is built for is said as such.
+//! is linked anew. What is no archive, or one for another machine than the one that is built for, is said as such.
 
 use std::path::PathBuf;
 use std::{env, fs, process};
@@ -18,6 +18,12 @@ fn main() {
             }
         }
     };
+    if archive.is_relative() {
+        fail(&format!(
+            "PITO_ARCHIVE={}: name the archive by its full path",
+            archive.display()
+        ));
+    }
     println!("cargo:rerun-if-changed={}", archive.display());
     let bytes = fs::read(&archive).unwrap_or_else(|reason| {
         fail(&format!(
@@ -25,6 +31,9 @@ fn main() {
             archive.display()
         ))
     });
+    if !bytes.starts_with(b"!<arch>\n") {
+        fail(&format!("{}: this is no archive", archive.display()));
+    }
     let wanted = env::var("CARGO_CFG_TARGET_ARCH").expect("cargo sets it");
     match machine(&bytes) {
         Some(found) if found != wanted => fail(&format!(

@@ -129,9 +129,19 @@ function tryLines() {
   meet(read.error ? "lines refused" : "lines");
   same("lines in base 16", read.error ? "" : read.ways[0].capture, run("tools/capture", "", file).out, text);
 }
+// What begins as a zip, gzip, pcapng or pcap file is named as such by both.
+function tryOthers() {
+  for (const [begin, word] of [["504b0304", "zip"], ["1f8b08", "gzip"], ["0a0d0d0a", "pcap"], ["a1b2c3d4", "pcap"], ["d4c3b2a1", "pcap"], ["a1b23c4d", "pcap"], ["4d3cb2a1", "pcap"]]) {
+    const bytes = Buffer.concat([Buffer.from(begin, "hex"), Buffer.alloc(40)]), file = path.join(page.folder, "log");
+    fs.writeFileSync(file, bytes);
+    const named = (said = "") => new RegExp(`^(capture: t|T)his is a ${word}`).test(said) ? word : said;
+    same("no log", named(page.readLog(bytes).error), named(run("tools/capture", "", file).said), bytes);
+  }
+}
 
 same("the module's version", String((await painted(new Uint8Array(0))).version()), /<meta name="version" content="(\d+)">/.exec(page.html)[1], "");
 same("the module's checksum", page.checksum, createHash("sha256").update(page.wasm).digest("hex"), "");
+tryOthers();
 for (let round = 0; round < Number(rounds); round++) {
   await tryOutbox();
   await tryStream();

@@ -44,7 +44,8 @@ pub struct ReadPacket<'a> {
 }
 
 /// Reads the packet at the front of some bytes; what stands behind it is not looked at. Refused as a
-/// [`Link`](crate::Link) refuses a packet by itself: 2, 3, 12, 4, 5, 6, 7, 8. Bytes that end before the packet does are.
+/// [`Link`](crate::Link) refuses a packet by itself: 2, 3, 12, 4, 5, 6, 7, 8. Bytes
+/// that end before the packet does are: by 2 in its head, by 5 in its payload; an ACK or NACK behind its second byte by 12.
 ///
 /// ```
 /// use pitokaenge::{read_packet, Limit, PacketKind, Refusal, Stream};
