@@ -3,7 +3,7 @@ use Rattle.std.specs.Prelude.{ℕ, List, [], ◌∷◌, Bool, not, length, ltb}
 use Rattle.std.proofs.lemmas.List.Edits.{sets}
 use Rattle.wire.specs.Told.{Told, given, refused, line, Written, writes}
 use Rattle.ble_packet.specs.Header.{in_range}
-use Rattle.ble_packet.specs.Control.{ackSize, ackBytes}
+use Rattle.ble_packet.specs.Control.{ack_size, ack_bytes}
 use Rattle.ble_ack.specs.declared.Refusal.{Refusal}
 use Rattle.ble_ack.specs.declared.Refusal.TheVariants.{Argument, Output}
 use Rattle.ble_ack.specs.declared.Answer.{Answer}
@@ -19,10 +19,10 @@ told (Refused why) = refused (number_of why)
 told (Wrote size) = given size
 
 -- writing an ACK or NACK first in a lent output
-unfoldable pub ackOf : ℕ → ℕ → ℕ → Bool → List ℕ → Written ℕ
-ackOf stream id sequence positive out =
+unfoldable pub ack_of : ℕ → ℕ → ℕ → Bool → List ℕ → Written ℕ
+ack_of stream id sequence positive out =
     writes
     (line 15 (not (in_range stream id sequence))
-    ∷ line 14 (ltb (length out) ackSize)
+    ∷ line 14 (ltb (length out) ack_size)
     ∷ [])
-    ackSize out (sets out 0 (ackBytes stream id sequence positive))
+    ack_size out (sets out 0 (ack_bytes stream id sequence positive))

@@ -2,8 +2,8 @@
 ghost use Rattle.std.specs.Prelude.{◌≡◌, ◌≤◌, ◌<◌, length};
 ghost use Rattle.std.proofs.lemmas.List.Edits.{sets};
 ghost use Rattle.wire.specs.Told.{written};
-ghost use Rattle.ble_packet.specs.Control.{ackBytes};
-ghost use Rattle.ble_ack.specs.Acknowledgement.{ackOf, number_of, told};
+ghost use Rattle.ble_packet.specs.Control.{ack_bytes};
+ghost use Rattle.ble_ack.specs.Acknowledgement.{ack_of, number_of, told};
 
 use ble_packet::{control, header};
 
@@ -34,7 +34,7 @@ pub enum Answer {
 // The six bytes, first in the output.
 pub fn put(out: &mut [u8], stream: u8, id: u8, sequence: u8, positive: bool)
     requires { (6 ≤ length out.old) × (stream < 16) × (id < 16) × (sequence < 16) }
-    ensures { out.new ≡ sets out.old 0 (ackBytes stream id sequence positive) }
+    ensures { out.new ≡ sets out.old 0 (ack_bytes stream id sequence positive) }
 {
     out[0] = header::first_byte(stream, id);
     out[1] = header::second_byte(sequence, header::TYPE_CONTROL, positive, false);
@@ -46,7 +46,7 @@ pub fn put(out: &mut [u8], stream: u8, id: u8, sequence: u8, positive: bool)
 
 // Writes an ACK, or a NACK where positive is false, for the request of a stream and an id.
 pub fn write(stream: u8, id: u8, sequence: u8, positive: bool, out: &mut [u8]) -> Answer
-    ensures { written (told result) out.new ≡ ackOf stream id sequence positive out.old }
+    ensures { written (told result) out.new ≡ ack_of stream id sequence positive out.old }
 {
     if !header::in_range(stream, id, sequence) {
         return Answer::Refused(Refusal::Argument);

@@ -7,11 +7,11 @@ use lib.ListN.{length, take, drop}
 use lib.Seq.{sets, take-add, take-take}
 use Rattle.wire.proofs.Stores.{part-stored}
 use Rattle.wire.proofs.Parts.{length_part}
-use Rattle.ble_receiver.specs.Buffer.{partStart, partOf}
+use Rattle.ble_receiver.specs.Buffer.{part_start, part_of}
 
-pub part-grows : (limit i at n : ℕ) (d m : List ℕ) → partStart limit i + limit ≤ length d → at + n ≤ length m → length m ≤ limit
-    → take at (partOf limit i d) ≡ take at m
-    → take (at + n) (partOf limit i (sets d (partStart limit i + at) (take n (drop at m)))) ≡ take (at + n) m
+pub part-grows : (limit i at n : ℕ) (d m : List ℕ) → part_start limit i + limit ≤ length d → at + n ≤ length m → length m ≤ limit
+    → take at (part_of limit i d) ≡ take at m
+    → take (at + n) (part_of limit i (sets d (part_start limit i + at) (take n (drop at m)))) ≡ take (at + n) m
 part-grows limit i at n d m hd hn hm e =
     let s : List ℕ = take n (drop at m) in
     let l : length s ≡ n = length_part m at n hn in

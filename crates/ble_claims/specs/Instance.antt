@@ -4,11 +4,11 @@ use Rattle.std.proofs.Math.Option.{none, some}
 use Rattle.wire.specs.Those.{those}
 use Rattle.wire.specs.declared.stream.Stream.TheVariants.{Alexa}
 use Rattle.ble_slot.specs.declared.Slot.{Slot}
-use Rattle.ble_slot.specs.Slot.{idle, slotCount, lawful}
+use Rattle.ble_slot.specs.Slot.{idle, slot_count, lawful}
 use Rattle.ble_sender.specs.declared.writer.Sending.{Sending}
 use Rattle.ble_receiver.specs.Receiver.{PacketCall, call}
 use Rattle.ble_sender_claims.specs.Calls.{calls_of, SendableMessage}
-use Rattle.ble_claims.specs.Delivery.{rowAfter, repliesTo, ours, hasSlot, packetsIn, shown, shownTo, allAnswerable, Arrived, MessagesArrive}
+use Rattle.ble_claims.specs.Delivery.{row_after, replies_to, ours, has_slot, packets_in, shown, shown_to, all_answerable, Arrived, MessagesArrive}
 
 -- small, so that the buffer is
 abbrev pub limit : ℕ
@@ -35,7 +35,7 @@ abbrev pub slots : List Slot
 slots = replicate 4 idle ++ (record { opened = 1; id = 3; sequence = 15; wanted = 1; total = 6; held = 2 } ∷ replicate 7 idle)
 
 abbrev pub buffer : List ℕ
-buffer = replicate (slotCount * limit) 0
+buffer = replicate (slot_count * limit) 0
 
 -- an answer buffer of eight bytes
 abbrev pub eight : List ℕ
@@ -86,16 +86,16 @@ after = call (0x61 ∷ 0x2A ∷ 0x04 ∷ from 32 4) 9 eight ∷ []
 -- replaces, and the claim says so.
 pub record ArrivalInstance : Type 0 where
   pub law : lawful limit slots ≡ true
-  pub size : length buffer ≡ slotCount * limit
+  pub size : length buffer ≡ slot_count * limit
   pub takes : SendableMessage limit how message output
   pub begins : first.packet ≡ get_or (calls_of limit how message output) 0 []
-  pub sent : packetsIn (those (ours how) later) ≡ drop 1 (calls_of limit how message output)
-  pub answerable : allAnswerable (first ∷ those (ours how) later) ≡ true
-  pub free : hasSlot (rowAfter limit slots buffer before) how ≡ true
-  pub arrived : shownTo limit how (repliesTo limit slots buffer before (first ∷ later) after)
+  pub sent : packets_in (those (ours how) later) ≡ drop 1 (calls_of limit how message output)
+  pub answerable : all_answerable (first ∷ those (ours how) later) ≡ true
+  pub free : has_slot (row_after limit slots buffer before) how ≡ true
+  pub arrived : shown_to limit how (replies_to limit slots buffer before (first ∷ later) after)
       ≡ shown (some 9) none eight
       ∷ shown (some 9) none eight
       ∷ shown (some 9) (some (record { stream = Alexa; id = 1; total = 35; ack = true; payload = message })) (0x61 ∷ 0x9E ∷ 0x00 ∷ 0x02 ∷ 0x01 ∷ 0x00 ∷ 0xEE ∷ 0xEE ∷ [])
       ∷ []
   pub claimed : MessagesArrive
-      → Arrived how message first (those (ours how) later) (shownTo limit how (repliesTo limit slots buffer before (first ∷ later) after))
+      → Arrived how message first (those (ours how) later) (shown_to limit how (replies_to limit slots buffer before (first ∷ later) after))

@@ -6,24 +6,24 @@ use mathlib.Core.List.{[]}
 use mathlib.Core.Bool.{Bool, true, false, cond, false≢true}
 use lib.Dec.{ltb}
 use borrow.Author.Tests.{ltb-true, ltb-false}
-use Rattle.ble_packet.specs.Header.{headerSize}
-use Rattle.ble_sender.specs.Piece.{leastRoom, extended, isFirst, size_for, pieces_of}
+use Rattle.ble_packet.specs.Header.{header_size}
+use Rattle.ble_sender.specs.Piece.{least_room, extended, is_first, size_for, pieces_of}
 use Rattle.ble_joined.specs.Joined.{sizes}
-use Rattle.ble_joined.proofs.Pieces.{restFrom, rest-whole, size_low, size-one, pieces-last, pieces_more}
+use Rattle.ble_joined.proofs.Pieces.{rest_from, rest-whole, size_low, size-one, pieces-last, pieces_more}
 
 pub record CountingPackets (room total index start sum : ℕ) (going : Bool) : Type 0 where
   pub low : start ≤ total
   pub few : going ≡ true → index ≤ start
   pub some : index ≤ start + 1
   pub bound : sum ≤ start + 7 * index
-  pub left : sum + sizes (cond going (restFrom room total index start) []) ≡ sizes (pieces_of room total)
+  pub left : sum + sizes (cond going (rest_from room total index start) []) ≡ sizes (pieces_of room total)
 
-module _ (room total : ℕ) (enough : leastRoom ≤ room) where
+module _ (room total : ℕ) (enough : least_room ≤ room) where
   pub counting-start : CountingPackets room total 0 0 0 true
   counting-start = record { low = omega arith; few = λ e. omega arith; some = omega arith; bound = omega arith; left = omega (arith, ap sizes (rest-whole room total)) }
 
-  module _ (index start sum n h : ℕ) (c : CountingPackets room total index start sum true) (en : n ≡ size_for room (isFirst index) (total - start))
-      (eh : h ≡ headerSize (isFirst index) (extended n)) (lh : h < 8) where
+  module _ (index start sum n h : ℕ) (c : CountingPackets room total index start sum true) (en : n ≡ size_for room (is_first index) (total - start))
+      (eh : h ≡ header_size (is_first index) (extended n)) (lh : h < 8) where
     counted : (b : Bool) → ltb n (total - start) ≡ b → CountingPackets room total (index + 1) (start + n) (sum + (h + n)) b
     counted true e =
         let x : n < total - start = ltb-true n (total - start) e in

@@ -2,9 +2,9 @@
 ghost use Rattle.std.specs.Prelude.{◌≡◌, ◌++◌, ◌+◌, ◌≤◌, ◌<◌, length, take, drop};
 ghost use Rattle.std.proofs.lemmas.List.Edits.{sets};
 ghost use Rattle.wire.specs.Put.{Put};
-ghost use Rattle.ble_sender.specs.Piece.{leastRoom, isFirst, size_for, pieces_of};
-ghost use Rattle.ble_sender.specs.Writer.{headerBytes};
-ghost use Rattle.ble_joined.specs.Joined.{joinedOf, sizes, countable, joinedLength, PacketFits, messageIn, JoinsExactly, isExact, joinedOver};
+ghost use Rattle.ble_sender.specs.Piece.{least_room, is_first, size_for, pieces_of};
+ghost use Rattle.ble_sender.specs.Writer.{header_bytes};
+ghost use Rattle.ble_joined.specs.Joined.{joined_of, sizes, countable, joined_length, PacketFits, message_in, JoinsExactly, is_exact, joined_over};
 
 use ble_packet::header;
 use ble_packet::header::FOUR_BITS;
@@ -30,8 +30,8 @@ fn move_down(out: &mut [u8], to: usize, from: usize, n: usize)
 
 // The size of the piece of this index, where this many bytes are left.
 fn piece_size(room: usize, index: usize, rest: usize) -> usize
-    requires { leastRoom ≤ room }
-    ensures { result ≡ size_for room (isFirst index) rest }
+    requires { least_room ≤ room }
+    ensures { result ≡ size_for room (is_first index) rest }
 {
     let full = full_size(room, index == 0);
     smaller(rest, full)
@@ -49,7 +49,7 @@ fn put_packet(
 ) -> usize
     requires { PacketFits how total (length out.old) at piece from }
     ensures { Put out.old at
-        (headerBytes how total piece last ++ take piece.size (drop from out.old)) result out.new }
+        (header_bytes how total piece last ++ take piece.size (drop from out.old)) result out.new }
 {
     let end = out.len();
     let size = piece.size;
@@ -61,7 +61,7 @@ fn put_packet(
 
 // Counts the bytes of all packets of a message together.
 fn count_bytes(room: usize, total: usize) -> usize
-    requires { (leastRoom ≤ room) × (total < 65536) }
+    requires { (least_room ≤ room) × (total < 65536) }
     ensures { result ≡ sizes (pieces_of room total) }
 {
     let mut index = 0;
@@ -89,7 +89,7 @@ fn countable(room: usize, total: usize) -> bool
 
 // The length of all packets of a message together; 0 where it has none.
 pub fn joined_len(room: usize, total: usize) -> usize
-    ensures { result ≡ joinedLength room total }
+    ensures { result ≡ joined_length room total }
 {
     if countable(room, total) {
         return count_bytes(room, total);
@@ -99,7 +99,7 @@ pub fn joined_len(room: usize, total: usize) -> usize
 
 // Whether a message can be joined in this much output: it is exactly as long as its packets.
 fn is_exact(how: Sending, total: usize, space: usize) -> bool
-    ensures { result ≡ isExact how total space }
+    ensures { result ≡ is_exact how total space }
 {
     let room = how.room;
     let low = both(how.stream < FOUR_BITS, how.id < FOUR_BITS);
@@ -113,7 +113,7 @@ fn is_exact(how: Sending, total: usize, space: usize) -> bool
 // still to be moved: each packet behind it has at least as many bytes as it carries.
 fn put_packets(out: &mut [u8], how: Sending, total: usize)
     requires { JoinsExactly how total out.old }
-    ensures { out.new ≡ joinedOf how (messageIn total out.old) }
+    ensures { out.new ≡ joined_of how (message_in total out.old) }
 {
     let end = out.len();
     let room = how.room;
@@ -132,7 +132,7 @@ fn put_packets(out: &mut [u8], how: Sending, total: usize)
 
 // Joins the packets of the message that stands at the end of the output, if it is exactly as long as they are.
 pub fn join(out: &mut [u8], how: Sending, total: usize)
-    ensures { out.new ≡ joinedOver how total out.old }
+    ensures { out.new ≡ joined_over how total out.old }
 {
     if is_exact(how, total, out.len()) {
         put_packets(out, how, total);

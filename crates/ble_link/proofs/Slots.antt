@@ -15,7 +15,7 @@ use denote.Index.{place, place_is}
 use denote.Slice.{Room}
 use denote.Struct.Laws as LL
 use Rattle.ble_slot.specs.declared.Slot.{Slot}
-use Rattle.ble_slot.specs.Slot.{idle as idleSlot}
+use Rattle.ble_slot.specs.Slot.{idle as idle_slot}
 use Rattle.ble_slot.specs.contracts.Slot as T
 use Rattle.ble_slot.proofs.Slot.TheLaws as T'
 
@@ -37,8 +37,8 @@ pub entry-fits : (i n : ℕ) → i < n → Room T.the_row n → i * (mem T.the_r
 entry-fits i n l room = within (mem T.the_row).size i n l room.1
 
 -- an idle slot is a slot, field by field
-pub is-idle : Is T.the_row idleSlot (vals idleSlot)
-is-idle = LL.owes T.the_type T'.the_laws idleSlot ((refl, lit< tt), ((refl, lit< tt), ((refl, lit< tt), ((refl, lit< tt), ((refl, lit< tt), ((refl, lit< tt), tt))))))
+pub is-idle : Is T.the_row idle_slot (vals idle_slot)
+is-idle = LL.owes T.the_type T'.the_laws idle_slot ((refl, lit< tt), ((refl, lit< tt), ((refl, lit< tt), ((refl, lit< tt), ((refl, lit< tt), ((refl, lit< tt), tt))))))
 
 -- past the end a row has no entry to change
 pub set_past : {X : Type 0} (l : List X) (i : ℕ) (a : X) → length l ≤ i → set l i a ≡ l

@@ -2,9 +2,9 @@
 ghost use Rattle.std.specs.Prelude.{◌≡◌, get_or, set};
 ghost use Rattle.ble_slot.specs.Answer.{told};
 ghost use Rattle.ble_slot.specs.Slot.{idle};
-ghost use Rattle.ble_receiver.specs.Receiver.{call, left, acceptOf};
-ghost use Rattle.ble_receiver.specs.Outcome.{firstTwelve};
-ghost use Rattle.ble_link.specs.Row.{savedRow};
+ghost use Rattle.ble_receiver.specs.Receiver.{call, left, accept_of};
+ghost use Rattle.ble_receiver.specs.Outcome.{first_twelve};
+ghost use Rattle.ble_link.specs.Row.{saved_row};
 
 use ble_receiver::{Receiver, SLOT_COUNT, decide};
 use ble_slot::Slot;
@@ -39,7 +39,7 @@ pub fn set_slot(row: &mut [Slot], i: usize, s: Slot)
 
 // The first twelve slots of a row as a value.
 pub fn load(row: &[Slot]) -> [Slot; 12]
-    ensures { result ≡ firstTwelve row.now }
+    ensures { result ≡ first_twelve row.now }
 {
     [
         slot_at(row, 0),
@@ -70,7 +70,7 @@ fn slot_in(slots: [Slot; 12], i: usize) -> Slot
 
 // Stores all twelve slots; past the end nothing is stored.
 pub fn save(row: &mut [Slot], slots: [Slot; 12])
-    ensures { row.new ≡ savedRow row.old slots }
+    ensures { row.new ≡ saved_row row.old slots }
 {
     let mut i = 0;
     while i < SLOT_COUNT {
@@ -90,7 +90,7 @@ pub fn accept(
     out: &mut [u8],
 ) -> Answer
     ensures { left (told result) row.new buffer.new out.new
-        ≡ acceptOf link.limit row.old buffer.old (call packet.now sequence out.old) }
+        ≡ accept_of link.limit row.old buffer.old (call packet.now sequence out.old) }
 {
     let count = row.len();
     let slots = load(&*row);

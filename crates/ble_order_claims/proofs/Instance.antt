@@ -4,26 +4,26 @@ use mathlib.Core.Path.{◌≡◌, refl, sym, ap}
 use mathlib.Core.Bool.{Bool, true, false, false≢true}
 use lib.Dec.{eqb}
 use Rattle.wire.specs.Told.{Told, given, refused}
-use Rattle.wire.specs.Limit.{limitFits}
-use Rattle.wire.specs.Stream.{isStream, streamOf}
-use Rattle.ble_packet.specs.Reader.{fields_of, contentOf, lines, read_of}
+use Rattle.wire.specs.Limit.{limit_fits}
+use Rattle.wire.specs.Stream.{is_stream, stream_of}
+use Rattle.ble_packet.specs.Reader.{fields_of, content_of, lines, read_of}
 use Rattle.ble_slot.specs.declared.answer.Accepted.{Accepted}
 use Rattle.ble_slot.specs.declared.answer.Accepted.TheVariants.{Taken, Finished, Acked, Nacked}
-use Rattle.ble_slot.specs.Slot.{idles, lawfulSlot, lawful}
-use Rattle.ble_slot_steps.specs.Step.{finish, hold, dropBy, firstStep, nextStep}
-use Rattle.ble_receiver.specs.Receiver.{ready, readIn, acceptOf}
+use Rattle.ble_slot.specs.Slot.{idles, lawful_slot, lawful}
+use Rattle.ble_slot_steps.specs.Step.{finish, hold, drop_by, first_step, next_step}
+use Rattle.ble_receiver.specs.Receiver.{ready, read_in, accept_of}
 use Rattle.ble_order_claims.specs.Lanes.{Both, HandedPair}
 use Rattle.ble_order_claims.specs.Instance.{limit, empty, control, slots, buffer, late, ack, end, Computed, other, ByFirstBytes, OneStream}
 
 law : lawful limit slots ≡ true
-unfolding limitFits isStream streamOf fields_of contentOf lines read_of lawfulSlot lawful finish hold dropBy firstStep nextStep ready readIn acceptOf
+unfolding limit_fits is_stream stream_of fields_of content_of lines read_of lawful_slot lawful finish hold drop_by first_step next_step ready read_in accept_of
 law = refl
 
 handed : HandedPair limit slots buffer late end
 handed = record { law = law; size = refl; filled = (omega arith, omega arith); streams = λ e. omega arith }
 
 pub computed : Computed
-unfolding limitFits isStream streamOf fields_of contentOf lines read_of lawfulSlot lawful finish hold dropBy firstStep nextStep ready readIn acceptOf
+unfolding limit_fits is_stream stream_of fields_of content_of lines read_of lawful_slot lawful finish hold drop_by first_step next_step ready read_in accept_of
 computed =
     record {
       handed = handed;
@@ -35,7 +35,7 @@ computed =
     }
 
 idle-law : lawful limit idles ≡ true
-unfolding lawfulSlot lawful
+unfolding lawful_slot lawful
 idle-law = refl
 
 abbrev leads : Told Accepted → Bool
@@ -47,11 +47,11 @@ leads (refused n) = false
 
 -- the index that is told of the first packet says which of the two orders it was
 needed : ByFirstBytes → ⊥
-unfolding limitFits isStream streamOf fields_of contentOf lines read_of lawfulSlot lawful finish hold dropBy firstStep nextStep ready readIn acceptOf
+unfolding limit_fits is_stream stream_of fields_of content_of lines read_of lawful_slot lawful finish hold drop_by first_step next_step ready read_in accept_of
 needed claim =
     let e = claim limit idles empty control other idle-law refl (omega arith) (omega arith) (λ e. omega arith) in
     false≢true (sym (ap (λ (b : Both). leads b.first) e))
 
 pub one-stream : OneStream
-unfolding limitFits isStream streamOf fields_of contentOf lines read_of lawfulSlot lawful finish hold dropBy firstStep nextStep ready readIn acceptOf
+unfolding limit_fits is_stream stream_of fields_of content_of lines read_of lawful_slot lawful finish hold drop_by first_step next_step ready read_in accept_of
 one-stream = record { in_order = refl; in-the-other = refl; needed = needed }

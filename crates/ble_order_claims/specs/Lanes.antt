@@ -3,12 +3,12 @@
 use Rattle.std.specs.Prelude.{ℕ, ◌+◌, ◌*◌, ◌≤◌, ◌<◌, ◌≡◌, ◌≢◌, ◌⊎◌, List, [], ◌∷◌, ◌++◌, true, length, get_or}
 use Rattle.std.proofs.lemmas.List.Edits.{sets}
 use Rattle.wire.specs.Told.{Told}
-use Rattle.ble_packet.specs.Header.{streamBits}
+use Rattle.ble_packet.specs.Header.{stream_bits}
 use Rattle.ble_slot.specs.declared.Slot.{Slot}
 use Rattle.ble_slot.specs.declared.answer.Accepted.{Accepted}
-use Rattle.ble_slot.specs.Slot.{idle, slotCount, lawful}
-use Rattle.ble_receiver.specs.Buffer.{partStart}
-use Rattle.ble_receiver.specs.Receiver.{PacketCall, call, PacketLeft, acceptOf}
+use Rattle.ble_slot.specs.Slot.{idle, slot_count, lawful}
+use Rattle.ble_receiver.specs.Buffer.{part_start}
+use Rattle.ble_receiver.specs.Receiver.{PacketCall, call, PacketLeft, accept_of}
 
 -- ---- two packets, one after the other
 
@@ -22,19 +22,19 @@ pub record Both : Type 0 where
   pub second-out : List ℕ
 
 -- the second packet meets the slots and the buffer that the first left
-abbrev pub bothFrom : ℕ → PacketLeft → PacketCall → Both
-bothFrom limit l d =
+abbrev pub both_from : ℕ → PacketLeft → PacketCall → Both
+both_from limit l d =
     record {
       first = l.told;
-      second = (acceptOf limit l.slots l.bytes d).told;
-      slots = (acceptOf limit l.slots l.bytes d).slots;
-      bytes = (acceptOf limit l.slots l.bytes d).bytes;
+      second = (accept_of limit l.slots l.bytes d).told;
+      slots = (accept_of limit l.slots l.bytes d).slots;
+      bytes = (accept_of limit l.slots l.bytes d).bytes;
       first_out = l.out;
-      second-out = (acceptOf limit l.slots l.bytes d).out;
+      second-out = (accept_of limit l.slots l.bytes d).out;
     }
 
-abbrev pub bothOf : ℕ → List Slot → List ℕ → PacketCall → PacketCall → Both
-bothOf limit slots bytes c d = bothFrom limit (acceptOf limit slots bytes c) d
+abbrev pub both_of : ℕ → List Slot → List ℕ → PacketCall → PacketCall → Both
+both_of limit slots bytes c d = both_from limit (accept_of limit slots bytes c) d
 
 -- the same with the answers exchanged: each stands again with its own packet where the packets are exchanged
 abbrev pub turned : Both → Both
@@ -44,17 +44,17 @@ turned b =
 -- ---- the claim
 
 -- the stream field of a packet: the upper half of byte 0, any of its 16 values
-abbrev pub streamField : List ℕ → ℕ
-streamField p = streamBits (get_or p 0 0)
+abbrev pub stream_field : List ℕ → ℕ
+stream_field p = stream_bits (get_or p 0 0)
 
 -- what the claim asks for
 pub record HandedPair (limit : ℕ) (slots : List Slot) (bytes : List ℕ) (c d : PacketCall) : Type 0 where
   pub law : lawful limit slots ≡ true
   -- a buffer of the right size
-  pub size : length bytes ≡ slotCount * limit
+  pub size : length bytes ≡ slot_count * limit
   -- each packet has at least one byte
   pub filled : (1 ≤ length c.packet) × (1 ≤ length d.packet)
-  pub streams : streamField c.packet ≢ streamField d.packet
+  pub streams : stream_field c.packet ≢ stream_field d.packet
 
 -- From every lawful row and buffer of the right size, for every limit: two packets of at least one byte whose stream fields
 -- differ, whatever else they are, each with any answer sequence and answer buffer, get the same two answers and leave the same slots,
@@ -63,7 +63,7 @@ abbrev pub EitherOrder : Type 0
 EitherOrder =
     (limit : ℕ) (slots : List Slot) (bytes : List ℕ) (c d : PacketCall)
     → HandedPair limit slots bytes c d
-    → bothOf limit slots bytes c d ≡ turned (bothOf limit slots bytes d c)
+    → both_of limit slots bytes c d ≡ turned (both_of limit slots bytes d c)
 
 -- ---- what is asked for, in the numbers of docs/FORMATS.md
 
@@ -110,5 +110,5 @@ PartsApart =
     → i ≢ j
     → at + length xs ≤ limit
     → bt + length ys ≤ limit
-    → sets (sets bytes (partStart limit i + at) xs) (partStart limit j + bt) ys
-    ≡ sets (sets bytes (partStart limit j + bt) ys) (partStart limit i + at) xs
+    → sets (sets bytes (part_start limit i + at) xs) (part_start limit j + bt) ys
+    ≡ sets (sets bytes (part_start limit j + bt) ys) (part_start limit i + at) xs

@@ -1,6 +1,6 @@
 // The layout of ACK and NACK packets, for the reader and their writer.
 ghost use Rattle.std.specs.Prelude.{◌≡◌};
-ghost use Rattle.ble_packet.specs.Control.{ackCode};
+ghost use Rattle.ble_packet.specs.Control.{ack_code};
 
 pub const ACK_SIZE: usize = 6;
 
@@ -16,7 +16,7 @@ pub const CODE_ACK: u8 = 0;
 pub const CODE_NACK: u8 = 3;
 
 pub fn ack_code(positive: bool) -> u8
-    ensures { result ≡ ackCode positive }
+    ensures { result ≡ ack_code positive }
 {
     if positive { CODE_ACK } else { CODE_NACK }
 }

@@ -1,6 +1,6 @@
 // The layout of a packet's header, for the reader and the writers.
 ghost use Rattle.std.specs.Prelude.{◌≡◌, ◌%◌, ◌<◌, eqb};
-ghost use Rattle.ble_packet.specs.Header.{in_range, leastHeader, lengthPlace, headerSize, firstByte, secondByte, streamBits, idBits, sequenceBits, typeBits, ackBit, extenderBit, sequenceAfter};
+ghost use Rattle.ble_packet.specs.Header.{in_range, least_header, length_place, header_size, first_byte, second_byte, stream_bits, id_bits, sequence_bits, type_bits, ack_bit, extender_bit, sequence_after};
 
 use wire::bytes::{bit, wide};
 use wire::logic::both;
@@ -38,21 +38,21 @@ pub const FIRST_HEADER: usize = 6;
 pub const NEXT_HEADER: usize = 3;
 
 pub fn least_header(first: bool) -> usize
-    ensures { (result ≡ leastHeader first) × (result < 7) × (2 < result) }
+    ensures { (result ≡ least_header first) × (result < 7) × (2 < result) }
 {
     if first { FIRST_HEADER } else { NEXT_HEADER }
 }
 
 // Where the payload length stands: right before the payload.
 pub fn length_place(first: bool) -> usize
-    ensures { (result ≡ lengthPlace first) × (result < 6) }
+    ensures { (result ≡ length_place first) × (result < 6) }
 {
     least_header(first) - 1
 }
 
 // The whole header: the extender gives the payload length one byte more.
 pub fn header_size(first: bool, extended: bool) -> usize
-    ensures { (result ≡ headerSize first extended) × (result < 8) }
+    ensures { (result ≡ header_size first extended) × (result < 8) }
 {
     least_header(first) + wide(bit(extended))
 }
@@ -60,7 +60,7 @@ pub fn header_size(first: bool, extended: bool) -> usize
 // Byte 0: stream and transaction id.
 pub fn first_byte(stream: u8, id: u8) -> u8
     requires { (stream < 16) × (id < 16) }
-    ensures { result ≡ firstByte stream id }
+    ensures { result ≡ first_byte stream id }
 {
     stream * FOUR_BITS + id
 }
@@ -68,20 +68,20 @@ pub fn first_byte(stream: u8, id: u8) -> u8
 // Byte 1: sequence, type, ACK flag and extender.
 pub fn second_byte(sequence: u8, kind: u8, ack: bool, extended: bool) -> u8
     requires { (sequence < 16) × (kind < 4) }
-    ensures { result ≡ secondByte sequence kind ack extended }
+    ensures { result ≡ second_byte sequence kind ack extended }
 {
     sequence * FOUR_BITS + kind * 4 + bit(ack) * 2 + bit(extended)
 }
 
 // What byte 0 says.
 pub fn stream_bits(first: u8) -> u8
-    ensures { result ≡ streamBits first }
+    ensures { result ≡ stream_bits first }
 {
     first >> 4
 }
 
 pub fn id_bits(first: u8) -> u8
-    ensures { result ≡ idBits first }
+    ensures { result ≡ id_bits first }
 {
     let high = first >> 4;
     first - high * FOUR_BITS
@@ -96,33 +96,33 @@ fn is_odd(n: u8) -> bool
 
 // What byte 1 says.
 pub fn sequence_bits(second: u8) -> u8
-    ensures { result ≡ sequenceBits second }
+    ensures { result ≡ sequence_bits second }
 {
     second >> 4
 }
 
 pub fn type_bits(second: u8) -> u8
-    ensures { result ≡ typeBits second }
+    ensures { result ≡ type_bits second }
 {
     let high = second >> 4;
     (second >> 2) - high * 4
 }
 
 pub fn ack_bit(second: u8) -> bool
-    ensures { result ≡ ackBit second }
+    ensures { result ≡ ack_bit second }
 {
     is_odd(second >> 1)
 }
 
 pub fn extender_bit(second: u8) -> bool
-    ensures { result ≡ extenderBit second }
+    ensures { result ≡ extender_bit second }
 {
     is_odd(second)
 }
 
 // The sequence n packets later: 0 follows 15.
 pub fn sequence_after(sequence: u8, n: usize) -> u8
-    ensures { (result ≡ sequenceAfter sequence n) × (result < 16) }
+    ensures { (result ≡ sequence_after sequence n) × (result < 16) }
 {
     let rounds = n >> 4;
     let later = (n - rounds * 16) as u8;

@@ -1,8 +1,8 @@
 // Reads one packet, by the table of refusals from the top.
 ghost use Rattle.std.specs.Prelude.{◌≡◌, true, false, cond, ℕ, ◌≤◌, ◌<◌, length};
-ghost use Rattle.wire.specs.Stream.{isStream};
-ghost use Rattle.ble_packet.specs.Header.{headerSize};
-ghost use Rattle.ble_packet.specs.Reader.{length_at, isAcknowledgement, headBy, startBitsOf, fieldsByStart, headIn, judged, read_of, number_of, told};
+ghost use Rattle.wire.specs.Stream.{is_stream};
+ghost use Rattle.ble_packet.specs.Header.{header_size};
+ghost use Rattle.ble_packet.specs.Reader.{length_at, is_acknowledgement, head_by, start_bits_of, fields_by_start, head_in, judged, read_of, number_of, told};
 
 use crate::{control, header};
 use wire::bytes::{byte_at, pair, wide};
@@ -28,7 +28,7 @@ struct StartBits {
 
 impl StartBits {
     fn head(self) -> Head
-        ensures { result ≡ headBy self }
+        ensures { result ≡ head_by self }
     {
         let stream = stream_of(self.stream);
         Head {
@@ -62,7 +62,7 @@ pub enum Packet {
 
 impl Packet {
     pub fn head(self) -> Head
-        ensures { result ≡ headIn self }
+        ensures { result ≡ head_in self }
     {
         match self {
             Packet::First {
@@ -135,7 +135,7 @@ fn length_at(packet: &[u8], at: usize, extended: bool) -> usize
 
 // Whether extender and tail are an acknowledgement's.
 fn is_acknowledgement(packet: &[u8], ack: bool, extended: bool) -> bool
-    ensures { result ≡ isAcknowledgement packet.now ack extended }
+    ensures { result ≡ is_acknowledgement packet.now ack extended }
 {
     let code = control::ack_code(ack);
     let end = both(
@@ -149,7 +149,7 @@ fn is_acknowledgement(packet: &[u8], ack: bool, extended: bool) -> bool
 }
 
 fn start_bits(first: u8, second: u8) -> StartBits
-    ensures { result ≡ startBitsOf first second }
+    ensures { result ≡ start_bits_of first second }
 {
     StartBits {
         stream: header::stream_bits(first),
@@ -163,8 +163,8 @@ fn start_bits(first: u8, second: u8) -> StartBits
 // ---- the table of refusals, in its order: what is left of it for each type, where 2 and 3 were passed
 
 fn read_control(packet: &[u8], s: StartBits) -> Answer
-    requires { (2 ≤ length packet.now) × (isStream s.stream ≡ true) }
-    ensures { (limit : ℕ) → told result ≡ judged limit (fieldsByStart packet.now 3 s) }
+    requires { (2 ≤ length packet.now) × (is_stream s.stream ≡ true) }
+    ensures { (limit : ℕ) → told result ≡ judged limit (fields_by_start packet.now 3 s) }
 {
     let exact = is_acknowledgement(packet, s.ack, s.extended);
     if !exact {
@@ -178,8 +178,8 @@ fn read_control(packet: &[u8], s: StartBits) -> Answer
 }
 
 fn read_first(limit: usize, packet: &[u8], s: StartBits) -> Answer
-    requires { (headerSize true s.extended ≤ length packet.now) × (isStream s.stream ≡ true) }
-    ensures { told result ≡ judged limit (fieldsByStart packet.now 0 s) }
+    requires { (header_size true s.extended ≤ length packet.now) × (is_stream s.stream ≡ true) }
+    ensures { told result ≡ judged limit (fields_by_start packet.now 0 s) }
 {
     let reserved = byte_at(packet, 2);
     if reserved != header::RESERVED {
@@ -212,8 +212,8 @@ fn read_first(limit: usize, packet: &[u8], s: StartBits) -> Answer
 
 // Last, or a continuation.
 fn read_next(packet: &[u8], s: StartBits, last: bool) -> Answer
-    requires { (headerSize false s.extended ≤ length packet.now) × (isStream s.stream ≡ true) }
-    ensures { (limit : ℕ) → told result ≡ judged limit (fieldsByStart packet.now (cond last 2 1) s) }
+    requires { (header_size false s.extended ≤ length packet.now) × (is_stream s.stream ≡ true) }
+    ensures { (limit : ℕ) → told result ≡ judged limit (fields_by_start packet.now (cond last 2 1) s) }
 {
     let start = header::header_size(false, s.extended);
     let len = length_at(packet, header::length_place(false), s.extended);

@@ -1,7 +1,7 @@
 // The packet at the front of some bytes, as of a reply's joined packets: where it ends, and what it says.
 ghost use Rattle.std.specs.Prelude.{◌≡◌, ◌<◌};
 ghost use Rattle.ble_packet.specs.Reader.{length_at, told};
-ghost use Rattle.ble_packet_end.specs.End.{saidBy, end_of, frontOf};
+ghost use Rattle.ble_packet_end.specs.End.{said_by, end_of, front_of};
 
 use ble_packet::control::ACK_SIZE;
 use ble_packet::header;
@@ -22,7 +22,7 @@ fn length_at(bytes: &[u8], at: usize, extended: bool) -> usize
 
 // The length that a packet of a message says.
 fn said_length(bytes: &[u8], first: bool, extended: bool) -> usize
-    ensures { result ≡ saidBy bytes.now first extended }
+    ensures { result ≡ said_by bytes.now first extended }
 {
     let size = header::header_size(first, extended);
     let place = header::length_place(first);
@@ -47,7 +47,7 @@ pub fn end_of(bytes: &[u8]) -> usize
 
 // The packet at the front of some bytes read, for a link with a limit.
 pub fn read_front(limit: usize, bytes: &[u8]) -> Answer
-    ensures { told result ≡ frontOf limit bytes.now }
+    ensures { told result ≡ front_of limit bytes.now }
 {
     let end = end_of(bytes);
     if end < bytes.len() {

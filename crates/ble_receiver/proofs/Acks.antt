@@ -5,11 +5,11 @@ use lib.ListN.{get_or}
 use Rattle.ble_packet.specs.declared.reader.Head.{Head}
 use Rattle.ble_packet.specs.declared.reader.Packet.{Packet}
 use Rattle.ble_packet.specs.declared.reader.Packet.TheVariants.{First, Next, Ack, Nack}
-use Rattle.ble_packet.specs.Header.{fourBits}
+use Rattle.ble_packet.specs.Header.{four_bits}
 use Rattle.ble_packet.proofs.Reading.{PayloadWithin}
 use Rattle.ble_slot.specs.declared.Slot.{Slot}
 use Rattle.ble_slot.specs.Slot.{idle}
-use Rattle.ble_slot_steps.specs.Step.{Step, Act, still, step, finish, hold, dropBy, firstStep, nextStep, openSpot, firstSpot, actOf, actAt}
+use Rattle.ble_slot_steps.specs.Step.{Step, Act, still, step, finish, hold, drop_by, first_step, next_step, open_spot, first_spot, act_of, act_at}
 use Rattle.ble_slot_steps.proofs.Each.{EachStep, first-each, next-each, at_each}
 use Rattle.ble_receiver.specs.Ack.{IdLow}
 
@@ -20,8 +20,8 @@ abbrev pub ActLow : Act → Type 0
 ActLow (still t) = IdLow t
 ActLow (step spot s) = StepLow s
 
-each-low : (h : Head) → h.id < fourBits → EachStep h StepLow
-unfolding finish hold dropBy
+each-low : (h : Head) → h.id < four_bits → EachStep h StepLow
+unfolding finish hold drop_by
 each-low h low =
     record {
       finished = λ at wanted total replaced payload. low;
@@ -31,17 +31,17 @@ each-low h low =
     }
 
 -- what a packet that was read does
-pub act-low : (limit k first : ℕ) (lane : List Slot) (x : Packet) → PayloadWithin limit k x → ActLow (actOf first lane x)
+pub act-low : (limit k first : ℕ) (lane : List Slot) (x : Packet) → PayloadWithin limit k x → ActLow (act_of first lane x)
 act-low limit k first lane (First h ack total start len) w =
-    at_each ActLow 18 (λ spot. firstStep (first + spot) (get_or lane spot idle) h ack total start len) (firstSpot lane h.id) tt (λ spot e.
+    at_each ActLow 18 (λ spot. first_step (first + spot) (get_or lane spot idle) h ack total start len) (first_spot lane h.id) tt (λ spot e.
     first-each StepLow (each-low h w.4.0) (first + spot) (get_or lane spot idle) ack total start len)
 act-low limit k first lane (Next h ack last start len) w =
-    at_each ActLow 9 (λ spot. nextStep (first + spot) (get_or lane spot idle) h ack last start len) (openSpot lane h.id) tt (λ spot e.
+    at_each ActLow 9 (λ spot. next_step (first + spot) (get_or lane spot idle) h ack last start len) (open_spot lane h.id) tt (λ spot e.
     next-each StepLow (each-low h w.1.0) (first + spot) (get_or lane spot idle) ack last start len)
 act-low limit k first lane (Ack h) w = tt
 act-low limit k first lane (Nack h) w = tt
 
 -- and what is told of it
-pub at_low : (first : ℕ) (lane : List Slot) (act : Act) → ActLow act → IdLow (actAt first lane act).step.told
+pub at_low : (first : ℕ) (lane : List Slot) (act : Act) → ActLow act → IdLow (act_at first lane act).step.told
 at_low first lane (still t) low = low
 at_low first lane (step spot s) low = low

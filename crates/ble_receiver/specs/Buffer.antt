@@ -4,17 +4,17 @@ use Rattle.std.proofs.lemmas.List.Edits.{sets}
 use Rattle.ble_slot_steps.specs.declared.PayloadPlace.{PayloadPlace}
 
 -- where the part of a slot begins
-abbrev pub partStart : ℕ → ℕ → ℕ
-partStart limit index = index * limit
+abbrev pub part_start : ℕ → ℕ → ℕ
+part_start limit index = index * limit
 
 -- the part of a slot
-abbrev pub partOf : ℕ → ℕ → List ℕ → List ℕ
-partOf limit index bytes = take limit (drop (partStart limit index) bytes)
+abbrev pub part_of : ℕ → ℕ → List ℕ → List ℕ
+part_of limit index bytes = take limit (drop (part_start limit index) bytes)
 
 -- the bytes of a payload in its packet
-abbrev pub payloadBytes : List ℕ → PayloadPlace → List ℕ
-payloadBytes packet payload = take payload.len (drop payload.start packet)
+abbrev pub payload_bytes : List ℕ → PayloadPlace → List ℕ
+payload_bytes packet payload = take payload.len (drop payload.start packet)
 
 -- the payload is written in the part of a slot, and no other byte changes
 abbrev pub stored : ℕ → ℕ → List ℕ → List ℕ → PayloadPlace → List ℕ
-stored limit index bytes packet payload = sets bytes (partStart limit index + payload.at) (payloadBytes packet payload)
+stored limit index bytes packet payload = sets bytes (part_start limit index + payload.at) (payload_bytes packet payload)

@@ -2,8 +2,8 @@
 ghost use Rattle.std.specs.Prelude.{◌≡◌, true, cond, ◌≤◌, ◌<◌, length};
 ghost use Rattle.std.proofs.lemmas.List.Edits.{sets};
 ghost use Rattle.wire.specs.Told.{given};
-ghost use Rattle.wire.specs.Stream.{streamNumber};
-ghost use Rattle.ble_packet.specs.Control.{ackBytes};
+ghost use Rattle.wire.specs.Stream.{stream_number};
+ghost use Rattle.ble_packet.specs.Control.{ack_bytes};
 ghost use Rattle.ble_slot.specs.Answer.{told};
 ghost use Rattle.ble_receiver.specs.Receiver.{answered};
 ghost use Rattle.ble_receiver.specs.Ack.{IdLow};
@@ -15,7 +15,7 @@ use wire::stream::Stream;
 fn confirm(stream: Stream, id: u8, wanted: bool, sequence: u8, out: &mut [u8])
     requires { (id < 16) × (sequence < 16) × (6 ≤ length out.old) }
     ensures { out.new
-        ≡ cond wanted (sets out.old 0 (ackBytes (streamNumber stream) id sequence true)) out.old }
+        ≡ cond wanted (sets out.old 0 (ack_bytes (stream_number stream) id sequence true)) out.old }
 {
     if wanted {
         let number = stream.number();

@@ -1,7 +1,7 @@
 // The lent buffer: a part for each slot, one after the other.
 ghost use Rattle.std.specs.Prelude.{◌≡◌, List, ℕ, ◌+◌, ◌*◌, ◌≤◌, ◌<◌, length, take};
 ghost use Rattle.std.proofs.lemmas.List.Edits.{sets};
-ghost use Rattle.ble_slot.specs.Slot.{slotCount, laneStart};
+ghost use Rattle.ble_slot.specs.Slot.{slot_count, lane_start};
 ghost use Rattle.ble_slot_steps.specs.Fit.{InsidePart};
 ghost use Rattle.ble_receiver.specs.Buffer.{stored};
 
@@ -14,7 +14,7 @@ const BLOCK: usize = 16;
 
 // The index of a stream's first slot and part.
 pub fn lane_start(stream: Stream) -> usize
-    ensures { (result ≡ laneStart stream) × (result ≤ 8) }
+    ensures { (result ≡ lane_start stream) × (result ≤ 8) }
 {
     match stream {
         Stream::Control => 0,
@@ -73,8 +73,8 @@ pub fn write_payload(
     packet: &[u8],
 )
     requires { (limit ≤ 65535)
-        × (index < slotCount)
-        × (length buffer.old ≡ slotCount * limit)
+        × (index < slot_count)
+        × (length buffer.old ≡ slot_count * limit)
         × InsidePart limit (length packet.now) payload }
     ensures { buffer.new ≡ stored limit index buffer.old packet.now payload }
 {

@@ -6,10 +6,10 @@ ghost use Rattle.std.specs.Prelude.{◌≡◌, true, ◌&&◌, List, ℕ, ◌≤
 ghost use Rattle.wire.specs.Told.{given, refused};
 ghost use Rattle.ble_packet.specs.Reader.{read_of};
 ghost use Rattle.ble_slot.specs.declared.Slot.{Slot};
-ghost use Rattle.ble_slot.specs.Slot.{idle, slotCount};
+ghost use Rattle.ble_slot.specs.Slot.{idle, slot_count};
 ghost use Rattle.ble_slot.specs.Answer.{number_of};
-ghost use Rattle.ble_receiver.specs.Receiver.{openOf, toldOpen, acted, ready, call, left, leaves, acceptOf};
-ghost use Rattle.ble_receiver.specs.Outcome.{leftBy, firstTwelve};
+ghost use Rattle.ble_receiver.specs.Receiver.{open_of, told_open, acted, ready, call, left, leaves, accept_of};
+ghost use Rattle.ble_receiver.specs.Outcome.{left_by, first_twelve};
 
 use ble_packet::reader::Packet;
 use ble_packet::{control, header, reader};
@@ -38,7 +38,7 @@ pub const SLOT_COUNT: usize = 12;
 impl Receiver {
     // A receiver for a link with a limit.
     pub fn open(limit: usize) -> OpenedReceiver
-        ensures { toldOpen result ≡ openOf limit }
+        ensures { told_open result ≡ open_of limit }
     {
         if limit_fits(limit) {
             OpenedReceiver::Link(Receiver { limit })
@@ -51,7 +51,7 @@ impl Receiver {
 // Whether as many slots were lent as there are, the limit is in its range, the slots are lawful for it and a buffer of this size is the
 // right one.
 fn is_ready(count: usize, limit: usize, slots: [Slot; 12], size: usize) -> bool
-    ensures { result ≡ (eqb count slotCount && ready limit slots size) }
+    ensures { result ≡ (eqb count slot_count && ready limit slots size) }
 {
     if limit_fits(limit) {
         let fits = both(size == SLOT_COUNT * limit, are_lawful(limit, slots));
@@ -75,7 +75,7 @@ fn accept_read(
         × (read_of limit packet.now ≡ given read)
         × (sequence < 16)
         × (6 ≤ length out.old) }
-    ensures { leftBy slots result buffer.new out.new
+    ensures { left_by slots result buffer.new out.new
         ≡ leaves sequence out.old (acted limit slots buffer.old packet.now (given read)) }
 {
     let head = read.head();
@@ -101,7 +101,7 @@ pub fn process(
     requires { (ready limit slots (length buffer.old) ≡ true)
         × (sequence < 16)
         × (6 ≤ length out.old) }
-    ensures { leftBy slots result buffer.new out.new
+    ensures { left_by slots result buffer.new out.new
         ≡ leaves sequence out.old
         (acted limit slots buffer.old packet.now (read_of limit packet.now)) }
 {
@@ -117,7 +117,7 @@ pub fn process(
 // A refusal that leaves all: the first slot is stored as it was.
 fn refuse(slots: [Slot; 12], why: Refusal) -> Step
     ensures { (row : List Slot) (bytes out : List ℕ) → get_or row 0 idle ≡ get_or slots 0 idle
-        → leftBy row result bytes out ≡ left (refused (number_of why)) row bytes out }
+        → left_by row result bytes out ≡ left (refused (number_of why)) row bytes out }
 {
     let slot = slots[0];
     Step {
@@ -144,9 +144,9 @@ pub fn decide(
     sequence: u8,
     out: &mut [u8],
 ) -> Step
-    ensures { (row : List Slot) → length row ≡ count → slots ≡ firstTwelve row
-        → leftBy row result buffer.new out.new
-        ≡ acceptOf limit row buffer.old (call packet.now sequence out.old) }
+    ensures { (row : List Slot) → length row ≡ count → slots ≡ first_twelve row
+        → left_by row result buffer.new out.new
+        ≡ accept_of limit row buffer.old (call packet.now sequence out.old) }
 {
     if !is_ready(count, limit, slots, buffer.len()) {
         return refuse(slots, Refusal::BadStateOrBuffer);

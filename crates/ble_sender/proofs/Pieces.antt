@@ -8,13 +8,13 @@ use mathlib.Core.Bool.{Bool, true, false, cond}
 use mathlib.Core.Option.{none, some}
 use lib.Dec.{ltb, eqb}
 use borrow.Author.Tests.{eq-eqb, ne_eqb, ltb-true, ltb-false, eqb-false}
-use Rattle.ble_sender.specs.Piece.{leastRoom, size_for, fullSize, isFirst, piecesFrom, pieces_of, piece_at}
+use Rattle.ble_sender.specs.Piece.{least_room, size_for, full_size, is_first, pieces_from, pieces_of, piece_at}
 use Rattle.ble_sender.proofs.Largest.{full-some, size_is}
 
 -- ---- after the first piece all are of one size, c, but for the last
 
-module _ (room c : ℕ) (enough : leastRoom ≤ room) (full : c ≡ fullSize room false) where
-  later-size : (index rest : ℕ) → size_for room (isFirst (suc index)) rest ≡ min rest c
+module _ (room c : ℕ) (enough : least_room ≤ room) (full : c ≡ full_size room false) where
+  later-size : (index rest : ℕ) → size_for room (is_first (suc index)) rest ≡ min rest c
   later-size index rest = rw (ne_eqb (suc index) 0 (λ e. omega arith), full) (size_is room false enough rest)
 
   some-full : 0 < c
@@ -22,14 +22,14 @@ module _ (room c : ℕ) (enough : leastRoom ≤ room) (full : c ≡ fullSize roo
 
   -- one turn, with the size in closed form
   turn : (q fuel index start rest : ℕ)
-      → piece_at q (piecesFrom (suc fuel) room (suc index) start rest)
+      → piece_at q (pieces_from (suc fuel) room (suc index) start rest)
       ≡ cond (eqb start q) (some (record { index = suc index; start = start; size = min rest c }))
-      (piece_at q (cond (eqb (min rest c) rest) [] (piecesFrom fuel room (suc (suc index)) (start + min rest c) (rest - min rest c))))
+      (piece_at q (cond (eqb (min rest c) rest) [] (pieces_from fuel room (suc (suc index)) (start + min rest c) (rest - min rest c))))
   turn q fuel index start rest = rw (later-size index rest)
 
   -- k full pieces on, one begins
   hit : (k fuel index start rest q : ℕ) → q ≡ start + k * c → q < start + rest → rest ≤ fuel
-      → piece_at q (piecesFrom fuel room (suc index) start rest) ≡ some (record { index = suc index + k; start = q; size = min (start + rest - q) c })
+      → piece_at q (pieces_from fuel room (suc index) start rest) ≡ some (record { index = suc index + k; start = q; size = min (start + rest - q) c })
   hit k zero index start rest q e l f = absurd (omega arith)
   hit zero (suc fuel) index start rest q e l f =
       let z : q ≡ start = omega (arith, zero-mul c) in
@@ -71,8 +71,8 @@ module _ (room c : ℕ) (enough : leastRoom ≤ room) (full : c ≡ fullSize roo
   missing-next {start} {rest} {q} l (between d) = between_next start (rest - c) q (ltb q (start + c)) refl d
 
   miss-by : (fuel index start rest q : ℕ) (b : Bool) → eqb (min rest c) rest ≡ b
-      → (c < rest → piece_at q (piecesFrom fuel room (suc (suc index)) (start + c) (rest - c)) ≡ none)
-      → piece_at q (cond b [] (piecesFrom fuel room (suc (suc index)) (start + min rest c) (rest - min rest c))) ≡ none
+      → (c < rest → piece_at q (pieces_from fuel room (suc (suc index)) (start + c) (rest - c)) ≡ none)
+      → piece_at q (cond b [] (pieces_from fuel room (suc (suc index)) (start + min rest c) (rest - min rest c))) ≡ none
   miss-by fuel index start rest q true e later = refl
   miss-by fuel index start rest q false e later =
       let d : (min rest c ≡ rest → ⊥) = eqb-false (min rest c) rest e in
@@ -80,7 +80,7 @@ module _ (room c : ℕ) (enough : leastRoom ≤ room) (full : c ≡ fullSize roo
       let m : min rest c ≡ c = omega arith in
       rw m (later l)
 
-  miss : (fuel index start rest q : ℕ) → 1 ≤ rest → Missing start rest q → piece_at q (piecesFrom fuel room (suc index) start rest) ≡ none
+  miss : (fuel index start rest q : ℕ) → 1 ≤ rest → Missing start rest q → piece_at q (pieces_from fuel room (suc index) start rest) ≡ none
   miss zero index start rest q l h = refl
   miss (suc fuel) index start rest q l h =
       turn q fuel index start rest
@@ -90,18 +90,18 @@ module _ (room c : ℕ) (enough : leastRoom ≤ room) (full : c ≡ fullSize roo
 
 -- ---- the piece at a place q of a whole message: f is the size of a full first piece, c of a full one after it
 
-module _ (room length q f : ℕ) (enough : leastRoom ≤ room) (fullf : f ≡ fullSize room true) where
+module _ (room length q f : ℕ) (enough : least_room ≤ room) (fullf : f ≡ full_size room true) where
   begin : piece_at q (pieces_of room length)
       ≡ cond (eqb 0 q) (some (record { index = 0; start = 0; size = min length f }))
-      (piece_at q (cond (eqb (min length f) length) [] (piecesFrom length room 1 (0 + min length f) (length - min length f))))
+      (piece_at q (cond (eqb (min length f) length) [] (pieces_from length room 1 (0 + min length f) (length - min length f))))
   begin = let e : size_for room true length ≡ min length f = rw fullf (size_is room true enough length) in rw e
 
   pub place-first : q ≡ 0 → piece_at q (pieces_of room length) ≡ some (record { index = 0; start = 0; size = min length f })
   place-first z = begin ∙ rw (eq-eqb 0 q (sym z))
 
-  module _ (c : ℕ) (fullc : c ≡ fullSize room false) (some-place : q ≡ 0 → ⊥) where
+  module _ (c : ℕ) (fullc : c ≡ full_size room false) (some-place : q ≡ 0 → ⊥) where
     none-by : (b : Bool) → eqb (min length f) length ≡ b → (f < length → Missing room c enough fullc (0 + f) (length - f) q)
-        → piece_at q (cond b [] (piecesFrom length room 1 (0 + min length f) (length - min length f))) ≡ none
+        → piece_at q (cond b [] (pieces_from length room 1 (0 + min length f) (length - min length f))) ≡ none
     none-by true e h = refl
     none-by false e h =
         let d : (min length f ≡ length → ⊥) = eqb-false (min length f) length e in

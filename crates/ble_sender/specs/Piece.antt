@@ -1,7 +1,7 @@
 -- The pieces of a message: each packet of it carries one.
 use Rattle.std.specs.Prelude.{ℕ, zero, suc, ◌+◌, ◌-◌, List, [], ◌∷◌, Bool, cond, ltb, leb, eqb}
 use Rattle.std.proofs.Math.Option.{Option, none, some}
-use Rattle.ble_packet.specs.Header.{headerSize}
+use Rattle.ble_packet.specs.Header.{header_size}
 use Rattle.ble_sender.specs.declared.piece.Piece.{Piece}
 use Rattle.ble_sender.specs.declared.piece.Found.{Found}
 use Rattle.ble_sender.specs.declared.piece.Found.TheVariants.{Nowhere, At}
@@ -11,23 +11,23 @@ abbrev pub piece_for : ℕ → ℕ → ℕ → Piece
 piece_for index start n = record { index = index; start = start; size = n }
 
 -- the rooms: the largest whole packet, in bytes
-abbrev pub leastRoom : ℕ
-leastRoom = 20
+abbrev pub least_room : ℕ
+least_room = 20
 
-abbrev pub largestRoom : ℕ
-largestRoom = 512
+abbrev pub largest_room : ℕ
+largest_room = 512
 
 -- the extender is used only above the largest length that one byte says
-abbrev pub oneByteLength : ℕ
-oneByteLength = 255
+abbrev pub one_byte_length : ℕ
+one_byte_length = 255
 
 -- whether a payload of n bytes needs it
 abbrev pub extended : ℕ → Bool
-extended n = ltb oneByteLength n
+extended n = ltb one_byte_length n
 
 -- a piece of n bytes fits its header in the room
 abbrev pub fits : ℕ → Bool → ℕ → Bool
-fits room first n = leb (headerSize first (extended n) + n) room
+fits room first n = leb (header_size first (extended n) + n) room
 
 -- the largest number up to a bound that passes a test; 0 where none does
 abbrev pub largest : (ℕ → Bool) → ℕ → ℕ
@@ -39,24 +39,24 @@ unfoldable pub size_for : ℕ → Bool → ℕ → ℕ
 size_for room first rest = largest (fits room first) rest
 
 -- the size of a full piece: there is more left than the room holds
-abbrev pub fullSize : ℕ → Bool → ℕ
-fullSize room first = size_for room first room
+abbrev pub full_size : ℕ → Bool → ℕ
+full_size room first = size_for room first room
 
 -- whether a piece is the first
-abbrev pub isFirst : ℕ → Bool
-isFirst index = eqb index 0
+abbrev pub is_first : ℕ → Bool
+is_first index = eqb index 0
 
 -- the pieces of the rest of a message from a place on, until one takes all of it
-abbrev pub piecesFrom : ℕ → ℕ → ℕ → ℕ → ℕ → List Piece
-piecesFrom zero room index start rest = []
-piecesFrom (suc fuel) room index start rest =
-    record { index = index; start = start; size = size_for room (isFirst index) rest }
-    ∷ cond (eqb (size_for room (isFirst index) rest) rest) []
-    (piecesFrom fuel room (suc index) (start + size_for room (isFirst index) rest) (rest - size_for room (isFirst index) rest))
+abbrev pub pieces_from : ℕ → ℕ → ℕ → ℕ → ℕ → List Piece
+pieces_from zero room index start rest = []
+pieces_from (suc fuel) room index start rest =
+    record { index = index; start = start; size = size_for room (is_first index) rest }
+    ∷ cond (eqb (size_for room (is_first index) rest) rest) []
+    (pieces_from fuel room (suc index) (start + size_for room (is_first index) rest) (rest - size_for room (is_first index) rest))
 
 -- all pieces of a message of that length; an empty message has one, of no bytes
 abbrev pub pieces_of : ℕ → ℕ → List Piece
-pieces_of room length = piecesFrom (suc length) room 0 0 length
+pieces_of room length = pieces_from (suc length) room 0 0 length
 
 -- the piece that begins at a place
 abbrev pub piece_at : ℕ → List Piece → Option Piece
@@ -64,6 +64,6 @@ piece_at start [] = none
 piece_at start (p ∷ ps) = cond (eqb p.start start) (some p) (piece_at start ps)
 
 -- what the code found
-abbrev pub foundOf : Found → Option Piece
-foundOf Nowhere = none
-foundOf (At p) = some p
+abbrev pub found_of : Found → Option Piece
+found_of Nowhere = none
+found_of (At p) = some p

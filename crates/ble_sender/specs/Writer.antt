@@ -2,10 +2,10 @@
 use Rattle.std.specs.Prelude.{ℕ, ◌+◌, ◌≤◌, ◌<◌, List, [], ◌∷◌, ◌++◌, map, Bool, true, false, cond, not, ◌&&◌, length, take, drop, ltb, leb, eqb}
 use Rattle.std.proofs.Math.Option.{Option, none, some, get_or}
 use Rattle.std.proofs.lemmas.List.Edits.{sets}
-use Rattle.wire.specs.Bytes.{pairBytes}
-use Rattle.wire.specs.Limit.{limitFits}
+use Rattle.wire.specs.Bytes.{pair_bytes}
+use Rattle.wire.specs.Limit.{limit_fits}
 use Rattle.wire.specs.Told.{Told, given, refused, Line, line, table, Written, writes}
-use Rattle.ble_packet.specs.Header.{fourBits, in_range, reservedByte, typeFirst, typeContinuation, typeLast, headerSize, firstByte, secondByte, sequenceAfter}
+use Rattle.ble_packet.specs.Header.{four_bits, in_range, reserved_byte, type_first, type_continuation, type_last, header_size, first_byte, second_byte, sequence_after}
 use Rattle.ble_sender.specs.declared.piece.Piece.{Piece}
 use Rattle.ble_sender.specs.declared.writer.Sending.{Sending}
 use Rattle.ble_sender.specs.declared.writer.Refusal.{Refusal}
@@ -14,44 +14,44 @@ use Rattle.ble_sender.specs.declared.writer.Answer.{Answer}
 use Rattle.ble_sender.specs.declared.writer.Answer.TheVariants.{Refused, More, Last}
 use Rattle.ble_sender.specs.declared.writer.Decision.{Decision}
 use Rattle.ble_sender.specs.declared.writer.Decision.TheVariants.{Refuse, Write}
-use Rattle.ble_sender.specs.Piece.{leastRoom, largestRoom, extended, isFirst, pieces_of, piece_at}
+use Rattle.ble_sender.specs.Piece.{least_room, largest_room, extended, is_first, pieces_of, piece_at}
 
 -- ---- the packet of a piece
 
 -- first or only, continuation, last
-abbrev pub typeFor : Bool → Bool → ℕ
-typeFor first last = cond first typeFirst (cond last typeLast typeContinuation)
+abbrev pub type_for : Bool → Bool → ℕ
+type_for first last = cond first type_first (cond last type_last type_continuation)
 
 -- bytes 0 and 1: the sequence is the first plus the piece's index, and the ACK flag stands on the last packet only
-abbrev pub startBytes : Sending → Piece → Bool → List ℕ
-startBytes w p last =
-    firstByte w.stream w.id
-    ∷ secondByte (sequenceAfter w.sequence p.index) (typeFor (isFirst p.index) last) (last && w.ack) (extended p.size)
+abbrev pub start_bytes : Sending → Piece → Bool → List ℕ
+start_bytes w p last =
+    first_byte w.stream w.id
+    ∷ second_byte (sequence_after w.sequence p.index) (type_for (is_first p.index) last) (last && w.ack) (extended p.size)
     ∷ []
 
 -- a first packet then has a reserved byte and the total
-abbrev pub totalBytes : Bool → ℕ → List ℕ
-totalBytes first total = cond first (reservedByte ∷ pairBytes total) []
+abbrev pub total_bytes : Bool → ℕ → List ℕ
+total_bytes first total = cond first (reserved_byte ∷ pair_bytes total) []
 
 -- the payload length: one byte, or two with the extender
-abbrev pub lengthBytes : ℕ → List ℕ
-lengthBytes n = cond (extended n) (pairBytes n) (n ∷ [])
+abbrev pub length_bytes : ℕ → List ℕ
+length_bytes n = cond (extended n) (pair_bytes n) (n ∷ [])
 
 -- the header of the packet of a piece
-unfoldable pub headerBytes : Sending → ℕ → Piece → Bool → List ℕ
-headerBytes w total p last = startBytes w p last ++ totalBytes (isFirst p.index) total ++ lengthBytes p.size
+unfoldable pub header_bytes : Sending → ℕ → Piece → Bool → List ℕ
+header_bytes w total p last = start_bytes w p last ++ total_bytes (is_first p.index) total ++ length_bytes p.size
 
 -- the last piece ends where the message ends
 abbrev pub is_last : ℕ → Piece → Bool
 is_last length p = eqb (p.start + p.size) length
 
 -- the packet of a piece: its header, then its bytes
-unfoldable pub packetOf : Sending → List ℕ → Piece → List ℕ
-packetOf w m p = headerBytes w (length m) p (is_last (length m) p) ++ take p.size (drop p.start m)
+unfoldable pub packet_of : Sending → List ℕ → Piece → List ℕ
+packet_of w m p = header_bytes w (length m) p (is_last (length m) p) ++ take p.size (drop p.start m)
 
 -- all packets of a message, in order
-abbrev pub packetsOf : Sending → List ℕ → List (List ℕ)
-packetsOf w m = map (packetOf w m) (pieces_of w.room (length m))
+abbrev pub packets_of : Sending → List ℕ → List (List ℕ)
+packets_of w m = map (packet_of w m) (pieces_of w.room (length m))
 
 -- ---- the refusals
 
@@ -63,12 +63,12 @@ number_of Argument = 15
 number_of Output = 14
 
 -- a room of 20 to 512
-unfoldable pub roomFits : ℕ → Bool
-roomFits room = leb leastRoom room && leb room largestRoom
+unfoldable pub room_fits : ℕ → Bool
+room_fits room = leb least_room room && leb room largest_room
 
 -- stream, id, sequence and the length of the message in their ranges
-unfoldable pub argumentsFit : ℕ → Sending → ℕ → Bool
-argumentsFit limit w length = in_range w.stream w.id w.sequence && leb length limit
+unfoldable pub arguments_fit : ℕ → Sending → ℕ → Bool
+arguments_fit limit w length = in_range w.stream w.id w.sequence && leb length limit
 
 -- whether a piece begins at the place
 abbrev pub begins : Option Piece → Bool
@@ -82,9 +82,9 @@ found_at w length place = piece_at place (pieces_of w.room length)
 -- the table; a place where no piece begins is an argument out of range
 abbrev pub lines : ℕ → Sending → ℕ → Option Piece → ℕ → List Line
 lines limit w length found space =
-    line 13 (not (roomFits w.room))
-    ∷ line 17 (not (limitFits limit))
-    ∷ line 15 (not (argumentsFit limit w length && begins found))
+    line 13 (not (room_fits w.room))
+    ∷ line 17 (not (limit_fits limit))
+    ∷ line 15 (not (arguments_fit limit w length && begins found))
     ∷ line 14 (ltb space w.room)
     ∷ []
 
@@ -96,12 +96,12 @@ pub data Sent : Type 0 where
   last : ℕ → Sent
 
 -- by whether it was the last
-abbrev pub sentFor : Bool → ℕ → ℕ → Sent
-sentFor final n next = cond final (last n) (more n next)
+abbrev pub sent_for : Bool → ℕ → ℕ → Sent
+sent_for final n next = cond final (last n) (more n next)
 
 -- what is told of the packet of a piece
-abbrev pub sentOf : Sending → List ℕ → Piece → Sent
-sentOf w m p = sentFor (is_last (length m) p) (length (packetOf w m p)) (p.start + p.size)
+abbrev pub sent_of : Sending → List ℕ → Piece → Sent
+sent_of w m p = sent_for (is_last (length m) p) (length (packet_of w m p)) (p.start + p.size)
 
 -- the number of a refusal, or what was sent
 abbrev pub told : Answer → Told Sent
@@ -117,16 +117,16 @@ piece_of found = get_or found (record { index = 0; start = 0; size = 0 })
 unfoldable pub written_of : ℕ → Sending → List ℕ → ℕ → List ℕ → Written Sent
 written_of limit w m place out =
     writes (lines limit w (length m) (found_at w (length m) place) (length out))
-    (sentOf w m (piece_of (found_at w (length m) place)))
+    (sent_of w m (piece_of (found_at w (length m) place)))
     out
-    (sets out 0 (packetOf w m (piece_of (found_at w (length m) place))))
+    (sets out 0 (packet_of w m (piece_of (found_at w (length m) place))))
 
 -- ---- below the guard
 
 -- the number of a refusal, or the piece to write
-abbrev pub decisionOf : Decision → Told Piece
-decisionOf (Refuse r) = refused (number_of r)
-decisionOf (Write p) = given p
+abbrev pub decision_of : Decision → Told Piece
+decision_of (Refuse r) = refused (number_of r)
+decision_of (Write p) = given p
 
 -- the first line of the table that holds, or the piece that begins at the place
 unfoldable pub decided : ℕ → Sending → ℕ → ℕ → ℕ → Told Piece
@@ -135,11 +135,11 @@ decided limit w length place space =
 
 -- the packet of a piece of a message of that length can be written in this much output
 pub record Writes (w : Sending) (length : ℕ) (space : ℕ) (p : Piece) : Type 0 where
-  pub low-stream : w.stream < fourBits
-  pub low-id : w.id < fourBits
+  pub low-stream : w.stream < four_bits
+  pub low-id : w.id < four_bits
   pub low-total : length < 65536
   pub inside : p.start + p.size ≤ length
-  pub header-fits : headerSize (isFirst p.index) (extended p.size) + p.size ≤ space
+  pub header-fits : header_size (is_first p.index) (extended p.size) + p.size ≤ space
 
 -- the same of a decision to write
 abbrev pub WritesGiven : Sending → ℕ → ℕ → Told Piece → Type 0

@@ -1,6 +1,6 @@
 // The pieces of a message: which one begins at a place.
 ghost use Rattle.std.specs.Prelude.{◌≡◌, ◌≤◌, ◌<◌};
-ghost use Rattle.ble_sender.specs.Piece.{leastRoom, size_for, fullSize, pieces_of, piece_at, foundOf};
+ghost use Rattle.ble_sender.specs.Piece.{least_room, size_for, full_size, pieces_of, piece_at, found_of};
 
 use ble_packet::header;
 use wire::bytes::smaller;
@@ -44,16 +44,16 @@ pub fn size_for(room: usize, first: bool, rest: usize) -> usize
 
 // The size of a piece that fills the room together with its header.
 pub fn full_size(room: usize, first: bool) -> usize
-    requires { leastRoom ≤ room }
-    ensures { (result ≡ fullSize room first) × (0 < result) }
+    requires { least_room ≤ room }
+    ensures { (result ≡ full_size room first) × (0 < result) }
 {
     size_for(room, first, room)
 }
 
 // The piece of a message of that length which begins at the place, if one does: the pieces before it are full.
 pub(crate) fn piece_at(room: usize, length: usize, start: usize) -> Found
-    requires { leastRoom ≤ room }
-    ensures { foundOf result ≡ piece_at start (pieces_of room length) }
+    requires { least_room ≤ room }
+    ensures { found_of result ≡ piece_at start (pieces_of room length) }
 {
     let first = full_size(room, true);
     if start == 0 {

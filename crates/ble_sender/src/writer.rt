@@ -2,9 +2,9 @@
 ghost use Rattle.std.specs.Prelude.{◌≡◌, ◌+◌, ◌≤◌, ◌<◌, length};
 ghost use Rattle.std.proofs.lemmas.List.Edits.{sets};
 ghost use Rattle.wire.specs.Told.{given, written};
-ghost use Rattle.ble_packet.specs.Header.{fourBits, startSize, lengthPlace, headerSize};
-ghost use Rattle.ble_sender.specs.Piece.{extended, isFirst};
-ghost use Rattle.ble_sender.specs.Writer.{typeFor, startBytes, totalBytes, lengthBytes, headerBytes, packetOf, number_of, roomFits, argumentsFit, sentFor, sentOf, told, decisionOf, decided, written_of, Writes, WritesGiven};
+ghost use Rattle.ble_packet.specs.Header.{four_bits, start_size, length_place, header_size};
+ghost use Rattle.ble_sender.specs.Piece.{extended, is_first};
+ghost use Rattle.ble_sender.specs.Writer.{type_for, start_bytes, total_bytes, length_bytes, header_bytes, packet_of, number_of, room_fits, arguments_fit, sent_for, sent_of, told, decision_of, decided, written_of, Writes, WritesGiven};
 
 use crate::piece::{Found, LARGEST_ROOM, LEAST_ROOM, ONE_BYTE_LENGTH, Piece, piece_at};
 use ble_packet::header;
@@ -59,13 +59,13 @@ enum Decision {
 }
 
 pub fn room_fits(room: usize) -> bool
-    ensures { result ≡ roomFits room }
+    ensures { result ≡ room_fits room }
 {
     both(LEAST_ROOM <= room, room <= LARGEST_ROOM)
 }
 
 fn arguments_fit(how: Sending, limit: usize, length: usize) -> bool
-    ensures { result ≡ argumentsFit limit how length }
+    ensures { result ≡ arguments_fit limit how length }
 {
     let in_range = header::in_range(how.stream, how.id, how.sequence);
     both(in_range, length <= limit)
@@ -73,8 +73,8 @@ fn arguments_fit(how: Sending, limit: usize, length: usize) -> bool
 
 // The table of refusals, from the top.
 fn decide(how: Sending, limit: usize, length: usize, place: usize, space: usize) -> Decision
-    ensures { (decisionOf result ≡ decided limit how length place space)
-        × WritesGiven how length space (decisionOf result) }
+    ensures { (decision_of result ≡ decided limit how length place space)
+        × WritesGiven how length space (decision_of result) }
 {
     let room = how.room;
     if !room_fits(room) {
@@ -100,7 +100,7 @@ fn decide(how: Sending, limit: usize, length: usize, place: usize, space: usize)
 
 // The type of a packet.
 pub fn type_for(first: bool, last: bool) -> u8
-    ensures { (result ≡ typeFor first last) × (result < 4) }
+    ensures { (result ≡ type_for first last) × (result < 4) }
 {
     if first {
         return header::TYPE_FIRST;
@@ -114,8 +114,8 @@ pub fn type_for(first: bool, last: bool) -> u8
 
 // Bytes 0 and 1.
 fn put_start(out: &mut [u8], how: Sending, piece: Piece, last: bool)
-    requires { (startSize ≤ length out.old) × (how.stream < fourBits) × (how.id < fourBits) }
-    ensures { out.new ≡ sets out.old 0 (startBytes how piece last) }
+    requires { (start_size ≤ length out.old) × (how.stream < four_bits) × (how.id < four_bits) }
+    ensures { out.new ≡ sets out.old 0 (start_bytes how piece last) }
 {
     let first = piece.index == 0;
     let sequence = header::sequence_after(how.sequence, piece.index);
@@ -128,8 +128,8 @@ fn put_start(out: &mut [u8], how: Sending, piece: Piece, last: bool)
 
 // A first packet's reserved byte and total.
 fn put_total(out: &mut [u8], first: bool, total: usize)
-    requires { (lengthPlace first ≤ length out.old) × (total < 65536) }
-    ensures { out.new ≡ sets out.old startSize (totalBytes first total) }
+    requires { (length_place first ≤ length out.old) × (total < 65536) }
+    ensures { out.new ≡ sets out.old start_size (total_bytes first total) }
 {
     if first {
         out[header::START_SIZE] = header::RESERVED;
@@ -139,8 +139,8 @@ fn put_total(out: &mut [u8], first: bool, total: usize)
 
 // The payload length: one byte, or two with the extender.
 fn put_length(out: &mut [u8], at: usize, n: usize)
-    requires { (at + length (lengthBytes n) ≤ length out.old) × (n < 65536) }
-    ensures { out.new ≡ sets out.old at (lengthBytes n) }
+    requires { (at + length (length_bytes n) ≤ length out.old) × (n < 65536) }
+    ensures { out.new ≡ sets out.old at (length_bytes n) }
 {
     if ONE_BYTE_LENGTH < n {
         put_pair(out, at, n);
@@ -152,8 +152,8 @@ fn put_length(out: &mut [u8], at: usize, n: usize)
 // The header, and how long it is.
 pub fn put_header(out: &mut [u8], how: Sending, total: usize, piece: Piece, last: bool) -> usize
     requires { Writes how total (length out.old) piece }
-    ensures { (out.new ≡ sets out.old 0 (headerBytes how total piece last))
-        × (result ≡ headerSize (isFirst piece.index) (extended piece.size))
+    ensures { (out.new ≡ sets out.old 0 (header_bytes how total piece last))
+        × (result ≡ header_size (is_first piece.index) (extended piece.size))
         × (result < 8) }
 {
     let first = piece.index == 0;
@@ -165,7 +165,7 @@ pub fn put_header(out: &mut [u8], how: Sending, total: usize, piece: Piece, last
 }
 
 fn answer_for(last: bool, length: usize, next: usize) -> Answer
-    ensures { told result ≡ given (sentFor last length next) }
+    ensures { told result ≡ given (sent_for last length next) }
 {
     if last {
         Answer::Last { length }
@@ -178,8 +178,8 @@ fn answer_for(last: bool, length: usize, next: usize) -> Answer
 fn write_piece(how: Sending, message: &[u8], piece: Piece, out: &mut [u8]) -> Answer
     requires { Writes how (length message.now) (length out.old) piece }
     ensures { written (told result) out.new
-        ≡ written (given (sentOf how message.now piece))
-        (sets out.old 0 (packetOf how message.now piece)) }
+        ≡ written (given (sent_of how message.now piece))
+        (sets out.old 0 (packet_of how message.now piece)) }
 {
     let start = piece.start;
     let size = piece.size;

@@ -1,34 +1,34 @@
 -- The packets that calls of the writer give for a message, place after place, over one reused output.
 use Rattle.std.specs.Prelude.{ℕ, zero, suc, ◌≤◌, ◌≡◌, ◌⊎◌, List, [], ◌∷◌, true, length, take}
-use Rattle.wire.specs.Limit.{limitFits}
+use Rattle.wire.specs.Limit.{limit_fits}
 use Rattle.wire.specs.Told.{Told, given, refused}
 use Rattle.ble_sender.specs.declared.writer.Sending.{Sending}
-use Rattle.ble_sender.specs.Writer.{packetsOf, roomFits, argumentsFit, Sent, more, last, written_of}
+use Rattle.ble_sender.specs.Writer.{packets_of, room_fits, arguments_fit, Sent, more, last, written_of}
 
 -- what a call told, over the output that it left: the packet, and those of the calls from the next place on
-abbrev pub packetsBy : List ℕ → (ℕ → List (List ℕ)) → Told Sent → List (List ℕ)
-packetsBy out later (refused n) = []
-packetsBy out later (given (more n next)) = take n out ∷ later next
-packetsBy out later (given (last n)) = take n out ∷ []
+abbrev pub packets_by : List ℕ → (ℕ → List (List ℕ)) → Told Sent → List (List ℕ)
+packets_by out later (refused n) = []
+packets_by out later (given (more n next)) = take n out ∷ later next
+packets_by out later (given (last n)) = take n out ∷ []
 
 -- the packets of at most `calls` calls, each at the place that the one before it told, until one tells that it was the last
-unfoldable pub callsFrom : ℕ → ℕ → Sending → List ℕ → List ℕ → ℕ → List (List ℕ)
-callsFrom zero limit w m out place = []
-callsFrom (suc calls) limit w m out place =
-    packetsBy (written_of limit w m place out).out (callsFrom calls limit w m (written_of limit w m place out).out) (written_of limit w m place out).told
+unfoldable pub calls_from : ℕ → ℕ → Sending → List ℕ → List ℕ → ℕ → List (List ℕ)
+calls_from zero limit w m out place = []
+calls_from (suc calls) limit w m out place =
+    packets_by (written_of limit w m place out).out (calls_from calls limit w m (written_of limit w m place out).out) (written_of limit w m place out).told
 
 -- those of all calls for a message: a call more than it has bytes is always enough
 abbrev pub calls_of : ℕ → Sending → List ℕ → List ℕ → List (List ℕ)
-calls_of limit w m out = callsFrom (suc (length m)) limit w m out 0
+calls_of limit w m out = calls_from (suc (length m)) limit w m out 0
 
 -- what the writer takes
 pub record SendableMessage (limit : ℕ) (w : Sending) (m out : List ℕ) : Type 0 where
   -- a limit of 1 to 65,535
-  pub range : limitFits limit ≡ true
+  pub range : limit_fits limit ≡ true
   -- a room of 20 to 512
-  pub room : roomFits w.room ≡ true
+  pub room : room_fits w.room ≡ true
   -- stream, id, sequence and message in their ranges
-  pub arguments : argumentsFit limit w (length m) ≡ true
+  pub arguments : arguments_fit limit w (length m) ≡ true
   -- an output no smaller than the room
   pub space : w.room ≤ length out
 
@@ -51,4 +51,4 @@ TakesAll =
 abbrev pub CallsGiveAll : Type 0
 CallsGiveAll =
     (limit : ℕ) (w : Sending) (m out : List ℕ) → SendableMessage limit w m out
-    → (calls_of limit w m out ≡ packetsOf w m) × (1 ≤ length (calls_of limit w m out))
+    → (calls_of limit w m out ≡ packets_of w m) × (1 ≤ length (calls_of limit w m out))

@@ -13,7 +13,7 @@ use Rattle.wire.specs.declared.stream.Stream.{Stream}
 use Rattle.wire.specs.declared.stream.Stream.TheVariants.{Control, Ota, Alexa}
 use Rattle.wire.proofs.Tests.{and_left, and_right, or-false, or-true}
 use Rattle.ble_slot.specs.declared.Slot.{Slot}
-use Rattle.ble_slot.specs.Slot.{opens, idle, openLaw, idleLaw, lawfulSlot, allLawful, isOpen, anyOpen, distinct, laneLaw, slotsEach, slotCount, laneStart, laneOf, lawful}
+use Rattle.ble_slot.specs.Slot.{opens, idle, open_law, idle_law, lawful_slot, all_lawful, is_open, any_open, distinct, lane_law, slots_each, slot_count, lane_start, lane_of, lawful}
 
 -- ---- one slot
 
@@ -124,7 +124,7 @@ pub record OpenSlot (limit : ℕ) (s : Slot) : Type 0 where
   pub some-held : 1 ≤ s.held
   pub held_below : s.held < s.total
 
-open-numbers : (limit : ℕ) (s : Slot) → openLaw limit s ≡ true → OpenSlot limit s
+open-numbers : (limit : ℕ) (s : Slot) → open_law limit s ≡ true → OpenSlot limit s
 open-numbers limit s e =
     let e1 = and_right (ltb s.id 16) _ e in
     let e2 = and_right (ltb s.sequence 16) _ e1 in
@@ -139,12 +139,12 @@ open-numbers limit s e =
       held_below = ltb-true s.held s.total (and_right (leb 1 s.held) _ e4);
     }
 
-pub lawful-open : (limit : ℕ) (s : Slot) → lawfulSlot limit s ≡ true → opens s ≡ true → OpenSlot limit s
-unfolding lawfulSlot
+pub lawful-open : (limit : ℕ) (s : Slot) → lawful_slot limit s ≡ true → opens s ≡ true → OpenSlot limit s
+unfolding lawful_slot
 lawful-open limit s e o = open-numbers limit s (rw o at e)
 
-pub open-lawful : (limit : ℕ) (s : Slot) → opens s ≡ true → OpenSlot limit s → lawfulSlot limit s ≡ true
-unfolding lawfulSlot
+pub open-lawful : (limit : ℕ) (s : Slot) → opens s ≡ true → OpenSlot limit s → lawful_slot limit s ≡ true
+unfolding lawful_slot
 open-lawful limit s o n =
     simp (
       o,
@@ -156,112 +156,112 @@ open-lawful limit s o n =
       lt-ltb s.held s.total n.held_below,
     )
 
-pub idle-lawful : (limit : ℕ) → lawfulSlot limit idle ≡ true
-unfolding lawfulSlot
+pub idle-lawful : (limit : ℕ) → lawful_slot limit idle ≡ true
+unfolding lawful_slot
 idle-lawful limit = refl
 
 -- a lawful idle slot is not open
-idle-shut : (s : Slot) → idleLaw s ≡ true → opens s ≡ false
+idle-shut : (s : Slot) → idle_law s ≡ true → opens s ≡ false
 idle-shut s e =
     let zero : s.opened ≡ 0 = eqb-true s.opened 0 (and_left (eqb s.opened 0) _ e) in
     ne_eqb s.opened 1 (λ one. omega arith)
 
-pub idle-says : (limit : ℕ) (s : Slot) → idleLaw s ≡ true → lawfulSlot limit s ≡ true
-unfolding lawfulSlot
+pub idle-says : (limit : ℕ) (s : Slot) → idle_law s ≡ true → lawful_slot limit s ≡ true
+unfolding lawful_slot
 idle-says limit s e = rw (idle-shut s e) e
 
 -- a slot that is not idle and lawful is lawful where it is open so
-pub open-says : (limit : ℕ) (s : Slot) (b : Bool) → opens s ≡ b → idleLaw s ≡ false → lawfulSlot limit s ≡ (opens s && openLaw limit s)
-unfolding lawfulSlot
+pub open-says : (limit : ℕ) (s : Slot) (b : Bool) → opens s ≡ b → idle_law s ≡ false → lawful_slot limit s ≡ (opens s && open_law limit s)
+unfolding lawful_slot
 open-says limit s true o e = rw o
 open-says limit s false o e = rw o e
 
 -- slots that are idle and lawful
-abbrev pub eachIdle : List Slot → Bool
-eachIdle [] = true
-eachIdle (s ∷ ss) = idleLaw s && eachIdle ss
+abbrev pub each_idle : List Slot → Bool
+each_idle [] = true
+each_idle (s ∷ ss) = idle_law s && each_idle ss
 
-pub idle-lane : (limit : ℕ) (l : List Slot) → eachIdle l ≡ true → laneLaw limit l ≡ true
+pub idle-lane : (limit : ℕ) (l : List Slot) → each_idle l ≡ true → lane_law limit l ≡ true
 idle-lane limit [] e = refl
 idle-lane limit (s ∷ l) e =
-    rw (idle-says limit s (and_left (idleLaw s) _ e), idle-shut s (and_left (idleLaw s) _ e)) (idle-lane limit l (and_right (idleLaw s) _ e))
+    rw (idle-says limit s (and_left (idle_law s) _ e), idle-shut s (and_left (idle_law s) _ e)) (idle-lane limit l (and_right (idle_law s) _ e))
 
 -- ---- all slots
 
-pub all-at : (limit : ℕ) (l : List Slot) (k : ℕ) → allLawful limit l ≡ true → lawfulSlot limit (get_or l k idle) ≡ true
+pub all-at : (limit : ℕ) (l : List Slot) (k : ℕ) → all_lawful limit l ≡ true → lawful_slot limit (get_or l k idle) ≡ true
 all-at limit [] k e = idle-lawful limit
-all-at limit (s ∷ l) zero e = and_left (lawfulSlot limit s) _ e
-all-at limit (s ∷ l) (suc k) e = all-at limit l k (and_right (lawfulSlot limit s) _ e)
+all-at limit (s ∷ l) zero e = and_left (lawful_slot limit s) _ e
+all-at limit (s ∷ l) (suc k) e = all-at limit l k (and_right (lawful_slot limit s) _ e)
 
-pub all_set : (limit : ℕ) (l : List Slot) (k : ℕ) (s : Slot) → allLawful limit l ≡ true → lawfulSlot limit s ≡ true → allLawful limit (set l k s) ≡ true
+pub all_set : (limit : ℕ) (l : List Slot) (k : ℕ) (s : Slot) → all_lawful limit l ≡ true → lawful_slot limit s ≡ true → all_lawful limit (set l k s) ≡ true
 all_set limit [] k s e h = refl
-all_set limit (x ∷ l) zero s e h = rw h (and_right (lawfulSlot limit x) _ e)
+all_set limit (x ∷ l) zero s e h = rw h (and_right (lawful_slot limit x) _ e)
 all_set limit (x ∷ l) (suc k) s e h =
-    rw (and_left (lawfulSlot limit x) _ e) (all_set limit l k s (and_right (lawfulSlot limit x) _ e) h)
+    rw (and_left (lawful_slot limit x) _ e) (all_set limit l k s (and_right (lawful_slot limit x) _ e) h)
 
-all_take : (limit n : ℕ) (l : List Slot) → allLawful limit l ≡ true → allLawful limit (take n l) ≡ true
+all_take : (limit n : ℕ) (l : List Slot) → all_lawful limit l ≡ true → all_lawful limit (take n l) ≡ true
 all_take limit zero l e = refl
 all_take limit (suc n) [] e = refl
 all_take limit (suc n) (s ∷ l) e =
-    rw (and_left (lawfulSlot limit s) _ e) (all_take limit n l (and_right (lawfulSlot limit s) _ e))
+    rw (and_left (lawful_slot limit s) _ e) (all_take limit n l (and_right (lawful_slot limit s) _ e))
 
-all_drop : (limit n : ℕ) (l : List Slot) → allLawful limit l ≡ true → allLawful limit (drop n l) ≡ true
+all_drop : (limit n : ℕ) (l : List Slot) → all_lawful limit l ≡ true → all_lawful limit (drop n l) ≡ true
 all_drop limit zero l e = e
 all_drop limit (suc n) [] e = refl
-all_drop limit (suc n) (s ∷ l) e = all_drop limit n l (and_right (lawfulSlot limit s) _ e)
+all_drop limit (suc n) (s ∷ l) e = all_drop limit n l (and_right (lawful_slot limit s) _ e)
 
 -- ---- ids that are open
 
-open_self : (s : Slot) → opens s ≡ true → isOpen s.id s ≡ true
+open_self : (s : Slot) → opens s ≡ true → is_open s.id s ≡ true
 open_self s o = rw (o, eq-eqb s.id s.id refl)
 
 -- an id that is open at one index is open
-pub any_at : (id : ℕ) (l : List Slot) (i : ℕ) → isOpen id (get_or l i idle) ≡ true → anyOpen id l ≡ true
+pub any_at : (id : ℕ) (l : List Slot) (i : ℕ) → is_open id (get_or l i idle) ≡ true → any_open id l ≡ true
 any_at id [] i o = absurd (false≢true o)
 any_at id (x ∷ l) zero o = rw o
-any_at id (x ∷ l) (suc i) o = or-true (isOpen id x) _ (any_at id l i o)
+any_at id (x ∷ l) (suc i) o = or-true (is_open id x) _ (any_at id l i o)
 
 -- an id that is open nowhere is open nowhere after a store of a slot that has another
-pub any-set : (id : ℕ) (l : List Slot) (i : ℕ) (s : Slot) → anyOpen id l ≡ false → isOpen id s ≡ false → anyOpen id (set l i s) ≡ false
+pub any-set : (id : ℕ) (l : List Slot) (i : ℕ) (s : Slot) → any_open id l ≡ false → is_open id s ≡ false → any_open id (set l i s) ≡ false
 any-set id [] i s e h = refl
-any-set id (x ∷ l) zero s e h = rw h (or-false (isOpen id x) _ e).1
-any-set id (x ∷ l) (suc i) s e h = let n = or-false (isOpen id x) _ e in rw n.0 (any-set id l i s n.1 h)
+any-set id (x ∷ l) zero s e h = rw h (or-false (is_open id x) _ e).1
+any-set id (x ∷ l) (suc i) s e h = let n = or-false (is_open id x) _ e in rw n.0 (any-set id l i s n.1 h)
 
 -- no slot of l is open with the id of x, where that is open
 abbrev pub unlike : Slot → List Slot → Bool
-unlike x l = not (opens x && anyOpen x.id l)
+unlike x l = not (opens x && any_open x.id l)
 
-apart-says : (x : Slot) (l : List Slot) → opens x ≡ true → unlike x l ≡ true → anyOpen x.id l ≡ false
-apart-says x l o n = not-true (anyOpen x.id l) (rw o at n)
+apart-says : (x : Slot) (l : List Slot) → opens x ≡ true → unlike x l ≡ true → any_open x.id l ≡ false
+apart-says x l o n = not-true (any_open x.id l) (rw o at n)
 
 -- the head is not open with an id that is open behind it
-pub head-other : (id : ℕ) (x : Slot) (l : List Slot) (b : Bool) → isOpen id x ≡ b → unlike x l ≡ true → anyOpen id l ≡ true → isOpen id x ≡ false
+pub head-other : (id : ℕ) (x : Slot) (l : List Slot) (b : Bool) → is_open id x ≡ b → unlike x l ≡ true → any_open id l ≡ true → is_open id x ≡ false
 head-other id x l false e n o = e
 head-other id x l true e n o =
     let same : x.id ≡ id = eqb-true x.id id (and_right (opens x) _ e) in
-    let none : anyOpen id l ≡ false = rw same at (apart-says x l (and_left (opens x) _ e) n) in
+    let none : any_open id l ≡ false = rw same at (apart-says x l (and_left (opens x) _ e) n) in
     absurd (false≢true (sym none ∙ o))
 
 -- a slot that is open with an id is the only one
-pub alone_at : (id : ℕ) (l : List Slot) (i : ℕ) → distinct l ≡ true → isOpen id (get_or l i idle) ≡ true → anyOpen id (set l i idle) ≡ false
+pub alone_at : (id : ℕ) (l : List Slot) (i : ℕ) → distinct l ≡ true → is_open id (get_or l i idle) ≡ true → any_open id (set l i idle) ≡ false
 alone_at id [] i e o = refl
 alone_at id (x ∷ l) zero e o =
     let same : x.id ≡ id = eqb-true x.id id (and_right (opens x) _ o) in
     rw same at (apart-says x l (and_left (opens x) _ o) (and_left (unlike x l) _ e))
 alone_at id (x ∷ l) (suc i) e o =
-    rw (head-other id x l (isOpen id x) refl (and_left (unlike x l) _ e) (any_at id l i o)) (alone_at id l i (and_right (unlike x l) _ e) o)
+    rw (head-other id x l (is_open id x) refl (and_left (unlike x l) _ e) (any_at id l i o)) (alone_at id l i (and_right (unlike x l) _ e) o)
 
 -- a slot whose id no other has
 abbrev Alone : List Slot → ℕ → Slot → Type 0
-Alone l i s = (id : ℕ) → isOpen id s ≡ true → anyOpen id (set l i idle) ≡ false
+Alone l i s = (id : ℕ) → is_open id s ≡ true → any_open id (set l i idle) ≡ false
 
-head_apart : (x : Slot) (l : List Slot) (i : ℕ) (s : Slot) (a b : Bool) → opens x ≡ a → isOpen x.id s ≡ b
-    → (isOpen x.id s ≡ true → anyOpen x.id (x ∷ set l i idle) ≡ false) → unlike x l ≡ true → unlike x (set l i s) ≡ true
+head_apart : (x : Slot) (l : List Slot) (i : ℕ) (s : Slot) (a b : Bool) → opens x ≡ a → is_open x.id s ≡ b
+    → (is_open x.id s ≡ true → any_open x.id (x ∷ set l i idle) ≡ false) → unlike x l ≡ true → unlike x (set l i s) ≡ true
 head_apart x l i s false b ea eb h e = rw ea
-head_apart x l i s true true ea eb h e = absurd (false≢true (sym (or-false (isOpen x.id x) _ (h eb)).0 ∙ open_self x ea))
+head_apart x l i s true true ea eb h e = absurd (false≢true (sym (or-false (is_open x.id x) _ (h eb)).0 ∙ open_self x ea))
 head_apart x l i s true false ea eb h e = rw (ea, any-set x.id l i s (apart-says x l ea e) eb)
 
-first-apart : (s : Slot) (l : List Slot) (a : Bool) → opens s ≡ a → (isOpen s.id s ≡ true → anyOpen s.id l ≡ false) → unlike s l ≡ true
+first-apart : (s : Slot) (l : List Slot) (a : Bool) → opens s ≡ a → (is_open s.id s ≡ true → any_open s.id l ≡ false) → unlike s l ≡ true
 first-apart s l false e h = rw e
 first-apart s l true e h = rw (e, h (open_self s e))
 
@@ -269,15 +269,15 @@ pub distinct-set : (l : List Slot) (i : ℕ) (s : Slot) → distinct l ≡ true 
 distinct-set [] i s e h = refl
 distinct-set (x ∷ l) zero s e h = rw (first-apart s l (opens s) refl (λ o. h s.id o)) (and_right (unlike x l) _ e)
 distinct-set (x ∷ l) (suc i) s e h =
-    rw (head_apart x l i s (opens x) (isOpen x.id s) refl refl (λ o. h x.id o) (and_left (unlike x l) _ e))
-    (distinct-set l i s (and_right (unlike x l) _ e) (λ id o. (or-false (isOpen id x) _ (h id o)).1))
+    rw (head_apart x l i s (opens x) (is_open x.id s) refl refl (λ o. h x.id o) (and_left (unlike x l) _ e))
+    (distinct-set l i s (and_right (unlike x l) _ e) (λ id o. (or-false (is_open id x) _ (h id o)).1))
 
 -- ---- a lawful row
 
 pub record LawfulRow (limit : ℕ) (slots : List Slot) : Type 0 where
-  pub count : length slots ≡ slotCount
-  pub each : allLawful limit slots ≡ true
-  pub apart : (t : Stream) → distinct (laneOf t slots) ≡ true
+  pub count : length slots ≡ slot_count
+  pub each : all_lawful limit slots ≡ true
+  pub apart : (t : Stream) → distinct (lane_of t slots) ≡ true
 
 by-stream : (P : Stream → Type 0) → P Control → P Ota → P Alexa → (t : Stream) → P t
 by-stream P a b c Control = a
@@ -288,22 +288,22 @@ by-stream P a b c Alexa = c
 pub lawful-says : (limit : ℕ) (slots : List Slot) → lawful limit slots ≡ true → LawfulRow limit slots
 unfolding lawful
 lawful-says limit slots e =
-    let e1 = and_right (eqb (length slots) slotCount) _ e in
-    let e2 = and_right (allLawful limit slots) _ e1 in
-    let e3 = and_right (distinct (laneOf Control slots)) _ e2 in
+    let e1 = and_right (eqb (length slots) slot_count) _ e in
+    let e2 = and_right (all_lawful limit slots) _ e1 in
+    let e3 = and_right (distinct (lane_of Control slots)) _ e2 in
     record {
-      count = eqb-true (length slots) slotCount (and_left (eqb (length slots) slotCount) _ e);
-      each = and_left (allLawful limit slots) _ e1;
+      count = eqb-true (length slots) slot_count (and_left (eqb (length slots) slot_count) _ e);
+      each = and_left (all_lawful limit slots) _ e1;
       apart =
-          by-stream (λ (t : Stream). distinct (laneOf t slots) ≡ true) (and_left (distinct (laneOf Control slots)) _ e2)
-          (and_left (distinct (laneOf Ota slots)) _ e3) (and_right (distinct (laneOf Ota slots)) _ e3);
+          by-stream (λ (t : Stream). distinct (lane_of t slots) ≡ true) (and_left (distinct (lane_of Control slots)) _ e2)
+          (and_left (distinct (lane_of Ota slots)) _ e3) (and_right (distinct (lane_of Ota slots)) _ e3);
     }
 
 pub lawful-holds : (limit : ℕ) (slots : List Slot) → LawfulRow limit slots → lawful limit slots ≡ true
 unfolding lawful
 lawful-holds limit slots r =
-    rw (eq-eqb (length slots) slotCount r.count, r.each, r.apart Control, r.apart Ota) (r.apart Alexa)
+    rw (eq-eqb (length slots) slot_count r.count, r.each, r.apart Control, r.apart Ota) (r.apart Alexa)
 
 -- each slot of a stream is lawful
-pub lawful-lane : (limit : ℕ) (l : List Slot) (t : Stream) → LawfulRow limit l → allLawful limit (laneOf t l) ≡ true
-lawful-lane limit l t e = all_take limit slotsEach (drop (laneStart t) l) (all_drop limit (laneStart t) l e.each)
+pub lawful-lane : (limit : ℕ) (l : List Slot) (t : Stream) → LawfulRow limit l → all_lawful limit (lane_of t l) ≡ true
+lawful-lane limit l t e = all_take limit slots_each (drop (lane_start t) l) (all_drop limit (lane_start t) l e.each)

@@ -3,7 +3,7 @@ pub mod answer;
 
 ghost use Rattle.std.specs.Prelude.{◌≡◌, not, ◌&&◌, [], ◌∷◌, ◌+◌, ◌*◌, ◌<◌};
 ghost use Rattle.wire.specs.declared.stream.Stream.TheVariants.{Control, Ota, Alexa};
-ghost use Rattle.ble_slot.specs.Slot.{opens, wants, idle, openLaw, idleLaw, isOpen, isIdle, lawfulSlot, anyOpen, laneLaw, laneOf, lawful};
+ghost use Rattle.ble_slot.specs.Slot.{opens, wants, idle, open_law, idle_law, is_open, is_idle, lawful_slot, any_open, lane_law, lane_of, lawful};
 
 use ble_packet::header;
 use wire::bytes;
@@ -92,7 +92,7 @@ impl Slot {
 
     // Whether it is open and lawful: flag, id, sequence and wish by one comparison in place of four.
     fn open_law(self, limit: usize) -> bool
-        ensures { result ≡ (opens self && openLaw limit self) }
+        ensures { result ≡ (opens self && open_law limit self) }
     {
         let total = wide(self.total);
         let held = wide(self.held);
@@ -103,7 +103,7 @@ impl Slot {
 
     // Its six numbers are 0 where the one number that they make is: one comparison in place of six.
     fn idle_law(self) -> bool
-        ensures { result ≡ idleLaw self }
+        ensures { result ≡ idle_law self }
     {
         let six = self.head() + wide(self.total) * FIFTH;
         six + wide(self.held) * SEVENTH == 0
@@ -111,19 +111,19 @@ impl Slot {
 
     // Whether a transaction of that id is open.
     pub fn is_open(self, id: u8) -> bool
-        ensures { result ≡ isOpen id self }
+        ensures { result ≡ is_open id self }
     {
         pair(self.id, self.opened) == pair(id, SET)
     }
 
     pub fn is_idle(self) -> bool
-        ensures { result ≡ isIdle self }
+        ensures { result ≡ is_idle self }
     {
         !self.opens()
     }
 
     pub fn is_lawful(self, limit: usize) -> bool
-        ensures { result ≡ lawfulSlot limit self }
+        ensures { result ≡ lawful_slot limit self }
     {
         if self.idle_law() {
             return true;
@@ -133,7 +133,7 @@ impl Slot {
 
     // Whether none of three slots is open with the id of one that is.
     fn stands_alone(self, a: Slot, b: Slot, c: Slot) -> bool
-        ensures { result ≡ not (opens self && anyOpen self.id (a ∷ b ∷ c ∷ [])) }
+        ensures { result ≡ not (opens self && any_open self.id (a ∷ b ∷ c ∷ [])) }
     {
         if self.opens() {
             let later = either(b.is_open(self.id), c.is_open(self.id));
@@ -147,7 +147,7 @@ impl Slot {
 // Whether the slots of a stream are lawful, each by itself.
 fn each_lawful(limit: usize, a: Slot, b: Slot, c: Slot, d: Slot) -> bool
     ensures { result
-        ≡ (lawfulSlot limit a && (lawfulSlot limit b && (lawfulSlot limit c && lawfulSlot limit d))) }
+        ≡ (lawful_slot limit a && (lawful_slot limit b && (lawful_slot limit c && lawful_slot limit d))) }
 {
     if !a.is_lawful(limit) {
         return false;
@@ -164,8 +164,8 @@ fn each_lawful(limit: usize, a: Slot, b: Slot, c: Slot, d: Slot) -> bool
 // Whether no two open slots of a stream have one id.
 fn are_distinct(a: Slot, b: Slot, c: Slot, d: Slot) -> bool
     ensures { result
-        ≡ (not (opens a && anyOpen a.id (b ∷ c ∷ d ∷ []))
-        && (not (opens b && anyOpen b.id (c ∷ d ∷ idle ∷ [])) && not (opens c && anyOpen c.id (d ∷ idle ∷ idle ∷ [])))) }
+        ≡ (not (opens a && any_open a.id (b ∷ c ∷ d ∷ []))
+        && (not (opens b && any_open b.id (c ∷ d ∷ idle ∷ [])) && not (opens c && any_open c.id (d ∷ idle ∷ idle ∷ [])))) }
 {
     let none = Slot::idle();
     let first = a.stands_alone(b, c, d);
@@ -176,7 +176,7 @@ fn are_distinct(a: Slot, b: Slot, c: Slot, d: Slot) -> bool
 
 // Whether the slots of a stream are idle and lawful.
 fn are_idle(a: Slot, b: Slot, c: Slot, d: Slot) -> bool
-    ensures { result ≡ (idleLaw a && (idleLaw b && (idleLaw c && idleLaw d))) }
+    ensures { result ≡ (idle_law a && (idle_law b && (idle_law c && idle_law d))) }
 {
     let last = both(c.idle_law(), d.idle_law());
     both(a.idle_law(), both(b.idle_law(), last))
@@ -184,7 +184,7 @@ fn are_idle(a: Slot, b: Slot, c: Slot, d: Slot) -> bool
 
 // Whether the slots of a stream are lawful.
 fn lane_lawful(limit: usize, lane: [Slot; 4]) -> bool
-    ensures { result ≡ laneLaw limit lane }
+    ensures { result ≡ lane_law limit lane }
 {
     let a = lane[0];
     let b = lane[1];
@@ -198,7 +198,7 @@ fn lane_lawful(limit: usize, lane: [Slot; 4]) -> bool
 
 // The slots of a stream in a row of twelve.
 pub fn lane_of(slots: [Slot; 12], stream: Stream) -> [Slot; 4]
-    ensures { result ≡ laneOf stream slots }
+    ensures { result ≡ lane_of stream slots }
 {
     match stream {
         Stream::Control => [slots[0], slots[1], slots[2], slots[3]],
@@ -209,7 +209,7 @@ pub fn lane_of(slots: [Slot; 12], stream: Stream) -> [Slot; 4]
 
 // Whether the slots of the control stream are lawful. Four idle ones are, at one look.
 fn control_lawful(limit: usize, slots: [Slot; 12]) -> bool
-    ensures { result ≡ laneLaw limit (laneOf Control slots) }
+    ensures { result ≡ lane_law limit (lane_of Control slots) }
 {
     if are_idle(slots[0], slots[1], slots[2], slots[3]) {
         return true;
@@ -219,7 +219,7 @@ fn control_lawful(limit: usize, slots: [Slot; 12]) -> bool
 
 // Whether those of OTA are.
 fn ota_lawful(limit: usize, slots: [Slot; 12]) -> bool
-    ensures { result ≡ laneLaw limit (laneOf Ota slots) }
+    ensures { result ≡ lane_law limit (lane_of Ota slots) }
 {
     if are_idle(slots[4], slots[5], slots[6], slots[7]) {
         return true;
@@ -229,7 +229,7 @@ fn ota_lawful(limit: usize, slots: [Slot; 12]) -> bool
 
 // Whether those of Alexa are.
 fn alexa_lawful(limit: usize, slots: [Slot; 12]) -> bool
-    ensures { result ≡ laneLaw limit (laneOf Alexa slots) }
+    ensures { result ≡ lane_law limit (lane_of Alexa slots) }
 {
     if are_idle(slots[8], slots[9], slots[10], slots[11]) {
         return true;

@@ -4,7 +4,7 @@ pub mod spot;
 ghost use Rattle.std.specs.Prelude.{◌≡◌, ◌+◌, ◌^◌, ◌≤◌, ◌<◌};
 ghost use Rattle.ble_packet.specs.declared.reader.Packet.TheVariants.{First, Next};
 ghost use Rattle.ble_slot.specs.Answer.{number_of, told};
-ghost use Rattle.ble_slot_steps.specs.Step.{step_of, stepAt, actAt, still, nothing, finish, hold, dropBy, firstStep, offTotal, nextStep, actOf};
+ghost use Rattle.ble_slot_steps.specs.Step.{step_of, step_at, act_at, still, nothing, finish, hold, drop_by, first_step, off_total, next_step, act_of};
 ghost use Rattle.ble_slot_steps.specs.Fit.{Small};
 
 use crate::spot::Spot;
@@ -41,7 +41,7 @@ fn finish(
     replaced: bool,
     payload: PayloadPlace,
 ) -> Step
-    ensures { step_of result ≡ stepAt index (finish index head wanted total replaced payload) }
+    ensures { step_of result ≡ step_at index (finish index head wanted total replaced payload) }
 {
     let stream = head.stream;
     let slot = Slot::idle();
@@ -70,7 +70,7 @@ fn hold(
     payload: PayloadPlace,
 ) -> Step
     requires { (payload.at + payload.len < 65536) × (total < 65536) }
-    ensures { step_of result ≡ stepAt index (hold index head wanted total replaced payload) }
+    ensures { step_of result ≡ step_at index (hold index head wanted total replaced payload) }
 {
     let stream = head.stream;
     let flag = bit(wanted);
@@ -98,7 +98,7 @@ fn hold(
 
 // Nothing is written: a transaction is dropped, or a slot is stored as it was.
 fn put_slot(index: usize, slot: Slot, answer: Answer) -> Step
-    ensures { step_of result ≡ stepAt index (record { told = told answer; slot = slot; payload = nothing }) }
+    ensures { step_of result ≡ step_at index (record { told = told answer; slot = slot; payload = nothing }) }
 {
     Step {
         answer,
@@ -114,14 +114,14 @@ fn put_slot(index: usize, slot: Slot, answer: Answer) -> Step
 
 // The transaction is dropped: its slot is idle.
 fn drop_by(index: usize, why: Refusal) -> Step
-    ensures { step_of result ≡ stepAt index (dropBy (number_of why)) }
+    ensures { step_of result ≡ step_at index (drop_by (number_of why)) }
 {
     put_slot(index, Slot::idle(), Answer::Refused(why))
 }
 
 // What leaves all: the first of the stream's slots is stored as it was.
 fn stay(first: usize, lane: [Slot; 4], answer: Answer) -> Step
-    ensures { step_of result ≡ actAt first lane (still (told answer)) }
+    ensures { step_of result ≡ act_at first lane (still (told answer)) }
 {
     put_slot(first, lane[0], answer)
 }
@@ -137,7 +137,7 @@ fn on_first(
     len: usize,
 ) -> Step
     requires { (len ≤ total) × (total < 65536) }
-    ensures { step_of result ≡ stepAt index (firstStep index slot head ack total start len) }
+    ensures { step_of result ≡ step_at index (first_step index slot head ack total start len) }
 {
     let replaced = slot.opens();
     let payload = PayloadPlace { at: 0, start, len };
@@ -149,7 +149,7 @@ fn on_first(
 
 // Whether type 1 reaches or passes the total, or type 2 misses it.
 fn off_total(last: bool, held: usize, total: usize) -> bool
-    ensures { result ≡ offTotal last held total }
+    ensures { result ≡ off_total last held total }
 {
     if last { held != total } else { total <= held }
 }
@@ -165,7 +165,7 @@ fn on_next(
     len: usize,
 ) -> Step
     requires { len < 2 ^ 63 }
-    ensures { step_of result ≡ stepAt index (nextStep index slot head ack last start len) }
+    ensures { step_of result ≡ step_at index (next_step index slot head ack last start len) }
 {
     let awaited = header::sequence_after(slot.sequence, 1);
     if head.sequence != awaited {
@@ -195,7 +195,7 @@ fn begin(
     len: usize,
 ) -> Step
     requires { (first ≤ 8) × (len ≤ total) × (total < 65536) }
-    ensures { step_of result ≡ actAt first lane (actOf first lane (First head ack total start len)) }
+    ensures { step_of result ≡ act_at first lane (act_of first lane (First head ack total start len)) }
 {
     let found = spot::find_first(lane, head.id);
     match found {
@@ -218,7 +218,7 @@ fn follow(
     len: usize,
 ) -> Step
     requires { (first ≤ 8) × (len < 2 ^ 63) }
-    ensures { step_of result ≡ actAt first lane (actOf first lane (Next head ack last start len)) }
+    ensures { step_of result ≡ act_at first lane (act_of first lane (Next head ack last start len)) }
 {
     let found = spot::find_open(lane, head.id);
     match found {
@@ -233,7 +233,7 @@ fn follow(
 // What a packet does to its stream's slots, the first of which has an index in the row.
 pub fn act_on(first: usize, lane: [Slot; 4], packet: Packet) -> Step
     requires { (first ≤ 8) × Small packet }
-    ensures { step_of result ≡ actAt first lane (actOf first lane packet) }
+    ensures { step_of result ≡ act_at first lane (act_of first lane packet) }
 {
     match packet {
         Packet::First {

@@ -1,8 +1,8 @@
 // The slot of a packet among its stream's.
 ghost use Rattle.std.specs.Prelude.{◌≡◌, cond};
 ghost use Rattle.std.proofs.Math.Option.{none, some};
-ghost use Rattle.ble_slot.specs.Slot.{isIdle};
-ghost use Rattle.ble_slot_steps.specs.Step.{spotWhere, openSpot, firstSpot, spot_of};
+ghost use Rattle.ble_slot.specs.Slot.{is_idle};
+ghost use Rattle.ble_slot_steps.specs.Step.{spot_where, open_spot, first_spot, spot_of};
 
 use ble_slot::Slot;
 
@@ -33,7 +33,7 @@ fn first_of(a: bool, b: bool, c: bool, d: bool) -> Spot
 
 // Where an id is open.
 pub fn find_open(lane: [Slot; 4], id: u8) -> Spot
-    ensures { spot_of result ≡ openSpot lane id }
+    ensures { spot_of result ≡ open_spot lane id }
 {
     if lane[0].is_open(id) {
         return Spot::At(0);
@@ -52,7 +52,7 @@ pub fn find_open(lane: [Slot; 4], id: u8) -> Spot
 
 // The lowest idle slot.
 fn find_idle(lane: [Slot; 4]) -> Spot
-    ensures { spot_of result ≡ spotWhere isIdle lane }
+    ensures { spot_of result ≡ spot_where is_idle lane }
 {
     let a = lane[0].is_idle();
     let b = lane[1].is_idle();
@@ -63,7 +63,7 @@ fn find_idle(lane: [Slot; 4]) -> Spot
 
 // Where an id is open, or else the lowest idle slot.
 pub fn find_first(lane: [Slot; 4], id: u8) -> Spot
-    ensures { spot_of result ≡ firstSpot lane id }
+    ensures { spot_of result ≡ first_spot lane id }
 {
     let open = find_open(lane, id);
     match open {

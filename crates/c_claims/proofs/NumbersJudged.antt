@@ -1,18 +1,18 @@
 -- A number above a byte is judged and not cut.
 use native.Mathlib.Omega.{arith}
 use borrow.Author.Tests.{le-ltb, ne_eqb}
-use Rattle.c_rows.specs.Row.{byteOr}
-use Rattle.c_classic.specs.Calls.{frameWriteOf}
-use Rattle.c_classic_parts.specs.Calls.{frameBeginOf}
-use Rattle.c_sending.specs.Convert.{streamWith, sendingOf}
-use Rattle.c_sending.specs.Calls.{ackWriteOf}
-use Rattle.c_receiving.specs.Calls.{receiverAcceptOf}
+use Rattle.c_rows.specs.Row.{byte_or}
+use Rattle.c_classic.specs.Calls.{frame_write_of}
+use Rattle.c_classic_parts.specs.Calls.{frame_begin_of}
+use Rattle.c_sending.specs.Convert.{stream_with, sending_of}
+use Rattle.c_sending.specs.Calls.{ack_write_of}
+use Rattle.c_receiving.specs.Calls.{receiver_accept_of}
 use Rattle.c_reply.specs.Convert.{link_of}
-use Rattle.c_outbox.specs.Calls.{outboxAppendOf}
+use Rattle.c_outbox.specs.Calls.{outbox_append_of}
 use Rattle.c_claims.specs.NumbersJudged.{NumbersJudged}
 
 pub numbers-judged : NumbersJudged
-unfolding frameWriteOf frameBeginOf streamWith sendingOf ackWriteOf receiverAcceptOf link_of outboxAppendOf byteOr
+unfolding frame_write_of frame_begin_of stream_with sending_of ack_write_of receiver_accept_of link_of outbox_append_of byte_or
 numbers-judged = record {
   frame-write = λ limit sequence payload out answer h. rw (le-ltb sequence 256 h);
   frame-begin = λ limit sequence total state h. rw (le-ltb sequence 256 h);

@@ -8,14 +8,14 @@ use lib.ListN.{length}
 use lib.Dec.{eqb}
 use Rattle.wire.specs.Told.{given, refused, Line, Written, WrittenOf, writes, written}
 use Rattle.wire.proofs.Tables.{by-table}
-use Rattle.c_rows.specs.Row.{afterwards, numberTold, sizeTold}
-use Rattle.c_rows.specs.Called.{Called, called, ifFit, answers, writerCall}
-use Rattle.proto_reader.specs.Refusal.{numberMore}
-use Rattle.c_message_rows.specs.Convert.{wroteRow, textCall}
+use Rattle.c_rows.specs.Row.{afterwards, number_told, size_told}
+use Rattle.c_rows.specs.Called.{Called, called, if_fit, answers, writer_call}
+use Rattle.proto_reader.specs.Refusal.{number_more}
+use Rattle.c_message_rows.specs.Convert.{wrote_row, text_call}
 use Rattle.c_claims.specs.OneLeavesAll.{Keeps}
 
 -- a call that is refused by its rows, or keeps all if it is not
-pub keeps-if : (fit : Bool) (state lent answer : List ℕ) (done : Called) → Keeps state lent answer done → Keeps state lent answer (ifFit fit state lent answer done)
+pub keeps-if : (fit : Bool) (state lent answer : List ℕ) (done : Called) → Keeps state lent answer done → Keeps state lent answer (if_fit fit state lent answer done)
 keeps-if true state lent answer done k = k
 keeps-if false state lent answer done k = λ e. refl
 
@@ -31,13 +31,13 @@ never e = absurd (omega arith)
 
 -- a writer's refusal leaves the output
 pub writes-keeps : {A : Type 0} (lines : List Line) (a : A) (before after : List ℕ)
-    → numberTold (writes lines a before after).told ≡ 1 → (writes lines a before after).out ≡ before
+    → number_told (writes lines a before after).told ≡ 1 → (writes lines a before after).out ≡ before
 writes-keeps lines a before after =
-    by-table (λ w. numberTold w.told ≡ 1 → w.out ≡ before) lines (λ n. written (refused n) before) (written (given a) after)
+    by-table (λ w. number_told w.told ≡ 1 → w.out ≡ before) lines (λ n. written (refused n) before) (written (given a) after)
     (λ n e. refl) (λ h e. never e)
 
-pub keeps-writer : (out answer : List ℕ) (w : Written ℕ) → (numberTold w.told ≡ 1 → w.out ≡ out) → Keeps [] out answer (writerCall out answer w)
-keeps-writer out answer w k = keeps-answers 1 (numberTold w.told) out answer w.out (sizeTold w.told ∷ []) k
+pub keeps-writer : (out answer : List ℕ) (w : Written ℕ) → (number_told w.told ≡ 1 → w.out ≡ out) → Keeps [] out answer (writer_call out answer w)
+keeps-writer out answer w k = keeps-answers 1 (number_told w.told) out answer w.out (size_told w.told ∷ []) k
 
-pub keeps-text : (out answer : List ℕ) (w : WrittenOf (ℕ × List ℕ) ℕ) → (numberMore w.told ≡ 1 → w.out ≡ out) → Keeps [] out answer (textCall out answer w)
-keeps-text out answer w k = keeps-answers 3 (numberMore w.told) out answer w.out (wroteRow w.told) k
+pub keeps-text : (out answer : List ℕ) (w : WrittenOf (ℕ × List ℕ) ℕ) → (number_more w.told ≡ 1 → w.out ≡ out) → Keeps [] out answer (text_call out answer w)
+keeps-text out answer w k = keeps-answers 3 (number_more w.told) out answer w.out (wrote_row w.told) k

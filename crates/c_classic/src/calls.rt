@@ -1,10 +1,10 @@
 // Classic for C: the extractor and the frame writer.
 ghost use Rattle.std.specs.Prelude.{◌≡◌, true, [], length};
-ghost use Rattle.classic_extractor.specs.Step.{byteStepOf};
-ghost use Rattle.classic_feed.specs.Feed.{feedOf};
+ghost use Rattle.classic_extractor.specs.Step.{byte_step_of};
+ghost use Rattle.classic_feed.specs.Feed.{feed_of};
 ghost use Rattle.c_rows.specs.Called.{called};
-ghost use Rattle.c_classic.specs.Convert.{isExtractor, extractorOf};
-ghost use Rattle.c_classic.specs.Calls.{extractorOpenOf, stepped, extractorStepOf, fedCall, noneUsed, extractorFeedOf, frameWriteOf, nextSequenceOf};
+ghost use Rattle.c_classic.specs.Convert.{is_extractor, extractor_of};
+ghost use Rattle.c_classic.specs.Calls.{extractor_open_of, stepped, extractor_step_of, fed_call, none_used, extractor_feed_of, frame_write_of, next_sequence_of};
 
 use crate::convert::{
     ALL_USED, BAD_LIMIT, FEED_ANSWER, FRAME, NOTHING, STATE, STEP_ANSWER, extractor_of,
@@ -21,7 +21,7 @@ use wire::bytes::wide64;
 // Opens an extractor for a link with a limit: its empty state.
 #[unsafe(no_mangle)]
 pub extern "C" fn pito_extractor_open(limit: u64, state: &mut [u64]) -> u64
-    ensures { called result state.new [] [] ≡ extractorOpenOf limit state.old }
+    ensures { called result state.new [] [] ≡ extractor_open_of limit state.old }
 {
     if state.len() != STATE {
         return UNFIT;
@@ -45,7 +45,7 @@ pub extern "C" fn pito_extractor_step(
     answer: &mut [u64],
 ) -> u64
     ensures { called result state.new buffer.new answer.new
-        ≡ extractorStepOf state.old buffer.old byte answer.old }
+        ≡ extractor_step_of state.old buffer.old byte answer.old }
 {
     if answer.len() != STEP_ANSWER {
         return UNFIT;
@@ -58,11 +58,11 @@ pub extern "C" fn pito_extractor_step(
 
 // The same with rows that fit.
 fn step_fitting(state: &mut [u64], buffer: &mut [u8], byte: u8, answer: &mut [u64]) -> u64
-    requires { (isExtractor state.old ≡ true) × (length answer.old ≡ 3) }
+    requires { (is_extractor state.old ≡ true) × (length answer.old ≡ 3) }
     ensures { called result state.new buffer.new answer.new
-        ≡ (let x = extractorOf state.old in
+        ≡ (let x = extractor_of state.old in
         stepped state.old answer.old x.limit
-        (byteStepOf x.limit x.progress buffer.old byte)) }
+        (byte_step_of x.limit x.progress buffer.old byte)) }
 {
     let done = extractor_of(state).step(buffer, byte);
     let outcome = done.outcome;
@@ -79,7 +79,7 @@ fn step_fitting(state: &mut [u64], buffer: &mut [u8], byte: u8, answer: &mut [u6
 // What a feed answers that is refused by 1, over an answer row of its length.
 fn unfit_feed(answer: &mut [u64]) -> u64
     requires { length answer.old ≡ 4 }
-    ensures { (result ≡ 1) × (answer.new ≡ noneUsed answer.old) }
+    ensures { (result ≡ 1) × (answer.new ≡ none_used answer.old) }
 {
     let row = [0u64; 4];
     write_row(answer, &row);
@@ -96,7 +96,7 @@ pub extern "C" fn pito_extractor_feed(
     answer: &mut [u64],
 ) -> u64
     ensures { called result state.new buffer.new answer.new
-        ≡ extractorFeedOf state.old buffer.old bytes.now answer.old }
+        ≡ extractor_feed_of state.old buffer.old bytes.now answer.old }
 {
     if answer.len() != FEED_ANSWER {
         return UNFIT;
@@ -114,11 +114,11 @@ pub extern "C" fn pito_extractor_feed(
 
 // The same with rows that fit. Each outcome writes its own row: to choose one first costs more.
 fn feed_fitting(state: &mut [u64], buffer: &mut [u8], bytes: &[u8], answer: &mut [u64]) -> u64
-    requires { (isExtractor state.old ≡ true) × (length answer.old ≡ 4) }
+    requires { (is_extractor state.old ≡ true) × (length answer.old ≡ 4) }
     ensures { called result state.new buffer.new answer.new
-        ≡ (let x = extractorOf state.old in
-        fedCall state.old x.limit
-        (feedOf x.limit x.progress buffer.old bytes.now)) }
+        ≡ (let x = extractor_of state.old in
+        fed_call state.old x.limit
+        (feed_of x.limit x.progress buffer.old bytes.now)) }
 {
     let done = feed(extractor_of(state), buffer, bytes);
     let next = done.next;
@@ -158,7 +158,7 @@ pub extern "C" fn pito_frame_write(
     answer: &mut [u64],
 ) -> u64
     ensures { called result [] output.new answer.new
-        ≡ frameWriteOf limit sequence payload.now output.old answer.old }
+        ≡ frame_write_of limit sequence payload.now output.old answer.old }
 {
     if answer.len() != COUNT_ANSWER {
         return UNFIT;
@@ -171,7 +171,7 @@ pub extern "C" fn pito_frame_write(
 // The sequence byte after a sequence byte.
 #[unsafe(no_mangle)]
 pub extern "C" fn pito_next_sequence(sequence: u8, answer: &mut [u64]) -> u64
-    ensures { called result [] [] answer.new ≡ nextSequenceOf sequence answer.old }
+    ensures { called result [] [] answer.new ≡ next_sequence_of sequence answer.old }
 {
     if answer.len() != COUNT_ANSWER {
         return UNFIT;

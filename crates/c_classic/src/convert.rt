@@ -3,7 +3,7 @@ ghost use Rattle.std.specs.Prelude.{◌≡◌, true, [], ◌∷◌, length, get_
 ghost use Rattle.classic_extractor.specs.Outcome.{told};
 ghost use Rattle.classic_writer.specs.Writer as writer;
 ghost use Rattle.c_rows.specs.Row.{afterwards, count_of};
-ghost use Rattle.c_classic.specs.Convert.{phaseNumber, phaseOf, isExtractor, extractorOf, extractorRow, reply, replyOf};
+ghost use Rattle.c_classic.specs.Convert.{phase_number, phase_of, is_extractor, extractor_of, extractor_row, reply, reply_of};
 
 use c_rows::row::{BYTES, Count, DONE, UNFIT, fill};
 use classic_extractor::outcome::StepOutcome;
@@ -46,7 +46,7 @@ pub struct ClassicAnswer {
 }
 
 fn phase_number(phase: Phase) -> u64
-    ensures { result ≡ phaseNumber phase }
+    ensures { result ≡ phase_number phase }
 {
     match phase {
         Phase::Outside => 0,
@@ -59,7 +59,7 @@ fn phase_number(phase: Phase) -> u64
 }
 
 fn phase_of(n: u64) -> Phase
-    ensures { result ≡ phaseOf n }
+    ensures { result ≡ phase_of n }
 {
     if n == 0 {
         return Phase::Outside;
@@ -81,7 +81,7 @@ fn phase_of(n: u64) -> Phase
 
 // Whether a row has numbers that a state can have. Its length first: otherwise each number is read by a test of its own.
 pub fn is_extractor(row: &[u64]) -> bool
-    ensures { result ≡ isExtractor row.now }
+    ensures { result ≡ is_extractor row.now }
 {
     if row.len() != STATE {
         return false;
@@ -90,8 +90,8 @@ pub fn is_extractor(row: &[u64]) -> bool
 }
 
 pub fn extractor_of(row: &[u64]) -> Extractor
-    requires { isExtractor row.now ≡ true }
-    ensures { result ≡ extractorOf row.now }
+    requires { is_extractor row.now ≡ true }
+    ensures { result ≡ extractor_of row.now }
 {
     let phase = phase_of(row[1]);
     let sequence = row[2] as u8;
@@ -109,7 +109,7 @@ pub fn extractor_of(row: &[u64]) -> Extractor
 
 // The numbers of a state row after the limit.
 fn progress_row(progress: Progress) -> [u64; 3]
-    ensures { result ≡ phaseNumber progress.phase ∷ progress.sequence ∷ progress.held ∷ [] }
+    ensures { result ≡ phase_number progress.phase ∷ progress.sequence ∷ progress.held ∷ [] }
 {
     let phase = progress.phase;
     [
@@ -123,7 +123,7 @@ fn progress_row(progress: Progress) -> [u64; 3]
 pub fn put_progress(row: &mut [u64], number: u64, progress: Progress)
     requires { length row.old ≡ 4 }
     ensures { row.new
-        ≡ afterwards number row.old (extractorRow (get_or row.old 0 0) progress) }
+        ≡ afterwards number row.old (extractor_row (get_or row.old 0 0) progress) }
 {
     if number != UNFIT {
         let numbers = progress_row(progress);
@@ -132,7 +132,7 @@ pub fn put_progress(row: &mut [u64], number: u64, progress: Progress)
 }
 
 pub fn extractor_row(state: Extractor) -> [u64; 4]
-    ensures { result ≡ extractorRow state.limit state.progress }
+    ensures { result ≡ extractor_row state.limit state.progress }
 {
     let progress = state.progress;
     let phase = progress.phase;
@@ -158,7 +158,7 @@ impl ClassicAnswer {
 }
 
 pub fn step_reply(outcome: StepOutcome) -> ClassicAnswer
-    ensures { result ≡ replyOf (told outcome) }
+    ensures { result ≡ reply_of (told outcome) }
 {
     match outcome {
         StepOutcome::Skipped => ClassicAnswer::new(DONE, SKIPPED, 0, 0),

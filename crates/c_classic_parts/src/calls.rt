@@ -1,9 +1,9 @@
 // The frame writer by parts for C.
 ghost use Rattle.std.specs.Prelude.{◌≡◌, true, [], length};
-ghost use Rattle.classic_parts.specs.Writer.{partOf};
+ghost use Rattle.classic_parts.specs.Writer.{part_of};
 ghost use Rattle.c_rows.specs.Called.{called};
-ghost use Rattle.c_classic_parts.specs.Convert.{isState, state_of};
-ghost use Rattle.c_classic_parts.specs.Calls.{kept, parted, frameBeginOf, framePartOf};
+ghost use Rattle.c_classic_parts.specs.Convert.{is_state, state_of};
+ghost use Rattle.c_classic_parts.specs.Calls.{kept, parted, frame_begin_of, frame_part_of};
 
 use crate::convert::{PART_ANSWER, STATE, is_state, part_reply, state_of, state_row};
 use c_rows::row::{DONE, UNFIT, byte_or, put, write_row};
@@ -25,7 +25,7 @@ fn keep(state: &mut [u64], number: u64, row: &[u64])
 // Begins a frame whose payload will have `total` bytes, for a link with a limit.
 #[unsafe(no_mangle)]
 pub extern "C" fn pito_frame_begin(sequence: u64, limit: u64, total: u64, state: &mut [u64]) -> u64
-    ensures { called result state.new [] [] ≡ frameBeginOf limit sequence total state.old }
+    ensures { called result state.new [] [] ≡ frame_begin_of limit sequence total state.old }
 {
     if state.len() != STATE {
         return UNFIT;
@@ -52,7 +52,7 @@ pub extern "C" fn pito_frame_part(
     answer: &mut [u64],
 ) -> u64
     ensures { called result state.new output.new answer.new
-        ≡ framePartOf state.old payload.now output.old answer.old }
+        ≡ frame_part_of state.old payload.now output.old answer.old }
 {
     if answer.len() != PART_ANSWER {
         return UNFIT;
@@ -65,11 +65,11 @@ pub extern "C" fn pito_frame_part(
 
 // The same with rows that fit.
 fn part_fitting(state: &mut [u64], payload: &[u8], output: &mut [u8], answer: &mut [u64]) -> u64
-    requires { (isState state.old ≡ true) × (length answer.old ≡ 3) }
+    requires { (is_state state.old ≡ true) × (length answer.old ≡ 3) }
     ensures { called result state.new output.new answer.new
         ≡ (let s = state_of state.old in
         parted state.old answer.old s.limit
-        (partOf s.limit s.progress payload.now output.old)) }
+        (part_of s.limit s.progress payload.now output.old)) }
 {
     let done = state_of(state).write(payload, output);
     let outcome = done.outcome;

@@ -1,7 +1,7 @@
 // The state of a frame that is written by parts, and what a call answers, as rows.
 ghost use Rattle.std.specs.Prelude.{◌≡◌, true};
 ghost use Rattle.classic_parts.specs.Writer.{told};
-ghost use Rattle.c_classic_parts.specs.Convert.{stageNumber, stageOf, pendingNumber, pendingOf, isState, state_of, stateRow, replyOf};
+ghost use Rattle.c_classic_parts.specs.Convert.{stage_number, stage_of, pending_number, pending_of, is_state, state_of, state_row, reply_of};
 
 use c_rows::row::{BYTES, DONE};
 use classic_frame::mark::Kind;
@@ -32,7 +32,7 @@ pub struct PartAnswer {
 }
 
 fn stage_number(stage: Stage) -> u64
-    ensures { result ≡ stageNumber stage }
+    ensures { result ≡ stage_number stage }
 {
     match stage {
         Stage::Start => 0,
@@ -47,7 +47,7 @@ fn stage_number(stage: Stage) -> u64
 }
 
 fn stage_of(n: u64) -> Stage
-    ensures { result ≡ stageOf n }
+    ensures { result ≡ stage_of n }
 {
     if n == 0 {
         return Stage::Start;
@@ -74,7 +74,7 @@ fn stage_of(n: u64) -> Stage
 }
 
 fn pending_number(kind: Kind) -> u64
-    ensures { result ≡ pendingNumber kind }
+    ensures { result ≡ pending_number kind }
 {
     match kind {
         Kind::Start => 1,
@@ -85,7 +85,7 @@ fn pending_number(kind: Kind) -> u64
 }
 
 fn pending_of(n: u64) -> Kind
-    ensures { result ≡ pendingOf n }
+    ensures { result ≡ pending_of n }
 {
     if n == 1 {
         return Kind::Start;
@@ -101,7 +101,7 @@ fn pending_of(n: u64) -> Kind
 
 // Whether a row has numbers that a state can have. Its length first: otherwise each number is read by a test of its own.
 pub fn is_state(row: &[u64]) -> bool
-    ensures { result ≡ isState row.now }
+    ensures { result ≡ is_state row.now }
 {
     if row.len() != STATE {
         return false;
@@ -112,7 +112,7 @@ pub fn is_state(row: &[u64]) -> bool
 }
 
 pub fn state_of(row: &[u64]) -> PartWriter
-    requires { isState row.now ≡ true }
+    requires { is_state row.now ≡ true }
     ensures { result ≡ state_of row.now }
 {
     let stage = stage_of(row[5]);
@@ -136,7 +136,7 @@ pub fn state_of(row: &[u64]) -> PartWriter
 }
 
 pub fn state_row(state: PartWriter) -> [u64; 7]
-    ensures { result ≡ stateRow state.limit state.progress }
+    ensures { result ≡ state_row state.limit state.progress }
 {
     let progress = state.progress;
     let stage = progress.stage;
@@ -153,7 +153,7 @@ pub fn state_row(state: PartWriter) -> [u64; 7]
 }
 
 pub fn part_reply(outcome: PartOutcome) -> PartAnswer
-    ensures { result ≡ replyOf (told outcome) }
+    ensures { result ≡ reply_of (told outcome) }
 {
     match outcome {
         PartOutcome::Wrote {

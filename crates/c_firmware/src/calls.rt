@@ -1,7 +1,7 @@
 // Firmware messages for C, read and written, and the reader of any field.
 ghost use Rattle.std.specs.Prelude.{◌≡◌, []};
 ghost use Rattle.c_rows.specs.Called.{called};
-ghost use Rattle.c_firmware.specs.Calls.{segmentReadOf, segmentWriteOf, applyReadOf, applyWriteOf, fieldReadOf};
+ghost use Rattle.c_firmware.specs.Calls.{segment_read_of, segment_write_of, apply_read_of, apply_write_of, field_read_of};
 
 use c_firmware_rows::apply::{APPLY_ANSWER, APPLY_ROW, apply_at, bad_row, put_apply};
 use c_firmware_rows::field_row::{FIELD_ANSWER, found_row};
@@ -24,7 +24,7 @@ use wire::logic::either;
 // Reads an UpdateComponentSegment.
 pub fn segment_read(message: &[u8], answer: &mut [u64]) -> u64
     ensures { called result [] [] answer.new
-        ≡ segmentReadOf message.now answer.old }
+        ≡ segment_read_of message.now answer.old }
 {
     if answer.len() != SEGMENT_ANSWER {
         return UNFIT;
@@ -46,7 +46,7 @@ pub fn segment_write(
     answer: &mut [u64],
 ) -> u64
     ensures { called result [] output.new answer.new
-        ≡ segmentWriteOf name.now offset size signature.now output.old
+        ≡ segment_write_of name.now offset size signature.now output.old
         answer.old }
 {
     if answer.len() != WROTE_ANSWER {
@@ -73,7 +73,7 @@ pub fn segment_write(
 
 // Reads an ApplyFirmware.
 pub fn apply_read(message: &[u8], answer: &mut [u64]) -> u64
-    ensures { called result [] [] answer.new ≡ applyReadOf message.now answer.old }
+    ensures { called result [] [] answer.new ≡ apply_read_of message.now answer.old }
 {
     if answer.len() != APPLY_ANSWER {
         return UNFIT;
@@ -89,7 +89,7 @@ pub fn apply_read(message: &[u8], answer: &mut [u64]) -> u64
 // Writes an ApplyFirmware, of a row whose parts are places in the texts.
 pub fn apply_write(row: &[u64], texts: &[u8], output: &mut [u8], answer: &mut [u64]) -> u64
     ensures { called result [] output.new answer.new
-        ≡ applyWriteOf row.now texts.now output.old answer.old }
+        ≡ apply_write_of row.now texts.now output.old answer.old }
 {
     if row.len() != APPLY_ROW {
         return UNFIT;
@@ -108,7 +108,7 @@ pub fn apply_write(row: &[u64], texts: &[u8], output: &mut [u8], answer: &mut [u
 // Reads the field at a place of any message.
 pub fn field_read(message: &[u8], place: u64, answer: &mut [u64]) -> u64
     ensures { called result [] [] answer.new
-        ≡ fieldReadOf message.now place answer.old }
+        ≡ field_read_of message.now place answer.old }
 {
     if answer.len() != FIELD_ANSWER {
         return UNFIT;

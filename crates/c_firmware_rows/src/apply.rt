@@ -1,11 +1,11 @@
 // ApplyFirmware as a row: what its reader tells, and what its writer is given.
 ghost use Rattle.std.specs.Prelude.{◌≡◌, ◌++◌, ◌+◌, ◌≤◌, length};
 ghost use Rattle.std.proofs.lemmas.List.Edits.{sets};
-ghost use Rattle.proto_reader.specs.Gathered.{mostRepeated};
-ghost use Rattle.proto_reader.specs.Refusal.{toldVerdict};
+ghost use Rattle.proto_reader.specs.Gathered.{most_repeated};
+ghost use Rattle.proto_reader.specs.Refusal.{told_verdict};
 ghost use Rattle.c_rows.specs.Row.{afterwards};
-ghost use Rattle.c_message_rows.specs.Convert.{faultRow};
-ghost use Rattle.c_firmware_rows.specs.Apply.{rowSize, answerSize, firstComponent, componentRow, componentRows, headRow, wholeRow, part_at, componentAt, componentsAt, applyAt, wideAt, anyWide, badRow};
+ghost use Rattle.c_message_rows.specs.Convert.{fault_row};
+ghost use Rattle.c_firmware_rows.specs.Apply.{row_size, answer_size, first_component, component_row, component_rows, head_row, whole_row, part_at, component_at, components_at, apply_at, wide_at, any_wide, bad_row};
 
 use crate::segment::is_wide;
 use c_message_rows::convert::verdict_fault;
@@ -32,7 +32,7 @@ const COMPONENT_NUMBERS: usize = 6;
 // ---- what was read
 
 fn component_row(component: FirmwareComponent) -> [u64; 6]
-    ensures { result ≡ componentRow component }
+    ensures { result ≡ component_row component }
 {
     let name = component.name;
     let signature = component.signature;
@@ -48,7 +48,7 @@ fn component_row(component: FirmwareComponent) -> [u64; 6]
 
 // The numbers before the components.
 fn head_row(apply: ApplyFirmware) -> [u64; 9]
-    ensures { result ≡ headRow apply }
+    ensures { result ≡ head_row apply }
 {
     let information = apply.firmware_information;
     let name = information.name;
@@ -70,9 +70,9 @@ fn head_row(apply: ApplyFirmware) -> [u64; 9]
 
 // Writes the components, each from its place on.
 fn fill_components(row: &mut [u64], components: [FirmwareComponent; 8])
-    requires { length row.old ≡ answerSize }
-    ensures row_after { row.new ≡ sets row.old firstComponent (componentRows components) }
-    ensures components_len { length components ≡ mostRepeated }
+    requires { length row.old ≡ answer_size }
+    ensures row_after { row.new ≡ sets row.old first_component (component_rows components) }
+    ensures components_len { length components ≡ most_repeated }
 {
     let mut at = FIRST_COMPONENT;
     let mut i = 0;
@@ -87,9 +87,9 @@ fn fill_components(row: &mut [u64], components: [FirmwareComponent; 8])
 
 // Writes the whole row, part by part, unless the call is refused by 1.
 pub fn put_apply(row: &mut [u64], number: u64, verdict: WalkVerdict, apply: ApplyFirmware)
-    requires { length row.old ≡ answerSize }
+    requires { length row.old ≡ answer_size }
     ensures { row.new
-        ≡ afterwards number row.old (wholeRow apply ++ faultRow (toldVerdict verdict)) }
+        ≡ afterwards number row.old (whole_row apply ++ fault_row (told_verdict verdict)) }
 {
     if number != UNFIT {
         let head = head_row(apply);
@@ -106,7 +106,7 @@ pub fn put_apply(row: &mut [u64], number: u64, verdict: WalkVerdict, apply: Appl
 
 // The part whose numbers begin at a place.
 fn part_at(row: &[u64], at: usize) -> Part
-    requires { at ≤ rowSize }
+    requires { at ≤ row_size }
     ensures { result ≡ part_at row.now at }
 {
     let start = number_at(row, at);
@@ -119,8 +119,8 @@ fn part_at(row: &[u64], at: usize) -> Part
 
 // The component whose numbers begin at a place.
 fn component_at(row: &[u64], at: usize) -> FirmwareComponent
-    requires { at + 4 ≤ rowSize }
-    ensures { result ≡ componentAt row.now at }
+    requires { at + 4 ≤ row_size }
+    ensures { result ≡ component_at row.now at }
 {
     let name = part_at(row, at + 1);
     let signature = part_at(row, at + 4);
@@ -134,7 +134,7 @@ fn component_at(row: &[u64], at: usize) -> FirmwareComponent
 
 // The eight components.
 fn components_at(row: &[u64]) -> [FirmwareComponent; 8]
-    ensures { result ≡ componentsAt mostRepeated row.now firstComponent }
+    ensures { result ≡ components_at most_repeated row.now first_component }
 {
     let first = component_at(row, FIRST_COMPONENT);
     let mut components = [first; 8];
@@ -150,7 +150,7 @@ fn components_at(row: &[u64]) -> [FirmwareComponent; 8]
 
 // The message of a row's numbers.
 pub fn apply_at(row: &[u64]) -> ApplyFirmware
-    ensures { result ≡ applyAt row.now }
+    ensures { result ≡ apply_at row.now }
 {
     let name = part_at(row, 2);
     let locale = part_at(row, 4);
@@ -172,16 +172,16 @@ pub fn apply_at(row: &[u64]) -> ApplyFirmware
 
 // Whether the component at a place has a number above 32 bits.
 fn wide_at(row: &[u64], at: usize) -> bool
-    requires { at + 4 ≤ rowSize }
-    ensures { result ≡ wideAt row.now at }
+    requires { at + 4 ≤ row_size }
+    ensures { result ≡ wide_at row.now at }
 {
     either(is_wide(number_at(row, at)), is_wide(number_at(row, at + 3)))
 }
 
 // Whether one of the first components has.
 fn any_wide(row: &[u64], count: usize) -> bool
-    requires { count ≤ mostRepeated }
-    ensures { result ≡ anyWide count row.now firstComponent }
+    requires { count ≤ most_repeated }
+    ensures { result ≡ any_wide count row.now first_component }
 {
     let mut at = FIRST_COMPONENT;
     let mut i = 0;
@@ -197,7 +197,7 @@ fn any_wide(row: &[u64], count: usize) -> bool
 
 // Whether no message has a row's numbers.
 pub fn bad_row(row: &[u64]) -> bool
-    ensures { result ≡ badRow row.now }
+    ensures { result ≡ bad_row row.now }
 {
     if 1 < number_at(row, 0) {
         return true;

@@ -2,8 +2,8 @@
 ghost use Rattle.std.specs.Prelude.{◌≡◌};
 ghost use Rattle.wire.specs.Told.{refused};
 ghost use Rattle.proto_field.specs.Refusal.{number_of};
-ghost use Rattle.proto_field.specs.Fields.{toldFound};
-ghost use Rattle.c_firmware_rows.specs.FieldRow.{fixedKind, fieldRow, fieldTold};
+ghost use Rattle.proto_field.specs.Fields.{told_found};
+ghost use Rattle.c_firmware_rows.specs.FieldRow.{fixed_kind, field_row, field_told};
 
 use c_rows::row::DONE;
 use proto_field::Refusal;
@@ -29,7 +29,7 @@ pub struct FieldTold {
 }
 
 fn refused_field(why: Refusal) -> FieldTold
-    ensures { result ≡ fieldTold (refused (number_of why)) }
+    ensures { result ≡ field_told (refused (number_of why)) }
 {
     FieldTold {
         number: wide64(why.number()),
@@ -39,13 +39,13 @@ fn refused_field(why: Refusal) -> FieldTold
 
 // The kind of a field whose bytes, of this number, are passed over.
 fn fixed_kind(len: usize) -> u64
-    ensures { result ≡ fixedKind len }
+    ensures { result ≡ fixed_kind len }
 {
     if len == EIGHT { FIXED64 } else { FIXED32 }
 }
 
 fn field_row(number: u64, value: Value, next: usize) -> [u64; 7]
-    ensures { result ≡ fieldRow number value next }
+    ensures { result ≡ field_row number value next }
 {
     let after = next as u64;
     match value {
@@ -76,7 +76,7 @@ fn field_row(number: u64, value: Value, next: usize) -> [u64; 7]
 
 // What was found at a place; the row is all 0 at the end of the message.
 pub fn found_row(found: Found) -> FieldTold
-    ensures { result ≡ fieldTold (toldFound found) }
+    ensures { result ≡ field_told (told_found found) }
 {
     match found {
         Found::Field {

@@ -1,11 +1,11 @@
 // UpdateComponentSegment: what its reader and its writer tell, as rows.
 ghost use Rattle.std.specs.Prelude.{◌≡◌, ◌++◌, replicate};
-ghost use Rattle.proto_reader.specs.Refusal.{whyOf, numberMore};
-ghost use Rattle.msg_firmware.specs.Segment.{toldSegment};
-ghost use Rattle.msg_segment_writer.specs.Segment.{toldSegmentWrote};
-ghost use Rattle.c_message_rows.specs.Convert.{faultOf, wroteRow};
+ghost use Rattle.proto_reader.specs.Refusal.{why_of, number_more};
+ghost use Rattle.msg_firmware.specs.Segment.{told_segment};
+ghost use Rattle.msg_segment_writer.specs.Segment.{told_segment_wrote};
+ghost use Rattle.c_message_rows.specs.Convert.{fault_of, wrote_row};
 ghost use Rattle.c_firmware_rows.specs.More.{is_wide};
-ghost use Rattle.c_firmware_rows.specs.Segment.{segmentRow};
+ghost use Rattle.c_firmware_rows.specs.Segment.{segment_row};
 
 use msg_firmware::segment::SegmentRead;
 use msg_segment_writer::SegmentWrote;
@@ -26,13 +26,13 @@ pub fn is_wide(n: u64) -> bool
 }
 
 pub fn segment_number(read: SegmentRead) -> u64
-    ensures { result ≡ numberMore (toldSegment read) }
+    ensures { result ≡ number_more (told_segment read) }
 {
     wide64(read.number())
 }
 
 fn refused_row(why: MessageRefusal) -> [u64; 8]
-    ensures { result ≡ replicate 6 0 ++ faultOf (whyOf why) }
+    ensures { result ≡ replicate 6 0 ++ fault_of (why_of why) }
 {
     match why {
         MessageRefusal::Field(_) => [0u64; 8],
@@ -41,7 +41,7 @@ fn refused_row(why: MessageRefusal) -> [u64; 8]
 }
 
 pub fn segment_row(read: SegmentRead) -> [u64; 8]
-    ensures { result ≡ segmentRow (toldSegment read) }
+    ensures { result ≡ segment_row (told_segment read) }
 {
     match read {
         SegmentRead::Refused(why) => refused_row(why),
@@ -64,13 +64,13 @@ pub fn segment_row(read: SegmentRead) -> [u64; 8]
 }
 
 pub fn wrote_number(wrote: SegmentWrote) -> u64
-    ensures { result ≡ numberMore (toldSegmentWrote wrote) }
+    ensures { result ≡ number_more (told_segment_wrote wrote) }
 {
     wide64(wrote.number())
 }
 
 pub fn wrote_row(wrote: SegmentWrote) -> [u64; 3]
-    ensures { result ≡ wroteRow (toldSegmentWrote wrote) }
+    ensures { result ≡ wrote_row (told_segment_wrote wrote) }
 {
     match wrote {
         SegmentWrote::Done(n) => [n as u64, 0, 0],

@@ -6,7 +6,7 @@ use Rattle.capture_reader.specs.Capture.{ToldAt}
 use Rattle.capture_stream.specs.declared.SenderSlot.{SenderSlot}
 use Rattle.capture_stream.specs.declared.SenderSlot.TheVariants.{Idle, Open}
 use Rattle.capture_judge.specs.declared.State.{State}
-use Rattle.capture_judge.specs.Step.{allIdle}
+use Rattle.capture_judge.specs.Step.{all_idle}
 use Rattle.capture_judge.specs.Capture.{Answer, lawful, open·ended, unlawful}
 use Rattle.capture_why.specs.declared.Came.{Came}
 use Rattle.capture_why.specs.declared.Expected.{Expected}
@@ -18,30 +18,30 @@ use Rattle.c_judge.specs.declared.convert.StateNumbers.{StateNumbers}
 use Rattle.c_judge.specs.declared.convert.ExpectedNumbers.{ExpectedNumbers}
 
 -- outcome (1 lawful, 2 open, 3 unlawful; 0 where it is refused), and a place: of the packet's length, or the refusal's
-abbrev pub judgedRow : ToldAt Answer → List ℕ
-judgedRow (given lawful) = 1 ∷ 0 ∷ []
-judgedRow (given open·ended) = 2 ∷ 0 ∷ []
-judgedRow (given (unlawful at)) = 3 ∷ at ∷ []
-judgedRow (refused why) = 0 ∷ why.1 ∷ []
+abbrev pub judged_row : ToldAt Answer → List ℕ
+judged_row (given lawful) = 1 ∷ 0 ∷ []
+judged_row (given open·ended) = 2 ∷ 0 ∷ []
+judged_row (given (unlawful at)) = 3 ∷ at ∷ []
+judged_row (refused why) = 0 ∷ why.1 ∷ []
 
 -- ---- why
 -- a transaction that is open on a stream: id, bytes still to come, next sequence
-abbrev pub slotNumbers : SenderSlot → SlotNumbers
-slotNumbers Idle = record { opened = 0; id = 0; left = 0; sequence = 0 }
-slotNumbers (Open id left sequence) = record { opened = 1; id = id; left = left; sequence = sequence }
+abbrev pub slot_numbers : SenderSlot → SlotNumbers
+slot_numbers Idle = record { opened = 0; id = 0; left = 0; sequence = 0 }
+slot_numbers (Open id left sequence) = record { opened = 1; id = id; left = left; sequence = sequence }
 
-abbrev pub stateNumbers : State → StateNumbers
-stateNumbers s = record { control = slotNumbers s.control; ota = slotNumbers s.ota; alexa = slotNumbers s.alexa }
+abbrev pub state_numbers : State → StateNumbers
+state_numbers s = record { control = slot_numbers s.control; ota = slot_numbers s.ota; alexa = slot_numbers s.alexa }
 
-abbrev pub slotRow : SlotNumbers → List ℕ
-slotRow n = n.opened ∷ n.id ∷ n.left ∷ n.sequence ∷ []
+abbrev pub slot_row : SlotNumbers → List ℕ
+slot_row n = n.opened ∷ n.id ∷ n.left ∷ n.sequence ∷ []
 
-abbrev pub stateRow : StateNumbers → List ℕ
-stateRow s = slotRow s.control ++ slotRow s.ota ++ slotRow s.alexa
+abbrev pub state_row : StateNumbers → List ℕ
+state_row s = slot_row s.control ++ slot_row s.ota ++ slot_row s.alexa
 
 -- what came; first the number by which our reader refuses it
-abbrev pub cameRow : Came → List ℕ
-cameRow c =
+abbrev pub came_row : Came → List ℕ
+came_row c =
     c.read.number
     ∷ c.size
     ∷ c.stream
@@ -54,14 +54,14 @@ cameRow c =
     ∷ c.read.len
     ∷ []
 
-abbrev pub anyNumbers : ℕ → ExpectedNumbers
-anyNumbers expected = record { expected = expected; id = 0; sequence = 0; kind = 0; len = 0; extended = 0; last = 0 }
+abbrev pub any_numbers : ℕ → ExpectedNumbers
+any_numbers expected = record { expected = expected; id = 0; sequence = 0; kind = 0; len = 0; extended = 0; last = 0 }
 
 -- what was expected: nothing, a first packet of any message, the first one of this total (2), or the next one of what is open (3)
-abbrev pub expectedNumbers : Expected → ExpectedNumbers
-expectedNumbers Nothing = anyNumbers 0
-expectedNumbers AnyFirst = anyNumbers 1
-expectedNumbers (This n) =
+abbrev pub expected_numbers : Expected → ExpectedNumbers
+expected_numbers Nothing = any_numbers 0
+expected_numbers AnyFirst = any_numbers 1
+expected_numbers (This n) =
     record {
       expected = 2 + bit n.opened;
       id = n.id;
@@ -72,11 +72,11 @@ expectedNumbers (This n) =
       last = bit n.last;
     }
 
-abbrev pub expectedRow : ExpectedNumbers → List ℕ
-expectedRow n = n.expected ∷ n.id ∷ n.sequence ∷ n.kind ∷ n.len ∷ n.extended ∷ n.last ∷ []
+abbrev pub expected_row : ExpectedNumbers → List ℕ
+expected_row n = n.expected ∷ n.id ∷ n.sequence ∷ n.kind ∷ n.len ∷ n.extended ∷ n.last ∷ []
 
 -- the judge's row, what is open at the end or before the packet that decides, what came and what was expected
-abbrev pub whyRow : ToldAt Explained → List ℕ
-whyRow (refused why) = 0 ∷ why.1 ∷ replicate 29 0
-whyRow (given (Ended s)) = cond (allIdle s) 1 2 ∷ 0 ∷ stateRow (stateNumbers s) ++ replicate 17 0
-whyRow (given (Stopped at s came expected)) = 3 ∷ at ∷ stateRow (stateNumbers s) ++ cameRow came ++ expectedRow (expectedNumbers expected)
+abbrev pub why_row : ToldAt Explained → List ℕ
+why_row (refused why) = 0 ∷ why.1 ∷ replicate 29 0
+why_row (given (Ended s)) = cond (all_idle s) 1 2 ∷ 0 ∷ state_row (state_numbers s) ++ replicate 17 0
+why_row (given (Stopped at s came expected)) = 3 ∷ at ∷ state_row (state_numbers s) ++ came_row came ++ expected_row (expected_numbers expected)

@@ -1,7 +1,7 @@
 // Captures for C: whether one is lawful, and why not.
 ghost use Rattle.std.specs.Prelude.{◌≡◌, []};
 ghost use Rattle.c_rows.specs.Called.{called};
-ghost use Rattle.c_judge.specs.Calls.{captureJudgeOf, captureWhyOf};
+ghost use Rattle.c_judge.specs.Calls.{capture_judge_of, capture_why_of};
 
 use crate::convert::{JUDGE_ANSWER, WHY_ANSWER, judged_row, why_row};
 use c_rows::row::{UNFIT, put};
@@ -18,7 +18,7 @@ pub extern "C" fn pito_capture_judge(
     answer: &mut [u64],
 ) -> u64
     ensures { called result [] [] answer.new
-        ≡ captureJudgeOf capture.now room limit answer.old }
+        ≡ capture_judge_of capture.now room limit answer.old }
 {
     if answer.len() != JUDGE_ANSWER {
         return UNFIT;
@@ -34,7 +34,7 @@ pub extern "C" fn pito_capture_judge(
 #[unsafe(no_mangle)]
 pub extern "C" fn pito_capture_why(capture: &[u8], room: u64, limit: u64, answer: &mut [u64]) -> u64
     ensures { called result [] [] answer.new
-        ≡ captureWhyOf capture.now room limit answer.old }
+        ≡ capture_why_of capture.now room limit answer.old }
 {
     if answer.len() != WHY_ANSWER {
         return UNFIT;

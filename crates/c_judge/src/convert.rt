@@ -3,8 +3,8 @@ ghost use Rattle.std.specs.Prelude.{◌≡◌, cond, ◌∷◌, ◌++◌, replic
 ghost use Rattle.wire.specs.Told.{given};
 ghost use Rattle.capture_judge.specs.Capture.{told};
 ghost use Rattle.capture_why.specs.declared.Expected.TheVariants.{This};
-ghost use Rattle.capture_why.specs.Why.{whyTold};
-ghost use Rattle.c_judge.specs.Convert.{judgedRow, slotNumbers, stateNumbers, stateRow, cameRow, anyNumbers, expectedNumbers, expectedRow, whyRow};
+ghost use Rattle.capture_why.specs.Why.{why_told};
+ghost use Rattle.c_judge.specs.Convert.{judged_row, slot_numbers, state_numbers, state_row, came_row, any_numbers, expected_numbers, expected_row, why_row};
 
 use capture_judge::State;
 use capture_judge::capture::Answer;
@@ -32,7 +32,7 @@ const ANY_FIRST: u64 = 1;
 const FIRST: u64 = 2;
 
 pub fn judged_row(answer: Answer) -> [u64; 2]
-    ensures { result ≡ judgedRow (told answer) }
+    ensures { result ≡ judged_row (told answer) }
 {
     match answer {
         Answer::Refused { why: _, at } => [0, at as u64],
@@ -71,7 +71,7 @@ struct ExpectedNumbers {
 }
 
 fn slot_numbers(slot: SenderSlot) -> SlotNumbers
-    ensures { result ≡ slotNumbers slot }
+    ensures { result ≡ slot_numbers slot }
 {
     match slot {
         SenderSlot::Idle => SlotNumbers {
@@ -90,7 +90,7 @@ fn slot_numbers(slot: SenderSlot) -> SlotNumbers
 }
 
 fn state_numbers(state: State) -> StateNumbers
-    ensures { result ≡ stateNumbers state }
+    ensures { result ≡ state_numbers state }
 {
     let first = state.control;
     let second = state.ota;
@@ -106,7 +106,7 @@ fn state_numbers(state: State) -> StateNumbers
 }
 
 fn next_numbers(next: NextPacket) -> ExpectedNumbers
-    ensures { result ≡ expectedNumbers (This next) }
+    ensures { result ≡ expected_numbers (This next) }
 {
     let opened = bit64(next.opened);
     let extended = bit64(next.extended);
@@ -124,7 +124,7 @@ fn next_numbers(next: NextPacket) -> ExpectedNumbers
 
 // A first packet of any message, or nothing.
 fn any_numbers(expected: u64) -> ExpectedNumbers
-    ensures { result ≡ anyNumbers expected }
+    ensures { result ≡ any_numbers expected }
 {
     ExpectedNumbers {
         expected,
@@ -138,7 +138,7 @@ fn any_numbers(expected: u64) -> ExpectedNumbers
 }
 
 fn expected_numbers(expected: Expected) -> ExpectedNumbers
-    ensures { result ≡ expectedNumbers expected }
+    ensures { result ≡ expected_numbers expected }
 {
     match expected {
         Expected::Nothing => any_numbers(0),
@@ -148,7 +148,7 @@ fn expected_numbers(expected: Expected) -> ExpectedNumbers
 }
 
 fn stopped_row(at: usize, state: StateNumbers, came: Came, expected: ExpectedNumbers) -> [u64; 31]
-    ensures { result ≡ 3 ∷ at ∷ stateRow state ++ cameRow came ++ expectedRow expected }
+    ensures { result ≡ 3 ∷ at ∷ state_row state ++ came_row came ++ expected_row expected }
 {
     let control = state.control;
     let ota = state.ota;
@@ -192,7 +192,7 @@ fn stopped_row(at: usize, state: StateNumbers, came: Came, expected: ExpectedNum
 }
 
 fn ended_row(outcome: u64, state: StateNumbers) -> [u64; 31]
-    ensures { result ≡ outcome ∷ 0 ∷ stateRow state ++ replicate 17 0 }
+    ensures { result ≡ outcome ∷ 0 ∷ state_row state ++ replicate 17 0 }
 {
     let control = state.control;
     let ota = state.ota;
@@ -230,7 +230,7 @@ fn refused_row(at: usize) -> [u64; 31]
 }
 
 fn explained_row(explained: Explained) -> [u64; 31]
-    ensures { result ≡ whyRow (given explained) }
+    ensures { result ≡ why_row (given explained) }
 {
     match explained {
         Explained::Ended(state) => {
@@ -247,7 +247,7 @@ fn explained_row(explained: Explained) -> [u64; 31]
 }
 
 pub fn why_row(why: Why) -> [u64; 31]
-    ensures { result ≡ whyRow (whyTold why) }
+    ensures { result ≡ why_row (why_told why) }
 {
     match why {
         Why::Barred { why: _, at } => refused_row(at),

@@ -2,9 +2,9 @@
 // each function for its callers.
 ghost use Rattle.std.specs.Prelude.{◌≡◌, []};
 ghost use Rattle.c_rows.specs.Called.{called};
-ghost use Rattle.c_messages.specs.Calls.{envelopeReadOf, envelopeWriteOf, responseReadOf, responseWriteOf, informationReadOf, informationWriteOf, featuresReadOf, featuresWriteOf};
-ghost use Rattle.c_message_rows.specs.Convert.{payloadFor};
-ghost use Rattle.c_firmware.specs.Calls.{segmentReadOf, segmentWriteOf, applyReadOf, applyWriteOf, fieldReadOf};
+ghost use Rattle.c_messages.specs.Calls.{envelope_read_of, envelope_write_of, response_read_of, response_write_of, information_read_of, information_write_of, features_read_of, features_write_of};
+ghost use Rattle.c_message_rows.specs.Convert.{payload_for};
+ghost use Rattle.c_firmware.specs.Calls.{segment_read_of, segment_write_of, apply_read_of, apply_write_of, field_read_of};
 
 use c_firmware::calls::{apply_read, apply_write, field_read, segment_read, segment_write};
 use c_messages::calls::{
@@ -18,7 +18,7 @@ use c_messages::calls::{
 #[unsafe(no_mangle)]
 pub extern "C" fn pito_envelope_read(message: &[u8], answer: &mut [u64]) -> u64
     ensures { called result [] [] answer.new
-        ≡ envelopeReadOf message.now answer.old }
+        ≡ envelope_read_of message.now answer.old }
 {
     envelope_read(message, answer)
 }
@@ -35,7 +35,7 @@ pub extern "C" fn pito_envelope_write(
     answer: &mut [u64],
 ) -> u64
     ensures { called result [] output.new answer.new
-        ≡ envelopeWriteOf command (payloadFor command payload error_code field) bytes.now
+        ≡ envelope_write_of command (payload_for command payload error_code field) bytes.now
         output.old answer.old }
 {
     envelope_write(command, payload, error_code, field, bytes, output, answer)
@@ -45,7 +45,7 @@ pub extern "C" fn pito_envelope_write(
 #[unsafe(no_mangle)]
 pub extern "C" fn pito_response_read(message: &[u8], answer: &mut [u64]) -> u64
     ensures { called result [] [] answer.new
-        ≡ responseReadOf message.now answer.old }
+        ≡ response_read_of message.now answer.old }
 {
     response_read(message, answer)
 }
@@ -60,7 +60,7 @@ pub extern "C" fn pito_response_write(
     answer: &mut [u64],
 ) -> u64
     ensures { called result [] output.new answer.new
-        ≡ responseWriteOf error_code field bytes.now output.old answer.old }
+        ≡ response_write_of error_code field bytes.now output.old answer.old }
 {
     response_write(error_code, field, bytes, output, answer)
 }
@@ -69,7 +69,7 @@ pub extern "C" fn pito_response_write(
 #[unsafe(no_mangle)]
 pub extern "C" fn pito_information_read(message: &[u8], answer: &mut [u64]) -> u64
     ensures { called result [] [] answer.new
-        ≡ informationReadOf message.now answer.old }
+        ≡ information_read_of message.now answer.old }
 {
     information_read(message, answer)
 }
@@ -85,7 +85,7 @@ pub extern "C" fn pito_information_write(
     answer: &mut [u64],
 ) -> u64
     ensures { called result [] output.new answer.new
-        ≡ informationWriteOf serial_number.now name.now device_type.now
+        ≡ information_write_of serial_number.now name.now device_type.now
         transports.now output.old answer.old }
 {
     information_write(serial_number, name, device_type, transports, output, answer)
@@ -95,7 +95,7 @@ pub extern "C" fn pito_information_write(
 #[unsafe(no_mangle)]
 pub extern "C" fn pito_features_read(message: &[u8], answer: &mut [u64]) -> u64
     ensures { called result [] [] answer.new
-        ≡ featuresReadOf message.now answer.old }
+        ≡ features_read_of message.now answer.old }
 {
     features_read(message, answer)
 }
@@ -109,7 +109,7 @@ pub extern "C" fn pito_features_write(
     answer: &mut [u64],
 ) -> u64
     ensures { called result [] output.new answer.new
-        ≡ featuresWriteOf features device_attributes output.old answer.old }
+        ≡ features_write_of features device_attributes output.old answer.old }
 {
     features_write(features, device_attributes, output, answer)
 }
@@ -120,7 +120,7 @@ pub extern "C" fn pito_features_write(
 #[unsafe(no_mangle)]
 pub extern "C" fn pito_segment_read(message: &[u8], answer: &mut [u64]) -> u64
     ensures { called result [] [] answer.new
-        ≡ segmentReadOf message.now answer.old }
+        ≡ segment_read_of message.now answer.old }
 {
     segment_read(message, answer)
 }
@@ -136,7 +136,7 @@ pub extern "C" fn pito_segment_write(
     answer: &mut [u64],
 ) -> u64
     ensures { called result [] output.new answer.new
-        ≡ segmentWriteOf name.now offset size signature.now output.old
+        ≡ segment_write_of name.now offset size signature.now output.old
         answer.old }
 {
     segment_write(name, offset, size, signature, output, answer)
@@ -145,7 +145,7 @@ pub extern "C" fn pito_segment_write(
 // Reads an ApplyFirmware.
 #[unsafe(no_mangle)]
 pub extern "C" fn pito_apply_read(message: &[u8], answer: &mut [u64]) -> u64
-    ensures { called result [] [] answer.new ≡ applyReadOf message.now answer.old }
+    ensures { called result [] [] answer.new ≡ apply_read_of message.now answer.old }
 {
     apply_read(message, answer)
 }
@@ -159,7 +159,7 @@ pub extern "C" fn pito_apply_write(
     answer: &mut [u64],
 ) -> u64
     ensures { called result [] output.new answer.new
-        ≡ applyWriteOf row.now texts.now output.old answer.old }
+        ≡ apply_write_of row.now texts.now output.old answer.old }
 {
     apply_write(row, texts, output, answer)
 }
@@ -170,7 +170,7 @@ pub extern "C" fn pito_apply_write(
 #[unsafe(no_mangle)]
 pub extern "C" fn pito_field_read(message: &[u8], place: u64, answer: &mut [u64]) -> u64
     ensures { called result [] [] answer.new
-        ≡ fieldReadOf message.now place answer.old }
+        ≡ field_read_of message.now place answer.old }
 {
     field_read(message, place, answer)
 }

@@ -1,14 +1,14 @@
 // Control messages: what was read as rows, and what the writers are given by numbers.
 ghost use Rattle.std.specs.Prelude.{◌≡◌, ◌++◌, map, ◌≤◌, length, take};
 ghost use Rattle.proto_field.specs.Signed.{signed_of};
-ghost use Rattle.proto_reader.specs.Refusal.{messageNumber, whyOf, numberMore, toldVerdict};
-ghost use Rattle.msg_control.specs.Envelope.{toldEnvelope};
-ghost use Rattle.msg_control.specs.Response.{toldResponse};
-ghost use Rattle.msg_device.specs.Features.{toldFeatures};
-ghost use Rattle.proto_writer.specs.Message.{toldWrote};
-ghost use Rattle.proto_strings.specs.Texts.{toldTextWrote};
-ghost use Rattle.c_rows.specs.Row.{afterwards, numberTold, count_of};
-ghost use Rattle.c_message_rows.specs.Convert.{is_signed, allSigned, payloadRow, envelopeRow, responsePayloadOf, payloadFor, responseRow, partsRow, transportsRow, faultOf, faultRow, wroteRow, featuresRow};
+ghost use Rattle.proto_reader.specs.Refusal.{message_number, why_of, number_more, told_verdict};
+ghost use Rattle.msg_control.specs.Envelope.{told_envelope};
+ghost use Rattle.msg_control.specs.Response.{told_response};
+ghost use Rattle.msg_device.specs.Features.{told_features};
+ghost use Rattle.proto_writer.specs.Message.{told_wrote};
+ghost use Rattle.proto_strings.specs.Texts.{told_text_wrote};
+ghost use Rattle.c_rows.specs.Row.{afterwards, number_told, count_of};
+ghost use Rattle.c_message_rows.specs.Convert.{is_signed, all_signed, payload_row, envelope_row, response_payload_of, payload_for, response_row, parts_row, transports_row, fault_of, fault_row, wrote_row, features_row};
 
 use c_rows::row::{Count, DONE, UNFIT, fill, put};
 use msg_control::envelope::{EnvelopePayload, EnvelopeRead, Payload};
@@ -50,7 +50,7 @@ const MEMBER: u64 = 2;
 const BAD_TEXT: u64 = 36;
 
 fn refusal_number(why: MessageRefusal) -> u64
-    ensures { result ≡ messageNumber why }
+    ensures { result ≡ message_number why }
 {
     why.number() as u64
 }
@@ -63,7 +63,7 @@ fn is_signed(n: u64) -> bool
 }
 
 pub fn count_of(wrote: Wrote) -> Count
-    ensures { result ≡ count_of (toldWrote wrote) }
+    ensures { result ≡ count_of (told_wrote wrote) }
 {
     match wrote {
         Wrote::Done(n) => Count::of(n),
@@ -74,7 +74,7 @@ pub fn count_of(wrote: Wrote) -> Count
 // ---- writers of strings
 
 fn text_number(wrote: TextWrote) -> u64
-    ensures { result ≡ numberMore (toldTextWrote wrote) }
+    ensures { result ≡ number_more (told_text_wrote wrote) }
 {
     match wrote {
         TextWrote::Done(_) => DONE,
@@ -84,7 +84,7 @@ fn text_number(wrote: TextWrote) -> u64
 }
 
 fn text_row(wrote: TextWrote) -> [u64; 3]
-    ensures { result ≡ wroteRow (toldTextWrote wrote) }
+    ensures { result ≡ wrote_row (told_text_wrote wrote) }
 {
     match wrote {
         TextWrote::Done(n) => [n as u64, 0, 0],
@@ -96,9 +96,9 @@ fn text_row(wrote: TextWrote) -> [u64; 3]
 // Tells what such a writer wrote in an answer row, and returns its number.
 pub fn tell_wrote(answer: &mut [u64], wrote: TextWrote) -> u64
     requires { length answer.old ≡ 3 }
-    ensures { (result ≡ numberMore (toldTextWrote wrote))
+    ensures { (result ≡ number_more (told_text_wrote wrote))
         × (answer.new
-        ≡ afterwards (numberMore (toldTextWrote wrote)) answer.old (wroteRow (toldTextWrote wrote))) }
+        ≡ afterwards (number_more (told_text_wrote wrote)) answer.old (wrote_row (told_text_wrote wrote))) }
 {
     let number = text_number(wrote);
     let row = text_row(wrote);
@@ -109,7 +109,7 @@ pub fn tell_wrote(answer: &mut [u64], wrote: TextWrote) -> u64
 // ---- the envelope
 
 pub fn envelope_number(read: EnvelopeRead) -> u64
-    ensures { result ≡ numberTold (toldEnvelope read) }
+    ensures { result ≡ number_told (told_envelope read) }
 {
     match read {
         EnvelopeRead::Read(_) => DONE,
@@ -119,7 +119,7 @@ pub fn envelope_number(read: EnvelopeRead) -> u64
 
 // What the row tells of a payload, after the command.
 fn payload_row(command: u64, payload: Payload) -> [u64; 6]
-    ensures { result ≡ payloadRow command payload }
+    ensures { result ≡ payload_row command payload }
 {
     match payload {
         Payload::None => [command, NONE, 0, 0, 0, 0],
@@ -146,7 +146,7 @@ fn payload_row(command: u64, payload: Payload) -> [u64; 6]
 }
 
 pub fn envelope_row(read: EnvelopeRead) -> [u64; 6]
-    ensures { result ≡ envelopeRow (toldEnvelope read) }
+    ensures { result ≡ envelope_row (told_envelope read) }
 {
     match read {
         EnvelopeRead::Refused(_) => [0u64; 6],
@@ -159,7 +159,7 @@ pub fn envelope_row(read: EnvelopeRead) -> [u64; 6]
 
 // The payload of a response: none where the field is 0, and out of range where its error code is no signed number.
 pub fn response_payload(error_code: u64, field: u64) -> ResponsePayload
-    ensures { result ≡ responsePayloadOf error_code field }
+    ensures { result ≡ response_payload_of error_code field }
 {
     if !is_signed(error_code) {
         return ResponsePayload::Member(NO_FIELD);
@@ -172,7 +172,7 @@ pub fn response_payload(error_code: u64, field: u64) -> ResponsePayload
 
 // The payload of an envelope: one that is none of the three, or beside a command that is no signed number, is out of range.
 pub fn payload_for(command: u64, payload: u64, error_code: u64, field: u64) -> EnvelopePayload
-    ensures { result ≡ payloadFor command payload error_code field }
+    ensures { result ≡ payload_for command payload error_code field }
 {
     if !is_signed(command) {
         return EnvelopePayload::Member(NO_FIELD);
@@ -196,7 +196,7 @@ pub fn payload_for(command: u64, payload: u64, error_code: u64, field: u64) -> E
 // ---- the response
 
 pub fn response_number(read: ResponseRead) -> u64
-    ensures { result ≡ numberTold (toldResponse read) }
+    ensures { result ≡ number_told (told_response read) }
 {
     match read {
         ResponseRead::Read(_) => DONE,
@@ -205,7 +205,7 @@ pub fn response_number(read: ResponseRead) -> u64
 }
 
 pub fn response_row(read: ResponseRead) -> [u64; 4]
-    ensures { result ≡ responseRow (toldResponse read) }
+    ensures { result ≡ response_row (told_response read) }
 {
     match read {
         ResponseRead::Refused(_) => [0u64; 4],
@@ -224,7 +224,7 @@ pub fn response_row(read: ResponseRead) -> [u64; 4]
 // ---- device features
 
 pub fn features_number(read: FeaturesRead) -> u64
-    ensures { result ≡ numberTold (toldFeatures read) }
+    ensures { result ≡ number_told (told_features read) }
 {
     match read {
         FeaturesRead::Read(_) => DONE,
@@ -233,7 +233,7 @@ pub fn features_number(read: FeaturesRead) -> u64
 }
 
 pub fn features_row(read: FeaturesRead) -> [u64; 2]
-    ensures { result ≡ featuresRow (toldFeatures read) }
+    ensures { result ≡ features_row (told_features read) }
 {
     match read {
         FeaturesRead::Refused(_) => [0u64; 2],
@@ -244,7 +244,7 @@ pub fn features_row(read: FeaturesRead) -> [u64; 2]
 // ---- device information
 
 pub fn verdict_number(verdict: WalkVerdict) -> u64
-    ensures { result ≡ numberMore (toldVerdict verdict) }
+    ensures { result ≡ number_more (told_verdict verdict) }
 {
     match verdict {
         WalkVerdict::Fine => DONE,
@@ -254,7 +254,7 @@ pub fn verdict_number(verdict: WalkVerdict) -> u64
 
 // The field and the place that go with a refusal.
 pub fn fault_of(why: MessageRefusal) -> [u64; 2]
-    ensures { result ≡ faultOf (whyOf why) }
+    ensures { result ≡ fault_of (why_of why) }
 {
     match why {
         MessageRefusal::Field(_) => [0u64; 2],
@@ -263,7 +263,7 @@ pub fn fault_of(why: MessageRefusal) -> [u64; 2]
 }
 
 pub fn verdict_fault(verdict: WalkVerdict) -> [u64; 2]
-    ensures { result ≡ faultRow (toldVerdict verdict) }
+    ensures { result ≡ fault_row (told_verdict verdict) }
 {
     match verdict {
         WalkVerdict::Fine => [0u64; 2],
@@ -273,7 +273,7 @@ pub fn verdict_fault(verdict: WalkVerdict) -> [u64; 2]
 
 // The three strings, and how many transports there are.
 fn parts_row(information: DeviceInformation) -> [u64; 7]
-    ensures { result ≡ partsRow information }
+    ensures { result ≡ parts_row information }
 {
     let serial_number = information.serial_number;
     let name = information.name;
@@ -292,7 +292,7 @@ fn parts_row(information: DeviceInformation) -> [u64; 7]
 // The transports; 0 where there are fewer.
 fn transports_row(list: &[i32]) -> [u64; 8]
     requires { length list.now ≡ 8 }
-    ensures { result ≡ transportsRow list.now }
+    ensures { result ≡ transports_row list.now }
 {
     let mut row = [0u64; 8];
     let mut i = 0;
@@ -314,7 +314,7 @@ pub fn put_information(
     requires { length row.old ≡ 17 }
     ensures { row.new
         ≡ afterwards number row.old
-        (partsRow information ++ (transportsRow information.transports ++ faultRow (toldVerdict verdict))) }
+        (parts_row information ++ (transports_row information.transports ++ fault_row (told_verdict verdict))) }
 {
     if number != UNFIT {
         let parts = parts_row(information);
@@ -329,7 +329,7 @@ pub fn put_information(
 
 // Whether all numbers of a row are signed ones of 32 bits, extended to 64.
 pub fn all_signed(row: &[u64]) -> bool
-    ensures { result ≡ allSigned row.now }
+    ensures { result ≡ all_signed row.now }
 {
     let mut i = 0;
     while i < row.len() {

@@ -1,8 +1,8 @@
 // Control messages for C: the envelope, the response, device information and device features, read and written.
 ghost use Rattle.std.specs.Prelude.{◌≡◌, []};
-ghost use Rattle.c_message_rows.specs.Convert.{payloadFor};
+ghost use Rattle.c_message_rows.specs.Convert.{payload_for};
 ghost use Rattle.c_rows.specs.Called.{called};
-ghost use Rattle.c_messages.specs.Calls.{envelopeReadOf, envelopeWriteOf, responseReadOf, responseWriteOf, informationReadOf, informationWriteOf, featuresReadOf, featuresWriteOf};
+ghost use Rattle.c_messages.specs.Calls.{envelope_read_of, envelope_write_of, response_read_of, response_write_of, information_read_of, information_write_of, features_read_of, features_write_of};
 
 use c_message_rows::convert::{
     ENVELOPE_ANSWER, FEATURES_ANSWER, INFORMATION_ANSWER, RESPONSE_ANSWER, WROTE_ANSWER,
@@ -23,7 +23,7 @@ use proto_writer::message::WriteRefusal;
 // Reads a control envelope.
 pub fn envelope_read(message: &[u8], answer: &mut [u64]) -> u64
     ensures { called result [] [] answer.new
-        ≡ envelopeReadOf message.now answer.old }
+        ≡ envelope_read_of message.now answer.old }
 {
     if answer.len() != ENVELOPE_ANSWER {
         return UNFIT;
@@ -46,7 +46,7 @@ pub fn envelope_write(
     answer: &mut [u64],
 ) -> u64
     ensures { called result [] output.new answer.new
-        ≡ envelopeWriteOf command (payloadFor command payload error_code field) bytes.now
+        ≡ envelope_write_of command (payload_for command payload error_code field) bytes.now
         output.old answer.old }
 {
     if answer.len() != COUNT_ANSWER {
@@ -60,7 +60,7 @@ pub fn envelope_write(
 // Reads a response.
 pub fn response_read(message: &[u8], answer: &mut [u64]) -> u64
     ensures { called result [] [] answer.new
-        ≡ responseReadOf message.now answer.old }
+        ≡ response_read_of message.now answer.old }
 {
     if answer.len() != RESPONSE_ANSWER {
         return UNFIT;
@@ -81,7 +81,7 @@ pub fn response_write(
     answer: &mut [u64],
 ) -> u64
     ensures { called result [] output.new answer.new
-        ≡ responseWriteOf error_code field bytes.now output.old answer.old }
+        ≡ response_write_of error_code field bytes.now output.old answer.old }
 {
     if answer.len() != COUNT_ANSWER {
         return UNFIT;
@@ -94,7 +94,7 @@ pub fn response_write(
 // Reads device features.
 pub fn features_read(message: &[u8], answer: &mut [u64]) -> u64
     ensures { called result [] [] answer.new
-        ≡ featuresReadOf message.now answer.old }
+        ≡ features_read_of message.now answer.old }
 {
     if answer.len() != FEATURES_ANSWER {
         return UNFIT;
@@ -114,7 +114,7 @@ pub fn features_write(
     answer: &mut [u64],
 ) -> u64
     ensures { called result [] output.new answer.new
-        ≡ featuresWriteOf features device_attributes output.old answer.old }
+        ≡ features_write_of features device_attributes output.old answer.old }
 {
     if answer.len() != COUNT_ANSWER {
         return UNFIT;
@@ -130,7 +130,7 @@ pub fn features_write(
 // Reads device information.
 pub fn information_read(message: &[u8], answer: &mut [u64]) -> u64
     ensures { called result [] [] answer.new
-        ≡ informationReadOf message.now answer.old }
+        ≡ information_read_of message.now answer.old }
 {
     if answer.len() != INFORMATION_ANSWER {
         return UNFIT;
@@ -153,7 +153,7 @@ pub fn information_write(
     answer: &mut [u64],
 ) -> u64
     ensures { called result [] output.new answer.new
-        ≡ informationWriteOf serial_number.now name.now device_type.now
+        ≡ information_write_of serial_number.now name.now device_type.now
         transports.now output.old answer.old }
 {
     if answer.len() != WROTE_ANSWER {

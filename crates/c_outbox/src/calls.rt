@@ -1,7 +1,7 @@
 // The outbox for C: a new one, a record appended, a record read at a place, and whether all is whole.
 ghost use Rattle.std.specs.Prelude.{◌≡◌, []};
 ghost use Rattle.c_rows.specs.Called.{called};
-ghost use Rattle.c_outbox.specs.Calls.{outboxNewOf, outboxAppendOf, outboxRecordOf, outboxWholeOf};
+ghost use Rattle.c_outbox.specs.Calls.{outbox_new_of, outbox_append_of, outbox_record_of, outbox_whole_of};
 
 use crate::convert::{
     APPEND_ANSWER, RECORD_ANSWER, WHOLE_ANSWER, created_count, tell_append, tell_record, whole_row,
@@ -14,7 +14,7 @@ use wire::bytes::wide64;
 #[unsafe(no_mangle)]
 pub extern "C" fn pito_outbox_new(output: &mut [u8], answer: &mut [u64]) -> u64
     ensures { called result [] output.new answer.new
-        ≡ outboxNewOf output.old answer.old }
+        ≡ outbox_new_of output.old answer.old }
 {
     if answer.len() != COUNT_ANSWER {
         return UNFIT;
@@ -33,7 +33,7 @@ pub extern "C" fn pito_outbox_append(
     answer: &mut [u64],
 ) -> u64
     ensures { called result [] buffer.new answer.new
-        ≡ outboxAppendOf buffer.old used stream payload.now answer.old }
+        ≡ outbox_append_of buffer.old used stream payload.now answer.old }
 {
     if answer.len() != APPEND_ANSWER {
         return UNFIT;
@@ -47,7 +47,7 @@ pub extern "C" fn pito_outbox_append(
 #[unsafe(no_mangle)]
 pub extern "C" fn pito_outbox_record(bytes: &[u8], place: u64, answer: &mut [u64]) -> u64
     ensures { called result [] [] answer.new
-        ≡ outboxRecordOf bytes.now place answer.old }
+        ≡ outbox_record_of bytes.now place answer.old }
 {
     if answer.len() != RECORD_ANSWER {
         return UNFIT;
@@ -60,7 +60,7 @@ pub extern "C" fn pito_outbox_record(bytes: &[u8], place: u64, answer: &mut [u64
 #[unsafe(no_mangle)]
 pub extern "C" fn pito_outbox_whole(bytes: &[u8], answer: &mut [u64]) -> u64
     ensures { called result [] [] answer.new
-        ≡ outboxWholeOf bytes.now answer.old }
+        ≡ outbox_whole_of bytes.now answer.old }
 {
     if answer.len() != WHOLE_ANSWER {
         return UNFIT;

@@ -1,11 +1,11 @@
 // The outbox: what its calls answer as rows.
 ghost use Rattle.std.specs.Prelude.{◌≡◌, length};
-ghost use Rattle.outbox.specs.Reader.{faultNumber, number_in, toldWalk};
+ghost use Rattle.outbox.specs.Reader.{fault_number, number_in, told_walk};
 ghost use Rattle.outbox.specs.Reader as readings;
-ghost use Rattle.outbox.specs.Writer.{toldNew};
+ghost use Rattle.outbox.specs.Writer.{told_new};
 ghost use Rattle.outbox.specs.Writer as writings;
 ghost use Rattle.c_rows.specs.Row.{afterwards};
-ghost use Rattle.c_outbox.specs.Convert.{cutPlace, usedRow, createdCount, recordRow, wholeRow};
+ghost use Rattle.c_outbox.specs.Convert.{cut_place, used_row, created_count, record_row, whole_row};
 
 use c_rows::row::{Count, DONE, put};
 use outbox::reader::Reading;
@@ -25,7 +25,7 @@ const RECORD: u64 = 1;
 
 // The place that goes with a record that is cut short; 0 for any other fault.
 fn cut_place(fault: Fault, place: usize) -> u64
-    ensures { result ≡ cutPlace (faultNumber fault) place }
+    ensures { result ≡ cut_place (fault_number fault) place }
 {
     match fault {
         Fault::Version => 0,
@@ -36,7 +36,7 @@ fn cut_place(fault: Fault, place: usize) -> u64
 }
 
 pub fn created_count(created: Created) -> Count
-    ensures { result ≡ createdCount (toldNew created) }
+    ensures { result ≡ created_count (told_new created) }
 {
     match created {
         Created::Used(n) => Count::of(n),
@@ -60,7 +60,7 @@ pub fn tell_append(answer: &mut [u64], appended: Appended) -> u64
     requires { length answer.old ≡ 2 }
     ensures { (result ≡ number_in (writings.told appended))
         × (answer.new
-        ≡ afterwards (number_in (writings.told appended)) answer.old (usedRow (writings.told appended))) }
+        ≡ afterwards (number_in (writings.told appended)) answer.old (used_row (writings.told appended))) }
 {
     let zeros = [0u64; 2];
     match appended {
@@ -89,7 +89,7 @@ pub fn tell_record(answer: &mut [u64], reading: Reading) -> u64
     requires { length answer.old ≡ 6 }
     ensures { (result ≡ number_in (readings.told reading))
         × (answer.new
-        ≡ afterwards (number_in (readings.told reading)) answer.old (recordRow (readings.told reading))) }
+        ≡ afterwards (number_in (readings.told reading)) answer.old (record_row (readings.told reading))) }
 {
     let zeros = [0u64; 6];
     match reading {
@@ -122,7 +122,7 @@ pub fn tell_record(answer: &mut [u64], reading: Reading) -> u64
 }
 
 pub fn whole_row(walked: Walked) -> [u64; 1]
-    ensures { result ≡ wholeRow (toldWalk walked) }
+    ensures { result ≡ whole_row (told_walk walked) }
 {
     match walked {
         Walked::Whole => [0],

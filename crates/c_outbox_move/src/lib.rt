@@ -1,9 +1,9 @@
 // Outbox files written in another version, for C: into version 01, and into version 02.
 ghost use Rattle.std.specs.Prelude.{◌≡◌, []};
-ghost use Rattle.outbox.specs.Format.{versionOne, versionTwo};
-ghost use Rattle.outbox_move.specs.Moves.{formatFor, told};
+ghost use Rattle.outbox.specs.Format.{version_one, version_two};
+ghost use Rattle.outbox_move.specs.Moves.{format_for, told};
 ghost use Rattle.c_rows.specs.Called.{called};
-ghost use Rattle.c_outbox_move.specs.Calls.{moved_row, outboxMoveOf};
+ghost use Rattle.c_outbox_move.specs.Calls.{moved_row, outbox_move_of};
 
 use c_rows::row::{UNFIT, put};
 use outbox_move::{Moved, Wished, move_file};
@@ -25,7 +25,7 @@ fn moved_row(moved: Moved) -> [u64; 2]
 
 fn outbox_move(file: &[u8], wished: Wished, output: &mut [u8], answer: &mut [u64]) -> u64
     ensures { called result [] output.new answer.new
-        ≡ outboxMoveOf (formatFor wished) file.now output.old answer.old }
+        ≡ outbox_move_of (format_for wished) file.now output.old answer.old }
 {
     if answer.len() != MOVE_ANSWER {
         return UNFIT;
@@ -41,7 +41,7 @@ fn outbox_move(file: &[u8], wished: Wished, output: &mut [u8], answer: &mut [u64
 #[unsafe(no_mangle)]
 pub extern "C" fn pito_outbox_to_01(bytes: &[u8], output: &mut [u8], answer: &mut [u64]) -> u64
     ensures { called result [] output.new answer.new
-        ≡ outboxMoveOf versionOne bytes.now output.old answer.old }
+        ≡ outbox_move_of version_one bytes.now output.old answer.old }
 {
     outbox_move(bytes, Wished::One, output, answer)
 }
@@ -50,7 +50,7 @@ pub extern "C" fn pito_outbox_to_01(bytes: &[u8], output: &mut [u8], answer: &mu
 #[unsafe(no_mangle)]
 pub extern "C" fn pito_outbox_to_02(bytes: &[u8], output: &mut [u8], answer: &mut [u64]) -> u64
     ensures { called result [] output.new answer.new
-        ≡ outboxMoveOf versionTwo bytes.now output.old answer.old }
+        ≡ outbox_move_of version_two bytes.now output.old answer.old }
 {
     outbox_move(bytes, Wished::Two, output, answer)
 }

@@ -1,7 +1,7 @@
 // One packet for C: the one at the front of some bytes, with where it ends, and the one at a place of a capture.
 ghost use Rattle.std.specs.Prelude.{◌≡◌, []};
 ghost use Rattle.c_rows.specs.Called.{called};
-ghost use Rattle.c_packets.specs.Calls.{packetReadOf, capturePacketOf};
+ghost use Rattle.c_packets.specs.Calls.{packet_read_of, capture_packet_of};
 
 use crate::convert::{CAPTURE_ANSWER, READ_ANSWER, captured_row, front_number, front_row};
 use ble_packet::header::extender_bit;
@@ -14,7 +14,7 @@ use wire::bytes::{byte_at, wide64};
 #[unsafe(no_mangle)]
 pub extern "C" fn pito_packet_read(bytes: &[u8], limit: u64, answer: &mut [u64]) -> u64
     ensures { called result [] [] answer.new
-        ≡ packetReadOf bytes.now limit answer.old }
+        ≡ packet_read_of bytes.now limit answer.old }
 {
     if answer.len() != READ_ANSWER {
         return UNFIT;
@@ -32,7 +32,7 @@ pub extern "C" fn pito_packet_read(bytes: &[u8], limit: u64, answer: &mut [u64])
 #[unsafe(no_mangle)]
 pub extern "C" fn pito_capture_packet(capture: &[u8], place: u64, answer: &mut [u64]) -> u64
     ensures { called result [] [] answer.new
-        ≡ capturePacketOf capture.now place answer.old }
+        ≡ capture_packet_of capture.now place answer.old }
 {
     if answer.len() != CAPTURE_ANSWER {
         return UNFIT;

@@ -1,12 +1,12 @@
 // One packet: what the calls answer as rows.
 ghost use Rattle.std.specs.Prelude.{◌≡◌, cond};
 ghost use Rattle.wire.specs.Bytes.{bit};
-ghost use Rattle.wire.specs.Stream.{streamNumber};
-ghost use Rattle.ble_packet.specs.Header.{typeContinuation, typeLast};
+ghost use Rattle.wire.specs.Stream.{stream_number};
+ghost use Rattle.ble_packet.specs.Header.{type_continuation, type_last};
 ghost use Rattle.ble_packet.specs.Reader.{told};
-ghost use Rattle.capture_packet.specs.Place.{standingTold};
-ghost use Rattle.c_rows.specs.Row.{numberTold};
-ghost use Rattle.c_packets.specs.Convert.{headRow, packetRow, frontRow, capturedRow};
+ghost use Rattle.capture_packet.specs.Place.{standing_told};
+ghost use Rattle.c_rows.specs.Row.{number_told};
+ghost use Rattle.c_packets.specs.Convert.{head_row, packet_row, front_row, captured_row};
 
 use ble_packet::header::{TYPE_CONTINUATION, TYPE_CONTROL, TYPE_FIRST, TYPE_LAST};
 use ble_packet::reader::{Answer, Head, Packet};
@@ -24,7 +24,7 @@ pub const CAPTURE_ANSWER: usize = 5;
 const PACKET: u64 = 1;
 
 pub fn front_number(answer: Answer) -> u64
-    ensures { result ≡ numberTold (told answer) }
+    ensures { result ≡ number_told (told answer) }
 {
     match answer {
         Answer::Refused(why) => wide64(why.number()),
@@ -33,13 +33,13 @@ pub fn front_number(answer: Answer) -> u64
 }
 
 fn stream_number(stream: Stream) -> u64
-    ensures { result ≡ streamNumber stream }
+    ensures { result ≡ stream_number stream }
 {
     wide64(stream.number())
 }
 
 fn kind_after(last: bool) -> u8
-    ensures { result ≡ cond last typeLast typeContinuation }
+    ensures { result ≡ cond last type_last type_continuation }
 {
     if last { TYPE_LAST } else { TYPE_CONTINUATION }
 }
@@ -55,7 +55,7 @@ fn head_row(
     start: usize,
     len: usize,
 ) -> [u64; 10]
-    ensures { result ≡ headRow end head kind (bit ack) (bit extended) total start len }
+    ensures { result ≡ head_row end head kind (bit ack) (bit extended) total start len }
 {
     let stream = head.stream;
     [
@@ -73,7 +73,7 @@ fn head_row(
 }
 
 fn packet_row(end: usize, extended: bool, packet: Packet) -> [u64; 10]
-    ensures { result ≡ packetRow end (bit extended) packet }
+    ensures { result ≡ packet_row end (bit extended) packet }
 {
     match packet {
         Packet::First {
@@ -96,7 +96,7 @@ fn packet_row(end: usize, extended: bool, packet: Packet) -> [u64; 10]
 }
 
 pub fn front_row(end: usize, extended: bool, answer: Answer) -> [u64; 10]
-    ensures { result ≡ frontRow end (bit extended) (told answer) }
+    ensures { result ≡ front_row end (bit extended) (told answer) }
 {
     match answer {
         Answer::Refused(_) => [0u64; 10],
@@ -105,7 +105,7 @@ pub fn front_row(end: usize, extended: bool, answer: Answer) -> [u64; 10]
 }
 
 pub fn captured_row(standing: PacketStanding) -> [u64; 5]
-    ensures { result ≡ capturedRow (standingTold standing) }
+    ensures { result ≡ captured_row (standing_told standing) }
 {
     match standing {
         PacketStanding::Packet { start, size, next } => {

@@ -2,7 +2,7 @@
 ghost use Rattle.std.specs.Prelude.{◌≡◌, []};
 ghost use Rattle.c_rows.specs.Called.{called};
 ghost use Rattle.ble_slot.specs.Answer.{told};
-ghost use Rattle.c_receiving.specs.Calls.{receiverOpenOf, linkAt, toldRow, replied, receiverAcceptOf};
+ghost use Rattle.c_receiving.specs.Calls.{receiver_open_of, link_at, told_row, replied, receiver_accept_of};
 
 use crate::convert::{ANSWER, answer_number, answer_row};
 use ble_link::accept;
@@ -21,7 +21,7 @@ const BAD_LIMIT: u64 = 17;
 // Opens a receiver for a link with a limit: its state.
 #[unsafe(no_mangle)]
 pub extern "C" fn pito_receiver_open(limit: u64, state: &mut [u64]) -> u64
-    ensures { called result state.new [] [] ≡ receiverOpenOf limit state.old }
+    ensures { called result state.new [] [] ≡ receiver_open_of limit state.old }
 {
     if state.len() != STATE {
         return UNFIT;
@@ -39,7 +39,7 @@ pub extern "C" fn pito_receiver_open(limit: u64, state: &mut [u64]) -> u64
 // The link of a state row; size is the answer row's. Rows of other lengths are taken for a link of limit 0, on which every packet is refused
 // by 1.
 pub fn link_at(state: &[u64], size: usize) -> Receiver
-    ensures { result ≡ linkAt state.now size }
+    ensures { result ≡ link_at state.now size }
 {
     if both(size == ANSWER, state.len() == STATE) {
         let limit = number_at(state, 0);
@@ -53,7 +53,7 @@ pub fn link_at(state: &[u64], size: usize) -> Receiver
 
 // Tells what was answered to a packet in the answer row, where that has its length, and returns its number.
 pub fn tell_packet(answer: &mut [u64], done: Answer) -> u64
-    ensures { called result [] [] answer.new ≡ toldRow answer.old (told done) }
+    ensures { called result [] [] answer.new ≡ told_row answer.old (told done) }
 {
     let number = answer_number(done);
     if answer.len() == ANSWER {
@@ -75,7 +75,7 @@ pub extern "C" fn pito_receiver_accept(
     answer: &mut [u64],
 ) -> u64
     ensures { replied result row.new buffer.new answer.new out.new
-        ≡ receiverAcceptOf state.now row.old buffer.old packet.now sequence
+        ≡ receiver_accept_of state.now row.old buffer.old packet.now sequence
         out.old answer.old }
 {
     let link = link_at(state, answer.len());

@@ -1,9 +1,9 @@
 // Receiving over Low Energy: the receiver's answers as rows.
 ghost use Rattle.std.specs.Prelude.{◌≡◌};
-ghost use Rattle.wire.specs.Stream.{streamNumber};
+ghost use Rattle.wire.specs.Stream.{stream_number};
 ghost use Rattle.ble_slot.specs.Answer.{told};
-ghost use Rattle.c_rows.specs.Row.{numberTold};
-ghost use Rattle.c_receiving.specs.Convert.{headRow, acceptedRow, answerRow};
+ghost use Rattle.c_rows.specs.Row.{number_told};
+ghost use Rattle.c_receiving.specs.Convert.{head_row, accepted_row, answer_row};
 
 use ble_packet::reader::Head;
 use ble_slot::answer::{Accepted, Answer};
@@ -24,7 +24,7 @@ const ACKED: u64 = 2;
 const NACKED: u64 = 3;
 
 pub fn answer_number(answer: Answer) -> u64
-    ensures { result ≡ numberTold (told answer) }
+    ensures { result ≡ number_told (told answer) }
 {
     match answer {
         Answer::Refused(why) => wide64(why.number()),
@@ -33,14 +33,14 @@ pub fn answer_number(answer: Answer) -> u64
 }
 
 fn stream_number(stream: Stream) -> u64
-    ensures { result ≡ streamNumber stream }
+    ensures { result ≡ stream_number stream }
 {
     wide64(stream.number())
 }
 
 // The row of an ACK or a NACK.
 fn head_row(outcome: u64, head: Head) -> [u64; 8]
-    ensures { result ≡ headRow outcome head }
+    ensures { result ≡ head_row outcome head }
 {
     let stream = head.stream;
     [
@@ -56,7 +56,7 @@ fn head_row(outcome: u64, head: Head) -> [u64; 8]
 }
 
 fn accepted_row(accepted: Accepted) -> [u64; 8]
-    ensures { result ≡ acceptedRow accepted }
+    ensures { result ≡ accepted_row accepted }
 {
     match accepted {
         Accepted::Taken {
@@ -97,7 +97,7 @@ fn accepted_row(accepted: Accepted) -> [u64; 8]
 }
 
 pub fn answer_row(answer: Answer) -> [u64; 8]
-    ensures { result ≡ answerRow (told answer) }
+    ensures { result ≡ answer_row (told answer) }
 {
     match answer {
         Answer::Refused(_) => [0u64; 8],

@@ -1,8 +1,8 @@
 // The reply to a finished control transaction.
 ghost use Rattle.std.specs.Prelude.{◌≡◌, []};
 ghost use Rattle.c_rows.specs.Called.{called};
-ghost use Rattle.c_reply.specs.Convert.{link_of, featuresOf, members_of};
-ghost use Rattle.c_reply.specs.Calls.{replyWriteOf};
+ghost use Rattle.c_reply.specs.Convert.{link_of, features_of, members_of};
+ghost use Rattle.c_reply.specs.Calls.{reply_write_of};
 
 use crate::convert::{features_for, few_signed, link_for, members_for, tell_reply};
 use c_message_rows::convert::{WROTE_ANSWER, signed_list};
@@ -30,8 +30,8 @@ pub extern "C" fn pito_reply_write(
     answer: &mut [u64],
 ) -> u64
     ensures { called result [] output.new answer.new
-        ≡ replyWriteOf message.now serial_number.now name.now device_type.now
-        transports.now (featuresOf features device_attributes) (members_of information_member features_member)
+        ≡ reply_write_of message.now serial_number.now name.now device_type.now
+        transports.now (features_of features device_attributes) (members_of information_member features_member)
         (link_of room limit id sequence) output.old answer.old }
 {
     if answer.len() != WROTE_ANSWER {

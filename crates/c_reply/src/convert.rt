@@ -1,9 +1,9 @@
 // The reply: what its writer is given by numbers, and what it answers.
 ghost use Rattle.std.specs.Prelude.{◌≡◌, length};
-ghost use Rattle.proto_reader.specs.Refusal.{numberMore};
-ghost use Rattle.reply.specs.Put.{whyOf, told};
+ghost use Rattle.proto_reader.specs.Refusal.{number_more};
+ghost use Rattle.reply.specs.Put.{why_of, told};
 ghost use Rattle.c_rows.specs.Row.{afterwards};
-ghost use Rattle.c_reply.specs.Convert.{link_of, featuresOf, members_of, fewSigned, replyRow};
+ghost use Rattle.c_reply.specs.Convert.{link_of, features_of, members_of, few_signed, reply_row};
 
 use c_message_rows::convert::all_signed;
 use c_rows::row::{DONE, OUT_OF_RANGE, byte_or, put};
@@ -26,7 +26,7 @@ pub fn link_for(room: u64, limit: u64, id: u64, sequence: u64) -> Link
 }
 
 pub fn features_for(features: u64, device_attributes: u64) -> DeviceFeatures
-    ensures { result ≡ featuresOf features device_attributes }
+    ensures { result ≡ features_of features device_attributes }
 {
     DeviceFeatures {
         features,
@@ -45,7 +45,7 @@ pub fn members_for(information: u64, features: u64) -> Members
 
 // Whether a row has at most eight numbers, all of them signed ones of 32 bits.
 pub fn few_signed(row: &[u64]) -> bool
-    ensures { result ≡ fewSigned row.now }
+    ensures { result ≡ few_signed row.now }
 {
     if MOST_TRANSPORTS < row.len() {
         return false;
@@ -54,7 +54,7 @@ pub fn few_signed(row: &[u64]) -> bool
 }
 
 fn refusal_number(why: Refusal) -> u64
-    ensures { result ≡ (whyOf why).0 }
+    ensures { result ≡ (why_of why).0 }
 {
     match why {
         Refusal::Message(own) => wide64(own.number()),
@@ -67,7 +67,7 @@ fn refusal_number(why: Refusal) -> u64
 }
 
 fn reply_number(reply: Reply) -> u64
-    ensures { result ≡ numberMore (told reply) }
+    ensures { result ≡ number_more (told reply) }
 {
     match reply {
         Reply::Refused(why) => refusal_number(why),
@@ -78,7 +78,7 @@ fn reply_number(reply: Reply) -> u64
 
 // The field and the place that go with a refusal.
 fn refusal_row(why: Refusal) -> [u64; 3]
-    ensures { result ≡ replyRow (told (Reply.Refused why)) }
+    ensures { result ≡ reply_row (told (Reply.Refused why)) }
 {
     match why {
         Refusal::Message(_) => [0u64; 3],
@@ -91,7 +91,7 @@ fn refusal_row(why: Refusal) -> [u64; 3]
 }
 
 fn reply_row(reply: Reply) -> [u64; 3]
-    ensures { result ≡ replyRow (told reply) }
+    ensures { result ≡ reply_row (told reply) }
 {
     match reply {
         Reply::Refused(why) => refusal_row(why),
@@ -103,8 +103,8 @@ fn reply_row(reply: Reply) -> [u64; 3]
 // Tells of a reply in an answer row, and returns its number.
 pub fn tell_reply(answer: &mut [u64], reply: Reply) -> u64
     requires { length answer.old ≡ 3 }
-    ensures { (result ≡ numberMore (told reply))
-        × (answer.new ≡ afterwards (numberMore (told reply)) answer.old (replyRow (told reply))) }
+    ensures { (result ≡ number_more (told reply))
+        × (answer.new ≡ afterwards (number_more (told reply)) answer.old (reply_row (told reply))) }
 {
     let number = reply_number(reply);
     let row = reply_row(reply);

@@ -5,14 +5,14 @@ use Rattle.capture_reader.specs.Capture.{ToldAt}
 use Rattle.capture_report.specs.declared.Costs.{Costs}
 use Rattle.capture_report.specs.declared.CostReport.{CostReport}
 
-abbrev pub costsRow : Costs → List ℕ
-costsRow c = c.firsts ∷ c.finished ∷ c.replaced ∷ c.dropped ∷ c.pending ∷ c.payload ∷ c.bytes ∷ []
+abbrev pub costs_row : Costs → List ℕ
+costs_row c = c.firsts ∷ c.finished ∷ c.replaced ∷ c.dropped ∷ c.pending ∷ c.payload ∷ c.bytes ∷ []
 
-abbrev pub reportRow : CostReport → List ℕ
-reportRow r = costsRow r.control ++ costsRow r.ota ++ costsRow r.alexa
+abbrev pub report_row : CostReport → List ℕ
+report_row r = costs_row r.control ++ costs_row r.ota ++ costs_row r.alexa
 
-abbrev pub costsAt : List ℕ → ℕ → Costs
-costsAt row at =
+abbrev pub costs_at : List ℕ → ℕ → Costs
+costs_at row at =
     record {
       firsts = get_or row at 0;
       finished = get_or row (at + 1) 0;
@@ -23,15 +23,15 @@ costsAt row at =
       bytes = get_or row (at + 6) 0;
     }
 
-unfoldable pub reportAt : List ℕ → CostReport
-reportAt row = record { control = costsAt row 0; ota = costsAt row 7; alexa = costsAt row 14 }
+unfoldable pub report_at : List ℕ → CostReport
+report_at row = record { control = costs_at row 0; ota = costs_at row 7; alexa = costs_at row 14 }
 
 -- the report's row afterwards: a refusal leaves it
-abbrev pub reportAfter : List ℕ → ToldAt CostReport → List ℕ
-reportAfter row (given r) = reportRow r
-reportAfter row (refused why) = row
+abbrev pub report_after : List ℕ → ToldAt CostReport → List ℕ
+report_after row (given r) = report_row r
+report_after row (refused why) = row
 
 -- the answer row: the refusal's place, or 0
-abbrev pub placeRow : ToldAt CostReport → List ℕ
-placeRow (given r) = 0 ∷ []
-placeRow (refused why) = why.1 ∷ []
+abbrev pub place_row : ToldAt CostReport → List ℕ
+place_row (given r) = 0 ∷ []
+place_row (refused why) = why.1 ∷ []

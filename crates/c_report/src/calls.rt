@@ -1,7 +1,7 @@
 // One capture added to a report, for C: what it is added to, and what is told of it.
 ghost use Rattle.std.specs.Prelude.{◌≡◌};
 ghost use Rattle.capture_tally.specs.Tally.{told};
-ghost use Rattle.c_report.specs.Calls.{addingTo, added, toldRows, reportCalled, reportAddOf};
+ghost use Rattle.c_report.specs.Calls.{adding_to, added, told_rows, report_called, report_add_of};
 
 use crate::convert::{ADD_ANSWER, REPORT, place_row, put_report, report_at};
 use ble_slot::Slot;
@@ -20,7 +20,7 @@ pub struct AddingTo {
 
 // What a capture is added to; size is the answer row's. Rows of other lengths get the limit 0, on which a link leaves all.
 pub fn adding_to(report: &[u64], limit: u64, size: usize) -> AddingTo
-    ensures { result ≡ addingTo report.now limit size }
+    ensures { result ≡ adding_to report.now limit size }
 {
     let before = report_at(report);
     let limit = if both(report.len() == REPORT, size == ADD_ANSWER) {
@@ -37,7 +37,7 @@ pub fn adding_to(report: &[u64], limit: u64, size: usize) -> AddingTo
 // Tells what came of a capture in the report and the answer row, and returns its number; 1 where one of them has another length.
 pub fn tell_added(report: &mut [u64], answer: &mut [u64], done: Answer) -> u64
     ensures { added result report.new answer.new
-        ≡ toldRows report.old answer.old (told done) }
+        ≡ told_rows report.old answer.old (told done) }
 {
     let fits = both(report.len() == REPORT, answer.len() == ADD_ANSWER);
     if !fits {
@@ -60,8 +60,8 @@ pub extern "C" fn pito_report_add(
     capture: &[u8],
     answer: &mut [u64],
 ) -> u64
-    ensures { reportCalled result report.new row.new buffer.new answer.new
-        ≡ reportAddOf report.old limit row.old buffer.old capture.now
+    ensures { report_called result report.new row.new buffer.new answer.new
+        ≡ report_add_of report.old limit row.old buffer.old capture.now
         answer.old }
 {
     let to = adding_to(&*report, limit, answer.len());

@@ -1,7 +1,7 @@
 // A report as a row, and what is told of a capture that is added.
 ghost use Rattle.std.specs.Prelude.{◌≡◌, ◌≤◌, length};
 ghost use Rattle.capture_tally.specs.Tally.{told};
-ghost use Rattle.c_report.specs.Convert.{reportRow, costsAt, reportAt, reportAfter, placeRow};
+ghost use Rattle.c_report.specs.Convert.{report_row, costs_at, report_at, report_after, place_row};
 
 use c_rows::row::{number_at, write_row};
 use capture_report::{CostReport, Costs};
@@ -15,7 +15,7 @@ pub const ADD_ANSWER: usize = 1;
 
 fn costs_at(row: &[u64], at: usize) -> Costs
     requires { at ≤ 14 }
-    ensures { result ≡ costsAt row.now at }
+    ensures { result ≡ costs_at row.now at }
 {
     let firsts = number_at(row, at);
     let finished = number_at(row, at + 1);
@@ -36,7 +36,7 @@ fn costs_at(row: &[u64], at: usize) -> Costs
 }
 
 pub fn report_at(row: &[u64]) -> CostReport
-    ensures { result ≡ reportAt row.now }
+    ensures { result ≡ report_at row.now }
 {
     let control = costs_at(row, 0);
     let ota = costs_at(row, 7);
@@ -49,7 +49,7 @@ pub fn report_at(row: &[u64]) -> CostReport
 }
 
 fn report_row(report: CostReport) -> [u64; 21]
-    ensures { result ≡ reportRow report }
+    ensures { result ≡ report_row report }
 {
     let control = report.control;
     let ota = report.ota;
@@ -82,7 +82,7 @@ fn report_row(report: CostReport) -> [u64; 21]
 // Writes the report where one is told.
 pub fn put_report(row: &mut [u64], answer: Answer)
     requires { length row.old ≡ 21 }
-    ensures { row.new ≡ reportAfter row.old (told answer) }
+    ensures { row.new ≡ report_after row.old (told answer) }
 {
     match answer {
         Answer::Refused { why: _, at: _ } => {}
@@ -94,7 +94,7 @@ pub fn put_report(row: &mut [u64], answer: Answer)
 }
 
 pub fn place_row(answer: Answer) -> [u64; 1]
-    ensures { result ≡ placeRow (told answer) }
+    ensures { result ≡ place_row (told answer) }
 {
     match answer {
         Answer::Refused { why: _, at } => [at as u64],

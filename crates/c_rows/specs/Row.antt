@@ -8,22 +8,22 @@ abbrev pub afterwards : ℕ → List ℕ → List ℕ → List ℕ
 afterwards number before row = cond (eqb number 1) before row
 
 -- 0, or the number of the refusal
-abbrev pub numberTold : {A : Type 0} → Told A → ℕ
-numberTold (given a) = 0
-numberTold (refused n) = n
+abbrev pub number_told : {A : Type 0} → Told A → ℕ
+number_told (given a) = 0
+number_told (refused n) = n
 
 -- how many bytes a writer wrote
-abbrev pub sizeTold : Told ℕ → ℕ
-sizeTold (given n) = n
-sizeTold (refused n) = 0
+abbrev pub size_told : Told ℕ → ℕ
+size_told (given n) = n
+size_told (refused n) = 0
 
 abbrev pub count_of : Told ℕ → Count
-count_of t = record { number = numberTold t; size = sizeTold t }
+count_of t = record { number = number_told t; size = size_told t }
 
 -- a number of 64 bits where the library takes a byte: one above 255 stands for a byte that is out of range there
-unfoldable pub byteOr : ℕ → ℕ → ℕ
-byteOr other n = cond (ltb n 256) n other
+unfoldable pub byte_or : ℕ → ℕ → ℕ
+byte_or other n = cond (ltb n 256) n other
 
 -- a byte that is no stream, id or sequence of a packet
-abbrev pub outOfRange : ℕ
-outOfRange = 255
+abbrev pub out_of_range : ℕ
+out_of_range = 255

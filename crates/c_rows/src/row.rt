@@ -2,7 +2,7 @@
 ghost use Rattle.std.specs.Prelude.{◌≡◌, [], ◌∷◌, ◌++◌, ◌+◌, ◌≤◌, length, get_or};
 ghost use Rattle.std.proofs.lemmas.List.Edits.{sets};
 ghost use Rattle.wire.specs.Told.{given, refused};
-ghost use Rattle.c_rows.specs.Row.{afterwards, byteOr, count_of};
+ghost use Rattle.c_rows.specs.Row.{afterwards, byte_or, count_of};
 
 // What is returned where nothing is refused.
 pub const DONE: u64 = 0;
@@ -96,7 +96,7 @@ pub fn tell(answer: &mut [u64], count: Count) -> u64
 
 // A number as a byte; one above 255 stands for a byte that the library judges to be out of range.
 pub fn byte_or(other: u8, n: u64) -> u8
-    ensures { result ≡ byteOr other n }
+    ensures { result ≡ byte_or other n }
 {
     if n < BYTES { n as u8 } else { other }
 }

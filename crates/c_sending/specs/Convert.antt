@@ -3,25 +3,25 @@ use Rattle.std.specs.Prelude.{ℕ, cond, List, [], ◌∷◌, ltb, eqb}
 use Rattle.wire.specs.Told.{Told, given, refused}
 use Rattle.ble_sender.specs.declared.writer.Sending.{Sending}
 use Rattle.ble_sender.specs.Writer.{Sent, more, last}
-use Rattle.c_rows.specs.Row.{byteOr, outOfRange}
+use Rattle.c_rows.specs.Row.{byte_or, out_of_range}
 
 -- a stream, where the wish beside it is 0 or 1; with any other wish it stands for no stream, which is out of range: 15 in the library's order
-unfoldable pub streamWith : ℕ → ℕ → ℕ
-streamWith wish stream = cond (ltb wish 2) (byteOr outOfRange stream) outOfRange
+unfoldable pub stream_with : ℕ → ℕ → ℕ
+stream_with wish stream = cond (ltb wish 2) (byte_or out_of_range stream) out_of_range
 
 -- how a message is sent: a number above 255 stands for one that is out of range
-unfoldable pub sendingOf : ℕ → ℕ → ℕ → ℕ → ℕ → Sending
-sendingOf room stream id sequence ack =
+unfoldable pub sending_of : ℕ → ℕ → ℕ → ℕ → ℕ → Sending
+sending_of room stream id sequence ack =
     record {
       room = room;
-      stream = streamWith ack stream;
-      id = byteOr outOfRange id;
-      sequence = byteOr outOfRange sequence;
+      stream = stream_with ack stream;
+      id = byte_or out_of_range id;
+      sequence = byte_or out_of_range sequence;
       ack = eqb ack 1;
     }
 
 -- written, next place; where it was the last packet, the next place is the message's end
-abbrev pub packetRow : ℕ → Told Sent → List ℕ
-packetRow end (given (more n next)) = n ∷ next ∷ []
-packetRow end (given (last n)) = n ∷ end ∷ []
-packetRow end (refused n) = 0 ∷ 0 ∷ []
+abbrev pub packet_row : ℕ → Told Sent → List ℕ
+packet_row end (given (more n next)) = n ∷ next ∷ []
+packet_row end (given (last n)) = n ∷ end ∷ []
+packet_row end (refused n) = 0 ∷ 0 ∷ []

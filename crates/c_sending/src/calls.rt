@@ -1,8 +1,8 @@
 // Sending over Low Energy for C: the packets of a message, ACK and NACK.
 ghost use Rattle.std.specs.Prelude.{◌≡◌, []};
-ghost use Rattle.c_sending.specs.Convert.{sendingOf};
+ghost use Rattle.c_sending.specs.Convert.{sending_of};
 ghost use Rattle.c_rows.specs.Called.{called};
-ghost use Rattle.c_sending.specs.Calls.{packetWriteOf, ackWriteOf};
+ghost use Rattle.c_sending.specs.Calls.{packet_write_of, ack_write_of};
 
 use crate::convert::{
     PACKET_ANSWER, WISHED, ack_count, packet_number, packet_row, sending, stream_with,
@@ -25,7 +25,7 @@ pub extern "C" fn pito_packet_write(
     answer: &mut [u64],
 ) -> u64
     ensures { called result [] output.new answer.new
-        ≡ packetWriteOf limit (sendingOf room stream id sequence ack) message.now place output.old
+        ≡ packet_write_of limit (sending_of room stream id sequence ack) message.now place output.old
         answer.old }
 {
     if answer.len() != PACKET_ANSWER {
@@ -50,7 +50,7 @@ pub extern "C" fn pito_ack_write(
     answer: &mut [u64],
 ) -> u64
     ensures { called result [] output.new answer.new
-        ≡ ackWriteOf stream id sequence positive output.old answer.old }
+        ≡ ack_write_of stream id sequence positive output.old answer.old }
 {
     if answer.len() != COUNT_ANSWER {
         return UNFIT;

@@ -3,8 +3,8 @@
 ghost use Rattle.std.specs.Prelude.{◌≡◌};
 ghost use Rattle.ble_ack.specs.Acknowledgement as acknowledgements;
 ghost use Rattle.ble_sender.specs.Writer.{told};
-ghost use Rattle.c_rows.specs.Row.{numberTold, count_of};
-ghost use Rattle.c_sending.specs.Convert.{streamWith, sendingOf, packetRow};
+ghost use Rattle.c_rows.specs.Row.{number_told, count_of};
+ghost use Rattle.c_sending.specs.Convert.{stream_with, sending_of, packet_row};
 
 use ble_sender::writer::{Answer, Sending};
 use c_rows::row::{Count, DONE, OUT_OF_RANGE, byte_or};
@@ -20,7 +20,7 @@ pub const WISHED: u64 = 1;
 
 // A stream; with a wish other than 0 and 1 it stands for no stream, which is out of range.
 pub fn stream_with(wish: u64, stream: u64) -> u8
-    ensures { result ≡ streamWith wish stream }
+    ensures { result ≡ stream_with wish stream }
 {
     if wish < WISHES {
         byte_or(OUT_OF_RANGE, stream)
@@ -30,7 +30,7 @@ pub fn stream_with(wish: u64, stream: u64) -> u8
 }
 
 pub fn sending(room: u64, stream: u64, id: u64, sequence: u64, ack: u64) -> Sending
-    ensures { result ≡ sendingOf room stream id sequence ack }
+    ensures { result ≡ sending_of room stream id sequence ack }
 {
     Sending {
         room: room as usize,
@@ -42,7 +42,7 @@ pub fn sending(room: u64, stream: u64, id: u64, sequence: u64, ack: u64) -> Send
 }
 
 pub fn packet_number(answer: Answer) -> u64
-    ensures { result ≡ numberTold (told answer) }
+    ensures { result ≡ number_told (told answer) }
 {
     match answer {
         Answer::Refused(why) => wide64(why.number()),
@@ -53,7 +53,7 @@ pub fn packet_number(answer: Answer) -> u64
 
 // Where it was the last packet, the next place is the message's end.
 pub fn packet_row(answer: Answer, end: usize) -> [u64; 2]
-    ensures { result ≡ packetRow end (told answer) }
+    ensures { result ≡ packet_row end (told answer) }
 {
     match answer {
         Answer::Refused(_) => [0, 0],

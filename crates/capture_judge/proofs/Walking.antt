@@ -8,14 +8,14 @@ use lib.ListN.{length, take, drop, length-take, length-drop, drop_of_length-le}
 use lib.Dec.{ltb}
 use borrow.Author.Tests.{ltb-true, ltb-false}
 use Rattle.wire.specs.Told.{given, refused}
-use Rattle.capture_reader.specs.Capture.{width, frontOf, otherVersion}
+use Rattle.capture_reader.specs.Capture.{width, front_of, other_version}
 use Rattle.capture_reader.proofs.Walking as captures
 use Rattle.capture_reader.proofs.Walking.{front-within, PacketWalk, walk_begins, walk_ends, walk-stops, walk-goes}
 use Rattle.capture_judge.specs.declared.State.{State}
 use Rattle.capture_judge.specs.declared.capture.Judgement.{Judgement}
 use Rattle.capture_judge.specs.declared.capture.Judgement.TheVariants.{Going}
 use Rattle.capture_judge.specs.Step.{idle}
-use Rattle.capture_judge.specs.Capture.{goneOn, verdictFrom, walkedOf}
+use Rattle.capture_judge.specs.Capture.{gone_on, verdict_from, walked_of}
 
 -- what follows a place, or nothing
 pub drop-smaller : (bytes : List ℕ) (n : ℕ) (b : Bool) → ltb (length bytes) n ≡ b → drop (min (length bytes) n) bytes ≡ drop n bytes
@@ -30,37 +30,37 @@ drop-smaller bytes n false e =
 
 -- from a place on, the packets that are left and what is known so far decide as all do
 pub record Judging (room limit : ℕ) (bytes : List ℕ) (at : ℕ) (v : Judgement) : Type 0 where
-  pub walk : PacketWalk bytes (walkedOf room limit bytes) at (λ ps. given (verdictFrom room limit at v ps))
+  pub walk : PacketWalk bytes (walked_of room limit bytes) at (λ ps. given (verdict_from room limit at v ps))
 
 module _ (room limit : ℕ) (bytes : List ℕ) where
-  pub other-refused : otherVersion bytes ≡ true → walkedOf room limit bytes ≡ refused (40, 0)
-  unfolding walkedOf
+  pub other-refused : other_version bytes ≡ true → walked_of room limit bytes ≡ refused (40, 0)
+  unfolding walked_of
   other-refused e = rw (captures.other-refused bytes e)
 
-  pub judging-begins : otherVersion bytes ≡ false → (s : State) → s ≡ idle → Judging room limit bytes 1 (Going s)
-  unfolding walkedOf
-  judging-begins e s i = rw i (record { walk = walk_begins bytes (λ ps. given (verdictFrom room limit 1 (Going idle) ps)) e })
+  pub judging-begins : other_version bytes ≡ false → (s : State) → s ≡ idle → Judging room limit bytes 1 (Going s)
+  unfolding walked_of
+  judging-begins e s i = rw i (record { walk = walk_begins bytes (λ ps. given (verdict_from room limit 1 (Going idle) ps)) e })
 
   module _ {at : ℕ} {v : Judgement} (j : Judging room limit bytes at v) where
-    pub judging-ends : length bytes ≤ at → walkedOf room limit bytes ≡ given v
-    unfolding verdictFrom
+    pub judging-ends : length bytes ≤ at → walked_of room limit bytes ≡ given v
+    unfolding verdict_from
     judging-ends h = walk_ends bytes j.walk h
 
     module _ (h : at < length bytes) where
-      pub judging-stops : (n : ℕ) → frontOf (drop at bytes) ≡ refused n → walkedOf room limit bytes ≡ refused (n, at)
+      pub judging-stops : (n : ℕ) → front_of (drop at bytes) ≡ refused n → walked_of room limit bytes ≡ refused (n, at)
       judging-stops n e = walk-stops bytes j.walk h n e
 
       -- one packet more
-      step_is : (p : List ℕ) (ps : List (List ℕ)) → verdictFrom room limit at v (p ∷ ps) ≡ verdictFrom room limit (at + width + length p) (goneOn room limit at v p) ps
-      unfolding verdictFrom
+      step_is : (p : List ℕ) (ps : List (List ℕ)) → verdict_from room limit at v (p ∷ ps) ≡ verdict_from room limit (at + width + length p) (gone_on room limit at v p) ps
+      unfolding verdict_from
       step_is p ps = refl
 
-      pub judging-goes : (n : ℕ) (p : List ℕ) (w : Judgement) → frontOf (drop at bytes) ≡ given n → p ≡ take n (drop (at + width) bytes) → w ≡ goneOn room limit at v p
+      pub judging-goes : (n : ℕ) (p : List ℕ) (w : Judgement) → front_of (drop at bytes) ≡ given n → p ≡ take n (drop (at + width) bytes) → w ≡ gone_on room limit at v p
           → Judging room limit bytes (at + width + n) w
       judging-goes n p w e pe we =
           let k : width + n ≤ length (drop at bytes) = (front-within (drop at bytes) n e).0 in
           let l : length (drop at bytes) ≡ length bytes - at = length-drop at bytes in
           let size : length p ≡ n = rw pe (length-take n (drop (at + width) bytes) ∙ omega (arith, length-drop (at + width) bytes)) in
           record {
-            walk = walk-goes bytes j.walk h n p (λ ps. given (verdictFrom room limit (at + width + n) w ps)) e pe (λ ps. ap given (step_is p ps ∙ rw (size, ← we)));
+            walk = walk-goes bytes j.walk h n p (λ ps. given (verdict_from room limit (at + width + n) w ps)) e pe (λ ps. ap given (step_is p ps ∙ rw (size, ← we)));
           }

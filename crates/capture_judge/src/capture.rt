@@ -2,7 +2,7 @@
 ghost use Rattle.std.specs.Prelude.{◌≡◌};
 ghost use Rattle.wire.specs.Told.{given};
 ghost use Rattle.capture_reader.specs.Capture.{number_in};
-ghost use Rattle.capture_judge.specs.Capture.{goneOn, walkedOf, tracedOf, answer_in, answer_of, judgedOf, number_of, traceTold, told};
+ghost use Rattle.capture_judge.specs.Capture.{gone_on, walked_of, traced_of, answer_in, answer_of, judged_of, number_of, trace_told, told};
 
 use crate::State;
 use crate::step::{StateAfter, judge_packet};
@@ -72,7 +72,7 @@ impl Answer {
 
 // One packet more, whose length stands at a place.
 fn go_on(verdict: Judgement, packet: &[u8], room: usize, limit: usize, at: usize) -> Judgement
-    ensures { result ≡ goneOn room limit at verdict packet.now }
+    ensures { result ≡ gone_on room limit at verdict packet.now }
 {
     match verdict {
         Judgement::Going(state) => {
@@ -88,7 +88,7 @@ fn go_on(verdict: Judgement, packet: &[u8], room: usize, limit: usize, at: usize
 
 // The capture, packet after packet.
 fn walk(capture: &[u8], room: usize, limit: usize) -> Traced
-    ensures { traceTold result ≡ walkedOf room limit capture.now }
+    ensures { trace_told result ≡ walked_of room limit capture.now }
 {
     if other_version(capture) {
         return Traced::Barred {
@@ -120,7 +120,7 @@ fn walk(capture: &[u8], room: usize, limit: usize) -> Traced
 
 // What the packets of a capture say, at a room and a limit.
 pub fn trace(capture: &[u8], room: usize, limit: usize) -> Traced
-    ensures { traceTold result ≡ tracedOf room limit capture.now }
+    ensures { trace_told result ≡ traced_of room limit capture.now }
 {
     if !room_fits(room) {
         return Traced::Barred {
@@ -154,7 +154,7 @@ fn answer_in(verdict: Judgement) -> Answer
 }
 
 pub(crate) fn answer_of(traced: Traced) -> Answer
-    ensures { told result ≡ answer_of (traceTold traced) }
+    ensures { told result ≡ answer_of (trace_told traced) }
 {
     match traced {
         Traced::Barred { why, at } => Answer::Refused { why, at },
@@ -164,7 +164,7 @@ pub(crate) fn answer_of(traced: Traced) -> Answer
 
 // Whether a capture is lawful for a room and a limit.
 pub fn judge_capture(capture: &[u8], room: usize, limit: usize) -> Answer
-    ensures { told result ≡ judgedOf room limit capture.now }
+    ensures { told result ≡ judged_of room limit capture.now }
 {
     answer_of(trace(capture, room, limit))
 }

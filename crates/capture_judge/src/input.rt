@@ -1,7 +1,7 @@
 // The whole input of the program: room and limit, two bytes each, then a capture; absent bytes are 0.
 ghost use Rattle.std.specs.Prelude.{◌≡◌};
-ghost use Rattle.capture_judge.specs.Capture.{traceTold, told};
-ghost use Rattle.capture_judge.specs.Input.{roomIn, limitIn, inputTraced, input_of};
+ghost use Rattle.capture_judge.specs.Capture.{trace_told, told};
+ghost use Rattle.capture_judge.specs.Input.{room_in, limit_in, input_traced, input_of};
 
 use crate::capture::{Answer, Refusal, Traced, answer_of, trace};
 use wire::bytes::{byte_at, pair, smaller};
@@ -12,20 +12,20 @@ pub const SETTINGS: usize = 4;
 pub const LARGEST_CAPTURE: usize = 65536;
 
 pub fn room_in(input: &[u8]) -> usize
-    ensures { result ≡ roomIn input.now }
+    ensures { result ≡ room_in input.now }
 {
     pair(byte_at(input, 0), byte_at(input, 1))
 }
 
 pub fn limit_in(input: &[u8]) -> usize
-    ensures { result ≡ limitIn input.now }
+    ensures { result ≡ limit_in input.now }
 {
     pair(byte_at(input, 2), byte_at(input, 3))
 }
 
 // What the packets of the capture say; first of all the refusal of a longer one.
 pub fn trace_input(input: &[u8]) -> Traced
-    ensures { traceTold result ≡ inputTraced input.now }
+    ensures { trace_told result ≡ input_traced input.now }
 {
     if SETTINGS + LARGEST_CAPTURE < input.len() {
         return Traced::Barred {

@@ -4,7 +4,7 @@ pub mod input;
 pub mod step;
 
 ghost use Rattle.std.specs.Prelude.{◌≡◌};
-ghost use Rattle.capture_judge.specs.Step.{slotIn, withSlot, idle, allIdle};
+ghost use Rattle.capture_judge.specs.Step.{slot_in, with_slot, idle, all_idle};
 
 use capture_stream::SenderSlot;
 use wire::logic::both;
@@ -30,7 +30,7 @@ impl State {
     }
 
     pub fn slot(self, stream: Stream) -> SenderSlot
-        ensures { result ≡ slotIn self stream }
+        ensures { result ≡ slot_in self stream }
     {
         match stream {
             Stream::Control => self.control,
@@ -40,7 +40,7 @@ impl State {
     }
 
     fn with_slot(self, stream: Stream, slot: SenderSlot) -> Self
-        ensures { result ≡ withSlot self stream slot }
+        ensures { result ≡ with_slot self stream slot }
     {
         let control = self.control;
         let ota = self.ota;
@@ -66,7 +66,7 @@ impl State {
 
     // Whether no transaction is open.
     pub fn is_idle(self) -> bool
-        ensures { result ≡ allIdle self }
+        ensures { result ≡ all_idle self }
     {
         let control = self.control;
         let ota = self.ota;

@@ -2,7 +2,7 @@
 ghost use Rattle.std.specs.Prelude.{◌≡◌};
 ghost use Rattle.wire.specs.Told.{given};
 ghost use Rattle.capture_stream.specs.Slot.{moved_to};
-ghost use Rattle.capture_judge.specs.Step.{placed, stepBy, step_of, stepped};
+ghost use Rattle.capture_judge.specs.Step.{placed, step_by, step_of, stepped};
 
 use crate::State;
 use ble_packet::reader;
@@ -29,7 +29,7 @@ fn placed(state: State, stream: Stream, moved: SlotAfter) -> StateAfter
 
 // What was read, judged.
 fn step(room: usize, state: State, read: Packet) -> StateAfter
-    ensures { stepped result ≡ stepBy room state (given read) }
+    ensures { stepped result ≡ step_by room state (given read) }
 {
     match read {
         Packet::First {

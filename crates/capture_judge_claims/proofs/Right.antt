@@ -12,8 +12,8 @@ use Rattle.capture_stream.specs.declared.SenderSlot.{SenderSlot}
 use Rattle.capture_stream.specs.declared.SenderSlot.TheVariants.{Idle, Open}
 use Rattle.capture_judge.specs.declared.State.{State}
 use Rattle.capture_reader.specs.Capture.{Packets}
-use Rattle.capture_stream.specs.Slot.{isIdle}
-use Rattle.capture_judge.specs.Step.{idle, allIdle, step_of, after}
+use Rattle.capture_stream.specs.Slot.{is_idle}
+use Rattle.capture_judge.specs.Step.{idle, all_idle, step_of, after}
 use Rattle.capture_judge.specs.Capture.{Answer, lawful, open·ended, unlawful}
 use Rattle.capture_judge_claims.specs.Lawful.{LawfulPackets, Viable}
 use Rattle.capture_judge_claims.proofs.Rest.{InRange, never-some}
@@ -22,36 +22,36 @@ use Rattle.capture_judge_claims.proofs.Continuing.{run-append, taken-ends, packe
 
 -- ---- the answer, with the index of a packet in the place of its place
 
-unfoldable pub answerFrom : ℕ → ℕ → State → ℕ → List (List ℕ) → Answer
-answerFrom room limit s k [] = cond (allIdle s) lawful open·ended
-answerFrom room limit s k (p ∷ ps) = after (step_of room limit s p) (unlawful k) (λ (t : State). answerFrom room limit t (suc k) ps)
+unfoldable pub answer_from : ℕ → ℕ → State → ℕ → List (List ℕ) → Answer
+answer_from room limit s k [] = cond (all_idle s) lawful open·ended
+answer_from room limit s k (p ∷ ps) = after (step_of room limit s p) (unlawful k) (λ (t : State). answer_from room limit t (suc k) ps)
 
 abbrev pub answer_of : ℕ → ℕ → List (List ℕ) → Answer
-answer_of room limit ps = answerFrom room limit idle 0 ps
+answer_of room limit ps = answer_from room limit idle 0 ps
 
 -- it is what the run says
 
 -- nothing is open
-idle-by : (c o a : SenderSlot) → (isIdle c && (isIdle o && isIdle a)) ≡ true → ◌≡◌ {A = State} (record { control = c; ota = o; alexa = a }) idle
+idle-by : (c o a : SenderSlot) → (is_idle c && (is_idle o && is_idle a)) ≡ true → ◌≡◌ {A = State} (record { control = c; ota = o; alexa = a }) idle
 idle-by Idle Idle Idle e = refl
 idle-by Idle Idle (Open id left sequence) e = absurd (false≢true e)
 idle-by Idle (Open id left sequence) a e = absurd (false≢true e)
 idle-by (Open id left sequence) o a e = absurd (false≢true e)
 
-pub idle-when : (t : State) → allIdle t ≡ true → t ≡ idle
+pub idle-when : (t : State) → all_idle t ≡ true → t ≡ idle
 idle-when t e = idle-by t.control t.ota t.alexa e
 
-abbrev endAnswer : State → Answer
-endAnswer t = cond (allIdle t) lawful open·ended
+abbrev end_answer : State → Answer
+end_answer t = cond (all_idle t) lawful open·ended
 
 module _ (room limit : ℕ) where
-  end_by : (p : List ℕ) (ps : List (List ℕ)) (t : State) (k : ℕ) (o : Option State) → ((st : State) → run_of room limit st ps ≡ some t → answerFrom room limit st (suc k) ps ≡ endAnswer t)
-      → after o none (λ (u : State). run_of room limit u ps) ≡ some t → after o (unlawful k) (λ (u : State). answerFrom room limit u (suc k) ps) ≡ endAnswer t
+  end_by : (p : List ℕ) (ps : List (List ℕ)) (t : State) (k : ℕ) (o : Option State) → ((st : State) → run_of room limit st ps ≡ some t → answer_from room limit st (suc k) ps ≡ end_answer t)
+      → after o none (λ (u : State). run_of room limit u ps) ≡ some t → after o (unlawful k) (λ (u : State). answer_from room limit u (suc k) ps) ≡ end_answer t
   end_by p ps t k none later e = never-some t e
   end_by p ps t k (some u) later e = later u e
 
-  end_is : (ps : List (List ℕ)) (t : State) (k : ℕ) (st : State) → run_of room limit st ps ≡ some t → answerFrom room limit st k ps ≡ endAnswer t
-  unfolding run_of answerFrom
+  end_is : (ps : List (List ℕ)) (t : State) (k : ℕ) (st : State) → run_of room limit st ps ≡ some t → answer_from room limit st k ps ≡ end_answer t
+  unfolding run_of answer_from
   end_is [] t k st e = let z : st ≡ t = cc in rw z
   end_is (p ∷ ps) t k st e = end_by p ps t k (step_of room limit st p) (end_is ps t (suc k)) e
 
@@ -59,13 +59,13 @@ module _ (room limit : ℕ) where
   record Stops (ps : List (List ℕ)) (k : ℕ) (st : State) : Type 0 where
     index : ℕ
     last-state : State
-    answer-is : answerFrom room limit st k ps ≡ unlawful (k + index)
+    answer-is : answer_from room limit st k ps ≡ unlawful (k + index)
     taken-before : run_of room limit st (take index ps) ≡ some last-state
     stopped-at : run_of room limit st (take (suc index) ps) ≡ none
 
   stops-by : (p : List ℕ) (ps : List (List ℕ)) (k : ℕ) (st : State) (o : Option State) → step_of room limit st p ≡ o
       → ((u : State) → run_of room limit u ps ≡ none → Stops ps (suc k) u) → after o none (λ (u : State). run_of room limit u ps) ≡ none → Stops (p ∷ ps) k st
-  unfolding run_of answerFrom
+  unfolding run_of answer_from
   stops-by p ps k st none s later e =
       record { index = 0; last-state = st; answer-is = rw (s, add-zero); taken-before = refl; stopped-at = rw s }
   stops-by p ps k st (some u) s later e =
@@ -85,21 +85,21 @@ module _ (room limit : ℕ) where
 
   -- .. and there is only one
   stop-by : (p : List ℕ) (ps : List (List ℕ)) (index k : ℕ) (t : State) (o : Option State)
-      → ((st : State) → run_of room limit st (take index ps) ≡ some t → run_of room limit st (take (suc index) ps) ≡ none → answerFrom room limit st (suc k) ps ≡ unlawful (suc k + index))
+      → ((st : State) → run_of room limit st (take index ps) ≡ some t → run_of room limit st (take (suc index) ps) ≡ none → answer_from room limit st (suc k) ps ≡ unlawful (suc k + index))
       → after o none (λ (u : State). run_of room limit u (take index ps)) ≡ some t → after o none (λ (u : State). run_of room limit u (take (suc index) ps)) ≡ none
-      → after o (unlawful k) (λ (u : State). answerFrom room limit u (suc k) ps) ≡ unlawful (k + suc index)
+      → after o (unlawful k) (λ (u : State). answer_from room limit u (suc k) ps) ≡ unlawful (k + suc index)
   stop-by p ps index k t none later e f = never-some t e
   stop-by p ps index k t (some u) later e f = later u e f ∙ ap unlawful (omega arith)
 
   stop-first : (p : List ℕ) (ps : List (List ℕ)) (k : ℕ) (st : State) (o : Option State) → after o none (λ (u : State). run_of room limit u []) ≡ none
-      → after o (unlawful k) (λ (u : State). answerFrom room limit u (suc k) ps) ≡ unlawful (k + 0)
+      → after o (unlawful k) (λ (u : State). answer_from room limit u (suc k) ps) ≡ unlawful (k + 0)
   unfolding run_of
   stop-first p ps k st none f = rw add-zero
   stop-first p ps k st (some u) f = never-some u (sym f)
 
   stop_is : (ps : List (List ℕ)) (index k : ℕ) (t st : State) → run_of room limit st (take index ps) ≡ some t → run_of room limit st (take (suc index) ps) ≡ none
-      → answerFrom room limit st k ps ≡ unlawful (k + index)
-  unfolding run_of answerFrom
+      → answer_from room limit st k ps ≡ unlawful (k + index)
+  unfolding run_of answer_from
   stop_is [] zero k t st e f = never-some st (sym f)
   stop_is [] (suc index) k t st e f = never-some st (sym f)
   stop_is (p ∷ ps) zero k t st e f = stop-first p ps k st (step_of room limit st p) f
@@ -142,11 +142,11 @@ module _ (room limit : ℕ) (fits : InRange room limit) where
     -- what the run of all packets comes to
     data Comes : Type 0 where
       to_end : run_of room limit idle ps ≡ some idle → answer_of room limit ps ≡ lawful → Comes
-      to-open : (t : State) → run_of room limit idle ps ≡ some t → allIdle t ≡ false → answer_of room limit ps ≡ open·ended → Comes
+      to-open : (t : State) → run_of room limit idle ps ≡ some t → all_idle t ≡ false → answer_of room limit ps ≡ open·ended → Comes
       to-stop : (k : ℕ) (t : State) → answer_of room limit ps ≡ unlawful k → run_of room limit idle (take k ps) ≡ some t → run_of room limit idle (take (suc k) ps) ≡ none
           → run_of room limit idle ps ≡ none → Comes
 
-    end-comes : (t : State) → run_of room limit idle ps ≡ some t → (b : Bool) → allIdle t ≡ b → answer_of room limit ps ≡ cond b lawful open·ended → Comes
+    end-comes : (t : State) → run_of room limit idle ps ≡ some t → (b : Bool) → all_idle t ≡ b → answer_of room limit ps ≡ cond b lawful open·ended → Comes
     end-comes t e true i a = to_end (rw (idle-when t i) at e) a
     end-comes t e false i a = to-open t e i a
 
@@ -154,7 +154,7 @@ module _ (room limit : ℕ) (fits : InRange room limit) where
     comes-by none e =
         let h = stops room limit ps 0 idle e in
         to-stop h.index h.last-state (h.answer-is ∙ ap unlawful (omega arith)) h.taken-before h.stopped-at e
-    comes-by (some t) e = end-comes t e (allIdle t) refl (end_is room limit ps t 0 idle e)
+    comes-by (some t) e = end-comes t e (all_idle t) refl (end_is room limit ps t 0 idle e)
 
     comes : Comes
     comes = comes-by (run_of room limit idle ps) refl

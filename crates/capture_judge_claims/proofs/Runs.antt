@@ -12,22 +12,22 @@ use Rattle.capture_reader.specs.Capture.{Packets}
 use Rattle.wire.specs.Bytes.{AllBytes}
 use Rattle.wire.specs.declared.stream.Stream.{Stream}
 use Rattle.wire.specs.declared.stream.Stream.TheVariants.{Control, Ota, Alexa}
-use Rattle.wire.specs.Stream.{streamNumber}
+use Rattle.wire.specs.Stream.{stream_number}
 use Rattle.wire.proofs.Streams.{number-back}
 use Rattle.wire.proofs.Tests.{and_left, and_right, or-true}
 use Rattle.ble_packet.specs.declared.reader.Packet.{Packet}
 use Rattle.ble_packet.specs.declared.reader.Packet.TheVariants.{First, Next, Ack, Nack}
-use Rattle.ble_packet.specs.Header.{streamBits, is_of}
-use Rattle.ble_packet.specs.Reader.{headIn, read_of}
+use Rattle.ble_packet.specs.Header.{stream_bits, is_of}
+use Rattle.ble_packet.specs.Reader.{head_in, read_of}
 use Rattle.ble_packet.proofs.Reading.{read-passes, empty-refused}
-use Rattle.ble_sender.specs.Piece.{leastRoom}
+use Rattle.ble_sender.specs.Piece.{least_room}
 use Rattle.ble_sender.proofs.Guard.{room-low}
 use Rattle.capture_stream.specs.declared.SenderSlot.{SenderSlot}
 use Rattle.capture_stream.specs.declared.SenderSlot.TheVariants.{Idle}
 use Rattle.capture_judge.specs.declared.State.{State}
-use Rattle.capture_stream.specs.Slot.{slotStep}
-use Rattle.capture_judge.specs.Step.{slotIn, withSlot, idle, placed, stepBy, step_of, after}
-use Rattle.capture_judge_claims.specs.Lawful.{Transaction, AllWritable, packetsIn, acknowledges, isAck, carries, known, AllKnown, LawfulPackets}
+use Rattle.capture_stream.specs.Slot.{slot_step}
+use Rattle.capture_judge.specs.Step.{slot_in, with_slot, idle, placed, step_by, step_of, after}
+use Rattle.capture_judge_claims.specs.Lawful.{Transaction, AllWritable, packets_in, acknowledges, is_ack, carries, known, AllKnown, LawfulPackets}
 use Rattle.capture_judge_claims.proofs.Rest.{InRange, Rest, done, begins, within, advance, step_back, rest-empty}
 
 -- ---- a run
@@ -43,7 +43,7 @@ run_step room limit st t p ps e = rw e
 -- ---- the slot of one stream, and those of the others
 
 abbrev pub Others : Stream → Stream → Type 0
-Others s other = streamNumber other ≡ streamNumber s → ⊥
+Others s other = stream_number other ≡ stream_number s → ⊥
 
 pub by-stream : (P : Stream → Type 0) (s : Stream) → P s → ((other : Stream) → Others s other → P other) → (other : Stream) → P other
 by-stream P Control p q Control = p
@@ -57,12 +57,12 @@ by-stream P Alexa p q Ota = q Ota (λ e. omega arith)
 by-stream P Alexa p q Alexa = p
 
 module _ (st : State) (next : SenderSlot) where
-  pub slot_same : (s : Stream) → slotIn (withSlot st s next) s ≡ next
+  pub slot_same : (s : Stream) → slot_in (with_slot st s next) s ≡ next
   slot_same Control = refl
   slot_same Ota = refl
   slot_same Alexa = refl
 
-  pub slot-other : (s other : Stream) → Others s other → slotIn (withSlot st s next) other ≡ slotIn st other
+  pub slot-other : (s other : Stream) → Others s other → slot_in (with_slot st s next) other ≡ slot_in st other
   slot-other Control Control d = absurd (d refl)
   slot-other Control Ota d = refl
   slot-other Control Alexa d = refl
@@ -74,7 +74,7 @@ module _ (st : State) (next : SenderSlot) where
   slot-other Alexa Alexa d = absurd (d refl)
 
 -- all slots are idle
-idle-is : (st : State) → ((s : Stream) → slotIn st s ≡ Idle) → st ≡ idle
+idle-is : (st : State) → ((s : Stream) → slot_in st s ≡ Idle) → st ≡ idle
 idle-is st e = λ i. record { control = e Control i; ota = e Ota i; alexa = e Alexa i }
 
 -- ---- those of a stream
@@ -87,17 +87,17 @@ those-out test p ps e = rw e
 
 of_other : (n m : ℕ) (p : List ℕ) → is_of n p ≡ true → (m ≡ n → ⊥) → is_of m p ≡ false
 of_other n m [] e d = absurd (false≢true e)
-of_other n m (x ∷ xs) e d = let z : streamBits x ≡ n = eqb-true (streamBits x) n e in ne_eqb (streamBits x) m (λ u. d (sym u ∙ z))
+of_other n m (x ∷ xs) e d = let z : stream_bits x ≡ n = eqb-true (stream_bits x) n e in ne_eqb (stream_bits x) m (λ u. d (sym u ∙ z))
 
 module _ (limit : ℕ) (p : List ℕ) where
-  ack-carries : (s : Stream) → isAck limit p ≡ true → carries limit s p ≡ false
+  ack-carries : (s : Stream) → is_ack limit p ≡ true → carries limit s p ≡ false
   ack-carries s e = rw e
 
   other-carries : (s other : Stream) → carries limit s p ≡ true → Others s other → carries limit other p ≡ false
   other-carries s other e d =
-      let a : not (isAck limit p) ≡ true = and_left (not (isAck limit p)) _ e in
-      let b : is_of (streamNumber s) p ≡ true = and_right (not (isAck limit p)) _ e in
-      rw a (of_other (streamNumber s) (streamNumber other) p b d)
+      let a : not (is_ack limit p) ≡ true = and_left (not (is_ack limit p)) _ e in
+      let b : is_of (stream_number s) p ≡ true = and_right (not (is_ack limit p)) _ e in
+      rw a (of_other (stream_number s) (stream_number other) p b d)
 
   -- the stream of a known packet that is no ACK
   record Carried : Type 0 where
@@ -109,21 +109,21 @@ module _ (limit : ℕ) (p : List ℕ) where
   carried-by false true c ea eb ec e = record { stream = Ota; is-of = eb }
   carried-by false false c ea eb ec e = record { stream = Alexa; is-of = ec ∙ e }
 
-  carried : known limit p ≡ true → isAck limit p ≡ false → Carried
+  carried : known limit p ≡ true → is_ack limit p ≡ false → Carried
   carried k a =
       let e : (carries limit Control p || (carries limit Ota p || carries limit Alexa p)) ≡ true = rw a (rw a at k) in
       carried-by (carries limit Control p) (carries limit Ota p) (carries limit Alexa p) refl refl refl e
 
 -- ---- complete: what is lawful is taken
 
-ack-by : (room : ℕ) (st : State) (r : Told Packet) → acknowledges r ≡ true → stepBy room st r ≡ some st
+ack-by : (room : ℕ) (st : State) (r : Told Packet) → acknowledges r ≡ true → step_by room st r ≡ some st
 ack-by room st (refused n) e = absurd (false≢true e)
 ack-by room st (given (First h ack total start len)) e = absurd (false≢true e)
 ack-by room st (given (Next h ack last start len)) e = absurd (false≢true e)
 ack-by room st (given (Ack h)) e = refl
 ack-by room st (given (Nack h)) e = refl
 
-ack-step : (room limit : ℕ) (st : State) (p : List ℕ) → isAck limit p ≡ true → step_of room limit st p ≡ some st
+ack-step : (room limit : ℕ) (st : State) (p : List ℕ) → is_ack limit p ≡ true → step_of room limit st p ≡ some st
 unfolding step_of
 ack-step room limit st p e = ack-by room st (read_of limit p) e
 
@@ -131,16 +131,16 @@ ack-step room limit st p e = ack-by room st (read_of limit p) e
 abbrev pub Tails : Type 0
 Tails = Stream → List (List ℕ)
 
-module _ (room limit : ℕ) (low : leastRoom ≤ room) (tails : Tails) where
+module _ (room limit : ℕ) (low : least_room ≤ room) (tails : Tails) where
   -- on each stream of a state, what may still come is what comes, and the tail
   abbrev pub Awaits : State → List (List ℕ) → Type 0
-  Awaits st ps = (s : Stream) → Rest room limit s (slotIn st s) (those (carries limit s) ps ++ tails s)
+  Awaits st ps = (s : Stream) → Rest room limit s (slot_in st s) (those (carries limit s) ps ++ tails s)
 
   -- all packets are taken, and on each stream the tail may still come
   pub record Reached (st : State) (ps : List (List ℕ)) : Type 0 where
     pub state : State
     pub runs : run_of room limit st ps ≡ some state
-    pub rests : (s : Stream) → Rest room limit s (slotIn state s) (tails s)
+    pub rests : (s : Stream) → Rest room limit s (slot_in state s) (tails s)
 
   reached-step : (st t : State) (p : List ℕ) (ps : List (List ℕ)) → step_of room limit st p ≡ some t → Reached t ps → Reached st (p ∷ ps)
   reached-step st t p ps e r = record { state = r.state; runs = run_step room limit st t p ps e ∙ r.runs; rests = r.rests }
@@ -151,13 +151,13 @@ module _ (room limit : ℕ) (low : leastRoom ≤ room) (tails : Tails) where
   complete-piece : (p : List ℕ) (ps : List (List ℕ)) → Runs ps → (st : State) → AllKnown limit ps → Awaits st (p ∷ ps) → (s : Stream) → carries limit s p ≡ true → Reached st (p ∷ ps)
   complete-piece p ps later st ks w s c =
       let t = advance room limit low s p (those (carries limit s) ps ++ tails s) (w s) (ap (λ (x : List (List ℕ)). x ++ tails s) (those-in (carries limit s) p ps c)) in
-      reached-step st (withSlot st s t.next) p ps (t.takes st refl)
-      (later (withSlot st s t.next) ks
-      (by-stream (λ other. Rest room limit other (slotIn (withSlot st s t.next) other) (those (carries limit other) ps ++ tails other)) s
+      reached-step st (with_slot st s t.next) p ps (t.takes st refl)
+      (later (with_slot st s t.next) ks
+      (by-stream (λ other. Rest room limit other (slot_in (with_slot st s t.next) other) (those (carries limit other) ps ++ tails other)) s
       (rw (slot_same st t.next s) t.rest)
       (λ other d. rw (slot-other st t.next s other d) (rw (those-out (carries limit other) p ps (other-carries limit p s other c d)) at (w other)))))
 
-  complete-by : (p : List ℕ) (ps : List (List ℕ)) (b : Bool) → isAck limit p ≡ b → Runs ps → Runs (p ∷ ps)
+  complete-by : (p : List ℕ) (ps : List (List ℕ)) (b : Bool) → is_ack limit p ≡ b → Runs ps → Runs (p ∷ ps)
   complete-by p ps true e later st k w =
       reached-step st st p ps (ack-step room limit st p e) (later st k.1 (λ s. rw (those-out (carries limit s) p ps (ack-carries limit p s e)) at (w s)))
   complete-by p ps false e later st k w =
@@ -166,46 +166,46 @@ module _ (room limit : ℕ) (low : leastRoom ≤ room) (tails : Tails) where
   pub complete : (ps : List (List ℕ)) → Runs ps
   unfolding run_of
   complete [] st k w = record { state = st; runs = refl; rests = w }
-  complete (p ∷ ps) st k w = complete-by p ps (isAck limit p) refl (complete ps) st k w
+  complete (p ∷ ps) st k w = complete-by p ps (is_ack limit p) refl (complete ps) st k w
 
 -- ---- sound: what is taken is lawful
 
 known_of : (limit : ℕ) (p : List ℕ) (s : Stream) → carries limit s p ≡ true → known limit p ≡ true
-known_of limit p Control e = or-true (isAck limit p) _ (rw e)
-known_of limit p Ota e = or-true (isAck limit p) _ (or-true (carries limit Control p) _ (rw e))
-known_of limit p Alexa e = or-true (isAck limit p) _ (or-true (carries limit Control p) _ (or-true (carries limit Ota p) _ e))
+known_of limit p Control e = or-true (is_ack limit p) _ (rw e)
+known_of limit p Ota e = or-true (is_ack limit p) _ (or-true (carries limit Control p) _ (rw e))
+known_of limit p Alexa e = or-true (is_ack limit p) _ (or-true (carries limit Control p) _ (or-true (carries limit Ota p) _ e))
 
-piece_of : (limit : ℕ) (p : List ℕ) (x : Packet) → read_of limit p ≡ given x → is_of (streamNumber (headIn x).stream) p ≡ true
+piece_of : (limit : ℕ) (p : List ℕ) (x : Packet) → read_of limit p ≡ given x → is_of (stream_number (head_in x).stream) p ≡ true
 piece_of limit [] x e = let z : ◌≡◌ {A = ℕ} 0 1 = cc (empty-refused limit) in absurd (omega arith)
 piece_of limit (b ∷ bs) x e =
     let passes = rw e at (read-passes limit (b ∷ bs)) in
-    eq-eqb (streamBits b) (streamNumber (headIn x).stream) (sym (ap streamNumber passes.named ∙ number-back (streamBits b) passes.known))
+    eq-eqb (stream_bits b) (stream_number (head_in x).stream) (sym (ap stream_number passes.named ∙ number-back (stream_bits b) passes.known))
 
-piece-carries : (limit : ℕ) (p : List ℕ) (x : Packet) → read_of limit p ≡ given x → acknowledges (given x) ≡ false → carries limit (headIn x).stream p ≡ true
+piece-carries : (limit : ℕ) (p : List ℕ) (x : Packet) → read_of limit p ≡ given x → acknowledges (given x) ≡ false → carries limit (head_in x).stream p ≡ true
 piece-carries limit p x e a = rw (e, a) (piece_of limit p x e)
 
 -- what a step that was taken did
 pub data StepTaken (room limit : ℕ) (st : State) (p : List ℕ) (t : State) : Type 0 where
-  was-ack : isAck limit p ≡ true → t ≡ st → StepTaken room limit st p t
-  was-piece : (x : Packet) (next : SenderSlot) → read_of limit p ≡ given x → acknowledges (given x) ≡ false → slotStep room (slotIn st (headIn x).stream) x ≡ some next
-      → t ≡ withSlot st (headIn x).stream next → StepTaken room limit st p t
+  was-ack : is_ack limit p ≡ true → t ≡ st → StepTaken room limit st p t
+  was-piece : (x : Packet) (next : SenderSlot) → read_of limit p ≡ given x → acknowledges (given x) ≡ false → slot_step room (slot_in st (head_in x).stream) x ≡ some next
+      → t ≡ with_slot st (head_in x).stream next → StepTaken room limit st p t
 
 record Placed (st : State) (s : Stream) (o : Option SenderSlot) (t : State) : Type 0 where
   next : SenderSlot
   is_some : o ≡ some next
-  is_state : t ≡ withSlot st s next
+  is_state : t ≡ with_slot st s next
 
 placed_by : (st t : State) (s : Stream) (o : Option SenderSlot) → placed st s o ≡ some t → Placed st s o t
 placed_by st t s none e = let z : ◌≡◌ {A = ℕ} 0 1 = cc in absurd (omega arith)
 placed_by st t s (some next) e = record { next = next; is_some = refl; is_state = cc }
 
-stepped_by : (room limit : ℕ) (st t : State) (p : List ℕ) (r : Told Packet) → read_of limit p ≡ r → stepBy room st r ≡ some t → StepTaken room limit st p t
+stepped_by : (room limit : ℕ) (st t : State) (p : List ℕ) (r : Told Packet) → read_of limit p ≡ r → step_by room st r ≡ some t → StepTaken room limit st p t
 stepped_by room limit st t p (refused n) r e = let z : ◌≡◌ {A = ℕ} 0 1 = cc in absurd (omega arith)
 stepped_by room limit st t p (given (First h ack total start len)) r e =
-    let q = placed_by st t h.stream (slotStep room (slotIn st h.stream) (First h ack total start len)) e in
+    let q = placed_by st t h.stream (slot_step room (slot_in st h.stream) (First h ack total start len)) e in
     was-piece (First h ack total start len) q.next r refl q.is_some q.is_state
 stepped_by room limit st t p (given (Next h ack last start len)) r e =
-    let q = placed_by st t h.stream (slotStep room (slotIn st h.stream) (Next h ack last start len)) e in
+    let q = placed_by st t h.stream (slot_step room (slot_in st h.stream) (Next h ack last start len)) e in
     was-piece (Next h ack last start len) q.next r refl q.is_some q.is_state
 stepped_by room limit st t p (given (Ack h)) r e = was-ack (rw r) (cc)
 stepped_by room limit st t p (given (Nack h)) r e = was-ack (rw r) (cc)
@@ -217,7 +217,7 @@ stepped room limit st t p e = stepped_by room limit st t p (read_of limit p) ref
 module _ (room limit : ℕ) (fits : InRange room limit) (tails : Tails) where
   pub record Sound (st : State) (ps : List (List ℕ)) : Type 0 where
     pub all_known : AllKnown limit ps
-    pub awaits : (s : Stream) → Rest room limit s (slotIn st s) (those (carries limit s) ps ++ tails s)
+    pub awaits : (s : Stream) → Rest room limit s (slot_in st s) (those (carries limit s) ps ++ tails s)
 
   sound-step : (st t : State) (p : List ℕ) (ps : List (List ℕ)) → AllBytes p → StepTaken room limit st p t → Sound t ps → Sound st (p ∷ ps)
   sound-step st t p ps bytes (was-ack a e) later =
@@ -226,20 +226,20 @@ module _ (room limit : ℕ) (fits : InRange room limit) (tails : Tails) where
         awaits = λ s. rw (those-out (carries limit s) p ps (ack-carries limit p s a), ← e) (later.awaits s);
       }
   sound-step st t p ps bytes (was-piece x next r a q e) later =
-      let s : Stream = (headIn x).stream in
+      let s : Stream = (head_in x).stream in
       let c : carries limit s p ≡ true = piece-carries limit p x r a in
       record {
         all_known = (known_of limit p s c, later.all_known);
         awaits =
-            by-stream (λ other. Rest room limit other (slotIn st other) (those (carries limit other) (p ∷ ps) ++ tails other)) s
+            by-stream (λ other. Rest room limit other (slot_in st other) (those (carries limit other) (p ∷ ps) ++ tails other)) s
             (rw (those-in (carries limit s) p ps c)
-            (step_back room limit fits s p bytes x r refl a (slotIn st s) next (those (carries limit s) ps ++ tails s) q (rw (e, slot_same st next s) at (later.awaits s))))
+            (step_back room limit fits s p bytes x r refl a (slot_in st s) next (those (carries limit s) ps ++ tails s) q (rw (e, slot_same st next s) at (later.awaits s))))
             (λ other d.
             rw (those-out (carries limit other) p ps (other-carries limit p s other c d)) (rw (e, slot-other st next s other d) at (later.awaits other)));
       }
 
   -- from the end of a run, where the tails may still come
-  module _ (end : State) (rests : (s : Stream) → Rest room limit s (slotIn end s) (tails s)) where
+  module _ (end : State) (rests : (s : Stream) → Rest room limit s (slot_in end s) (tails s)) where
     sound-by : (st : State) (p : List ℕ) (ps : List (List ℕ)) → AllBytes p → ((t : State) → run_of room limit t ps ≡ some end → Sound t ps) → (o : Option State) → step_of room limit st p ≡ o
         → after o none (λ (t : State). run_of room limit t ps) ≡ some end → Sound st (p ∷ ps)
     sound-by st p ps bytes later none e r = let z : ◌≡◌ {A = ℕ} 0 1 = cc in absurd (omega arith)
@@ -255,7 +255,7 @@ module _ (room limit : ℕ) (fits : InRange room limit) (tails : Tails) where
 pub record SentAs (room limit : ℕ) (s : Stream) (qs : List (List ℕ)) : Type 0 where
   pub sent : List Transaction
   pub writable : AllWritable room limit s sent
-  pub packets-are : qs ≡ packetsIn limit sent
+  pub packets-are : qs ≡ packets_in limit sent
 
 -- what comes where nothing is open is a list of transactions
 pub sent-of : {room limit : ℕ} {s : Stream} {slot : SenderSlot} {qs : List (List ℕ)} → Rest room limit s slot qs → slot ≡ Idle → SentAs room limit s qs
@@ -265,11 +265,11 @@ sent-of {room} {limit} {s} (begins t others w o e) i =
     record { sent = t ∷ later.sent; writable = (w, later.writable); packets-are = e ∙ rw (← later.packets-are) }
 sent-of (within fuel ack rest others b li ls r sl f o e) i = let z : ◌≡◌ {A = ℕ} 0 1 = cc in absurd (omega arith)
 
-pub sent-rest : (room limit : ℕ) (s : Stream) (ts : List Transaction) → AllWritable room limit s ts → Rest room limit s Idle (packetsIn limit ts)
+pub sent-rest : (room limit : ℕ) (s : Stream) (ts : List Transaction) → AllWritable room limit s ts → Rest room limit s Idle (packets_in limit ts)
 sent-rest room limit s [] w = done refl
-sent-rest room limit s (t ∷ ts) w = begins t (packetsIn limit ts) w.0 (sent-rest room limit s ts w.1) refl
+sent-rest room limit s (t ∷ ts) w = begins t (packets_in limit ts) w.0 (sent-rest room limit s ts w.1) refl
 
-pub idle-slot : (s : Stream) → slotIn idle s ≡ Idle
+pub idle-slot : (s : Stream) → slot_in idle s ≡ Idle
 idle-slot Control = refl
 idle-slot Ota = refl
 idle-slot Alexa = refl
@@ -278,7 +278,7 @@ idle-slot Alexa = refl
 abbrev nothing : Tails
 nothing s = []
 
-idle-done : (room limit : ℕ) (s : Stream) → Rest room limit s (slotIn idle s) []
+idle-done : (room limit : ℕ) (s : Stream) → Rest room limit s (slot_in idle s) []
 idle-done room limit Control = done refl
 idle-done room limit Ota = done refl
 idle-done room limit Alexa = done refl
@@ -296,7 +296,7 @@ module _ (room limit : ℕ) (fits : InRange room limit) (ps : List (List ℕ)) w
   runs-lawful bytes e =
       let h = sound room limit fits nothing idle (idle-done room limit) ps bytes idle e in
       let qs : Tails = λ s. those (carries limit s) ps in
-      let rest : (s : Stream) → Rest room limit s (slotIn idle s) (qs s) = λ s. rw append-nil at (h.awaits s) in
+      let rest : (s : Stream) → Rest room limit s (slot_in idle s) (qs s) = λ s. rw append-nil at (h.awaits s) in
       record {
         sent = λ s. (sent-of (rest s) (idle-slot s)).sent;
         writable = λ s. (sent-of (rest s) (idle-slot s)).writable;

@@ -1,12 +1,12 @@
 -- Inputs of the program with every byte written out, and what is told of them; one of them lawful by its transactions.
 use Rattle.std.specs.Prelude.{ℕ, zero, suc, ◌≡◌, List, [], ◌∷◌, ◌++◌, map, true, false, replicate}
-use Rattle.wire.specs.Bytes.{pairBytes}
+use Rattle.wire.specs.Bytes.{pair_bytes}
 use Rattle.wire.specs.Told.{given, refused}
 use Rattle.wire.specs.declared.stream.Stream.{Stream}
 use Rattle.wire.specs.declared.stream.Stream.TheVariants.{Control, Ota, Alexa}
-use Rattle.capture_reader.specs.Capture.{ToldAt, packetsOf}
+use Rattle.capture_reader.specs.Capture.{ToldAt, packets_of}
 use Rattle.capture_reader.specs.Captured.{captured}
-use Rattle.capture_judge.specs.Capture.{Answer, lawful, open·ended, unlawful, judgedOf}
+use Rattle.capture_judge.specs.Capture.{Answer, lawful, open·ended, unlawful, judged_of}
 use Rattle.capture_judge.specs.Input.{input_of}
 use Rattle.capture_judge_claims.specs.Lawful.{Transaction, LawfulPackets}
 use Rattle.capture_judge_claims.specs.Right.{CaptureIsRight}
@@ -32,8 +32,8 @@ third = 0x61 ∷ 0x2A ∷ 0x04 ∷ from 32 4
 abbrev begun : List ℕ
 begun = 0x00 ∷ 0x00 ∷ 0x00 ∷ 0x00 ∷ 0x14 ∷ 0x0E ∷ replicate 14 0
 
-abbrev tooLong : List ℕ
-tooLong = 0x00 ∷ 0x18 ∷ 0x07 ∷ replicate 7 0
+abbrev too_long : List ℕ
+too_long = 0x00 ∷ 0x18 ∷ 0x07 ∷ replicate 7 0
 
 -- a whole message on the control stream; an ACK; a NACK
 abbrev pub message : List ℕ
@@ -46,7 +46,7 @@ abbrev pub nack : List ℕ
 nack = 0x21 ∷ 0x0C ∷ 0x00 ∷ 0x02 ∷ 0x01 ∷ 0x03 ∷ []
 
 abbrev input : ℕ → ℕ → List (List ℕ) → List ℕ
-input room limit ps = pairBytes room ++ pairBytes limit ++ captured ps
+input room limit ps = pair_bytes room ++ pair_bytes limit ++ captured ps
 
 pub record InputRow : Type 0 where
   pub bytes : List ℕ
@@ -63,7 +63,7 @@ rows =
     -- at room 21 the first piece has 15 bytes
     ∷ row (input 21 35 (first ∷ second ∷ third ∷ [])) (given (unlawful 1))
     ∷ row (input 20 35 (first ∷ second ∷ [])) (given open·ended)
-    ∷ row (input 20 4096 (begun ∷ tooLong ∷ [])) (given (unlawful 23))
+    ∷ row (input 20 4096 (begun ∷ too_long ∷ [])) (given (unlawful 23))
     -- the flag on a packet that is not the last
     ∷ row (input 20 4096 ((0x00 ∷ 0x02 ∷ 0x00 ∷ 0x00 ∷ 0x14 ∷ 0x0E ∷ replicate 14 0) ∷ [])) (given (unlawful 1))
     -- an extender that need not stand, on a first packet and on one that follows
@@ -89,8 +89,8 @@ rows =
     ∷ row (0x00 ∷ 0x14 ∷ 0x10 ∷ []) (refused (40, 0))
     ∷ row (0x00 ∷ 0x14 ∷ 0x10 ∷ 0x00 ∷ 0x02 ∷ []) (refused (40, 0))
     ∷ row (0x00 ∷ 0x14 ∷ 0x10 ∷ 0x00 ∷ 0x01 ∷ []) (given lawful)
-    ∷ row (input 20 4096 (tooLong ∷ []) ++ 0x00 ∷ 0x00 ∷ []) (refused (42, 13))
-    ∷ row (input 20 4096 (tooLong ∷ []) ++ 0x00 ∷ 0x02 ∷ 0x01 ∷ []) (refused (41, 13))
+    ∷ row (input 20 4096 (too_long ∷ []) ++ 0x00 ∷ 0x00 ∷ []) (refused (42, 13))
+    ∷ row (input 20 4096 (too_long ∷ []) ++ 0x00 ∷ 0x02 ∷ 0x01 ∷ []) (refused (41, 13))
     ∷ []
 
 -- each row is what is told of its bytes
@@ -114,6 +114,6 @@ sent Alexa = record { how = record { room = 20; stream = 6; id = 1; sequence = 0
 pub record JudgedByHand : Type 0 where
   pub by_hand : LawfulPackets 20 35 mixed
   pub is-sent : (s : Stream) → by_hand.sent s ≡ sent s
-  pub had : packetsOf (captured mixed) ≡ given mixed
-  pub computed : judgedOf 20 35 (captured mixed) ≡ given lawful
-  pub claimed : CaptureIsRight → judgedOf 20 35 (captured mixed) ≡ given lawful
+  pub had : packets_of (captured mixed) ≡ given mixed
+  pub computed : judged_of 20 35 (captured mixed) ≡ given lawful
+  pub claimed : CaptureIsRight → judged_of 20 35 (captured mixed) ≡ given lawful

@@ -5,7 +5,7 @@ use Rattle.wire.specs.Those.{those}
 use Rattle.wire.specs.Told.{Told, given, refused}
 use Rattle.wire.specs.declared.stream.Stream.{Stream}
 use Rattle.wire.specs.declared.stream.Stream.TheVariants.{Control, Ota, Alexa}
-use Rattle.wire.specs.Stream.{streamNumber}
+use Rattle.wire.specs.Stream.{stream_number}
 use Rattle.ble_packet.specs.declared.reader.Packet.{Packet}
 use Rattle.ble_packet.specs.declared.reader.Packet.TheVariants.{First, Next, Ack, Nack}
 use Rattle.ble_packet.specs.Header.{is_of}
@@ -26,7 +26,7 @@ pub record Transaction : Type 0 where
 pub record Writable (room limit : ℕ) (s : Stream) (t : Transaction) : Type 0 where
   pub takes : SendableMessage limit t.how t.payload t.out
   pub room-is : t.how.room ≡ room
-  pub stream-is : t.how.stream ≡ streamNumber s
+  pub stream-is : t.how.stream ≡ stream_number s
   pub bytes : AllBytes t.payload
 
 -- The ranges of docs/FORMATS.md, and nothing else: a transaction asks for no more.
@@ -43,16 +43,16 @@ WritableAll =
     → AllBytes payload
     → room ≤ length out
     → Writable room limit s
-    (record { how = record { room = room; stream = streamNumber s; id = id; sequence = sequence; ack = ack }; payload = payload; out = out })
+    (record { how = record { room = room; stream = stream_number s; id = id; sequence = sequence; ack = ack }; payload = payload; out = out })
 
 abbrev pub AllWritable : ℕ → ℕ → Stream → List Transaction → Type 0
 AllWritable room limit s [] = Unit {0}
 AllWritable room limit s (t ∷ ts) = Writable room limit s t × AllWritable room limit s ts
 
 -- the packets of transactions one after another
-abbrev pub packetsIn : ℕ → List Transaction → List (List ℕ)
-packetsIn limit [] = []
-packetsIn limit (t ∷ ts) = calls_of limit t.how t.payload t.out ++ packetsIn limit ts
+abbrev pub packets_in : ℕ → List Transaction → List (List ℕ)
+packets_in limit [] = []
+packets_in limit (t ∷ ts) = calls_of limit t.how t.payload t.out ++ packets_in limit ts
 
 -- ---- the packets of a stream
 
@@ -64,16 +64,16 @@ acknowledges (given (Next head ack last start len)) = false
 acknowledges (given (Ack head)) = true
 acknowledges (given (Nack head)) = true
 
-abbrev pub isAck : ℕ → List ℕ → Bool
-isAck limit p = acknowledges (read_of limit p)
+abbrev pub is_ack : ℕ → List ℕ → Bool
+is_ack limit p = acknowledges (read_of limit p)
 
 -- a packet of the stream that is no ACK
 abbrev pub carries : ℕ → Stream → List ℕ → Bool
-carries limit s p = not (isAck limit p) && is_of (streamNumber s) p
+carries limit s p = not (is_ack limit p) && is_of (stream_number s) p
 
 -- every packet is an ACK, or of one of the three streams
 abbrev pub known : ℕ → List ℕ → Bool
-known limit p = isAck limit p || (carries limit Control p || (carries limit Ota p || carries limit Alexa p))
+known limit p = is_ack limit p || (carries limit Control p || (carries limit Ota p || carries limit Alexa p))
 
 abbrev pub AllKnown : ℕ → List (List ℕ) → Type 0
 AllKnown limit [] = Unit {0}
@@ -85,7 +85,7 @@ AllKnown limit (p ∷ ps) = (known limit p ≡ true) × AllKnown limit ps
 pub record LawfulPackets (room limit : ℕ) (ps : List (List ℕ)) : Type 0 where
   pub sent : Stream → List Transaction
   pub writable : (s : Stream) → AllWritable room limit s (sent s)
-  pub packets-are : (s : Stream) → those (carries limit s) ps ≡ packetsIn limit (sent s)
+  pub packets-are : (s : Stream) → those (carries limit s) ps ≡ packets_in limit (sent s)
   pub all_known : AllKnown limit ps
 
 -- there is a continuation that makes them lawful

@@ -1,11 +1,11 @@
 -- The claim that the judge of a capture is right.
 use Rattle.std.specs.Prelude.{ℕ, suc, ◌≡◌, ◌↔◌, List, true, take}
 use Rattle.wire.specs.Bytes.{AllBytes}
-use Rattle.wire.specs.Limit.{limitFits}
+use Rattle.wire.specs.Limit.{limit_fits}
 use Rattle.wire.specs.Told.{given}
-use Rattle.capture_reader.specs.Capture.{ToldAt, packetsOf, place_of}
-use Rattle.ble_sender.specs.Writer.{roomFits}
-use Rattle.capture_judge.specs.Capture.{Answer, lawful, open·ended, unlawful, judgedOf}
+use Rattle.capture_reader.specs.Capture.{ToldAt, packets_of, place_of}
+use Rattle.ble_sender.specs.Writer.{room_fits}
+use Rattle.capture_judge.specs.Capture.{Answer, lawful, open·ended, unlawful, judged_of}
 use Rattle.capture_judge_claims.specs.Lawful.{LawfulPackets, Viable}
 
 -- at this place stands the length of the first packet after which no continuation could be lawful
@@ -25,5 +25,5 @@ Right room limit ps told =
 -- Of every capture whose packets can be read, at a room and limit in range.
 abbrev pub CaptureIsRight : Type 0
 CaptureIsRight =
-    (room limit : ℕ) (bytes : List ℕ) (ps : List (List ℕ)) → roomFits room ≡ true → limitFits limit ≡ true → AllBytes bytes → packetsOf bytes ≡ given ps
-    → Right room limit ps (judgedOf room limit bytes)
+    (room limit : ℕ) (bytes : List ℕ) (ps : List (List ℕ)) → room_fits room ≡ true → limit_fits limit ≡ true → AllBytes bytes → packets_of bytes ≡ given ps
+    → Right room limit ps (judged_of room limit bytes)

@@ -7,16 +7,16 @@ use lib.Dec.{eqb}
 use borrow.Author.Tests.{eqb-true}
 use Rattle.ble_packet.specs.declared.reader.Head.{Head}
 use Rattle.ble_packet.specs.declared.reader.Packet.TheVariants.{First, Next, Ack, Nack}
-use Rattle.ble_packet.specs.Header.{headerSize, sequenceAfter}
+use Rattle.ble_packet.specs.Header.{header_size, sequence_after}
 use Rattle.ble_sender.specs.Piece.{extended, size_for}
-use Rattle.ble_sender.specs.Writer.{typeFor, roomFits}
+use Rattle.ble_sender.specs.Writer.{type_for, room_fits}
 use Rattle.capture_stream.specs.declared.SenderSlot.{SenderSlot}
 use Rattle.capture_stream.specs.declared.SenderSlot.TheVariants.{Idle, Open}
-use Rattle.capture_stream.specs.Slot.{same, fitsPiece, slotFor, firstStep, nextFits, nextStep}
-use Rattle.capture_next.specs.NextPacket.{nextIn, next_of}
+use Rattle.capture_stream.specs.Slot.{same, fits_piece, slot_for, first_step, next_fits, next_step}
+use Rattle.capture_next.specs.NextPacket.{next_in, next_of}
 use Rattle.capture_next.specs.Expected.{is_taken, ExpectedIsTaken}
 
-next-in : (room : ℕ) (slot : SenderSlot) (total : ℕ) → roomFits room ≡ true → next_of room slot total ≡ nextIn room slot total
+next-in : (room : ℕ) (slot : SenderSlot) (total : ℕ) → room_fits room ≡ true → next_of room slot total ≡ next_in room slot total
 unfolding next_of
 next-in room slot total e = rw e
 
@@ -30,48 +30,48 @@ and-true false = refl
 
 -- a piece's length, its header and flag, and a test more: the length that is expected in the place of the one that came
 by_length : (len size start left : ℕ) (first ack s : Bool) (k : ℕ → Bool) (b : Bool) → eqb len size ≡ b → s ≡ k len
-    → ((b && (eqb start (headerSize first (extended len)) && (not ack || eqb len left))) && s)
-    ≡ ((b && (eqb start (headerSize first (extended size)) && (not ack || eqb size left))) && k size)
+    → ((b && (eqb start (header_size first (extended len)) && (not ack || eqb len left))) && s)
+    ≡ ((b && (eqb start (header_size first (extended size)) && (not ack || eqb size left))) && k size)
 by_length len size start left first ack s k true e q = let z : len ≡ size = eqb-true len size e in rw (← z, q)
 by_length len size start left first ack s k false e q = refl
 
-same-type : (last b : Bool) → same last b ≡ eqb (cond last 2 1) (typeFor false b)
+same-type : (last b : Bool) → same last b ≡ eqb (cond last 2 1) (type_for false b)
 same-type true true = refl
 same-type true false = refl
 same-type false true = refl
 same-type false false = refl
 
 first_taken : (room : ℕ) (head : Head) (ack : Bool) (total start len : ℕ)
-    → is_taken (firstStep room head ack total start len)
+    → is_taken (first_step room head ack total start len)
     ≡ ((eqb len (size_for room true total)
-    && (eqb start (headerSize true (extended (size_for room true total))) && (not ack || eqb (size_for room true total) total)))
+    && (eqb start (header_size true (extended (size_for room true total))) && (not ack || eqb (size_for room true total) total)))
     && true)
-unfolding firstStep fitsPiece
+unfolding first_step fits_piece
 first_taken room head ack total start len =
-    taken-by (fitsPiece room true total ack start len) (slotFor head.id (total - len) (sequenceAfter head.sequence 1))
-    ∙ and-true (fitsPiece room true total ack start len)
+    taken-by (fits_piece room true total ack start len) (slot_for head.id (total - len) (sequence_after head.sequence 1))
+    ∙ and-true (fits_piece room true total ack start len)
     ∙ by_length len (size_for room true total) start total true ack true (λ n. true) (eqb len (size_for room true total)) refl refl
 
 next-taken : (room id left sequence : ℕ) (head : Head) (ack last : Bool) (start len : ℕ)
-    → is_taken (nextStep room id left sequence head ack last start len)
+    → is_taken (next_step room id left sequence head ack last start len)
     ≡ (eqb head.id id
     && (eqb head.sequence sequence
     && ((eqb len (size_for room false left)
-    && (eqb start (headerSize false (extended (size_for room false left))) && (not ack || eqb (size_for room false left) left)))
-    && eqb (cond last 2 1) (typeFor false (eqb (size_for room false left) left)))))
-unfolding nextStep nextFits fitsPiece
+    && (eqb start (header_size false (extended (size_for room false left))) && (not ack || eqb (size_for room false left) left)))
+    && eqb (cond last 2 1) (type_for false (eqb (size_for room false left) left)))))
+unfolding next_step next_fits fits_piece
 next-taken room id left sequence head ack last start len =
     taken-by _ _
     ∙ ap (λ (b : Bool). eqb head.id id && (eqb head.sequence sequence && b))
-    (by_length len (size_for room false left) start left false ack (same last (eqb len left)) (λ n. eqb (cond last 2 1) (typeFor false (eqb n left)))
+    (by_length len (size_for room false left) start left false ack (same last (eqb len left)) (λ n. eqb (cond last 2 1) (type_for false (eqb n left)))
     (eqb len (size_for room false left)) refl (same-type last (eqb len left)))
 
 -- a piece of the length that is expected, with its header and flag
 abbrev fitting : ℕ → ℕ → Bool → Bool → ℕ → ℕ → Bool
-fitting size left first ack start len = eqb len size && (eqb start (headerSize first (extended size)) && (not ack || eqb size left))
+fitting size left first ack start len = eqb len size && (eqb start (header_size first (extended size)) && (not ack || eqb size left))
 
 -- no first packet is expected where a transaction is open
-not_first : (a b c e : Bool) → false ≡ (a && (b && (c && eqb 0 (typeFor false e))))
+not_first : (a b c e : Bool) → false ≡ (a && (b && (c && eqb 0 (type_for false e))))
 not_first true true true true = refl
 not_first true true true false = refl
 not_first true true false e = refl

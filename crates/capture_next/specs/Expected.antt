@@ -4,30 +4,30 @@ use Rattle.std.proofs.Math.Option.{Option, none, some}
 use Rattle.ble_packet.specs.declared.reader.Head.{Head}
 use Rattle.ble_packet.specs.declared.reader.Packet.{Packet}
 use Rattle.ble_packet.specs.declared.reader.Packet.TheVariants.{First, Next, Ack, Nack}
-use Rattle.ble_packet.specs.Header.{headerSize}
-use Rattle.ble_sender.specs.Writer.{roomFits}
+use Rattle.ble_packet.specs.Header.{header_size}
+use Rattle.ble_sender.specs.Writer.{room_fits}
 use Rattle.capture_stream.specs.declared.SenderSlot.{SenderSlot}
-use Rattle.capture_stream.specs.Slot.{slotStep}
+use Rattle.capture_stream.specs.Slot.{slot_step}
 use Rattle.capture_next.specs.declared.NextPacket.{NextPacket}
 use Rattle.capture_next.specs.NextPacket.{next_of}
 
 -- a packet has what is expected: id and sequence where a transaction is open, length, extender, ACK flag on the last only, type
-abbrev pub heldTo : NextPacket → ℕ → Head → Bool → ℕ → ℕ → Bool
-heldTo n kind head ack start len =
+abbrev pub held_to : NextPacket → ℕ → Head → Bool → ℕ → ℕ → Bool
+held_to n kind head ack start len =
     (not n.opened || eqb head.id n.id)
     && ((not n.opened || eqb head.sequence n.sequence)
-    && ((eqb len n.len && (eqb start (headerSize (eqb kind 0) n.extended) && (not ack || n.last))) && eqb kind n.kind))
+    && ((eqb len n.len && (eqb start (header_size (eqb kind 0) n.extended) && (not ack || n.last))) && eqb kind n.kind))
 
 -- a packet that was read is the one that is expected, where ACKs may always come
-abbrev pub isExpected : ℕ → SenderSlot → Packet → Bool
-isExpected room slot (First head ack total start len) = heldTo (next_of room slot total) 0 head ack start len
-isExpected room slot (Next head ack last start len) = heldTo (next_of room slot 0) (cond last 2 1) head ack start len
-isExpected room slot (Ack head) = true
-isExpected room slot (Nack head) = true
+abbrev pub is_expected : ℕ → SenderSlot → Packet → Bool
+is_expected room slot (First head ack total start len) = held_to (next_of room slot total) 0 head ack start len
+is_expected room slot (Next head ack last start len) = held_to (next_of room slot 0) (cond last 2 1) head ack start len
+is_expected room slot (Ack head) = true
+is_expected room slot (Nack head) = true
 
 abbrev pub is_taken : Option SenderSlot → Bool
 is_taken none = false
 is_taken (some slot) = true
 
 abbrev pub ExpectedIsTaken : Type 0
-ExpectedIsTaken = (room : ℕ) (slot : SenderSlot) (p : Packet) → roomFits room ≡ true → is_taken (slotStep room slot p) ≡ isExpected room slot p
+ExpectedIsTaken = (room : ℕ) (slot : SenderSlot) (p : Packet) → room_fits room ≡ true → is_taken (slot_step room slot p) ≡ is_expected room slot p

@@ -1,6 +1,6 @@
 // What our writer would write next on a stream, by what is open there: what a packet that is not lawful is held to.
 ghost use Rattle.std.specs.Prelude.{◌≡◌};
-ghost use Rattle.capture_next.specs.NextPacket.{nextBy, next_of};
+ghost use Rattle.capture_next.specs.NextPacket.{next_by, next_of};
 ghost use Rattle.capture_next.specs.Expected.{ExpectedIsTaken};
 
 use ble_sender::piece;
@@ -20,7 +20,7 @@ pub struct NextPacket {
 }
 
 fn next_by(opened: bool, id: u8, sequence: u8, left: usize, len: usize) -> NextPacket
-    ensures { result ≡ nextBy opened id sequence left len }
+    ensures { result ≡ next_by opened id sequence left len }
 {
     let last = len == left;
     let kind = type_for(!opened, last);

@@ -1,7 +1,7 @@
 // The packet at a place of a capture.
 ghost use Rattle.std.specs.Prelude.{◌≡◌};
 ghost use Rattle.capture_reader.specs.Capture.{number_in};
-ghost use Rattle.capture_packet.specs.Place.{badPlace, packetAt, standingTold};
+ghost use Rattle.capture_packet.specs.Place.{bad_place, packet_at, standing_told};
 
 use capture_reader::{Front, Refusal, WIDTH, front_of, other_version};
 use wire::logic::either;
@@ -26,7 +26,7 @@ pub enum PacketStanding {
 impl PacketStanding {
     // The refusal number, or 0 where nothing is refused.
     pub fn number(self) -> u8
-        ensures { result ≡ number_in (standingTold self) }
+        ensures { result ≡ number_in (standing_told self) }
     {
         match self {
             PacketStanding::Packet {
@@ -42,14 +42,14 @@ impl PacketStanding {
 }
 
 fn bad_place(capture: &[u8], place: usize) -> bool
-    ensures { result ≡ badPlace capture.now place }
+    ensures { result ≡ bad_place capture.now place }
 {
     either(place == 0, capture.len() < place)
 }
 
 // Reads the packet at a place of a capture: 1, or a place told before.
 pub fn read_at(capture: &[u8], place: usize) -> PacketStanding
-    ensures { standingTold result ≡ packetAt capture.now place }
+    ensures { standing_told result ≡ packet_at capture.now place }
 {
     if other_version(capture) {
         return PacketStanding::Broken {

@@ -17,8 +17,8 @@ abbrev pub width : ℕ
 width = 2
 
 -- the length at the front of some bytes; a byte that is not there counts as 0
-abbrev pub lengthIn : List ℕ → ℕ
-lengthIn rest = pair_of (get_or rest 0 0) (get_or rest 1 0)
+abbrev pub length_in : List ℕ → ℕ
+length_in rest = pair_of (get_or rest 0 0) (get_or rest 1 0)
 
 -- a refusal tells its number, and a place in the capture
 abbrev pub ToldAt : Type 0 → Type 0
@@ -34,12 +34,12 @@ number_in (given a) = 0
 number_in (refused why) = why.0
 
 -- 42: a length of 0, all of whose bytes are there; 41: the bytes end inside the packet, or inside its length
-abbrev pub frontLines : List ℕ → List Line
-frontLines rest = line 42 (leb width (length rest) && eqb (lengthIn rest) 0) ∷ line 41 (ltb (length rest) (width + lengthIn rest)) ∷ []
+abbrev pub front_lines : List ℕ → List Line
+front_lines rest = line 42 (leb width (length rest) && eqb (length_in rest) 0) ∷ line 41 (ltb (length rest) (width + length_in rest)) ∷ []
 
 -- the length of the packet at the front of some bytes
-unfoldable pub frontOf : List ℕ → Told ℕ
-frontOf rest = table (frontLines rest) refused (given (lengthIn rest))
+unfoldable pub front_of : List ℕ → Told ℕ
+front_of rest = table (front_lines rest) refused (given (length_in rest))
 
 -- a packet before the others, if they can be read
 abbrev pub before : List ℕ → ToldAt (List (List ℕ)) → ToldAt (List (List ℕ))
@@ -48,23 +48,23 @@ before p (refused n) = refused n
 
 -- the packets of the bytes from a place on, one after another, or the first refusal, at the place of the packet's length; with as
 -- many turns as there are bytes
-unfoldable pub packetsFrom : ℕ → ℕ → List ℕ → ToldAt (List (List ℕ))
-packetsFrom zero at rest = given []
-packetsFrom (suc turns) at [] = given []
-packetsFrom (suc turns) at (b ∷ bs) =
-    and_then (located at (frontOf (b ∷ bs))) (λ n. before (take n (drop width (b ∷ bs))) (packetsFrom turns (at + width + n) (drop (width + n) (b ∷ bs))))
+unfoldable pub packets_from : ℕ → ℕ → List ℕ → ToldAt (List (List ℕ))
+packets_from zero at rest = given []
+packets_from (suc turns) at [] = given []
+packets_from (suc turns) at (b ∷ bs) =
+    and_then (located at (front_of (b ∷ bs))) (λ n. before (take n (drop width (b ∷ bs))) (packets_from turns (at + width + n) (drop (width + n) (b ∷ bs))))
 
 -- 40: the capture is empty, or of another version
-unfoldable pub otherVersion : List ℕ → Bool
-otherVersion bytes = eqb (length bytes) 0 || not (eqb (get_or bytes 0 0) version)
+unfoldable pub other_version : List ℕ → Bool
+other_version bytes = eqb (length bytes) 0 || not (eqb (get_or bytes 0 0) version)
 
 -- the packets of a capture
-unfoldable pub packetsOf : List ℕ → ToldAt (List (List ℕ))
-packetsOf bytes = table (line 40 (otherVersion bytes) ∷ []) (λ n. refused (n, 0)) (packetsFrom (length bytes) 1 (drop 1 bytes))
+unfoldable pub packets_of : List ℕ → ToldAt (List (List ℕ))
+packets_of bytes = table (line 40 (other_version bytes) ∷ []) (λ n. refused (n, 0)) (packets_from (length bytes) 1 (drop 1 bytes))
 
 -- whether they can be read, or the refusal
-unfoldable pub checkedOf : List ℕ → ToldAt (Unit {0})
-checkedOf bytes = and_then (packetsOf bytes) (λ ps. given tt)
+unfoldable pub checked_of : List ℕ → ToldAt (Unit {0})
+checked_of bytes = and_then (packets_of bytes) (λ ps. given tt)
 
 -- every packet is a list of bytes
 abbrev pub Packets : List (List ℕ) → Type 0
@@ -72,13 +72,13 @@ Packets [] = Unit {0}
 Packets (p ∷ ps) = AllBytes p × Packets ps
 
 -- the place of a packet's length in the capture, by the packet's index
-abbrev pub placeFrom : ℕ → ℕ → List (List ℕ) → ℕ
-placeFrom at zero ps = at
-placeFrom at (suc k) [] = at
-placeFrom at (suc k) (p ∷ ps) = placeFrom (at + width + length p) k ps
+abbrev pub place_from : ℕ → ℕ → List (List ℕ) → ℕ
+place_from at zero ps = at
+place_from at (suc k) [] = at
+place_from at (suc k) (p ∷ ps) = place_from (at + width + length p) k ps
 
 abbrev pub place_of : ℕ → List (List ℕ) → ℕ
-place_of k ps = placeFrom 1 k ps
+place_of k ps = place_from 1 k ps
 
 abbrev pub number_of : Refusal → ℕ
 number_of Version = 40
@@ -86,10 +86,10 @@ number_of Length = 42
 number_of Cut = 41
 
 -- what the code tells
-abbrev pub frontTold : Front → Told ℕ
-frontTold (Broken why) = refused (number_of why)
-frontTold (Whole n) = given n
+abbrev pub front_told : Front → Told ℕ
+front_told (Broken why) = refused (number_of why)
+front_told (Whole n) = given n
 
-abbrev pub soundnessTold : Soundness → ToldAt (Unit {0})
-soundnessTold Sound = given tt
-soundnessTold (Unsound why at) = refused (number_of why, at)
+abbrev pub soundness_told : Soundness → ToldAt (Unit {0})
+soundness_told Sound = given tt
+soundness_told (Unsound why at) = refused (number_of why, at)

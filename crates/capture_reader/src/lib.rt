@@ -1,6 +1,6 @@
 // A capture of one direction of a link, walked packet after packet.
 ghost use Rattle.std.specs.Prelude.{◌≡◌};
-ghost use Rattle.capture_reader.specs.Capture.{frontOf, otherVersion, checkedOf, number_of, frontTold, soundnessTold};
+ghost use Rattle.capture_reader.specs.Capture.{front_of, other_version, checked_of, number_of, front_told, soundness_told};
 
 use wire::bytes::{byte_at, pair};
 use wire::logic::either;
@@ -45,14 +45,14 @@ pub enum Soundness {
 
 // Refusal 40, if it holds.
 pub fn other_version(capture: &[u8]) -> bool
-    ensures { result ≡ otherVersion capture.now }
+    ensures { result ≡ other_version capture.now }
 {
     either(capture.len() == 0, byte_at(capture, 0) != VERSION)
 }
 
 // The length is judged once all its bytes are there; before that the packet is cut short.
 pub fn front_of(rest: &[u8]) -> Front
-    ensures { frontTold result ≡ frontOf rest.now }
+    ensures { front_told result ≡ front_of rest.now }
 {
     if rest.len() < WIDTH {
         return Front::Broken(Refusal::Cut);
@@ -69,7 +69,7 @@ pub fn front_of(rest: &[u8]) -> Front
 
 // The capture's own refusals, to its end.
 pub fn check(capture: &[u8]) -> Soundness
-    ensures { soundnessTold result ≡ checkedOf capture.now }
+    ensures { soundness_told result ≡ checked_of capture.now }
 {
     if other_version(capture) {
         return Soundness::Unsound {

@@ -8,10 +8,10 @@ use lib.Dec.{ltb}
 use borrow.Author.Tests.{ltb-true, lt-ltb}
 use Rattle.capture_report.specs.declared.Costs.{Costs}
 use Rattle.capture_report.specs.declared.CostReport.{CostReport}
-use Rattle.capture_report.specs.Report.{noCosts, emptyReport, costsPlus, plus, past64, costsFit, reportFits}
+use Rattle.capture_report.specs.Report.{no_costs, empty_report, costs_plus, plus, past64, costs_fit, report_fits}
 
-costs-comm : (a b : Costs) → costsPlus a b ≡ costsPlus b a
-unfolding costsPlus
+costs-comm : (a b : Costs) → costs_plus a b ≡ costs_plus b a
+unfolding costs_plus
 costs-comm a b =
     rw (
       add_comm a.firsts b.firsts,
@@ -23,12 +23,12 @@ costs-comm a b =
       add_comm a.bytes b.bytes,
     )
 
-costs-assoc : (a b c : Costs) → costsPlus (costsPlus a b) c ≡ costsPlus a (costsPlus b c)
-unfolding costsPlus
+costs-assoc : (a b c : Costs) → costs_plus (costs_plus a b) c ≡ costs_plus a (costs_plus b c)
+unfolding costs_plus
 costs-assoc a b c = simp add_assoc
 
-costs-none : (a : Costs) → costsPlus a noCosts ≡ a
-unfolding costsPlus
+costs-none : (a : Costs) → costs_plus a no_costs ≡ a
+unfolding costs_plus
 costs-none a = simp add-zero
 
 plus_comm : (r q : CostReport) → plus r q ≡ plus q r
@@ -38,11 +38,11 @@ pub plus_assoc : (r q p : CostReport) → plus (plus r q) p ≡ plus r (plus q p
 plus_assoc r q p =
     rw (costs-assoc r.control q.control p.control, costs-assoc r.ota q.ota p.ota, costs-assoc r.alexa q.alexa p.alexa)
 
-pub plus-empty : (r : CostReport) → plus r emptyReport ≡ r
+pub plus-empty : (r : CostReport) → plus r empty_report ≡ r
 plus-empty r = rw (costs-none r.control, costs-none r.ota, costs-none r.alexa)
 
-pub empty-plus : (r : CostReport) → plus emptyReport r ≡ r
-empty-plus r = plus_comm emptyReport r ∙ plus-empty r
+pub empty-plus : (r : CostReport) → plus empty_report r ≡ r
+empty-plus r = plus_comm empty_report r ∙ plus-empty r
 
 pub plus-swap : (r q p : CostReport) → plus r (plus q p) ≡ plus q (plus r p)
 plus-swap r q p = sym (plus_assoc r q p) ∙ ap (λ (x : CostReport). plus x p) (plus_comm r q) ∙ plus_assoc q r p
@@ -58,8 +58,8 @@ and-part : (a b c d : Bool) → (a ≡ true → c ≡ true) → (b ≡ true → 
 and-part true b c d f g e = rw (f refl) (g e)
 and-part false b c d f g e = absurd (false≢true e)
 
-costs-part : (a b : Costs) → costsFit (costsPlus a b) ≡ true → costsFit a ≡ true
-unfolding costsPlus costsFit
+costs-part : (a b : Costs) → costs_fit (costs_plus a b) ≡ true → costs_fit a ≡ true
+unfolding costs_plus costs_fit
 costs-part a b =
     and-part _ _ _ _ (part a.firsts b.firsts past64)
     (and-part _ _ _ _ (part a.finished b.finished past64)
@@ -68,6 +68,6 @@ costs-part a b =
     (and-part _ _ _ _ (part a.pending b.pending past64)
     (and-part _ _ _ _ (part a.payload b.payload past64) (part a.bytes b.bytes past64))))))
 
-pub plus-part : (r q : CostReport) → reportFits (plus r q) ≡ true → reportFits r ≡ true
+pub plus-part : (r q : CostReport) → report_fits (plus r q) ≡ true → report_fits r ≡ true
 plus-part r q =
     and-part _ _ _ _ (costs-part r.control q.control) (and-part _ _ _ _ (costs-part r.ota q.ota) (costs-part r.alexa q.alexa))

@@ -2,10 +2,10 @@
 use Rattle.std.specs.Prelude.{ℕ, ◌+◌, ◌≡◌, List, [], ◌∷◌, Bool, true, false, not, ◌&&◌, ◌||◌, length, get_or, eqb}
 use Rattle.wire.specs.Told.{Told, given, refused}
 use Rattle.wire.specs.Those.{those}
-use Rattle.wire.specs.Stream.{streamNumber}
+use Rattle.wire.specs.Stream.{stream_number}
 use Rattle.wire.specs.declared.stream.Stream.{Stream}
 use Rattle.ble_packet.specs.Header.{is_of}
-use Rattle.ble_packet.specs.Reader.{fields_of, isFirst}
+use Rattle.ble_packet.specs.Reader.{fields_of, is_first}
 use Rattle.ble_slot.specs.declared.answer.Accepted.{Accepted}
 use Rattle.ble_slot.specs.declared.answer.Accepted.TheVariants.{Taken, Finished, Acked, Nacked}
 use Rattle.capture_report.specs.declared.Costs.{Costs}
@@ -49,24 +49,24 @@ drops (given a) = false
 drops (refused n) = eqb n 10 || eqb n 11
 
 -- the payload bytes of a finished transaction
-abbrev pub payloadIn : Told Accepted → ℕ
-payloadIn (given (Taken index stream id replaced)) = 0
-payloadIn (given (Finished index stream id total ack replaced)) = total
-payloadIn (given (Acked head)) = 0
-payloadIn (given (Nacked head)) = 0
-payloadIn (refused n) = 0
+abbrev pub payload_in : Told Accepted → ℕ
+payload_in (given (Taken index stream id replaced)) = 0
+payload_in (given (Finished index stream id total ack replaced)) = total
+payload_in (given (Acked head)) = 0
+payload_in (given (Nacked head)) = 0
+payload_in (refused n) = 0
 
 -- stream and id
-abbrev pub byteZero : Heard → ℕ
-byteZero h = get_or h.packet 0 0
+abbrev pub byte_zero : Heard → ℕ
+byte_zero h = get_or h.packet 0 0
 
 -- a first packet, by its type, that was accepted
 abbrev pub begins : Heard → Bool
-begins h = accepts h.told && isFirst (fields_of h.packet)
+begins h = accepts h.told && is_first (fields_of h.packet)
 
 -- one that did not finish at once
-abbrev pub leavesOpen : Heard → Bool
-leavesOpen h = begins h && not (finishes h.told)
+abbrev pub leaves_open : Heard → Bool
+leaves_open h = begins h && not (finishes h.told)
 
 -- a transaction of the packet's byte 0 that was open is not so any more: it is replaced, finished or dropped
 abbrev pub closes : Heard → Bool
@@ -75,7 +75,7 @@ closes h = begins h || (finishes h.told || drops h.told)
 -- one of the packets does so to a transaction with this byte 0
 abbrev pub closed_in : ℕ → List Heard → Bool
 closed_in first [] = false
-closed_in first (h ∷ hs) = (closes h && eqb (byteZero h) first) || closed_in first hs
+closed_in first (h ∷ hs) = (closes h && eqb (byte_zero h) first) || closed_in first hs
 
 -- ---- packets, each with those that came after it
 
@@ -83,42 +83,42 @@ pub record Followed : Type 0 where
   pub it : Heard
   pub later : List Heard
 
-abbrev pub followedIn : List Heard → List Followed
-followedIn [] = []
-followedIn (h ∷ hs) = record { it = h; later = hs } ∷ followedIn hs
+abbrev pub followed_in : List Heard → List Followed
+followed_in [] = []
+followed_in (h ∷ hs) = record { it = h; later = hs } ∷ followed_in hs
 
 -- a transaction that is open at the end
-abbrev pub staysOpen : Followed → Bool
-staysOpen f = leavesOpen f.it && not (closed_in (byteZero f.it) f.later)
+abbrev pub stays_open : Followed → Bool
+stays_open f = leaves_open f.it && not (closed_in (byte_zero f.it) f.later)
 
 -- ---- counts and sums
 
 -- those of a stream that pass a test
-abbrev pub ofStream : Stream → (Followed → Bool) → List Followed → List Followed
-ofStream s test = those (λ (f : Followed). is_of (streamNumber s) f.it.packet && test f)
+abbrev pub of_stream : Stream → (Followed → Bool) → List Followed → List Followed
+of_stream s test = those (λ (f : Followed). is_of (stream_number s) f.it.packet && test f)
 
 abbrev pub count_of : Stream → (Followed → Bool) → List Followed → ℕ
-count_of s test fs = length (ofStream s test fs)
+count_of s test fs = length (of_stream s test fs)
 
 abbrev pub sum_of : {A : Type 0} → (A → ℕ) → List A → ℕ
 sum_of weight [] = 0
 sum_of weight (x ∷ xs) = weight x + sum_of weight xs
 
-abbrev pub costsIn : Stream → List Followed → Costs
-costsIn s fs =
+abbrev pub costs_in : Stream → List Followed → Costs
+costs_in s fs =
     record {
       firsts = count_of s (λ f. begins f.it) fs;
       finished = count_of s (λ f. finishes f.it.told) fs;
       replaced = count_of s (λ f. replaces f.it.told) fs;
       dropped = count_of s (λ f. drops f.it.told) fs;
-      pending = count_of s staysOpen fs;
-      payload = sum_of (λ (f : Followed). payloadIn f.it.told) (ofStream s (λ f. finishes f.it.told) fs);
-      bytes = sum_of (λ (f : Followed). length f.it.packet) (ofStream s (λ f. true) fs);
+      pending = count_of s stays_open fs;
+      payload = sum_of (λ (f : Followed). payload_in f.it.told) (of_stream s (λ f. finishes f.it.told) fs);
+      bytes = sum_of (λ (f : Followed). length f.it.packet) (of_stream s (λ f. true) fs);
     }
 
 -- what packets cost on a stream
-unfoldable pub costsOf : Stream → List Heard → Costs
-costsOf s hs = costsIn s (followedIn hs)
+unfoldable pub costs_of : Stream → List Heard → Costs
+costs_of s hs = costs_in s (followed_in hs)
 
 -- every first packet that was accepted is finished, replaced, dropped or left open
 abbrev pub Balanced : Costs → Type 0

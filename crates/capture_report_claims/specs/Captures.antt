@@ -7,8 +7,8 @@ use Rattle.capture_reader.specs.Capture.{ToldAt}
 use Rattle.ble_slot.specs.declared.Slot.{Slot}
 use Rattle.capture_report.specs.declared.Costs.{Costs}
 use Rattle.capture_report.specs.declared.CostReport.{CostReport}
-use Rattle.capture_report.specs.Costs.{costsOf, Balanced}
-use Rattle.capture_report.specs.Report.{freshRun, costsFor, emptyReport, reportFits, addedOf, reportLeft}
+use Rattle.capture_report.specs.Costs.{costs_of, Balanced}
+use Rattle.capture_report.specs.Report.{fresh_run, costs_for, empty_report, report_fits, added_of, report_left}
 use Rattle.capture_report.specs.Turns.{open_in}
 
 -- ---- one capture
@@ -18,14 +18,14 @@ use Rattle.capture_report.specs.Turns.{open_in}
 abbrev pub LeftOpenIsOpen : Type 0
 LeftOpenIsOpen =
     (limit : ℕ) (bytes : List ℕ) (ps : List (List ℕ)) (s : Stream)
-    → (costsOf s (freshRun limit bytes ps).heards).pending ≡ open_in s (freshRun limit bytes ps).slots
+    → (costs_of s (fresh_run limit bytes ps).heards).pending ≡ open_in s (fresh_run limit bytes ps).slots
 
 -- A capture that is taken adds as many as are open in the row that it leaves.
 abbrev pub OpenIsAdded : Type 0
 OpenIsAdded =
     (report : CostReport) (limit : ℕ) (slots : List Slot) (bytes capture : List ℕ) (after : CostReport) (s : Stream)
-    → (addedOf report limit slots bytes capture).told ≡ given after
-    → (costsFor after s).pending ≡ (costsFor report s).pending + open_in s (addedOf report limit slots bytes capture).slots
+    → (added_of report limit slots bytes capture).told ≡ given after
+    → (costs_for after s).pending ≡ (costs_for report s).pending + open_in s (added_of report limit slots bytes capture).slots
 
 -- ---- a list of captures
 
@@ -36,18 +36,18 @@ pub record LentCapture : Type 0 where
   pub bytes : List ℕ
   pub content : List ℕ
 
-abbrev pub toldOf : CostReport → LentCapture → ToldAt CostReport
-toldOf r c = (addedOf r c.limit c.slots c.bytes c.content).told
+abbrev pub told_of : CostReport → LentCapture → ToldAt CostReport
+told_of r c = (added_of r c.limit c.slots c.bytes c.content).told
 
 -- the report after them: one that is refused leaves it
-abbrev pub reportAfter : CostReport → List LentCapture → CostReport
-reportAfter r [] = r
-reportAfter r (c ∷ cs) = reportAfter (reportLeft r (toldOf r c)) cs
+abbrev pub report_after : CostReport → List LentCapture → CostReport
+report_after r [] = r
+report_after r (c ∷ cs) = report_after (report_left r (told_of r c)) cs
 
 -- From an empty report, over any captures, refused ones included: on each stream the first packets accepted are as many as the
 -- transactions finished, replaced, dropped and left open.
 abbrev pub ReportsBalance : Type 0
-ReportsBalance = (cs : List LentCapture) (s : Stream) → Balanced (costsFor (reportAfter emptyReport cs) s)
+ReportsBalance = (cs : List LentCapture) (s : Stream) → Balanced (costs_for (report_after empty_report cs) s)
 
 -- ---- their order
 
@@ -58,27 +58,27 @@ pub record CaptureSizes : Type 0 where
   pub size : ℕ
   pub content : List ℕ
 
-abbrev pub sizesOf : LentCapture → CaptureSizes
-sizesOf c = record { limit = c.limit; count = length c.slots; size = length c.bytes; content = c.content }
+abbrev pub sizes_of : LentCapture → CaptureSizes
+sizes_of c = record { limit = c.limit; count = length c.slots; size = length c.bytes; content = c.content }
 
 -- refused by 19
 abbrev pub is_over : ToldAt CostReport → Bool
 is_over (given r) = false
 is_over (refused why) = eqb why.0 19
 
-abbrev pub noneOver : CostReport → List LentCapture → Bool
-noneOver r [] = true
-noneOver r (c ∷ cs) = not (is_over (toldOf r c)) && noneOver (reportLeft r (toldOf r c)) cs
+abbrev pub none_over : CostReport → List LentCapture → Bool
+none_over r [] = true
+none_over r (c ∷ cs) = not (is_over (told_of r c)) && none_over (report_left r (told_of r c)) cs
 
 -- From any report: where no capture is refused by 19, none is in any other order of them, each with its limit and lent sizes, and the
 -- report comes out the same. What is in the lent rows and buffers makes no difference.
 abbrev pub OrderIsFree : Type 0
 OrderIsFree =
     (r : CostReport) (cs ds : List LentCapture)
-    → reportFits r ≡ true
-    → Permᴰ (map sizesOf cs) (map sizesOf ds)
-    → noneOver r cs ≡ true
-    → (noneOver r ds ≡ true) × (reportAfter r cs ≡ reportAfter r ds)
+    → report_fits r ≡ true
+    → Permᴰ (map sizes_of cs) (map sizes_of ds)
+    → none_over r cs ≡ true
+    → (none_over r ds ≡ true) × (report_after r cs ≡ report_after r ds)
 
 -- ---- what is asked for of the report, and of a sum
 
@@ -95,8 +95,8 @@ InBits c =
 
 -- and nothing else
 abbrev pub FitsAll : Type 0
-FitsAll = (r : CostReport) → ((s : Stream) → InBits (costsFor r s)) → reportFits r ≡ true
+FitsAll = (r : CostReport) → ((s : Stream) → InBits (costs_for r s)) → report_fits r ≡ true
 
 -- and only then: one number that has more is enough for 19
 abbrev pub FitsOnly : Type 0
-FitsOnly = (r : CostReport) (s : Stream) → reportFits r ≡ true → InBits (costsFor r s)
+FitsOnly = (r : CostReport) (s : Stream) → report_fits r ≡ true → InBits (costs_for r s)

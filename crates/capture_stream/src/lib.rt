@@ -1,7 +1,7 @@
 // What is open on a stream of a sender that is judged, and whether our writer would write a packet there now.
 ghost use Rattle.std.specs.Prelude.{◌≡◌};
 ghost use Rattle.ble_packet.specs.declared.reader.Packet.TheVariants.{First, Next};
-ghost use Rattle.capture_stream.specs.Slot.{isIdle, same, fitsPiece, slotFor, firstStep, nextFits, nextStep, slotStep, moved_to};
+ghost use Rattle.capture_stream.specs.Slot.{is_idle, same, fits_piece, slot_for, first_step, next_fits, next_step, slot_step, moved_to};
 
 use ble_packet::header;
 use ble_packet::reader::Head;
@@ -17,7 +17,7 @@ pub enum SenderSlot {
 
 impl SenderSlot {
     pub fn is_idle(self) -> bool
-        ensures { result ≡ isIdle self }
+        ensures { result ≡ is_idle self }
     {
         match self {
             SenderSlot::Idle => true,
@@ -46,7 +46,7 @@ fn same(a: bool, b: bool) -> bool
 
 // Whether a piece is the writer's, with the extender only where it must stand, and the ACK flag only on the last packet.
 fn fits_piece(room: usize, first: bool, left: usize, ack: bool, start: usize, len: usize) -> bool
-    ensures { result ≡ fitsPiece room first left ack start len }
+    ensures { result ≡ fits_piece room first left ack start len }
 {
     let size = piece::size_for(room, first, left);
     let header = header::header_size(first, piece::ONE_BYTE_LENGTH < len);
@@ -55,7 +55,7 @@ fn fits_piece(room: usize, first: bool, left: usize, ack: bool, start: usize, le
 }
 
 fn slot_for(id: u8, left: usize, sequence: u8) -> SenderSlot
-    ensures { result ≡ slotFor id left sequence }
+    ensures { result ≡ slot_for id left sequence }
 {
     if left == 0 {
         return SenderSlot::Idle;
@@ -65,7 +65,7 @@ fn slot_for(id: u8, left: usize, sequence: u8) -> SenderSlot
 
 // A first packet where nothing is open.
 fn begin(room: usize, head: Head, ack: bool, total: usize, start: usize, len: usize) -> SlotAfter
-    ensures { moved_to result ≡ firstStep room head ack total start len }
+    ensures { moved_to result ≡ first_step room head ack total start len }
 {
     if !fits_piece(room, true, total, ack, start, len) {
         return SlotAfter::Nowhere;
@@ -87,7 +87,7 @@ fn next_fits(
     start: usize,
     len: usize,
 ) -> bool
-    ensures { result ≡ nextFits room id left sequence head ack last start len }
+    ensures { result ≡ next_fits room id left sequence head ack last start len }
 {
     let fits = fits_piece(room, false, left, ack, start, len);
     let whole = both(fits, same(last, len == left));
@@ -105,7 +105,7 @@ fn follow(
     start: usize,
     len: usize,
 ) -> SlotAfter
-    ensures { moved_to result ≡ nextStep room id left sequence head ack last start len }
+    ensures { moved_to result ≡ next_step room id left sequence head ack last start len }
 {
     if !next_fits(room, id, left, sequence, head, ack, last, start, len) {
         return SlotAfter::Nowhere;
@@ -124,7 +124,7 @@ pub fn on_first(
     start: usize,
     len: usize,
 ) -> SlotAfter
-    ensures { moved_to result ≡ slotStep room slot (First head ack total start len) }
+    ensures { moved_to result ≡ slot_step room slot (First head ack total start len) }
 {
     match slot {
         SenderSlot::Idle => begin(room, head, ack, total, start, len),
@@ -145,7 +145,7 @@ pub fn on_next(
     start: usize,
     len: usize,
 ) -> SlotAfter
-    ensures { moved_to result ≡ slotStep room slot (Next head ack last start len) }
+    ensures { moved_to result ≡ slot_step room slot (Next head ack last start len) }
 {
     match slot {
         SenderSlot::Idle => SlotAfter::Nowhere,

@@ -8,15 +8,15 @@ use lib.ListN.{length, get_or}
 use lib.Dec.{eqb}
 use Rattle.wire.specs.Bytes.{bit}
 use Rattle.wire.specs.Those.{those}
-use Rattle.ble_packet.specs.Header.{streamBits, is_of}
+use Rattle.ble_packet.specs.Header.{stream_bits, is_of}
 use Rattle.ble_slot.specs.declared.Slot.{Slot}
-use Rattle.ble_slot.specs.Slot.{opens, idle, slotsEach}
+use Rattle.ble_slot.specs.Slot.{opens, idle, slots_each}
 
 pub of_none : (n : ℕ) (p : List ℕ) → length p ≡ 0 → is_of n p ≡ false
 of_none n [] e = refl
 of_none n (b ∷ p) e = absurd (omega (arith, e))
 
-pub of_some : (n : ℕ) (p : List ℕ) → (length p ≡ 0 → ⊥) → is_of n p ≡ eqb (streamBits (get_or p 0 0)) n
+pub of_some : (n : ℕ) (p : List ℕ) → (length p ≡ 0 → ⊥) → is_of n p ≡ eqb (stream_bits (get_or p 0 0)) n
 of_some n [] d = absurd (d refl)
 of_some n (b ∷ p) d = refl
 
@@ -30,7 +30,7 @@ open_more x l = one_more (opens x) x (those opens l)
 last_one : (x : Slot) → length (those opens (x ∷ [])) ≡ bit (opens x)
 last_one x = open_more x [] ∙ omega arith
 
-pub open-four : (lane : List Slot) → length lane ≡ slotsEach
+pub open-four : (lane : List Slot) → length lane ≡ slots_each
     → bit (opens (get_or lane 0 idle)) + (bit (opens (get_or lane 1 idle)) + (bit (opens (get_or lane 2 idle)) + bit (opens (get_or lane 3 idle)))) ≡ length (those opens lane)
 open-four [] n = absurd (omega arith)
 open-four (a ∷ []) n = absurd (omega arith)

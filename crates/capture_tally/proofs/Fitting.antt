@@ -12,9 +12,9 @@ use borrow.Author.Tests.{ltb-true, ltb-false, lt-ltb, le-leb, lt-leb, ne_eqb}
 use Rattle.wire.proofs.Tests.{and_left, and_right}
 use Rattle.capture_report.specs.declared.Costs.{Costs}
 use Rattle.capture_report.specs.declared.CostReport.{CostReport}
-use Rattle.capture_report.specs.Report.{costsPlus, plus, past64, costsFit, reportFits, noCosts, summed}
-use Rattle.capture_report.specs.Costs.{Heard, begins, finishes, replaces, drops, payloadIn}
-use Rattle.capture_report.specs.Turns.{costsBy, reportWith}
+use Rattle.capture_report.specs.Report.{costs_plus, plus, past64, costs_fit, report_fits, no_costs, summed}
+use Rattle.capture_report.specs.Costs.{Heard, begins, finishes, replaces, drops, payload_in}
+use Rattle.capture_report.specs.Turns.{costs_by, report_with}
 use Rattle.capture_tally.specs.Count.{only}
 
 fit-by : (most a b : ℕ) (t : Bool) → ltb (a + b) (most + 1) ≡ t → a ≤ most → leb b (most - a) ≡ t
@@ -33,8 +33,8 @@ pub record SumsFit (a b : Costs) : Type 0 where
   pub payload-fits : a.payload + b.payload < past64
   pub bytes_fit : a.bytes + b.bytes < past64
 
-pub sums-fit : (a b : Costs) → costsFit (costsPlus a b) ≡ true → SumsFit a b
-unfolding costsPlus costsFit
+pub sums-fit : (a b : Costs) → costs_fit (costs_plus a b) ≡ true → SumsFit a b
+unfolding costs_plus costs_fit
 sums-fit a b e =
     let e1 = and_right (ltb (a.firsts + b.firsts) past64) _ e in
     let e2 = and_right (ltb (a.finished + b.finished) past64) _ e1 in
@@ -51,14 +51,14 @@ sums-fit a b e =
       bytes_fit = ltb-true (a.bytes + b.bytes) past64 (and_right (ltb (a.payload + b.payload) past64) _ e5);
     }
 
-pub control-fits : (a b : CostReport) → reportFits (plus a b) ≡ true → costsFit (costsPlus a.control b.control) ≡ true
-control-fits a b e = and_left (costsFit (costsPlus a.control b.control)) _ e
+pub control-fits : (a b : CostReport) → report_fits (plus a b) ≡ true → costs_fit (costs_plus a.control b.control) ≡ true
+control-fits a b e = and_left (costs_fit (costs_plus a.control b.control)) _ e
 
-pub ota-fits : (a b : CostReport) → reportFits (plus a b) ≡ true → costsFit (costsPlus a.ota b.ota) ≡ true
-ota-fits a b e = and_left (costsFit (costsPlus a.ota b.ota)) _ (and_right (costsFit (costsPlus a.control b.control)) _ e)
+pub ota-fits : (a b : CostReport) → report_fits (plus a b) ≡ true → costs_fit (costs_plus a.ota b.ota) ≡ true
+ota-fits a b e = and_left (costs_fit (costs_plus a.ota b.ota)) _ (and_right (costs_fit (costs_plus a.control b.control)) _ e)
 
-pub alexa-fits : (a b : CostReport) → reportFits (plus a b) ≡ true → costsFit (costsPlus a.alexa b.alexa) ≡ true
-alexa-fits a b e = and_right (costsFit (costsPlus a.ota b.ota)) _ (and_right (costsFit (costsPlus a.control b.control)) _ e)
+pub alexa-fits : (a b : CostReport) → report_fits (plus a b) ≡ true → costs_fit (costs_plus a.alexa b.alexa) ≡ true
+alexa-fits a b e = and_right (costs_fit (costs_plus a.ota b.ota)) _ (and_right (costs_fit (costs_plus a.control b.control)) _ e)
 
 -- ---- one stream's numbers added alone
 
@@ -70,15 +70,15 @@ none-on : (a b c d e f g : ℕ)
     (record { firsts = a; finished = b; replaced = c; dropped = d; pending = e; payload = f; bytes = g })
 none-on a b c d e f g = rw (zero_more a, zero_more b, zero_more c, zero_more d, zero_more e, zero_more f, zero_more g)
 
-none_more : (a : Costs) → costsPlus a noCosts ≡ a
-unfolding costsPlus
+none_more : (a : Costs) → costs_plus a no_costs ≡ a
+unfolding costs_plus
 none_more a = none-on a.firsts a.finished a.replaced a.dropped a.pending a.payload a.bytes
 
 -- the numbers that the machine has
 pub fits-already : (a : Costs) → a.firsts ≤ 18446744073709551615 → a.finished ≤ 18446744073709551615 → a.replaced ≤ 18446744073709551615
     → a.dropped ≤ 18446744073709551615 → a.pending ≤ 18446744073709551615 → a.payload ≤ 18446744073709551615 → a.bytes ≤ 18446744073709551615
-    → costsFit a ≡ true
-unfolding costsFit
+    → costs_fit a ≡ true
+unfolding costs_fit
 fits-already a f g r d p y b =
     rw (
       lt-ltb a.firsts past64 (omega arith),
@@ -91,22 +91,22 @@ fits-already a f g r d p y b =
     )
 
 -- what is told where one stream's sums decide
-abbrev pub toldBy : Bool → CostReport → ToldAt CostReport
-toldBy t r = cond t (given r) (refused (19, 0))
+abbrev pub told_by : Bool → CostReport → ToldAt CostReport
+told_by t r = cond t (given r) (refused (19, 0))
 
-module _ (r : CostReport) (more : Costs) (c : costsFit r.control ≡ true) (o : costsFit r.ota ≡ true) (a : costsFit r.alexa ≡ true) where
-  pub on-control : (n : ℕ) → n ≡ 0 → (t : Bool) → costsFit (costsPlus r.control more) ≡ t
-      → toldBy t (record { control = costsPlus r.control more; ota = r.ota; alexa = r.alexa }) ≡ summed (plus r (only n more))
+module _ (r : CostReport) (more : Costs) (c : costs_fit r.control ≡ true) (o : costs_fit r.ota ≡ true) (a : costs_fit r.alexa ≡ true) where
+  pub on-control : (n : ℕ) → n ≡ 0 → (t : Bool) → costs_fit (costs_plus r.control more) ≡ t
+      → told_by t (record { control = costs_plus r.control more; ota = r.ota; alexa = r.alexa }) ≡ summed (plus r (only n more))
   on-control n e true f = rw (e, none_more r.ota, none_more r.alexa, f, o, a)
   on-control n e false f = rw (e, none_more r.ota, none_more r.alexa, f)
 
-  pub on-ota : (n : ℕ) → n ≡ 2 → (t : Bool) → costsFit (costsPlus r.ota more) ≡ t
-      → toldBy t (record { control = r.control; ota = costsPlus r.ota more; alexa = r.alexa }) ≡ summed (plus r (only n more))
+  pub on-ota : (n : ℕ) → n ≡ 2 → (t : Bool) → costs_fit (costs_plus r.ota more) ≡ t
+      → told_by t (record { control = r.control; ota = costs_plus r.ota more; alexa = r.alexa }) ≡ summed (plus r (only n more))
   on-ota n e true f = rw (e, none_more r.control, none_more r.alexa, f, c, a)
   on-ota n e false f = rw (e, none_more r.control, none_more r.alexa, f, c)
 
-  pub on-alexa : (n : ℕ) → n ≡ 6 → (t : Bool) → costsFit (costsPlus r.alexa more) ≡ t
-      → toldBy t (record { control = r.control; ota = r.ota; alexa = costsPlus r.alexa more }) ≡ summed (plus r (only n more))
+  pub on-alexa : (n : ℕ) → n ≡ 6 → (t : Bool) → costs_fit (costs_plus r.alexa more) ≡ t
+      → told_by t (record { control = r.control; ota = r.ota; alexa = costs_plus r.alexa more }) ≡ summed (plus r (only n more))
   on-alexa n e true f = rw (e, none_more r.control, none_more r.ota, f, c, o)
   on-alexa n e false f = rw (e, none_more r.control, none_more r.ota, f, c, o)
 
@@ -116,20 +116,20 @@ module _ (r : CostReport) (more : Costs) (c : costsFit r.control ≡ true) (o : 
 -- ---- what a packet adds is its own stream's
 
 mine-alone : (mine begun finished replaced dropped : Bool) (payload size : ℕ)
-    → costsBy mine begun finished replaced dropped payload size ≡ cond mine (costsBy true begun finished replaced dropped payload size) noCosts
+    → costs_by mine begun finished replaced dropped payload size ≡ cond mine (costs_by true begun finished replaced dropped payload size) no_costs
 mine-alone true begun finished replaced dropped payload size = refl
 mine-alone false begun finished replaced dropped payload size = refl
 
 -- a packet's own costs
 abbrev own : Heard → Costs
-own h = costsBy true (begins h) (finishes h.told) (replaces h.told) (drops h.told) (payloadIn h.told) (length h.packet)
+own h = costs_by true (begins h) (finishes h.told) (replaces h.told) (drops h.told) (payload_in h.told) (length h.packet)
 
 alone : (h : Heard) (mine : Bool)
-    → costsBy mine (begins h) (finishes h.told) (replaces h.told) (drops h.told) (payloadIn h.told) (length h.packet) ≡ cond mine (own h) noCosts
-alone h mine = mine-alone mine (begins h) (finishes h.told) (replaces h.told) (drops h.told) (payloadIn h.told) (length h.packet)
+    → costs_by mine (begins h) (finishes h.told) (replaces h.told) (drops h.told) (payload_in h.told) (length h.packet) ≡ cond mine (own h) no_costs
+alone h mine = mine-alone mine (begins h) (finishes h.told) (replaces h.told) (drops h.told) (payload_in h.told) (length h.packet)
 
 pub own_alone : (h : Heard) (n : ℕ) → is_of 0 h.packet ≡ eqb n 0 → is_of 2 h.packet ≡ eqb n 2 → is_of 6 h.packet ≡ eqb n 6
-    → reportWith h ≡ only n (costsBy true (begins h) (finishes h.told) (replaces h.told) (drops h.told) (payloadIn h.told) (length h.packet))
-unfolding reportWith
+    → report_with h ≡ only n (costs_by true (begins h) (finishes h.told) (replaces h.told) (drops h.told) (payload_in h.told) (length h.packet))
+unfolding report_with
 own_alone h n x y z =
     rw (x, y, z, alone h (eqb n 0), alone h (eqb n 2), alone h (eqb n 6))

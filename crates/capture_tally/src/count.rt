@@ -6,10 +6,10 @@ ghost use Rattle.ble_packet.specs.Header as headers;
 ghost use Rattle.ble_packet.specs.Reader as reader;
 ghost use Rattle.ble_slot.specs.Slot.{opens};
 ghost use Rattle.ble_slot.specs.Answer.{told};
-ghost use Rattle.capture_report.specs.Costs.{heard, begins, finishes, replaces, drops, payloadIn};
-ghost use Rattle.capture_report.specs.Turns.{costsBy, reportWith, openCosts, openReport, onTop};
-ghost use Rattle.capture_tally.specs.Count.{marksOf};
-ghost use Rattle.capture_tally.specs.Tally.{toldSum};
+ghost use Rattle.capture_report.specs.Costs.{heard, begins, finishes, replaces, drops, payload_in};
+ghost use Rattle.capture_report.specs.Turns.{costs_by, report_with, open_costs, open_report, on_top};
+ghost use Rattle.capture_tally.specs.Count.{marks_of};
+ghost use Rattle.capture_tally.specs.Tally.{told_sum};
 
 use crate::sums::{Sum, add_own};
 use ble_packet::header;
@@ -59,7 +59,7 @@ fn noted(accepts: bool, finishes: bool, replaces: bool, drops: bool, payload: u6
 }
 
 fn marks_accepted(accepted: Accepted) -> Marks
-    ensures { result ≡ marksOf (given accepted) }
+    ensures { result ≡ marks_of (given accepted) }
 {
     match accepted {
         Accepted::Taken {
@@ -82,7 +82,7 @@ fn marks_accepted(accepted: Accepted) -> Marks
 }
 
 fn marks_of(answer: Answer) -> Marks
-    ensures { result ≡ marksOf (told answer) }
+    ensures { result ≡ marks_of (told answer) }
 {
     match answer {
         Answer::Refused(why) => {
@@ -94,7 +94,7 @@ fn marks_of(answer: Answer) -> Marks
 }
 
 fn is_first(packet: &[u8]) -> bool
-    ensures { result ≡ reader.isFirst (reader.fields_of packet.now) }
+    ensures { result ≡ reader.is_first (reader.fields_of packet.now) }
 {
     header::type_bits(byte_at(packet, 1)) == 0
 }
@@ -113,7 +113,7 @@ fn stream_field(packet: &[u8]) -> u8
 
 fn costs_of(first: bool, marks: Marks, size: u64) -> Costs
     ensures { result
-        ≡ costsBy true (marks.accepts && first) marks.finishes marks.replaces marks.drops marks.payload size }
+        ≡ costs_by true (marks.accepts && first) marks.finishes marks.replaces marks.drops marks.payload size }
 {
     let firsts = bit64(both(marks.accepts, first));
     let finished = bit64(marks.finishes);
@@ -133,8 +133,8 @@ fn costs_of(first: bool, marks: Marks, size: u64) -> Costs
 
 // What a packet and what was told of it add to its own stream.
 fn costs_with(packet: &[u8], answer: Answer) -> Costs
-    ensures { result ≡ costsBy true (begins (heard packet.now (told answer))) (finishes (told answer))
-        (replaces (told answer)) (drops (told answer)) (payloadIn (told answer)) (length packet.now) }
+    ensures { result ≡ costs_by true (begins (heard packet.now (told answer))) (finishes (told answer))
+        (replaces (told answer)) (drops (told answer)) (payload_in (told answer)) (length packet.now) }
 {
     let marks = marks_of(answer);
     let first = is_first(packet);
@@ -143,7 +143,7 @@ fn costs_with(packet: &[u8], answer: Answer) -> Costs
 
 // The sums with a packet and what was told of it; what is over stays over.
 pub fn count_packet(sum: Sum, packet: &[u8], answer: Answer) -> Sum
-    ensures { toldSum result ≡ onTop (toldSum sum) (reportWith (heard packet.now (told answer))) }
+    ensures { told_sum result ≡ on_top (told_sum sum) (report_with (heard packet.now (told answer))) }
 {
     match sum {
         Sum::Over => Sum::Over,
@@ -167,7 +167,7 @@ fn open_among(lane: [Slot; 4]) -> u64
 }
 
 fn open_costs(pending: u64) -> Costs
-    ensures { result ≡ openCosts pending }
+    ensures { result ≡ open_costs pending }
 {
     Costs {
         firsts: 0,
@@ -182,7 +182,7 @@ fn open_costs(pending: u64) -> Costs
 
 // What the open slots of a row add.
 pub fn open_report(slots: [Slot; 12]) -> CostReport
-    ensures { result ≡ openReport slots }
+    ensures { result ≡ open_report slots }
 {
     let control = open_costs(open_among(lane_of(slots, Stream::Control)));
     let ota = open_costs(open_among(lane_of(slots, Stream::Ota)));

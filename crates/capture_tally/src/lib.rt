@@ -4,13 +4,13 @@ pub mod sums;
 
 ghost use Rattle.std.specs.Prelude.{◌≡◌, true, ◌&&◌, eqb, length, set, ◌*◌};
 ghost use Rattle.wire.specs.Told.{given};
-ghost use Rattle.wire.specs.Limit.{limitFits};
-ghost use Rattle.capture_reader.specs.Capture.{number_in, checkedOf};
-ghost use Rattle.ble_slot.specs.Slot.{idles, slotCount};
+ghost use Rattle.wire.specs.Limit.{limit_fits};
+ghost use Rattle.capture_reader.specs.Capture.{number_in, checked_of};
+ghost use Rattle.ble_slot.specs.Slot.{idles, slot_count};
 ghost use Rattle.ble_slot.specs.Answer as answer;
 ghost use Rattle.ble_receiver.specs.Receiver.{ready, result};
-ghost use Rattle.capture_report.specs.Report.{captureAdded, taken_of, addedBy, addedOf};
-ghost use Rattle.capture_tally.specs.Tally.{toldSum, tallied, gaveOf, turn_of, passedOf, number_of, told};
+ghost use Rattle.capture_report.specs.Report.{capture_added, taken_of, added_by, added_of};
+ghost use Rattle.capture_tally.specs.Tally.{told_sum, tallied, gave_of, turn_of, passed_of, number_of, told};
 ghost use Rattle.capture_tally.specs.declared.Answer.TheVariants.{Refused};
 
 use crate::count::{count_packet, open_report};
@@ -104,7 +104,7 @@ fn with_slot(slots: [Slot; 12], index: usize, slot: Slot) -> [Slot; 12]
 fn give(limit: usize, slots: [Slot; 12], buffer: &mut [u8], packet: &[u8]) -> Step
     requires { ready limit slots (length buffer.old) ≡ true }
     ensures* { λ r. ⌜ result (answer.told r.answer) (set slots r.index r.slot) buffer.new
-        ≡ gaveOf limit slots buffer.old packet.now ⌝ }
+        ≡ gave_of limit slots buffer.old packet.now ⌝ }
 {
     let mut out = [0u8; ACK_SIZE];
     process(limit, slots, buffer, packet, 0, &mut out)
@@ -114,7 +114,7 @@ fn give(limit: usize, slots: [Slot; 12], buffer: &mut [u8], packet: &[u8]) -> St
 fn take(limit: usize, tally: Tally, buffer: &mut [u8], packet: &[u8]) -> Tally
     requires { ready limit tally.slots (length buffer.old) ≡ true }
     ensures* { λ r. ⌜ tallied r buffer.new
-        ≡ turn_of (toldSum tally.sum) limit tally.slots buffer.old packet.now ⌝ }
+        ≡ turn_of (told_sum tally.sum) limit tally.slots buffer.old packet.now ⌝ }
 {
     let slots = tally.slots;
     let done = give(limit, slots, buffer, packet);
@@ -127,9 +127,9 @@ fn take(limit: usize, tally: Tally, buffer: &mut [u8], packet: &[u8]) -> Tally
 
 // Every packet of a sound capture given to a fresh link, and what is open at the end.
 fn pass(report: CostReport, limit: usize, buffer: &mut [u8], capture: &[u8]) -> Tally
-    requires { (checkedOf capture.now ≡ given tt) × (ready limit idles (length buffer.old) ≡ true) }
+    requires { (checked_of capture.now ≡ given tt) × (ready limit idles (length buffer.old) ≡ true) }
     ensures* { λ r. ⌜ given (tallied r buffer.new)
-        ≡ passedOf (given report) limit idles buffer.old capture.now ⌝ }
+        ≡ passed_of (given report) limit idles buffer.old capture.now ⌝ }
 {
     let mut at = 1;
     let mut tally = Tally {
@@ -152,8 +152,8 @@ fn pass(report: CostReport, limit: usize, buffer: &mut [u8], capture: &[u8]) -> 
 
 // Whether as many slots as there are, and a part of the buffer for each, were lent.
 fn lent_fits(count: usize, size: usize, limit: usize) -> bool
-    requires { limitFits limit ≡ true }
-    ensures* { λ r. ⌜ r ≡ (eqb count slotCount && eqb size (slotCount * limit)) ⌝ }
+    requires { limit_fits limit ≡ true }
+    ensures* { λ r. ⌜ r ≡ (eqb count slot_count && eqb size (slot_count * limit)) ⌝ }
 {
     both(count == SLOT_COUNT, size == SLOT_COUNT * limit)
 }
@@ -166,7 +166,7 @@ fn refuse(why: Refusal, at: usize, slots: [Slot; 12]) -> RowAdded
 }
 
 fn answer_of(sum: Sum) -> Answer
-    ensures* { λ r. ⌜ told r ≡ toldSum sum ⌝ }
+    ensures* { λ r. ⌜ told r ≡ told_sum sum ⌝ }
 {
     match sum {
         Sum::Over => Answer::Refused {
@@ -186,8 +186,8 @@ pub fn add_by_value(
     buffer: &mut [u8],
     capture: &[u8],
 ) -> RowAdded
-    ensures* { λ r. ⌜ captureAdded (told r.answer) r.slots buffer.new
-        ≡ addedBy report limit slots buffer.old
+    ensures* { λ r. ⌜ capture_added (told r.answer) r.slots buffer.new
+        ≡ added_by report limit slots buffer.old
         (taken_of limit count (length buffer.old) capture.now) ⌝ }
 {
     if !limit_fits(limit) {
@@ -218,8 +218,8 @@ pub fn add(
     buffer: &mut [u8],
     capture: &[u8],
 ) -> Answer
-    ensures* { λ r. ⌜ captureAdded (told r) row.new buffer.new
-        ≡ addedOf report limit row.old buffer.old capture.now ⌝ }
+    ensures* { λ r. ⌜ capture_added (told r) row.new buffer.new
+        ≡ added_of report limit row.old buffer.old capture.now ⌝ }
 {
     let count = row.len();
     let slots = load(&*row);

@@ -1,9 +1,9 @@
 // Sums of a report's numbers, each within 64 bits.
 ghost use Rattle.std.specs.Prelude.{◌+◌, ◌≡◌, true, ltb};
-ghost use Rattle.capture_report.specs.Report.{costsPlus, plus, past64, costsFit, reportFits, summed};
-ghost use Rattle.capture_report.specs.Turns.{onTop};
+ghost use Rattle.capture_report.specs.Report.{costs_plus, plus, past64, costs_fit, report_fits, summed};
+ghost use Rattle.capture_report.specs.Turns.{on_top};
 ghost use Rattle.capture_tally.specs.Count.{only};
-ghost use Rattle.capture_tally.specs.Tally.{toldSum};
+ghost use Rattle.capture_tally.specs.Tally.{told_sum};
 
 use capture_report::{CostReport, Costs};
 use wire::logic::both;
@@ -25,7 +25,7 @@ fn fit(a: u64, b: u64) -> bool
 }
 
 fn costs_fit(a: Costs, b: Costs) -> bool
-    ensures { result ≡ costsFit (costsPlus a b) }
+    ensures { result ≡ costs_fit (costs_plus a b) }
 {
     let sizes = both(fit(a.payload, b.payload), fit(a.bytes, b.bytes));
     let ended = both(
@@ -40,8 +40,8 @@ fn costs_fit(a: Costs, b: Costs) -> bool
 }
 
 fn add_costs(a: Costs, b: Costs) -> Costs
-    requires { costsFit (costsPlus a b) ≡ true }
-    ensures { result ≡ costsPlus a b }
+    requires { costs_fit (costs_plus a b) ≡ true }
+    ensures { result ≡ costs_plus a b }
 {
     Costs {
         firsts: a.firsts + b.firsts,
@@ -55,14 +55,14 @@ fn add_costs(a: Costs, b: Costs) -> Costs
 }
 
 fn reports_fit(a: CostReport, b: CostReport) -> bool
-    ensures { result ≡ reportFits (plus a b) }
+    ensures { result ≡ report_fits (plus a b) }
 {
     let later = both(costs_fit(a.ota, b.ota), costs_fit(a.alexa, b.alexa));
     both(costs_fit(a.control, b.control), later)
 }
 
 fn add_reports(a: CostReport, b: CostReport) -> Sum
-    ensures { toldSum result ≡ summed (plus a b) }
+    ensures { told_sum result ≡ summed (plus a b) }
 {
     if !reports_fit(a, b) {
         return Sum::Over;
@@ -79,7 +79,7 @@ fn add_reports(a: CostReport, b: CostReport) -> Sum
 
 // What a packet of a stream adds: the numbers of the other two stay. No stream, nothing.
 pub fn add_own(report: CostReport, number: u8, more: Costs) -> Sum
-    ensures { toldSum result ≡ summed (plus report (only number more)) }
+    ensures { told_sum result ≡ summed (plus report (only number more)) }
 {
     let control = report.control;
     let ota = report.ota;
@@ -123,7 +123,7 @@ pub fn add_own(report: CostReport, number: u8, more: Costs) -> Sum
 impl Sum {
     // With more on top; what is over stays over.
     pub fn with(self, more: CostReport) -> Self
-        ensures { toldSum result ≡ onTop (toldSum self) more }
+        ensures { told_sum result ≡ on_top (told_sum self) more }
     {
         match self {
             Sum::Over => Sum::Over,

@@ -1,9 +1,9 @@
 // Why a sender is not lawful: of the packet that decides what came and what was expected; of a capture that goes on what is open.
 ghost use Rattle.std.specs.Prelude.{◌≡◌, drop};
 ghost use Rattle.ble_packet.specs.Reader as packets;
-ghost use Rattle.capture_judge.specs.Capture.{traceTold};
+ghost use Rattle.capture_judge.specs.Capture.{trace_told};
 ghost use Rattle.capture_reader.specs.Capture.{number_in};
-ghost use Rattle.capture_why.specs.Why.{numbersBy, packetNumbers, numbersIn, cameBy, cameOf, expectIn, expectedOf, packetIn, stoppedOf, explainedIn, whyOf, whyTold};
+ghost use Rattle.capture_why.specs.Why.{numbers_by, packet_numbers, numbers_in, came_by, came_of, expect_in, expected_of, packet_in, stopped_of, explained_in, why_of, why_told};
 
 use ble_packet::reader::Packet;
 use ble_packet::{header, reader};
@@ -66,7 +66,7 @@ pub enum Why {
 impl Why {
     // The number of the refusal; 0 where nothing is refused.
     pub fn number(self) -> u8
-        ensures { result ≡ number_in (whyTold self) }
+        ensures { result ≡ number_in (why_told self) }
     {
         match self {
             Why::Barred { why, at: _ } => why.number(),
@@ -76,7 +76,7 @@ impl Why {
 }
 
 fn numbers(number: u8, first: bool, total: usize, len: usize) -> ReadNumbers
-    ensures { result ≡ numbersBy number first total len }
+    ensures { result ≡ numbers_by number first total len }
 {
     ReadNumbers {
         number,
@@ -87,7 +87,7 @@ fn numbers(number: u8, first: bool, total: usize, len: usize) -> ReadNumbers
 }
 
 fn packet_numbers(packet: Packet) -> ReadNumbers
-    ensures { result ≡ packetNumbers packet }
+    ensures { result ≡ packet_numbers packet }
 {
     match packet {
         Packet::First {
@@ -110,7 +110,7 @@ fn packet_numbers(packet: Packet) -> ReadNumbers
 }
 
 fn read_numbers(answer: reader::Answer) -> ReadNumbers
-    ensures { result ≡ numbersIn (packets.told answer) }
+    ensures { result ≡ numbers_in (packets.told answer) }
 {
     match answer {
         reader::Answer::Refused(why) => numbers(why.number(), false, 0, 0),
@@ -119,7 +119,7 @@ fn read_numbers(answer: reader::Answer) -> ReadNumbers
 }
 
 fn came_by(size: usize, first: u8, second: u8, read: ReadNumbers) -> Came
-    ensures { result ≡ cameBy size first second read }
+    ensures { result ≡ came_by size first second read }
 {
     let stream = header::stream_bits(first);
     let id = header::id_bits(first);
@@ -140,14 +140,14 @@ fn came_by(size: usize, first: u8, second: u8, read: ReadNumbers) -> Came
 }
 
 fn came_of(packet: &[u8], limit: usize) -> Came
-    ensures { result ≡ cameOf limit packet.now }
+    ensures { result ≡ came_of limit packet.now }
 {
     let read = read_numbers(reader::read(limit, packet));
     came_by(packet.len(), byte_at(packet, 0), byte_at(packet, 1), read)
 }
 
 fn expect_in(room: usize, slot: SenderSlot, first: bool, total: usize) -> Expected
-    ensures { result ≡ expectIn room slot first total }
+    ensures { result ≡ expect_in room slot first total }
 {
     match slot {
         SenderSlot::Idle => {
@@ -166,7 +166,7 @@ fn expect_in(room: usize, slot: SenderSlot, first: bool, total: usize) -> Expect
 }
 
 fn expected_of(room: usize, state: State, came: Came) -> Expected
-    ensures { result ≡ expectedOf room state came }
+    ensures { result ≡ expected_of room state came }
 {
     let read = came.read;
     if !is_stream(came.stream) {
@@ -177,7 +177,7 @@ fn expected_of(room: usize, state: State, came: Came) -> Expected
 }
 
 fn stopped_of(packet: &[u8], room: usize, limit: usize, at: usize, state: State) -> Explained
-    ensures { result ≡ stoppedOf room limit at state packet.now }
+    ensures { result ≡ stopped_of room limit at state packet.now }
 {
     let came = came_of(packet, limit);
     let expected = expected_of(room, state, came);
@@ -191,7 +191,7 @@ fn stopped_of(packet: &[u8], room: usize, limit: usize, at: usize, state: State)
 
 // The packet whose length stands at the front of some bytes.
 fn stopped_in(rest: &[u8], room: usize, limit: usize, at: usize, state: State) -> Explained
-    ensures { result ≡ stoppedOf room limit at state (packetIn rest.now) }
+    ensures { result ≡ stopped_of room limit at state (packet_in rest.now) }
 {
     let n = pair(byte_at(rest, 0), byte_at(rest, 1));
     let start = smaller(rest.len(), WIDTH);
@@ -201,14 +201,14 @@ fn stopped_in(rest: &[u8], room: usize, limit: usize, at: usize, state: State) -
 }
 
 fn stopped_at(capture: &[u8], room: usize, limit: usize, at: usize, state: State) -> Explained
-    ensures { result ≡ stoppedOf room limit at state (packetIn (drop at capture.now)) }
+    ensures { result ≡ stopped_of room limit at state (packet_in (drop at capture.now)) }
 {
     let start = smaller(capture.len(), at);
     stopped_in(&capture[start..], room, limit, at, state)
 }
 
 fn explained_in(capture: &[u8], room: usize, limit: usize, verdict: Judgement) -> Explained
-    ensures { result ≡ explainedIn room limit capture.now verdict }
+    ensures { result ≡ explained_in room limit capture.now verdict }
 {
     match verdict {
         Judgement::Going(state) => Explained::Ended(state),
@@ -218,7 +218,7 @@ fn explained_in(capture: &[u8], room: usize, limit: usize, verdict: Judgement) -
 
 // By what the packets of the capture say, at this room and limit.
 pub fn explain(capture: &[u8], room: usize, limit: usize, traced: Traced) -> Why
-    ensures { whyTold result ≡ whyOf room limit capture.now (traceTold traced) }
+    ensures { why_told result ≡ why_of room limit capture.now (trace_told traced) }
 {
     match traced {
         Traced::Barred { why, at } => Why::Barred { why, at },

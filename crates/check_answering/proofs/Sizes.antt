@@ -9,20 +9,20 @@ use lib.Seq.{sets, length-sets}
 use lib.Dec.{ltb}
 use borrow.Author.Tests.{ltb-false}
 use Rattle.wire.specs.Told.{WrittenOf, given, refused, written}
-use Rattle.proto_writer.specs.Writer.{Field, messageBytes}
+use Rattle.proto_writer.specs.Writer.{Field, message_bytes}
 use Rattle.proto_strings.specs.declared.TextFault.{TextFault}
 use Rattle.proto_strings.specs.declared.TextFault.TheVariants.{None, At}
 use Rattle.proto_strings.specs.declared.TextWrote.{TextWrote}
 use Rattle.proto_strings.specs.declared.TextWrote.TheVariants.{Done, Refused, BadText}
-use Rattle.proto_strings.specs.Texts.{firstFault, faulted, aloneWritten, writesTexts, toldTextWrote, textWroteSize}
+use Rattle.proto_strings.specs.Texts.{first_fault, faulted, alone_written, writes_texts, told_text_wrote, text_wrote_size}
 
 module _ (out l : List ℕ) (fields : List Field) where
   abbrev message : List ℕ
-  message = messageBytes fields
+  message = message_bytes fields
 
   text-done : (n : ℕ) (fault : TextFault) (bad short : Bool) → ltb (length out) (length message) ≡ short
       → written {N = ℕ × List ℕ} (given n) l
-      ≡ cond bad (written (refused (15, [])) out) (faulted fault out (aloneWritten (cond bad (written (refused 15) out) (cond short (written (refused 14) out) (written (given (length message)) (sets out 0 message))))))
+      ≡ cond bad (written (refused (15, [])) out) (faulted fault out (alone_written (cond bad (written (refused 15) out) (cond short (written (refused 14) out) (written (given (length message)) (sets out 0 message))))))
       → n ≤ length l
   text-done n None false false s e =
       let t : given n ≡ given (length message) = ap (λ (w : WrittenOf (ℕ × List ℕ) ℕ). w.told) e in
@@ -38,7 +38,7 @@ module _ (out l : List ℕ) (fields : List Field) where
   text-done n (At field place) true short s e =
       absurd (let t : given n ≡ refused (15, []) = ap (λ (w : WrittenOf (ℕ × List ℕ) ℕ). w.told) e in let z : ◌≡◌ {A = ℕ} 0 1 = cc in omega arith)
 
-  pub text-size : (w : TextWrote) (bad : Bool) (strings : List (ℕ × List ℕ)) → written (toldTextWrote w) l ≡ writesTexts bad strings fields out → textWroteSize w ≤ length l
-  text-size (Done n) bad strings e = text-done n (firstFault strings) bad (ltb (length out) (length message)) refl e
+  pub text-size : (w : TextWrote) (bad : Bool) (strings : List (ℕ × List ℕ)) → written (told_text_wrote w) l ≡ writes_texts bad strings fields out → text_wrote_size w ≤ length l
+  text-size (Done n) bad strings e = text-done n (first_fault strings) bad (ltb (length out) (length message)) refl e
   text-size (Refused why) bad strings e = zero-le
   text-size (BadText field place) bad strings e = zero-le

@@ -2,8 +2,8 @@
 // message as our writers write it.
 ghost use Rattle.std.specs.Prelude.{◌≡◌, ◌+◌, ◌≤◌, length};
 ghost use Rattle.proto_field.specs.Value.{bytes_of};
-ghost use Rattle.proto_writer.specs.Message.{wroteSize};
-ghost use Rattle.proto_strings.specs.Texts.{textWroteSize};
+ghost use Rattle.proto_writer.specs.Message.{wrote_size};
+ghost use Rattle.proto_strings.specs.Texts.{text_wrote_size};
 
 use libc::STDOUT_FILENO;
 use proto_field::value::Part;
@@ -24,7 +24,7 @@ pub fn refuse(number: u8) {
 
 // What was written.
 pub fn show(wrote: Wrote, out: &[u8])
-    requires { wroteSize wrote ≤ length out.now }
+    requires { wrote_size wrote ≤ length out.now }
 {
     match wrote {
         Wrote::Refused(why) => refuse(why.number()),
@@ -37,7 +37,7 @@ pub fn show(wrote: Wrote, out: &[u8])
 
 // What was written of a message with strings.
 pub fn show_text(wrote: TextWrote, out: &[u8])
-    requires { textWroteSize wrote ≤ length out.now }
+    requires { text_wrote_size wrote ≤ length out.now }
 {
     match wrote {
         TextWrote::Refused(why) => refuse(why.number()),

@@ -2,7 +2,7 @@
 // Standard input is a letter for the message's kind and the message. Standard output is the answer; 1 is for any other letter, 2 for an
 // input that is too long.
 ghost use Rattle.std.specs.Prelude.{◌≤◌, length};
-ghost use Rattle.msg_segment_writer.specs.Segment.{segmentWroteSize};
+ghost use Rattle.msg_segment_writer.specs.Segment.{segment_wrote_size};
 
 use check_answering::{NO_KIND, TOO_LONG, bytes_of, refuse, show, show_text};
 use libc::STDIN_FILENO;
@@ -21,7 +21,7 @@ const INPUT: usize = 8194;
 
 // What was written of a segment.
 fn show_segment(wrote: SegmentWrote, out: &[u8])
-    requires { segmentWroteSize wrote ≤ length out.now }
+    requires { segment_wrote_size wrote ≤ length out.now }
 {
     match wrote {
         SegmentWrote::BadText { field: _, place: _ } => refuse(wrote.number()),

@@ -10,11 +10,11 @@ use lib.Seq.{sets, sets-eq, take-append_seam, get_or-append_seam, get_or-append-
 use lib.Dec.{eqb}
 use borrow.Author.Tests.{eq-eqb, ne_eqb, le-ltb}
 use Rattle.wire.specs.Bytes.{pair_of, AllBytes}
-use Rattle.classic_frame.specs.Frame.{sum_of, checksumOf, contentOf, checked}
+use Rattle.classic_frame.specs.Frame.{sum_of, checksum_of, content_of, checked}
 use Rattle.classic_extractor.specs.Outcome.{frame, refused}
 use Rattle.classic_extractor.specs.State.{body}
 use Rattle.classic_extractor.specs.Step.{end_of}
-use Rattle.classic_claims.specs.Run.{handedBy}
+use Rattle.classic_claims.specs.Run.{handed_by}
 
 -- ---- what F1 reports
 
@@ -32,7 +32,7 @@ module _ (p : List ℕ) (high low : ℕ) (l : List ℕ) (room : length p + 2 ≤
   first = rw (stored, take-append_seam)
 
   end-report : (q : ℕ) → end_of (body q (length content)) (sets l 0 content)
-      ≡ cond (not (eqb (checksumOf p) (pair_of high low))) (refused 25) (frame q (length p))
+      ≡ cond (not (eqb (checksum_of p) (pair_of high low))) (refused 25) (frame q (length p))
   unfolding end_of checked
   end-report q =
       let n : length content - 2 ≡ length p = omega (arith, size) in
@@ -40,15 +40,15 @@ module _ (p : List ℕ) (high low : ℕ) (l : List ℕ) (room : length p + 2 ≤
 
 module _ (p l : List ℕ) (room : length p + 2 ≤ length l) where
   -- the payload stands first in the buffer
-  pub handed-first : (q : ℕ) → handedBy (frame q (length p)) (sets l 0 (contentOf p)) ≡ record { sequence = q; size = length p; payload = p } ∷ []
+  pub handed-first : (q : ℕ) → handed_by (frame q (length p)) (sets l 0 (content_of p)) ≡ record { sequence = q; size = length p; payload = p } ∷ []
   handed-first q =
-      let c = checksumOf p in
+      let c = checksum_of p in
       ap (λ (x : List ℕ). record { sequence = q; size = length p; payload = x } ∷ []) (first p (c / 256) (c % 256) l room)
 
   -- the checksum agrees with a frame's own payload
-  pub whole-report : (q : ℕ) → end_of (body q (length (contentOf p))) (sets l 0 (contentOf p)) ≡ frame q (length p)
+  pub whole-report : (q : ℕ) → end_of (body q (length (content_of p))) (sets l 0 (content_of p)) ≡ frame q (length p)
   whole-report q =
-      let c = checksumOf p in
+      let c = checksum_of p in
       end-report p (c / 256) (c % 256) l room q ∙ rw (eq-eqb c (pair_of (c / 256) (c % 256)) (omega arith))
 
 -- ---- another byte
@@ -88,10 +88,10 @@ spoilt (y ∷ ys) base high low (suc i) x b e h small other =
     spoilt-more base y ys high low i x (spoilt ys (base + y) high low i x b.1 (omega arith) (omega arith) small other)
 
 module _ (p l : List ℕ) (room : length p + 2 ≤ length l) where
-  pub spoilt-report : (q i x : ℕ) → AllBytes p → i < length (contentOf p) → x < 256 → x ≢ get_or (contentOf p) i 0
-      → end_of (body q (length (contentOf p))) (sets l 0 (set (contentOf p) i x)) ≡ refused 25
+  pub spoilt-report : (q i x : ℕ) → AllBytes p → i < length (content_of p) → x < 256 → x ≢ get_or (content_of p) i 0
+      → end_of (body q (length (content_of p))) (sets l 0 (set (content_of p) i x)) ≡ refused 25
   spoilt-report q i x b h small other =
-      let c = checksumOf p in
+      let c = checksum_of p in
       let r = spoilt p 2 (c / 256) (c % 256) i x b (omega arith) h small other in
-      let n : length (contentOf p) ≡ length (r.payload ++ (r.high' ∷ r.low' ∷ [])) = sym (length-set (contentOf p) i x) ∙ ap length r.same in
+      let n : length (content_of p) ≡ length (r.payload ++ (r.high' ∷ r.low' ∷ [])) = sym (length-set (content_of p) i x) ∙ ap length r.same in
       rw (r.same, n) (end-report r.payload r.high' r.low' l (omega arith) q ∙ rw (ne_eqb _ _ r.differs))

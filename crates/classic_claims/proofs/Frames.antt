@@ -7,27 +7,27 @@ use native.Mathlib.Omega.{arith}
 use lib.ListN.{length}
 use borrow.Author.Tests.{lt-ltb, le-ltb}
 use Rattle.classic_frame.specs.declared.mark.Kind.TheVariants.{Start}
-use Rattle.classic_frame.specs.Mark.{startMark, endMark, kind_of}
+use Rattle.classic_frame.specs.Mark.{start_mark, end_mark, kind_of}
 use Rattle.classic_extractor.specs.declared.state.Progress.{Progress}
 use Rattle.classic_extractor.specs.declared.state.Phase.{Phase}
 use Rattle.classic_extractor.specs.declared.state.Phase.TheVariants.{Outside, PacketId, ErrorId, Sequence, Body, Escaped}
-use Rattle.classic_extractor.specs.Action.{actionBy}
+use Rattle.classic_extractor.specs.Action.{action_by}
 use Rattle.classic_extractor.specs.State.{outside, begun, body, ready}
-use Rattle.classic_extractor.specs.Step.{end_of, performOf, advanceOf}
-use Rattle.classic_claims.specs.Run.{Given, handedBy}
+use Rattle.classic_extractor.specs.Step.{end_of, perform_of, advance_of}
+use Rattle.classic_claims.specs.Run.{Given, handed_by}
 use Rattle.classic_claims.proofs.Ready.{advance-ready}
 use Rattle.classic_claims.proofs.Cut.{since}
 
-unfoldable pub framesOf : ℕ → Progress → List ℕ → List ℕ → List Given
-framesOf limit s l [] = []
-framesOf limit s l (b ∷ bs) =
-    let r = advanceOf limit s l b in
-    handedBy r.report r.buffer ++ framesOf limit r.next r.buffer bs
+unfoldable pub frames_of : ℕ → Progress → List ℕ → List ℕ → List Given
+frames_of limit s l [] = []
+frames_of limit s l (b ∷ bs) =
+    let r = advance_of limit s l b in
+    handed_by r.report r.buffer ++ frames_of limit r.next r.buffer bs
 
 module _ (limit : ℕ) where
   begin-by : (p : Phase) (s : Progress) (l rest : List ℕ)
-      → (let r = performOf limit s l startMark (actionBy p Start startMark) in handedBy r.report r.buffer ++ framesOf limit r.next r.buffer rest)
-      ≡ framesOf limit begun l rest
+      → (let r = perform_of limit s l start_mark (action_by p Start start_mark) in handed_by r.report r.buffer ++ frames_of limit r.next r.buffer rest)
+      ≡ frames_of limit begun l rest
   begin-by Outside s l rest = refl
   begin-by PacketId s l rest = refl
   begin-by ErrorId s l rest = refl
@@ -36,14 +36,14 @@ module _ (limit : ℕ) where
   begin-by Escaped s l rest = refl
 
   -- F0 in any state begins a frame
-  pub frame-begins : (s : Progress) (l rest : List ℕ) → framesOf limit s l (startMark ∷ rest) ≡ framesOf limit begun l rest
-  unfolding framesOf advanceOf kind_of
+  pub frame-begins : (s : Progress) (l rest : List ℕ) → frames_of limit s l (start_mark ∷ rest) ≡ frames_of limit begun l rest
+  unfolding frames_of advance_of kind_of
   frame-begins s l rest = begin-by s.phase s l rest
 
   -- F1 in the body ends it
   pub frame-ends : (q h : ℕ) (l rest : List ℕ)
-      → framesOf limit (body q h) l (endMark ∷ rest) ≡ handedBy (end_of (body q h) l) l ++ framesOf limit outside l rest
-  unfolding framesOf advanceOf kind_of
+      → frames_of limit (body q h) l (end_mark ∷ rest) ≡ handed_by (end_of (body q h) l) l ++ frames_of limit outside l rest
+  unfolding frames_of advance_of kind_of
   frame-ends q h l rest = refl
 
 -- ---- the bytes before
@@ -53,22 +53,22 @@ pub record Later (limit : ℕ) (bytes : List ℕ) (gs : List Given) : Type 0 whe
   pub state : Progress
   pub buffer : List ℕ
   pub lawful : ready limit state (length buffer) ≡ true
-  pub same : gs ≡ framesOf limit state buffer bytes
+  pub same : gs ≡ frames_of limit state buffer bytes
 
 module _ (limit from : ℕ) where
-  since-all : (bytes : List ℕ) (n : ℕ) (s : Progress) (l : List ℕ) → from ≤ n → since limit from n s l bytes ≡ framesOf limit s l bytes
-  unfolding since framesOf
+  since-all : (bytes : List ℕ) (n : ℕ) (s : Progress) (l : List ℕ) → from ≤ n → since limit from n s l bytes ≡ frames_of limit s l bytes
+  unfolding since frames_of
   since-all [] n s l h = refl
   since-all (b ∷ bs) n s l h =
-      let r = advanceOf limit s l b in
+      let r = advance_of limit s l b in
       rw (lt-ltb from (n + 1) (omega arith))
-      (ap (λ (gs : List Given). handedBy r.report r.buffer ++ gs) (since-all bs (n + 1) r.next r.buffer (omega arith)))
+      (ap (λ (gs : List Given). handed_by r.report r.buffer ++ gs) (since-all bs (n + 1) r.next r.buffer (omega arith)))
 
   pub since-later : (before bytes : List ℕ) (n : ℕ) (s : Progress) (l : List ℕ) → ready limit s (length l) ≡ true → n + length before ≡ from
       → Later limit bytes (since limit from n s l (before ++ bytes))
   unfolding since
   since-later [] bytes n s l h e = record { state = s; buffer = l; lawful = h; same = since-all bytes n s l (omega arith) }
   since-later (b ∷ bs) bytes n s l h e =
-      let r = advanceOf limit s l b in
+      let r = advance_of limit s l b in
       rw (le-ltb from (n + 1) (omega arith))
       (since-later bs bytes (n + 1) r.next r.buffer (advance-ready limit s l b h) (omega arith))

@@ -10,15 +10,15 @@ use borrow.Author.Tests.{eq-eqb, le-leb, eqb-true, leb-true, not-true}
 use Rattle.wire.specs.Bytes.{AllBytes}
 use Rattle.wire.proofs.Limits.{range-limit, limit-range}
 use Rattle.wire.proofs.Tests.{and_left, and_right}
-use Rattle.classic_frame.specs.Mark.{kind_of, isMark}
+use Rattle.classic_frame.specs.Mark.{kind_of, is_mark}
 use Rattle.classic_writer.specs.Sending.{NoMark}
 use Rattle.classic_writer.proofs.Sending.{no-mark, sendable-when, sent-frame}
 use Rattle.classic_extractor.specs.declared.state.Progress.{Progress}
 use Rattle.classic_extractor.specs.declared.state.Phase.{Phase}
 use Rattle.classic_extractor.specs.declared.state.Phase.TheVariants.{Outside, PacketId, ErrorId, Sequence, Body, Escaped}
-use Rattle.classic_extractor.specs.State.{sequenceRead, lawfulBefore, lawfulAfter, lawful, ready}
-use Rattle.classic_extractor.specs.Step.{advanceOf}
-use Rattle.classic_feed.specs.Feed.{Feed, decides, feedFrom}
+use Rattle.classic_extractor.specs.State.{sequence_read, lawful_before, lawful_after, lawful, ready}
+use Rattle.classic_extractor.specs.Step.{advance_of}
+use Rattle.classic_feed.specs.Feed.{Feed, decides, feed_from}
 use Rattle.classic_claims.specs.Run.{call_of, run_of}
 use Rattle.classic_claims.specs.Premises.{LawfulIn, asking, TurnedWhen, ClosingWhen, StandingWhen, StandingOnly, AllUsedWhen, FactsSuffice}
 use Rattle.classic_claims.proofs.Ready.{of-cond, is-ready, feed-ready}
@@ -30,7 +30,7 @@ all-bytes (x ∷ xs) h = (h 0 (omega arith), all-bytes xs (λ i k. h (suc i) (om
 
 turned-when : TurnedWhen
 turned-when bytes place new inside was byte is other =
-    record { inside = inside; wasPlain = no-mark (get_or bytes place 0) was; is_plain = no-mark new is; byte = byte; other = other }
+    record { inside = inside; was_plain = no-mark (get_or bytes place 0) was; is_plain = no-mark new is; byte = byte; other = other }
 
 closing-when : ClosingWhen
 closing-when =
@@ -42,14 +42,14 @@ closing-when =
 
 -- ---- lawful states
 
-lawful-before : (sequence held : ℕ) → (sequence ≡ 0) × (held ≡ 0) → lawfulBefore sequence held ≡ true
+lawful-before : (sequence held : ℕ) → (sequence ≡ 0) × (held ≡ 0) → lawful_before sequence held ≡ true
 lawful-before sequence held h = rw (eq-eqb sequence 0 h.0, eq-eqb held 0 h.1)
 
-lawful-after : (limit sequence held : ℕ) → NoMark sequence × (held ≤ limit + 2) → lawfulAfter limit sequence held ≡ true
+lawful-after : (limit sequence held : ℕ) → NoMark sequence × (held ≤ limit + 2) → lawful_after limit sequence held ≡ true
 lawful-after limit sequence held h = rw (no-mark sequence h.0, le-leb held (limit + 2) h.1)
 
 lawful-in : (p : Phase) (limit sequence held : ℕ) → LawfulIn p limit sequence held
-    → cond (sequenceRead p) (lawfulAfter limit sequence held) (lawfulBefore sequence held) ≡ true
+    → cond (sequence_read p) (lawful_after limit sequence held) (lawful_before sequence held) ≡ true
 lawful-in Outside limit sequence held h = lawful-before sequence held h
 lawful-in PacketId limit sequence held h = lawful-before sequence held h
 lawful-in ErrorId limit sequence held h = lawful-before sequence held h
@@ -61,18 +61,18 @@ standing-when : StandingWhen
 unfolding lawful
 standing-when limit s l low high byte h n = record { range = range-limit limit low high; state = lawful-in s.phase limit s.sequence s.held h; size = n }
 
-marks-not : (b : ℕ) → isMark b ≡ false → NoMark b
+marks-not : (b : ℕ) → is_mark b ≡ false → NoMark b
 unfolding kind_of
 marks-not b h = (λ e. true≢false (rw e at h), λ e. true≢false (rw e at h), λ e. true≢false (rw e at h))
 
-before-only : (sequence held : ℕ) → lawfulBefore sequence held ≡ true → (sequence ≡ 0) × (held ≡ 0)
+before-only : (sequence held : ℕ) → lawful_before sequence held ≡ true → (sequence ≡ 0) × (held ≡ 0)
 before-only sequence held h = (eqb-true sequence 0 (and_left (eqb sequence 0) (eqb held 0) h), eqb-true held 0 (and_right (eqb sequence 0) (eqb held 0) h))
 
-after-only : (limit sequence held : ℕ) → lawfulAfter limit sequence held ≡ true → NoMark sequence × (held ≤ limit + 2)
+after-only : (limit sequence held : ℕ) → lawful_after limit sequence held ≡ true → NoMark sequence × (held ≤ limit + 2)
 after-only limit sequence held h =
-    (marks-not sequence (not-true (isMark sequence) (and_left (not (isMark sequence)) (leb held (limit + 2)) h)), leb-true held (limit + 2) (and_right (not (isMark sequence)) (leb held (limit + 2)) h))
+    (marks-not sequence (not-true (is_mark sequence) (and_left (not (is_mark sequence)) (leb held (limit + 2)) h)), leb-true held (limit + 2) (and_right (not (is_mark sequence)) (leb held (limit + 2)) h))
 
-only-in : (p : Phase) (limit sequence held : ℕ) → cond (sequenceRead p) (lawfulAfter limit sequence held) (lawfulBefore sequence held) ≡ true
+only-in : (p : Phase) (limit sequence held : ℕ) → cond (sequence_read p) (lawful_after limit sequence held) (lawful_before sequence held) ≡ true
     → LawfulIn p limit sequence held
 only-in Outside limit sequence held h = before-only sequence held h
 only-in PacketId limit sequence held h = before-only sequence held h
@@ -90,10 +90,10 @@ standing-only limit s l a =
 -- ---- calls that use all bytes
 
 module _ (limit : ℕ) where
-  feed-uses : (s : Progress) (l : List ℕ) (b : ℕ) (bs : List ℕ) → 1 ≤ (feedFrom limit 0 s l (b ∷ bs)).used
-  unfolding feedFrom
+  feed-uses : (s : Progress) (l : List ℕ) (b : ℕ) (bs : List ℕ) → 1 ≤ (feed_from limit 0 s l (b ∷ bs)).used
+  unfolding feed_from
   feed-uses s l b bs =
-      let r = advanceOf limit s l b in
+      let r = advance_of limit s l b in
       of-cond (λ (f : Feed). 1 ≤ f.used) (decides r.report) (omega arith) (rw (feed-later limit bs 1 r.next r.buffer) (omega arith))
 
   -- a call that asks for a byte uses one, if there is one

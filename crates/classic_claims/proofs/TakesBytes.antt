@@ -10,15 +10,15 @@ use lib.Seq.{sets}
 use borrow.Author.Tests.{lt-ltb}
 use Rattle.classic_frame.specs.declared.mark.Kind.TheVariants.{Plain}
 use Rattle.classic_frame.specs.Mark.{kind_of}
-use Rattle.classic_frame.specs.Frame.{packetId, errorId, escapedOf, headerOf}
+use Rattle.classic_frame.specs.Frame.{packet_id, error_id, escaped_of, header_of}
 use Rattle.classic_extractor.specs.declared.state.Progress.{Progress}
 use Rattle.classic_extractor.specs.declared.state.Phase.{Phase}
 use Rattle.classic_extractor.specs.declared.state.Phase.TheVariants.{Sequence, Escaped}
 use Rattle.classic_extractor.specs.Outcome.{taken}
 use Rattle.classic_extractor.specs.State.{begun, body}
-use Rattle.classic_extractor.specs.Step.{step, store_of, advanceOf}
-use Rattle.classic_feed.specs.Feed.{feedFrom}
-use Rattle.classic_claims.proofs.Frames.{framesOf, frame-begins}
+use Rattle.classic_extractor.specs.Step.{step, store_of, advance_of}
+use Rattle.classic_feed.specs.Feed.{feed_from}
+use Rattle.classic_claims.proofs.Frames.{frames_of, frame-begins}
 use Rattle.classic_claims.proofs.Spelling.{Code, Spelt, itself, coded, spelt}
 
 -- before the sequence byte is read
@@ -34,9 +34,9 @@ module _ (limit : ℕ) where
   pub data TakesBytes : Progress → List ℕ → List ℕ → Progress → List ℕ → Type 0 where
     none : {s : Progress} {l : List ℕ} → TakesBytes s l [] s l
     more : {s s₁ s₂ : Progress} {l l₁ l₂ : List ℕ} {b : ℕ} {bs : List ℕ}
-        → advanceOf limit s l b ≡ step taken s₁ l₁ → TakesBytes s₁ l₁ bs s₂ l₂ → TakesBytes s l (b ∷ bs) s₂ l₂
+        → advance_of limit s l b ≡ step taken s₁ l₁ → TakesBytes s₁ l₁ bs s₂ l₂ → TakesBytes s l (b ∷ bs) s₂ l₂
 
-  single : {s s₁ : Progress} {l l₁ : List ℕ} {b : ℕ} → advanceOf limit s l b ≡ step taken s₁ l₁ → TakesBytes s l (b ∷ []) s₁ l₁
+  single : {s s₁ : Progress} {l l₁ : List ℕ} {b : ℕ} → advance_of limit s l b ≡ step taken s₁ l₁ → TakesBytes s l (b ∷ []) s₁ l₁
   single e = more e none
 
   pub takes-then : {s s₁ s₂ : Progress} {l l₁ l₂ xs ys : List ℕ} → TakesBytes s l xs s₁ l₁ → TakesBytes s₁ l₁ ys s₂ l₂ → TakesBytes s l (xs ++ ys) s₂ l₂
@@ -45,53 +45,53 @@ module _ (limit : ℕ) where
 
   -- they hand out nothing
   pub takes-frames : {s s₁ : Progress} {l l₁ xs : List ℕ} → TakesBytes s l xs s₁ l₁ → (ys : List ℕ)
-      → framesOf limit s l (xs ++ ys) ≡ framesOf limit s₁ l₁ ys
-  unfolding framesOf
+      → frames_of limit s l (xs ++ ys) ≡ frames_of limit s₁ l₁ ys
+  unfolding frames_of
   takes-frames none ys = refl
   takes-frames (more e k) ys = rw e (takes-frames k ys)
 
   -- a call for many bytes goes on behind them
   pub takes-feed : {s s₁ : Progress} {l l₁ xs : List ℕ} → TakesBytes s l xs s₁ l₁ → (n : ℕ) (ys : List ℕ)
-      → feedFrom limit n s l (xs ++ ys) ≡ feedFrom limit (n + length xs) s₁ l₁ ys
-  unfolding feedFrom
+      → feed_from limit n s l (xs ++ ys) ≡ feed_from limit (n + length xs) s₁ l₁ ys
+  unfolding feed_from
   takes-feed none n ys = rw add-zero
   takes-feed (more e k) n ys = rw e (takes-feed k (n + 1) ys ∙ rw (add-one, suc-add, add-suc))
 
   -- ---- the header
 
   sequence-taken : (l : List ℕ) (q : ℕ) → kind_of q ≡ Plain → TakesBytes (fresh Sequence) l (q ∷ []) (body q 0) l
-  unfolding advanceOf
+  unfolding advance_of
   sequence-taken l q e = single (rw e)
 
   -- 02, 00 and the sequence byte
-  pub header-taken : (l : List ℕ) (q : ℕ) → kind_of q ≡ Plain → TakesBytes begun l (packetId ∷ errorId ∷ q ∷ []) (body q 0) l
-  unfolding advanceOf kind_of
+  pub header-taken : (l : List ℕ) (q : ℕ) → kind_of q ≡ Plain → TakesBytes begun l (packet_id ∷ error_id ∷ q ∷ []) (body q 0) l
+  unfolding advance_of kind_of
   header-taken l q e = more refl (more refl (sequence-taken l q e))
 
   -- a header in any state
   pub header : (q : ℕ) (l : List ℕ) → kind_of q ≡ Plain → (s : Progress) (rest : List ℕ)
-      → framesOf limit s l (headerOf q ++ rest) ≡ framesOf limit (body q 0) l rest
-  header q l plain s rest = frame-begins limit s l (packetId ∷ errorId ∷ q ∷ rest) ∙ takes-frames (header-taken l q plain) rest
+      → frames_of limit s l (header_of q ++ rest) ≡ frames_of limit (body q 0) l rest
+  header q l plain s rest = frame-begins limit s l (packet_id ∷ error_id ∷ q ∷ rest) ∙ takes-frames (header-taken l q plain) rest
 
   -- ---- the bytes to store
 
   module _ (q h : ℕ) (l : List ℕ) (room : h < limit + 2) where
     pub store-plain : (b : ℕ) → kind_of b ≡ Plain → TakesBytes (body q h) l (b ∷ []) (body q (suc h)) (set l h b)
-    unfolding advanceOf store_of
+    unfolding advance_of store_of
     store-plain b e = single (rw (e, lt-ltb h (limit + 2) room, add-one))
 
     pub store_code : (c x : ℕ) → kind_of c ≡ Plain → Code c x → TakesBytes (escaping q h) l (c ∷ []) (body q (suc h)) (set l h x)
-    unfolding advanceOf store_of
+    unfolding advance_of store_of
     store_code c x e k = single (rw (e, k.stands, lt-ltb h (limit + 2) room, add-one))
 
     store-unit : {x : ℕ} {us : List ℕ} → Spelt x us → TakesBytes (body q h) l us (body q (suc h)) (set l h x)
-    unfolding advanceOf kind_of
+    unfolding advance_of kind_of
     store-unit {x} (itself e) = store-plain x e
     store-unit {x} (coded c e k) = more refl (store_code c x e k)
 
   pub store-all : (xs : List ℕ) (q h : ℕ) (l : List ℕ) → h + length xs ≤ limit + 2
-      → TakesBytes (body q h) l (escapedOf xs) (body q (h + length xs)) (sets l h xs)
-  unfolding escapedOf
+      → TakesBytes (body q h) l (escaped_of xs) (body q (h + length xs)) (sets l h xs)
+  unfolding escaped_of
   store-all [] q h l r = rw add-zero none
   store-all (x ∷ xs) q h l r =
       rw (add-suc, ← suc-add) (takes-then (store-unit q h l (omega arith) (spelt x)) (store-all xs q (suc h) (set l h x) (omega arith)))

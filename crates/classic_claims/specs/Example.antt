@@ -3,7 +3,7 @@ use Rattle.std.specs.Prelude.{ℕ, ◌≡◌, List, [], ◌∷◌, ◌++◌, len
 use Rattle.classic_writer.specs.Sending.{FrameToSend}
 use Rattle.classic_extractor.specs.declared.state.Progress.{Progress}
 use Rattle.classic_extractor.specs.declared.state.Phase.TheVariants.{Escaped}
-use Rattle.classic_claims.specs.Run.{Call, one, many, Run, run_of, Given, handedOut}
+use Rattle.classic_claims.specs.Run.{Call, one, many, Run, run_of, Given, handed_out}
 use Rattle.classic_claims.specs.Recovery.{ClosingFrame, whole, damaged, bytes_of, undamaged, Closing, LawfulExtractor}
 
 abbrev pub limit : ℕ
@@ -20,12 +20,12 @@ buffer = replicate 10 0xEE
 abbrev before : List ℕ
 before = 0x41 ∷ 0xF1 ∷ 0xF0 ∷ 0x02 ∷ 0x00 ∷ 0x09 ∷ 0x07 ∷ 0xF2 ∷ []
 
-abbrev toSend : ℕ → List ℕ → FrameToSend
-toSend sequence payload = record { sequence = sequence; payload = payload; out = replicate 20 0xEE }
+abbrev to_send : ℕ → List ℕ → FrameToSend
+to_send sequence payload = record { sequence = sequence; payload = payload; out = replicate 20 0xEE }
 
 -- in the second frame 02 turns into 03
 abbrev pub closing : List ClosingFrame
-closing = whole (toSend 5 (0xF0 ∷ 0x41 ∷ [])) ∷ damaged (toSend 6 (0x01 ∷ 0x02 ∷ [])) 5 0x03 ∷ whole (toSend 0xF3 []) ∷ []
+closing = whole (to_send 5 (0xF0 ∷ 0x41 ∷ [])) ∷ damaged (to_send 6 (0x01 ∷ 0x02 ∷ [])) 5 0x03 ∷ whole (to_send 0xF3 []) ∷ []
 
 -- its bytes
 abbrev bytes : List ℕ
@@ -48,7 +48,7 @@ run_by calls = run_of limit calls 0 state buffer (before ++ bytes_of limit closi
 -- calls use all bytes, and the frames decided in the closing part are the two
 pub record Cut (calls : List Call) : Type 0 where
   pub used : (run_by calls).unused ≡ []
-  pub handed : handedOut (length before) (run_by calls).events ≡ frames
+  pub handed : handed_out (length before) (run_by calls).events ≡ frames
 
 -- ---- the claim
 

@@ -1,13 +1,13 @@
 -- The claims for Classic: the frames of our writer come back, and damage ends at the next F0.
 use Rattle.std.specs.Prelude.{ℕ, ◌+◌, ◌<◌, ◌≡◌, ◌≢◌, true, false, List, [], ◌∷◌, ◌++◌, length, get_or, set}
 use Rattle.wire.specs.Bytes.{AllBytes}
-use Rattle.wire.specs.Limit.{limitFits}
-use Rattle.classic_frame.specs.Mark.{isMark}
+use Rattle.wire.specs.Limit.{limit_fits}
+use Rattle.classic_frame.specs.Mark.{is_mark}
 use Rattle.classic_extractor.specs.declared.state.Progress.{Progress}
 use Rattle.classic_extractor.specs.State.{outside, lawful}
-use Rattle.classic_feed.specs.Feed.{feedOf}
+use Rattle.classic_feed.specs.Feed.{feed_of}
 use Rattle.classic_writer.specs.Sending.{FrameToSend, Sendable, sent}
-use Rattle.classic_claims.specs.Run.{Call, run_of, Given, handedBy, handedOut}
+use Rattle.classic_claims.specs.Run.{Call, run_of, Given, handed_by, handed_out}
 
 -- what an extractor has to hand out of a frame
 abbrev pub given_of : FrameToSend → Given
@@ -16,14 +16,14 @@ given_of m = record { sequence = m.sequence; size = length m.payload; payload = 
 -- ---- the closing part
 
 -- the place of the sequence byte, which the checksum does not cover
-abbrev pub sequencePlace : ℕ
-sequencePlace = 3
+abbrev pub sequence_place : ℕ
+sequence_place = 3
 
 -- the byte at a place turns into another, and neither is a mark
 pub record Turned (bytes : List ℕ) (place new : ℕ) : Type 0 where
   pub inside : place < length bytes
-  pub wasPlain : isMark (get_or bytes place 0) ≡ false
-  pub is_plain : isMark new ≡ false
+  pub was_plain : is_mark (get_or bytes place 0) ≡ false
+  pub is_plain : is_mark new ≡ false
   pub byte : new < 256
   pub other : new ≢ get_or bytes place 0
 
@@ -49,11 +49,11 @@ abbrev pub Closing : ℕ → List ClosingFrame → Type 0
 Closing limit [] = Unit {0}
 Closing limit (whole m ∷ is) = Sendable limit m × Closing limit is
 Closing limit (damaged m place new ∷ is) =
-    Sendable limit m × AllBytes m.payload × (place ≢ sequencePlace) × Turned (sent limit m) place new × Closing limit is
+    Sendable limit m × AllBytes m.payload × (place ≢ sequence_place) × Turned (sent limit m) place new × Closing limit is
 
 -- what an extractor and its buffer have to be: of a limit in its range, lawful, and of the size that goes with it
 pub record LawfulExtractor (limit : ℕ) (s : Progress) (buffer : List ℕ) : Type 0 where
-  pub range : limitFits limit ≡ true
+  pub range : limit_fits limit ≡ true
   pub state : lawful limit s ≡ true
   pub size : length buffer ≡ limit + 2
 
@@ -67,7 +67,7 @@ DamageEnds =
     → LawfulExtractor limit s buffer
     → Closing limit closing
     → (let run = run_of limit calls 0 s buffer (before ++ bytes_of limit closing) in
-    run.unused ≡ [] → handedOut (length before) run.events ≡ undamaged closing)
+    run.unused ≡ [] → handed_out (length before) run.events ≡ undamaged closing)
 
 -- A frame returns: one of our writer, given at once to an extractor that is outside, is handed out, and all its bytes are used
 abbrev pub FrameReturns : Type 0
@@ -75,5 +75,5 @@ FrameReturns =
     (limit : ℕ) (m : FrameToSend) (buffer : List ℕ)
     → Sendable limit m
     → length buffer ≡ limit + 2
-    → (let r = feedOf limit outside buffer (sent limit m) in
-    (handedBy r.report r.buffer ≡ given_of m ∷ []) × (r.used ≡ length (sent limit m)))
+    → (let r = feed_of limit outside buffer (sent limit m) in
+    (handed_by r.report r.buffer ≡ given_of m ∷ []) × (r.used ≡ length (sent limit m)))

@@ -1,9 +1,9 @@
 -- Calls of the extractor one after another, and what they hand out.
 use Rattle.std.specs.Prelude.{ℕ, ◌+◌, List, [], ◌∷◌, ◌++◌, cond, take, drop, ltb}
 use Rattle.classic_extractor.specs.declared.state.Progress.{Progress}
-use Rattle.classic_extractor.specs.Outcome.{Report, skipped, taken, allUsed, frame, refused}
-use Rattle.classic_extractor.specs.Step.{byteStepOf}
-use Rattle.classic_feed.specs.Feed.{Feed, fed, feedOf}
+use Rattle.classic_extractor.specs.Outcome.{Report, skipped, taken, all_used, frame, refused}
+use Rattle.classic_extractor.specs.Step.{byte_step_of}
+use Rattle.classic_feed.specs.Feed.{Feed, fed, feed_of}
 
 -- a step with the next byte, or a call with the next n bytes, or with as many as are left
 pub data Call : Type 0 where
@@ -12,9 +12,9 @@ pub data Call : Type 0 where
 
 -- what a call leaves; a step wants a byte: where none is left nothing is called, and nothing is decided
 unfoldable pub call_of : ℕ → Call → Progress → List ℕ → List ℕ → Feed
-call_of limit one s l [] = fed allUsed 0 s l
-call_of limit one s l (b ∷ bs) = let r = byteStepOf limit s l b in fed r.report 1 r.next r.buffer
-call_of limit (many n) s l bytes = feedOf limit s l (take n bytes)
+call_of limit one s l [] = fed all_used 0 s l
+call_of limit one s l (b ∷ bs) = let r = byte_step_of limit s l b in fed r.report 1 r.next r.buffer
+call_of limit (many n) s l bytes = feed_of limit s l (take n bytes)
 
 -- as a call returns: its report, the number of bytes used so far (the last of them decided, if one did) and the lent buffer
 pub record Event : Type 0 where
@@ -46,14 +46,14 @@ pub record Given : Type 0 where
   pub payload : List ℕ
 
 -- a report of a frame hands out the first bytes of the lent buffer, as many as it tells
-abbrev pub handedBy : Report → List ℕ → List Given
-handedBy skipped l = []
-handedBy taken l = []
-handedBy allUsed l = []
-handedBy (frame sequence n) l = record { sequence = sequence; size = n; payload = take n l } ∷ []
-handedBy (refused n) l = []
+abbrev pub handed_by : Report → List ℕ → List Given
+handed_by skipped l = []
+handed_by taken l = []
+handed_by all_used l = []
+handed_by (frame sequence n) l = record { sequence = sequence; size = n; payload = take n l } ∷ []
+handed_by (refused n) l = []
 
 -- what is handed out by the calls whose last byte used stands after the first n
-unfoldable pub handedOut : ℕ → List Event → List Given
-handedOut n [] = []
-handedOut n (e ∷ es) = cond (ltb n e.used) (handedBy e.report e.buffer) [] ++ handedOut n es
+unfoldable pub handed_out : ℕ → List Event → List Given
+handed_out n [] = []
+handed_out n (e ∷ es) = cond (ltb n e.used) (handed_by e.report e.buffer) [] ++ handed_out n es

@@ -8,32 +8,32 @@ use lib.ListN.{length}
 use lib.Dec.{eqb, leb}
 use borrow.Author.Tests.{eqb-true, leb-true}
 use Rattle.wire.proofs.Tests.{and_left, and_right}
-use Rattle.wire.specs.Limit.{limitFits}
+use Rattle.wire.specs.Limit.{limit_fits}
 use Rattle.classic_frame.specs.declared.mark.Kind.{Kind}
-use Rattle.classic_frame.specs.Mark.{kind_of, isMark}
+use Rattle.classic_frame.specs.Mark.{kind_of, is_mark}
 use Rattle.classic_extractor.specs.declared.state.Phase.{Phase}
 use Rattle.classic_extractor.specs.declared.state.Progress.{Progress}
-use Rattle.classic_extractor.specs.Action.{actionBy}
-use Rattle.classic_extractor.specs.Step.{performOf, advanceOf}
-use Rattle.classic_extractor.specs.State.{sequenceRead, lawfulBefore, lawfulAfter, lawful, ready, Fits}
+use Rattle.classic_extractor.specs.Action.{action_by}
+use Rattle.classic_extractor.specs.Step.{perform_of, advance_of}
+use Rattle.classic_extractor.specs.State.{sequence_read, lawful_before, lawful_after, lawful, ready, Fits}
 
-held-within : (limit : ℕ) (t : Bool) (q h : ℕ) → cond t (lawfulAfter limit q h) (lawfulBefore q h) ≡ true → h ≤ limit + 2
-held-within limit true q h e = leb-true _ _ (and_right (not (isMark q)) (leb h (limit + 2)) e)
+held-within : (limit : ℕ) (t : Bool) (q h : ℕ) → cond t (lawful_after limit q h) (lawful_before q h) ≡ true → h ≤ limit + 2
+held-within limit true q h e = leb-true _ _ (and_right (not (is_mark q)) (leb h (limit + 2)) e)
 held-within limit false q h e = omega (arith, eqb-true h 0 (and_right (eqb q 0) (eqb h 0) e))
 
 -- what a lawful state and the right size give
 pub ready-fits : {limit : ℕ} {s : Progress} {l : List ℕ} → ready limit s (length l) ≡ true → Fits limit s l
 unfolding ready lawful
 ready-fits {limit} {s} {l} e =
-    let k = and_right (limitFits limit) (eqb (length l) (limit + 2) && lawful limit s) e in
+    let k = and_right (limit_fits limit) (eqb (length l) (limit + 2) && lawful limit s) e in
     record {
-      room = held-within limit (sequenceRead s.phase) s.sequence s.held (and_right (eqb (length l) (limit + 2)) (lawful limit s) k);
+      room = held-within limit (sequence_read s.phase) s.sequence s.held (and_right (eqb (length l) (limit + 2)) (lawful limit s) k);
       size = eqb-true _ _ (and_left (eqb (length l) (limit + 2)) (lawful limit s) k);
     }
 
 -- a byte's step by its phase and its kind
 pub by-phase : (limit : ℕ) (s : Progress) (l : List ℕ) (b : ℕ) (p : Phase) {k : Kind} → s.phase ≡ p → k ≡ kind_of b
-    → performOf limit s l b (actionBy p k b) ≡ advanceOf limit s l b
-unfolding advanceOf
+    → perform_of limit s l b (action_by p k b) ≡ advance_of limit s l b
+unfolding advance_of
 by-phase limit s l b p e f =
-    ap (λ (k : Kind). performOf limit s l b (actionBy p k b)) f ∙ sym (ap (λ (p : Phase). performOf limit s l b (actionBy p (kind_of b) b)) e)
+    ap (λ (k : Kind). perform_of limit s l b (action_by p k b)) f ∙ sym (ap (λ (p : Phase). perform_of limit s l b (action_by p (kind_of b) b)) e)

@@ -2,8 +2,8 @@
 use Rattle.std.specs.Prelude.{ℕ, cond, eqb}
 use Rattle.classic_frame.specs.declared.mark.Kind.{Kind}
 use Rattle.classic_frame.specs.declared.mark.Kind.TheVariants.{Start, End, Escape, Plain}
-use Rattle.classic_frame.specs.Mark.{startMark, endMark, escapeMark, kind_of}
-use Rattle.classic_frame.specs.Frame.{packetId, errorId, startCode, endCode, escapeCode}
+use Rattle.classic_frame.specs.Mark.{start_mark, end_mark, escape_mark, kind_of}
+use Rattle.classic_frame.specs.Frame.{packet_id, error_id, start_code, end_code, escape_code}
 use Rattle.classic_extractor.specs.declared.state.Phase.{Phase}
 use Rattle.classic_extractor.specs.declared.state.Phase.TheVariants.{Outside, PacketId, ErrorId, Sequence, Body, Escaped}
 use Rattle.classic_extractor.specs.declared.outcome.Refusal.{Refusal}
@@ -15,51 +15,51 @@ pub data Action : Type 0 where
   Store : ℕ → Action
   Refuse : Refusal → Action
 
-abbrev pub outsideBy : Kind → Action
-outsideBy Start = Begin
-outsideBy End = Skip
-outsideBy Escape = Skip
-outsideBy Plain = Skip
+abbrev pub outside_by : Kind → Action
+outside_by Start = Begin
+outside_by End = Skip
+outside_by Escape = Skip
+outside_by Plain = Skip
 
 -- a header byte that has to be the one wanted
-abbrev pub headerBy : Kind → ℕ → Phase → ℕ → Action
-headerBy Start wanted next b = Restart
-headerBy End wanted next b = Refuse EarlyEnd
-headerBy Escape wanted next b = Refuse BadHeader
-headerBy Plain wanted next b = cond (eqb b wanted) (Go next) (Refuse BadHeader)
+abbrev pub header_by : Kind → ℕ → Phase → ℕ → Action
+header_by Start wanted next b = Restart
+header_by End wanted next b = Refuse EarlyEnd
+header_by Escape wanted next b = Refuse BadHeader
+header_by Plain wanted next b = cond (eqb b wanted) (Go next) (Refuse BadHeader)
 
-abbrev pub sequenceBy : Kind → Action
-sequenceBy Start = Restart
-sequenceBy End = Refuse EarlyEnd
-sequenceBy Escape = Refuse BadHeader
-sequenceBy Plain = Number
+abbrev pub sequence_by : Kind → Action
+sequence_by Start = Restart
+sequence_by End = Refuse EarlyEnd
+sequence_by Escape = Refuse BadHeader
+sequence_by Plain = Number
 
-abbrev pub bodyBy : Kind → ℕ → Action
-bodyBy Start b = Restart
-bodyBy End b = Finish
-bodyBy Escape b = Go Escaped
-bodyBy Plain b = Store b
+abbrev pub body_by : Kind → ℕ → Action
+body_by Start b = Restart
+body_by End b = Finish
+body_by Escape b = Go Escaped
+body_by Plain b = Store b
 
 -- the byte that a code after F2 stands for
 unfoldable pub code_of : ℕ → Action
 code_of b =
-    cond (eqb b startCode) (Store startMark)
-    (cond (eqb b endCode) (Store endMark)
-    (cond (eqb b escapeCode) (Store escapeMark) (Refuse BadEscape)))
+    cond (eqb b start_code) (Store start_mark)
+    (cond (eqb b end_code) (Store end_mark)
+    (cond (eqb b escape_code) (Store escape_mark) (Refuse BadEscape)))
 
-abbrev pub codeBy : Kind → ℕ → Action
-codeBy Start b = Restart
-codeBy End b = Refuse BadEscape
-codeBy Escape b = Refuse BadEscape
-codeBy Plain b = code_of b
+abbrev pub code_by : Kind → ℕ → Action
+code_by Start b = Restart
+code_by End b = Refuse BadEscape
+code_by Escape b = Refuse BadEscape
+code_by Plain b = code_of b
 
-abbrev pub actionBy : Phase → Kind → ℕ → Action
-actionBy Outside k b = outsideBy k
-actionBy PacketId k b = headerBy k packetId ErrorId b
-actionBy ErrorId k b = headerBy k errorId Sequence b
-actionBy Sequence k b = sequenceBy k
-actionBy Body k b = bodyBy k b
-actionBy Escaped k b = codeBy k b
+abbrev pub action_by : Phase → Kind → ℕ → Action
+action_by Outside k b = outside_by k
+action_by PacketId k b = header_by k packet_id ErrorId b
+action_by ErrorId k b = header_by k error_id Sequence b
+action_by Sequence k b = sequence_by k
+action_by Body k b = body_by k b
+action_by Escaped k b = code_by k b
 
-abbrev pub actionOf : Phase → ℕ → Action
-actionOf phase b = actionBy phase (kind_of b) b
+abbrev pub action_of : Phase → ℕ → Action
+action_of phase b = action_by phase (kind_of b) b

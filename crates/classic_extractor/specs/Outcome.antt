@@ -6,7 +6,7 @@ use Rattle.classic_extractor.specs.declared.outcome.StepOutcome.{StepOutcome}
 use Rattle.classic_extractor.specs.declared.outcome.StepOutcome.TheVariants.{Skipped, Taken, Frame, Refused}
 
 pub data Report : Type 0 where
-  skipped taken allUsed : Report
+  skipped taken all_used : Report
   frame : ℕ → ℕ → Report
   refused : ℕ → Report
 

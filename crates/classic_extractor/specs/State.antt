@@ -1,8 +1,8 @@
 -- The extractor's states: its link's limit, which is the largest payload, and its progress. The lent buffer has limit + 2 bytes.
 use Rattle.std.specs.Prelude.{ℕ, ◌+◌, ◌≤◌, ◌≡◌, List, [], ◌∷◌, Bool, true, false, cond, not, ◌&&◌, length, leb, eqb}
 use Rattle.wire.specs.Told.{Told, given, refused, line, table}
-use Rattle.wire.specs.Limit.{limitFits}
-use Rattle.classic_frame.specs.Mark.{isMark}
+use Rattle.wire.specs.Limit.{limit_fits}
+use Rattle.classic_frame.specs.Mark.{is_mark}
 use Rattle.classic_extractor.specs.declared.state.Phase.{Phase}
 use Rattle.classic_extractor.specs.declared.state.Phase.TheVariants.{Outside, PacketId, ErrorId, Sequence, Body, Escaped}
 use Rattle.classic_extractor.specs.declared.state.Progress.{Progress}
@@ -20,29 +20,29 @@ abbrev pub body : ℕ → ℕ → Progress
 body sequence held = record { phase = Body; sequence = sequence; held = held }
 
 -- the phases after the sequence byte
-abbrev pub sequenceRead : Phase → Bool
-sequenceRead Outside = false
-sequenceRead PacketId = false
-sequenceRead ErrorId = false
-sequenceRead Sequence = false
-sequenceRead Body = true
-sequenceRead Escaped = true
+abbrev pub sequence_read : Phase → Bool
+sequence_read Outside = false
+sequence_read PacketId = false
+sequence_read ErrorId = false
+sequence_read Sequence = false
+sequence_read Body = true
+sequence_read Escaped = true
 
 -- what is not read yet is 0
-abbrev pub lawfulBefore : ℕ → ℕ → Bool
-lawfulBefore sequence held = eqb sequence 0 && eqb held 0
+abbrev pub lawful_before : ℕ → ℕ → Bool
+lawful_before sequence held = eqb sequence 0 && eqb held 0
 
 -- a sequence that is no mark, and at most limit + 2 bytes held
-abbrev pub lawfulAfter : ℕ → ℕ → ℕ → Bool
-lawfulAfter limit sequence held = not (isMark sequence) && leb held (limit + 2)
+abbrev pub lawful_after : ℕ → ℕ → ℕ → Bool
+lawful_after limit sequence held = not (is_mark sequence) && leb held (limit + 2)
 
 -- lawful progress for a limit (docs/FORMATS.md)
 unfoldable pub lawful : ℕ → Progress → Bool
-lawful limit s = cond (sequenceRead s.phase) (lawfulAfter limit s.sequence s.held) (lawfulBefore s.sequence s.held)
+lawful limit s = cond (sequence_read s.phase) (lawful_after limit s.sequence s.held) (lawful_before s.sequence s.held)
 
 -- a limit in its range, lawful progress and a buffer of the right size
 unfoldable pub ready : ℕ → Progress → ℕ → Bool
-ready limit s size = limitFits limit && (eqb size (limit + 2) && lawful limit s)
+ready limit s size = limit_fits limit && (eqb size (limit + 2) && lawful limit s)
 
 -- what storing needs of that: the bytes held fit, and the buffer has its size
 pub record Fits (limit : ℕ) (s : Progress) (l : List ℕ) : Type 0 where
@@ -54,10 +54,10 @@ abbrev pub empty : ℕ → Extractor
 empty limit = record { limit = limit; progress = outside }
 
 -- an extractor opened: its empty state, or 17
-unfoldable pub openOf : ℕ → Told Extractor
-openOf limit = table (line 17 (not (limitFits limit)) ∷ []) refused (given (empty limit))
+unfoldable pub open_of : ℕ → Told Extractor
+open_of limit = table (line 17 (not (limit_fits limit)) ∷ []) refused (given (empty limit))
 
 -- what an opening tells
-abbrev pub toldOpen : OpenedExtractor → Told Extractor
-toldOpen (OpenedExtractor.Empty s) = given s
-toldOpen OpenedExtractor.BadLimit = refused 17
+abbrev pub told_open : OpenedExtractor → Told Extractor
+told_open (OpenedExtractor.Empty s) = given s
+told_open OpenedExtractor.BadLimit = refused 17

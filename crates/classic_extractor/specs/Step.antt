@@ -5,7 +5,7 @@ use Rattle.classic_frame.specs.Frame.{checked}
 use Rattle.classic_extractor.specs.declared.state.Progress.{Progress}
 use Rattle.classic_extractor.specs.Outcome.{Report, taken, skipped, frame, refused, number_of}
 use Rattle.classic_extractor.specs.State.{outside, begun, body, ready}
-use Rattle.classic_extractor.specs.Action.{Action, Skip, Begin, Restart, Go, Number, Store, Finish, Refuse, actionOf}
+use Rattle.classic_extractor.specs.Action.{Action, Skip, Begin, Restart, Go, Number, Store, Finish, Refuse, action_of}
 
 -- what a step leaves: its report, the next state and the lent buffer
 pub record ByteStep : Type 0 where
@@ -30,20 +30,20 @@ end_of s l =
     ∷ [])
     refused (frame s.sequence (s.held - 2))
 
-abbrev pub performOf : ℕ → Progress → List ℕ → ℕ → Action → ByteStep
-performOf limit s l b Skip = step skipped s l
-performOf limit s l b Begin = step taken begun l
-performOf limit s l b Restart = step (refused 20) begun l
-performOf limit s l b (Go p) = step taken (record { phase = p; sequence = s.sequence; held = s.held }) l
-performOf limit s l b Number = step taken (body b s.held) l
-performOf limit s l b (Store x) = store_of limit s l x
-performOf limit s l b Finish = step (end_of s l) outside l
-performOf limit s l b (Refuse r) = step (refused (number_of r)) outside l
+abbrev pub perform_of : ℕ → Progress → List ℕ → ℕ → Action → ByteStep
+perform_of limit s l b Skip = step skipped s l
+perform_of limit s l b Begin = step taken begun l
+perform_of limit s l b Restart = step (refused 20) begun l
+perform_of limit s l b (Go p) = step taken (record { phase = p; sequence = s.sequence; held = s.held }) l
+perform_of limit s l b Number = step taken (body b s.held) l
+perform_of limit s l b (Store x) = store_of limit s l x
+perform_of limit s l b Finish = step (end_of s l) outside l
+perform_of limit s l b (Refuse r) = step (refused (number_of r)) outside l
 
 -- a byte, in a lawful state with a buffer of the right size
-unfoldable pub advanceOf : ℕ → Progress → List ℕ → ℕ → ByteStep
-advanceOf limit s l b = performOf limit s l b (actionOf s.phase b)
+unfoldable pub advance_of : ℕ → Progress → List ℕ → ℕ → ByteStep
+advance_of limit s l b = perform_of limit s l b (action_of s.phase b)
 
 -- the step of one byte, on all inputs
-abbrev pub byteStepOf : ℕ → Progress → List ℕ → ℕ → ByteStep
-byteStepOf limit s l b = table (line 1 (not (ready limit s (length l))) ∷ []) (λ n. step (refused n) s l) (advanceOf limit s l b)
+abbrev pub byte_step_of : ℕ → Progress → List ℕ → ℕ → ByteStep
+byte_step_of limit s l b = table (line 1 (not (ready limit s (length l))) ∷ []) (λ n. step (refused n) s l) (advance_of limit s l b)

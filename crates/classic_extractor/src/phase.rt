@@ -5,8 +5,8 @@ ghost use Rattle.classic_extractor.specs.declared.outcome.Refusal.TheVariants.{S
 ghost use Rattle.classic_extractor.specs.declared.outcome.StepOutcome.TheVariants.{Skipped, Taken, Refused};
 ghost use Rattle.classic_extractor.specs.Outcome.{told};
 ghost use Rattle.classic_extractor.specs.State.{begun, outside};
-ghost use Rattle.classic_extractor.specs.Action.{outsideBy, headerBy, sequenceBy, bodyBy, code_of, codeBy};
-ghost use Rattle.classic_extractor.specs.Step.{step, store_of, end_of, performOf};
+ghost use Rattle.classic_extractor.specs.Action.{outside_by, header_by, sequence_by, body_by, code_of, code_by};
+ghost use Rattle.classic_extractor.specs.Step.{step, store_of, end_of, perform_of};
 
 use crate::outcome::{Refusal, StepOutcome};
 use crate::state::{Phase, Progress};
@@ -121,7 +121,7 @@ impl Progress {
 
     pub fn at_outside(self, kind: Kind) -> Advanced
         ensures { (limit : ℕ) (l : List ℕ) (b : ℕ) → step (told result.outcome) result.next l
-            ≡ performOf limit self l b (outsideBy kind) }
+            ≡ perform_of limit self l b (outside_by kind) }
     {
         match kind {
             Kind::Start => go_on(Phase::PacketId, 0, 0),
@@ -134,7 +134,7 @@ impl Progress {
     // A header byte that has to be the one wanted.
     fn expect(self, wanted: u8, next: Phase, b: u8) -> Advanced
         ensures { (limit : ℕ) (l : List ℕ) → step (told result.outcome) result.next l
-            ≡ performOf limit self l b (headerBy Plain wanted next b) }
+            ≡ perform_of limit self l b (header_by Plain wanted next b) }
     {
         if b == wanted {
             go_on(next, self.sequence, self.held)
@@ -145,7 +145,7 @@ impl Progress {
 
     pub fn at_header(self, kind: Kind, wanted: u8, next: Phase, b: u8) -> Advanced
         ensures { (limit : ℕ) (l : List ℕ) → step (told result.outcome) result.next l
-            ≡ performOf limit self l b (headerBy kind wanted next b) }
+            ≡ perform_of limit self l b (header_by kind wanted next b) }
     {
         match kind {
             Kind::Start => restart(),
@@ -157,7 +157,7 @@ impl Progress {
 
     pub fn at_sequence(self, kind: Kind, b: u8) -> Advanced
         ensures { (limit : ℕ) (l : List ℕ) → step (told result.outcome) result.next l
-            ≡ performOf limit self l b (sequenceBy kind) }
+            ≡ perform_of limit self l b (sequence_by kind) }
     {
         match kind {
             Kind::Start => restart(),
@@ -171,7 +171,7 @@ impl Progress {
         requires { self.held ≤ length buffer.old }
         ensures { (limit : ℕ) → length buffer.old ≡ limit + 2
             → step (told result.outcome) result.next buffer.new
-            ≡ performOf limit self buffer.old b (bodyBy kind b) }
+            ≡ perform_of limit self buffer.old b (body_by kind b) }
     {
         match kind {
             Kind::Start => restart(),
@@ -188,7 +188,7 @@ impl Progress {
     fn decode(self, buffer: &mut [u8], b: u8) -> Advanced
         ensures { (limit : ℕ) → length buffer.old ≡ limit + 2
             → step (told result.outcome) result.next buffer.new
-            ≡ performOf limit self buffer.old b (code_of b) }
+            ≡ perform_of limit self buffer.old b (code_of b) }
     {
         if b == START_CODE {
             return self.store(buffer, Mark::START);
@@ -205,7 +205,7 @@ impl Progress {
     pub fn at_escaped(self, buffer: &mut [u8], kind: Kind, b: u8) -> Advanced
         ensures { (limit : ℕ) → length buffer.old ≡ limit + 2
             → step (told result.outcome) result.next buffer.new
-            ≡ performOf limit self buffer.old b (codeBy kind b) }
+            ≡ perform_of limit self buffer.old b (code_by kind b) }
     {
         match kind {
             Kind::Start => restart(),

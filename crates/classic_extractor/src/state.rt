@@ -1,6 +1,6 @@
 // The extractor's state: its link's limit, where in a frame it is, and what it holds of it.
 ghost use Rattle.std.specs.Prelude.{◌≡◌, ◌≤◌};
-ghost use Rattle.classic_extractor.specs.State.{outside, begun, sequenceRead, lawfulBefore, lawfulAfter, lawful, ready, empty, openOf, toldOpen};
+ghost use Rattle.classic_extractor.specs.State.{outside, begun, sequence_read, lawful_before, lawful_after, lawful, ready, empty, open_of, told_open};
 
 use classic_frame::mark::is_mark;
 use wire::limit::limit_fits;
@@ -97,7 +97,7 @@ impl Extractor {
 
     // An extractor for a link with a limit, in its empty state.
     pub fn open(limit: usize) -> OpenedExtractor
-        ensures { toldOpen result ≡ openOf limit }
+        ensures { told_open result ≡ open_of limit }
     {
         if limit_fits(limit) {
             OpenedExtractor::Empty(Extractor::outside(limit))
@@ -109,7 +109,7 @@ impl Extractor {
 
 // Whether the sequence byte is read in a phase.
 fn sequence_read(phase: Phase) -> bool
-    ensures { result ≡ sequenceRead phase }
+    ensures { result ≡ sequence_read phase }
 {
     match phase {
         Phase::Outside => false,
@@ -122,14 +122,14 @@ fn sequence_read(phase: Phase) -> bool
 }
 
 fn lawful_before(sequence: u8, held: usize) -> bool
-    ensures { result ≡ lawfulBefore sequence held }
+    ensures { result ≡ lawful_before sequence held }
 {
     both(sequence == 0, held == 0)
 }
 
 fn lawful_after(limit: usize, sequence: u8, held: usize) -> bool
     requires { limit ≤ 65535 }
-    ensures { result ≡ lawfulAfter limit sequence held }
+    ensures { result ≡ lawful_after limit sequence held }
 {
     both(!is_mark(sequence), held <= limit + CHECKSUM)
 }

@@ -1,7 +1,7 @@
 // One byte, one step.
 ghost use Rattle.std.specs.Prelude.{◌≡◌, ℕ, ◌+◌, ◌≤◌, length};
 ghost use Rattle.classic_extractor.specs.Outcome.{told};
-ghost use Rattle.classic_extractor.specs.Step.{step, advanceOf, byteStepOf};
+ghost use Rattle.classic_extractor.specs.Step.{step, advance_of, byte_step_of};
 
 use crate::outcome::{Refusal, StepOutcome};
 use crate::phase::{Advanced, refuse};
@@ -20,7 +20,7 @@ impl Progress {
     fn advance(self, buffer: &mut [u8], b: u8) -> Advanced
         requires { self.held ≤ length buffer.old }
         ensures { (limit : ℕ) → length buffer.old ≡ limit + 2
-            → step (told result.outcome) result.next buffer.new ≡ advanceOf limit self buffer.old b }
+            → step (told result.outcome) result.next buffer.new ≡ advance_of limit self buffer.old b }
     {
         let phase = self.phase;
         let kind = kind_of(b);
@@ -37,7 +37,7 @@ impl Progress {
     // One byte, for any limit and any progress.
     fn take(self, limit: usize, buffer: &mut [u8], b: u8) -> Advanced
         ensures { step (told result.outcome) result.next buffer.new
-            ≡ byteStepOf limit self buffer.old b }
+            ≡ byte_step_of limit self buffer.old b }
     {
         if self.is_ready(limit, buffer.len()) {
             self.advance(buffer, b)
@@ -51,7 +51,7 @@ impl Extractor {
     // One byte.
     pub fn step(self, buffer: &mut [u8], b: u8) -> Stepped
         ensures { (step (told result.outcome) result.next.progress buffer.new
-            ≡ byteStepOf self.limit self.progress buffer.old b) × (result.next.limit ≡ self.limit) }
+            ≡ byte_step_of self.limit self.progress buffer.old b) × (result.next.limit ≡ self.limit) }
     {
         let progress = self.progress;
         let done = progress.take(self.limit, buffer, b);

@@ -10,13 +10,13 @@ use lib.ListN.{length, take, drop, get_or, set, take-append-drop, length-set}
 use lib.Seq.{drop-cons, drop-drop, sets}
 use lib.Dec.{eqb, ltb, lit≤}
 use borrow.Author.Tests.{eqb-true, ltb-false, lt-ltb, not-true}
-use Rattle.wire.specs.Scan.{anyInRange, Clear, Copied}
+use Rattle.wire.specs.Scan.{any_in_range, Clear, Copied}
 use Rattle.wire.proofs.Runs.{out_of_range, any-first, copied-length, part-long, part_none, part_length, part-stored}
 use Rattle.wire.proofs.Tests.{and_left, and_right}
 use Rattle.classic_frame.specs.declared.mark.Kind.{Kind}
 use Rattle.classic_frame.specs.declared.mark.Kind.TheVariants.{Start, End, Escape, Plain}
-use Rattle.classic_frame.specs.Mark.{startMark, endMark, escapeMark, kind_of, isMark}
-use Rattle.classic_frame.specs.Frame.{packetId, errorId, startCode, endCode, escapeCode}
+use Rattle.classic_frame.specs.Mark.{start_mark, end_mark, escape_mark, kind_of, is_mark}
+use Rattle.classic_frame.specs.Frame.{packet_id, error_id, start_code, end_code, escape_code}
 use Rattle.classic_frame.proofs.Marks.{clear-plain, unmarked-plain, start-kind, escape-kind, packet-kind, error_kind}
 use Rattle.classic_extractor.specs.declared.state.Progress.{Progress}
 use Rattle.classic_extractor.specs.declared.state.Phase.{Phase}
@@ -24,9 +24,9 @@ use Rattle.classic_extractor.specs.declared.state.Phase.TheVariants.{Outside, Bo
 use Rattle.classic_extractor.specs.Action.{Store, code_of}
 use Rattle.classic_extractor.specs.Outcome.{taken}
 use Rattle.classic_extractor.specs.State.{begun, body, Fits}
-use Rattle.classic_extractor.specs.Step.{step, store_of, advanceOf}
-use Rattle.classic_feed.specs.Feed.{feedFrom}
-use Rattle.classic_feed.specs.FastPath.{mark_of, markAt, isHeader, header_at, Onward}
+use Rattle.classic_extractor.specs.Step.{step, store_of, advance_of}
+use Rattle.classic_feed.specs.Feed.{feed_from}
+use Rattle.classic_feed.specs.FastPath.{mark_of, mark_at, is_header, header_at, Onward}
 use Rattle.classic_feed.proofs.Loop.{Running}
 
 -- ---- bytes that are passed
@@ -46,57 +46,57 @@ module _ {limit : ℕ} {bytes : List ℕ} where
 
 -- ---- bytes outside of a frame
 
-not_start : (x : ℕ) → eqb x startMark ≡ false → kind_of x ≡ Start → ⊥
+not_start : (x : ℕ) → eqb x start_mark ≡ false → kind_of x ≡ Start → ⊥
 unfolding kind_of
-not_start x q e = go (eqb x endMark) (eqb x escapeMark) (rw q at e)
+not_start x q e = go (eqb x end_mark) (eqb x escape_mark) (rw q at e)
   where
     go : (t u : Bool) → cond t End (cond u Escape Plain) ≡ Start → ⊥
     go true u e = let z : ◌≡◌ {A = ℕ} 0 1 = cc in omega (arith, z)
     go false true e = let z : ◌≡◌ {A = ℕ} 0 1 = cc in omega (arith, z)
     go false false e = let z : ◌≡◌ {A = ℕ} 0 1 = cc in omega (arith, z)
 
-outside-one : (limit n : ℕ) (s : Progress) (l : List ℕ) (x : ℕ) (xs : List ℕ) → s.phase ≡ Outside → eqb x startMark ≡ false
-    → feedFrom limit n s l (x ∷ xs) ≡ feedFrom limit (n + 1) s l xs
-unfolding feedFrom advanceOf
+outside-one : (limit n : ℕ) (s : Progress) (l : List ℕ) (x : ℕ) (xs : List ℕ) → s.phase ≡ Outside → eqb x start_mark ≡ false
+    → feed_from limit n s l (x ∷ xs) ≡ feed_from limit (n + 1) s l xs
+unfolding feed_from advance_of
 outside-one limit n s l x xs p q = go (kind_of x) refl
   where
-    go : (k : Kind) → kind_of x ≡ k → feedFrom limit n s l (x ∷ xs) ≡ feedFrom limit (n + 1) s l xs
+    go : (k : Kind) → kind_of x ≡ k → feed_from limit n s l (x ∷ xs) ≡ feed_from limit (n + 1) s l xs
     go Start e = absurd (not_start x q e)
     go End e = rw (p, e)
     go Escape e = rw (p, e)
     go Plain e = rw (p, e)
 
-outside-run : (limit n : ℕ) (s : Progress) (l xs ys : List ℕ) → s.phase ≡ Outside → anyInRange startMark startMark xs ≡ false
-    → feedFrom limit n s l (xs ++ ys) ≡ feedFrom limit (n + length xs) s l ys
+outside-run : (limit n : ℕ) (s : Progress) (l xs ys : List ℕ) → s.phase ≡ Outside → any_in_range start_mark start_mark xs ≡ false
+    → feed_from limit n s l (xs ++ ys) ≡ feed_from limit (n + length xs) s l ys
 outside-run limit n s l [] ys p e = rw add-zero
 outside-run limit n s l (x ∷ xs) ys p e =
-    let k = any-first startMark startMark x xs e in
-    outside-one limit n s l x (xs ++ ys) p (out_of_range startMark startMark startMark x k.0 (lit≤ tt) (lit≤ tt))
+    let k = any-first start_mark start_mark x xs e in
+    outside-one limit n s l x (xs ++ ys) p (out_of_range start_mark start_mark start_mark x k.0 (lit≤ tt) (lit≤ tt))
     ∙ outside-run limit (n + 1) s l xs ys p k.1 ∙ rw (add-one, suc-add, add-suc)
 
 pub onward-outside : {limit : ℕ} {s : Progress} {l : List ℕ} (bytes : List ℕ) (i e k : ℕ) → Fits limit s l → s.phase ≡ Outside → i ≤ e → e ≤ length bytes
-    → Clear startMark startMark (take (e - i) (drop i bytes)) k → Onward limit bytes s l i s l (i + k)
+    → Clear start_mark start_mark (take (e - i) (drop i bytes)) k → Onward limit bytes s l i s l (i + k)
 onward-outside {limit} {s} {l} bytes i e k fits p h w clear =
     record {
       from = omega arith;
-      within = omega (arith, part-long startMark startMark bytes i e k h w clear);
+      within = omega (arith, part-long start_mark start_mark bytes i e k h w clear);
       fits = fits;
       rest =
           sym
-          (rw (take-append-drop k (drop i bytes), part_length startMark startMark bytes i e k h w clear, drop-drop k i bytes)
-          at (outside-run limit i s l (take k (drop i bytes)) (drop k (drop i bytes)) p (part_none startMark startMark bytes i e k h w clear)));
+          (rw (take-append-drop k (drop i bytes), part_length start_mark start_mark bytes i e k h w clear, drop-drop k i bytes)
+          at (outside-run limit i s l (take k (drop i bytes)) (drop k (drop i bytes)) p (part_none start_mark start_mark bytes i e k h w clear)));
     }
 
 -- a start mark begins a frame
 start-one : (limit n : ℕ) (s : Progress) (l ys : List ℕ) → s.phase ≡ Outside
-    → feedFrom limit n s l (startMark ∷ ys) ≡ feedFrom limit (n + 1) begun l ys
-unfolding feedFrom advanceOf
+    → feed_from limit n s l (start_mark ∷ ys) ≡ feed_from limit (n + 1) begun l ys
+unfolding feed_from advance_of
 start-one limit n s l ys p = rw (p, start-kind)
 
 pub onward-start : {limit : ℕ} {s : Progress} {l : List ℕ} (bytes : List ℕ) (i : ℕ) → Fits limit s l → s.phase ≡ Outside → i < length bytes
-    → get_or bytes i 0 ≡ startMark → Onward limit bytes s l i begun l (i + 1)
+    → get_or bytes i 0 ≡ start_mark → Onward limit bytes s l i begun l (i + 1)
 onward-start {limit} {s} {l} bytes i fits p h e =
-    let split : drop i bytes ≡ startMark ∷ drop (i + 1) bytes = rw (drop-cons bytes i 0 h, e, add-one) in
+    let split : drop i bytes ≡ start_mark ∷ drop (i + 1) bytes = rw (drop-cons bytes i 0 h, e, add-one) in
     record {
       from = omega arith;
       within = omega arith;
@@ -117,7 +117,7 @@ onward-body {limit} {s} {l} bytes {i} fits p h =
       from = omega arith;
       within = h;
       fits = record { room = fits.room; size = fits.size };
-      rest = ap (λ (z : Progress). feedFrom limit i z l (drop i bytes)) (sym (as-body s p));
+      rest = ap (λ (z : Progress). feed_from limit i z l (drop i bytes)) (sym (as-body s p));
     }
 
 store-fits : (limit : ℕ) (s : Progress) (l : List ℕ) (x : ℕ) → s.held < limit + 2
@@ -126,55 +126,55 @@ unfolding store_of
 store-fits limit s l x f = rw (lt-ltb s.held (limit + 2) f)
 
 plain-one : (limit n q h : ℕ) (l : List ℕ) (x : ℕ) (xs : List ℕ) → kind_of x ≡ Plain → h < limit + 2
-    → feedFrom limit n (body q h) l (x ∷ xs) ≡ feedFrom limit (n + 1) (body q (h + 1)) (set l h x) xs
-unfolding feedFrom advanceOf
+    → feed_from limit n (body q h) l (x ∷ xs) ≡ feed_from limit (n + 1) (body q (h + 1)) (set l h x) xs
+unfolding feed_from advance_of
 plain-one limit n q h l x xs e f = rw (e, store-fits limit (body q h) l x f)
 
-plain-run : (limit n q h : ℕ) (l xs ys : List ℕ) → anyInRange startMark escapeMark xs ≡ false → h + length xs ≤ limit + 2
-    → feedFrom limit n (body q h) l (xs ++ ys) ≡ feedFrom limit (n + length xs) (body q (h + length xs)) (sets l h xs) ys
+plain-run : (limit n q h : ℕ) (l xs ys : List ℕ) → any_in_range start_mark escape_mark xs ≡ false → h + length xs ≤ limit + 2
+    → feed_from limit n (body q h) l (xs ++ ys) ≡ feed_from limit (n + length xs) (body q (h + length xs)) (sets l h xs) ys
 plain-run limit n q h l [] ys e f = simp add-zero
 plain-run limit n q h l (x ∷ xs) ys e f =
-    let k = any-first startMark escapeMark x xs e in
+    let k = any-first start_mark escape_mark x xs e in
     plain-one limit n q h l x (xs ++ ys) (clear-plain x k.0) (omega arith)
     ∙ plain-run limit (n + 1) q (h + 1) (set l h x) xs ys k.1 (omega arith) ∙ simp (add-one, suc-add, add-suc)
 
 pub onward-plain : {limit : ℕ} {s : Progress} {l after : List ℕ} (bytes : List ℕ) (i e k : ℕ) → Fits limit s l → s.phase ≡ Body → i ≤ e → e ≤ length bytes
-    → s.held + (e - i) ≤ limit + 2 → Copied startMark escapeMark (take (e - i) (drop i bytes)) s.held l k after
+    → s.held + (e - i) ≤ limit + 2 → Copied start_mark escape_mark (take (e - i) (drop i bytes)) s.held l k after
     → Onward limit bytes s l i (body s.sequence (s.held + k)) after (i + k)
 onward-plain {limit} {s} {l} bytes i e k fits p h w room copied =
     let clear = copied.clear in
-    let long = part-long startMark escapeMark bytes i e k h w clear in
-    let size = part_length startMark escapeMark bytes i e k h w clear in
+    let long = part-long start_mark escape_mark bytes i e k h w clear in
+    let size = part_length start_mark escape_mark bytes i e k h w clear in
     record {
       from = omega arith;
       within = omega (arith, long);
       fits = record { room = omega (arith, long); size = copied-length copied ∙ fits.size };
       rest =
-          rw (as-body s p, part-stored startMark escapeMark bytes i e k h w clear copied)
+          rw (as-body s p, part-stored start_mark escape_mark bytes i e k h w clear copied)
           (sym
           (rw (take-append-drop k (drop i bytes), size, drop-drop k i bytes)
-          at (plain-run limit i s.sequence s.held l (take k (drop i bytes)) (drop k (drop i bytes)) (part_none startMark escapeMark bytes i e k h w clear)
+          at (plain-run limit i s.sequence s.held l (take k (drop i bytes)) (drop k (drop i bytes)) (part_none start_mark escape_mark bytes i e k h w clear)
           (rw size (omega (arith, long))))));
     }
 
 -- ---- an escape mark and its code
 
 pair_step : (limit n q h : ℕ) (l : List ℕ) (c x : ℕ) (ys : List ℕ) → h < limit + 2 → kind_of c ≡ Plain → code_of c ≡ Store x
-    → feedFrom limit n (body q h) l (escapeMark ∷ c ∷ ys) ≡ feedFrom limit (n + 2) (body q (h + 1)) (set l h x) ys
-unfolding feedFrom advanceOf
+    → feed_from limit n (body q h) l (escape_mark ∷ c ∷ ys) ≡ feed_from limit (n + 2) (body q (h + 1)) (set l h x) ys
+unfolding feed_from advance_of
 pair_step limit n q h l c x ys f p e = rw (escape-kind, p, e, store-fits limit (record { phase = Escaped; sequence = q; held = h }) l x f, add_assoc)
 
 pair-two : (limit n q h : ℕ) (l : List ℕ) (b c : ℕ) (ys : List ℕ) → h < limit + 2 → (mark_of b c ≡ 0 → ⊥)
-    → feedFrom limit n (body q h) l (b ∷ c ∷ ys) ≡ feedFrom limit (n + 2) (body q (h + 1)) (set l h (mark_of b c)) ys
+    → feed_from limit n (body q h) l (b ∷ c ∷ ys) ≡ feed_from limit (n + 2) (body q (h + 1)) (set l h (mark_of b c)) ys
 unfolding kind_of code_of
-pair-two limit n q h l b c ys f nz = go (eqb b escapeMark) refl (eqb c startCode) refl (eqb c endCode) refl (eqb c escapeCode) refl
+pair-two limit n q h l b c ys f nz = go (eqb b escape_mark) refl (eqb c start_code) refl (eqb c end_code) refl (eqb c escape_code) refl
   where
-    go : (t : Bool) → eqb b escapeMark ≡ t → (t₀ : Bool) → eqb c startCode ≡ t₀ → (t₁ : Bool) → eqb c endCode ≡ t₁ → (t₂ : Bool) → eqb c escapeCode ≡ t₂
-        → feedFrom limit n (body q h) l (b ∷ c ∷ ys) ≡ feedFrom limit (n + 2) (body q (h + 1)) (set l h (mark_of b c)) ys
+    go : (t : Bool) → eqb b escape_mark ≡ t → (t₀ : Bool) → eqb c start_code ≡ t₀ → (t₁ : Bool) → eqb c end_code ≡ t₁ → (t₂ : Bool) → eqb c escape_code ≡ t₂
+        → feed_from limit n (body q h) l (b ∷ c ∷ ys) ≡ feed_from limit (n + 2) (body q (h + 1)) (set l h (mark_of b c)) ys
     go false e t₀ e₀ t₁ e₁ t₂ e₂ = absurd (nz (rw e))
-    go true e true e₀ t₁ e₁ t₂ e₂ = rw (eqb-true b escapeMark e, eqb-true c startCode e₀) (pair_step limit n q h l startCode startMark ys f refl refl)
-    go true e false e₀ true e₁ t₂ e₂ = rw (eqb-true b escapeMark e, eqb-true c endCode e₁) (pair_step limit n q h l endCode endMark ys f refl refl)
-    go true e false e₀ false e₁ true e₂ = rw (eqb-true b escapeMark e, eqb-true c escapeCode e₂) (pair_step limit n q h l escapeCode escapeMark ys f refl refl)
+    go true e true e₀ t₁ e₁ t₂ e₂ = rw (eqb-true b escape_mark e, eqb-true c start_code e₀) (pair_step limit n q h l start_code start_mark ys f refl refl)
+    go true e false e₀ true e₁ t₂ e₂ = rw (eqb-true b escape_mark e, eqb-true c end_code e₁) (pair_step limit n q h l end_code end_mark ys f refl refl)
+    go true e false e₀ false e₁ true e₂ = rw (eqb-true b escape_mark e, eqb-true c escape_code e₂) (pair_step limit n q h l escape_code escape_mark ys f refl refl)
     go true e false e₀ false e₁ false e₂ = absurd (nz (rw (e, e₀, e₁, e₂)))
 
 drop-two : (l : List ℕ) (i : ℕ) → i + 2 ≤ length l → drop i l ≡ get_or l i 0 ∷ get_or l (i + 1) 0 ∷ drop (i + 2) l
@@ -184,7 +184,7 @@ drop-two l i h =
     rw (one, two, drop-cons l i 0 (omega arith), drop-cons l (suc i) 0 (omega arith))
 
 pub onward-pair : {limit : ℕ} {s : Progress} {l : List ℕ} (bytes : List ℕ) (i x : ℕ) → Fits limit s l → s.phase ≡ Body → i ≤ length bytes
-    → x ≡ markAt bytes i → (x ≡ 0 → ⊥) → s.held < limit + 2
+    → x ≡ mark_at bytes i → (x ≡ 0 → ⊥) → s.held < limit + 2
     → Onward limit bytes s l i (body s.sequence (s.held + 1)) (set l s.held x) (i + 2)
 onward-pair {limit} {s} {l} bytes i x fits p w e nz f = go (ltb (length bytes - i) 2) refl
   where
@@ -204,23 +204,23 @@ onward-pair {limit} {s} {l} bytes i x fits p w e nz f = go (ltb (length bytes - 
 
 -- ---- a header
 
-header-four : (limit n : ℕ) (s : Progress) (l : List ℕ) (a b c d : ℕ) (ys : List ℕ) → s.phase ≡ Outside → isHeader a b c d ≡ true
-    → feedFrom limit n s l (a ∷ b ∷ c ∷ d ∷ ys) ≡ feedFrom limit (n + 4) (body d 0) l ys
-unfolding feedFrom advanceOf
+header-four : (limit n : ℕ) (s : Progress) (l : List ℕ) (a b c d : ℕ) (ys : List ℕ) → s.phase ≡ Outside → is_header a b c d ≡ true
+    → feed_from limit n s l (a ∷ b ∷ c ∷ d ∷ ys) ≡ feed_from limit (n + 4) (body d 0) l ys
+unfolding feed_from advance_of
 header-four limit n s l a b c d ys p e =
-    let tail = eqb c errorId && not (isMark d) in
-    let e₁ = and_right (eqb a startMark) (eqb b packetId && tail) e in
-    let e₂ = and_right (eqb b packetId) tail e₁ in
+    let tail = eqb c error_id && not (is_mark d) in
+    let e₁ = and_right (eqb a start_mark) (eqb b packet_id && tail) e in
+    let e₂ = and_right (eqb b packet_id) tail e₁ in
     let four : n + 1 + 1 + 1 + 1 ≡ n + 4 = omega arith in
     rw (
-      eqb-true a startMark (and_left (eqb a startMark) (eqb b packetId && tail) e),
-      eqb-true b packetId (and_left (eqb b packetId) tail e₁),
-      eqb-true c errorId (and_left (eqb c errorId) (not (isMark d)) e₂),
+      eqb-true a start_mark (and_left (eqb a start_mark) (eqb b packet_id && tail) e),
+      eqb-true b packet_id (and_left (eqb b packet_id) tail e₁),
+      eqb-true c error_id (and_left (eqb c error_id) (not (is_mark d)) e₂),
       p,
       start-kind,
       packet-kind,
       error_kind,
-      unmarked-plain (kind_of d) (not-true (isMark d) (and_right (eqb c errorId) (not (isMark d)) e₂)),
+      unmarked-plain (kind_of d) (not-true (is_mark d) (and_right (eqb c error_id) (not (is_mark d)) e₂)),
       four,
     )
 
@@ -231,12 +231,12 @@ drop-four l i h =
     drop-two l i (omega arith) ∙ ap (λ (t : List ℕ). get_or l i 0 ∷ get_or l (i + 1) 0 ∷ t) (rw (three, four) at (drop-two l (i + 2) (omega arith)))
 
 header-whole : (bytes : List ℕ) (i : ℕ) → i ≤ length bytes → header_at bytes i ≡ true
-    → (i + 4 ≤ length bytes) × (isHeader (get_or bytes i 0) (get_or bytes (i + 1) 0) (get_or bytes (i + 2) 0) (get_or bytes (i + 3) 0) ≡ true)
+    → (i + 4 ≤ length bytes) × (is_header (get_or bytes i 0) (get_or bytes (i + 1) 0) (get_or bytes (i + 2) 0) (get_or bytes (i + 3) 0) ≡ true)
 unfolding header_at
 header-whole bytes i w e = go (ltb (length bytes - i) 4) refl e
   where
-    go : (t : Bool) → ltb (length bytes - i) 4 ≡ t → cond t false (isHeader (get_or bytes i 0) (get_or bytes (i + 1) 0) (get_or bytes (i + 2) 0) (get_or bytes (i + 3) 0)) ≡ true
-        → (i + 4 ≤ length bytes) × (isHeader (get_or bytes i 0) (get_or bytes (i + 1) 0) (get_or bytes (i + 2) 0) (get_or bytes (i + 3) 0) ≡ true)
+    go : (t : Bool) → ltb (length bytes - i) 4 ≡ t → cond t false (is_header (get_or bytes i 0) (get_or bytes (i + 1) 0) (get_or bytes (i + 2) 0) (get_or bytes (i + 3) 0)) ≡ true
+        → (i + 4 ≤ length bytes) × (is_header (get_or bytes i 0) (get_or bytes (i + 1) 0) (get_or bytes (i + 2) 0) (get_or bytes (i + 3) 0) ≡ true)
     go true t g = absurd (false≢true g)
     go false t g = (omega (arith, ltb-false (length bytes - i) 4 t), g)
 

@@ -2,17 +2,17 @@
 use Rattle.std.specs.Prelude.{ℕ, ◌+◌, List, [], ◌∷◌, Bool, true, false, cond, not, length}
 use Rattle.wire.specs.Told.{line, table}
 use Rattle.classic_extractor.specs.declared.state.Progress.{Progress}
-use Rattle.classic_extractor.specs.Outcome.{Report, skipped, taken, allUsed, frame, refused, number_of}
+use Rattle.classic_extractor.specs.Outcome.{Report, skipped, taken, all_used, frame, refused, number_of}
 use Rattle.classic_extractor.specs.State.{ready}
-use Rattle.classic_extractor.specs.Step.{advanceOf}
+use Rattle.classic_extractor.specs.Step.{advance_of}
 use Rattle.classic_feed.specs.declared.many.FeedOutcome.{FeedOutcome}
 use Rattle.classic_feed.specs.declared.many.FeedOutcome.TheVariants.{AllUsed, Frame, Refused}
 
 -- many bytes tell all used where nothing was decided
-abbrev pub toldFeed : FeedOutcome → Report
-toldFeed AllUsed = allUsed
-toldFeed (Frame sequence n) = frame sequence n
-toldFeed (Refused r) = refused (number_of r)
+abbrev pub told_feed : FeedOutcome → Report
+told_feed AllUsed = all_used
+told_feed (Frame sequence n) = frame sequence n
+told_feed (Refused r) = refused (number_of r)
 
 -- what many bytes leave: besides a step's, the number of bytes used
 pub record Feed : Type 0 where
@@ -28,24 +28,24 @@ fed r n s l = record { report = r; used = n; next = s; buffer = l }
 abbrev pub decides : Report → Bool
 decides skipped = false
 decides taken = false
-decides allUsed = false
+decides all_used = false
 decides (frame sequence n) = true
 decides (refused n) = true
 
-abbrev pub feedReport : Report → Report
-feedReport skipped = allUsed
-feedReport taken = allUsed
-feedReport allUsed = allUsed
-feedReport (frame sequence n) = frame sequence n
-feedReport (refused n) = refused n
+abbrev pub feed_report : Report → Report
+feed_report skipped = all_used
+feed_report taken = all_used
+feed_report all_used = all_used
+feed_report (frame sequence n) = frame sequence n
+feed_report (refused n) = refused n
 
 -- the bytes after the first n, up to the first that decides
-unfoldable pub feedFrom : ℕ → ℕ → Progress → List ℕ → List ℕ → Feed
-feedFrom limit n s l [] = fed allUsed n s l
-feedFrom limit n s l (b ∷ bs) =
-    let r = advanceOf limit s l b in
-    cond (decides r.report) (fed (feedReport r.report) (n + 1) r.next r.buffer) (feedFrom limit (n + 1) r.next r.buffer bs)
+unfoldable pub feed_from : ℕ → ℕ → Progress → List ℕ → List ℕ → Feed
+feed_from limit n s l [] = fed all_used n s l
+feed_from limit n s l (b ∷ bs) =
+    let r = advance_of limit s l b in
+    cond (decides r.report) (fed (feed_report r.report) (n + 1) r.next r.buffer) (feed_from limit (n + 1) r.next r.buffer bs)
 
 -- the call for many bytes, on all inputs
-abbrev pub feedOf : ℕ → Progress → List ℕ → List ℕ → Feed
-feedOf limit s l bytes = table (line 1 (not (ready limit s (length l))) ∷ []) (λ n. fed (refused n) 0 s l) (feedFrom limit 0 s l bytes)
+abbrev pub feed_of : ℕ → Progress → List ℕ → List ℕ → Feed
+feed_of limit s l bytes = table (line 1 (not (ready limit s (length l))) ∷ []) (λ n. fed (refused n) 0 s l) (feed_from limit 0 s l bytes)

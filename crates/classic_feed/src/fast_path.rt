@@ -1,12 +1,12 @@
 // The fast path over many bytes: what passes bytes at once promises only that nothing is lost by it.
 ghost use Rattle.std.specs.Prelude.{◌≡◌, ◌≤◌, length};
 ghost use Rattle.wire.specs.Scan.{Clear};
-ghost use Rattle.classic_frame.specs.Mark.{startMark};
+ghost use Rattle.classic_frame.specs.Mark.{start_mark};
 ghost use Rattle.classic_extractor.specs.declared.state.Phase.TheVariants.{Outside, Body};
 ghost use Rattle.classic_extractor.specs.Outcome.{told};
 ghost use Rattle.classic_extractor.specs.State.{Fits};
-ghost use Rattle.classic_extractor.specs.Step.{step, advanceOf};
-ghost use Rattle.classic_feed.specs.FastPath.{mark_of, markAt, startReport, isHeader, header_at, Onward};
+ghost use Rattle.classic_extractor.specs.Step.{step, advance_of};
+ghost use Rattle.classic_feed.specs.FastPath.{mark_of, mark_at, start_report, is_header, header_at, Onward};
 
 use classic_extractor::outcome::{Refusal, StepOutcome};
 use classic_extractor::phase::Advanced;
@@ -79,7 +79,7 @@ fn find_frame(state: Progress, limit: usize, buffer: &mut [u8], bytes: &[u8], i:
 
 // How many bytes stand before a start mark. Most frames follow the one before at once.
 fn before_start(run: &[u8]) -> usize
-    ensures { Clear startMark startMark run.now result }
+    ensures { Clear start_mark start_mark run.now result }
 {
     if byte_at(run, 0) == Mark::START {
         return 0;
@@ -210,7 +210,7 @@ fn mark_of(b: u8, code: u8) -> u8
 // The same of the two bytes at a place; 0 where they are not both there.
 fn mark_at(bytes: &[u8], at: usize) -> u8
     requires { at ≤ length bytes.now }
-    ensures { result ≡ markAt bytes.now at }
+    ensures { result ≡ mark_at bytes.now at }
 {
     if bytes.len() - at < 2 {
         0
@@ -221,7 +221,7 @@ fn mark_at(bytes: &[u8], at: usize) -> u8
 
 // Whether four bytes are a frame's header.
 fn is_header(a: u8, b: u8, c: u8, d: u8) -> bool
-    ensures { result ≡ isHeader a b c d }
+    ensures { result ≡ is_header a b c d }
 {
     let tail = both(c == ERROR_ID, !is_mark(d));
     both(a == Mark::START, both(b == PACKET_ID, tail))
@@ -241,7 +241,7 @@ fn header_at(bytes: &[u8], at: usize) -> bool
 
 // What a start mark answers.
 fn at_start(phase: Phase) -> StepOutcome
-    ensures { told result ≡ startReport phase }
+    ensures { told result ≡ start_report phase }
 {
     match phase {
         Phase::Outside => StepOutcome::Taken,
@@ -257,7 +257,7 @@ fn at_start(phase: Phase) -> StepOutcome
 pub fn fast_step(state: Progress, limit: usize, buffer: &mut [u8], b: u8) -> Advanced
     requires { Fits limit state buffer.old }
     ensures { step (told result.outcome) result.next buffer.new
-        ≡ advanceOf limit state buffer.old b }
+        ≡ advance_of limit state buffer.old b }
 {
     let phase = state.phase;
     if b == Mark::START {

@@ -2,7 +2,7 @@
 ghost use Rattle.std.specs.Prelude.{◌≡◌};
 ghost use Rattle.classic_extractor.specs.Outcome.{told};
 ghost use Rattle.classic_extractor.specs.State.{Fits};
-ghost use Rattle.classic_feed.specs.Feed.{toldFeed, fed, decides, feedReport, feedFrom, feedOf};
+ghost use Rattle.classic_feed.specs.Feed.{told_feed, fed, decides, feed_report, feed_from, feed_of};
 
 use crate::fast_path::{fast_step, pass};
 use classic_extractor::outcome::{Refusal, StepOutcome};
@@ -50,7 +50,7 @@ fn is_decided(outcome: StepOutcome) -> bool
 }
 
 fn feed_outcome(outcome: StepOutcome) -> FeedOutcome
-    ensures { toldFeed result ≡ feedReport (told outcome) }
+    ensures { told_feed result ≡ feed_report (told outcome) }
 {
     match outcome {
         StepOutcome::Skipped => FeedOutcome::AllUsed,
@@ -63,8 +63,8 @@ fn feed_outcome(outcome: StepOutcome) -> FeedOutcome
 // The bytes one after another, in a lawful state and over a buffer of the right size.
 fn run(start: Progress, limit: usize, buffer: &mut [u8], bytes: &[u8]) -> Fed
     requires { Fits limit start buffer.old }
-    ensures { (fed (toldFeed result.outcome) result.used result.next.progress buffer.new
-        ≡ feedFrom limit 0 start buffer.old bytes.now) × (result.next.limit ≡ limit) }
+    ensures { (fed (told_feed result.outcome) result.used result.next.progress buffer.new
+        ≡ feed_from limit 0 start buffer.old bytes.now) × (result.next.limit ≡ limit) }
 {
     let mut state = start;
     let mut i = 0;
@@ -103,8 +103,8 @@ fn run(start: Progress, limit: usize, buffer: &mut [u8], bytes: &[u8]) -> Fed
 
 // Many bytes, up to the first frame or refusal.
 pub fn feed(state: Extractor, buffer: &mut [u8], bytes: &[u8]) -> Fed
-    ensures { (fed (toldFeed result.outcome) result.used result.next.progress buffer.new
-        ≡ feedOf state.limit state.progress buffer.old bytes.now)
+    ensures { (fed (told_feed result.outcome) result.used result.next.progress buffer.new
+        ≡ feed_of state.limit state.progress buffer.old bytes.now)
         × (result.next.limit ≡ state.limit) }
 {
     let progress = state.progress;

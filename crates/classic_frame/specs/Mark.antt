@@ -3,24 +3,24 @@ use Rattle.std.specs.Prelude.{ℕ, Bool, true, false, cond, ◌==◌}
 use Rattle.classic_frame.specs.declared.mark.Kind.{Kind}
 use Rattle.classic_frame.specs.declared.mark.Kind.TheVariants.{Start, End, Escape, Plain}
 
-abbrev pub startMark : ℕ
-startMark = 0xf0
+abbrev pub start_mark : ℕ
+start_mark = 0xf0
 
-abbrev pub endMark : ℕ
-endMark = 0xf1
+abbrev pub end_mark : ℕ
+end_mark = 0xf1
 
-abbrev pub escapeMark : ℕ
-escapeMark = 0xf2
+abbrev pub escape_mark : ℕ
+escape_mark = 0xf2
 
 -- what a byte is: one of the three marks, or plain
 unfoldable pub kind_of : ℕ → Kind
-kind_of b = cond (b == startMark) Start (cond (b == endMark) End (cond (b == escapeMark) Escape Plain))
+kind_of b = cond (b == start_mark) Start (cond (b == end_mark) End (cond (b == escape_mark) Escape Plain))
 
-abbrev pub isMarkKind : Kind → Bool
-isMarkKind Start = true
-isMarkKind End = true
-isMarkKind Escape = true
-isMarkKind Plain = false
+abbrev pub is_mark_kind : Kind → Bool
+is_mark_kind Start = true
+is_mark_kind End = true
+is_mark_kind Escape = true
+is_mark_kind Plain = false
 
-abbrev pub isMark : ℕ → Bool
-isMark b = isMarkKind (kind_of b)
+abbrev pub is_mark : ℕ → Bool
+is_mark b = is_mark_kind (kind_of b)

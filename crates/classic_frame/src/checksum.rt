@@ -1,6 +1,6 @@
 // The checksum of a payload.
 ghost use Rattle.std.specs.Prelude.{◌≡◌, ◌+◌, ◌%◌, ◌<◌, ◌≤◌, length};
-ghost use Rattle.classic_frame.specs.Frame.{sum_of, checksumOf, checked};
+ghost use Rattle.classic_frame.specs.Frame.{sum_of, checksum_of, checked};
 
 use wire::bytes::pair;
 
@@ -26,7 +26,7 @@ pub fn add_all(sum: u16, bytes: &[u8]) -> u16
 
 // 2 plus the sum of the bytes, modulo 65,536.
 pub fn checksum(payload: &[u8]) -> usize
-    ensures { (result ≡ checksumOf payload.now) × (result < 65536) }
+    ensures { (result ≡ checksum_of payload.now) × (result < 65536) }
 {
     add_all(2, payload) as usize
 }

@@ -1,6 +1,6 @@
 // The bytes after the start mark and before the payload: packet id, error id, sequence.
 ghost use Rattle.std.specs.Prelude.{◌≡◌};
-ghost use Rattle.classic_frame.specs.Frame.{nextSequence};
+ghost use Rattle.classic_frame.specs.Frame.{next_sequence};
 
 use crate::mark::is_mark;
 
@@ -13,7 +13,7 @@ const AFTER_MARKS: u8 = 0xf3;
 
 // The sequence byte after a sequence byte.
 pub fn next_sequence(sequence: u8) -> u8
-    ensures { result ≡ nextSequence sequence }
+    ensures { result ≡ next_sequence sequence }
 {
     let next = ((sequence as u32 + 1) % 256) as u8;
     if is_mark(next) { AFTER_MARKS } else { next }

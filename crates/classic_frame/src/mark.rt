@@ -1,7 +1,7 @@
 // The marks of a frame, and what stands for them within it.
 ghost use Rattle.std.specs.Prelude.{◌≡◌};
-ghost use Rattle.classic_frame.specs.Mark.{kind_of, isMark};
-ghost use Rattle.classic_frame.specs.Frame.{codeFor};
+ghost use Rattle.classic_frame.specs.Mark.{kind_of, is_mark};
+ghost use Rattle.classic_frame.specs.Frame.{code_for};
 
 // The bytes that start a frame, end it and escape a byte.
 #[derive(Drop)]
@@ -46,7 +46,7 @@ pub fn kind_of(b: u8) -> Kind
 }
 
 pub fn is_mark(b: u8) -> bool
-    ensures { result ≡ isMark b }
+    ensures { result ≡ is_mark b }
 {
     match kind_of(b) {
         Kind::Start => true,
@@ -58,7 +58,7 @@ pub fn is_mark(b: u8) -> bool
 
 // What stands after F2 for a mark.
 pub fn code_for(mark: u8) -> u8
-    ensures { result ≡ codeFor mark }
+    ensures { result ≡ code_for mark }
 {
     Mark::ESCAPE ^ mark
 }

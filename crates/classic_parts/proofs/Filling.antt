@@ -16,18 +16,18 @@ use Rattle.classic_parts.specs.declared.state.Stage.{Stage}
 use Rattle.classic_parts.specs.declared.state.Stage.TheVariants as stage
 use Rattle.classic_parts.specs.declared.state.PartProgress.{PartProgress}
 use Rattle.classic_parts.specs.State.{ended}
-use Rattle.classic_parts.specs.Byte.{Byte, nothing, byte, closing, payloadByte, bodyByte, stageByte, pendingByte, byte_of}
-use Rattle.classic_parts.specs.Fill.{stopped, andOn, fillOf}
+use Rattle.classic_parts.specs.Byte.{Byte, nothing, byte, closing, payload_byte, body_byte, stage_byte, pending_byte, byte_of}
+use Rattle.classic_parts.specs.Fill.{stopped, and_on, fill_of}
 use Rattle.classic_parts.specs.Writer.{filled, wrote, count}
 use Rattle.classic_parts.specs.FastPath.{resumed, PartOnward}
 
 -- a stage, and a pending code, that are known
-pub payload-stage : (s : PartProgress) (l : List ℕ) → s.stage ≡ stage.Payload → stageByte s.stage s l ≡ bodyByte s l
-payload-stage s l e = ap (λ (at : Stage). stageByte at s l) e
+pub payload-stage : (s : PartProgress) (l : List ℕ) → s.stage ≡ stage.Payload → stage_byte s.stage s l ≡ body_byte s l
+payload-stage s l e = ap (λ (at : Stage). stage_byte at s l) e
 
-pub plain-pending : (s : PartProgress) (l : List ℕ) → s.pending ≡ Plain → byte_of s l ≡ stageByte s.stage s l
+pub plain-pending : (s : PartProgress) (l : List ℕ) → s.pending ≡ Plain → byte_of s l ≡ stage_byte s.stage s l
 unfolding byte_of
-plain-pending s l e = ap (λ (k : Kind). pendingByte k s l) e
+plain-pending s l e = ap (λ (k : Kind). pending_byte k s l) e
 
 -- ---- a byte takes no more payload than is offered
 
@@ -35,19 +35,19 @@ abbrev takes : Byte → ℕ
 takes nothing = 0
 takes (byte b next k) = k
 
-offered-takes : (s : PartProgress) (l : List ℕ) → takes (payloadByte s l) ≤ length l
+offered-takes : (s : PartProgress) (l : List ℕ) → takes (payload_byte s l) ≤ length l
 offered-takes s [] = zero-le
 offered-takes s (b ∷ bs) = omega arith
 
-body-takes : (s : PartProgress) (l : List ℕ) → takes (bodyByte s l) ≤ length l
-unfolding bodyByte
+body-takes : (s : PartProgress) (l : List ℕ) → takes (body_byte s l) ≤ length l
+unfolding body_byte
 body-takes s l = go (ltb s.taken s.total)
   where
-    go : (t : Bool) → takes (cond t (payloadByte s l) (closing s (s.sum / 256) stage.Low)) ≤ length l
+    go : (t : Bool) → takes (cond t (payload_byte s l) (closing s (s.sum / 256) stage.Low)) ≤ length l
     go true = offered-takes s l
     go false = zero-le
 
-stage-takes : (at : Stage) (s : PartProgress) (l : List ℕ) → takes (stageByte at s l) ≤ length l
+stage-takes : (at : Stage) (s : PartProgress) (l : List ℕ) → takes (stage_byte at s l) ≤ length l
 stage-takes stage.Start s l = zero-le
 stage-takes stage.PacketId s l = zero-le
 stage-takes stage.ErrorId s l = zero-le
@@ -57,7 +57,7 @@ stage-takes stage.Low s l = zero-le
 stage-takes stage.End s l = zero-le
 stage-takes stage.Done s l = zero-le
 
-pending-takes : (k : Kind) (s : PartProgress) (l : List ℕ) → takes (pendingByte k s l) ≤ length l
+pending-takes : (k : Kind) (s : PartProgress) (l : List ℕ) → takes (pending_byte k s l) ≤ length l
 pending-takes Start s l = zero-le
 pending-takes End s l = zero-le
 pending-takes Escape s l = zero-le
@@ -69,16 +69,16 @@ byte-takes s l e = rw (← e) at (pending-takes s.pending s l)
 
 -- ---- one turn
 
-fill_none : (s : PartProgress) (l : List ℕ) → fillOf 0 s l ≡ stopped s
-unfolding fillOf
+fill_none : (s : PartProgress) (l : List ℕ) → fill_of 0 s l ≡ stopped s
+unfolding fill_of
 fill_none s l = refl
 
-fill-byte : (n : ℕ) (s : PartProgress) (l : List ℕ) {x : Byte} → x ≡ byte_of s l → fillOf (suc n) s l ≡ andOn s x (λ s' j. fillOf n s' (drop j l))
-unfolding fillOf
+fill-byte : (n : ℕ) (s : PartProgress) (l : List ℕ) {x : Byte} → x ≡ byte_of s l → fill_of (suc n) s l ≡ and_on s x (λ s' j. fill_of n s' (drop j l))
+unfolding fill_of
 fill-byte n s l e = rw e
 
-fill-nothing : (n : ℕ) (s : PartProgress) (l : List ℕ) → nothing ≡ byte_of s l → fillOf n s l ≡ stopped s
-unfolding fillOf
+fill-nothing : (n : ℕ) (s : PartProgress) (l : List ℕ) → nothing ≡ byte_of s l → fill_of n s l ≡ stopped s
+unfolding fill_of
 fill-nothing zero s l e = refl
 fill-nothing (suc n) s l e = rw (← e)
 
@@ -88,7 +88,7 @@ pub record Filling (payload out₀ : List ℕ) (s₀ : PartProgress) (out : List
   pub within : i ≤ length out₀
   pub same : length out ≡ length out₀
   pub offered : taken ≤ length payload
-  pub rest : resumed out taken i (fillOf (length out₀ - i) s (drop taken payload)) ≡ filled out₀ (fillOf (length out₀) s₀ payload)
+  pub rest : resumed out taken i (fill_of (length out₀ - i) s (drop taken payload)) ≡ filled out₀ (fill_of (length out₀) s₀ payload)
 
 pub filling-begins : (payload out : List ℕ) (s : PartProgress) → Filling payload out s out s 0 0
 filling-begins payload out s = record { within = zero-le; same = refl; offered = zero-le; rest = simp (sub-zero, zero-add) }
@@ -122,18 +122,18 @@ module _ {payload out₀ : List ℕ} {s₀ : PartProgress} {out : List ℕ} {s :
       room : length out₀ - i ≡ suc (length out₀ - suc i)
       room = omega arith
 
-      filled-byte : (n : ℕ) → fillOf (suc n) s (drop taken payload) ≡ andOn s (byte b next k) (λ s' j. fillOf n s' (drop j (drop taken payload)))
+      filled-byte : (n : ℕ) → fill_of (suc n) s (drop taken payload) ≡ and_on s (byte b next k) (λ s' j. fill_of n s' (drop j (drop taken payload)))
       filled-byte n = fill-byte n s (drop taken payload) e
 
-  stopped-here : fillOf (length out₀ - i) s (drop taken payload) ≡ stopped s → wrote (given (count taken i (ended s))) s out ≡ filled out₀ (fillOf (length out₀) s₀ payload)
+  stopped-here : fill_of (length out₀ - i) s (drop taken payload) ≡ stopped s → wrote (given (count taken i (ended s))) s out ≡ filled out₀ (fill_of (length out₀) s₀ payload)
   stopped-here e = simp add-zero at (rw e at inv.rest)
 
   -- nothing is to be written
-  pub filling-stops : nothing ≡ byte_of s (drop taken payload) → wrote (given (count taken i (ended s))) s out ≡ filled out₀ (fillOf (length out₀) s₀ payload)
+  pub filling-stops : nothing ≡ byte_of s (drop taken payload) → wrote (given (count taken i (ended s))) s out ≡ filled out₀ (fill_of (length out₀) s₀ payload)
   filling-stops e = stopped-here (fill-nothing (length out₀ - i) s (drop taken payload) e)
 
   -- the output is full
-  pub filling-full : length out₀ ≤ i → wrote (given (count taken i (ended s))) s out ≡ filled out₀ (fillOf (length out₀) s₀ payload)
+  pub filling-full : length out₀ ≤ i → wrote (given (count taken i (ended s))) s out ≡ filled out₀ (fill_of (length out₀) s₀ payload)
   filling-full h = stopped-here (rw none (fill_none s (drop taken payload)))
     where
       none : length out₀ - i ≡ 0

@@ -2,19 +2,19 @@
 use Rattle.std.specs.Prelude.{ℕ, ◌+◌, ◌/◌, ◌%◌, cond, List, [], ◌∷◌, ltb}
 use Rattle.classic_frame.specs.declared.mark.Kind.{Kind}
 use Rattle.classic_frame.specs.declared.mark.Kind.TheVariants.{Start, End, Escape, Plain}
-use Rattle.classic_frame.specs.Mark.{startMark, endMark, escapeMark, kind_of}
-use Rattle.classic_frame.specs.Frame.{packetId, errorId, startCode, endCode, escapeCode}
+use Rattle.classic_frame.specs.Mark.{start_mark, end_mark, escape_mark, kind_of}
+use Rattle.classic_frame.specs.Frame.{packet_id, error_id, start_code, end_code, escape_code}
 use Rattle.classic_parts.specs.declared.state.Stage.{Stage}
 use Rattle.classic_parts.specs.declared.state.Stage.TheVariants as stage
 use Rattle.classic_parts.specs.declared.state.PartProgress.{PartProgress}
 use Rattle.classic_parts.specs.declared.byte.Emitted.{Emitted}
 
 -- the first byte of what a byte of payload or checksum becomes; a mark's code is pending after it
-abbrev pub firstBy : Kind → ℕ → ℕ
-firstBy Start b = escapeMark
-firstBy End b = escapeMark
-firstBy Escape b = escapeMark
-firstBy Plain b = b
+abbrev pub first_by : Kind → ℕ → ℕ
+first_by Start b = escape_mark
+first_by End b = escape_mark
+first_by Escape b = escape_mark
+first_by Plain b = b
 
 -- the state at a stage, with a code pending or none
 abbrev pub goes : PartProgress → Stage → Kind → PartProgress
@@ -35,38 +35,38 @@ own s b to = byte b (goes s to Plain) 0
 
 -- a byte of the checksum
 abbrev pub closing : PartProgress → ℕ → Stage → Byte
-closing s b to = byte (firstBy (kind_of b) b) (goes s to (kind_of b)) 0
+closing s b to = byte (first_by (kind_of b) b) (goes s to (kind_of b)) 0
 
 -- a payload byte: it is taken when its first byte is written
-abbrev pub payloadByte : PartProgress → List ℕ → Byte
-payloadByte s [] = nothing
-payloadByte s (b ∷ bs) = byte (firstBy (kind_of b) b) (took s b) 1
+abbrev pub payload_byte : PartProgress → List ℕ → Byte
+payload_byte s [] = nothing
+payload_byte s (b ∷ bs) = byte (first_by (kind_of b) b) (took s b) 1
 
 -- the payload, and after its last byte the high byte of the checksum
-unfoldable pub bodyByte : PartProgress → List ℕ → Byte
-bodyByte s offered = cond (ltb s.taken s.total) (payloadByte s offered) (closing s (s.sum / 256) stage.Low)
+unfoldable pub body_byte : PartProgress → List ℕ → Byte
+body_byte s offered = cond (ltb s.taken s.total) (payload_byte s offered) (closing s (s.sum / 256) stage.Low)
 
-abbrev pub stageByte : Stage → PartProgress → List ℕ → Byte
-stageByte stage.Start s offered = own s startMark stage.PacketId
-stageByte stage.PacketId s offered = own s packetId stage.ErrorId
-stageByte stage.ErrorId s offered = own s errorId stage.Sequence
-stageByte stage.Sequence s offered = own s s.sequence stage.Payload
-stageByte stage.Payload s offered = bodyByte s offered
-stageByte stage.Low s offered = closing s (s.sum % 256) stage.End
-stageByte stage.End s offered = own s endMark stage.Done
-stageByte stage.Done s offered = nothing
+abbrev pub stage_byte : Stage → PartProgress → List ℕ → Byte
+stage_byte stage.Start s offered = own s start_mark stage.PacketId
+stage_byte stage.PacketId s offered = own s packet_id stage.ErrorId
+stage_byte stage.ErrorId s offered = own s error_id stage.Sequence
+stage_byte stage.Sequence s offered = own s s.sequence stage.Payload
+stage_byte stage.Payload s offered = body_byte s offered
+stage_byte stage.Low s offered = closing s (s.sum % 256) stage.End
+stage_byte stage.End s offered = own s end_mark stage.Done
+stage_byte stage.Done s offered = nothing
 
 -- a code that is pending comes first
-abbrev pub pendingByte : Kind → PartProgress → List ℕ → Byte
-pendingByte Start s offered = own s startCode s.stage
-pendingByte End s offered = own s endCode s.stage
-pendingByte Escape s offered = own s escapeCode s.stage
-pendingByte Plain s offered = stageByte s.stage s offered
+abbrev pub pending_byte : Kind → PartProgress → List ℕ → Byte
+pending_byte Start s offered = own s start_code s.stage
+pending_byte End s offered = own s end_code s.stage
+pending_byte Escape s offered = own s escape_code s.stage
+pending_byte Plain s offered = stage_byte s.stage s offered
 
 -- the next output byte, by the payload bytes that are offered
 unfoldable pub byte_of : PartProgress → List ℕ → Byte
-byte_of s offered = pendingByte s.pending s offered
+byte_of s offered = pending_byte s.pending s offered
 
-abbrev pub toldByte : Emitted → Byte
-toldByte Emitted.Nothing = nothing
-toldByte (Emitted.Byte b next k) = byte b next k
+abbrev pub told_byte : Emitted → Byte
+told_byte Emitted.Nothing = nothing
+told_byte (Emitted.Byte b next k) = byte b next k

@@ -6,7 +6,7 @@ use Rattle.classic_frame.specs.declared.mark.Kind.TheVariants.{Plain}
 use Rattle.classic_parts.specs.declared.state.Stage.TheVariants as stage
 use Rattle.classic_parts.specs.declared.state.PartProgress.{PartProgress}
 use Rattle.classic_parts.specs.State.{ended}
-use Rattle.classic_parts.specs.Fill.{Filled, fillOf}
+use Rattle.classic_parts.specs.Fill.{Filled, fill_of}
 use Rattle.classic_parts.specs.Writer.{PartWrote, wrote, count}
 
 -- in the payload, with nothing pending
@@ -24,4 +24,4 @@ pub record PartOnward (payload : List ℕ) (s : PartProgress) (out : List ℕ) (
   pub within : j ≤ length out
   pub offered : taken' ≤ length payload
   pub same : length out' ≡ length out
-  pub rest : resumed out' taken' j (fillOf (length out - j) s' (drop taken' payload)) ≡ resumed out taken i (fillOf (length out - i) s (drop taken payload))
+  pub rest : resumed out' taken' j (fill_of (length out - j) s' (drop taken' payload)) ≡ resumed out taken i (fill_of (length out - i) s (drop taken payload))

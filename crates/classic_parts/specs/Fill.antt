@@ -13,11 +13,11 @@ abbrev pub stopped : PartProgress → Filled
 stopped s = record { bytes = []; taken = 0; next = s }
 
 -- a byte, and what comes after it
-abbrev pub andOn : PartProgress → Byte → (PartProgress → ℕ → Filled) → Filled
-andOn s nothing go = stopped s
-andOn s (byte b next k) go = let f = go next k in record { bytes = b ∷ f.bytes; taken = k + f.taken; next = f.next }
+abbrev pub and_on : PartProgress → Byte → (PartProgress → ℕ → Filled) → Filled
+and_on s nothing go = stopped s
+and_on s (byte b next k) go = let f = go next k in record { bytes = b ∷ f.bytes; taken = k + f.taken; next = f.next }
 
 -- byte after byte, as long as there is room
-unfoldable pub fillOf : ℕ → PartProgress → List ℕ → Filled
-fillOf zero s offered = stopped s
-fillOf (suc room) s offered = andOn s (byte_of s offered) (λ next k. fillOf room next (drop k offered))
+unfoldable pub fill_of : ℕ → PartProgress → List ℕ → Filled
+fill_of zero s offered = stopped s
+fill_of (suc room) s offered = and_on s (byte_of s offered) (λ next k. fill_of room next (drop k offered))

@@ -2,15 +2,15 @@
 use Rattle.std.specs.Prelude.{ℕ, Bool, not, List, [], ◌∷◌, length, eqb, ltb}
 use Rattle.std.proofs.lemmas.List.Edits.{sets}
 use Rattle.wire.specs.Told.{Told, given, refused, line, table}
-use Rattle.wire.specs.Limit.{limitFits}
+use Rattle.wire.specs.Limit.{limit_fits}
 use Rattle.classic_parts.specs.declared.state.PartProgress.{PartProgress}
 use Rattle.classic_parts.specs.declared.state.PartWriter.{PartWriter}
 use Rattle.classic_parts.specs.declared.writer.Refusal.{Refusal}
 use Rattle.classic_parts.specs.declared.writer.Refusal.TheVariants.{Unlawful, TooMuch, NoRoom}
 use Rattle.classic_parts.specs.declared.writer.Begun.{Begun}
 use Rattle.classic_parts.specs.declared.writer.PartOutcome.{PartOutcome}
-use Rattle.classic_parts.specs.State.{beginning, badStart, lawful, missing, ended}
-use Rattle.classic_parts.specs.Fill.{Filled, fillOf}
+use Rattle.classic_parts.specs.State.{beginning, bad_start, lawful, missing, ended}
+use Rattle.classic_parts.specs.Fill.{Filled, fill_of}
 
 -- payload bytes taken, output bytes written, and whether the frame has ended
 pub record PartCount : Type 0 where
@@ -34,24 +34,24 @@ abbrev pub filled : List ℕ → Filled → PartWrote
 filled out f = wrote (given (count f.taken (length f.bytes) (ended f.next))) f.next (sets out 0 f.bytes)
 
 -- the start
-abbrev pub beginOf : ℕ → ℕ → ℕ → Told PartWriter
-beginOf limit sequence total =
+abbrev pub begin_of : ℕ → ℕ → ℕ → Told PartWriter
+begin_of limit sequence total =
     table
-    (line 17 (not (limitFits limit))
-    ∷ line 15 (badStart limit sequence total)
+    (line 17 (not (limit_fits limit))
+    ∷ line 15 (bad_start limit sequence total)
     ∷ [])
     refused (given (beginning limit sequence total))
 
 -- each later call
-abbrev pub partOf : ℕ → PartProgress → List ℕ → List ℕ → PartWrote
-partOf limit s offered out =
+abbrev pub part_of : ℕ → PartProgress → List ℕ → List ℕ → PartWrote
+part_of limit s offered out =
     table
     (line 1 (not (lawful limit s))
     ∷ line 26 (ltb (missing s) (length offered))
     ∷ line 14 (eqb (length out) 0)
     ∷ [])
     (λ n. wrote (refused n) s out)
-    (filled out (fillOf (length out) s offered))
+    (filled out (fill_of (length out) s offered))
 
 -- ---- what the code's answers tell
 
@@ -60,16 +60,16 @@ number_of Unlawful = 1
 number_of TooMuch = 26
 number_of NoRoom = 14
 
-abbrev pub toldBegun : Begun → Told PartWriter
-toldBegun (Begun.Ready s) = given s
-toldBegun Begun.BadLimit = refused 17
-toldBegun Begun.BadArgument = refused 15
+abbrev pub told_begun : Begun → Told PartWriter
+told_begun (Begun.Ready s) = given s
+told_begun Begun.BadLimit = refused 17
+told_begun Begun.BadArgument = refused 15
 
 -- 0 where the frame is begun
-abbrev pub begunNumber : Begun → ℕ
-begunNumber (Begun.Ready s) = 0
-begunNumber Begun.BadLimit = 17
-begunNumber Begun.BadArgument = 15
+abbrev pub begun_number : Begun → ℕ
+begun_number (Begun.Ready s) = 0
+begun_number Begun.BadLimit = 17
+begun_number Begun.BadArgument = 15
 
 abbrev pub told : PartOutcome → Told PartCount
 told (PartOutcome.Wrote taken written over) = given (count taken written over)

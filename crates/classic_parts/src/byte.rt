@@ -1,7 +1,7 @@
 // One output byte: a pure decision by the state and the payload bytes that are offered.
 ghost use Rattle.std.specs.Prelude.{◌≡◌, ◌≤◌, ◌<◌, length, drop};
 ghost use Rattle.classic_frame.specs.Mark.{kind_of};
-ghost use Rattle.classic_parts.specs.Byte.{firstBy, took, own, closing, bodyByte, stageByte, byte_of, toldByte};
+ghost use Rattle.classic_parts.specs.Byte.{first_by, took, own, closing, body_byte, stage_byte, byte_of, told_byte};
 
 use crate::state::{PartProgress, Stage};
 use classic_frame::checksum::add_byte;
@@ -21,7 +21,7 @@ pub enum Emitted {
 
 // The first byte of what a byte of payload or checksum becomes.
 fn first(b: u8) -> u8
-    ensures { result ≡ firstBy (kind_of b) b }
+    ensures { result ≡ first_by (kind_of b) b }
 {
     match kind_of(b) {
         Kind::Start => Mark::ESCAPE,
@@ -34,7 +34,7 @@ fn first(b: u8) -> u8
 impl PartProgress {
     // A mark, a header byte or a code, and the stage after it.
     fn own(self, value: u8, stage: Stage) -> Emitted
-        ensures { toldByte result ≡ own self value stage }
+        ensures { told_byte result ≡ own self value stage }
     {
         Emitted::Byte {
             value,
@@ -52,7 +52,7 @@ impl PartProgress {
 
     // A byte of the checksum, and the stage after it.
     fn closing(self, b: u8, stage: Stage) -> Emitted
-        ensures { toldByte result ≡ closing self b stage }
+        ensures { told_byte result ≡ closing self b stage }
     {
         Emitted::Byte {
             value: first(b),
@@ -87,7 +87,7 @@ impl PartProgress {
     // The payload byte at a place of what is offered or, after the last one, the checksum's high byte.
     fn body(self, payload: &[u8], at: usize) -> Emitted
         requires { at ≤ length payload.now }
-        ensures { toldByte result ≡ bodyByte self (drop at payload.now) }
+        ensures { told_byte result ≡ body_byte self (drop at payload.now) }
     {
         if self.taken >= self.total {
             return self.closing((self.sum / 256) as u8, Stage::Low);
@@ -106,7 +106,7 @@ impl PartProgress {
     // The byte of the stage.
     fn stage_byte(self, payload: &[u8], at: usize) -> Emitted
         requires { at ≤ length payload.now }
-        ensures { toldByte result ≡ stageByte self.stage self (drop at payload.now) }
+        ensures { told_byte result ≡ stage_byte self.stage self (drop at payload.now) }
     {
         let stage = self.stage;
         match stage {
@@ -124,7 +124,7 @@ impl PartProgress {
     // The next output byte: a pending code, or the byte of the stage.
     pub fn emit(self, payload: &[u8], at: usize) -> Emitted
         requires { at ≤ length payload.now }
-        ensures { toldByte result ≡ byte_of self (drop at payload.now) }
+        ensures { told_byte result ≡ byte_of self (drop at payload.now) }
     {
         let pending = self.pending;
         let stage = self.stage;

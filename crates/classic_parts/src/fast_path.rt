@@ -1,6 +1,6 @@
 // The fast path over a payload: what writes bytes at once promises only that nothing is lost by it.
 ghost use Rattle.std.specs.Prelude.{◌≡◌, true, ◌+◌, ◌≤◌, ◌<◌, length};
-ghost use Rattle.classic_parts.specs.State.{missing, inPayload};
+ghost use Rattle.classic_parts.specs.State.{missing, in_payload};
 ghost use Rattle.classic_parts.specs.FastPath.{body, PartOnward};
 
 use crate::state::{PartProgress, Stage};
@@ -45,10 +45,10 @@ impl PartProgress {
     fn take_plain(self, payload: &[u8], taken: usize, out: &mut [u8], at: usize) -> PartPassed
         requires taken_in_bounds { taken ≤ length payload.now }
         requires at_in_bounds { at ≤ length out.old }
-        requires self_value { inPayload self ≡ true }
+        requires self_value { in_payload self ≡ true }
         ensures { (PartOnward payload.now self out.old taken at result.next out.new
             result.taken result.at)
-            × (inPayload result.next ≡ true) }
+            × (in_payload result.next ≡ true) }
     {
         let end = taken + self.run_limit(payload.len() - taken, out.len() - at);
         let n = copy_clear(out, at, &payload[taken..end], Mark::START, Mark::ESCAPE);
@@ -66,10 +66,10 @@ impl PartProgress {
     fn take_run(self, payload: &[u8], taken: usize, out: &mut [u8], at: usize) -> PartPassed
         requires taken_in_bounds { taken ≤ length payload.now }
         requires at_in_bounds { at ≤ length out.old }
-        requires self_value { inPayload self ≡ true }
+        requires self_value { in_payload self ≡ true }
         ensures { (PartOnward payload.now self out.old taken at result.next out.new
             result.taken result.at)
-            × (inPayload result.next ≡ true) }
+            × (in_payload result.next ≡ true) }
     {
         if is_mark(byte_at(payload, taken)) {
             return PartPassed {
@@ -85,10 +85,10 @@ impl PartProgress {
     fn take_pair(self, payload: &[u8], taken: usize, out: &mut [u8], at: usize) -> PartPassed
         requires taken_in_bounds { taken ≤ length payload.now }
         requires at_in_bounds { at ≤ length out.old }
-        requires self_value { inPayload self ≡ true }
+        requires self_value { in_payload self ≡ true }
         ensures { (PartOnward payload.now self out.old taken at result.next out.new
             result.taken result.at)
-            × (inPayload result.next ≡ true) }
+            × (in_payload result.next ≡ true) }
     {
         let b = byte_at(payload, taken);
         let fits = both(self.taken < self.total, 2 <= out.len() - at);
@@ -114,7 +114,7 @@ impl PartProgress {
     fn take_body(self, payload: &[u8], taken: usize, out: &mut [u8], at: usize) -> PartPassed
         requires taken_in_bounds { taken ≤ length payload.now }
         requires at_in_bounds { at ≤ length out.old }
-        requires self_value { inPayload self ≡ true }
+        requires self_value { in_payload self ≡ true }
         ensures { PartOnward payload.now self out.old taken at result.next out.new
             result.taken result.at }
     {

@@ -1,8 +1,8 @@
 // The state of a frame that is written by parts: its link's limit, and its progress. Every value has a meaning, that of what
 // is still to be written.
 ghost use Rattle.std.specs.Prelude.{◌≡◌};
-ghost use Rattle.classic_frame.specs.Mark.{isMarkKind};
-ghost use Rattle.classic_parts.specs.State.{start_of, badStart, lawful, missing, isPayload, isDone, inPayload, ended};
+ghost use Rattle.classic_frame.specs.Mark.{is_mark_kind};
+ghost use Rattle.classic_parts.specs.State.{start_of, bad_start, lawful, missing, is_payload, is_done, in_payload, ended};
 
 use classic_frame::mark::{Kind, is_mark};
 use wire::limit::limit_fits;
@@ -40,13 +40,13 @@ pub struct PartWriter {
 }
 
 pub fn bad_start(limit: usize, sequence: u8, total: usize) -> bool
-    ensures { result ≡ badStart limit sequence total }
+    ensures { result ≡ bad_start limit sequence total }
 {
     either(is_mark(sequence), limit < total)
 }
 
 fn is_payload(stage: Stage) -> bool
-    ensures { result ≡ isPayload stage }
+    ensures { result ≡ is_payload stage }
 {
     match stage {
         Stage::Start => false,
@@ -61,7 +61,7 @@ fn is_payload(stage: Stage) -> bool
 }
 
 fn is_done(stage: Stage) -> bool
-    ensures { result ≡ isDone stage }
+    ensures { result ≡ is_done stage }
 {
     match stage {
         Stage::Start => false,
@@ -76,7 +76,7 @@ fn is_done(stage: Stage) -> bool
 }
 
 fn is_pending(kind: Kind) -> bool
-    ensures { result ≡ isMarkKind kind }
+    ensures { result ≡ is_mark_kind kind }
 {
     match kind {
         Kind::Start => true,
@@ -125,7 +125,7 @@ impl PartProgress {
 
     // Whether the next byte is that of the stage, and the stage is the payload's.
     pub fn is_in_payload(self) -> bool
-        ensures { result ≡ inPayload self }
+        ensures { result ≡ in_payload self }
     {
         let stage = self.stage;
         let pending = self.pending;

@@ -2,8 +2,8 @@
 ghost use Rattle.std.specs.Prelude.{◌≡◌, length};
 ghost use Rattle.classic_parts.specs.declared.writer.PartOutcome.{PartOutcome};
 ghost use Rattle.classic_parts.specs.State.{ended};
-ghost use Rattle.classic_parts.specs.Fill.{fillOf};
-ghost use Rattle.classic_parts.specs.Writer.{filled, wrote, beginOf, partOf, number_of, toldBegun, told, begunNumber};
+ghost use Rattle.classic_parts.specs.Fill.{fill_of};
+ghost use Rattle.classic_parts.specs.Writer.{filled, wrote, begin_of, part_of, number_of, told_begun, told, begun_number};
 
 use crate::byte::Emitted;
 use crate::state::{PartProgress, PartWriter, bad_start};
@@ -28,7 +28,7 @@ pub enum Begun {
 impl Begun {
     // 0 where the frame is begun.
     pub fn number(self) -> u8
-        ensures { result ≡ begunNumber self }
+        ensures { result ≡ begun_number self }
     {
         match self {
             Begun::Ready(_) => 0,
@@ -102,7 +102,7 @@ impl PartProgress {
     // Fills an output as far as the frame and the payload offered go.
     fn fill(self, payload: &[u8], out: &mut [u8]) -> PartAdvanced
         ensures { wrote (told result.outcome) result.next out.new
-            ≡ filled out.old (fillOf (length out.old) self payload.now) }
+            ≡ filled out.old (fill_of (length out.old) self payload.now) }
     {
         let mut state = self;
         let mut taken = 0;
@@ -136,7 +136,7 @@ impl PartProgress {
     // Takes payload and writes the frame on, for any limit and any progress.
     fn take_part(self, limit: usize, payload: &[u8], out: &mut [u8]) -> PartAdvanced
         ensures { wrote (told result.outcome) result.next out.new
-            ≡ partOf limit self payload.now out.old }
+            ≡ part_of limit self payload.now out.old }
     {
         if !self.is_lawful(limit) {
             return refuse(Refusal::Unlawful, self);
@@ -154,7 +154,7 @@ impl PartProgress {
 impl PartWriter {
     // Begins a frame whose payload will have `total` bytes, for a link with a limit.
     pub fn begin(sequence: u8, limit: usize, total: usize) -> Begun
-        ensures { toldBegun result ≡ beginOf limit sequence total }
+        ensures { told_begun result ≡ begin_of limit sequence total }
     {
         if !limit_fits(limit) {
             return Begun::BadLimit;
@@ -169,7 +169,7 @@ impl PartWriter {
     // Takes payload and writes the frame on into an output.
     pub fn write(self, payload: &[u8], out: &mut [u8]) -> PartWritten
         ensures { (wrote (told result.outcome) result.next.progress out.new
-            ≡ partOf self.limit self.progress payload.now out.old)
+            ≡ part_of self.limit self.progress payload.now out.old)
             × (result.next.limit ≡ self.limit) }
     {
         let progress = self.progress;

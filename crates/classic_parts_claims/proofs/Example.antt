@@ -5,14 +5,14 @@ use mathlib.Core.Logic.{◌⊎◌}
 use mathlib.Core.List.{List}
 use lib.ListN.{length}
 use lib.Dec.{lit≤}
-use Rattle.wire.specs.Limit.{limitFits}
+use Rattle.wire.specs.Limit.{limit_fits}
 use Rattle.classic_frame.specs.Mark.{kind_of}
-use Rattle.classic_frame.specs.Frame.{escapedOf, sum_of, framed}
+use Rattle.classic_frame.specs.Frame.{escaped_of, sum_of, framed}
 use Rattle.classic_writer.specs.Sending.{FrameToSend, Sendable, sent}
 use Rattle.classic_parts.specs.declared.state.PartProgress.{PartProgress}
 use Rattle.classic_parts.specs.State.{beginning, lawful}
-use Rattle.classic_parts.specs.Byte.{bodyByte, byte_of}
-use Rattle.classic_parts.specs.Fill.{fillOf}
+use Rattle.classic_parts.specs.Byte.{body_byte, byte_of}
+use Rattle.classic_parts.specs.Fill.{fill_of}
 use Rattle.classic_parts_claims.specs.Run.{PartCall, run_of}
 use Rattle.classic_parts_claims.specs.Joined.{Joins}
 use Rattle.classic_parts_claims.specs.Stopping.{Offering, Stopped}
@@ -21,21 +21,21 @@ use Rattle.classic_parts_claims.proofs.Stopping.{parts-stop}
 use Rattle.classic_parts_claims.specs.Example.{PartsExample}
 
 pub parts-example : PartsExample
-unfolding limitFits kind_of escapedOf sum_of framed lawful bodyByte byte_of fillOf run_of
+unfolding limit_fits kind_of escaped_of sum_of framed lawful body_byte byte_of fill_of run_of
 parts-example =
     record {
       begun = refl;
-      limitOfNone = refl;
-      limitAboveAll = refl;
-      markAsSequence = refl;
-      totalAboveLimit = refl;
-      unlawfulLimit = refl;
+      limit_of_none = refl;
+      limit_above_all = refl;
+      mark_as_sequence = refl;
+      total_above_limit = refl;
+      unlawful_limit = refl;
       frame = (refl, (refl, (refl, (refl, (refl, (refl, (refl, (refl, (refl, (refl, tt))))))))));
       states = (refl, (refl, (refl, (refl, (refl, (refl, (refl, tt)))))));
       premises = record { range = refl; unmarked = refl; fits = lit≤ tt; room = lit≤ tt };
       whole = refl;
       joined = refl;
-      byOnes = refl;
+      by_ones = refl;
     }
 
 -- The claims at the smallest and the largest limit, of any frame

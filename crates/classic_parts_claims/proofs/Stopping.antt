@@ -9,13 +9,13 @@ use lib.Dec.{ltb}
 use borrow.Author.Tests.{ltb-true}
 use Rattle.classic_frame.specs.declared.mark.Kind.{Kind}
 use Rattle.classic_frame.specs.declared.mark.Kind.TheVariants.{Start, End, Escape, Plain}
-use Rattle.classic_frame.specs.Mark.{isMarkKind}
+use Rattle.classic_frame.specs.Mark.{is_mark_kind}
 use Rattle.classic_parts.specs.declared.state.Stage.{Stage}
 use Rattle.classic_parts.specs.declared.state.Stage.TheVariants as stage
 use Rattle.classic_parts.specs.declared.state.PartProgress.{PartProgress}
-use Rattle.classic_parts.specs.State.{isPayload, isDone, inPayload, ended}
-use Rattle.classic_parts.specs.Byte.{Byte, nothing, byte, payloadByte, bodyByte, closing, stageByte, pendingByte, byte_of}
-use Rattle.classic_parts.specs.Fill.{Filled, stopped, andOn, fillOf}
+use Rattle.classic_parts.specs.State.{is_payload, is_done, in_payload, ended}
+use Rattle.classic_parts.specs.Byte.{Byte, nothing, byte, payload_byte, body_byte, closing, stage_byte, pending_byte, byte_of}
+use Rattle.classic_parts.specs.Fill.{Filled, stopped, and_on, fill_of}
 use Rattle.classic_parts.specs.Writer.{PartCount, count}
 use Rattle.classic_parts.proofs.Filling.{byte-takes}
 use Rattle.classic_parts_claims.specs.Stopping.{Stops, full, over, wants, PartsStop}
@@ -23,33 +23,33 @@ use Rattle.classic_parts_claims.proofs.Filled.{call-filled}
 
 -- ---- why there is no byte
 
-abbrev isNothing : Byte → Bool
-isNothing nothing = true
-isNothing (byte b next k) = false
+abbrev is_nothing : Byte → Bool
+is_nothing nothing = true
+is_nothing (byte b next k) = false
 
 data Why (s : PartProgress) (l : List ℕ) : Type 0 where
   done : ended s ≡ true → Why s l
-  starved : l ≡ [] → inPayload s ≡ true → s.taken < s.total → Why s l
+  starved : l ≡ [] → in_payload s ≡ true → s.taken < s.total → Why s l
 
 module _ (s : PartProgress) where
-  body-why : (l : List ℕ) (b : Bool) → ltb s.taken s.total ≡ b → inPayload s ≡ true
-      → isNothing (cond b (payloadByte s l) (closing s (s.sum / 256) stage.Low)) ≡ true → Why s l
+  body-why : (l : List ℕ) (b : Bool) → ltb s.taken s.total ≡ b → in_payload s ≡ true
+      → is_nothing (cond b (payload_byte s l) (closing s (s.sum / 256) stage.Low)) ≡ true → Why s l
   body-why [] true t i e = starved refl i (ltb-true s.taken s.total t)
   body-why (x ∷ xs) true t i e = absurd (false≢true e)
   body-why l false t i e = absurd (false≢true e)
 
-  stage-why : (at : Stage) (l : List ℕ) → s.stage ≡ at → s.pending ≡ Plain → isNothing (stageByte at s l) ≡ true → Why s l
-  unfolding bodyByte
+  stage-why : (at : Stage) (l : List ℕ) → s.stage ≡ at → s.pending ≡ Plain → is_nothing (stage_byte at s l) ≡ true → Why s l
+  unfolding body_byte
   stage-why stage.Start l a k e = absurd (false≢true e)
   stage-why stage.PacketId l a k e = absurd (false≢true e)
   stage-why stage.ErrorId l a k e = absurd (false≢true e)
   stage-why stage.Sequence l a k e = absurd (false≢true e)
-  stage-why stage.Payload l a k e = body-why l (ltb s.taken s.total) refl (ap (λ (z : Stage). isPayload z && not (isMarkKind s.pending)) a ∙ ap (λ (z : Kind). not (isMarkKind z)) k) e
+  stage-why stage.Payload l a k e = body-why l (ltb s.taken s.total) refl (ap (λ (z : Stage). is_payload z && not (is_mark_kind s.pending)) a ∙ ap (λ (z : Kind). not (is_mark_kind z)) k) e
   stage-why stage.Low l a k e = absurd (false≢true e)
   stage-why stage.End l a k e = absurd (false≢true e)
-  stage-why stage.Done l a k e = done (ap (λ (z : Stage). isDone z && not (isMarkKind s.pending)) a ∙ ap (λ (z : Kind). not (isMarkKind z)) k)
+  stage-why stage.Done l a k e = done (ap (λ (z : Stage). is_done z && not (is_mark_kind s.pending)) a ∙ ap (λ (z : Kind). not (is_mark_kind z)) k)
 
-  kind-why : (k : Kind) (l : List ℕ) → s.pending ≡ k → isNothing (pendingByte k s l) ≡ true → Why s l
+  kind-why : (k : Kind) (l : List ℕ) → s.pending ≡ k → is_nothing (pending_byte k s l) ≡ true → Why s l
   kind-why Start l k e = absurd (false≢true e)
   kind-why End l k e = absurd (false≢true e)
   kind-why Escape l k e = absurd (false≢true e)
@@ -57,7 +57,7 @@ module _ (s : PartProgress) where
 
   why : (l : List ℕ) → nothing ≡ byte_of s l → Why s l
   unfolding byte_of
-  why l e = kind-why s.pending l refl (sym (ap isNothing e))
+  why l e = kind-why s.pending l refl (sym (ap is_nothing e))
 
 -- ---- why an output is not filled further
 
@@ -70,8 +70,8 @@ later-stops f v k h (full e) = full (ap suc e)
 later-stops f v k h (over e) = over e
 later-stops {out} {l} f v k h (wants e i q) = wants (omega (arith, e, length-drop k l)) i q
 
-stops : (out : List ℕ) (s : PartProgress) (l : List ℕ) → (let f = fillOf (length out) s l in Stops l out (counted f) f.next)
-unfolding fillOf
+stops : (out : List ℕ) (s : PartProgress) (l : List ℕ) → (let f = fill_of (length out) s l in Stops l out (counted f) f.next)
+unfolding fill_of
 stops [] s l = full refl
 stops (v ∷ out) s l = go (byte_of s l) refl (λ next k. stops out next (drop k l))
   where
@@ -80,15 +80,15 @@ stops (v ∷ out) s l = go (byte_of s l) refl (λ next k. stops out next (drop k
     stop (starved e i q) = wants (rw e) i q
 
     go : (x : Byte) → x ≡ byte_of s l
-        → ((next : PartProgress) (k : ℕ) → (let f = fillOf (length out) next (drop k l) in Stops (drop k l) out (counted f) f.next))
-        → (let f = andOn s x (λ next k. fillOf (length out) next (drop k l)) in Stops l (v ∷ out) (counted f) f.next)
+        → ((next : PartProgress) (k : ℕ) → (let f = fill_of (length out) next (drop k l) in Stops (drop k l) out (counted f) f.next))
+        → (let f = and_on s x (λ next k. fill_of (length out) next (drop k l)) in Stops l (v ∷ out) (counted f) f.next)
     go nothing e later = stop (why s l e)
-    go (byte b next k) e later = later-stops (fillOf (length out) next (drop k l)) v k (byte-takes s l e) (later next k)
+    go (byte b next k) e later = later-stops (fill_of (length out) next (drop k l)) v k (byte-takes s l e) (later next k)
 
 -- ---- the claim
 
 pub parts-stop : PartsStop
 parts-stop limit s offered out k =
-    let f = fillOf (length out) s offered in
+    let f = fill_of (length out) s offered in
     let w = call-filled limit s offered out k.range k.unmarked k.fits k.missing (omega (arith, k.lends)) in
     record { count = counted f; told = rw w; honest = rw w; why = rw w (stops out s offered) }

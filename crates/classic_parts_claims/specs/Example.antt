@@ -7,7 +7,7 @@ use Rattle.classic_writer.specs.Sending.{FrameToSend, Sendable, sent}
 use Rattle.classic_parts.specs.declared.state.Stage.{Stage}
 use Rattle.classic_parts.specs.declared.state.Stage.TheVariants as stage
 use Rattle.classic_parts.specs.declared.state.PartProgress.{PartProgress}
-use Rattle.classic_parts.specs.Writer.{PartCount, count, wrote, beginOf, partOf}
+use Rattle.classic_parts.specs.Writer.{PartCount, count, wrote, begin_of, part_of}
 use Rattle.classic_parts_claims.specs.Run.{PartCall, part, beyond, PartRun, run_of}
 
 abbrev limit : ℕ
@@ -34,7 +34,7 @@ row before offered out told next after = record { before = before; offered = off
 
 abbrev pub Holds : List PartRow → Type 0
 Holds [] = Unit {0}
-Holds (r ∷ rs) = (partOf limit r.before r.offered (lent r.out) ≡ wrote r.told r.next r.after) × Holds rs
+Holds (r ∷ rs) = (part_of limit r.before r.offered (lent r.out) ≡ wrote r.told r.next r.after) × Holds rs
 
 -- ---- a frame of one byte F0 with sequence 5, begun, then written by eight calls
 
@@ -114,15 +114,15 @@ bytes = 0xF0 ∷ 0x02 ∷ 0x00 ∷ 0x05 ∷ 0xF2 ∷ 0x02 ∷ 0x00 ∷ 0xF2 ∷ 
 -- ---- the claim
 
 pub record PartsExample : Type 0 where
-  pub begun : beginOf limit 5 8 ≡ given (record { limit = limit; progress = state 5 8 0 2 stage.Start Plain })
-  pub limitOfNone : beginOf 0 0xF2 1 ≡ refused 17
-  pub limitAboveAll : beginOf 65536 5 1 ≡ refused 17
-  pub markAsSequence : beginOf limit 0xF2 1 ≡ refused 15
-  pub totalAboveLimit : beginOf limit 5 9 ≡ refused 15
-  pub unlawfulLimit : partOf 0 s₀ [] (lent 1) ≡ wrote (refused 1) s₀ (lent 1)
+  pub begun : begin_of limit 5 8 ≡ given (record { limit = limit; progress = state 5 8 0 2 stage.Start Plain })
+  pub limit_of_none : begin_of 0 0xF2 1 ≡ refused 17
+  pub limit_above_all : begin_of 65536 5 1 ≡ refused 17
+  pub mark_as_sequence : begin_of limit 0xF2 1 ≡ refused 15
+  pub total_above_limit : begin_of limit 5 9 ≡ refused 15
+  pub unlawful_limit : part_of 0 s₀ [] (lent 1) ≡ wrote (refused 1) s₀ (lent 1)
   pub frame : Holds frame
   pub states : Holds states
   pub premises : Sendable limit sending
   pub whole : sent limit sending ≡ bytes
   pub joined : run calls ≡ record { bytes = bytes; taken = 1; next = s₅ }
-  pub byOnes : run ones ≡ record { bytes = bytes; taken = 1; next = s₅ }
+  pub by_ones : run ones ≡ record { bytes = bytes; taken = 1; next = s₅ }

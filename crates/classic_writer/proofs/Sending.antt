@@ -7,11 +7,11 @@ use lib.ListN.{length}
 use borrow.Author.Tests.{ne_eqb, le-ltb}
 use Rattle.wire.proofs.Limits.{range-limit}
 use Rattle.wire.proofs.Stores.{first-bytes}
-use Rattle.classic_frame.specs.Mark.{kind_of, isMark}
+use Rattle.classic_frame.specs.Mark.{kind_of, is_mark}
 use Rattle.classic_frame.specs.Frame.{frame_of}
 use Rattle.classic_writer.specs.Sending.{FrameToSend, Sendable, sent, NoMark, SendableWhen}
 
-pub no-mark : (b : ℕ) → NoMark b → isMark b ≡ false
+pub no-mark : (b : ℕ) → NoMark b → is_mark b ≡ false
 unfolding kind_of
 no-mark b h = rw (ne_eqb b 0xF0 h.0, ne_eqb b 0xF1 h.1, ne_eqb b 0xF2 h.2)
 

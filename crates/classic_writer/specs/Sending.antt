@@ -1,10 +1,10 @@
 -- A frame that the writer has to take, and the bytes that it writes: what the claims above speak of.
 use Rattle.std.specs.Prelude.{ℕ, ◌≤◌, ◌<◌, ◌≡◌, ◌≢◌, true, false, List, [], length, take}
 use Rattle.wire.specs.Told.{Told, given, refused}
-use Rattle.wire.specs.Limit.{limitFits}
-use Rattle.classic_frame.specs.Mark.{isMark}
+use Rattle.wire.specs.Limit.{limit_fits}
+use Rattle.classic_frame.specs.Mark.{is_mark}
 use Rattle.classic_frame.specs.Frame.{frame_of}
-use Rattle.classic_writer.specs.Writer.{writeOf}
+use Rattle.classic_writer.specs.Writer.{write_of}
 
 -- a call of the writer: its sequence and payload, and the output that is lent to it
 pub record FrameToSend : Type 0 where
@@ -14,19 +14,19 @@ pub record FrameToSend : Type 0 where
 
 -- what the writer has to take: a limit in its range, a sequence that is no mark, a payload up to the limit, and room for its frame
 pub record Sendable (limit : ℕ) (m : FrameToSend) : Type 0 where
-  pub range : limitFits limit ≡ true
-  pub unmarked : isMark m.sequence ≡ false
+  pub range : limit_fits limit ≡ true
+  pub unmarked : is_mark m.sequence ≡ false
   pub fits : length m.payload ≤ limit
   pub room : length (frame_of m.sequence m.payload) ≤ length m.out
 
 -- the first bytes of an output, as many as the writer tells
-abbrev pub toldBytes : Told ℕ → List ℕ → List ℕ
-toldBytes (given n) out = take n out
-toldBytes (refused n) out = []
+abbrev pub told_bytes : Told ℕ → List ℕ → List ℕ
+told_bytes (given n) out = take n out
+told_bytes (refused n) out = []
 
 -- the bytes that the writer writes
 abbrev pub sent : ℕ → FrameToSend → List ℕ
-sent limit m = let w = writeOf limit m.sequence m.payload m.out in toldBytes w.told w.out
+sent limit m = let w = write_of limit m.sequence m.payload m.out in told_bytes w.told w.out
 
 -- ---- the same from the other side, by the facts of docs/FORMATS.md
 

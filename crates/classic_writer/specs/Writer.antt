@@ -2,9 +2,9 @@
 use Rattle.std.specs.Prelude.{ℕ, ◌+◌, ◌≤◌, ◌≡◌, List, [], ◌∷◌, not, ◌||◌, length, drop, ltb}
 use Rattle.std.proofs.lemmas.List.Edits.{sets}
 use Rattle.wire.specs.Told.{Told, given, refused, line, Written, writes}
-use Rattle.wire.specs.Limit.{limitFits}
-use Rattle.classic_frame.specs.Mark.{isMark}
-use Rattle.classic_frame.specs.Frame.{escapedOf, frame_of}
+use Rattle.wire.specs.Limit.{limit_fits}
+use Rattle.classic_frame.specs.Mark.{is_mark}
+use Rattle.classic_frame.specs.Frame.{escaped_of, frame_of}
 use Rattle.classic_writer.specs.declared.writer.Refusal.{Refusal}
 use Rattle.classic_writer.specs.declared.writer.Refusal.TheVariants.{BadLimit, BadArgument, NoRoom}
 use Rattle.classic_writer.specs.declared.writer.WriteOutcome.{WriteOutcome}
@@ -21,11 +21,11 @@ told (Frame n) = given n
 told (Refused r) = refused (number_of r)
 
 -- the writer, on all inputs
-abbrev pub writeOf : ℕ → ℕ → List ℕ → List ℕ → Written ℕ
-writeOf limit sequence payload out =
+abbrev pub write_of : ℕ → ℕ → List ℕ → List ℕ → Written ℕ
+write_of limit sequence payload out =
     writes
-    (line 17 (not (limitFits limit))
-    ∷ line 15 (isMark sequence || ltb limit (length payload))
+    (line 17 (not (limit_fits limit))
+    ∷ line 15 (is_mark sequence || ltb limit (length payload))
     ∷ line 14 (ltb (length out) (length (frame_of sequence payload)))
     ∷ [])
     (length (frame_of sequence payload)) out (sets out 0 (frame_of sequence payload))
@@ -34,5 +34,5 @@ writeOf limit sequence payload out =
 pub record Left (bytes before : List ℕ) (at i : ℕ) (now : List ℕ) (place j : ℕ) : Type 0 where
   pub from : i ≤ j
   pub within : j ≤ length bytes
-  pub size : place + length (escapedOf (drop j bytes)) ≡ at + length (escapedOf (drop i bytes))
-  pub stored : sets now place (escapedOf (drop j bytes)) ≡ sets before at (escapedOf (drop i bytes))
+  pub size : place + length (escaped_of (drop j bytes)) ≡ at + length (escaped_of (drop i bytes))
+  pub stored : sets now place (escaped_of (drop j bytes)) ≡ sets before at (escaped_of (drop i bytes))

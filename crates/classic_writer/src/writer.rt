@@ -2,10 +2,10 @@
 ghost use Rattle.std.specs.Prelude.{◌≡◌, true, false, [], ◌∷◌, ◌++◌, ◌+◌, ◌-◌, ◌*◌, ◌≤◌, ◌<◌, length, drop, leb};
 ghost use Rattle.std.proofs.lemmas.List.Edits.{sets};
 ghost use Rattle.wire.specs.Told.{written};
-ghost use Rattle.wire.specs.Limit.{limitFits};
-ghost use Rattle.classic_frame.specs.Mark.{escapeMark, kind_of, isMark};
-ghost use Rattle.classic_frame.specs.Frame.{escapedBy, escapedOf, headerOf, framed};
-ghost use Rattle.classic_writer.specs.Writer.{number_of, told, writeOf, Left};
+ghost use Rattle.wire.specs.Limit.{limit_fits};
+ghost use Rattle.classic_frame.specs.Mark.{escape_mark, kind_of, is_mark};
+ghost use Rattle.classic_frame.specs.Frame.{escaped_by, escaped_of, header_of, framed};
+ghost use Rattle.classic_writer.specs.Writer.{number_of, told, write_of, Left};
 
 use classic_frame::checksum::checksum;
 use classic_frame::header::{ERROR_ID, PACKET_ID};
@@ -45,7 +45,7 @@ const LARGEST_FRAMING: usize = 9;
 
 // The bytes that one byte takes beside itself. A sum of 16 bits becomes vector sums.
 fn extra(b: u8) -> u16
-    ensures { (result + 1 ≡ length (escapedBy (kind_of b) b)) × (result ≤ 1) }
+    ensures { (result + 1 ≡ length (escaped_by (kind_of b) b)) × (result ≤ 1) }
 {
     match kind_of(b) {
         Kind::Start => 1,
@@ -57,7 +57,7 @@ fn extra(b: u8) -> u16
 
 // The bytes that one byte takes.
 fn width(b: u8) -> usize
-    ensures { (result ≡ length (escapedBy (kind_of b) b)) × (result ≤ 2) }
+    ensures { (result ≡ length (escaped_by (kind_of b) b)) × (result ≤ 2) }
 {
     extra(b) as usize + 1
 }
@@ -65,7 +65,7 @@ fn width(b: u8) -> usize
 // The bytes that a run takes.
 fn escaped_size(bytes: &[u8]) -> usize
     requires { length bytes.now ≤ 65535 }
-    ensures { (result ≡ length (escapedOf bytes.now)) × (result ≤ 131070) }
+    ensures { (result ≡ length (escaped_of bytes.now)) × (result ≤ 131070) }
 {
     let mut marks: u16 = 0;
     let mut i = 0;
@@ -79,7 +79,7 @@ fn escaped_size(bytes: &[u8]) -> usize
 // Writes a mark's escape, and returns the place after it.
 fn put_code(out: &mut [u8], at: usize, code: u8) -> usize
     requires { at + 2 ≤ length out.old }
-    ensures { (result ≡ at + 2) × (out.new ≡ sets out.old at (escapeMark ∷ code ∷ [])) }
+    ensures { (result ≡ at + 2) × (out.new ≡ sets out.old at (escape_mark ∷ code ∷ [])) }
 {
     out[at] = Mark::ESCAPE;
     out[at + 1] = code;
@@ -88,9 +88,9 @@ fn put_code(out: &mut [u8], at: usize, code: u8) -> usize
 
 // Writes one byte, escaped where it is a mark, and returns the place after it.
 fn put_escaped(out: &mut [u8], at: usize, b: u8) -> usize
-    requires { at + length (escapedBy (kind_of b) b) ≤ length out.old }
-    ensures { (result ≡ at + length (escapedBy (kind_of b) b))
-        × (out.new ≡ sets out.old at (escapedBy (kind_of b) b)) }
+    requires { at + length (escaped_by (kind_of b) b) ≤ length out.old }
+    ensures { (result ≡ at + length (escaped_by (kind_of b) b))
+        × (out.new ≡ sets out.old at (escaped_by (kind_of b) b)) }
 {
     if is_mark(b) {
         return put_code(out, at, code_for(b));
@@ -102,7 +102,7 @@ fn put_escaped(out: &mut [u8], at: usize, b: u8) -> usize
 // Writes the plain bytes from i on at a place, and returns where they end.
 fn put_plain(out: &mut [u8], place: usize, bytes: &[u8], i: usize) -> usize
     requires i_in_bounds { i ≤ length bytes.now }
-    requires bytes_in_bounds { place + length (escapedOf (drop i bytes.now)) ≤ length out.old }
+    requires bytes_in_bounds { place + length (escaped_of (drop i bytes.now)) ≤ length out.old }
     ensures { Left bytes.now out.old place i out.new (place + (result - i)) result }
 {
     i + copy_clear(out, place, &bytes[i..], Mark::START, Mark::ESCAPE)
@@ -111,7 +111,7 @@ fn put_plain(out: &mut [u8], place: usize, bytes: &[u8], i: usize) -> usize
 // Writes the marks from i on, escaped, at a place, and returns where they end.
 fn put_marks(out: &mut [u8], place: usize, bytes: &[u8], i: usize) -> usize
     requires i_in_bounds { i ≤ length bytes.now }
-    requires bytes_in_bounds { place + length (escapedOf (drop i bytes.now)) ≤ length out.old }
+    requires bytes_in_bounds { place + length (escaped_of (drop i bytes.now)) ≤ length out.old }
     ensures { Left bytes.now out.old place i out.new (place + 2 * (result - i)) result }
 {
     let mut at = place;
@@ -129,9 +129,9 @@ fn put_marks(out: &mut [u8], place: usize, bytes: &[u8], i: usize) -> usize
 
 // Writes a run, escaped, from a place, and returns the place after it.
 fn put_all(out: &mut [u8], at: usize, bytes: &[u8]) -> usize
-    requires { at + length (escapedOf bytes.now) ≤ length out.old }
-    ensures { (result ≡ at + length (escapedOf bytes.now))
-        × (out.new ≡ sets out.old at (escapedOf bytes.now)) }
+    requires { at + length (escaped_of bytes.now) ≤ length out.old }
+    ensures { (result ≡ at + length (escaped_of bytes.now))
+        × (out.new ≡ sets out.old at (escaped_of bytes.now)) }
 {
     let mut place = at;
     let mut i = 0;
@@ -151,7 +151,7 @@ fn put_all(out: &mut [u8], at: usize, bytes: &[u8]) -> usize
 // Writes the four bytes before the payload.
 fn put_header(out: &mut [u8], sequence: u8)
     requires { 4 ≤ length out.old }
-    ensures { out.new ≡ sets out.old 0 (headerOf sequence) }
+    ensures { out.new ≡ sets out.old 0 (header_of sequence) }
 {
     out[0] = Mark::START;
     out[1] = PACKET_ID;
@@ -186,9 +186,9 @@ fn has_room(sequence: u8, payload: &[u8], high: u8, low: u8, room: usize) -> boo
 
 // Writes the frame of a payload, for a link with a limit in its range and a sequence that is no mark.
 fn write_within(sequence: u8, limit: usize, payload: &[u8], out: &mut [u8]) -> WriteOutcome
-    requires { (limitFits limit ≡ true) × (isMark sequence ≡ false) }
+    requires { (limit_fits limit ≡ true) × (is_mark sequence ≡ false) }
     ensures { written (told result) out.new
-        ≡ writeOf limit sequence payload.now out.old }
+        ≡ write_of limit sequence payload.now out.old }
 {
     if limit < payload.len() {
         return WriteOutcome::Refused(Refusal::BadArgument);
@@ -207,7 +207,7 @@ fn write_within(sequence: u8, limit: usize, payload: &[u8], out: &mut [u8]) -> W
 // the compiler makes one test of both, which costs more.
 pub fn write_frame(sequence: u8, limit: usize, payload: &[u8], out: &mut [u8]) -> WriteOutcome
     ensures { written (told result) out.new
-        ≡ writeOf limit sequence payload.now out.old }
+        ≡ write_of limit sequence payload.now out.old }
 {
     if is_mark(sequence) {
         if limit_fits(limit) {

@@ -5,9 +5,9 @@ use lib.Seq.{sets, take-append_seam, drop-append-le}
 use borrow.Author.Tests.{not-false}
 use Rattle.wire.proofs.Stores.{sets-step, sets_end, part-stored}
 use Rattle.outbox.specs.declared.format.Format.{Format}
-use Rattle.outbox.specs.Format.{isOne, format_of, headSize, newBytes, firstPlace}
-use Rattle.outbox.specs.Reader.{Answer, HandedRecord, given, refused, refusedAt, otherVersion, read_all, firstRefusal, walk_of}
-use Rattle.outbox_claims.specs.Claims.{usable, recordsOf, allMoved, fromPlace, ReadsAsAlone}
+use Rattle.outbox.specs.Format.{is_one, format_of, head_size, new_bytes, first_place}
+use Rattle.outbox.specs.Reader.{Answer, HandedRecord, given, refused, refused_at, other_version, read_all, first_refusal, walk_of}
+use Rattle.outbox_claims.specs.Claims.{usable, records_of, all_moved, from_place, ReadsAsAlone}
 use Rattle.outbox.proofs.Versions.{known_small}
 use Rattle.outbox.proofs.Record.{clash}
 use Rattle.outbox.proofs.Walk.{other-version-walk}
@@ -19,7 +19,7 @@ use Rattle.outbox_claims.proofs.Moved.{never-cut}
 use Rattle.outbox_claims.proofs.ReadsAsAlone.{reads-as-alone}
 use Rattle.outbox_claims.proofs.Stays.{run-stays, other-version-all, other-version-stays}
 use Rattle.cli_listing.specs.declared.Listed.{Listed}
-use Rattle.cli_listing.specs.Listing.{is_over, listed, listed_of, Carried, carried, carryOf, ListsAsWhole}
+use Rattle.cli_listing.specs.Listing.{is_over, listed, listed_of, Carried, carried, carry_of, ListsAsWhole}
 
 -- a refusal that does not end the listing is that of a cut
 not-over : (b : Bool) → not (b && not false) ≡ false → b ≡ true
@@ -31,29 +31,29 @@ ends-uncut true e = absurd (clash (cc))
 ends-uncut false e = refl
 
 -- a refusal met in reading place after place is told with its place
-run-never-refused : (fmt : Format) (file : List ℕ) {place : ℕ} {hs : List HandedRecord} → RecordRun fmt file place hs → (n : ℕ) → firstRefusal hs ≡ refused n → ⊥
+run-never-refused : (fmt : Format) (file : List ℕ) {place : ℕ} {hs : List HandedRecord} → RecordRun fmt file place hs → (n : ℕ) → first_refusal hs ≡ refused n → ⊥
 run-never-refused fmt file (ends place e) n r = clash (cc)
 run-never-refused fmt file (stops place inside e) n r = clash (cc)
 run-never-refused fmt file (goes place inside e p later) n r = run-never-refused fmt file later n r
 
 -- a listing that is not over has met the version
 module _ (fmt : Format) (last : Bool) (part : List ℕ) (more : (listed_of fmt last part).over ≡ false) where
-  pub more-version : otherVersion fmt part ≡ false
+  pub more-version : other_version fmt part ≡ false
   unfolding listed_of
-  more-version = by-version (otherVersion fmt part) refl
+  more-version = by-version (other_version fmt part) refl
     where
-      by-version : (b : Bool) → otherVersion fmt part ≡ b → otherVersion fmt part ≡ false
+      by-version : (b : Bool) → other_version fmt part ≡ b → other_version fmt part ≡ false
       by-version true v = absurd (clash (cc (ap (is_over last) (other-version-walk fmt part v))))
       by-version false v = v
 
   -- .. and is at a place within the part
-  pub more_within : (firstPlace ≤ (listed_of fmt last part).place) × ((listed_of fmt last part).place ≤ length part)
+  pub more_within : (first_place ≤ (listed_of fmt last part).place) × ((listed_of fmt last part).place ≤ length part)
   unfolding listed_of
   more_within = bounds fmt part more-version (usable (walk_of fmt part) part) refl
 
 -- the same, of what a call told
 pub told-within : {r : Listed} (fmt : Format) (last : Bool) (buffer : List ℕ) (held : ℕ) → held ≤ length buffer → r ≡ listed_of fmt last (take held buffer) → r.over ≡ false
-    → (firstPlace ≤ r.place) × (r.place ≤ held)
+    → (first_place ≤ r.place) × (r.place ≤ held)
 told-within {r} fmt last buffer held fits e more =
     let within = more_within fmt last (take held buffer) (sym (ap (λ (l : Listed). l.over) e) ∙ more) in
     let place = ap (λ (l : Listed). l.place) e in
@@ -65,23 +65,23 @@ unfolding listed_of
 listed_by fmt last part e = ap (λ w. listed (is_over last w) (usable w part)) e
 
 -- what is carried over is no longer than it was
-pub carried-within : {r : ℕ} {after : List ℕ} (buffer : List ℕ) (place held : ℕ) → carried r after ≡ carryOf buffer place held → firstPlace ≤ place → place ≤ held → r ≤ held
-unfolding carryOf
+pub carried-within : {r : ℕ} {after : List ℕ} (buffer : List ℕ) (place held : ℕ) → carried r after ≡ carry_of buffer place held → first_place ≤ place → place ≤ held → r ≤ held
+unfolding carry_of
 carried-within {r} buffer place held e first within = omega (arith, ap (λ (c : Carried). c.held) e)
 
 -- a listing that is over before the last part ends at a refusal that stays
 over : (fmt : Format) (part more : List ℕ) → 1 ≤ length part → (listed_of fmt false part).over ≡ true → read_all fmt (part ++ more) ≡ read_all fmt part
 unfolding listed_of
-over fmt part more some ended = by-version (otherVersion fmt part) refl
+over fmt part more some ended = by-version (other_version fmt part) refl
   where
-    by-walk : (w : Answer (Unit {0})) → walk_of fmt part ≡ w → is_over false w ≡ true → otherVersion fmt part ≡ false → read_all fmt (part ++ more) ≡ read_all fmt part
+    by-walk : (w : Answer (Unit {0})) → walk_of fmt part ≡ w → is_over false w ≡ true → other_version fmt part ≡ false → read_all fmt (part ++ more) ≡ read_all fmt part
     by-walk (given whole) e o v = absurd (clash (cc))
     by-walk (refused n) e o v = absurd (run-never-refused fmt part (all-run fmt part v) n (sym (walk_is fmt part) ∙ e))
-    by-walk (refusedAt n p) e o v =
+    by-walk (refused_at n p) e o v =
         run-all fmt (part ++ more) (version-more fmt part more v)
         (run-stays fmt part more n p (ends-uncut (eqb n 41) o) (all-run fmt part v) (sym (walk_is fmt part) ∙ e))
 
-    by-version : (b : Bool) → otherVersion fmt part ≡ b → read_all fmt (part ++ more) ≡ read_all fmt part
+    by-version : (b : Bool) → other_version fmt part ≡ b → read_all fmt (part ++ more) ≡ read_all fmt part
     by-version true v =
         other-version-all fmt (part ++ more) (other-version-stays fmt part more some ∙ v) ∙ sym (other-version-all fmt part v)
     by-version false v = by-walk (walk_of fmt part) refl ended v
@@ -89,7 +89,7 @@ over fmt part more some ended = by-version (otherVersion fmt part) refl
 -- one that is not goes on at the place that it told
 goes_on : (fmt : Format) (part more : List ℕ) → (listed_of fmt false part).over ≡ false
     → let place = (listed_of fmt false part).place in
-    read_all fmt (part ++ more) ≡ recordsOf (read_all fmt part) ++ allMoved (place - firstPlace) (read_all fmt (fromPlace fmt (part ++ more) place))
+    read_all fmt (part ++ more) ≡ records_of (read_all fmt part) ++ all_moved (place - first_place) (read_all fmt (from_place fmt (part ++ more) place))
 unfolding ReadsAsAlone listed_of
 goes_on fmt part more unfinished =
     let place = usable (walk_of fmt part) part in
@@ -101,15 +101,15 @@ goes_on fmt part more unfinished =
     ((reads-as-alone fmt (part ++ more) (version-more fmt part more version) place within.0 (omega arith)).rest (length part) (omega arith) (rw looked))
 
 -- where the longest record fits, the first one is passed
-further : (fmt : Format) (part : List ℕ) → firstPlace + (headSize fmt + fmt.limit) ≤ length part → (listed_of fmt false part).over ≡ false
-    → firstPlace < (listed_of fmt false part).place
+further : (fmt : Format) (part : List ℕ) → first_place + (head_size fmt + fmt.limit) ≤ length part → (listed_of fmt false part).over ≡ false
+    → first_place < (listed_of fmt false part).place
 unfolding listed_of
 further fmt part enough unfinished = by-run (all-run fmt part version) (walk_is fmt part)
   where
-    version : otherVersion fmt part ≡ false
+    version : other_version fmt part ≡ false
     version = more-version fmt false part unfinished
 
-    by-run : {hs : List HandedRecord} → RecordRun fmt part 1 hs → walk_of fmt part ≡ firstRefusal hs → 1 < usable (walk_of fmt part) part
+    by-run : {hs : List HandedRecord} → RecordRun fmt part 1 hs → walk_of fmt part ≡ first_refusal hs → 1 < usable (walk_of fmt part) part
     by-run (ends place e) walked = absurd (omega arith)
     by-run (stops place {n = n} inside e) walked =
         let cut : n ≡ 41 = eqb-true n 41 (not-over (eqb n 41) (rw walked at unfinished)) in
@@ -130,15 +130,15 @@ last fmt part = by-walk (walk_of fmt part)
     by-walk : (w : Answer (Unit {0})) → is_over true w ≡ true
     by-walk (given whole) = refl
     by-walk (refused n) = refl
-    by-walk (refusedAt n p) = ends_last (eqb n 41)
+    by-walk (refused_at n p) = ends_last (eqb n 41)
 
 version : (b : ℕ) (part file : List ℕ) → format_of (b ∷ part) ≡ format_of (b ∷ file)
-unfolding format_of isOne
+unfolding format_of is_one
 version b part file = refl
 
 -- the first byte of an outbox is its version
-version-byte : (fmt : Format) (file : List ℕ) → otherVersion fmt file ≡ false → take firstPlace file ≡ newBytes fmt
-unfolding otherVersion
+version-byte : (fmt : Format) (file : List ℕ) → other_version fmt file ≡ false → take first_place file ≡ new_bytes fmt
+unfolding other_version
 version-byte fmt [] v = absurd (clash (cc))
 version-byte fmt (b ∷ file) v =
     let same = ((or-eq-false-eq-eq-false-and-eq-false (eqb (length (b ∷ file)) 0) (not (eqb b fmt.version))).0 v).1 in
@@ -148,10 +148,10 @@ version-byte fmt (b ∷ file) v =
 pub record Moving (buffer : List ℕ) (place held : ℕ) (now : List ℕ) (i : ℕ) : Type 0 where
   pub inside : i ≤ held - place
   pub long : length now ≡ length buffer
-  pub kept : drop (firstPlace + i) now ≡ drop (firstPlace + i) buffer
-  pub left : sets now (firstPlace + i) (drop i (drop place (take held buffer))) ≡ sets buffer firstPlace (drop place (take held buffer))
+  pub kept : drop (first_place + i) now ≡ drop (first_place + i) buffer
+  pub left : sets now (first_place + i) (drop i (drop place (take held buffer))) ≡ sets buffer first_place (drop place (take held buffer))
 
-module _ (buffer : List ℕ) (place held : ℕ) (first : firstPlace ≤ place) (within : place ≤ held) (fits : held ≤ length buffer) where
+module _ (buffer : List ℕ) (place held : ℕ) (first : first_place ≤ place) (within : place ≤ held) (fits : held ≤ length buffer) where
   run : List ℕ
   run = drop place (take held buffer)
 
@@ -160,19 +160,19 @@ module _ (buffer : List ℕ) (place held : ℕ) (first : firstPlace ≤ place) (
   run_long = length-drop place (take held buffer) ∙ rw (length-take-le held buffer fits)
 
   -- the version byte stays, and behind it stand the bytes from the place on
-  carries : (fmt : Format) (more : List ℕ) → otherVersion fmt (take held buffer) ≡ false
-      → let next = carryOf buffer place held in
-      (next.held ≡ length (fromPlace fmt (take held buffer) place)) × (take next.held next.buffer ++ more ≡ fromPlace fmt (take held buffer ++ more) place)
-  unfolding run carryOf
+  carries : (fmt : Format) (more : List ℕ) → other_version fmt (take held buffer) ≡ false
+      → let next = carry_of buffer place held in
+      (next.held ≡ length (from_place fmt (take held buffer) place)) × (take next.held next.buffer ++ more ≡ from_place fmt (take held buffer ++ more) place)
+  unfolding run carry_of
   carries fmt more v =
       let part = take held buffer in
-      let version : take firstPlace buffer ≡ newBytes fmt = sym (take-take firstPlace held buffer (omega arith)) ∙ version-byte fmt part v in
-      let stored : take (firstPlace + length run) (sets buffer firstPlace run) ≡ newBytes fmt ++ run
-      = part-stored buffer 0 firstPlace run (omega (arith, run_long)) ∙ ap (λ l. l ++ run) version in (
+      let version : take first_place buffer ≡ new_bytes fmt = sym (take-take first_place held buffer (omega arith)) ∙ version-byte fmt part v in
+      let stored : take (first_place + length run) (sets buffer first_place run) ≡ new_bytes fmt ++ run
+      = part-stored buffer 0 first_place run (omega (arith, run_long)) ∙ ap (λ l. l ++ run) version in (
         omega (arith, run_long),
-        ap (λ n. take (firstPlace + n) (sets buffer firstPlace run) ++ more) (sym run_long)
+        ap (λ n. take (first_place + n) (sets buffer first_place run) ++ more) (sym run_long)
             ∙ ap (λ l. l ++ more) stored
-            ∙ ap (λ l. newBytes fmt ++ l) (sym (drop-append-le place part more (omega (arith, length-take-le held buffer fits)))),
+            ∙ ap (λ l. new_bytes fmt ++ l) (sym (drop-append-le place part more (omega (arith, length-take-le held buffer fits)))),
       )
 
   pub moving-begins : Moving buffer place held buffer 0
@@ -183,40 +183,40 @@ module _ (buffer : List ℕ) (place held : ℕ) (first : firstPlace ≤ place) (
     byte : i < held - place → get_or now (place + i) 0 ≡ get_or run i 0
     unfolding run
     byte h =
-        let at : firstPlace + i + (place - firstPlace) ≡ place + i = omega arith in
+        let at : first_place + i + (place - first_place) ≡ place + i = omega arith in
         ap (λ n. get_or now n 0) (sym at)
-        ∙ sym (get_or-drop (firstPlace + i) now (place - firstPlace) 0)
-        ∙ ap (λ l. get_or l (place - firstPlace) 0) m.kept
-        ∙ get_or-drop (firstPlace + i) buffer (place - firstPlace) 0
+        ∙ sym (get_or-drop (first_place + i) now (place - first_place) 0)
+        ∙ ap (λ l. get_or l (place - first_place) 0) m.kept
+        ∙ get_or-drop (first_place + i) buffer (place - first_place) 0
         ∙ ap (λ n. get_or buffer n 0) at
         ∙ sym (get_or-drop place (take held buffer) i 0 ∙ get_or-take held buffer (place + i) 0 (omega arith))
 
-    pub moving-goes : i < held - place → Moving buffer place held (set now (firstPlace + i) (get_or now (place + i) 0)) (i + 1)
+    pub moving-goes : i < held - place → Moving buffer place held (set now (first_place + i) (get_or now (place + i) 0)) (i + 1)
     unfolding run
     moving-goes h =
         record {
           inside = omega arith;
-          long = length-set now (firstPlace + i) (get_or now (place + i) 0) ∙ m.long;
+          long = length-set now (first_place + i) (get_or now (place + i) 0) ∙ m.long;
           kept = kept;
           left =
-              ap (λ b. sets (set now (firstPlace + i) b) (firstPlace + (i + 1)) (drop (i + 1) run)) (byte h)
-              ∙ sets-step now run firstPlace i (omega (arith, run_long))
+              ap (λ b. sets (set now (first_place + i) b) (first_place + (i + 1)) (drop (i + 1) run)) (byte h)
+              ∙ sets-step now run first_place i (omega (arith, run_long))
               ∙ m.left;
         }
       where
-        next : (l : List ℕ) → drop (firstPlace + (i + 1)) l ≡ drop 1 (drop (firstPlace + i) l)
-        next l = let at : firstPlace + (i + 1) ≡ firstPlace + i + 1 = omega arith in ap (λ n. drop n l) at ∙ sym (drop-drop 1 (firstPlace + i) l)
+        next : (l : List ℕ) → drop (first_place + (i + 1)) l ≡ drop 1 (drop (first_place + i) l)
+        next l = let at : first_place + (i + 1) ≡ first_place + i + 1 = omega arith in ap (λ n. drop n l) at ∙ sym (drop-drop 1 (first_place + i) l)
 
-        kept : drop (firstPlace + (i + 1)) (set now (firstPlace + i) (get_or now (place + i) 0)) ≡ drop (firstPlace + (i + 1)) buffer
+        kept : drop (first_place + (i + 1)) (set now (first_place + i) (get_or now (place + i) 0)) ≡ drop (first_place + (i + 1)) buffer
         kept =
-            drop-set-lt (firstPlace + (i + 1)) now (firstPlace + i) (get_or now (place + i) 0) (omega arith)
+            drop-set-lt (first_place + (i + 1)) now (first_place + i) (get_or now (place + i) 0) (omega arith)
             ∙ next now
             ∙ ap (drop 1) m.kept
             ∙ sym (next buffer)
 
-    pub moving-ends : held - place ≤ i → carried (firstPlace + (held - place)) now ≡ carryOf buffer place held
-    unfolding run carryOf
-    moving-ends h = ap (carried (firstPlace + (held - place))) (sym (sets_end now run (firstPlace + i) i (omega (arith, run_long))) ∙ m.left)
+    pub moving-ends : held - place ≤ i → carried (first_place + (held - place)) now ≡ carry_of buffer place held
+    unfolding run carry_of
+    moving-ends h = ap (carried (first_place + (held - place))) (sym (sets_end now run (first_place + i) i (omega (arith, run_long))) ∙ m.left)
 
 pub lists-as-whole : ListsAsWhole
 lists-as-whole =

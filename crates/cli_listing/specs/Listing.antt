@@ -2,24 +2,24 @@
 use Rattle.std.specs.Prelude.{◌≡◌, ℕ, ◌+◌, ◌-◌, ◌<◌, ◌≤◌, Bool, true, false, not, ◌&&◌, List, ◌∷◌, ◌++◌, length, take, drop, ◌==◌}
 use Rattle.std.proofs.lemmas.List.Edits.{sets}
 use Rattle.outbox.specs.declared.format.Format.{Format}
-use Rattle.outbox.specs.Format.{Known, format_of, headSize, firstPlace}
-use Rattle.outbox.specs.Reader.{Answer, given, refused, refusedAt, read_all, walk_of}
-use Rattle.outbox_claims.specs.Claims.{usable, recordsOf, allMoved, fromPlace}
+use Rattle.outbox.specs.Format.{Known, format_of, head_size, first_place}
+use Rattle.outbox.specs.Reader.{Answer, given, refused, refused_at, read_all, walk_of}
+use Rattle.outbox_claims.specs.Claims.{usable, records_of, all_moved, from_place}
 use Rattle.cli_listing.specs.declared.Listed.{Listed}
 
 -- the bytes of the buffer that a file passes through
-abbrev pub bufferSize : ℕ
-bufferSize = 65541
+abbrev pub buffer_size : ℕ
+buffer_size = 65541
 
 -- a refusal ends the listing, but for a record that is cut short before the last part: it may go on in the next
-abbrev pub endsBy : Bool → ℕ → Bool
-endsBy last n = not (n == 41 && not last)
+abbrev pub ends_by : Bool → ℕ → Bool
+ends_by last n = not (n == 41 && not last)
 
 -- whether the listing is over after a part, by the part's walk
 abbrev pub is_over : Bool → Answer (Unit {0}) → Bool
 is_over last (given whole) = last
 is_over last (refused n) = true
-is_over last (refusedAt n place) = endsBy last n
+is_over last (refused_at n place) = ends_by last n
 
 abbrev pub listed : Bool → ℕ → Listed
 listed over place = record { over = over; place = place }
@@ -37,8 +37,8 @@ abbrev pub carried : ℕ → List ℕ → Carried
 carried held buffer = record { held = held; buffer = buffer }
 
 -- the bytes of a part from a place on go to where the first record stands
-unfoldable pub carryOf : List ℕ → ℕ → ℕ → Carried
-carryOf buffer place held = carried (firstPlace + (held - place)) (sets buffer firstPlace (drop place (take held buffer)))
+unfoldable pub carry_of : List ℕ → ℕ → ℕ → Carried
+carry_of buffer place held = carried (first_place + (held - place)) (sets buffer first_place (drop place (take held buffer)))
 
 -- listing part by part gives what the whole file gives
 pub record ListsAsWhole : Type 0 where
@@ -49,19 +49,19 @@ pub record ListsAsWhole : Type 0 where
   -- where it is not, what follows the part's records is what the next part gives, from the place on
   pub goes_on : (fmt : Format) (part more : List ℕ) → (listed_of fmt false part).over ≡ false
       → let place = (listed_of fmt false part).place in
-      read_all fmt (part ++ more) ≡ recordsOf (read_all fmt part) ++ allMoved (place - firstPlace) (read_all fmt (fromPlace fmt (part ++ more) place))
+      read_all fmt (part ++ more) ≡ records_of (read_all fmt part) ++ all_moved (place - first_place) (read_all fmt (from_place fmt (part ++ more) place))
   -- .. which begins with what is carried over, in as many bytes as are told
   pub carries : (fmt : Format) (buffer more : List ℕ) (held : ℕ) → held ≤ length buffer
       → let part = take held buffer in
       (listed_of fmt false part).over ≡ false
       → let place = (listed_of fmt false part).place in
-      let next = carryOf buffer place held in
-      (next.held ≡ length (fromPlace fmt part place)) × (take next.held next.buffer ++ more ≡ fromPlace fmt (part ++ more) place)
+      let next = carry_of buffer place held in
+      (next.held ≡ length (from_place fmt part place)) × (take next.held next.buffer ++ more ≡ from_place fmt (part ++ more) place)
   -- .. and with room for the longest record that place is beyond the first record's
-  pub further : (fmt : Format) (part : List ℕ) → firstPlace + (headSize fmt + fmt.limit) ≤ length part → (listed_of fmt false part).over ≡ false
-      → firstPlace < (listed_of fmt false part).place
+  pub further : (fmt : Format) (part : List ℕ) → first_place + (head_size fmt + fmt.limit) ≤ length part → (listed_of fmt false part).over ≡ false
+      → first_place < (listed_of fmt false part).place
   -- a full buffer has that room
-  pub full : (fmt : Format) → Known fmt → (part : List ℕ) → length part ≡ bufferSize → (listed_of fmt false part).over ≡ false
-      → firstPlace < (listed_of fmt false part).place
+  pub full : (fmt : Format) → Known fmt → (part : List ℕ) → length part ≡ buffer_size → (listed_of fmt false part).over ≡ false
+      → first_place < (listed_of fmt false part).place
   -- the last part ends the listing
   pub last : (fmt : Format) (part : List ℕ) → (listed_of fmt true part).over ≡ true

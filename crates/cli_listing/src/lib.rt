@@ -1,9 +1,9 @@
 // Lists the records of an outbox file on standard output, for the crew: what a box kept. The file may be of any size: it
 // passes through one buffer that holds the version byte and the bytes from a record's place on.
 ghost use Rattle.std.specs.Prelude.{◌≡◌, ◌≤◌, length, take, ◌==◌};
-ghost use Rattle.outbox.specs.Format.{format_of, firstPlace};
-ghost use Rattle.outbox.specs.Reader.{faultNumber};
-ghost use Rattle.cli_listing.specs.Listing.{bufferSize, endsBy, listed, listed_of, carried, carryOf, ListsAsWhole};
+ghost use Rattle.outbox.specs.Format.{format_of, first_place};
+ghost use Rattle.outbox.specs.Reader.{fault_number};
+ghost use Rattle.cli_listing.specs.Listing.{buffer_size, ends_by, listed, listed_of, carried, carry_of, ListsAsWhole};
 
 use cli_console::sentences::explain_outbox;
 use cli_console::{Output, read_some};
@@ -56,7 +56,7 @@ pub struct Refilled {
 
 // Room for a part. The `ensures` gives only the length, which lending the array as a slice needs.
 pub fn room() -> [u8; ROOM]
-    ensures { bufferSize ≡ length result }
+    ensures { buffer_size ≡ length result }
 {
     [0; ROOM]
 }
@@ -97,7 +97,7 @@ fn say_refused(output: Output, number: u8, gone: u64, place: usize) -> Output {
 }
 
 fn is_cut(fault: Fault) -> bool
-    ensures { result ≡ (faultNumber fault == 41) }
+    ensures { result ≡ (fault_number fault == 41) }
 {
     match fault {
         Fault::Version => false,
@@ -123,7 +123,7 @@ fn list_end(output: Output, gone: u64, place: usize, last: bool) -> ShownPart
 
 // A refusal in a part: a record that is cut short may go on in the next part.
 fn judge_refusal(fault: Fault, place: usize, last: bool) -> JudgedPart
-    ensures { result.listed ≡ listed (endsBy last (faultNumber fault)) place }
+    ensures { result.listed ≡ listed (ends_by last (fault_number fault)) place }
 {
     if both(is_cut(fault), !last) {
         return JudgedPart {
@@ -154,7 +154,7 @@ pub fn judge_part(part: &[u8], last: bool) -> JudgedPart
 }
 
 fn list_refusal(output: Output, fault: Fault, gone: u64, place: usize, last: bool) -> ShownPart
-    ensures { result.listed ≡ listed (endsBy last (faultNumber fault)) place }
+    ensures { result.listed ≡ listed (ends_by last (fault_number fault)) place }
 {
     let judged = judge_refusal(fault, place, last);
     let listed = judged.listed;
@@ -207,8 +207,8 @@ pub fn list_part(output: Output, view: RecordView, part: &[u8], gone: u64, last:
 
 // Moves the bytes of a part from a place on to where the first record stands, and tells how many bytes the part then has.
 pub fn carry_over(buffer: &mut [u8], place: usize, held: usize) -> usize
-    requires { (firstPlace ≤ place) × (place ≤ held) × (held ≤ length buffer.old) }
-    ensures { carried result buffer.new ≡ carryOf buffer.old place held }
+    requires { (first_place ≤ place) × (place ≤ held) × (held ≤ length buffer.old) }
+    ensures { carried result buffer.new ≡ carry_of buffer.old place held }
 {
     let n = held - place;
     let mut i = 0;

@@ -6,24 +6,24 @@ use mathlib.Core.List.{List, [], ◌∷◌, ◌++◌}
 use native.Mathlib.Omega.{arith}
 use lib.ListN.{length, get_or, take, drop}
 use borrow.Author.Tests.{eq-eqb}
-use Rattle.wire.specs.Scan.{anyInRange}
+use Rattle.wire.specs.Scan.{any_in_range}
 use Rattle.wire.proofs.Runs.{any-first}
 use Rattle.proto_field.specs.declared.value.Part.{Part}
 use Rattle.proto_field.specs.Value.{bytes_of}
-use Rattle.utf8.specs.WellFormed.{WellFormed, empty, more, badPlace}
+use Rattle.utf8.specs.WellFormed.{WellFormed, empty, more, bad_place}
 use Rattle.utf8.proofs.Sequences.{sequence-described, ascii-sequence}
 use Rattle.utf8.proofs.Places.{not-above, well-formed-whole}
 use Rattle.proto_strings.specs.declared.TextFault.TheVariants.{None}
-use Rattle.proto_strings.specs.Texts.{orText, faultFrom, firstFault}
-use Rattle.proto_schema.specs.Schema.{firmwareNameField, localeField, versionNameField, firmwareComponentNameField, firmwareComponentSignatureField}
+use Rattle.proto_strings.specs.Texts.{or_text, fault_from, first_fault}
+use Rattle.proto_schema.specs.Schema.{firmware_name_field, locale_field, version_name_field, firmware_component_name_field, firmware_component_signature_field}
 use Rattle.msg_firmware.specs.declared.component.FirmwareComponent.{FirmwareComponent}
 use Rattle.msg_firmware.specs.declared.information.FirmwareInformation.{FirmwareInformation}
-use Rattle.msg_apply_writer.specs.Information.{present, componentsStrings, firmwareStrings}
+use Rattle.msg_apply_writer.specs.Information.{present, components_strings, firmware_strings}
 use Rattle.msg_apply_writer.proofs.Texts.{fault-append}
 
 -- every one is a byte, and none lies above ASCII
 abbrev Ascii : List ℕ → Type 0
-Ascii s = ((i : ℕ) → get_or s i 0 < 256) × (anyInRange 128 255 s ≡ false)
+Ascii s = ((i : ℕ) → get_or s i 0 < 256) × (any_in_range 128 255 s ≡ false)
 
 ascii-tail : (b : ℕ) (s : List ℕ) → Ascii (b ∷ s) → Ascii s
 ascii-tail b s h = ((λ i. h.0 (suc i)), (any-first 128 255 b s h.1).1)
@@ -46,19 +46,19 @@ ascii_take (suc n) [] h = empty
 ascii_take (suc n) (b ∷ s) h = ascii-first b (take n s) (not-above b (h.0 0) (any-first 128 255 b s h.1).0) (ascii_take n s (ascii-tail b s h))
 
 module _ (texts : List ℕ) (ascii : Ascii texts) where
-  part-fine : (field : ℕ) (p : Part) → orText field (bytes_of texts p) None ≡ None
+  part-fine : (field : ℕ) (p : Part) → or_text field (bytes_of texts p) None ≡ None
   part-fine field p =
       let s = bytes_of texts p in
-      rw (eq-eqb (badPlace s) (length s) (well-formed-whole s (ascii_take p.len (drop p.start texts) (ascii_drop p.start texts ascii))))
+      rw (eq-eqb (bad_place s) (length s) (well-formed-whole s (ascii_take p.len (drop p.start texts) (ascii_drop p.start texts ascii))))
 
-  components-fine : (cs : List FirmwareComponent) → faultFrom None (componentsStrings texts cs) ≡ None
+  components-fine : (cs : List FirmwareComponent) → fault_from None (components_strings texts cs) ≡ None
   components-fine [] = refl
   components-fine (c ∷ cs) =
-      rw (part-fine firmwareComponentNameField c.name, part-fine firmwareComponentSignatureField c.signature) (components-fine cs)
+      rw (part-fine firmware_component_name_field c.name, part-fine firmware_component_signature_field c.signature) (components-fine cs)
 
-  pub ascii-firmware : (f : FirmwareInformation) → firstFault (firmwareStrings texts f) ≡ None
+  pub ascii-firmware : (f : FirmwareInformation) → first_fault (firmware_strings texts f) ≡ None
   ascii-firmware f =
-      let cs = componentsStrings texts (present f) in
-      let ends : List (ℕ × List ℕ) = (localeField, bytes_of texts f.locale) ∷ (versionNameField, bytes_of texts f.version_name) ∷ [] in
-      ap (λ x. faultFrom x (cs ++ ends)) (part-fine firmwareNameField f.name) ∙ fault-append None cs ends ∙ ap (λ x. faultFrom x ends) (components-fine (present f))
-      ∙ ap (orText versionNameField (bytes_of texts f.version_name)) (part-fine localeField f.locale) ∙ part-fine versionNameField f.version_name
+      let cs = components_strings texts (present f) in
+      let ends : List (ℕ × List ℕ) = (locale_field, bytes_of texts f.locale) ∷ (version_name_field, bytes_of texts f.version_name) ∷ [] in
+      ap (λ x. fault_from x (cs ++ ends)) (part-fine firmware_name_field f.name) ∙ fault-append None cs ends ∙ ap (λ x. fault_from x ends) (components-fine (present f))
+      ∙ ap (or_text version_name_field (bytes_of texts f.version_name)) (part-fine locale_field f.locale) ∙ part-fine version_name_field f.version_name

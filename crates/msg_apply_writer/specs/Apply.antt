@@ -2,20 +2,20 @@
 use Rattle.std.specs.Prelude.{ℕ, List, [], ◌∷◌}
 use Rattle.wire.specs.Bytes.{bit}
 use Rattle.wire.specs.Told.{WrittenOf}
-use Rattle.proto_writer.specs.Writer.{Field, scalar, nested, messageBytes}
-use Rattle.proto_schema.specs.Schema.{firmwareInformationField, restartRequiredField}
-use Rattle.proto_strings.specs.Texts.{writesTexts}
+use Rattle.proto_writer.specs.Writer.{Field, scalar, nested, message_bytes}
+use Rattle.proto_schema.specs.Schema.{firmware_information_field, restart_required_field}
+use Rattle.proto_strings.specs.Texts.{writes_texts}
 use Rattle.msg_firmware.specs.declared.apply.ApplyFirmware.{ApplyFirmware}
-use Rattle.msg_apply_writer.specs.Information.{badFirmware, firmwareStrings, firmwareFields}
+use Rattle.msg_apply_writer.specs.Information.{bad_firmware, firmware_strings, firmware_fields}
 
 -- the fields, of parts of the lent texts: firmware information is written also where it is empty
-abbrev pub applyFields : List ℕ → ApplyFirmware → List Field
-applyFields texts a =
-    nested firmwareInformationField (messageBytes (firmwareFields texts a.firmware_information))
-    ∷ scalar restartRequiredField (bit a.restart_required) ∷ []
+abbrev pub apply_fields : List ℕ → ApplyFirmware → List Field
+apply_fields texts a =
+    nested firmware_information_field (message_bytes (firmware_fields texts a.firmware_information))
+    ∷ scalar restart_required_field (bit a.restart_required) ∷ []
 
 -- the message written
-unfoldable pub applyWritten : ApplyFirmware → List ℕ → List ℕ → WrittenOf (ℕ × List ℕ) ℕ
-applyWritten a texts out =
+unfoldable pub apply_written : ApplyFirmware → List ℕ → List ℕ → WrittenOf (ℕ × List ℕ) ℕ
+apply_written a texts out =
     let f = a.firmware_information in
-    writesTexts (badFirmware texts f) (firmwareStrings texts f) (applyFields texts a) out
+    writes_texts (bad_firmware texts f) (firmware_strings texts f) (apply_fields texts a) out

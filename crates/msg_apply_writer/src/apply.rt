@@ -1,10 +1,10 @@
 // ApplyFirmware written.
 ghost use Rattle.std.specs.Prelude.{◌≡◌, false, ◌+◌};
 ghost use Rattle.wire.specs.Told.{written};
-ghost use Rattle.proto_writer.specs.Message.{writesMessage, toldWrote};
-ghost use Rattle.proto_strings.specs.Texts.{toldTextWrote};
-ghost use Rattle.msg_apply_writer.specs.Apply.{applyFields, applyWritten};
-ghost use Rattle.msg_apply_writer.specs.Information.{badFirmware};
+ghost use Rattle.proto_writer.specs.Message.{writes_message, told_wrote};
+ghost use Rattle.proto_strings.specs.Texts.{told_text_wrote};
+ghost use Rattle.msg_apply_writer.specs.Apply.{apply_fields, apply_written};
+ghost use Rattle.msg_apply_writer.specs.Information.{bad_firmware};
 
 use crate::information::{bad_firmware, firmware_fault, firmware_room, put_firmware};
 use msg_firmware::apply::ApplyFirmware;
@@ -16,10 +16,10 @@ use wire::bytes::bit64;
 
 // ApplyFirmware whatever its strings are. That its parts lie within the texts was judged before.
 fn fill_apply(out: &mut [u8], apply: ApplyFirmware, texts: &[u8]) -> Wrote
-    requires { badFirmware texts.now apply.firmware_information ≡ false }
-    ensures { written (toldWrote result) out.new
-        ≡ writesMessage (badFirmware texts.now apply.firmware_information)
-        (applyFields texts.now apply) out.old }
+    requires { bad_firmware texts.now apply.firmware_information ≡ false }
+    ensures { written (told_wrote result) out.new
+        ≡ writes_message (bad_firmware texts.now apply.firmware_information)
+        (apply_fields texts.now apply) out.old }
 {
     let information = apply.firmware_information;
     let restart = bit64(apply.restart_required);
@@ -43,8 +43,8 @@ fn fill_apply(out: &mut [u8], apply: ApplyFirmware, texts: &[u8]) -> Wrote
 
 // Writes ApplyFirmware. Its strings are parts of the lent texts.
 pub fn write_apply(out: &mut [u8], apply: ApplyFirmware, texts: &[u8]) -> TextWrote
-    ensures { written (toldTextWrote result) out.new
-        ≡ applyWritten apply texts.now out.old }
+    ensures { written (told_text_wrote result) out.new
+        ≡ apply_written apply texts.now out.old }
 {
     let information = apply.firmware_information;
     if bad_firmware(texts, information) {

@@ -1,13 +1,13 @@
 // FirmwareInformation written.
 ghost use Rattle.std.specs.Prelude.{◌≡◌, true, false, map, ◌+◌, ◌≤◌, length, take};
-ghost use Rattle.wire.specs.Scan.{anyInRange};
+ghost use Rattle.wire.specs.Scan.{any_in_range};
 ghost use Rattle.wire.specs.Put.{Put};
-ghost use Rattle.proto_writer.specs.Writer.{messageBytes};
-ghost use Rattle.proto_reader.specs.Gathered.{mostRepeated};
-ghost use Rattle.proto_writer.specs.Message.{lessRoom};
-ghost use Rattle.msg_component_writer.specs.Component.{componentField};
-ghost use Rattle.msg_apply_writer.specs.Information.{badComponents, badFirmware, componentsStrings, firmwareStrings, firmwareFields};
-ghost use Rattle.proto_strings.specs.Texts.{faultFrom, firstFault};
+ghost use Rattle.proto_writer.specs.Writer.{message_bytes};
+ghost use Rattle.proto_reader.specs.Gathered.{most_repeated};
+ghost use Rattle.proto_writer.specs.Message.{less_room};
+ghost use Rattle.msg_component_writer.specs.Component.{component_field};
+ghost use Rattle.msg_apply_writer.specs.Information.{bad_components, bad_firmware, components_strings, firmware_strings, firmware_fields};
+ghost use Rattle.proto_strings.specs.Texts.{fault_from, first_fault};
 
 use msg_component_writer::{
     bad_component, component_fault, component_field_room, is_outside, put_component, put_text_part,
@@ -28,8 +28,8 @@ const MOST_LOOKED_THROUGH: usize = 1024;
 
 // Whether a part of the first components does not lie within the texts.
 fn bad_components(texts: &[u8], components: [FirmwareComponent; 8], count: usize) -> bool
-    requires { count ≤ mostRepeated }
-    ensures { result ≡ badComponents texts.now (take count components) }
+    requires { count ≤ most_repeated }
+    ensures { result ≡ bad_components texts.now (take count components) }
 {
     let mut i = 0;
     while i < count {
@@ -44,7 +44,7 @@ fn bad_components(texts: &[u8], components: [FirmwareComponent; 8], count: usize
 
 // Whether there are too many components, or a part does not lie within the texts.
 pub(crate) fn bad_firmware(texts: &[u8], information: FirmwareInformation) -> bool
-    ensures { result ≡ badFirmware texts.now information }
+    ensures { result ≡ bad_firmware texts.now information }
 {
     let count = information.count;
     if MOST_REPEATED < count {
@@ -73,8 +73,8 @@ fn components_fault(
     components: [FirmwareComponent; 8],
     count: usize,
 ) -> TextFault
-    requires { (count ≤ mostRepeated) × (badComponents texts.now (take count components) ≡ false) }
-    ensures { result ≡ faultFrom fault (componentsStrings texts.now (take count components)) }
+    requires { (count ≤ most_repeated) × (bad_components texts.now (take count components) ≡ false) }
+    ensures { result ≡ fault_from fault (components_strings texts.now (take count components)) }
 {
     let mut found = fault;
     let mut i = 0;
@@ -88,7 +88,7 @@ fn components_fault(
 
 // Whether the texts are ASCII, so that each part of them is well formed. Longer ones are not looked through: they may be much more than their parts.
 fn all_ascii(texts: &[u8]) -> bool
-    ensures { result ≡ true → anyInRange 128 255 texts.now ≡ false }
+    ensures { result ≡ true → any_in_range 128 255 texts.now ≡ false }
 {
     if MOST_LOOKED_THROUGH < texts.len() {
         return false;
@@ -98,8 +98,8 @@ fn all_ascii(texts: &[u8]) -> bool
 
 // The first string of firmware information, in writing order, that is not well formed.
 pub(crate) fn firmware_fault(texts: &[u8], information: FirmwareInformation) -> TextFault
-    requires { badFirmware texts.now information ≡ false }
-    ensures { result ≡ firstFault (firmwareStrings texts.now information) }
+    requires { bad_firmware texts.now information ≡ false }
+    ensures { result ≡ first_fault (firmware_strings texts.now information) }
 {
     if all_ascii(texts) {
         return TextFault::None;
@@ -121,9 +121,9 @@ fn components_room(
     components: [FirmwareComponent; 8],
     count: usize,
 ) -> Room
-    requires { (count ≤ mostRepeated) × (badComponents texts.now (take count components) ≡ false) }
+    requires { (count ≤ most_repeated) × (bad_components texts.now (take count components) ≡ false) }
     ensures { result
-        ≡ lessRoom (length (messageBytes (map (componentField texts.now) (take count components)))) room }
+        ≡ less_room (length (message_bytes (map (component_field texts.now) (take count components)))) room }
 {
     let mut left = room;
     let mut i = 0;
@@ -137,9 +137,9 @@ fn components_room(
 
 // The room that the fields of firmware information leave in an output of this length.
 pub(crate) fn firmware_room(len: usize, texts: &[u8], information: FirmwareInformation) -> Room
-    requires { badFirmware texts.now information ≡ false }
+    requires { bad_firmware texts.now information ≡ false }
     ensures { result
-        ≡ lessRoom (length (messageBytes (firmwareFields texts.now information))) (Room.Left len) }
+        ≡ less_room (length (message_bytes (firmware_fields texts.now information))) (Room.Left len) }
 {
     let name = information.name;
     let components = information.components;
@@ -161,11 +161,11 @@ fn put_components(
     components: [FirmwareComponent; 8],
     count: usize,
 ) -> usize
-    requires { (count ≤ mostRepeated)
-        × (badComponents texts.now (take count components) ≡ false)
-        × (from + length (messageBytes (map (componentField texts.now) (take count components))) ≤ length out.old) }
+    requires { (count ≤ most_repeated)
+        × (bad_components texts.now (take count components) ≡ false)
+        × (from + length (message_bytes (map (component_field texts.now) (take count components))) ≤ length out.old) }
     ensures { Put out.old from
-        (messageBytes (map (componentField texts.now) (take count components))) result out.new }
+        (message_bytes (map (component_field texts.now) (take count components))) result out.new }
 {
     let mut at = from;
     let mut i = 0;
@@ -184,9 +184,9 @@ pub(crate) fn put_firmware(
     texts: &[u8],
     information: FirmwareInformation,
 ) -> usize
-    requires { (badFirmware texts.now information ≡ false)
-        × (at + length (messageBytes (firmwareFields texts.now information)) ≤ length out.old) }
-    ensures { Put out.old at (messageBytes (firmwareFields texts.now information)) result
+    requires { (bad_firmware texts.now information ≡ false)
+        × (at + length (message_bytes (firmware_fields texts.now information)) ≤ length out.old) }
+    ensures { Put out.old at (message_bytes (firmware_fields texts.now information)) result
         out.new }
 {
     let name = information.name;

@@ -5,20 +5,20 @@ use native.Mathlib.Omega.{arith}
 use lib.IntN.{ℤ, pos, negsuc}
 use mir.Syntax.{w32}
 use mir.Val.{SFits}
-use Rattle.proto_field.specs.Varint.{varintAt}
-use Rattle.proto_writer.specs.Varint.{varintBytes}
-use Rattle.proto_field.specs.Tag.{badTag, tag_at}
+use Rattle.proto_field.specs.Varint.{varint_at}
+use Rattle.proto_writer.specs.Varint.{varint_bytes}
+use Rattle.proto_field.specs.Tag.{bad_tag, tag_at}
 use Rattle.proto_field.specs.Value.{value_at}
-use Rattle.proto_writer.specs.Writer.{tagBytes, headBytes, partBytes, fieldBytes}
-use Rattle.proto_schema.specs.Schema.{roleOf}
-use Rattle.proto_reader.specs.Gathered.{withTransport}
-use Rattle.proto_reader.specs.Walk.{entry_at, packedFrom, judged, addedAt, readAt, field_at, fieldsFrom, withString}
-use Rattle.msg_control.specs.Response.{responseFrom, responseWritten}
-use Rattle.msg_control.specs.Envelope.{payloadOf, envelopeOf, envelopeWritten}
-use Rattle.utf8.specs.Table.{rows, within, rowOf}
-use Rattle.utf8.specs.WellFormed.{sequenceAt, badPlace}
-use Rattle.msg_device.specs.Information.{informationOf, informationWritten}
-use Rattle.msg_device.specs.Features.{featuresOf, featuresWritten}
+use Rattle.proto_writer.specs.Writer.{tag_bytes, head_bytes, part_bytes, field_bytes}
+use Rattle.proto_schema.specs.Schema.{role_of}
+use Rattle.proto_reader.specs.Gathered.{with_transport}
+use Rattle.proto_reader.specs.Walk.{entry_at, packed_from, judged, added_at, read_at, field_at, fields_from, with_string}
+use Rattle.msg_control.specs.Response.{response_from, response_written}
+use Rattle.msg_control.specs.Envelope.{payload_of, envelope_of, envelope_written}
+use Rattle.utf8.specs.Table.{rows, within, row_of}
+use Rattle.utf8.specs.WellFormed.{sequence_at, bad_place}
+use Rattle.msg_device.specs.Information.{information_of, information_written}
+use Rattle.msg_device.specs.Features.{features_of, features_written}
 use Rattle.msg_claims.specs.RoundTrip.{AllSigned32}
 use Rattle.msg_claims.specs.Premises.{InSigned32, AllInSigned32, ResponsesTaken, EnvelopesTaken, InformationTaken, FeaturesTaken, OneOfEach}
 
@@ -58,5 +58,5 @@ unfolding FeaturesTaken
 features-taken f out h₁ h₂ room = record { first = omega arith; second = omega arith; room = omega arith }
 
 pub one-of-each : OneOfEach
-unfolding varintAt varintBytes badTag tag_at value_at tagBytes headBytes partBytes fieldBytes roleOf withTransport entry_at packedFrom judged addedAt readAt field_at fieldsFrom responseFrom responseWritten payloadOf envelopeOf envelopeWritten informationOf informationWritten featuresOf featuresWritten withString badPlace sequenceAt rowOf rows within
+unfolding varint_at varint_bytes bad_tag tag_at value_at tag_bytes head_bytes part_bytes field_bytes role_of with_transport entry_at packed_from judged added_at read_at field_at fields_from response_from response_written payload_of envelope_of envelope_written information_of information_written features_of features_written with_string bad_place sequence_at row_of rows within
 one-of-each = record { response = refl; envelope = refl; information = refl; features = refl }

@@ -13,12 +13,12 @@ use mir.Val.{SFits, to_z}
 use mir.Facts.{to_z_pos, to_z-neg}
 use Rattle.wire.specs.Told.{given}
 use Rattle.proto_field.specs.declared.value.Value.TheVariants.{Number, Bytes}
-use Rattle.proto_field.specs.Varint.{varintFrom, varintAt}
-use Rattle.proto_writer.specs.Varint.{digitsOf, varintBytes}
+use Rattle.proto_field.specs.Varint.{varint_from, varint_at}
+use Rattle.proto_writer.specs.Varint.{digits_of, varint_bytes}
 use Rattle.proto_field.specs.Signed.{signed_of, extended}
-use Rattle.proto_field.specs.Tag.{lastField, badTag, tag_at}
+use Rattle.proto_field.specs.Tag.{last_field, bad_tag, tag_at}
 use Rattle.proto_field.specs.Value.{value_at, bytes_of}
-use Rattle.proto_writer.specs.Writer.{tagBytes}
+use Rattle.proto_writer.specs.Writer.{tag_bytes}
 use Rattle.proto_field.proofs.Varints.{top}
 use Rattle.proto_writer.proofs.Varints.{varint-count}
 
@@ -58,22 +58,22 @@ cut {s} {at} {l} {rest} h a =
     }
 
 -- ---- varints
-digits-trip : (k v at : ℕ) (rest : List ℕ) → v < top k → varintFrom k at (digitsOf k v ++ rest) ≡ given (v, at + length (digitsOf k v))
+digits-trip : (k v at : ℕ) (rest : List ℕ) → v < top k → varint_from k at (digits_of k v ++ rest) ≡ given (v, at + length (digits_of k v))
 digits-trip zero v at rest t = rw (le-ltb 1 v (omega arith))
 digits-trip (suc k) v at rest t = by_size (dec_lt v 128) (λ h. digits-trip k (v / 128) (at + 1) rest h)
   where
     by_size : Dec (v < 128)
-        → (v / 128 < top k → varintFrom k (at + 1) (digitsOf k (v / 128) ++ rest) ≡ given (v / 128, at + 1 + length (digitsOf k (v / 128))))
-        → varintFrom (suc k) at (digitsOf (suc k) v ++ rest) ≡ given (v, at + length (digitsOf (suc k) v))
+        → (v / 128 < top k → varint_from k (at + 1) (digits_of k (v / 128) ++ rest) ≡ given (v / 128, at + 1 + length (digits_of k (v / 128))))
+        → varint_from (suc k) at (digits_of (suc k) v ++ rest) ≡ given (v, at + length (digits_of (suc k) v))
     by_size (yes h) f = rw (lt-ltb v 128 h, lt-ltb v 128 h)
     by_size (no n) f =
-        let place : at + 1 + length (digitsOf k (v / 128)) ≡ at + suc (length (digitsOf k (v / 128))) = omega arith in
+        let place : at + 1 + length (digits_of k (v / 128)) ≡ at + suc (length (digits_of k (v / 128))) = omega arith in
         let value : v % 128 + 128 - 128 + 128 * (v / 128) ≡ v = omega arith in
         rw (le-ltb v 128 (omega arith), le-ltb (v % 128 + 128) 128 (omega arith), f (omega arith), value, place)
 
-pub varint-trip : {s : List ℕ} {at : ℕ} {rest : List ℕ} (v : ℕ) → v < 2 ^ 64 → At s at (varintBytes v) rest → varintAt s at ≡ given (v, at + length (varintBytes v))
-unfolding varintAt varintBytes
-varint-trip {s} {at} {rest} v h a = ap (varintFrom 9 at) a.there ∙ digits-trip 9 v at rest h
+pub varint-trip : {s : List ℕ} {at : ℕ} {rest : List ℕ} (v : ℕ) → v < 2 ^ 64 → At s at (varint_bytes v) rest → varint_at s at ≡ given (v, at + length (varint_bytes v))
+unfolding varint_at varint_bytes
+varint-trip {s} {at} {rest} v h a = ap (varint_from 9 at) a.there ∙ digits-trip 9 v at rest h
 
 -- ---- signed numbers
 pub signed-trip : (z : ℤ) → SFits w32 z → signed_of (extended z) ≡ z
@@ -89,23 +89,23 @@ extended_fits (pos n) f = omega (arith, f.sfits)
 extended_fits (negsuc n) f = omega arith
 
 -- ---- tags and values
-pub tag-trip : {s : List ℕ} {at : ℕ} {rest : List ℕ} (f w : ℕ) → 1 ≤ f → f ≤ lastField → w ≤ 2 → At s at (tagBytes f w) rest
-    → tag_at s at ≡ given (record { field = f; wire = w; next = at + length (tagBytes f w) })
-unfolding tag_at tagBytes badTag
+pub tag-trip : {s : List ℕ} {at : ℕ} {rest : List ℕ} (f w : ℕ) → 1 ≤ f → f ≤ last_field → w ≤ 2 → At s at (tag_bytes f w) rest
+    → tag_at s at ≡ given (record { field = f; wire = w; next = at + length (tag_bytes f w) })
+unfolding tag_at tag_bytes bad_tag
 tag-trip {s} {at} f w h₁ h₂ h₃ a =
     let q : (f * 8 + w) / 8 ≡ f = omega arith in
     let r : (f * 8 + w) % 8 ≡ w = omega arith in
     rw (varint-trip (f * 8 + w) (omega arith) a, q, r, ne_eqb f 0 (λ e. omega arith), le-ltb 536870911 f h₂, le-leb w 2 h₃)
 
-pub number-trip : {s : List ℕ} {at : ℕ} {rest : List ℕ} (v : ℕ) → v < 2 ^ 64 → At s at (varintBytes v) rest → value_at s at 0 ≡ given (Number v, at + length (varintBytes v))
+pub number-trip : {s : List ℕ} {at : ℕ} {rest : List ℕ} (v : ℕ) → v < 2 ^ 64 → At s at (varint_bytes v) rest → value_at s at 0 ≡ given (Number v, at + length (varint_bytes v))
 unfolding value_at
 number-trip v h a = rw (varint-trip v h a)
 
-pub part-trip : {s : List ℕ} {at : ℕ} {rest : List ℕ} (l : List ℕ) → length l < 2 ^ 64 → At s at (varintBytes (length l) ++ l) rest
-    → value_at s at 2 ≡ given (Bytes (record { start = at + length (varintBytes (length l)); len = length l }), at + length (varintBytes (length l)) + length l)
+pub part-trip : {s : List ℕ} {at : ℕ} {rest : List ℕ} (l : List ℕ) → length l < 2 ^ 64 → At s at (varint_bytes (length l) ++ l) rest
+    → value_at s at 2 ≡ given (Bytes (record { start = at + length (varint_bytes (length l)); len = length l }), at + length (varint_bytes (length l)) + length l)
 unfolding value_at
 part-trip {s} {at} l h a =
-    let n = varintBytes (length l) in
+    let n = varint_bytes (length l) in
     rw (
       varint-trip (length l) h (front n l a),
       le-ltb (length s) (at + length n + length l) (omega (arith, inside a, inside (behind n l a), length-append n l, varint-count (length l))),

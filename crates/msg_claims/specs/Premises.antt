@@ -1,16 +1,16 @@
 -- The premises of the round trips from the other side: the facts of docs/FORMATS.md, in its own numbers, are enough for each of them. And each round trip once, by computation.
 use Rattle.std.specs.Prelude.{ℕ, ◌≤◌, ◌≡◌, List, [], ◌∷◌, ℤ, pos, negsuc, length, replicate}
 use Rattle.proto_field.specs.Signed.{extended}
-use Rattle.proto_writer.specs.Writer.{messageBytes}
+use Rattle.proto_writer.specs.Writer.{message_bytes}
 use Rattle.msg_control.specs.declared.response.ResponsePayload.TheVariants as Inner
 use Rattle.msg_control.specs.declared.envelope.EnvelopePayload.TheVariants as Sent
 use Rattle.utf8.specs.WellFormed.{WellFormed}
 use Rattle.msg_device.specs.declared.features.DeviceFeatures.{DeviceFeatures}
-use Rattle.msg_control.specs.Response.{responseFields, responseWritten}
-use Rattle.msg_control.specs.Envelope.{envelopeFields, envelopeWritten}
-use Rattle.msg_device.specs.Information.{informationFields, informationWritten}
-use Rattle.msg_device.specs.Features.{featuresFields, featuresWritten, featuresOf}
-use Rattle.msg_claims.specs.RoundTrip.{ReadsBack, ResponseWritable, responseAgain, EnvelopeWritable, envelopeAgain, InformationWritable, informationAgain, FeaturesWritable}
+use Rattle.msg_control.specs.Response.{response_fields, response_written}
+use Rattle.msg_control.specs.Envelope.{envelope_fields, envelope_written}
+use Rattle.msg_device.specs.Information.{information_fields, information_written}
+use Rattle.msg_device.specs.Features.{features_fields, features_written, features_of}
+use Rattle.msg_claims.specs.RoundTrip.{ReadsBack, ResponseWritable, response_again, EnvelopeWritable, envelope_again, InformationWritable, information_again, FeaturesWritable}
 
 -- from -2,147,483,648 to 2,147,483,647: negsuc n is -n - 1
 abbrev pub InSigned32 : ℤ → Type 0
@@ -27,50 +27,50 @@ Lendable out = length out ≤ 18446744073709551615
 
 -- a response with no payload, and with a member's number of 2 to 536,870,911
 pub record ResponsesTaken : Type 0 where
-  pub none : (code : ℤ) (body out : List ℕ) → InSigned32 code → Lendable out → length (messageBytes (responseFields (extended code) Inner.None body)) ≤ length out
+  pub none : (code : ℤ) (body out : List ℕ) → InSigned32 code → Lendable out → length (message_bytes (response_fields (extended code) Inner.None body)) ≤ length out
       → ResponseWritable code Inner.None body out
   pub member : (code : ℤ) (field : ℕ) (body out : List ℕ) → InSigned32 code → 2 ≤ field → field ≤ 536870911 → Lendable out
-      → length (messageBytes (responseFields (extended code) (Inner.Member field) body)) ≤ length out → ResponseWritable code (Inner.Member field) body out
+      → length (message_bytes (response_fields (extended code) (Inner.Member field) body)) ≤ length out → ResponseWritable code (Inner.Member field) body out
 
 -- an envelope with no payload, with each response, and with another member's number, which is not 9
 pub record EnvelopesTaken : Type 0 where
   pub none : (command : ℤ) (body out : List ℕ) → InSigned32 command → Lendable out
-      → length (messageBytes (envelopeFields (extended command) Sent.None body)) ≤ length out → EnvelopeWritable command Sent.None body out
+      → length (message_bytes (envelope_fields (extended command) Sent.None body)) ≤ length out → EnvelopeWritable command Sent.None body out
   pub response : (command code : ℤ) (body out : List ℕ) → InSigned32 command → InSigned32 code → Lendable out
-      → length (messageBytes (envelopeFields (extended command) (Sent.Response code Inner.None) body)) ≤ length out
+      → length (message_bytes (envelope_fields (extended command) (Sent.Response code Inner.None) body)) ≤ length out
       → EnvelopeWritable command (Sent.Response code Inner.None) body out
   pub response-member : (command code : ℤ) (field : ℕ) (body out : List ℕ) → InSigned32 command → InSigned32 code → 2 ≤ field → field ≤ 536870911 → Lendable out
-      → length (messageBytes (envelopeFields (extended command) (Sent.Response code (Inner.Member field)) body)) ≤ length out
+      → length (message_bytes (envelope_fields (extended command) (Sent.Response code (Inner.Member field)) body)) ≤ length out
       → EnvelopeWritable command (Sent.Response code (Inner.Member field)) body out
   pub member : (command : ℤ) (field : ℕ) (body out : List ℕ) → InSigned32 command → 2 ≤ field → field ≤ 536870911 → (field ≡ 9 → ⊥) → Lendable out
-      → length (messageBytes (envelopeFields (extended command) (Sent.Member field) body)) ≤ length out → EnvelopeWritable command (Sent.Member field) body out
+      → length (message_bytes (envelope_fields (extended command) (Sent.Member field) body)) ≤ length out → EnvelopeWritable command (Sent.Member field) body out
 
 -- device information with any strings that are well formed and at most eight transports
 unfoldable pub InformationTaken : Type 0
 InformationTaken =
-    (serialNumber name : List ℕ) (transports : List ℤ) (deviceType out : List ℕ) → AllInSigned32 transports → length transports ≤ 8
-    → WellFormed serialNumber → WellFormed name → WellFormed deviceType → Lendable out
-    → length (messageBytes (informationFields serialNumber name transports deviceType)) ≤ length out
-    → InformationWritable serialNumber name transports deviceType out
+    (serial_number name : List ℕ) (transports : List ℤ) (device_type out : List ℕ) → AllInSigned32 transports → length transports ≤ 8
+    → WellFormed serial_number → WellFormed name → WellFormed device_type → Lendable out
+    → length (message_bytes (information_fields serial_number name transports device_type)) ≤ length out
+    → InformationWritable serial_number name transports device_type out
 
 -- device features of 64 bits
 unfoldable pub FeaturesTaken : Type 0
 FeaturesTaken =
     (features : DeviceFeatures) (out : List ℕ) → features.features ≤ 18446744073709551615 → features.device_attributes ≤ 18446744073709551615
-    → length (messageBytes (featuresFields features)) ≤ length out → FeaturesWritable features out
+    → length (message_bytes (features_fields features)) ≤ length out → FeaturesWritable features out
 
 -- ---- by computation
 -- an output that held something before
 abbrev output : ℕ → List ℕ
 output n = replicate n 170
 
-abbrev someFeatures : DeviceFeatures
-someFeatures = record { features = 300; device_attributes = 1 }
+abbrev some_features : DeviceFeatures
+some_features = record { features = 300; device_attributes = 1 }
 
 -- each into an output of exactly its size: `08 FF .. FF 01 12 02 F0 F1`, `08 5E 4A 07 08 03 12 03 41 42 43`, `0A 01 58 1A 02 00 04`, `08 Ac 02 10 01`
 pub record OneOfEach : Type 0 where
-  pub response : ReadsBack (responseWritten (negsuc 0) (Inner.Member 2) (240 ∷ 241 ∷ []) (output 15)) responseAgain (negsuc 0, Inner.Member 2, 240 ∷ 241 ∷ [])
-  pub envelope : ReadsBack (envelopeWritten (pos 94) (Sent.Response (pos 3) (Inner.Member 2)) (65 ∷ 66 ∷ 67 ∷ []) (output 11)) envelopeAgain
+  pub response : ReadsBack (response_written (negsuc 0) (Inner.Member 2) (240 ∷ 241 ∷ []) (output 15)) response_again (negsuc 0, Inner.Member 2, 240 ∷ 241 ∷ [])
+  pub envelope : ReadsBack (envelope_written (pos 94) (Sent.Response (pos 3) (Inner.Member 2)) (65 ∷ 66 ∷ 67 ∷ []) (output 11)) envelope_again
       (pos 94, (Sent.Response (pos 3) (Inner.Member 2), 65 ∷ 66 ∷ 67 ∷ []))
-  pub information : ReadsBack (informationWritten (88 ∷ []) [] (pos 0 ∷ pos 4 ∷ []) [] (output 7)) informationAgain (88 ∷ [], [], pos 0 ∷ pos 4 ∷ [], [])
-  pub features : ReadsBack (featuresWritten someFeatures (output 5)) featuresOf someFeatures
+  pub information : ReadsBack (information_written (88 ∷ []) [] (pos 0 ∷ pos 4 ∷ []) [] (output 7)) information_again (88 ∷ [], [], pos 0 ∷ pos 4 ∷ [], [])
+  pub features : ReadsBack (features_written some_features (output 5)) features_of some_features

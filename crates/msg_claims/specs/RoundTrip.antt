@@ -4,9 +4,9 @@ use Rattle.std.specs.Int.{w32}
 use Rattle.std.proofs.Common.{SFits}
 use Rattle.wire.specs.Told.{Told, ToldOf, given, refused, and_then, Written, WrittenOf, written, ToldMore}
 use Rattle.proto_field.specs.Signed.{extended}
-use Rattle.proto_field.specs.Tag.{lastField}
+use Rattle.proto_field.specs.Tag.{last_field}
 use Rattle.proto_field.specs.Value.{bytes_of}
-use Rattle.proto_writer.specs.Writer.{messageBytes}
+use Rattle.proto_writer.specs.Writer.{message_bytes}
 use Rattle.msg_control.specs.declared.response.Response.{Response}
 use Rattle.msg_control.specs.declared.response.ResponsePayload.{ResponsePayload}
 use Rattle.msg_control.specs.declared.response.ResponsePayload.TheVariants as Inner
@@ -17,13 +17,13 @@ use Rattle.msg_control.specs.declared.envelope.EnvelopePayload.{EnvelopePayload}
 use Rattle.msg_control.specs.declared.envelope.EnvelopePayload.TheVariants as Sent
 use Rattle.msg_device.specs.declared.information.DeviceInformation.{DeviceInformation}
 use Rattle.msg_device.specs.declared.features.DeviceFeatures.{DeviceFeatures}
-use Rattle.proto_schema.specs.Schema.{responseField}
-use Rattle.proto_reader.specs.Gathered.{mostTransports}
-use Rattle.msg_control.specs.Response.{responseFrom, responseFields, responseWritten}
-use Rattle.msg_control.specs.Envelope.{envelopeOf, envelopeFields, envelopeWritten}
+use Rattle.proto_schema.specs.Schema.{response_field}
+use Rattle.proto_reader.specs.Gathered.{most_transports}
+use Rattle.msg_control.specs.Response.{response_from, response_fields, response_written}
+use Rattle.msg_control.specs.Envelope.{envelope_of, envelope_fields, envelope_written}
 use Rattle.proto_strings.specs.Texts.{AllWellFormed}
-use Rattle.msg_device.specs.Information.{informationOf, informationStrings, informationFields, informationWritten}
-use Rattle.msg_device.specs.Features.{featuresOf, featuresFields, featuresWritten}
+use Rattle.msg_device.specs.Information.{information_of, information_strings, information_fields, information_written}
+use Rattle.msg_device.specs.Features.{features_of, features_fields, features_written}
 
 -- a signed 32-bit number, a list of them, an output of the machine
 abbrev pub Signed32 : ℤ → Type 0
@@ -38,7 +38,7 @@ Lent out = length out < 2 ^ 64
 
 -- a member's number
 abbrev pub MemberNumber : ℕ → Type 0
-MemberNumber field = (2 ≤ field) × (field ≤ lastField)
+MemberNumber field = (2 ≤ field) × (field ≤ last_field)
 
 -- something was given, and P holds of it
 abbrev pub Gives : {N A : Type 0} → ToldOf N A → (A → Type 0) → Type 0
@@ -56,19 +56,19 @@ NoneRefused =
     × ((w : Written ℕ) (n : ℕ) (a : List ℕ) → ReadsBack w (λ s. refused n) a → ⊥)
 
 -- ---- the response: error code, payload and the payload's bytes
-abbrev pub innerPayload : ℕ → ResponsePayload
-innerPayload field = cond (eqb field 0) Inner.None (Inner.Member field)
+abbrev pub inner_payload : ℕ → ResponsePayload
+inner_payload field = cond (eqb field 0) Inner.None (Inner.Member field)
 
 -- the bytes that are written of those that are lent
-abbrev pub innerBytes : ResponsePayload → List ℕ → List ℕ
-innerBytes Inner.None body = []
-innerBytes (Inner.Member field) body = body
+abbrev pub inner_bytes : ResponsePayload → List ℕ → List ℕ
+inner_bytes Inner.None body = []
+inner_bytes (Inner.Member field) body = body
 
-abbrev pub responseContents : List ℕ → Response → ℤ × ResponsePayload × List ℕ
-responseContents s r = (r.error_code, innerPayload r.field, bytes_of s r.part)
+abbrev pub response_contents : List ℕ → Response → ℤ × ResponsePayload × List ℕ
+response_contents s r = (r.error_code, inner_payload r.field, bytes_of s r.part)
 
-abbrev pub responseAgain : List ℕ → Told (ℤ × ResponsePayload × List ℕ)
-responseAgain s = and_then (responseFrom s 0) (λ r. given (responseContents s r))
+abbrev pub response_again : List ℕ → Told (ℤ × ResponsePayload × List ℕ)
+response_again s = and_then (response_from s 0) (λ r. given (response_contents s r))
 
 abbrev pub InnerNumbered : ResponsePayload → Type 0
 InnerNumbered Inner.None = Unit {0}
@@ -79,29 +79,29 @@ pub record ResponseWritable (code : ℤ) (payload : ResponsePayload) (body out :
   pub signed : Signed32 code
   pub numbered : InnerNumbered payload
   pub lent : Lent out
-  pub room : length (messageBytes (responseFields (extended code) payload body)) ≤ length out
+  pub room : length (message_bytes (response_fields (extended code) payload body)) ≤ length out
 
 unfoldable pub ResponseRoundTrip : Type 0
 ResponseRoundTrip =
     (code : ℤ) (payload : ResponsePayload) (body out : List ℕ) → ResponseWritable code payload body out
-    → ReadsBack (responseWritten code payload body out) responseAgain (code, payload, innerBytes payload body)
+    → ReadsBack (response_written code payload body out) response_again (code, payload, inner_bytes payload body)
 
 -- ---- the envelope: command, payload and the payload's bytes
-abbrev pub payloadContents : List ℕ → Payload → EnvelopePayload × List ℕ
-payloadContents s Payload.None = (Sent.None, [])
-payloadContents s (Payload.Response r) = (Sent.Response r.error_code (innerPayload r.field), bytes_of s r.part)
-payloadContents s (Payload.Member field p) = (Sent.Member field, bytes_of s p)
+abbrev pub payload_contents : List ℕ → Payload → EnvelopePayload × List ℕ
+payload_contents s Payload.None = (Sent.None, [])
+payload_contents s (Payload.Response r) = (Sent.Response r.error_code (inner_payload r.field), bytes_of s r.part)
+payload_contents s (Payload.Member field p) = (Sent.Member field, bytes_of s p)
 
-abbrev pub payloadBytes : EnvelopePayload → List ℕ → List ℕ
-payloadBytes Sent.None body = []
-payloadBytes (Sent.Response code payload) body = innerBytes payload body
-payloadBytes (Sent.Member field) body = body
+abbrev pub payload_bytes : EnvelopePayload → List ℕ → List ℕ
+payload_bytes Sent.None body = []
+payload_bytes (Sent.Response code payload) body = inner_bytes payload body
+payload_bytes (Sent.Member field) body = body
 
-abbrev pub envelopeContents : List ℕ → Envelope → ℤ × (EnvelopePayload × List ℕ)
-envelopeContents s e = (e.command, payloadContents s e.payload)
+abbrev pub envelope_contents : List ℕ → Envelope → ℤ × (EnvelopePayload × List ℕ)
+envelope_contents s e = (e.command, payload_contents s e.payload)
 
-abbrev pub envelopeAgain : List ℕ → Told (ℤ × (EnvelopePayload × List ℕ))
-envelopeAgain s = and_then (envelopeOf s) (λ e. given (envelopeContents s e))
+abbrev pub envelope_again : List ℕ → Told (ℤ × (EnvelopePayload × List ℕ))
+envelope_again s = and_then (envelope_of s) (λ e. given (envelope_contents s e))
 
 abbrev pub CodeSigned32 : EnvelopePayload → Type 0
 CodeSigned32 Sent.None = Unit {0}
@@ -111,7 +111,7 @@ CodeSigned32 (Sent.Member field) = Unit {0}
 abbrev pub PayloadNumbered : EnvelopePayload → Type 0
 PayloadNumbered Sent.None = Unit {0}
 PayloadNumbered (Sent.Response code payload) = InnerNumbered payload
-PayloadNumbered (Sent.Member field) = MemberNumber field × (field ≡ responseField → ⊥)
+PayloadNumbered (Sent.Member field) = MemberNumber field × (field ≡ response_field → ⊥)
 
 -- what an envelope is written of
 pub record EnvelopeWritable (command : ℤ) (payload : EnvelopePayload) (body out : List ℕ) : Type 0 where
@@ -119,39 +119,39 @@ pub record EnvelopeWritable (command : ℤ) (payload : EnvelopePayload) (body ou
   pub code : CodeSigned32 payload
   pub numbered : PayloadNumbered payload
   pub lent : Lent out
-  pub room : length (messageBytes (envelopeFields (extended command) payload body)) ≤ length out
+  pub room : length (message_bytes (envelope_fields (extended command) payload body)) ≤ length out
 
 unfoldable pub EnvelopeRoundTrip : Type 0
 EnvelopeRoundTrip =
     (command : ℤ) (payload : EnvelopePayload) (body out : List ℕ) → EnvelopeWritable command payload body out
-    → ReadsBack (envelopeWritten command payload body out) envelopeAgain (command, (payload, payloadBytes payload body))
+    → ReadsBack (envelope_written command payload body out) envelope_again (command, (payload, payload_bytes payload body))
 
 -- ---- device information: the three strings and the transports
-abbrev pub informationContents : List ℕ → DeviceInformation → List ℕ × List ℕ × List ℤ × List ℕ
-informationContents s i = (bytes_of s i.serial_number, bytes_of s i.name, take i.count i.transports, bytes_of s i.device_type)
+abbrev pub information_contents : List ℕ → DeviceInformation → List ℕ × List ℕ × List ℤ × List ℕ
+information_contents s i = (bytes_of s i.serial_number, bytes_of s i.name, take i.count i.transports, bytes_of s i.device_type)
 
-abbrev pub informationAgain : List ℕ → ToldMore (List ℕ × List ℕ × List ℤ × List ℕ)
-informationAgain s = and_then (informationOf s) (λ i. given (informationContents s i))
+abbrev pub information_again : List ℕ → ToldMore (List ℕ × List ℕ × List ℤ × List ℕ)
+information_again s = and_then (information_of s) (λ i. given (information_contents s i))
 
 -- what device information is written of
-pub record InformationWritable (serialNumber name : List ℕ) (transports : List ℤ) (deviceType out : List ℕ) : Type 0 where
+pub record InformationWritable (serial_number name : List ℕ) (transports : List ℤ) (device_type out : List ℕ) : Type 0 where
   pub signed : AllSigned32 transports
-  pub most : length transports ≤ mostTransports
-  pub strings : AllWellFormed (informationStrings serialNumber name deviceType)
+  pub most : length transports ≤ most_transports
+  pub strings : AllWellFormed (information_strings serial_number name device_type)
   pub lent : Lent out
-  pub room : length (messageBytes (informationFields serialNumber name transports deviceType)) ≤ length out
+  pub room : length (message_bytes (information_fields serial_number name transports device_type)) ≤ length out
 
 unfoldable pub InformationRoundTrip : Type 0
 InformationRoundTrip =
-    (serialNumber name : List ℕ) (transports : List ℤ) (deviceType out : List ℕ) → InformationWritable serialNumber name transports deviceType out
-    → ReadsBack (informationWritten serialNumber name transports deviceType out) informationAgain (serialNumber, name, transports, deviceType)
+    (serial_number name : List ℕ) (transports : List ℤ) (device_type out : List ℕ) → InformationWritable serial_number name transports device_type out
+    → ReadsBack (information_written serial_number name transports device_type out) information_again (serial_number, name, transports, device_type)
 
 -- ---- device features: the two numbers
 -- what device features are written of
 pub record FeaturesWritable (features : DeviceFeatures) (out : List ℕ) : Type 0 where
   pub first : features.features < 2 ^ 64
   pub second : features.device_attributes < 2 ^ 64
-  pub room : length (messageBytes (featuresFields features)) ≤ length out
+  pub room : length (message_bytes (features_fields features)) ≤ length out
 
 unfoldable pub FeaturesRoundTrip : Type 0
-FeaturesRoundTrip = (features : DeviceFeatures) (out : List ℕ) → FeaturesWritable features out → ReadsBack (featuresWritten features out) featuresOf features
+FeaturesRoundTrip = (features : DeviceFeatures) (out : List ℕ) → FeaturesWritable features out → ReadsBack (features_written features out) features_of features

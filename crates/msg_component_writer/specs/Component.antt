@@ -2,8 +2,8 @@
 use Rattle.std.specs.Prelude.{ℕ, ◌+◌, Bool, ◌||◌, List, [], ◌∷◌, length, ltb}
 use Rattle.proto_field.specs.declared.value.Part.{Part}
 use Rattle.proto_field.specs.Value.{bytes_of}
-use Rattle.proto_writer.specs.Writer.{Field, scalar, text, nested, messageBytes}
-use Rattle.proto_schema.specs.Schema.{componentsField, firmwareComponentVersionField, firmwareComponentNameField, firmwareComponentSizeField, firmwareComponentSignatureField}
+use Rattle.proto_writer.specs.Writer.{Field, scalar, text, nested, message_bytes}
+use Rattle.proto_schema.specs.Schema.{components_field, firmware_component_version_field, firmware_component_name_field, firmware_component_size_field, firmware_component_signature_field}
 use Rattle.msg_firmware.specs.declared.component.FirmwareComponent.{FirmwareComponent}
 
 -- ---- writing, of parts of a lent text
@@ -11,18 +11,18 @@ use Rattle.msg_firmware.specs.declared.component.FirmwareComponent.{FirmwareComp
 unfoldable pub outside : List ℕ → Part → Bool
 outside texts p = ltb (length texts) (p.start + p.len)
 
-unfoldable pub badComponent : List ℕ → FirmwareComponent → Bool
-badComponent texts c = outside texts c.name || outside texts c.signature
+unfoldable pub bad_component : List ℕ → FirmwareComponent → Bool
+bad_component texts c = outside texts c.name || outside texts c.signature
 
 -- its strings, in writing order
-abbrev pub componentStrings : List ℕ → FirmwareComponent → List (ℕ × List ℕ)
-componentStrings texts c = (firmwareComponentNameField, bytes_of texts c.name) ∷ (firmwareComponentSignatureField, bytes_of texts c.signature) ∷ []
+abbrev pub component_strings : List ℕ → FirmwareComponent → List (ℕ × List ℕ)
+component_strings texts c = (firmware_component_name_field, bytes_of texts c.name) ∷ (firmware_component_signature_field, bytes_of texts c.signature) ∷ []
 
-abbrev pub componentFields : List ℕ → FirmwareComponent → List Field
-componentFields texts c =
-    scalar firmwareComponentVersionField c.version ∷ text firmwareComponentNameField (bytes_of texts c.name)
-    ∷ scalar firmwareComponentSizeField c.size ∷ text firmwareComponentSignatureField (bytes_of texts c.signature) ∷ []
+abbrev pub component_fields : List ℕ → FirmwareComponent → List Field
+component_fields texts c =
+    scalar firmware_component_version_field c.version ∷ text firmware_component_name_field (bytes_of texts c.name)
+    ∷ scalar firmware_component_size_field c.size ∷ text firmware_component_signature_field (bytes_of texts c.signature) ∷ []
 
 -- a component as a field of firmware information: it is written also where it is empty
-abbrev pub componentField : List ℕ → FirmwareComponent → Field
-componentField texts c = nested componentsField (messageBytes (componentFields texts c))
+abbrev pub component_field : List ℕ → FirmwareComponent → Field
+component_field texts c = nested components_field (message_bytes (component_fields texts c))

@@ -1,12 +1,12 @@
 // FirmwareComponent written, of parts of a lent text.
 ghost use Rattle.std.specs.Prelude.{◌≡◌, false, ◌+◌, ◌≤◌, ◌<◌, ◌^◌, length};
 ghost use Rattle.wire.specs.Put.{Put};
-ghost use Rattle.proto_field.specs.Tag.{lastField};
+ghost use Rattle.proto_field.specs.Tag.{last_field};
 ghost use Rattle.proto_field.specs.Value.{bytes_of};
-ghost use Rattle.proto_writer.specs.Writer.{text, fieldBytes, messageBytes};
-ghost use Rattle.proto_writer.specs.Message.{lessRoom};
-ghost use Rattle.msg_component_writer.specs.Component.{outside, badComponent, componentStrings, componentFields, componentField};
-ghost use Rattle.proto_strings.specs.Texts.{orText, faultFrom};
+ghost use Rattle.proto_writer.specs.Writer.{text, field_bytes, message_bytes};
+ghost use Rattle.proto_writer.specs.Message.{less_room};
+ghost use Rattle.msg_component_writer.specs.Component.{outside, bad_component, component_strings, component_fields, component_field};
+ghost use Rattle.proto_strings.specs.Texts.{or_text, fault_from};
 
 use msg_firmware::component::FirmwareComponent;
 use proto_field::value::Part;
@@ -31,7 +31,7 @@ pub fn is_outside(texts: &[u8], part: Part) -> bool
 
 // Whether a part of a component does not lie within the texts.
 pub fn bad_component(texts: &[u8], component: FirmwareComponent) -> bool
-    ensures { result ≡ badComponent texts.now component }
+    ensures { result ≡ bad_component texts.now component }
 {
     let name = component.name;
     let signature = component.signature;
@@ -40,8 +40,8 @@ pub fn bad_component(texts: &[u8], component: FirmwareComponent) -> bool
 
 // The number of bytes of a string that is a part of the texts.
 pub fn text_part_len(texts: &[u8], field: u64, part: Part) -> usize
-    requires { (field ≤ lastField) × (outside texts.now part ≡ false) }
-    ensures { result ≡ length (fieldBytes (text field (bytes_of texts.now part))) }
+    requires { (field ≤ last_field) × (outside texts.now part ≡ false) }
+    ensures { result ≡ length (field_bytes (text field (bytes_of texts.now part))) }
 {
     let start = part.start;
     let end = start + part.len;
@@ -50,10 +50,10 @@ pub fn text_part_len(texts: &[u8], field: u64, part: Part) -> usize
 
 // A string that is a part of the texts, written at a place; the answer is the place after it.
 pub fn put_text_part(out: &mut [u8], at: usize, texts: &[u8], field: u64, part: Part) -> usize
-    requires { (field ≤ lastField)
+    requires { (field ≤ last_field)
         × (outside texts.now part ≡ false)
-        × (at + length (fieldBytes (text field (bytes_of texts.now part))) ≤ length out.old) }
-    ensures { Put out.old at (fieldBytes (text field (bytes_of texts.now part))) result
+        × (at + length (field_bytes (text field (bytes_of texts.now part))) ≤ length out.old) }
+    ensures { Put out.old at (field_bytes (text field (bytes_of texts.now part))) result
         out.new }
 {
     let start = part.start;
@@ -64,7 +64,7 @@ pub fn put_text_part(out: &mut [u8], at: usize, texts: &[u8], field: u64, part: 
 // A string that is a part of the texts is judged, unless a fault was found before.
 pub fn text_part_fault(fault: TextFault, texts: &[u8], field: u64, part: Part) -> TextFault
     requires { outside texts.now part ≡ false }
-    ensures { result ≡ orText field (bytes_of texts.now part) fault }
+    ensures { result ≡ or_text field (bytes_of texts.now part) fault }
 {
     let start = part.start;
     let end = start + part.len;
@@ -73,8 +73,8 @@ pub fn text_part_fault(fault: TextFault, texts: &[u8], field: u64, part: Part) -
 
 // A component's strings are judged, unless a fault was found before.
 pub fn component_fault(fault: TextFault, texts: &[u8], component: FirmwareComponent) -> TextFault
-    requires { badComponent texts.now component ≡ false }
-    ensures { result ≡ faultFrom fault (componentStrings texts.now component) }
+    requires { bad_component texts.now component ≡ false }
+    ensures { result ≡ fault_from fault (component_strings texts.now component) }
 {
     let name = component.name;
     let signature = component.signature;
@@ -84,9 +84,9 @@ pub fn component_fault(fault: TextFault, texts: &[u8], component: FirmwareCompon
 
 // The room that a component's fields leave.
 fn component_room(len: usize, texts: &[u8], component: FirmwareComponent) -> Room
-    requires { badComponent texts.now component ≡ false }
+    requires { bad_component texts.now component ≡ false }
     ensures { result
-        ≡ lessRoom (length (messageBytes (componentFields texts.now component))) (Room.Left len) }
+        ≡ less_room (length (message_bytes (component_fields texts.now component))) (Room.Left len) }
 {
     let name = component.name;
     let signature = component.signature;
@@ -99,8 +99,8 @@ fn component_room(len: usize, texts: &[u8], component: FirmwareComponent) -> Roo
 
 // The room that a component leaves as a field of firmware information.
 pub fn component_field_room(room: Room, texts: &[u8], component: FirmwareComponent) -> Room
-    requires { badComponent texts.now component ≡ false }
-    ensures { result ≡ lessRoom (length (fieldBytes (componentField texts.now component))) room }
+    requires { bad_component texts.now component ≡ false }
+    ensures { result ≡ less_room (length (field_bytes (component_field texts.now component))) room }
 {
     match room {
         Room::Short => Room::Short,
@@ -116,9 +116,9 @@ pub fn component_field_room(room: Room, texts: &[u8], component: FirmwareCompone
 
 // The number of bytes of a component's fields.
 fn component_len(texts: &[u8], component: FirmwareComponent) -> usize
-    requires { (badComponent texts.now component ≡ false)
-        × (length (messageBytes (componentFields texts.now component)) < 2 ^ 64) }
-    ensures { result ≡ length (messageBytes (componentFields texts.now component)) }
+    requires { (bad_component texts.now component ≡ false)
+        × (length (message_bytes (component_fields texts.now component)) < 2 ^ 64) }
+    ensures { result ≡ length (message_bytes (component_fields texts.now component)) }
 {
     let name = component.name;
     let signature = component.signature;
@@ -136,9 +136,9 @@ fn put_component_fields(
     texts: &[u8],
     component: FirmwareComponent,
 ) -> usize
-    requires { (badComponent texts.now component ≡ false)
-        × (at + length (messageBytes (componentFields texts.now component)) ≤ length out.old) }
-    ensures { Put out.old at (messageBytes (componentFields texts.now component)) result
+    requires { (bad_component texts.now component ≡ false)
+        × (at + length (message_bytes (component_fields texts.now component)) ≤ length out.old) }
+    ensures { Put out.old at (message_bytes (component_fields texts.now component)) result
         out.new }
 {
     let name = component.name;
@@ -156,9 +156,9 @@ fn put_component_fields(
 
 // A component as a field of firmware information, written at a place; the answer is the place after it.
 pub fn put_component(out: &mut [u8], at: usize, texts: &[u8], component: FirmwareComponent) -> usize
-    requires { (badComponent texts.now component ≡ false)
-        × (at + length (fieldBytes (componentField texts.now component)) ≤ length out.old) }
-    ensures { Put out.old at (fieldBytes (componentField texts.now component)) result
+    requires { (bad_component texts.now component ≡ false)
+        × (at + length (field_bytes (component_field texts.now component)) ≤ length out.old) }
+    ensures { Put out.old at (field_bytes (component_field texts.now component)) result
         out.new }
 {
     let len = component_len(texts, component);

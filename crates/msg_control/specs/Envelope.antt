@@ -2,7 +2,7 @@
 use Rattle.std.specs.Prelude.{ℕ, ◌+◌, Bool, false, cond, ◌||◌, List, [], ◌∷◌, ℤ, get_or, take, eqb}
 use Rattle.wire.specs.Told.{Told, given, refused, and_then, Written}
 use Rattle.proto_field.specs.Signed.{signed_of, extended}
-use Rattle.proto_writer.specs.Writer.{Field, scalar, nested, messageBytes}
+use Rattle.proto_writer.specs.Writer.{Field, scalar, nested, message_bytes}
 use Rattle.proto_field.specs.declared.value.Part.{Part}
 use Rattle.proto_reader.specs.declared.gathered.Gathered.{Gathered}
 use Rattle.proto_schema.specs.declared.Schema.TheVariants as Schema
@@ -15,59 +15,59 @@ use Rattle.msg_control.specs.declared.envelope.EnvelopeRead.{EnvelopeRead}
 use Rattle.msg_control.specs.declared.envelope.EnvelopeRead.TheVariants as EnvelopeRead
 use Rattle.msg_control.specs.declared.envelope.EnvelopePayload.{EnvelopePayload}
 use Rattle.msg_control.specs.declared.envelope.EnvelopePayload.TheVariants as Sent
-use Rattle.proto_schema.specs.Schema.{commandField, responseField, first}
-use Rattle.proto_reader.specs.Refusal.{messageNumber, numbered}
-use Rattle.proto_reader.specs.Walk.{fieldsFrom}
-use Rattle.proto_writer.specs.Message.{writesMessage, badMember}
-use Rattle.msg_control.specs.Response.{responseFrom, responseParts, responseFields, badResponsePayload}
+use Rattle.proto_schema.specs.Schema.{command_field, response_field, first}
+use Rattle.proto_reader.specs.Refusal.{message_number, numbered}
+use Rattle.proto_reader.specs.Walk.{fields_from}
+use Rattle.proto_writer.specs.Message.{writes_message, bad_member}
+use Rattle.msg_control.specs.Response.{response_from, response_parts, response_fields, bad_response_payload}
 
 -- the payload by the member that was gathered: none, the response within its part, or another
-unfoldable pub payloadOf : List ℕ → Gathered → Told Payload
-payloadOf s g =
+unfoldable pub payload_of : List ℕ → Gathered → Told Payload
+payload_of s g =
     cond (eqb g.field 0) (given Payload.None)
-    (cond (eqb g.field responseField)
-    (and_then (responseFrom (take (g.part.start + g.part.len) s) g.part.start) (λ r. given (Payload.Response r)))
+    (cond (eqb g.field response_field)
+    (and_then (response_from (take (g.part.start + g.part.len) s) g.part.start) (λ r. given (Payload.Response r)))
     (given (Payload.Member g.field g.part)))
 
 -- an envelope: it is read through before its response
-unfoldable pub envelopeOf : List ℕ → Told Envelope
-envelopeOf s =
-    and_then (numbered (fieldsFrom Schema.Envelope s 0)) (λ g.
-    and_then (payloadOf s g) (λ p. given (record { command = signed_of (get_or g.scalars first 0); payload = p })))
+unfoldable pub envelope_of : List ℕ → Told Envelope
+envelope_of s =
+    and_then (numbered (fields_from Schema.Envelope s 0)) (λ g.
+    and_then (payload_of s g) (λ p. given (record { command = signed_of (get_or g.scalars first 0); payload = p })))
 
 -- the answers of read_payload and read_envelope
-abbrev pub toldPayload : PayloadRead → Told Payload
-toldPayload (PayloadRead.Read p) = given p
-toldPayload (PayloadRead.Refused e) = refused (messageNumber e)
+abbrev pub told_payload : PayloadRead → Told Payload
+told_payload (PayloadRead.Read p) = given p
+told_payload (PayloadRead.Refused e) = refused (message_number e)
 
-abbrev pub toldEnvelope : EnvelopeRead → Told Envelope
-toldEnvelope (EnvelopeRead.Read e) = given e
-toldEnvelope (EnvelopeRead.Refused e) = refused (messageNumber e)
+abbrev pub told_envelope : EnvelopeRead → Told Envelope
+told_envelope (EnvelopeRead.Read e) = given e
+told_envelope (EnvelopeRead.Refused e) = refused (message_number e)
 
 -- the parts that a payload and an envelope tell
-abbrev pub payloadParts : Payload → List Part
-payloadParts Payload.None = []
-payloadParts (Payload.Response r) = responseParts r
-payloadParts (Payload.Member field p) = p ∷ []
+abbrev pub payload_parts : Payload → List Part
+payload_parts Payload.None = []
+payload_parts (Payload.Response r) = response_parts r
+payload_parts (Payload.Member field p) = p ∷ []
 
-abbrev pub envelopeParts : Envelope → List Part
-envelopeParts e = payloadParts e.payload
+abbrev pub envelope_parts : Envelope → List Part
+envelope_parts e = payload_parts e.payload
 
 -- the fields of an envelope, by the varint's value of its command and its payload
-abbrev pub payloadFields : EnvelopePayload → List ℕ → List Field
-payloadFields Sent.None body = []
-payloadFields (Sent.Response code payload) body = nested responseField (messageBytes (responseFields (extended code) payload body)) ∷ []
-payloadFields (Sent.Member field) body = nested field body ∷ []
+abbrev pub payload_fields : EnvelopePayload → List ℕ → List Field
+payload_fields Sent.None body = []
+payload_fields (Sent.Response code payload) body = nested response_field (message_bytes (response_fields (extended code) payload body)) ∷ []
+payload_fields (Sent.Member field) body = nested field body ∷ []
 
-abbrev pub envelopeFields : ℕ → EnvelopePayload → List ℕ → List Field
-envelopeFields command payload body = scalar commandField command ∷ payloadFields payload body
+abbrev pub envelope_fields : ℕ → EnvelopePayload → List ℕ → List Field
+envelope_fields command payload body = scalar command_field command ∷ payload_fields payload body
 
 -- a payload with which no envelope is written
-abbrev pub badPayload : EnvelopePayload → Bool
-badPayload Sent.None = false
-badPayload (Sent.Response code payload) = badResponsePayload payload
-badPayload (Sent.Member field) = badMember field || eqb field responseField
+abbrev pub bad_payload : EnvelopePayload → Bool
+bad_payload Sent.None = false
+bad_payload (Sent.Response code payload) = bad_response_payload payload
+bad_payload (Sent.Member field) = bad_member field || eqb field response_field
 
 -- an envelope written
-unfoldable pub envelopeWritten : ℤ → EnvelopePayload → List ℕ → List ℕ → Written ℕ
-envelopeWritten command payload body out = writesMessage (badPayload payload) (envelopeFields (extended command) payload body) out
+unfoldable pub envelope_written : ℤ → EnvelopePayload → List ℕ → List ℕ → Written ℕ
+envelope_written command payload body out = writes_message (bad_payload payload) (envelope_fields (extended command) payload body) out

@@ -11,41 +11,41 @@ use Rattle.msg_control.specs.declared.response.ResponseRead.{ResponseRead}
 use Rattle.msg_control.specs.declared.response.ResponseRead.TheVariants.{Read, Refused}
 use Rattle.msg_control.specs.declared.response.ResponsePayload.{ResponsePayload}
 use Rattle.msg_control.specs.declared.response.ResponsePayload.TheVariants.{None, Member}
-use Rattle.proto_schema.specs.Schema.{errorCodeField, first}
-use Rattle.proto_reader.specs.Refusal.{messageNumber, numbered}
-use Rattle.proto_reader.specs.Walk.{fieldsFrom}
-use Rattle.proto_writer.specs.Message.{writesMessage, badMember}
+use Rattle.proto_schema.specs.Schema.{error_code_field, first}
+use Rattle.proto_reader.specs.Refusal.{message_number, numbered}
+use Rattle.proto_reader.specs.Walk.{fields_from}
+use Rattle.proto_writer.specs.Message.{writes_message, bad_member}
 
 -- the response that was gathered
-abbrev pub responseMade : Gathered → Response
-responseMade g = record { error_code = signed_of (get_or g.scalars first 0); field = g.field; part = g.part }
+abbrev pub response_made : Gathered → Response
+response_made g = record { error_code = signed_of (get_or g.scalars first 0); field = g.field; part = g.part }
 
 -- the response from a place to the end
-unfoldable pub responseFrom : List ℕ → ℕ → Told Response
-responseFrom s at = and_then (numbered (fieldsFrom Schema.Response s at)) (λ g. given (responseMade g))
+unfoldable pub response_from : List ℕ → ℕ → Told Response
+response_from s at = and_then (numbered (fields_from Schema.Response s at)) (λ g. given (response_made g))
 
 -- the answers of response_from and read_response
-abbrev pub toldResponse : ResponseRead → Told Response
-toldResponse (Read r) = given r
-toldResponse (Refused e) = refused (messageNumber e)
+abbrev pub told_response : ResponseRead → Told Response
+told_response (Read r) = given r
+told_response (Refused e) = refused (message_number e)
 
 -- the part that a response tells
-abbrev pub responseParts : Response → List Part
-responseParts r = r.part ∷ []
+abbrev pub response_parts : Response → List Part
+response_parts r = r.part ∷ []
 
 -- the fields of a response, by the varint's value of its error code and its optional payload
-abbrev pub responsePayloadFields : ResponsePayload → List ℕ → List Field
-responsePayloadFields None body = []
-responsePayloadFields (Member field) body = nested field body ∷ []
+abbrev pub response_payload_fields : ResponsePayload → List ℕ → List Field
+response_payload_fields None body = []
+response_payload_fields (Member field) body = nested field body ∷ []
 
-abbrev pub responseFields : ℕ → ResponsePayload → List ℕ → List Field
-responseFields code payload body = scalar errorCodeField code ∷ responsePayloadFields payload body
+abbrev pub response_fields : ℕ → ResponsePayload → List ℕ → List Field
+response_fields code payload body = scalar error_code_field code ∷ response_payload_fields payload body
 
 -- a payload with which no response is written
-abbrev pub badResponsePayload : ResponsePayload → Bool
-badResponsePayload None = false
-badResponsePayload (Member field) = badMember field
+abbrev pub bad_response_payload : ResponsePayload → Bool
+bad_response_payload None = false
+bad_response_payload (Member field) = bad_member field
 
 -- a response written
-unfoldable pub responseWritten : ℤ → ResponsePayload → List ℕ → List ℕ → Written ℕ
-responseWritten code payload body out = writesMessage (badResponsePayload payload) (responseFields (extended code) payload body) out
+unfoldable pub response_written : ℤ → ResponsePayload → List ℕ → List ℕ → Written ℕ
+response_written code payload body out = writes_message (bad_response_payload payload) (response_fields (extended code) payload body) out

@@ -3,9 +3,9 @@ ghost use Rattle.std.specs.Prelude.{◌≡◌, ◌+◌, ◌≤◌, length, false
 ghost use Rattle.wire.specs.Told.{written};
 ghost use Rattle.wire.specs.Put.{Put};
 ghost use Rattle.proto_field.specs.Value.{TellsWithin};
-ghost use Rattle.proto_writer.specs.Writer.{messageBytes};
-ghost use Rattle.msg_control.specs.Envelope.{payloadOf, toldPayload, envelopeOf, toldEnvelope, payloadParts, envelopeParts, badPayload, payloadFields, envelopeWritten};
-ghost use Rattle.proto_writer.specs.Message.{toldWrote};
+ghost use Rattle.proto_writer.specs.Writer.{message_bytes};
+ghost use Rattle.msg_control.specs.Envelope.{payload_of, told_payload, envelope_of, told_envelope, payload_parts, envelope_parts, bad_payload, payload_fields, envelope_written};
+ghost use Rattle.proto_writer.specs.Message.{told_wrote};
 
 use crate::response::{
     Response, ResponsePayload, ResponseRead, bad_response_payload, put_response, response_from,
@@ -59,8 +59,8 @@ pub enum EnvelopePayload {
 // The payload by the member that was gathered.
 fn read_payload(message: &[u8], gathered: Gathered) -> PayloadRead
     requires { gathered.part.start + gathered.part.len ≤ length message.now }
-    ensures result_value { toldPayload result ≡ payloadOf message.now gathered }
-    ensures tells_within { TellsWithin message.now payloadParts (toldPayload result) }
+    ensures result_value { told_payload result ≡ payload_of message.now gathered }
+    ensures tells_within { TellsWithin message.now payload_parts (told_payload result) }
 {
     let field = gathered.field;
     let part = gathered.part;
@@ -80,8 +80,8 @@ fn read_payload(message: &[u8], gathered: Gathered) -> PayloadRead
 
 // A control envelope.
 pub fn read_envelope(message: &[u8]) -> EnvelopeRead
-    ensures result_value { toldEnvelope result ≡ envelopeOf message.now }
-    ensures tells_within { TellsWithin message.now envelopeParts (toldEnvelope result) }
+    ensures result_value { told_envelope result ≡ envelope_of message.now }
+    ensures tells_within { TellsWithin message.now envelope_parts (told_envelope result) }
 {
     let kept = read_fields(Schema::Envelope, message, 0);
     let verdict = kept.verdict;
@@ -100,7 +100,7 @@ pub fn read_envelope(message: &[u8]) -> EnvelopeRead
 
 // Whether no envelope is written with this payload.
 fn bad_payload(payload: EnvelopePayload) -> bool
-    ensures { result ≡ badPayload payload }
+    ensures { result ≡ bad_payload payload }
 {
     match payload {
         EnvelopePayload::None => false,
@@ -114,8 +114,8 @@ fn bad_payload(payload: EnvelopePayload) -> bool
 
 // The number of bytes of an envelope's payload.
 fn payload_len(payload: EnvelopePayload, body: &[u8]) -> usize
-    requires { badPayload payload ≡ false }
-    ensures { (result ≡ length (messageBytes (payloadFields payload body.now)))
+    requires { bad_payload payload ≡ false }
+    ensures { (result ≡ length (message_bytes (payload_fields payload body.now)))
         × (result ≤ 60 + length body.now) }
 {
     match payload {
@@ -133,9 +133,9 @@ fn payload_len(payload: EnvelopePayload, body: &[u8]) -> usize
 
 // An envelope's payload, written at a place; the answer is the place after it.
 fn put_payload(out: &mut [u8], at: usize, payload: EnvelopePayload, body: &[u8]) -> usize
-    requires { (badPayload payload ≡ false)
-        × (at + length (messageBytes (payloadFields payload body.now)) ≤ length out.old) }
-    ensures { Put out.old at (messageBytes (payloadFields payload body.now)) result
+    requires { (bad_payload payload ≡ false)
+        × (at + length (message_bytes (payload_fields payload body.now)) ≤ length out.old) }
+    ensures { Put out.old at (message_bytes (payload_fields payload body.now)) result
         out.new }
 {
     match payload {
@@ -155,8 +155,8 @@ fn put_payload(out: &mut [u8], at: usize, payload: EnvelopePayload, body: &[u8])
 
 // Writes a control envelope.
 pub fn write_envelope(out: &mut [u8], command: i32, payload: EnvelopePayload, body: &[u8]) -> Wrote
-    ensures { written (toldWrote result) out.new
-        ≡ envelopeWritten command payload body.now out.old }
+    ensures { written (told_wrote result) out.new
+        ≡ envelope_written command payload body.now out.old }
 {
     if bad_payload(payload) {
         return Wrote::Refused(WriteRefusal::BadArgument);

@@ -3,9 +3,9 @@ ghost use Rattle.std.specs.Prelude.{◌≡◌, ◌+◌, ◌≤◌, length, false
 ghost use Rattle.wire.specs.Told.{written};
 ghost use Rattle.wire.specs.Put.{Put};
 ghost use Rattle.proto_field.specs.Value.{TellsWithin};
-ghost use Rattle.proto_writer.specs.Writer.{messageBytes};
-ghost use Rattle.msg_control.specs.Response.{responseFrom, toldResponse, responseParts, badResponsePayload, responsePayloadFields, responseFields, responseWritten};
-ghost use Rattle.proto_writer.specs.Message.{toldWrote};
+ghost use Rattle.proto_writer.specs.Writer.{message_bytes};
+ghost use Rattle.msg_control.specs.Response.{response_from, told_response, response_parts, bad_response_payload, response_payload_fields, response_fields, response_written};
+ghost use Rattle.proto_writer.specs.Message.{told_wrote};
 
 use proto_field::signed::{low_signed, sign_extended};
 use proto_field::value::Part;
@@ -38,8 +38,8 @@ pub enum ResponsePayload {
 
 // The response from a place to the end.
 pub(crate) fn response_from(message: &[u8], at: usize) -> ResponseRead
-    ensures result_value { toldResponse result ≡ responseFrom message.now at }
-    ensures tells_within { TellsWithin message.now responseParts (toldResponse result) }
+    ensures result_value { told_response result ≡ response_from message.now at }
+    ensures tells_within { TellsWithin message.now response_parts (told_response result) }
 {
     let kept = read_fields(Schema::Response, message, at);
     let verdict = kept.verdict;
@@ -59,15 +59,15 @@ pub(crate) fn response_from(message: &[u8], at: usize) -> ResponseRead
 
 // A response by itself.
 pub fn read_response(message: &[u8]) -> ResponseRead
-    ensures result_value { toldResponse result ≡ responseFrom message.now 0 }
-    ensures tells_within { TellsWithin message.now responseParts (toldResponse result) }
+    ensures result_value { told_response result ≡ response_from message.now 0 }
+    ensures tells_within { TellsWithin message.now response_parts (told_response result) }
 {
     response_from(message, 0)
 }
 
 // Whether no response is written with this payload.
 pub(crate) fn bad_response_payload(payload: ResponsePayload) -> bool
-    ensures { result ≡ badResponsePayload payload }
+    ensures { result ≡ bad_response_payload payload }
 {
     match payload {
         ResponsePayload::None => false,
@@ -77,8 +77,8 @@ pub(crate) fn bad_response_payload(payload: ResponsePayload) -> bool
 
 // The number of bytes of a response's payload.
 fn response_payload_len(payload: ResponsePayload, body: &[u8]) -> usize
-    requires { badResponsePayload payload ≡ false }
-    ensures { (result ≡ length (messageBytes (responsePayloadFields payload body.now)))
+    requires { bad_response_payload payload ≡ false }
+    ensures { (result ≡ length (message_bytes (response_payload_fields payload body.now)))
         × (result ≤ 20 + length body.now) }
 {
     match payload {
@@ -89,9 +89,9 @@ fn response_payload_len(payload: ResponsePayload, body: &[u8]) -> usize
 
 // A response's payload, written at a place; the answer is the place after it.
 fn put_response_payload(out: &mut [u8], at: usize, payload: ResponsePayload, body: &[u8]) -> usize
-    requires { (badResponsePayload payload ≡ false)
-        × (at + length (messageBytes (responsePayloadFields payload body.now)) ≤ length out.old) }
-    ensures { Put out.old at (messageBytes (responsePayloadFields payload body.now)) result
+    requires { (bad_response_payload payload ≡ false)
+        × (at + length (message_bytes (response_payload_fields payload body.now)) ≤ length out.old) }
+    ensures { Put out.old at (message_bytes (response_payload_fields payload body.now)) result
         out.new }
 {
     match payload {
@@ -102,8 +102,8 @@ fn put_response_payload(out: &mut [u8], at: usize, payload: ResponsePayload, bod
 
 // The number of bytes of a response; code is the varint's value of its error code.
 pub(crate) fn response_len(code: u64, payload: ResponsePayload, body: &[u8]) -> usize
-    requires { badResponsePayload payload ≡ false }
-    ensures { (result ≡ length (messageBytes (responseFields code payload body.now)))
+    requires { bad_response_payload payload ≡ false }
+    ensures { (result ≡ length (message_bytes (response_fields code payload body.now)))
         × (result ≤ 40 + length body.now) }
 {
     scalar_len(ERROR_CODE, code) + response_payload_len(payload, body)
@@ -117,9 +117,9 @@ pub(crate) fn put_response(
     payload: ResponsePayload,
     body: &[u8],
 ) -> usize
-    requires { (badResponsePayload payload ≡ false)
-        × (at + length (messageBytes (responseFields code payload body.now)) ≤ length out.old) }
-    ensures { Put out.old at (messageBytes (responseFields code payload body.now)) result
+    requires { (bad_response_payload payload ≡ false)
+        × (at + length (message_bytes (response_fields code payload body.now)) ≤ length out.old) }
+    ensures { Put out.old at (message_bytes (response_fields code payload body.now)) result
         out.new }
 {
     let next = put_scalar(out, at, ERROR_CODE, code);
@@ -133,8 +133,8 @@ pub fn write_response(
     payload: ResponsePayload,
     body: &[u8],
 ) -> Wrote
-    ensures { written (toldWrote result) out.new
-        ≡ responseWritten error_code payload body.now out.old }
+    ensures { written (told_wrote result) out.new
+        ≡ response_written error_code payload body.now out.old }
 {
     if bad_response_payload(payload) {
         return Wrote::Refused(WriteRefusal::BadArgument);

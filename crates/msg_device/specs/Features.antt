@@ -7,27 +7,27 @@ use Rattle.proto_schema.specs.declared.Schema.TheVariants as Schema
 use Rattle.msg_device.specs.declared.features.DeviceFeatures.{DeviceFeatures}
 use Rattle.msg_device.specs.declared.features.FeaturesRead.{FeaturesRead}
 use Rattle.msg_device.specs.declared.features.FeaturesRead.TheVariants.{Read, Refused}
-use Rattle.proto_schema.specs.Schema.{featuresField, deviceAttributesField, first, second}
-use Rattle.proto_reader.specs.Refusal.{messageNumber, numbered}
-use Rattle.proto_reader.specs.Walk.{fieldsFrom}
-use Rattle.proto_writer.specs.Message.{writesMessage}
+use Rattle.proto_schema.specs.Schema.{features_field, device_attributes_field, first, second}
+use Rattle.proto_reader.specs.Refusal.{message_number, numbered}
+use Rattle.proto_reader.specs.Walk.{fields_from}
+use Rattle.proto_writer.specs.Message.{writes_message}
 
 -- the features that were gathered
-abbrev pub featuresMade : Gathered → DeviceFeatures
-featuresMade g = record { features = get_or g.scalars first 0; device_attributes = get_or g.scalars second 0 }
+abbrev pub features_made : Gathered → DeviceFeatures
+features_made g = record { features = get_or g.scalars first 0; device_attributes = get_or g.scalars second 0 }
 
-unfoldable pub featuresOf : List ℕ → Told DeviceFeatures
-featuresOf s = and_then (numbered (fieldsFrom Schema.Features s 0)) (λ g. given (featuresMade g))
+unfoldable pub features_of : List ℕ → Told DeviceFeatures
+features_of s = and_then (numbered (fields_from Schema.Features s 0)) (λ g. given (features_made g))
 
 -- the answers of read_features
-abbrev pub toldFeatures : FeaturesRead → Told DeviceFeatures
-toldFeatures (Read f) = given f
-toldFeatures (Refused e) = refused (messageNumber e)
+abbrev pub told_features : FeaturesRead → Told DeviceFeatures
+told_features (Read f) = given f
+told_features (Refused e) = refused (message_number e)
 
 -- the fields of device features
-abbrev pub featuresFields : DeviceFeatures → List Field
-featuresFields f = scalar featuresField f.features ∷ scalar deviceAttributesField f.device_attributes ∷ []
+abbrev pub features_fields : DeviceFeatures → List Field
+features_fields f = scalar features_field f.features ∷ scalar device_attributes_field f.device_attributes ∷ []
 
 -- device features written
-unfoldable pub featuresWritten : DeviceFeatures → List ℕ → Written ℕ
-featuresWritten f out = writesMessage false (featuresFields f) out
+unfoldable pub features_written : DeviceFeatures → List ℕ → Written ℕ
+features_written f out = writes_message false (features_fields f) out

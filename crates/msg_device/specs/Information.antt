@@ -8,15 +8,15 @@ use Rattle.proto_reader.specs.declared.gathered.Gathered.{Gathered}
 use Rattle.proto_schema.specs.declared.Schema.TheVariants as Schema
 use Rattle.msg_device.specs.declared.information.DeviceInformation.{DeviceInformation}
 use Rattle.msg_device.specs.declared.information.InformationRead.{InformationRead}
-use Rattle.proto_schema.specs.Schema.{serialNumberField, nameField, transportsField, deviceTypeField, first, second, third}
-use Rattle.proto_reader.specs.Gathered.{mostTransports, no_part}
-use Rattle.proto_reader.specs.Refusal.{judgedAs}
-use Rattle.proto_reader.specs.Walk.{fieldsFrom}
-use Rattle.proto_strings.specs.Texts.{writesTexts}
+use Rattle.proto_schema.specs.Schema.{serial_number_field, name_field, transports_field, device_type_field, first, second, third}
+use Rattle.proto_reader.specs.Gathered.{most_transports, no_part}
+use Rattle.proto_reader.specs.Refusal.{judged_as}
+use Rattle.proto_reader.specs.Walk.{fields_from}
+use Rattle.proto_strings.specs.Texts.{writes_texts}
 
 -- the information that was gathered
-abbrev pub informationMade : Gathered → DeviceInformation
-informationMade g =
+abbrev pub information_made : Gathered → DeviceInformation
+information_made g =
     record {
       serial_number = get_or g.texts first no_part;
       name = get_or g.texts second no_part;
@@ -25,35 +25,35 @@ informationMade g =
       device_type = get_or g.texts third no_part;
     }
 
-abbrev pub noInformation : DeviceInformation
-noInformation =
-    record { serial_number = no_part; name = no_part; transports = replicate mostTransports (pos 0); count = 0; device_type = no_part }
+abbrev pub no_information : DeviceInformation
+no_information =
+    record { serial_number = no_part; name = no_part; transports = replicate most_transports (pos 0); count = 0; device_type = no_part }
 
-unfoldable pub informationOf : List ℕ → ToldMore DeviceInformation
-informationOf s = and_then (fieldsFrom Schema.Information s 0) (λ g. given (informationMade g))
+unfoldable pub information_of : List ℕ → ToldMore DeviceInformation
+information_of s = and_then (fields_from Schema.Information s 0) (λ g. given (information_made g))
 
 -- an answer of read_information: what it tells, and the information beside it, which is empty where it is refused
-abbrev pub toldInformation : InformationRead → ToldMore DeviceInformation × DeviceInformation
-toldInformation r = (judgedAs r.verdict r.information, r.information)
+abbrev pub told_information : InformationRead → ToldMore DeviceInformation × DeviceInformation
+told_information r = (judged_as r.verdict r.information, r.information)
 
-abbrev pub withInformation : ToldMore DeviceInformation → ToldMore DeviceInformation × DeviceInformation
-withInformation (given i) = (given i, i)
-withInformation (refused n) = (refused n, noInformation)
+abbrev pub with_information : ToldMore DeviceInformation → ToldMore DeviceInformation × DeviceInformation
+with_information (given i) = (given i, i)
+with_information (refused n) = (refused n, no_information)
 
 -- the parts that it tells
-abbrev pub informationParts : DeviceInformation → List Part
-informationParts i = i.serial_number ∷ i.name ∷ i.device_type ∷ []
+abbrev pub information_parts : DeviceInformation → List Part
+information_parts i = i.serial_number ∷ i.name ∷ i.device_type ∷ []
 
 -- the fields of device information
-abbrev pub informationFields : List ℕ → List ℕ → List ℤ → List ℕ → List Field
-informationFields serialNumber name transports deviceType =
-    text serialNumberField serialNumber ∷ text nameField name ∷ packed transportsField (map extended transports) ∷ text deviceTypeField deviceType ∷ []
+abbrev pub information_fields : List ℕ → List ℕ → List ℤ → List ℕ → List Field
+information_fields serial_number name transports device_type =
+    text serial_number_field serial_number ∷ text name_field name ∷ packed transports_field (map extended transports) ∷ text device_type_field device_type ∷ []
 
 -- its strings, in writing order
-abbrev pub informationStrings : List ℕ → List ℕ → List ℕ → List (ℕ × List ℕ)
-informationStrings serialNumber name deviceType = (serialNumberField, serialNumber) ∷ (nameField, name) ∷ (deviceTypeField, deviceType) ∷ []
+abbrev pub information_strings : List ℕ → List ℕ → List ℕ → List (ℕ × List ℕ)
+information_strings serial_number name device_type = (serial_number_field, serial_number) ∷ (name_field, name) ∷ (device_type_field, device_type) ∷ []
 
 -- device information written
-unfoldable pub informationWritten : List ℕ → List ℕ → List ℤ → List ℕ → List ℕ → WrittenOf (ℕ × List ℕ) ℕ
-informationWritten serialNumber name transports deviceType out =
-    writesTexts (ltb mostTransports (length transports)) (informationStrings serialNumber name deviceType) (informationFields serialNumber name transports deviceType) out
+unfoldable pub information_written : List ℕ → List ℕ → List ℤ → List ℕ → List ℕ → WrittenOf (ℕ × List ℕ) ℕ
+information_written serial_number name transports device_type out =
+    writes_texts (ltb most_transports (length transports)) (information_strings serial_number name device_type) (information_fields serial_number name transports device_type) out

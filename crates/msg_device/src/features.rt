@@ -2,9 +2,9 @@
 ghost use Rattle.std.specs.Prelude.{◌≡◌, ◌≤◌, length};
 ghost use Rattle.wire.specs.Told.{written};
 ghost use Rattle.wire.specs.Put.{Put};
-ghost use Rattle.proto_writer.specs.Writer.{messageBytes};
-ghost use Rattle.msg_device.specs.Features.{featuresOf, toldFeatures, featuresFields, featuresWritten};
-ghost use Rattle.proto_writer.specs.Message.{toldWrote};
+ghost use Rattle.proto_writer.specs.Writer.{message_bytes};
+ghost use Rattle.msg_device.specs.Features.{features_of, told_features, features_fields, features_written};
+ghost use Rattle.proto_writer.specs.Message.{told_wrote};
 
 use proto_reader::reader::read_fields;
 use proto_reader::refusal::{MessageRefusal, WalkVerdict};
@@ -26,7 +26,7 @@ pub enum FeaturesRead {
 
 // Device features.
 pub fn read_features(message: &[u8]) -> FeaturesRead
-    ensures { toldFeatures result ≡ featuresOf message.now }
+    ensures { told_features result ≡ features_of message.now }
 {
     let kept = read_fields(Schema::Features, message, 0);
     let verdict = kept.verdict;
@@ -42,7 +42,7 @@ pub fn read_features(message: &[u8]) -> FeaturesRead
 
 // The number of bytes of device features.
 pub fn features_len(features: DeviceFeatures) -> usize
-    ensures { result ≡ length (messageBytes (featuresFields features)) }
+    ensures { result ≡ length (message_bytes (features_fields features)) }
 {
     scalar_len(FEATURES, features.features)
         + scalar_len(DEVICE_ATTRIBUTES, features.device_attributes)
@@ -50,8 +50,8 @@ pub fn features_len(features: DeviceFeatures) -> usize
 
 // Device features, written from the first byte on; the answer is the place after them.
 pub fn put_features(out: &mut [u8], features: DeviceFeatures) -> usize
-    requires { length (messageBytes (featuresFields features)) ≤ length out.old }
-    ensures { Put out.old 0 (messageBytes (featuresFields features)) result out.new }
+    requires { length (message_bytes (features_fields features)) ≤ length out.old }
+    ensures { Put out.old 0 (message_bytes (features_fields features)) result out.new }
 {
     let next = put_scalar(out, 0, FEATURES, features.features);
     put_scalar(out, next, DEVICE_ATTRIBUTES, features.device_attributes)
@@ -59,7 +59,7 @@ pub fn put_features(out: &mut [u8], features: DeviceFeatures) -> usize
 
 // Writes device features.
 pub fn write_features(out: &mut [u8], features: DeviceFeatures) -> Wrote
-    ensures { written (toldWrote result) out.new ≡ featuresWritten features out.old }
+    ensures { written (told_wrote result) out.new ≡ features_written features out.old }
 {
     if out.len() < features_len(features) {
         return Wrote::Refused(WriteRefusal::NoRoom);

@@ -2,12 +2,12 @@
 ghost use Rattle.std.specs.Prelude.{◌≡◌, ◌≤◌, length, ltb};
 ghost use Rattle.wire.specs.Told.{written};
 ghost use Rattle.wire.specs.Put.{Put};
-ghost use Rattle.proto_writer.specs.Writer.{messageBytes};
-ghost use Rattle.proto_reader.specs.Gathered.{mostTransports};
+ghost use Rattle.proto_writer.specs.Writer.{message_bytes};
+ghost use Rattle.proto_reader.specs.Gathered.{most_transports};
 ghost use Rattle.proto_reader.specs.Refusal.{Strings};
-ghost use Rattle.msg_device.specs.Information.{informationOf, toldInformation, withInformation, informationParts, informationStrings, informationFields, informationWritten};
-ghost use Rattle.proto_writer.specs.Message.{writesMessage, toldWrote, lessRoom};
-ghost use Rattle.proto_strings.specs.Texts.{firstFault, toldTextWrote};
+ghost use Rattle.msg_device.specs.Information.{information_of, told_information, with_information, information_parts, information_strings, information_fields, information_written};
+ghost use Rattle.proto_writer.specs.Message.{writes_message, told_wrote, less_room};
+ghost use Rattle.proto_strings.specs.Texts.{first_fault, told_text_wrote};
 
 use proto_field::value::Part;
 use proto_reader::gathered::MOST_TRANSPORTS;
@@ -37,9 +37,9 @@ pub struct InformationRead {
 
 // Device information.
 pub fn read_information(message: &[u8]) -> InformationRead
-    ensures result_value { toldInformation result ≡ withInformation (informationOf message.now) }
-    ensures strings { Strings message.now (informationParts result.information) }
-    ensures count_le_most_transports { result.information.count ≤ mostTransports }
+    ensures result_value { told_information result ≡ with_information (information_of message.now) }
+    ensures strings { Strings message.now (information_parts result.information) }
+    ensures count_le_most_transports { result.information.count ≤ most_transports }
 {
     let kept = read_fields(Schema::Information, message, 0);
     let verdict = kept.verdict;
@@ -85,12 +85,12 @@ pub fn information_room(
     transports: &[i32],
     device_type: &[u8],
 ) -> Room
-    requires { length transports.now ≤ mostTransports }
+    requires { length transports.now ≤ most_transports }
     ensures { result
-        ≡ lessRoom
+        ≡ less_room
         (length
-        (messageBytes
-        (informationFields serial_number.now name.now transports.now
+        (message_bytes
+        (information_fields serial_number.now name.now transports.now
         device_type.now))) (Room.Left len) }
 {
     Room::Left(len)
@@ -108,13 +108,13 @@ pub fn put_information(
     transports: &[i32],
     device_type: &[u8],
 ) -> usize
-    requires { (length transports.now ≤ mostTransports)
+    requires { (length transports.now ≤ most_transports)
         × (length
-        (messageBytes (informationFields serial_number.now name.now transports.now device_type.now))
+        (message_bytes (information_fields serial_number.now name.now transports.now device_type.now))
         ≤ length out.old) }
     ensures { Put out.old 0
-        (messageBytes
-        (informationFields serial_number.now name.now transports.now
+        (message_bytes
+        (information_fields serial_number.now name.now transports.now
         device_type.now)) result out.new }
 {
     let second = put_text(out, 0, SERIAL_NUMBER, serial_number);
@@ -131,9 +131,9 @@ fn fill_information(
     transports: &[i32],
     device_type: &[u8],
 ) -> Wrote
-    ensures { written (toldWrote result) out.new
-        ≡ writesMessage (ltb mostTransports (length transports.now))
-        (informationFields serial_number.now name.now transports.now device_type.now)
+    ensures { written (told_wrote result) out.new
+        ≡ writes_message (ltb most_transports (length transports.now))
+        (information_fields serial_number.now name.now transports.now device_type.now)
         out.old }
 {
     if MOST_TRANSPORTS < transports.len() {
@@ -151,7 +151,7 @@ fn fill_information(
 // The first string that is not well formed.
 pub fn information_fault(serial_number: &[u8], name: &[u8], device_type: &[u8]) -> TextFault
     ensures { result
-        ≡ firstFault (informationStrings serial_number.now name.now device_type.now) }
+        ≡ first_fault (information_strings serial_number.now name.now device_type.now) }
 {
     TextFault::None
         .or_text(SERIAL_NUMBER, serial_number)
@@ -167,8 +167,8 @@ pub fn write_information(
     transports: &[i32],
     device_type: &[u8],
 ) -> TextWrote
-    ensures { written (toldTextWrote result) out.new
-        ≡ informationWritten serial_number.now name.now transports.now
+    ensures { written (told_text_wrote result) out.new
+        ≡ information_written serial_number.now name.now transports.now
         device_type.now out.old }
 {
     if MOST_TRANSPORTS < transports.len() {

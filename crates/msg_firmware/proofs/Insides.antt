@@ -13,9 +13,9 @@ use Rattle.proto_reader.specs.declared.gathered.Gathered.{Gathered}
 use Rattle.proto_schema.specs.declared.Schema.{Schema}
 use Rattle.proto_schema.specs.declared.Schema.TheVariants as Schema
 use Rattle.proto_schema.specs.Schema.{first, second, third}
-use Rattle.proto_reader.specs.Gathered.{mostRepeated, no_part, partsGathered, AllText}
+use Rattle.proto_reader.specs.Gathered.{most_repeated, no_part, parts_gathered, AllText}
 use Rattle.proto_reader.specs.Refusal.{Strings}
-use Rattle.proto_reader.specs.Walk.{fieldsFrom}
+use Rattle.proto_reader.specs.Walk.{fields_from}
 use Rattle.utf8.specs.WellFormed.{empty}
 use Rattle.proto_reader.proofs.Strings.{text-get, strings-first}
 use Rattle.proto_reader.proofs.Steps.{fields_within}
@@ -23,21 +23,21 @@ use Rattle.msg_firmware.specs.declared.component.FirmwareComponent.{FirmwareComp
 use Rattle.msg_firmware.specs.declared.information.FirmwareInformation.{FirmwareInformation}
 use Rattle.msg_firmware.specs.declared.apply.ApplyFirmware.{ApplyFirmware}
 use Rattle.msg_firmware.specs.declared.apply.ApplyRead.{ApplyRead}
-use Rattle.msg_firmware.specs.Component.{noComponent, componentFrom, componentParts}
-use Rattle.msg_firmware.specs.Information.{partsFrom, componentIn, componentsIn, componentsFrom, firmwareFrom, ownParts, Each}
+use Rattle.msg_firmware.specs.Component.{no_component, component_from, component_parts}
+use Rattle.msg_firmware.specs.Information.{parts_from, component_in, components_in, components_from, firmware_from, own_parts, Each}
 use Rattle.msg_firmware.proofs.Steps.{component-cut}
-use Rattle.msg_firmware.specs.Apply.{firmwareIn, applyOf, toldApply, withApply, InsideMessage}
+use Rattle.msg_firmware.specs.Apply.{firmware_in, apply_of, told_apply, with_apply, InsideMessage}
 
 -- ---- what was gathered
 pub record Gathers (s : List ℕ) (g : Gathered) : Type 0 where
-  pub parts : Within s (partsGathered g)
-  pub most : g.count ≤ mostRepeated
+  pub parts : Within s (parts_gathered g)
+  pub most : g.count ≤ most_repeated
   pub texts : AllText s g.texts
 
-pub gathers : (schema : Schema) (s : List ℕ) (at : ℕ) → Sat (Gathers s) (fieldsFrom schema s at)
-gathers schema s at = by-told (fieldsFrom schema s at) refl
+pub gathers : (schema : Schema) (s : List ℕ) (at : ℕ) → Sat (Gathers s) (fields_from schema s at)
+gathers schema s at = by-told (fields_from schema s at) refl
   where
-    by-told : (r : ToldMore Gathered) → fieldsFrom schema s at ≡ r → Sat (Gathers s) r
+    by-told : (r : ToldMore Gathered) → fields_from schema s at ≡ r → Sat (Gathers s) r
     by-told (given g) e = let w = fields_within schema s at g e in record { parts = w.0; most = w.1; texts = w.2 }
     by-told (refused n) e = tt
 
@@ -45,18 +45,18 @@ pub text-within : (s : List ℕ) (g : Gathered) (i : ℕ) → Gathers s g → (g
 text-within s g i w = within-get s g.texts i no_part zero-le w.parts.1
 
 -- ---- components
-component-within : (s : List ℕ) (at : ℕ) → Sat (λ (c : FirmwareComponent). Strings s (componentParts c)) (componentFrom s at)
-unfolding componentFrom
+component-within : (s : List ℕ) (at : ℕ) → Sat (λ (c : FirmwareComponent). Strings s (component_parts c)) (component_from s at)
+unfolding component_from
 component-within s at =
-    sat-then (Gathers s) (λ (c : FirmwareComponent). Strings s (componentParts c)) (fieldsFrom Schema.Component s at) _ (gathers Schema.Component s at)
+    sat-then (Gathers s) (λ (c : FirmwareComponent). Strings s (component_parts c)) (fields_from Schema.Component s at) _ (gathers Schema.Component s at)
     (λ g w. ((text-within s g first w, (text-within s g second w, tt)), (text-get s g.texts first w.texts, (text-get s g.texts second w.texts, tt))))
 
-component-in-within : (s : List ℕ) (p : Part) → Sat (λ (c : FirmwareComponent). Strings s (componentParts c)) (componentIn s p)
+component-in-within : (s : List ℕ) (p : Part) → Sat (λ (c : FirmwareComponent). Strings s (component_parts c)) (component_in s p)
 component-in-within s p =
     let t = take (p.start + p.len) s in
     rw (component-cut s p)
-    (sat_weaken (λ (c : FirmwareComponent). Strings t (componentParts c)) (λ (c : FirmwareComponent). Strings s (componentParts c)) (componentFrom t p.start) (component-within t p.start)
-    (λ c h. strings-first (p.start + p.len) s (componentParts c) h))
+    (sat_weaken (λ (c : FirmwareComponent). Strings t (component_parts c)) (λ (c : FirmwareComponent). Strings s (component_parts c)) (component_from t p.start) (component-within t p.start)
+    (λ c h. strings-first (p.start + p.len) s (component_parts c) h))
 
 -- ---- what holds of each component that is read holds of all eight places, if it holds of the empty one
 module _ (P : FirmwareComponent → Type 0) where
@@ -69,36 +69,36 @@ module _ (P : FirmwareComponent → Type 0) where
   each-sets [] l i h w = w
   each-sets (c ∷ cs) l i h w = each-sets cs (set l i c) (suc i) h.1 (each_set l i c h.0 w)
 
-  each_none : P noComponent → (n : ℕ) → Each P (replicate n noComponent)
+  each_none : P no_component → (n : ℕ) → Each P (replicate n no_component)
   each_none h zero = tt
   each_none h (suc n) = (h, each_none h n)
 
-  module _ (s : List ℕ) (reads : (p : Part) → Sat P (componentIn s p)) (none : P noComponent) where
-    each_in : (ps : List Part) → Sat (Each P) (componentsIn s ps)
+  module _ (s : List ℕ) (reads : (p : Part) → Sat P (component_in s p)) (none : P no_component) where
+    each_in : (ps : List Part) → Sat (Each P) (components_in s ps)
     each_in [] = tt
-    each_in (p ∷ ps) = sat-then P (Each P) (componentIn s p) _ (reads p) (λ c h. sat-then (Each P) (Each P) (componentsIn s ps) _ (each_in ps) (λ cs k. (h, k)))
+    each_in (p ∷ ps) = sat-then P (Each P) (component_in s p) _ (reads p) (λ c h. sat-then (Each P) (Each P) (components_in s ps) _ (each_in ps) (λ cs k. (h, k)))
 
-    pub each_from : (at : ℕ) → Sat (Each P) (componentsFrom s at)
-    unfolding componentsFrom
+    pub each_from : (at : ℕ) → Sat (Each P) (components_from s at)
+    unfolding components_from
     each_from at =
-        sat-then (Each P) (Each P) (componentsIn s (partsFrom s at)) _ (each_in (partsFrom s at))
-        (λ cs h. each-sets cs (replicate mostRepeated noComponent) 0 h (each_none none mostRepeated))
+        sat-then (Each P) (Each P) (components_in s (parts_from s at)) _ (each_in (parts_from s at))
+        (λ cs h. each-sets cs (replicate most_repeated no_component) 0 h (each_none none most_repeated))
 
 -- ---- firmware information
 abbrev Held : List ℕ → FirmwareComponent → Type 0
-Held s c = Strings s (componentParts c)
+Held s c = Strings s (component_parts c)
 
 abbrev Firm : List ℕ → FirmwareInformation → Type 0
-Firm s f = Strings s (ownParts f) × Each (Held s) f.components × (f.count ≤ mostRepeated)
+Firm s f = Strings s (own_parts f) × Each (Held s) f.components × (f.count ≤ most_repeated)
 
-none-held : (s : List ℕ) → Held s noComponent
+none-held : (s : List ℕ) → Held s no_component
 none-held s = ((zero-le, (zero-le, tt)), (empty, (empty, tt)))
 
-firmware-within : (s : List ℕ) (at : ℕ) → Sat (Firm s) (firmwareFrom s at)
-unfolding firmwareFrom
+firmware-within : (s : List ℕ) (at : ℕ) → Sat (Firm s) (firmware_from s at)
+unfolding firmware_from
 firmware-within s at =
-    sat-then (Gathers s) (Firm s) (fieldsFrom Schema.Firmware s at) _ (gathers Schema.Firmware s at)
-    (λ g w. sat-then (Each (Held s)) (Firm s) (componentsFrom s at) _ (each_from (Held s) s (component-in-within s) (none-held s) at)
+    sat-then (Gathers s) (Firm s) (fields_from Schema.Firmware s at) _ (gathers Schema.Firmware s at)
+    (λ g w. sat-then (Each (Held s)) (Firm s) (components_from s at) _ (each_from (Held s) s (component-in-within s) (none-held s) at)
     (λ cs h. (
       (
         (text-within s g first w, (text-within s g second w, (text-within s g third w, tt))),
@@ -110,29 +110,29 @@ firmware-within s at =
 
 held_first : (n : ℕ) (s : List ℕ) (cs : List FirmwareComponent) → Each (Held (take n s)) cs → Each (Held s) cs
 held_first n s [] h = tt
-held_first n s (c ∷ cs) h = (strings-first n s (componentParts c) h.0, held_first n s cs h.1)
+held_first n s (c ∷ cs) h = (strings-first n s (component_parts c) h.0, held_first n s cs h.1)
 
-firmware-in-within : (s : List ℕ) (p : Part) → Sat (Firm s) (firmwareIn s p)
-unfolding firmwareIn
+firmware-in-within : (s : List ℕ) (p : Part) → Sat (Firm s) (firmware_in s p)
+unfolding firmware_in
 firmware-in-within s p =
     let t = take (p.start + p.len) s in
-    sat_weaken (Firm t) (Firm s) (firmwareFrom t p.start) (firmware-within t p.start)
-    (λ f h. (strings-first (p.start + p.len) s (ownParts f) h.0, held_first (p.start + p.len) s f.components h.1, h.2))
+    sat_weaken (Firm t) (Firm s) (firmware_from t p.start) (firmware-within t p.start)
+    (λ f h. (strings-first (p.start + p.len) s (own_parts f) h.0, held_first (p.start + p.len) s f.components h.1, h.2))
 
-pub apply-within : (s : List ℕ) → Sat (InsideMessage s) (applyOf s)
-unfolding applyOf
+pub apply-within : (s : List ℕ) → Sat (InsideMessage s) (apply_of s)
+unfolding apply_of
 apply-within s =
-    sat-then (Gathers s) (InsideMessage s) (fieldsFrom Schema.Apply s 0) _ (gathers Schema.Apply s 0)
-    (λ g w. sat-then (Firm s) (InsideMessage s) (firmwareIn s g.part) _ (firmware-in-within s g.part) (λ f h. record { own = h.0; each = h.1; most = h.2 }))
+    sat-then (Gathers s) (InsideMessage s) (fields_from Schema.Apply s 0) _ (gathers Schema.Apply s 0)
+    (λ g w. sat-then (Firm s) (InsideMessage s) (firmware_in s g.part) _ (firmware-in-within s g.part) (λ f h. record { own = h.0; each = h.1; most = h.2 }))
 
 -- what is told, and what stands beside it
-pub told-inside : (s : List ℕ) (r : ApplyRead) → toldApply r ≡ withApply (applyOf s) → (toldApply r ≡ withApply (applyOf s)) × InsideMessage s r.apply
-told-inside s r e = (e, rw (ap (λ q. q.1) e) (beside (applyOf s) (apply-within s)))
+pub told-inside : (s : List ℕ) (r : ApplyRead) → told_apply r ≡ with_apply (apply_of s) → (told_apply r ≡ with_apply (apply_of s)) × InsideMessage s r.apply
+told-inside s r e = (e, rw (ap (λ q. q.1) e) (beside (apply_of s) (apply-within s)))
   where
-    beside : (t : ToldMore ApplyFirmware) → Sat (InsideMessage s) t → InsideMessage s (withApply t).1
+    beside : (t : ToldMore ApplyFirmware) → Sat (InsideMessage s) t → InsideMessage s (with_apply t).1
     beside (given a) h = h
-    beside (refused n) h = record { own = ((zero-le, (zero-le, (zero-le, tt))), (empty, (empty, (empty, tt)))); each = each_none (Held s) (none-held s) mostRepeated; most = zero-le }
+    beside (refused n) h = record { own = ((zero-le, (zero-le, (zero-le, tt))), (empty, (empty, (empty, tt)))); each = each_none (Held s) (none-held s) most_repeated; most = zero-le }
 
 -- the part of the firmware information lies within the message
-pub part-inside : (s : List ℕ) (g : Gathered) → fieldsFrom Schema.Apply s 0 ≡ given g → g.part.start + g.part.len ≤ length s
+pub part-inside : (s : List ℕ) (g : Gathered) → fields_from Schema.Apply s 0 ≡ given g → g.part.start + g.part.len ≤ length s
 part-inside s g e = (fields_within Schema.Apply s 0 g e).0.0

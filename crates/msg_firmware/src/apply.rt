@@ -1,7 +1,7 @@
 // ApplyFirmware: the firmware that is to be used, and whether to restart.
 ghost use Rattle.std.specs.Prelude.{◌≡◌, ◌+◌, ◌≤◌, length};
-ghost use Rattle.msg_firmware.specs.Information.{toldFirmware, withFirmware};
-ghost use Rattle.msg_firmware.specs.Apply.{firmwareIn, applyOf, noApply, toldApply, withApply, InsideMessage};
+ghost use Rattle.msg_firmware.specs.Information.{told_firmware, with_firmware};
+ghost use Rattle.msg_firmware.specs.Apply.{firmware_in, apply_of, no_apply, told_apply, with_apply, InsideMessage};
 
 use crate::information::{FirmwareInformation, FirmwareRead, firmware_from};
 use proto_field::value::Part;
@@ -25,7 +25,7 @@ pub struct ApplyRead {
 // The firmware information within a part of the message.
 fn firmware_in(message: &[u8], part: Part) -> FirmwareRead
     requires { part.start + part.len ≤ length message.now }
-    ensures { toldFirmware result ≡ withFirmware (firmwareIn message.now part) }
+    ensures { told_firmware result ≡ with_firmware (firmware_in message.now part) }
 {
     let start = part.start;
     let end = start + part.len;
@@ -34,7 +34,7 @@ fn firmware_in(message: &[u8], part: Part) -> FirmwareRead
 
 // ApplyFirmware. It is read through before its firmware information.
 pub fn read_apply(message: &[u8]) -> ApplyRead
-    ensures result_value { toldApply result ≡ withApply (applyOf message.now) }
+    ensures result_value { told_apply result ≡ with_apply (apply_of message.now) }
     ensures inside_message { InsideMessage message.now result.apply }
 {
     let kept = read_fields(Schema::Apply, message, 0);
@@ -65,7 +65,7 @@ pub fn read_apply(message: &[u8]) -> ApplyRead
 
 // A message that is refused is the empty one.
 fn refused_apply(e: MessageRefusal) -> ApplyRead
-    ensures { result ≡ record { verdict = WalkVerdict.Refused e; apply = noApply } }
+    ensures { result ≡ record { verdict = WalkVerdict.Refused e; apply = no_apply } }
 {
     let firmware_information = FirmwareInformation::none();
     ApplyRead {

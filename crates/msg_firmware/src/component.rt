@@ -1,6 +1,6 @@
 // FirmwareComponent, a message within firmware information.
 ghost use Rattle.std.specs.Prelude.{◌≡◌};
-ghost use Rattle.msg_firmware.specs.Component.{noComponent, componentFrom, toldComponent};
+ghost use Rattle.msg_firmware.specs.Component.{no_component, component_from, told_component};
 
 use proto_field::unsigned::low_unsigned;
 use proto_field::value::Part;
@@ -26,7 +26,7 @@ pub enum ComponentRead {
 impl FirmwareComponent {
     // An empty one.
     pub(crate) fn none() -> FirmwareComponent
-        ensures { result ≡ noComponent }
+        ensures { result ≡ no_component }
     {
         let none = Part { start: 0, len: 0 };
         FirmwareComponent {
@@ -40,7 +40,7 @@ impl FirmwareComponent {
 
 // The component from a place to the end.
 pub(crate) fn component_from(message: &[u8], at: usize) -> ComponentRead
-    ensures { toldComponent result ≡ componentFrom message.now at }
+    ensures { told_component result ≡ component_from message.now at }
 {
     let kept = read_fields(Schema::Component, message, at);
     let verdict = kept.verdict;

@@ -1,9 +1,9 @@
 // FirmwareInformation, the message within ApplyFirmware.
 ghost use Rattle.std.specs.Prelude.{◌≡◌, ◌+◌, ◌≤◌, length};
-ghost use Rattle.proto_field.specs.Fields.{toldFound};
-ghost use Rattle.proto_reader.specs.Gathered.{mostRepeated};
-ghost use Rattle.msg_firmware.specs.Component.{toldComponent};
-ghost use Rattle.msg_firmware.specs.Information.{partOfComponent, partTold, partsFrom, isOther, componentOf, laid, ComponentOnward, componentIn, componentsFrom, firmwareMade, firmwareFrom, noFirmware, toldComponents, toldFirmware, withFirmware};
+ghost use Rattle.proto_field.specs.Fields.{told_found};
+ghost use Rattle.proto_reader.specs.Gathered.{most_repeated};
+ghost use Rattle.msg_firmware.specs.Component.{told_component};
+ghost use Rattle.msg_firmware.specs.Information.{part_of_component, part_told, parts_from, is_other, component_of, laid, ComponentOnward, component_in, components_from, firmware_made, firmware_from, no_firmware, told_components, told_firmware, with_firmware};
 
 use crate::component::{ComponentRead, FirmwareComponent, component_from};
 use proto_field::fields::{Found, new, next};
@@ -54,7 +54,7 @@ pub enum NextComponent {
 
 // The part of a component, of a field's number and value.
 fn component_part(number: u64, value: Value) -> ComponentPart
-    ensures { partTold result ≡ partOfComponent number value }
+    ensures { part_told result ≡ part_of_component number value }
 {
     if number != COMPONENTS {
         return ComponentPart::None;
@@ -68,7 +68,7 @@ fn component_part(number: u64, value: Value) -> ComponentPart
 
 // Whether what was found is a field that is no component.
 fn is_other(found: Found) -> bool
-    ensures { result ≡ isOther (toldFound found) }
+    ensures { result ≡ is_other (told_found found) }
 {
     match found {
         Found::Field {
@@ -86,7 +86,7 @@ fn is_other(found: Found) -> bool
 
 // What was found, if it is a component.
 fn component_found(found: Found) -> NextComponent
-    ensures { result ≡ componentOf (toldFound found) }
+    ensures { result ≡ component_of (told_found found) }
 {
     match found {
         Found::Field {
@@ -104,7 +104,7 @@ fn component_found(found: Found) -> NextComponent
 
 // The next component from a place on: the reader moves over the fields before it.
 fn next_component(message: &[u8], from: usize) -> NextComponent
-    ensures { (partsFrom message.now from ≡ laid message.now result)
+    ensures { (parts_from message.now from ≡ laid message.now result)
         × ComponentOnward message.now from result }
 {
     let mut step = next(new(message, from));
@@ -117,7 +117,7 @@ fn next_component(message: &[u8], from: usize) -> NextComponent
 // The component within a part of the message.
 fn component_in(message: &[u8], part: Part) -> ComponentRead
     requires { part.start + part.len ≤ length message.now }
-    ensures { toldComponent result ≡ componentIn message.now part }
+    ensures { told_component result ≡ component_in message.now part }
 {
     let start = part.start;
     let end = start + part.len;
@@ -126,8 +126,8 @@ fn component_in(message: &[u8], part: Part) -> ComponentRead
 
 // The components from a place to the end, one after another.
 fn components_from(message: &[u8], from: usize) -> ComponentsRead
-    requires { length (partsFrom message.now from) ≤ mostRepeated }
-    ensures { toldComponents result ≡ componentsFrom message.now from }
+    requires { length (parts_from message.now from) ≤ most_repeated }
+    ensures { told_components result ≡ components_from message.now from }
 {
     let none = FirmwareComponent::none();
     let mut components = [none; 8];
@@ -161,7 +161,7 @@ fn components_from(message: &[u8], from: usize) -> ComponentsRead
 impl FirmwareInformation {
     // An empty one.
     pub(crate) fn none() -> FirmwareInformation
-        ensures { result ≡ noFirmware }
+        ensures { result ≡ no_firmware }
     {
         let part = Part { start: 0, len: 0 };
         let component = FirmwareComponent::none();
@@ -178,7 +178,7 @@ impl FirmwareInformation {
 
 // The information that was gathered, with its components.
 fn firmware_made(gathered: Gathered, components: [FirmwareComponent; 8]) -> FirmwareInformation
-    ensures { result ≡ firmwareMade gathered components }
+    ensures { result ≡ firmware_made gathered components }
 {
     let name = gathered.texts[FIRST];
     let locale = gathered.texts[SECOND];
@@ -195,7 +195,7 @@ fn firmware_made(gathered: Gathered, components: [FirmwareComponent; 8]) -> Firm
 
 // Information that is refused is the empty one.
 fn refused_firmware(e: MessageRefusal) -> FirmwareRead
-    ensures { result ≡ record { verdict = WalkVerdict.Refused e; information = noFirmware } }
+    ensures { result ≡ record { verdict = WalkVerdict.Refused e; information = no_firmware } }
 {
     let information = FirmwareInformation::none();
     FirmwareRead {
@@ -206,7 +206,7 @@ fn refused_firmware(e: MessageRefusal) -> FirmwareRead
 
 // The information from a place to the end. It is read through before its components.
 pub(crate) fn firmware_from(message: &[u8], at: usize) -> FirmwareRead
-    ensures { toldFirmware result ≡ withFirmware (firmwareFrom message.now at) }
+    ensures { told_firmware result ≡ with_firmware (firmware_from message.now at) }
 {
     let kept = read_fields(Schema::Firmware, message, at);
     let verdict = kept.verdict;

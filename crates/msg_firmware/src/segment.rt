@@ -1,7 +1,7 @@
 // UpdateComponentSegment: the piece of firmware that comes next.
 ghost use Rattle.std.specs.Prelude.{◌≡◌, cond, ◌+◌, ◌≤◌, length};
-ghost use Rattle.proto_reader.specs.Refusal.{numberMore, TellsStrings};
-ghost use Rattle.msg_firmware.specs.Segment.{between, isDigit, allDigits, isSignature, brokenField, segmentMade, segmentJudged, segmentOf, toldSegment, segmentParts};
+ghost use Rattle.proto_reader.specs.Refusal.{number_more, TellsStrings};
+ghost use Rattle.msg_firmware.specs.Segment.{between, is_digit, all_digits, is_signature, broken_field, segment_made, segment_judged, segment_of, told_segment, segment_parts};
 
 use proto_field::unsigned::low_unsigned;
 use proto_field::value::Part;
@@ -34,7 +34,7 @@ pub enum SegmentRead {
 impl SegmentRead {
     // 0 where the segment is read.
     pub fn number(self) -> u8
-        ensures { result ≡ numberMore (toldSegment self) }
+        ensures { result ≡ number_more (told_segment self) }
     {
         match self {
             SegmentRead::Read(_) => 0,
@@ -57,7 +57,7 @@ fn one_between(byte: u8, low: u8, high: u8) -> u8
 
 // Whether a byte is a hexadecimal digit. The ranges that it lies in are counted: of this the compiler makes a test of many bytes at once.
 fn is_digit(byte: u8) -> bool
-    ensures { result ≡ isDigit byte }
+    ensures { result ≡ is_digit byte }
 {
     let decimal = one_between(byte, b'0', b'9');
     let upper = one_between(byte, b'A', b'F');
@@ -68,7 +68,7 @@ fn is_digit(byte: u8) -> bool
 
 // Whether all bytes are hexadecimal digits. The loop has no other exit, as in wire's any_in_range.
 fn all_digits(bytes: &[u8]) -> bool
-    ensures { result ≡ allDigits bytes.now }
+    ensures { result ≡ all_digits bytes.now }
 {
     let mut all = true;
     let mut i = 0;
@@ -82,7 +82,7 @@ fn all_digits(bytes: &[u8]) -> bool
 }
 
 fn is_signature(bytes: &[u8]) -> bool
-    ensures { result ≡ isSignature bytes.now }
+    ensures { result ≡ is_signature bytes.now }
 {
     if bytes.len() != SIGNATURE_DIGITS {
         return false;
@@ -92,7 +92,7 @@ fn is_signature(bytes: &[u8]) -> bool
 
 // The lowest field of which the profile's rule is broken, or none.
 pub fn broken_field(offset: u32, signature: &[u8]) -> u64
-    ensures { result ≡ brokenField offset signature.now }
+    ensures { result ≡ broken_field offset signature.now }
 {
     if offset != 0 {
         return COMPONENT_OFFSET;
@@ -105,7 +105,7 @@ pub fn broken_field(offset: u32, signature: &[u8]) -> u64
 
 // The segment that was gathered.
 fn segment_made(gathered: Gathered) -> UpdateComponentSegment
-    ensures { result ≡ segmentMade gathered }
+    ensures { result ≡ segment_made gathered }
 {
     let component_name = gathered.texts[FIRST];
     let segment_signature = gathered.texts[SECOND];
@@ -120,7 +120,7 @@ fn segment_made(gathered: Gathered) -> UpdateComponentSegment
 // A segment that was read through, by the profile.
 fn judge_segment(message: &[u8], segment: UpdateComponentSegment) -> SegmentRead
     requires { segment.segment_signature.start + segment.segment_signature.len ≤ length message.now }
-    ensures { toldSegment result ≡ segmentJudged message.now segment }
+    ensures { told_segment result ≡ segment_judged message.now segment }
 {
     let signature = segment.segment_signature;
     let start = signature.start;
@@ -134,8 +134,8 @@ fn judge_segment(message: &[u8], segment: UpdateComponentSegment) -> SegmentRead
 
 // A segment.
 pub fn read_segment(message: &[u8]) -> SegmentRead
-    ensures result_value { toldSegment result ≡ segmentOf message.now }
-    ensures tells_strings { TellsStrings message.now segmentParts (toldSegment result) }
+    ensures result_value { told_segment result ≡ segment_of message.now }
+    ensures tells_strings { TellsStrings message.now segment_parts (told_segment result) }
 {
     let kept = read_fields(Schema::Segment, message, 0);
     let verdict = kept.verdict;

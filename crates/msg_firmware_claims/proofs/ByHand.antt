@@ -1,28 +1,28 @@
 -- The bytes worked by hand, by computation; the components that were counted.
 use mathlib.Core.Path.{refl}
-use Rattle.msg_firmware.specs.Segment.{isDigit, isSignature, brokenField, segmentOf}
-use Rattle.msg_segment_writer.specs.Segment.{segmentFilled, segmentWritten}
-use Rattle.msg_firmware.specs.Component.{componentFrom}
-use Rattle.msg_component_writer.specs.Component.{outside, badComponent}
-use Rattle.msg_firmware.specs.Information.{partsFrom, componentIn, componentsFrom, firmwareFrom}
-use Rattle.msg_apply_writer.specs.Information.{badFirmware}
-use Rattle.msg_firmware.specs.Apply.{firmwareIn, applyOf}
-use Rattle.msg_apply_writer.specs.Apply.{applyWritten}
-use Rattle.utf8.specs.Table.{rows, within, rowOf}
-use Rattle.utf8.specs.WellFormed.{sequenceAt, badPlace}
-use Rattle.proto_reader.specs.Walk.{fieldsFrom, field_at, readAt, addedAt, judged, withString}
-use Rattle.proto_schema.specs.Schema.{roleOf}
+use Rattle.msg_firmware.specs.Segment.{is_digit, is_signature, broken_field, segment_of}
+use Rattle.msg_segment_writer.specs.Segment.{segment_filled, segment_written}
+use Rattle.msg_firmware.specs.Component.{component_from}
+use Rattle.msg_component_writer.specs.Component.{outside, bad_component}
+use Rattle.msg_firmware.specs.Information.{parts_from, component_in, components_from, firmware_from}
+use Rattle.msg_apply_writer.specs.Information.{bad_firmware}
+use Rattle.msg_firmware.specs.Apply.{firmware_in, apply_of}
+use Rattle.msg_apply_writer.specs.Apply.{apply_written}
+use Rattle.utf8.specs.Table.{rows, within, row_of}
+use Rattle.utf8.specs.WellFormed.{sequence_at, bad_place}
+use Rattle.proto_reader.specs.Walk.{fields_from, field_at, read_at, added_at, judged, with_string}
+use Rattle.proto_schema.specs.Schema.{role_of}
 use Rattle.proto_field.specs.Fields.{found_at}
-use Rattle.proto_field.specs.Tag.{tag_at, badTag}
+use Rattle.proto_field.specs.Tag.{tag_at, bad_tag}
 use Rattle.proto_field.specs.Value.{value_at}
-use Rattle.proto_field.specs.Varint.{varintAt}
-use Rattle.proto_writer.specs.Varint.{varintBytes}
-use Rattle.proto_writer.specs.Writer.{tagBytes, headBytes, partBytes, fieldBytes}
+use Rattle.proto_field.specs.Varint.{varint_at}
+use Rattle.proto_writer.specs.Varint.{varint_bytes}
+use Rattle.proto_writer.specs.Writer.{tag_bytes, head_bytes, part_bytes, field_bytes}
 use Rattle.msg_firmware.proofs.Parts.{parts-counted}
-use Rattle.msg_firmware_claims.specs.Worked.{WorkedFirmware, ComponentsCounted, segmentCases, applyCases, segmentWrites, applyWrites}
+use Rattle.msg_firmware_claims.specs.Worked.{WorkedFirmware, ComponentsCounted, segment_cases, apply_cases, segment_writes, apply_writes}
 
 pub worked-firmware : WorkedFirmware
-unfolding WorkedFirmware segmentCases applyCases segmentWrites applyWrites segmentFilled segmentWritten applyWritten badFirmware badComponent outside fieldBytes partBytes headBytes tagBytes varintBytes segmentOf isDigit isSignature brokenField componentFrom partsFrom componentIn componentsFrom firmwareFrom firmwareIn applyOf fieldsFrom field_at readAt addedAt judged roleOf found_at tag_at badTag value_at varintAt withString badPlace sequenceAt rowOf rows within
+unfolding WorkedFirmware segment_cases apply_cases segment_writes apply_writes segment_filled segment_written apply_written bad_firmware bad_component outside field_bytes part_bytes head_bytes tag_bytes varint_bytes segment_of is_digit is_signature broken_field component_from parts_from component_in components_from firmware_from firmware_in apply_of fields_from field_at read_at added_at judged role_of found_at tag_at bad_tag value_at varint_at with_string bad_place sequence_at row_of rows within
 worked-firmware = (refl, refl, refl, refl)
 
 pub components-counted : ComponentsCounted

@@ -6,40 +6,40 @@ use mathlib.Core.List.{List, [], ◌∷◌}
 use native.Mathlib.Omega.{arith}
 use lib.ListN.{length}
 use borrow.Author.Tests.{le-leb, lt-leb, eq-eqb}
-use Rattle.proto_field.specs.Varint.{varintAt}
-use Rattle.proto_field.specs.Tag.{badTag, tag_at}
+use Rattle.proto_field.specs.Varint.{varint_at}
+use Rattle.proto_field.specs.Tag.{bad_tag, tag_at}
 use Rattle.proto_field.specs.Value.{value_at}
 use Rattle.proto_field.specs.Fields.{found_at}
-use Rattle.proto_writer.specs.Varint.{varintBytes}
-use Rattle.proto_writer.specs.Writer.{tagBytes, headBytes, partBytes, fieldBytes}
-use Rattle.utf8.specs.Table.{rows, within, described, rowOf}
-use Rattle.utf8.specs.WellFormed.{WellFormed, empty, more, sequenceAt, badPlace}
-use Rattle.proto_schema.specs.Schema.{roleOf}
-use Rattle.proto_reader.specs.Walk.{judged, addedAt, readAt, field_at, fieldsFrom, withString}
+use Rattle.proto_writer.specs.Varint.{varint_bytes}
+use Rattle.proto_writer.specs.Writer.{tag_bytes, head_bytes, part_bytes, field_bytes}
+use Rattle.utf8.specs.Table.{rows, within, described, row_of}
+use Rattle.utf8.specs.WellFormed.{WellFormed, empty, more, sequence_at, bad_place}
+use Rattle.proto_schema.specs.Schema.{role_of}
+use Rattle.proto_reader.specs.Walk.{judged, added_at, read_at, field_at, fields_from, with_string}
 use Rattle.msg_firmware.specs.declared.component.FirmwareComponent.{FirmwareComponent}
-use Rattle.msg_firmware.specs.Segment.{isDigit, allDigits, isSignature, brokenField, segmentOf}
-use Rattle.msg_segment_writer.specs.Segment.{segmentFilled, segmentWritten}
-use Rattle.msg_firmware.specs.Component.{componentFrom}
-use Rattle.msg_component_writer.specs.Component.{outside, badComponent}
-use Rattle.msg_firmware.specs.Information.{partsFrom, componentIn, componentsFrom, firmwareFrom}
-use Rattle.msg_apply_writer.specs.Information.{present, badFirmware}
-use Rattle.msg_firmware.specs.Apply.{firmwareIn, applyOf}
-use Rattle.msg_apply_writer.specs.Apply.{applyWritten}
+use Rattle.msg_firmware.specs.Segment.{is_digit, all_digits, is_signature, broken_field, segment_of}
+use Rattle.msg_segment_writer.specs.Segment.{segment_filled, segment_written}
+use Rattle.msg_firmware.specs.Component.{component_from}
+use Rattle.msg_component_writer.specs.Component.{outside, bad_component}
+use Rattle.msg_firmware.specs.Information.{parts_from, component_in, components_from, firmware_from}
+use Rattle.msg_apply_writer.specs.Information.{present, bad_firmware}
+use Rattle.msg_firmware.specs.Apply.{firmware_in, apply_of}
+use Rattle.msg_apply_writer.specs.Apply.{apply_written}
 use Rattle.msg_firmware_claims.specs.RoundTrip.{ComponentsWritable}
 use Rattle.msg_firmware_claims.specs.Premises.{Digit, decimal, upper, lower, Digits, SegmentsTaken, ComponentsInRange, AppliesTaken, OneFirmwareOfEach}
 
-digit : (b : ℕ) → Digit b → isDigit b ≡ true
-unfolding isDigit
+digit : (b : ℕ) → Digit b → is_digit b ≡ true
+unfolding is_digit
 digit b (decimal l h) = rw (le-leb 48 b l, le-leb b 57 h)
 digit b (upper l h) = rw (le-leb 48 b (omega arith), lt-leb b 57 (omega arith), le-leb 65 b l, le-leb b 70 h)
 digit b (lower l h) = rw (le-leb 48 b (omega arith), lt-leb b 57 (omega arith), le-leb 65 b (omega arith), lt-leb b 70 (omega arith), le-leb 97 b l, le-leb b 102 h)
 
-digits : (l : List ℕ) → Digits l → allDigits l ≡ true
+digits : (l : List ℕ) → Digits l → all_digits l ≡ true
 digits [] d = refl
 digits (b ∷ l) d = rw (digit b d.0, digits l d.1)
 
-pub signature : (l : List ℕ) → length l ≡ 64 → Digits l → isSignature l ≡ true
-unfolding isSignature
+pub signature : (l : List ℕ) → length l ≡ 64 → Digits l → is_signature l ≡ true
+unfolding is_signature
 signature l n d = rw (eq-eqb (length l) 64 n, digits l d)
 
 -- digits are ASCII, so well formed
@@ -64,12 +64,12 @@ components texts (c ∷ cs) h = ((omega (arith, h.0.0), omega (arith, h.0.1), ((
 
 pub applies-taken : AppliesTaken
 unfolding AppliesTaken
-applies-taken a texts out version eight most name locale versionName cs lent room =
+applies-taken a texts out version eight most name locale version_name cs lent room =
     record {
       firmware =
           record {
             number = omega arith;
-            strings = ((name.0, (locale.0, (versionName.0, tt))), (name.1, (locale.1, (versionName.1, tt))));
+            strings = ((name.0, (locale.0, (version_name.0, tt))), (name.1, (locale.1, (version_name.1, tt))));
             most = omega arith;
             there = omega arith;
             components = components texts (present a.firmware_information) cs;
@@ -79,5 +79,5 @@ applies-taken a texts out version eight most name locale versionName cs lent roo
     }
 
 pub one-of-each : OneFirmwareOfEach
-unfolding varintAt varintBytes badTag tag_at value_at found_at tagBytes headBytes partBytes fieldBytes roleOf judged addedAt readAt field_at fieldsFrom isDigit isSignature brokenField segmentOf segmentFilled segmentWritten componentFrom outside badComponent partsFrom componentIn componentsFrom firmwareFrom badFirmware firmwareIn applyOf applyWritten withString badPlace sequenceAt rowOf rows within
+unfolding varint_at varint_bytes bad_tag tag_at value_at found_at tag_bytes head_bytes part_bytes field_bytes role_of judged added_at read_at field_at fields_from is_digit is_signature broken_field segment_of segment_filled segment_written component_from outside bad_component parts_from component_in components_from firmware_from bad_firmware firmware_in apply_of apply_written with_string bad_place sequence_at row_of rows within
 one-of-each = record { segment = refl; apply = refl }

@@ -10,74 +10,74 @@ use lib.Dec.{eqb}
 use borrow.Author.Tests.{ne_eqb}
 use Rattle.wire.specs.Told.{ToldMore, given, refused, and_then}
 use Rattle.proto_field.specs.declared.value.Part.{Part}
-use Rattle.proto_field.specs.Unsigned.{unsignedOf}
+use Rattle.proto_field.specs.Unsigned.{unsigned_of}
 use Rattle.proto_field.specs.Value.{bytes_of}
 use Rattle.proto_field.proofs.Told.{Sat, sat-then, sat_weaken, sat-given}
 use Rattle.utf8.specs.WellFormed.{empty}
-use Rattle.proto_writer.specs.Writer.{messageBytes}
+use Rattle.proto_writer.specs.Writer.{message_bytes}
 use Rattle.proto_reader.specs.declared.gathered.Gathered.{Gathered}
 use Rattle.proto_schema.specs.declared.Schema.{Schema}
 use Rattle.proto_schema.specs.declared.Schema.TheVariants as Schema
 use Rattle.proto_schema.specs.Schema.{first, second, third}
-use Rattle.proto_reader.specs.Gathered.{mostRepeated}
-use Rattle.proto_reader.specs.Walk.{fieldsFrom}
+use Rattle.proto_reader.specs.Gathered.{most_repeated}
+use Rattle.proto_reader.specs.Walk.{fields_from}
 use Rattle.proto_reader.proofs.Strings.{text-get, strings-first}
 use Rattle.proto_strings.specs.Texts.{AllWellFormed}
 use Rattle.msg_firmware.specs.declared.segment.UpdateComponentSegment.{UpdateComponentSegment}
 use Rattle.msg_firmware.specs.declared.component.FirmwareComponent.{FirmwareComponent}
 use Rattle.msg_firmware.specs.declared.information.FirmwareInformation.{FirmwareInformation}
 use Rattle.msg_firmware.specs.declared.apply.ApplyFirmware.{ApplyFirmware}
-use Rattle.msg_firmware.specs.Segment.{isSignature, brokenField, segmentMade, segmentJudged, segmentOf}
-use Rattle.msg_segment_writer.specs.Segment.{segmentStrings, segmentFields, segmentWritten}
-use Rattle.msg_firmware.specs.Component.{noComponent, componentFrom, componentParts}
-use Rattle.msg_firmware.specs.Information.{partsFrom, componentIn, componentsIn, componentsFrom, firmwareFrom}
+use Rattle.msg_firmware.specs.Segment.{is_signature, broken_field, segment_made, segment_judged, segment_of}
+use Rattle.msg_segment_writer.specs.Segment.{segment_strings, segment_fields, segment_written}
+use Rattle.msg_firmware.specs.Component.{no_component, component_from, component_parts}
+use Rattle.msg_firmware.specs.Information.{parts_from, component_in, components_in, components_from, firmware_from}
 use Rattle.msg_apply_writer.specs.Information.{present}
-use Rattle.msg_firmware.specs.Apply.{firmwareIn, applyOf}
+use Rattle.msg_firmware.specs.Apply.{firmware_in, apply_of}
 use Rattle.msg_firmware.proofs.Insides.{Gathers, gathers, text-within}
 use Rattle.msg_claims.specs.RoundTrip.{ReadsBack}
-use Rattle.msg_firmware_claims.specs.RoundTrip.{Unsigned32, segmentAgain, SegmentRoundTrip, SegmentsToldTaken, ComponentWritable, ComponentsWritable, FirmwareWritable, ApplyRoundTrip, AppliesToldTaken}
+use Rattle.msg_firmware_claims.specs.RoundTrip.{Unsigned32, segment_again, SegmentRoundTrip, SegmentsToldTaken, ComponentWritable, ComponentsWritable, FirmwareWritable, ApplyRoundTrip, AppliesToldTaken}
 use Rattle.msg_firmware_claims.proofs.Segments.{segment-round-trip}
 use Rattle.msg_firmware_claims.proofs.Applies.{apply-round-trip}
 
 -- the low 32 bits
-unsigned-fits : (v : ℕ) → Unsigned32 (unsignedOf v)
+unsigned-fits : (v : ℕ) → Unsigned32 (unsigned_of v)
 unsigned-fits v = omega arith
 
 -- ---- the segment
 -- no field is broken: the offset is 0 and the signature is one
-unbroken : (offset : ℕ) (signature : List ℕ) → eqb (brokenField offset signature) 0 ≡ true → (offset ≡ 0) × (isSignature signature ≡ true)
-unfolding brokenField
-unbroken zero signature e = (refl, by-test (isSignature signature) e)
+unbroken : (offset : ℕ) (signature : List ℕ) → eqb (broken_field offset signature) 0 ≡ true → (offset ≡ 0) × (is_signature signature ≡ true)
+unfolding broken_field
+unbroken zero signature e = (refl, by-test (is_signature signature) e)
   where
     by-test : (b : Bool) → eqb (cond (not b) 4 0) 0 ≡ true → b ≡ true
     by-test true e = refl
     by-test false e = absurd (let z : ◌≡◌ {A = ℕ} 0 1 = cc in omega arith)
 unbroken (suc n) signature e =
-    let f : brokenField (suc n) signature ≡ 2 = rw (ne_eqb (suc n) 0 (λ z. omega arith)) in
+    let f : broken_field (suc n) signature ≡ 2 = rw (ne_eqb (suc n) 0 (λ z. omega arith)) in
     absurd (let z : ◌≡◌ {A = ℕ} 0 1 = (let o : eqb 2 0 ≡ true = rw f at e in cc) in omega arith)
 
 -- what is told of a segment
 record Judged (s : List ℕ) (m : UpdateComponentSegment) : Type 0 where
   begins : m.component_offset ≡ 0
-  digits : isSignature (bytes_of s m.segment_signature) ≡ true
+  digits : is_signature (bytes_of s m.segment_signature) ≡ true
   number : Unsigned32 m.segment_size
-  strings : AllWellFormed (segmentStrings (bytes_of s m.component_name) (bytes_of s m.segment_signature))
+  strings : AllWellFormed (segment_strings (bytes_of s m.component_name) (bytes_of s m.segment_signature))
 
-segment-judged : (s : List ℕ) (m : UpdateComponentSegment) → segmentOf s ≡ given m → Judged s m
-unfolding segmentOf
-segment-judged s m e = by-gathered (fieldsFrom Schema.Segment s 0) (gathers Schema.Segment s 0) e
+segment-judged : (s : List ℕ) (m : UpdateComponentSegment) → segment_of s ≡ given m → Judged s m
+unfolding segment_of
+segment-judged s m e = by-gathered (fields_from Schema.Segment s 0) (gathers Schema.Segment s 0) e
   where
-    by-test : (g : Gathered) → Gathers s g → (b : Bool) → eqb (brokenField (segmentMade g).component_offset (bytes_of s (segmentMade g).segment_signature)) 0 ≡ b
-        → cond {A = ToldMore UpdateComponentSegment} b (given (segmentMade g)) (refused (50, brokenField (segmentMade g).component_offset (bytes_of s (segmentMade g).segment_signature) ∷ [])) ≡ given m → Judged s m
+    by-test : (g : Gathered) → Gathers s g → (b : Bool) → eqb (broken_field (segment_made g).component_offset (bytes_of s (segment_made g).segment_signature)) 0 ≡ b
+        → cond {A = ToldMore UpdateComponentSegment} b (given (segment_made g)) (refused (50, broken_field (segment_made g).component_offset (bytes_of s (segment_made g).segment_signature) ∷ [])) ≡ given m → Judged s m
     by-test g w true t e =
-        let same : segmentMade g ≡ m = cc in
-        let u = unbroken (segmentMade g).component_offset (bytes_of s (segmentMade g).segment_signature) t in
+        let same : segment_made g ≡ m = cc in
+        let u = unbroken (segment_made g).component_offset (bytes_of s (segment_made g).segment_signature) t in
         subst (λ (x : UpdateComponentSegment). Judged s x) same
         (record { begins = u.0; digits = u.1; number = unsigned-fits (get_or g.scalars second 0); strings = (text-get s g.texts first w.texts, (text-get s g.texts second w.texts, tt)) })
     by-test g w false t e = absurd (let z : ◌≡◌ {A = ℕ} 0 1 = cc in omega arith)
 
-    by-gathered : (r : ToldMore Gathered) → Sat (Gathers s) r → and_then r (λ g. segmentJudged s (segmentMade g)) ≡ given m → Judged s m
-    by-gathered (given g) w e = by-test g w (eqb (brokenField (segmentMade g).component_offset (bytes_of s (segmentMade g).segment_signature)) 0) refl e
+    by-gathered : (r : ToldMore Gathered) → Sat (Gathers s) r → and_then r (λ g. segment_judged s (segment_made g)) ≡ given m → Judged s m
+    by-gathered (given g) w e = by-test g w (eqb (broken_field (segment_made g).component_offset (bytes_of s (segment_made g).segment_signature)) 0) refl e
     by-gathered (refused n) w e = absurd (let z : ◌≡◌ {A = ℕ} 0 1 = cc in omega arith)
 
 pub segments-told-taken : SegmentsToldTaken
@@ -87,8 +87,8 @@ segments-told-taken s out m e lent room =
     taken j m.component_offset j.begins room
   where
     taken : Judged s m → (offset : ℕ) → offset ≡ 0
-        → length (messageBytes (segmentFields (bytes_of s m.component_name) offset m.segment_size (bytes_of s m.segment_signature))) ≤ length out
-        → ReadsBack (segmentWritten (bytes_of s m.component_name) offset m.segment_size (bytes_of s m.segment_signature) out) segmentAgain
+        → length (message_bytes (segment_fields (bytes_of s m.component_name) offset m.segment_size (bytes_of s m.segment_signature))) ≤ length out
+        → ReadsBack (segment_written (bytes_of s m.component_name) offset m.segment_size (bytes_of s m.segment_signature) out) segment_again
         (bytes_of s m.component_name, offset, m.segment_size, bytes_of s m.segment_signature)
     taken j zero z room =
         segment-round-trip (bytes_of s m.component_name) m.segment_size (bytes_of s m.segment_signature) out
@@ -96,26 +96,26 @@ segments-told-taken s out m e lent room =
     taken j (suc n) z room = absurd (omega arith)
 
 -- ---- components
-component-takes : (s : List ℕ) (at : ℕ) → Sat (ComponentWritable s) (componentFrom s at)
-unfolding componentFrom
+component-takes : (s : List ℕ) (at : ℕ) → Sat (ComponentWritable s) (component_from s at)
+unfolding component_from
 component-takes s at =
-    sat-then (Gathers s) (ComponentWritable s) (fieldsFrom Schema.Component s at) _ (gathers Schema.Component s at)
+    sat-then (Gathers s) (ComponentWritable s) (fields_from Schema.Component s at) _ (gathers Schema.Component s at)
     (λ g w. (unsigned-fits (get_or g.scalars first 0), unsigned-fits (get_or g.scalars second 0), ((text-within s g first w, (text-within s g second w, tt)), (text-get s g.texts first w.texts, (text-get s g.texts second w.texts, tt)))))
 
-component-in-takes : (s : List ℕ) (p : Part) → Sat (ComponentWritable s) (componentIn s p)
-unfolding componentIn
+component-in-takes : (s : List ℕ) (p : Part) → Sat (ComponentWritable s) (component_in s p)
+unfolding component_in
 component-in-takes s p =
     let t = take (p.start + p.len) s in
-    sat_weaken (ComponentWritable t) (ComponentWritable s) (componentFrom t p.start) (component-takes t p.start)
-    (λ c h. (h.0, h.1, strings-first (p.start + p.len) s (componentParts c) h.2))
+    sat_weaken (ComponentWritable t) (ComponentWritable s) (component_from t p.start) (component-takes t p.start)
+    (λ c h. (h.0, h.1, strings-first (p.start + p.len) s (component_parts c) h.2))
 
-components-in-take : (s : List ℕ) (ps : List Part) → Sat (ComponentsWritable s) (componentsIn s ps)
+components-in-take : (s : List ℕ) (ps : List Part) → Sat (ComponentsWritable s) (components_in s ps)
 components-in-take s [] = tt
 components-in-take s (p ∷ ps) =
-    sat-then (ComponentWritable s) (ComponentsWritable s) (componentIn s p) _ (component-in-takes s p)
-    (λ c h. sat-then (ComponentsWritable s) (ComponentsWritable s) (componentsIn s ps) _ (components-in-take s ps) (λ cs k. (h, k)))
+    sat-then (ComponentWritable s) (ComponentsWritable s) (component_in s p) _ (component-in-takes s p)
+    (λ c h. sat-then (ComponentsWritable s) (ComponentsWritable s) (components_in s ps) _ (components-in-take s ps) (λ cs k. (h, k)))
 
-none-take : (s : List ℕ) (n : ℕ) → ComponentsWritable s (replicate n noComponent)
+none-take : (s : List ℕ) (n : ℕ) → ComponentsWritable s (replicate n no_component)
 none-take s zero = tt
 none-take s (suc n) = ((omega arith, omega arith, ((zero-le, (zero-le, tt)), (empty, (empty, tt)))), none-take s n)
 
@@ -135,20 +135,20 @@ first-take s (suc n) (c ∷ l) w = (w.0, first-take s n l w.1)
 
 -- eight places, in range
 abbrev pub Eight : List ℕ → List FirmwareComponent → Type 0
-Eight s cs = (length cs ≡ mostRepeated) × ComponentsWritable s cs
+Eight s cs = (length cs ≡ most_repeated) × ComponentsWritable s cs
 
-components-take : (s : List ℕ) (at : ℕ) → Sat (Eight s) (componentsFrom s at)
-unfolding componentsFrom
+components-take : (s : List ℕ) (at : ℕ) → Sat (Eight s) (components_from s at)
+unfolding components_from
 components-take s at =
-    sat-then (ComponentsWritable s) (Eight s) (componentsIn s (partsFrom s at)) _ (components-in-take s (partsFrom s at))
-    (λ cs h. (length-sets (replicate mostRepeated noComponent) 0 cs, sets-take s cs (replicate mostRepeated noComponent) 0 h (none-take s mostRepeated)))
+    sat-then (ComponentsWritable s) (Eight s) (components_in s (parts_from s at)) _ (components-in-take s (parts_from s at))
+    (λ cs h. (length-sets (replicate most_repeated no_component) 0 cs, sets-take s cs (replicate most_repeated no_component) 0 h (none-take s most_repeated)))
 
 -- ---- firmware information
-firmware-takes : (s : List ℕ) (at : ℕ) → Sat (FirmwareWritable s) (firmwareFrom s at)
-unfolding firmwareFrom
+firmware-takes : (s : List ℕ) (at : ℕ) → Sat (FirmwareWritable s) (firmware_from s at)
+unfolding firmware_from
 firmware-takes s at =
-    sat-then (Gathers s) (FirmwareWritable s) (fieldsFrom Schema.Firmware s at) _ (gathers Schema.Firmware s at)
-    (λ g w. sat-then (Eight s) (FirmwareWritable s) (componentsFrom s at) _ (components-take s at)
+    sat-then (Gathers s) (FirmwareWritable s) (fields_from Schema.Firmware s at) _ (gathers Schema.Firmware s at)
+    (λ g w. sat-then (Eight s) (FirmwareWritable s) (components_from s at) _ (components-take s at)
     (λ cs h. record {
       number = unsigned-fits (get_or g.scalars first 0);
       strings = ((text-within s g first w, (text-within s g second w, (text-within s g third w, tt))), (text-get s g.texts first w.texts, (text-get s g.texts second w.texts, (text-get s g.texts third w.texts, tt))));
@@ -160,13 +160,13 @@ firmware-takes s at =
 -- in a longer message
 components-longer : (n : ℕ) (s : List ℕ) (cs : List FirmwareComponent) → ComponentsWritable (take n s) cs → ComponentsWritable s cs
 components-longer n s [] h = tt
-components-longer n s (c ∷ cs) h = ((h.0.0, h.0.1, strings-first n s (componentParts c) h.0.2), components-longer n s cs h.1)
+components-longer n s (c ∷ cs) h = ((h.0.0, h.0.1, strings-first n s (component_parts c) h.0.2), components-longer n s cs h.1)
 
-firmware-in-takes : (s : List ℕ) (p : Part) → Sat (FirmwareWritable s) (firmwareIn s p)
-unfolding firmwareIn
+firmware-in-takes : (s : List ℕ) (p : Part) → Sat (FirmwareWritable s) (firmware_in s p)
+unfolding firmware_in
 firmware-in-takes s p =
     let t = take (p.start + p.len) s in
-    sat_weaken (FirmwareWritable t) (FirmwareWritable s) (firmwareFrom t p.start) (firmware-takes t p.start)
+    sat_weaken (FirmwareWritable t) (FirmwareWritable s) (firmware_from t p.start) (firmware-takes t p.start)
     (λ f h. record {
       number = h.number;
       strings = strings-first (p.start + p.len) s (f.name ∷ f.locale ∷ f.version_name ∷ []) h.strings;
@@ -176,24 +176,24 @@ firmware-in-takes s p =
     })
 
 -- ---- the message
-pub apply-takes : (s : List ℕ) → Sat (λ (a : ApplyFirmware). FirmwareWritable s a.firmware_information) (applyOf s)
-unfolding applyOf
+pub apply-takes : (s : List ℕ) → Sat (λ (a : ApplyFirmware). FirmwareWritable s a.firmware_information) (apply_of s)
+unfolding apply_of
 apply-takes s =
     let Q : ApplyFirmware → Type 0 = λ a. FirmwareWritable s a.firmware_information in
-    sat-then (Gathers s) Q (fieldsFrom Schema.Apply s 0) _ (gathers Schema.Apply s 0)
-    (λ g w. sat-then (FirmwareWritable s) Q (firmwareIn s g.part) _ (firmware-in-takes s g.part) (λ f h. h))
+    sat-then (Gathers s) Q (fields_from Schema.Apply s 0) _ (gathers Schema.Apply s 0)
+    (λ g w. sat-then (FirmwareWritable s) Q (firmware_in s g.part) _ (firmware-in-takes s g.part) (λ f h. h))
 
 -- .. with eight components, those that are not there in range too
-pub apply-eight : (s : List ℕ) → Sat (λ (a : ApplyFirmware). Eight s a.firmware_information.components) (applyOf s)
-unfolding applyOf firmwareIn firmwareFrom
+pub apply-eight : (s : List ℕ) → Sat (λ (a : ApplyFirmware). Eight s a.firmware_information.components) (apply_of s)
+unfolding apply_of firmware_in firmware_from
 apply-eight s =
     let Q : ApplyFirmware → Type 0 = λ a. Eight s a.firmware_information.components in
     let P : FirmwareInformation → Type 0 = λ f. Eight s f.components in
-    sat-then (Gathers s) Q (fieldsFrom Schema.Apply s 0) _ (gathers Schema.Apply s 0)
+    sat-then (Gathers s) Q (fields_from Schema.Apply s 0) _ (gathers Schema.Apply s 0)
     (λ g w. let t = take (g.part.start + g.part.len) s in
-    sat-then P Q (firmwareIn s g.part) _
-    (sat-then (Gathers t) P (fieldsFrom Schema.Firmware t g.part.start) _ (gathers Schema.Firmware t g.part.start)
-    (λ h k. sat-then (Eight t) P (componentsFrom t g.part.start) _ (components-take t g.part.start)
+    sat-then P Q (firmware_in s g.part) _
+    (sat-then (Gathers t) P (fields_from Schema.Firmware t g.part.start) _ (gathers Schema.Firmware t g.part.start)
+    (λ h k. sat-then (Eight t) P (components_from t g.part.start) _ (components-take t g.part.start)
     (λ cs e. (e.0, components-longer (g.part.start + g.part.len) s cs e.1)))) (λ f h. h))
 
 pub applies-told-taken : AppliesToldTaken
@@ -201,7 +201,7 @@ unfolding AppliesToldTaken ApplyRoundTrip
 applies-told-taken s out a e lent room =
     apply-round-trip a s out
     (record {
-      firmware = sat-given (λ (x : ApplyFirmware). FirmwareWritable s x.firmware_information) (applyOf s) a (apply-takes s) e;
+      firmware = sat-given (λ (x : ApplyFirmware). FirmwareWritable s x.firmware_information) (apply_of s) a (apply-takes s) e;
       lent = omega (arith, lent);
       room = omega (arith, room);
     })

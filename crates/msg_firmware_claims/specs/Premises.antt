@@ -4,18 +4,18 @@ use Rattle.std.proofs.lemmas.List.Edits.{sets}
 use Rattle.proto_field.specs.declared.value.Part.{Part}
 use Rattle.proto_field.specs.Value.{bytes_of}
 use Rattle.utf8.specs.WellFormed.{WellFormed}
-use Rattle.proto_writer.specs.Writer.{messageBytes}
+use Rattle.proto_writer.specs.Writer.{message_bytes}
 use Rattle.proto_reader.specs.Gathered.{no_part}
 use Rattle.msg_firmware.specs.declared.component.FirmwareComponent.{FirmwareComponent}
 use Rattle.msg_firmware.specs.declared.information.FirmwareInformation.{FirmwareInformation}
 use Rattle.msg_firmware.specs.declared.apply.ApplyFirmware.{ApplyFirmware}
-use Rattle.msg_segment_writer.specs.Segment.{segmentFields, segmentWritten}
-use Rattle.msg_firmware.specs.Component.{noComponent}
+use Rattle.msg_segment_writer.specs.Segment.{segment_fields, segment_written}
+use Rattle.msg_firmware.specs.Component.{no_component}
 use Rattle.msg_apply_writer.specs.Information.{present}
-use Rattle.msg_apply_writer.specs.Apply.{applyFields, applyWritten}
+use Rattle.msg_apply_writer.specs.Apply.{apply_fields, apply_written}
 use Rattle.msg_claims.specs.RoundTrip.{ReadsBack}
 use Rattle.msg_claims.specs.Premises.{Lendable}
-use Rattle.msg_firmware_claims.specs.RoundTrip.{SegmentWritable, segmentAgain, ApplyWritable, applyAgain}
+use Rattle.msg_firmware_claims.specs.RoundTrip.{SegmentWritable, segment_again, ApplyWritable, apply_again}
 
 -- from 0 to 4,294,967,295
 abbrev pub InUnsigned32 : ℕ → Type 0
@@ -35,7 +35,7 @@ Digits (b ∷ l) = Digit b × Digits l
 unfoldable pub SegmentsTaken : Type 0
 SegmentsTaken =
     (name : List ℕ) (size : ℕ) (signature out : List ℕ) → WellFormed name → InUnsigned32 size → length signature ≡ 64 → Digits signature → Lendable out
-    → length (messageBytes (segmentFields name 0 size signature)) ≤ length out → SegmentWritable name size signature out
+    → length (message_bytes (segment_fields name 0 size signature)) ≤ length out → SegmentWritable name size signature out
 
 -- a part that lies within the texts, and is well formed
 abbrev pub Lies : List ℕ → Part → Type 0
@@ -51,7 +51,7 @@ AppliesTaken =
     (a : ApplyFirmware) (texts out : List ℕ) → InUnsigned32 a.firmware_information.version → length a.firmware_information.components ≡ 8
     → a.firmware_information.count ≤ 8 → Lies texts a.firmware_information.name → Lies texts a.firmware_information.locale
     → Lies texts a.firmware_information.version_name → ComponentsInRange texts (present a.firmware_information) → Lendable out
-    → length (messageBytes (applyFields texts a)) ≤ length out → ApplyWritable a texts out
+    → length (message_bytes (apply_fields texts a)) ≤ length out → ApplyWritable a texts out
 
 -- ---- by computation
 -- an output that held something before
@@ -66,22 +66,22 @@ abbrev part : ℕ → ℕ → Part
 part start len = record { start = start; len = len }
 
 -- a name and a locale of one byte each, a component with a name, and an empty one
-abbrev someFirmware : FirmwareInformation
-someFirmware =
+abbrev some_firmware : FirmwareInformation
+some_firmware =
     record {
       version = 0;
       name = part 0 1;
-      components = sets (replicate 8 noComponent) 0 (record { version = 5; name = part 1 1; size = 300; signature = no_part } ∷ []);
+      components = sets (replicate 8 no_component) 0 (record { version = 5; name = part 1 1; size = 300; signature = no_part } ∷ []);
       count = 2;
       locale = part 2 1;
       version_name = no_part;
     }
 
-abbrev someApply : ApplyFirmware
-someApply = record { firmware_information = someFirmware; restart_required = true }
+abbrev some_apply : ApplyFirmware
+some_apply = record { firmware_information = some_firmware; restart_required = true }
 
 -- each into an output of exactly its size: `0A 01 58 18 Ac 02 22 40` and 64 digits, `0A 12 12 01 41 1A 08 08 05 12 01 42 18 Ac 02 1A 00 22 01 43 10 01`
 pub record OneFirmwareOfEach : Type 0 where
-  pub segment : ReadsBack (segmentWritten (88 ∷ []) 0 300 hash (output 72)) segmentAgain (88 ∷ [], 0, 300, hash)
-  pub apply : ReadsBack (applyWritten someApply (65 ∷ 66 ∷ 67 ∷ []) (output 22)) applyAgain
+  pub segment : ReadsBack (segment_written (88 ∷ []) 0 300 hash (output 72)) segment_again (88 ∷ [], 0, 300, hash)
+  pub apply : ReadsBack (apply_written some_apply (65 ∷ 66 ∷ 67 ∷ []) (output 22)) apply_again
       (true, (0, 65 ∷ [], 2, (5, 66 ∷ [], 300, []) ∷ (0, [], 0, []) ∷ [], 67 ∷ [], []))

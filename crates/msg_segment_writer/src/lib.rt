@@ -2,11 +2,11 @@
 ghost use Rattle.std.specs.Prelude.{◌≡◌, ◌≤◌, length};
 ghost use Rattle.wire.specs.Told.{written};
 ghost use Rattle.wire.specs.Put.{Put};
-ghost use Rattle.proto_writer.specs.Writer.{messageBytes};
-ghost use Rattle.proto_writer.specs.Message.{lessRoom};
-ghost use Rattle.proto_reader.specs.Refusal.{numberMore};
-ghost use Rattle.msg_segment_writer.specs.Segment.{segmentStrings, segmentFields, segmentFilled, segmentWritten, toldSegmentWrote};
-ghost use Rattle.proto_strings.specs.Texts.{firstFault};
+ghost use Rattle.proto_writer.specs.Writer.{message_bytes};
+ghost use Rattle.proto_writer.specs.Message.{less_room};
+ghost use Rattle.proto_reader.specs.Refusal.{number_more};
+ghost use Rattle.msg_segment_writer.specs.Segment.{segment_strings, segment_fields, segment_filled, segment_written, told_segment_wrote};
+ghost use Rattle.proto_strings.specs.Texts.{first_fault};
 
 use msg_firmware::segment::broken_field;
 use proto_schema::{COMPONENT_NAME, NO_FIELD, SEGMENT_SIGNATURE, SEGMENT_SIZE};
@@ -29,7 +29,7 @@ pub enum SegmentWrote {
 impl SegmentWrote {
     // 0 where the segment is written.
     pub fn number(self) -> u8
-        ensures { result ≡ numberMore (toldSegmentWrote self) }
+        ensures { result ≡ number_more (told_segment_wrote self) }
     {
         match self {
             SegmentWrote::Done(_) => 0,
@@ -48,10 +48,10 @@ fn segment_room(
     segment_signature: &[u8],
 ) -> Room
     ensures { result
-        ≡ lessRoom
+        ≡ less_room
         (length
-        (messageBytes
-        (segmentFields component_name.now 0 segment_size segment_signature.now)))
+        (message_bytes
+        (segment_fields component_name.now 0 segment_size segment_signature.now)))
         (Room.Left len) }
 {
     Room::Left(len)
@@ -67,11 +67,11 @@ fn put_segment(
     segment_size: u32,
     segment_signature: &[u8],
 ) -> usize
-    requires { length (messageBytes (segmentFields component_name.now 0 segment_size segment_signature.now))
+    requires { length (message_bytes (segment_fields component_name.now 0 segment_size segment_signature.now))
         ≤ length out.old }
     ensures { Put out.old 0
-        (messageBytes
-        (segmentFields component_name.now 0 segment_size segment_signature.now)) result
+        (message_bytes
+        (segment_fields component_name.now 0 segment_size segment_signature.now)) result
         out.new }
 {
     let second = put_text(out, 0, COMPONENT_NAME, component_name);
@@ -87,8 +87,8 @@ fn fill_segment(
     segment_size: u32,
     segment_signature: &[u8],
 ) -> SegmentWrote
-    ensures { written (toldSegmentWrote result) out.new
-        ≡ segmentFilled component_name.now component_offset segment_size
+    ensures { written (told_segment_wrote result) out.new
+        ≡ segment_filled component_name.now component_offset segment_size
         segment_signature.now out.old }
 {
     let broken = broken_field(component_offset, segment_signature);
@@ -107,7 +107,7 @@ fn fill_segment(
 // The first string that is not well formed.
 fn segment_fault(component_name: &[u8], segment_signature: &[u8]) -> TextFault
     ensures { result
-        ≡ firstFault (segmentStrings component_name.now segment_signature.now) }
+        ≡ first_fault (segment_strings component_name.now segment_signature.now) }
 {
     TextFault::None
         .or_text(COMPONENT_NAME, component_name)
@@ -122,8 +122,8 @@ pub fn write_segment(
     segment_size: u32,
     segment_signature: &[u8],
 ) -> SegmentWrote
-    ensures { written (toldSegmentWrote result) out.new
-        ≡ segmentWritten component_name.now component_offset segment_size
+    ensures { written (told_segment_wrote result) out.new
+        ≡ segment_written component_name.now component_offset segment_size
         segment_signature.now out.old }
 {
     match segment_fault(component_name, segment_signature) {

@@ -6,7 +6,7 @@ use native.Mathlib.Nat.{mod-lt, one-le-pow, div-add-mod', div-one, div-div-eq-di
 use native.Mathlib.Omega.{arith}
 use lib.Arith.{mod-mul, digits_div, digits_mod}
 use lib.ListN.{length, get_or}
-use Rattle.wire.specs.Bytes.{pair_of, pairBytes}
+use Rattle.wire.specs.Bytes.{pair_of, pair_bytes}
 use Rattle.outbox.specs.Format.{number_of, bytes_of}
 
 -- a field's bytes are as many as its width
@@ -36,7 +36,7 @@ number-pair [] = refl
 number-pair (a ∷ []) = omega arith
 number-pair (a ∷ b ∷ l) = omega arith
 
-pub bytes_pair : (n : ℕ) → bytes_of 2 n ≡ pairBytes n
+pub bytes_pair : (n : ℕ) → bytes_of 2 n ≡ pair_bytes n
 unfolding bytes_of
 bytes_pair n = rw (div-one (n % 256))
 
@@ -49,7 +49,7 @@ number-pairs (a ∷ b ∷ []) = omega arith
 number-pairs (a ∷ b ∷ c ∷ []) = omega arith
 number-pairs (a ∷ b ∷ c ∷ d ∷ l) = omega arith
 
-pub bytes-pairs : (n : ℕ) → bytes_of 4 n ≡ pairBytes (n / 65536) ++ pairBytes (n % 65536)
+pub bytes-pairs : (n : ℕ) → bytes_of 4 n ≡ pair_bytes (n / 65536) ++ pair_bytes (n % 65536)
 unfolding bytes_of
 bytes-pairs n =
     let low : n % 65536 < 65536 = mod-lt n (omega arith) in

@@ -4,7 +4,7 @@ use mathlib.Core.Path.{◌≡◌}
 use mathlib.Core.Bool.{Bool, true, false, cond}
 use mathlib.Core.List.{List}
 use native.Mathlib.Omega.{arith}
-use Rattle.outbox.specs.Format.{Format, versionOne, versionTwo, Known, one, two, isOne, format_of}
+use Rattle.outbox.specs.Format.{Format, version_one, version_two, Known, one, two, is_one, format_of}
 
 -- what code over any of them needs: a length has 2 to 4 bytes, and no sum runs over
 pub known_small : (fmt : Format) → Known fmt → (2 ≤ fmt.width) × (fmt.width ≤ 4) × (fmt.limit ≤ 65535)
@@ -22,24 +22,24 @@ known-four fmt one n = absurd (n (omega arith))
 known-four fmt two n = omega arith
 
 -- a file is judged by one of them
-pub format-one : (file : List ℕ) → isOne file ≡ true → format_of file ≡ versionOne
+pub format-one : (file : List ℕ) → is_one file ≡ true → format_of file ≡ version_one
 unfolding format_of
 format-one file e = rw e
 
-pub format-two : (file : List ℕ) → isOne file ≡ false → format_of file ≡ versionTwo
+pub format-two : (file : List ℕ) → is_one file ≡ false → format_of file ≡ version_two
 unfolding format_of
 format-two file e = rw e
 
 pub format-known : (file : List ℕ) → Known (format_of file)
 unfolding format_of
-format-known file = by_first (isOne file)
+format-known file = by_first (is_one file)
   where
-    by_first : (b : Bool) → Known (cond b versionOne versionTwo)
+    by_first : (b : Bool) → Known (cond b version_one version_two)
     by_first true = one
     by_first false = two
 
-pub known-one : (fmt : Format) → fmt ≡ versionOne → Known fmt
+pub known-one : (fmt : Format) → fmt ≡ version_one → Known fmt
 known-one fmt e = rw e one
 
-pub known_two : (fmt : Format) → fmt ≡ versionTwo → Known fmt
+pub known_two : (fmt : Format) → fmt ≡ version_two → Known fmt
 known_two fmt e = rw e two

@@ -1,8 +1,8 @@
 -- Reading an outbox: the record at a place, place after place, and whether all is whole.
 use Rattle.std.specs.Prelude.{ℕ, zero, suc, ◌+◌, ◌-◌, Bool, cond, not, ◌&&◌, ◌||◌, List, [], ◌∷◌, eqb, leb, ltb, length, get_or, take, drop}
 use Rattle.wire.specs.Told.{line, table}
-use Rattle.wire.specs.Stream.{isStream}
-use Rattle.outbox.specs.Format.{Format, number_of, headSize, firstPlace}
+use Rattle.wire.specs.Stream.{is_stream}
+use Rattle.outbox.specs.Format.{Format, number_of, head_size, first_place}
 use Rattle.outbox.specs.declared.verdict.Fault.{Fault}
 use Rattle.outbox.specs.declared.verdict.Fault.TheVariants.{Version, Length, Cut, Stream}
 use Rattle.outbox.specs.declared.judging.Judged.{Judged}
@@ -20,9 +20,9 @@ pub record FoundRecord : Type 0 where
 abbrev pub found_at : Format → ℕ → ℕ → ℕ → FoundRecord
 found_at fmt place stream size = record {
   stream = stream;
-  start = place + headSize fmt;
+  start = place + head_size fmt;
   size = size;
-  next = place + headSize fmt + size;
+  next = place + head_size fmt + size;
 }
 
 -- what stands at a place
@@ -34,56 +34,56 @@ pub data Item : Type 0 where
 pub data Answer (A : Type 0) : Type 0 where
   given : A → Answer A
   refused : ℕ → Answer A
-  refusedAt : ℕ → ℕ → Answer A
+  refused_at : ℕ → ℕ → Answer A
 
 -- 0, or the number of the refusal
 abbrev pub number_in : {A : Type 0} → Answer A → ℕ
 number_in (given a) = 0
 number_in (refused n) = n
-number_in (refusedAt n place) = n
+number_in (refused_at n place) = n
 
 -- 40: the outbox is empty, or its version is another
-unfoldable pub otherVersion : Format → List ℕ → Bool
-otherVersion fmt file = eqb (length file) 0 || not (eqb (get_or file 0 0) fmt.version)
+unfoldable pub other_version : Format → List ℕ → Bool
+other_version fmt file = eqb (length file) 0 || not (eqb (get_or file 0 0) fmt.version)
 
 -- 15: a place that is 0 or beyond the bytes
-unfoldable pub badPlace : List ℕ → ℕ → Bool
-badPlace file place = eqb place 0 || ltb (length file) place
+unfoldable pub bad_place : List ℕ → ℕ → Bool
+bad_place file place = eqb place 0 || ltb (length file) place
 
 -- the length of the record at the front of some bytes: it counts the stream byte and the payload
-abbrev pub lengthIn : Format → List ℕ → ℕ
-lengthIn fmt rest = number_of fmt.width rest
+abbrev pub length_in : Format → List ℕ → ℕ
+length_in fmt rest = number_of fmt.width rest
 
 -- 42: a length, all of whose bytes are there, that is 0 or too large
-unfoldable pub badLength : Format → List ℕ → Bool
-badLength fmt rest = leb fmt.width (length rest) && (eqb (lengthIn fmt rest) 0 || ltb (fmt.limit + 1) (lengthIn fmt rest))
+unfoldable pub bad_length : Format → List ℕ → Bool
+bad_length fmt rest = leb fmt.width (length rest) && (eqb (length_in fmt rest) 0 || ltb (fmt.limit + 1) (length_in fmt rest))
 
 -- 41: the bytes end inside the record, or inside its length
-unfoldable pub cutShort : Format → List ℕ → Bool
-cutShort fmt rest = ltb (length rest) (fmt.width + lengthIn fmt rest)
+unfoldable pub cut_short : Format → List ℕ → Bool
+cut_short fmt rest = ltb (length rest) (fmt.width + length_in fmt rest)
 
 -- 43: the record's stream byte is no stream
-unfoldable pub badStream : Format → List ℕ → Bool
-badStream fmt rest = not (isStream (get_or rest fmt.width 0))
+unfoldable pub bad_stream : Format → List ℕ → Bool
+bad_stream fmt rest = not (is_stream (get_or rest fmt.width 0))
 
 -- the record at a place, from the bytes from there on
-unfoldable pub recordAt : Format → ℕ → List ℕ → Answer Item
-recordAt fmt place rest =
+unfoldable pub record_at : Format → ℕ → List ℕ → Answer Item
+record_at fmt place rest =
     table
-    (line 42 (badLength fmt rest) ∷ line 41 (cutShort fmt rest) ∷ line 43 (badStream fmt rest) ∷ [])
-    (λ n. refusedAt n place)
-    (given (found (found_at fmt place (get_or rest fmt.width 0) (lengthIn fmt rest - 1))))
+    (line 42 (bad_length fmt rest) ∷ line 41 (cut_short fmt rest) ∷ line 43 (bad_stream fmt rest) ∷ [])
+    (λ n. refused_at n place)
+    (given (found (found_at fmt place (get_or rest fmt.width 0) (length_in fmt rest - 1))))
 
 -- reading at a place: 40, 15, the end at the end, then the record
 unfoldable pub read_of : Format → List ℕ → ℕ → Answer Item
 read_of fmt file place =
     table
-    (line 40 (otherVersion fmt file) ∷ [])
-    (λ n. refusedAt n 0)
+    (line 40 (other_version fmt file) ∷ [])
+    (λ n. refused_at n 0)
     (table
-    (line 15 (badPlace file place) ∷ [])
+    (line 15 (bad_place file place) ∷ [])
     refused
-    (cond (eqb place (length file)) (given end) (recordAt fmt place (drop place file))))
+    (cond (eqb place (length file)) (given end) (record_at fmt place (drop place file))))
 
 -- what a reading hands out: its answer, and the bytes that it points to
 pub record HandedRecord : Type 0 where
@@ -91,11 +91,11 @@ pub record HandedRecord : Type 0 where
   pub payload : List ℕ
 
 -- the payload that an answer points to
-abbrev pub payloadIn : List ℕ → Answer Item → List ℕ
-payloadIn file (given (found f)) = take f.size (drop f.start file)
-payloadIn file (given end) = []
-payloadIn file (refused n) = []
-payloadIn file (refusedAt n place) = []
+abbrev pub payload_in : List ℕ → Answer Item → List ℕ
+payload_in file (given (found f)) = take f.size (drop f.start file)
+payload_in file (given end) = []
+payload_in file (refused n) = []
+payload_in file (refused_at n place) = []
 
 abbrev pub handed : Answer Item → List ℕ → HandedRecord
 handed answer payload = record { answer = answer; payload = payload }
@@ -105,52 +105,52 @@ abbrev pub onward : Answer Item → (ℕ → List HandedRecord) → List HandedR
 onward (given (found f)) go = go f.next
 onward (given end) go = []
 onward (refused n) go = []
-onward (refusedAt n place) go = []
+onward (refused_at n place) go = []
 
 -- reading place after place, at most `turns` times
 unfoldable pub readings : ℕ → Format → List ℕ → ℕ → List HandedRecord
 readings zero fmt file place = []
 readings (suc turns) fmt file place =
     let answer = read_of fmt file place in
-    handed answer (payloadIn file answer) ∷ onward answer (λ next. readings turns fmt file next)
+    handed answer (payload_in file answer) ∷ onward answer (λ next. readings turns fmt file next)
 
 -- .. from the first record on, to the end or a refusal: there are no more records than bytes
 unfoldable pub read_all : Format → List ℕ → List HandedRecord
-read_all fmt file = readings (suc (length file)) fmt file firstPlace
+read_all fmt file = readings (suc (length file)) fmt file first_place
 
 -- a refusal, or what follows
-abbrev pub refusalOr : Answer Item → Answer (Unit {0}) → Answer (Unit {0})
-refusalOr (given item) rest = rest
-refusalOr (refused n) rest = refused n
-refusalOr (refusedAt n place) rest = refusedAt n place
+abbrev pub refusal_or : Answer Item → Answer (Unit {0}) → Answer (Unit {0})
+refusal_or (given item) rest = rest
+refusal_or (refused n) rest = refused n
+refusal_or (refused_at n place) rest = refused_at n place
 
 -- the first refusal among the answers, or that there is none
-abbrev pub firstRefusal : List HandedRecord → Answer (Unit {0})
-firstRefusal [] = given tt
-firstRefusal (h ∷ hs) = refusalOr h.answer (firstRefusal hs)
+abbrev pub first_refusal : List HandedRecord → Answer (Unit {0})
+first_refusal [] = given tt
+first_refusal (h ∷ hs) = refusal_or h.answer (first_refusal hs)
 
 -- the walk: all is whole, or the first refusal and its place
 unfoldable pub walk_of : Format → List ℕ → Answer (Unit {0})
-walk_of fmt file = firstRefusal (read_all fmt file)
+walk_of fmt file = first_refusal (read_all fmt file)
 
 -- ---- what the code's answers tell, in the numbers of docs/FORMATS.md
 
-abbrev pub faultNumber : Fault → ℕ
-faultNumber Version = 40
-faultNumber Length = 42
-faultNumber Cut = 41
-faultNumber Stream = 43
+abbrev pub fault_number : Fault → ℕ
+fault_number Version = 40
+fault_number Length = 42
+fault_number Cut = 41
+fault_number Stream = 43
 
-abbrev pub toldJudged : Format → ℕ → Judged → Answer Item
-toldJudged fmt place (Judged.Record stream size) = given (found (found_at fmt place stream size))
-toldJudged fmt place (Judged.Broken fault) = refusedAt (faultNumber fault) place
+abbrev pub told_judged : Format → ℕ → Judged → Answer Item
+told_judged fmt place (Judged.Record stream size) = given (found (found_at fmt place stream size))
+told_judged fmt place (Judged.Broken fault) = refused_at (fault_number fault) place
 
 abbrev pub told : Reading → Answer Item
 told (Reading.Record stream start size next) = given (found (record { stream = stream; start = start; size = size; next = next }))
 told Reading.End = given end
 told Reading.BadPlace = refused 15
-told (Reading.Broken fault place) = refusedAt (faultNumber fault) place
+told (Reading.Broken fault place) = refused_at (fault_number fault) place
 
-abbrev pub toldWalk : Walked → Answer (Unit {0})
-toldWalk Walked.Whole = given tt
-toldWalk (Walked.Broken fault place) = refusedAt (faultNumber fault) place
+abbrev pub told_walk : Walked → Answer (Unit {0})
+told_walk Walked.Whole = given tt
+told_walk (Walked.Broken fault place) = refused_at (fault_number fault) place

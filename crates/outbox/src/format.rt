@@ -1,7 +1,7 @@
 // The outbox file: a version byte, then records. A record is its length, a stream byte and a payload.
 ghost use Rattle.std.specs.Prelude.{◌≡◌};
-ghost use Rattle.outbox.specs.Format.{versionOne, versionTwo, isOne, format_of};
-ghost use Rattle.outbox.specs.Reader.{otherVersion};
+ghost use Rattle.outbox.specs.Format.{version_one, version_two, is_one, format_of};
+ghost use Rattle.outbox.specs.Reader.{other_version};
 
 use wire::bytes::byte_at;
 use wire::logic::either;
@@ -19,7 +19,7 @@ pub struct Format {
 
 impl Format {
     pub fn one() -> Self
-        ensures { result ≡ versionOne }
+        ensures { result ≡ version_one }
     {
         Format {
             version: 1,
@@ -29,7 +29,7 @@ impl Format {
     }
 
     pub fn two() -> Self
-        ensures { result ≡ versionTwo }
+        ensures { result ≡ version_two }
     {
         Format {
             version: 2,
@@ -52,13 +52,13 @@ impl Format {
 
 // Whether a file is judged by version 01; any other is by 02. Callers branch on it, so that each way has its numbers as constants.
 pub fn is_one(file: &[u8]) -> bool
-    ensures { result ≡ isOne file.now }
+    ensures { result ≡ is_one file.now }
 {
     byte_at(file, 0) == 1
 }
 
 pub fn other_version(file: &[u8], fmt: Format) -> bool
-    ensures { result ≡ otherVersion fmt file.now }
+    ensures { result ≡ other_version fmt file.now }
 {
     either(file.len() == 0, byte_at(file, 0) != fmt.version)
 }

@@ -1,7 +1,7 @@
 // The record at the front of some bytes, and record after record. Where a file's version is known.
 ghost use Rattle.std.specs.Prelude.{◌≡◌, false, ℕ, ◌≤◌, length};
-ghost use Rattle.outbox.specs.Format.{Known, firstPlace};
-ghost use Rattle.outbox.specs.Reader.{given, otherVersion, lengthIn, recordAt, read_of, refusalOr, walk_of, toldJudged, toldWalk};
+ghost use Rattle.outbox.specs.Format.{Known, first_place};
+ghost use Rattle.outbox.specs.Reader.{given, other_version, length_in, record_at, read_of, refusal_or, walk_of, told_judged, told_walk};
 
 use crate::format::{FIRST_PLACE, Format};
 use crate::verdict::{Fault, Walked};
@@ -19,7 +19,7 @@ pub enum Judged {
 // The length of the record at the front of some bytes: a field of two bytes, or of four.
 fn length_in(rest: &[u8], fmt: Format) -> usize
     requires { Known fmt × (fmt.width ≤ length rest.now) }
-    ensures { result ≡ lengthIn fmt rest.now }
+    ensures { result ≡ length_in fmt rest.now }
 {
     let high = pair(rest[0], rest[1]);
     if fmt.width == 2 {
@@ -32,7 +32,7 @@ fn length_in(rest: &[u8], fmt: Format) -> usize
 // The length is judged once all its bytes are there; before that the record is cut short.
 pub fn judge(rest: &[u8], fmt: Format) -> Judged
     requires { Known fmt }
-    ensures { (place : ℕ) → toldJudged fmt place result ≡ recordAt fmt place rest.now }
+    ensures { (place : ℕ) → told_judged fmt place result ≡ record_at fmt place rest.now }
 {
     let width = fmt.width;
     if rest.len() < width {
@@ -57,10 +57,10 @@ pub fn judge(rest: &[u8], fmt: Format) -> Judged
 // The place up to which the records of an outbox are whole: what is read there decides. The loop hands on nothing else,
 // since constants that it would have to keep for each way out cost every record.
 fn whole_up_to(file: &[u8], fmt: Format) -> usize
-    requires { Known fmt × (otherVersion fmt file.now ≡ false) }
-    ensures { (firstPlace ≤ result)
+    requires { Known fmt × (other_version fmt file.now ≡ false) }
+    ensures { (first_place ≤ result)
         × (result ≤ length file.now)
-        × (walk_of fmt file.now ≡ refusalOr (read_of fmt file.now result) (given tt)) }
+        × (walk_of fmt file.now ≡ refusal_or (read_of fmt file.now result) (given tt)) }
 {
     let mut place = FIRST_PLACE;
     while place < file.len() {
@@ -79,8 +79,8 @@ fn whole_up_to(file: &[u8], fmt: Format) -> usize
 
 // Whether the records of an outbox are whole, or its first refusal.
 pub fn walk_records(file: &[u8], fmt: Format) -> Walked
-    requires { Known fmt × (otherVersion fmt file.now ≡ false) }
-    ensures { toldWalk result ≡ walk_of fmt file.now }
+    requires { Known fmt × (other_version fmt file.now ≡ false) }
+    ensures { told_walk result ≡ walk_of fmt file.now }
 {
     let place = whole_up_to(file, fmt);
     if place == file.len() {
@@ -95,8 +95,8 @@ pub fn walk_records(file: &[u8], fmt: Format) -> Walked
 // The same before an append: an outbox that has its version byte alone, which is what a box appends to, is not walked.
 // Slice and format are built again, so that they are put into memory only where it is walked.
 pub fn walk_used(file: &[u8], fmt: Format) -> Walked
-    requires { Known fmt × (otherVersion fmt file.now ≡ false) }
-    ensures { toldWalk result ≡ walk_of fmt file.now }
+    requires { Known fmt × (other_version fmt file.now ≡ false) }
+    ensures { told_walk result ≡ walk_of fmt file.now }
 {
     if file.len() == FIRST_PLACE {
         return Walked::Whole;

@@ -1,8 +1,8 @@
 // Reading an outbox: the record at a place, and whether all is whole.
 ghost use Rattle.std.specs.Prelude.{◌≡◌};
 ghost use Rattle.outbox.specs.Format.{Known, format_of};
-ghost use Rattle.outbox.specs.Reader.{badPlace, read_of, walk_of};
-ghost use Rattle.outbox.specs.Reader.{number_in, told, toldWalk};
+ghost use Rattle.outbox.specs.Reader.{bad_place, read_of, walk_of};
+ghost use Rattle.outbox.specs.Reader.{number_in, told, told_walk};
 
 use crate::format::{Format, is_one, other_version};
 use crate::judging::{Judged, judge, walk_records};
@@ -47,7 +47,7 @@ impl Reading {
 }
 
 fn bad_place(file: &[u8], place: usize) -> bool
-    ensures { result ≡ badPlace file.now place }
+    ensures { result ≡ bad_place file.now place }
 {
     either(place == 0, file.len() < place)
 }
@@ -98,7 +98,7 @@ pub fn read(file: &[u8], place: usize) -> Reading
 
 fn walk_by(file: &[u8], fmt: Format) -> Walked
     requires { Known fmt }
-    ensures { toldWalk result ≡ walk_of fmt file.now }
+    ensures { told_walk result ≡ walk_of fmt file.now }
 {
     if other_version(file, fmt) {
         return Walked::Broken {
@@ -111,7 +111,7 @@ fn walk_by(file: &[u8], fmt: Format) -> Walked
 
 // Whether an outbox is whole from its first byte to its last, or its first refusal.
 pub fn walk(file: &[u8]) -> Walked
-    ensures { toldWalk result ≡ walk_of (format_of file.now) file.now }
+    ensures { told_walk result ≡ walk_of (format_of file.now) file.now }
 {
     if is_one(file) {
         walk_by(file, Format::one())

@@ -1,6 +1,6 @@
 // What is wrong with an outbox, and whether all of it is whole.
 ghost use Rattle.std.specs.Prelude.{◌≡◌};
-ghost use Rattle.outbox.specs.Reader.{faultNumber, number_in, toldWalk};
+ghost use Rattle.outbox.specs.Reader.{fault_number, number_in, told_walk};
 
 // What is wrong with an outbox's bytes.
 #[derive(Drop)]
@@ -14,7 +14,7 @@ pub enum Fault {
 impl Fault {
     // The refusal number of docs/FORMATS.md.
     pub fn number(self) -> u8
-        ensures { result ≡ faultNumber self }
+        ensures { result ≡ fault_number self }
     {
         match self {
             Fault::Version => 40,
@@ -35,7 +35,7 @@ pub enum Walked {
 impl Walked {
     // The refusal number, or 0 where nothing is refused.
     pub fn number(self) -> u8
-        ensures { result ≡ number_in (toldWalk self) }
+        ensures { result ≡ number_in (told_walk self) }
     {
         match self {
             Walked::Whole => 0,

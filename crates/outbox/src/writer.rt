@@ -1,9 +1,9 @@
 // Writing an outbox into a lent buffer: a new one, and a record after the used bytes.
 ghost use Rattle.std.specs.Prelude.{◌≡◌, false, ◌+◌, ◌≤◌, length, take};
 ghost use Rattle.std.proofs.lemmas.List.Edits.{sets};
-ghost use Rattle.outbox.specs.Format.{versionTwo, Known, format_of, headSize, bytes_of, recordBytes};
-ghost use Rattle.outbox.specs.Reader.{number_in, otherVersion};
-ghost use Rattle.outbox.specs.Writer.{stored, newOf, badRecord, appendOf, toldNew, told};
+ghost use Rattle.outbox.specs.Format.{version_two, Known, format_of, head_size, bytes_of, record_bytes};
+ghost use Rattle.outbox.specs.Reader.{number_in, other_version};
+ghost use Rattle.outbox.specs.Writer.{stored, new_of, bad_record, append_of, told_new, told};
 
 use crate::format::{FIRST_PLACE, Format, is_one, other_version};
 use crate::judging::walk_used;
@@ -27,7 +27,7 @@ pub enum Created {
 impl Created {
     // The refusal number, or 0 where nothing is refused.
     pub fn number(self) -> u8
-        ensures { result ≡ number_in (toldNew self) }
+        ensures { result ≡ number_in (told_new self) }
     {
         match self {
             Created::Used(_) => 0,
@@ -63,7 +63,7 @@ impl Appended {
 
 // Begins a new outbox in a lent buffer: of version 02.
 pub fn create(buffer: &mut [u8]) -> Created
-    ensures { stored (toldNew result) buffer.new ≡ newOf versionTwo buffer.old }
+    ensures { stored (told_new result) buffer.new ≡ new_of version_two buffer.old }
 {
     if buffer.len() == 0 {
         return Created::NoRoom;
@@ -74,7 +74,7 @@ pub fn create(buffer: &mut [u8]) -> Created
 }
 
 fn bad_record(fmt: Format, stream: u8, size: usize) -> bool
-    ensures { result ≡ badRecord fmt stream size }
+    ensures { result ≡ bad_record fmt stream size }
 {
     either(!is_stream(stream), fmt.limit < size)
 }
@@ -96,10 +96,10 @@ fn put_length(buffer: &mut [u8], at: usize, fmt: Format, n: usize)
 // Writes a record at a place.
 pub fn put_record(buffer: &mut [u8], at: usize, fmt: Format, stream: u8, payload: &[u8])
     requires { Known fmt
-        × (at + (headSize fmt + length payload.now) ≤ length buffer.old)
+        × (at + (head_size fmt + length payload.now) ≤ length buffer.old)
         × (length payload.now ≤ fmt.limit) }
     ensures { buffer.new
-        ≡ sets buffer.old at (recordBytes fmt stream payload.now) }
+        ≡ sets buffer.old at (record_bytes fmt stream payload.now) }
 {
     let width = fmt.width;
     put_length(buffer, at, fmt, payload.len() + 1);
@@ -111,9 +111,9 @@ pub fn put_record(buffer: &mut [u8], at: usize, fmt: Format, stream: u8, payload
 fn append_by(buffer: &mut [u8], used: usize, fmt: Format, stream: u8, payload: &[u8]) -> Appended
     requires { Known fmt
         × (used ≤ length buffer.old)
-        × (otherVersion fmt (take used buffer.old) ≡ false) }
+        × (other_version fmt (take used buffer.old) ≡ false) }
     ensures { stored (told result) buffer.new
-        ≡ appendOf fmt buffer.old used stream payload.now }
+        ≡ append_of fmt buffer.old used stream payload.now }
 {
     if bad_record(fmt, stream, payload.len()) {
         return Appended::BadRecord;
@@ -137,7 +137,7 @@ fn append_by(buffer: &mut [u8], used: usize, fmt: Format, stream: u8, payload: &
 fn append_in(buffer: &mut [u8], used: usize, fmt: Format, stream: u8, payload: &[u8]) -> Appended
     requires { Known fmt × (used ≤ length buffer.old) }
     ensures { stored (told result) buffer.new
-        ≡ appendOf fmt buffer.old used stream payload.now }
+        ≡ append_of fmt buffer.old used stream payload.now }
 {
     if other_version(&buffer[..used], fmt) {
         return Appended::Broken {
@@ -151,7 +151,7 @@ fn append_in(buffer: &mut [u8], used: usize, fmt: Format, stream: u8, payload: &
 // Appends a record right after the used bytes of a lent buffer, which must be a whole outbox.
 pub fn append(buffer: &mut [u8], used: usize, stream: u8, payload: &[u8]) -> Appended
     ensures { stored (told result) buffer.new
-        ≡ appendOf (format_of (take used buffer.old)) buffer.old used stream payload.now }
+        ≡ append_of (format_of (take used buffer.old)) buffer.old used stream payload.now }
 {
     if buffer.len() < used {
         return Appended::BeyondBuffer;

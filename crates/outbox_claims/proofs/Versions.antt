@@ -5,13 +5,13 @@ use mathlib.Core.Bool.{true}
 use mathlib.Core.List.{List, [], ◌∷◌, ◌++◌}
 use native.Mathlib.Omega.{arith}
 use lib.ListN.{length, take, length-take}
-use Rattle.wire.specs.Stream.{isStream}
+use Rattle.wire.specs.Stream.{is_stream}
 use Rattle.outbox.specs.declared.format.Format.{Format}
-use Rattle.outbox.specs.Format.{versionOne, versionTwo, isOne, format_of, headSize, recordBytes}
-use Rattle.outbox.specs.Reader.{given, read_all, firstRefusal, walk_of}
-use Rattle.outbox.specs.Writer.{newOf}
-use Rattle.outbox_claims.specs.Claims.{Lawful, Entry, EntryTaken, AllTaken, after, afterAll, expected, appendAll, Returned, cut_at, usable, RecordsReturn, AppendsAfterCut, AppendsAsAlone, ReadsAsAlone}
-use Rattle.outbox_claims.specs.Versions.{Version, one, two, StreamByte, control, ota, alexa, Allowed, AllAllowed, size_of, fileOf, FileFits, HoldIn, HoldInEachVersion}
+use Rattle.outbox.specs.Format.{version_one, version_two, is_one, format_of, head_size, record_bytes}
+use Rattle.outbox.specs.Reader.{given, read_all, first_refusal, walk_of}
+use Rattle.outbox.specs.Writer.{new_of}
+use Rattle.outbox_claims.specs.Claims.{Lawful, Entry, EntryTaken, AllTaken, after, after_all, expected, append_all, Returned, cut_at, usable, RecordsReturn, AppendsAfterCut, AppendsAsAlone, ReadsAsAlone}
+use Rattle.outbox_claims.specs.Versions.{Version, one, two, StreamByte, control, ota, alexa, Allowed, AllAllowed, size_of, file_of, FileFits, HoldIn, HoldInEachVersion}
 use Rattle.outbox.proofs.Place.{version-kept}
 use Rattle.outbox_claims.proofs.Run.{walk_is}
 use Rattle.outbox_claims.proofs.Append.{bounds}
@@ -21,8 +21,8 @@ use Rattle.outbox_claims.proofs.AppendsAfterCut.{appends-after-cut}
 use Rattle.outbox_claims.proofs.AppendsAsAlone.{appends-as-alone}
 use Rattle.outbox_claims.proofs.ReadsAsAlone.{own-version, reads-as-alone}
 
-stream-byte : {n : ℕ} → StreamByte n → isStream n ≡ true
-unfolding isStream
+stream-byte : {n : ℕ} → StreamByte n → is_stream n ≡ true
+unfolding is_stream
 stream-byte control = refl
 stream-byte ota = refl
 stream-byte alexa = refl
@@ -35,7 +35,7 @@ module _ (fmt : Format) where
   all-taken [] all = tt
   all-taken (e ∷ es) all = (takes e all.0, all-taken es all.1)
 
-  size_is : (place : ℕ) (es : List Entry) → afterAll fmt place es ≡ place + size_of (headSize fmt) es
+  size_is : (place : ℕ) (es : List Entry) → after_all fmt place es ≡ place + size_of (head_size fmt) es
   size_is place [] = omega arith
   size_is place (e ∷ es) = size_is (after fmt place e) es ∙ omega arith
 
@@ -52,25 +52,25 @@ module _ (fmt : Format) where
       (within.0, omega (arith, within.1, length-take n file))
 
   module _ (lawful : Lawful fmt) where
-    module _ (buffer : List ℕ) (es : List Entry) (fits : FileFits (headSize fmt) fmt.limit buffer es) where
-      room : afterAll fmt 1 es ≤ length buffer
+    module _ (buffer : List ℕ) (es : List Entry) (fits : FileFits (head_size fmt) fmt.limit buffer es) where
+      room : after_all fmt 1 es ≤ length buffer
       room = rw (size_is 1 es) fits.room
 
-      returned : Returned fmt (appendAll fmt (newOf fmt buffer) es) es
+      returned : Returned fmt (append_all fmt (new_of fmt buffer) es) es
       unfolding RecordsReturn
       returned = records-return fmt lawful buffer es (all-taken es fits.allowed) (omega (arith, room))
 
       -- what appends made is whole
-      made-whole : walk_of fmt (fileOf fmt (headSize fmt) buffer es) ≡ given tt
+      made-whole : walk_of fmt (file_of fmt (head_size fmt) buffer es) ≡ given tt
       made-whole =
-          walk_is fmt (fileOf fmt (headSize fmt) buffer es)
-          ∙ ap firstRefusal (rw (size_is 1 es) at returned.read)
+          walk_is fmt (file_of fmt (head_size fmt) buffer es)
+          ∙ ap first_refusal (rw (size_is 1 es) at returned.read)
           ∙ expected-passes fmt 1 es
 
-      cut : (kept : ℕ) → read_all fmt (take kept (fileOf fmt (headSize fmt) buffer es)) ≡ cut_at kept (expected fmt 1 es)
+      cut : (kept : ℕ) → read_all fmt (take kept (file_of fmt (head_size fmt) buffer es)) ≡ cut_at kept (expected fmt 1 es)
       cut kept = rw (size_is 1 es) at (cuts-are-found.appended fmt lawful buffer es (all-taken es fits.allowed) room kept)
 
-    hold : ((rest : List ℕ) → format_of (fmt.version ∷ rest) ≡ fmt) → HoldIn fmt fmt.version (headSize fmt) fmt.limit
+    hold : ((rest : List ℕ) → format_of (fmt.version ∷ rest) ≡ fmt) → HoldIn fmt fmt.version (head_size fmt) fmt.limit
     unfolding AppendsAfterCut AppendsAsAlone ReadsAsAlone
     hold judged-by =
         record {
@@ -79,36 +79,36 @@ module _ (fmt : Format) where
           records-return = returned;
           cuts-are-found = cut;
           appends-after-cut = λ buffer es fits kept some room e a h.
-              appends-after-cut fmt lawful (fileOf fmt (headSize fmt) buffer es) kept (omega arith) (made-whole buffer es fits) room e (takes e a) (omega arith);
+              appends-after-cut fmt lawful (file_of fmt (head_size fmt) buffer es) kept (omega arith) (made-whole buffer es fits) room e (takes e a) (omega arith);
           appends-as-alone = λ buffer es fits room own e a h k.
-              appends-as-alone fmt (fileOf fmt (headSize fmt) buffer es) room (made-whole buffer es fits) own e (takes e a) (omega arith) (omega arith);
+              appends-as-alone fmt (file_of fmt (head_size fmt) buffer es) room (made-whole buffer es fits) own e (takes e a) (omega arith) (omega arith);
           one-reads-as-alone = λ rest place first inside n enough.
               (reads-as-alone fmt (fmt.version ∷ rest) (own-version fmt rest) place first inside).one n (omega arith);
           record-reads-alone = λ e more a.
-              let bytes = recordBytes fmt e.stream e.payload ++ more in
+              let bytes = record_bytes fmt e.stream e.payload ++ more in
               (reads-as-alone fmt (fmt.version ∷ bytes) (own-version fmt bytes) 1 (omega arith) (omega arith)).stands lawful e (takes e a) more refl;
           rest-reads-as-alone = λ rest n some.
               let within = stops-inside rest n some in
               (reads-as-alone fmt (fmt.version ∷ rest) (own-version fmt rest) _ within.0 within.1).rest n some refl;
         }
 
-judged-one : (rest : List ℕ) → format_of (1 ∷ rest) ≡ versionOne
-unfolding format_of isOne
+judged-one : (rest : List ℕ) → format_of (1 ∷ rest) ≡ version_one
+unfolding format_of is_one
 judged-one rest = refl
 
-judged-two : (rest : List ℕ) → format_of (2 ∷ rest) ≡ versionTwo
-unfolding format_of isOne
+judged-two : (rest : List ℕ) → format_of (2 ∷ rest) ≡ version_two
+unfolding format_of is_one
 judged-two rest = refl
 
-pub lawful-one : Lawful versionOne
+pub lawful-one : Lawful version_one
 lawful-one = omega arith
 
-pub lawful-two : Lawful versionTwo
+pub lawful-two : Lawful version_two
 lawful-two = omega arith
 
 each : (fmt : Format) (byte head limit : ℕ) → Version fmt byte head limit → HoldIn fmt byte head limit
-each fmt byte head limit one = hold versionOne lawful-one judged-one
-each fmt byte head limit two = hold versionTwo lawful-two judged-two
+each fmt byte head limit one = hold version_one lawful-one judged-one
+each fmt byte head limit two = hold version_two lawful-two judged-two
 
 pub hold-in-each-version : HoldInEachVersion
 hold-in-each-version =

@@ -1,11 +1,11 @@
 // What is appended is read back, also after a cut at any byte. Each claim holds for every format whose lengths fit their field.
-ghost use Rattle.outbox.specs.Format.{versionOne, versionTwo};
+ghost use Rattle.outbox.specs.Format.{version_one, version_two};
 ghost use Rattle.outbox_claims.specs.Versions.{HoldInEachVersion};
 ghost use Rattle.outbox_claims.specs.Claims.{Lawful, RecordsReturn, CutsAreFound, AppendsAfterCut, AppendsAsAlone, ReadsAsAlone};
 
 // The lengths of both versions fit their field.
 pub fn versions_are_lawful()
-    ensures { Lawful versionOne × Lawful versionTwo }
+    ensures { Lawful version_one × Lawful version_two }
 {}
 
 // From a new outbox, any list of appends that fit, then reading place after place, gives those records in order, and the end.

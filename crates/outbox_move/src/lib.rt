@@ -1,9 +1,9 @@
 // An outbox file written in a wished version. One pass judges the file, one counts, one writes.
 ghost use Rattle.std.specs.Prelude.{◌≡◌, ◌++◌};
-ghost use Rattle.outbox.specs.Format.{Known, format_of, newBytes, firstPlace};
+ghost use Rattle.outbox.specs.Format.{Known, format_of, new_bytes, first_place};
 ghost use Rattle.outbox.specs.Reader.{given, number_in, read_all, walk_of};
-ghost use Rattle.outbox.specs.Writer.{stored, ifWhole};
-ghost use Rattle.outbox_move.specs.Moves.{formatFor, recordsIn, overFrom, placed, move_of, told};
+ghost use Rattle.outbox.specs.Writer.{stored, if_whole};
+ghost use Rattle.outbox_move.specs.Moves.{format_for, records_in, over_from, placed, move_of, told};
 
 use crate::passes::{Counted, count, write_records};
 use outbox::format::Format;
@@ -22,7 +22,7 @@ pub enum Wished {
 
 impl Wished {
     fn format(self) -> Format
-        ensures { result ≡ formatFor self }
+        ensures { result ≡ format_for self }
     {
         match self {
             Wished::One => Format::one(),
@@ -70,10 +70,10 @@ fn copy_file(file: &[u8], out: &mut [u8]) -> Moved
 fn rewrite(file: &[u8], own: Format, fmt: Format, out: &mut [u8]) -> Moved
     requires { Known own × Known fmt }
     ensures { stored (told result) out.new
-        ≡ ifWhole
-        (overFrom fmt.limit firstPlace (read_all own file.now))
+        ≡ if_whole
+        (over_from fmt.limit first_place (read_all own file.now))
         out.old
-        (placed out.old (newBytes fmt ++ recordsIn fmt (read_all own file.now))) }
+        (placed out.old (new_bytes fmt ++ records_in fmt (read_all own file.now))) }
 {
     match count(file, own, fmt) {
         Counted::TooLong(place) => Moved::TooLong(place),
@@ -101,7 +101,7 @@ fn move_whole(file: &[u8], fmt: Format, out: &mut [u8]) -> Moved
 // Writes a file in the wished version into a lent output.
 pub fn move_file(file: &[u8], wished: Wished, out: &mut [u8]) -> Moved
     ensures { stored (told result) out.new
-        ≡ move_of (formatFor wished) file.now out.old }
+        ≡ move_of (format_for wished) file.now out.old }
 {
     match walk(file) {
         Walked::Whole => move_whole(file, wished.format(), out),

@@ -1,9 +1,9 @@
 // The passes over a file: record after record, as long as there is one.
 ghost use Rattle.std.specs.Prelude.{◌≡◌, ◌++◌, ◌+◌, ◌≤◌, length};
 ghost use Rattle.std.proofs.lemmas.List.Edits.{sets};
-ghost use Rattle.outbox.specs.Format.{Known, newBytes, firstPlace};
+ghost use Rattle.outbox.specs.Format.{Known, new_bytes, first_place};
 ghost use Rattle.outbox.specs.Reader.{given, read_of, read_all};
-ghost use Rattle.outbox_move.specs.Moves.{recordOnly, recordsIn, overFrom, count_of, toldNext, toldCount};
+ghost use Rattle.outbox_move.specs.Moves.{record_only, records_in, over_from, count_of, told_next, told_count};
 
 use outbox::format::{FIRST_PLACE, Format};
 use outbox::reader::{Reading, read_by};
@@ -23,7 +23,7 @@ pub enum Next {
 
 fn record_at(file: &[u8], place: usize, own: Format) -> Next
     requires { Known own }
-    ensures { toldNext result ≡ recordOnly (read_of own file.now place) }
+    ensures { told_next result ≡ record_only (read_of own file.now place) }
 {
     match read_by(file, place, own) {
         Reading::Record {
@@ -52,8 +52,8 @@ pub enum Counted {
 
 pub fn count(file: &[u8], own: Format, fmt: Format) -> Counted
     requires { Known own × Known fmt }
-    ensures { toldCount result
-        ≡ count_of fmt firstPlace firstPlace (read_all own file.now) }
+    ensures { told_count result
+        ≡ count_of fmt first_place first_place (read_all own file.now) }
 {
     let mut place = FIRST_PLACE;
     let mut total = FIRST_PLACE;
@@ -83,10 +83,10 @@ pub fn count(file: &[u8], own: Format, fmt: Format) -> Counted
 pub fn write_records(file: &[u8], own: Format, fmt: Format, out: &mut [u8])
     requires { Known own
         × Known fmt
-        × (overFrom fmt.limit firstPlace (read_all own file.now) ≡ given tt)
-        × (firstPlace + length (recordsIn fmt (read_all own file.now)) ≤ length out.old) }
+        × (over_from fmt.limit first_place (read_all own file.now) ≡ given tt)
+        × (first_place + length (records_in fmt (read_all own file.now)) ≤ length out.old) }
     ensures { out.new
-        ≡ sets out.old 0 (newBytes fmt ++ recordsIn fmt (read_all own file.now)) }
+        ≡ sets out.old 0 (new_bytes fmt ++ records_in fmt (read_all own file.now)) }
 {
     out[0] = fmt.version;
     let mut place = FIRST_PLACE;

@@ -10,7 +10,7 @@ use Rattle.outbox.proofs.Walk.{whole-version}
 use Rattle.outbox.proofs.Versions.{known_small, format-known}
 use Rattle.outbox_claims.specs.Claims.{Entry}
 use Rattle.outbox_claims.proofs.Run.{RecordRun, all-run}
-use Rattle.outbox_move_claims.specs.Claims.{recordsOf, AllShort, MovableWhen}
+use Rattle.outbox_move_claims.specs.Claims.{records_of, AllShort, MovableWhen}
 use Rattle.outbox_move_claims.proofs.Rebuilt.{own-short, not-over}
 
 pub short-more : (least most : ℕ) → least ≤ most → (es : List Entry) → AllShort least es → AllShort most es
@@ -21,15 +21,15 @@ run : (file : List ℕ) → walk_of (format_of file) file ≡ given tt → Recor
 run file w = all-run (format_of file) file (whole-version (format_of file) file w)
 
 -- a whole file's records are within its own limit
-own : (file : List ℕ) → walk_of (format_of file) file ≡ given tt → AllShort (format_of file).limit (recordsOf file)
+own : (file : List ℕ) → walk_of (format_of file) file ≡ given tt → AllShort (format_of file).limit (records_of file)
 own file w = own-short (format_of file) file (run file w)
 
 pub movable-when : MovableWhen
 movable-when =
     record {
       to-two = λ file b w.
-          record { bytes = b; whole = w; short = short-more (format_of file).limit 65535 (known_small (format_of file) (format-known file)).2 (recordsOf file) (own file w) };
+          record { bytes = b; whole = w; short = short-more (format_of file).limit 65535 (known_small (format_of file) (format-known file)).2 (records_of file) (own file w) };
       one-stays = λ file b w v.
-          record { bytes = b; whole = w; short = short-more (format_of file).limit 4096 (omega (arith, ap (λ (f : Format). f.limit) v)) (recordsOf file) (own file w) };
+          record { bytes = b; whole = w; short = short-more (format_of file).limit 4096 (omega (arith, ap (λ (f : Format). f.limit) v)) (records_of file) (own file w) };
       to_one = λ file b w o. record { bytes = b; whole = w; short = not-over 4096 (format_of file) file (run file w) o };
     }

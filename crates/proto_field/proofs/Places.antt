@@ -15,27 +15,27 @@ use Rattle.proto_field.specs.declared.tag.FieldHead.{FieldHead}
 use Rattle.proto_field.specs.declared.value.Part.{Part}
 use Rattle.proto_field.specs.declared.value.Value.{Value}
 use Rattle.proto_field.specs.declared.value.Value.TheVariants.{Number, Skipped}
-use Rattle.proto_field.specs.Varint.{varintAt}
-use Rattle.proto_field.specs.Tag.{badTag, head_of, tag_at}
-use Rattle.proto_field.specs.Value.{skippedAt, partOf, value_at, Within, TellsWithin, valueParts, read_parts}
-use Rattle.proto_field.specs.Fields.{found_at, toldFound, behind, standingParts}
+use Rattle.proto_field.specs.Varint.{varint_at}
+use Rattle.proto_field.specs.Tag.{bad_tag, head_of, tag_at}
+use Rattle.proto_field.specs.Value.{skipped_at, part_of, value_at, Within, TellsWithin, value_parts, read_parts}
+use Rattle.proto_field.specs.Fields.{found_at, told_found, behind, standing_parts}
 use Rattle.proto_field.proofs.Told.{Sat, sat-then}
 use Rattle.proto_field.proofs.Varints.{Ends, varint-ends}
 
 pub tag-ends : (s : List ℕ) (at : ℕ) → Sat (λ (h : FieldHead). at < h.next) (tag_at s at)
 unfolding tag_at
 tag-ends s at =
-    sat-then (Ends at (length s)) (λ (h : FieldHead). at < h.next) (varintAt s at) head_of (varint-ends s at)
-    (λ p e. by_cond (Sat (λ (h : FieldHead). at < h.next)) (badTag (p.0 / 8) (p.0 % 8)) (refused 32) _ (λ _. tt) (λ _. e.0))
+    sat-then (Ends at (length s)) (λ (h : FieldHead). at < h.next) (varint_at s at) head_of (varint-ends s at)
+    (λ p e. by_cond (Sat (λ (h : FieldHead). at < h.next)) (bad_tag (p.0 / 8) (p.0 % 8)) (refused 32) _ (λ _. tt) (λ _. e.0))
 
 -- a value ends at or after its place, and its part within the message
 abbrev pub Held : List ℕ → ℕ → Value × ℕ → Type 0
-Held s at q = (at ≤ q.1) × Within s (valueParts q.0)
+Held s at q = (at ≤ q.1) × Within s (value_parts q.0)
 
-skipped-held : (s : List ℕ) (at n : ℕ) → Sat (Held s at) (skippedAt s at n)
+skipped-held : (s : List ℕ) (at n : ℕ) → Sat (Held s at) (skipped_at s at n)
 skipped-held s at n = by_cond (Sat (Held s at)) (ltb (length s) (at + n)) (refused 30) (given (Skipped (record { start = at; len = n }), at + n)) (λ _. tt) (λ _. (omega arith, tt))
 
-part_held : (s : List ℕ) (at : ℕ) (p : ℕ × ℕ) → Ends at (length s) p → Sat (Held s at) (partOf s p)
+part_held : (s : List ℕ) (at : ℕ) (p : ℕ × ℕ) → Ends at (length s) p → Sat (Held s at) (part_of s p)
 part_held s at p e =
     by_cond (Sat (Held s at)) (ltb (length s) (p.1 + p.0)) (refused 30) _ (λ _. tt)
     (λ t. (omega arith, (ltb-false (length s) (p.1 + p.0) t, tt)))
@@ -45,8 +45,8 @@ unfolding value_at
 value-held s at wire =
     let P = Held s at in
     by_cond (Sat P) (eqb wire 0) _ _
-    (λ _. sat-then (Ends at (length s)) P (varintAt s at) (λ p. given (Number p.0, p.1)) (varint-ends s at) (λ p e. (omega arith, tt)))
-    (λ _. by_cond (Sat P) (eqb wire 2) _ _ (λ _. sat-then (Ends at (length s)) P (varintAt s at) (partOf s) (varint-ends s at) (part_held s at))
+    (λ _. sat-then (Ends at (length s)) P (varint_at s at) (λ p. given (Number p.0, p.1)) (varint-ends s at) (λ p e. (omega arith, tt)))
+    (λ _. by_cond (Sat P) (eqb wire 2) _ _ (λ _. sat-then (Ends at (length s)) P (varint_at s at) (part_of s) (varint-ends s at) (part_held s at))
     (λ _. by_cond (Sat P) (eqb wire 1) _ _ (λ _. skipped-held s at 8)
     (λ _. by_cond (Sat P) (eqb wire 5) _ _ (λ _. skipped-held s at 4) (λ _. tt))))
 
@@ -61,12 +61,12 @@ value-told s at wire t e = (e, go t (subst (Sat (Held s at)) (sym e) (value-held
 
 -- what is told of a place: what stands there, and its part lies within the message
 abbrev pub TellsField : List ℕ → ℕ → Found → Type 0
-TellsField s at r = (toldFound r ≡ found_at s at) × TellsWithin s standingParts (toldFound r)
+TellsField s at r = (told_found r ≡ found_at s at) × TellsWithin s standing_parts (told_found r)
 
 -- what `next` hands back at a reader: what is told of its place, and the reader with its place behind it
 abbrev pub TellsNext : Fields → NextField → Type 0
 TellsNext d x =
-    TellsField d.message.now d.at x.found × (x.rest.message ≡ d.message) × (x.rest.at ≡ behind d.at (toldFound x.found))
+    TellsField d.message.now d.at x.found × (x.rest.message ≡ d.message) × (x.rest.at ≡ behind d.at (told_found x.found))
 
 -- ---- parts within a message: in a longer one, with one of them replaced, and each by itself
 pub within-longer : (s t : List ℕ) (ps : List Part) → length s ≤ length t → Within s ps → Within t ps

@@ -12,7 +12,7 @@ use lib.Dec.{ltb}
 use borrow.Author.Tests.{lt-ltb, le-ltb}
 use Rattle.wire.specs.Told.{Told, given, refused}
 use Rattle.wire.proofs.Tests.{by_cond}
-use Rattle.proto_field.specs.Varint.{more, varintFrom, varintAt}
+use Rattle.proto_field.specs.Varint.{more, varint_from, varint_at}
 use Rattle.proto_field.proofs.Told.{Sat, sat-given}
 
 -- values of which k bytes follow the first are below top k
@@ -59,7 +59,7 @@ pub last_fits : (value weight left b : ℕ) → weight * top left ≡ 2 ^ 64 →
 last_fits value weight left b e h z l = omega (arith, mul-le-mul_left weight l, rw z at e)
 
 -- ---- the reading loop's turns: what the varint at i is, by the byte there
-pub at-end : (k i : ℕ) (s : List ℕ) → length s ≤ i → varintFrom k i (drop i s) ≡ refused 30
+pub at-end : (k i : ℕ) (s : List ℕ) → length s ≤ i → varint_from k i (drop i s) ≡ refused 30
 at-end zero i s h = rw (drop_of_length-le s h)
 at-end (suc k) i s h = rw (drop_of_length-le s h)
 
@@ -67,32 +67,32 @@ drop_here : (s : List ℕ) (i : ℕ) → i < length s → drop i s ≡ get_or s 
 drop_here s i h = rw add-one (drop-cons s i 0 h)
 
 module _ (left i : ℕ) (s : List ℕ) (inside : i < length s) where
-  pub turn-over : left ≡ 0 → 1 < get_or s i 0 → varintFrom left i (drop i s) ≡ refused 31
+  pub turn-over : left ≡ 0 → 1 < get_or s i 0 → varint_from left i (drop i s) ≡ refused 31
   turn-over z h = rw (z, drop_here s i inside, lt-ltb 1 (get_or s i 0) h)
 
-  pub turn_last : left ≡ 0 → get_or s i 0 ≤ 1 → varintFrom left i (drop i s) ≡ given (get_or s i 0, i + 1)
+  pub turn_last : left ≡ 0 → get_or s i 0 ≤ 1 → varint_from left i (drop i s) ≡ given (get_or s i 0, i + 1)
   turn_last z h = rw (z, drop_here s i inside, le-ltb 1 (get_or s i 0) h)
 
-pub turn-short : (left i : ℕ) (s : List ℕ) → i < length s → (left ≡ 0 → ⊥) → get_or s i 0 < 128 → varintFrom left i (drop i s) ≡ given (get_or s i 0, i + 1)
+pub turn-short : (left i : ℕ) (s : List ℕ) → i < length s → (left ≡ 0 → ⊥) → get_or s i 0 < 128 → varint_from left i (drop i s) ≡ given (get_or s i 0, i + 1)
 turn-short zero i s inside n h = absurd (n refl)
 turn-short (suc k) i s inside n h = rw (drop_here s i inside, lt-ltb (get_or s i 0) 128 h)
 
 -- a varint of one byte
-pub varint-short : (s : List ℕ) (at : ℕ) → at < length s → get_or s at 0 < 128 → varintAt s at ≡ given (get_or s at 0, at + 1)
-unfolding varintAt
+pub varint-short : (s : List ℕ) (at : ℕ) → at < length s → get_or s at 0 < 128 → varint_at s at ≡ given (get_or s at 0, at + 1)
+unfolding varint_at
 varint-short s at inside h = turn-short 9 at s inside (λ z. omega arith) h
 
 turn_more : (left i : ℕ) (s : List ℕ) → i < length s → (left ≡ 0 → ⊥) → 128 ≤ get_or s i 0
-    → varintFrom left i (drop i s) ≡ more (get_or s i 0) (varintFrom (left - 1) (i + 1) (drop (i + 1) s))
+    → varint_from left i (drop i s) ≡ more (get_or s i 0) (varint_from (left - 1) (i + 1) (drop (i + 1) s))
 turn_more zero i s inside n h = absurd (n refl)
 turn_more (suc k) i s inside n h = rw (drop_here s i inside, le-ltb (get_or s i 0) 128 h, less_one k)
 
 pub turn-grown : (value weight left i : ℕ) (s : List ℕ) → i < length s → (left ≡ 0 → ⊥) → 128 ≤ get_or s i 0
-    → grown value weight (varintFrom left i (drop i s))
-    ≡ grown (value + weight * (get_or s i 0 - 128)) (weight * 128) (varintFrom (left - 1) (i + 1) (drop (i + 1) s))
+    → grown value weight (varint_from left i (drop i s))
+    ≡ grown (value + weight * (get_or s i 0 - 128)) (weight * 128) (varint_from (left - 1) (i + 1) (drop (i + 1) s))
 turn-grown value weight left i s inside n h =
     ap (grown value weight) (turn_more left i s inside n h)
-    ∙ grown-more value weight (get_or s i 0) (varintFrom (left - 1) (i + 1) (drop (i + 1) s))
+    ∙ grown-more value weight (get_or s i 0) (varint_from (left - 1) (i + 1) (drop (i + 1) s))
 
 -- ---- what was read ends after its place, within the message, and is a number of 64 bits
 abbrev pub Ends : ℕ → ℕ → ℕ × ℕ → Type 0
@@ -102,22 +102,22 @@ ends_more : (at last b : ℕ) (r : Told (ℕ × ℕ)) → Sat (Ends (at + 1) las
 ends_more at last b (given p) h = omega arith
 ends_more at last b (refused e) h = tt
 
-ends-from : (k at last : ℕ) (s : List ℕ) → at + length s ≤ last → Sat (Ends at last) (varintFrom k at s)
+ends-from : (k at last : ℕ) (s : List ℕ) → at + length s ≤ last → Sat (Ends at last) (varint_from k at s)
 ends-from zero at last [] h = tt
 ends-from (suc k) at last [] h = tt
 ends-from zero at last (b ∷ s) h = by_cond (Sat (Ends at last)) (ltb 1 b) (refused 31) (given (b, at + 1)) (λ _. tt) (λ _. omega arith)
 ends-from (suc k) at last (b ∷ s) h =
-    by_cond (Sat (Ends at last)) (ltb b 128) (given (b, at + 1)) (more b (varintFrom k (at + 1) s))
+    by_cond (Sat (Ends at last)) (ltb b 128) (given (b, at + 1)) (more b (varint_from k (at + 1) s))
     (λ _. omega arith)
-    (λ _. ends_more at last b (varintFrom k (at + 1) s) (ends-from k (at + 1) last s (omega arith)))
+    (λ _. ends_more at last b (varint_from k (at + 1) s) (ends-from k (at + 1) last s (omega arith)))
 
-pub varint-ends : (s : List ℕ) (at : ℕ) → Sat (Ends at (length s)) (varintAt s at)
-unfolding varintAt
+pub varint-ends : (s : List ℕ) (at : ℕ) → Sat (Ends at (length s)) (varint_at s at)
+unfolding varint_at
 varint-ends s at = by_place (dec_le at (length s))
   where
-    by_place : Dec (at ≤ length s) → Sat (Ends at (length s)) (varintFrom 9 at (drop at s))
+    by_place : Dec (at ≤ length s) → Sat (Ends at (length s)) (varint_from 9 at (drop at s))
     by_place (yes h) = ends-from 9 at (length s) (drop at s) (omega (arith, length-drop at s))
     by_place (no n) = rw (at-end 9 at s (omega arith)) tt
 
-pub varint-next : (s : List ℕ) (at v n : ℕ) → varintAt s at ≡ given (v, n) → (at < n) × (n ≤ length s)
-varint-next s at v n e = sat-given (Ends at (length s)) (varintAt s at) (v, n) (varint-ends s at) e
+pub varint-next : (s : List ℕ) (at v n : ℕ) → varint_at s at ≡ given (v, n) → (at < n) × (n ≤ length s)
+varint-next s at v n e = sat-given (Ends at (length s)) (varint_at s at) (v, n) (varint-ends s at) e

@@ -7,7 +7,7 @@ use Rattle.proto_field.specs.declared.fields.Found.{Found}
 use Rattle.proto_field.specs.declared.fields.Found.TheVariants.{Field, End, Refused}
 use Rattle.proto_field.specs.Refusal.{number_of}
 use Rattle.proto_field.specs.Tag.{tag_at}
-use Rattle.proto_field.specs.Value.{value_at, valueParts}
+use Rattle.proto_field.specs.Value.{value_at, value_parts}
 
 -- a field's number, its value and the place after it; or the end of the message
 pub data Standing : Type 0 where
@@ -21,10 +21,10 @@ found_at s at =
     (and_then (tag_at s at) (λ h. and_then (value_at s h.next h.wire) (λ v. given (field h.field v.0 v.1))))
 
 -- the answers of field_at
-abbrev pub toldFound : Found → Told Standing
-toldFound (Field number value next) = given (field number value next)
-toldFound End = given end
-toldFound (Refused e) = refused (number_of e)
+abbrev pub told_found : Found → Told Standing
+told_found (Field number value next) = given (field number value next)
+told_found End = given end
+told_found (Refused e) = refused (number_of e)
 
 -- the place behind what stands at a place: that of a field's end, or the same place where there is none
 abbrev pub behind : ℕ → Told Standing → ℕ
@@ -33,6 +33,6 @@ behind at (given end) = at
 behind at (refused n) = at
 
 -- the part of what stands at a place, if it has one
-abbrev pub standingParts : Standing → List Part
-standingParts (field number value next) = valueParts value
-standingParts end = []
+abbrev pub standing_parts : Standing → List Part
+standing_parts (field number value next) = value_parts value
+standing_parts end = []

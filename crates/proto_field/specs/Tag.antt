@@ -5,44 +5,44 @@ use Rattle.proto_field.specs.declared.tag.FieldHead.{FieldHead}
 use Rattle.proto_field.specs.declared.tag.Tag.{Tag}
 use Rattle.proto_field.specs.declared.tag.Tag.TheVariants.{Tagged, Refused}
 use Rattle.proto_field.specs.Refusal.{number_of}
-use Rattle.proto_field.specs.Varint.{varintAt}
+use Rattle.proto_field.specs.Varint.{varint_at}
 
 -- the largest field number
-abbrev pub lastField : ℕ
-lastField = 536870911
+abbrev pub last_field : ℕ
+last_field = 536870911
 
 -- the wire types: a varint, eight bytes, a length and as many bytes, four bytes
-abbrev pub varintType : ℕ
-varintType = 0
+abbrev pub varint_type : ℕ
+varint_type = 0
 
-abbrev pub fixed64Type : ℕ
-fixed64Type = 1
+abbrev pub fixed64_type : ℕ
+fixed64_type = 1
 
-abbrev pub lengthType : ℕ
-lengthType = 2
+abbrev pub length_type : ℕ
+length_type = 2
 
-abbrev pub fixed32Type : ℕ
-fixed32Type = 5
+abbrev pub fixed32_type : ℕ
+fixed32_type = 5
 
 -- the wire types that a tag can say: its number's remainder by this
-abbrev pub wireTypes : ℕ
-wireTypes = 8
+abbrev pub wire_types : ℕ
+wire_types = 8
 
 -- field 0 or above the largest; wire type 3, 4, 6, 7
-unfoldable pub badTag : ℕ → ℕ → Bool
-badTag field wire = eqb field 0 || ltb lastField field || not (leb wire lengthType || eqb wire fixed32Type)
+unfoldable pub bad_tag : ℕ → ℕ → Bool
+bad_tag field wire = eqb field 0 || ltb last_field field || not (leb wire length_type || eqb wire fixed32_type)
 
 -- the tag of a varint's value, with the place after it
 abbrev pub head_of : ℕ × ℕ → Told FieldHead
 head_of p =
-    table (line 32 (badTag (p.0 / wireTypes) (p.0 % wireTypes)) ∷ []) refused
-    (given (record { field = p.0 / wireTypes; wire = p.0 % wireTypes; next = p.1 }))
+    table (line 32 (bad_tag (p.0 / wire_types) (p.0 % wire_types)) ∷ []) refused
+    (given (record { field = p.0 / wire_types; wire = p.0 % wire_types; next = p.1 }))
 
 -- the tag at a place of a message
 unfoldable pub tag_at : List ℕ → ℕ → Told FieldHead
-tag_at s at = and_then (varintAt s at) head_of
+tag_at s at = and_then (varint_at s at) head_of
 
 -- the answers of read_tag
-abbrev pub toldTag : Tag → Told FieldHead
-toldTag (Tagged h) = given h
-toldTag (Refused e) = refused (number_of e)
+abbrev pub told_tag : Tag → Told FieldHead
+told_tag (Tagged h) = given h
+told_tag (Refused e) = refused (number_of e)

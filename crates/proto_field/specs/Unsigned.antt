@@ -2,5 +2,5 @@
 use Rattle.std.specs.Prelude.{ℕ, ◌%◌, ◌^◌}
 
 -- the number of a varint's value: its low 32 bits
-abbrev pub unsignedOf : ℕ → ℕ
-unsignedOf v = v % 2 ^ 32
+abbrev pub unsigned_of : ℕ → ℕ
+unsigned_of v = v % 2 ^ 32

@@ -7,30 +7,30 @@ use Rattle.proto_field.specs.declared.value.Value.TheVariants.{Number, Bytes, Sk
 use Rattle.proto_field.specs.declared.value.ValueRead.{ValueRead}
 use Rattle.proto_field.specs.declared.value.ValueRead.TheVariants.{Read, Refused}
 use Rattle.proto_field.specs.Refusal.{number_of}
-use Rattle.proto_field.specs.Varint.{varintAt}
-use Rattle.proto_field.specs.Tag.{varintType, fixed64Type, lengthType, fixed32Type}
+use Rattle.proto_field.specs.Varint.{varint_at}
+use Rattle.proto_field.specs.Tag.{varint_type, fixed64_type, length_type, fixed32_type}
 
 -- n bytes that are passed over
-abbrev pub skippedAt : List ℕ → ℕ → ℕ → Told (Value × ℕ)
-skippedAt s at n = table (line 30 (ltb (length s) (at + n)) ∷ []) refused (given (Skipped (record { start = at; len = n }), at + n))
+abbrev pub skipped_at : List ℕ → ℕ → ℕ → Told (Value × ℕ)
+skipped_at s at n = table (line 30 (ltb (length s) (at + n)) ∷ []) refused (given (Skipped (record { start = at; len = n }), at + n))
 
 -- the part of a length and the place after the length
-abbrev pub partOf : List ℕ → ℕ × ℕ → Told (Value × ℕ)
-partOf s p =
+abbrev pub part_of : List ℕ → ℕ × ℕ → Told (Value × ℕ)
+part_of s p =
     table (line 30 (ltb (length s) (p.1 + p.0)) ∷ []) refused (given (Bytes (record { start = p.1; len = p.0 }), p.1 + p.0))
 
 -- the value of a wire type at a place of a message, and the place after it
 unfoldable pub value_at : List ℕ → ℕ → ℕ → Told (Value × ℕ)
 value_at s at wire =
-    cond (eqb wire varintType) (and_then (varintAt s at) (λ p. given (Number p.0, p.1)))
-    (cond (eqb wire lengthType) (and_then (varintAt s at) (partOf s))
-    (cond (eqb wire fixed64Type) (skippedAt s at 8)
-    (cond (eqb wire fixed32Type) (skippedAt s at 4) (refused 32))))
+    cond (eqb wire varint_type) (and_then (varint_at s at) (λ p. given (Number p.0, p.1)))
+    (cond (eqb wire length_type) (and_then (varint_at s at) (part_of s))
+    (cond (eqb wire fixed64_type) (skipped_at s at 8)
+    (cond (eqb wire fixed32_type) (skipped_at s at 4) (refused 32))))
 
 -- the answers of read_value
-abbrev pub toldValue : ValueRead → Told (Value × ℕ)
-toldValue (Read v n) = given (v, n)
-toldValue (Refused e) = refused (number_of e)
+abbrev pub told_value : ValueRead → Told (Value × ℕ)
+told_value (Read v n) = given (v, n)
+told_value (Refused e) = refused (number_of e)
 
 -- the bytes of a part of a message
 abbrev pub bytes_of : List ℕ → Part → List ℕ
@@ -47,11 +47,11 @@ TellsWithin s parts (given a) = Within s (parts a)
 TellsWithin s parts (refused n) = Unit {0}
 
 -- the part of a value whose length is told
-abbrev pub valueParts : Value → List Part
-valueParts (Number v) = []
-valueParts (Bytes p) = p ∷ []
-valueParts (Skipped p) = []
+abbrev pub value_parts : Value → List Part
+value_parts (Number v) = []
+value_parts (Bytes p) = p ∷ []
+value_parts (Skipped p) = []
 
 -- .. of a value with the place after it
 abbrev pub read_parts : Value × ℕ → List Part
-read_parts q = valueParts q.0
+read_parts q = value_parts q.0

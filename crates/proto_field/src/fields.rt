@@ -1,7 +1,7 @@
 // A reader that walks the fields of a message: the lent message and the place in it, in one record.
 ghost use Rattle.std.specs.Prelude.{◌≡◌};
 ghost use Rattle.proto_field.specs.Value.{TellsWithin};
-ghost use Rattle.proto_field.specs.Fields.{found_at, toldFound, behind, standingParts};
+ghost use Rattle.proto_field.specs.Fields.{found_at, told_found, behind, standing_parts};
 
 use crate::Refusal;
 use crate::tag::{Tag, read_tag};
@@ -34,8 +34,8 @@ pub struct NextField<'a> {
 
 // The field at a place of a message.
 fn field_at(message: &[u8], at: usize) -> Found
-    ensures { (toldFound result ≡ found_at message.now at)
-        × TellsWithin message.now standingParts (toldFound result) }
+    ensures { (told_found result ≡ found_at message.now at)
+        × TellsWithin message.now standing_parts (told_found result) }
 {
     if message.len() <= at {
         return Found::End;
@@ -58,7 +58,7 @@ fn field_at(message: &[u8], at: usize) -> Found
 
 // The place behind what was found at a place: a field's end, or the same place where there is none.
 fn place_behind(found: Found, at: usize) -> usize
-    ensures { result ≡ behind at (toldFound found) }
+    ensures { result ≡ behind at (told_found found) }
 {
     match found {
         Found::Field {
@@ -80,10 +80,10 @@ pub fn new<'a>(message: &'a [u8], at: usize) -> Fields<'a>
 
 // The field at the reader's place, and the reader with its place behind it.
 pub fn next<'a>(r: Fields<'a>) -> NextField<'a>
-    ensures { ((toldFound result.found ≡ found_at r.entry.message.now r.entry.at)
-        × TellsWithin r.entry.message.now standingParts (toldFound result.found))
+    ensures { ((told_found result.found ≡ found_at r.entry.message.now r.entry.at)
+        × TellsWithin r.entry.message.now standing_parts (told_found result.found))
         × (result.rest.message ≡ r.entry.message)
-        × (result.rest.at ≡ behind r.entry.at (toldFound result.found)) }
+        × (result.rest.at ≡ behind r.entry.at (told_found result.found)) }
 {
     let message = r.message;
     let at = r.at;
@@ -100,8 +100,8 @@ pub fn next<'a>(r: Fields<'a>) -> NextField<'a>
 
 // The field at a place, by the record. Its parameters are a plain slice and a place, so its callers need no walk by hand.
 pub fn found_at(message: &[u8], at: usize) -> Found
-    ensures { (toldFound result ≡ found_at message.now at)
-        × TellsWithin message.now standingParts (toldFound result) }
+    ensures { (told_found result ≡ found_at message.now at)
+        × TellsWithin message.now standing_parts (told_found result) }
 {
     let step = next(new(message, at));
     step.found

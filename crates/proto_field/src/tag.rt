@@ -1,6 +1,6 @@
 // A field's tag: its number and its wire type.
 ghost use Rattle.std.specs.Prelude.{◌≡◌};
-ghost use Rattle.proto_field.specs.Tag.{badTag, head_of, tag_at, toldTag};
+ghost use Rattle.proto_field.specs.Tag.{bad_tag, head_of, tag_at, told_tag};
 
 use crate::Refusal;
 use crate::varint::{BASE, Varint, read_long};
@@ -37,7 +37,7 @@ pub enum Tag {
 
 // Whether a tag has a field number or a wire type that does not exist.
 fn bad_tag(field: u64, wire: u64) -> bool
-    ensures { result ≡ badTag field wire }
+    ensures { result ≡ bad_tag field wire }
 {
     if field == 0 {
         return true;
@@ -53,7 +53,7 @@ fn bad_tag(field: u64, wire: u64) -> bool
 
 // The tag of a varint's value, with the place after it.
 fn tag_of(value: u64, next: usize) -> Tag
-    ensures { toldTag result ≡ head_of (value, next) }
+    ensures { told_tag result ≡ head_of (value, next) }
 {
     let field = value >> WIRE_BITS;
     let wire = value - field * WIRE_TYPES;
@@ -65,7 +65,7 @@ fn tag_of(value: u64, next: usize) -> Tag
 
 // The tag at a place. Most have one byte, as in read_varint.
 pub fn read_tag(message: &[u8], at: usize) -> Tag
-    ensures { toldTag result ≡ tag_at message.now at }
+    ensures { told_tag result ≡ tag_at message.now at }
 {
     if at < message.len() {
         let value = wide64(message[at]);

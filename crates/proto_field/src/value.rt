@@ -1,6 +1,6 @@
 // A field's value, as its wire type says.
 ghost use Rattle.std.specs.Prelude.{◌≡◌, ◌≤◌, length};
-ghost use Rattle.proto_field.specs.Value.{skippedAt, partOf, value_at, toldValue, TellsWithin, read_parts};
+ghost use Rattle.proto_field.specs.Value.{skipped_at, part_of, value_at, told_value, TellsWithin, read_parts};
 
 use crate::Refusal;
 use crate::tag::{FIXED32, FIXED64, LENGTH, VARINT};
@@ -30,7 +30,7 @@ pub enum ValueRead {
 
 // Bytes that are passed over, n of them.
 fn skip(message: &[u8], at: usize, n: usize) -> ValueRead
-    ensures { toldValue result ≡ skippedAt message.now at n }
+    ensures { told_value result ≡ skipped_at message.now at n }
 {
     let size = message.len();
     if at <= size {
@@ -48,7 +48,7 @@ fn skip(message: &[u8], at: usize, n: usize) -> ValueRead
 // The bytes that a length counts, from the place after it.
 fn part_of(message: &[u8], value: u64, next: usize) -> ValueRead
     requires { next ≤ length message.now }
-    ensures { toldValue result ≡ partOf message.now (value, next) }
+    ensures { told_value result ≡ part_of message.now (value, next) }
 {
     let size = message.len();
     let left = size - next;
@@ -65,8 +65,8 @@ fn part_of(message: &[u8], value: u64, next: usize) -> ValueRead
 
 // The value of a wire type at a place. A number and a length are read by the same code, which makes it small enough to be inlined.
 pub fn read_value(message: &[u8], at: usize, wire: u64) -> ValueRead
-    ensures result_value { toldValue result ≡ value_at message.now at wire }
-    ensures tells_within { TellsWithin message.now read_parts (toldValue result) }
+    ensures result_value { told_value result ≡ value_at message.now at wire }
+    ensures tells_within { TellsWithin message.now read_parts (told_value result) }
 {
     if LENGTH < wire {
         if wire == FIXED32 {

@@ -1,6 +1,6 @@
 // Base 128 varints, read.
 ghost use Rattle.std.specs.Prelude.{◌≡◌};
-ghost use Rattle.proto_field.specs.Varint.{varintAt, toldVarint};
+ghost use Rattle.proto_field.specs.Varint.{varint_at, told_varint};
 
 use crate::Refusal;
 use wire::bytes::wide64;
@@ -21,7 +21,7 @@ pub enum Varint {
 
 // The varint at a place. Most have one byte: this function is small enough that those are read in the caller's own code.
 pub fn read_varint(message: &[u8], at: usize) -> Varint
-    ensures { toldVarint result ≡ varintAt message.now at }
+    ensures { told_varint result ≡ varint_at message.now at }
 {
     if at < message.len() {
         let value = wide64(message[at]);
@@ -35,7 +35,7 @@ pub fn read_varint(message: &[u8], at: usize) -> Varint
 
 // The varint at a place, byte by byte. With two callers, read_varint and read_tag, the compiler keeps it out of line.
 pub(crate) fn read_long(message: &[u8], at: usize) -> Varint
-    ensures { toldVarint result ≡ varintAt message.now at }
+    ensures { told_varint result ≡ varint_at message.now at }
 {
     let mut value: u64 = 0;
     let mut weight: u64 = 1;

@@ -11,11 +11,11 @@ use Rattle.wire.proofs.Parts.{length_part}
 use Rattle.proto_field.specs.declared.value.Part.{Part}
 use Rattle.proto_field.specs.Value.{Within, bytes_of}
 use Rattle.proto_field.proofs.Places.{within-longer}
-use Rattle.utf8.specs.WellFormed.{WellFormed, empty, badPlace}
+use Rattle.utf8.specs.WellFormed.{WellFormed, empty, bad_place}
 use Rattle.proto_reader.specs.declared.gathered.Gathered.{Gathered}
-use Rattle.proto_reader.specs.Gathered.{no_part, withText, AllText}
+use Rattle.proto_reader.specs.Gathered.{no_part, with_text, AllText}
 use Rattle.proto_reader.specs.Refusal.{Strings}
-use Rattle.proto_reader.specs.Walk.{withString}
+use Rattle.proto_reader.specs.Walk.{with_string}
 
 -- the bytes of a part, as the code takes them
 pub part-taken : (s : List ℕ) (p : Part) → take (p.start + p.len - p.start) (drop p.start s) ≡ bytes_of s p
@@ -34,17 +34,17 @@ text-get s (p ∷ ps) zero w = w.0
 text-get s (p ∷ ps) (suc i) w = text-get s ps i w.1
 
 -- ---- a string by the place of its first bad sequence
-module _ (s : List ℕ) (field slot : ℕ) (p : Part) (g : Gathered) (place : ℕ) (h : p.start + p.len ≤ length s) (e : place ≡ badPlace (bytes_of s p)) where
+module _ (s : List ℕ) (field slot : ℕ) (p : Part) (g : Gathered) (place : ℕ) (h : p.start + p.len ≤ length s) (e : place ≡ bad_place (bytes_of s p)) where
   size : length (bytes_of s p) ≡ p.len
   size = length_part s p.start p.len h
 
-  pub string-taken : place ≡ p.len → withString s field slot p g ≡ given (withText slot p g)
-  unfolding withString
-  string-taken q = rw (eq-eqb (badPlace (bytes_of s p)) (length (bytes_of s p)) (sym e ∙ q ∙ sym size))
+  pub string-taken : place ≡ p.len → with_string s field slot p g ≡ given (with_text slot p g)
+  unfolding with_string
+  string-taken q = rw (eq-eqb (bad_place (bytes_of s p)) (length (bytes_of s p)) (sym e ∙ q ∙ sym size))
 
-  pub string-refused : (place ≡ p.len → ⊥) → withString s field slot p g ≡ refused (36, field ∷ place ∷ [])
-  unfolding withString
-  string-refused n = rw (ne_eqb (badPlace (bytes_of s p)) (length (bytes_of s p)) (λ z. n (e ∙ z ∙ size)), e)
+  pub string-refused : (place ≡ p.len → ⊥) → with_string s field slot p g ≡ refused (36, field ∷ place ∷ [])
+  unfolding with_string
+  string-refused n = rw (ne_eqb (bad_place (bytes_of s p)) (length (bytes_of s p)) (λ z. n (e ∙ z ∙ size)), e)
 
 -- ---- what is told of the first bytes is told of all
 same_bytes : (t u : List ℕ) (p : Part) → p.start + p.len ≤ length t → bytes_of (t ++ u) p ≡ bytes_of t p

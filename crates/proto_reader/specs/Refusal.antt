@@ -13,12 +13,12 @@ use Rattle.proto_reader.specs.declared.refusal.WalkVerdict.TheVariants.{Fine, Re
 use Rattle.proto_reader.specs.declared.refusal.Kept.{Kept}
 
 -- 36 goes with the string's field and the place in it
-abbrev pub whyOf : MessageRefusal → ℕ × List ℕ
-whyOf (Field e) = (number_of e, [])
-whyOf (BadText field place) = (36, field ∷ place ∷ [])
+abbrev pub why_of : MessageRefusal → ℕ × List ℕ
+why_of (Field e) = (number_of e, [])
+why_of (BadText field place) = (36, field ∷ place ∷ [])
 
-abbrev pub messageNumber : MessageRefusal → ℕ
-messageNumber e = (whyOf e).0
+abbrev pub message_number : MessageRefusal → ℕ
+message_number e = (why_of e).0
 
 -- the number alone, for messages that have no string
 abbrev pub numbered : {A : Type 0} → ToldMore A → Told A
@@ -26,9 +26,9 @@ numbered (given a) = given a
 numbered (refused why) = refused why.0
 
 -- 0, or the number of the refusal
-abbrev pub numberMore : {A : Type 0} → ToldMore A → ℕ
-numberMore (given a) = 0
-numberMore (refused why) = why.0
+abbrev pub number_more : {A : Type 0} → ToldMore A → ℕ
+number_more (given a) = 0
+number_more (refused why) = why.0
 
 -- the strings of what is told, if anything is, lie within the message and are well formed
 abbrev pub Strings : List ℕ → List Part → Type 0
@@ -39,12 +39,12 @@ TellsStrings s parts (given a) = Strings s (parts a)
 TellsStrings s parts (refused why) = Unit {0}
 
 -- a verdict on a
-abbrev pub judgedAs : {A : Type 0} → WalkVerdict → A → ToldMore A
-judgedAs Fine a = given a
-judgedAs (Refused e) a = refused (whyOf e)
+abbrev pub judged_as : {A : Type 0} → WalkVerdict → A → ToldMore A
+judged_as Fine a = given a
+judged_as (Refused e) a = refused (why_of e)
 
-abbrev pub toldVerdict : WalkVerdict → ToldMore (Unit {0})
-toldVerdict v = judgedAs v tt
+abbrev pub told_verdict : WalkVerdict → ToldMore (Unit {0})
+told_verdict v = judged_as v tt
 
-abbrev pub toldKept : Kept → ToldMore Gathered
-toldKept k = judgedAs k.verdict k.gathered
+abbrev pub told_kept : Kept → ToldMore Gathered
+told_kept k = judged_as k.verdict k.gathered

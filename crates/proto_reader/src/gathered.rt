@@ -1,6 +1,6 @@
 // What is gathered of a message, field by field.
 ghost use Rattle.std.specs.Prelude.{◌≡◌, ◌<◌};
-ghost use Rattle.proto_reader.specs.Gathered.{mostRepeated, nothing, withScalar, withText, withMember, withRepeated, withTransport, toldGrown};
+ghost use Rattle.proto_reader.specs.Gathered.{most_repeated, nothing, with_scalar, with_text, with_member, with_repeated, with_transport, told_grown};
 
 use proto_field::Refusal;
 use proto_field::signed::low_signed;
@@ -55,7 +55,7 @@ impl Gathered {
 
     // A scalar: the last one counts. The places are written out, here and below: a store at a computed one copies all that is gathered.
     pub(crate) fn with_scalar(self, slot: usize, value: u64) -> Gathered
-        ensures { result ≡ withScalar slot value self }
+        ensures { result ≡ with_scalar slot value self }
     {
         let mut next = self;
         if slot == FIRST {
@@ -71,7 +71,7 @@ impl Gathered {
 
     // A string: the last one counts.
     pub(crate) fn with_text(self, slot: usize, part: Part) -> Gathered
-        ensures { result ≡ withText slot part self }
+        ensures { result ≡ with_text slot part self }
     {
         let mut next = self;
         if slot == FIRST {
@@ -91,7 +91,7 @@ impl Gathered {
 
     // The member.
     pub(crate) fn with_member(self, field: u64, part: Part) -> Gathered
-        ensures { result ≡ withMember field part self }
+        ensures { result ≡ with_member field part self }
     {
         let mut next = self;
         next.field = field;
@@ -101,8 +101,8 @@ impl Gathered {
 
     // One message more of a repeated field.
     pub(crate) fn with_repeated(self) -> Gathered
-        requires { self.count < mostRepeated }
-        ensures { result ≡ withRepeated self }
+        requires { self.count < most_repeated }
+        ensures { result ≡ with_repeated self }
     {
         let mut next = self;
         next.count = next.count + 1;
@@ -111,7 +111,7 @@ impl Gathered {
 
     // One transport more, unless there are too many.
     pub(crate) fn with_transport(self, value: u64) -> Grown
-        ensures { toldGrown result ≡ withTransport value self }
+        ensures { told_grown result ≡ with_transport value self }
     {
         let n = self.count;
         if n < MOST_TRANSPORTS {

@@ -1,10 +1,10 @@
 // The reader of fields, for every message.
 ghost use Rattle.std.specs.Prelude.{◌≡◌, ◌+◌, ◌≤◌, length, take};
 ghost use Rattle.proto_field.specs.Value.{bytes_of};
-ghost use Rattle.utf8.specs.WellFormed.{badPlace};
-ghost use Rattle.proto_reader.specs.Gathered.{toldGrown, toldFieldVerdict};
-ghost use Rattle.proto_reader.specs.Refusal.{toldKept, judgedAs};
-ghost use Rattle.proto_reader.specs.Walk.{entry_at, packedFrom, judged, numberAdded, partAdded, valueAdded, addedAt, readAt, fieldsFrom, toldEntry, toldField};
+ghost use Rattle.utf8.specs.WellFormed.{bad_place};
+ghost use Rattle.proto_reader.specs.Gathered.{told_grown, told_field_verdict};
+ghost use Rattle.proto_reader.specs.Refusal.{told_kept, judged_as};
+ghost use Rattle.proto_reader.specs.Walk.{entry_at, packed_from, judged, number_added, part_added, value_added, added_at, read_at, fields_from, told_entry, told_field};
 
 use crate::gathered::{FieldVerdict, Gathered, Grown, MOST_REPEATED};
 use crate::refusal::{Kept, MessageRefusal, WalkVerdict};
@@ -46,7 +46,7 @@ pub enum FieldRead {
 
 // Whether a field of this role and wire type may stand here; member is the member's field so far, count the messages of a repeated field.
 fn judge(role: Role, wire: u64, member: u64, count: usize) -> FieldVerdict
-    ensures { toldFieldVerdict result ≡ judged role wire member count }
+    ensures { told_field_verdict result ≡ judged role wire member count }
 {
     if !fits_role(role, wire) {
         return FieldVerdict::Refused(Refusal::WrongType);
@@ -62,7 +62,7 @@ fn judge(role: Role, wire: u64, member: u64, count: usize) -> FieldVerdict
 
 // One entry of a packed list.
 fn read_entry(message: &[u8], at: usize, gathered: Gathered) -> EntryRead
-    ensures { toldEntry result ≡ entry_at message.now at gathered }
+    ensures { told_entry result ≡ entry_at message.now at gathered }
 {
     match read_varint(message, at) {
         Varint::Refused(e) => EntryRead {
@@ -85,7 +85,7 @@ fn read_entry(message: &[u8], at: usize, gathered: Gathered) -> EntryRead
 
 // The entries of a packed list, from a place to the end.
 fn read_packed(message: &[u8], from: usize, gathered: Gathered) -> Grown
-    ensures { toldGrown result ≡ packedFrom message.now from gathered }
+    ensures { told_grown result ≡ packed_from message.now from gathered }
 {
     let mut so_far = gathered;
     let mut at = from;
@@ -115,8 +115,8 @@ fn read_packed(message: &[u8], from: usize, gathered: Gathered) -> Grown
 // The packed list in a part of the message.
 fn keep_packed(message: &[u8], gathered: Gathered, part: Part) -> Grown
     requires { part.start + part.len ≤ length message.now }
-    ensures { toldGrown result
-        ≡ packedFrom (take (part.start + part.len) message.now) part.start gathered }
+    ensures { told_grown result
+        ≡ packed_from (take (part.start + part.len) message.now) part.start gathered }
 {
     let start = part.start;
     let end = start + part.len;
@@ -125,7 +125,7 @@ fn keep_packed(message: &[u8], gathered: Gathered, part: Part) -> Grown
 
 // What a number adds.
 fn number_added(role: Role, value: u64) -> Added
-    ensures { result ≡ numberAdded role value }
+    ensures { result ≡ number_added role value }
 {
     match role {
         Role::Scalar(slot) => Added::Scalar { slot, value },
@@ -140,7 +140,7 @@ fn number_added(role: Role, value: u64) -> Added
 
 // What a part of the message adds.
 fn part_added(role: Role, field: u64, part: Part) -> Added
-    ensures { result ≡ partAdded role field part }
+    ensures { result ≡ part_added role field part }
 {
     match role {
         Role::Scalar(_) => Added::Nothing,
@@ -155,7 +155,7 @@ fn part_added(role: Role, field: u64, part: Part) -> Added
 
 // What a value adds.
 fn value_added(role: Role, field: u64, value: Value) -> Added
-    ensures { result ≡ valueAdded role field value }
+    ensures { result ≡ value_added role field value }
 {
     match value {
         Value::Number(n) => number_added(role, n),
@@ -166,7 +166,7 @@ fn value_added(role: Role, field: u64, value: Value) -> Added
 
 // The value of a field whose tag was judged.
 fn take_value(message: &[u8], at: usize, wire: u64, role: Role, field: u64) -> FieldRead
-    ensures { toldField result ≡ addedAt message.now at wire role field }
+    ensures { told_field result ≡ added_at message.now at wire role field }
 {
     match read_value(message, at, wire) {
         ValueRead::Refused(e) => FieldRead::Refused(e),
@@ -179,7 +179,7 @@ fn take_value(message: &[u8], at: usize, wire: u64, role: Role, field: u64) -> F
 
 // One field: its tag is judged, then its value is read; member and count are what was gathered of them so far.
 fn read_field(schema: Schema, message: &[u8], at: usize, member: u64, count: usize) -> FieldRead
-    ensures { toldField result ≡ readAt schema message.now at member count }
+    ensures { told_field result ≡ read_at schema message.now at member count }
 {
     match read_tag(message, at) {
         Tag::Refused(e) => FieldRead::Refused(e),
@@ -196,7 +196,7 @@ fn read_field(schema: Schema, message: &[u8], at: usize, member: u64, count: usi
 // The place of the first bad sequence of a string in the message; its length where there is none.
 fn text_place(message: &[u8], part: Part) -> usize
     requires { part.start + part.len ≤ length message.now }
-    ensures { result ≡ badPlace (bytes_of message.now part) }
+    ensures { result ≡ bad_place (bytes_of message.now part) }
 {
     let start = part.start;
     let end = start + part.len;
@@ -234,7 +234,7 @@ fn stop_text(field: u64, place: usize, gathered: Gathered) -> Kept
 
 // The fields from a place to the end. What each one adds is kept here, so that what is gathered stays in its place.
 pub fn read_fields(schema: Schema, message: &[u8], from: usize) -> Kept
-    ensures { toldKept result ≡ fieldsFrom schema message.now from }
+    ensures { told_kept result ≡ fields_from schema message.now from }
 {
     let mut so_far = Gathered::nothing();
     let mut at = from;

@@ -1,6 +1,6 @@
 // Why a message is refused, and what is told beside the number.
 ghost use Rattle.std.specs.Prelude.{◌≡◌};
-ghost use Rattle.proto_reader.specs.Refusal.{messageNumber};
+ghost use Rattle.proto_reader.specs.Refusal.{message_number};
 
 use crate::gathered::Gathered;
 use proto_field::Refusal;
@@ -16,7 +16,7 @@ pub enum MessageRefusal {
 impl MessageRefusal {
     // The number in the table of refusals.
     pub fn number(self) -> u8
-        ensures { result ≡ messageNumber self }
+        ensures { result ≡ message_number self }
     {
         match self {
             MessageRefusal::Field(why) => why.number(),

@@ -1,6 +1,6 @@
 // What each message makes of a field: the table of known fields.
 ghost use Rattle.std.specs.Prelude.{◌≡◌};
-ghost use Rattle.proto_schema.specs.Schema.{roleOf, fitsRole, isMember, isRepeated};
+ghost use Rattle.proto_schema.specs.Schema.{role_of, fits_role, is_member, is_repeated};
 
 use proto_field::tag::{LENGTH, VARINT};
 
@@ -94,7 +94,7 @@ pub enum Role {
 }
 
 fn envelope_role(field: u64) -> Role
-    ensures { result ≡ roleOf Schema.Envelope field }
+    ensures { result ≡ role_of Schema.Envelope field }
 {
     if field == COMMAND {
         return Role::Scalar(FIRST);
@@ -106,7 +106,7 @@ fn envelope_role(field: u64) -> Role
 }
 
 fn response_role(field: u64) -> Role
-    ensures { result ≡ roleOf Schema.Response field }
+    ensures { result ≡ role_of Schema.Response field }
 {
     if field == ERROR_CODE {
         return Role::Scalar(FIRST);
@@ -115,7 +115,7 @@ fn response_role(field: u64) -> Role
 }
 
 fn information_role(field: u64) -> Role
-    ensures { result ≡ roleOf Schema.Information field }
+    ensures { result ≡ role_of Schema.Information field }
 {
     if field == SERIAL_NUMBER {
         return Role::Text(FIRST);
@@ -133,7 +133,7 @@ fn information_role(field: u64) -> Role
 }
 
 fn features_role(field: u64) -> Role
-    ensures { result ≡ roleOf Schema.Features field }
+    ensures { result ≡ role_of Schema.Features field }
 {
     if field == FEATURES {
         return Role::Scalar(FIRST);
@@ -145,7 +145,7 @@ fn features_role(field: u64) -> Role
 }
 
 fn segment_role(field: u64) -> Role
-    ensures { result ≡ roleOf Schema.Segment field }
+    ensures { result ≡ role_of Schema.Segment field }
 {
     if field == COMPONENT_NAME {
         return Role::Text(FIRST);
@@ -163,7 +163,7 @@ fn segment_role(field: u64) -> Role
 }
 
 fn apply_role(field: u64) -> Role
-    ensures { result ≡ roleOf Schema.Apply field }
+    ensures { result ≡ role_of Schema.Apply field }
 {
     if field == FIRMWARE_INFORMATION {
         return Role::Nested;
@@ -175,7 +175,7 @@ fn apply_role(field: u64) -> Role
 }
 
 fn firmware_role(field: u64) -> Role
-    ensures { result ≡ roleOf Schema.Firmware field }
+    ensures { result ≡ role_of Schema.Firmware field }
 {
     if field == FIRMWARE_VERSION {
         return Role::Scalar(FIRST);
@@ -196,7 +196,7 @@ fn firmware_role(field: u64) -> Role
 }
 
 fn component_role(field: u64) -> Role
-    ensures { result ≡ roleOf Schema.Component field }
+    ensures { result ≡ role_of Schema.Component field }
 {
     if field == FIRMWARE_COMPONENT_VERSION {
         return Role::Scalar(FIRST);
@@ -215,7 +215,7 @@ fn component_role(field: u64) -> Role
 
 // What a field is to a message.
 pub fn role_of(schema: Schema, field: u64) -> Role
-    ensures { result ≡ roleOf schema field }
+    ensures { result ≡ role_of schema field }
 {
     match schema {
         Schema::Envelope => envelope_role(field),
@@ -231,7 +231,7 @@ pub fn role_of(schema: Schema, field: u64) -> Role
 
 // Whether a field of this role may have this wire type.
 pub fn fits_role(role: Role, wire: u64) -> bool
-    ensures { result ≡ fitsRole role wire }
+    ensures { result ≡ fits_role role wire }
 {
     match role {
         Role::Scalar(_) => wire == VARINT,
@@ -246,7 +246,7 @@ pub fn fits_role(role: Role, wire: u64) -> bool
 
 // Whether a field of this role and wire type is the member.
 pub fn is_member(role: Role, wire: u64) -> bool
-    ensures { result ≡ isMember role wire }
+    ensures { result ≡ is_member role wire }
 {
     match role {
         Role::Scalar(_) => false,
@@ -261,7 +261,7 @@ pub fn is_member(role: Role, wire: u64) -> bool
 
 // Whether a field of this role is counted.
 pub fn is_repeated(role: Role) -> bool
-    ensures { result ≡ isRepeated role }
+    ensures { result ≡ is_repeated role }
 {
     match role {
         Role::Scalar(_) => false,

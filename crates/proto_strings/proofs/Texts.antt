@@ -6,18 +6,18 @@ use mathlib.Core.List.{List, [], ◌∷◌}
 use lib.ListN.{length}
 use borrow.Author.Tests.{eq-eqb}
 use Rattle.wire.specs.Told.{Told, alone, refused, written}
-use Rattle.utf8.specs.WellFormed.{WellFormed, badPlace}
+use Rattle.utf8.specs.WellFormed.{WellFormed, bad_place}
 use Rattle.utf8.proofs.Places.{well-formed-whole}
 use Rattle.proto_writer.specs.Writer.{Field}
-use Rattle.proto_writer.specs.Message.{writesMessage}
+use Rattle.proto_writer.specs.Message.{writes_message}
 use Rattle.proto_strings.specs.declared.TextFault.TheVariants.{None, At}
-use Rattle.proto_strings.specs.Texts.{orText, firstFault, AllWellFormed, faulted, aloneWritten, writesTexts}
+use Rattle.proto_strings.specs.Texts.{or_text, first_fault, AllWellFormed, faulted, alone_written, writes_texts}
 
 -- no fault is found in strings that are well formed
-well-none : (field : ℕ) (s : List ℕ) → WellFormed s → orText field s None ≡ None
-well-none field s w = rw (eq-eqb (badPlace s) (length s) (well-formed-whole s w))
+well-none : (field : ℕ) (s : List ℕ) → WellFormed s → or_text field s None ≡ None
+well-none field s w = rw (eq-eqb (bad_place s) (length s) (well-formed-whole s w))
 
-pub well-faultless : (strings : List (ℕ × List ℕ)) → AllWellFormed strings → firstFault strings ≡ None
+pub well-faultless : (strings : List (ℕ × List ℕ)) → AllWellFormed strings → first_fault strings ≡ None
 well-faultless [] w = refl
 well-faultless (t ∷ ts) w = rw (well-none t.0 t.1 w.0) (well-faultless ts w.1)
 
@@ -26,14 +26,14 @@ taken true x y e = absurd (true≢false e)
 taken false x y e = refl
 
 module _ (bad : Bool) (strings : List (ℕ × List ℕ)) (fields : List Field) (out : List ℕ) where
-  pub texts-bad : bad ≡ true → written (refused (15, [])) out ≡ writesTexts bad strings fields out
+  pub texts-bad : bad ≡ true → written (refused (15, [])) out ≡ writes_texts bad strings fields out
   texts-bad b = rw b
 
-  rest : bad ≡ false → writesTexts bad strings fields out ≡ faulted (firstFault strings) out (aloneWritten (writesMessage bad fields out))
+  rest : bad ≡ false → writes_texts bad strings fields out ≡ faulted (first_fault strings) out (alone_written (writes_message bad fields out))
   rest b = taken bad _ _ b
 
-  pub texts-fault : (field place : ℕ) → bad ≡ false → firstFault strings ≡ At field place → written (refused (36, field ∷ place ∷ [])) out ≡ writesTexts bad strings fields out
-  texts-fault field place b e = sym (rest b ∙ ap (λ f. faulted f out (aloneWritten (writesMessage bad fields out))) e)
+  pub texts-fault : (field place : ℕ) → bad ≡ false → first_fault strings ≡ At field place → written (refused (36, field ∷ place ∷ [])) out ≡ writes_texts bad strings fields out
+  texts-fault field place b e = sym (rest b ∙ ap (λ f. faulted f out (alone_written (writes_message bad fields out))) e)
 
-  pub texts-wrote : (t : Told ℕ) (l : List ℕ) → bad ≡ false → firstFault strings ≡ None → written t l ≡ writesMessage bad fields out → written (alone t) l ≡ writesTexts bad strings fields out
-  texts-wrote t l b e w = ap aloneWritten w ∙ sym (rest b ∙ ap (λ f. faulted f out (aloneWritten (writesMessage bad fields out))) e)
+  pub texts-wrote : (t : Told ℕ) (l : List ℕ) → bad ≡ false → first_fault strings ≡ None → written t l ≡ writes_message bad fields out → written (alone t) l ≡ writes_texts bad strings fields out
+  texts-wrote t l b e w = ap alone_written w ∙ sym (rest b ∙ ap (λ f. faulted f out (alone_written (writes_message bad fields out))) e)

@@ -1,26 +1,26 @@
 -- What writers of messages with strings tell and leave.
 use Rattle.std.specs.Prelude.{ℕ, Bool, cond, List, [], ◌∷◌, length, eqb}
 use Rattle.wire.specs.Told.{ToldMore, alone, given, refused, Written, WrittenOf, written}
-use Rattle.utf8.specs.WellFormed.{WellFormed, badPlace}
+use Rattle.utf8.specs.WellFormed.{WellFormed, bad_place}
 use Rattle.proto_writer.specs.Writer.{Field}
-use Rattle.proto_writer.specs.Message.{number_of, writesMessage}
+use Rattle.proto_writer.specs.Message.{number_of, writes_message}
 use Rattle.proto_strings.specs.declared.TextFault.{TextFault}
 use Rattle.proto_strings.specs.declared.TextFault.TheVariants.{None, At}
 use Rattle.proto_strings.specs.declared.TextWrote.{TextWrote}
 use Rattle.proto_strings.specs.declared.TextWrote.TheVariants.{Done, Refused, BadText}
 
 -- a fault that was found stays; where none was, a string is judged
-abbrev pub orText : ℕ → List ℕ → TextFault → TextFault
-orText field s None = cond (eqb (badPlace s) (length s)) None (At field (badPlace s))
-orText field s (At found place) = At found place
+abbrev pub or_text : ℕ → List ℕ → TextFault → TextFault
+or_text field s None = cond (eqb (bad_place s) (length s)) None (At field (bad_place s))
+or_text field s (At found place) = At found place
 
-abbrev pub faultFrom : TextFault → List (ℕ × List ℕ) → TextFault
-faultFrom fault [] = fault
-faultFrom fault (t ∷ ts) = faultFrom (orText t.0 t.1 fault) ts
+abbrev pub fault_from : TextFault → List (ℕ × List ℕ) → TextFault
+fault_from fault [] = fault
+fault_from fault (t ∷ ts) = fault_from (or_text t.0 t.1 fault) ts
 
 -- the first of these strings, each with its field, that is not well formed
-abbrev pub firstFault : List (ℕ × List ℕ) → TextFault
-firstFault strings = faultFrom None strings
+abbrev pub first_fault : List (ℕ × List ℕ) → TextFault
+first_fault strings = fault_from None strings
 
 -- all of them are well formed
 abbrev pub AllWellFormed : List (ℕ × List ℕ) → Type 0
@@ -33,22 +33,22 @@ faulted None out rest = rest
 faulted (At field place) out rest = written (refused (36, field ∷ place ∷ [])) out
 
 -- nothing goes with the number
-abbrev pub aloneWritten : Written ℕ → WrittenOf (ℕ × List ℕ) ℕ
-aloneWritten w = written (alone w.told) w.out
+abbrev pub alone_written : Written ℕ → WrittenOf (ℕ × List ℕ) ℕ
+alone_written w = written (alone w.told) w.out
 
 -- a message with strings: 15, then 36 in writing order, then 14
-abbrev pub writesTexts : Bool → List (ℕ × List ℕ) → List Field → List ℕ → WrittenOf (ℕ × List ℕ) ℕ
-writesTexts bad strings fields out =
-    cond bad (written (refused (15, [])) out) (faulted (firstFault strings) out (aloneWritten (writesMessage bad fields out)))
+abbrev pub writes_texts : Bool → List (ℕ × List ℕ) → List Field → List ℕ → WrittenOf (ℕ × List ℕ) ℕ
+writes_texts bad strings fields out =
+    cond bad (written (refused (15, [])) out) (faulted (first_fault strings) out (alone_written (writes_message bad fields out)))
 
 -- the answers of these writers
-abbrev pub toldTextWrote : TextWrote → ToldMore ℕ
-toldTextWrote (Done n) = given n
-toldTextWrote (Refused e) = refused (number_of e, [])
-toldTextWrote (BadText field place) = refused (36, field ∷ place ∷ [])
+abbrev pub told_text_wrote : TextWrote → ToldMore ℕ
+told_text_wrote (Done n) = given n
+told_text_wrote (Refused e) = refused (number_of e, [])
+told_text_wrote (BadText field place) = refused (36, field ∷ place ∷ [])
 
 -- the number of bytes that were written
-abbrev pub textWroteSize : TextWrote → ℕ
-textWroteSize (Done n) = n
-textWroteSize (Refused e) = 0
-textWroteSize (BadText field place) = 0
+abbrev pub text_wrote_size : TextWrote → ℕ
+text_wrote_size (Done n) = n
+text_wrote_size (Refused e) = 0
+text_wrote_size (BadText field place) = 0

@@ -1,8 +1,8 @@
 // Strings that are written: the first that is not well formed, and what their writers answer.
 ghost use Rattle.std.specs.Prelude.{◌≡◌};
 ghost use Rattle.wire.specs.Told.{alone};
-ghost use Rattle.proto_writer.specs.Message.{toldWrote};
-ghost use Rattle.proto_strings.specs.Texts.{orText, toldTextWrote};
+ghost use Rattle.proto_writer.specs.Message.{told_wrote};
+ghost use Rattle.proto_strings.specs.Texts.{or_text, told_text_wrote};
 
 use proto_writer::message::{WriteRefusal, Wrote};
 use utf8::check::bad_place;
@@ -17,7 +17,7 @@ pub enum TextFault {
 impl TextFault {
     // A fault that was found stays; where none was, this string is judged.
     pub fn or_text(self, field: u64, string: &[u8]) -> TextFault
-        ensures { result ≡ orText field string.now self }
+        ensures { result ≡ or_text field string.now self }
     {
         match self {
             TextFault::At {
@@ -49,7 +49,7 @@ pub enum TextWrote {
 
 impl TextWrote {
     pub fn of(wrote: Wrote) -> TextWrote
-        ensures { toldTextWrote result ≡ alone (toldWrote wrote) }
+        ensures { told_text_wrote result ≡ alone (told_wrote wrote) }
     {
         match wrote {
             Wrote::Done(n) => TextWrote::Done(n),

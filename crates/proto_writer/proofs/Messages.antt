@@ -12,82 +12,82 @@ use borrow.Author.Tests.{lt-ltb, le-ltb, ltb-false}
 use Rattle.wire.specs.Told.{given, refused, Written, written}
 use Rattle.wire.specs.Put.{Put}
 use Rattle.wire.proofs.Tests.{or-false}
-use Rattle.proto_field.specs.Tag.{lastField}
-use Rattle.proto_writer.specs.Writer.{Field, messageBytes}
+use Rattle.proto_field.specs.Tag.{last_field}
+use Rattle.proto_writer.specs.Writer.{Field, message_bytes}
 use Rattle.proto_writer.specs.declared.message.Room.{Room}
 use Rattle.proto_writer.specs.declared.message.Room.TheVariants.{Left, Short}
 use Rattle.proto_writer.specs.declared.message.Wrote.{Wrote}
 use Rattle.proto_writer.specs.declared.message.Wrote.TheVariants.{Done, Refused}
-use Rattle.proto_writer.specs.Message.{writesMessage, badMember, toldWrote, wroteSize, lessRoom}
+use Rattle.proto_writer.specs.Message.{writes_message, bad_member, told_wrote, wrote_size, less_room}
 
 -- ---- the lines of the table, and what is written where none holds
 module _ (bad : Bool) (fields : List Field) (out : List ℕ) where
-  pub wrote-bad : bad ≡ true → written {A = ℕ} (refused 15) out ≡ writesMessage bad fields out
+  pub wrote-bad : bad ≡ true → written {A = ℕ} (refused 15) out ≡ writes_message bad fields out
   wrote-bad b = rw b
 
-  pub wrote-short : bad ≡ false → length out < length (messageBytes fields) → written {A = ℕ} (refused 14) out ≡ writesMessage bad fields out
-  wrote-short b h = rw (b, lt-ltb (length out) (length (messageBytes fields)) h)
+  pub wrote-short : bad ≡ false → length out < length (message_bytes fields) → written {A = ℕ} (refused 14) out ≡ writes_message bad fields out
+  wrote-short b h = rw (b, lt-ltb (length out) (length (message_bytes fields)) h)
 
-  pub wrote : {n : ℕ} {l : List ℕ} → bad ≡ false → length (messageBytes fields) ≤ length out → Put out 0 (messageBytes fields) n l
-      → written (given n) l ≡ writesMessage bad fields out
+  pub wrote : {n : ℕ} {l : List ℕ} → bad ≡ false → length (message_bytes fields) ≤ length out → Put out 0 (message_bytes fields) n l
+      → written (given n) l ≡ writes_message bad fields out
   wrote {n} {l} b h p =
-      let e : n ≡ length (messageBytes fields) = omega (arith, p.place) in
-      rw (b, le-ltb (length out) (length (messageBytes fields)) h, e, p.stored)
+      let e : n ≡ length (message_bytes fields) = omega (arith, p.place) in
+      rw (b, le-ltb (length out) (length (message_bytes fields)) h, e, p.stored)
 
 -- what was written lies within the output
-pub size-within : (w : Wrote) (bad : Bool) (fields : List Field) (out l : List ℕ) → written (toldWrote w) l ≡ writesMessage bad fields out → wroteSize w ≤ length l
+pub size-within : (w : Wrote) (bad : Bool) (fields : List Field) (out l : List ℕ) → written (told_wrote w) l ≡ writes_message bad fields out → wrote_size w ≤ length l
 size-within (Refused r) bad fields out l e = zero-le
 size-within (Done n) true fields out l e = absurd (let t : given n ≡ refused 15 = ap (λ (w : Written ℕ). w.told) e in let z : ◌≡◌ {A = ℕ} 0 1 = cc in omega arith)
-size-within (Done n) false fields out l e = by-room (dec_lt (length out) (length (messageBytes fields)))
+size-within (Done n) false fields out l e = by-room (dec_lt (length out) (length (message_bytes fields)))
   where
-    by-room : Dec (length out < length (messageBytes fields)) → n ≤ length l
+    by-room : Dec (length out < length (message_bytes fields)) → n ≤ length l
     by-room (yes h) =
-        let t : given n ≡ (writesMessage false fields out).told = ap (λ (w : Written ℕ). w.told) e in
-        let f : (writesMessage false fields out).told ≡ refused 14 = rw (lt-ltb (length out) (length (messageBytes fields)) h) in
+        let t : given n ≡ (writes_message false fields out).told = ap (λ (w : Written ℕ). w.told) e in
+        let f : (writes_message false fields out).told ≡ refused 14 = rw (lt-ltb (length out) (length (message_bytes fields)) h) in
         absurd (let z : ◌≡◌ {A = ℕ} 0 1 = cc in omega arith)
     by-room (no h) =
-        let t : ltb (length out) (length (messageBytes fields)) ≡ false = le-ltb (length out) (length (messageBytes fields)) (omega arith) in
-        let f : writesMessage false fields out ≡ written (given (length (messageBytes fields))) (sets out 0 (messageBytes fields)) = rw t in
+        let t : ltb (length out) (length (message_bytes fields)) ≡ false = le-ltb (length out) (length (message_bytes fields)) (omega arith) in
+        let f : writes_message false fields out ≡ written (given (length (message_bytes fields))) (sets out 0 (message_bytes fields)) = rw t in
         let g = e ∙ f in
-        let t₁ : given n ≡ given (length (messageBytes fields)) = ap (λ (w : Written ℕ). w.told) g in
-        let m : n ≡ length (messageBytes fields) = cc in
-        let k : l ≡ sets out 0 (messageBytes fields) = ap (λ (w : Written ℕ). w.out) g in
-        omega (arith, ap length k, length-sets out 0 (messageBytes fields))
+        let t₁ : given n ≡ given (length (message_bytes fields)) = ap (λ (w : Written ℕ). w.told) g in
+        let m : n ≡ length (message_bytes fields) = cc in
+        let k : l ≡ sets out 0 (message_bytes fields) = ap (λ (w : Written ℕ). w.out) g in
+        omega (arith, ap length k, length-sets out 0 (message_bytes fields))
 
 -- ---- members
 -- the number of a member that is written is a field's
-pub member-above : (field : ℕ) → badMember field ≡ false → 2 ≤ field
-member-above field e = ltb-false field 2 (or-false (ltb field 2) (ltb lastField field) e).0
+pub member-above : (field : ℕ) → bad_member field ≡ false → 2 ≤ field
+member-above field e = ltb-false field 2 (or-false (ltb field 2) (ltb last_field field) e).0
 
-pub member-fits : (field : ℕ) → badMember field ≡ false → field ≤ lastField
-member-fits field e = ltb-false lastField field (or-false (ltb field 2) (ltb lastField field) e).1
+pub member-fits : (field : ℕ) → bad_member field ≡ false → field ≤ last_field
+member-fits field e = ltb-false last_field field (or-false (ltb field 2) (ltb last_field field) e).1
 
 -- ---- room
 -- bytes after bytes
-pub less-less : (a b : ℕ) (r : Room) → lessRoom b (lessRoom a r) ≡ lessRoom (a + b) r
+pub less-less : (a b : ℕ) (r : Room) → less_room b (less_room a r) ≡ less_room (a + b) r
 less-less a b Short = refl
 less-less a b (Left k) = by_first (dec_lt k a)
   where
-    by-second : a ≤ k → Dec (k - a < b) → lessRoom b (lessRoom a (Left k)) ≡ lessRoom (a + b) (Left k)
+    by-second : a ≤ k → Dec (k - a < b) → less_room b (less_room a (Left k)) ≡ less_room (a + b) (Left k)
     by-second h (yes l) = rw (le-ltb k a h, lt-ltb (k - a) b l, lt-ltb k (a + b) (omega arith))
     by-second h (no n) =
         let e : k - a - b ≡ k - (a + b) = omega arith in
         rw (le-ltb k a h, le-ltb (k - a) b (omega arith), le-ltb k (a + b) (omega arith), e)
 
-    by_first : Dec (k < a) → lessRoom b (lessRoom a (Left k)) ≡ lessRoom (a + b) (Left k)
+    by_first : Dec (k < a) → less_room b (less_room a (Left k)) ≡ less_room (a + b) (Left k)
     by_first (yes l) = rw (lt-ltb k a l, lt-ltb k (a + b) (omega arith))
     by_first (no n) = by-second (omega arith) (dec_lt (k - a) b)
 
-pub room-short : (k n : ℕ) → lessRoom n (Left k) ≡ Short → k < n
+pub room-short : (k n : ℕ) → less_room n (Left k) ≡ Short → k < n
 room-short k n e = by-test (dec_lt k n)
   where
     by-test : Dec (k < n) → k < n
     by-test (yes l) = l
-    by-test (no h) = absurd (let z : ◌≡◌ {A = ℕ} 0 1 = (let f : lessRoom n (Left k) ≡ Left (k - n) = rw (le-ltb k n (omega arith)) in cc) in omega arith)
+    by-test (no h) = absurd (let z : ◌≡◌ {A = ℕ} 0 1 = (let f : less_room n (Left k) ≡ Left (k - n) = rw (le-ltb k n (omega arith)) in cc) in omega arith)
 
-pub room-left : (k n m : ℕ) → lessRoom n (Left k) ≡ Left m → n ≤ k
+pub room-left : (k n m : ℕ) → less_room n (Left k) ≡ Left m → n ≤ k
 room-left k n m e = by-test (dec_lt k n)
   where
     by-test : Dec (k < n) → n ≤ k
-    by-test (yes l) = absurd (let z : ◌≡◌ {A = ℕ} 0 1 = (let f : lessRoom n (Left k) ≡ Short = rw (lt-ltb k n l) in cc) in omega arith)
+    by-test (yes l) = absurd (let z : ◌≡◌ {A = ℕ} 0 1 = (let f : less_room n (Left k) ≡ Short = rw (lt-ltb k n l) in cc) in omega arith)
     by-test (no h) = omega arith

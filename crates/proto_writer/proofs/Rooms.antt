@@ -6,76 +6,76 @@ use native.Mathlib.Omega.{arith}
 use lib.ListN.{length}
 use borrow.Author.Tests.{lt-ltb, le-ltb}
 use Rattle.wire.specs.Put.{Put}
-use Rattle.proto_writer.specs.Writer.{Field, nested, headBytes, fieldBytes, messageBytes}
+use Rattle.proto_writer.specs.Writer.{Field, nested, head_bytes, field_bytes, message_bytes}
 use Rattle.proto_writer.specs.declared.message.Room.{Room}
 use Rattle.proto_writer.specs.declared.message.Room.TheVariants.{Left, Short}
-use Rattle.proto_writer.specs.Message.{lessRoom}
+use Rattle.proto_writer.specs.Message.{less_room}
 use Rattle.proto_writer.proofs.Runs.{put-end, put_then, put-field, joined_length, part-is, message-length}
 use Rattle.proto_writer.proofs.Messages.{less-less, room-short, room-left}
 
 -- ---- the room
-less_none : (r : Room) → lessRoom 0 r ≡ r
+less_none : (r : Room) → less_room 0 r ≡ r
 less_none Short = refl
 less_none (Left k) = rw (le-ltb k 0 zero-le) (ap Left (omega arith))
 
-pub room-end : (r : Room) → r ≡ lessRoom (length (messageBytes [])) r
+pub room-end : (r : Room) → r ≡ less_room (length (message_bytes [])) r
 room-end r = sym (less_none r)
 
-pub room-more : (f : Field) (fs : List Field) (r : Room) {n : ℕ} {r₁ r₂ : Room} → n ≡ length (fieldBytes f) → r₁ ≡ lessRoom n r
-    → r₂ ≡ lessRoom (length (messageBytes fs)) r₁ → r₂ ≡ lessRoom (length (messageBytes (f ∷ fs))) r
+pub room-more : (f : Field) (fs : List Field) (r : Room) {n : ℕ} {r₁ r₂ : Room} → n ≡ length (field_bytes f) → r₁ ≡ less_room n r
+    → r₂ ≡ less_room (length (message_bytes fs)) r₁ → r₂ ≡ less_room (length (message_bytes (f ∷ fs))) r
 room-more f fs r e e₁ e₂ =
-    e₂ ∙ ap (lessRoom (length (messageBytes fs))) (e₁ ∙ ap (λ k. lessRoom k r) e) ∙ less-less (length (fieldBytes f)) (length (messageBytes fs)) r
-    ∙ ap (λ k. lessRoom k r) (sym (message-length f fs))
+    e₂ ∙ ap (less_room (length (message_bytes fs))) (e₁ ∙ ap (λ k. less_room k r) e) ∙ less-less (length (field_bytes f)) (length (message_bytes fs)) r
+    ∙ ap (λ k. less_room k r) (sym (message-length f fs))
 
 -- what is left of the room, where something is
-pub room-rest : (k n m : ℕ) → lessRoom n (Left k) ≡ Left m → (m ≡ k - n) × (n ≤ k)
+pub room-rest : (k n m : ℕ) → less_room n (Left k) ≡ Left m → (m ≡ k - n) × (n ≤ k)
 room-rest k n m e =
     let h : n ≤ k = room-left k n m e in
-    let f : lessRoom n (Left k) ≡ Left (k - n) = rw (le-ltb k n h) in
+    let f : less_room n (Left k) ≡ Left (k - n) = rw (le-ltb k n h) in
     let g : Left m ≡ Left (k - n) = sym e ∙ f in
     let q : m ≡ k - n = cc in
     (q, h)
 
 -- ---- fields after fields
-pub message-append : (fs gs : List Field) → messageBytes fs ++ messageBytes gs ≡ messageBytes (fs ++ gs)
+pub message-append : (fs gs : List Field) → message_bytes fs ++ message_bytes gs ≡ message_bytes (fs ++ gs)
 message-append [] gs = refl
-message-append (f ∷ fs) gs = append_assoc (fieldBytes f) (messageBytes fs) (messageBytes gs) ∙ ap (λ l. fieldBytes f ++ l) (message-append fs gs)
+message-append (f ∷ fs) gs = append_assoc (field_bytes f) (message_bytes fs) (message_bytes gs) ∙ ap (λ l. field_bytes f ++ l) (message-append fs gs)
 
-pub room-join : (fs gs : List Field) (r : Room) {r₁ r₂ : Room} → r₁ ≡ lessRoom (length (messageBytes fs)) r → r₂ ≡ lessRoom (length (messageBytes gs)) r₁
-    → r₂ ≡ lessRoom (length (messageBytes (fs ++ gs))) r
+pub room-join : (fs gs : List Field) (r : Room) {r₁ r₂ : Room} → r₁ ≡ less_room (length (message_bytes fs)) r → r₂ ≡ less_room (length (message_bytes gs)) r₁
+    → r₂ ≡ less_room (length (message_bytes (fs ++ gs))) r
 room-join fs gs r e₁ e₂ =
-    e₂ ∙ ap (lessRoom (length (messageBytes gs))) e₁ ∙ less-less (length (messageBytes fs)) (length (messageBytes gs)) r
-    ∙ ap (λ k. lessRoom k r) (sym (joined_length (messageBytes fs) (messageBytes gs) (message-append fs gs)))
+    e₂ ∙ ap (less_room (length (message_bytes gs))) e₁ ∙ less-less (length (message_bytes fs)) (length (message_bytes gs)) r
+    ∙ ap (λ k. less_room k r) (sym (joined_length (message_bytes fs) (message_bytes gs) (message-append fs gs)))
 
-pub put-join : {l l₁ l₂ : List ℕ} {at n m : ℕ} (fs gs : List Field) → Put l at (messageBytes fs) n l₁ → Put l₁ n (messageBytes gs) m l₂
-    → Put l at (messageBytes (fs ++ gs)) m l₂
-put-join fs gs p q = put_then (messageBytes fs) (messageBytes gs) (message-append fs gs) p q
+pub put-join : {l l₁ l₂ : List ℕ} {at n m : ℕ} (fs gs : List Field) → Put l at (message_bytes fs) n l₁ → Put l₁ n (message_bytes gs) m l₂
+    → Put l at (message_bytes (fs ++ gs)) m l₂
+put-join fs gs p q = put_then (message_bytes fs) (message_bytes gs) (message-append fs gs) p q
 
 -- ---- a message within a message
-pub nested_is : (f : ℕ) (l : List ℕ) → headBytes f (length l) ++ l ≡ fieldBytes (nested f l)
-unfolding fieldBytes
+pub nested_is : (f : ℕ) (l : List ℕ) → head_bytes f (length l) ++ l ≡ field_bytes (nested f l)
+unfolding field_bytes
 nested_is f l = part-is f l
 
-pub nested-length : (f : ℕ) (l : List ℕ) → length (fieldBytes (nested f l)) ≡ length (headBytes f (length l)) + length l
-nested-length f l = joined_length (headBytes f (length l)) l (nested_is f l)
+pub nested-length : (f : ℕ) (l : List ℕ) → length (field_bytes (nested f l)) ≡ length (head_bytes f (length l)) + length l
+nested-length f l = joined_length (head_bytes f (length l)) l (nested_is f l)
 
 -- the room that it leaves, by the room that its fields leave
-pub nested-short : (f k : ℕ) (l : List ℕ) → lessRoom (length l) (Left k) ≡ Short → Short ≡ lessRoom (length (fieldBytes (nested f l))) (Left k)
-nested-short f k l e = sym (rw (lt-ltb k (length (fieldBytes (nested f l))) (omega (arith, room-short k (length l) e, nested-length f l))))
+pub nested-short : (f k : ℕ) (l : List ℕ) → less_room (length l) (Left k) ≡ Short → Short ≡ less_room (length (field_bytes (nested f l))) (Left k)
+nested-short f k l e = sym (rw (lt-ltb k (length (field_bytes (nested f l))) (omega (arith, room-short k (length l) e, nested-length f l))))
 
-pub nested-left : (f k m : ℕ) (l : List ℕ) {h : ℕ} {r : Room} → lessRoom (length l) (Left k) ≡ Left m → h ≡ length (headBytes f (length l)) → r ≡ lessRoom h (Left m)
-    → r ≡ lessRoom (length (fieldBytes (nested f l))) (Left k)
+pub nested-left : (f k m : ℕ) (l : List ℕ) {h : ℕ} {r : Room} → less_room (length l) (Left k) ≡ Left m → h ≡ length (head_bytes f (length l)) → r ≡ less_room h (Left m)
+    → r ≡ less_room (length (field_bytes (nested f l))) (Left k)
 nested-left f k m l {h} e g q =
-    let sum : length l + h ≡ length (fieldBytes (nested f l)) = omega (arith, nested-length f l) in
-    q ∙ ap (lessRoom h) (sym e) ∙ less-less (length l) h (Left k) ∙ ap (λ n. lessRoom n (Left k)) sum
+    let sum : length l + h ≡ length (field_bytes (nested f l)) = omega (arith, nested-length f l) in
+    q ∙ ap (less_room h) (sym e) ∙ less-less (length l) h (Left k) ∙ ap (λ n. less_room n (Left k)) sum
 
 -- ---- a field that is left out
-pub room-skip : (f : Field) (fs : List Field) (r : Room) {r₁ : Room} → fieldBytes f ≡ [] → r₁ ≡ lessRoom (length (messageBytes fs)) r → r₁ ≡ lessRoom (length (messageBytes (f ∷ fs))) r
+pub room-skip : (f : Field) (fs : List Field) (r : Room) {r₁ : Room} → field_bytes f ≡ [] → r₁ ≡ less_room (length (message_bytes fs)) r → r₁ ≡ less_room (length (message_bytes (f ∷ fs))) r
 room-skip f fs r e q = rw e q
 
-pub put-skip : {l l₁ : List ℕ} {at n : ℕ} (f : Field) (fs : List Field) → fieldBytes f ≡ [] → Put l at (messageBytes fs) n l₁ → Put l at (messageBytes (f ∷ fs)) n l₁
+pub put-skip : {l l₁ : List ℕ} {at n : ℕ} (f : Field) (fs : List Field) → field_bytes f ≡ [] → Put l at (message_bytes fs) n l₁ → Put l at (message_bytes (f ∷ fs)) n l₁
 put-skip f fs e p = rw e p
 
 -- the last field
-pub put_last : {l l₁ : List ℕ} {at n : ℕ} (f : Field) → Put l at (fieldBytes f) n l₁ → Put l at (messageBytes (f ∷ [])) n l₁
+pub put_last : {l l₁ : List ℕ} {at n : ℕ} (f : Field) → Put l at (field_bytes f) n l₁ → Put l at (message_bytes (f ∷ [])) n l₁
 put_last {l₁ = l₁} {n = n} f p = put-field f [] p (put-end l₁ n)

@@ -1,7 +1,7 @@
 -- The bytes of a message that is written: a list of fields, in rising order.
 use Rattle.std.specs.Prelude.{ℕ, ◌+◌, ◌*◌, cond, List, [], ◌∷◌, ◌++◌, length, eqb}
-use Rattle.proto_writer.specs.Varint.{varintBytes}
-use Rattle.proto_field.specs.Tag.{wireTypes, varintType, lengthType}
+use Rattle.proto_writer.specs.Varint.{varint_bytes}
+use Rattle.proto_field.specs.Tag.{wire_types, varint_type, length_type}
 
 -- a field that is written, with its number
 pub data Field : Type 0 where
@@ -14,30 +14,30 @@ pub data Field : Type 0 where
   -- a message within the message, written also where it is empty
   nested : ℕ → List ℕ → Field
 
-unfoldable pub tagBytes : ℕ → ℕ → List ℕ
-tagBytes field wire = varintBytes (field * wireTypes + wire)
+unfoldable pub tag_bytes : ℕ → ℕ → List ℕ
+tag_bytes field wire = varint_bytes (field * wire_types + wire)
 
 -- the tag and the length of a part of len bytes
-unfoldable pub headBytes : ℕ → ℕ → List ℕ
-headBytes field len = tagBytes field lengthType ++ varintBytes len
+unfoldable pub head_bytes : ℕ → ℕ → List ℕ
+head_bytes field len = tag_bytes field length_type ++ varint_bytes len
 
 -- a part: its tag, its length, its bytes
-unfoldable pub partBytes : ℕ → List ℕ → List ℕ
-partBytes field l = headBytes field (length l) ++ l
+unfoldable pub part_bytes : ℕ → List ℕ → List ℕ
+part_bytes field l = head_bytes field (length l) ++ l
 
 -- numbers as varints, one after another
-abbrev pub varintsBytes : List ℕ → List ℕ
-varintsBytes [] = []
-varintsBytes (v ∷ vs) = varintBytes v ++ varintsBytes vs
+abbrev pub varints_bytes : List ℕ → List ℕ
+varints_bytes [] = []
+varints_bytes (v ∷ vs) = varint_bytes v ++ varints_bytes vs
 
 -- the bytes of a field
-unfoldable pub fieldBytes : Field → List ℕ
-fieldBytes (scalar n v) = cond (eqb v 0) [] (tagBytes n varintType ++ varintBytes v)
-fieldBytes (text n l) = cond (eqb (length l) 0) [] (partBytes n l)
-fieldBytes (packed n vs) = cond (eqb (length vs) 0) [] (partBytes n (varintsBytes vs))
-fieldBytes (nested n l) = partBytes n l
+unfoldable pub field_bytes : Field → List ℕ
+field_bytes (scalar n v) = cond (eqb v 0) [] (tag_bytes n varint_type ++ varint_bytes v)
+field_bytes (text n l) = cond (eqb (length l) 0) [] (part_bytes n l)
+field_bytes (packed n vs) = cond (eqb (length vs) 0) [] (part_bytes n (varints_bytes vs))
+field_bytes (nested n l) = part_bytes n l
 
 -- the bytes of a message
-abbrev pub messageBytes : List Field → List ℕ
-messageBytes [] = []
-messageBytes (f ∷ fs) = fieldBytes f ++ messageBytes fs
+abbrev pub message_bytes : List Field → List ℕ
+message_bytes [] = []
+message_bytes (f ∷ fs) = field_bytes f ++ message_bytes fs

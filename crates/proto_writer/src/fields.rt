@@ -2,8 +2,8 @@
 ghost use Rattle.std.specs.Prelude.{◌≡◌, map, ◌+◌, ◌*◌, ◌≤◌, ◌<◌, ◌^◌, length};
 ghost use Rattle.wire.specs.Put.{Put};
 ghost use Rattle.proto_field.specs.Signed.{extended};
-ghost use Rattle.proto_field.specs.Tag.{lastField};
-ghost use Rattle.proto_writer.specs.Writer.{scalar, text, packed, headBytes, partBytes, varintsBytes, fieldBytes};
+ghost use Rattle.proto_field.specs.Tag.{last_field};
+ghost use Rattle.proto_writer.specs.Writer.{scalar, text, packed, head_bytes, part_bytes, varints_bytes, field_bytes};
 
 use crate::varint::{put_varint, varint_len};
 use proto_field::signed::sign_extended;
@@ -12,8 +12,8 @@ use wire::bytes::copy;
 
 // The number of bytes of a scalar.
 pub fn scalar_len(field: u64, value: u64) -> usize
-    requires { field ≤ lastField }
-    ensures { (result ≡ length (fieldBytes (scalar field value))) × (result ≤ 20) }
+    requires { field ≤ last_field }
+    ensures { (result ≡ length (field_bytes (scalar field value))) × (result ≤ 20) }
 {
     if value == 0 {
         return 0;
@@ -24,8 +24,8 @@ pub fn scalar_len(field: u64, value: u64) -> usize
 
 // A scalar, written at a place; the answer is the place after it.
 pub fn put_scalar(out: &mut [u8], at: usize, field: u64, value: u64) -> usize
-    requires { (field ≤ lastField) × (at + length (fieldBytes (scalar field value)) ≤ length out.old) }
-    ensures { Put out.old at (fieldBytes (scalar field value)) result out.new }
+    requires { (field ≤ last_field) × (at + length (field_bytes (scalar field value)) ≤ length out.old) }
+    ensures { Put out.old at (field_bytes (scalar field value)) result out.new }
 {
     if value == 0 {
         return at;
@@ -37,8 +37,8 @@ pub fn put_scalar(out: &mut [u8], at: usize, field: u64, value: u64) -> usize
 
 // The number of bytes of the tag and the length before a part.
 pub fn head_len(field: u64, len: usize) -> usize
-    requires { field ≤ lastField }
-    ensures { (result ≡ length (headBytes field len)) × (result ≤ 20) }
+    requires { field ≤ last_field }
+    ensures { (result ≡ length (head_bytes field len)) × (result ≤ 20) }
 {
     let tag = field * WIRE_TYPES + LENGTH;
     varint_len(tag) + varint_len(len as u64)
@@ -46,8 +46,8 @@ pub fn head_len(field: u64, len: usize) -> usize
 
 // The tag and the length before a part, written at a place; the answer is the place after them.
 pub fn put_head(out: &mut [u8], at: usize, field: u64, len: usize) -> usize
-    requires { (field ≤ lastField) × (at + length (headBytes field len) ≤ length out.old) }
-    ensures { Put out.old at (headBytes field len) result out.new }
+    requires { (field ≤ last_field) × (at + length (head_bytes field len) ≤ length out.old) }
+    ensures { Put out.old at (head_bytes field len) result out.new }
 {
     let tag = field * WIRE_TYPES + LENGTH;
     let next = put_varint(out, at, tag);
@@ -56,16 +56,16 @@ pub fn put_head(out: &mut [u8], at: usize, field: u64, len: usize) -> usize
 
 // The number of bytes of a part.
 pub fn part_len(field: u64, bytes: &[u8]) -> usize
-    requires { field ≤ lastField }
-    ensures { (result ≡ length (partBytes field bytes.now)) × (result ≤ 20 + length bytes.now) }
+    requires { field ≤ last_field }
+    ensures { (result ≡ length (part_bytes field bytes.now)) × (result ≤ 20 + length bytes.now) }
 {
     head_len(field, bytes.len()) + bytes.len()
 }
 
 // A part, written at a place; the answer is the place after it.
 pub fn put_part(out: &mut [u8], at: usize, field: u64, bytes: &[u8]) -> usize
-    requires { (field ≤ lastField) × (at + length (partBytes field bytes.now) ≤ length out.old) }
-    ensures { Put out.old at (partBytes field bytes.now) result out.new }
+    requires { (field ≤ last_field) × (at + length (part_bytes field bytes.now) ≤ length out.old) }
+    ensures { Put out.old at (part_bytes field bytes.now) result out.new }
 {
     let start = put_head(out, at, field, bytes.len());
     copy(out, start, bytes);
@@ -74,8 +74,8 @@ pub fn put_part(out: &mut [u8], at: usize, field: u64, bytes: &[u8]) -> usize
 
 // The number of bytes of a string.
 pub fn text_len(field: u64, bytes: &[u8]) -> usize
-    requires { field ≤ lastField }
-    ensures { (result ≡ length (fieldBytes (text field bytes.now)))
+    requires { field ≤ last_field }
+    ensures { (result ≡ length (field_bytes (text field bytes.now)))
         × (result ≤ 20 + length bytes.now) }
 {
     if bytes.len() == 0 {
@@ -86,8 +86,8 @@ pub fn text_len(field: u64, bytes: &[u8]) -> usize
 
 // A string, written at a place; the answer is the place after it.
 pub fn put_text(out: &mut [u8], at: usize, field: u64, bytes: &[u8]) -> usize
-    requires { (field ≤ lastField) × (at + length (fieldBytes (text field bytes.now)) ≤ length out.old) }
-    ensures { Put out.old at (fieldBytes (text field bytes.now)) result out.new }
+    requires { (field ≤ last_field) × (at + length (field_bytes (text field bytes.now)) ≤ length out.old) }
+    ensures { Put out.old at (field_bytes (text field bytes.now)) result out.new }
 {
     if bytes.len() == 0 {
         return at;
@@ -98,7 +98,7 @@ pub fn put_text(out: &mut [u8], at: usize, field: u64, bytes: &[u8]) -> usize
 // The number of bytes of signed numbers as varints.
 fn varints_len(list: &[i32]) -> usize
     requires { length list.now < 2 ^ 32 }
-    ensures { (result ≡ length (varintsBytes (map extended list.now)))
+    ensures { (result ≡ length (varints_bytes (map extended list.now)))
         × (result ≤ 10 * length list.now) }
 {
     let mut n: usize = 0;
@@ -112,8 +112,8 @@ fn varints_len(list: &[i32]) -> usize
 
 // Signed numbers as varints, written at a place; the answer is the place after them.
 fn put_varints(out: &mut [u8], at: usize, list: &[i32]) -> usize
-    requires { at + length (varintsBytes (map extended list.now)) ≤ length out.old }
-    ensures { Put out.old at (varintsBytes (map extended list.now)) result out.new }
+    requires { at + length (varints_bytes (map extended list.now)) ≤ length out.old }
+    ensures { Put out.old at (varints_bytes (map extended list.now)) result out.new }
 {
     let mut next = at;
     let mut i = 0;
@@ -126,8 +126,8 @@ fn put_varints(out: &mut [u8], at: usize, list: &[i32]) -> usize
 
 // The number of bytes of a packed list.
 pub fn packed_len(field: u64, list: &[i32]) -> usize
-    requires { (field ≤ lastField) × (length list.now < 2 ^ 32) }
-    ensures { result ≡ length (fieldBytes (packed field (map extended list.now))) }
+    requires { (field ≤ last_field) × (length list.now < 2 ^ 32) }
+    ensures { result ≡ length (field_bytes (packed field (map extended list.now))) }
 {
     if list.len() == 0 {
         return 0;
@@ -138,10 +138,10 @@ pub fn packed_len(field: u64, list: &[i32]) -> usize
 
 // A packed list, written at a place; the answer is the place after it.
 pub fn put_packed(out: &mut [u8], at: usize, field: u64, list: &[i32]) -> usize
-    requires { (field ≤ lastField)
+    requires { (field ≤ last_field)
         × (length list.now < 2 ^ 32)
-        × (at + length (fieldBytes (packed field (map extended list.now))) ≤ length out.old) }
-    ensures { Put out.old at (fieldBytes (packed field (map extended list.now))) result
+        × (at + length (field_bytes (packed field (map extended list.now))) ≤ length out.old) }
+    ensures { Put out.old at (field_bytes (packed field (map extended list.now))) result
         out.new }
 {
     if list.len() == 0 {

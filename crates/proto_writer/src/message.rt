@@ -1,6 +1,6 @@
 // What every message writer answers, and the room that it counts.
 ghost use Rattle.std.specs.Prelude.{◌≡◌};
-ghost use Rattle.proto_writer.specs.Message.{number_of, badMember, lessRoom};
+ghost use Rattle.proto_writer.specs.Message.{number_of, bad_member, less_room};
 
 use proto_field::tag::LAST_FIELD;
 
@@ -34,7 +34,7 @@ pub enum Wrote {
 
 // Whether a member's number is out of its range.
 pub fn bad_member(field: u64) -> bool
-    ensures { result ≡ badMember field }
+    ensures { result ≡ bad_member field }
 {
     wire::logic::either(field < FIRST_MEMBER, LAST_FIELD < field)
 }
@@ -48,7 +48,7 @@ pub enum Room {
 
 impl Room {
     pub fn less(self, n: usize) -> Room
-        ensures { result ≡ lessRoom n self }
+        ensures { result ≡ less_room n self }
     {
         match self {
             Room::Short => Room::Short,

@@ -1,7 +1,7 @@
 // Base 128 varints, counted and written.
 ghost use Rattle.std.specs.Prelude.{◌≡◌, ◌+◌, ◌≤◌, ◌<◌, length};
 ghost use Rattle.wire.specs.Put.{Put};
-ghost use Rattle.proto_writer.specs.Varint.{varintBytes};
+ghost use Rattle.proto_writer.specs.Varint.{varint_bytes};
 
 use proto_field::varint::BASE;
 
@@ -10,7 +10,7 @@ const DIGIT_BITS: u64 = 7;
 
 // The number of bytes of the shortest varint of a value.
 pub fn varint_len(value: u64) -> usize
-    ensures { (result ≡ length (varintBytes value)) × (result ≤ 10) }
+    ensures { (result ≡ length (varint_bytes value)) × (result ≤ 10) }
 {
     let mut rest = value;
     let mut n: usize = 1;
@@ -31,8 +31,8 @@ fn narrow(x: u64) -> u8
 
 // The shortest varint of a value, written at a place; the answer is the place after it.
 pub(crate) fn put_varint(out: &mut [u8], at: usize, value: u64) -> usize
-    requires { at + length (varintBytes value) ≤ length out.old }
-    ensures { Put out.old at (varintBytes value) result out.new }
+    requires { at + length (varint_bytes value) ≤ length out.old }
+    ensures { Put out.old at (varint_bytes value) result out.new }
 {
     let mut rest = value;
     let mut i = at;

@@ -7,29 +7,29 @@ use lib.ListN.{length}
 use borrow.Author.Tests.{lt-ltb, le-ltb}
 use Rattle.wire.specs.Told.{ToldMore, given, refused, Line, table, WrittenOf, written}
 use Rattle.proto_strings.specs.declared.TextFault.TheVariants.{None, At}
-use Rattle.proto_strings.specs.Texts.{firstFault}
+use Rattle.proto_strings.specs.Texts.{first_fault}
 use Rattle.reply_parts.specs.declared.body.CommandKind.{CommandKind}
 use Rattle.reply.specs.declared.Link.{Link}
-use Rattle.reply_parts.specs.Body.{kindOfCommand}
-use Rattle.reply.specs.Reply.{Box, sendingOf, body_of, replyBy, stringsOf, linkLines, Replied, refusing, joinedIn, carried_of, sentOf}
-use Rattle.reply.specs.Put.{judgedOf}
+use Rattle.reply_parts.specs.Body.{kind_of_command}
+use Rattle.reply.specs.Reply.{Box, sending_of, body_of, reply_by, strings_of, link_lines, Replied, refusing, joined_in, carried_of, sent_of}
+use Rattle.reply.specs.Put.{judged_of}
 
 -- ---- what the reply's bytes decide
 
 module _ (b : Box) (l : Link) (v : ℕ) (k : CommandKind) (out : List ℕ) where
   abbrev reply : List ℕ
-  reply = replyBy v k b.members (body_of b k)
+  reply = reply_by v k b.members (body_of b k)
 
   pub too_long : l.limit < length reply → refusing out 15 ≡ carried_of b l v k out
   unfolding carried_of
   too_long h = rw (lt-ltb l.limit (length reply) h)
 
   module _ (within : length reply ≤ l.limit) where
-    pub bad-text : (field place : ℕ) → firstFault (stringsOf b k) ≡ At field place → written (refused (36, field ∷ place ∷ [])) out ≡ carried_of b l v k out
+    pub bad-text : (field place : ℕ) → first_fault (strings_of b k) ≡ At field place → written (refused (36, field ∷ place ∷ [])) out ≡ carried_of b l v k out
     unfolding carried_of
     bad-text field place e = rw (le-ltb l.limit (length reply) within, e)
 
-    pub carried : firstFault (stringsOf b k) ≡ None → joinedIn (sendingOf l) reply out ≡ carried_of b l v k out
+    pub carried : first_fault (strings_of b k) ≡ None → joined_in (sending_of l) reply out ≡ carried_of b l v k out
     unfolding carried_of
     carried e = rw (le-ltb l.limit (length reply) within, e)
 
@@ -50,18 +50,18 @@ module _ (out : List ℕ) (rest : WrittenOf (ℕ × List ℕ) Replied) where
   through [] = refl
   through (r ∷ rs) = through-line r.holds r.number _ _ (through rs)
 
-module _ (b : Box) (l : Link) (v : ℕ) (k : CommandKind) (out : List ℕ) (kind : k ≡ kindOfCommand v) where
+module _ (b : Box) (l : Link) (v : ℕ) (k : CommandKind) (out : List ℕ) (kind : k ≡ kind_of_command v) where
   abbrev rest : WrittenOf (ℕ × List ℕ) Replied
-  rest = carried_of b l v (kindOfCommand v) out
+  rest = carried_of b l v (kind_of_command v) out
 
-  sent-by : (t : ToldMore (Unit {0})) → judgedOf l b.members (length b.transports) k ≡ t → after out rest t ≡ sentOf b l v out
-  unfolding sentOf judgedOf
+  sent-by : (t : ToldMore (Unit {0})) → judged_of l b.members (length b.transports) k ≡ t → after out rest t ≡ sent_of b l v out
+  unfolding sent_of judged_of
   sent-by t e =
-      ap (after out rest) (sym e ∙ ap (judgedOf l b.members (length b.transports)) kind)
-      ∙ sym (through out rest (linkLines l b.members (length b.transports) (kindOfCommand v)))
+      ap (after out rest) (sym e ∙ ap (judged_of l b.members (length b.transports)) kind)
+      ∙ sym (through out rest (link_lines l b.members (length b.transports) (kind_of_command v)))
 
-  pub is-refused : (why : ℕ × List ℕ) → judgedOf l b.members (length b.transports) k ≡ refused why → written (refused why) out ≡ sentOf b l v out
+  pub is-refused : (why : ℕ × List ℕ) → judged_of l b.members (length b.transports) k ≡ refused why → written (refused why) out ≡ sent_of b l v out
   is-refused why e = sent-by (refused why) e
 
-  pub goes_on : judgedOf l b.members (length b.transports) k ≡ given tt → carried_of b l v k out ≡ sentOf b l v out
+  pub goes_on : judged_of l b.members (length b.transports) k ≡ given tt → carried_of b l v k out ≡ sent_of b l v out
   goes_on e = ap (λ (x : CommandKind). carried_of b l v x out) kind ∙ sent-by (given tt) e

@@ -1,14 +1,14 @@
 -- What the code of the reply is held to, below its guard.
 use Rattle.std.specs.Prelude.{ℕ, ◌+◌, ◌≤◌, ◌<◌, ◌≡◌, true, false, List, [], ◌∷◌, ◌++◌, ℤ, length}
-use Rattle.wire.specs.Limit.{limitFits}
+use Rattle.wire.specs.Limit.{limit_fits}
 use Rattle.wire.specs.Told.{ToldMore, given, refused, table}
-use Rattle.ble_packet.specs.Header.{fourBits, in_range}
+use Rattle.ble_packet.specs.Header.{four_bits, in_range}
 use Rattle.ble_sender.specs.declared.writer.Sending.{Sending}
-use Rattle.ble_sender.specs.Piece.{leastRoom, pieces_of}
-use Rattle.ble_sender.specs.Writer.{roomFits}
+use Rattle.ble_sender.specs.Piece.{least_room, pieces_of}
+use Rattle.ble_sender.specs.Writer.{room_fits}
 use Rattle.ble_joined.specs.Joined.{sizes}
 use Rattle.proto_field.specs.Signed.{extended}
-use Rattle.proto_reader.specs.Refusal.{messageNumber}
+use Rattle.proto_reader.specs.Refusal.{message_number}
 use Rattle.reply_parts.specs.declared.body.CommandKind.{CommandKind}
 use Rattle.reply_parts.specs.declared.body.Members.{Members}
 use Rattle.reply_parts.specs.declared.front.ReplyFront.{ReplyFront}
@@ -21,35 +21,35 @@ use Rattle.reply.specs.declared.Verdict.{Verdict}
 use Rattle.reply.specs.declared.Verdict.TheVariants as Verdict
 use Rattle.reply.specs.declared.Measured.{Measured}
 use Rattle.reply.specs.declared.Measured.TheVariants.{TooLong, Fits}
-use Rattle.reply_parts.specs.Front.{frontBytes, FrontFits}
+use Rattle.reply_parts.specs.Front.{front_bytes, FrontFits}
 use Rattle.reply_parts.specs.Body.{code_of}
-use Rattle.reply.specs.Reply.{memberOf, replyBy, badCarried, linkLines, Replied, silent, sent}
+use Rattle.reply.specs.Reply.{member_of, reply_by, bad_carried, link_lines, Replied, silent, sent}
 
 -- ---- the answers of the code
 
 -- the number, and what goes with it
-abbrev pub whyOf : Refusal → ℕ × List ℕ
-whyOf (Message e) = (messageNumber e, [])
-whyOf Room = (13, [])
-whyOf Limit = (17, [])
-whyOf Argument = (15, [])
-whyOf (BadText field place) = (36, field ∷ place ∷ [])
-whyOf Output = (14, [])
+abbrev pub why_of : Refusal → ℕ × List ℕ
+why_of (Message e) = (message_number e, [])
+why_of Room = (13, [])
+why_of Limit = (17, [])
+why_of Argument = (15, [])
+why_of (BadText field place) = (36, field ∷ place ∷ [])
+why_of Output = (14, [])
 
 abbrev pub told : Reply → ToldMore Replied
-told (Refused why) = refused (whyOf why)
+told (Refused why) = refused (why_of why)
 told Silent = given silent
 told (Sent n) = given (sent n)
 
 -- ---- the table up to the reply
 
 -- no line holds, or the first that does
-abbrev pub verdictOf : Verdict → ToldMore (Unit {0})
-verdictOf Verdict.Fine = given tt
-verdictOf (Verdict.Refused why) = refused (whyOf why)
+abbrev pub verdict_of : Verdict → ToldMore (Unit {0})
+verdict_of Verdict.Fine = given tt
+verdict_of (Verdict.Refused why) = refused (why_of why)
 
-unfoldable pub judgedOf : Link → Members → ℕ → CommandKind → ToldMore (Unit {0})
-judgedOf l m count kind = table (linkLines l m count kind) (λ n. refused (n, [])) (given tt)
+unfoldable pub judged_of : Link → Members → ℕ → CommandKind → ToldMore (Unit {0})
+judged_of l m count kind = table (link_lines l m count kind) (λ n. refused (n, [])) (given tt)
 
 -- ---- the reply, counted
 
@@ -57,20 +57,20 @@ judgedOf l m count kind = table (linkLines l m count kind) (λ n. refused (n, []
 pub record FrontFor (v : ℕ) (kind : CommandKind) (m : Members) (n : ℕ) (f : ReplyFront) : Type 0 where
   pub value : f.value ≡ v
   pub code : f.code ≡ extended (code_of kind)
-  pub member : f.member ≡ memberOf m kind
+  pub member : f.member ≡ member_of m kind
   pub body : f.body ≡ n
 
 -- it and the member's bytes are the reply, which is within the limit
 pub record ReplyWithin (f : ReplyFront) (body reply : List ℕ) (limit : ℕ) : Type 0 where
   pub fits : FrontFits f
   pub long : f.body ≡ length body
-  pub whole : frontBytes f ++ body ≡ reply
+  pub whole : front_bytes f ++ body ≡ reply
   pub within : length reply ≤ limit
 
 -- a reply whose member has these bytes is above the limit, or has this front
 abbrev pub MeasuredAs : ℕ → CommandKind → Members → List ℕ → ℕ → Measured → Type 0
-MeasuredAs v kind m body limit TooLong = limit < length (replyBy v kind m body)
-MeasuredAs v kind m body limit (Fits f) = ReplyWithin f body (replyBy v kind m body) limit
+MeasuredAs v kind m body limit TooLong = limit < length (reply_by v kind m body)
+MeasuredAs v kind m body limit (Fits f) = ReplyWithin f body (reply_by v kind m body) limit
 
 -- ---- the reply, written
 
@@ -78,24 +78,24 @@ MeasuredAs v kind m body limit (Fits f) = ReplyWithin f body (replyBy v kind m b
 pub record PutsReply (f : ReplyFront) (total : ℕ) (w : Sending) (body out : List ℕ) : Type 0 where
   pub fits : FrontFits f
   pub long-body : f.body ≡ length body
-  pub long-total : total ≡ length (frontBytes f) + f.body
-  pub low-stream : w.stream < fourBits
-  pub low-id : w.id < fourBits
+  pub long-total : total ≡ length (front_bytes f) + f.body
+  pub low-stream : w.stream < four_bits
+  pub low-id : w.id < four_bits
   pub low-total : total < 65536
-  pub room : leastRoom ≤ w.room
+  pub room : least_room ≤ w.room
   pub long : length out ≡ sizes (pieces_of w.room total)
 
 -- a reply that is within the limit can be joined on this link
 pub record Joinable (f : ReplyFront) (body : List ℕ) (l : Link) : Type 0 where
   pub fits : FrontFits f
   pub long : f.body ≡ length body
-  pub low-total : length (frontBytes f) + f.body < 65536
-  pub room : leastRoom ≤ l.room
-  pub low-id : l.id < fourBits
+  pub low-total : length (front_bytes f) + f.body < 65536
+  pub room : least_room ≤ l.room
+  pub low-id : l.id < four_bits
 
 -- no line of the table up to the reply holds
 pub record Carries (kind : CommandKind) (m : Members) (transports : List ℤ) (l : Link) : Type 0 where
-  pub room : roomFits l.room ≡ true
-  pub limit : limitFits l.limit ≡ true
+  pub room : room_fits l.room ≡ true
+  pub limit : limit_fits l.limit ≡ true
   pub range : in_range 0 l.id l.sequence ≡ true
-  pub carried : badCarried m (length transports) kind ≡ false
+  pub carried : bad_carried m (length transports) kind ≡ false

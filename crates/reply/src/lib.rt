@@ -1,13 +1,13 @@
 // The reply to a finished control transaction, written as joined packets.
 ghost use Rattle.std.specs.Prelude.{◌≡◌, false, ◌++◌, ◌≤◌, length};
 ghost use Rattle.wire.specs.Told.{written};
-ghost use Rattle.ble_joined.specs.Joined.{joinedOf};
-ghost use Rattle.msg_control.specs.Response.{badResponsePayload};
-ghost use Rattle.reply_parts.specs.Front.{frontBytes};
-ghost use Rattle.reply_parts.specs.Body.{bodyBy};
-ghost use Rattle.reply.specs.Reply.{boxOf, sendingOf, memberOf, badCarried, isResponse, joinedIn, carried_of, sentOf, repliedOf};
+ghost use Rattle.ble_joined.specs.Joined.{joined_of};
+ghost use Rattle.msg_control.specs.Response.{bad_response_payload};
+ghost use Rattle.reply_parts.specs.Front.{front_bytes};
+ghost use Rattle.reply_parts.specs.Body.{body_by};
+ghost use Rattle.reply.specs.Reply.{box_of, sending_of, member_of, bad_carried, is_response, joined_in, carried_of, sent_of, replied_of};
 ghost use Rattle.reply_parts.specs.Body.{FewCarried};
-ghost use Rattle.reply.specs.Put.{told, verdictOf, judgedOf, FrontFor, MeasuredAs, PutsReply, Joinable, Carries};
+ghost use Rattle.reply.specs.Put.{told, verdict_of, judged_of, FrontFor, MeasuredAs, PutsReply, Joinable, Carries};
 
 use ble_joined::{join, joined_len};
 use ble_packet::header;
@@ -71,7 +71,7 @@ enum Measured {
 }
 
 fn member_of(kind: CommandKind, members: Members) -> ResponsePayload
-    ensures { result ≡ memberOf members kind }
+    ensures { result ≡ member_of members kind }
 {
     match kind {
         CommandKind::Information => ResponsePayload::Member(members.information),
@@ -83,7 +83,7 @@ fn member_of(kind: CommandKind, members: Members) -> ResponsePayload
 
 // Whether what the reply carries is out of its range.
 fn bad_carried(kind: CommandKind, members: Members, count: usize) -> bool
-    ensures { result ≡ badCarried members count kind }
+    ensures { result ≡ bad_carried members count kind }
 {
     match kind {
         CommandKind::Information => either(
@@ -98,7 +98,7 @@ fn bad_carried(kind: CommandKind, members: Members, count: usize) -> bool
 
 // The table, from the top, up to what the reply's bytes decide.
 fn judge(link: Link, members: Members, count: usize, kind: CommandKind) -> Verdict
-    ensures { verdictOf result ≡ judgedOf link members count kind }
+    ensures { verdict_of result ≡ judged_of link members count kind }
 {
     if !room_fits(link.room) {
         return Verdict::Refused(Refusal::Room);
@@ -143,9 +143,9 @@ fn measure(
 ) -> Measured
     requires { (limit ≤ 65535)
         × FewCarried kind transports.now
-        × (badResponsePayload (memberOf members kind) ≡ false) }
+        × (bad_response_payload (member_of members kind) ≡ false) }
     ensures { MeasuredAs value kind members
-        (bodyBy serial_number.now name.now transports.now device_type.now features
+        (body_by serial_number.now name.now transports.now device_type.now features
         kind) limit result }
 {
     match body_room(
@@ -185,11 +185,11 @@ fn put_reply(
 )
     requires { FewCarried kind transports.now
         × PutsReply front total how
-        (bodyBy serial_number.now name.now transports.now device_type.now features kind) out.old }
+        (body_by serial_number.now name.now transports.now device_type.now features kind) out.old }
     ensures { out.new
-        ≡ joinedOf how
-        (frontBytes front
-        ++ bodyBy serial_number.now name.now transports.now device_type.now features
+        ≡ joined_of how
+        (front_bytes front
+        ++ body_by serial_number.now name.now transports.now device_type.now features
         kind) }
 {
     let end = out.len();
@@ -221,11 +221,11 @@ fn fill(
     features: DeviceFeatures,
 ) -> Reply
     requires { FewCarried kind transports.now
-        × Joinable front (bodyBy serial_number.now name.now transports.now device_type.now features kind) link }
+        × Joinable front (body_by serial_number.now name.now transports.now device_type.now features kind) link }
     ensures { written (told result) out.new
-        ≡ joinedIn (sendingOf link)
-        (frontBytes front
-        ++ bodyBy serial_number.now name.now transports.now device_type.now features
+        ≡ joined_in (sending_of link)
+        (front_bytes front
+        ++ body_by serial_number.now name.now transports.now device_type.now features
         kind) out.old }
 {
     let room = link.room;
@@ -272,7 +272,7 @@ fn carry(
     requires { Carries kind members transports.now link }
     ensures { written (told result) out.new
         ≡ carried_of
-        (boxOf serial_number.now name.now transports.now device_type.now features
+        (box_of serial_number.now name.now transports.now device_type.now features
         members) link value kind out.old }
 {
     match measure(
@@ -317,8 +317,8 @@ fn answer(
     link: Link,
 ) -> Reply
     ensures { written (told result) out.new
-        ≡ sentOf
-        (boxOf serial_number.now name.now transports.now device_type.now features
+        ≡ sent_of
+        (box_of serial_number.now name.now transports.now device_type.now features
         members) link value out.old }
 {
     let kind = kind_of_command(value);
@@ -341,7 +341,7 @@ fn answer(
 
 // Whether a message is itself a response.
 fn is_response(payload: Payload) -> bool
-    ensures { result ≡ isResponse payload }
+    ensures { result ≡ is_response payload }
 {
     match payload {
         Payload::None => false,
@@ -363,8 +363,8 @@ pub fn write_reply(
     link: Link,
 ) -> Reply
     ensures { written (told result) out.new
-        ≡ repliedOf
-        (boxOf serial_number.now name.now transports.now device_type.now features
+        ≡ replied_of
+        (box_of serial_number.now name.now transports.now device_type.now features
         members) link message.now out.old }
 {
     match read_envelope(&message[..]) {

@@ -1,50 +1,50 @@
 -- The reply is written, and arrives: a receiver of the link's limit gives exactly it.
 use Rattle.std.specs.Prelude.{ℕ, ◌*◌, ◌≤◌, ◌≡◌, true, false, List, [], ◌∷◌, ℤ, pos, length, get_or, take, drop}
 use Rattle.std.proofs.lemmas.List.Edits.{sets}
-use Rattle.wire.specs.Limit.{limitFits}
+use Rattle.wire.specs.Limit.{limit_fits}
 use Rattle.wire.specs.Those.{those}
 use Rattle.wire.specs.Told.{ToldMore, given, refused, WrittenOf, written}
 use Rattle.utf8.specs.WellFormed.{WellFormed}
 use Rattle.proto_strings.specs.Texts.{AllWellFormed}
 use Rattle.proto_field.specs.Signed.{extended}
 use Rattle.ble_packet.specs.Header.{in_range}
-use Rattle.ble_sender.specs.Writer.{roomFits}
+use Rattle.ble_sender.specs.Writer.{room_fits}
 use Rattle.ble_slot.specs.declared.Slot.{Slot}
-use Rattle.ble_slot.specs.Slot.{slotCount, lawful}
+use Rattle.ble_slot.specs.Slot.{slot_count, lawful}
 use Rattle.ble_receiver.specs.Receiver.{PacketCall}
-use Rattle.ble_claims.specs.Delivery.{rowAfter, ours, hasSlot, packetsIn, shownTo, repliesTo, allAnswerable, Arrived}
+use Rattle.ble_claims.specs.Delivery.{row_after, ours, has_slot, packets_in, shown_to, replies_to, all_answerable, Arrived}
 use Rattle.msg_control.specs.declared.response.Response.{Response}
 use Rattle.msg_control.specs.declared.envelope.Payload.{Payload}
 use Rattle.msg_control.specs.declared.envelope.Payload.TheVariants as Payload
-use Rattle.msg_control.specs.Envelope.{envelopeOf}
-use Rattle.ble_joined.specs.Joined.{joinedOf}
+use Rattle.msg_control.specs.Envelope.{envelope_of}
+use Rattle.ble_joined.specs.Joined.{joined_of}
 use Rattle.reply.specs.declared.Link.{Link}
-use Rattle.reply_parts.specs.Body.{kindOfCommand}
-use Rattle.reply.specs.Reply.{Box, sendingOf, replyOf, badCarried, stringsOf, isResponse, Replied, silent, sent, repliedOf}
-use Rattle.reply_claims.specs.Cut.{cutApart}
+use Rattle.reply_parts.specs.Body.{kind_of_command}
+use Rattle.reply.specs.Reply.{Box, sending_of, reply_of, bad_carried, strings_of, is_response, Replied, silent, sent, replied_of}
+use Rattle.reply_claims.specs.Cut.{cut_apart}
 
 -- ---- what is answered
 
 pub record Answers (b : Box) (l : Link) (message : List ℕ) (c : ℤ) (out : List ℕ) : Type 0 where
   -- the message is an envelope of this command, and no response
   pub payload : Payload
-  pub reads : envelopeOf message ≡ given (record { command = c; payload = payload })
-  pub question : isResponse payload ≡ false
+  pub reads : envelope_of message ≡ given (record { command = c; payload = payload })
+  pub question : is_response payload ≡ false
   -- room, limit, id and sequence in their ranges
-  pub room : roomFits l.room ≡ true
-  pub limit : limitFits l.limit ≡ true
+  pub room : room_fits l.room ≡ true
+  pub limit : limit_fits l.limit ≡ true
   pub range : in_range 0 l.id l.sequence ≡ true
   -- what the reply carries is in its ranges, and its strings are well formed
-  pub carried : badCarried b.members (length b.transports) (kindOfCommand (extended c)) ≡ false
-  pub strings : AllWellFormed (stringsOf b (kindOfCommand (extended c)))
+  pub carried : bad_carried b.members (length b.transports) (kind_of_command (extended c)) ≡ false
+  pub strings : AllWellFormed (strings_of b (kind_of_command (extended c)))
   -- the reply is within the limit, and the output holds all its packets
-  pub within : length (replyOf b (extended c)) ≤ l.limit
-  pub space : length (joinedOf (sendingOf l) (replyOf b (extended c))) ≤ length out
+  pub within : length (reply_of b (extended c)) ≤ l.limit
+  pub space : length (joined_of (sending_of l) (reply_of b (extended c))) ≤ length out
 
 -- the facts of docs/FORMATS.md that hold for each command
 pub record AskedInRange (b : Box) (l : Link) (message : List ℕ) (c : ℤ) (out : List ℕ) : Type 0 where
   pub payload : Payload
-  pub reads : envelopeOf message ≡ given (record { command = c; payload = payload })
+  pub reads : envelope_of message ≡ given (record { command = c; payload = payload })
   pub question : (r : Response) → payload ≡ Payload.Response r → ⊥
   pub room-low : 20 ≤ l.room
   pub room-high : l.room ≤ 512
@@ -52,14 +52,14 @@ pub record AskedInRange (b : Box) (l : Link) (message : List ℕ) (c : ℤ) (out
   pub limit-high : l.limit ≤ 65535
   pub id : l.id ≤ 15
   pub sequence : l.sequence ≤ 15
-  pub reply-within : length (replyOf b (extended c)) ≤ l.limit
-  pub space : length (joinedOf (sendingOf l) (replyOf b (extended c))) ≤ length out
+  pub reply-within : length (reply_of b (extended c)) ≤ l.limit
+  pub space : length (joined_of (sending_of l) (reply_of b (extended c))) ≤ length out
 
 -- Those, and of what the reply carries its own ranges, and nothing else: no premise asks for more.
 pub record AnswersAll : Type 0 where
   pub information : (b : Box) (l : Link) (message out : List ℕ) → AskedInRange b l message (pos 20) out
       → 2 ≤ b.members.information → b.members.information ≤ 536870911 → length b.transports ≤ 8
-      → WellFormed b.serialNumber → WellFormed b.name → WellFormed b.deviceType
+      → WellFormed b.serial_number → WellFormed b.name → WellFormed b.device_type
       → Answers b l message (pos 20) out
   pub features : (b : Box) (l : Link) (message out : List ℕ) → AskedInRange b l message (pos 28) out
       → 2 ≤ b.members.features → b.members.features ≤ 536870911
@@ -76,17 +76,17 @@ pub record AnswersAll : Type 0 where
 abbrev pub ReplyWritten : Type 0
 ReplyWritten =
     (b : Box) (l : Link) (message : List ℕ) (c : ℤ) (out : List ℕ) → Answers b l message c out
-    → repliedOf b l message out
-    ≡ written (given (sent (length (joinedOf (sendingOf l) (replyOf b (extended c)))))) (sets out 0 (joinedOf (sendingOf l) (replyOf b (extended c))))
+    → replied_of b l message out
+    ≡ written (given (sent (length (joined_of (sending_of l) (reply_of b (extended c)))))) (sets out 0 (joined_of (sending_of l) (reply_of b (extended c))))
 
 -- the packets that a call wrote: the bytes that it told, cut apart
-abbrev pub cutTold : ToldMore Replied → List ℕ → List (List ℕ)
-cutTold (given (sent n)) out = cutApart (take n out)
-cutTold (given silent) out = []
-cutTold (refused why) out = []
+abbrev pub cut_told : ToldMore Replied → List ℕ → List (List ℕ)
+cut_told (given (sent n)) out = cut_apart (take n out)
+cut_told (given silent) out = []
+cut_told (refused why) out = []
 
-abbrev pub packetsCut : WrittenOf (ℕ × List ℕ) Replied → List (List ℕ)
-packetsCut w = cutTold w.told w.out
+abbrev pub packets_cut : WrittenOf (ℕ × List ℕ) Replied → List (List ℕ)
+packets_cut w = cut_told w.told w.out
 
 -- From every lawful row and buffer of the link's limit, whatever packets come before and after: where a packet is the first of those
 -- that the call's bytes are cut into, a slot is there for it, and those of the control stream and the link's id among the packets after
@@ -99,10 +99,10 @@ ReplyArrives =
     (first : PacketCall) (later after : List PacketCall)
     → Answers b l message c out
     → lawful l.limit slots ≡ true
-    → length bytes ≡ slotCount * l.limit
-    → first.packet ≡ get_or (packetsCut (repliedOf b l message out)) 0 []
-    → packetsIn (those (ours (sendingOf l)) later) ≡ drop 1 (packetsCut (repliedOf b l message out))
-    → allAnswerable (first ∷ those (ours (sendingOf l)) later) ≡ true
-    → hasSlot (rowAfter l.limit slots bytes before) (sendingOf l) ≡ true
-    → Arrived (sendingOf l) (replyOf b (extended c)) first (those (ours (sendingOf l)) later)
-    (shownTo l.limit (sendingOf l) (repliesTo l.limit slots bytes before (first ∷ later) after))
+    → length bytes ≡ slot_count * l.limit
+    → first.packet ≡ get_or (packets_cut (replied_of b l message out)) 0 []
+    → packets_in (those (ours (sending_of l)) later) ≡ drop 1 (packets_cut (replied_of b l message out))
+    → all_answerable (first ∷ those (ours (sending_of l)) later) ≡ true
+    → has_slot (row_after l.limit slots bytes before) (sending_of l) ≡ true
+    → Arrived (sending_of l) (reply_of b (extended c)) first (those (ours (sending_of l)) later)
+    (shown_to l.limit (sending_of l) (replies_to l.limit slots bytes before (first ∷ later) after))

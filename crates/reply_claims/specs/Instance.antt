@@ -5,12 +5,12 @@ use Rattle.wire.specs.declared.stream.Stream.TheVariants.{Control}
 use Rattle.wire.specs.Those.{those}
 use Rattle.wire.specs.Told.{given, refused, WrittenOf, written}
 use Rattle.ble_slot.specs.declared.Slot.{Slot}
-use Rattle.ble_slot.specs.Slot.{idle, slotCount, lawful}
+use Rattle.ble_slot.specs.Slot.{idle, slot_count, lawful}
 use Rattle.ble_receiver.specs.Receiver.{PacketCall, call}
-use Rattle.ble_claims.specs.Delivery.{rowAfter, ours, hasSlot, packetsIn, shown, shownTo, repliesTo, allAnswerable, Arrived}
+use Rattle.ble_claims.specs.Delivery.{row_after, ours, has_slot, packets_in, shown, shown_to, replies_to, all_answerable, Arrived}
 use Rattle.reply.specs.declared.Link.{Link}
-use Rattle.reply.specs.Reply.{Box, sendingOf, replyOf, Replied, silent, sent, repliedOf}
-use Rattle.reply_claims.specs.Answers.{Answers, packetsCut, ReplyArrives}
+use Rattle.reply.specs.Reply.{Box, sending_of, reply_of, Replied, silent, sent, replied_of}
+use Rattle.reply_claims.specs.Answers.{Answers, packets_cut, ReplyArrives}
 
 -- ---- the calls
 
@@ -18,10 +18,10 @@ use Rattle.reply_claims.specs.Answers.{Answers, packetsCut, ReplyArrives}
 abbrev pub membered : ℕ → ℕ → List ℕ → List ℤ → ℕ → Box
 membered information features name transports attributes =
     record {
-      serialNumber = 0x53 ∷ [];
+      serial_number = 0x53 ∷ [];
       name = name;
       transports = transports;
-      deviceType = 0x54 ∷ [];
+      device_type = 0x54 ∷ [];
       features = record { features = 0x13; device_attributes = attributes };
       members = record { information = information; features = features };
     }
@@ -37,17 +37,17 @@ abbrev full : Box
 full = device (0x4E ∷ []) (pos 0 ∷ pos 4 ∷ []) 300
 
 -- a name that is cut in the middle of a letter
-abbrev cutName : Box
-cutName = device (0x4E ∷ 0xC3 ∷ []) (pos 0 ∷ []) 0
+abbrev cut_name : Box
+cut_name = device (0x4E ∷ 0xC3 ∷ []) (pos 0 ∷ []) 0
 
 -- nine transports, and members that are out of range
 abbrev unfit : Box
 unfit =
     record {
-      serialNumber = 0xFF ∷ [];
+      serial_number = 0xFF ∷ [];
       name = [];
       transports = replicate 9 (pos 0);
-      deviceType = [];
+      device_type = [];
       features = record { features = 0; device_attributes = 0 };
       members = record { information = 0; features = 536870912 };
     }
@@ -60,7 +60,7 @@ numbered id sequence = record { room = 64; limit = 4096; id = id; sequence = seq
 
 -- a call over an output that held something
 abbrev ask : Box → Link → List ℕ → ℕ → WrittenOf (ℕ × List ℕ) Replied
-ask b l message space = repliedOf b l message (replicate space 0xEE)
+ask b l message space = replied_of b l message (replicate space 0xEE)
 
 -- the bytes, and what is left of the output
 abbrev wrote : List ℕ → ℕ → WrittenOf (ℕ × List ℕ) Replied
@@ -77,8 +77,8 @@ abbrev features : List ℕ
 features = 0x08 ∷ 0x1C ∷ []
 
 -- the varint of -1
-abbrev minusOne : List ℕ
-minusOne = replicate 9 0xFF ++ (0x01 ∷ [])
+abbrev minus_one : List ℕ
+minus_one = replicate 9 0xFF ++ (0x01 ∷ [])
 
 -- the one packet of a short reply
 abbrev told : List ℕ → List ℕ
@@ -106,7 +106,7 @@ asked =
     ∷ ask unfit (link 64 4096) [] 10
     -- any other command: 21, and -1
     ∷ ask unfit (link 64 4096) (0x08 ∷ 0x15 ∷ []) 12
-    ∷ ask unfit (link 64 4096) (0x08 ∷ minusOne) 21
+    ∷ ask unfit (link 64 4096) (0x08 ∷ minus_one) 21
     -- another member behind the command, and before it, whatever it holds
     ∷ ask unfit (link 64 4096) (0x08 ∷ 0x5E ∷ 0x12 ∷ 0x00 ∷ []) 10
     ∷ ask unfit (link 64 4096) (0x12 ∷ 0x01 ∷ 0xFF ∷ 0x08 ∷ 0x5E ∷ []) 10
@@ -125,8 +125,8 @@ asked =
     ∷ ask unfit (link 19 0) information 9
     ∷ ask unfit (link 64 0) information 9
     ∷ ask unfit (link 64 65535) information 9
-    ∷ ask cutName (link 64 18) information 9
-    ∷ ask cutName (link 64 19) information 9
+    ∷ ask cut_name (link 64 18) information 9
+    ∷ ask cut_name (link 64 19) information 9
     -- each by itself: room, limit, transports, and the members' numbers
     ∷ ask box (link 513 4096) information 64
     ∷ ask box (link 64 65536) information 64
@@ -149,7 +149,7 @@ answered =
     ∷ wrote (told (0x08 ∷ 0x5F ∷ 0x4A ∷ 0x00 ∷ [])) 0
     ∷ wrote (told (0x4A ∷ 0x02 ∷ 0x08 ∷ 0x03 ∷ [])) 0
     ∷ wrote (told (0x08 ∷ 0x15 ∷ 0x4A ∷ 0x02 ∷ 0x08 ∷ 0x03 ∷ [])) 0
-    ∷ wrote (told (0x08 ∷ (minusOne ++ (0x4A ∷ 0x02 ∷ 0x08 ∷ 0x03 ∷ [])))) 0
+    ∷ wrote (told (0x08 ∷ (minus_one ++ (0x4A ∷ 0x02 ∷ 0x08 ∷ 0x03 ∷ [])))) 0
     ∷ wrote (told (0x08 ∷ 0x5E ∷ 0x4A ∷ 0x00 ∷ [])) 0
     ∷ wrote (told (0x08 ∷ 0x5E ∷ 0x4A ∷ 0x00 ∷ [])) 0
     ∷ wrote
@@ -189,7 +189,7 @@ abbrev pub slots : List Slot
 slots = replicate 4 idle ++ (record { opened = 1; id = 3; sequence = 15; wanted = 1; total = 6; held = 2 } ∷ replicate 7 idle)
 
 abbrev pub buffer : List ℕ
-buffer = replicate (slotCount * 40) 0
+buffer = replicate (slot_count * 40) 0
 
 abbrev pub output : List ℕ
 output = replicate 30 0xEE
@@ -228,14 +228,14 @@ after = call second 0 six ∷ []
 -- claim says so.
 pub record OneReplyArrives : Type 0 where
   pub law : lawful 40 slots ≡ true
-  pub size : length buffer ≡ slotCount * 40
+  pub size : length buffer ≡ slot_count * 40
   pub answers : Answers box (link 20 40) information (pos 20) output
-  pub begins : begun.packet ≡ get_or (packetsCut (repliedOf box (link 20 40) information output)) 0 []
-  pub sent : packetsIn (those (ours (sendingOf (link 20 40))) later) ≡ drop 1 (packetsCut (repliedOf box (link 20 40) information output))
-  pub answerable : allAnswerable (begun ∷ those (ours (sendingOf (link 20 40))) later) ≡ true
-  pub free : hasSlot (rowAfter 40 slots buffer before) (sendingOf (link 20 40)) ≡ true
-  pub arrived : shownTo 40 (sendingOf (link 20 40)) (repliesTo 40 slots buffer before (begun ∷ later) after)
+  pub begins : begun.packet ≡ get_or (packets_cut (replied_of box (link 20 40) information output)) 0 []
+  pub sent : packets_in (those (ours (sending_of (link 20 40))) later) ≡ drop 1 (packets_cut (replied_of box (link 20 40) information output))
+  pub answerable : all_answerable (begun ∷ those (ours (sending_of (link 20 40))) later) ≡ true
+  pub free : has_slot (row_after 40 slots buffer before) (sending_of (link 20 40)) ≡ true
+  pub arrived : shown_to 40 (sending_of (link 20 40)) (replies_to 40 slots buffer before (begun ∷ later) after)
       ≡ shown (some 1) none six ∷ shown (some 1) (some (record { stream = Control; id = 1; total = 18; ack = false; payload = reply })) six ∷ []
   pub claimed : ReplyArrives
-      → Arrived (sendingOf (link 20 40)) (replyOf box 20) begun (those (ours (sendingOf (link 20 40))) later)
-      (shownTo 40 (sendingOf (link 20 40)) (repliesTo 40 slots buffer before (begun ∷ later) after))
+      → Arrived (sending_of (link 20 40)) (reply_of box 20) begun (those (ours (sending_of (link 20 40))) later)
+      (shown_to 40 (sending_of (link 20 40)) (replies_to 40 slots buffer before (begun ∷ later) after))

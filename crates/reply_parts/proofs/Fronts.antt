@@ -8,30 +8,30 @@ use lib.IntN.{ℤ}
 use lib.ListN.{length, length-append}
 use Rattle.wire.specs.Put.{Put}
 use Rattle.proto_field.specs.Signed.{extended}
-use Rattle.proto_writer.specs.Writer.{scalar, headBytes, partBytes, fieldBytes, messageBytes}
+use Rattle.proto_writer.specs.Writer.{scalar, head_bytes, part_bytes, field_bytes, message_bytes}
 use Rattle.proto_writer.proofs.Runs.{put_then}
 use Rattle.msg_control.specs.declared.response.ResponsePayload.{ResponsePayload}
 use Rattle.msg_control.specs.declared.response.ResponsePayload.TheVariants as Inner
 use Rattle.msg_control.specs.declared.envelope.EnvelopePayload.TheVariants as Sent
-use Rattle.proto_schema.specs.Schema.{commandField, responseField, errorCodeField}
-use Rattle.msg_control.specs.Envelope.{envelopeFields}
+use Rattle.proto_schema.specs.Schema.{command_field, response_field, error_code_field}
+use Rattle.msg_control.specs.Envelope.{envelope_fields}
 use Rattle.reply_parts.specs.declared.front.ReplyFront.{ReplyFront}
-use Rattle.reply_parts.specs.Front.{memberHead, innerLength, frontBytes}
+use Rattle.reply_parts.specs.Front.{member_head, inner_length, front_bytes}
 
 pub front_length : (f : ReplyFront)
-    → length (frontBytes f)
-    ≡ length (fieldBytes (scalar commandField f.value)) + length (headBytes responseField (innerLength f)) + length (fieldBytes (scalar errorCodeField f.code))
-    + length (memberHead f.member f.body)
-unfolding frontBytes
+    → length (front_bytes f)
+    ≡ length (field_bytes (scalar command_field f.value)) + length (head_bytes response_field (inner_length f)) + length (field_bytes (scalar error_code_field f.code))
+    + length (member_head f.member f.body)
+unfolding front_bytes
 front_length f = simp length-append
 
 pub front-put : (f : ReplyFront) {l l₁ l₂ l₃ l₄ : List ℕ} {at n₁ n₂ n₃ n₄ : ℕ}
-    → Put l at (fieldBytes (scalar commandField f.value)) n₁ l₁
-    → Put l₁ n₁ (headBytes responseField (innerLength f)) n₂ l₂
-    → Put l₂ n₂ (fieldBytes (scalar errorCodeField f.code)) n₃ l₃
-    → Put l₃ n₃ (memberHead f.member f.body) n₄ l₄
-    → Put l at (frontBytes f) n₄ l₄
-unfolding frontBytes
+    → Put l at (field_bytes (scalar command_field f.value)) n₁ l₁
+    → Put l₁ n₁ (head_bytes response_field (inner_length f)) n₂ l₂
+    → Put l₂ n₂ (field_bytes (scalar error_code_field f.code)) n₃ l₃
+    → Put l₃ n₃ (member_head f.member f.body) n₄ l₄
+    → Put l at (front_bytes f) n₄ l₄
+unfolding front_bytes
 front-put f p q r s = put_then _ _ refl (put_then _ _ refl (put_then _ _ refl p q) r) s
 
 -- a response with no member has no bytes
@@ -39,14 +39,14 @@ abbrev pub Whole : ResponsePayload → List ℕ → Type 0
 Whole Inner.None body = body ≡ []
 Whole (Inner.Member field) body = Unit {0}
 
-inner-is : (f : ReplyFront) → innerLength f ≡ length (fieldBytes (scalar errorCodeField f.code)) + (length (memberHead f.member f.body) + f.body)
-unfolding innerLength
+inner-is : (f : ReplyFront) → inner_length f ≡ length (field_bytes (scalar error_code_field f.code)) + (length (member_head f.member f.body) + f.body)
+unfolding inner_length
 inner-is f = omega arith
 
 pub front-is : (value : ℕ) (code : ℤ) (member : ResponsePayload) (body : List ℕ) → Whole member body
-    → frontBytes (record { value = value; code = extended code; member = member; body = length body }) ++ body
-    ≡ messageBytes (envelopeFields value (Sent.Response code member) body)
-unfolding frontBytes fieldBytes partBytes
+    → front_bytes (record { value = value; code = extended code; member = member; body = length body }) ++ body
+    ≡ message_bytes (envelope_fields value (Sent.Response code member) body)
+unfolding front_bytes field_bytes part_bytes
 front-is value code Inner.None body e =
     rw (e, inner-is (record { value = value; code = extended code; member = Inner.None; body = 0 })) (simp (append_assoc, append-nil, add-zero))
 front-is value code (Inner.Member field) body e =

@@ -1,28 +1,28 @@
 -- The reply in two runs: what stands before its member's bytes, and those.
 use Rattle.std.specs.Prelude.{ℕ, ◌+◌, ◌<◌, ◌≡◌, false, List, [], ◌++◌, length}
-use Rattle.proto_writer.specs.Writer.{scalar, headBytes, fieldBytes}
-use Rattle.proto_schema.specs.Schema.{commandField, responseField, errorCodeField}
+use Rattle.proto_writer.specs.Writer.{scalar, head_bytes, field_bytes}
+use Rattle.proto_schema.specs.Schema.{command_field, response_field, error_code_field}
 use Rattle.msg_control.specs.declared.response.ResponsePayload.{ResponsePayload}
 use Rattle.msg_control.specs.declared.response.ResponsePayload.TheVariants as Inner
-use Rattle.msg_control.specs.Response.{badResponsePayload}
+use Rattle.msg_control.specs.Response.{bad_response_payload}
 use Rattle.reply_parts.specs.declared.front.ReplyFront.{ReplyFront}
 
 -- the tag and the length of the response's member, which has n bytes
-abbrev pub memberHead : ResponsePayload → ℕ → List ℕ
-memberHead Inner.None n = []
-memberHead (Inner.Member field) n = headBytes field n
+abbrev pub member_head : ResponsePayload → ℕ → List ℕ
+member_head Inner.None n = []
+member_head (Inner.Member field) n = head_bytes field n
 
 -- the length of the response
-unfoldable pub innerLength : ReplyFront → ℕ
-innerLength f = length (fieldBytes (scalar errorCodeField f.code)) + length (memberHead f.member f.body) + f.body
+unfoldable pub inner_length : ReplyFront → ℕ
+inner_length f = length (field_bytes (scalar error_code_field f.code)) + length (member_head f.member f.body) + f.body
 
 -- the command, the response's tag and length, its code, its member's tag and length
-unfoldable pub frontBytes : ReplyFront → List ℕ
-frontBytes f =
-    fieldBytes (scalar commandField f.value) ++ headBytes responseField (innerLength f) ++ fieldBytes (scalar errorCodeField f.code)
-    ++ memberHead f.member f.body
+unfoldable pub front_bytes : ReplyFront → List ℕ
+front_bytes f =
+    field_bytes (scalar command_field f.value) ++ head_bytes response_field (inner_length f) ++ field_bytes (scalar error_code_field f.code)
+    ++ member_head f.member f.body
 
 -- a front that is written
 pub record FrontFits (f : ReplyFront) : Type 0 where
-  pub member : badResponsePayload f.member ≡ false
+  pub member : bad_response_payload f.member ≡ false
   pub body : f.body < 65536

@@ -2,9 +2,9 @@
 ghost use Rattle.std.specs.Prelude.{◌≡◌, ◌≤◌, length};
 ghost use Rattle.std.proofs.lemmas.List.Edits.{sets};
 ghost use Rattle.proto_field.specs.Signed.{extended};
-ghost use Rattle.proto_writer.specs.Message.{lessRoom};
-ghost use Rattle.proto_strings.specs.Texts.{firstFault};
-ghost use Rattle.reply_parts.specs.Body.{kindOfCommand, code_of, bodyBy, stringsBy};
+ghost use Rattle.proto_writer.specs.Message.{less_room};
+ghost use Rattle.proto_strings.specs.Texts.{first_fault};
+ghost use Rattle.reply_parts.specs.Body.{kind_of_command, code_of, body_by, strings_by};
 ghost use Rattle.reply_parts.specs.Body.{FewCarried};
 
 use msg_device::features::{DeviceFeatures, features_len, put_features};
@@ -42,7 +42,7 @@ const UNSUPPORTED: u64 = 3;
 
 // By the varint's value of the command.
 pub fn kind_of_command(value: u64) -> CommandKind
-    ensures { result ≡ kindOfCommand value }
+    ensures { result ≡ kind_of_command value }
 {
     if value == DEVICE_INFORMATION {
         return CommandKind::Information;
@@ -79,7 +79,7 @@ pub fn fault_of(
     device_type: &[u8],
 ) -> TextFault
     ensures { result
-        ≡ firstFault (stringsBy serial_number.now name.now device_type.now kind) }
+        ≡ first_fault (strings_by serial_number.now name.now device_type.now kind) }
 {
     match kind {
         CommandKind::Information => information_fault(serial_number, name, device_type),
@@ -101,9 +101,9 @@ pub fn body_room(
 ) -> Room
     requires { FewCarried kind transports.now }
     ensures { result
-        ≡ lessRoom
+        ≡ less_room
         (length
-        (bodyBy serial_number.now name.now transports.now device_type.now features
+        (body_by serial_number.now name.now transports.now device_type.now features
         kind)) (Room.Left limit) }
 {
     match kind {
@@ -137,11 +137,11 @@ pub fn put_body(
     features: DeviceFeatures,
 )
     requires { FewCarried kind transports.now
-        × (length (bodyBy serial_number.now name.now transports.now device_type.now features kind)
+        × (length (body_by serial_number.now name.now transports.now device_type.now features kind)
         ≤ length out.old) }
     ensures { out.new
         ≡ sets out.old 0
-        (bodyBy serial_number.now name.now transports.now device_type.now features
+        (body_by serial_number.now name.now transports.now device_type.now features
         kind) }
 {
     match kind {

@@ -1,8 +1,8 @@
 // What stands before the bytes of the reply's member.
 ghost use Rattle.std.specs.Prelude.{◌≡◌, false, ◌+◌, ◌≤◌, ◌<◌, length};
 ghost use Rattle.wire.specs.Put.{Put};
-ghost use Rattle.msg_control.specs.Response.{badResponsePayload};
-ghost use Rattle.reply_parts.specs.Front.{memberHead, innerLength, frontBytes, FrontFits};
+ghost use Rattle.msg_control.specs.Response.{bad_response_payload};
+ghost use Rattle.reply_parts.specs.Front.{member_head, inner_length, front_bytes, FrontFits};
 
 use msg_control::response::ResponsePayload;
 use proto_schema::{COMMAND, ERROR_CODE, RESPONSE};
@@ -19,8 +19,8 @@ pub struct ReplyFront {
 
 // The number of bytes of the member's tag and length.
 fn member_len(member: ResponsePayload, n: usize) -> usize
-    requires { badResponsePayload member ≡ false }
-    ensures { (result ≡ length (memberHead member n)) × (result ≤ 20) }
+    requires { bad_response_payload member ≡ false }
+    ensures { (result ≡ length (member_head member n)) × (result ≤ 20) }
 {
     match member {
         ResponsePayload::None => 0,
@@ -30,8 +30,8 @@ fn member_len(member: ResponsePayload, n: usize) -> usize
 
 // The member's tag and length, written at a place; the answer is the place after them.
 fn put_member(out: &mut [u8], at: usize, member: ResponsePayload, n: usize) -> usize
-    requires { (badResponsePayload member ≡ false) × (at + length (memberHead member n) ≤ length out.old) }
-    ensures { Put out.old at (memberHead member n) result out.new }
+    requires { (bad_response_payload member ≡ false) × (at + length (member_head member n) ≤ length out.old) }
+    ensures { Put out.old at (member_head member n) result out.new }
 {
     match member {
         ResponsePayload::None => at,
@@ -42,7 +42,7 @@ fn put_member(out: &mut [u8], at: usize, member: ResponsePayload, n: usize) -> u
 // The length of the response.
 fn inner_len(front: ReplyFront) -> usize
     requires { FrontFits front }
-    ensures { (result ≡ innerLength front) × (result ≤ 65575) }
+    ensures { (result ≡ inner_length front) × (result ≤ 65575) }
 {
     let member = front.member;
     let body = front.body;
@@ -54,7 +54,7 @@ fn inner_len(front: ReplyFront) -> usize
 // The number of bytes before the member's.
 pub fn front_len(front: ReplyFront) -> usize
     requires { FrontFits front }
-    ensures { (result ≡ length (frontBytes front)) × (result ≤ 80) }
+    ensures { (result ≡ length (front_bytes front)) × (result ≤ 80) }
 {
     let inner = inner_len(front);
     let member = front.member;
@@ -67,8 +67,8 @@ pub fn front_len(front: ReplyFront) -> usize
 
 // The bytes before the member's, written from the first byte on; the answer is the place after them.
 pub fn put_front(out: &mut [u8], front: ReplyFront) -> usize
-    requires { FrontFits front × (length (frontBytes front) ≤ length out.old) }
-    ensures { Put out.old 0 (frontBytes front) result out.new }
+    requires { FrontFits front × (length (front_bytes front) ≤ length out.old) }
+    ensures { Put out.old 0 (front_bytes front) result out.new }
 {
     let inner = inner_len(front);
     let member = front.member;

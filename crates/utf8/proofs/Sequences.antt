@@ -12,26 +12,26 @@ use borrow.Author.Tests.{leb-true, le-leb, lt-leb, eqb-true, eqb-false}
 use Rattle.wire.proofs.Tests.{and_left, and_right, or-true}
 use Rattle.utf8.specs.declared.table.Range.{Range}
 use Rattle.utf8.specs.declared.table.Row.{Row}
-use Rattle.utf8.specs.Table.{rows, within, rowDescribes, anyDescribes, described, begins, no_range, leadRow, rowOf, padded}
-use Rattle.utf8.specs.WellFormed.{sequenceAt}
+use Rattle.utf8.specs.Table.{rows, within, row_describes, any_describes, described, begins, no_range, lead_row, row_of, padded}
+use Rattle.utf8.specs.WellFormed.{sequence_at}
 
 -- ---- bytes that begin with a sequence of a row
-pub begins-describes : (r : List Range) (s : List ℕ) → begins r s ≡ true → rowDescribes r (take (length r) s) ≡ true
+pub begins-describes : (r : List Range) (s : List ℕ) → begins r s ≡ true → row_describes r (take (length r) s) ≡ true
 begins-describes [] s e = refl
 begins-describes (a ∷ r) [] e = absurd (false≢true e)
 begins-describes (a ∷ r) (b ∷ s) e = rw (and_left (within a b) (begins r s) e) (begins-describes r s (and_right (within a b) (begins r s) e))
 
-pub describes-begins : (r : List Range) (q s : List ℕ) → rowDescribes r q ≡ true → begins r (q ++ s) ≡ true
+pub describes-begins : (r : List Range) (q s : List ℕ) → row_describes r q ≡ true → begins r (q ++ s) ≡ true
 describes-begins [] [] s e = refl
 describes-begins [] (b ∷ q) s e = absurd (false≢true e)
 describes-begins (a ∷ r) [] s e = absurd (false≢true e)
-describes-begins (a ∷ r) (b ∷ q) s e = rw (and_left (within a b) (rowDescribes r q) e) (describes-begins r q s (and_right (within a b) (rowDescribes r q) e))
+describes-begins (a ∷ r) (b ∷ q) s e = rw (and_left (within a b) (row_describes r q) e) (describes-begins r q s (and_right (within a b) (row_describes r q) e))
 
-pub describes-length : (r : List Range) (q : List ℕ) → rowDescribes r q ≡ true → length q ≡ length r
+pub describes-length : (r : List Range) (q : List ℕ) → row_describes r q ≡ true → length q ≡ length r
 describes-length [] [] e = refl
 describes-length [] (b ∷ q) e = absurd (false≢true e)
 describes-length (a ∷ r) [] e = absurd (false≢true e)
-describes-length (a ∷ r) (b ∷ q) e = ap suc (describes-length r q (and_right (within a b) (rowDescribes r q) e))
+describes-length (a ∷ r) (b ∷ q) e = ap suc (describes-length r q (and_right (within a b) (row_describes r q) e))
 
 pub begins-within : (r : List Range) (s : List ℕ) → begins r s ≡ true → length r ≤ length s
 begins-within [] s e = zero-le
@@ -87,11 +87,11 @@ unfolding within
 up_to r b e = leb-true b r.1 (and_right (leb r.0 b) (leb b r.1) e)
 
 -- a described sequence begins in the first range
-describes-first : (r : List Range) (b : ℕ) (q : List ℕ) → within (first r) b ≡ false → rowDescribes r (b ∷ q) ≡ false
+describes-first : (r : List Range) (b : ℕ) (q : List ℕ) → within (first r) b ≡ false → row_describes r (b ∷ q) ≡ false
 describes-first [] b q e = refl
 describes-first (a ∷ r) b q e = rw e
 
-none_below : (n : ℕ) (rs : List (List Range)) (b : ℕ) (q : List ℕ) → rising n rs ≡ true → b < n → anyDescribes rs (b ∷ q) ≡ false
+none_below : (n : ℕ) (rs : List (List Range)) (b : ℕ) (q : List ℕ) → rising n rs ≡ true → b < n → any_describes rs (b ∷ q) ≡ false
 none_below n [] b q e h = refl
 none_below n (r ∷ rs) b q e h =
     let f = rise-first n r rs e in
@@ -102,27 +102,27 @@ one_left : (a b : Bool) → (a || b) ≡ true → b ≡ false → a ≡ true
 one_left true b e f = refl
 one_left false b e f = absurd (false≢true (sym f ∙ e))
 
-only_row : (n : ℕ) (rs : List (List Range)) (b : ℕ) (q : List ℕ) → rising n rs ≡ true → anyDescribes rs (b ∷ q) ≡ true → rowDescribes (leadRow rs b) (b ∷ q) ≡ true
+only_row : (n : ℕ) (rs : List (List Range)) (b : ℕ) (q : List ℕ) → rising n rs ≡ true → any_describes rs (b ∷ q) ≡ true → row_describes (lead_row rs b) (b ∷ q) ≡ true
 only_row n [] b q e d = absurd (false≢true d)
 only_row n (r ∷ rs) b q e d = by_first (within (first r) b) refl (λ k. only_row (suc (first r).1) rs b q (rise-rest n r rs e) k)
   where
-    by_first : (t : Bool) → within (first r) b ≡ t → (anyDescribes rs (b ∷ q) ≡ true → rowDescribes (leadRow rs b) (b ∷ q) ≡ true)
-        → rowDescribes (cond t r (leadRow rs b)) (b ∷ q) ≡ true
+    by_first : (t : Bool) → within (first r) b ≡ t → (any_describes rs (b ∷ q) ≡ true → row_describes (lead_row rs b) (b ∷ q) ≡ true)
+        → row_describes (cond t r (lead_row rs b)) (b ∷ q) ≡ true
     by_first true w h =
         let l = up_to (first r) b w in
-        one_left (rowDescribes r (b ∷ q)) (anyDescribes rs (b ∷ q)) d (none_below (suc (first r).1) rs b q (rise-rest n r rs e) (omega arith))
+        one_left (row_describes r (b ∷ q)) (any_describes rs (b ∷ q)) d (none_below (suc (first r).1) rs b q (rise-rest n r rs e) (omega arith))
     by_first false w h = h (rw (describes-first r b q w) at d)
 
 -- a row that a byte begins is one of the table
-lead-any : (rs : List (List Range)) (b : ℕ) (q : List ℕ) → (length q ≡ 0 → ⊥) → rowDescribes (leadRow rs b) q ≡ true → anyDescribes rs q ≡ true
+lead-any : (rs : List (List Range)) (b : ℕ) (q : List ℕ) → (length q ≡ 0 → ⊥) → row_describes (lead_row rs b) q ≡ true → any_describes rs q ≡ true
 lead-any [] b [] n d = absurd (n refl)
 lead-any [] b (x ∷ q) n d = absurd (false≢true d)
 lead-any (r ∷ rs) b q n d = by_first (within (first r) b) d (λ k. lead-any rs b q n k)
   where
-    by_first : (t : Bool) → rowDescribes (cond t r (leadRow rs b)) q ≡ true → (rowDescribes (leadRow rs b) q ≡ true → anyDescribes rs q ≡ true)
-        → (rowDescribes r q || anyDescribes rs q) ≡ true
+    by_first : (t : Bool) → row_describes (cond t r (lead_row rs b)) q ≡ true → (row_describes (lead_row rs b) q ≡ true → any_describes rs q ≡ true)
+        → (row_describes r q || any_describes rs q) ≡ true
     by_first true k h = rw k
-    by_first false k h = or-true (rowDescribes r q) (anyDescribes rs q) (h k)
+    by_first false k h = or-true (row_describes r q) (any_describes rs q) (h k)
 
 -- ---- the loop over the rows
 nine : length rows ≡ 9
@@ -130,22 +130,22 @@ unfolding rows
 nine = refl
 
 module _ (b i : ℕ) (h : i < 9) where
-  pub row_here : within (first (get_or rows i [])) b ≡ true → leadRow (drop i rows) b ≡ get_or rows i []
+  pub row_here : within (first (get_or rows i [])) b ≡ true → lead_row (drop i rows) b ≡ get_or rows i []
   row_here e = rw (drop-cons rows i [] (omega (arith, nine)), e)
 
-  pub row-later : within (first (get_or rows i [])) b ≡ false → leadRow (drop i rows) b ≡ leadRow (drop (i + 1) rows) b
+  pub row-later : within (first (get_or rows i [])) b ≡ false → lead_row (drop i rows) b ≡ lead_row (drop (i + 1) rows) b
   row-later e = rw (drop-cons rows i [] (omega (arith, nine)), e, add-one)
 
-pub row-none : (b i : ℕ) → 9 ≤ i → leadRow (drop i rows) b ≡ []
+pub row-none : (b i : ℕ) → 9 ≤ i → lead_row (drop i rows) b ≡ []
 row-none b i h =
     let k : length rows ≤ i = omega (arith, nine) in
     rw (drop_of_length-le rows k)
 
 -- what stands at a place is the same whatever would stand past the end
-pub getD-same : {A : Type 0} (l : List A) (i : ℕ) (d e : A) → i < length l → get_or l i d ≡ get_or l i e
-getD-same [] i d e h = absurd (let z : i < 0 = h in omega arith)
-getD-same (x ∷ l) zero d e h = refl
-getD-same (x ∷ l) (suc i) d e h = getD-same l i d e (omega arith)
+pub get_or-same : {A : Type 0} (l : List A) (i : ℕ) (d e : A) → i < length l → get_or l i d ≡ get_or l i e
+get_or-same [] i d e h = absurd (let z : i < 0 = h in omega arith)
+get_or-same (x ∷ l) zero d e h = refl
+get_or-same (x ∷ l) (suc i) d e h = get_or-same l i d e (omega arith)
 
 pub first-padded : (r : List Range) → get_or (r ++ replicate (4 - length r) no_range) 0 no_range ≡ first r
 first-padded [] = refl
@@ -159,18 +159,18 @@ at_most : ℕ → List (List Range) → Bool
 at_most n [] = true
 at_most n (r ∷ rs) = leb (length r) n && at_most n rs
 
-lead-at-most : (n : ℕ) (rs : List (List Range)) (b : ℕ) → at_most n rs ≡ true → length (leadRow rs b) ≤ n
+lead-at-most : (n : ℕ) (rs : List (List Range)) (b : ℕ) → at_most n rs ≡ true → length (lead_row rs b) ≤ n
 unfolding at_most
 lead-at-most n [] b e = zero-le
 lead-at-most n (r ∷ rs) b e =
     by_first (within (first r) b) (leb-true (length r) n (and_left (leb (length r) n) (at_most n rs) e)) (lead-at-most n rs b (and_right (leb (length r) n) (at_most n rs) e))
   where
-    by_first : (t : Bool) → length r ≤ n → length (leadRow rs b) ≤ n → length (cond t r (leadRow rs b)) ≤ n
+    by_first : (t : Bool) → length r ≤ n → length (lead_row rs b) ≤ n → length (cond t r (lead_row rs b)) ≤ n
     by_first true h k = h
     by_first false h k = k
 
-pub row-at-most : (b : ℕ) → length (rowOf b) ≤ 4
-unfolding rowOf rows at_most
+pub row-at-most : (b : ℕ) → length (row_of b) ≤ 4
+unfolding row_of rows at_most
 row-at-most b = lead-at-most 4 rows b refl
 
 -- ---- the sequence that a string begins with
@@ -178,20 +178,20 @@ by_cond : (t : Bool) (n : ℕ) → (cond t n 0 ≡ 0 → ⊥) → t ≡ true
 by_cond true n h = refl
 by_cond false n h = absurd (h refl)
 
-pub sequence-within : (s : List ℕ) → sequenceAt s ≤ length s
-unfolding sequenceAt
-sequence-within s = by (begins (rowOf (get_or s 0 0)) s) refl
+pub sequence-within : (s : List ℕ) → sequence_at s ≤ length s
+unfolding sequence_at
+sequence-within s = by (begins (row_of (get_or s 0 0)) s) refl
   where
-    by : (t : Bool) → begins (rowOf (get_or s 0 0)) s ≡ t → cond t (length (rowOf (get_or s 0 0))) 0 ≤ length s
-    by true e = begins-within (rowOf (get_or s 0 0)) s e
+    by : (t : Bool) → begins (row_of (get_or s 0 0)) s ≡ t → cond t (length (row_of (get_or s 0 0))) 0 ≤ length s
+    by true e = begins-within (row_of (get_or s 0 0)) s e
     by false e = zero-le
 
 -- it is described
-pub sequence-described : (s : List ℕ) → (sequenceAt s ≡ 0 → ⊥) → described (take (sequenceAt s) s) ≡ true
-unfolding sequenceAt described rowOf
+pub sequence-described : (s : List ℕ) → (sequence_at s ≡ 0 → ⊥) → described (take (sequence_at s) s) ≡ true
+unfolding sequence_at described row_of
 sequence-described s h =
     let b = get_or s 0 0 in
-    let r = leadRow rows b in
+    let r = lead_row rows b in
     let e : begins r s ≡ true = by_cond (begins r s) (length r) h in
     let n : (length r ≡ 0 → ⊥) = λ z. h (rw e z) in
     let w = begins-within r s e in
@@ -205,36 +205,36 @@ unfolding described rows
 nothing-described = refl
 
 -- a described sequence is the one that a string begins with
-pub described-sequence : (q rest : List ℕ) → described q ≡ true → (sequenceAt (q ++ rest) ≡ length q) × (1 ≤ length q)
-unfolding sequenceAt described rowOf
+pub described-sequence : (q rest : List ℕ) → described q ≡ true → (sequence_at (q ++ rest) ≡ length q) × (1 ≤ length q)
+unfolding sequence_at described row_of
 described-sequence [] rest d = absurd (false≢true (sym nothing-described ∙ d))
 described-sequence (b ∷ q) rest d =
-    let k : rowDescribes (leadRow rows b) (b ∷ q) ≡ true = only_row 0 rows b q rows-rise d in
-    (rw (describes-begins (leadRow rows b) (b ∷ q) rest k) (sym (describes-length (leadRow rows b) (b ∷ q) k)), omega arith)
+    let k : row_describes (lead_row rows b) (b ∷ q) ≡ true = only_row 0 rows b q rows-rise d in
+    (rw (describes-begins (lead_row rows b) (b ∷ q) rest k) (sym (describes-length (lead_row rows b) (b ∷ q) k)), omega arith)
 
 pub nothing-at-end : (n : ℕ) → described (take n []) ≡ false
 nothing-at-end n = rw (take-nil n) nothing-described
 
 -- where there is none, no first bytes are one
-pub none-described : (s : List ℕ) → sequenceAt s ≡ 0 → (n : ℕ) → described (take n s) ≡ false
+pub none-described : (s : List ℕ) → sequence_at s ≡ 0 → (n : ℕ) → described (take n s) ≡ false
 none-described s z n = by (described (take n s)) refl
   where
     by : (t : Bool) → described (take n s) ≡ t → described (take n s) ≡ false
     by false e = e
     by true e =
         let k = described-sequence (take n s) (drop n s) e in
-        let a : sequenceAt (take n s ++ drop n s) ≡ sequenceAt s = ap sequenceAt (take-append-drop n s) in
+        let a : sequence_at (take n s ++ drop n s) ≡ sequence_at s = ap sequence_at (take-append-drop n s) in
         absurd (omega (arith, k.0, k.1, a, z))
 
 -- .. and the other way round
-pub none-at : (s : List ℕ) → ((n : ℕ) → described (take n s) ≡ false) → sequenceAt s ≡ 0
-none-at s h = by (eqb (sequenceAt s) 0) refl
+pub none-at : (s : List ℕ) → ((n : ℕ) → described (take n s) ≡ false) → sequence_at s ≡ 0
+none-at s h = by (eqb (sequence_at s) 0) refl
   where
-    by : (t : Bool) → eqb (sequenceAt s) 0 ≡ t → sequenceAt s ≡ 0
-    by true e = eqb-true (sequenceAt s) 0 e
-    by false e = absurd (false≢true (sym (h (sequenceAt s)) ∙ sequence-described s (eqb-false (sequenceAt s) 0 e)))
+    by : (t : Bool) → eqb (sequence_at s) 0 ≡ t → sequence_at s ≡ 0
+    by true e = eqb-true (sequence_at s) 0 e
+    by false e = absurd (false≢true (sym (h (sequence_at s)) ∙ sequence-described s (eqb-false (sequence_at s) 0 e)))
 
-pub nothing-first : sequenceAt [] ≡ 0
+pub nothing-first : sequence_at [] ≡ 0
 nothing-first = none-at [] nothing-at-end
 
 -- a byte of ASCII is a sequence
@@ -242,15 +242,15 @@ ascii-within : (b : ℕ) → b < 128 → within (0x00, 0x7F) b ≡ true
 unfolding within
 ascii-within b h = rw (le-leb 0 b zero-le, le-leb b 127 (omega arith))
 
-pub ascii-sequence : (b : ℕ) (s : List ℕ) → b < 128 → sequenceAt (b ∷ s) ≡ 1
-unfolding sequenceAt rowOf rows
+pub ascii-sequence : (b : ℕ) (s : List ℕ) → b < 128 → sequence_at (b ∷ s) ≡ 1
+unfolding sequence_at row_of rows
 ascii-sequence b s h = simp (ascii-within b h)
 
 -- the sequence by the row of its first byte, as the code has it
-pub sequence-by : (s : List ℕ) (row : Row) (t : Bool) → row ≡ padded (rowOf (get_or s 0 0)) → t ≡ begins (take row.0 row.1) s → cond t row.0 0 ≡ sequenceAt s
-unfolding sequenceAt
+pub sequence-by : (s : List ℕ) (row : Row) (t : Bool) → row ≡ padded (row_of (get_or s 0 0)) → t ≡ begins (take row.0 row.1) s → cond t row.0 0 ≡ sequence_at s
+unfolding sequence_at
 sequence-by s row t e b =
-    let r = rowOf (get_or s 0 0) in
+    let r = row_of (get_or s 0 0) in
     let same : begins (take row.0 row.1) s ≡ begins r s = ap (λ (x : Row). begins (take x.0 x.1) s) e ∙ ap (λ (l : List Range). begins l s) (take-append_seam r (replicate (4 - length r) no_range)) in
     rw (b ∙ same) (ap (λ (x : Row). cond (begins r s) x.0 0) e)
 
@@ -271,7 +271,7 @@ lead-least n (r ∷ rs) zero b e h w = omega (arith, rise-first n r rs e, from (
 lead-least n (r ∷ rs) (suc i) b e h w =
     omega (arith, rise-first n r rs e, rise-last n r rs e, lead-least (suc (first r).1) rs i b (rise-rest n r rs e) (omega arith) w)
 
-lead_is : (n : ℕ) (rs : List (List Range)) (i b : ℕ) → rising n rs ≡ true → i < length rs → within (first (get_or rs i [])) b ≡ true → leadRow rs b ≡ get_or rs i []
+lead_is : (n : ℕ) (rs : List (List Range)) (i b : ℕ) → rising n rs ≡ true → i < length rs → within (first (get_or rs i [])) b ≡ true → lead_row rs b ≡ get_or rs i []
 lead_is n [] i b e h w = absurd (let z : i < 0 = h in omega arith)
 lead_is n (r ∷ rs) zero b e h w = rw w
 lead_is n (r ∷ rs) (suc i) b e h w =
@@ -286,27 +286,27 @@ four-first (a ∷ b ∷ c ∷ []) h = absurd (omega arith)
 four-first (a ∷ b ∷ c ∷ d ∷ s) h = refl
 
 module _ (i : ℕ) (h : i < 9) (s : List ℕ) (k : 4 ≤ length s) where
-  row_is : within (first (get_or rows i [])) (get_or s 0 0) ≡ true → rowOf (get_or s 0 0) ≡ get_or rows i []
-  unfolding rowOf
+  row_is : within (first (get_or rows i [])) (get_or s 0 0) ≡ true → row_of (get_or s 0 0) ≡ get_or rows i []
+  unfolding row_of
   row_is w = lead_is 0 rows i (get_or s 0 0) rows-rise (omega (arith, nine)) w
 
   -- where four bytes are there, those of the row decide
   row-decides : (r : List Range) → get_or rows i [] ≡ r → within (first r) (get_or s 0 0) ≡ true
-      → begins r (get_or s 0 0 ∷ get_or s 1 0 ∷ get_or s 2 0 ∷ get_or s 3 0 ∷ drop 4 s) ≡ true → length r ≡ sequenceAt s
-  unfolding sequenceAt
+      → begins r (get_or s 0 0 ∷ get_or s 1 0 ∷ get_or s 2 0 ∷ get_or s 3 0 ∷ drop 4 s) ≡ true → length r ≡ sequence_at s
+  unfolding sequence_at
   row-decides r e w b =
-      let row : rowOf (get_or s 0 0) ≡ r = row_is (rw (sym e) at w) ∙ e in
+      let row : row_of (get_or s 0 0) ≡ r = row_is (rw (sym e) at w) ∙ e in
       let all : begins r s ≡ true = ap (begins r) (four-first s k) ∙ b in
       rw (row, all)
 
-  pub two-decide : (q r : Range) → get_or rows i [] ≡ q ∷ r ∷ [] → (within q (get_or s 0 0) && within r (get_or s 1 0)) ≡ true → 2 ≡ sequenceAt s
+  pub two-decide : (q r : Range) → get_or rows i [] ≡ q ∷ r ∷ [] → (within q (get_or s 0 0) && within r (get_or s 1 0)) ≡ true → 2 ≡ sequence_at s
   two-decide q r e f =
       let a = and_left (within q (get_or s 0 0)) _ f in
       let b = and_right (within q (get_or s 0 0)) _ f in
       row-decides (q ∷ r ∷ []) e a (rw (a, b))
 
   pub three-decide : (q r t : Range) → get_or rows i [] ≡ q ∷ r ∷ t ∷ []
-      → ((within q (get_or s 0 0) && within r (get_or s 1 0)) && within t (get_or s 2 0)) ≡ true → 3 ≡ sequenceAt s
+      → ((within q (get_or s 0 0) && within r (get_or s 1 0)) && within t (get_or s 2 0)) ≡ true → 3 ≡ sequence_at s
   three-decide q r t e f =
       let g = and_left (within q (get_or s 0 0) && within r (get_or s 1 0)) _ f in
       let a = and_left (within q (get_or s 0 0)) _ g in
@@ -315,7 +315,7 @@ module _ (i : ℕ) (h : i < 9) (s : List ℕ) (k : 4 ≤ length s) where
       row-decides (q ∷ r ∷ t ∷ []) e a (rw (a, b, c))
 
   pub four-decide : (q r t u : Range) → get_or rows i [] ≡ q ∷ r ∷ t ∷ u ∷ []
-      → (((within q (get_or s 0 0) && within r (get_or s 1 0)) && within t (get_or s 2 0)) && within u (get_or s 3 0)) ≡ true → 4 ≡ sequenceAt s
+      → (((within q (get_or s 0 0) && within r (get_or s 1 0)) && within t (get_or s 2 0)) && within u (get_or s 3 0)) ≡ true → 4 ≡ sequence_at s
   four-decide q r t u e f =
       let g = and_left ((within q (get_or s 0 0) && within r (get_or s 1 0)) && within t (get_or s 2 0)) _ f in
       let j = and_left (within q (get_or s 0 0) && within r (get_or s 1 0)) _ g in

@@ -1,7 +1,7 @@
 -- What the check finds, and strings worked out by hand.
 use Rattle.std.specs.Prelude.{ℕ, ◌≤◌, ◌≡◌, false, List, [], ◌∷◌, length, take, drop}
 use Rattle.utf8.specs.Table.{described}
-use Rattle.utf8.specs.WellFormed.{WellFormed, badPlace}
+use Rattle.utf8.specs.WellFormed.{WellFormed, bad_place}
 
 -- a place up to which a string is cut into sequences that rows describe, and at which none stands
 pub record FirstBad (s : List ℕ) (place : ℕ) : Type 0 where
@@ -10,21 +10,21 @@ pub record FirstBad (s : List ℕ) (place : ℕ) : Type 0 where
   pub none : (n : ℕ) → described (take n (drop place s)) ≡ false
 
 unfoldable pub FindsFirstBad : Type 0
-FindsFirstBad = (s : List ℕ) → FirstBad s (badPlace s)
+FindsFirstBad = (s : List ℕ) → FirstBad s (bad_place s)
 
 unfoldable pub OnlyOneFirstBad : Type 0
-OnlyOneFirstBad = (s : List ℕ) (place : ℕ) → FirstBad s place → place ≡ badPlace s
+OnlyOneFirstBad = (s : List ℕ) (place : ℕ) → FirstBad s place → place ≡ bad_place s
 
 unfoldable pub WholeExactlyIfWellFormed : Type 0
-WholeExactlyIfWellFormed = (s : List ℕ) → (WellFormed s → badPlace s ≡ length s) × (badPlace s ≡ length s → WellFormed s)
+WholeExactlyIfWellFormed = (s : List ℕ) → (WellFormed s → bad_place s ≡ length s) × (bad_place s ≡ length s → WellFormed s)
 
 -- ---- by hand
 abbrev places : List (List ℕ) → List ℕ
 places [] = []
-places (s ∷ ss) = badPlace s ∷ places ss
+places (s ∷ ss) = bad_place s ∷ places ss
 
-abbrev wellFormed : List (List ℕ)
-wellFormed =
+abbrev well_formed : List (List ℕ)
+well_formed =
     []
     ∷ (0x00 ∷ 0x7F ∷ [])
     ∷ (0xC2 ∷ 0x80 ∷ 0xDF ∷ 0xBF ∷ [])
@@ -42,8 +42,8 @@ wellFormed =
     ∷ []
 
 -- a tail alone, a sequence that is longer than it must be, a surrogate, one above 10FFFF, one cut short, one broken off, bytes that begin none
-abbrev notWellFormed : List (List ℕ)
-notWellFormed =
+abbrev not_well_formed : List (List ℕ)
+not_well_formed =
     (0x41 ∷ 0x80 ∷ [])
     ∷ (0xC0 ∷ 0x80 ∷ [])
     ∷ (0xC1 ∷ 0xBF ∷ [])
@@ -72,5 +72,5 @@ notWellFormed =
     ∷ []
 
 pub record WorkedStrings : Type 0 where
-  pub whole : places wellFormed ≡ 0 ∷ 2 ∷ 4 ∷ 3 ∷ 3 ∷ 6 ∷ 3 ∷ 3 ∷ 6 ∷ 4 ∷ 4 ∷ 8 ∷ 4 ∷ 5 ∷ []
-  pub bad : places notWellFormed ≡ 1 ∷ 0 ∷ 0 ∷ 1 ∷ 2 ∷ 2 ∷ 0 ∷ 1 ∷ 0 ∷ 0 ∷ 1 ∷ 0 ∷ 4 ∷ 1 ∷ 3 ∷ 0 ∷ 0 ∷ 0 ∷ 0 ∷ 0 ∷ 0 ∷ 0 ∷ 0 ∷ 0 ∷ 0 ∷ []
+  pub whole : places well_formed ≡ 0 ∷ 2 ∷ 4 ∷ 3 ∷ 3 ∷ 6 ∷ 3 ∷ 3 ∷ 6 ∷ 4 ∷ 4 ∷ 8 ∷ 4 ∷ 5 ∷ []
+  pub bad : places not_well_formed ≡ 1 ∷ 0 ∷ 0 ∷ 1 ∷ 2 ∷ 2 ∷ 0 ∷ 1 ∷ 0 ∷ 0 ∷ 1 ∷ 0 ∷ 4 ∷ 1 ∷ 3 ∷ 0 ∷ 0 ∷ 0 ∷ 0 ∷ 0 ∷ 0 ∷ 0 ∷ 0 ∷ 0 ∷ 0 ∷ []

@@ -25,19 +25,19 @@ unfoldable pub within : Range → ℕ → Bool
 within r b = leb r.0 b && leb b r.1
 
 -- a row describes a sequence: a byte in each of its ranges, and no more
-abbrev pub rowDescribes : List Range → List ℕ → Bool
-rowDescribes [] [] = true
-rowDescribes [] (b ∷ s) = false
-rowDescribes (r ∷ rs) [] = false
-rowDescribes (r ∷ rs) (b ∷ s) = within r b && rowDescribes rs s
+abbrev pub row_describes : List Range → List ℕ → Bool
+row_describes [] [] = true
+row_describes [] (b ∷ s) = false
+row_describes (r ∷ rs) [] = false
+row_describes (r ∷ rs) (b ∷ s) = within r b && row_describes rs s
 
-abbrev pub anyDescribes : List (List Range) → List ℕ → Bool
-anyDescribes [] s = false
-anyDescribes (r ∷ rs) s = rowDescribes r s || anyDescribes rs s
+abbrev pub any_describes : List (List Range) → List ℕ → Bool
+any_describes [] s = false
+any_describes (r ∷ rs) s = row_describes r s || any_describes rs s
 
 -- one of the nine rows describes a sequence
 unfoldable pub described : List ℕ → Bool
-described s = anyDescribes rows s
+described s = any_describes rows s
 
 -- ---- how it is looked up
 -- bytes begin with a sequence of a row
@@ -49,13 +49,13 @@ begins (r ∷ rs) (b ∷ s) = within r b && begins rs s
 abbrev pub no_range : Range
 no_range = (0x00, 0x00)
 
-abbrev pub leadRow : List (List Range) → ℕ → List Range
-leadRow [] b = []
-leadRow (r ∷ rs) b = cond (within (get_or r 0 no_range) b) r (leadRow rs b)
+abbrev pub lead_row : List (List Range) → ℕ → List Range
+lead_row [] b = []
+lead_row (r ∷ rs) b = cond (within (get_or r 0 no_range) b) r (lead_row rs b)
 
 -- the row of sequences that begin with a byte; one of no bytes where there is none
-unfoldable pub rowOf : ℕ → List Range
-rowOf b = leadRow rows b
+unfoldable pub row_of : ℕ → List Range
+row_of b = lead_row rows b
 
 -- a row as the code has it: how many bytes, and four ranges
 abbrev pub padded : List Range → Row

@@ -1,8 +1,8 @@
 // The check of a string.
 ghost use Rattle.std.specs.Prelude.{◌≡◌, ◌+◌, ◌<◌, ◌≤◌, length, take, drop};
-ghost use Rattle.wire.specs.Scan.{anyInRange};
+ghost use Rattle.wire.specs.Scan.{any_in_range};
 ghost use Rattle.utf8.specs.Table.{begins};
-ghost use Rattle.utf8.specs.WellFormed.{sequenceAt, badPlace, Passes};
+ghost use Rattle.utf8.specs.WellFormed.{sequence_at, bad_place, Passes};
 
 use crate::table::{Row, is_within, row_of};
 use crate::usual::usual_len;
@@ -39,7 +39,7 @@ fn begins_with(bytes: &[u8], row: Row) -> bool
 
 // How many bytes the sequence has that they begin with, by a search through the table; 0 where no row describes one.
 fn searched_len(bytes: &[u8]) -> usize
-    ensures { result ≡ sequenceAt bytes.now }
+    ensures { result ≡ sequence_at bytes.now }
 {
     let row = row_of(byte_at(bytes, 0));
     if begins_with(bytes, row) { row.0 } else { 0 }
@@ -47,7 +47,7 @@ fn searched_len(bytes: &[u8]) -> usize
 
 // How many bytes the sequence has that they begin with; 0 where no row describes one.
 fn sequence_len(bytes: &[u8]) -> usize
-    ensures { result ≡ sequenceAt bytes.now }
+    ensures { result ≡ sequence_at bytes.now }
 {
     let n = usual_len(bytes);
     if n == 0 { searched_len(bytes) } else { n }
@@ -68,8 +68,8 @@ fn passed(string: &[u8], at: usize) -> usize
 
 // The first place, from a given one on, where a sequence begins that no row describes; the string's length if there is none. No such place is before the given one.
 fn place_from(string: &[u8], from: usize) -> usize
-    requires { (from ≤ length string.now) × (badPlace string.now ≡ from + badPlace (drop from string.now)) }
-    ensures { result ≡ badPlace string.now }
+    requires { (from ≤ length string.now) × (bad_place string.now ≡ from + bad_place (drop from string.now)) }
+    ensures { result ≡ bad_place string.now }
 {
     let mut at = from;
     while at < string.len() {
@@ -84,7 +84,7 @@ fn place_from(string: &[u8], from: usize) -> usize
 
 // The same of a string that is shorter than a block.
 fn short_place(string: &[u8]) -> usize
-    ensures { result ≡ badPlace string.now }
+    ensures { result ≡ bad_place string.now }
 {
     let run = clear_run(&string[..], FIRST_ABOVE, LAST_ABOVE);
     if string.len() <= run {
@@ -95,7 +95,7 @@ fn short_place(string: &[u8]) -> usize
 
 // Whether any of these bytes lies above ASCII. Joined, they have the high bit if one of them has it, so that one test is enough.
 fn any_above(run: &[u8]) -> bool
-    ensures { result ≡ anyInRange 0x80 0xFF run.now }
+    ensures { result ≡ any_in_range 0x80 0xFF run.now }
 {
     let mut joined = 0u8;
     let mut i = 0;
@@ -110,7 +110,7 @@ fn any_above(run: &[u8]) -> bool
 // is left of it by a last block that begins before. The table has a function of its own, with more callers than one: so the
 // compiler keeps it, and the registers that it takes, out of this one.
 pub fn bad_place(string: &[u8]) -> usize
-    ensures { result ≡ badPlace string.now }
+    ensures { result ≡ bad_place string.now }
 {
     if string.len() < BLOCK {
         return short_place(&string[..]);

@@ -1,6 +1,6 @@
 // Unicode's Table 3-7: the kinds of sequences that well-formed UTF-8 is made of.
 ghost use Rattle.std.specs.Prelude.{◌≡◌, map, ◌≤◌};
-ghost use Rattle.utf8.specs.Table.{rows, within, padded, rowOf};
+ghost use Rattle.utf8.specs.Table.{rows, within, padded, row_of};
 
 use wire::logic::both;
 
@@ -46,7 +46,7 @@ pub(crate) fn all_rows() -> [Row; 9]
 
 // The row of sequences that begin with this byte; one of no bytes where there is none.
 pub(crate) fn row_of(lead: u8) -> Row
-    ensures { (result ≡ padded (rowOf lead)) × (result.0 ≤ 4) }
+    ensures { (result ≡ padded (row_of lead)) × (result.0 ≤ 4) }
 {
     let rows = all_rows();
     let mut i = 0;

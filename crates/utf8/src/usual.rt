@@ -2,7 +2,7 @@
 // which rows can describe it.
 ghost use Rattle.std.specs.Prelude.{◌≡◌, false, ◌&&◌, ◌≤◌, eqb, length, get_or};
 ghost use Rattle.utf8.specs.Table.{within, no_range};
-ghost use Rattle.utf8.specs.WellFormed.{sequenceAt};
+ghost use Rattle.utf8.specs.WellFormed.{sequence_at};
 
 use crate::table::{Row, all_rows, is_within};
 
@@ -52,7 +52,7 @@ fn fits_four(row: Row, a: u8, b: u8, c: u8, d: u8) -> bool
 
 fn two_long(bytes: &[u8]) -> usize
     requires { 4 ≤ length bytes.now }
-    ensures { eqb result 0 ≡ false → result ≡ sequenceAt bytes.now }
+    ensures { eqb result 0 ≡ false → result ≡ sequence_at bytes.now }
 {
     let rows = all_rows();
     if fits_two(rows[1], bytes[0], bytes[1]) {
@@ -64,7 +64,7 @@ fn two_long(bytes: &[u8]) -> usize
 
 fn three_long(bytes: &[u8]) -> usize
     requires { 4 ≤ length bytes.now }
-    ensures { eqb result 0 ≡ false → result ≡ sequenceAt bytes.now }
+    ensures { eqb result 0 ≡ false → result ≡ sequence_at bytes.now }
 {
     let rows = all_rows();
     let a = bytes[0];
@@ -84,7 +84,7 @@ fn three_long(bytes: &[u8]) -> usize
 
 fn four_long(bytes: &[u8]) -> usize
     requires { 4 ≤ length bytes.now }
-    ensures { eqb result 0 ≡ false → result ≡ sequenceAt bytes.now }
+    ensures { eqb result 0 ≡ false → result ≡ sequence_at bytes.now }
 {
     let rows = all_rows();
     let a = bytes[0];
@@ -102,7 +102,7 @@ fn four_long(bytes: &[u8]) -> usize
 
 // How many bytes the sequence has that they begin with; 0 where the table has to be searched.
 pub(crate) fn usual_len(bytes: &[u8]) -> usize
-    ensures { eqb result 0 ≡ false → result ≡ sequenceAt bytes.now }
+    ensures { eqb result 0 ≡ false → result ≡ sequence_at bytes.now }
 {
     if bytes.len() < LONGEST {
         return 0;

@@ -10,9 +10,9 @@ use lib.Dec.{leb}
 use borrow.Author.Tests.{leb-true, lt-leb}
 use Rattle.wire.proofs.Tests.{and_left, and_right}
 use Rattle.utf8.specs.declared.table.Range.{Range}
-use Rattle.utf8.specs.Table.{rows, within, rowDescribes, anyDescribes, described}
+use Rattle.utf8.specs.Table.{rows, within, row_describes, any_describes, described}
 use Rattle.utf8.specs.WellFormed.{WellFormed, empty, more}
-use Rattle.utf8_shown.specs.Shown.{hiddenRows, isHidden, hiddenPlace}
+use Rattle.utf8_shown.specs.Shown.{hidden_rows, is_hidden, hidden_place}
 use Rattle.utf8_shown.specs.Claims.{HiddenBegins}
 
 -- ---- the bytes that follow the first of a sequence
@@ -43,23 +43,23 @@ in-range r b e w =
     let under = leb-true b r.1 (and_right (leb r.0 b) _ w) in
     (omega arith, omega arith)
 
-describes-follow : (rs : List Range) (q : List ℕ) → following rs ≡ true → rowDescribes rs q ≡ true → Follow q
+describes-follow : (rs : List Range) (q : List ℕ) → following rs ≡ true → row_describes rs q ≡ true → Follow q
 unfolding following
 describes-follow [] [] f d = tt
 describes-follow [] (b ∷ q) f d = absurd (false≢true d)
 describes-follow (r ∷ rs) [] f d = absurd (false≢true d)
 describes-follow (r ∷ rs) (b ∷ q) f d =
     let inside = leb 0x80 r.0 && leb r.1 0xBF in
-    let i = in-range r b (and_left inside (following rs) f) (and_left (within r b) (rowDescribes rs q) d) in
-    (i.0, i.1, describes-follow rs q (and_right inside (following rs) f) (and_right (within r b) (rowDescribes rs q) d))
+    let i = in-range r b (and_left inside (following rs) f) (and_left (within r b) (row_describes rs q) d) in
+    (i.0, i.1, describes-follow rs q (and_right inside (following rs) f) (and_right (within r b) (row_describes rs q) d))
 
-any-follow : (rs : List (List Range)) (b : ℕ) (q : List ℕ) → behind-first rs ≡ true → anyDescribes rs (b ∷ q) ≡ true → Follow q
+any-follow : (rs : List (List Range)) (b : ℕ) (q : List ℕ) → behind-first rs ≡ true → any_describes rs (b ∷ q) ≡ true → Follow q
 unfolding behind-first
 any-follow [] b q f d = absurd (false≢true d)
 any-follow ([] ∷ rs) b q f d = any-follow rs b q f d
-any-follow ((r ∷ row) ∷ rs) b q f d = by (rowDescribes (r ∷ row) (b ∷ q)) refl d (λ h. any-follow rs b q (and_right (following row) _ f) h)
+any-follow ((r ∷ row) ∷ rs) b q f d = by (row_describes (r ∷ row) (b ∷ q)) refl d (λ h. any-follow rs b q (and_right (following row) _ f) h)
   where
-    by : (t : Bool) → rowDescribes (r ∷ row) (b ∷ q) ≡ t → (t || anyDescribes rs (b ∷ q)) ≡ true → (anyDescribes rs (b ∷ q) ≡ true → Follow q) → Follow q
+    by : (t : Bool) → row_describes (r ∷ row) (b ∷ q) ≡ t → (t || any_describes rs (b ∷ q)) ≡ true → (any_describes rs (b ∷ q) ≡ true → Follow q) → Follow q
     by true k h later = describes-follow row q (and_left (following row) _ f) (and_right (within r b) _ k)
     by false k h later = later h
 
@@ -84,8 +84,8 @@ above : (low high b : ℕ) → b ≤ 0xBF → 0xC0 ≤ low → within (low, high
 unfolding within
 above low high b l h = rw (lt-leb low b (omega arith))
 
-follow-shown : (b : ℕ) (s : List ℕ) → 0x80 ≤ b → b ≤ 0xBF → isHidden (b ∷ s) ≡ false
-unfolding isHidden hiddenRows
+follow-shown : (b : ℕ) (s : List ℕ) → 0x80 ≤ b → b ≤ 0xBF → is_hidden (b ∷ s) ≡ false
+unfolding is_hidden hidden_rows
 follow-shown b s l h =
     rw (
       outside 0x00 0x1F b l (omega arith),
@@ -95,26 +95,26 @@ follow-shown b s l h =
       above 0xE2 0xE2 b h (omega arith),
     )
 
-pass-one : (b : ℕ) (s : List ℕ) → isHidden (b ∷ s) ≡ false → hiddenPlace (b ∷ s) ≡ suc (hiddenPlace s)
-unfolding hiddenPlace
+pass-one : (b : ℕ) (s : List ℕ) → is_hidden (b ∷ s) ≡ false → hidden_place (b ∷ s) ≡ suc (hidden_place s)
+unfolding hidden_place
 pass-one b s e = rw e
 
-pass-follow : (q s : List ℕ) → Follow q → hiddenPlace (q ++ s) ≡ length q + hiddenPlace s
+pass-follow : (q s : List ℕ) → Follow q → hidden_place (q ++ s) ≡ length q + hidden_place s
 pass-follow [] s f = omega arith
 pass-follow (b ∷ q) s f = let e = pass-one b (q ++ s) (follow-shown b (q ++ s) f.0 f.1) in let r = pass-follow q s f.2 in omega (arith, e, r)
 
 -- ---- a whole string
-begins : {s : List ℕ} → WellFormed s → WellFormed (take (hiddenPlace s) s)
-unfolding hiddenPlace
+begins : {s : List ℕ} → WellFormed s → WellFormed (take (hidden_place s) s)
+unfolding hidden_place
 begins empty = empty
 begins (more [] b e d w) = absurd (nothing-described d)
-begins {s} (more (x ∷ q) b e d w) = subst (λ (l : List ℕ). WellFormed (take (hiddenPlace l) l)) (sym e) (by (isHidden (x ∷ (q ++ b))) refl (begins w))
+begins {s} (more (x ∷ q) b e d w) = subst (λ (l : List ℕ). WellFormed (take (hidden_place l) l)) (sym e) (by (is_hidden (x ∷ (q ++ b))) refl (begins w))
   where
-    by : (t : Bool) → isHidden (x ∷ (q ++ b)) ≡ t → WellFormed (take (hiddenPlace b) b) → WellFormed (take (hiddenPlace (x ∷ (q ++ b))) (x ∷ (q ++ b)))
+    by : (t : Bool) → is_hidden (x ∷ (q ++ b)) ≡ t → WellFormed (take (hidden_place b) b) → WellFormed (take (hidden_place (x ∷ (q ++ b))) (x ∷ (q ++ b)))
     by true h rest = rw h empty
     by false h rest =
-        let n : hiddenPlace (x ∷ (q ++ b)) ≡ length (x ∷ q) + hiddenPlace b = let p = pass-one x (q ++ b) h in let r = pass-follow q b (described-follow x q d) in omega (arith, p, r) in
-        rw n (more (x ∷ q) (take (hiddenPlace b) b) (take-append-add (x ∷ q) b (hiddenPlace b)) d rest)
+        let n : hidden_place (x ∷ (q ++ b)) ≡ length (x ∷ q) + hidden_place b = let p = pass-one x (q ++ b) h in let r = pass-follow q b (described-follow x q d) in omega (arith, p, r) in
+        rw n (more (x ∷ q) (take (hidden_place b) b) (take-append-add (x ∷ q) b (hidden_place b)) d rest)
 
 pub hidden-begins : HiddenBegins
 unfolding HiddenBegins

@@ -1,7 +1,7 @@
 // Which characters of a string are not shown as text: a terminal, or a page, would follow them.
 ghost use Rattle.std.specs.Prelude.{◌≡◌, ◌<◌, length};
 ghost use Rattle.utf8.specs.Table.{within};
-ghost use Rattle.utf8_shown.specs.Shown.{isHidden, hiddenPlace, isText, hiddenOne, hiddenTwo, hiddenThree, hiddenBy};
+ghost use Rattle.utf8_shown.specs.Shown.{is_hidden, hidden_place, is_text, hidden_one, hidden_two, hidden_three, hidden_by};
 ghost use Rattle.utf8_shown.specs.Claims.{HiddenBegins};
 
 use utf8::check::bad_place;
@@ -16,14 +16,14 @@ fn between(low: u8, b: u8, high: u8) -> bool
 
 // The control characters of ASCII.
 fn hidden_one(a: u8) -> bool
-    ensures { result ≡ hiddenOne a }
+    ensures { result ≡ hidden_one a }
 {
     either(between(0x00, a, 0x1F), between(0x7F, a, 0x7F))
 }
 
 // The control characters that Unicode has besides, and U+061C.
 fn hidden_two(a: u8, b: u8) -> bool
-    ensures { result ≡ hiddenTwo a b }
+    ensures { result ≡ hidden_two a b }
 {
     let control = both(between(0xC2, a, 0xC2), between(0x80, b, 0x9F));
     let mark = both(between(0xD8, a, 0xD8), between(0x9C, b, 0x9C));
@@ -32,7 +32,7 @@ fn hidden_two(a: u8, b: u8) -> bool
 
 // The others that break a line or turn it round.
 fn hidden_three(a: u8, b: u8, c: u8) -> bool
-    ensures { result ≡ hiddenThree a b c }
+    ensures { result ≡ hidden_three a b c }
 {
     let marks = either(between(0x8E, c, 0x8F), between(0xA8, c, 0xAE));
     let first = both(between(0x80, b, 0x80), marks);
@@ -41,7 +41,7 @@ fn hidden_three(a: u8, b: u8, c: u8) -> bool
 }
 
 fn hidden_by(a: u8, b: u8, c: u8) -> bool
-    ensures { result ≡ hiddenBy a b c }
+    ensures { result ≡ hidden_by a b c }
 {
     let long = either(hidden_two(a, b), hidden_three(a, b, c));
     either(hidden_one(a), long)
@@ -49,14 +49,14 @@ fn hidden_by(a: u8, b: u8, c: u8) -> bool
 
 fn is_hidden(rest: &[u8]) -> bool
     requires { 0 < length rest.now }
-    ensures { result ≡ isHidden rest.now }
+    ensures { result ≡ is_hidden rest.now }
 {
     hidden_by(byte_at(rest, 0), byte_at(rest, 1), byte_at(rest, 2))
 }
 
 // The place of the first character that is not shown; the string's length if there is none.
 pub fn hidden_place(string: &[u8]) -> usize
-    ensures { result ≡ hiddenPlace string.now }
+    ensures { result ≡ hidden_place string.now }
 {
     let mut at = 0;
     while at < string.len() {
@@ -70,7 +70,7 @@ pub fn hidden_place(string: &[u8]) -> usize
 
 // Whether a string is text: well-formed UTF-8 in which each character is shown.
 pub fn is_text(string: &[u8]) -> bool
-    ensures { result ≡ isText string.now }
+    ensures { result ≡ is_text string.now }
 {
     let len = string.len();
     both(bad_place(string) == len, hidden_place(string) == len)

@@ -10,7 +10,7 @@ use lib.ListN.{length, take, drop, set, get_or, drop_of_length-le, length-take, 
 use lib.Seq.{sets, length-sets, drop-cons, take_all, take-suc, take-add, take-take, length-take-le}
 use lib.Dec.{eqb, ltb, leb}
 use borrow.Author.Tests.{ne_eqb, ltb-true, ltb-false, leb-false}
-use Rattle.wire.specs.Scan.{in_range, anyInRange, Clear, Copied}
+use Rattle.wire.specs.Scan.{in_range, any_in_range, Clear, Copied}
 use Rattle.wire.proofs.Stores.{sets_then}
 
 -- a byte outside the range is none of its bytes
@@ -28,31 +28,31 @@ cond-true false = refl
 
 module _ (first last : ℕ) where
   -- the first byte of a run that is clear, and the others
-  pub any-first : (b : ℕ) (bs : List ℕ) → anyInRange first last (b ∷ bs) ≡ false → (in_range first last b ≡ false) × (anyInRange first last bs ≡ false)
-  unfolding anyInRange
+  pub any-first : (b : ℕ) (bs : List ℕ) → any_in_range first last (b ∷ bs) ≡ false → (in_range first last b ≡ false) × (any_in_range first last bs ≡ false)
+  unfolding any_in_range
   any-first b bs e = go (in_range first last b) refl e
     where
-      go : (t : Bool) → in_range first last b ≡ t → cond t true (anyInRange first last bs) ≡ false → (in_range first last b ≡ false) × (anyInRange first last bs ≡ false)
+      go : (t : Bool) → in_range first last b ≡ t → cond t true (any_in_range first last bs) ≡ false → (in_range first last b ≡ false) × (any_in_range first last bs ≡ false)
       go true p q = absurd (true≢false q)
       go false p q = (p, q)
 
   any_step : (l : List ℕ) (i : ℕ) → i < length l
-      → anyInRange first last (drop i l) ≡ cond (in_range first last (get_or l i 0)) true (anyInRange first last (drop (i + 1) l))
-  unfolding anyInRange
+      → any_in_range first last (drop i l) ≡ cond (in_range first last (get_or l i 0)) true (any_in_range first last (drop (i + 1) l))
+  unfolding any_in_range
   any_step l i h = rw (drop-cons l i 0 h, add-one)
 
-  any-end : (l : List ℕ) (i : ℕ) → length l ≤ i → anyInRange first last (drop i l) ≡ false
-  unfolding anyInRange
+  any-end : (l : List ℕ) (i : ℕ) → length l ≤ i → any_in_range first last (drop i l) ≡ false
+  unfolding any_in_range
   any-end l i h = rw (drop_of_length-le l h)
 
-  any_append : (xs ys : List ℕ) → anyInRange first last xs ≡ false → anyInRange first last ys ≡ false → anyInRange first last (xs ++ ys) ≡ false
-  unfolding anyInRange
+  any_append : (xs ys : List ℕ) → any_in_range first last xs ≡ false → any_in_range first last ys ≡ false → any_in_range first last (xs ++ ys) ≡ false
+  unfolding any_in_range
   any_append [] ys e f = f
   any_append (x ∷ xs) ys e f = let r = any-first x xs e in rw r.0 (any_append xs ys r.1 f)
 
   -- a run is not clear where its end is not
-  any-later : (xs ys : List ℕ) → anyInRange first last ys ≡ true → anyInRange first last (xs ++ ys) ≡ true
-  unfolding anyInRange
+  any-later : (xs ys : List ℕ) → any_in_range first last ys ≡ true → any_in_range first last (xs ++ ys) ≡ true
+  unfolding any_in_range
   any-later [] ys e = e
   any-later (x ∷ xs) ys e = rw (any-later xs ys e) (cond-true (in_range first last x))
 
@@ -64,29 +64,29 @@ cond-false false = refl
 
 module _ {first last : ℕ} {l : List ℕ} where
   pub clear_none : Clear first last l 0
-  unfolding anyInRange
+  unfolding any_in_range
   clear_none = record { within = zero-le; none = refl }
 
   module _ {i : ℕ} (k : Clear first last l i) where
     -- one byte more
     pub clear-byte : i < length l → in_range first last (get_or l i 0) ≡ false → Clear first last l (i + 1)
-    unfolding anyInRange
+    unfolding any_in_range
     clear-byte h e =
         record { within = omega arith; none = rw (add-one, take-suc l i 0 h) (any_append first last (take i l) (get_or l i 0 ∷ []) k.none (rw e)) }
 
     -- one block more, up to e
-    pub clear-block : (e : ℕ) → i ≤ e → e ≤ length l → anyInRange first last (take (e - i) (drop i l)) ≡ false → Clear first last l e
+    pub clear-block : (e : ℕ) → i ≤ e → e ≤ length l → any_in_range first last (take (e - i) (drop i l)) ≡ false → Clear first last l e
     clear-block e h w q =
         let n : i + (e - i) ≡ e = omega arith in
         record {
           within = w;
           none =
-              subst (λ (m : ℕ). anyInRange first last (take m l) ≡ false) n
+              subst (λ (m : ℕ). any_in_range first last (take m l) ≡ false) n
               (rw (take-add i (e - i) l) (any_append first last (take i l) (take (e - i) (drop i l)) k.none q));
         }
 
 -- clear bytes end before the first that is not
-pub clear-short : {first last : ℕ} {l : List ℕ} {i : ℕ} → anyInRange first last l ≡ true → Clear first last l i → i < length l
+pub clear-short : {first last : ℕ} {l : List ℕ} {i : ℕ} → any_in_range first last l ≡ true → Clear first last l i → i < length l
 clear-short {first} {last} {l} {i} e k = go (ltb i (length l)) refl
   where
     go : (t : Bool) → ltb i (length l) ≡ t → i < length l
@@ -94,10 +94,10 @@ clear-short {first} {last} {l} {i} e k = go (ltb i (length l)) refl
     go false p = absurd (true≢false (sym e ∙ rw (take_all i l (ltb-false i (length l) p)) at k.none))
 
 -- the first e bytes of a run are not clear where some after the first i are not
-pub any-up-to : (first last : ℕ) (l : List ℕ) (i e : ℕ) → i ≤ e → anyInRange first last (take (e - i) (drop i l)) ≡ true → anyInRange first last (take e l) ≡ true
+pub any-up-to : (first last : ℕ) (l : List ℕ) (i e : ℕ) → i ≤ e → any_in_range first last (take (e - i) (drop i l)) ≡ true → any_in_range first last (take e l) ≡ true
 any-up-to first last l i e h q =
     let n : i + (e - i) ≡ e = omega arith in
-    subst (λ (m : ℕ). anyInRange first last (take m l) ≡ true) n (rw (take-add i (e - i) l) (any-later first last (take i l) (take (e - i) (drop i l)) q))
+    subst (λ (m : ℕ). any_in_range first last (take m l) ≡ true) n (rw (take-add i (e - i) l) (any-later first last (take i l) (take (e - i) (drop i l)) q))
 
 -- ---- the clear bytes that are copied
 
@@ -155,7 +155,7 @@ module _ (first last : ℕ) (bytes : List ℕ) (i e k : ℕ) (h : i ≤ e) (w : 
   pub part-long : k ≤ e - i
   part-long = rw (length-take-le (e - i) (drop i bytes) (rw (length-drop i bytes) (omega arith))) at clear.within
 
-  pub part_none : anyInRange first last (take k (drop i bytes)) ≡ false
+  pub part_none : any_in_range first last (take k (drop i bytes)) ≡ false
   part_none = rw (take-take k (e - i) (drop i bytes) part-long) at clear.none
 
   pub part_length : length (take k (drop i bytes)) ≡ k
@@ -169,10 +169,10 @@ module _ (first last : ℕ) (bytes : List ℕ) (i e k : ℕ) (h : i ≤ e) (w : 
 -- what is found, or is in the rest, is in the run
 pub record Seeking (first last : ℕ) (l : List ℕ) (f : Bool) (i : ℕ) : Type 0 where
   pub within : i ≤ length l
-  pub rest : cond f true (anyInRange first last (drop i l)) ≡ anyInRange first last l
+  pub rest : cond f true (any_in_range first last (drop i l)) ≡ any_in_range first last l
 
 module _ {first last : ℕ} {l : List ℕ} {f : Bool} {i : ℕ} (inv : Seeking first last l f i) where
-  pub seek-end : length l ≤ i → f ≡ anyInRange first last l
+  pub seek-end : length l ≤ i → f ≡ any_in_range first last l
   seek-end h = sym (cond-false f) ∙ rw (any-end first last l i h) at inv.rest
 
   module _ {g : Bool} (h : i < length l) where

@@ -10,8 +10,8 @@ abbrev pub pair_of : ℕ → ℕ → ℕ
 pair_of high low = high * 256 + low
 
 -- a number as two bytes, big-endian
-abbrev pub pairBytes : ℕ → List ℕ
-pairBytes n = n / 256 ∷ n % 256 ∷ []
+abbrev pub pair_bytes : ℕ → List ℕ
+pair_bytes n = n / 256 ∷ n % 256 ∷ []
 
 -- every number of a list is a byte
 abbrev pub AllBytes : List ℕ → Type 0

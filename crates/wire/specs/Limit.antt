@@ -2,5 +2,5 @@
 use Rattle.std.specs.Prelude.{ℕ, Bool, ◌&&◌, leb}
 
 -- 1 to 65,535, the largest total
-unfoldable pub limitFits : ℕ → Bool
-limitFits limit = leb 1 limit && leb limit 65535
+unfoldable pub limit_fits : ℕ → Bool
+limit_fits limit = leb 1 limit && leb limit 65535

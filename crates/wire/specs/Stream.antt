@@ -3,14 +3,14 @@ use Rattle.std.specs.Prelude.{ℕ, Bool, cond, ◌||◌, eqb}
 use Rattle.wire.specs.declared.stream.Stream.{Stream}
 use Rattle.wire.specs.declared.stream.Stream.TheVariants.{Control, Ota, Alexa}
 
-abbrev pub streamNumber : Stream → ℕ
-streamNumber Control = 0
-streamNumber Ota = 2
-streamNumber Alexa = 6
+abbrev pub stream_number : Stream → ℕ
+stream_number Control = 0
+stream_number Ota = 2
+stream_number Alexa = 6
 
-unfoldable pub isStream : ℕ → Bool
-isStream n = eqb n 0 || eqb n 2 || eqb n 6
+unfoldable pub is_stream : ℕ → Bool
+is_stream n = eqb n 0 || eqb n 2 || eqb n 6
 
 -- the stream of a number that is a stream's
-unfoldable pub streamOf : ℕ → Stream
-streamOf n = cond (eqb n 0) Control (cond (eqb n 2) Ota Alexa)
+unfoldable pub stream_of : ℕ → Stream
+stream_of n = cond (eqb n 0) Control (cond (eqb n 2) Ota Alexa)

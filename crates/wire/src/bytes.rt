@@ -1,7 +1,7 @@
 // Bytes and numbers, and runs of bytes in a lent slice.
 ghost use Rattle.std.specs.Prelude.{◌≡◌, ◌+◌, ◌≤◌, ◌<◌, min, length, get_or};
 ghost use Rattle.std.proofs.lemmas.List.Edits.{sets};
-ghost use Rattle.wire.specs.Bytes.{bit, pair_of, pairBytes};
+ghost use Rattle.wire.specs.Bytes.{bit, pair_of, pair_bytes};
 
 const BYTE_BITS: usize = 8;
 
@@ -50,7 +50,7 @@ pub fn pair(high: u8, low: u8) -> usize
 // Writes a number as two bytes, big-endian, at a place.
 pub fn put_pair(out: &mut [u8], at: usize, n: usize)
     requires { (at + 2 ≤ length out.old) × (n < 65536) }
-    ensures { out.new ≡ sets out.old at (pairBytes n) }
+    ensures { out.new ≡ sets out.old at (pair_bytes n) }
 {
     let high = n >> BYTE_BITS;
     out[at] = high as u8;

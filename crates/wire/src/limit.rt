@@ -1,6 +1,6 @@
 // The limit of a link: its largest message in bytes, set when the link is opened.
 ghost use Rattle.std.specs.Prelude.{◌≡◌};
-ghost use Rattle.wire.specs.Limit.{limitFits};
+ghost use Rattle.wire.specs.Limit.{limit_fits};
 
 use crate::logic::both;
 
@@ -9,7 +9,7 @@ pub const LARGEST_LIMIT: usize = 65535;
 
 // Refusal 17, unless it holds.
 pub fn limit_fits(limit: usize) -> bool
-    ensures { result ≡ limitFits limit }
+    ensures { result ≡ limit_fits limit }
 {
     both(1 <= limit, limit <= LARGEST_LIMIT)
 }

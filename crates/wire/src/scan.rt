@@ -1,7 +1,7 @@
 // The bytes of a run before the first that lies in a range: counted, or copied.
 ghost use Rattle.std.specs.Prelude.{◌≡◌, List, true, ℕ, ◌+◌, ◌≤◌, length};
 ghost use Rattle.std.proofs.lemmas.List.Edits.{sets};
-ghost use Rattle.wire.specs.Scan.{in_range, anyInRange, Clear, Copied};
+ghost use Rattle.wire.specs.Scan.{in_range, any_in_range, Clear, Copied};
 
 use crate::bytes::copy;
 
@@ -20,7 +20,7 @@ fn in_range(b: u8, first: u8, last: u8) -> bool
 
 // Whether any byte lies in the range. The loop has no other exit, so that it becomes one vector test.
 fn any_in_range(run: &[u8], first: u8, last: u8) -> bool
-    ensures { result ≡ anyInRange first last run.now }
+    ensures { result ≡ any_in_range first last run.now }
 {
     let mut found = false;
     let mut i = 0;
@@ -100,7 +100,7 @@ fn copy_bytes(out: &mut [u8], at: usize, run: &[u8], first: u8, last: u8) -> usi
 // The same from a place on in a run that has a byte in the range, so that its end need not be looked for.
 fn copy_until(out: &mut [u8], at: usize, run: &[u8], from: usize, first: u8, last: u8) -> usize
     requires run_in_bounds { at + length run.now ≤ length out.old }
-    requires run_value { anyInRange first last run.now ≡ true }
+    requires run_value { any_in_range first last run.now ≡ true }
     requires clear { Clear first last run.now from }
     ensures { (l : List ℕ) → Copied first last run.now at l from out.old → Copied first
         last run.now at l result out.new }

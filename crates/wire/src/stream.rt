@@ -1,6 +1,6 @@
 // The streams of the link and their numbers.
 ghost use Rattle.std.specs.Prelude.{◌≡◌, ◌<◌};
-ghost use Rattle.wire.specs.Stream.{streamNumber, isStream, streamOf};
+ghost use Rattle.wire.specs.Stream.{stream_number, is_stream, stream_of};
 
 #[derive(Drop)]
 pub enum Stream {
@@ -17,7 +17,7 @@ impl Stream {
     pub const ALEXA: u8 = 6;
 
     pub fn number(self) -> u8
-        ensures { (result ≡ streamNumber self) × (result < 16) }
+        ensures { (result ≡ stream_number self) × (result < 16) }
     {
         match self {
             Stream::Control => Stream::CONTROL,
@@ -29,7 +29,7 @@ impl Stream {
 
 // Whether a number is a stream's.
 pub fn is_stream(n: u8) -> bool
-    ensures { result ≡ isStream n }
+    ensures { result ≡ is_stream n }
 {
     if n == Stream::CONTROL {
         return true;
@@ -42,7 +42,7 @@ pub fn is_stream(n: u8) -> bool
 
 // The stream of a number; one that is no stream's, which callers judge by is_stream, counts as Alexa.
 pub fn stream_of(n: u8) -> Stream
-    ensures { result ≡ streamOf n }
+    ensures { result ≡ stream_of n }
 {
     if n == Stream::CONTROL {
         return Stream::Control;

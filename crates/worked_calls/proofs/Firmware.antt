@@ -1,31 +1,31 @@
 -- Firmware messages and single fields, called from C, by computation.
 use mathlib.Core.Path.{refl}
-use Rattle.c_firmware.specs.Calls.{applyReadOf, applyStored, applyWriteOf, fieldReadOf, segmentReadOf, segmentStored, segmentWriteOf}
-use Rattle.msg_component_writer.specs.Component.{badComponent, outside}
+use Rattle.c_firmware.specs.Calls.{apply_read_of, apply_stored, apply_write_of, field_read_of, segment_read_of, segment_stored, segment_write_of}
+use Rattle.msg_component_writer.specs.Component.{bad_component, outside}
 use Rattle.proto_field.specs.Fields.{found_at}
-use Rattle.proto_field.specs.Tag.{badTag, tag_at}
+use Rattle.proto_field.specs.Tag.{bad_tag, tag_at}
 use Rattle.proto_field.specs.Value.{value_at}
-use Rattle.proto_field.specs.Varint.{varintAt}
-use Rattle.proto_writer.specs.Varint.{varintBytes}
-use Rattle.proto_writer.specs.Writer.{fieldBytes, headBytes, partBytes, tagBytes}
-use Rattle.msg_firmware.specs.Apply.{applyOf, firmwareIn}
-use Rattle.msg_firmware.specs.Component.{componentFrom}
-use Rattle.msg_firmware.specs.Information.{componentIn, componentsFrom, firmwareFrom, partsFrom}
-use Rattle.msg_firmware.specs.Segment.{brokenField, isDigit, isSignature, segmentOf}
-use Rattle.msg_apply_writer.specs.Apply.{applyWritten}
-use Rattle.msg_apply_writer.specs.Information.{badFirmware}
-use Rattle.proto_schema.specs.Schema.{roleOf}
-use Rattle.c_firmware_rows.specs.Apply.{applyAt, badRow, componentAt, wideAt}
-use Rattle.c_firmware_rows.specs.FieldRow.{fixedKind}
+use Rattle.proto_field.specs.Varint.{varint_at}
+use Rattle.proto_writer.specs.Varint.{varint_bytes}
+use Rattle.proto_writer.specs.Writer.{field_bytes, head_bytes, part_bytes, tag_bytes}
+use Rattle.msg_firmware.specs.Apply.{apply_of, firmware_in}
+use Rattle.msg_firmware.specs.Component.{component_from}
+use Rattle.msg_firmware.specs.Information.{component_in, components_from, firmware_from, parts_from}
+use Rattle.msg_firmware.specs.Segment.{broken_field, is_digit, is_signature, segment_of}
+use Rattle.msg_apply_writer.specs.Apply.{apply_written}
+use Rattle.msg_apply_writer.specs.Information.{bad_firmware}
+use Rattle.proto_schema.specs.Schema.{role_of}
+use Rattle.c_firmware_rows.specs.Apply.{apply_at, bad_row, component_at, wide_at}
+use Rattle.c_firmware_rows.specs.FieldRow.{fixed_kind}
 use Rattle.c_firmware_rows.specs.More.{is_wide}
-use Rattle.msg_segment_writer.specs.Segment.{segmentFilled, segmentWritten}
-use Rattle.utf8.specs.Table.{rowOf, rows, within}
-use Rattle.utf8.specs.WellFormed.{badPlace, sequenceAt}
-use Rattle.proto_reader.specs.Gathered.{withTransport}
-use Rattle.proto_reader.specs.Walk.{addedAt, entry_at, fieldsFrom, judged, packedFrom, readAt, withString}
-use Rattle.proto_reader.specs.Walk as walkWalk
-use Rattle.worked_calls.specs.Firmware.{FirmwareCalls, firmwareRows}
+use Rattle.msg_segment_writer.specs.Segment.{segment_filled, segment_written}
+use Rattle.utf8.specs.Table.{row_of, rows, within}
+use Rattle.utf8.specs.WellFormed.{bad_place, sequence_at}
+use Rattle.proto_reader.specs.Gathered.{with_transport}
+use Rattle.proto_reader.specs.Walk.{added_at, entry_at, fields_from, judged, packed_from, read_at, with_string}
+use Rattle.proto_reader.specs.Walk as walk_walk
+use Rattle.worked_calls.specs.Firmware.{FirmwareCalls, firmware_rows}
 
 pub firmware-calls : FirmwareCalls
-unfolding FirmwareCalls firmwareRows applyReadOf applyStored applyWriteOf fieldReadOf segmentReadOf segmentStored segmentWriteOf badComponent outside found_at badTag tag_at value_at varintAt varintBytes fieldBytes headBytes partBytes tagBytes applyOf firmwareIn componentFrom componentIn componentsFrom firmwareFrom partsFrom brokenField isDigit isSignature segmentOf applyWritten badFirmware roleOf applyAt badRow componentAt wideAt fixedKind is_wide segmentFilled segmentWritten rowOf rows within badPlace sequenceAt withTransport addedAt entry_at walkWalk.field_at fieldsFrom judged packedFrom readAt withString
+unfolding FirmwareCalls firmware_rows apply_read_of apply_stored apply_write_of field_read_of segment_read_of segment_stored segment_write_of bad_component outside found_at bad_tag tag_at value_at varint_at varint_bytes field_bytes head_bytes part_bytes tag_bytes apply_of firmware_in component_from component_in components_from firmware_from parts_from broken_field is_digit is_signature segment_of apply_written bad_firmware role_of apply_at bad_row component_at wide_at fixed_kind is_wide segment_filled segment_written row_of rows within bad_place sequence_at with_transport added_at entry_at walk_walk.field_at fields_from judged packed_from read_at with_string
 firmware-calls = (refl, refl, refl)

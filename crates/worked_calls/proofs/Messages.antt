@@ -1,23 +1,23 @@
 -- Control messages, called from C, by computation.
 use mathlib.Core.Path.{refl}
-use Rattle.c_messages.specs.Calls.{envelopeReadOf, envelopeWriteOf, featuresReadOf, featuresWriteOf, informationReadOf, informationWriteOf, responseReadOf, responseWriteOf}
-use Rattle.msg_control.specs.Envelope.{envelopeOf, envelopeWritten, payloadOf}
-use Rattle.msg_control.specs.Response.{responseFrom, responseWritten}
-use Rattle.msg_device.specs.Features.{featuresOf, featuresWritten}
-use Rattle.msg_device.specs.Information.{informationOf, informationWritten}
-use Rattle.proto_field.specs.Tag.{badTag, tag_at}
+use Rattle.c_messages.specs.Calls.{envelope_read_of, envelope_write_of, features_read_of, features_write_of, information_read_of, information_write_of, response_read_of, response_write_of}
+use Rattle.msg_control.specs.Envelope.{envelope_of, envelope_written, payload_of}
+use Rattle.msg_control.specs.Response.{response_from, response_written}
+use Rattle.msg_device.specs.Features.{features_of, features_written}
+use Rattle.msg_device.specs.Information.{information_of, information_written}
+use Rattle.proto_field.specs.Tag.{bad_tag, tag_at}
 use Rattle.proto_field.specs.Value.{value_at}
-use Rattle.proto_field.specs.Varint.{varintAt}
-use Rattle.proto_writer.specs.Varint.{varintBytes}
-use Rattle.proto_writer.specs.Writer.{fieldBytes, headBytes, partBytes, tagBytes}
-use Rattle.proto_schema.specs.Schema.{roleOf}
-use Rattle.c_message_rows.specs.Convert.{allSigned, is_signed, payloadFor, responsePayloadOf}
-use Rattle.utf8.specs.Table.{rowOf, rows, within}
-use Rattle.utf8.specs.WellFormed.{badPlace, sequenceAt}
-use Rattle.proto_reader.specs.Gathered.{withTransport}
-use Rattle.proto_reader.specs.Walk.{addedAt, entry_at, field_at, fieldsFrom, judged, packedFrom, readAt, withString}
-use Rattle.worked_calls.specs.Messages.{MessageCalls, messagesRows}
+use Rattle.proto_field.specs.Varint.{varint_at}
+use Rattle.proto_writer.specs.Varint.{varint_bytes}
+use Rattle.proto_writer.specs.Writer.{field_bytes, head_bytes, part_bytes, tag_bytes}
+use Rattle.proto_schema.specs.Schema.{role_of}
+use Rattle.c_message_rows.specs.Convert.{all_signed, is_signed, payload_for, response_payload_of}
+use Rattle.utf8.specs.Table.{row_of, rows, within}
+use Rattle.utf8.specs.WellFormed.{bad_place, sequence_at}
+use Rattle.proto_reader.specs.Gathered.{with_transport}
+use Rattle.proto_reader.specs.Walk.{added_at, entry_at, field_at, fields_from, judged, packed_from, read_at, with_string}
+use Rattle.worked_calls.specs.Messages.{MessageCalls, messages_rows}
 
 pub message-calls : MessageCalls
-unfolding MessageCalls messagesRows envelopeReadOf envelopeWriteOf featuresReadOf featuresWriteOf informationReadOf informationWriteOf responseReadOf responseWriteOf envelopeOf envelopeWritten payloadOf responseFrom responseWritten featuresOf featuresWritten informationOf informationWritten badTag tag_at value_at varintAt varintBytes fieldBytes headBytes partBytes tagBytes roleOf allSigned is_signed payloadFor responsePayloadOf rowOf rows within badPlace sequenceAt withTransport addedAt entry_at field_at fieldsFrom judged packedFrom readAt withString
+unfolding MessageCalls messages_rows envelope_read_of envelope_write_of features_read_of features_write_of information_read_of information_write_of response_read_of response_write_of envelope_of envelope_written payload_of response_from response_written features_of features_written information_of information_written bad_tag tag_at value_at varint_at varint_bytes field_bytes head_bytes part_bytes tag_bytes role_of all_signed is_signed payload_for response_payload_of row_of rows within bad_place sequence_at with_transport added_at entry_at field_at fields_from judged packed_from read_at with_string
 message-calls = refl

@@ -1,19 +1,19 @@
 -- Why a capture is not lawful, called from C, by computation.
 use mathlib.Core.Path.{refl}
-use Rattle.c_judge.specs.Calls.{captureWhyOf}
-use Rattle.capture_reader.specs.Capture.{frontOf, otherVersion, packetsFrom, packetsOf}
-use Rattle.capture_judge.specs.Capture.{tracedOf, verdictFrom, walkedOf}
+use Rattle.c_judge.specs.Calls.{capture_why_of}
+use Rattle.capture_reader.specs.Capture.{front_of, other_version, packets_from, packets_of}
+use Rattle.capture_judge.specs.Capture.{traced_of, verdict_from, walked_of}
 use Rattle.capture_judge.specs.Step.{step_of}
 use Rattle.capture_next.specs.NextPacket.{next_of}
-use Rattle.capture_why.specs.Why.{cameOf, expectedOf, stoppedOf, whyOf}
-use Rattle.ble_packet.specs.Reader.{contentOf, fields_of, lines, read_of}
+use Rattle.capture_why.specs.Why.{came_of, expected_of, stopped_of, why_of}
+use Rattle.ble_packet.specs.Reader.{content_of, fields_of, lines, read_of}
 use Rattle.ble_sender.specs.Piece.{size_for}
-use Rattle.ble_sender.specs.Writer.{roomFits}
-use Rattle.capture_stream.specs.Slot.{firstStep, fitsPiece, nextFits, nextStep}
-use Rattle.wire.specs.Limit.{limitFits}
-use Rattle.wire.specs.Stream.{isStream, streamOf}
-use Rattle.worked_calls.specs.Whys.{WhyCalls, whysRows}
+use Rattle.ble_sender.specs.Writer.{room_fits}
+use Rattle.capture_stream.specs.Slot.{first_step, fits_piece, next_fits, next_step}
+use Rattle.wire.specs.Limit.{limit_fits}
+use Rattle.wire.specs.Stream.{is_stream, stream_of}
+use Rattle.worked_calls.specs.Whys.{WhyCalls, whys_rows}
 
 pub why-calls : WhyCalls
-unfolding WhyCalls whysRows captureWhyOf frontOf otherVersion packetsFrom packetsOf tracedOf verdictFrom walkedOf step_of next_of cameOf expectedOf stoppedOf whyOf contentOf fields_of lines read_of size_for roomFits firstStep fitsPiece nextFits nextStep limitFits isStream streamOf
+unfolding WhyCalls whys_rows capture_why_of front_of other_version packets_from packets_of traced_of verdict_from walked_of step_of next_of came_of expected_of stopped_of why_of content_of fields_of lines read_of size_for room_fits first_step fits_piece next_fits next_step limit_fits is_stream stream_of
 why-calls = refl

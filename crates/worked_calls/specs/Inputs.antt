@@ -5,9 +5,9 @@ use Rattle.wire.specs.Told.{given, refused}
 use Rattle.capture_reader.specs.Capture.{ToldAt}
 use Rattle.capture_judge.specs.Capture.{Answer, lawful, open·ended, unlawful}
 
-unfoldable pub inputsRows : List (ToldAt Answer × ToldAt Answer)
-inputsRows =
-    -- the program lawful: pins allIdle, withSlot, otherVersion, nextFits
+unfoldable pub inputs_rows : List (ToldAt Answer × ToldAt Answer)
+inputs_rows =
+    -- the program lawful: pins all_idle, with_slot, other_version, next_fits
     (input_of (0x00 ∷ 0x14 ∷ 0x01 ∷ 0x00 ∷ 0x00 ∷ []), refused (40, 0))
     -- a room of one byte: the absent one is 0
     ∷ (input_of (0x02 ∷ []), refused (17, 0))
@@ -28,5 +28,5 @@ inputsRows =
 -- each call leaves what its row says; a capture of 65,537 bytes is too long, one of 65,536 is not
 unfoldable pub InputAnswers : Type 0
 InputAnswers =
-    (map (λ c. c.0) inputsRows ≡ map (λ c. c.1) inputsRows) × (input_of (replicate 65541 0x00) ≡ refused (1, 0))
+    (map (λ c. c.0) inputs_rows ≡ map (λ c. c.1) inputs_rows) × (input_of (replicate 65541 0x00) ≡ refused (1, 0))
     × (input_of (0x00 ∷ 0x00 ∷ replicate 65538 0x00) ≡ refused (13, 0))

@@ -11,9 +11,9 @@ abbrev expected : Bool → ℕ → ℕ → ℕ → ℕ → Bool → Bool → Nex
 expected opened id sequence kind len extended last =
     record { opened = opened; id = id; sequence = sequence; kind = kind; len = len; extended = extended; last = last }
 
-unfoldable pub nextPacketsRows : List (NextPacket × NextPacket)
-nextPacketsRows =
-    -- the program why: pins nextIn, nextBy, next_of
+unfoldable pub next_packets_rows : List (NextPacket × NextPacket)
+next_packets_rows =
+    -- the program why: pins next_in, next_by, next_of
     (next_of 0 Idle 1, expected false 0 0 0 0 false true)
     ∷ (next_of 21 Idle 0, expected false 0 0 0 0 false true)
     ∷ (next_of 263 Idle 300, expected false 0 0 0 256 true false)
@@ -24,6 +24,6 @@ nextPacketsRows =
 -- each call leaves what its row says; the names of a packet's refusals, which the program puts into words, have these numbers
 unfoldable pub NextPackets : Type 0
 NextPackets =
-    (map (λ c. c.0) nextPacketsRows ≡ map (λ c. c.1) nextPacketsRows)
+    (map (λ c. c.0) next_packets_rows ≡ map (λ c. c.1) next_packets_rows)
     × (map number_of (Short ∷ UnknownStream ∷ BadControl ∷ Reserved ∷ Length ∷ TotalOver ∷ Empty ∷ AboveTotal ∷ [])
     ≡ 2 ∷ 3 ∷ 12 ∷ 4 ∷ 5 ∷ 6 ∷ 7 ∷ 8 ∷ [])

@@ -3,9 +3,9 @@ use Rattle.std.specs.Prelude.{◌≡◌, List, [], ◌∷◌, map}
 use Rattle.c_text.specs.Calls.{text_of}
 use Rattle.c_rows.specs.Called.{Called, called}
 
-unfoldable pub textsRows : List (Called × Called)
-textsRows =
-    -- pito_text: pins textRow, textNumber, hiddenRows, isHidden, hiddenPlace
+unfoldable pub texts_rows : List (Called × Called)
+texts_rows =
+    -- pito_text: pins text_row, text_number, hidden_rows, is_hidden, hidden_place
     (text_of ([]) (9 ∷ []), called 1 [] [] (9 ∷ []))
     ∷ (text_of ([]) (9 ∷ 9 ∷ []), called 0 [] [] (0 ∷ 0 ∷ []))
     ∷ (text_of (0x20 ∷ 0x7E ∷ 0xC2 ∷ 0xA0 ∷ 0xC3 ∷ 0x9C ∷ 0xD7 ∷ 0x9C ∷ 0xD8 ∷ 0x9B ∷ 0xD8 ∷ 0x9D ∷ 0xD9 ∷ 0x9C ∷ 0xE1 ∷ 0x80 ∷ 0x8E ∷ 0xE2 ∷ 0x80 ∷ 0x8D ∷ 0xE2 ∷ 0x80 ∷ 0x90 ∷ 0xE2 ∷ 0x80 ∷ 0xA6 ∷ 0xE2 ∷ 0x80 ∷ 0xA7 ∷ 0xE2 ∷ 0x80 ∷ 0xAF ∷ 0xE2 ∷ 0x81 ∷ 0x8E ∷ 0xE2 ∷ 0x81 ∷ 0xA5 ∷ 0xE2 ∷ 0x81 ∷ 0xAA ∷ 0xE2 ∷ 0x82 ∷ 0xA6 ∷ 0xE3 ∷ 0x80 ∷ 0x8E ∷ 0xE1 ∷ 0x81 ∷ 0xA6 ∷ 0xE3 ∷ 0x81 ∷ 0xA6 ∷ 0xE1 ∷ 0x80 ∷ 0xA8 ∷ 0xE3 ∷ 0x80 ∷ 0xA8 ∷ []) (9 ∷ 9 ∷ []), called 0 [] [] (59 ∷ 59 ∷ []))
@@ -32,4 +32,4 @@ textsRows =
 
 -- each call leaves what its row says
 unfoldable pub TextCalls : Type 0
-TextCalls = map (λ c. c.0) textsRows ≡ map (λ c. c.1) textsRows
+TextCalls = map (λ c. c.0) texts_rows ≡ map (λ c. c.1) texts_rows

@@ -2,8 +2,8 @@
 use Rattle.std.specs.Prelude.{ℕ, ◌-◌, ◌/◌, ◌%◌, ◌^◌, ◌≡◌, List, [], ◌∷◌, map, take, drop, get_or, set, replicate}
 use Rattle.std.proofs.lemmas.List.Edits.{sets}
 
-unfoldable pub toolkitRows : List (List ℕ × List ℕ)
-toolkitRows =
+unfoldable pub toolkit_rows : List (List ℕ × List ℕ)
+toolkit_rows =
     -- a difference is never under 0; a division by 0 gives 0, and its rest is all of it
     ((3 - 5) ∷ (5 - 3) ∷ 7 / 0 ∷ 7 % 0 ∷ 7 / 2 ∷ 7 % 2 ∷ 2 ^ 3 ∷ 2 ^ 0 ∷ [], 0 ∷ 2 ∷ 0 ∷ 7 ∷ 3 ∷ 1 ∷ 8 ∷ 1 ∷ [])
     -- past the end of a list: all or nothing is taken and dropped, the other value is found, nothing is stored
@@ -20,4 +20,4 @@ toolkitRows =
 
 -- each gives what its row says
 unfoldable pub ToolkitEnds : Type 0
-ToolkitEnds = map (λ c. c.0) toolkitRows ≡ map (λ c. c.1) toolkitRows
+ToolkitEnds = map (λ c. c.0) toolkit_rows ≡ map (λ c. c.1) toolkit_rows

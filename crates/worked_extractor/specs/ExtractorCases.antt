@@ -4,10 +4,10 @@ use mathlib.Core.List.{List, [], ◌∷◌, ◌++◌, Memᴰ}
 use Rattle.classic_extractor.specs.declared.state.Progress.{Progress}
 use Rattle.classic_extractor.specs.declared.state.Phase.{Phase}
 use Rattle.classic_extractor.specs.declared.state.Phase.TheVariants.{Outside, ErrorId, Sequence, Escaped}
-use Rattle.classic_extractor.specs.Outcome.{Report, skipped, taken, allUsed, frame, refused}
+use Rattle.classic_extractor.specs.Outcome.{Report, skipped, taken, all_used, frame, refused}
 use Rattle.classic_extractor.specs.State.{outside, begun, body}
-use Rattle.classic_extractor.specs.Step.{ByteStep, step, byteStepOf}
-use Rattle.classic_feed.specs.Feed.{Feed, fed, feedOf}
+use Rattle.classic_extractor.specs.Step.{ByteStep, step, byte_step_of}
+use Rattle.classic_feed.specs.Feed.{Feed, fed, feed_of}
 
 -- the lent buffer has 4 bytes
 abbrev limit : ℕ
@@ -16,15 +16,15 @@ limit = 2
 -- what is asked of an extractor in a state, over a lent buffer
 pub data ExtractorQuestion : Type 0 where
   -- a step with a byte, in a state with another limit
-  stepWithin : ℕ → Progress → List ℕ → ℕ → ExtractorQuestion
+  step_within : ℕ → Progress → List ℕ → ℕ → ExtractorQuestion
   -- a step with a byte
-  stepWith : Progress → List ℕ → ℕ → ExtractorQuestion
+  step_with : Progress → List ℕ → ℕ → ExtractorQuestion
   -- a step with each of some bytes
-  stepEach : Progress → List ℕ → List ℕ → ExtractorQuestion
+  step_each : Progress → List ℕ → List ℕ → ExtractorQuestion
   -- a call for many bytes
-  feedWith : Progress → List ℕ → List ℕ → ExtractorQuestion
+  feed_with : Progress → List ℕ → List ℕ → ExtractorQuestion
   -- n calls for many bytes, each with all that the ones before left
-  feedEach : ℕ → Progress → List ℕ → List ℕ → ExtractorQuestion
+  feed_each : ℕ → Progress → List ℕ → List ℕ → ExtractorQuestion
 
 -- what each step or call leaves: its report, the number used by a call, the next state and the lent buffer
 pub data ExtractorAnswer : Type 0 where
@@ -33,18 +33,18 @@ pub data ExtractorAnswer : Type 0 where
 
 unfoldable pub steps_of : Progress → List ℕ → List ℕ → List ByteStep
 steps_of s l [] = []
-steps_of s l (b ∷ bs) = let r = byteStepOf limit s l b in r ∷ steps_of r.next r.buffer bs
+steps_of s l (b ∷ bs) = let r = byte_step_of limit s l b in r ∷ steps_of r.next r.buffer bs
 
-unfoldable pub feedsOf : ℕ → Progress → List ℕ → List ℕ → List Feed
-feedsOf zero s l bytes = []
-feedsOf (suc n) s l bytes = let r = feedOf limit s l bytes in r ∷ feedsOf n r.next r.buffer (drop r.used bytes)
+unfoldable pub feeds_of : ℕ → Progress → List ℕ → List ℕ → List Feed
+feeds_of zero s l bytes = []
+feeds_of (suc n) s l bytes = let r = feed_of limit s l bytes in r ∷ feeds_of n r.next r.buffer (drop r.used bytes)
 
-unfoldable pub answerTo : ExtractorQuestion → ExtractorAnswer
-answerTo (stepWithin n s l b) = stepped (byteStepOf n s l b ∷ [])
-answerTo (stepWith s l b) = stepped (byteStepOf limit s l b ∷ [])
-answerTo (stepEach s l bytes) = stepped (steps_of s l bytes)
-answerTo (feedWith s l bytes) = called (feedOf limit s l bytes ∷ [])
-answerTo (feedEach n s l bytes) = called (feedsOf n s l bytes)
+unfoldable pub answer_to : ExtractorQuestion → ExtractorAnswer
+answer_to (step_within n s l b) = stepped (byte_step_of n s l b ∷ [])
+answer_to (step_with s l b) = stepped (byte_step_of limit s l b ∷ [])
+answer_to (step_each s l bytes) = stepped (steps_of s l bytes)
+answer_to (feed_with s l bytes) = called (feed_of limit s l bytes ∷ [])
+answer_to (feed_each n s l bytes) = called (feeds_of n s l bytes)
 
 -- a row: what is asked, and what comes back
 pub record ExtractorCase : Type 0 where
@@ -56,7 +56,7 @@ case q a = record { question = q; expected = a }
 
 -- a step with a byte in a state leaves a report and the next state, and the buffer as it was
 abbrev leaves : Progress → List ℕ → ℕ → Report → Progress → ExtractorCase
-leaves s l b r next = case (stepWith s l b) (stepped (step r next l ∷ []))
+leaves s l b r next = case (step_with s l b) (stepped (step r next l ∷ []))
 
 -- inside a frame before its sequence byte is read, and after F2 in its body
 abbrev header : Phase → Progress
@@ -66,11 +66,11 @@ abbrev escaped : ℕ → ℕ → Progress
 escaped sequence held = record { phase = Escaped; sequence = sequence; held = held }
 
 -- a count held outside, and a sequence before it is read: unlawful
-abbrev heldOutside : Progress
-heldOutside = record { phase = Outside; sequence = 0; held = 1 }
+abbrev held_outside : Progress
+held_outside = record { phase = Outside; sequence = 0; held = 1 }
 
-abbrev numberedEarly : Progress
-numberedEarly = record { phase = Sequence; sequence = 7; held = 0 }
+abbrev numbered_early : Progress
+numbered_early = record { phase = Sequence; sequence = 7; held = 0 }
 
 abbrev four : ℕ → ℕ → ℕ → ℕ → List ℕ
 four a b c d = a ∷ b ∷ c ∷ d ∷ []
@@ -96,7 +96,7 @@ twenty =
 unfoldable pub cases : List ExtractorCase
 cases =
     -- the twenty bytes, one by one
-    case (stepEach outside lent twenty)
+    case (step_each outside lent twenty)
     (stepped
     (step skipped outside lent
     ∷ step taken begun lent
@@ -120,23 +120,23 @@ cases =
     ∷ step (frame 6 0) outside (four 0x00 0x02 0xF2 0xEE)
     ∷ []))
     -- and by calls for many bytes
-    ∷ case (feedEach 4 outside lent twenty)
+    ∷ case (feed_each 4 outside lent twenty)
     (called
     (fed (frame 5 1) 11 outside (four 0xF0 0x00 0xF2 0xEE)
     ∷ fed (refused 20) 3 begun (four 0xF0 0x00 0xF2 0xEE)
     ∷ fed (frame 6 0) 6 outside (four 0x00 0x02 0xF2 0xEE)
-    ∷ fed allUsed 0 outside (four 0x00 0x02 0xF2 0xEE)
+    ∷ fed all_used 0 outside (four 0x00 0x02 0xF2 0xEE)
     ∷ []))
     -- 1: a sequence that is a mark, more held than there is room for, numbers that are not read yet, a buffer of another size
     ∷ leaves (body 0xF0 1) lent 0x00 (refused 1) (body 0xF0 1)
     ∷ leaves (escaped 0xF2 1) lent 0x00 (refused 1) (escaped 0xF2 1)
     ∷ leaves (body 7 5) lent 0xF1 (refused 1) (body 7 5)
-    ∷ leaves heldOutside lent 0xF0 (refused 1) heldOutside
-    ∷ leaves numberedEarly lent 0x07 (refused 1) numberedEarly
+    ∷ leaves held_outside lent 0xF0 (refused 1) held_outside
+    ∷ leaves numbered_early lent 0x07 (refused 1) numbered_early
     ∷ leaves outside (0xEE ∷ lent) 0xF0 (refused 1) outside
     ∷ leaves outside (drop 1 lent) 0xF0 (refused 1) outside
     -- .. and a call uses no byte
-    ∷ case (feedWith (body 0xF1 1) lent twenty) (called (fed (refused 1) 0 (body 0xF1 1) lent ∷ []))
+    ∷ case (feed_with (body 0xF1 1) lent twenty) (called (fed (refused 1) 0 (body 0xF1 1) lent ∷ []))
     -- outside every byte but F0 is skipped: a packet id too
     ∷ leaves outside lent 0x02 skipped outside
     ∷ leaves outside lent 0xF1 skipped outside
@@ -167,15 +167,15 @@ cases =
     ∷ leaves (body 7 4) full 0x06 (refused 24) outside
     ∷ leaves (escaped 7 4) full 0x03 (refused 24) outside
     ∷ leaves (body 7 4) full 0xF2 taken (escaped 7 4)
-    ∷ case (stepWith (escaped 7 3) lent 0x03) (stepped (step taken (body 7 4) (four 0xEE 0xEE 0xEE 0xF1) ∷ []))
+    ∷ case (step_with (escaped 7 3) lent 0x03) (stepped (step taken (body 7 4) (four 0xEE 0xEE 0xEE 0xF1) ∷ []))
     -- 25: a checksum with its bytes exchanged
     ∷ leaves (body 7 4) (four 0x01 0x02 0x05 0x00) 0xF1 (refused 25) outside
     -- a sum of 65,537 is 1
-    ∷ case (stepWithin 257 (body 7 259) overflown 0xF1) (stepped (step (frame 7 257) outside overflown ∷ []))
+    ∷ case (step_within 257 (body 7 259) overflown 0xF1) (stepped (step (frame 7 257) outside overflown ∷ []))
     -- F1 in a full body ends the frame; a call stops after the byte that decides
-    ∷ case (feedWith (body 7 4) full (0xF1 ∷ 0xF0 ∷ [])) (called (fed (frame 7 2) 1 outside full ∷ []))
+    ∷ case (feed_with (body 7 4) full (0xF1 ∷ 0xF0 ∷ [])) (called (fed (frame 7 2) 1 outside full ∷ []))
     ∷ []
 
 -- every row of the table holds
 abbrev pub ExtractorCases : Type 0
-ExtractorCases = (c : ExtractorCase) → Memᴰ c cases → answerTo c.question ≡ c.expected
+ExtractorCases = (c : ExtractorCase) → Memᴰ c cases → answer_to c.question ≡ c.expected

@@ -1,6 +1,6 @@
 use Rattle.ble_packet.proofs.Headers.{in-range-low}
 use Rattle.ble_packet.specs.Header.{in_range}
-use Rattle.ble_ack.specs.Acknowledgement.{ackOf}
+use Rattle.ble_ack.specs.Acknowledgement.{ack_of}
 use borrow.Author.Tests.{lt-ltb, le-ltb, not-false}
 use mathlib.Core.Bool.{true}
 use mathlib.Core.Path.{◌≡◌, sym, ◌∙◌}
@@ -10,11 +10,11 @@ use Rattle.ble_ack.proofs.write.Statement.{statement}
 use Rattle.ble_ack.proofs.write.Tie as tie
 
 returns : tie.Need-returns
-unfolding ackOf
+unfolding ack_of
 returns c = rw (← c.before.in-range.ensures, c.if1.true)
 
 returns-2 : tie.Need-returns-2
-unfolding ackOf
+unfolding ack_of
 returns-2 c = rw (← c.before.before.in-range.ensures, c.before.if1.false, lt-ltb _ _ c.if2.true)
 
 put-requires : tie.Need-put-requires
@@ -26,7 +26,7 @@ put-requires c κs =
     (omega arith, low.0, low.1, low.2)
 
 returns-3 : tie.Need-returns-3
-unfolding ackOf
+unfolding ack_of
 returns-3 c =
     let s = c.before.before.before.before in
     rw (← s.before.before.in-range.ensures, s.before.if1.false, le-ltb _ _ s.if2.false, c.before.before.put.ensures)

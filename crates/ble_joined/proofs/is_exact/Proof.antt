@@ -1,7 +1,7 @@
 use mathlib.Core.Path.{sym, ◌∙◌}
 use borrow.Author.Rules.{rules}
 use Rattle.wire.proofs.Tests.{and_right}
-use Rattle.ble_joined.specs.Joined.{isExact}
+use Rattle.ble_joined.specs.Joined.{is_exact}
 use Rattle.ble_joined.proofs.Guards.{countable-facts}
 use Rattle.ble_joined.proofs.is_exact.Statement.{statement}
 use Rattle.ble_joined.proofs.is_exact.Tie as tie
@@ -13,7 +13,7 @@ count-bytes-requires c κs =
     countable-facts a.how.room a.total (sym c.before.before.countable.ensures ∙ and_right c.before.before.before.both.result _ e)
 
 returns : tie.Need-returns
-unfolding isExact
+unfolding is_exact
 returns c =
     rw (
       ← c.before.before.before.before.both.ensures,
@@ -24,7 +24,7 @@ returns c =
     )
 
 returns-2 : tie.Need-returns-2
-unfolding isExact
+unfolding is_exact
 returns-2 c =
     rw (← c.before.before.before.both.ensures, ← c.before.before.countable.ensures, ← c.before.both2.ensures, c.if1.false)
 

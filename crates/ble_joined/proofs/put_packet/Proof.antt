@@ -5,7 +5,7 @@ use borrow.Rule.Slice.PartMut.{put_mid}
 use borrow.Author.Rules.{rules}
 use Prim.Native.Nat.{◌-◌}
 use Rattle.wire.proofs.Parts.{sets-part}
-use Rattle.ble_sender.specs.Writer.{headerBytes}
+use Rattle.ble_sender.specs.Writer.{header_bytes}
 use Rattle.ble_sender.proofs.Packets.{header-length}
 use Rattle.ble_joined.proofs.Joining.{placed}
 use Rattle.ble_joined.proofs.put_packet.Statement.{statement}
@@ -18,7 +18,7 @@ returns c =
     let s = c.before.before.before.before.before.before.before.before.before in
     let a = s.args in
     let f = s.requires in
-    let header = headerBytes a.how a.total a.piece a.last in
+    let header = header_bytes a.how a.total a.piece a.last in
     let l = header-length a.how a.total a.piece a.last in
     let k = length a.out.now - a.at in
     placed a.how a.total a.piece a.last a.out.now _ _ a.at a.from _ _ f

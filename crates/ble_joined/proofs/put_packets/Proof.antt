@@ -3,7 +3,7 @@ use Prim.Native.Nat.{◌-◌, ◌≤◌}
 use native.Mathlib.Omega.{arith}
 use mathlib.Core.Path.{◌≡◌, refl, ◌∙◌}
 use lib.ListN.{length}
-use Rattle.ble_joined.specs.Joined.{messageIn}
+use Rattle.ble_joined.specs.Joined.{message_in}
 use Rattle.ble_joined.proofs.Pieces.{size_low}
 use Rattle.ble_joined.proofs.Joining.{Joining, left-fits, packet-fits, further, up_to, joining-start, joining-next, message-length, going_on, finished}
 use Rattle.ble_joined.proofs.put_packets.Statement.{statement}
@@ -11,7 +11,7 @@ use Rattle.ble_joined.proofs.put_packets.Tie as tie
 
 abbrev invariant-loop : tie.invariant-loop
 invariant-loop out₀ how total end room index₀ start₀ at₀ out index start at =
-    (length out ≡ length out₀) × (at ≤ length out₀) × Joining how (messageIn total out₀) total (length out₀) out index start at
+    (length out ≡ length out₀) × (at ≤ length out₀) × Joining how (message_in total out₀) total (length out₀) out index start at
 
 abbrev decreases-loop : tie.decreases-loop
 decreases-loop out₀ how total end room index₀ start₀ at₀ out index start at = length out₀ - at
@@ -30,7 +30,7 @@ sub-put-packet c =
     let s = c.before.before.before.before.before in
     let g = going_on c.before.before.before.loop.invariant.2 c.before.before.loop-test.true in
     let o = s.args.out.now in
-    omega (arith, left-fits s.args.how (messageIn s.args.total o) s.args.total (length o) s.requires.room (message-length s.args.how s.args.total o s.requires) g)
+    omega (arith, left-fits s.args.how (message_in s.args.total o) s.args.total (length o) s.requires.room (message-length s.args.how s.args.total o s.requires) g)
 
 put-packet-requires : tie.Need-put-packet-requires invariant-loop decreases-loop
 put-packet-requires c κs =
@@ -39,7 +39,7 @@ put-packet-requires c κs =
     let g = going_on l.invariant.2 c.before.before.loop-test.true in
     let o = s.args.out.now in
     let n = c.before.piece-size.result in
-    let f = packet-fits s.args.how (messageIn s.args.total o) s.args.total (length o) s.requires.room (message-length s.args.how s.args.total o s.requires) l.out l.index l.start l.at n l.invariant.0 g c.before.piece-size.ensures in
+    let f = packet-fits s.args.how (message_in s.args.total o) s.args.total (length o) s.requires.room (message-length s.args.how s.args.total o s.requires) l.out l.index l.start l.at n l.invariant.0 g c.before.piece-size.ensures in
     let q = size_low s.args.how.room s.args.total l.index l.start n s.requires.room c.before.piece-size.ensures in
     record {
       low-stream = s.requires.low-stream;
@@ -73,7 +73,7 @@ loop-less c =
     let g = going_on l.invariant.2 t in
     let o = s.args.out.now in
     let n = c.before.before.before.before.piece-size.result in
-    let f = further s.args.how (messageIn s.args.total o) s.args.total (length o) s.requires.room (message-length s.args.how s.args.total o s.requires) l.out l.index l.start l.at n l.invariant.0 g c.before.before.before.before.piece-size.ensures _ _ c.before.before.put-packet.ensures in
+    let f = further s.args.how (message_in s.args.total o) s.args.total (length o) s.requires.room (message-length s.args.how s.args.total o s.requires) l.out l.index l.start l.at n l.invariant.0 g c.before.before.before.before.piece-size.ensures _ _ c.before.before.put-packet.ensures in
     omega (arith, f, t)
 
 loop-again : tie.Need-loop-preserved invariant-loop decreases-loop
@@ -85,8 +85,8 @@ loop-again c =
     let o = s.args.out.now in
     let n = c.before.before.before.before.piece-size.result in
     let k = message-length s.args.how s.args.total o s.requires in
-    let f = up_to s.args.how (messageIn s.args.total o) s.args.total (length o) s.requires.room k l.out l.index l.start l.at n l.invariant.0 g c.before.before.before.before.piece-size.ensures _ _ c.before.before.put-packet.ensures in
-    let j = joining-next s.args.how (messageIn s.args.total o) s.args.total (length o) s.requires.room k l.out l.index l.start l.at n l.invariant.0 g c.before.before.before.before.piece-size.ensures _ _ c.before.before.put-packet.ensures in
+    let f = up_to s.args.how (message_in s.args.total o) s.args.total (length o) s.requires.room k l.out l.index l.start l.at n l.invariant.0 g c.before.before.before.before.piece-size.ensures _ _ c.before.before.put-packet.ensures in
+    let j = joining-next s.args.how (message_in s.args.total o) s.args.total (length o) s.requires.room k l.out l.index l.start l.at n l.invariant.0 g c.before.before.before.before.piece-size.ensures _ _ c.before.before.put-packet.ensures in
     (c.before.before.put-packet.auto.0 ∙ l.invariant.0, f, j)
 
 same_length : tie.Need-same-length invariant-loop decreases-loop

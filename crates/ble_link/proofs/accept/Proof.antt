@@ -45,8 +45,8 @@ use Rattle.ble_slot.specs.declared.Slot.{Slot}
 use Rattle.ble_slot.specs.Answer.{told}
 use Rattle.ble_receiver.specs.declared.Receiver.{Receiver}
 use Rattle.ble_slot_steps.specs.declared.Step.{Step}
-use Rattle.ble_receiver.specs.Receiver.{call, left, acceptOf}
-use Rattle.ble_receiver.specs.Outcome.{leftBy, firstTwelve}
+use Rattle.ble_receiver.specs.Receiver.{call, left, accept_of}
+use Rattle.ble_receiver.specs.Outcome.{left_by, first_twelve}
 use Rattle.ble_link.specs.contracts.load as load
 use Rattle.ble_link.proofs.load.Symbol as load-def
 use Rattle.ble_link.proofs.load.Symbol.{name as #load}
@@ -154,10 +154,10 @@ module _ {M : Type 1} {𝓤 : Ura M} (𝓛 : Logic 𝓤) (at_mem : Memory → SP
 
   -- what `decide` promises of its step
   abbrev Decided : List Slot → Step → List ℕ → List ℕ → Type 0
-  Decided slots d zs₃ zs₆ = (row : List Slot) → length row ≡ length ys₂ → slots ≡ firstTwelve row → leftBy row d zs₃ zs₆ ≡ acceptOf link.limit row ys₃ (call ys₄ n₅ ys₆)
+  Decided slots d zs₃ zs₆ = (row : List Slot) → length row ≡ length ys₂ → slots ≡ first_twelve row → left_by row d zs₃ zs₆ ≡ accept_of link.limit row ys₃ (call ys₄ n₅ ys₆)
 
   -- the three callees' equations make the contract's
-  together : (slots : List Slot) (d : Step) (zs₃ : List ℕ) (zs₆ : List ℕ) (ws : List Slot) → slots ≡ firstTwelve ys₂ → Decided slots d zs₃ zs₆ → ws ≡ set ys₂ d.index d.slot → left (told d.answer) ws zs₃ zs₆ ≡ acceptOf link.limit ys₂ ys₃ (call ys₄ n₅ ys₆)
+  together : (slots : List Slot) (d : Step) (zs₃ : List ℕ) (zs₆ : List ℕ) (ws : List Slot) → slots ≡ first_twelve ys₂ → Decided slots d zs₃ zs₆ → ws ≡ set ys₂ d.index d.slot → left (told d.answer) ws zs₃ zs₆ ≡ accept_of link.limit ys₂ ys₃ (call ys₄ n₅ ys₆)
   together slots d zs₃ zs₆ ws e₁ e₂ e₃ = ap (λ (l : List Slot). left (told d.answer) l zs₃ zs₆) e₃ ∙ e₂ ys₂ refl e₁
 
   -- `load`, at a lifetime ν of the call, on the row under the name δ
@@ -171,8 +171,8 @@ module _ {M : Type 1} {𝓤 : Ura M} (𝓛 : Logic 𝓤) (at_mem : Memory → SP
   goes_load ν δ = qed 𝓛 (‵ (flft (ν ∷ []) full_share) ∷ ‵ ((ShrSlice (named 0) (ν ∷ []) T.the_row).own_val (xr δ) (v₂ ∷ [])) ∷ []) ∵
       nothing ! $ move ! (2 ∷ 0 ∷ []) $ fjoin ! $ nothing ! $ move ! (2 ∷ 0 ∷ []) $ join ! $ join ! $ nothing ! $ move ! (1 ∷ 0 ∷ []) $ join ! $ done !
 
-  said-load : (ν : ℕ) (δ : GName) (r : List Slot) → ent 𝓤 (ensured 𝓛 load.ended (load.clauses 𝓛 at_mem run) (ν ∷ [], tt) (xr δ, tt) tt r) (fact 𝓤 (r ≡ firstTwelve ys₂))
-  said-load ν δ r = ex_e 𝓤 _ (λ ws. snd∗ 𝓤 (sem 𝓛 (lasts load.ended (ν ∷ [], tt) (xr δ, tt) ws)) (fact 𝓤 (r ≡ firstTwelve ys₂)))
+  said-load : (ν : ℕ) (δ : GName) (r : List Slot) → ent 𝓤 (ensured 𝓛 load.ended (load.clauses 𝓛 at_mem run) (ν ∷ [], tt) (xr δ, tt) tt r) (fact 𝓤 (r ≡ first_twelve ys₂))
+  said-load ν δ r = ex_e 𝓤 _ (λ ws. snd∗ 𝓤 (sem 𝓛 (lasts load.ended (ν ∷ [], tt) (xr δ, tt) ws)) (fact 𝓤 (r ≡ first_twelve ys₂)))
 
   -- `set_slot`, at the row's own lifetime
   abbrev args-set : Step → Args set-slot.signature (κ₂, tt)
@@ -193,7 +193,7 @@ module _ {M : Type 1} {𝓤 : Ura M} (𝓛 : Logic 𝓤) (at_mem : Memory → SP
   abbrev to-decide : List Slot → Val → (Decide 𝓛 at_mem run).Ghost
   to-decide slots u = (((κ₃, (κ₄, (κ₆, tt))), (q₃, (q₄, (q₆, tt))), tt, args-decide slots, (vint w64 (length ys₂) ∷ [], (u ∷ [], (vint w64 link.limit ∷ [], (v₃ ∷ [], (v₄ ∷ [], (v₅ ∷ [], (v₆ ∷ [], tt)))))))), tt)
 
-  exits : (d : Step) (v : Val) → Is N.the_row d.answer (v ∷ []) → (ws : List Slot) (zs₃ : List ℕ) (zs₆ : List ℕ) → length ws ≡ length ys₂ → length zs₃ ≡ length ys₃ → length zs₆ ≡ length ys₆ → left (told d.answer) ws zs₃ zs₆ ≡ acceptOf link.limit ys₂ ys₃ (call ys₄ n₅ ys₆)
+  exits : (d : Step) (v : Val) → Is N.the_row d.answer (v ∷ []) → (ws : List Slot) (zs₃ : List ℕ) (zs₆ : List ℕ) → length ws ≡ length ys₂ → length zs₃ ≡ length ys₃ → length zs₆ ≡ length ys₆ → left (told d.answer) ws zs₃ zs₆ ≡ accept_of link.limit ys₂ ys₃ (call ys₄ n₅ ys₆)
       → ent 𝓤 (⋆ 𝓛 ((‵ (flft κ₂ q₂) ⊛ ‵ ftrue) ∷ (‵ (flft κ₃ q₃) ⊛ ‵ (flft κ₄ q₄) ⊛ ‵ (flft κ₆ q₆) ⊛ ‵ ftrue) ∷ ‵ (finally T.the_row γ₂ ws) ∷ ‵ (finally u8 γ₃ zs₃) ∷ ‵ (finally u8 γ₆ zs₆) ∷ [])) (Post v)
   exits d v is ws zs₃ zs₆ len₂ len₃ len₆ e =
       qed 𝓛 ((‵ (flft κ₂ q₂) ⊛ ‵ ftrue) ∷ (‵ (flft κ₃ q₃) ⊛ ‵ (flft κ₄ q₄) ⊛ ‵ (flft κ₆ q₆) ⊛ ‵ ftrue) ∷ ‵ (finally T.the_row γ₂ ws) ∷ ‵ (finally u8 γ₃ zs₃) ∷ ‵ (finally u8 γ₆ zs₆) ∷ []) ∵
@@ -220,7 +220,7 @@ module _ {M : Type 1} {𝓤 : Ura M} (𝓛 : Logic 𝓤) (at_mem : Memory → SP
           use2 𝓛 (raw ((Load 𝓛 at_mem run).pre (to-load ν δ))) (goes_load ν δ) $
           calls_at ! fm (Load 𝓛 at_mem run) known-load (to-load ν δ) (and_then ! (load ! (from ! (stop !)) (look ! 22 refl)) (no_more !)) (λ u.
           use1 𝓛 (later (some (λ (r : List Slot). ((‵ (flft (ν ∷ []) full_share) ⊛ ‵ ftrue) ⊛ ‵ ((Array T.the_row 12).own_val r (u ∷ []))) ⊛ raw (ensured 𝓛 load.ended (load.clauses 𝓛 at_mem run) (ν ∷ [], tt) (xr δ, tt) tt r)))) (id⊢ 𝓤 _) $ await ! tt $ pick ! (λ slots.
-          split ! $ move ! (1 ∷ []) $ use1 𝓛 (raw (fact 𝓤 (slots ≡ firstTwelve ys₂))) (said-load ν δ slots) $ heard ! (slots ≡ firstTwelve ys₂) (λ e₁. split ! $ move ! (1 ∷ []) $ facts ! (Array T.the_row 12) (Is (Array T.the_row 12)) (shows 𝓛 (Array T.the_row 12)) slots (u ∷ []) (λ is₁.
+          split ! $ move ! (1 ∷ []) $ use1 𝓛 (raw (fact 𝓤 (slots ≡ first_twelve ys₂))) (said-load ν δ slots) $ heard ! (slots ≡ first_twelve ys₂) (λ e₁. split ! $ move ! (1 ∷ []) $ facts ! (Array T.the_row 12) (Is (Array T.the_row 12)) (shows 𝓛 (Array T.the_row 12)) slots (u ∷ []) (λ is₁.
           land ! (from ! (stop !)) (init ! 28 refl ((Array-Lawful 𝓛 T.the_row (LL.lawful T.the_type T'.the_laws 𝓛) 12).typed slots _ is₁).0) $
           split ! $ lft_end ! tt $ move ! (0 ∷ 2 ∷ []) $ use2 𝓛 (later (‵ Own₂ ⊛ ‵ (flft κ₂ q₂))) (unshares T.the_row κ₂ (ν ∷ []) q₂ γ₂ b₂ o₂ 𝓛 (named 0) (named 0) ys₂ room₂) $ await ! tt $ split ! $ move ! (2 ∷ []) $ drop ! $
           -- what the rules need goes to them for good

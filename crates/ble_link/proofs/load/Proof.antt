@@ -40,8 +40,8 @@ use denote.Triple.Walked.{says, Stays, stay_none_slice, walk_of, Goes-none_slice
 use denote.Triple.Clauses.{ensured, lasts}
 use denote.Exit.{yes}
 use Rattle.ble_slot.specs.declared.Slot.{Slot}
-use Rattle.ble_slot.specs.Slot.{idle as idleSlot}
-use Rattle.ble_receiver.specs.Outcome.{firstTwelve}
+use Rattle.ble_slot.specs.Slot.{idle as idle_slot}
+use Rattle.ble_receiver.specs.Outcome.{first_twelve}
 use Rattle.ble_slot.specs.contracts.Slot as T
 use Rattle.ble_slot.proofs.Slot.TheLaws as T'
 use Rattle.ble_link.specs.contracts.slot_at as g
@@ -76,7 +76,7 @@ module _ {M : Type 1} {𝓤 : Ura M} (𝓛 : Logic 𝓤) (at_mem : Memory → SP
   abbrev Post : Val → SProp 𝓤
   Post = (walk_of 𝓛 f.ended stayed (f.clauses 𝓛 at_mem run)).post (((κ, tt), (q, tt), tt, (x, tt), (v ∷ [], tt)), tt)
 
-  exits : (r : List Slot) (u : Val) → r ≡ firstTwelve ys → Is (Array T.the_row 12) r (u ∷ []) → ent 𝓤 (⋆ 𝓛 ((‵ (flft κ q) ⊛ ‵ ftrue) ∷ ‵ Own ∷ [])) (Post u)
+  exits : (r : List Slot) (u : Val) → r ≡ first_twelve ys → Is (Array T.the_row 12) r (u ∷ []) → ent 𝓤 (⋆ 𝓛 ((‵ (flft κ q) ⊛ ‵ ftrue) ∷ ‵ Own ∷ [])) (Post u)
   exits r u e is =
       qed 𝓛 ((‵ (flft κ q) ⊛ ‵ ftrue) ∷ ‵ Own ∷ []) ∵
       suffices ! _ (ends_at 𝓛 f.ended stayed (f.clauses 𝓛 at_mem run) (((κ, tt), (q, tt), tt, (x, tt), (v ∷ [], tt)), tt) u r (tt, tt) (tt, tt)) $ says ! e $
@@ -89,8 +89,8 @@ module _ {M : Type 1} {𝓤 : Ura M} (𝓛 : Logic 𝓤) (at_mem : Memory → SP
   asked : (i : ℕ) → i < 2 ^ 64 → ent 𝓤 (⋆ 𝓛 ((‵ (flft κ q) ⊛ ‵ ftrue) ∷ ‵ Own ∷ [])) ((SlotAt 𝓛 at_mem run).pre (to i))
   asked i gi = qed 𝓛 ((‵ (flft κ q) ⊛ ‵ ftrue) ∷ ‵ Own ∷ []) ∵ nothing ! $ owned ! usize (Is usize) (uint_Makes 𝓛 w64) i _ (refl, gi) $ fjoin ! $ move ! (2 ∷ 0 ∷ []) $ fjoin ! $ move ! (1 ∷ 0 ∷ []) $ join ! $ nothing ! $ move ! (1 ∷ 0 ∷ []) $ join ! $ done !
 
-  said : (i : ℕ) (s : Slot) → ent 𝓤 (ensured 𝓛 g.ended (g.clauses 𝓛 at_mem run) (κ, tt) (x, (i, tt)) tt s) (fact 𝓤 (s ≡ get_or ys i idleSlot))
-  said i s = ex_e 𝓤 _ (λ ws. snd∗ 𝓤 (sem 𝓛 (lasts g.ended (κ, tt) (x, (i, tt)) ws)) (fact 𝓤 (s ≡ get_or ys i idleSlot)))
+  said : (i : ℕ) (s : Slot) → ent 𝓤 (ensured 𝓛 g.ended (g.clauses 𝓛 at_mem run) (κ, tt) (x, (i, tt)) tt s) (fact 𝓤 (s ≡ get_or ys i idle_slot))
+  said i s = ex_e 𝓤 _ (λ ws. snd∗ 𝓤 (sem 𝓛 (lasts g.ended (κ, tt) (x, (i, tt)) ws)) (fact 𝓤 (s ≡ get_or ys i idle_slot)))
 
   slot-typed : (s : Slot) (u : Val) → Is T.the_row s (u ∷ []) → Holds (has_ty T'.mir u) × WT u
   slot-typed s u is = ((LL.lawful T.the_type T'.the_laws 𝓛).typed s _ is).0
@@ -99,18 +99,18 @@ module _ {M : Type 1} {𝓤 : Ura M} (𝓛 : Logic 𝓤) (at_mem : Memory → SP
     -- the step: [the token; what the row owns; …] before and after; in between some slot s that is entry i, at some machine value u
     entry : {Γ : List (Item 𝓤)} {E : Env 𝓤 H} {P : Kit.Post 𝓤 H} {xs : List Operand} {d : Place} {rest : Body} (i : ℕ) → i < 2 ^ 64
         → Opds (Go {0}) 𝓛 (raw ((SlotAt 𝓛 at_mem run).pre (to i)) ∷ ‵ Own ∷ Γ) E xs (v ∷ vint w64 i ∷ [])
-        → ((s : Slot) (u : Val) → s ≡ get_or ys i idleSlot → Is T.the_row s (u ∷ []) → Sq 𝓛 ((‵ (flft κ q) ⊛ ‵ ftrue) ∷ ‵ Own ∷ Γ) (lands C Λ E d u rest P))
+        → ((s : Slot) (u : Val) → s ≡ get_or ys i idle_slot → Is T.the_row s (u ∷ []) → Sq 𝓛 ((‵ (flft κ q) ⊛ ‵ ftrue) ∷ ‵ Own ∷ Γ) (lands C Λ E d u rest P))
         → Sq 𝓛 ((‵ (flft κ q) ⊛ ‵ ftrue) ∷ ‵ Own ∷ Γ) (runs C Λ E (seq (call #slot-at xs d) rest) P)
     entry i gi os k =
         move ! (1 ∷ []) $ use1 𝓛 (‵ Own ⊛ ‵ Own) ((shr_slice_copy 𝓛 (named 0) κ T.the_row).twice x (v ∷ [])) $ split ! $ move ! (2 ∷ 0 ∷ []) $
         use2 𝓛 (raw ((SlotAt 𝓛 at_mem run).pre (to i))) (asked i gi) $
         calls_at ! fm (SlotAt 𝓛 at_mem run) known (to i) os (λ u.
         use1 𝓛 (later (some (λ (s : Slot). ((‵ (flft κ q) ⊛ ‵ ftrue) ⊛ ‵ ((T.the_row).own_val s (u ∷ []))) ⊛ raw (ensured 𝓛 g.ended (g.clauses 𝓛 at_mem run) (κ, tt) (x, (i, tt)) tt s)))) (id⊢ 𝓤 _) $ await ! tt $ pick ! (λ s.
-        split ! $ move ! (1 ∷ []) $ use1 𝓛 (raw (fact 𝓤 (s ≡ get_or ys i idleSlot))) (said i s) $ heard ! (s ≡ get_or ys i idleSlot) (λ e. split ! $ move ! (1 ∷ []) $
+        split ! $ move ! (1 ∷ []) $ use1 𝓛 (raw (fact 𝓤 (s ≡ get_or ys i idle_slot))) (said i s) $ heard ! (s ≡ get_or ys i idle_slot) (λ e. split ! $ move ! (1 ∷ []) $
         facts ! T.the_row (Is T.the_row) (shows 𝓛 T.the_row) s (u ∷ []) (λ is. k s u e is))))
 
     walk : Room T.the_row (length ys) → ent 𝓤 (on_entry 𝓛 f.signature (κ, tt) (q, tt) (x, tt) (v ∷ [], tt)) (WpFn 𝓤 H C Λ code.function (v ∷ []) Post)
-    unfolding firstTwelve
+    unfolding first_twelve
     walk room =
         qed 𝓛 ((‵ (flft κ q) ⊛ ‵ ftrue) ∷ ‵ (owns (ShrSlice (named 0) κ T.the_row ∷ []) (x, tt) (v ∷ [], tt)) ∷ []) ∵ enter ! C Λ code.function (v ∷ []) _ $
         alloc1 ! (λ l₀. alloc1 ! (λ l₁. alloc1 ! (λ l₂. alloc1 ! (λ l₃. alloc1 ! (λ l₄. alloc1 ! (λ l₅. alloc1 ! (λ l₆. alloc1 ! (λ l₇. alloc1 ! (λ l₈. alloc1 ! (λ l₉. alloc1 ! (λ l₁₀. alloc1 ! (λ l₁₁. alloc1 ! (λ l₁₂. alloc1 ! (λ l₁₃. alloc0 ! $ params1 ! $

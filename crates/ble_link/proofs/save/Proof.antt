@@ -1,4 +1,4 @@
--- `ble_link::save` meets its contract: a walk of its MIR, by hand, with a loop of two calls. The invariant is a context for each number i of entries stored: the row at `storedUpTo i slots ys`, its token, and the locals. In a turn the row is lent again to `set_slot` for a lifetime of the call, and comes back (`Again.antt`).
+-- `ble_link::save` meets its contract: a walk of its MIR, by hand, with a loop of two calls. The invariant is a context for each number i of entries stored: the row at `stored_up_to i slots ys`, its token, and the locals. In a turn the row is lent again to `set_slot` for a lifetime of the call, and comes back (`Again.antt`).
 -- Assumes nothing.
 use mathlib.Core.Path.{◌≡◌, refl, sym, ◌∙◌, ap, subst}
 use mathlib.Core.Bool.{Bool}
@@ -48,8 +48,8 @@ use denote.Triple.Clauses.{ensured, lasts}
 use denote.Exit.{yes}
 use borrow.Author.Tests.{lt-ltb, le-ltb}
 use Rattle.ble_slot.specs.declared.Slot.{Slot}
-use Rattle.ble_slot.specs.Slot.{idle as idleSlot}
-use Rattle.ble_link.specs.Row.{storedUpTo, savedRow}
+use Rattle.ble_slot.specs.Slot.{idle as idle_slot}
+use Rattle.ble_link.specs.Row.{stored_up_to, saved_row}
 use Rattle.ble_slot.specs.contracts.Slot as T
 use Rattle.ble_slot.proofs.Slot.TheLaws as T'
 use Rattle.ble_link.proofs.Slots.{vals as slot-vals}
@@ -125,7 +125,7 @@ module _ {M : Type 1} {𝓤 : Ura M} (𝓛 : Logic 𝓤) (at_mem : Memory → SP
   abbrev OwnR : List Slot → ℕ → Fml
   OwnR l m = (MutSlice (named 0) κ T.the_row).own_val (xr γ l) (slice_val (b, o) m ∷ [])
 
-  exits : (l : List Slot) → length l ≡ length ys → l ≡ savedRow ys xs → ent 𝓤 (⋆ 𝓛 (‵ (OwnR l (length ys)) ∷ ‵ (flft κ q) ∷ [])) (Post vunit)
+  exits : (l : List Slot) → length l ≡ length ys → l ≡ saved_row ys xs → ent 𝓤 (⋆ 𝓛 (‵ (OwnR l (length ys)) ∷ ‵ (flft κ q) ∷ [])) (Post vunit)
   exits l same e =
       qed 𝓛 (‵ (OwnR l (length ys)) ∷ ‵ (flft κ q) ∷ []) ∵
       suffices ! _ (ends_at 𝓛 f.ended stayed (f.clauses 𝓛 at_mem run) bound vunit tt (l, (tt, tt)) (same, (tt, tt))) $ says ! e $
@@ -139,8 +139,8 @@ module _ {M : Type 1} {𝓤 : Ura M} (𝓛 : Logic 𝓤) (at_mem : Memory → SP
   goes-slot-in i gi is = qed 𝓛 [] ∵ nothing ! $ owned ! usize (Is usize) (uint_Makes 𝓛 w64) i _ (refl, gi) $ fjoin ! $
       owned ! (Array T.the_row 12) (Is (Array T.the_row 12)) (Array-Makes 𝓛 T.the_row (LL.makes T.the_type T'.the_plain 𝓛) 12) xs _ is $ fjoin ! $ nothing ! $ join ! $ nothing ! $ move ! (1 ∷ 0 ∷ []) $ join ! $ done !
 
-  said-slot-in : (i : ℕ) (s : Slot) → ent 𝓤 (ensured 𝓛 slot-in.ended (slot-in.clauses 𝓛 at_mem run) tt (xs, (i, tt)) tt s) (fact 𝓤 (s ≡ get_or xs i idleSlot))
-  said-slot-in i s = ex_e 𝓤 _ (λ ws. snd∗ 𝓤 (sem 𝓛 (lasts slot-in.ended tt (xs, (i, tt)) ws)) (fact 𝓤 (s ≡ get_or xs i idleSlot)))
+  said-slot-in : (i : ℕ) (s : Slot) → ent 𝓤 (ensured 𝓛 slot-in.ended (slot-in.clauses 𝓛 at_mem run) tt (xs, (i, tt)) tt s) (fact 𝓤 (s ≡ get_or xs i idle_slot))
+  said-slot-in i s = ex_e 𝓤 _ (λ ws. snd∗ 𝓤 (sem 𝓛 (lasts slot-in.ended tt (xs, (i, tt)) ws)) (fact 𝓤 (s ≡ get_or xs i idle_slot)))
 
   abbrev args-set : (ν : ℕ) → GName → List Slot → ℕ → Slot → Args set-slot.signature (ν ∷ [], tt)
   args-set ν δ l i s = (xr δ l, (i, (s, tt)))
@@ -161,7 +161,7 @@ module _ {M : Type 1} {𝓤 : Ura M} (𝓛 : Logic 𝓤) (at_mem : Memory → SP
 
       -- the invariant: the row with i entries stored, its token, and the locals
       abbrev I-at : ℕ → List (Item 𝓤)
-      I-at i = ‵ (OwnR (storedUpTo i xs ys) (length ys)) ∷ ‵ (flft κ q) ∷ ‵ (froom T'.mir l₈ 0) ∷ ‵ (fdies T'.mir l₈) ∷ ‵ (froom (slice_ty (ty_ref erased mut (pointee (T.the_row).written))) l₇ 0) ∷ ‵ (fdies (slice_ty (ty_ref erased mut (pointee (T.the_row).written))) l₇) ∷ ‵ (froom (ty_ref erased mut (pointee (T.the_row).written)) l₆ 0) ∷ ‵ (fdies (ty_ref erased mut (pointee (T.the_row).written)) l₆) ∷ ‵ (froom ty_unit l₅ 0) ∷ ‵ (fdies ty_unit l₅) ∷ ‵ (froom ty_bool l₄ 0) ∷ ‵ (fdies ty_bool l₄) ∷ ‵ (fat full_share (ty_int w64) l₃ 0 (vint w64 i)) ∷ ‵ (fdies (ty_int w64) l₃) ∷ ‵ (fat full_share Arr₁₂ l₂ 0 (u)) ∷ ‵ (fdies Arr₁₂ l₂) ∷ ‵ (fat full_share Ref₀ l₁ 0 (vr)) ∷ ‵ (fdies Ref₀ l₁) ∷ ‵ (froom ty_unit l₀ 0) ∷ ‵ (fdies ty_unit l₀) ∷ []
+      I-at i = ‵ (OwnR (stored_up_to i xs ys) (length ys)) ∷ ‵ (flft κ q) ∷ ‵ (froom T'.mir l₈ 0) ∷ ‵ (fdies T'.mir l₈) ∷ ‵ (froom (slice_ty (ty_ref erased mut (pointee (T.the_row).written))) l₇ 0) ∷ ‵ (fdies (slice_ty (ty_ref erased mut (pointee (T.the_row).written))) l₇) ∷ ‵ (froom (ty_ref erased mut (pointee (T.the_row).written)) l₆ 0) ∷ ‵ (fdies (ty_ref erased mut (pointee (T.the_row).written)) l₆) ∷ ‵ (froom ty_unit l₅ 0) ∷ ‵ (fdies ty_unit l₅) ∷ ‵ (froom ty_bool l₄ 0) ∷ ‵ (fdies ty_bool l₄) ∷ ‵ (fat full_share (ty_int w64) l₃ 0 (vint w64 i)) ∷ ‵ (fdies (ty_int w64) l₃) ∷ ‵ (fat full_share Arr₁₂ l₂ 0 (u)) ∷ ‵ (fdies Arr₁₂ l₂) ∷ ‵ (fat full_share Ref₀ l₁ 0 (vr)) ∷ ‵ (fdies Ref₀ l₁) ∷ ‵ (froom ty_unit l₀ 0) ∷ ‵ (fdies ty_unit l₀) ∷ []
 
       abbrev I : Turn → List (Item 𝓤)
       I x = I-at x.0
@@ -174,7 +174,7 @@ module _ {M : Type 1} {𝓤 : Ura M} (𝓛 : Logic 𝓤) (at_mem : Memory → SP
       Ends x = any_q (after_turn 𝓤 H (Below 𝓛 Less I x) (Kit.post 𝓤 H Left))
 
       turn : (x : Turn) → Sq 𝓛 (I x) (runs 𝓣.C 𝓣.Λ E code-mir.turn-1 (Ends x))
-      unfolding after_turn savedRow
+      unfolding after_turn saved_row
       turn (i, (zero, e)) =
           let all : i ≡ 12 = omega arith in
           assigns ! (bin ! (load ! (from ! (stop !)) (look ! 12 refl)) (lit ! tt) tt) (from ! (stop !)) (init ! 10 refl (tt, tt)) $
@@ -183,7 +183,7 @@ module _ {M : Type 1} {𝓤 : Ura M} (𝓛 : Logic 𝓤) (at_mem : Memory → SP
           assigns ! (of_opd ! (unit_lit !)) (from ! (stop !)) (init ! 18 refl (tt, tt)) $
           returns ! (look ! 18 refl) $ forget ! 10 refl $ forget ! 12 refl $ forget ! 14 refl $ forget ! 16 refl $ forget ! 18 refl $
           move ! (18 ∷ 19 ∷ []) $ free1 ! $ move ! (16 ∷ 17 ∷ []) $ free1 ! $ move ! (14 ∷ 15 ∷ []) $ free1 ! $ move ! (12 ∷ 13 ∷ []) $ free1 ! $ move ! (10 ∷ 11 ∷ []) $ free1 ! $ move ! (8 ∷ 9 ∷ []) $ free1 ! $ move ! (6 ∷ 7 ∷ []) $ free1 ! $ move ! (4 ∷ 5 ∷ []) $ free1 ! $ move ! (2 ∷ 3 ∷ []) $ free1 ! $ free0 ! $
-          by ! (exits (storedUpTo i xs ys) (stored-length i xs ys) (ap (λ (k : ℕ). storedUpTo k xs ys) all))
+          by ! (exits (stored_up_to i xs ys) (stored-length i xs ys) (ap (λ (k : ℕ). stored_up_to k xs ys) all))
       turn (i, (suc t, e)) =
           let small : i < 12 = omega arith in
           let gi : i < 2 ^ 64 = omega arith in
@@ -199,30 +199,30 @@ module _ {M : Type 1} {𝓤 : Ura M} (𝓛 : Logic 𝓤) (at_mem : Memory → SP
           use0 𝓛 (raw ((SlotIn 𝓛 at_mem run).pre (to-slot-in i))) (goes-slot-in i gi is) $
           calls_at ! fm (SlotIn 𝓛 at_mem run) known-slot-in (to-slot-in i) (and_then ! (load ! (from ! (stop !)) (look ! 15 refl)) (and_then ! (load ! (from ! (stop !)) (look ! 13 refl)) (no_more !))) (λ w.
           use1 𝓛 (later (some (λ (s : Slot). (‵ ftrue ⊛ ‵ ((T.the_row).own_val s (w ∷ []))) ⊛ raw (ensured 𝓛 slot-in.ended (slot-in.clauses 𝓛 at_mem run) tt (xs, (i, tt)) tt s)))) (id⊢ 𝓤 _) $ await ! tt $ pick ! (λ s.
-          split ! $ move ! (1 ∷ []) $ use1 𝓛 (raw (fact 𝓤 (s ≡ get_or xs i idleSlot))) (said-slot-in i s) $ heard ! (s ≡ get_or xs i idleSlot) (λ e₁. split ! $ drop ! $
+          split ! $ move ! (1 ∷ []) $ use1 𝓛 (raw (fact 𝓤 (s ≡ get_or xs i idle_slot))) (said-slot-in i s) $ heard ! (s ≡ get_or xs i idle_slot) (λ e₁. split ! $ drop ! $
           facts ! T.the_row (Is T.the_row) (shows 𝓛 T.the_row) s (w ∷ []) (λ is₁.
           land ! (from ! (stop !)) (init ! 2 refl ((LL.lawful T.the_type T'.the_laws 𝓛).typed s _ is₁).0) $
           -- the row is lent again for a lifetime ν of the call, and `set_slot` is called
-          rewrite ! 0 (λ (m : ℕ). ‵ (OwnR (storedUpTo i xs ys) m)) (sym (stored-length i xs ys)) refl $
+          rewrite ! 0 (λ (m : ℕ). ‵ (OwnR (stored_up_to i xs ys) m)) (sym (stored-length i xs ys)) refl $
           lft_new ! tt (λ ν. move ! (1 ∷ 2 ∷ []) $
-          use2 𝓛 (later (some (λ (δ : GName). ‵ ((MutSlice (named 0) (ν ∷ []) T.the_row).own_val (xr δ (storedUpTo i xs ys)) (slice_val (b, o) (length (storedUpTo i xs ys)) ∷ [])) ⊛ ‵ (LentAgain T.the_row κ (ν ∷ []) q γ b o δ (storedUpTo i xs ys))))) (lends_again T.the_row κ (ν ∷ []) q γ b o 𝓛 (named 0) (named 0) (storedUpTo i xs ys)) $ await ! tt $ pick ! (λ δ. split ! $
-          rewrite ! 0 (λ (m : ℕ). ‵ ((MutSlice (named 0) (ν ∷ []) T.the_row).own_val (xr δ (storedUpTo i xs ys)) (slice_val (b, o) m ∷ []))) (stored-length i xs ys) refl $
-          move ! (2 ∷ 0 ∷ []) $ use2 𝓛 (raw ((SetSlot 𝓛 at_mem run).pre (to_set ν δ (storedUpTo i xs ys) i s w))) (goes_set ν δ (storedUpTo i xs ys) i s w gi is₁) $
+          use2 𝓛 (later (some (λ (δ : GName). ‵ ((MutSlice (named 0) (ν ∷ []) T.the_row).own_val (xr δ (stored_up_to i xs ys)) (slice_val (b, o) (length (stored_up_to i xs ys)) ∷ [])) ⊛ ‵ (LentAgain T.the_row κ (ν ∷ []) q γ b o δ (stored_up_to i xs ys))))) (lends_again T.the_row κ (ν ∷ []) q γ b o 𝓛 (named 0) (named 0) (stored_up_to i xs ys)) $ await ! tt $ pick ! (λ δ. split ! $
+          rewrite ! 0 (λ (m : ℕ). ‵ ((MutSlice (named 0) (ν ∷ []) T.the_row).own_val (xr δ (stored_up_to i xs ys)) (slice_val (b, o) m ∷ []))) (stored-length i xs ys) refl $
+          move ! (2 ∷ 0 ∷ []) $ use2 𝓛 (raw ((SetSlot 𝓛 at_mem run).pre (to_set ν δ (stored_up_to i xs ys) i s w))) (goes_set ν δ (stored_up_to i xs ys) i s w gi is₁) $
           -- [what `set_slot` asks; what the row keeps; _8; …]
-          calls_at ! fm (SetSlot 𝓛 at_mem run) known-set (to_set ν δ (storedUpTo i xs ys) i s w) (and_then ! (load ! (from ! (stop !)) (look ! 4 refl)) (and_then ! (load ! (from ! (stop !)) (look ! 12 refl)) (and_then ! (load ! (from ! (stop !)) (look ! 2 refl)) (no_more !)))) (λ z.
-          use1 𝓛 (later (some (λ (t₀ : Unit {0}). ((‵ (flft (ν ∷ []) full_share) ⊛ ‵ ftrue) ⊛ ‵ (Nothing.own t₀ (z ∷ []))) ⊛ raw (ensured 𝓛 set-slot.ended (set-slot.clauses 𝓛 at_mem run) (ν ∷ [], tt) (args-set ν δ (storedUpTo i xs ys) i s) tt t₀)))) (id⊢ 𝓤 _) $ await ! tt $ pick ! (λ t₀.
-          split ! $ move ! (1 ∷ []) $ use1 𝓛 (some (λ (ws : List Slot × (Unit {0} × (Unit {0} × Unit {0}))). ‵ (lasts set-slot.ended (ν ∷ [], tt) (args-set ν δ (storedUpTo i xs ys) i s) ws) ⊛ raw (fact 𝓤 (ws.0 ≡ set (storedUpTo i xs ys) i s)))) (id⊢ 𝓤 _) $ pick ! (λ ws.
-          split ! $ move ! (1 ∷ []) $ heard ! (ws.0 ≡ set (storedUpTo i xs ys) i s) (λ e₂. fsplit ! $ fsplit ! $ move ! (1 ∷ []) $ feq_l ! (λ same.
+          calls_at ! fm (SetSlot 𝓛 at_mem run) known-set (to_set ν δ (stored_up_to i xs ys) i s w) (and_then ! (load ! (from ! (stop !)) (look ! 4 refl)) (and_then ! (load ! (from ! (stop !)) (look ! 12 refl)) (and_then ! (load ! (from ! (stop !)) (look ! 2 refl)) (no_more !)))) (λ z.
+          use1 𝓛 (later (some (λ (t₀ : Unit {0}). ((‵ (flft (ν ∷ []) full_share) ⊛ ‵ ftrue) ⊛ ‵ (Nothing.own t₀ (z ∷ []))) ⊛ raw (ensured 𝓛 set-slot.ended (set-slot.clauses 𝓛 at_mem run) (ν ∷ [], tt) (args-set ν δ (stored_up_to i xs ys) i s) tt t₀)))) (id⊢ 𝓤 _) $ await ! tt $ pick ! (λ t₀.
+          split ! $ move ! (1 ∷ []) $ use1 𝓛 (some (λ (ws : List Slot × (Unit {0} × (Unit {0} × Unit {0}))). ‵ (lasts set-slot.ended (ν ∷ [], tt) (args-set ν δ (stored_up_to i xs ys) i s) ws) ⊛ raw (fact 𝓤 (ws.0 ≡ set (stored_up_to i xs ys) i s)))) (id⊢ 𝓤 _) $ pick ! (λ ws.
+          split ! $ move ! (1 ∷ []) $ heard ! (ws.0 ≡ set (stored_up_to i xs ys) i s) (λ e₂. fsplit ! $ fsplit ! $ move ! (1 ∷ []) $ feq_l ! (λ same.
           -- [the last row; …; the token and the result; what the row keeps; _8; …]
           move ! (1 ∷ []) $ drop ! $ move ! (1 ∷ []) $ split ! $ move ! (1 ∷ []) $ facts ! Nothing (Is Nothing) (shows 𝓛 Nothing) t₀ (z ∷ []) (λ is₂.
           land ! (from ! (stop !)) (init ! 9 refl ((Nothing-Lawful 𝓛).typed t₀ _ is₂).0) $
           split ! $ lft_end ! tt $ move ! (0 ∷ 3 ∷ 2 ∷ []) $
-          use3 𝓛 (later (‵ (OwnR ws.0 (length (storedUpTo i xs ys))) ⊛ ‵ (flft κ q))) (comes_back T.the_row κ (ν ∷ []) q γ b o 𝓛 (named 0) (named 0) (storedUpTo i xs ys) δ ws.0 (subst (Room T.the_row) (sym (stored-length i xs ys)) room) same) $ await ! tt $ split ! $ move ! (2 ∷ []) $ drop ! $
+          use3 𝓛 (later (‵ (OwnR ws.0 (length (stored_up_to i xs ys))) ⊛ ‵ (flft κ q))) (comes_back T.the_row κ (ν ∷ []) q γ b o 𝓛 (named 0) (named 0) (stored_up_to i xs ys) δ ws.0 (subst (Room T.the_row) (sym (stored-length i xs ys)) room) same) $ await ! tt $ split ! $ move ! (2 ∷ []) $ drop ! $
           -- [row; its token; _8; …]: the next turn's invariant
           assigns_last ! (bin ! (load ! (from ! (stop !)) (look ! 12 refl)) (lit ! tt) (record { fits = more })) (from ! (stop !)) (store ! 12 refl (tt, record { fits = more })) $
           forget ! 2 refl $ forget ! 4 refl $ forget ! 6 refl $ forget ! 8 refl $ forget ! 10 refl $
           rewrite ! 0 (λ (m : ℕ). ‵ (OwnR ws.0 m)) (stored-length i xs ys) refl $
-          rewrite ! 0 (λ (l : List Slot). ‵ (OwnR l (length ys))) (e₂ ∙ ap (set (storedUpTo i xs ys) i) e₁) refl $
+          rewrite ! 0 (λ (l : List Slot). ‵ (OwnR l (length ys))) (e₂ ∙ ap (set (stored_up_to i xs ys) i) e₁) refl $
           rewrite ! 12 (λ (k : ℕ). ‵ (fat full_share (ty_int w64) l₃ 0 (vint w64 k))) next refl $
           again ! Less I (i, (suc t, e)) (suc i, (t, left)) (lt-suc_self t)))))))))))))
 

@@ -38,7 +38,7 @@ use denote.Triple.Table.{entered}
 use denote.Triple.Walked.{says, Stays, stay_dropped, walk_of, Goes-dropped, Walks, ends_at, walked, walk_Meets}
 use denote.Exit.{yes}
 use Rattle.ble_slot.specs.declared.Slot.{Slot}
-use Rattle.ble_slot.specs.Slot.{idle as idleSlot}
+use Rattle.ble_slot.specs.Slot.{idle as idle_slot}
 use Rattle.ble_slot.specs.contracts.Slot as T
 use Rattle.ble_slot.proofs.Slot.TheLaws as T'
 use Rattle.ble_link.proofs.Slots.{vals, val, entry_place, entry-fits, is-idle}
@@ -61,7 +61,7 @@ module _ {M : Type 1} {𝓤 : Ura M} (𝓛 : Logic 𝓤) (at_mem : Memory → SP
   at = (slice_val (b, o) (length ys) ∷ [], (vint w64 i ∷ [], tt))
 
   abbrev elem : Slot
-  elem = get_or ys i idleSlot
+  elem = get_or ys i idle_slot
 
   abbrev Post : Val → SProp 𝓤
   Post = (walk_of 𝓛 f.ended stayed (f.clauses 𝓛 at_mem run)).post (((κ, tt), (q, tt), tt, x, at), tt)
@@ -92,22 +92,22 @@ module _ {M : Type 1} {𝓤 : Ura M} (𝓛 : Logic 𝓤) (at_mem : Memory → SP
         rewrite ! 2 (λ (p : ℕ). ‵ (fat full_share ty_ptr l₇ 0 (vptr b p))) (sym (entry_place o i)) refl $
         move ! (19 ∷ []) $ fsplit ! $ fsplit ! $ move ! (1 ∷ []) $ fsplit ! $ move ! (22 ∷ []) $ split ! $ move ! (3 ∷ 0 ∷ []) $
         looks_slice ! tt T.the_row (Is T.the_row) (shows 𝓛 T.the_row) vals (LL.tells T.the_type T'.the_laws) (LL.copy T.the_type T'.the_copy 𝓛) ys b o (λ q'.
-        elem_out ! T.the_row (Is T.the_row) (shows 𝓛 T.the_row) vals (LL.tells T.the_type T'.the_laws) q' ys i idleSlot b o l (λ g.
+        elem_out ! T.the_row (Is T.the_row) (shows 𝓛 T.the_row) vals (LL.tells T.the_type T'.the_laws) q' ys i idle_slot b o l (λ g.
         -- [row[i]; what it owns; the others; what shuts; the fractured borrow; true; res; row's fact; i's; _8; …; _7; …; _6; …; _5; …; _4; …; _3; …; _2; …; _1; …; _0; …]
         assigns ! (of_opd ! (load ! (from ! (hop ! (look ! 11 refl) (stop !))) (look_raw ! 0 refl))) (from ! (stop !)) (init ! 9 refl ((LL.lawful T.the_type T'.the_laws 𝓛).typed elem _ g).0) $
         assigns_last ! (of_opd ! (load ! (from ! (stop !)) (look ! 9 refl))) (from ! (stop !)) (init ! 15 refl ((LL.lawful T.the_type T'.the_laws 𝓛).typed elem _ g).0) $ exec ! C Λ (E l₀ l₁ l₂ l₃ l₄ l₅ l₆ l₇ l₈) code-mir.t-4 (at_ret (E l₀ l₁ l₂ l₃ l₄ l₅ l₆ l₇ l₈) Post) $
         assigns ! (of_opd ! (load ! (from ! (stop !)) (look ! 15 refl))) (from ! (stop !)) (init ! 25 refl ((LL.lawful T.the_type T'.the_laws 𝓛).typed elem _ g).0) $
-        elem_back ! T.the_row q' ys i idleSlot (vals elem) b o l $ shuts_slice ! tt T.the_row q' ys b o $
+        elem_back ! T.the_row q' ys i idle_slot (vals elem) b o l $ shuts_slice ! tt T.the_row q' ys b o $
         returns ! (look ! 22 refl) $ forget ! 6 refl $ forget ! 8 refl $ forget ! 10 refl $ forget ! 12 refl $ forget ! 14 refl $ forget ! 16 refl $ forget ! 18 refl $ forget ! 20 refl $ forget ! 22 refl $
         move ! (22 ∷ 23 ∷ []) $ free1 ! $ move ! (20 ∷ 21 ∷ []) $ free1 ! $ move ! (18 ∷ 19 ∷ []) $ free1 ! $ move ! (16 ∷ 17 ∷ []) $ free1 ! $ move ! (14 ∷ 15 ∷ []) $ free1 ! $ move ! (12 ∷ 13 ∷ []) $ free1 ! $ move ! (10 ∷ 11 ∷ []) $ free1 ! $ move ! (8 ∷ 9 ∷ []) $ free1 ! $ move ! (6 ∷ 7 ∷ []) $ free1 ! $ free0 ! $
         keep ! (0 ∷ []) $ by ! (exits elem refl g))))
         -- it is not
         (λ no.
-        assigns_last ! (agg ! (and_then ! (lit ! tt) (and_then ! (lit ! tt) (and_then ! (lit ! tt) (and_then ! (lit ! tt) (and_then ! (lit ! tt) (and_then ! (lit ! tt) (no_more !)))))))) (from ! (stop !)) (init ! 6 refl ((LL.lawful T.the_type T'.the_laws 𝓛).typed idleSlot _ is-idle).0) $ exec ! C Λ (E l₀ l₁ l₂ l₃ l₄ l₅ l₆ l₇ l₈) code-mir.t-4 (at_ret (E l₀ l₁ l₂ l₃ l₄ l₅ l₆ l₇ l₈) Post) $
-        assigns ! (of_opd ! (load ! (from ! (stop !)) (look ! 6 refl))) (from ! (stop !)) (init ! 16 refl ((LL.lawful T.the_type T'.the_laws 𝓛).typed idleSlot _ is-idle).0) $
+        assigns_last ! (agg ! (and_then ! (lit ! tt) (and_then ! (lit ! tt) (and_then ! (lit ! tt) (and_then ! (lit ! tt) (and_then ! (lit ! tt) (and_then ! (lit ! tt) (no_more !)))))))) (from ! (stop !)) (init ! 6 refl ((LL.lawful T.the_type T'.the_laws 𝓛).typed idle_slot _ is-idle).0) $ exec ! C Λ (E l₀ l₁ l₂ l₃ l₄ l₅ l₆ l₇ l₈) code-mir.t-4 (at_ret (E l₀ l₁ l₂ l₃ l₄ l₅ l₆ l₇ l₈) Post) $
+        assigns ! (of_opd ! (load ! (from ! (stop !)) (look ! 6 refl))) (from ! (stop !)) (init ! 16 refl ((LL.lawful T.the_type T'.the_laws 𝓛).typed idle_slot _ is-idle).0) $
         returns ! (look ! 16 refl) $ forget ! 6 refl $ forget ! 8 refl $ forget ! 10 refl $ forget ! 12 refl $ forget ! 14 refl $ forget ! 16 refl $
         move ! (16 ∷ 17 ∷ []) $ free1 ! $ move ! (14 ∷ 15 ∷ []) $ free1 ! $ move ! (12 ∷ 13 ∷ []) $ free1 ! $ move ! (10 ∷ 11 ∷ []) $ free1 ! $ move ! (8 ∷ 9 ∷ []) $ free1 ! $ move ! (6 ∷ 7 ∷ []) $ free1 ! $ move ! (4 ∷ 5 ∷ []) $ free1 ! $ move ! (2 ∷ 3 ∷ []) $ free1 ! $ move ! (0 ∷ 1 ∷ []) $ free1 ! $ free0 ! $
-        split ! $ keep ! (0 ∷ []) $ by ! (exits idleSlot (sym (get_or-eq_default ys idleSlot (nltb→le i (length ys) no))) is-idle)))))))))))
+        split ! $ keep ! (0 ∷ []) $ by ! (exits idle_slot (sym (get_or-eq_default ys idle_slot (nltb→le i (length ys) no))) is-idle)))))))))))
 
 module _ {M : Type 1} {𝓤 : Ura M} (𝓛 : Logic 𝓤) (at_mem : Memory → SProp 𝓤) (run : Routine → Fun 𝓤) where
   open 𝓛 use {H}

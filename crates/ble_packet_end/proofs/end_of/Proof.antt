@@ -1,13 +1,13 @@
 use mathlib.Core.Path.{◌≡◌, ◌∙◌}
 use lib.ListN.{get_or}
 use borrow.Author.Rules.{rules}
-use Rattle.ble_packet.specs.Header.{typeBits}
+use Rattle.ble_packet.specs.Header.{type_bits}
 use Rattle.ble_packet_end.proofs.Ends.{control-end, message-end}
 use Rattle.ble_packet_end.proofs.end_of.Statement.{statement}
 use Rattle.ble_packet_end.proofs.end_of.Tie as tie
 
 -- the type, as byte 1 says it
-kind_at : (c : tie.After-type-bits) → c.type-bits.result ≡ typeBits (get_or c.before.before.before.args.bytes.now 1 0)
+kind_at : (c : tie.After-type-bits) → c.type-bits.result ≡ type_bits (get_or c.before.before.before.args.bytes.now 1 0)
 kind_at c = rw c.before.byte_at.ensures at c.type-bits.ensures
 
 returns : tie.Need-returns

@@ -3,16 +3,16 @@ use Prim.Native.Nat.{ℕ, ◌^◌, ◌<◌}
 use Rattle.wire.proofs.Limits.{limit-range}
 use Rattle.ble_slot.specs.declared.Slot.{Slot}
 use Rattle.ble_slot.specs.Answer.{told}
-use Rattle.ble_slot.specs.Slot.{slotCount, laneStart, laneOf}
-use Rattle.ble_slot_steps.specs.Step.{StepAt, actOf, actAt, step_of}
+use Rattle.ble_slot.specs.Slot.{slot_count, lane_start, lane_of}
+use Rattle.ble_slot_steps.specs.Step.{StepAt, act_of, act_at, step_of}
 use Rattle.ble_slot_steps.specs.Fit.{InsidePart}
 use Rattle.ble_slot_steps.proofs.Steps.{small}
 use Rattle.ble_packet.specs.declared.reader.Head.{Head}
-use Rattle.ble_packet.specs.Header.{streamBits}
-use Rattle.ble_packet.specs.Reader.{headIn}
+use Rattle.ble_packet.specs.Header.{stream_bits}
+use Rattle.ble_packet.specs.Reader.{head_in}
 use Rattle.ble_packet.proofs.Reading.{LinesPass, read-passes}
 use Rattle.ble_receiver.specs.Ack.{IdLow}
-use Rattle.ble_receiver.specs.Receiver.{actIn}
+use Rattle.ble_receiver.specs.Receiver.{act_in}
 use Rattle.ble_receiver.proofs.Accepting.{SlotsFit, ready-says, in-fits}
 use Rattle.ble_receiver.proofs.Acks.{act-low, at_low}
 use Rattle.ble_receiver.proofs.Outcomes.{left_at, acted-left, at-fits}
@@ -28,31 +28,31 @@ ready_at : (c : tie.Start) → SlotsFit c.args.limit c.args.slots c.args.buffer.
 ready_at c = ready-says c.args.limit c.args.slots c.args.buffer.now c.requires.0
 
 -- what was read keeps to its packet
-passes_at : (c : tie.Start) → LinesPass c.args.limit (length c.args.packet.now) (streamBits (get_or c.args.packet.now 0 0)) c.args.read
+passes_at : (c : tie.Start) → LinesPass c.args.limit (length c.args.packet.now) (stream_bits (get_or c.args.packet.now 0 0)) c.args.read
 passes_at c = rw c.requires.1 at (read-passes c.args.limit c.args.packet.now)
 
 -- what the code's step is
-step-at : (c : tie.After-act-on) → (let a = c.before.before.before.before.before.before.before.args in let t = (headIn a.read).stream in step_of c.act-on.result ≡ actAt (laneStart t) (laneOf t a.slots) (actIn a.slots a.read))
+step-at : (c : tie.After-act-on) → (let a = c.before.before.before.before.before.before.before.args in let t = (head_in a.read).stream in step_of c.act-on.result ≡ act_at (lane_start t) (lane_of t a.slots) (act_in a.slots a.read))
 step-at c =
     let a = c.before.before.before.before.before.before.before.args in
-    let t = (headIn a.read).stream in
+    let t = (head_in a.read).stream in
     let head = c.before.before.before.head.ensures in
-    let begins : c.before.before.lane-start.result ≡ laneStart t = c.before.before.lane-start.ensures.0 ∙ ap (λ (h : Head). laneStart h.stream) head in
-    let lane : c.before.lane_of.result ≡ laneOf t a.slots = c.before.lane_of.ensures ∙ ap (λ (h : Head). laneOf h.stream a.slots) head in
+    let begins : c.before.before.lane-start.result ≡ lane_start t = c.before.before.lane-start.ensures.0 ∙ ap (λ (h : Head). lane_start h.stream) head in
+    let lane : c.before.lane_of.result ≡ lane_of t a.slots = c.before.lane_of.ensures ∙ ap (λ (h : Head). lane_of h.stream a.slots) head in
     c.act-on.ensures
-    ∙ ap (λ (n : ℕ). actAt n c.before.lane_of.result (actOf n c.before.lane_of.result a.read)) begins
-    ∙ ap (λ (l : List Slot). actAt (laneStart t) l (actOf (laneStart t) l a.read)) lane
+    ∙ ap (λ (n : ℕ). act_at n c.before.lane_of.result (act_of n c.before.lane_of.result a.read)) begins
+    ∙ ap (λ (l : List Slot). act_at (lane_start t) l (act_of (lane_start t) l a.read)) lane
 
 -- it keeps to the packet and to the slot's part
-fits-at : (c : tie.After-act-on) → (let a = c.before.before.before.before.before.before.before.args in (c.act-on.result.index < slotCount) × InsidePart a.limit (length a.packet.now) c.act-on.result.payload)
+fits-at : (c : tie.After-act-on) → (let a = c.before.before.before.before.before.before.before.args in (c.act-on.result.index < slot_count) × InsidePart a.limit (length a.packet.now) c.act-on.result.payload)
 unfolding step_of
 fits-at c =
     let s = c.before.before.before.before.before.before.before in
     let a = s.args in
-    let t = (headIn a.read).stream in
+    let t = (head_in a.read).stream in
     let k = length a.packet.now in
-    let f = at-fits a.limit k t (laneOf t a.slots) (actIn a.slots a.read) (in-fits a.limit k (streamBits (get_or a.packet.now 0 0)) a.slots a.read (ready_at s).law (passes_at s)) in (
-      subst (λ (n : ℕ). n < slotCount) (sym (ap (λ (d : StepAt). d.index) (step-at c))) f.0,
+    let f = at-fits a.limit k t (lane_of t a.slots) (act_in a.slots a.read) (in-fits a.limit k (stream_bits (get_or a.packet.now 0 0)) a.slots a.read (ready_at s).law (passes_at s)) in (
+      subst (λ (n : ℕ). n < slot_count) (sym (ap (λ (d : StepAt). d.index) (step-at c))) f.0,
       subst (InsidePart a.limit k) (sym (ap (λ (d : StepAt). d.step.payload) (step-at c))) f.1,
     )
 
@@ -62,9 +62,9 @@ unfolding step_of
 low-at c =
     let s = c.before.before.before.before.before.before.before in
     let a = s.args in
-    let t = (headIn a.read).stream in
+    let t = (head_in a.read).stream in
     subst IdLow (sym (ap (λ (d : StepAt). d.step.told) (step-at c)))
-    (at_low (laneStart t) (laneOf t a.slots) (actIn a.slots a.read) (act-low a.limit (length a.packet.now) (laneStart t) (laneOf t a.slots) a.read (passes_at s).within))
+    (at_low (lane_start t) (lane_of t a.slots) (act_in a.slots a.read) (act-low a.limit (length a.packet.now) (lane_start t) (lane_of t a.slots) a.read (passes_at s).within))
 
 act-on-requires : tie.Need-act-on-requires
 act-on-requires c κs =
@@ -88,10 +88,10 @@ unfolding step_of
 returns c =
     let step = c.before.before.before.before.before.before.before.before in
     let a = c.before.before.before.before.before.before.before.before.before.before.before.before.before.before.before.args in
-    let t = (headIn a.read).stream in
+    let t = (head_in a.read).stream in
     rw (c.before.before.acknowledge.ensures, c.before.before.before.before.before.before.write-payload.ensures)
     (ap (left_at a.limit a.sequence a.slots a.buffer.now a.packet.now a.out.now) (step-at step)
-    ∙ acted-left a.limit a.sequence t a.slots a.buffer.now a.packet.now a.out.now (actIn a.slots a.read))
+    ∙ acted-left a.limit a.sequence t a.slots a.buffer.now a.packet.now a.out.now (act_in a.slots a.read))
 
 pub accept-read-spec : {M : Type 1} → statement M
 accept-read-spec =

@@ -4,7 +4,7 @@ use borrow.Author.Tests.{lt-ltb, le-ltb, not-true, not-false}
 use Rattle.wire.specs.Told.{refused}
 use Rattle.wire.proofs.Tests.{and_right}
 use Rattle.ble_packet.specs.Reader.{read_of}
-use Rattle.ble_slot.specs.Slot.{slotCount}
+use Rattle.ble_slot.specs.Slot.{slot_count}
 use Rattle.ble_receiver.specs.Receiver.{PacketCall, call}
 use Rattle.ble_receiver.proofs.Outcomes.{first-same, unready, refused-one, told-by, step_row, fifteen, fourteen, read-there}
 use borrow.Author.Rules.{rules}
@@ -51,7 +51,7 @@ process-requires c κs =
     let s = c.before.before in
     let ready = s.before.before.before in
     let a = ready.before.before.before.before.args in (
-      and_right (eqb a.count slotCount) _ (sym ready.is-ready.ensures ∙ not-false ready.is-ready.result s.before.before.if1.false),
+      and_right (eqb a.count slot_count) _ (sym ready.is-ready.ensures ∙ not-false ready.is-ready.result s.before.before.if1.false),
       s.before.if2.false,
       s.if3.false,
     )

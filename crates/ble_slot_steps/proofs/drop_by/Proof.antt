@@ -1,10 +1,10 @@
-use Rattle.ble_slot_steps.specs.Step.{dropBy}
+use Rattle.ble_slot_steps.specs.Step.{drop_by}
 use borrow.Author.Rules.{rules}
 use Rattle.ble_slot_steps.proofs.drop_by.Statement.{statement}
 use Rattle.ble_slot_steps.proofs.drop_by.Tie as tie
 
 returns : tie.Need-returns
-unfolding dropBy
+unfolding drop_by
 returns c = rw (← c.before.idle.ensures) c.put-slot.ensures
 
 pub drop-by-spec : {M : Type 1} → statement M

@@ -1,5 +1,5 @@
--- 10, 11, the last and the ones between: each way out is a line of `nextStep` with its tests put in.
-use Rattle.ble_slot_steps.specs.Step.{offTotal, nextStep}
+-- 10, 11, the last and the ones between: each way out is a line of `next_step` with its tests put in.
+use Rattle.ble_slot_steps.specs.Step.{off_total, next_step}
 use borrow.Author.Tests.{eq-eqb, ne_eqb, leb-false}
 use native.Mathlib.Omega.{arith}
 use mathlib.Core.Path.{◌≡◌, sym, ◌∙◌}
@@ -13,11 +13,11 @@ below : (n k : ℕ) → n < k → k < 65536 → n < 65536
 below n k l h = omega arith
 
 returns : tie.Need-returns
-unfolding nextStep
+unfolding next_step
 returns c = rw (← c.before.before.before.sequence-after.ensures.0, ne_eqb _ _ c.before.if1.true) c.drop-by.ensures
 
 returns-2 : tie.Need-returns-2
-unfolding nextStep
+unfolding next_step
 returns-2 c =
     let t = c.before.before in
     let s = t.before.before.before in
@@ -32,7 +32,7 @@ returns-2 c =
     c.drop-by2.ensures
 
 returns-3 : tie.Need-returns-3
-unfolding nextStep
+unfolding next_step
 returns-3 c =
     let t = c.before.before.before.before.before in
     let s = t.before.before.before in
@@ -54,14 +54,14 @@ hold-requires c κs =
     let t = c.before.before.before.before in
     let a = t.before.before.before.before.before.before.args in
     let total = t.before.wide2.ensures in
-    let o : offTotal a.last (t.before.before.wide.result + a.len) t.before.wide2.result ≡ false
+    let o : off_total a.last (t.before.before.wide.result + a.len) t.before.wide2.result ≡ false
     = sym t.off-total.ensures ∙ c.before.before.before.if2.false in
     let e : t.before.before.wide.result + a.len < t.before.wide2.result
     = leb-false t.before.wide2.result (t.before.before.wide.result + a.len) (rw c.if3.false at o) in
     (below (t.before.before.wide.result + a.len) t.before.wide2.result e total.1, total.1)
 
 returns-4 : tie.Need-returns-4
-unfolding nextStep
+unfolding next_step
 returns-4 c =
     let t = c.before.before.before.before.before in
     let s = t.before.before.before in

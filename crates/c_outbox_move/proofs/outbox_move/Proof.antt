@@ -1,15 +1,15 @@
 use borrow.Author.Tests.{eq-eqb, ne_eqb}
-use Rattle.c_outbox_move.specs.Calls.{outboxMoveOf}
+use Rattle.c_outbox_move.specs.Calls.{outbox_move_of}
 use borrow.Author.Rules.{rules}
 use Rattle.c_outbox_move.proofs.outbox_move.Statement.{statement}
 use Rattle.c_outbox_move.proofs.outbox_move.Tie as tie
 
 returns : tie.Need-returns
-unfolding outboxMoveOf
+unfolding outbox_move_of
 returns c = rw (ne_eqb _ _ c.if1.true)
 
 returns-2 : tie.Need-returns-2
-unfolding outboxMoveOf
+unfolding outbox_move_of
 returns-2 c =
     rw (
       eq-eqb _ _ c.before.before.before.before.before.before.before.before.before.before.before.before.if1.false,

@@ -1,10 +1,10 @@
 use borrow.Author.Rules.{rules}
-use Rattle.capture_packet.specs.Place.{badPlace}
+use Rattle.capture_packet.specs.Place.{bad_place}
 use Rattle.capture_packet.proofs.bad_place.Statement.{statement}
 use Rattle.capture_packet.proofs.bad_place.Tie as tie
 
 returns : tie.Need-returns
-unfolding badPlace
+unfolding bad_place
 returns c = c.either.ensures
 
 pub bad-place-spec : {M : Type 1} → statement M

@@ -6,18 +6,18 @@ use lib.ListN.{length, drop}
 use borrow.Author.Rules.{rules}
 use Rattle.wire.specs.Told.{given}
 use Rattle.wire.proofs.Parts.{rest-lent}
-use Rattle.capture_reader.specs.Capture.{width, frontOf, frontTold}
-use Rattle.capture_packet.specs.Place.{packetAt}
+use Rattle.capture_reader.specs.Capture.{width, front_of, front_told}
+use Rattle.capture_packet.specs.Place.{packet_at}
 use Rattle.capture_packet.proofs.Places.{place-within, at-end, at-given, at-refused, packet-within}
 use Rattle.capture_packet.proofs.read_at.Statement.{statement}
 use Rattle.capture_packet.proofs.read_at.Tie as tie
 
 returns : tie.Need-returns
-unfolding packetAt
+unfolding packet_at
 returns c = rw (sym c.before.other-version.ensures ∙ c.if1.true)
 
 returns-2 : tie.Need-returns-2
-unfolding packetAt
+unfolding packet_at
 returns-2 c =
     rw (
       sym c.before.before.before.other-version.ensures ∙ c.before.before.if1.false,
@@ -41,10 +41,10 @@ part-front-of-start c = sub-front-of c
 -- what was found is what stands there
 stands : (c : tie.After-front-of)
     → let s = c.before.before.before.before.before.before.before.before in
-    frontTold c.front_of.result ≡ frontOf (drop s.args.place s.args.capture.now)
+    front_told c.front_of.result ≡ front_of (drop s.args.place s.args.capture.now)
 stands c =
     let s = c.before.before.before.before.before.before.before.before in
-    c.front_of.ensures ∙ ap frontOf (rest-lent s.args.capture.now s.args.place)
+    c.front_of.ensures ∙ ap front_of (rest-lent s.args.capture.now s.args.place)
 
 -- a packet ends within the capture
 within : (c : tie.After-known-told2)
@@ -54,7 +54,7 @@ within c =
     let f = c.before.before.before in
     let e = f.before.before in
     let s = e.before.before.before.before.before.before in
-    packet-within s.args.capture.now s.args.place _ (sub-front-of e) (sym (stands f) ∙ ap frontTold c.before.size.given.1)
+    packet-within s.args.capture.now s.args.place _ (sub-front-of e) (sym (stands f) ∙ ap front_told c.before.size.given.1)
 
 add_start : tie.Need-overflow-add-start
 add_start c = omega (arith, within c)
@@ -71,7 +71,7 @@ returns-4 c =
     sym
     (at-refused s.args.capture.now s.args.place
     (sym d.before.before.before.other-version.ensures ∙ d.before.before.if1.false)
-    (sym d.before.bad-place.ensures ∙ d.if2.false) e.if3.false _ (sym (stands f) ∙ ap frontTold c.before.why.given.1))
+    (sym d.before.bad-place.ensures ∙ d.if2.false) e.if3.false _ (sym (stands f) ∙ ap front_told c.before.why.given.1))
 
 returns-5 : tie.Need-returns-5
 returns-5 c =
@@ -82,7 +82,7 @@ returns-5 c =
     sym
     (at-given s.args.capture.now s.args.place
     (sym d.before.before.before.other-version.ensures ∙ d.before.before.if1.false)
-    (sym d.before.bad-place.ensures ∙ d.if2.false) e.if3.false _ (sym (stands f) ∙ ap frontTold c.before.size.given.1))
+    (sym d.before.bad-place.ensures ∙ d.if2.false) e.if3.false _ (sym (stands f) ∙ ap front_told c.before.size.given.1))
 
 pub read-at-spec : {M : Type 1} → statement M
 read-at-spec =

@@ -6,13 +6,13 @@ use lib.ListN.{length, drop, length-drop}
 use borrow.Author.Rules.{rules}
 use Rattle.wire.specs.Told.{given}
 use Rattle.wire.proofs.Parts.{rest-lent}
-use Rattle.capture_reader.specs.Capture.{width, frontOf, checkedOf, frontTold}
+use Rattle.capture_reader.specs.Capture.{width, front_of, checked_of, front_told}
 use Rattle.capture_reader.proofs.Walking.{PacketWalk, check-refused, check-begins, walk_ends, walk-stops, walk-goes, front-within}
 use Rattle.capture_reader.proofs.check.Statement.{statement}
 use Rattle.capture_reader.proofs.check.Tie as tie
 
 abbrev invariant-loop : tie.invariant-loop
-invariant-loop capture at₀ at = PacketWalk capture (checkedOf capture) at (λ ps. given tt)
+invariant-loop capture at₀ at = PacketWalk capture (checked_of capture) at (λ ps. given tt)
 
 abbrev decreases-loop : tie.decreases-loop
 decreases-loop capture at₀ at = length capture - at
@@ -25,22 +25,22 @@ loop-holds c = check-begins _ (sym c.before.other-version.ensures ∙ c.if1.fals
 
 -- what was found is what stands there
 stands : (c : tie.After-front-of invariant-loop decreases-loop)
-    → frontTold c.front_of.result ≡ frontOf (drop c.before.before.before.loop.at c.before.before.before.before.before.before.before.args.capture.now)
+    → front_told c.front_of.result ≡ front_of (drop c.before.before.before.loop.at c.before.before.before.before.before.before.before.args.capture.now)
 stands c =
     let l = c.before.before.before in
-    c.front_of.ensures ∙ ap frontOf (rest-lent l.before.before.before.before.args.capture.now l.loop.at)
+    c.front_of.ensures ∙ ap front_of (rest-lent l.before.before.before.before.args.capture.now l.loop.at)
 
 returns-2 : tie.Need-returns-2 invariant-loop decreases-loop
 returns-2 c =
     let f = c.before.before.before in
     let t = f.before.before in
-    sym (walk-stops _ t.before.loop.invariant t.loop-test.true _ (sym (stands f) ∙ ap frontTold c.before.found.given.1))
+    sym (walk-stops _ t.before.loop.invariant t.loop-test.true _ (sym (stands f) ∙ ap front_told c.before.found.given.1))
 
 -- the packet of this turn
 stood : (c : tie.After-known-told2 invariant-loop decreases-loop)
-    → frontOf (drop c.before.before.before.before.before.before.loop.at c.before.before.before.before.before.before.before.before.before.before.args.capture.now)
+    → front_of (drop c.before.before.before.before.before.before.loop.at c.before.before.before.before.before.before.before.before.before.before.args.capture.now)
     ≡ given c.before.found2.given.0.0
-stood c = sym (stands c.before.before.before) ∙ ap frontTold c.before.found2.given.1
+stood c = sym (stands c.before.before.before) ∙ ap front_told c.before.found2.given.1
 
 -- it lies within the capture
 lies : (c : tie.After-known-told2 invariant-loop decreases-loop)

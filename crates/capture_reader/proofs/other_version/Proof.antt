@@ -1,10 +1,10 @@
-use Rattle.capture_reader.specs.Capture.{otherVersion}
+use Rattle.capture_reader.specs.Capture.{other_version}
 use borrow.Author.Rules.{rules}
 use Rattle.capture_reader.proofs.other_version.Statement.{statement}
 use Rattle.capture_reader.proofs.other_version.Tie as tie
 
 returns : tie.Need-returns
-unfolding otherVersion
+unfolding other_version
 returns c = rw (c.either.ensures, c.before.byte_at.ensures)
 
 pub other-version-spec : {M : Type 1} → statement M

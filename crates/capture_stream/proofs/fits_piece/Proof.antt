@@ -1,10 +1,10 @@
-use Rattle.capture_stream.specs.Slot.{fitsPiece}
+use Rattle.capture_stream.specs.Slot.{fits_piece}
 use borrow.Author.Rules.{rules}
 use Rattle.capture_stream.proofs.fits_piece.Statement.{statement}
 use Rattle.capture_stream.proofs.fits_piece.Tie as tie
 
 returns : tie.Need-returns
-unfolding fitsPiece
+unfolding fits_piece
 returns c =
     rw (
       c.both2.ensures,

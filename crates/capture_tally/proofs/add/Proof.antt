@@ -42,11 +42,11 @@ use denote.Triple.Walked.{says, Stays, stay_dropped, gave_slice, walk_of, Goes-d
 use denote.Triple.Clauses.{ensured, lasts}
 use denote.Exit.{yes}
 use Rattle.ble_slot.specs.declared.Slot.{Slot}
-use Rattle.ble_slot.specs.Slot.{slotCount}
-use Rattle.ble_receiver.specs.Outcome.{firstTwelve}
-use Rattle.ble_link.specs.Row.{savedRow}
+use Rattle.ble_slot.specs.Slot.{slot_count}
+use Rattle.ble_receiver.specs.Outcome.{first_twelve}
+use Rattle.ble_link.specs.Row.{saved_row}
 use Rattle.capture_report.specs.declared.CostReport.{CostReport}
-use Rattle.capture_report.specs.Report.{captureAdded, taken_of, addedBy, addedOf}
+use Rattle.capture_report.specs.Report.{capture_added, taken_of, added_by, added_of}
 use Rattle.capture_tally.specs.declared.RowAdded.{RowAdded}
 use Rattle.capture_tally.specs.Tally.{told}
 use Rattle.capture_tally.proofs.Taking.{saved-added}
@@ -147,9 +147,9 @@ module _ {M : Type 1} {𝓤 : Ura M} (𝓛 : Logic 𝓤) (at_mem : Memory → SP
   Post = (walk_of 𝓛 f.ended stayed (f.clauses 𝓛 at_mem run)).post bound
 
   -- the three callees' equations make the contract's
-  together : (slots : List Slot) (d : RowAdded) (zs₄ : List ℕ) (ws : List Slot) → length d.slots ≡ slotCount → slots ≡ firstTwelve ys₃ → captureAdded (told d.answer) d.slots zs₄ ≡ addedBy n₁ n₂ slots ys₄ (taken_of n₂ (length ys₃) (length ys₄) ys₅) → ws ≡ savedRow ys₃ d.slots → captureAdded (told d.answer) ws zs₄ ≡ addedOf n₁ n₂ ys₃ ys₄ ys₅
+  together : (slots : List Slot) (d : RowAdded) (zs₄ : List ℕ) (ws : List Slot) → length d.slots ≡ slot_count → slots ≡ first_twelve ys₃ → capture_added (told d.answer) d.slots zs₄ ≡ added_by n₁ n₂ slots ys₄ (taken_of n₂ (length ys₃) (length ys₄) ys₅) → ws ≡ saved_row ys₃ d.slots → capture_added (told d.answer) ws zs₄ ≡ added_of n₁ n₂ ys₃ ys₄ ys₅
   together slots d zs₄ ws twelve e₁ e₂ e₃ =
-      ap (λ (l : List Slot). captureAdded (told d.answer) l zs₄) e₃ ∙ saved-added n₁ n₂ ys₃ ys₄ ys₅ (told d.answer) d.slots zs₄ twelve (e₂ ∙ ap (λ (s : List Slot). addedBy n₁ n₂ s ys₄ (taken_of n₂ (length ys₃) (length ys₄) ys₅)) e₁)
+      ap (λ (l : List Slot). capture_added (told d.answer) l zs₄) e₃ ∙ saved-added n₁ n₂ ys₃ ys₄ ys₅ (told d.answer) d.slots zs₄ twelve (e₂ ∙ ap (λ (s : List Slot). added_by n₁ n₂ s ys₄ (taken_of n₂ (length ys₃) (length ys₄) ys₅)) e₁)
 
   -- `load`, at a lifetime ν of the call, on the row under the name δ
   abbrev xr : GName → MutBor (List Slot)
@@ -162,8 +162,8 @@ module _ {M : Type 1} {𝓤 : Ura M} (𝓛 : Logic 𝓤) (at_mem : Memory → SP
   goes_load ν δ = qed 𝓛 (‵ (flft (ν ∷ []) full_share) ∷ ‵ ((ShrSlice (named 0) (ν ∷ []) T.the_row).own_val (xr δ) (v₃ ∷ [])) ∷ []) ∵
       nothing ! $ move ! (2 ∷ 0 ∷ []) $ fjoin ! $ nothing ! $ move ! (2 ∷ 0 ∷ []) $ join ! $ join ! $ nothing ! $ move ! (1 ∷ 0 ∷ []) $ join ! $ done !
 
-  said-load : (ν : ℕ) (δ : GName) (r : List Slot) → ent 𝓤 (ensured 𝓛 load.ended (load.clauses 𝓛 at_mem run) (ν ∷ [], tt) (xr δ, tt) tt r) (fact 𝓤 (r ≡ firstTwelve ys₃))
-  said-load ν δ r = ex_e 𝓤 _ (λ ws. snd∗ 𝓤 (sem 𝓛 (lasts load.ended (ν ∷ [], tt) (xr δ, tt) ws)) (fact 𝓤 (r ≡ firstTwelve ys₃)))
+  said-load : (ν : ℕ) (δ : GName) (r : List Slot) → ent 𝓤 (ensured 𝓛 load.ended (load.clauses 𝓛 at_mem run) (ν ∷ [], tt) (xr δ, tt) tt r) (fact 𝓤 (r ≡ first_twelve ys₃))
+  said-load ν δ r = ex_e 𝓤 _ (λ ws. snd∗ 𝓤 (sem 𝓛 (lasts load.ended (ν ∷ [], tt) (xr δ, tt) ws)) (fact 𝓤 (r ≡ first_twelve ys₃)))
 
   -- `save`, at the row's own lifetime
   abbrev args-set : RowAdded → Args set-slot.signature (κ₃, tt)
@@ -184,7 +184,7 @@ module _ {M : Type 1} {𝓤 : Ura M} (𝓛 : Logic 𝓤) (at_mem : Memory → SP
   abbrev to-decide : List Slot → Val → (Decide 𝓛 at_mem run).Ghost
   to-decide slots u = (((κ₄, (κ₅, tt)), (q₄, (q₅, tt)), tt, args-decide slots, (vint w64 (length ys₃) ∷ [], (u ∷ [], (v₁ ∷ [], (v₂ ∷ [], (v₄ ∷ [], (v₅ ∷ [], tt))))))), tt)
 
-  exits : (d : RowAdded) (v : Val) → Is N.the_row d.answer (v ∷ []) → (ws : List Slot) (zs₄ : List ℕ) → length ws ≡ length ys₃ → length zs₄ ≡ length ys₄ → captureAdded (told d.answer) ws zs₄ ≡ addedOf n₁ n₂ ys₃ ys₄ ys₅
+  exits : (d : RowAdded) (v : Val) → Is N.the_row d.answer (v ∷ []) → (ws : List Slot) (zs₄ : List ℕ) → length ws ≡ length ys₃ → length zs₄ ≡ length ys₄ → capture_added (told d.answer) ws zs₄ ≡ added_of n₁ n₂ ys₃ ys₄ ys₅
       → ent 𝓤 (⋆ 𝓛 ((‵ (flft κ₃ q₃) ⊛ ‵ ftrue) ∷ (‵ (flft κ₄ q₄) ⊛ ‵ (flft κ₅ q₅) ⊛ ‵ ftrue) ∷ ‵ (finally T.the_row γ₃ ws) ∷ ‵ (finally u8 γ₄ zs₄) ∷ [])) (Post v)
   exits d v is ws zs₄ len₃ len₄ e =
       qed 𝓛 ((‵ (flft κ₃ q₃) ⊛ ‵ ftrue) ∷ (‵ (flft κ₄ q₄) ⊛ ‵ (flft κ₅ q₅) ⊛ ‵ ftrue) ∷ ‵ (finally T.the_row γ₃ ws) ∷ ‵ (finally u8 γ₄ zs₄) ∷ []) ∵
@@ -211,7 +211,7 @@ module _ {M : Type 1} {𝓤 : Ura M} (𝓛 : Logic 𝓤) (at_mem : Memory → SP
           use2 𝓛 (raw ((Load 𝓛 at_mem run).pre (to-load ν δ))) (goes_load ν δ) $
           calls_at ! fm (Load 𝓛 at_mem run) known-load (to-load ν δ) (and_then ! (load ! (from ! (stop !)) (look ! 16 refl)) (no_more !)) (λ u.
           use1 𝓛 (later (some (λ (r : List Slot). ((‵ (flft (ν ∷ []) full_share) ⊛ ‵ ftrue) ⊛ ‵ ((Array T.the_row 12).own_val r (u ∷ []))) ⊛ raw (ensured 𝓛 load.ended (load.clauses 𝓛 at_mem run) (ν ∷ [], tt) (xr δ, tt) tt r)))) (id⊢ 𝓤 _) $ await ! tt $ pick ! (λ slots.
-          split ! $ move ! (1 ∷ []) $ use1 𝓛 (raw (fact 𝓤 (slots ≡ firstTwelve ys₃))) (said-load ν δ slots) $ heard ! (slots ≡ firstTwelve ys₃) (λ e₁. split ! $ move ! (1 ∷ []) $ facts ! (Array T.the_row 12) (Is (Array T.the_row 12)) (shows 𝓛 (Array T.the_row 12)) slots (u ∷ []) (λ is₁.
+          split ! $ move ! (1 ∷ []) $ use1 𝓛 (raw (fact 𝓤 (slots ≡ first_twelve ys₃))) (said-load ν δ slots) $ heard ! (slots ≡ first_twelve ys₃) (λ e₁. split ! $ move ! (1 ∷ []) $ facts ! (Array T.the_row 12) (Is (Array T.the_row 12)) (shows 𝓛 (Array T.the_row 12)) slots (u ∷ []) (λ is₁.
           land ! (from ! (stop !)) (init ! 22 refl ((Array-Lawful 𝓛 T.the_row (LL.lawful T.the_type T'.the_laws 𝓛) 12).typed slots _ is₁).0) $
           split ! $ lft_end ! tt $ move ! (0 ∷ 2 ∷ []) $ use2 𝓛 (later (‵ Own₃ ⊛ ‵ (flft κ₃ q₃))) (unshares T.the_row κ₃ (ν ∷ []) q₃ γ₃ b₃ o₃ 𝓛 (named 0) (named 0) ys₃ room₃) $ await ! tt $ split ! $ move ! (2 ∷ []) $ drop ! $
           -- what the rules need goes to them for good
@@ -220,7 +220,7 @@ module _ {M : Type 1} {𝓤 : Ura M} (𝓛 : Logic 𝓤) (at_mem : Memory → SP
           move ! (5 ∷ 4 ∷ 3 ∷ 2 ∷ []) $ move ! (1 ∷ 0 ∷ []) $ join ! $ move ! (1 ∷ 0 ∷ []) $ join ! $ move ! (1 ∷ 0 ∷ []) $ join ! $ use1 𝓛 (raw ((Decide 𝓛 at_mem run).pre (to-decide slots u))) (goes-decide slots u is₁) $
           calls_at ! fm (Decide 𝓛 at_mem run) known-decide (to-decide slots u) (and_then ! (load ! (from ! (stop !)) (look ! 21 refl)) (and_then ! (load ! (from ! (stop !)) (look ! 19 refl)) (and_then ! (load ! (from ! (stop !)) (look ! 31 refl)) (and_then ! (load ! (from ! (stop !)) (look ! 29 refl)) (and_then ! (load ! (from ! (stop !)) (look ! 9 refl)) (and_then ! (load ! (from ! (stop !)) (look ! 23 refl)) (no_more !))))))) (λ w.
           use1 𝓛 (later (some (λ (d : RowAdded). ((‵ (flft κ₄ q₄) ⊛ ‵ (flft κ₅ q₅) ⊛ ‵ ftrue) ⊛ ‵ ((D.the_row).own_val d (w ∷ []))) ⊛ raw (ensured 𝓛 decide.ended (decide.clauses 𝓛 at_mem run) (κ₄, (κ₅, tt)) (args-decide slots) tt d)))) (id⊢ 𝓤 _) $ await ! tt $ pick ! (λ d.
-          split ! $ move ! (1 ∷ []) $ use1 𝓛 (some (λ (zs : Unit {0} × (Unit {0} × (Unit {0} × (Unit {0} × (List ℕ × (Unit {0} × Unit {0})))))). ‵ (lasts decide.ended (κ₄, (κ₅, tt)) (args-decide slots) zs) ⊛ raw (fact 𝓤 (captureAdded (told d.answer) d.slots zs.1.1.1.1.0 ≡ addedBy n₁ n₂ slots ys₄ (taken_of n₂ (length ys₃) (length ys₄) ys₅))))) (id⊢ 𝓤 _) $ pick ! (λ zs. split ! $ move ! (1 ∷ []) $ heard ! (captureAdded (told d.answer) d.slots zs.1.1.1.1.0 ≡ addedBy n₁ n₂ slots ys₄ (taken_of n₂ (length ys₃) (length ys₄) ys₅)) (λ e₂.
+          split ! $ move ! (1 ∷ []) $ use1 𝓛 (some (λ (zs : Unit {0} × (Unit {0} × (Unit {0} × (Unit {0} × (List ℕ × (Unit {0} × Unit {0})))))). ‵ (lasts decide.ended (κ₄, (κ₅, tt)) (args-decide slots) zs) ⊛ raw (fact 𝓤 (capture_added (told d.answer) d.slots zs.1.1.1.1.0 ≡ added_by n₁ n₂ slots ys₄ (taken_of n₂ (length ys₃) (length ys₄) ys₅))))) (id⊢ 𝓤 _) $ pick ! (λ zs. split ! $ move ! (1 ∷ []) $ heard ! (capture_added (told d.answer) d.slots zs.1.1.1.1.0 ≡ added_by n₁ n₂ slots ys₄ (taken_of n₂ (length ys₃) (length ys₄) ys₅)) (λ e₂.
           fsplit ! $ drop ! $ fsplit ! $ drop ! $ fsplit ! $ drop ! $ fsplit ! $ drop ! $ fsplit ! $ fsplit ! $ move ! (1 ∷ []) $ feq_l ! (λ len₄. move ! (1 ∷ []) $ fsplit ! $ drop ! $ drop ! $ move ! (1 ∷ []) $ split ! $ move ! (1 ∷ []) $
           facts ! D.the_row (Is D.the_row) (shows 𝓛 D.the_row) d (w ∷ []) (λ is₂.
           let parts = LL.owed D.the_type D'.the_laws d (w ∷ []) is₂ in
@@ -232,7 +232,7 @@ module _ {M : Type 1} {𝓤 : Ura M} (𝓛 : Logic 𝓤) (at_mem : Memory → SP
           move ! (3 ∷ 2 ∷ []) $ use2 𝓛 (raw ((SetSlot 𝓛 at_mem run).pre (to_set d))) (goes_set d twelve) $
           calls_at ! fm (SetSlot 𝓛 at_mem run) known-set (to_set d) (and_then ! (load ! (from ! (stop !)) (look ! 3 refl)) (and_then ! (load ! (from ! (fld ! refl (stop !))) (look_in ! 17 (sub ! 1 refl (whole !)))) (no_more !))) (λ z.
           use1 𝓛 (later (some (λ (t : Unit {0}). ((‵ (flft κ₃ q₃) ⊛ ‵ ftrue) ⊛ ‵ (Nothing.own t (z ∷ []))) ⊛ raw (ensured 𝓛 set-slot.ended (set-slot.clauses 𝓛 at_mem run) (κ₃, tt) (args-set d) tt t)))) (id⊢ 𝓤 _) $ await ! tt $ pick ! (λ t.
-          split ! $ move ! (1 ∷ []) $ use1 𝓛 (some (λ (ws : List Slot × (Unit {0} × Unit {0})). ‵ (lasts set-slot.ended (κ₃, tt) (args-set d) ws) ⊛ raw (fact 𝓤 (ws.0 ≡ savedRow ys₃ d.slots)))) (id⊢ 𝓤 _) $ pick ! (λ ws. split ! $ move ! (1 ∷ []) $ heard ! (ws.0 ≡ savedRow ys₃ d.slots) (λ e₃. fsplit ! $ fsplit ! $ move ! (1 ∷ []) $ feq_l ! (λ len₃.
+          split ! $ move ! (1 ∷ []) $ use1 𝓛 (some (λ (ws : List Slot × (Unit {0} × Unit {0})). ‵ (lasts set-slot.ended (κ₃, tt) (args-set d) ws) ⊛ raw (fact 𝓤 (ws.0 ≡ saved_row ys₃ d.slots)))) (id⊢ 𝓤 _) $ pick ! (λ ws. split ! $ move ! (1 ∷ []) $ heard ! (ws.0 ≡ saved_row ys₃ d.slots) (λ e₃. fsplit ! $ fsplit ! $ move ! (1 ∷ []) $ feq_l ! (λ len₃.
           move ! (1 ∷ []) $ drop ! $ move ! (1 ∷ []) $ split ! $ move ! (1 ∷ []) $ facts ! Nothing (Is Nothing) (shows 𝓛 Nothing) t (z ∷ []) (λ is₃.
           land ! (from ! (stop !)) (init ! 8 refl ((Nothing-Lawful 𝓛).typed t _ is₃).0) $
           assigns ! (of_opd ! (load ! (from ! (fld ! refl (stop !))) (look_in ! 18 (sub ! 0 refl (whole !))))) (from ! (stop !)) (init ! 34 refl ((EL.lawful N.the_type N'.the_laws 𝓛 tt).typed d.answer _ parts.0).0) $

@@ -3,7 +3,7 @@ use mathlib.Core.Path.{sym, ap, ◌∙◌}
 use lib.ListN.{length}
 use borrow.Author.Rules.{rules}
 use borrow.Author.Tests.{not-true, not-false}
-use Rattle.capture_reader.specs.Capture.{soundnessTold}
+use Rattle.capture_reader.specs.Capture.{soundness_told}
 use Rattle.capture_tally.proofs.Taking.{limit-refused, lent-refused, taken_is, fresh-ready, unsound, sound}
 use Rattle.capture_tally.proofs.add_by_value.Statement.{statement}
 use Rattle.capture_tally.proofs.add_by_value.Tie as tie
@@ -32,7 +32,7 @@ pass-requires c κs =
     let l = c.before.before.before.before.before in
     let f = l.before.before in
     let s = f.before.before.before in (
-      sym c.before.before.before.check.ensures ∙ ap soundnessTold c.before.enum_told.given.1,
+      sym c.before.before.before.check.ensures ∙ ap soundness_told c.before.enum_told.given.1,
       fresh-ready s.args.limit s.args.count (length s.args.buffer.now) (sym f.limit-fits.ensures ∙ not-false f.limit-fits.result l.before.if1.false)
           (sym l.lent-fits.ensures ∙ not-false l.lent-fits.result c.before.before.before.before.if2.false),
     )
@@ -42,7 +42,7 @@ returns-3 c =
     let at-limit-fits = c.before.before.before.before.before.before.before.before in
     let at-lent-fits = c.before.before.before.before.before.before in
     let s = c.before.before.before.before.before.before.before.before.before.before.before in
-    let why = sym c.before.before.before.before.check.ensures ∙ ap soundnessTold c.before.before.checked.given.1 in
+    let why = sym c.before.before.before.before.check.ensures ∙ ap soundness_told c.before.before.checked.given.1 in
     rw (
       c.refuse3.ensures,
       taken_is s.args.limit s.args.count (length s.args.buffer.now) s.args.capture.now (sym at-limit-fits.limit-fits.ensures ∙ not-false at-limit-fits.limit-fits.result c.before.before.before.before.before.before.before.if1.false)

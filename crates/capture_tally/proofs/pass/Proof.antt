@@ -6,10 +6,10 @@ use mathlib.Core.List.{List}
 use lib.ListN.{length, take, drop}
 use borrow.Author.Rules.{rules}
 use Rattle.wire.specs.Told.{given}
-use Rattle.capture_reader.specs.Capture.{width, lengthIn}
+use Rattle.capture_reader.specs.Capture.{width, length_in}
 use Rattle.ble_slot.specs.declared.Slot.{Slot}
 use Rattle.ble_receiver.proofs.Accepting.{ready-says, ready-holds}
-use Rattle.capture_tally.specs.Tally.{passedOf}
+use Rattle.capture_tally.specs.Tally.{passed_of}
 use Rattle.capture_tally.proofs.Passing.{Passing, passing_begins, passing-ends, length-is, packet-lies, passing-goes}
 use Rattle.capture_tally.proofs.pass.Statement.{statement}
 use Rattle.capture_tally.proofs.pass.Tie as tie
@@ -33,7 +33,7 @@ shared-slice-read-pair-2 c =
 
 -- the length that was read
 read : (c : tie.After-pair invariant-loop decreases-loop)
-    → c.pair.result ≡ lengthIn (drop c.before.before.before.before.loop.at c.before.before.before.before.before.before.before.before.args.capture.now)
+    → c.pair.result ≡ length_in (drop c.before.before.before.before.loop.at c.before.before.before.before.before.before.before.before.args.capture.now)
 read c =
     let l = c.before.before.before.before in
     c.pair.ensures.0 ∙ sym (length-is _ _ _ _ l.before.before.before.before.requires.0 l.loop.invariant c.before.before.before.loop-test.true)
@@ -83,7 +83,7 @@ returns c =
     let s = l.before.before.before.before in
     rw (c.with.ensures, c.before.open-report.ensures)
     (passing-ends _ _ _ _ s.requires.0 l.loop.invariant c.before.before.before.loop-test.false
-    ∙ ap (λ (slots : List Slot). passedOf (given s.args.report) s.args.limit slots s.args.buffer.now s.args.capture.now)
+    ∙ ap (λ (slots : List Slot). passed_of (given s.args.report) s.args.limit slots s.args.buffer.now s.args.capture.now)
     l.before.idle-row.ensures)
 
 pub pass_spec : {M : Type 1} → statement M

@@ -1,5 +1,5 @@
 use borrow.Author.Rules.{rules}
-use Rattle.capture_tally.specs.Tally.{toldSum}
+use Rattle.capture_tally.specs.Tally.{told_sum}
 use Rattle.capture_tally.proofs.Passing.{counted_is}
 use Rattle.capture_tally.proofs.take.Statement.{statement}
 use Rattle.capture_tally.proofs.take.Tie as tie
@@ -8,7 +8,7 @@ returns : tie.Need-returns
 returns c =
     let s = c.before.before.before.before.before.before.before.before.before in
     rw (c.before.count-packet.ensures, c.with-slot.ensures)
-    (counted_is (toldSum s.args.tally.sum) s.args.limit s.args.tally.slots s.args.buffer.now s.args.packet.now _ _ _ c.before.before.before.before.give.ensures)
+    (counted_is (told_sum s.args.tally.sum) s.args.limit s.args.tally.slots s.args.buffer.now s.args.packet.now _ _ _ c.before.before.before.before.give.ensures)
 
 pub take_spec : {M : Type 1} → statement M
 take_spec =

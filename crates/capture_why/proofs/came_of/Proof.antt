@@ -1,10 +1,10 @@
-use Rattle.capture_why.specs.Why.{cameOf}
+use Rattle.capture_why.specs.Why.{came_of}
 use borrow.Author.Rules.{rules}
 use Rattle.capture_why.proofs.came_of.Statement.{statement}
 use Rattle.capture_why.proofs.came_of.Tie as tie
 
 returns : tie.Need-returns
-unfolding cameOf
+unfolding came_of
 returns c =
     rw (
       c.came-by.ensures,

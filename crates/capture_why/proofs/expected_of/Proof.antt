@@ -1,15 +1,15 @@
 use borrow.Author.Tests.{not-true, not-false}
-use Rattle.capture_why.specs.Why.{expectedOf}
+use Rattle.capture_why.specs.Why.{expected_of}
 use borrow.Author.Rules.{rules}
 use Rattle.capture_why.proofs.expected_of.Statement.{statement}
 use Rattle.capture_why.proofs.expected_of.Tie as tie
 
 returns : tie.Need-returns
-unfolding expectedOf
+unfolding expected_of
 returns c = rw (← c.before.is-stream.ensures, not-true c.before.is-stream.result c.if1.true)
 
 returns-2 : tie.Need-returns-2
-unfolding expectedOf
+unfolding expected_of
 returns-2 c =
     let i = c.before.before.before in
     rw (

@@ -1,10 +1,10 @@
-use Rattle.capture_why.specs.Why.{stoppedOf}
+use Rattle.capture_why.specs.Why.{stopped_of}
 use borrow.Author.Rules.{rules}
 use Rattle.capture_why.proofs.stopped_of.Statement.{statement}
 use Rattle.capture_why.proofs.stopped_of.Tie as tie
 
 returns : tie.Need-returns
-unfolding stoppedOf
+unfolding stopped_of
 returns c = rw (c.expected-of.ensures, c.before.came-of.ensures)
 
 pub stopped-of-spec : {M : Type 1} → statement M

@@ -1,6 +1,6 @@
 use Rattle.std.proofs.Common.{sym, ap, ◌∙◌, rules}
 use Rattle.outbox.specs.Format.{format_of}
-use Rattle.outbox.specs.Reader.{toldWalk}
+use Rattle.outbox.specs.Reader.{told_walk}
 use Rattle.cli_listing.proofs.Parts.{listed_by}
 use Rattle.cli_listing.proofs.judge_part.Statement.{statement}
 use Rattle.cli_listing.proofs.judge_part.Tie as tie
@@ -10,7 +10,7 @@ returns c =
     let w = c.before.before in
     let s = w.before.before in
     let part = s.args.part.now in
-    listed_by (format_of part) s.args.last part (sym (ap toldWalk c.enum_told.given.1) ∙ w.walk.ensures)
+    listed_by (format_of part) s.args.last part (sym (ap told_walk c.enum_told.given.1) ∙ w.walk.ensures)
 
 returns-2 : tie.Need-returns-2
 returns-2 c =
@@ -18,7 +18,7 @@ returns-2 c =
     let w = f.before.before in
     let s = w.before.before in
     let part = s.args.part.now in
-    c.judge-refusal.ensures ∙ listed_by (format_of part) s.args.last part (sym (ap toldWalk f.fault.given.1) ∙ w.walk.ensures)
+    c.judge-refusal.ensures ∙ listed_by (format_of part) s.args.last part (sym (ap told_walk f.fault.given.1) ∙ w.walk.ensures)
 
 pub judge-part-spec : {M : Type 1} → statement M
 judge-part-spec =

@@ -1,5 +1,5 @@
 use Rattle.std.proofs.Common.{◌≤◌, length, sym, ap, ◌∙◌, arith, length-take-le, rules}
-use Rattle.outbox_move.specs.Moves.{formatFor, told}
+use Rattle.outbox_move.specs.Moves.{format_for, told}
 use Rattle.outbox_move.proofs.Deciding.{written-fits}
 use Rattle.move_outbox.proofs.move_part.Statement.{statement}
 use Rattle.move_outbox.proofs.move_part.Tie as tie
@@ -13,7 +13,7 @@ fits c =
     let d = c.before.before.before in
     let m = d.before.before.before.before in
     let s = m.before.before.before.before in
-    let inside = written-fits (formatFor s.args.wished) s.args.part.now s.args.space.now _ (ap (λ s. s.told) (sym m.move-file.ensures) ∙ ap told d.moved.given.1) in
+    let inside = written-fits (format_for s.args.wished) s.args.part.now s.args.space.now _ (ap (λ s. s.told) (sym m.move-file.ensures) ∙ ap told d.moved.given.1) in
     omega (arith, inside, m.move-file.auto.1.1.0)
 
 slice-reshare-prefix-write-part : tie.Need-slice-reshare-prefix-write-part

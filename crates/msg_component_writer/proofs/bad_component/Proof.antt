@@ -1,10 +1,10 @@
-use Rattle.msg_component_writer.specs.Component.{badComponent}
+use Rattle.msg_component_writer.specs.Component.{bad_component}
 use borrow.Author.Rules.{rules}
 use Rattle.msg_component_writer.proofs.bad_component.Statement.{statement}
 use Rattle.msg_component_writer.proofs.bad_component.Tie as tie
 
 returns : tie.Need-returns
-unfolding badComponent
+unfolding bad_component
 returns c = cc
 
 pub bad-component-spec : {M : Type 1} → statement M

@@ -2,7 +2,7 @@ use mathlib.Core.List.{[], ◌∷◌}
 use Rattle.proto_field.specs.Value.{bytes_of}
 use Rattle.proto_writer.specs.Writer.{scalar, text}
 use Rattle.proto_writer.specs.declared.message.Room.TheVariants.{Left}
-use Rattle.proto_schema.specs.Schema.{firmwareComponentVersionField, firmwareComponentNameField, firmwareComponentSizeField, firmwareComponentSignatureField}
+use Rattle.proto_schema.specs.Schema.{firmware_component_version_field, firmware_component_name_field, firmware_component_size_field, firmware_component_signature_field}
 use Rattle.msg_component_writer.proofs.Inside.{component-fine}
 use Rattle.proto_writer.proofs.Rooms.{room-end, room-more}
 use borrow.Author.Rules.{rules}
@@ -24,10 +24,10 @@ returns c =
     let at_less = c.before.before.before.before.before.before.before in
     let at-less2 = c.before.before.before.before.before in
     let a = c.before.before.before.before.before.before.before.before.before.before.before.before.before.args in
-    let f₁ = scalar firmwareComponentVersionField a.component.version in
-    let f₂ = text firmwareComponentNameField (bytes_of a.texts.now a.component.name) in
-    let f₃ = scalar firmwareComponentSizeField a.component.size in
-    let f₄ = text firmwareComponentSignatureField (bytes_of a.texts.now a.component.signature) in
+    let f₁ = scalar firmware_component_version_field a.component.version in
+    let f₂ = text firmware_component_name_field (bytes_of a.texts.now a.component.name) in
+    let f₃ = scalar firmware_component_size_field a.component.size in
+    let f₄ = text firmware_component_signature_field (bytes_of a.texts.now a.component.signature) in
     room-more f₁ (f₂ ∷ f₃ ∷ f₄ ∷ []) (Left a.len) c.before.before.before.before.before.before.before.before.scalar-len.ensures.0 at_less.less.ensures
     (room-more f₂ (f₃ ∷ f₄ ∷ []) at_less.less.result c.before.before.before.before.before.before.text-part-len.ensures at-less2.less2.ensures
     (room-more f₃ (f₄ ∷ []) at-less2.less2.result c.before.before.before.scalar-len2.ensures.0 c.before.before.less3.ensures

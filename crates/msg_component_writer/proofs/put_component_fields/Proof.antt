@@ -2,7 +2,7 @@ use mathlib.Core.List.{[], ◌∷◌}
 use native.Mathlib.Omega.{arith}
 use Rattle.proto_field.specs.Value.{bytes_of}
 use Rattle.proto_writer.specs.Writer.{scalar, text}
-use Rattle.proto_schema.specs.Schema.{firmwareComponentVersionField, firmwareComponentNameField, firmwareComponentSizeField, firmwareComponentSignatureField}
+use Rattle.proto_schema.specs.Schema.{firmware_component_version_field, firmware_component_name_field, firmware_component_size_field, firmware_component_signature_field}
 use Rattle.msg_component_writer.proofs.Inside.{component-fine, component-length}
 use Rattle.proto_writer.proofs.Runs.{put-field}
 use Rattle.proto_writer.proofs.Rooms.{put_last}
@@ -39,10 +39,10 @@ put-text-part-requires-2 c κs =
 returns : tie.Need-returns
 returns c =
     let a = c.before.before.before.before.before.before.before.before.before.before.before.before.before.before.before.before.before.before.before.before.before.before.args in
-    let f₁ = scalar firmwareComponentVersionField a.component.version in
-    let f₂ = text firmwareComponentNameField (bytes_of a.texts.now a.component.name) in
-    let f₃ = scalar firmwareComponentSizeField a.component.size in
-    let f₄ = text firmwareComponentSignatureField (bytes_of a.texts.now a.component.signature) in
+    let f₁ = scalar firmware_component_version_field a.component.version in
+    let f₂ = text firmware_component_name_field (bytes_of a.texts.now a.component.name) in
+    let f₃ = scalar firmware_component_size_field a.component.size in
+    let f₄ = text firmware_component_signature_field (bytes_of a.texts.now a.component.signature) in
     put-field f₁ (f₂ ∷ f₃ ∷ f₄ ∷ []) c.before.before.before.before.before.before.before.before.before.before.before.before.before.before.before.put-scalar.ensures (put-field f₂ (f₃ ∷ f₄ ∷ []) c.before.before.before.before.before.before.before.before.before.before.before.put-text-part.ensures (put-field f₃ (f₄ ∷ []) c.before.before.before.before.before.before.put-scalar2.ensures (put_last f₄ c.before.before.put-text-part2.ensures)))
 
 pub put-component-fields-spec : {M : Type 1} → statement M

@@ -1,6 +1,6 @@
 use mathlib.Core.Path.{ap, ◌∙◌}
 use native.Mathlib.Omega.{arith}
-use Rattle.proto_strings.specs.Texts.{orText}
+use Rattle.proto_strings.specs.Texts.{or_text}
 use Rattle.proto_reader.proofs.Strings.{part-taken}
 use Rattle.msg_component_writer.proofs.Inside.{lies-inside}
 use borrow.Author.Rules.{rules}
@@ -16,7 +16,7 @@ part-or-text-end c = let a = c.before.before.args in omega (arith, lies-inside a
 returns : tie.Need-returns
 returns c =
     let a = c.before.before.before.before.args in
-    c.or-text.ensures ∙ ap (λ l. orText a.field l a.fault) (part-taken a.texts.now a.part)
+    c.or-text.ensures ∙ ap (λ l. or_text a.field l a.fault) (part-taken a.texts.now a.part)
 
 pub text-part-fault-spec : {M : Type 1} → statement M
 text-part-fault-spec =

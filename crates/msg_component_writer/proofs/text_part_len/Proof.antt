@@ -1,7 +1,7 @@
 use mathlib.Core.Path.{ap, ◌∙◌}
 use native.Mathlib.Omega.{arith}
 use lib.ListN.{length}
-use Rattle.proto_writer.specs.Writer.{text, fieldBytes}
+use Rattle.proto_writer.specs.Writer.{text, field_bytes}
 use Rattle.proto_reader.proofs.Strings.{part-taken}
 use Rattle.msg_component_writer.proofs.Inside.{lies-inside}
 use borrow.Author.Rules.{rules}
@@ -17,7 +17,7 @@ part-text-len-end c = let a = c.before.before.args in omega (arith, lies-inside 
 returns : tie.Need-returns
 returns c =
     let a = c.before.before.before.before.args in
-    c.text-len.ensures.0 ∙ ap (λ l. length (fieldBytes (text a.field l))) (part-taken a.texts.now a.part)
+    c.text-len.ensures.0 ∙ ap (λ l. length (field_bytes (text a.field l))) (part-taken a.texts.now a.part)
 
 pub text-part-len-spec : {M : Type 1} → statement M
 text-part-len-spec =

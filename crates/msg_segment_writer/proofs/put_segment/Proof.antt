@@ -3,7 +3,7 @@ use mathlib.Core.List.{[], ◌∷◌}
 use native.Mathlib.Omega.{arith}
 use Rattle.proto_writer.specs.Writer.{scalar, text}
 use Rattle.proto_writer.proofs.Runs.{put-field, scalar-none}
-use Rattle.proto_schema.specs.Schema.{componentNameField, componentOffsetField, segmentSizeField, segmentSignatureField}
+use Rattle.proto_schema.specs.Schema.{component_name_field, component_offset_field, segment_size_field, segment_signature_field}
 use Rattle.proto_writer.proofs.Rooms.{put-skip, put_last}
 use Rattle.msg_segment_writer.proofs.Segments.{segment-length}
 use borrow.Author.Rules.{rules}
@@ -29,11 +29,11 @@ put-text-requires-2 c κs =
 returns : tie.Need-returns
 returns c =
     let a = c.before.before.before.before.before.before.before.before.before.before.before.before.before.before.before.args in
-    let f₁ = text componentNameField a.component-name.now in
-    let f₂ = scalar componentOffsetField 0 in
-    let f₃ = scalar segmentSizeField a.segment-size in
-    let f₄ = text segmentSignatureField a.segment-signature.now in
-    put-field f₁ (f₂ ∷ f₃ ∷ f₄ ∷ []) c.before.before.before.before.before.before.before.before.before.before.put-text.ensures (put-skip f₂ (f₃ ∷ f₄ ∷ []) (scalar-none componentOffsetField 0 refl) (put-field f₃ (f₄ ∷ []) c.before.before.before.before.before.before.put-scalar.ensures (put_last f₄ c.before.before.put-text2.ensures)))
+    let f₁ = text component_name_field a.component-name.now in
+    let f₂ = scalar component_offset_field 0 in
+    let f₃ = scalar segment_size_field a.segment-size in
+    let f₄ = text segment_signature_field a.segment-signature.now in
+    put-field f₁ (f₂ ∷ f₃ ∷ f₄ ∷ []) c.before.before.before.before.before.before.before.before.before.before.put-text.ensures (put-skip f₂ (f₃ ∷ f₄ ∷ []) (scalar-none component_offset_field 0 refl) (put-field f₃ (f₄ ∷ []) c.before.before.before.before.before.before.put-scalar.ensures (put_last f₄ c.before.before.put-text2.ensures)))
 
 pub put-segment-spec : {M : Type 1} → statement M
 put-segment-spec =

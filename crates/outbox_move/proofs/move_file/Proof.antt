@@ -1,7 +1,7 @@
 use mathlib.Core.Path.{sym, ap, ◌∙◌}
 use borrow.Author.Rules.{rules}
-use Rattle.outbox.specs.Reader.{faultNumber, toldWalk}
-use Rattle.outbox_move.specs.Moves.{formatFor, move_of}
+use Rattle.outbox.specs.Reader.{fault_number, told_walk}
+use Rattle.outbox_move.specs.Moves.{format_for, move_of}
 use Rattle.outbox_move.proofs.Deciding.{broken, known-for}
 use Rattle.outbox_move.proofs.move_file.Statement.{statement}
 use Rattle.outbox_move.proofs.move_file.Tie as tie
@@ -12,7 +12,7 @@ move-whole-requires c κs =
     let t = f.before in
     let w = t.before.before in
     let s = w.before.before.before in
-    (rw f.format.ensures (known-for s.args.wished), sym w.walk.ensures ∙ ap toldWalk t.enum_told.given.1)
+    (rw f.format.ensures (known-for s.args.wished), sym w.walk.ensures ∙ ap told_walk t.enum_told.given.1)
 
 returns : tie.Need-returns
 returns c =
@@ -27,8 +27,8 @@ returns-2 c =
     let w = m.before.before in
     let s = w.before.before.before in
     sym
-    (broken (formatFor s.args.wished) s.args.file.now s.args.out.now (faultNumber m.fault.given.0.0) m.fault.given.0.1.0
-    (sym w.walk.ensures ∙ ap toldWalk m.fault.given.1))
+    (broken (format_for s.args.wished) s.args.file.now s.args.out.now (fault_number m.fault.given.0.0) m.fault.given.0.1.0
+    (sym w.walk.ensures ∙ ap told_walk m.fault.given.1))
 
 pub move-file-spec : {M : Type 1} → statement M
 move-file-spec =

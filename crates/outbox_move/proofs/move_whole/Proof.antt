@@ -2,11 +2,11 @@ use mathlib.Core.Path.{sym, ap, ◌∙◌}
 use mathlib.Core.List.{◌++◌}
 use borrow.Author.Rules.{rules}
 use Rattle.outbox.specs.declared.format.Format.{Format}
-use Rattle.outbox.specs.Format.{newBytes, firstPlace}
+use Rattle.outbox.specs.Format.{new_bytes, first_place}
 use Rattle.outbox.specs.Reader.{read_all}
-use Rattle.outbox.specs.Writer.{ifWhole}
+use Rattle.outbox.specs.Writer.{if_whole}
 use Rattle.outbox.proofs.Versions.{format-known}
-use Rattle.outbox_move.specs.Moves.{recordsIn, overFrom, placed}
+use Rattle.outbox_move.specs.Moves.{records_in, over_from, placed}
 use Rattle.outbox_move.proofs.Deciding.{copies, rewrites}
 use Rattle.outbox_move.proofs.move_whole.Statement.{statement}
 use Rattle.outbox_move.proofs.move_whole.Tie as tie
@@ -36,7 +36,7 @@ returns-2 c =
     let out = s.args.out.now in
     let fmt = s.args.fmt in
     w.rewrite.ensures
-    ∙ ap (λ (own : Format). ifWhole (overFrom fmt.limit firstPlace (read_all own file)) out (placed out (newBytes fmt ++ recordsIn fmt (read_all own file)))) o.of.ensures
+    ∙ ap (λ (own : Format). if_whole (over_from fmt.limit first_place (read_all own file)) out (placed out (new_bytes fmt ++ records_in fmt (read_all own file)))) o.of.ensures
     ∙ sym (rewrites fmt file out s.requires.1 (λ e. d.if1.false (b.byte_at.ensures ∙ e)))
 
 pub move-whole-spec : {M : Type 1} → statement M

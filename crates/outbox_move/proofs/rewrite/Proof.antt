@@ -4,7 +4,7 @@ use lib.ListN.{length}
 use borrow.Author.Rules.{rules}
 use borrow.Author.Tests.{lt-ltb, le-ltb}
 use Rattle.outbox.specs.Reader.{read_all}
-use Rattle.outbox_move.specs.Moves.{toldCount}
+use Rattle.outbox_move.specs.Moves.{told_count}
 use Rattle.outbox_move.proofs.Deciding.{counted, counted-size}
 use Rattle.outbox_move.proofs.rewrite.Statement.{statement}
 use Rattle.outbox_move.proofs.rewrite.Tie as tie
@@ -17,7 +17,7 @@ returns c =
     let file = s.args.file.now in
     let out = s.args.out.now in
     sym
-    (counted s.args.fmt (read_all s.args.own file) out _ (sym j.count.ensures ∙ ap toldCount m.n.given.1)
+    (counted s.args.fmt (read_all s.args.own file) out _ (sym j.count.ensures ∙ ap told_count m.n.given.1)
     ∙ rw (lt-ltb (length out) m.n.given.0.0 c.if1.true))
 
 write-records-requires : tie.Need-write-records-requires
@@ -27,7 +27,7 @@ write-records-requires c κs =
     let j = m.before.before in
     let s = j.before.before.before in
     let file = s.args.file.now in
-    let size = counted-size s.args.fmt (read_all s.args.own file) m.n.given.0.0 (sym j.count.ensures ∙ ap toldCount m.n.given.1) in
+    let size = counted-size s.args.fmt (read_all s.args.own file) m.n.given.0.0 (sym j.count.ensures ∙ ap told_count m.n.given.1) in
     (s.requires.0, s.requires.1, size.0, omega (arith, size.1, d.if1.false))
 
 returns-2 : tie.Need-returns-2
@@ -36,7 +36,7 @@ returns-2 c =
     let j = m.before.before in
     let s = j.before.before.before in
     let file = s.args.file.now in
-    sym (counted s.args.fmt (read_all s.args.own file) s.args.out.now _ (sym j.count.ensures ∙ ap toldCount m.place.given.1))
+    sym (counted s.args.fmt (read_all s.args.own file) s.args.out.now _ (sym j.count.ensures ∙ ap told_count m.place.given.1))
 
 returns-3 : tie.Need-returns-3
 returns-3 c =
@@ -49,7 +49,7 @@ returns-3 c =
     let out = s.args.out.now in
     rw w.write-records.ensures
     (sym
-    (counted s.args.fmt (read_all s.args.own file) out _ (sym j.count.ensures ∙ ap toldCount m.n.given.1)
+    (counted s.args.fmt (read_all s.args.own file) out _ (sym j.count.ensures ∙ ap told_count m.n.given.1)
     ∙ rw (le-ltb (length out) m.n.given.0.0 d.if1.false)))
 
 pub rewrite-spec : {M : Type 1} → statement M

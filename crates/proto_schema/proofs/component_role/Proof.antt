@@ -1,26 +1,26 @@
 use borrow.Author.Tests.{eq-eqb, ne_eqb}
-use Rattle.proto_schema.specs.Schema.{roleOf}
+use Rattle.proto_schema.specs.Schema.{role_of}
 use Rattle.proto_schema.proofs.component_role.Statement.{statement}
 use Rattle.proto_schema.proofs.component_role.Tie as tie
 
 returns : tie.Need-returns
-unfolding roleOf
+unfolding role_of
 returns c = rw (eq-eqb _ _ c.if1.true)
 
 returns-2 : tie.Need-returns-2
-unfolding roleOf
+unfolding role_of
 returns-2 c = rw (ne_eqb _ _ c.before.if1.false, eq-eqb _ _ c.if2.true)
 
 returns-3 : tie.Need-returns-3
-unfolding roleOf
+unfolding role_of
 returns-3 c = rw (ne_eqb _ _ c.before.before.if1.false, ne_eqb _ _ c.before.if2.false, eq-eqb _ _ c.if3.true)
 
 returns-4 : tie.Need-returns-4
-unfolding roleOf
+unfolding role_of
 returns-4 c = rw (ne_eqb _ _ c.before.before.before.if1.false, ne_eqb _ _ c.before.before.if2.false, ne_eqb _ _ c.before.if3.false, eq-eqb _ _ c.if4.true)
 
 returns-5 : tie.Need-returns-5
-unfolding roleOf
+unfolding role_of
 returns-5 c = rw (ne_eqb _ _ c.before.before.before.if1.false, ne_eqb _ _ c.before.before.if2.false, ne_eqb _ _ c.before.if3.false, ne_eqb _ _ c.if4.false)
 
 pub component-role-spec : {M : Type 1} → statement M

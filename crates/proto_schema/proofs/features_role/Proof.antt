@@ -1,18 +1,18 @@
 use borrow.Author.Tests.{eq-eqb, ne_eqb}
-use Rattle.proto_schema.specs.Schema.{roleOf}
+use Rattle.proto_schema.specs.Schema.{role_of}
 use Rattle.proto_schema.proofs.features_role.Statement.{statement}
 use Rattle.proto_schema.proofs.features_role.Tie as tie
 
 returns : tie.Need-returns
-unfolding roleOf
+unfolding role_of
 returns c = rw (eq-eqb _ _ c.if1.true)
 
 returns-2 : tie.Need-returns-2
-unfolding roleOf
+unfolding role_of
 returns-2 c = rw (ne_eqb _ _ c.before.if1.false, eq-eqb _ _ c.if2.true)
 
 returns-3 : tie.Need-returns-3
-unfolding roleOf
+unfolding role_of
 returns-3 c = rw (ne_eqb _ _ c.before.if1.false, ne_eqb _ _ c.if2.false)
 
 pub features-role-spec : {M : Type 1} → statement M

@@ -7,9 +7,9 @@ use lib.ListN.{length-append}
 use Rattle.wire.proofs.Limits.{limit-range}
 use Rattle.ble_packet.proofs.Headers.{in-range-low}
 use Rattle.ble_sender.proofs.Guard.{room-low}
-use Rattle.reply_parts.specs.Front.{frontBytes}
-use Rattle.reply_parts.specs.Body.{bodyBy}
-use Rattle.reply.specs.Reply.{boxOf, sendingOf, joinedIn}
+use Rattle.reply_parts.specs.Front.{front_bytes}
+use Rattle.reply_parts.specs.Body.{body_by}
+use Rattle.reply.specs.Reply.{box_of, sending_of, joined_in}
 use Rattle.reply.proofs.Replies.{member-fine, few-by}
 use Rattle.reply.proofs.Tables.{too_long, bad-text, carried}
 use borrow.Author.Rules.{rules}
@@ -32,9 +32,9 @@ fill-requires c κs =
     let a = s.args in
     let w = rw at_front.front.given.1 at c.before.before.before.before.before.before.before.measure.ensures in
     let high = (limit-range a.link.limit s.requires.limit).1 in
-    let body = bodyBy a.serial-number.now a.name.now a.transports.now a.device-type.now a.features a.kind in
+    let body = body_by a.serial-number.now a.name.now a.transports.now a.device-type.now a.features a.kind in
     let long = ap lib.ListN.length w.whole in
-    let parts = length-append (frontBytes at_front.front.given.0.0) body in (
+    let parts = length-append (front_bytes at_front.front.given.0.0) body in (
       few-by a.members a.transports.now a.kind s.requires.carried,
       record {
         fits = w.fits;
@@ -48,21 +48,21 @@ fill-requires c κs =
 returns : tie.Need-returns
 returns c =
     let a = c.before.before.before.before.before.before.before.args in
-    too_long (boxOf a.serial-number.now a.name.now a.transports.now a.device-type.now a.features a.members) a.link a.value a.kind a.out.now (rw c.enum_told.given.1 at c.before.before.measure.ensures)
+    too_long (box_of a.serial-number.now a.name.now a.transports.now a.device-type.now a.features a.members) a.link a.value a.kind a.out.now (rw c.enum_told.given.1 at c.before.before.measure.ensures)
 
 returns-2 : tie.Need-returns-2
 returns-2 c =
     let a = c.before.before.before.before.before.before.before.before.before.before.before.before.args in
     let w = rw c.before.before.before.before.before.front.given.1 at c.before.before.before.before.before.before.before.measure.ensures in
-    bad-text (boxOf a.serial-number.now a.name.now a.transports.now a.device-type.now a.features a.members) a.link a.value a.kind a.out.now w.within _ _ (sym c.before.before.before.fault-of.ensures ∙ c.before.field.given.1)
+    bad-text (box_of a.serial-number.now a.name.now a.transports.now a.device-type.now a.features a.members) a.link a.value a.kind a.out.now w.within _ _ (sym c.before.before.before.fault-of.ensures ∙ c.before.field.given.1)
 
 returns-3 : tie.Need-returns-3
 returns-3 c =
     let a = c.before.before.before.before.before.before.before.before.before.before.before.before.before.before.before.args in
     let w = rw c.before.before.before.before.before.before.before.before.front.given.1 at c.before.before.before.before.before.before.before.before.before.before.measure.ensures in
     c.before.before.fill.ensures
-    ∙ ap (λ (m : List ℕ). joinedIn (sendingOf a.link) m a.out.now) w.whole
-    ∙ carried (boxOf a.serial-number.now a.name.now a.transports.now a.device-type.now a.features a.members) a.link a.value a.kind a.out.now w.within (sym c.before.before.before.before.before.before.fault-of.ensures ∙ c.before.before.before.before.enum-told2.given.1)
+    ∙ ap (λ (m : List ℕ). joined_in (sending_of a.link) m a.out.now) w.whole
+    ∙ carried (box_of a.serial-number.now a.name.now a.transports.now a.device-type.now a.features a.members) a.link a.value a.kind a.out.now w.within (sym c.before.before.before.before.before.before.fault-of.ensures ∙ c.before.before.before.before.enum-told2.given.1)
 
 pub carry-spec : {M : Type 1} → statement M
 carry-spec =

@@ -1,21 +1,21 @@
 -- Five tests in the table's order; each way out has those before it put in.
-use Rattle.reply.specs.Put.{judgedOf}
+use Rattle.reply.specs.Put.{judged_of}
 use borrow.Author.Rules.{rules}
 use Rattle.reply.proofs.judge.Statement.{statement}
 use Rattle.reply.proofs.judge.Tie as tie
 
 returns : tie.Need-returns
-unfolding judgedOf
+unfolding judged_of
 returns c = rw (← c.before.room_fits.ensures, c.if1.true)
 
 returns-2 : tie.Need-returns-2
-unfolding judgedOf
+unfolding judged_of
 returns-2 c =
     let i = c.before.before in
     rw (← i.before.room_fits.ensures, i.if1.false, ← c.before.limit-fits.ensures, c.if2.true)
 
 returns-3 : tie.Need-returns-3
-unfolding judgedOf
+unfolding judged_of
 returns-3 c =
     let j = c.before.before in
     let i = j.before.before in
@@ -29,7 +29,7 @@ returns-3 c =
     )
 
 returns-4 : tie.Need-returns-4
-unfolding judgedOf
+unfolding judged_of
 returns-4 c =
     let k = c.before.before in
     let j = k.before.before in
@@ -46,7 +46,7 @@ returns-4 c =
     )
 
 returns-5 : tie.Need-returns-5
-unfolding judgedOf
+unfolding judged_of
 returns-5 c =
     let k = c.before.before in
     let j = k.before.before in

@@ -6,9 +6,9 @@ use mathlib.Core.List.{List}
 use lib.ListN.{length}
 use Rattle.proto_writer.proofs.Messages.{room-short}
 use Rattle.proto_writer.proofs.Rooms.{room-rest}
-use Rattle.reply_parts.specs.Body.{bodyBy}
+use Rattle.reply_parts.specs.Body.{body_by}
 use Rattle.reply_parts.proofs.Fronts.{Whole}
-use Rattle.reply.specs.Reply.{memberOf}
+use Rattle.reply.specs.Reply.{member_of}
 use Rattle.reply.proofs.Replies.{CountedReply, whole_by, body-within, counted}
 use borrow.Author.Rules.{rules}
 use Rattle.reply.proofs.measure.Statement.{statement}
@@ -24,9 +24,9 @@ sub-body c =
 
 -- the bytes of the member
 abbrev body : tie.Start → List ℕ
-body s = bodyBy s.args.serial-number.now s.args.name.now s.args.transports.now s.args.device-type.now s.args.features s.args.kind
+body s = body_by s.args.serial-number.now s.args.name.now s.args.transports.now s.args.device-type.now s.args.features s.args.kind
 
-whole : (s : tie.Start) → Whole (memberOf s.args.members s.args.kind) (body s)
+whole : (s : tie.Start) → Whole (member_of s.args.members s.args.kind) (body s)
 whole s = whole_by s.args.serial-number.now s.args.name.now s.args.transports.now s.args.device-type.now s.args.features s.args.members s.args.kind
 
 -- the reply by what the body left of the limit, and the front for that

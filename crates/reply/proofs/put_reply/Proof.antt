@@ -6,8 +6,8 @@ use lib.ListN.{length, length-take, length-drop}
 use lib.Seq.{length-sets}
 use borrow.Rule.Slice.PartMut.{put_mid}
 use Rattle.wire.proofs.Parts.{sets-part}
-use Rattle.reply_parts.specs.Front.{frontBytes}
-use Rattle.reply_parts.specs.Body.{bodyBy}
+use Rattle.reply_parts.specs.Front.{front_bytes}
+use Rattle.reply_parts.specs.Body.{body_by}
 use Rattle.ble_joined.proofs.Pieces.{total-fits}
 use Rattle.reply.proofs.Puts.{reply-joined}
 use borrow.Author.Rules.{rules}
@@ -43,8 +43,8 @@ returns c =
     let g = c.before.before.before.before.before.before.put-body in
     let o = a.out.now in
     let t = total-fits a.how.room a.total s.requires.1.room in
-    let front = frontBytes a.front in
-    let body = bodyBy a.serial-number.now a.name.now a.transports.now a.device-type.now a.features a.kind in
+    let front = front_bytes a.front in
+    let body = body_by a.serial-number.now a.name.now a.transports.now a.device-type.now a.features a.kind in
     let start = length o - a.total in
     let middle = length o - a.front.body in
     let e₁ = ap (put_mid start (length o - start) o) f.ensures.stored ∙ sets-part o start (length o - start) 0 front (omega (arith, s.requires.1.long, t)) (omega (arith, s.requires.1.long, t, s.requires.1.long-total)) in

@@ -4,25 +4,25 @@ use mathlib.Core.Bool.{cond}
 use lib.ListN.{length, get_or}
 use lib.Dec.{eqb}
 use borrow.Author.Tests.{not-true, not-false}
-use Rattle.ble_packet.specs.Header.{typeFirst, typeContinuation, typeLast, typeControl, typeBits}
-use Rattle.ble_packet.specs.Reader.{judged, read_of, startBitsOf, fieldsByStart}
+use Rattle.ble_packet.specs.Header.{type_first, type_continuation, type_last, type_control, type_bits}
+use Rattle.ble_packet.specs.Reader.{judged, read_of, start_bits_of, fields_by_start}
 use Rattle.ble_packet.proofs.Reading.{headless, read-from, no_start, no_header, no_stream, first-long, next-long, kind-next}
 use borrow.Author.Rules.{rules}
 use Rattle.ble_packet.proofs.reader.read.Statement.{statement}
 use Rattle.ble_packet.proofs.reader.read.Tie as tie
 
-kind_at : (c : tie.After-type-bits) → c.type-bits.result ≡ typeBits (get_or c.before.before.before.before.before.before.args.packet.now 1 0)
+kind_at : (c : tie.After-type-bits) → c.type-bits.result ≡ type_bits (get_or c.before.before.before.before.before.before.args.packet.now 1 0)
 kind_at c = rw c.before.before.before.byte_at.ensures at c.type-bits.ensures
 
 start-at : (c : tie.After-type-bits)
     → (let t = c.before.before.before.before.before.before in
-    c.before.start-bits.result ≡ startBitsOf (get_or t.args.packet.now 0 0) (get_or t.args.packet.now 1 0))
+    c.before.start-bits.result ≡ start_bits_of (get_or t.args.packet.now 0 0) (get_or t.args.packet.now 1 0))
 start-at c = rw (c.before.before.byte-at2.ensures, c.before.before.before.byte_at.ensures) at c.before.start-bits.ensures
 
 -- what bytes 0 and 1 say
 from : (c : tie.After-type-bits)
     → (let t = c.before.before.before.before.before.before in
-    read_of t.args.limit t.args.packet.now ≡ judged t.args.limit (fieldsByStart t.args.packet.now c.type-bits.result c.before.start-bits.result))
+    read_of t.args.limit t.args.packet.now ≡ judged t.args.limit (fields_by_start t.args.packet.now c.type-bits.result c.before.start-bits.result))
 from c =
     let t = c.before.before.before.before.before.before in
     read-from t.args.limit t.args.packet.now c.type-bits.result c.before.start-bits.result (kind_at c) (start-at c)
@@ -65,7 +65,7 @@ returns-4 c =
     let k = c.before.before.before.before.before.before.before in
     let t = k.before.before.before.before.before.before in
     c.read-control.ensures t.args.limit
-    ∙ sym (read-from t.args.limit t.args.packet.now typeControl k.before.start-bits.result (sym c.before.if4.true ∙ kind_at k) (start-at k))
+    ∙ sym (read-from t.args.limit t.args.packet.now type_control k.before.start-bits.result (sym c.before.if4.true ∙ kind_at k) (start-at k))
 
 read-first-requires : tie.Need-read-first-requires
 read-first-requires c κs =
@@ -79,7 +79,7 @@ returns-5 c =
     let k = c.before.before.before.before.before.before.before.before in
     let t = k.before.before.before.before.before.before in
     c.read_first.ensures
-    ∙ sym (read-from t.args.limit t.args.packet.now typeFirst k.before.start-bits.result (sym c.before.if5.true ∙ kind_at k) (start-at k))
+    ∙ sym (read-from t.args.limit t.args.packet.now type_first k.before.start-bits.result (sym c.before.if5.true ∙ kind_at k) (start-at k))
 
 read-next-requires : tie.Need-read-next-requires
 read-next-requires c κs =
@@ -93,7 +93,7 @@ returns-6 c =
     let k = c.before.before.before.before.before.before.before.before in
     let t = k.before.before.before.before.before.before in
     let second = get_or t.args.packet.now 1 0 in
-    let last : cond (eqb k.type-bits.result typeLast) typeLast typeContinuation ≡ typeBits second = rw (kind_at k) (kind-next second (rw (kind_at k) at c.before.before.if4.false) (rw (kind_at k) at c.before.if5.false)) in
+    let last : cond (eqb k.type-bits.result type_last) type_last type_continuation ≡ type_bits second = rw (kind_at k) (kind-next second (rw (kind_at k) at c.before.before.if4.false) (rw (kind_at k) at c.before.if5.false)) in
     c.read_next.ensures t.args.limit
     ∙ sym (read-from t.args.limit t.args.packet.now _ k.before.start-bits.result last (start-at k))
 

@@ -9,8 +9,8 @@ use borrow.Author.Tests.{eq-eqb, ne_eqb, lt-ltb, le-ltb}
 use Rattle.wire.specs.Bytes.{pair_of}
 use Rattle.wire.specs.Told.{given, refused, line, table}
 use Rattle.ble_packet.specs.declared.reader.Packet.TheVariants.{First}
-use Rattle.ble_packet.specs.Header.{reservedByte, typeFirst}
-use Rattle.ble_packet.specs.Reader.{judged, headBy, fieldsByStart}
+use Rattle.ble_packet.specs.Header.{reserved_byte, type_first}
+use Rattle.ble_packet.specs.Reader.{judged, head_by, fields_by_start}
 use Rattle.ble_packet.proofs.Reading.{first-judged}
 use borrow.Author.Rules.{rules}
 use Rattle.ble_packet.proofs.reader.read_first.Statement.{statement}
@@ -20,16 +20,16 @@ use Rattle.ble_packet.proofs.reader.read_first.Tie as tie
 table_at : (c : tie.After-length-at) {total : ℕ}
     → (let t = c.before.before.before.before.before.before in
     total ≡ pair_of (get_or t.args.packet.now 3 0) (get_or t.args.packet.now 4 0)
-    → judged t.args.limit (fieldsByStart t.args.packet.now typeFirst t.args.s)
+    → judged t.args.limit (fields_by_start t.args.packet.now type_first t.args.s)
     ≡ table
-    (line 4 (not (eqb c.before.before.before.before.byte_at.result reservedByte))
+    (line 4 (not (eqb c.before.before.before.before.byte_at.result reserved_byte))
     ∷ line 5 (not (eqb (length t.args.packet.now) (c.before.before.header-size.result + c.length_at.result)))
     ∷ line 6 (ltb t.args.limit total)
     ∷ line 7 (eqb c.length_at.result 0 && not (eqb total 0))
     ∷ line 8 (ltb total c.length_at.result)
     ∷ [])
     refused
-    (given (First (headBy t.args.s) t.args.s.ack total c.before.before.header-size.result c.length_at.result)))
+    (given (First (head_by t.args.s) t.args.s.ack total c.before.before.header-size.result c.length_at.result)))
 table_at c e =
     let t = c.before.before.before.before.before.before in
     first-judged t.args.limit t.args.packet.now t.args.s c.before.before.before.before.byte_at.ensures c.before.before.header-size.ensures.0 (rw c.before.length-place.ensures.0 at c.length_at.ensures.0) e t.requires.0 t.requires.1

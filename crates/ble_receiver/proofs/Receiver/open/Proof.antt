@@ -1,15 +1,15 @@
 use mathlib.Core.Path.{sym, ◌∙◌}
 use borrow.Author.Rules.{rules}
-use Rattle.ble_receiver.specs.Receiver.{openOf}
+use Rattle.ble_receiver.specs.Receiver.{open_of}
 use Rattle.ble_receiver.proofs.Receiver.open.Statement.{statement}
 use Rattle.ble_receiver.proofs.Receiver.open.Tie as tie
 
 returns : tie.Need-returns
-unfolding openOf
+unfolding open_of
 returns c = rw (sym c.before.limit-fits.ensures ∙ c.if1.true)
 
 returns-2 : tie.Need-returns-2
-unfolding openOf
+unfolding open_of
 returns-2 c = rw (sym c.before.limit-fits.ensures ∙ c.if1.false)
 
 pub open_spec : {M : Type 1} → statement M

@@ -1,7 +1,7 @@
 use Prim.Native.Nat.{ℕ, ◌+◌, ◌-◌, ◌*◌, ◌≤◌}
 use Rattle.wire.proofs.Parts.{sets-part}
-use Rattle.ble_slot.specs.Slot.{slotCount}
-use Rattle.ble_receiver.specs.Buffer.{partStart}
+use Rattle.ble_slot.specs.Slot.{slot_count}
+use Rattle.ble_receiver.specs.Buffer.{part_start}
 use Rattle.ble_receiver.proofs.Parts.{part-inside}
 use borrow.Rule.Slice.PartMut.{put_mid}
 use lib.ListN.{length, take, drop, length-take, length-drop}
@@ -15,7 +15,7 @@ use Rattle.ble_receiver.proofs.buffer.write_payload.Statement.{statement}
 use Rattle.ble_receiver.proofs.buffer.write_payload.Tie as tie
 
 -- the part that is lent lies within the buffer
-inside : (c : tie.Start) → partStart c.args.limit c.args.index + c.args.limit ≤ slotCount * c.args.limit
+inside : (c : tie.Start) → part_start c.args.limit c.args.index + c.args.limit ≤ slot_count * c.args.limit
 inside c = part-inside c.args.limit c.args.index c.requires.1
 
 mul-start : tie.Need-overflow-mul-start

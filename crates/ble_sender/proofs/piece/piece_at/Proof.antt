@@ -5,7 +5,7 @@ use native.Mathlib.Nat.{div-le_self}
 use mathlib.Core.Path.{refl, sym}
 use mathlib.Core.Bool.{false}
 use borrow.Author.Rules.{rules}
-use Rattle.ble_sender.specs.Piece.{fullSize}
+use Rattle.ble_sender.specs.Piece.{full_size}
 use Rattle.ble_sender.proofs.Pieces.{place-first, place-beyond, place-before, place-between, place-hit}
 use Rattle.ble_sender.proofs.piece.piece_at.Statement.{statement}
 use Rattle.ble_sender.proofs.piece.piece_at.Tie as tie
@@ -22,7 +22,7 @@ returns-2 c =
     let s = c.before.before.before in
     let a = s.args in
     sym
-    (place-beyond a.room a.length a.start _ s.requires c.before.before.full_size.ensures.0 (fullSize a.room false) refl
+    (place-beyond a.room a.length a.start _ s.requires c.before.before.full_size.ensures.0 (full_size a.room false) refl
     c.before.if1.false (omega arith))
 
 returns-3 : tie.Need-returns-3
@@ -30,7 +30,7 @@ returns-3 c =
     let s = c.before.before.before.before in
     let a = s.args in
     sym
-    (place-beyond a.room a.length a.start _ s.requires c.before.before.before.full_size.ensures.0 (fullSize a.room false) refl
+    (place-beyond a.room a.length a.start _ s.requires c.before.before.before.full_size.ensures.0 (full_size a.room false) refl
     c.before.before.if1.false (omega arith))
 
 returns-4 : tie.Need-returns-4
@@ -38,7 +38,7 @@ returns-4 c =
     let s = c.before.before.before.before.before in
     let a = s.args in
     sym
-    (place-before a.room a.length a.start _ s.requires c.before.before.before.before.full_size.ensures.0 (fullSize a.room false) refl
+    (place-before a.room a.length a.start _ s.requires c.before.before.before.before.full_size.ensures.0 (full_size a.room false) refl
     c.before.before.before.if1.false (omega arith))
 
 returns-5 : tie.Need-returns-5

@@ -1,7 +1,7 @@
 use borrow.Author.Rules.{rules}
 use native.Mathlib.Omega.{arith}
 use mathlib.Core.Path.{refl}
-use Rattle.ble_sender.specs.Piece.{extended, isFirst}
+use Rattle.ble_sender.specs.Piece.{extended, is_first}
 use Rattle.ble_sender.proofs.Packets.{header-some, length-by, header-stored}
 use Rattle.ble_sender.proofs.writer.put_header.Statement.{statement}
 use Rattle.ble_sender.proofs.writer.put_header.Tie as tie
@@ -10,13 +10,13 @@ put-start-requires : tie.Need-put-start-requires
 put-start-requires c κs =
     let a = c.before.before.before in
     let f = a.requires.header-fits in
-    let h = header-some (isFirst a.args.piece.index) (extended a.args.piece.size) in
+    let h = header-some (is_first a.args.piece.index) (extended a.args.piece.size) in
     (omega arith, a.requires.low-stream, a.requires.low-id)
 
 put-length-requires : tie.Need-put-length-requires
 put-length-requires c κs =
     let a = c.before.before.before.before.before.before.before.before.before.before.before.before in
-    let l = length-by (isFirst a.args.piece.index) a.args.piece.size (extended a.args.piece.size) refl in
+    let l = length-by (is_first a.args.piece.index) a.args.piece.size (extended a.args.piece.size) refl in
     let e = c.length-place.ensures.0 in
     let k1 = c.before.before.before.before.put-total.auto.0 in
     let k2 = c.before.before.before.before.before.before.before.before.put-start.auto.0 in

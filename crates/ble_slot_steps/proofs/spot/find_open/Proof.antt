@@ -1,5 +1,5 @@
 use Rattle.ble_slot_steps.proofs.Steps.{where-four}
-use Rattle.ble_slot.specs.Slot.{isOpen}
+use Rattle.ble_slot.specs.Slot.{is_open}
 use borrow.Author.Rules.{rules}
 use Rattle.ble_slot_steps.proofs.spot.find_open.Statement.{statement}
 use Rattle.ble_slot_steps.proofs.spot.find_open.Tie as tie
@@ -8,7 +8,7 @@ returns : tie.Need-returns
 returns c =
     let s = c.before.before.before in
     rw (
-      where-four (isOpen s.args.id) s.args.t1 s.well-formed.0.1.0.1,
+      where-four (is_open s.args.id) s.args.t1 s.well-formed.0.1.0.1,
       ← c.before.is_open.ensures,
       c.if1.true,
     )
@@ -17,7 +17,7 @@ returns-2 : tie.Need-returns-2
 returns-2 c =
     let s = c.before.before.before.before.before.before in
     rw (
-      where-four (isOpen s.args.id) s.args.t1 s.well-formed.0.1.0.1,
+      where-four (is_open s.args.id) s.args.t1 s.well-formed.0.1.0.1,
       ← c.before.before.before.before.is_open.ensures,
       c.before.before.before.if1.false,
       ← c.before.is-open2.ensures,
@@ -28,7 +28,7 @@ returns-3 : tie.Need-returns-3
 returns-3 c =
     let s = c.before.before.before.before.before.before.before.before.before in
     rw (
-      where-four (isOpen s.args.id) s.args.t1 s.well-formed.0.1.0.1,
+      where-four (is_open s.args.id) s.args.t1 s.well-formed.0.1.0.1,
       ← c.before.before.before.before.before.before.before.is_open.ensures,
       c.before.before.before.before.before.before.if1.false,
       ← c.before.before.before.before.is-open2.ensures,
@@ -41,7 +41,7 @@ returns-4 : tie.Need-returns-4
 returns-4 c =
     let s = c.before.before.before.before.before.before.before.before.before.before.before.before in
     rw (
-      where-four (isOpen s.args.id) s.args.t1 s.well-formed.0.1.0.1,
+      where-four (is_open s.args.id) s.args.t1 s.well-formed.0.1.0.1,
       ← c.before.before.before.before.before.before.before.before.before.before.is_open.ensures,
       c.before.before.before.before.before.before.before.before.before.if1.false,
       ← c.before.before.before.before.before.before.before.is-open2.ensures,
@@ -56,7 +56,7 @@ returns-5 : tie.Need-returns-5
 returns-5 c =
     let s = c.before.before.before.before.before.before.before.before.before.before.before.before in
     rw (
-      where-four (isOpen s.args.id) s.args.t1 s.well-formed.0.1.0.1,
+      where-four (is_open s.args.id) s.args.t1 s.well-formed.0.1.0.1,
       ← c.before.before.before.before.before.before.before.before.before.before.is_open.ensures,
       c.before.before.before.before.before.before.before.before.before.if1.false,
       ← c.before.before.before.before.before.before.before.is-open2.ensures,

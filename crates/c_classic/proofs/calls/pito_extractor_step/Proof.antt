@@ -1,16 +1,16 @@
 use mathlib.Core.Path.{sym, ◌∙◌}
 use borrow.Author.Tests.{eq-eqb, ne_eqb, not-true, not-false}
-use Rattle.c_classic.specs.Calls.{extractorStepOf}
+use Rattle.c_classic.specs.Calls.{extractor_step_of}
 use borrow.Author.Rules.{rules}
 use Rattle.c_classic.proofs.calls.pito_extractor_step.Statement.{statement}
 use Rattle.c_classic.proofs.calls.pito_extractor_step.Tie as tie
 
 returns : tie.Need-returns
-unfolding extractorStepOf
+unfolding extractor_step_of
 returns c = rw (ne_eqb _ _ c.if1.true)
 
 returns-2 : tie.Need-returns-2
-unfolding extractorStepOf
+unfolding extractor_step_of
 returns-2 c =
     rw (
       eq-eqb _ _ c.before.before.before.if1.false,
@@ -24,7 +24,7 @@ step-fitting-requires c κs =
     (sym fit.before.is-extractor.ensures ∙ not-false fit.before.is-extractor.result fit.if2.false, fit.before.before.before.if1.false)
 
 returns-3 : tie.Need-returns-3
-unfolding extractorStepOf
+unfolding extractor_step_of
 returns-3 c =
     let done = c.before.before.before.before.before.before in
     let fit = done.before.before.before.before in

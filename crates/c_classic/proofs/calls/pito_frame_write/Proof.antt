@@ -1,15 +1,15 @@
 use borrow.Author.Tests.{eq-eqb, ne_eqb}
-use Rattle.c_classic.specs.Calls.{frameWriteOf}
+use Rattle.c_classic.specs.Calls.{frame_write_of}
 use borrow.Author.Rules.{rules}
 use Rattle.c_classic.proofs.calls.pito_frame_write.Statement.{statement}
 use Rattle.c_classic.proofs.calls.pito_frame_write.Tie as tie
 
 returns : tie.Need-returns
-unfolding frameWriteOf
+unfolding frame_write_of
 returns c = rw (ne_eqb _ _ c.if1.true)
 
 returns-2 : tie.Need-returns-2
-unfolding frameWriteOf
+unfolding frame_write_of
 returns-2 c =
     let told = c.before.before in
     let done = told.before.before.before.before.before in

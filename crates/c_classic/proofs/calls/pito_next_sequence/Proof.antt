@@ -1,15 +1,15 @@
 use borrow.Author.Tests.{eq-eqb, ne_eqb}
-use Rattle.c_classic.specs.Calls.{nextSequenceOf}
+use Rattle.c_classic.specs.Calls.{next_sequence_of}
 use borrow.Author.Rules.{rules}
 use Rattle.c_classic.proofs.calls.pito_next_sequence.Statement.{statement}
 use Rattle.c_classic.proofs.calls.pito_next_sequence.Tie as tie
 
 returns : tie.Need-returns
-unfolding nextSequenceOf
+unfolding next_sequence_of
 returns c = rw (ne_eqb _ _ c.if1.true)
 
 returns-2 : tie.Need-returns-2
-unfolding nextSequenceOf
+unfolding next_sequence_of
 returns-2 c =
     let told = c.before.before in
     let next = told.before.before in

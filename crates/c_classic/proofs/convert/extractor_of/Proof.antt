@@ -1,5 +1,5 @@
 use native.Mathlib.Omega.{arith}
-use Rattle.c_classic.specs.Convert.{extractorOf}
+use Rattle.c_classic.specs.Convert.{extractor_of}
 use Rattle.c_classic.proofs.States.{state-long, sequence-small}
 use borrow.Author.Rules.{rules}
 use Rattle.c_classic.proofs.convert.extractor_of.Statement.{statement}
@@ -21,7 +21,7 @@ shared-slice-read-limit : tie.Need-shared-slice-read-limit
 shared-slice-read-limit c = let s = c.before.before.before.before.before.before in omega (arith, state-long s.args.row.now s.requires)
 
 returns : tie.Need-returns
-unfolding extractorOf
+unfolding extractor_of
 returns c = rw c.before.before.before.phase-of.ensures
 
 pub extractor-of-spec : {M : Type 1} → statement M

@@ -1,5 +1,5 @@
 use borrow.Author.Tests.{eq-eqb, ne_eqb}
-use Rattle.c_classic.specs.Convert.{phaseNumber}
+use Rattle.c_classic.specs.Convert.{phase_number}
 use Rattle.c_classic.proofs.States.{progress-written}
 use borrow.Author.Rules.{rules}
 use Rattle.c_classic.proofs.convert.put_progress.Statement.{statement}
@@ -11,7 +11,7 @@ returns c =
     let start = row.before.before.before in
     let p = start.args.progress in
     rw (ne_eqb _ _ row.before.if1.true, c.before.before.fill.ensures, row.progress-row.ensures)
-    (progress-written start.args.row.now (phaseNumber p.phase) p.sequence p.held start.requires)
+    (progress-written start.args.row.now (phase_number p.phase) p.sequence p.held start.requires)
 
 returns-2 : tie.Need-returns-2
 returns-2 c = rw (eq-eqb _ _ c.if1.false)

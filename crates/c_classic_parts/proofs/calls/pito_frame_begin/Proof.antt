@@ -1,15 +1,15 @@
 use borrow.Author.Tests.{eq-eqb, ne_eqb}
-use Rattle.c_classic_parts.specs.Calls.{frameBeginOf}
+use Rattle.c_classic_parts.specs.Calls.{frame_begin_of}
 use borrow.Author.Rules.{rules}
 use Rattle.c_classic_parts.proofs.calls.pito_frame_begin.Statement.{statement}
 use Rattle.c_classic_parts.proofs.calls.pito_frame_begin.Tie as tie
 
 returns : tie.Need-returns
-unfolding frameBeginOf
+unfolding frame_begin_of
 returns c = rw (ne_eqb _ _ c.if1.true)
 
 returns-2 : tie.Need-returns-2
-unfolding frameBeginOf
+unfolding frame_begin_of
 returns-2 c =
     let row = c.before.before.before.before.before in
     let done = row.before.before.before.before in
@@ -23,7 +23,7 @@ returns-2 c =
     )
 
 returns-3 : tie.Need-returns-3
-unfolding frameBeginOf
+unfolding frame_begin_of
 returns-3 c =
     let done = c.before.before.before.before in
     rw (
@@ -36,7 +36,7 @@ returns-3 c =
     )
 
 returns-4 : tie.Need-returns-4
-unfolding frameBeginOf
+unfolding frame_begin_of
 returns-4 c =
     let done = c.before.before.before.before in
     rw (

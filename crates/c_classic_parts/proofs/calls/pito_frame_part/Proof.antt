@@ -1,16 +1,16 @@
 use mathlib.Core.Path.{sym, ◌∙◌}
 use borrow.Author.Tests.{eq-eqb, ne_eqb, not-true, not-false}
-use Rattle.c_classic_parts.specs.Calls.{framePartOf}
+use Rattle.c_classic_parts.specs.Calls.{frame_part_of}
 use borrow.Author.Rules.{rules}
 use Rattle.c_classic_parts.proofs.calls.pito_frame_part.Statement.{statement}
 use Rattle.c_classic_parts.proofs.calls.pito_frame_part.Tie as tie
 
 returns : tie.Need-returns
-unfolding framePartOf
+unfolding frame_part_of
 returns c = rw (ne_eqb _ _ c.if1.true)
 
 returns-2 : tie.Need-returns-2
-unfolding framePartOf
+unfolding frame_part_of
 returns-2 c = rw (eq-eqb _ _ c.before.before.before.if1.false, ← c.before.is_state.ensures, not-true c.before.is_state.result c.if2.true)
 
 part-fitting-requires : tie.Need-part-fitting-requires
@@ -19,7 +19,7 @@ part-fitting-requires c κs =
     (sym fit.before.is_state.ensures ∙ not-false fit.before.is_state.result fit.if2.false, fit.before.before.before.if1.false)
 
 returns-3 : tie.Need-returns-3
-unfolding framePartOf
+unfolding frame_part_of
 returns-3 c =
     let done = c.before.before.before.before.before.before in
     let fit = done.before.before.before.before in

@@ -1,22 +1,22 @@
 use borrow.Author.Tests.{eq-eqb, ne_eqb}
-use Rattle.c_classic_parts.specs.Convert.{pendingOf}
+use Rattle.c_classic_parts.specs.Convert.{pending_of}
 use Rattle.c_classic_parts.proofs.convert.pending_of.Statement.{statement}
 use Rattle.c_classic_parts.proofs.convert.pending_of.Tie as tie
 
 returns : tie.Need-returns
-unfolding pendingOf
+unfolding pending_of
 returns c = simp (eq-eqb _ _ c.if1.true)
 
 returns-2 : tie.Need-returns-2
-unfolding pendingOf
+unfolding pending_of
 returns-2 c = simp (ne_eqb _ _ c.before.if1.false, eq-eqb _ _ c.if2.true)
 
 returns-3 : tie.Need-returns-3
-unfolding pendingOf
+unfolding pending_of
 returns-3 c = simp (ne_eqb _ _ c.before.before.if1.false, ne_eqb _ _ c.before.if2.false, eq-eqb _ _ c.if3.true)
 
 returns-4 : tie.Need-returns-4
-unfolding pendingOf
+unfolding pending_of
 returns-4 c = simp (ne_eqb _ _ c.before.before.if1.false, ne_eqb _ _ c.before.if2.false, ne_eqb _ _ c.if3.false)
 
 pub pending-of-spec : {M : Type 1} → statement M

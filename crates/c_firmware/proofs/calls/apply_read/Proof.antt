@@ -1,20 +1,20 @@
 use borrow.Author.Tests.{eq-eqb, ne_eqb}
-use Rattle.c_firmware.specs.Calls.{applyReadOf}
-use Rattle.msg_firmware.specs.Apply.{applyOf}
+use Rattle.c_firmware.specs.Calls.{apply_read_of}
+use Rattle.msg_firmware.specs.Apply.{apply_of}
 use Rattle.c_firmware_rows.proofs.Readings.{apply-number, apply-row}
 use borrow.Author.Rules.{rules}
 use Rattle.c_firmware.proofs.calls.apply_read.Statement.{statement}
 use Rattle.c_firmware.proofs.calls.apply_read.Tie as tie
 
 returns : tie.Need-returns
-unfolding applyReadOf
+unfolding apply_read_of
 returns c = rw (ne_eqb _ _ c.if1.true)
 
 returns-2 : tie.Need-returns-2
-unfolding applyReadOf
+unfolding apply_read_of
 returns-2 c =
     let s = c.before.before.before.before.before.before in
-    let told = applyOf c.before.before.before.before.before.before.before.before.before.before.args.message.now in
+    let told = apply_of c.before.before.before.before.before.before.before.before.before.before.args.message.now in
     let read = s.read-apply.result in
     rw (
       eq-eqb _ _ c.before.before.before.before.before.before.before.if1.false,

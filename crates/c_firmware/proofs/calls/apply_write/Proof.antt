@@ -1,19 +1,19 @@
 use borrow.Author.Tests.{eq-eqb, ne_eqb}
-use Rattle.c_firmware.specs.Calls.{applyStored, applyWriteOf}
+use Rattle.c_firmware.specs.Calls.{apply_stored, apply_write_of}
 use borrow.Author.Rules.{rules}
 use Rattle.c_firmware.proofs.calls.apply_write.Statement.{statement}
 use Rattle.c_firmware.proofs.calls.apply_write.Tie as tie
 
 returns : tie.Need-returns
-unfolding applyWriteOf
+unfolding apply_write_of
 returns c = rw (ne_eqb _ _ c.if1.true)
 
 returns-2 : tie.Need-returns-2
-unfolding applyWriteOf
+unfolding apply_write_of
 returns-2 c = rw (eq-eqb _ _ c.before.if1.false, ne_eqb _ _ c.if2.true)
 
 returns-3 : tie.Need-returns-3
-unfolding applyWriteOf applyStored
+unfolding apply_write_of apply_stored
 returns-3 c =
     rw (
       eq-eqb _ _ c.before.before.before.before.before.before.before.if1.false,
@@ -25,7 +25,7 @@ returns-3 c =
     )
 
 returns-4 : tie.Need-returns-4
-unfolding applyWriteOf applyStored
+unfolding apply_write_of apply_stored
 returns-4 c =
     rw (
       eq-eqb _ _ c.before.before.before.before.before.before.before.before.before.before.before.before.if1.false,

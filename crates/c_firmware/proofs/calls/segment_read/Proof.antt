@@ -1,15 +1,15 @@
 use borrow.Author.Tests.{eq-eqb, ne_eqb}
-use Rattle.c_firmware.specs.Calls.{segmentReadOf}
+use Rattle.c_firmware.specs.Calls.{segment_read_of}
 use borrow.Author.Rules.{rules}
 use Rattle.c_firmware.proofs.calls.segment_read.Statement.{statement}
 use Rattle.c_firmware.proofs.calls.segment_read.Tie as tie
 
 returns : tie.Need-returns
-unfolding segmentReadOf
+unfolding segment_read_of
 returns c = rw (ne_eqb _ _ c.if1.true)
 
 returns-2 : tie.Need-returns-2
-unfolding segmentReadOf
+unfolding segment_read_of
 returns-2 c = rw (eq-eqb _ _ c.before.before.before.before.before.before.before.before.if1.false, ← c.before.before.before.before.before.before.before.read-segment.ensures.0, c.before.before.put.ensures, c.before.before.before.before.before.before.segment-number.ensures, c.before.before.before.before.before.segment-row.ensures)
 
 pub segment-read-spec : {M : Type 1} → statement M

@@ -2,13 +2,13 @@ use Prim.Native.Nat.{ℕ, suc, ◌+◌, ◌*◌, ◌-◌, ◌≤◌}
 use native.Mathlib.Omega.{arith}
 use mathlib.Core.Path.{◌≡◌, refl, sym, ap, ◌∙◌}
 use borrow.Author.Rules.{rules}
-use Rattle.c_firmware_rows.specs.Apply.{anyWide}
+use Rattle.c_firmware_rows.specs.Apply.{any_wide}
 use Rattle.c_firmware_rows.proofs.Components.{wide-stop, wide-more}
 use Rattle.c_firmware_rows.proofs.apply.any_wide.Statement.{statement}
 use Rattle.c_firmware_rows.proofs.apply.any_wide.Tie as tie
 
 abbrev invariant-loop : tie.invariant-loop
-invariant-loop row count at₀ i₀ at i = (i ≤ count) × (at ≡ 9 + 6 * i) × (anyWide (count - i) row at ≡ anyWide count row 9)
+invariant-loop row count at₀ i₀ at i = (i ≤ count) × (at ≡ 9 + 6 * i) × (any_wide (count - i) row at ≡ any_wide count row 9)
 
 abbrev decreases-loop : tie.decreases-loop
 decreases-loop row count at₀ i₀ at i = count - i
@@ -17,7 +17,7 @@ loop-holds : tie.Need-loop-init invariant-loop decreases-loop
 loop-holds c =
     let a = c.before.args in
     let all : a.count - 0 ≡ a.count = omega arith in
-    (search rules, refl, ap (λ (n : ℕ). anyWide n a.row.now 9) all)
+    (search rules, refl, ap (λ (n : ℕ). any_wide n a.row.now 9) all)
 
 wide-at-requires : tie.Need-wide-at-requires invariant-loop decreases-loop
 wide-at-requires c κs = omega (arith, c.before.before.before.requires)
@@ -39,7 +39,7 @@ loop-again c =
     let left : count - s.loop.i ≡ suc (count - (s.loop.i + 1)) = omega arith in (
       omega arith,
       omega arith,
-      sym (ap (λ (n : ℕ). anyWide n row s.loop.at) left ∙ wide-more row (count - (s.loop.i + 1)) s.loop.at (sym c.before.wide_at.ensures ∙ c.if1.false)) ∙ s.loop.invariant.2,
+      sym (ap (λ (n : ℕ). any_wide n row s.loop.at) left ∙ wide-more row (count - (s.loop.i + 1)) s.loop.at (sym c.before.wide_at.ensures ∙ c.if1.false)) ∙ s.loop.invariant.2,
     )
 
 returns-2 : tie.Need-returns-2 invariant-loop decreases-loop
@@ -47,7 +47,7 @@ returns-2 c =
     let s = c.before in
     let row = s.before.before.args.row.now in
     let none : 0 ≡ s.before.before.args.count - s.loop.i = omega arith in
-    ap (λ (n : ℕ). anyWide n row s.loop.at) none ∙ s.loop.invariant.2
+    ap (λ (n : ℕ). any_wide n row s.loop.at) none ∙ s.loop.invariant.2
 
 pub any-wide-spec : {M : Type 1} → statement M
 any-wide-spec =

@@ -1,10 +1,10 @@
-use Rattle.c_firmware_rows.specs.Apply.{componentAt}
+use Rattle.c_firmware_rows.specs.Apply.{component_at}
 use borrow.Author.Rules.{rules}
 use Rattle.c_firmware_rows.proofs.apply.component_at.Statement.{statement}
 use Rattle.c_firmware_rows.proofs.apply.component_at.Tie as tie
 
 returns : tie.Need-returns
-unfolding componentAt
+unfolding component_at
 returns c = rw (c.before.before.before.before.before.part_at.ensures, c.before.before.before.before.part-at2.ensures, c.before.before.low_unsigned.ensures, c.before.before.before.number_at.ensures, c.low-unsigned2.ensures, c.before.number-at2.ensures)
 
 pub component-at-spec : {M : Type 1} → statement M

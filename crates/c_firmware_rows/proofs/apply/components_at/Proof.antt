@@ -5,13 +5,13 @@ use mathlib.Core.Path.{◌≡◌, refl, sym, ap, ◌∙◌}
 use borrow.Author.Rules.{rules}
 use lib.ListN.{length, take, length-set}
 use lib.Seq.{take-suc-set, take_all}
-use Rattle.c_firmware_rows.specs.Apply.{componentsAt}
+use Rattle.c_firmware_rows.specs.Apply.{components_at}
 use Rattle.c_firmware_rows.proofs.Components.{read_more}
 use Rattle.c_firmware_rows.proofs.apply.components_at.Statement.{statement}
 use Rattle.c_firmware_rows.proofs.apply.components_at.Tie as tie
 
 abbrev invariant-loop : tie.invariant-loop
-invariant-loop row components₀ at₀ i₀ components at i = (i ≤ 8) × (at ≡ 9 + 6 * i) × (length components ≡ 8) × (take i components ≡ componentsAt i row 9)
+invariant-loop row components₀ at₀ i₀ components at i = (i ≤ 8) × (at ≡ 9 + 6 * i) × (length components ≡ 8) × (take i components ≡ components_at i row 9)
 
 abbrev decreases-loop : tie.decreases-loop
 decreases-loop row components₀ at₀ i₀ components at i = 8 - i
@@ -34,7 +34,7 @@ returns c =
     let s = c.before in
     let row = s.before.before.before.args.row.now in
     let all : s.loop.i ≡ 8 = omega arith in
-    sym (take_all s.loop.i s.loop.components (omega arith)) ∙ s.loop.invariant.3 ∙ ap (λ (n : ℕ). componentsAt n row 9) all
+    sym (take_all s.loop.i s.loop.components (omega arith)) ∙ s.loop.invariant.3 ∙ ap (λ (n : ℕ). components_at n row 9) all
 
 pub components-at-spec : {M : Type 1} → statement M
 components-at-spec =

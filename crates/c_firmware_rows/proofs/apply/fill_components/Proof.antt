@@ -7,13 +7,13 @@ use mathlib.Core.Path.{◌≡◌, refl, ap, ◌∙◌}
 use borrow.Author.Rules.{rules}
 use lib.ListN.{length, take}
 use lib.Seq.{sets, take_all}
-use Rattle.c_firmware_rows.specs.Apply.{componentRows}
+use Rattle.c_firmware_rows.specs.Apply.{component_rows}
 use Rattle.c_firmware_rows.proofs.Components.{rows_more}
 use Rattle.c_firmware_rows.proofs.apply.fill_components.Statement.{statement}
 use Rattle.c_firmware_rows.proofs.apply.fill_components.Tie as tie
 
 abbrev invariant-loop : tie.invariant-loop
-invariant-loop row₀ components at₀ i₀ row at i = (i ≤ 8) × (at ≡ 9 + 6 * i) × (length row ≡ length row₀) × (row ≡ sets row₀ 9 (componentRows (take i components)))
+invariant-loop row₀ components at₀ i₀ row at i = (i ≤ 8) × (at ≡ 9 + 6 * i) × (length row ≡ length row₀) × (row ≡ sets row₀ 9 (component_rows (take i components)))
 
 abbrev decreases-loop : tie.decreases-loop
 decreases-loop row₀ components at₀ i₀ row at i = 8 - i
@@ -40,7 +40,7 @@ returns c =
     let s = c.before.before.before in
     let eight = s.well-formed.1.0.1.0.1 in
     let all = take_all c.before.loop.i s.args.t2 (omega (arith, eight)) in
-    (c.before.loop.invariant.3 ∙ ap (λ (cs : List FirmwareComponent). sets s.args.row.now 9 (componentRows cs)) all, eight)
+    (c.before.loop.invariant.3 ∙ ap (λ (cs : List FirmwareComponent). sets s.args.row.now 9 (component_rows cs)) all, eight)
 
 pub fill-components-spec : {M : Type 1} → statement M
 fill-components-spec =

@@ -3,10 +3,10 @@ use native.Mathlib.Omega.{arith}
 use mathlib.Core.Path.{◌≡◌, refl}
 use lib.ListN.{length, length-append}
 use Rattle.wire.proofs.Stores.{sets_then}
-use Rattle.proto_reader.specs.Refusal.{toldVerdict}
-use Rattle.c_message_rows.specs.Convert.{faultRow}
+use Rattle.proto_reader.specs.Refusal.{told_verdict}
+use Rattle.c_message_rows.specs.Convert.{fault_row}
 use Rattle.c_message_rows.proofs.Readings.{fault-length}
-use Rattle.c_firmware_rows.specs.Apply.{headRow, componentRows, wholeRow}
+use Rattle.c_firmware_rows.specs.Apply.{head_row, component_rows, whole_row}
 use Rattle.c_rows.proofs.Wholes.{sets-both}
 use borrow.Author.Tests.{eq-eqb, ne_eqb}
 use borrow.Author.Rules.{rules}
@@ -19,8 +19,8 @@ returns c =
     let a = s.args in
     let components = a.apply.firmware_information.components in
     let filled = c.before.before.before.before.before.before.before.before.fill-components.ensures in
-    let told = toldVerdict a.verdict in
-    let whole : length (wholeRow a.apply) ≡ 57 = omega (arith, length-append (headRow a.apply) (componentRows components), rows-length components, filled.1) in
+    let told = told_verdict a.verdict in
+    let whole : length (whole_row a.apply) ≡ 57 = omega (arith, length-append (head_row a.apply) (component_rows components), rows-length components, filled.1) in
     rw (
       ne_eqb _ _ c.before.before.before.before.before.before.before.before.before.before.before.before.before.before.before.before.before.before.if1.true,
       c.before.before.fill2.ensures,
@@ -28,10 +28,10 @@ returns c =
       filled.0,
       c.before.before.before.before.before.before.before.before.before.before.before.before.before.before.fill.ensures,
       c.before.before.before.before.before.before.before.before.before.before.before.before.before.before.before.before.before.head-row.ensures,
-      sets_then a.row.now 0 9 (headRow a.apply) (componentRows components) refl,
+      sets_then a.row.now 0 9 (head_row a.apply) (component_rows components) refl,
       ← whole,
     )
-    (sets-both a.row.now (wholeRow a.apply) (faultRow told) (rw (whole, fault-length told) s.requires))
+    (sets-both a.row.now (whole_row a.apply) (fault_row told) (rw (whole, fault-length told) s.requires))
 
 returns-2 : tie.Need-returns-2
 returns-2 c = rw (eq-eqb _ _ c.if1.false)

@@ -1,15 +1,15 @@
 use borrow.Author.Tests.{eq-eqb, ne_eqb}
-use Rattle.c_judge.specs.Calls.{captureJudgeOf}
+use Rattle.c_judge.specs.Calls.{capture_judge_of}
 use borrow.Author.Rules.{rules}
 use Rattle.c_judge.proofs.calls.pito_capture_judge.Statement.{statement}
 use Rattle.c_judge.proofs.calls.pito_capture_judge.Tie as tie
 
 returns : tie.Need-returns
-unfolding captureJudgeOf
+unfolding capture_judge_of
 returns c = rw (ne_eqb _ _ c.if1.true)
 
 returns-2 : tie.Need-returns-2
-unfolding captureJudgeOf
+unfolding capture_judge_of
 returns-2 c =
     rw (
       eq-eqb _ _ c.before.before.before.before.before.before.before.before.before.if1.false,

@@ -1,15 +1,15 @@
 use borrow.Author.Tests.{eq-eqb, ne_eqb}
-use Rattle.c_judge.specs.Calls.{captureWhyOf}
+use Rattle.c_judge.specs.Calls.{capture_why_of}
 use borrow.Author.Rules.{rules}
 use Rattle.c_judge.proofs.calls.pito_capture_why.Statement.{statement}
 use Rattle.c_judge.proofs.calls.pito_capture_why.Tie as tie
 
 returns : tie.Need-returns
-unfolding captureWhyOf
+unfolding capture_why_of
 returns c = rw (ne_eqb _ _ c.if1.true)
 
 returns-2 : tie.Need-returns-2
-unfolding captureWhyOf
+unfolding capture_why_of
 returns-2 c =
     let row = c.before.before.before.before.before in
     let number = row.before.before in

@@ -4,13 +4,13 @@ use mathlib.Core.Path.{◌≡◌, refl, sym, ◌∙◌}
 use lib.ListN.{length, drop}
 use borrow.Author.Tests.{not-true, not-false}
 use borrow.Author.Rules.{rules}
-use Rattle.c_message_rows.specs.Convert.{allSigned}
+use Rattle.c_message_rows.specs.Convert.{all_signed}
 use Rattle.c_message_rows.proofs.Signed.{signed-more, signed-stop, signed-end}
 use Rattle.c_message_rows.proofs.convert.all_signed.Statement.{statement}
 use Rattle.c_message_rows.proofs.convert.all_signed.Tie as tie
 
 abbrev invariant-loop : tie.invariant-loop
-invariant-loop row i₀ i = (i ≤ length row) × (allSigned (drop i row) ≡ allSigned row)
+invariant-loop row i₀ i = (i ≤ length row) × (all_signed (drop i row) ≡ all_signed row)
 
 abbrev decreases-loop : tie.decreases-loop
 decreases-loop row i₀ i = length row - i

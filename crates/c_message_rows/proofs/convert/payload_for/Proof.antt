@@ -1,16 +1,16 @@
 use Rattle.proto_field.proofs.SignedNumbers.{signed-kept}
 use borrow.Author.Tests.{eq-eqb, ne_eqb}
-use Rattle.c_message_rows.specs.Convert.{payloadFor}
+use Rattle.c_message_rows.specs.Convert.{payload_for}
 use borrow.Author.Rules.{rules}
 use Rattle.c_message_rows.proofs.convert.payload_for.Statement.{statement}
 use Rattle.c_message_rows.proofs.convert.payload_for.Tie as tie
 
 returns : tie.Need-returns
-unfolding payloadFor
+unfolding payload_for
 returns c = rw (← c.before.is-signed.ensures, c.if1.true)
 
 returns-2 : tie.Need-returns-2
-unfolding payloadFor
+unfolding payload_for
 returns-2 c =
     rw (
       ← c.before.before.is-signed.ensures,
@@ -19,7 +19,7 @@ returns-2 c =
     )
 
 returns-3 : tie.Need-returns-3
-unfolding payloadFor
+unfolding payload_for
 returns-3 c =
     rw (
       ← c.before.before.before.before.before.is-signed.ensures,
@@ -31,7 +31,7 @@ returns-3 c =
     )
 
 returns-4 : tie.Need-returns-4
-unfolding payloadFor
+unfolding payload_for
 returns-4 c =
     rw (
       ← c.before.before.before.before.is-signed.ensures,
@@ -42,7 +42,7 @@ returns-4 c =
     )
 
 returns-5 : tie.Need-returns-5
-unfolding payloadFor
+unfolding payload_for
 returns-5 c =
     rw (
       ← c.before.before.before.before.is-signed.ensures,

@@ -2,9 +2,9 @@ use mathlib.Core.Path.{◌≡◌, refl}
 use lib.ListN.{length, length-map}
 use borrow.Author.Tests.{eq-eqb, ne_eqb}
 use Rattle.proto_field.specs.Signed.{extended}
-use Rattle.proto_reader.specs.Refusal.{toldVerdict}
+use Rattle.proto_reader.specs.Refusal.{told_verdict}
 use Rattle.c_rows.proofs.Wholes.{sets-three}
-use Rattle.c_message_rows.specs.Convert.{partsRow, transportsRow, faultRow}
+use Rattle.c_message_rows.specs.Convert.{parts_row, transports_row, fault_row}
 use Rattle.c_message_rows.proofs.Readings.{fault-length}
 use borrow.Author.Rules.{rules}
 use Rattle.c_message_rows.proofs.convert.put_information.Statement.{statement}
@@ -25,8 +25,8 @@ returns c =
       c.before.before.before.before.before.before.before.before.before.before.before.before.before.before.before.before.fill.ensures,
       c.before.before.before.before.before.before.before.before.before.before.before.before.before.before.before.before.before.before.before.parts-row.ensures,
     )
-    (sets-three a.row.now (partsRow i) (transportsRow i.transports) (faultRow (toldVerdict a.verdict)) 7 15 refl
-    (rw (length-map i.transports extended, long) refl) (rw (fault-length (toldVerdict a.verdict)) s.requires))
+    (sets-three a.row.now (parts_row i) (transports_row i.transports) (fault_row (told_verdict a.verdict)) 7 15 refl
+    (rw (length-map i.transports extended, long) refl) (rw (fault-length (told_verdict a.verdict)) s.requires))
 
 returns-2 : tie.Need-returns-2
 returns-2 c = rw (eq-eqb _ _ c.if1.false)

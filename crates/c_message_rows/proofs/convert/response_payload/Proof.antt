@@ -1,15 +1,15 @@
 use borrow.Author.Tests.{eq-eqb, ne_eqb}
-use Rattle.c_message_rows.specs.Convert.{responsePayloadOf}
+use Rattle.c_message_rows.specs.Convert.{response_payload_of}
 use borrow.Author.Rules.{rules}
 use Rattle.c_message_rows.proofs.convert.response_payload.Statement.{statement}
 use Rattle.c_message_rows.proofs.convert.response_payload.Tie as tie
 
 returns : tie.Need-returns
-unfolding responsePayloadOf
+unfolding response_payload_of
 returns c = rw (← c.before.is-signed.ensures, c.if1.true)
 
 returns-2 : tie.Need-returns-2
-unfolding responsePayloadOf
+unfolding response_payload_of
 returns-2 c =
     rw (
       ← c.before.before.is-signed.ensures,
@@ -18,7 +18,7 @@ returns-2 c =
     )
 
 returns-3 : tie.Need-returns-3
-unfolding responsePayloadOf
+unfolding response_payload_of
 returns-3 c =
     rw (
       ← c.before.before.is-signed.ensures,

@@ -1,15 +1,15 @@
 use borrow.Author.Tests.{eq-eqb, ne_eqb}
-use Rattle.c_messages.specs.Calls.{featuresReadOf}
+use Rattle.c_messages.specs.Calls.{features_read_of}
 use borrow.Author.Rules.{rules}
 use Rattle.c_messages.proofs.calls.features_read.Statement.{statement}
 use Rattle.c_messages.proofs.calls.features_read.Tie as tie
 
 returns : tie.Need-returns
-unfolding featuresReadOf
+unfolding features_read_of
 returns c = rw (ne_eqb _ _ c.if1.true)
 
 returns-2 : tie.Need-returns-2
-unfolding featuresReadOf
+unfolding features_read_of
 returns-2 c =
     rw (
       eq-eqb _ _ c.before.before.before.before.before.before.before.before.if1.false,

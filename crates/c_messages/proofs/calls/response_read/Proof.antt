@@ -1,15 +1,15 @@
 use borrow.Author.Tests.{eq-eqb, ne_eqb}
-use Rattle.c_messages.specs.Calls.{responseReadOf}
+use Rattle.c_messages.specs.Calls.{response_read_of}
 use borrow.Author.Rules.{rules}
 use Rattle.c_messages.proofs.calls.response_read.Statement.{statement}
 use Rattle.c_messages.proofs.calls.response_read.Tie as tie
 
 returns : tie.Need-returns
-unfolding responseReadOf
+unfolding response_read_of
 returns c = rw (ne_eqb _ _ c.if1.true)
 
 returns-2 : tie.Need-returns-2
-unfolding responseReadOf
+unfolding response_read_of
 returns-2 c =
     rw (
       eq-eqb _ _ c.before.before.before.before.before.before.before.before.if1.false,

@@ -1,16 +1,16 @@
 use Rattle.proto_field.proofs.SignedNumbers.{signed-kept}
 use borrow.Author.Tests.{eq-eqb, ne_eqb}
-use Rattle.c_messages.specs.Calls.{responseWriteOf}
+use Rattle.c_messages.specs.Calls.{response_write_of}
 use borrow.Author.Rules.{rules}
 use Rattle.c_messages.proofs.calls.response_write.Statement.{statement}
 use Rattle.c_messages.proofs.calls.response_write.Tie as tie
 
 returns : tie.Need-returns
-unfolding responseWriteOf
+unfolding response_write_of
 returns c = rw (ne_eqb _ _ c.if1.true)
 
 returns-2 : tie.Need-returns-2
-unfolding responseWriteOf
+unfolding response_write_of
 returns-2 c =
     rw (
       eq-eqb _ _ c.before.before.before.before.before.before.before.before.before.before.before.if1.false,

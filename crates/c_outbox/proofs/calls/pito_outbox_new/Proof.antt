@@ -1,15 +1,15 @@
 use borrow.Author.Tests.{eq-eqb, ne_eqb}
-use Rattle.c_outbox.specs.Calls.{outboxNewOf}
+use Rattle.c_outbox.specs.Calls.{outbox_new_of}
 use borrow.Author.Rules.{rules}
 use Rattle.c_outbox.proofs.calls.pito_outbox_new.Statement.{statement}
 use Rattle.c_outbox.proofs.calls.pito_outbox_new.Tie as tie
 
 returns : tie.Need-returns
-unfolding outboxNewOf
+unfolding outbox_new_of
 returns c = rw (ne_eqb _ _ c.if1.true)
 
 returns-2 : tie.Need-returns-2
-unfolding outboxNewOf
+unfolding outbox_new_of
 returns-2 c =
     rw (
       eq-eqb _ _ c.before.before.before.before.before.before.before.before.before.if1.false,

@@ -1,15 +1,15 @@
 use borrow.Author.Tests.{eq-eqb, ne_eqb}
-use Rattle.c_outbox.specs.Calls.{outboxWholeOf}
+use Rattle.c_outbox.specs.Calls.{outbox_whole_of}
 use borrow.Author.Rules.{rules}
 use Rattle.c_outbox.proofs.calls.pito_outbox_whole.Statement.{statement}
 use Rattle.c_outbox.proofs.calls.pito_outbox_whole.Tie as tie
 
 returns : tie.Need-returns
-unfolding outboxWholeOf
+unfolding outbox_whole_of
 returns c = rw (ne_eqb _ _ c.if1.true)
 
 returns-2 : tie.Need-returns-2
-unfolding outboxWholeOf
+unfolding outbox_whole_of
 returns-2 c =
     rw (
       eq-eqb _ _ c.before.before.before.before.before.before.before.before.before.if1.false,

@@ -1,22 +1,22 @@
-use Rattle.c_outbox.specs.Convert.{cutPlace}
+use Rattle.c_outbox.specs.Convert.{cut_place}
 use borrow.Author.Rules.{rules}
 use Rattle.c_outbox.proofs.convert.cut_place.Statement.{statement}
 use Rattle.c_outbox.proofs.convert.cut_place.Tie as tie
 
 returns : tie.Need-returns
-unfolding cutPlace
+unfolding cut_place
 returns c = rw c.enum_told.given.1
 
 returns-2 : tie.Need-returns-2
-unfolding cutPlace
+unfolding cut_place
 returns-2 c = rw c.enum-told2.given.1
 
 returns-3 : tie.Need-returns-3
-unfolding cutPlace
+unfolding cut_place
 returns-3 c = rw c.enum-told3.given.1
 
 returns-4 : tie.Need-returns-4
-unfolding cutPlace
+unfolding cut_place
 returns-4 c = rw c.enum-told4.given.1
 
 pub cut-place-spec : {M : Type 1} → statement M

@@ -1,15 +1,15 @@
 use borrow.Author.Tests.{eq-eqb, ne_eqb}
-use Rattle.c_packets.specs.Calls.{capturePacketOf}
+use Rattle.c_packets.specs.Calls.{capture_packet_of}
 use borrow.Author.Rules.{rules}
 use Rattle.c_packets.proofs.calls.pito_capture_packet.Statement.{statement}
 use Rattle.c_packets.proofs.calls.pito_capture_packet.Tie as tie
 
 returns : tie.Need-returns
-unfolding capturePacketOf
+unfolding capture_packet_of
 returns c = rw (ne_eqb _ _ c.if1.true)
 
 returns-2 : tie.Need-returns-2
-unfolding capturePacketOf
+unfolding capture_packet_of
 returns-2 c =
     rw (
       eq-eqb _ _ c.before.before.before.before.before.before.before.before.before.if1.false,

@@ -1,15 +1,15 @@
 use borrow.Author.Tests.{eq-eqb, ne_eqb}
-use Rattle.c_packets.specs.Calls.{packetReadOf}
+use Rattle.c_packets.specs.Calls.{packet_read_of}
 use borrow.Author.Rules.{rules}
 use Rattle.c_packets.proofs.calls.pito_packet_read.Statement.{statement}
 use Rattle.c_packets.proofs.calls.pito_packet_read.Tie as tie
 
 returns : tie.Need-returns
-unfolding packetReadOf
+unfolding packet_read_of
 returns c = rw (ne_eqb _ _ c.if1.true)
 
 returns-2 : tie.Need-returns-2
-unfolding packetReadOf
+unfolding packet_read_of
 returns-2 c =
     let r = c.before.before.before.before.before in
     rw (

@@ -43,11 +43,11 @@ use Rattle.ble_slot.specs.declared.Slot.{Slot}
 use Rattle.ble_slot.specs.declared.answer.Answer.{Answer}
 use Rattle.ble_slot.specs.Answer.{told}
 use Rattle.ble_receiver.specs.declared.Receiver.{Receiver}
-use Rattle.ble_receiver.specs.Receiver.{call, PacketLeft, left, acceptOf}
-use Rattle.c_rows.specs.Row.{byteOr, outOfRange}
+use Rattle.ble_receiver.specs.Receiver.{call, PacketLeft, left, accept_of}
+use Rattle.c_rows.specs.Row.{byte_or, out_of_range}
 use Rattle.c_rows.specs.Called.{called}
-use Rattle.c_receiving.specs.Calls.{replied, receiverAcceptOf, linkAt, toldRow}
-use Rattle.c_receiving.proofs.Packets.{repliedBy, told-left}
+use Rattle.c_receiving.specs.Calls.{replied, receiver_accept_of, link_at, told_row}
+use Rattle.c_receiving.proofs.Packets.{replied_by, told-left}
 use Rattle.c_receiving.specs.contracts.calls.link_at as link_at
 use Rattle.c_receiving.proofs.calls.link_at.Symbol as link-at-def
 use Rattle.c_receiving.proofs.calls.link_at.Symbol.{name as #link-at}
@@ -171,10 +171,10 @@ module _ {M : Type 1} {𝓤 : Ura M} (𝓛 : Logic 𝓤) (at_mem : Memory → SP
   Post = (walk_of 𝓛 f.ended stayed (f.clauses 𝓛 at_mem run)).post bound
 
   -- the four callees' equations make the contract's
-  together : (link : Receiver) (low : ℕ) (d : Answer) (n : ℕ) (ws : List Slot) (zs₃ zs₆ zs₇ : List ℕ) → link ≡ linkAt ys₁ (length ys₇) → low ≡ byteOr outOfRange n₅ → left (told d) ws zs₃ zs₆ ≡ acceptOf link.limit ys₂ ys₃ (call ys₄ low ys₆) → called n [] [] zs₇ ≡ toldRow ys₇ (told d) → replied n ws zs₃ zs₇ zs₆ ≡ receiverAcceptOf ys₁ ys₂ ys₃ ys₄ n₅ ys₆ ys₇
+  together : (link : Receiver) (low : ℕ) (d : Answer) (n : ℕ) (ws : List Slot) (zs₃ zs₆ zs₇ : List ℕ) → link ≡ link_at ys₁ (length ys₇) → low ≡ byte_or out_of_range n₅ → left (told d) ws zs₃ zs₆ ≡ accept_of link.limit ys₂ ys₃ (call ys₄ low ys₆) → called n [] [] zs₇ ≡ told_row ys₇ (told d) → replied n ws zs₃ zs₇ zs₆ ≡ receiver_accept_of ys₁ ys₂ ys₃ ys₄ n₅ ys₆ ys₇
   together link low d n ws zs₃ zs₆ zs₇ e₁ e₂ e₃ e₄ =
-      ap (repliedBy (left (told d) ws zs₃ zs₆)) e₄
-      ∙ ap (λ (l : PacketLeft). repliedBy l (toldRow ys₇ l.told)) (e₃ ∙ ap (λ (r : Receiver). acceptOf r.limit ys₂ ys₃ (call ys₄ low ys₆)) e₁ ∙ ap (λ (s : ℕ). acceptOf (linkAt ys₁ (length ys₇)).limit ys₂ ys₃ (call ys₄ s ys₆)) e₂)
+      ap (replied_by (left (told d) ws zs₃ zs₆)) e₄
+      ∙ ap (λ (l : PacketLeft). replied_by l (told_row ys₇ l.told)) (e₃ ∙ ap (λ (r : Receiver). accept_of r.limit ys₂ ys₃ (call ys₄ low ys₆)) e₁ ∙ ap (λ (s : ℕ). accept_of (link_at ys₁ (length ys₇)).limit ys₂ ys₃ (call ys₄ s ys₆)) e₂)
       ∙ told-left ys₁ ys₂ ys₃ ys₄ n₅ ys₆ ys₇
 
   -- what each callee is passed
@@ -185,10 +185,10 @@ module _ {M : Type 1} {𝓤 : Ura M} (𝓛 : Logic 𝓤) (at_mem : Memory → SP
   to-link = (((κ₁, tt), (q₁, tt), tt, args-link, (v₁ ∷ [], (vint w64 (length ys₇) ∷ [], tt))), tt)
 
   abbrev args-byte : Args byte_or.signature tt
-  args-byte = (outOfRange, (n₅, tt))
+  args-byte = (out_of_range, (n₅, tt))
 
   abbrev to-byte : (ByteOr 𝓛 at_mem run).Ghost
-  to-byte = ((tt, tt, tt, args-byte, (vint w8 outOfRange ∷ [], (v₅ ∷ [], tt))), tt)
+  to-byte = ((tt, tt, tt, args-byte, (vint w8 out_of_range ∷ [], (v₅ ∷ [], tt))), tt)
 
   abbrev args-accept : Receiver → ℕ → Args accept.signature (κ₂, (κ₃, (κ₄, (κ₆, tt))))
   args-accept link low = (link, (x₂, (x₃, (x₄, (low, (x₆, tt))))))
@@ -202,13 +202,13 @@ module _ {M : Type 1} {𝓤 : Ura M} (𝓛 : Logic 𝓤) (at_mem : Memory → SP
   abbrev to-tell : Answer → Val → (Tell 𝓛 at_mem run).Ghost
   to-tell d w = (((κ₇, tt), (q₇, tt), tt, args-tell d, (v₇ ∷ [], (w ∷ [], tt))), tt)
 
-  said-link : (r : Receiver) → ent 𝓤 (ensured 𝓛 link_at.ended (link_at.clauses 𝓛 at_mem run) (κ₁, tt) args-link tt r) (fact 𝓤 (r ≡ linkAt ys₁ (length ys₇)))
-  said-link r = ex_e 𝓤 _ (λ ws. snd∗ 𝓤 (sem 𝓛 (lasts link_at.ended (κ₁, tt) args-link ws)) (fact 𝓤 (r ≡ linkAt ys₁ (length ys₇))))
+  said-link : (r : Receiver) → ent 𝓤 (ensured 𝓛 link_at.ended (link_at.clauses 𝓛 at_mem run) (κ₁, tt) args-link tt r) (fact 𝓤 (r ≡ link_at ys₁ (length ys₇)))
+  said-link r = ex_e 𝓤 _ (λ ws. snd∗ 𝓤 (sem 𝓛 (lasts link_at.ended (κ₁, tt) args-link ws)) (fact 𝓤 (r ≡ link_at ys₁ (length ys₇))))
 
-  said-byte : (r : ℕ) → ent 𝓤 (ensured 𝓛 byte_or.ended (byte_or.clauses 𝓛 at_mem run) tt args-byte tt r) (fact 𝓤 (r ≡ byteOr outOfRange n₅))
-  said-byte r = ex_e 𝓤 _ (λ ws. snd∗ 𝓤 (sem 𝓛 (lasts byte_or.ended tt args-byte ws)) (fact 𝓤 (r ≡ byteOr outOfRange n₅)))
+  said-byte : (r : ℕ) → ent 𝓤 (ensured 𝓛 byte_or.ended (byte_or.clauses 𝓛 at_mem run) tt args-byte tt r) (fact 𝓤 (r ≡ byte_or out_of_range n₅))
+  said-byte r = ex_e 𝓤 _ (λ ws. snd∗ 𝓤 (sem 𝓛 (lasts byte_or.ended tt args-byte ws)) (fact 𝓤 (r ≡ byte_or out_of_range n₅)))
 
-  exits : (n : ℕ) (v : Val) → Is u64 n (v ∷ []) → (ws : List Slot) (zs₃ zs₆ zs₇ : List ℕ) → length ws ≡ length ys₂ → length zs₃ ≡ length ys₃ → length zs₆ ≡ length ys₆ → length zs₇ ≡ length ys₇ → replied n ws zs₃ zs₇ zs₆ ≡ receiverAcceptOf ys₁ ys₂ ys₃ ys₄ n₅ ys₆ ys₇
+  exits : (n : ℕ) (v : Val) → Is u64 n (v ∷ []) → (ws : List Slot) (zs₃ zs₆ zs₇ : List ℕ) → length ws ≡ length ys₂ → length zs₃ ≡ length ys₃ → length zs₆ ≡ length ys₆ → length zs₇ ≡ length ys₇ → replied n ws zs₃ zs₇ zs₆ ≡ receiver_accept_of ys₁ ys₂ ys₃ ys₄ n₅ ys₆ ys₇
       → ent 𝓤 (⋆ 𝓛 ((‵ (flft κ₁ q₁) ⊛ ‵ ftrue) ∷ (‵ (flft κ₂ q₂) ⊛ ‵ (flft κ₃ q₃) ⊛ ‵ (flft κ₄ q₄) ⊛ ‵ (flft κ₆ q₆) ⊛ ‵ ftrue) ∷ (‵ (flft κ₇ q₇) ⊛ ‵ ftrue) ∷ ‵ (finally T.the_row γ₂ ws) ∷ ‵ (finally u8 γ₃ zs₃) ∷ ‵ (finally u8 γ₆ zs₆) ∷ ‵ (finally u64 γ₇ zs₇) ∷ [])) (Post v)
   exits n v is ws zs₃ zs₆ zs₇ len₂ len₃ len₆ len₇ e =
       qed 𝓛 ((‵ (flft κ₁ q₁) ⊛ ‵ ftrue) ∷ (‵ (flft κ₂ q₂) ⊛ ‵ (flft κ₃ q₃) ⊛ ‵ (flft κ₄ q₄) ⊛ ‵ (flft κ₆ q₆) ⊛ ‵ ftrue) ∷ (‵ (flft κ₇ q₇) ⊛ ‵ ftrue) ∷ ‵ (finally T.the_row γ₂ ws) ∷ ‵ (finally u8 γ₃ zs₃) ∷ ‵ (finally u8 γ₆ zs₆) ∷ ‵ (finally u64 γ₇ zs₇) ∷ []) ∵
@@ -220,7 +220,7 @@ module _ {M : Type 1} {𝓤 : Ura M} (𝓛 : Logic 𝓤) (at_mem : Memory → SP
     goes-link = qed 𝓛 ((‵ Own₁ ⊛ ‵ (flft κ₁ q₁)) ∷ []) ∵ split ! $ nothing ! $ owned ! usize (Is usize) (uint_Makes 𝓛 w64) (length ys₇) _ (refl, room₇.0) $ fjoin ! $ move ! (1 ∷ 0 ∷ []) $ fjoin ! $ nothing ! $ move ! (2 ∷ 0 ∷ []) $ join ! $ join ! $ nothing ! $ move ! (1 ∷ 0 ∷ []) $ join ! $ done !
 
     goes-byte : ent 𝓤 (⋆ 𝓛 ((‵ ftrue) ∷ [])) ((ByteOr 𝓛 at_mem run).pre to-byte)
-    goes-byte = qed 𝓛 ((‵ ftrue) ∷ []) ∵ drop ! $ nothing ! $ owned ! u64 (Is u64) (uint_Makes 𝓛 w64) n₅ _ (refl, fits₅) $ fjoin ! $ owned ! u8 (Is u8) (uint_Makes 𝓛 w8) outOfRange _ (refl, lit< tt) $ fjoin ! $ nothing ! $ join ! $ nothing ! $ move ! (1 ∷ 0 ∷ []) $ join ! $ done !
+    goes-byte = qed 𝓛 ((‵ ftrue) ∷ []) ∵ drop ! $ nothing ! $ owned ! u64 (Is u64) (uint_Makes 𝓛 w64) n₅ _ (refl, fits₅) $ fjoin ! $ owned ! u8 (Is u8) (uint_Makes 𝓛 w8) out_of_range _ (refl, lit< tt) $ fjoin ! $ nothing ! $ join ! $ nothing ! $ move ! (1 ∷ 0 ∷ []) $ join ! $ done !
 
     goes-accept : (link : Receiver) (low : ℕ) (u l : Val) → Is R.the_row link (u ∷ []) → Is u8 low (l ∷ []) → ent 𝓤 (⋆ 𝓛 ((‵ Own₂ ⊛ ‵ (flft κ₂ q₂) ⊛ ‵ Own₃ ⊛ ‵ (flft κ₃ q₃) ⊛ ‵ Own₄ ⊛ ‵ (flft κ₄ q₄) ⊛ ‵ Own₆ ⊛ ‵ (flft κ₆ q₆)) ∷ [])) ((Accept 𝓛 at_mem run).pre (to-accept link low u l))
     goes-accept link low u l is-link is-low = qed 𝓛 ((‵ Own₂ ⊛ ‵ (flft κ₂ q₂) ⊛ ‵ Own₃ ⊛ ‵ (flft κ₃ q₃) ⊛ ‵ Own₄ ⊛ ‵ (flft κ₄ q₄) ⊛ ‵ Own₆ ⊛ ‵ (flft κ₆ q₆)) ∷ []) ∵ split ! $ move ! (1 ∷ []) $ split ! $ move ! (1 ∷ []) $ split ! $ move ! (1 ∷ []) $ split ! $ move ! (1 ∷ []) $ split ! $ move ! (1 ∷ []) $ split ! $ move ! (1 ∷ []) $ split ! $ nothing ! $ move ! (1 ∷ 0 ∷ []) $ fjoin ! $ owned ! u8 (Is u8) (uint_Makes 𝓛 w8) low _ is-low $ fjoin ! $ move ! (3 ∷ 0 ∷ []) $ fjoin ! $ move ! (4 ∷ 0 ∷ []) $ fjoin ! $ move ! (5 ∷ 0 ∷ []) $ fjoin ! $ owned ! R.the_row (Is R.the_row) (LL.makes R.the_type R'.the_plain 𝓛) link _ is-link $ fjoin ! $ nothing ! $ move ! (2 ∷ 0 ∷ []) $ join ! $ move ! (2 ∷ 0 ∷ []) $ join ! $ move ! (2 ∷ 0 ∷ []) $ join ! $ move ! (2 ∷ 0 ∷ []) $ join ! $ join ! $ nothing ! $ move ! (1 ∷ 0 ∷ []) $ join ! $ done !
@@ -239,12 +239,12 @@ module _ {M : Type 1} {𝓤 : Ura M} (𝓛 : Logic 𝓤) (at_mem : Memory → SP
           move ! (11 ∷ 5 ∷ []) $ move ! (1 ∷ 0 ∷ []) $ join ! $ use1 𝓛 (raw ((LinkAt 𝓛 at_mem run).pre to-link)) goes-link $
           calls_at ! fm (LinkAt 𝓛 at_mem run) known-link-at to-link (and_then ! (load ! (from ! (stop !)) (look ! 47 refl)) (and_then ! (load ! (from ! (stop !)) (look ! 27 refl)) (no_more !))) (λ u.
           use1 𝓛 (later (some (λ (link : Receiver). ((‵ (flft κ₁ q₁) ⊛ ‵ ftrue) ⊛ ‵ ((R.the_row).own_val link (u ∷ []))) ⊛ raw (ensured 𝓛 link_at.ended (link_at.clauses 𝓛 at_mem run) (κ₁, tt) args-link tt link)))) (id⊢ 𝓤 _) $ await ! tt $ pick ! (λ link.
-          split ! $ move ! (1 ∷ []) $ use1 𝓛 (raw (fact 𝓤 (link ≡ linkAt ys₁ (length ys₇)))) (said-link link) $ heard ! (link ≡ linkAt ys₁ (length ys₇)) (λ e₁. split ! $ move ! (1 ∷ []) $ facts ! R.the_row (Is R.the_row) (shows 𝓛 R.the_row) link (u ∷ []) (λ is-link.
+          split ! $ move ! (1 ∷ []) $ use1 𝓛 (raw (fact 𝓤 (link ≡ link_at ys₁ (length ys₇)))) (said-link link) $ heard ! (link ≡ link_at ys₁ (length ys₇)) (λ e₁. split ! $ move ! (1 ∷ []) $ facts ! R.the_row (Is R.the_row) (shows 𝓛 R.the_row) link (u ∷ []) (λ is-link.
           land ! (from ! (stop !)) (init ! 33 refl ((LL.lawful R.the_type R'.the_laws 𝓛).typed link _ is-link).0) $
           nothing ! $ use1 𝓛 (raw ((ByteOr 𝓛 at_mem run).pre to-byte)) goes-byte $
           calls_at ! fm (ByteOr 𝓛 at_mem run) known-byte-or to-byte (and_then ! (neg_lit ! tt) (and_then ! (load ! (from ! (stop !)) (look ! 40 refl)) (no_more !))) (λ l.
           use1 𝓛 (later (some (λ (low : ℕ). (‵ ftrue ⊛ ‵ (u8.own_val low (l ∷ []))) ⊛ raw (ensured 𝓛 byte_or.ended (byte_or.clauses 𝓛 at_mem run) tt args-byte tt low)))) (id⊢ 𝓤 _) $ await ! tt $ pick ! (λ low.
-          split ! $ move ! (1 ∷ []) $ use1 𝓛 (raw (fact 𝓤 (low ≡ byteOr outOfRange n₅))) (said-byte low) $ heard ! (low ≡ byteOr outOfRange n₅) (λ e₂. split ! $ move ! (1 ∷ []) $ facts ! u8 (Is u8) (shows 𝓛 u8) low (l ∷ []) (λ is-low.
+          split ! $ move ! (1 ∷ []) $ use1 𝓛 (raw (fact 𝓤 (low ≡ byte_or out_of_range n₅))) (said-byte low) $ heard ! (low ≡ byte_or out_of_range n₅) (λ e₂. split ! $ move ! (1 ∷ []) $ facts ! u8 (Is u8) (shows 𝓛 u8) low (l ∷ []) (λ is-low.
           land ! (from ! (stop !)) (init ! 32 refl ((uint_Lawful 𝓛 w8).typed low _ is-low).0) $
           assigns ! (addr ! (from ! (fld ! refl (hop ! (look_in ! 46 (sub ! 0 refl (whole !))) (stop !))))) (from ! (stop !)) (init ! 26 refl (tt, tt)) $
           assigns ! (agg ! (and_then ! (load ! (from ! (stop !)) (look ! 26 refl)) (and_then ! (load ! (from ! (fld ! refl (stop !))) (look_in ! 46 (sub ! 1 refl (whole !)))) (no_more !)))) (from ! (stop !)) (init ! 24 refl (tt, (tt, (record { fits = room₂.0 }, tt)))) $
@@ -255,7 +255,7 @@ module _ {M : Type 1} {𝓤 : Ura M} (𝓛 : Logic 𝓤) (at_mem : Memory → SP
           move ! (8 ∷ 3 ∷ 9 ∷ 4 ∷ 10 ∷ 5 ∷ 11 ∷ 6 ∷ []) $ move ! (1 ∷ 0 ∷ []) $ join ! $ move ! (1 ∷ 0 ∷ []) $ join ! $ move ! (1 ∷ 0 ∷ []) $ join ! $ move ! (1 ∷ 0 ∷ []) $ join ! $ move ! (1 ∷ 0 ∷ []) $ join ! $ move ! (1 ∷ 0 ∷ []) $ join ! $ move ! (1 ∷ 0 ∷ []) $ join ! $ use1 𝓛 (raw ((Accept 𝓛 at_mem run).pre (to-accept link low u l))) (goes-accept link low u l is-link is-low) $
           calls_at ! fm (Accept 𝓛 at_mem run) known-accept (to-accept link low u l) (and_then ! (load ! (from ! (stop !)) (look ! 27 refl)) (and_then ! (load ! (from ! (stop !)) (look ! 17 refl)) (and_then ! (load ! (from ! (stop !)) (look ! 13 refl)) (and_then ! (load ! (from ! (stop !)) (look ! 35 refl)) (and_then ! (load ! (from ! (stop !)) (look ! 25 refl)) (and_then ! (load ! (from ! (stop !)) (look ! 9 refl)) (no_more !))))))) (λ w.
           use1 𝓛 (later (some (λ (d : Answer). ((‵ (flft κ₂ q₂) ⊛ ‵ (flft κ₃ q₃) ⊛ ‵ (flft κ₄ q₄) ⊛ ‵ (flft κ₆ q₆) ⊛ ‵ ftrue) ⊛ ‵ ((N.the_row).own_val d (w ∷ []))) ⊛ raw (ensured 𝓛 accept.ended (accept.clauses 𝓛 at_mem run) (κ₂, (κ₃, (κ₄, (κ₆, tt)))) (args-accept link low) tt d)))) (id⊢ 𝓤 _) $ await ! tt $ pick ! (λ d.
-          split ! $ move ! (1 ∷ []) $ use1 𝓛 (some (λ (zs : Unit {0} × (List Slot × (List ℕ × (Unit {0} × (Unit {0} × (List ℕ × Unit {0})))))). ‵ (lasts accept.ended (κ₂, (κ₃, (κ₄, (κ₆, tt)))) (args-accept link low) zs) ⊛ raw (fact 𝓤 (left (told d) zs.1.0 zs.1.1.0 zs.1.1.1.1.1.0 ≡ acceptOf link.limit ys₂ ys₃ (call ys₄ low ys₆))))) (id⊢ 𝓤 _) $ pick ! (λ zs. split ! $ move ! (1 ∷ []) $ heard ! (left (told d) zs.1.0 zs.1.1.0 zs.1.1.1.1.1.0 ≡ acceptOf link.limit ys₂ ys₃ (call ys₄ low ys₆)) (λ e₃.
+          split ! $ move ! (1 ∷ []) $ use1 𝓛 (some (λ (zs : Unit {0} × (List Slot × (List ℕ × (Unit {0} × (Unit {0} × (List ℕ × Unit {0})))))). ‵ (lasts accept.ended (κ₂, (κ₃, (κ₄, (κ₆, tt)))) (args-accept link low) zs) ⊛ raw (fact 𝓤 (left (told d) zs.1.0 zs.1.1.0 zs.1.1.1.1.1.0 ≡ accept_of link.limit ys₂ ys₃ (call ys₄ low ys₆))))) (id⊢ 𝓤 _) $ pick ! (λ zs. split ! $ move ! (1 ∷ []) $ heard ! (left (told d) zs.1.0 zs.1.1.0 zs.1.1.1.1.1.0 ≡ accept_of link.limit ys₂ ys₃ (call ys₄ low ys₆)) (λ e₃.
           fsplit ! $ drop ! $ fsplit ! $ fsplit ! $ move ! (1 ∷ []) $ feq_l ! (λ len₂. move ! (1 ∷ []) $ fsplit ! $ fsplit ! $ move ! (1 ∷ []) $ feq_l ! (λ len₃. move ! (1 ∷ []) $ fsplit ! $ drop ! $ fsplit ! $ drop ! $ fsplit ! $ fsplit ! $ move ! (1 ∷ []) $ feq_l ! (λ len₆. move ! (1 ∷ []) $ drop ! $ move ! (3 ∷ []) $ split ! $ move ! (1 ∷ []) $ facts ! N.the_row (Is N.the_row) (shows 𝓛 N.the_row) d (w ∷ []) (λ is-done.
           land ! (from ! (stop !)) (init ! 26 refl ((EL.lawful N.the_type N'.the_laws 𝓛 tt).typed d _ is-done).0) $
           assigns ! (addr ! (from ! (fld ! refl (hop ! (look_in ! 32 (sub ! 0 refl (whole !))) (stop !))))) (from ! (stop !)) (init ! 10 refl (tt, tt)) $
@@ -263,7 +263,7 @@ module _ {M : Type 1} {𝓤 : Ura M} (𝓛 : Logic 𝓤) (at_mem : Memory → SP
           move ! (7 ∷ 6 ∷ []) $ move ! (1 ∷ 0 ∷ []) $ join ! $ use1 𝓛 (raw ((Tell 𝓛 at_mem run).pre (to-tell d w))) (goes-tell d w is-done) $
           calls_at ! fm (Tell 𝓛 at_mem run) known-tell (to-tell d w) (and_then ! (load ! (from ! (stop !)) (look ! 7 refl)) (and_then ! (load ! (from ! (stop !)) (look ! 25 refl)) (no_more !))) (λ z.
           use1 𝓛 (later (some (λ (n : ℕ). ((‵ (flft κ₇ q₇) ⊛ ‵ ftrue) ⊛ ‵ (u64.own_val n (z ∷ []))) ⊛ raw (ensured 𝓛 tell.ended (tell.clauses 𝓛 at_mem run) (κ₇, tt) (args-tell d) tt n)))) (id⊢ 𝓤 _) $ await ! tt $ pick ! (λ n.
-          split ! $ move ! (1 ∷ []) $ use1 𝓛 (some (λ (ws : List ℕ × (Unit {0} × Unit {0})). ‵ (lasts tell.ended (κ₇, tt) (args-tell d) ws) ⊛ raw (fact 𝓤 (called n [] [] ws.0 ≡ toldRow ys₇ (told d))))) (id⊢ 𝓤 _) $ pick ! (λ ws. split ! $ move ! (1 ∷ []) $ heard ! (called n [] [] ws.0 ≡ toldRow ys₇ (told d)) (λ e₄.
+          split ! $ move ! (1 ∷ []) $ use1 𝓛 (some (λ (ws : List ℕ × (Unit {0} × Unit {0})). ‵ (lasts tell.ended (κ₇, tt) (args-tell d) ws) ⊛ raw (fact 𝓤 (called n [] [] ws.0 ≡ told_row ys₇ (told d))))) (id⊢ 𝓤 _) $ pick ! (λ ws. split ! $ move ! (1 ∷ []) $ heard ! (called n [] [] ws.0 ≡ told_row ys₇ (told d)) (λ e₄.
           fsplit ! $ fsplit ! $ move ! (1 ∷ []) $ feq_l ! (λ len₇. move ! (1 ∷ []) $ fsplit ! $ drop ! $ drop ! $ move ! (1 ∷ []) $ split ! $ move ! (1 ∷ []) $ facts ! u64 (Is u64) (shows 𝓛 u64) n (z ∷ []) (λ is_number.
           land ! (from ! (stop !)) (init ! 46 refl ((uint_Lawful 𝓛 w64).typed n _ is_number).0) $
           returns ! (look ! 46 refl) $ forget ! 46 refl $ forget ! 44 refl $ forget ! 42 refl $ forget ! 40 refl $ forget ! 38 refl $ forget ! 36 refl $ forget ! 34 refl $ forget ! 32 refl $ forget ! 30 refl $ forget ! 28 refl $ forget ! 26 refl $ forget ! 24 refl $ forget ! 22 refl $ forget ! 20 refl $ forget ! 18 refl $ forget ! 16 refl $ forget ! 14 refl $ forget ! 12 refl $ forget ! 10 refl $ forget ! 8 refl $

@@ -1,22 +1,22 @@
 use borrow.Author.Tests.{eq-eqb, ne_eqb}
-use Rattle.c_receiving.specs.Calls.{receiverOpenOf}
+use Rattle.c_receiving.specs.Calls.{receiver_open_of}
 use borrow.Author.Rules.{rules}
 use Rattle.c_receiving.proofs.calls.pito_receiver_open.Statement.{statement}
 use Rattle.c_receiving.proofs.calls.pito_receiver_open.Tie as tie
 
 returns : tie.Need-returns
-unfolding receiverOpenOf
+unfolding receiver_open_of
 returns c = rw (ne_eqb _ _ c.if1.true)
 
 returns-2 : tie.Need-returns-2
-unfolding receiverOpenOf
+unfolding receiver_open_of
 returns-2 c =
     let link = c.before.before.before.before.before.before in
     let done = link.before.before in
     rw (eq-eqb _ _ done.before.if1.false, ← done.«open».ensures, link.link.given.1, c.before.before.write-row.ensures)
 
 returns-3 : tie.Need-returns-3
-unfolding receiverOpenOf
+unfolding receiver_open_of
 returns-3 c =
     let done = c.before.before in
     rw (eq-eqb _ _ done.before.if1.false, ← done.«open».ensures, c.enum_told.given.1)

@@ -1,11 +1,11 @@
 use borrow.Author.Tests.{eq-eqb, ne_eqb}
 use borrow.Author.Rules.{rules}
-use Rattle.c_receiving.specs.Calls.{toldRow}
+use Rattle.c_receiving.specs.Calls.{told_row}
 use Rattle.c_receiving.proofs.calls.tell_packet.Statement.{statement}
 use Rattle.c_receiving.proofs.calls.tell_packet.Tie as tie
 
 returns : tie.Need-returns
-unfolding toldRow
+unfolding told_row
 returns c =
     let told = c.before.before.before.before.before.before.before in
     rw (
@@ -16,7 +16,7 @@ returns c =
     )
 
 returns-2 : tie.Need-returns-2
-unfolding toldRow
+unfolding told_row
 returns-2 c = rw (ne_eqb _ _ c.if1.false, c.before.answer-number.ensures)
 
 pub tell-packet-spec : {M : Type 1} → statement M

@@ -1,16 +1,16 @@
--- Each way out is the table of `replyWriteOf` at the tests that led there, with the callees' equations put in.
+-- Each way out is the table of `reply_write_of` at the tests that led there, with the callees' equations put in.
 use native.Mathlib.Omega.{arith}
 use mathlib.Core.Path.{sym, ◌∙◌}
 use lib.ListN.{length-map}
 use borrow.Author.Tests.{eq-eqb, ne_eqb}
-use Rattle.c_reply.specs.Calls.{replyWriteOf}
+use Rattle.c_reply.specs.Calls.{reply_write_of}
 use Rattle.c_reply.proofs.Few.{few-most}
 use borrow.Author.Rules.{rules}
 use Rattle.c_reply.proofs.calls.pito_reply_write.Statement.{statement}
 use Rattle.c_reply.proofs.calls.pito_reply_write.Tie as tie
 
 returns : tie.Need-returns
-unfolding replyWriteOf
+unfolding reply_write_of
 returns c = rw (ne_eqb _ _ c.if1.true)
 
 signed-list-requires : tie.Need-signed-list-requires
@@ -25,7 +25,7 @@ slice-aggregate-few : tie.Need-slice-aggregate-few
 slice-aggregate-few c = rw (c.before.signed-list.ensures, length-map)
 
 returns-2 : tie.Need-returns-2
-unfolding replyWriteOf
+unfolding reply_write_of
 returns-2 c =
     rw (
       eq-eqb _ _ c.before.before.before.before.before.before.before.before.before.before.before.before.before.before.before.if1.false,
@@ -41,7 +41,7 @@ returns-2 c =
     )
 
 returns-3 : tie.Need-returns-3
-unfolding replyWriteOf
+unfolding reply_write_of
 returns-3 c =
     rw (
       eq-eqb _ _ c.before.before.before.before.before.before.before.before.before.before.before.before.before.before.if1.false,

@@ -41,12 +41,12 @@ use denote.Triple.Walked.{says, Stays, stay_dropped, gave_slice, walk_of, Goes-d
 use denote.Triple.Clauses.{ensured, lasts}
 use denote.Exit.{yes}
 use Rattle.ble_slot.specs.declared.Slot.{Slot}
-use Rattle.capture_report.specs.Report.{CaptureAdded, captureAdded, addedOf}
+use Rattle.capture_report.specs.Report.{CaptureAdded, capture_added, added_of}
 use Rattle.capture_tally.specs.declared.Answer.{Answer}
 use Rattle.capture_tally.specs.Tally.{told}
 use Rattle.c_report.specs.declared.calls.AddingTo.{AddingTo}
-use Rattle.c_report.specs.Calls.{reportCalled, reportAddOf, addingTo, added, toldRows}
-use Rattle.c_report.proofs.Adding.{calledBy, told-left}
+use Rattle.c_report.specs.Calls.{report_called, report_add_of, adding_to, added, told_rows}
+use Rattle.c_report.proofs.Adding.{called_by, told-left}
 use Rattle.c_report.specs.contracts.calls.adding_to as adding
 use Rattle.c_report.proofs.calls.adding_to.Symbol as adding-def
 use Rattle.c_report.proofs.calls.adding_to.Symbol.{name as #adding}
@@ -157,10 +157,10 @@ module _ {M : Type 1} {𝓤 : Ura M} (𝓛 : Logic 𝓤) (at_mem : Memory → SP
   Post = (walk_of 𝓛 f.ended stayed (f.clauses 𝓛 at_mem run)).post bound
 
   -- the three callees' equations make the contract's
-  together : (to : AddingTo) (d : Answer) (n : ℕ) (ws : List Slot) (zs₁ zs₄ zs₆ : List ℕ) → to ≡ addingTo ys₁ n₂ (length ys₆) → captureAdded (told d) ws zs₄ ≡ addedOf to.report to.limit ys₃ ys₄ ys₅ → added n zs₁ zs₆ ≡ toldRows ys₁ ys₆ (told d) → reportCalled n zs₁ ws zs₄ zs₆ ≡ reportAddOf ys₁ n₂ ys₃ ys₄ ys₅ ys₆
+  together : (to : AddingTo) (d : Answer) (n : ℕ) (ws : List Slot) (zs₁ zs₄ zs₆ : List ℕ) → to ≡ adding_to ys₁ n₂ (length ys₆) → capture_added (told d) ws zs₄ ≡ added_of to.report to.limit ys₃ ys₄ ys₅ → added n zs₁ zs₆ ≡ told_rows ys₁ ys₆ (told d) → report_called n zs₁ ws zs₄ zs₆ ≡ report_add_of ys₁ n₂ ys₃ ys₄ ys₅ ys₆
   together to d n ws zs₁ zs₄ zs₆ e₁ e₂ e₃ =
-      ap (calledBy (captureAdded (told d) ws zs₄)) e₃
-      ∙ ap (λ (c : CaptureAdded). calledBy c (toldRows ys₁ ys₆ c.told)) (e₂ ∙ ap (λ (t : AddingTo). addedOf t.report t.limit ys₃ ys₄ ys₅) e₁)
+      ap (called_by (capture_added (told d) ws zs₄)) e₃
+      ∙ ap (λ (c : CaptureAdded). called_by c (told_rows ys₁ ys₆ c.told)) (e₂ ∙ ap (λ (t : AddingTo). added_of t.report t.limit ys₃ ys₄ ys₅) e₁)
       ∙ told-left ys₁ n₂ ys₃ ys₄ ys₅ ys₆
 
   -- what each callee is passed; `adding_to` at a lifetime ν of the call, on the report under the name δ
@@ -173,8 +173,8 @@ module _ {M : Type 1} {𝓤 : Ura M} (𝓛 : Logic 𝓤) (at_mem : Memory → SP
   abbrev to-adding : ℕ → GName → (Adding 𝓛 at_mem run).Ghost
   to-adding ν δ = (((ν ∷ [], tt), (full_share, tt), tt, args-adding ν δ, (v₁ ∷ [], (v₂ ∷ [], (vint w64 (length ys₆) ∷ [], tt)))), tt)
 
-  said-adding : (ν : ℕ) (δ : GName) (r : AddingTo) → ent 𝓤 (ensured 𝓛 adding.ended (adding.clauses 𝓛 at_mem run) (ν ∷ [], tt) (args-adding ν δ) tt r) (fact 𝓤 (r ≡ addingTo ys₁ n₂ (length ys₆)))
-  said-adding ν δ r = ex_e 𝓤 _ (λ ws. snd∗ 𝓤 (sem 𝓛 (lasts adding.ended (ν ∷ [], tt) (args-adding ν δ) ws)) (fact 𝓤 (r ≡ addingTo ys₁ n₂ (length ys₆))))
+  said-adding : (ν : ℕ) (δ : GName) (r : AddingTo) → ent 𝓤 (ensured 𝓛 adding.ended (adding.clauses 𝓛 at_mem run) (ν ∷ [], tt) (args-adding ν δ) tt r) (fact 𝓤 (r ≡ adding_to ys₁ n₂ (length ys₆)))
+  said-adding ν δ r = ex_e 𝓤 _ (λ ws. snd∗ 𝓤 (sem 𝓛 (lasts adding.ended (ν ∷ [], tt) (args-adding ν δ) ws)) (fact 𝓤 (r ≡ adding_to ys₁ n₂ (length ys₆))))
 
   abbrev args-add : AddingTo → Args add.signature (κ₃, (κ₄, (κ₅, tt)))
   args-add to = (to.report, (to.limit, (x₃, (x₄, (x₅, tt)))))
@@ -188,7 +188,7 @@ module _ {M : Type 1} {𝓤 : Ura M} (𝓛 : Logic 𝓤) (at_mem : Memory → SP
   abbrev to-tell : Answer → Val → (Tell 𝓛 at_mem run).Ghost
   to-tell d w = (((κ₁, (κ₆, tt)), (q₁, (q₆, tt)), tt, args-tell d, (v₁ ∷ [], (v₆ ∷ [], (w ∷ [], tt)))), tt)
 
-  exits : (n : ℕ) (v : Val) → Is u64 n (v ∷ []) → (ws : List Slot) (zs₁ zs₄ zs₆ : List ℕ) → length ws ≡ length ys₃ → length zs₁ ≡ length ys₁ → length zs₄ ≡ length ys₄ → length zs₆ ≡ length ys₆ → reportCalled n zs₁ ws zs₄ zs₆ ≡ reportAddOf ys₁ n₂ ys₃ ys₄ ys₅ ys₆
+  exits : (n : ℕ) (v : Val) → Is u64 n (v ∷ []) → (ws : List Slot) (zs₁ zs₄ zs₆ : List ℕ) → length ws ≡ length ys₃ → length zs₁ ≡ length ys₁ → length zs₄ ≡ length ys₄ → length zs₆ ≡ length ys₆ → report_called n zs₁ ws zs₄ zs₆ ≡ report_add_of ys₁ n₂ ys₃ ys₄ ys₅ ys₆
       → ent 𝓤 (⋆ 𝓛 ((‵ (flft κ₃ q₃) ⊛ ‵ (flft κ₄ q₄) ⊛ ‵ (flft κ₅ q₅) ⊛ ‵ ftrue) ∷ (‵ (flft κ₁ q₁) ⊛ ‵ (flft κ₆ q₆) ⊛ ‵ ftrue) ∷ ‵ (finally u64 γ₁ zs₁) ∷ ‵ (finally T.the_row γ₃ ws) ∷ ‵ (finally u8 γ₄ zs₄) ∷ ‵ (finally u64 γ₆ zs₆) ∷ [])) (Post v)
   exits n v is ws zs₁ zs₄ zs₆ len₃ len₁ len₄ len₆ e =
       qed 𝓛 ((‵ (flft κ₃ q₃) ⊛ ‵ (flft κ₄ q₄) ⊛ ‵ (flft κ₅ q₅) ⊛ ‵ ftrue) ∷ (‵ (flft κ₁ q₁) ⊛ ‵ (flft κ₆ q₆) ⊛ ‵ ftrue) ∷ ‵ (finally u64 γ₁ zs₁) ∷ ‵ (finally T.the_row γ₃ ws) ∷ ‵ (finally u8 γ₄ zs₄) ∷ ‵ (finally u64 γ₆ zs₆) ∷ []) ∵
@@ -220,7 +220,7 @@ module _ {M : Type 1} {𝓤 : Ura M} (𝓛 : Logic 𝓤) (at_mem : Memory → SP
           move ! (0 ∷ 2 ∷ []) $ move ! (1 ∷ 0 ∷ []) $ join ! $ use1 𝓛 (raw ((Adding 𝓛 at_mem run).pre (to-adding ν δ))) (goes-adding ν δ) $
           calls_at ! fm (Adding 𝓛 at_mem run) known-adding (to-adding ν δ) (and_then ! (load ! (from ! (stop !)) (look ! 28 refl)) (and_then ! (load ! (from ! (stop !)) (look ! 44 refl)) (and_then ! (load ! (from ! (stop !)) (look ! 26 refl)) (no_more !)))) (λ u.
           use1 𝓛 (later (some (λ (to : AddingTo). ((‵ (flft (ν ∷ []) full_share) ⊛ ‵ ftrue) ⊛ ‵ ((D.the_row).own_val to (u ∷ []))) ⊛ raw (ensured 𝓛 adding.ended (adding.clauses 𝓛 at_mem run) (ν ∷ [], tt) (args-adding ν δ) tt to)))) (id⊢ 𝓤 _) $ await ! tt $ pick ! (λ to.
-          split ! $ move ! (1 ∷ []) $ use1 𝓛 (raw (fact 𝓤 (to ≡ addingTo ys₁ n₂ (length ys₆)))) (said-adding ν δ to) $ heard ! (to ≡ addingTo ys₁ n₂ (length ys₆)) (λ e₁. split ! $ move ! (1 ∷ []) $ facts ! D.the_row (Is D.the_row) (shows 𝓛 D.the_row) to (u ∷ []) (λ is-to.
+          split ! $ move ! (1 ∷ []) $ use1 𝓛 (raw (fact 𝓤 (to ≡ adding_to ys₁ n₂ (length ys₆)))) (said-adding ν δ to) $ heard ! (to ≡ adding_to ys₁ n₂ (length ys₆)) (λ e₁. split ! $ move ! (1 ∷ []) $ facts ! D.the_row (Is D.the_row) (shows 𝓛 D.the_row) to (u ∷ []) (λ is-to.
           land ! (from ! (stop !)) (init ! 34 refl ((LL.lawful D.the_type D'.the_laws 𝓛).typed to _ is-to).0) $
           rewrite ! 34 (λ (z : Val). ‵ (fat full_share D'.mir l₇ 0 z)) (ap only (LL.tells D.the_type D'.the_laws to (u ∷ []) is-to)) refl $
           split ! $ lft_end ! tt $ move ! (0 ∷ 2 ∷ []) $ use2 𝓛 (later (‵ Own₁ ⊛ ‵ (flft κ₁ q₁))) (unshares u64 κ₁ (ν ∷ []) q₁ γ₁ b₁ o₁ 𝓛 (named 0) (named 0) ys₁ room₁) $ await ! tt $ split ! $ move ! (2 ∷ []) $ drop ! $
@@ -231,7 +231,7 @@ module _ {M : Type 1} {𝓤 : Ura M} (𝓛 : Logic 𝓤) (at_mem : Memory → SP
           move ! (7 ∷ 3 ∷ 8 ∷ 4 ∷ 9 ∷ 5 ∷ []) $ move ! (1 ∷ 0 ∷ []) $ join ! $ move ! (1 ∷ 0 ∷ []) $ join ! $ move ! (1 ∷ 0 ∷ []) $ join ! $ move ! (1 ∷ 0 ∷ []) $ join ! $ move ! (1 ∷ 0 ∷ []) $ join ! $ use1 𝓛 (raw ((Add 𝓛 at_mem run).pre (to-add to))) (goes_add to (LL.owed D.the_type D'.the_laws to (u ∷ []) is-to).0 (LL.owed D.the_type D'.the_laws to (u ∷ []) is-to).1.0.1) $
           calls_at ! fm (Add 𝓛 at_mem run) known-add (to-add to) (and_then ! (load ! (from ! (fld ! refl (stop !))) (look_in ! 29 (sub ! 0 refl (whole !)))) (and_then ! (load ! (from ! (fld ! refl (stop !))) (look_in ! 29 (sub ! 1 refl (whole !)))) (and_then ! (load ! (from ! (stop !)) (look ! 17 refl)) (and_then ! (load ! (from ! (stop !)) (look ! 13 refl)) (and_then ! (load ! (from ! (stop !)) (look ! 33 refl)) (no_more !)))))) (λ w.
           use1 𝓛 (later (some (λ (d : Answer). ((‵ (flft κ₃ q₃) ⊛ ‵ (flft κ₄ q₄) ⊛ ‵ (flft κ₅ q₅) ⊛ ‵ ftrue) ⊛ ‵ ((N.the_row).own_val d (w ∷ []))) ⊛ raw (ensured 𝓛 add.ended (add.clauses 𝓛 at_mem run) (κ₃, (κ₄, (κ₅, tt))) (args-add to) tt d)))) (id⊢ 𝓤 _) $ await ! tt $ pick ! (λ d.
-          split ! $ move ! (1 ∷ []) $ use1 𝓛 (some (λ (zs : Unit {0} × (Unit {0} × (List Slot × (List ℕ × (Unit {0} × Unit {0}))))). ‵ (lasts add.ended (κ₃, (κ₄, (κ₅, tt))) (args-add to) zs) ⊛ raw (fact 𝓤 (captureAdded (told d) zs.1.1.0 zs.1.1.1.0 ≡ addedOf to.report to.limit ys₃ ys₄ ys₅)))) (id⊢ 𝓤 _) $ pick ! (λ zs. split ! $ move ! (1 ∷ []) $ heard ! (captureAdded (told d) zs.1.1.0 zs.1.1.1.0 ≡ addedOf to.report to.limit ys₃ ys₄ ys₅) (λ e₂.
+          split ! $ move ! (1 ∷ []) $ use1 𝓛 (some (λ (zs : Unit {0} × (Unit {0} × (List Slot × (List ℕ × (Unit {0} × Unit {0}))))). ‵ (lasts add.ended (κ₃, (κ₄, (κ₅, tt))) (args-add to) zs) ⊛ raw (fact 𝓤 (capture_added (told d) zs.1.1.0 zs.1.1.1.0 ≡ added_of to.report to.limit ys₃ ys₄ ys₅)))) (id⊢ 𝓤 _) $ pick ! (λ zs. split ! $ move ! (1 ∷ []) $ heard ! (capture_added (told d) zs.1.1.0 zs.1.1.1.0 ≡ added_of to.report to.limit ys₃ ys₄ ys₅) (λ e₂.
           fsplit ! $ drop ! $ fsplit ! $ drop ! $ fsplit ! $ fsplit ! $ move ! (1 ∷ []) $ feq_l ! (λ len₃. move ! (1 ∷ []) $ fsplit ! $ fsplit ! $ move ! (1 ∷ []) $ feq_l ! (λ len₄. move ! (1 ∷ []) $ fsplit ! $ drop ! $ drop ! $ move ! (2 ∷ []) $ split ! $ move ! (1 ∷ []) $ facts ! N.the_row (Is N.the_row) (shows 𝓛 N.the_row) d (w ∷ []) (λ is-done.
           land ! (from ! (stop !)) (init ! 29 refl ((EL.lawful N.the_type N'.the_laws 𝓛 tt).typed d _ is-done).0) $
           assigns ! (addr ! (from ! (fld ! refl (hop ! (look_in ! 43 (sub ! 0 refl (whole !))) (stop !))))) (from ! (stop !)) (init ! 13 refl (tt, tt)) $
@@ -241,7 +241,7 @@ module _ {M : Type 1} {𝓤 : Ura M} (𝓛 : Logic 𝓤) (at_mem : Memory → SP
           move ! (6 ∷ 5 ∷ 4 ∷ 3 ∷ []) $ move ! (1 ∷ 0 ∷ []) $ join ! $ move ! (1 ∷ 0 ∷ []) $ join ! $ move ! (1 ∷ 0 ∷ []) $ join ! $ use1 𝓛 (raw ((Tell 𝓛 at_mem run).pre (to-tell d w))) (goes-tell d w is-done) $
           calls_at ! fm (Tell 𝓛 at_mem run) known-tell (to-tell d w) (and_then ! (load ! (from ! (stop !)) (look ! 8 refl)) (and_then ! (load ! (from ! (stop !)) (look ! 4 refl)) (and_then ! (load ! (from ! (stop !)) (look ! 26 refl)) (no_more !)))) (λ z.
           use1 𝓛 (later (some (λ (n : ℕ). ((‵ (flft κ₁ q₁) ⊛ ‵ (flft κ₆ q₆) ⊛ ‵ ftrue) ⊛ ‵ (u64.own_val n (z ∷ []))) ⊛ raw (ensured 𝓛 tell.ended (tell.clauses 𝓛 at_mem run) (κ₁, (κ₆, tt)) (args-tell d) tt n)))) (id⊢ 𝓤 _) $ await ! tt $ pick ! (λ n.
-          split ! $ move ! (1 ∷ []) $ use1 𝓛 (some (λ (ws : List ℕ × (List ℕ × (Unit {0} × Unit {0}))). ‵ (lasts tell.ended (κ₁, (κ₆, tt)) (args-tell d) ws) ⊛ raw (fact 𝓤 (added n ws.0 ws.1.0 ≡ toldRows ys₁ ys₆ (told d))))) (id⊢ 𝓤 _) $ pick ! (λ ws. split ! $ move ! (1 ∷ []) $ heard ! (added n ws.0 ws.1.0 ≡ toldRows ys₁ ys₆ (told d)) (λ e₃.
+          split ! $ move ! (1 ∷ []) $ use1 𝓛 (some (λ (ws : List ℕ × (List ℕ × (Unit {0} × Unit {0}))). ‵ (lasts tell.ended (κ₁, (κ₆, tt)) (args-tell d) ws) ⊛ raw (fact 𝓤 (added n ws.0 ws.1.0 ≡ told_rows ys₁ ys₆ (told d))))) (id⊢ 𝓤 _) $ pick ! (λ ws. split ! $ move ! (1 ∷ []) $ heard ! (added n ws.0 ws.1.0 ≡ told_rows ys₁ ys₆ (told d)) (λ e₃.
           fsplit ! $ fsplit ! $ move ! (1 ∷ []) $ feq_l ! (λ len₁. move ! (1 ∷ []) $ fsplit ! $ fsplit ! $ move ! (1 ∷ []) $ feq_l ! (λ len₆. move ! (1 ∷ []) $ fsplit ! $ drop ! $ drop ! $ move ! (2 ∷ []) $ split ! $ move ! (1 ∷ []) $ facts ! u64 (Is u64) (shows 𝓛 u64) n (z ∷ []) (λ is_number.
           land ! (from ! (stop !)) (init ! 44 refl ((uint_Lawful 𝓛 w64).typed n _ is_number).0) $
           returns ! (look ! 44 refl) $ forget ! 44 refl $ forget ! 42 refl $ forget ! 40 refl $ forget ! 38 refl $ forget ! 36 refl $ forget ! 34 refl $ forget ! 32 refl $ forget ! 30 refl $ forget ! 28 refl $ forget ! 26 refl $ forget ! 24 refl $ forget ! 22 refl $ forget ! 20 refl $ forget ! 18 refl $ forget ! 16 refl $ forget ! 14 refl $ forget ! 12 refl $ forget ! 10 refl $ forget ! 8 refl $ forget ! 6 refl $

@@ -4,13 +4,13 @@ use lib.Dec.{eqb}
 use lib.ListN.{length}
 use borrow.Author.Tests.{eqb-true, not-true, not-false}
 use Rattle.wire.proofs.Tests.{and_left, and_right}
-use Rattle.c_report.specs.Calls.{toldRows}
+use Rattle.c_report.specs.Calls.{told_rows}
 use borrow.Author.Rules.{rules}
 use Rattle.c_report.proofs.calls.tell_added.Statement.{statement}
 use Rattle.c_report.proofs.calls.tell_added.Tie as tie
 
 returns : tie.Need-returns
-unfolding toldRows
+unfolding told_rows
 returns c = rw (← c.before.both.ensures, not-true c.before.both.result c.if1.true)
 
 put-report-requires : tie.Need-put-report-requires
@@ -30,7 +30,7 @@ put-requires c κs =
     omega (arith, long)
 
 returns-2 : tie.Need-returns-2
-unfolding toldRows
+unfolding told_rows
 returns-2 c =
     let put = c.before.before in
     let wrote = c.before.before.before.before.before.before.before.before in

@@ -1,15 +1,15 @@
 use borrow.Author.Tests.{eq-eqb, ne_eqb}
-use Rattle.c_sending.specs.Calls.{packetWriteOf}
+use Rattle.c_sending.specs.Calls.{packet_write_of}
 use borrow.Author.Rules.{rules}
 use Rattle.c_sending.proofs.calls.pito_packet_write.Statement.{statement}
 use Rattle.c_sending.proofs.calls.pito_packet_write.Tie as tie
 
 returns : tie.Need-returns
-unfolding packetWriteOf
+unfolding packet_write_of
 returns c = rw (ne_eqb _ _ c.if1.true)
 
 returns-2 : tie.Need-returns-2
-unfolding packetWriteOf
+unfolding packet_write_of
 returns-2 c =
     rw (
       eq-eqb _ _ c.before.before.before.before.before.before.before.before.before.before.before.before.if1.false,

@@ -1,10 +1,10 @@
-use Rattle.c_sending.specs.Convert.{sendingOf}
+use Rattle.c_sending.specs.Convert.{sending_of}
 use borrow.Author.Rules.{rules}
 use Rattle.c_sending.proofs.convert.sending.Statement.{statement}
 use Rattle.c_sending.proofs.convert.sending.Tie as tie
 
 returns : tie.Need-returns
-unfolding sendingOf
+unfolding sending_of
 returns c =
     rw (
       c.byte-or2.ensures,

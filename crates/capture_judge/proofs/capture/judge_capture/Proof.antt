@@ -1,10 +1,10 @@
 use borrow.Author.Rules.{rules}
-use Rattle.capture_judge.specs.Capture.{judgedOf}
+use Rattle.capture_judge.specs.Capture.{judged_of}
 use Rattle.capture_judge.proofs.capture.judge_capture.Statement.{statement}
 use Rattle.capture_judge.proofs.capture.judge_capture.Tie as tie
 
 returns : tie.Need-returns
-unfolding judgedOf
+unfolding judged_of
 returns c = rw (← c.before.trace.ensures) c.answer-of.ensures
 
 pub judge-capture-spec : {M : Type 1} → statement M

@@ -6,7 +6,7 @@ use native.Mathlib.Omega.{arith}
 use lib.ListN.{length, take, drop, length-drop}
 use borrow.Author.Rules.{rules}
 use Rattle.wire.specs.Told.{given}
-use Rattle.capture_reader.specs.Capture.{width, frontOf, frontTold}
+use Rattle.capture_reader.specs.Capture.{width, front_of, front_told}
 use Rattle.capture_reader.proofs.Walking.{front-within}
 use Rattle.wire.proofs.Parts.{rest-lent}
 use Rattle.capture_judge.proofs.Walking.{Judging, other-refused, judging-begins, judging-ends, judging-stops, judging-goes}
@@ -27,23 +27,23 @@ loop-holds c = judging-begins _ _ _ (sym c.before.before.other-version.ensures �
 
 -- what was found is what stands there
 stands : (c : tie.After-front-of invariant-loop decreases-loop)
-    → frontTold c.front_of.result
-    ≡ frontOf (drop c.before.before.before.loop.at c.before.before.before.before.before.before.before.before.args.capture.now)
+    → front_told c.front_of.result
+    ≡ front_of (drop c.before.before.before.loop.at c.before.before.before.before.before.before.before.before.args.capture.now)
 stands c =
     let l = c.before.before.before in
-    c.front_of.ensures ∙ ap frontOf (rest-lent l.before.before.before.before.before.args.capture.now l.loop.at)
+    c.front_of.ensures ∙ ap front_of (rest-lent l.before.before.before.before.before.args.capture.now l.loop.at)
 
 returns-2 : tie.Need-returns-2 invariant-loop decreases-loop
 returns-2 c =
     let f = c.before.before.before in
     let t = f.before.before in
-    sym (judging-stops _ _ _ t.before.loop.invariant t.loop-test.true _ (sym (stands f) ∙ ap frontTold c.before.found.given.1))
+    sym (judging-stops _ _ _ t.before.loop.invariant t.loop-test.true _ (sym (stands f) ∙ ap front_told c.before.found.given.1))
 
 -- the packet of this turn
 stood : (c : tie.After-known-told2 invariant-loop decreases-loop)
-    → frontOf (drop c.before.before.before.before.before.before.loop.at c.before.before.before.before.before.before.before.before.before.before.before.args.capture.now)
+    → front_of (drop c.before.before.before.before.before.before.loop.at c.before.before.before.before.before.before.before.before.before.before.before.args.capture.now)
     ≡ given c.before.found2.given.0.0
-stood c = sym (stands c.before.before.before) ∙ ap frontTold c.before.found2.given.1
+stood c = sym (stands c.before.before.before) ∙ ap front_told c.before.found2.given.1
 
 -- it lies within the capture
 lies : (c : tie.After-known-told2 invariant-loop decreases-loop)

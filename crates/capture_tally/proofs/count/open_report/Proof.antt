@@ -1,10 +1,10 @@
-use Rattle.capture_report.specs.Turns.{openReport}
+use Rattle.capture_report.specs.Turns.{open_report}
 use borrow.Author.Rules.{rules}
 use Rattle.capture_tally.proofs.count.open_report.Statement.{statement}
 use Rattle.capture_tally.proofs.count.open_report.Tie as tie
 
 returns : tie.Need-returns
-unfolding openReport
+unfolding open_report
 returns c =
     rw (
       c.open-costs3.ensures,

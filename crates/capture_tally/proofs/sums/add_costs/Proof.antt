@@ -1,6 +1,6 @@
 use mathlib.Core.Path.{refl}
 use native.Mathlib.Omega.{arith}
-use Rattle.capture_report.specs.Report.{costsPlus}
+use Rattle.capture_report.specs.Report.{costs_plus}
 use Rattle.capture_tally.proofs.Fitting.{sums-fit}
 use Rattle.capture_tally.proofs.sums.add_costs.Statement.{statement}
 use Rattle.capture_tally.proofs.sums.add_costs.Tie as tie
@@ -41,7 +41,7 @@ add-t9 c =
     omega (arith, (sums-fit s.args.a s.args.b s.requires).bytes_fit)
 
 returns : tie.Need-returns
-unfolding costsPlus
+unfolding costs_plus
 returns c = refl
 
 pub add-costs-spec : {M : Type 1} → statement M

@@ -4,15 +4,15 @@ use mathlib.Core.Bool.{true, false}
 use borrow.Author.Tests.{not-true, not-false}
 use borrow.Author.Rules.{rules}
 use Rattle.capture_report.specs.declared.CostReport.{CostReport}
-use Rattle.capture_report.specs.Report.{costsFit}
+use Rattle.capture_report.specs.Report.{costs_fit}
 use Rattle.capture_tally.proofs.Fitting.{fits-already, on-control, on-ota, on-alexa, on_none}
 use Rattle.capture_tally.proofs.sums.add_own.Statement.{statement}
 use Rattle.capture_tally.proofs.sums.add_own.Tie as tie
 
 record Inside (r : CostReport) : Type 0 where
-  control-fits : costsFit r.control ≡ true
-  ota-fits : costsFit r.ota ≡ true
-  alexa-fits : costsFit r.alexa ≡ true
+  control-fits : costs_fit r.control ≡ true
+  ota-fits : costs_fit r.ota ≡ true
+  alexa-fits : costs_fit r.alexa ≡ true
 
 inside : (c : tie.After-alexa) → Inside c.before.before.before.args.report
 inside c =

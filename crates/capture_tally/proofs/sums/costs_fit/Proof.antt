@@ -1,10 +1,10 @@
-use Rattle.capture_report.specs.Report.{costsPlus, costsFit}
+use Rattle.capture_report.specs.Report.{costs_plus, costs_fit}
 use borrow.Author.Rules.{rules}
 use Rattle.capture_tally.proofs.sums.costs_fit.Statement.{statement}
 use Rattle.capture_tally.proofs.sums.costs_fit.Tie as tie
 
 returns : tie.Need-returns
-unfolding costsPlus costsFit
+unfolding costs_plus costs_fit
 returns c =
     rw (
       c.both6.ensures,

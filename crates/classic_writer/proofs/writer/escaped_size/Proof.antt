@@ -3,13 +3,13 @@ use mathlib.Core.Path.{◌≡◌, ap}
 use lib.ListN.{length, drop, length-append}
 use native.Mathlib.Omega.{arith}
 use borrow.Author.Rules.{rules}
-use Rattle.classic_frame.specs.Frame.{escapedOf}
+use Rattle.classic_frame.specs.Frame.{escaped_of}
 use Rattle.classic_writer.proofs.Escaping.{rest-step, rest_end}
 use Rattle.classic_writer.proofs.writer.escaped_size.Statement.{statement}
 use Rattle.classic_writer.proofs.writer.escaped_size.Tie as tie
 
 abbrev invariant-loop : tie.invariant-loop
-invariant-loop bytes marks₀ i₀ marks i = (i ≤ length bytes) × (marks ≤ i) × (i + marks + length (escapedOf (drop i bytes)) ≡ length (escapedOf bytes))
+invariant-loop bytes marks₀ i₀ marks i = (i ≤ length bytes) × (marks ≤ i) × (i + marks + length (escaped_of (drop i bytes)) ≡ length (escaped_of bytes))
 
 abbrev decreases-loop : tie.decreases-loop
 decreases-loop bytes marks₀ i₀ marks i = length bytes - i

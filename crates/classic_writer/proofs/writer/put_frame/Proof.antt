@@ -2,7 +2,7 @@
 use mathlib.Core.Path.{sym, ◌∙◌}
 use lib.ListN.{length-set}
 use native.Mathlib.Omega.{arith}
-use Rattle.classic_frame.specs.Mark.{endMark}
+use Rattle.classic_frame.specs.Mark.{end_mark}
 use Rattle.classic_writer.proofs.Escaping.{frame-length, frame-sets}
 use Rattle.classic_writer.proofs.writer.put_frame.Statement.{statement}
 use Rattle.classic_writer.proofs.writer.put_frame.Tie as tie
@@ -43,7 +43,7 @@ same_length c =
     let e1 = e2.before.before.before.before in
     let al = e1.before.before.before.before in
     let hd = al.before.before.before.before in
-    length-set e2.put-escaped2.new.0 e2.put-escaped2.result endMark ∙ e2.put-escaped2.auto.0 ∙ e1.put-escaped.auto.0 ∙ al.put_all_lem.auto.0 ∙ hd.put-header.auto.0
+    length-set e2.put-escaped2.new.0 e2.put-escaped2.result end_mark ∙ e2.put-escaped2.auto.0 ∙ e1.put-escaped.auto.0 ∙ al.put_all_lem.auto.0 ∙ hd.put-header.auto.0
 
 returns : tie.Need-returns
 returns c =

@@ -4,7 +4,7 @@ use lib.ListN.{length, take}
 use lib.Seq.{take-length}
 use borrow.Author.Tests.{eqb-true}
 use borrow.Author.Rules.{rules}
-use Rattle.wire.specs.Scan.{anyInRange}
+use Rattle.wire.specs.Scan.{any_in_range}
 use Rattle.msg_apply_writer.proofs.information.all_ascii.Statement.{statement}
 use Rattle.msg_apply_writer.proofs.information.all_ascii.Tie as tie
 
@@ -15,7 +15,7 @@ returns-2 : tie.Need-returns-2
 returns-2 c e =
     let t = c.before.before.before.args.texts.now in
     let all : take c.clear-run.result t ≡ t = ap (λ n. take n t) (eqb-true c.clear-run.result (length t) e) ∙ take-length t in
-    ap (anyInRange 128 255) (sym all) ∙ c.clear-run.ensures.none
+    ap (any_in_range 128 255) (sym all) ∙ c.clear-run.ensures.none
 
 pub all-ascii-spec : {M : Type 1} → statement M
 all-ascii-spec = tie.close (tie.spec returns (λ c κs. search rules) returns-2)

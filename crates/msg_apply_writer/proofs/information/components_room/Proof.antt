@@ -5,11 +5,11 @@ use mathlib.Core.List.{map}
 use mathlib.Core.Bool.{false}
 use native.Mathlib.Omega.{arith}
 use lib.ListN.{length, take, drop, get_or}
-use Rattle.proto_writer.specs.Writer.{messageBytes}
-use Rattle.proto_writer.specs.Message.{lessRoom}
-use Rattle.msg_firmware.specs.Component.{noComponent}
-use Rattle.msg_component_writer.specs.Component.{componentField}
-use Rattle.msg_apply_writer.specs.Information.{badComponents}
+use Rattle.proto_writer.specs.Writer.{message_bytes}
+use Rattle.proto_writer.specs.Message.{less_room}
+use Rattle.msg_firmware.specs.Component.{no_component}
+use Rattle.msg_component_writer.specs.Component.{component_field}
+use Rattle.msg_apply_writer.specs.Information.{bad_components}
 use Rattle.proto_writer.proofs.Rooms.{room-end, room-more}
 use Rattle.msg_apply_writer.proofs.Texts.{components-fine}
 use Rattle.msg_apply_writer.proofs.Listed.{listed_here, listed-end}
@@ -19,8 +19,8 @@ use Rattle.msg_apply_writer.proofs.information.components_room.Tie as tie
 
 abbrev invariant-loop : tie.invariant-loop
 invariant-loop texts count components left₀ i₀ left i =
-    (i ≤ count) × (badComponents texts (drop i (take count components)) ≡ false)
-    × (lessRoom (length (messageBytes (map (componentField texts) (take count components)))) left₀ ≡ lessRoom (length (messageBytes (map (componentField texts) (drop i (take count components))))) left)
+    (i ≤ count) × (bad_components texts (drop i (take count components)) ≡ false)
+    × (less_room (length (message_bytes (map (component_field texts) (take count components)))) left₀ ≡ less_room (length (message_bytes (map (component_field texts) (drop i (take count components))))) left)
 
 abbrev decreases-loop : tie.decreases-loop
 decreases-loop texts count components left₀ i₀ left i = count - i
@@ -36,24 +36,24 @@ component-field-room-requires : tie.Need-component-field-room-requires invariant
 component-field-room-requires c κs =
     let a = c.before.before.before.before.args in
     let l = c.before.before.loop in
-    (components-fine a.texts.now (get_or a.t3 l.i noComponent) (drop (l.i + 1) (take a.count a.t3)) (rw (listed_here a.t3 a.count l.i (long c.before.before.before.before) c.before.loop-test.true) at l.invariant.1)).0
+    (components-fine a.texts.now (get_or a.t3 l.i no_component) (drop (l.i + 1) (take a.count a.t3)) (rw (listed_here a.t3 a.count l.i (long c.before.before.before.before) c.before.loop-test.true) at l.invariant.1)).0
 
 loop-again : tie.Need-loop-preserved invariant-loop decreases-loop
 loop-again c =
     let a = c.before.before.before.before.before.args in
     let l = c.before.before.before.loop in
     let here = listed_here a.t3 a.count l.i (long c.before.before.before.before.before) c.before.before.loop-test.true in
-    let more = room-more (componentField a.texts.now (get_or a.t3 l.i noComponent)) (map (componentField a.texts.now) (drop (l.i + 1) (take a.count a.t3))) l.left refl c.component-field-room.ensures refl in (
+    let more = room-more (component_field a.texts.now (get_or a.t3 l.i no_component)) (map (component_field a.texts.now) (drop (l.i + 1) (take a.count a.t3))) l.left refl c.component-field-room.ensures refl in (
       omega arith,
-      (components-fine a.texts.now (get_or a.t3 l.i noComponent) (drop (l.i + 1) (take a.count a.t3)) (rw here at l.invariant.1)).1,
-      l.invariant.2 ∙ ap (λ cs. lessRoom (length (messageBytes (map (componentField a.texts.now) cs))) l.left) here ∙ sym more,
+      (components-fine a.texts.now (get_or a.t3 l.i no_component) (drop (l.i + 1) (take a.count a.t3)) (rw here at l.invariant.1)).1,
+      l.invariant.2 ∙ ap (λ cs. less_room (length (message_bytes (map (component_field a.texts.now) cs))) l.left) here ∙ sym more,
     )
 
 returns : tie.Need-returns invariant-loop decreases-loop
 returns c =
     let a = c.before.before.before.args in
     let l = c.before.loop in
-    sym (l.invariant.2 ∙ ap (λ cs. lessRoom (length (messageBytes (map (componentField a.texts.now) cs))) l.left) (listed-end a.t3 a.count l.i (long c.before.before.before) c.loop-test.false) ∙ sym (room-end l.left))
+    sym (l.invariant.2 ∙ ap (λ cs. less_room (length (message_bytes (map (component_field a.texts.now) cs))) l.left) (listed-end a.t3 a.count l.i (long c.before.before.before) c.loop-test.false) ∙ sym (room-end l.left))
 
 pub components-room-spec : {M : Type 1} → statement M
 components-room-spec =

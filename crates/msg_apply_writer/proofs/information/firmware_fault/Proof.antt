@@ -1,10 +1,10 @@
 use mathlib.Core.Path.{sym}
 use mathlib.Core.List.{[], ◌∷◌}
 use Rattle.proto_field.specs.Value.{bytes_of}
-use Rattle.proto_schema.specs.Schema.{firmwareNameField, localeField, versionNameField}
+use Rattle.proto_schema.specs.Schema.{firmware_name_field, locale_field, version_name_field}
 use Rattle.proto_strings.specs.declared.TextFault.TheVariants.{None}
-use Rattle.proto_strings.specs.Texts.{orText}
-use Rattle.msg_apply_writer.specs.Information.{present, componentsStrings}
+use Rattle.proto_strings.specs.Texts.{or_text}
+use Rattle.msg_apply_writer.specs.Information.{present, components_strings}
 use Rattle.msg_apply_writer.proofs.Texts.{firmware-fine, fault-append}
 use Rattle.msg_apply_writer.proofs.Ascii.{ascii-firmware}
 use borrow.Author.Rules.{rules}
@@ -37,7 +37,7 @@ returns-2 c =
     let i = a.information in
     let t = a.texts.now in
     rw (c.text-part-fault3.ensures, c.before.text-part-fault2.ensures, c.before.before.components-fault.ensures, c.before.before.before.text-part-fault.ensures)
-    (sym (fault-append (orText firmwareNameField (bytes_of t i.name) None) (componentsStrings t (present i)) ((localeField, bytes_of t i.locale) ∷ (versionNameField, bytes_of t i.version_name) ∷ [])))
+    (sym (fault-append (or_text firmware_name_field (bytes_of t i.name) None) (components_strings t (present i)) ((locale_field, bytes_of t i.locale) ∷ (version_name_field, bytes_of t i.version_name) ∷ [])))
 
 pub firmware-fault-spec : {M : Type 1} → statement M
 firmware-fault-spec =

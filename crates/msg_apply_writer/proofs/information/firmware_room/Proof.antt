@@ -1,8 +1,8 @@
 use mathlib.Core.List.{[], ◌∷◌, ◌++◌, map}
 use Rattle.proto_field.specs.Value.{bytes_of}
 use Rattle.proto_writer.specs.Writer.{scalar, text}
-use Rattle.proto_schema.specs.Schema.{firmwareVersionField, firmwareNameField, localeField, versionNameField}
-use Rattle.msg_component_writer.specs.Component.{componentField}
+use Rattle.proto_schema.specs.Schema.{firmware_version_field, firmware_name_field, locale_field, version_name_field}
+use Rattle.msg_component_writer.specs.Component.{component_field}
 use Rattle.msg_apply_writer.specs.Information.{present}
 use Rattle.proto_writer.specs.declared.message.Room.TheVariants.{Left}
 use Rattle.msg_apply_writer.proofs.Texts.{firmware-fine}
@@ -37,11 +37,11 @@ returns c =
     let at-less2 = c.before.before.before.before.before in
     let a = c.before.before.before.before.before.before.before.before.before.before.before.before.before.before.before.args in
     let i = a.information in
-    let f₁ = scalar firmwareVersionField i.version in
-    let f₂ = text firmwareNameField (bytes_of a.texts.now i.name) in
-    let fs = map (componentField a.texts.now) (present i) in
-    let f₄ = text localeField (bytes_of a.texts.now i.locale) in
-    let f₅ = text versionNameField (bytes_of a.texts.now i.version_name) in
+    let f₁ = scalar firmware_version_field i.version in
+    let f₂ = text firmware_name_field (bytes_of a.texts.now i.name) in
+    let fs = map (component_field a.texts.now) (present i) in
+    let f₄ = text locale_field (bytes_of a.texts.now i.locale) in
+    let f₅ = text version_name_field (bytes_of a.texts.now i.version_name) in
     room-more f₁ (f₂ ∷ (fs ++ (f₄ ∷ f₅ ∷ []))) (Left a.len) c.before.before.before.before.before.before.before.before.scalar-len.ensures.0 at_less.less.ensures
     (room-more f₂ (fs ++ (f₄ ∷ f₅ ∷ [])) at_less.less.result c.before.before.before.before.before.before.text-part-len.ensures at-less2.less2.ensures
     (room-join fs (f₄ ∷ f₅ ∷ []) at-less2.less2.result c.before.before.before.before.components-room.ensures

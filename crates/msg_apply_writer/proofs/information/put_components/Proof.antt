@@ -7,12 +7,12 @@ use native.Mathlib.Omega.{arith}
 use lib.ListN.{length, take, drop, get_or}
 use lib.Seq.{sets}
 use Rattle.wire.proofs.Stores.{sets_then}
-use Rattle.proto_writer.specs.Writer.{Field, fieldBytes, messageBytes}
+use Rattle.proto_writer.specs.Writer.{Field, field_bytes, message_bytes}
 use Rattle.proto_writer.proofs.Runs.{message-length}
 use Rattle.msg_firmware.specs.declared.component.FirmwareComponent.{FirmwareComponent}
-use Rattle.msg_firmware.specs.Component.{noComponent}
-use Rattle.msg_component_writer.specs.Component.{componentField}
-use Rattle.msg_apply_writer.specs.Information.{badComponents}
+use Rattle.msg_firmware.specs.Component.{no_component}
+use Rattle.msg_component_writer.specs.Component.{component_field}
+use Rattle.msg_apply_writer.specs.Information.{bad_components}
 use Rattle.msg_apply_writer.proofs.Texts.{components-fine}
 use Rattle.msg_apply_writer.proofs.Listed.{listed_here, listed-end}
 use borrow.Author.Rules.{rules}
@@ -21,15 +21,15 @@ use Rattle.msg_apply_writer.proofs.information.put_components.Tie as tie
 
 -- the components from index i on, as fields
 abbrev fields_at : List ℕ → List FirmwareComponent → ℕ → ℕ → List Field
-fields_at texts cs count i = map (componentField texts) (drop i (take count cs))
+fields_at texts cs count i = map (component_field texts) (drop i (take count cs))
 
 -- what is still to be written
 record Left (out₀ : List ℕ) (from : ℕ) (texts : List ℕ) (cs : List FirmwareComponent) (count : ℕ) (out : List ℕ) (at i : ℕ) : Type 0 where
   inside : i ≤ count
-  fine : badComponents texts (drop i (take count cs)) ≡ false
+  fine : bad_components texts (drop i (take count cs)) ≡ false
   long : length out ≡ length out₀
-  place : from + length (messageBytes (fields_at texts cs count 0)) ≡ at + length (messageBytes (fields_at texts cs count i))
-  target : sets out₀ from (messageBytes (fields_at texts cs count 0)) ≡ sets out at (messageBytes (fields_at texts cs count i))
+  place : from + length (message_bytes (fields_at texts cs count 0)) ≡ at + length (message_bytes (fields_at texts cs count i))
+  target : sets out₀ from (message_bytes (fields_at texts cs count 0)) ≡ sets out at (message_bytes (fields_at texts cs count i))
 
 abbrev invariant-loop : tie.invariant-loop
 invariant-loop out₀ from texts count components at₀ i₀ out at i = Left out₀ from texts components count out at i
@@ -55,9 +55,9 @@ put-component-requires c κs =
     let a = c.before.before.before.before.before.before.args in
     let l = c.before.before.before.loop in
     let here = listed_here a.t4 a.count l.i (room c.before.before.before.before.before.before) c.before.before.loop-test.true in
-    let f = componentField a.texts.now (get_or a.t4 l.i noComponent) in
-    let e = ap (λ cs. length (messageBytes (map (componentField a.texts.now) cs))) here in (
-      (components-fine a.texts.now (get_or a.t4 l.i noComponent) (drop (l.i + 1) (take a.count a.t4)) (rw here at l.invariant.fine)).0,
+    let f = component_field a.texts.now (get_or a.t4 l.i no_component) in
+    let e = ap (λ cs. length (message_bytes (map (component_field a.texts.now) cs))) here in (
+      (components-fine a.texts.now (get_or a.t4 l.i no_component) (drop (l.i + 1) (take a.count a.t4)) (rw here at l.invariant.fine)).0,
       omega (arith, c.before.before.before.before.before.before.requires.2, l.invariant.place, l.invariant.long, e, message-length f (fields_at a.texts.now a.t4 a.count (l.i + 1))),
     )
 
@@ -72,18 +72,18 @@ loop-again c =
     let a = c.before.before.before.before.before.before.before.before.before.args in
     let l = c.before.before.before.before.before.before.loop in
     let here = listed_here a.t4 a.count l.i (room c.before.before.before.before.before.before.before.before.before) c.before.before.before.before.before.loop-test.true in
-    let f = componentField a.texts.now (get_or a.t4 l.i noComponent) in
+    let f = component_field a.texts.now (get_or a.t4 l.i no_component) in
     let fs = fields_at a.texts.now a.t4 a.count (l.i + 1) in
-    let e = ap (λ cs. messageBytes (map (componentField a.texts.now) cs)) here in
+    let e = ap (λ cs. message_bytes (map (component_field a.texts.now) cs)) here in
     let p = c.before.before.put-component in
     record {
       inside = omega (arith, c.before.before.before.before.before.loop-test.true);
-      fine = (components-fine a.texts.now (get_or a.t4 l.i noComponent) (drop (l.i + 1) (take a.count a.t4)) (rw here at l.invariant.fine)).1;
+      fine = (components-fine a.texts.now (get_or a.t4 l.i no_component) (drop (l.i + 1) (take a.count a.t4)) (rw here at l.invariant.fine)).1;
       long = p.auto.0 ∙ l.invariant.long;
       place = omega (arith, l.invariant.place, p.ensures.place, ap length e, message-length f fs);
       target =
-          l.invariant.target ∙ ap (sets l.out l.at) e ∙ sym (sets_then l.out l.at p.result (fieldBytes f) (messageBytes fs) p.ensures.place)
-          ∙ ap (λ (x : List ℕ). sets x p.result (messageBytes fs)) (sym p.ensures.stored);
+          l.invariant.target ∙ ap (sets l.out l.at) e ∙ sym (sets_then l.out l.at p.result (field_bytes f) (message_bytes fs) p.ensures.place)
+          ∙ ap (λ (x : List ℕ). sets x p.result (message_bytes fs)) (sym p.ensures.stored);
     }
 
 same_length : tie.Need-same-length invariant-loop decreases-loop
@@ -93,7 +93,7 @@ returns : tie.Need-returns invariant-loop decreases-loop
 returns c =
     let a = c.before.before.before.before.args in
     let l = c.before.loop in
-    let e = ap (λ cs. messageBytes (map (componentField a.texts.now) cs)) (listed-end a.t4 a.count l.i (room c.before.before.before.before) c.loop-test.false) in
+    let e = ap (λ cs. message_bytes (map (component_field a.texts.now) cs)) (listed-end a.t4 a.count l.i (room c.before.before.before.before) c.loop-test.false) in
     record { place = omega (arith, l.invariant.place, ap length e); stored = sym (l.invariant.target ∙ ap (sets l.out l.at) e) }
 
 pub put-components-spec : {M : Type 1} → statement M

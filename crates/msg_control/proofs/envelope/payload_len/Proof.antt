@@ -6,11 +6,11 @@ use lib.Dec.{eqb}
 use lib.ListN.{length}
 use Rattle.wire.proofs.Tests.{or-false}
 use Rattle.proto_field.specs.Signed.{extended}
-use Rattle.proto_writer.specs.Writer.{headBytes, messageBytes}
+use Rattle.proto_writer.specs.Writer.{head_bytes, message_bytes}
 use Rattle.proto_writer.proofs.Runs.{joined_length, part-is, nested-last}
-use Rattle.proto_schema.specs.Schema.{responseField}
-use Rattle.proto_writer.specs.Message.{badMember}
-use Rattle.msg_control.specs.Response.{responseFields}
+use Rattle.proto_schema.specs.Schema.{response_field}
+use Rattle.proto_writer.specs.Message.{bad_member}
+use Rattle.msg_control.specs.Response.{response_fields}
 use Rattle.proto_writer.proofs.Messages.{member-fits}
 use borrow.Author.Rules.{rules}
 use Rattle.msg_control.proofs.envelope.payload_len.Statement.{statement}
@@ -21,25 +21,25 @@ value : (c : tie.After-sign-extended) → c.sign_extended.result ≡ extended c.
 value c = c.sign_extended.ensures ∙ ap extended (to_z-of_z {w = w32} {z = c.before.before.payload.given.0.0} (search rules))
 
 counted : (c : tie.After-response-len)
-    → c.response-len.result ≡ length (messageBytes (responseFields (extended c.before.before.before.payload.given.0.0) c.before.before.before.payload.given.0.1.0 c.before.before.before.before.before.before.args.body.now))
+    → c.response-len.result ≡ length (message_bytes (response_fields (extended c.before.before.before.payload.given.0.0) c.before.before.before.payload.given.0.1.0 c.before.before.before.before.before.before.args.body.now))
 counted c = rw (value c.before) at c.response-len.ensures.0
 
 part-len-requires : tie.Need-part-len-requires
 part-len-requires c κs =
     let f = c.before.payload2.given.0.0 in
-    member-fits f (or-false (badMember f) (eqb f responseField) (rw c.before.payload2.given.1 at c.before.before.before.before.requires)).0
+    member-fits f (or-false (bad_member f) (eqb f response_field) (rw c.before.payload2.given.1 at c.before.before.before.before.requires)).0
 
 returns-2 : tie.Need-returns-2
 returns-2 c =
     let p = c.before.before.before.before.payload in
-    let r = messageBytes (responseFields (extended p.given.0.0) p.given.0.1.0 c.before.before.before.before.before.before.before.args.body.now) in
+    let r = message_bytes (response_fields (extended p.given.0.0) p.given.0.1.0 c.before.before.before.before.before.before.before.args.body.now) in
     rw p.given.1 (
       omega (
         arith,
         rw (counted c.before) at c.head-len.ensures.0,
         counted c.before,
-        joined_length (headBytes responseField (length r)) r (part-is responseField r),
-        ap length (nested-last responseField r),
+        joined_length (head_bytes response_field (length r)) r (part-is response_field r),
+        ap length (nested-last response_field r),
       ),
       omega arith,
     )

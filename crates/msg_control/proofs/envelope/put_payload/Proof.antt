@@ -7,11 +7,11 @@ use lib.Dec.{eqb}
 use lib.ListN.{length}
 use Rattle.wire.proofs.Tests.{or-false}
 use Rattle.proto_field.specs.Signed.{extended}
-use Rattle.proto_writer.specs.Writer.{headBytes, messageBytes}
+use Rattle.proto_writer.specs.Writer.{head_bytes, message_bytes}
 use Rattle.proto_writer.proofs.Runs.{put-end, put_then, joined_length, part-is, nested-last}
-use Rattle.proto_schema.specs.Schema.{responseField}
-use Rattle.proto_writer.specs.Message.{badMember}
-use Rattle.msg_control.specs.Response.{responseFields}
+use Rattle.proto_schema.specs.Schema.{response_field}
+use Rattle.proto_writer.specs.Message.{bad_member}
+use Rattle.msg_control.specs.Response.{response_fields}
 use Rattle.proto_writer.proofs.Messages.{member-fits}
 use borrow.Author.Rules.{rules}
 use Rattle.msg_control.proofs.envelope.put_payload.Statement.{statement}
@@ -22,22 +22,22 @@ value : (c : tie.After-sign-extended) → c.sign_extended.result ≡ extended c.
 value c = c.sign_extended.ensures ∙ ap extended (to_z-of_z {w = w32} {z = c.before.before.payload.given.0.0} (search rules))
 
 counted : (c : tie.After-response-len)
-    → c.response-len.result ≡ length (messageBytes (responseFields (extended c.before.before.before.payload.given.0.0) c.before.before.before.payload.given.0.1.0 c.before.before.before.before.before.before.before.args.body.now))
+    → c.response-len.result ≡ length (message_bytes (response_fields (extended c.before.before.before.payload.given.0.0) c.before.before.before.payload.given.0.1.0 c.before.before.before.before.before.before.before.args.body.now))
 counted c = rw (value c.before) at c.response-len.ensures.0
 
 put-head-requires : tie.Need-put-head-requires
 put-head-requires c κs =
     let start = c.before.before.before.before.before.before.before.before in
     let p = c.before.before.before.before.payload in
-    let r = messageBytes (responseFields (extended p.given.0.0) p.given.0.1.0 start.args.body.now) in
+    let r = message_bytes (response_fields (extended p.given.0.0) p.given.0.1.0 start.args.body.now) in
     let q = rw p.given.1 at start.requires.1 in
-    (search rules, rw (counted c.before) (omega (arith, q, joined_length (headBytes responseField (length r)) r (part-is responseField r), ap length (nested-last responseField r))))
+    (search rules, rw (counted c.before) (omega (arith, q, joined_length (head_bytes response_field (length r)) r (part-is response_field r), ap length (nested-last response_field r))))
 
 put-response-requires : tie.Need-put-response-requires
 put-response-requires c κs =
     let start = c.before.before.before.before.before.before.before.before.before.before.before.before in
     let p = c.before.before.before.before.before.before.before.before.payload in
-    let r = messageBytes (responseFields (extended p.given.0.0) p.given.0.1.0 start.args.body.now) in
+    let r = message_bytes (response_fields (extended p.given.0.0) p.given.0.1.0 start.args.body.now) in
     let q = rw p.given.1 at start.requires in
     let h = c.before.before.before.put-head in (
       q.0,
@@ -47,8 +47,8 @@ put-response-requires c κs =
             q.1,
             rw (counted c.before.before.before.before.before) at h.ensures.place,
             h.auto.0,
-            joined_length (headBytes responseField (length r)) r (part-is responseField r),
-            ap length (nested-last responseField r),
+            joined_length (head_bytes response_field (length r)) r (part-is response_field r),
+            ap length (nested-last response_field r),
           )),
     )
 
@@ -58,7 +58,7 @@ put-part-requires c κs =
     let p = c.before.before.payload2 in
     let f = p.given.0.0 in
     let q = rw p.given.1 at start.requires in
-    (member-fits f (or-false (badMember f) (eqb f responseField) q.0).0, rw (nested-last f start.args.body.now) q.1)
+    (member-fits f (or-false (bad_member f) (eqb f response_field) q.0).0, rw (nested-last f start.args.body.now) q.1)
 
 returns : tie.Need-returns
 returns c = rw c.enum_told.given.1 (put-end c.before.before.before.before.args.out.now c.before.before.before.before.args.at)
@@ -66,9 +66,9 @@ returns c = rw c.enum_told.given.1 (put-end c.before.before.before.before.args.o
 returns-2 : tie.Need-returns-2
 returns-2 c =
     let p = c.before.before.before.before.before.before.before.before.before.before.before.payload in
-    let r = messageBytes (responseFields (extended p.given.0.0) p.given.0.1.0 c.before.before.before.before.before.before.before.before.before.before.before.before.before.before.before.args.body.now) in
+    let r = message_bytes (response_fields (extended p.given.0.0) p.given.0.1.0 c.before.before.before.before.before.before.before.before.before.before.before.before.before.before.before.args.body.now) in
     rw p.given.1
-    (put_then (headBytes responseField (length r)) r (part-is responseField r ∙ nested-last responseField r)
+    (put_then (head_bytes response_field (length r)) r (part-is response_field r ∙ nested-last response_field r)
     (rw (counted c.before.before.before.before.before.before.before.before) at c.before.before.before.before.before.before.put-head.ensures) (rw (value c.before.before.before.before.before.before.before.before.before) at c.before.before.put-response.ensures))
 
 returns-3 : tie.Need-returns-3

@@ -1,30 +1,30 @@
 use mathlib.Core.Path.{◌≡◌, ap, sym, ◌∙◌}
 use Rattle.wire.specs.Told.{Told, given, refused}
 use Rattle.proto_schema.specs.declared.Schema.TheVariants as Schema
-use Rattle.proto_reader.specs.Refusal.{whyOf, judgedAs}
-use Rattle.proto_reader.specs.Walk.{fieldsFrom}
+use Rattle.proto_reader.specs.Refusal.{why_of, judged_as}
+use Rattle.proto_reader.specs.Walk.{fields_from}
 use lib.IntN.{ℤ}
 use lib.ListN.{get_or}
 use Rattle.proto_field.proofs.SignedNumbers.{signed-kept}
 use Rattle.msg_control.specs.declared.envelope.Payload.{Payload}
 use Rattle.msg_control.specs.declared.envelope.Envelope.{Envelope}
 use Rattle.proto_schema.specs.Schema.{first}
-use Rattle.msg_control.specs.Envelope.{toldPayload, envelopeOf}
+use Rattle.msg_control.specs.Envelope.{told_payload, envelope_of}
 use Rattle.proto_reader.proofs.Steps.{fields_within}
 use borrow.Author.Rules.{rules}
 use Rattle.msg_control.proofs.envelope.read_envelope.Statement.{statement}
 use Rattle.msg_control.proofs.envelope.read_envelope.Tie as tie
 
 -- what read_fields told
-read : (c : tie.After-enum-told) → fieldsFrom Schema.Envelope c.before.before.before.before.before.args.message.now 0 ≡ given c.before.before.before.read-fields.result.gathered
+read : (c : tie.After-enum-told) → fields_from Schema.Envelope c.before.before.before.before.before.args.message.now 0 ≡ given c.before.before.before.read-fields.result.gathered
 read c =
     let k = c.before.before.before.read-fields in
-    sym k.ensures ∙ ap (λ v. judgedAs v k.result.gathered) c.enum_told.given.1
+    sym k.ensures ∙ ap (λ v. judged_as v k.result.gathered) c.enum_told.given.1
 
-refuses : (c : tie.After-verdict) → fieldsFrom Schema.Envelope c.before.before.before.before.before.args.message.now 0 ≡ refused (whyOf c.verdict.given.0.0)
+refuses : (c : tie.After-verdict) → fields_from Schema.Envelope c.before.before.before.before.before.args.message.now 0 ≡ refused (why_of c.verdict.given.0.0)
 refuses c =
     let k = c.before.before.before.read-fields in
-    sym k.ensures ∙ ap (λ v. judgedAs v k.result.gathered) c.verdict.given.1
+    sym k.ensures ∙ ap (λ v. judged_as v k.result.gathered) c.verdict.given.1
 
 -- an envelope with a command
 abbrev commanded : Payload → ℤ → Told Envelope
@@ -34,19 +34,19 @@ read-payload-requires : tie.Need-read-payload-requires
 read-payload-requires c κs = (fields_within Schema.Envelope _ 0 _ (read c)).0.0
 
 returns : tie.Need-returns
-unfolding envelopeOf
+unfolding envelope_of
 returns c = (rw (refuses c.before), tt)
 
 returns-2 : tie.Need-returns-2
-unfolding envelopeOf
-returns-2 c = (rw (read c.before.before.before.before, sym c.before.before.before.read-payload.ensures.0 ∙ ap toldPayload c.before.e.given.1), tt)
+unfolding envelope_of
+returns-2 c = (rw (read c.before.before.before.before, sym c.before.before.before.read-payload.ensures.0 ∙ ap told_payload c.before.e.given.1), tt)
 
 returns-3 : tie.Need-returns-3
-unfolding envelopeOf
+unfolding envelope_of
 returns-3 c =
     let at-read-payload = c.before.before.before.before.before in
     let g = c.before.before.before.before.before.before.before.before.before.read-fields.result.gathered in (
-      rw (read c.before.before.before.before.before.before, sym at-read-payload.read-payload.ensures.0 ∙ ap toldPayload c.before.before.before.payload.given.1)
+      rw (read c.before.before.before.before.before.before, sym at-read-payload.read-payload.ensures.0 ∙ ap told_payload c.before.before.before.payload.given.1)
           (ap (commanded c.before.before.before.payload.given.0.0) (signed-kept _ (get_or g.scalars first 0) c.low_signed.ensures)),
       rw c.before.before.before.payload.given.1 at at-read-payload.read-payload.ensures.1,
     )

@@ -6,14 +6,14 @@ use lib.ListN.{take}
 use lib.Seq.{length-take-le}
 use borrow.Author.Tests.{eq-eqb, ne_eqb}
 use Rattle.proto_field.proofs.Places.{within-longer}
-use Rattle.msg_control.specs.Response.{toldResponse}
-use Rattle.msg_control.specs.Envelope.{payloadOf}
+use Rattle.msg_control.specs.Response.{told_response}
+use Rattle.msg_control.specs.Envelope.{payload_of}
 use borrow.Author.Rules.{rules}
 use Rattle.msg_control.proofs.envelope.read_payload.Statement.{statement}
 use Rattle.msg_control.proofs.envelope.read_payload.Tie as tie
 
 returns : tie.Need-returns
-unfolding payloadOf
+unfolding payload_of
 returns c = (rw (eq-eqb _ _ c.if1.true), tt)
 
 slice-aggregate-response-from : tie.Need-slice-aggregate-response-from
@@ -22,18 +22,18 @@ slice-aggregate-response-from c =
     sym (length-take-le _ start2.args.message.now start2.requires)
 
 returns-2 : tie.Need-returns-2
-unfolding payloadOf
+unfolding payload_of
 returns-2 c = (
   rw (
     ne_eqb _ _ c.before.before.before.before.before.before.before.if1.false,
     eq-eqb _ _ c.before.before.before.before.before.before.if2.true,
-    sym c.before.before.before.response-from.ensures.0 ∙ ap toldResponse c.before.e.given.1,
+    sym c.before.before.before.response-from.ensures.0 ∙ ap told_response c.before.e.given.1,
   ),
   tt,
 )
 
 returns-3 : tie.Need-returns-3
-unfolding payloadOf
+unfolding payload_of
 returns-3 c =
     let start = c.before.before.before.before.before.before.before.before.before.before in
     let p = start.args.gathered.part in
@@ -41,13 +41,13 @@ returns-3 c =
       rw (
         ne_eqb _ _ c.before.before.before.before.before.before.before.if1.false,
         eq-eqb _ _ c.before.before.before.before.before.before.if2.true,
-        sym c.before.before.before.response-from.ensures.0 ∙ ap toldResponse c.before.r.given.1,
+        sym c.before.before.before.response-from.ensures.0 ∙ ap told_response c.before.r.given.1,
       ),
       within-longer (take (p.start + p.len) s) s (c.before.r.given.0.0.part ∷ []) (omega (arith, length-take-le (p.start + p.len) s start.requires)) (rw c.before.r.given.1 at c.before.before.before.response-from.ensures.1),
     )
 
 returns-4 : tie.Need-returns-4
-unfolding payloadOf
+unfolding payload_of
 returns-4 c = (rw (ne_eqb _ _ c.before.if1.false, ne_eqb _ _ c.if2.false), (c.before.before.before.before.requires, tt))
 
 pub read-payload-spec : {M : Type 1} → statement M

@@ -2,7 +2,7 @@ use native.Mathlib.Omega.{arith}
 use mathlib.Core.List.{[], ◌∷◌}
 use Rattle.proto_writer.specs.Writer.{scalar}
 use Rattle.proto_writer.proofs.Runs.{message-length}
-use Rattle.proto_schema.specs.Schema.{featuresField, deviceAttributesField}
+use Rattle.proto_schema.specs.Schema.{features_field, device_attributes_field}
 use borrow.Author.Rules.{rules}
 use Rattle.msg_device.proofs.features.features_len.Statement.{statement}
 use Rattle.msg_device.proofs.features.features_len.Tie as tie
@@ -10,12 +10,12 @@ use Rattle.msg_device.proofs.features.features_len.Tie as tie
 returns : tie.Need-returns
 returns c =
     let f = c.before.before.args.features in
-    let second = scalar deviceAttributesField f.device_attributes in
+    let second = scalar device_attributes_field f.device_attributes in
     omega (
       arith,
       c.before.scalar-len.ensures.0,
       c.scalar-len2.ensures.0,
-      message-length (scalar featuresField f.features) (second ∷ []),
+      message-length (scalar features_field f.features) (second ∷ []),
       message-length second [],
     )
 

@@ -5,9 +5,9 @@ use Rattle.proto_schema.specs.declared.Schema.TheVariants as Schema
 use Rattle.proto_field.proofs.Places.{within-get}
 use Rattle.proto_schema.specs.Schema.{first, second, third}
 use Rattle.proto_reader.specs.Gathered.{no_part}
-use Rattle.proto_reader.specs.Refusal.{whyOf, judgedAs}
-use Rattle.proto_reader.specs.Walk.{fieldsFrom}
-use Rattle.msg_device.specs.Information.{informationOf}
+use Rattle.proto_reader.specs.Refusal.{why_of, judged_as}
+use Rattle.proto_reader.specs.Walk.{fields_from}
+use Rattle.msg_device.specs.Information.{information_of}
 use Rattle.utf8.specs.WellFormed.{empty}
 use Rattle.proto_reader.proofs.Strings.{text-get}
 use Rattle.proto_reader.proofs.Steps.{fields_within}
@@ -16,22 +16,22 @@ use Rattle.msg_device.proofs.information.read_information.Statement.{statement}
 use Rattle.msg_device.proofs.information.read_information.Tie as tie
 
 -- what read_fields told
-read : (c : tie.After-enum-told) → fieldsFrom Schema.Information c.before.before.before.before.args.message.now 0 ≡ given c.before.before.read-fields.result.gathered
+read : (c : tie.After-enum-told) → fields_from Schema.Information c.before.before.before.before.args.message.now 0 ≡ given c.before.before.read-fields.result.gathered
 read c =
     let k = c.before.before.read-fields in
-    sym k.ensures ∙ ap (λ v. judgedAs v k.result.gathered) c.enum_told.given.1
+    sym k.ensures ∙ ap (λ v. judged_as v k.result.gathered) c.enum_told.given.1
 
-refuses : (c : tie.After-verdict) → fieldsFrom Schema.Information c.before.before.before.before.args.message.now 0 ≡ refused (whyOf c.verdict.given.0.0)
+refuses : (c : tie.After-verdict) → fields_from Schema.Information c.before.before.before.before.args.message.now 0 ≡ refused (why_of c.verdict.given.0.0)
 refuses c =
     let k = c.before.before.read-fields in
-    sym k.ensures ∙ ap (λ v. judgedAs v k.result.gathered) c.verdict.given.1
+    sym k.ensures ∙ ap (λ v. judged_as v k.result.gathered) c.verdict.given.1
 
 returns : tie.Need-returns
-unfolding informationOf
+unfolding information_of
 returns c = (rw (refuses c.before), (((zero-le, (zero-le, (zero-le, tt))), (empty, (empty, (empty, tt)))), zero-le))
 
 returns-2 : tie.Need-returns-2
-unfolding informationOf
+unfolding information_of
 returns-2 c =
     let place = c.before.before.before.before.before in
     let texts = c.before.before.before.before.before.before.before.read-fields.result.gathered.texts in

@@ -51,7 +51,7 @@ use denote.Triple.Clauses.{ensured, lasts}
 use Rattle.proto_field.specs.declared.fields.Fields.{Fields}
 use Rattle.proto_field.specs.declared.fields.Found.{Found}
 use Rattle.proto_field.specs.declared.fields.NextField.{NextField}
-use Rattle.proto_field.specs.Fields.{found_at, toldFound, behind}
+use Rattle.proto_field.specs.Fields.{found_at, told_found, behind}
 use Rattle.proto_field.proofs.Places.{TellsNext}
 use Rattle.proto_field.specs.contracts.fields.Fields as T
 use Rattle.proto_field.proofs.fields.Fields.TheLaws as T'
@@ -69,7 +69,7 @@ use Rattle.proto_field.proofs.fields.next.Symbol.{name as #next}
 use Rattle.proto_field.proofs.fields.next.Met as next-thm
 use Rattle.msg_firmware.specs.declared.information.NextComponent.{NextComponent}
 use Rattle.msg_firmware.specs.declared.information.NextComponent.TheVariants as C
-use Rattle.msg_firmware.specs.Information.{partsFrom, isOther, componentOf, laid, ComponentOnward}
+use Rattle.msg_firmware.specs.Information.{parts_from, is_other, component_of, laid, ComponentOnward}
 use Rattle.msg_firmware.proofs.Parts.{passed_over, stopped-at}
 use Rattle.msg_firmware.specs.contracts.information.NextComponent as R
 use Rattle.msg_firmware.proofs.information.NextComponent.TheLaws as R'
@@ -203,8 +203,8 @@ module _ {M : Type 1} {𝓤 : Ura M} (𝓛 : Logic 𝓤) (mem : Memory → SProp
   goes_other : (r : Found) → Is S.the_row r (vf r ∷ []) → ent 𝓤 (emp 𝓤) ((Other 𝓛 mem run).pre (to-other r))
   goes_other r is = qed 𝓛 [] ∵ nothing ! $ owned ! S.the_row (Is S.the_row) (EL.makes S.the_type S'.the_plain 𝓛) r _ is $ fjoin ! $ nothing ! $ join ! $ nothing ! $ move ! (1 ∷ 0 ∷ []) $ join ! $ done !
 
-  other-said : (r : Found) (b : Bool) → ent 𝓤 (ensured 𝓛 other.ended (other.clauses 𝓛 mem run) tt (r, tt) tt b) (fact 𝓤 (b ≡ isOther (toldFound r)))
-  other-said r b = ex_e 𝓤 _ (λ ws. snd∗ 𝓤 (sem 𝓛 (lasts other.ended tt (r, tt) ws)) (fact 𝓤 (b ≡ isOther (toldFound r))))
+  other-said : (r : Found) (b : Bool) → ent 𝓤 (ensured 𝓛 other.ended (other.clauses 𝓛 mem run) tt (r, tt) tt b) (fact 𝓤 (b ≡ is_other (told_found r)))
+  other-said r b = ex_e 𝓤 _ (λ ws. snd∗ 𝓤 (sem 𝓛 (lasts other.ended tt (r, tt) ws)) (fact 𝓤 (b ≡ is_other (told_found r))))
 
   abbrev to-reached : Found → (Reached 𝓛 mem run).Ghost
   to-reached r = ((tt, tt, tt, (r, tt), (vf r ∷ [], tt)), tt)
@@ -212,11 +212,11 @@ module _ {M : Type 1} {𝓤 : Ura M} (𝓛 : Logic 𝓤) (mem : Memory → SProp
   goes-reached : (r : Found) → Is S.the_row r (vf r ∷ []) → ent 𝓤 (emp 𝓤) ((Reached 𝓛 mem run).pre (to-reached r))
   goes-reached r is = qed 𝓛 [] ∵ nothing ! $ owned ! S.the_row (Is S.the_row) (EL.makes S.the_type S'.the_plain 𝓛) r _ is $ fjoin ! $ nothing ! $ join ! $ nothing ! $ move ! (1 ∷ 0 ∷ []) $ join ! $ done !
 
-  reached-said : (r : Found) (c : NextComponent) → ent 𝓤 (ensured 𝓛 reached.ended (reached.clauses 𝓛 mem run) tt (r, tt) tt c) (fact 𝓤 (c ≡ componentOf (toldFound r)))
-  reached-said r c = ex_e 𝓤 _ (λ ws. snd∗ 𝓤 (sem 𝓛 (lasts reached.ended tt (r, tt) ws)) (fact 𝓤 (c ≡ componentOf (toldFound r))))
+  reached-said : (r : Found) (c : NextComponent) → ent 𝓤 (ensured 𝓛 reached.ended (reached.clauses 𝓛 mem run) tt (r, tt) tt c) (fact 𝓤 (c ≡ component_of (told_found r)))
+  reached-said r c = ex_e 𝓤 _ (λ ws. snd∗ 𝓤 (sem 𝓛 (lasts reached.ended tt (r, tt) ws)) (fact 𝓤 (c ≡ component_of (told_found r))))
 
   abbrev Answers : NextComponent → Type 0
-  Answers c = (partsFrom s.now n ≡ laid s.now c) × ComponentOnward s.now n c
+  Answers c = (parts_from s.now n ≡ laid s.now c) × ComponentOnward s.now n c
 
   exits : (c : NextComponent) (u : Val) → Answers c → ent 𝓤 (⋆ 𝓛 (‵ ((R.the_row).own_val c (u ∷ [])) ∷ (‵ (flft κ q) ⊛ ‵ ftrue) ∷ ‵ Own ∷ [])) (Post u)
   exits c u e =
@@ -229,11 +229,11 @@ module _ {M : Type 1} {𝓤 : Ura M} (𝓛 : Logic 𝓤) (mem : Memory → SProp
     pub at : ℕ
     pub x : NextField
     pub is : Is (BN (κ, tt)) x (vn x ∷ [])
-    pub told : toldFound x.found ≡ found_at s.now at
+    pub told : told_found x.found ≡ found_at s.now at
     pub message : x.rest.message ≡ s
-    pub place : x.rest.at ≡ behind at (toldFound x.found)
+    pub place : x.rest.at ≡ behind at (told_found x.found)
     pub onward : n ≤ at
-    pub parts : partsFrom s.now n ≡ partsFrom s.now at
+    pub parts : parts_from s.now n ≡ parts_from s.now at
 
   abbrev left : Turn → ℕ
   left t = length s.now - t.at
@@ -262,41 +262,41 @@ module _ {M : Type 1} {𝓤 : Ura M} (𝓛 : Logic 𝓤) (mem : Memory → SProp
         at = n;
         x = x;
         is = is;
-        told = subst (λ (k : ℕ). toldFound x.found ≡ found_at s.now k) e.1 (subst (λ (m : Bor (List ℕ)). toldFound x.found ≡ found_at m.now r.at) e.0 h.0.0);
+        told = subst (λ (k : ℕ). told_found x.found ≡ found_at s.now k) e.1 (subst (λ (m : Bor (List ℕ)). told_found x.found ≡ found_at m.now r.at) e.0 h.0.0);
         message = h.1 ∙ e.0;
-        place = h.2 ∙ ap (λ (k : ℕ). behind k (toldFound x.found)) e.1;
+        place = h.2 ∙ ap (λ (k : ℕ). behind k (told_found x.found)) e.1;
         onward = omega arith;
         parts = refl;
       }
 
-  passes : (t : Turn) → isOther (toldFound t.x.found) ≡ true
-      → (t.at < length s.now) × (t.at < behind t.at (toldFound t.x.found)) × (partsFrom s.now t.at ≡ partsFrom s.now (behind t.at (toldFound t.x.found)))
-  passes t o = passed_over s.now t.at (toldFound t.x.found) (sym t.told) o
+  passes : (t : Turn) → is_other (told_found t.x.found) ≡ true
+      → (t.at < length s.now) × (t.at < behind t.at (told_found t.x.found)) × (parts_from s.now t.at ≡ parts_from s.now (behind t.at (told_found t.x.found)))
+  passes t o = passed_over s.now t.at (told_found t.x.found) (sym t.told) o
 
-  abbrev follows : (t : Turn) → isOther (toldFound t.x.found) ≡ true → (x : NextField) → Is (BN (κ, tt)) x (vn x ∷ []) → TellsNext t.x.rest x → Turn
+  abbrev follows : (t : Turn) → is_other (told_found t.x.found) ≡ true → (x : NextField) → Is (BN (κ, tt)) x (vn x ∷ []) → TellsNext t.x.rest x → Turn
   follows t o x is h =
       let p = passes t o in
       record {
-        at = behind t.at (toldFound t.x.found);
+        at = behind t.at (told_found t.x.found);
         x = x;
         is = is;
-        told = subst (λ (k : ℕ). toldFound x.found ≡ found_at s.now k) t.place (subst (λ (m : Bor (List ℕ)). toldFound x.found ≡ found_at m.now t.x.rest.at) t.message h.0.0);
+        told = subst (λ (k : ℕ). told_found x.found ≡ found_at s.now k) t.place (subst (λ (m : Bor (List ℕ)). told_found x.found ≡ found_at m.now t.x.rest.at) t.message h.0.0);
         message = h.1 ∙ t.message;
-        place = h.2 ∙ ap (λ (k : ℕ). behind k (toldFound x.found)) t.place;
+        place = h.2 ∙ ap (λ (k : ℕ). behind k (told_found x.found)) t.place;
         onward = omega (arith, t.onward, p.1);
         parts = t.parts ∙ p.2;
       }
 
-  less : (t : Turn) (o : isOther (toldFound t.x.found) ≡ true) (x : NextField) (is : Is (BN (κ, tt)) x (vn x ∷ [])) (h : TellsNext t.x.rest x) → Less (follows t o x is h) t
+  less : (t : Turn) (o : is_other (told_found t.x.found) ≡ true) (x : NextField) (is : Is (BN (κ, tt)) x (vn x ∷ [])) (h : TellsNext t.x.rest x) → Less (follows t o x is h) t
   less t o x is h =
       let p = passes t o in
-      let l : length s.now - behind t.at (toldFound t.x.found) < length s.now - t.at = omega (arith, p.0, p.1) in
+      let l : length s.now - behind t.at (told_found t.x.found) < length s.now - t.at = omega (arith, p.0, p.1) in
       l
 
-  answers : (t : Turn) → isOther (toldFound t.x.found) ≡ false → Answers (componentOf (toldFound t.x.found))
+  answers : (t : Turn) → is_other (told_found t.x.found) ≡ false → Answers (component_of (told_found t.x.found))
   answers t o =
-      let e = stopped-at s.now t.at (toldFound t.x.found) (sym t.told) o in
-      (t.parts ∙ e.0, from_start (componentOf (toldFound t.x.found)) e.1)
+      let e = stopped-at s.now t.at (told_found t.x.found) (sym t.told) o in
+      (t.parts ∙ e.0, from_start (component_of (told_found t.x.found)) e.1)
     where
       from_start : (c : NextComponent) → ComponentOnward s.now t.at c → ComponentOnward s.now n c
       from_start (C.At p next) h = (omega (arith, t.onward, h.0), h.1)
@@ -319,7 +319,7 @@ module _ {M : Type 1} {𝓤 : Ura M} (𝓛 : Logic 𝓤) (mem : Memory → SProp
       Ends t = any_q (after_turn 𝓤 H (Below 𝓛 Less I t) (Kit.post 𝓤 H Left))
 
       -- a turn, by whether what was found is passed over
-      by-test : (t : Turn) (o : Bool) → isOther (toldFound t.x.found) ≡ o → Sq 𝓛 (I t) (runs 𝓣.C 𝓣.Λ E code-mir.turn-1 (Ends t))
+      by-test : (t : Turn) (o : Bool) → is_other (told_found t.x.found) ≡ o → Sq 𝓛 (I t) (runs 𝓣.C 𝓣.Λ E code-mir.turn-1 (Ends t))
       unfolding after_turn
       by-test t false o =
           let r = t.x.found in
@@ -327,7 +327,7 @@ module _ {M : Type 1} {𝓤 : Ura M} (𝓛 : Logic 𝓤) (mem : Memory → SProp
           use0 𝓛 (raw ((Other 𝓛 mem run).pre (to-other r))) (goes_other r (is_found t)) $
           calls_at ! fm (Other 𝓛 mem run) known-other (to-other r) (and_then ! (load ! (from ! (stop !)) (look ! 8 refl)) (no_more !)) (λ w.
           use1 𝓛 (later (some (λ (b : Bool). (‵ ftrue ⊛ ‵ (Boolean.own b (w ∷ []))) ⊛ raw (ensured 𝓛 other.ended (other.clauses 𝓛 mem run) tt (r, tt) tt b)))) (id⊢ 𝓤 _) $ await ! tt $ pick ! (λ b.
-          split ! $ move ! (1 ∷ []) $ use1 𝓛 (raw (fact 𝓤 (b ≡ isOther (toldFound r)))) (other-said r b) $ heard ! (b ≡ isOther (toldFound r)) (λ e. split ! $ drop ! $
+          split ! $ move ! (1 ∷ []) $ use1 𝓛 (raw (fact 𝓤 (b ≡ is_other (told_found r)))) (other-said r b) $ heard ! (b ≡ is_other (told_found r)) (λ e. split ! $ drop ! $
           facts ! Boolean (Is Boolean) (shows 𝓛 Boolean) b (w ∷ []) (λ is_b.
           land ! (from ! (stop !)) (init ! 9 refl ((bool_Lawful 𝓛).typed b _ is_b).0) $
           rewrite ! 9 (λ (z : Val). ‵ (fat full_share ty_bool l₅ 0 z)) (ap head is_b ∙ ap vbool (e ∙ o)) refl $
@@ -336,7 +336,7 @@ module _ {M : Type 1} {𝓤 : Ura M} (𝓛 : Logic 𝓤) (mem : Memory → SProp
           use0 𝓛 (raw ((Reached 𝓛 mem run).pre (to-reached r))) (goes-reached r (is_found t)) $
           calls_at ! fm (Reached 𝓛 mem run) known-reached (to-reached r) (and_then ! (load ! (from ! (stop !)) (look ! 4 refl)) (no_more !)) (λ u.
           use1 𝓛 (later (some (λ (c : NextComponent). (‵ ftrue ⊛ ‵ ((R.the_row).own_val c (u ∷ []))) ⊛ raw (ensured 𝓛 reached.ended (reached.clauses 𝓛 mem run) tt (r, tt) tt c)))) (id⊢ 𝓤 _) $ await ! tt $ pick ! (λ c.
-          split ! $ move ! (1 ∷ []) $ use1 𝓛 (raw (fact 𝓤 (c ≡ componentOf (toldFound r)))) (reached-said r c) $ heard ! (c ≡ componentOf (toldFound r)) (λ e₁. split ! $ drop ! $
+          split ! $ move ! (1 ∷ []) $ use1 𝓛 (raw (fact 𝓤 (c ≡ component_of (told_found r)))) (reached-said r c) $ heard ! (c ≡ component_of (told_found r)) (λ e₁. split ! $ drop ! $
           -- [the result; what the last step handed back; the token; the message; _8; …; room for _0; …]
           peeks ! R.the_row (Is R.the_row) (shows 𝓛 R.the_row) c (u ∷ []) (λ is_c.
           land ! (from ! (stop !)) (init ! 20 refl ((EL.lawful R.the_type R'.the_laws 𝓛 tt).typed c _ is_c).0) $
@@ -349,7 +349,7 @@ module _ {M : Type 1} {𝓤 : Ura M} (𝓛 : Logic 𝓤) (mem : Memory → SProp
           use0 𝓛 (raw ((Other 𝓛 mem run).pre (to-other r))) (goes_other r (is_found t)) $
           calls_at ! fm (Other 𝓛 mem run) known-other (to-other r) (and_then ! (load ! (from ! (stop !)) (look ! 8 refl)) (no_more !)) (λ w.
           use1 𝓛 (later (some (λ (b : Bool). (‵ ftrue ⊛ ‵ (Boolean.own b (w ∷ []))) ⊛ raw (ensured 𝓛 other.ended (other.clauses 𝓛 mem run) tt (r, tt) tt b)))) (id⊢ 𝓤 _) $ await ! tt $ pick ! (λ b.
-          split ! $ move ! (1 ∷ []) $ use1 𝓛 (raw (fact 𝓤 (b ≡ isOther (toldFound r)))) (other-said r b) $ heard ! (b ≡ isOther (toldFound r)) (λ e. split ! $ drop ! $
+          split ! $ move ! (1 ∷ []) $ use1 𝓛 (raw (fact 𝓤 (b ≡ is_other (told_found r)))) (other-said r b) $ heard ! (b ≡ is_other (told_found r)) (λ e. split ! $ drop ! $
           facts ! Boolean (Is Boolean) (shows 𝓛 Boolean) b (w ∷ []) (λ is_b.
           land ! (from ! (stop !)) (init ! 9 refl ((bool_Lawful 𝓛).typed b _ is_b).0) $
           rewrite ! 9 (λ (z : Val). ‵ (fat full_share ty_bool l₅ 0 z)) (ap head is_b ∙ ap vbool (e ∙ o)) refl $
@@ -371,7 +371,7 @@ module _ {M : Type 1} {𝓤 : Ura M} (𝓛 : Logic 𝓤) (mem : Memory → SProp
           again ! Less I t (follows t o x is_x h) (less t o x is_x h)))))))))
 
       turn : (t : Turn) → Sq 𝓛 (I t) (runs 𝓣.C 𝓣.Λ E code-mir.turn-1 (Ends t))
-      turn t = by-test t (isOther (toldFound t.x.found)) refl
+      turn t = by-test t (is_other (told_found t.x.found)) refl
 
     walk : Is (ShrSlice (named 0) κ u8) s (v ∷ []) → ent 𝓤 (on_entry 𝓛 f.signature (κ, tt) (q, tt) (s, (n, tt)) (v ∷ [], (vint w64 n ∷ [], tt))) (WpFn 𝓤 H 𝓣.C 𝓣.Λ code.function (v ∷ vint w64 n ∷ []) Post)
     walk p =

@@ -1,10 +1,10 @@
 use borrow.Author.Rules.{rules}
-use Rattle.outbox.specs.Reader.{otherVersion}
+use Rattle.outbox.specs.Reader.{other_version}
 use Rattle.outbox.proofs.format.other_version.Statement.{statement}
 use Rattle.outbox.proofs.format.other_version.Tie as tie
 
 returns : tie.Need-returns
-unfolding otherVersion
+unfolding other_version
 returns c = rw (c.either.ensures, c.before.before.byte_at.ensures)
 
 pub other-version-spec : {M : Type 1} → statement M

@@ -1,4 +1,4 @@
--- One test after the other, each a line of `recordAt`; past the last one the record stands whole.
+-- One test after the other, each a line of `record_at`; past the last one the record stands whole.
 use Prim.Native.Nat.{◌≤◌}
 use mathlib.Core.Path.{sym, ◌∙◌}
 use native.Mathlib.Omega.{arith}

@@ -4,7 +4,7 @@ use mathlib.Core.Path.{◌≡◌, sym, ap, ◌∙◌}
 use native.Mathlib.Omega.{arith}
 use lib.ListN.{length, drop}
 use borrow.Author.Rules.{rules}
-use Rattle.outbox.specs.Reader.{given, found, found_at, recordAt, toldJudged}
+use Rattle.outbox.specs.Reader.{given, found, found_at, record_at, told_judged}
 use Rattle.wire.proofs.Parts.{rest-lent}
 use Rattle.outbox.proofs.Place.{found_within}
 use Rattle.outbox.proofs.Walk.{Walking, walk_begins, walk_ends, walk-stops, walk-goes}
@@ -24,22 +24,22 @@ loop-holds c = let s = c.before in walk_begins s.args.fmt s.args.file.now s.requ
 judged : (c : tie.After-judge invariant-loop decreases-loop)
     → let l = c.before.before.before in
     let s = l.before.before in
-    toldJudged s.args.fmt l.loop.place c.judge.result ≡ recordAt s.args.fmt l.loop.place (drop l.loop.place s.args.file.now)
+    told_judged s.args.fmt l.loop.place c.judge.result ≡ record_at s.args.fmt l.loop.place (drop l.loop.place s.args.file.now)
 judged c =
     let l = c.before.before.before in
     let s = l.before.before in
-    c.judge.ensures l.loop.place ∙ ap (recordAt s.args.fmt l.loop.place) (rest-lent s.args.file.now l.loop.place)
+    c.judge.ensures l.loop.place ∙ ap (record_at s.args.fmt l.loop.place) (rest-lent s.args.file.now l.loop.place)
 
 -- the record of this turn
 stood : (c : tie.After-known-told invariant-loop decreases-loop)
     → let l = c.before.before.before.before.before.before in
     let s = l.before.before in
-    recordAt s.args.fmt l.loop.place (drop l.loop.place s.args.file.now)
+    record_at s.args.fmt l.loop.place (drop l.loop.place s.args.file.now)
     ≡ given (found (found_at s.args.fmt l.loop.place c.before.size.given.0.0 c.before.size.given.0.1.0))
 stood c =
     let j = c.before.before.before in
     let l = j.before.before.before in
-    sym (judged j) ∙ ap (toldJudged l.before.before.args.fmt l.loop.place) c.before.size.given.1
+    sym (judged j) ∙ ap (told_judged l.before.before.args.fmt l.loop.place) c.before.size.given.1
 
 loop-again : tie.Need-loop-preserved invariant-loop decreases-loop
 loop-again c =
@@ -70,7 +70,7 @@ returns c =
     let w = t.before.loop.invariant in (
       w.first,
       w.inside,
-      walk-stops s.args.fmt s.args.file.now w t.loop-test.true _ (sym (judged j) ∙ ap (toldJudged s.args.fmt t.before.loop.place) c.enum_told.given.1),
+      walk-stops s.args.fmt s.args.file.now w t.loop-test.true _ (sym (judged j) ∙ ap (told_judged s.args.fmt t.before.loop.place) c.enum_told.given.1),
     )
 
 returns-2 : tie.Need-returns-2 invariant-loop decreases-loop

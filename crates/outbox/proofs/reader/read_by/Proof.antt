@@ -5,8 +5,8 @@ use native.Mathlib.Omega.{arith}
 use lib.ListN.{length, drop}
 use borrow.Author.Rules.{rules}
 use borrow.Author.Tests.{eq-eqb}
-use Rattle.outbox.specs.Format.{headSize}
-use Rattle.outbox.specs.Reader.{recordAt, read_of, toldJudged}
+use Rattle.outbox.specs.Format.{head_size}
+use Rattle.outbox.specs.Reader.{record_at, read_of, told_judged}
 use Rattle.wire.proofs.Parts.{rest-lent}
 use Rattle.outbox.proofs.Place.{place-within, read-inside, found_within}
 use Rattle.outbox.proofs.reader.read_by.Statement.{statement}
@@ -43,14 +43,14 @@ part-judge-start c = sub-judge c
 -- what was judged is what is read
 judged : (c : tie.After-judge)
     → let s = c.before.before.before.before.before.before.before.before in
-    toldJudged s.args.fmt s.args.place c.judge.result ≡ recordAt s.args.fmt s.args.place (drop s.args.place s.args.file.now)
+    told_judged s.args.fmt s.args.place c.judge.result ≡ record_at s.args.fmt s.args.place (drop s.args.place s.args.file.now)
 judged c =
     let s = c.before.before.before.before.before.before.before.before in
-    c.judge.ensures s.args.place ∙ ap (recordAt s.args.fmt s.args.place) (rest-lent s.args.file.now s.args.place)
+    c.judge.ensures s.args.place ∙ ap (record_at s.args.fmt s.args.place) (rest-lent s.args.file.now s.args.place)
 
 read-there : (c : tie.Else3)
     → let s = c.before.before.before.before.before.before in
-    read_of s.args.fmt s.args.file.now s.args.place ≡ recordAt s.args.fmt s.args.place (drop s.args.place s.args.file.now)
+    read_of s.args.fmt s.args.file.now s.args.place ≡ record_at s.args.fmt s.args.place (drop s.args.place s.args.file.now)
 read-there c =
     let d = c.before in
     let s = d.before.before.before.before.before in
@@ -65,12 +65,12 @@ read-there c =
 -- a record ends within the file
 within : (c : tie.After-known-told)
     → let s = c.before.before.before.before.before.before.before.before.before.before.before in
-    s.args.place + headSize s.args.fmt + c.before.stream.given.0.1.0 ≤ length s.args.file.now
+    s.args.place + head_size s.args.fmt + c.before.stream.given.0.1.0 ≤ length s.args.file.now
 within c =
     let j = c.before.before.before in
     let e = j.before.before in
     let s = e.before.before.before.before.before.before in
-    let told = toldJudged s.args.fmt s.args.place in
+    let told = told_judged s.args.fmt s.args.place in
     (found_within s.args.fmt s.args.file.now s.args.place _ (sub-judge e) (sym (judged j) ∙ ap told c.before.stream.given.1)).1
 
 add-head : tie.Need-overflow-add-head
@@ -88,7 +88,7 @@ returns-4 c =
     let j = t.before.before.before in
     let e = j.before.before in
     let s = e.before.before.before.before.before.before in
-    let told = toldJudged s.args.fmt s.args.place in
+    let told = told_judged s.args.fmt s.args.place in
     sym (ap told t.before.stream.given.1) ∙ judged j ∙ sym (read-there e)
 
 returns-5 : tie.Need-returns-5
@@ -96,7 +96,7 @@ returns-5 c =
     let j = c.before.before.before in
     let e = j.before.before in
     let s = e.before.before.before.before.before.before in
-    let told = toldJudged s.args.fmt s.args.place in
+    let told = told_judged s.args.fmt s.args.place in
     sym (ap told c.before.fault.given.1) ∙ judged j ∙ sym (read-there e)
 
 pub read-by-spec : {M : Type 1} → statement M

@@ -3,13 +3,13 @@ use lib.ListN.{take}
 use lib.Seq.{length-take-le}
 use borrow.Author.Rules.{rules}
 use borrow.Author.Tests.{lt-ltb}
-use Rattle.outbox.specs.Writer.{appendOf}
+use Rattle.outbox.specs.Writer.{append_of}
 use Rattle.outbox.proofs.Versions.{format-one, format-two, known-one, known_two}
 use Rattle.outbox.proofs.writer.append.Statement.{statement}
 use Rattle.outbox.proofs.writer.append.Tie as tie
 
 returns : tie.Need-returns
-unfolding appendOf
+unfolding append_of
 returns c = rw (lt-ltb _ _ c.if1.true)
 
 slice-aggregate-is-one : tie.Need-slice-aggregate-is-one
@@ -27,7 +27,7 @@ returns-2 c =
     let s = t.before.before.before.before.before.before in
     let file = take s.args.used s.args.buffer.now in
     c.before.before.append-in.ensures
-    ∙ ap (λ fmt. appendOf fmt s.args.buffer.now s.args.used s.args.stream s.args.payload.now)
+    ∙ ap (λ fmt. append_of fmt s.args.buffer.now s.args.used s.args.stream s.args.payload.now)
     (c.before.before.before.one.ensures ∙ sym (format-one file (sym t.before.is_one.ensures ∙ t.if2.true)))
 
 returns-3 : tie.Need-returns-3
@@ -36,7 +36,7 @@ returns-3 c =
     let s = t.before.before.before.before.before.before in
     let file = take s.args.used s.args.buffer.now in
     c.before.before.append-in2.ensures
-    ∙ ap (λ fmt. appendOf fmt s.args.buffer.now s.args.used s.args.stream s.args.payload.now)
+    ∙ ap (λ fmt. append_of fmt s.args.buffer.now s.args.used s.args.stream s.args.payload.now)
     (c.before.before.before.two.ensures ∙ sym (format-two file (sym t.before.is_one.ensures ∙ t.if2.false)))
 
 pub append-spec : {M : Type 1} → statement M

@@ -5,9 +5,9 @@ use native.Mathlib.Omega.{arith}
 use lib.ListN.{length}
 use lib.Seq.{length-take-le}
 use borrow.Author.Rules.{rules}
-use Rattle.outbox.specs.Format.{recordBytes}
-use Rattle.outbox.specs.Reader.{toldWalk}
-use Rattle.outbox.specs.Writer.{stored_at, ifWhole, appendOf}
+use Rattle.outbox.specs.Format.{record_bytes}
+use Rattle.outbox.specs.Reader.{told_walk}
+use Rattle.outbox.specs.Writer.{stored_at, if_whole, append_of}
 use Rattle.outbox.proofs.Versions.{known_small}
 use Rattle.outbox.proofs.Stored.{length-record, within-limit, append-bad, append-no-room, append-judged}
 use Rattle.outbox.proofs.writer.append_by.Statement.{statement}
@@ -64,11 +64,11 @@ slice-aggregate-walk-used c = sym (length-take-le _ _ c.before.before.before.bef
 -- past the tests the used bytes decide
 decided : (c : tie.After-walk-used)
     → let s = c.before.before.before.before.before.before.before.before in
-    appendOf s.args.fmt s.args.buffer.now s.args.used s.args.stream s.args.payload.now
-    ≡ ifWhole
-    (toldWalk c.walk-used.result)
+    append_of s.args.fmt s.args.buffer.now s.args.used s.args.stream s.args.payload.now
+    ≡ if_whole
+    (told_walk c.walk-used.result)
     s.args.buffer.now
-    (stored_at s.args.buffer.now s.args.used (recordBytes s.args.fmt s.args.stream s.args.payload.now))
+    (stored_at s.args.buffer.now s.args.used (record_bytes s.args.fmt s.args.stream s.args.payload.now))
 decided c =
     let e = c.before.before in
     let d = e.before.before in

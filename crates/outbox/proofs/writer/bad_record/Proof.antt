@@ -1,10 +1,10 @@
 use borrow.Author.Rules.{rules}
-use Rattle.outbox.specs.Writer.{badRecord}
+use Rattle.outbox.specs.Writer.{bad_record}
 use Rattle.outbox.proofs.writer.bad_record.Statement.{statement}
 use Rattle.outbox.proofs.writer.bad_record.Tie as tie
 
 returns : tie.Need-returns
-unfolding badRecord
+unfolding bad_record
 returns c = rw (c.either.ensures, c.before.before.is-stream.ensures)
 
 pub bad-record-spec : {M : Type 1} → statement M

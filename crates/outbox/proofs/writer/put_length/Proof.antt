@@ -4,7 +4,7 @@ use mathlib.Core.Path.{◌≡◌, sym, ◌∙◌}
 use native.Mathlib.Nat.{mod-lt}
 use native.Mathlib.Omega.{arith}
 use borrow.Author.Rules.{rules}
-use Rattle.wire.specs.Bytes.{pairBytes}
+use Rattle.wire.specs.Bytes.{pair_bytes}
 use Rattle.wire.proofs.Stores.{sets-append}
 use Rattle.outbox.proofs.Versions.{known_small, known-pair, known-four}
 use Rattle.outbox.proofs.Number.{bytes_pair, bytes-pairs}
@@ -53,7 +53,7 @@ returns-2 c =
     let e = p.before.before in
     let s = e.before.before.before in
     let n = s.args.n in
-    rw (four e, bytes-pairs n) (rw (low n) at q.put-pair3.ensures ∙ rw p.put-pair2.ensures (sym (sets-append s.args.buffer.now s.args.at (pairBytes (n / 65536)) (pairBytes (n % 65536)))))
+    rw (four e, bytes-pairs n) (rw (low n) at q.put-pair3.ensures ∙ rw p.put-pair2.ensures (sym (sets-append s.args.buffer.now s.args.at (pair_bytes (n / 65536)) (pair_bytes (n % 65536)))))
 
 pub put-length-spec : {M : Type 1} → statement M
 put-length-spec =

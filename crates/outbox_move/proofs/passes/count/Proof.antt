@@ -4,9 +4,9 @@ use mathlib.Core.Path.{sym, ap, ◌∙◌}
 use native.Mathlib.Omega.{arith}
 use lib.ListN.{length}
 use borrow.Author.Rules.{rules}
-use Rattle.outbox.specs.Format.{headSize}
+use Rattle.outbox.specs.Format.{head_size}
 use Rattle.outbox.proofs.Versions.{known_small}
-use Rattle.outbox_move.specs.Moves.{toldNext}
+use Rattle.outbox_move.specs.Moves.{told_next}
 use Rattle.outbox_move.proofs.Passing.{Counting, counting-begins, counting-ends, counting-over, counting-goes, ends}
 use Rattle.outbox_move.proofs.passes.count.Statement.{statement}
 use Rattle.outbox_move.proofs.passes.count.Tie as tie
@@ -26,7 +26,7 @@ turn : (c : tie.Else1 invariant-loop decreases-loop)
     let l = m.before.before.before in
     let s = l.before.before in
     let file = s.args.file.now in
-    Counting s.args.fmt s.args.own file m.size.given.0.1.1.1.0 (l.loop.total + headSize s.args.fmt + m.size.given.0.1.1.0)
+    Counting s.args.fmt s.args.own file m.size.given.0.1.1.1.0 (l.loop.total + head_size s.args.fmt + m.size.given.0.1.1.0)
     × (l.loop.place < m.size.given.0.1.1.1.0)
     × (m.size.given.0.1.1.1.0 ≤ length file)
 turn c =
@@ -35,7 +35,7 @@ turn c =
     let l = r.before in
     let s = l.before.before in
     let file = s.args.file.now in
-    let e = sym r.record-at.ensures ∙ ap toldNext m.size.given.1 in
+    let e = sym r.record-at.ensures ∙ ap told_next m.size.given.1 in
     let within = ends s.args.own file l.loop.place _ e in
     (counting-goes s.args.fmt s.args.own file l.loop.invariant _ e s.requires.1 s.requires.0 c.if1.false, within.0, within.1)
 
@@ -46,7 +46,7 @@ returns c =
     let l = r.before in
     let s = l.before.before in
     let file = s.args.file.now in
-    counting-over s.args.fmt s.args.own file l.loop.invariant _ (sym r.record-at.ensures ∙ ap toldNext m.size.given.1) c.if1.true
+    counting-over s.args.fmt s.args.own file l.loop.invariant _ (sym r.record-at.ensures ∙ ap told_next m.size.given.1) c.if1.true
 
 add-head : tie.Need-overflow-add-head invariant-loop decreases-loop
 add-head c = let s = c.before.before.before.before.before.before.before.before.before in omega (arith, (known_small s.args.fmt s.requires.1).1)
@@ -69,7 +69,7 @@ returns-2 c =
     let l = r.before in
     let s = l.before.before in
     let file = s.args.file.now in
-    counting-ends s.args.fmt s.args.own file l.loop.invariant (sym r.record-at.ensures ∙ ap toldNext c.enum_told.given.1)
+    counting-ends s.args.fmt s.args.own file l.loop.invariant (sym r.record-at.ensures ∙ ap told_next c.enum_told.given.1)
 
 pub count_spec : {M : Type 1} → statement M
 count_spec =

@@ -4,10 +4,10 @@ use mathlib.Core.Path.{◌≡◌, sym, ap, ◌∙◌}
 use native.Mathlib.Omega.{arith}
 use lib.ListN.{length, length-set}
 use borrow.Author.Rules.{rules}
-use Rattle.outbox.specs.Format.{headSize}
+use Rattle.outbox.specs.Format.{head_size}
 use Rattle.outbox.specs.Reader.{FoundRecord, given, found, read_of}
 use Rattle.outbox.proofs.Versions.{known_small}
-use Rattle.outbox_move.specs.Moves.{recordOnly, toldNext}
+use Rattle.outbox_move.specs.Moves.{record_only, told_next}
 use Rattle.outbox_move.proofs.Passing.{Writing, writing_begins, writing-ends, writing-goes, record-room, payload-short, payload-size, ends, spans}
 use Rattle.outbox_move.proofs.passes.write_records.Statement.{statement}
 use Rattle.outbox_move.proofs.passes.write_records.Tie as tie
@@ -34,8 +34,8 @@ stood : (k : tie.After-known-told invariant-loop decreases-loop)
     → let l = k.before.before.before.before in
     let s = l.before.before.before in
     let file = s.args.file.now in
-    recordOnly (read_of s.args.own file l.loop.place) ≡ given (found (it k))
-stood k = sym k.before.before.before.record-at.ensures ∙ ap toldNext k.before.stream.given.1
+    record_only (read_of s.args.own file l.loop.place) ≡ given (found (it k))
+stood k = sym k.before.before.before.record-at.ensures ∙ ap told_next k.before.stream.given.1
 
 lies : (k : tie.After-known-told invariant-loop decreases-loop)
     → let l = k.before.before.before.before in
@@ -78,7 +78,7 @@ add-head c =
 fits : (k : tie.After-known-told invariant-loop decreases-loop)
     → let l = k.before.before.before.before in
     let s = l.before.before.before in
-    l.loop.at + headSize s.args.fmt + (it k).size ≤ length s.args.out.now
+    l.loop.at + head_size s.args.fmt + (it k).size ≤ length s.args.out.now
 fits k =
     let l = k.before.before.before.before in
     let s = l.before.before.before in
@@ -120,7 +120,7 @@ returns c =
     let l = r.before in
     let s = l.before.before.before in
     let file = s.args.file.now in
-    writing-ends s.args.fmt s.args.own file _ l.loop.invariant (sym r.record-at.ensures ∙ ap toldNext c.enum_told.given.1)
+    writing-ends s.args.fmt s.args.own file _ l.loop.invariant (sym r.record-at.ensures ∙ ap told_next c.enum_told.given.1)
 
 pub write-records-spec : {M : Type 1} → statement M
 write-records-spec =

@@ -42,7 +42,7 @@ use denote.Triple.Table.{entered, cited}
 use denote.Triple.Walked.{says, Stays, stay_none, walk_of, Goes-none, Walks, ends_at, walked, walk_Meets}
 use denote.Exit.{yes}
 use denote.Triple.Clauses.{ensured, lasts}
-use Rattle.proto_field.specs.Fields.{behind, toldFound}
+use Rattle.proto_field.specs.Fields.{behind, told_found}
 use Rattle.proto_field.proofs.Places.{TellsField, TellsNext}
 use Rattle.proto_field.specs.declared.fields.Fields.{Fields}
 use Rattle.proto_field.specs.declared.fields.Found.{Found}
@@ -164,8 +164,8 @@ module _ {M : Type 1} {𝓤 : Ura M} (𝓛 : Logic 𝓤) (mem : Memory → SProp
   goes-behind r fits is = qed 𝓛 [] ∵ nothing ! $ owned ! usize (Is usize) (uint_Makes 𝓛 w64) d.at _ (refl, fits) $ fjoin ! $
       owned ! S.the_row (Is S.the_row) (EL.makes S.the_type S'.the_plain 𝓛) r _ is $ fjoin ! $ nothing ! $ join ! $ nothing ! $ move ! (1 ∷ 0 ∷ []) $ join ! $ done !
 
-  said-behind : (r : Found) (m : ℕ) → ent 𝓤 (ensured 𝓛 past.ended (past.clauses 𝓛 mem run) tt (r, (d.at, tt)) tt m) (fact 𝓤 (m ≡ behind d.at (toldFound r)))
-  said-behind r m = ex_e 𝓤 _ (λ ws. snd∗ 𝓤 (sem 𝓛 (lasts past.ended tt (r, (d.at, tt)) ws)) (fact 𝓤 (m ≡ behind d.at (toldFound r))))
+  said-behind : (r : Found) (m : ℕ) → ent 𝓤 (ensured 𝓛 past.ended (past.clauses 𝓛 mem run) tt (r, (d.at, tt)) tt m) (fact 𝓤 (m ≡ behind d.at (told_found r)))
+  said-behind r m = ex_e 𝓤 _ (λ ws. snd∗ 𝓤 (sem 𝓛 (lasts past.ended tt (r, (d.at, tt)) ws)) (fact 𝓤 (m ≡ behind d.at (told_found r))))
 
   exits : (r : Found) (m : ℕ) → m < 2 ^ 64 → Is S.the_row r (vf r ∷ []) → TellsNext d (made r m) → ent 𝓤 (⋆ 𝓛 ((‵ (flft κ q) ⊛ ‵ ftrue) ∷ ‵ Own ∷ [])) (Post (LL.val DN LN (made r m)))
   exits r m fits is e =
@@ -203,7 +203,7 @@ module _ {M : Type 1} {𝓤 : Ura M} (𝓛 : Logic 𝓤) (mem : Memory → SProp
         use0 𝓛 (raw ((PlaceBehind 𝓛 mem run).pre (to-behind r))) (goes-behind r wt.1.1.0.fits is-r) $
         calls_at ! fm (PlaceBehind 𝓛 mem run) Known-Behind (to-behind r) (and_then ! (load ! (from ! (stop !)) (look ! 7 refl)) (and_then ! (load ! (from ! (stop !)) (look ! 9 refl)) (no_more !))) (λ w.
         use1 𝓛 (later (some (λ (m : ℕ). (‵ ftrue ⊛ ‵ (usize.own_val m (w ∷ []))) ⊛ raw (ensured 𝓛 past.ended (past.clauses 𝓛 mem run) tt (r, (d.at, tt)) tt m)))) (id⊢ 𝓤 _) $ await ! tt $ pick ! (λ m.
-        split ! $ move ! (1 ∷ []) $ use1 𝓛 (raw (fact 𝓤 (m ≡ behind d.at (toldFound r)))) (said-behind r m) $ heard ! (m ≡ behind d.at (toldFound r)) (λ e₁. split ! $ drop ! $
+        split ! $ move ! (1 ∷ []) $ use1 𝓛 (raw (fact 𝓤 (m ≡ behind d.at (told_found r)))) (said-behind r m) $ heard ! (m ≡ behind d.at (told_found r)) (λ e₁. split ! $ drop ! $
         facts ! usize (Is usize) (shows 𝓛 usize) m (w ∷ []) (λ is_m.
         -- [the token; what the struct owns; room for _6; …; room for _5; …; _4; …]
         land ! (from ! (stop !)) (init ! 4 refl ((uint_Lawful 𝓛 w64).typed m _ is_m).0) $

@@ -1,5 +1,5 @@
 use mathlib.Core.Path.{ap, sym, ◌∙◌}
-use Rattle.proto_field.specs.Varint.{toldVarint}
+use Rattle.proto_field.specs.Varint.{told_varint}
 use Rattle.proto_field.specs.Tag.{tag_at}
 use Rattle.proto_field.proofs.Varints.{varint-short}
 use borrow.Author.Rules.{rules}
@@ -15,11 +15,11 @@ returns c =
 
 returns-2 : tie.Need-returns-2
 unfolding tag_at
-returns-2 c = rw (sym c.before.before.before.read-long.ensures ∙ ap toldVarint c.before.e.given.1)
+returns-2 c = rw (sym c.before.before.before.read-long.ensures ∙ ap told_varint c.before.e.given.1)
 
 returns-3 : tie.Need-returns-3
 unfolding tag_at
-returns-3 c = rw (sym c.before.before.before.before.read-long.ensures ∙ ap toldVarint c.before.before.value.given.1) c.tag-of2.ensures
+returns-3 c = rw (sym c.before.before.before.before.read-long.ensures ∙ ap told_varint c.before.before.value.given.1) c.tag-of2.ensures
 
 pub read-tag-spec : {M : Type 1} → statement M
 read-tag-spec =

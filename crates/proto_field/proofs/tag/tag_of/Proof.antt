@@ -2,7 +2,7 @@ use Prim.Native.Nat.{ℕ, ◌-◌, ◌*◌, ◌/◌, ◌%◌}
 use mathlib.Core.Path.{◌≡◌, sym, ◌∙◌}
 use mathlib.Core.Bool.{Bool}
 use native.Mathlib.Omega.{arith}
-use Rattle.proto_field.specs.Tag.{badTag}
+use Rattle.proto_field.specs.Tag.{bad_tag}
 use borrow.Author.Rules.{rules}
 use Rattle.proto_field.proofs.tag.tag_of.Statement.{statement}
 use Rattle.proto_field.proofs.tag.tag_of.Tie as tie
@@ -12,7 +12,7 @@ wire : (v : ℕ) → v - v / 8 * 8 ≡ v % 8
 wire v = omega arith
 
 -- what bad_tag told
-bad : {b : Bool} (c : tie.After-bad-tag) → c.bad-tag.result ≡ b → badTag (c.before.args.value / 8) (c.before.args.value % 8) ≡ b
+bad : {b : Bool} (c : tie.After-bad-tag) → c.bad-tag.result ≡ b → bad_tag (c.before.args.value / 8) (c.before.args.value % 8) ≡ b
 bad c e = rw (wire c.before.args.value) at (sym c.bad-tag.ensures ∙ e)
 
 returns : tie.Need-returns

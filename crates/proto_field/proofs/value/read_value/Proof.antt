@@ -8,8 +8,8 @@ use lib.Dec.{eqb}
 use borrow.Author.Tests.{ne_eqb}
 use Rattle.wire.specs.Told.{given, and_then}
 use Rattle.proto_field.specs.declared.value.Value.TheVariants.{Number}
-use Rattle.proto_field.specs.Varint.{varintAt, toldVarint}
-use Rattle.proto_field.specs.Value.{partOf, value_at, toldValue}
+use Rattle.proto_field.specs.Varint.{varint_at, told_varint}
+use Rattle.proto_field.specs.Value.{part_of, value_at, told_value}
 use Rattle.proto_field.proofs.Varints.{varint-next}
 use Rattle.proto_field.proofs.Places.{value-told}
 use borrow.Author.Rules.{rules}
@@ -18,7 +18,7 @@ use Rattle.proto_field.proofs.value.read_value.Tie as tie
 
 -- the wire types 0 and 2 begin with a varint
 by-varint : (s : List ℕ) (at wire : ℕ) → wire ≤ 2 → (wire ≡ 1 → ⊥)
-    → value_at s at wire ≡ and_then (varintAt s at) (λ p. cond (eqb wire 0) (given (Number p.0, p.1)) (partOf s p))
+    → value_at s at wire ≡ and_then (varint_at s at) (λ p. cond (eqb wire 0) (given (Number p.0, p.1)) (part_of s p))
 unfolding value_at
 by-varint s at zero l n = refl
 by-varint s at (suc zero) l n = absurd (n refl)
@@ -29,7 +29,7 @@ returns : tie.Need-returns
 unfolding value_at
 returns c =
     let a = c.before.before.before.before.args in
-    value-told a.message.now a.at a.wire (toldValue c.skip.result) (rw c.before.if2.true c.skip.ensures)
+    value-told a.message.now a.at a.wire (told_value c.skip.result) (rw c.before.if2.true c.skip.ensures)
 
 returns-2 : tie.Need-returns-2
 unfolding value_at
@@ -49,25 +49,25 @@ returns-3 : tie.Need-returns-3
 unfolding value_at
 returns-3 c =
     let a = c.before.before.before.before.args in
-    value-told a.message.now a.at a.wire (toldValue c.skip2.result) (rw c.before.if3.true c.skip2.ensures)
+    value-told a.message.now a.at a.wire (told_value c.skip2.result) (rw c.before.if3.true c.skip2.ensures)
 
 returns-4 : tie.Need-returns-4
 unfolding value_at
-returns-4 c = (rw (c.if4.true, sym c.before.before.before.before.read-varint.ensures ∙ ap toldVarint c.before.before.value.given.1), tt)
+returns-4 c = (rw (c.if4.true, sym c.before.before.before.before.read-varint.ensures ∙ ap told_varint c.before.before.value.given.1), tt)
 
 part-of-requires : tie.Need-part-of-requires
-part-of-requires c κs = (varint-next _ _ _ _ (sym c.before.before.before.before.read-varint.ensures ∙ ap toldVarint c.before.before.value.given.1)).1
+part-of-requires c κs = (varint-next _ _ _ _ (sym c.before.before.before.before.read-varint.ensures ∙ ap told_varint c.before.before.value.given.1)).1
 
 returns-5 : tie.Need-returns-5
 returns-5 c =
     let a = c.before.before.before.before.before.before.before.args in
-    (rw (by-varint a.message.now a.at a.wire c.before.before.before.before.before.if1.false c.before.before.before.before.if3.false, sym c.before.before.before.read-varint.ensures ∙ ap toldVarint c.before.e.given.1), tt)
+    (rw (by-varint a.message.now a.at a.wire c.before.before.before.before.before.if1.false c.before.before.before.before.if3.false, sym c.before.before.before.read-varint.ensures ∙ ap told_varint c.before.e.given.1), tt)
 
 returns-6 : tie.Need-returns-6
 returns-6 c =
     let a = c.before.before.before.before.before.before.before.before.before.args in
-    value-told a.message.now a.at a.wire (toldValue c.part_of.result)
-    (rw (by-varint a.message.now a.at a.wire c.before.before.before.before.before.before.before.if1.false c.before.before.before.before.before.before.if3.false, sym c.before.before.before.before.before.read-varint.ensures ∙ ap toldVarint c.before.before.before.value.given.1, ne_eqb _ _ c.before.if4.false) c.part_of.ensures)
+    value-told a.message.now a.at a.wire (told_value c.part_of.result)
+    (rw (by-varint a.message.now a.at a.wire c.before.before.before.before.before.before.before.if1.false c.before.before.before.before.before.before.if3.false, sym c.before.before.before.before.before.read-varint.ensures ∙ ap told_varint c.before.before.before.value.given.1, ne_eqb _ _ c.before.if4.false) c.part_of.ensures)
 
 pub read-value-spec : {M : Type 1} → statement M
 read-value-spec =

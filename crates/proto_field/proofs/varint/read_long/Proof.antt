@@ -5,7 +5,7 @@ use mathlib.Core.List.{List}
 use native.Mathlib.Omega.{arith}
 use borrow.Author.Rules.{rules}
 use lib.ListN.{length, drop}
-use Rattle.proto_field.specs.Varint.{varintFrom, varintAt}
+use Rattle.proto_field.specs.Varint.{varint_from, varint_at}
 use Rattle.proto_field.proofs.Varints.{top, grown, grown-none, digits, room-more, room_next, last_fits, at-end, turn-over, turn_last, turn-short, turn-grown}
 use Rattle.proto_field.proofs.varint.read_long.Statement.{statement}
 use Rattle.proto_field.proofs.varint.read_long.Tie as tie
@@ -13,7 +13,7 @@ use Rattle.proto_field.proofs.varint.read_long.Tie as tie
 record Here (s : List ℕ) (at value weight left i : ℕ) : Type 0 where
   room : weight * top left ≡ 2 ^ 64
   below : value < weight
-  same : varintAt s at ≡ grown value weight (varintFrom left i (drop i s))
+  same : varint_at s at ≡ grown value weight (varint_from left i (drop i s))
 
 abbrev invariant-loop : tie.invariant-loop
 invariant-loop message at value₀ weight₀ left₀ i₀ value weight left i = Here message at value weight left i
@@ -22,7 +22,7 @@ abbrev decreases-loop : tie.decreases-loop
 decreases-loop message at value₀ weight₀ left₀ i₀ value weight left i = length message - i
 
 loop-holds : tie.Need-loop-init invariant-loop decreases-loop
-unfolding varintAt
+unfolding varint_at
 loop-holds c = record { room = refl; below = omega arith; same = sym (grown-none _) }
 
 -- the byte in hand is below 256

@@ -1,7 +1,7 @@
 use mathlib.Core.Path.{◌≡◌, sym, ap, ◌∙◌}
 use mathlib.Core.Bool.{Bool, ◌&&◌, not}
 use lib.Dec.{eqb, leb}
-use Rattle.proto_reader.specs.Gathered.{mostRepeated}
+use Rattle.proto_reader.specs.Gathered.{most_repeated}
 use Rattle.proto_reader.specs.Walk.{judged}
 use borrow.Author.Rules.{rules}
 use Rattle.proto_reader.proofs.reader.judge.Statement.{statement}
@@ -31,7 +31,7 @@ returns-3 c =
     rw (
       sym (ap not c.before.before.before.before.before.before.before.fits-role.ensures) ∙ c.before.before.before.before.before.before.if1.false,
       tested (not (eqb a.member 0)) c.before.before.before.before.before.is_member.ensures c.before.before.before.before.both.ensures c.before.before.before.if2.false,
-      tested (leb mostRepeated a.count) c.before.before.is-repeated.ensures c.before.both2.ensures c.if3.true,
+      tested (leb most_repeated a.count) c.before.before.is-repeated.ensures c.before.both2.ensures c.if3.true,
     )
 
 returns-4 : tie.Need-returns-4
@@ -41,7 +41,7 @@ returns-4 c =
     rw (
       sym (ap not c.before.before.before.before.before.before.before.fits-role.ensures) ∙ c.before.before.before.before.before.before.if1.false,
       tested (not (eqb a.member 0)) c.before.before.before.before.before.is_member.ensures c.before.before.before.before.both.ensures c.before.before.before.if2.false,
-      tested (leb mostRepeated a.count) c.before.before.is-repeated.ensures c.before.both2.ensures c.if3.false,
+      tested (leb most_repeated a.count) c.before.before.is-repeated.ensures c.before.both2.ensures c.if3.false,
     )
 
 pub judge-spec : {M : Type 1} → statement M

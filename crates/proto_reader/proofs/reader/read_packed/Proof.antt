@@ -4,21 +4,21 @@ use native.Mathlib.Omega.{arith}
 use borrow.Author.Rules.{rules}
 use lib.ListN.{length}
 use Rattle.wire.specs.Told.{given}
-use Rattle.proto_reader.specs.Gathered.{fieldJudged}
-use Rattle.proto_reader.specs.Walk.{entry_at, packedFrom}
+use Rattle.proto_reader.specs.Gathered.{field_judged}
+use Rattle.proto_reader.specs.Walk.{entry_at, packed_from}
 use Rattle.proto_reader.proofs.Walks.{Walks, walk_end, walk-stop, walks_next}
 use Rattle.proto_reader.proofs.Steps.{entry-forward}
 use Rattle.proto_reader.proofs.reader.read_packed.Statement.{statement}
 use Rattle.proto_reader.proofs.reader.read_packed.Tie as tie
 
 abbrev invariant-loop : tie.invariant-loop
-invariant-loop message from so-far₀ at₀ so_far at = Walks entry_at message (packedFrom message from so-far₀) at so_far
+invariant-loop message from so-far₀ at₀ so_far at = Walks entry_at message (packed_from message from so-far₀) at so_far
 
 abbrev decreases-loop : tie.decreases-loop
 decreases-loop message from so-far₀ at₀ so_far at = length message - at
 
 loop-holds : tie.Need-loop-init invariant-loop decreases-loop
-unfolding packedFrom
+unfolding packed_from
 loop-holds c = record { fuel = length c.before.args.message.now; enough = omega arith; same = refl }
 
 returns : tie.Need-returns invariant-loop decreases-loop
@@ -26,13 +26,13 @@ returns c =
     let l = c.before.before.before.before.before.loop in
     let k = c.before.before.before.read-entry in
     sym (l.invariant.same ∙ walk-stop entry_at _ l.at l.so_far c.before.before.before.before.loop-test.true l.invariant.fuel l.invariant.enough _
-    (sym k.ensures ∙ ap (λ j. fieldJudged j (k.result.gathered, k.result.next)) c.before.verdict.given.1))
+    (sym k.ensures ∙ ap (λ j. field_judged j (k.result.gathered, k.result.next)) c.before.verdict.given.1))
 
 -- what the turn's entry gave
 went : (c : tie.After-enum-told invariant-loop decreases-loop) → entry_at c.before.before.before.before.before.before.args.message.now c.before.before.before.before.loop.at c.before.before.before.before.loop.so_far ≡ given (c.before.before.read-entry.result.gathered, c.before.before.read-entry.result.next)
 went c =
     let k = c.before.before.read-entry in
-    sym k.ensures ∙ ap (λ j. fieldJudged j (k.result.gathered, k.result.next)) c.enum_told.given.1
+    sym k.ensures ∙ ap (λ j. field_judged j (k.result.gathered, k.result.next)) c.enum_told.given.1
 
 loop-less : tie.Need-loop-smaller invariant-loop decreases-loop
 loop-less c =

@@ -1,6 +1,6 @@
 use native.Mathlib.Omega.{arith}
 use Prim.Native.Nat.{◌+◌, ◌*◌}
-use Rattle.proto_writer.specs.Varint.{varintBytes}
+use Rattle.proto_writer.specs.Varint.{varint_bytes}
 use Rattle.proto_writer.proofs.Runs.{joined_length, head-is}
 use borrow.Author.Rules.{rules}
 use Rattle.proto_writer.proofs.fields.head_len.Statement.{statement}
@@ -9,7 +9,7 @@ use Rattle.proto_writer.proofs.fields.head_len.Tie as tie
 returns : tie.Need-returns
 returns c =
     let a = c.before.before.args in
-    (omega (arith, joined_length (varintBytes (a.field * 8 + 2)) (varintBytes a.len) (head-is a.field a.len)), omega arith)
+    (omega (arith, joined_length (varint_bytes (a.field * 8 + 2)) (varint_bytes a.len) (head-is a.field a.len)), omega arith)
 
 pub head-len-spec : {M : Type 1} → statement M
 head-len-spec =

@@ -1,6 +1,6 @@
 use native.Mathlib.Omega.{arith}
 use Prim.Native.Nat.{◌+◌, ◌*◌}
-use Rattle.proto_writer.specs.Varint.{varintBytes}
+use Rattle.proto_writer.specs.Varint.{varint_bytes}
 use Rattle.proto_writer.proofs.Runs.{put_then, joined_length, head-is}
 use borrow.Author.Rules.{rules}
 use Rattle.proto_writer.proofs.fields.put_head.Statement.{statement}
@@ -9,7 +9,7 @@ use Rattle.proto_writer.proofs.fields.put_head.Tie as tie
 put-varint-requires : tie.Need-put-varint-requires
 put-varint-requires c κs =
     let a = c.before.before.args in
-    omega (arith, c.before.before.requires, joined_length (varintBytes (a.field * 8 + 2)) (varintBytes a.len) (head-is a.field a.len))
+    omega (arith, c.before.before.requires, joined_length (varint_bytes (a.field * 8 + 2)) (varint_bytes a.len) (head-is a.field a.len))
 
 put-varint-requires-2 : tie.Need-put-varint-requires-2
 put-varint-requires-2 c κs =
@@ -19,7 +19,7 @@ put-varint-requires-2 c κs =
     omega (
       arith,
       start.requires,
-      joined_length (varintBytes (a.field * 8 + 2)) (varintBytes a.len) (head-is a.field a.len),
+      joined_length (varint_bytes (a.field * 8 + 2)) (varint_bytes a.len) (head-is a.field a.len),
       p.ensures.place,
       p.auto.0,
     )
@@ -27,7 +27,7 @@ put-varint-requires-2 c κs =
 returns : tie.Need-returns
 returns c =
     let a = c.before.before.before.before.before.before.before.before.before.args in
-    put_then (varintBytes (a.field * 8 + 2)) (varintBytes a.len) (head-is a.field a.len)
+    put_then (varint_bytes (a.field * 8 + 2)) (varint_bytes a.len) (head-is a.field a.len)
     c.before.before.before.before.before.before.put-varint.ensures c.before.before.put-varint2.ensures
 
 pub put-head-spec : {M : Type 1} → statement M

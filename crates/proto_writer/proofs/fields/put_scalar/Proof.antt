@@ -1,6 +1,6 @@
 use native.Mathlib.Omega.{arith}
 use Prim.Native.Nat.{◌+◌, ◌*◌}
-use Rattle.proto_writer.specs.Varint.{varintBytes}
+use Rattle.proto_writer.specs.Varint.{varint_bytes}
 use Rattle.proto_writer.proofs.Runs.{put-none, put_then, joined_length, scalar-none, scalar-some}
 use borrow.Author.Rules.{rules}
 use Rattle.proto_writer.proofs.fields.put_scalar.Statement.{statement}
@@ -14,7 +14,7 @@ returns c =
 put-varint-requires : tie.Need-put-varint-requires
 put-varint-requires c κs =
     let a = c.before.before.before.args in
-    omega (arith, c.before.before.before.requires, joined_length (varintBytes (a.field * 8 + 0)) (varintBytes a.value) (scalar-some a.field a.value c.before.if1.false))
+    omega (arith, c.before.before.before.requires, joined_length (varint_bytes (a.field * 8 + 0)) (varint_bytes a.value) (scalar-some a.field a.value c.before.if1.false))
 
 put-varint-requires-2 : tie.Need-put-varint-requires-2
 put-varint-requires-2 c κs =
@@ -24,7 +24,7 @@ put-varint-requires-2 c κs =
     omega (
       arith,
       start.requires,
-      joined_length (varintBytes (a.field * 8 + 0)) (varintBytes a.value) (scalar-some a.field a.value c.before.before.before.before.before.if1.false),
+      joined_length (varint_bytes (a.field * 8 + 0)) (varint_bytes a.value) (scalar-some a.field a.value c.before.before.before.before.before.if1.false),
       p.ensures.place,
       p.auto.0,
     )
@@ -32,7 +32,7 @@ put-varint-requires-2 c κs =
 returns-2 : tie.Need-returns-2
 returns-2 c =
     let a = c.before.before.before.before.before.before.before.before.before.before.args in
-    put_then (varintBytes (a.field * 8 + 0)) (varintBytes a.value) (scalar-some a.field a.value c.before.before.before.before.before.before.before.before.if1.false)
+    put_then (varint_bytes (a.field * 8 + 0)) (varint_bytes a.value) (scalar-some a.field a.value c.before.before.before.before.before.before.before.before.if1.false)
     c.before.before.before.before.before.before.put-varint.ensures c.before.before.put-varint2.ensures
 
 pub put-scalar-spec : {M : Type 1} → statement M

@@ -10,9 +10,9 @@ use lib.Seq.{sets}
 use Rattle.wire.proofs.Stores.{sets_then}
 use Rattle.wire.specs.Put.{Put}
 use Rattle.proto_field.specs.Signed.{extended}
-use Rattle.proto_writer.specs.Varint.{varintBytes}
+use Rattle.proto_writer.specs.Varint.{varint_bytes}
 use Rattle.proto_field.proofs.SignedNumbers.{entry_read}
-use Rattle.proto_writer.proofs.Runs.{varintsFrom, varints-next, varints-end, joined_length}
+use Rattle.proto_writer.proofs.Runs.{varints_from, varints-next, varints-end, joined_length}
 use Rattle.proto_writer.proofs.fields.put_varints.Statement.{statement}
 use Rattle.proto_writer.proofs.fields.put_varints.Tie as tie
 
@@ -20,8 +20,8 @@ use Rattle.proto_writer.proofs.fields.put_varints.Tie as tie
 record Left (out₀ : List ℕ) (at : ℕ) (list : List ℤ) (out : List ℕ) (next i : ℕ) : Type 0 where
   inside : i ≤ length list
   long : length out ≡ length out₀
-  place : at + length (varintsFrom list 0) ≡ next + length (varintsFrom list i)
-  target : sets out₀ at (varintsFrom list 0) ≡ sets out next (varintsFrom list i)
+  place : at + length (varints_from list 0) ≡ next + length (varints_from list i)
+  target : sets out₀ at (varints_from list 0) ≡ sets out next (varints_from list i)
 
 abbrev invariant-loop : tie.invariant-loop
 invariant-loop out₀ at list next₀ i₀ out next i = Left out₀ at list out next i
@@ -43,23 +43,23 @@ put-varint-requires c κs =
     let s = start.args.list.now in
     let e = varints-next s l.i (search rules) in
     rw (value c)
-    (omega (arith, l.invariant.place, l.invariant.long, start.requires, joined_length (varintBytes (extended (get_or s l.i (pos 0)))) (varintsFrom s (l.i + 1)) (sym e)))
+    (omega (arith, l.invariant.place, l.invariant.long, start.requires, joined_length (varint_bytes (extended (get_or s l.i (pos 0)))) (varints_from s (l.i + 1)) (sym e)))
 
 loop-again : tie.Need-loop-preserved invariant-loop decreases-loop
 loop-again c =
     let l = c.before.before.before.before.before.before.before.loop in
     let s = c.before.before.before.before.before.before.before.before.before.args.list.now in
-    let v = varintBytes (extended (get_or s l.i (pos 0))) in
+    let v = varint_bytes (extended (get_or s l.i (pos 0))) in
     let e = varints-next s l.i (search rules) in
     let p : Put l.out l.next v c.before.before.put-varint.result c.before.before.put-varint.new.0 =
     rw (value c.before.before.before) at c.before.before.put-varint.ensures in
     record {
       inside = search rules;
       long = c.before.before.put-varint.auto.0 ∙ l.invariant.long;
-      place = omega (arith, l.invariant.place, p.place, joined_length v (varintsFrom s (l.i + 1)) (sym e));
+      place = omega (arith, l.invariant.place, p.place, joined_length v (varints_from s (l.i + 1)) (sym e));
       target =
-          l.invariant.target ∙ ap (sets l.out l.next) e ∙ sym (sets_then l.out l.next c.before.before.put-varint.result v (varintsFrom s (l.i + 1)) p.place)
-          ∙ ap (λ (x : List ℕ). sets x c.before.before.put-varint.result (varintsFrom s (l.i + 1))) (sym p.stored);
+          l.invariant.target ∙ ap (sets l.out l.next) e ∙ sym (sets_then l.out l.next c.before.before.put-varint.result v (varints_from s (l.i + 1)) p.place)
+          ∙ ap (λ (x : List ℕ). sets x c.before.before.put-varint.result (varints_from s (l.i + 1))) (sym p.stored);
     }
 
 same_length : tie.Need-same-length invariant-loop decreases-loop

@@ -4,15 +4,15 @@ use native.Mathlib.Omega.{arith}
 use borrow.Author.Rules.{rules}
 use lib.ListN.{length, get_or}
 use Rattle.proto_field.specs.Signed.{extended}
-use Rattle.proto_writer.specs.Varint.{varintBytes}
+use Rattle.proto_writer.specs.Varint.{varint_bytes}
 use lib.IntN.{pos}
 use Rattle.proto_field.proofs.SignedNumbers.{entry_read}
-use Rattle.proto_writer.proofs.Runs.{varintsFrom, varints-next, varints-end, joined_length}
+use Rattle.proto_writer.proofs.Runs.{varints_from, varints-next, varints-end, joined_length}
 use Rattle.proto_writer.proofs.fields.varints_len.Statement.{statement}
 use Rattle.proto_writer.proofs.fields.varints_len.Tie as tie
 
 abbrev invariant-loop : tie.invariant-loop
-invariant-loop list n₀ i₀ n i = (i ≤ length list) × (n ≤ 10 * i) × (length (varintsFrom list 0) ≡ n + length (varintsFrom list i))
+invariant-loop list n₀ i₀ n i = (i ≤ length list) × (n ≤ 10 * i) × (length (varints_from list 0) ≡ n + length (varints_from list i))
 
 abbrev decreases-loop : tie.decreases-loop
 decreases-loop list n₀ i₀ n i = length list - i
@@ -21,16 +21,16 @@ loop-holds : tie.Need-loop-init invariant-loop decreases-loop
 loop-holds c = (search rules, search rules, search rules)
 
 -- what was counted: the varint of the entry
-counted : (c : tie.After-varint-len invariant-loop decreases-loop) → c.varint-len.result ≡ length (varintBytes (extended (get_or c.before.before.before.before.before.args.list.now c.before.before.before.before.loop.i (pos 0))))
+counted : (c : tie.After-varint-len invariant-loop decreases-loop) → c.varint-len.result ≡ length (varint_bytes (extended (get_or c.before.before.before.before.before.args.list.now c.before.before.before.before.loop.i (pos 0))))
 counted c =
-    c.varint-len.ensures.0 ∙ ap (λ v. length (varintBytes v)) (c.before.sign_extended.ensures ∙ entry_read (get_or c.before.before.before.before.before.args.list.now c.before.before.before.before.loop.i (pos 0)) c.before.before.sign-extended-arg.given)
+    c.varint-len.ensures.0 ∙ ap (λ v. length (varint_bytes v)) (c.before.sign_extended.ensures ∙ entry_read (get_or c.before.before.before.before.before.args.list.now c.before.before.before.before.loop.i (pos 0)) c.before.before.sign-extended-arg.given)
 
 loop-again : tie.Need-loop-preserved invariant-loop decreases-loop
 loop-again c =
     let l = c.before.before.before.before.loop in
     let s = c.before.before.before.before.before.args.list.now in
     let e = varints-next s l.i (search rules) in
-    (omega arith, omega arith, omega (arith, l.invariant.2, joined_length (varintBytes (extended (get_or s l.i (pos 0)))) (varintsFrom s (l.i + 1)) (sym e), counted c))
+    (omega arith, omega arith, omega (arith, l.invariant.2, joined_length (varint_bytes (extended (get_or s l.i (pos 0)))) (varints_from s (l.i + 1)) (sym e), counted c))
 
 returns : tie.Need-returns invariant-loop decreases-loop
 returns c =

@@ -6,7 +6,7 @@ use native.Mathlib.Omega.{arith}
 use native.Mathlib.Numerals.{add-one}
 use lib.ListN.{length, length-set}
 use lib.Seq.{sets}
-use Rattle.proto_writer.specs.Varint.{digitsOf, varintBytes}
+use Rattle.proto_writer.specs.Varint.{digits_of, varint_bytes}
 use Rattle.proto_field.proofs.Varints.{top}
 use Rattle.proto_writer.proofs.Varints.{digits-short, digits_long, top-next, digits-count}
 use Rattle.proto_writer.proofs.varint.put_varint.Statement.{statement}
@@ -17,8 +17,8 @@ record Left (out₀ : List ℕ) (at value : ℕ) (out : List ℕ) (rest i : ℕ)
   left : ℕ
   small : rest < top left
   word : rest < 2 ^ 64
-  target : sets out₀ at (varintBytes value) ≡ sets out i (digitsOf left rest)
-  place : at + length (varintBytes value) ≡ i + length (digitsOf left rest)
+  target : sets out₀ at (varint_bytes value) ≡ sets out i (digits_of left rest)
+  place : at + length (varint_bytes value) ≡ i + length (digits_of left rest)
   long : length out ≡ length out₀
 
 abbrev invariant-loop : tie.invariant-loop
@@ -28,7 +28,7 @@ abbrev decreases-loop : tie.decreases-loop
 decreases-loop out₀ at value rest₀ i₀ out rest i = rest
 
 loop-holds : tie.Need-loop-init invariant-loop decreases-loop
-unfolding varintBytes
+unfolding varint_bytes
 loop-holds c = record { left = 9; small = omega arith; word = omega arith; target = refl; place = refl; long = refl }
 
 slice-write-out : tie.Need-slice-write-out invariant-loop decreases-loop

@@ -2,7 +2,7 @@ use Prim.Native.Nat.{ℕ, ◌+◌, ◌-◌, ◌<◌, ◌≤◌}
 use mathlib.Core.Path.{◌≡◌, ap}
 use native.Mathlib.Omega.{arith}
 use lib.ListN.{length}
-use Rattle.proto_writer.specs.Varint.{digitsOf, varintBytes}
+use Rattle.proto_writer.specs.Varint.{digits_of, varint_bytes}
 use Rattle.proto_field.proofs.Varints.{top}
 use Rattle.proto_writer.proofs.Varints.{digits-short, digits_long, top-next, digits-count}
 use Rattle.proto_writer.proofs.varint.varint_len.Statement.{statement}
@@ -11,8 +11,8 @@ use Rattle.proto_writer.proofs.varint.varint_len.Tie as tie
 record Counted (value rest n : ℕ) : Type 0 where
   left : ℕ
   small : rest < top left
-  same : length (varintBytes value) + 1 ≡ n + length (digitsOf left rest)
-  few : length (varintBytes value) ≤ 10
+  same : length (varint_bytes value) + 1 ≡ n + length (digits_of left rest)
+  few : length (varint_bytes value) ≤ 10
 
 abbrev invariant-loop : tie.invariant-loop
 invariant-loop value rest₀ n₀ rest n = Counted value rest n
@@ -21,7 +21,7 @@ abbrev decreases-loop : tie.decreases-loop
 decreases-loop value rest₀ n₀ rest n = rest
 
 loop-holds : tie.Need-loop-init invariant-loop decreases-loop
-unfolding varintBytes
+unfolding varint_bytes
 loop-holds c = record { left = 9; small = omega arith; same = omega arith; few = omega (arith, digits-count 9 c.args.value) }
 
 add-n : tie.Need-overflow-add-n invariant-loop decreases-loop

@@ -1,7 +1,7 @@
 use native.Mathlib.Omega.{arith}
 use lib.ListN.{length}
-use Rattle.proto_writer.specs.Writer.{messageBytes}
-use Rattle.msg_device.specs.Features.{featuresFields}
+use Rattle.proto_writer.specs.Writer.{message_bytes}
+use Rattle.msg_device.specs.Features.{features_fields}
 use Rattle.reply_parts.proofs.Rooms.{room-over, room_within, room-all}
 use borrow.Author.Rules.{rules}
 use Rattle.reply_parts.proofs.body.body_room.Statement.{statement}
@@ -13,7 +13,7 @@ information-room-requires c κs = rw c.enum_told.given.1 at c.before.before.befo
 returns : tie.Need-returns
 returns c =
     let a = c.before.before.before.before.before.before.before.args in
-    rw c.before.before.enum-told2.given.1 (room-over a.limit (length (messageBytes (featuresFields a.features))) (omega (arith, c.before.features-len.ensures, c.if1.true)))
+    rw c.before.before.enum-told2.given.1 (room-over a.limit (length (message_bytes (features_fields a.features))) (omega (arith, c.before.features-len.ensures, c.if1.true)))
 
 returns-2 : tie.Need-returns-2
 returns-2 c = rw c.before.enum_told.given.1 c.information-room.ensures
@@ -22,7 +22,7 @@ returns-3 : tie.Need-returns-3
 returns-3 c =
     let a = c.before.before.before.before.before.before.before.args in
     rw (c.before.before.enum-told2.given.1, c.before.features-len.ensures)
-    (room_within a.limit (length (messageBytes (featuresFields a.features))) (omega (arith, c.before.features-len.ensures, c.if1.false)))
+    (room_within a.limit (length (message_bytes (features_fields a.features))) (omega (arith, c.before.features-len.ensures, c.if1.false)))
 
 returns-4 : tie.Need-returns-4
 returns-4 c = rw c.enum-told3.given.1 (room-all c.before.before.before.before.before.args.limit)

@@ -1,22 +1,22 @@
 use borrow.Author.Tests.{eq-eqb, ne_eqb}
-use Rattle.reply_parts.specs.Body.{kindOfCommand}
+use Rattle.reply_parts.specs.Body.{kind_of_command}
 use Rattle.reply_parts.proofs.body.kind_of_command.Statement.{statement}
 use Rattle.reply_parts.proofs.body.kind_of_command.Tie as tie
 
 returns : tie.Need-returns
-unfolding kindOfCommand
+unfolding kind_of_command
 returns c = rw (eq-eqb _ _ c.if1.true)
 
 returns-2 : tie.Need-returns-2
-unfolding kindOfCommand
+unfolding kind_of_command
 returns-2 c = rw (ne_eqb _ _ c.before.if1.false, eq-eqb _ _ c.if2.true)
 
 returns-3 : tie.Need-returns-3
-unfolding kindOfCommand
+unfolding kind_of_command
 returns-3 c = rw (ne_eqb _ _ c.before.before.if1.false, ne_eqb _ _ c.before.if2.false, eq-eqb _ _ c.if3.true)
 
 returns-4 : tie.Need-returns-4
-unfolding kindOfCommand
+unfolding kind_of_command
 returns-4 c =
     rw (
       ne_eqb _ _ c.before.before.before.if1.false,
@@ -26,7 +26,7 @@ returns-4 c =
     )
 
 returns-5 : tie.Need-returns-5
-unfolding kindOfCommand
+unfolding kind_of_command
 returns-5 c =
     rw (
       ne_eqb _ _ c.before.before.before.if1.false,

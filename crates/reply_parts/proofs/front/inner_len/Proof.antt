@@ -1,11 +1,11 @@
 use native.Mathlib.Omega.{arith}
-use Rattle.reply_parts.specs.Front.{innerLength}
+use Rattle.reply_parts.specs.Front.{inner_length}
 use borrow.Author.Rules.{rules}
 use Rattle.reply_parts.proofs.front.inner_len.Statement.{statement}
 use Rattle.reply_parts.proofs.front.inner_len.Tie as tie
 
 returns : tie.Need-returns
-unfolding innerLength
+unfolding inner_length
 returns c =
     let a = c.member-len.ensures in
     let b = c.before.scalar-len.ensures in

@@ -2,8 +2,8 @@ use native.Mathlib.Omega.{arith}
 use Prim.Native.Nat.{ℕ}
 use mathlib.Core.Path.{ap}
 use lib.ListN.{length}
-use Rattle.proto_writer.specs.Writer.{headBytes}
-use Rattle.proto_schema.specs.Schema.{responseField}
+use Rattle.proto_writer.specs.Writer.{head_bytes}
+use Rattle.proto_schema.specs.Schema.{response_field}
 use Rattle.reply_parts.proofs.Fronts.{front_length, front-put}
 use borrow.Author.Rules.{rules}
 use Rattle.reply_parts.proofs.front.put_front.Statement.{statement}
@@ -25,7 +25,7 @@ put-scalar-requires-2 c κs =
     let s = c.before.before.before.before.before.before.before.before.before.before.before in
     let p = c.before.before.before.before.before.before.before.put-scalar in
     let q = c.before.before.before.put-head in
-    let i = ap (λ (n : ℕ). length (headBytes responseField n)) c.before.before.before.before.before.before.before.before.before.inner-len.ensures.0 in
+    let i = ap (λ (n : ℕ). length (head_bytes response_field n)) c.before.before.before.before.before.before.before.before.before.inner-len.ensures.0 in
     (search rules, omega (arith, front_length s.args.front, s.requires.1, p.ensures.place, p.auto.0, q.ensures.place, q.auto.0, i))
 
 put-member-requires : tie.Need-put-member-requires
@@ -34,7 +34,7 @@ put-member-requires c κs =
     let p = c.before.before.before.before.before.before.before.before.before.before.before.put-scalar in
     let q = c.before.before.before.before.before.before.before.put-head in
     let r = c.before.before.before.put-scalar2 in
-    let i = ap (λ (n : ℕ). length (headBytes responseField n)) c.before.before.before.before.before.before.before.before.before.before.before.before.before.inner-len.ensures.0 in
+    let i = ap (λ (n : ℕ). length (head_bytes response_field n)) c.before.before.before.before.before.before.before.before.before.before.before.before.before.inner-len.ensures.0 in
     (s.requires.0.member, omega (arith, front_length s.args.front, s.requires.1, p.ensures.place, p.auto.0, q.ensures.place, q.auto.0, r.ensures.place, r.auto.0, i))
 
 returns : tie.Need-returns

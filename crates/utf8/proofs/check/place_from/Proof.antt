@@ -3,13 +3,13 @@ use mathlib.Core.Path.{◌≡◌, sym, ◌∙◌}
 use native.Mathlib.Omega.{arith}
 use lib.ListN.{length, drop, length-drop}
 use borrow.Author.Rules.{rules}
-use Rattle.utf8.specs.WellFormed.{badPlace}
+use Rattle.utf8.specs.WellFormed.{bad_place}
 use Rattle.utf8.proofs.Places.{place_end, place-bad, place-passed}
 use Rattle.utf8.proofs.check.place_from.Statement.{statement}
 use Rattle.utf8.proofs.check.place_from.Tie as tie
 
 abbrev invariant-loop : tie.invariant-loop
-invariant-loop string from at₀ at = (at ≤ length string) × (badPlace string ≡ at + badPlace (drop at string))
+invariant-loop string from at₀ at = (at ≤ length string) × (bad_place string ≡ at + bad_place (drop at string))
 
 abbrev decreases-loop : tie.decreases-loop
 decreases-loop string from at₀ at = length string - at

@@ -3,8 +3,8 @@ use mathlib.Core.Path.{◌≡◌, sym, ap, subst, ◌∙◌}
 use mathlib.Core.Bool.{cond}
 use lib.ListN.{length}
 use borrow.Author.Rules.{rules}
-use Rattle.utf8.specs.Table.{rowOf, padded}
-use Rattle.utf8.specs.WellFormed.{sequenceAt}
+use Rattle.utf8.specs.Table.{row_of, padded}
+use Rattle.utf8.specs.WellFormed.{sequence_at}
 use Rattle.utf8.specs.declared.table.Row.{Row}
 use Rattle.utf8.proofs.Sequences.{row-at-most, row-padded, sequence-by}
 use Rattle.utf8.proofs.check.searched_len.Statement.{statement}
@@ -13,13 +13,13 @@ use Rattle.utf8.proofs.check.searched_len.Tie as tie
 begins-with-requires : tie.Need-begins-with-requires
 begins-with-requires c κs =
     let r = c.row_of in
-    (subst (λ (x : Row). x.0 ≤ length x.1) (sym r.ensures.0) (rw (row-padded (rowOf c.before.byte_at.result) (row-at-most c.before.byte_at.result)) (row-at-most c.before.byte_at.result)), r.ensures.1)
+    (subst (λ (x : Row). x.0 ≤ length x.1) (sym r.ensures.0) (rw (row-padded (row_of c.before.byte_at.result) (row-at-most c.before.byte_at.result)) (row-at-most c.before.byte_at.result)), r.ensures.1)
 
 -- the answer, by what begins_with told
-by : (c : tie.After-begins-with) → cond c.begins-with.result c.before.row_of.result.0 0 ≡ sequenceAt c.before.before.before.before.args.bytes.now
+by : (c : tie.After-begins-with) → cond c.begins-with.result c.before.row_of.result.0 0 ≡ sequence_at c.before.before.before.before.args.bytes.now
 by c =
     let r = c.before.row_of in
-    sequence-by _ r.result c.begins-with.result (r.ensures.0 ∙ ap (λ b. padded (rowOf b)) c.before.before.byte_at.ensures) c.begins-with.ensures
+    sequence-by _ r.result c.begins-with.result (r.ensures.0 ∙ ap (λ b. padded (row_of b)) c.before.before.byte_at.ensures) c.begins-with.ensures
 
 returns : tie.Need-returns
 returns c = rw c.if1.true at (by c.before)

@@ -1,11 +1,11 @@
 use mathlib.Core.Path.{refl}
-use Rattle.utf8.specs.Table.{rows, within, rowOf}
-use Rattle.utf8.specs.WellFormed.{sequenceAt, badPlace}
+use Rattle.utf8.specs.Table.{rows, within, row_of}
+use Rattle.utf8.specs.WellFormed.{sequence_at, bad_place}
 use Rattle.utf8.proofs.claims.worked_strings.Statement.{statement}
 use Rattle.utf8.proofs.claims.worked_strings.Tie as tie
 
 returns : tie.Need-returns
-unfolding rows within rowOf sequenceAt badPlace
+unfolding rows within row_of sequence_at bad_place
 returns c = record { whole = refl; bad = refl }
 
 pub worked-strings-spec : {M : Type 1} → statement M

@@ -7,13 +7,13 @@ use native.Mathlib.Omega.{arith}
 use lib.ListN.{length, get_or, drop, get_or-map}
 use borrow.Author.Rules.{rules}
 use Rattle.utf8.specs.declared.table.Row.{Row}
-use Rattle.utf8.specs.Table.{rows as table, within, no_range, leadRow, rowOf, padded}
-use Rattle.utf8.proofs.Sequences.{first, row_here, row-later, row-none, getD-same, first-padded, row-at-most}
+use Rattle.utf8.specs.Table.{rows as table, within, no_range, lead_row, row_of, padded}
+use Rattle.utf8.proofs.Sequences.{first, row_here, row-later, row-none, get_or-same, first-padded, row-at-most}
 use Rattle.utf8.proofs.table.row_of.Statement.{statement}
 use Rattle.utf8.proofs.table.row_of.Tie as tie
 
 abbrev invariant-loop : tie.invariant-loop
-invariant-loop lead rows i₀ i = (i ≤ 9) × (rowOf lead ≡ leadRow (drop i table) lead)
+invariant-loop lead rows i₀ i = (i ≤ 9) × (row_of lead ≡ lead_row (drop i table) lead)
 
 abbrev decreases-loop : tie.decreases-loop
 decreases-loop lead rows i₀ i = 9 - i
@@ -23,7 +23,7 @@ row_at : (rows : List Row) (i : ℕ) → rows ≡ map padded table → i < 9 →
 unfolding table
 row_at rows i e h =
     let n : i < length (map padded table) = omega arith in
-    rw e (getD-same (map padded table) i (0, []) (padded []) n ∙ get_or-map padded table i [])
+    rw e (get_or-same (map padded table) i (0, []) (padded []) n ∙ get_or-map padded table i [])
 
 -- whether a byte lies in its first range
 leads : (rows : List Row) (i lead : ℕ) (b : Bool) → rows ≡ map padded table → i < 9 → within (get_or (get_or rows i (0, [])).1 0 no_range) lead ≡ b
@@ -31,7 +31,7 @@ leads : (rows : List Row) (i lead : ℕ) (b : Bool) → rows ≡ map padded tabl
 leads rows i lead b e h w = rw (row_at rows i e h, first-padded (get_or table i [])) at w
 
 loop-holds : tie.Need-loop-init invariant-loop decreases-loop
-unfolding rowOf
+unfolding row_of
 loop-holds c = (search rules, refl)
 
 returns : tie.Need-returns invariant-loop decreases-loop
@@ -42,7 +42,7 @@ returns c =
     let l = c.before.before.before.before.before.before.loop in
     let w = leads r.result l.i a.lead true r.ensures at-loop-test.loop-test.true (sym c.before.is_Within.ensures ∙ c.if1.true) in
     let e = l.invariant.1 ∙ row_here a.lead l.i at-loop-test.loop-test.true w in
-    let k : get_or r.result l.i (0, []) ≡ padded (rowOf a.lead) = row_at r.result l.i r.ensures at-loop-test.loop-test.true ∙ ap padded (sym e) in
+    let k : get_or r.result l.i (0, []) ≡ padded (row_of a.lead) = row_at r.result l.i r.ensures at-loop-test.loop-test.true ∙ ap padded (sym e) in
     (k, subst (λ (x : Row). x.0 ≤ 4) (sym k) (row-at-most a.lead))
 
 loop-again : tie.Need-loop-preserved invariant-loop decreases-loop

@@ -1,10 +1,10 @@
 use borrow.Author.Rules.{rules}
-use Rattle.wire.specs.Limit.{limitFits}
+use Rattle.wire.specs.Limit.{limit_fits}
 use Rattle.wire.proofs.limit.limit_fits.Statement.{statement}
 use Rattle.wire.proofs.limit.limit_fits.Tie as tie
 
 returns : tie.Need-returns
-unfolding limitFits
+unfolding limit_fits
 returns c = c.both.ensures
 
 pub limit-fits-spec : {M : Type 1} → statement M

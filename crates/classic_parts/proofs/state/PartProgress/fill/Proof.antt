@@ -4,7 +4,7 @@ use mathlib.Core.Path.{sym, ap, ◌∙◌}
 use lib.ListN.{length, length-set}
 use native.Mathlib.Omega.{arith}
 use borrow.Author.Rules.{rules}
-use Rattle.classic_parts.specs.Byte.{toldByte}
+use Rattle.classic_parts.specs.Byte.{told_byte}
 use Rattle.classic_parts.proofs.Filling.{Filling, filling-begins, filling-on, filling-taken, filling-byte, filling-stops, filling-full}
 use Rattle.classic_parts.proofs.state.PartProgress.fill.Statement.{statement}
 use Rattle.classic_parts.proofs.state.PartProgress.fill.Tie as tie
@@ -45,12 +45,12 @@ same-length-2 c =
 returns-2 : tie.Need-returns-2 invariant-loop decreases-loop
 returns-2 c =
     let p = c.before.before.before.before.before.before.before.before in
-    rw c.stop2.ensures (filling-stops (filling-on p.before.before.loop.invariant p.pass.ensures) (sym (ap toldByte c.before.enum_told.given.1) ∙ c.before.before.before.emit.ensures))
+    rw c.stop2.ensures (filling-stops (filling-on p.before.before.loop.invariant p.pass.ensures) (sym (ap told_byte c.before.enum_told.given.1) ∙ c.before.before.before.emit.ensures))
 
 add-taken : tie.Need-overflow-add-taken invariant-loop decreases-loop
 add-taken c =
     let p = c.before.before.before.before.before.before.before.before in
-    omega (arith, filling-taken (filling-on p.before.before.loop.invariant p.pass.ensures) (sym (ap toldByte c.before.value.given.1) ∙ c.before.before.before.emit.ensures))
+    omega (arith, filling-taken (filling-on p.before.before.loop.invariant p.pass.ensures) (sym (ap told_byte c.before.value.given.1) ∙ c.before.before.before.emit.ensures))
 
 loop-less : tie.Need-loop-smaller invariant-loop decreases-loop
 loop-less c =
@@ -61,7 +61,7 @@ loop-again : tie.Need-loop-preserved invariant-loop decreases-loop
 loop-again c =
     let p = c.before.before.before.before.before.before.before.before in
     let on = filling-on p.before.before.loop.invariant p.pass.ensures in
-    filling-byte on (sym (ap toldByte c.before.value.given.1) ∙ c.before.before.before.emit.ensures) (omega (arith, c.before.before.before.before.if1.false, on.same))
+    filling-byte on (sym (ap told_byte c.before.value.given.1) ∙ c.before.before.before.emit.ensures) (omega (arith, c.before.before.before.before.if1.false, on.same))
 
 pub fill_spec : {M : Type 1} → statement M
 fill_spec =

@@ -4,14 +4,14 @@ use mathlib.Core.Path.{◌≡◌}
 use mathlib.Core.Bool.{true}
 use lib.ListN.{length}
 use native.Mathlib.Omega.{arith}
-use Rattle.classic_parts.specs.State.{inPayload}
+use Rattle.classic_parts.specs.State.{in_payload}
 use Rattle.classic_parts.specs.FastPath.{PartOnward}
 use Rattle.classic_parts.proofs.FastPath.{onward-here, onward_then}
 use Rattle.classic_parts.proofs.state.PartProgress.take_body.Statement.{statement}
 use Rattle.classic_parts.proofs.state.PartProgress.take_body.Tie as tie
 
 abbrev invariant-loop : tie.invariant-loop
-invariant-loop payload taken out₀ at here₀ got₀ place₀ out here got place = (PartOnward payload here₀ out₀ taken at here out got place) × (inPayload here ≡ true)
+invariant-loop payload taken out₀ at here₀ got₀ place₀ out here got place = (PartOnward payload here₀ out₀ taken at here out got place) × (in_payload here ≡ true)
 
 abbrev decreases-loop : tie.decreases-loop
 decreases-loop payload taken out₀ at here₀ got₀ place₀ out here got place = length out - place
