@@ -9,7 +9,7 @@ use wire::bytes::{byte_at, pair, wide};
 use wire::logic::both;
 use wire::stream::{Stream, is_stream, stream_of};
 
-#[derive(Drop)]
+#[derive(Clone, Copy)]
 pub struct Head {
     pub stream: Stream,
     pub id: u8,
@@ -17,7 +17,7 @@ pub struct Head {
 }
 
 // What bytes 0 and 1 say of a packet, but for its type.
-#[derive(Drop)]
+#[derive(Clone, Copy)]
 struct StartBits {
     stream: u8,
     id: u8,
@@ -40,7 +40,7 @@ impl StartBits {
 }
 
 // What a packet says: start and len are its payload's place in the packet.
-#[derive(Drop)]
+#[derive(Clone, Copy)]
 pub enum Packet {
     First {
         head: Head,
@@ -85,7 +85,7 @@ impl Packet {
     }
 }
 
-#[derive(Drop)]
+#[derive(Clone, Copy)]
 pub enum Refusal {
     Short,
     UnknownStream,
@@ -115,7 +115,7 @@ impl Refusal {
     }
 }
 
-#[derive(Drop)]
+#[derive(Clone, Copy)]
 pub enum Answer {
     Refused(Refusal),
     Read(Packet),

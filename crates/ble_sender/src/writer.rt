@@ -13,7 +13,7 @@ use wire::limit::limit_fits;
 use wire::logic::both;
 
 // How a message is sent. The sequence is the first packet's.
-#[derive(Drop)]
+#[derive(Clone, Copy)]
 pub struct Sending {
     pub room: usize,
     pub stream: u8,
@@ -22,7 +22,7 @@ pub struct Sending {
     pub ack: bool,
 }
 
-#[derive(Drop)]
+#[derive(Clone, Copy)]
 pub enum Refusal {
     Room,
     Limit,
@@ -44,7 +44,7 @@ impl Refusal {
 }
 
 // The length of the packet that was written, and the place of the next piece, or that it was the last.
-#[derive(Drop)]
+#[derive(Clone, Copy)]
 pub enum Answer {
     Refused(Refusal),
     More { length: usize, next: usize },

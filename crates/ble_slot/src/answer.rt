@@ -8,7 +8,7 @@ use wire::stream::Stream;
 
 // A packet that is not refused: a piece of a transaction with more to come, its last piece, an ACK or a NACK. Index: of its slot in the
 // row. Replaced: an open transaction of its stream and id was replaced. ACK: one of the transaction's packets asked for it.
-#[derive(Drop)]
+#[derive(Clone, Copy)]
 pub enum Accepted {
     Taken {
         index: usize,
@@ -30,7 +30,7 @@ pub enum Accepted {
 
 // BadStateOrBuffer: the lent row or buffer has another size, or the state is unlawful. Argument: the answer sequence is above 15.
 // Output: the answer buffer has under six bytes. NoSlot: no slot for a first packet.
-#[derive(Drop)]
+#[derive(Clone, Copy)]
 pub enum Refusal {
     BadStateOrBuffer,
     Argument,
@@ -60,7 +60,7 @@ impl Refusal {
     }
 }
 
-#[derive(Drop)]
+#[derive(Clone, Copy)]
 pub enum Answer {
     Refused(Refusal),
     Given(Accepted),

@@ -13,7 +13,7 @@ use wire::stream::Stream;
 
 // As C lays it out, in eight bytes. A flag is 0 or 1.
 #[repr(C)]
-#[derive(Drop)]
+#[derive(Clone, Copy)]
 pub struct Slot {
     pub opened: u8,
     pub id: u8,

@@ -16,7 +16,7 @@ use wire::bytes::bit;
 use wire::logic::either;
 
 // The payload that is written: from start on in its packet, and its place in the slot's part of the buffer.
-#[derive(Drop)]
+#[derive(Clone, Copy)]
 pub struct PayloadPlace {
     pub at: usize,
     pub start: usize,

@@ -11,7 +11,7 @@ use capture_reader::{Front, WIDTH, front_of, other_version};
 use wire::limit::limit_fits;
 
 // Long is the program's: a capture longer than it reads.
-#[derive(Drop)]
+#[derive(Clone, Copy)]
 pub enum Refusal {
     Long,
     Room,
@@ -48,7 +48,7 @@ pub enum Traced {
 }
 
 // Lawful; or open, where the capture ends inside a transaction; or the place of that packet's length.
-#[derive(Drop)]
+#[derive(Clone, Copy)]
 pub enum Answer {
     Refused { why: Refusal, at: usize },
     Lawful,

@@ -11,7 +11,7 @@ use wire::logic::both;
 use wire::stream::Stream;
 
 // A slot for each stream.
-#[derive(Drop)]
+#[derive(Clone, Copy)]
 pub struct State {
     pub control: SenderSlot,
     pub ota: SenderSlot,

@@ -8,7 +8,7 @@ use ble_sender::writer::{room_fits, type_for};
 use capture_stream::SenderSlot;
 
 // Where nothing is open, any id and sequence will do. Last: it takes all that is left, and only then may the ACK flag stand.
-#[derive(Drop)]
+#[derive(Clone, Copy)]
 pub struct NextPacket {
     pub opened: bool,
     pub id: u8,

@@ -8,7 +8,7 @@ use wire::logic::either;
 
 // What stands at a place: a packet (where it starts, how long it is, the next place), the end of the capture, a place out of
 // range, or what is wrong and where.
-#[derive(Drop)]
+#[derive(Clone, Copy)]
 pub enum PacketStanding {
     Packet {
         start: usize,

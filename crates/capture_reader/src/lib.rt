@@ -10,7 +10,7 @@ pub const VERSION: u8 = 1;
 // The bytes of a packet's length.
 pub const WIDTH: usize = 2;
 
-#[derive(Drop)]
+#[derive(Clone, Copy)]
 pub enum Refusal {
     Version,
     Length,

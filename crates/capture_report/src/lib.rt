@@ -2,7 +2,7 @@
 
 // What captures cost on one stream: first packets accepted; transactions finished, replaced, dropped and pending, which is left open at
 // a capture's end; payload bytes of the finished ones; bytes of all packets.
-#[derive(Drop)]
+#[derive(Clone, Copy)]
 pub struct Costs {
     pub firsts: u64,
     pub finished: u64,
@@ -13,7 +13,7 @@ pub struct Costs {
     pub bytes: u64,
 }
 
-#[derive(Drop)]
+#[derive(Clone, Copy)]
 pub struct CostReport {
     pub control: Costs,
     pub ota: Costs,

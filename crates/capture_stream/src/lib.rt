@@ -9,7 +9,7 @@ use ble_sender::piece;
 use wire::logic::{both, either};
 
 // What is open on a stream: nothing, or a transaction with its id, the bytes still to come and the next sequence.
-#[derive(Drop)]
+#[derive(Clone, Copy)]
 pub enum SenderSlot {
     Idle,
     Open { id: u8, left: usize, sequence: u8 },

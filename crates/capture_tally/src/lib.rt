@@ -8,7 +8,8 @@ ghost use Rattle.wire.specs.Limit.{limit_fits};
 ghost use Rattle.capture_reader.specs.Capture.{number_in, checked_of};
 ghost use Rattle.ble_slot.specs.Slot.{idles, slot_count};
 ghost use Rattle.ble_slot.specs.Answer as answer;
-ghost use Rattle.ble_receiver.specs.Receiver.{ready, result};
+ghost use Rattle.ble_receiver.specs.Receiver as receiver;
+ghost use Rattle.ble_receiver.specs.Receiver.{ready};
 ghost use Rattle.capture_report.specs.Report.{capture_added, taken_of, added_by, added_of};
 ghost use Rattle.capture_tally.specs.Tally.{told_sum, tallied, gave_of, turn_of, passed_of, number_of, told};
 ghost use Rattle.capture_tally.specs.declared.Answer.TheVariants.{Refused};
@@ -28,7 +29,7 @@ use wire::logic::both;
 
 // Lent: a row of other than twelve slots, or a buffer of other than twelve times the limit. Sum: a number of the report would have more
 // than 64 bits.
-#[derive(Drop)]
+#[derive(Clone, Copy)]
 pub enum Refusal {
     Limit,
     Lent,
@@ -39,7 +40,7 @@ pub enum Refusal {
 impl Refusal {
     // The number in the table of refusals.
     pub fn number(self) -> u8
-        ensures* { λ r. ⌜ r ≡ number_of self ⌝ }
+        ensures { result ≡ number_of self }
     {
         match self {
             Refusal::Limit => 17,
@@ -51,7 +52,7 @@ impl Refusal {
 }
 
 // A refusal tells a place in the capture: that of the length of the packet which it is about, and otherwise 0.
-#[derive(Drop)]
+#[derive(Clone, Copy)]
 pub enum Answer {
     Refused { why: Refusal, at: usize },
     Added(CostReport),
@@ -60,7 +61,7 @@ pub enum Answer {
 impl Answer {
     // The number of the refusal; 0 where nothing is refused.
     pub fn number(self) -> u8
-        ensures* { λ r. ⌜ r ≡ number_in (told self) ⌝ }
+        ensures { result ≡ number_in (told self) }
     {
         match self {
             Answer::Refused { why, at: _ } => why.number(),
@@ -84,13 +85,13 @@ pub struct RowAdded {
 }
 
 fn idle_row() -> [Slot; 12]
-    ensures* { λ r. ⌜ r ≡ idles ⌝ }
+    ensures { result ≡ idles }
 {
     [Slot::idle(); 12]
 }
 
 fn with_slot(slots: [Slot; 12], index: usize, slot: Slot) -> [Slot; 12]
-    ensures* { λ r. ⌜ r ≡ set slots index slot ⌝ }
+    ensures { result ≡ set slots index slot }
 {
     let mut row = slots;
     if index < SLOT_COUNT {
@@ -103,8 +104,7 @@ fn with_slot(slots: [Slot; 12], index: usize, slot: Slot) -> [Slot; 12]
 // the answer buffer.
 fn give(limit: usize, slots: [Slot; 12], buffer: &mut [u8], packet: &[u8]) -> Step
     requires { ready limit slots (length buffer.old) ≡ true }
-    ensures* { λ r. ⌜ result (answer.told r.answer) (set slots r.index r.slot) buffer.new
-        ≡ gave_of limit slots buffer.old packet.now ⌝ }
+    ensures { receiver.result (answer.told result.answer) (set slots result.index result.slot) buffer.new ≡ gave_of limit slots buffer.old packet.now }
 {
     let mut out = [0u8; ACK_SIZE];
     process(limit, slots, buffer, packet, 0, &mut out)
@@ -113,8 +113,7 @@ fn give(limit: usize, slots: [Slot; 12], buffer: &mut [u8], packet: &[u8]) -> St
 // A packet given to the link and counted.
 fn take(limit: usize, tally: Tally, buffer: &mut [u8], packet: &[u8]) -> Tally
     requires { ready limit tally.slots (length buffer.old) ≡ true }
-    ensures* { λ r. ⌜ tallied r buffer.new
-        ≡ turn_of (told_sum tally.sum) limit tally.slots buffer.old packet.now ⌝ }
+    ensures { tallied result buffer.new ≡ turn_of (told_sum tally.sum) limit tally.slots buffer.old packet.now }
 {
     let slots = tally.slots;
     let done = give(limit, slots, buffer, packet);
@@ -128,8 +127,7 @@ fn take(limit: usize, tally: Tally, buffer: &mut [u8], packet: &[u8]) -> Tally
 // Every packet of a sound capture given to a fresh link, and what is open at the end.
 fn pass(report: CostReport, limit: usize, buffer: &mut [u8], capture: &[u8]) -> Tally
     requires { (checked_of capture.now ≡ given tt) × (ready limit idles (length buffer.old) ≡ true) }
-    ensures* { λ r. ⌜ given (tallied r buffer.new)
-        ≡ passed_of (given report) limit idles buffer.old capture.now ⌝ }
+    ensures { given (tallied result buffer.new) ≡ passed_of (given report) limit idles buffer.old capture.now }
 {
     let mut at = 1;
     let mut tally = Tally {
@@ -153,20 +151,20 @@ fn pass(report: CostReport, limit: usize, buffer: &mut [u8], capture: &[u8]) -> 
 // Whether as many slots as there are, and a part of the buffer for each, were lent.
 fn lent_fits(count: usize, size: usize, limit: usize) -> bool
     requires { limit_fits limit ≡ true }
-    ensures* { λ r. ⌜ r ≡ (eqb count slot_count && eqb size (slot_count * limit)) ⌝ }
+    ensures { result ≡ (eqb count slot_count && eqb size (slot_count * limit)) }
 {
     both(count == SLOT_COUNT, size == SLOT_COUNT * limit)
 }
 
 fn refuse(why: Refusal, at: usize, slots: [Slot; 12]) -> RowAdded
-    ensures* { λ r. ⌜ r ≡ record { answer = Refused why at; slots = slots } ⌝ }
+    ensures { result ≡ record { answer = Refused why at; slots = slots } }
 {
     let answer = Answer::Refused { why, at };
     RowAdded { answer, slots }
 }
 
 fn answer_of(sum: Sum) -> Answer
-    ensures* { λ r. ⌜ told r ≡ told_sum sum ⌝ }
+    ensures { told result ≡ told_sum sum }
 {
     match sum {
         Sum::Over => Answer::Refused {
@@ -186,9 +184,7 @@ pub fn add_by_value(
     buffer: &mut [u8],
     capture: &[u8],
 ) -> RowAdded
-    ensures* { λ r. ⌜ capture_added (told r.answer) r.slots buffer.new
-        ≡ added_by report limit slots buffer.old
-        (taken_of limit count (length buffer.old) capture.now) ⌝ }
+    ensures { capture_added (told result.answer) result.slots buffer.new ≡ added_by report limit slots buffer.old (taken_of limit count (length buffer.old) capture.now) }
 {
     if !limit_fits(limit) {
         return refuse(Refusal::Limit, 0, slots);
@@ -218,8 +214,7 @@ pub fn add(
     buffer: &mut [u8],
     capture: &[u8],
 ) -> Answer
-    ensures* { λ r. ⌜ capture_added (told r) row.new buffer.new
-        ≡ added_of report limit row.old buffer.old capture.now ⌝ }
+    ensures { capture_added (told result) row.new buffer.new ≡ added_of report limit row.old buffer.old capture.now }
 {
     let count = row.len();
     let slots = load(&*row);

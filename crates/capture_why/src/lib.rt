@@ -16,7 +16,7 @@ use wire::bytes::{byte_at, pair, smaller};
 use wire::stream::{is_stream, stream_of};
 
 // What our reader says of a packet: the number of its refusal, or 0; whether it is a first one; its total and the length of its payload.
-#[derive(Drop)]
+#[derive(Clone, Copy)]
 pub struct ReadNumbers {
     pub number: u8,
     pub first: bool,
@@ -25,7 +25,7 @@ pub struct ReadNumbers {
 }
 
 // What came: its bytes in all, the fields of bytes 0 and 1, and what our reader says.
-#[derive(Drop)]
+#[derive(Clone, Copy)]
 pub struct Came {
     pub size: usize,
     pub stream: u8,
@@ -38,7 +38,7 @@ pub struct Came {
 }
 
 // What was expected: nothing where the stream field is no stream's; a first packet of any message, where nothing is open; or just this packet.
-#[derive(Drop)]
+#[derive(Clone, Copy)]
 pub enum Expected {
     Nothing,
     AnyFirst,
@@ -46,7 +46,7 @@ pub enum Expected {
 }
 
 // What is open at the end; or the place of the length of the packet that decides, and what was open before it.
-#[derive(Drop)]
+#[derive(Clone, Copy)]
 pub enum Explained {
     Ended(State),
     Stopped {
@@ -57,7 +57,7 @@ pub enum Explained {
     },
 }
 
-#[derive(Drop)]
+#[derive(Clone, Copy)]
 pub enum Why {
     Barred { why: Refusal, at: usize },
     Told(Explained),

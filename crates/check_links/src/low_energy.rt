@@ -16,7 +16,7 @@ use wire::bytes::{byte_at, smaller};
 const MOST_PACKETS: usize = 8;
 
 // What is printed of each packet of a message: its header, or the length of its piece.
-#[derive(Drop)]
+#[derive(Clone, Copy)]
 enum Shown {
     Headers,
     Pieces,

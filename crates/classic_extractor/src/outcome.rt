@@ -3,7 +3,7 @@ ghost use Rattle.std.specs.Prelude.{◌≡◌};
 ghost use Rattle.classic_extractor.specs.Outcome.{number_of};
 
 // Refusals 1, 20, 23, 21, 22, 24, 25, in the order in which they are judged.
-#[derive(Drop)]
+#[derive(Clone, Copy)]
 pub enum Refusal {
     BadStateOrBuffer,
     StartInside,
@@ -30,7 +30,7 @@ impl Refusal {
     }
 }
 
-#[derive(Drop)]
+#[derive(Clone, Copy)]
 pub enum StepOutcome {
     Skipped,
     Taken,

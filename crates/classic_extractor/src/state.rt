@@ -7,7 +7,7 @@ use wire::limit::limit_fits;
 use wire::logic::both;
 
 // What the next byte is taken for.
-#[derive(Drop)]
+#[derive(Clone, Copy)]
 pub enum Phase {
     Outside,
     PacketId,
@@ -18,14 +18,14 @@ pub enum Phase {
 }
 
 // Where in a frame the extractor is, and what it holds of it.
-#[derive(Drop)]
+#[derive(Clone, Copy)]
 pub struct Progress {
     pub phase: Phase,
     pub held: usize,
     pub sequence: u8,
 }
 
-#[derive(Drop)]
+#[derive(Clone, Copy)]
 pub struct Extractor {
     pub limit: usize,
     pub progress: Progress,

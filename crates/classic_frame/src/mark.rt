@@ -22,7 +22,7 @@ pub const END_CODE: u8 = 0x03;
 
 pub const ESCAPE_CODE: u8 = 0x00;
 
-#[derive(Drop)]
+#[derive(Clone, Copy)]
 pub enum Kind {
     Start,
     End,

@@ -9,7 +9,7 @@ use wire::limit::limit_fits;
 use wire::logic::{both, either};
 
 // What is written next. Payload: a payload byte or, after the last one, the high byte of the checksum.
-#[derive(Drop)]
+#[derive(Clone, Copy)]
 pub enum Stage {
     Start,
     PacketId,
@@ -23,7 +23,7 @@ pub enum Stage {
 
 // The frame's sequence, its payload's length, the payload bytes taken and their checksum, the stage, and the mark of which
 // only F2 is written (plain: none): its code comes before the stage's byte.
-#[derive(Drop)]
+#[derive(Clone, Copy)]
 pub struct PartProgress {
     pub sequence: u8,
     pub total: usize,

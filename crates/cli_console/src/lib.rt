@@ -7,7 +7,7 @@ use libc::{STDERR_FILENO, STDIN_FILENO, STDOUT_FILENO};
 use wire::bytes::byte_at;
 
 // Standard output, and whether a write to it has failed: nothing more is then written.
-#[derive(Drop)]
+#[derive(Clone, Copy)]
 pub struct Output {
     pub failed: bool,
 }

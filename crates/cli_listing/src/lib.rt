@@ -19,7 +19,7 @@ use wire::logic::{both, either};
 const ROOM: usize = 65541;
 
 // What is shown of a record: its place, stream and length, or its payload too.
-#[derive(Drop)]
+#[derive(Clone, Copy)]
 pub enum RecordView {
     Lengths,
     Payloads,

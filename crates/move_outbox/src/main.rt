@@ -25,7 +25,7 @@ enum Asked {
 }
 
 // The two passes.
-#[derive(Drop)]
+#[derive(Clone, Copy)]
 enum Pass {
     Judging,
     Writing,

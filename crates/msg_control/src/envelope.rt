@@ -20,14 +20,14 @@ use proto_schema::{COMMAND, FIRST, NO_FIELD, RESPONSE, Schema};
 use proto_writer::fields::{head_len, part_len, put_head, put_part, put_scalar, scalar_len};
 use proto_writer::message::{WriteRefusal, Wrote, bad_member};
 
-#[derive(Drop)]
+#[derive(Clone, Copy)]
 pub enum Payload {
     None,
     Response(Response),
     Member { field: u64, part: Part },
 }
 
-#[derive(Drop)]
+#[derive(Clone, Copy)]
 pub struct Envelope {
     pub command: i32,
     pub payload: Payload,
@@ -39,14 +39,14 @@ pub enum PayloadRead {
     Refused(MessageRefusal),
 }
 
-#[derive(Drop)]
+#[derive(Clone, Copy)]
 pub enum EnvelopeRead {
     Read(Envelope),
     Refused(MessageRefusal),
 }
 
 // The payload of an envelope that is written. The lent bytes are those of the member, also of the response's.
-#[derive(Drop)]
+#[derive(Clone, Copy)]
 pub enum EnvelopePayload {
     None,
     Response {

@@ -16,21 +16,21 @@ use proto_writer::fields::{part_len, put_part, put_scalar, scalar_len};
 use proto_writer::message::{WriteRefusal, Wrote, bad_member};
 
 // A response: its error code, and the field and the part of its payload. Field 0 is no payload.
-#[derive(Drop)]
+#[derive(Clone, Copy)]
 pub struct Response {
     pub error_code: i32,
     pub field: u64,
     pub part: Part,
 }
 
-#[derive(Drop)]
+#[derive(Clone, Copy)]
 pub enum ResponseRead {
     Read(Response),
     Refused(MessageRefusal),
 }
 
 // The payload of a response that is written: none, or the lent bytes as a member of this number.
-#[derive(Drop)]
+#[derive(Clone, Copy)]
 pub enum ResponsePayload {
     None,
     Member(u64),

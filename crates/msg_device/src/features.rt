@@ -12,13 +12,13 @@ use proto_schema::{DEVICE_ATTRIBUTES, FEATURES, FIRST, SECOND, Schema};
 use proto_writer::fields::{put_scalar, scalar_len};
 use proto_writer::message::{WriteRefusal, Wrote};
 
-#[derive(Drop)]
+#[derive(Clone, Copy)]
 pub struct DeviceFeatures {
     pub features: u64,
     pub device_attributes: u64,
 }
 
-#[derive(Drop)]
+#[derive(Clone, Copy)]
 pub enum FeaturesRead {
     Read(DeviceFeatures),
     Refused(MessageRefusal),

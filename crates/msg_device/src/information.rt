@@ -19,7 +19,7 @@ use proto_writer::fields::{packed_len, put_packed, put_text, text_len};
 use proto_writer::message::{Room, WriteRefusal, Wrote};
 
 // Strings are parts of the lent message; of the transports the first count are there.
-#[derive(Drop)]
+#[derive(Clone, Copy)]
 pub struct DeviceInformation {
     pub serial_number: Part,
     pub name: Part,

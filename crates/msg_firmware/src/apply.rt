@@ -9,7 +9,7 @@ use proto_reader::reader::read_fields;
 use proto_reader::refusal::{MessageRefusal, WalkVerdict};
 use proto_schema::{FIRST, Schema};
 
-#[derive(Drop)]
+#[derive(Clone, Copy)]
 pub struct ApplyFirmware {
     pub firmware_information: FirmwareInformation,
     pub restart_required: bool,

@@ -9,7 +9,7 @@ use proto_reader::refusal::{MessageRefusal, WalkVerdict};
 use proto_schema::{FIRST, SECOND, Schema};
 
 // Strings are parts of the lent message.
-#[derive(Drop)]
+#[derive(Clone, Copy)]
 pub struct FirmwareComponent {
     pub version: u32,
     pub name: Part,

@@ -15,7 +15,7 @@ use proto_reader::refusal::{MessageRefusal, WalkVerdict};
 use proto_schema::{COMPONENTS, FIRST, SECOND, Schema, THIRD};
 
 // Strings are parts of the lent message; of the components the first count are there.
-#[derive(Drop)]
+#[derive(Clone, Copy)]
 pub struct FirmwareInformation {
     pub version: u32,
     pub name: Part,

@@ -15,7 +15,7 @@ use wire::logic::both;
 const SIGNATURE_DIGITS: usize = 64;
 
 // Strings are parts of the lent message.
-#[derive(Drop)]
+#[derive(Clone, Copy)]
 pub struct UpdateComponentSegment {
     pub component_name: Part,
     pub component_offset: u32,
@@ -23,7 +23,7 @@ pub struct UpdateComponentSegment {
     pub segment_signature: Part,
 }
 
-#[derive(Drop)]
+#[derive(Clone, Copy)]
 pub enum SegmentRead {
     Read(UpdateComponentSegment),
     Refused(MessageRefusal),

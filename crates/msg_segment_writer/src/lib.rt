@@ -14,7 +14,7 @@ use proto_strings::TextFault;
 use proto_writer::fields::{put_scalar, put_text, scalar_len, text_len};
 use proto_writer::message::Room;
 
-#[derive(Drop)]
+#[derive(Clone, Copy)]
 pub enum SegmentWrote {
     // The number of bytes written.
     Done(usize),

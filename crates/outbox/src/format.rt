@@ -10,7 +10,7 @@ use wire::logic::either;
 pub const FIRST_PLACE: usize = 1;
 
 // A version: its byte, how many bytes a record's length has, the largest payload.
-#[derive(Drop)]
+#[derive(Clone, Copy)]
 pub struct Format {
     pub version: u8,
     pub width: usize,

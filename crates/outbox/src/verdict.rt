@@ -3,7 +3,7 @@ ghost use Rattle.std.specs.Prelude.{◌≡◌};
 ghost use Rattle.outbox.specs.Reader.{fault_number, number_in, told_walk};
 
 // What is wrong with an outbox's bytes.
-#[derive(Drop)]
+#[derive(Clone, Copy)]
 pub enum Fault {
     Version,
     Length,
@@ -26,7 +26,7 @@ impl Fault {
 }
 
 // Whether all of an outbox is whole, or what is wrong first and where.
-#[derive(Drop)]
+#[derive(Clone, Copy)]
 pub enum Walked {
     Whole,
     Broken { fault: Fault, place: usize },

@@ -14,7 +14,7 @@ use wire::bytes::{byte_at, copy};
 mod passes;
 
 // The version that is wished for.
-#[derive(Drop)]
+#[derive(Clone, Copy)]
 pub enum Wished {
     One,
     Two,
@@ -32,7 +32,7 @@ impl Wished {
 }
 
 // The bytes written, or why nothing was written: no room, a record too long for the wished version, or the file's own first refusal.
-#[derive(Drop)]
+#[derive(Clone, Copy)]
 pub enum Moved {
     Written(usize),
     NoRoom,

@@ -14,7 +14,7 @@ pub struct Fields<'a> {
 }
 
 // What stands at a place: a field and the place after it, the end of the message, or why there is none.
-#[derive(Drop)]
+#[derive(Clone, Copy)]
 pub enum Found {
     Field {
         number: u64,

@@ -7,14 +7,14 @@ use crate::tag::{FIXED32, FIXED64, LENGTH, VARINT};
 use crate::varint::{Varint, read_varint};
 
 // A part of the lent message.
-#[derive(Drop)]
+#[derive(Clone, Copy)]
 pub struct Part {
     pub start: usize,
     pub len: usize,
 }
 
 // What a field holds: a number, a part of the message whose length is told, or eight or four bytes that are passed over.
-#[derive(Drop)]
+#[derive(Clone, Copy)]
 pub enum Value {
     Number(u64),
     Bytes(Part),

@@ -12,7 +12,7 @@ pub const MOST_TRANSPORTS: usize = 8;
 // The most messages of a repeated field that are read and written.
 pub const MOST_REPEATED: usize = 8;
 
-#[derive(Drop)]
+#[derive(Clone, Copy)]
 pub struct Gathered {
     pub scalars: [u64; 2],
     pub texts: [Part; 3],

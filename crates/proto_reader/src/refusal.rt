@@ -5,7 +5,7 @@ ghost use Rattle.proto_reader.specs.Refusal.{message_number};
 use crate::gathered::Gathered;
 use proto_field::Refusal;
 
-#[derive(Drop)]
+#[derive(Clone, Copy)]
 pub enum MessageRefusal {
     // A field is not read.
     Field(Refusal),
@@ -25,7 +25,7 @@ impl MessageRefusal {
     }
 }
 
-#[derive(Drop)]
+#[derive(Clone, Copy)]
 pub enum WalkVerdict {
     Fine,
     Refused(MessageRefusal),

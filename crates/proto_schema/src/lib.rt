@@ -62,7 +62,7 @@ pub const SECOND: usize = 1;
 
 pub const THIRD: usize = 2;
 
-#[derive(Drop)]
+#[derive(Clone, Copy)]
 pub enum Schema {
     Envelope,
     Response,
@@ -75,7 +75,7 @@ pub enum Schema {
 }
 
 // What a field is to its message.
-#[derive(Drop)]
+#[derive(Clone, Copy)]
 pub enum Role {
     // A scalar, kept at an index among the scalars.
     Scalar(usize),

@@ -39,7 +39,7 @@ impl TextFault {
 }
 
 // The number of bytes written, or why there are none.
-#[derive(Drop)]
+#[derive(Clone, Copy)]
 pub enum TextWrote {
     Done(usize),
     Refused(WriteRefusal),

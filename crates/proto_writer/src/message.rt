@@ -8,7 +8,7 @@ use proto_field::tag::LAST_FIELD;
 const FIRST_MEMBER: u64 = 2;
 
 // Why no message is written: an argument is out of its range, or the output is smaller than the message.
-#[derive(Drop)]
+#[derive(Clone, Copy)]
 pub enum WriteRefusal {
     BadArgument,
     NoRoom,

@@ -28,7 +28,7 @@ use wire::limit::limit_fits;
 use wire::logic::either;
 
 // Where the reply goes: the room, the limit, the transaction's id, and the sequence of its first packet.
-#[derive(Drop)]
+#[derive(Clone, Copy)]
 pub struct Link {
     pub room: usize,
     pub limit: usize,
@@ -36,7 +36,7 @@ pub struct Link {
     pub sequence: u8,
 }
 
-#[derive(Drop)]
+#[derive(Clone, Copy)]
 pub enum Refusal {
     // The message's own.
     Message(MessageRefusal),
@@ -48,7 +48,7 @@ pub enum Refusal {
     Output,
 }
 
-#[derive(Drop)]
+#[derive(Clone, Copy)]
 pub enum Reply {
     Refused(Refusal),
     // The message is itself a response.

@@ -13,14 +13,14 @@ use proto_strings::TextFault;
 use proto_writer::message::Room;
 
 // The numbers of the response's members, from Amazon's schema.
-#[derive(Drop)]
+#[derive(Clone, Copy)]
 pub struct Members {
     pub information: u64,
     pub features: u64,
 }
 
 // What a command asks for.
-#[derive(Drop)]
+#[derive(Clone, Copy)]
 pub enum CommandKind {
     Information,
     Features,

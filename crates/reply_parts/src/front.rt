@@ -9,7 +9,7 @@ use proto_schema::{COMMAND, ERROR_CODE, RESPONSE};
 use proto_writer::fields::{head_len, put_head, put_scalar, scalar_len};
 
 // The varints' values of command and error code, the member, and the number of its bytes.
-#[derive(Drop)]
+#[derive(Clone, Copy)]
 pub struct ReplyFront {
     pub value: u64,
     pub code: u64,

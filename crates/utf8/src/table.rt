@@ -5,11 +5,11 @@ ghost use Rattle.utf8.specs.Table.{rows, within, padded, row_of};
 use wire::logic::both;
 
 // The bytes from the first to the last.
-#[derive(Drop)]
+#[derive(Clone, Copy)]
 pub struct Range(pub u8, pub u8);
 
 // A row: how many bytes a sequence has, and the range of each; where there are fewer than four, none stands for the others.
-#[derive(Drop)]
+#[derive(Clone, Copy)]
 pub struct Row(pub usize, pub [Range; 4]);
 
 // The bytes after the first, but for those second ones that a row narrows.

@@ -1,2 +1,2 @@
-pub mod Hidden
+pub mod HiddenLemmas
 pub mod Begins

@@ -2,7 +2,7 @@
 ghost use Rattle.std.specs.Prelude.{◌≡◌, ◌<◌};
 ghost use Rattle.wire.specs.Stream.{stream_number, is_stream, stream_of};
 
-#[derive(Drop)]
+#[derive(Clone, Copy)]
 pub enum Stream {
     Control,
     Ota,

@@ -5,7 +5,7 @@ use lib.ListN.{length, drop, length-drop}
 use borrow.Author.Rules.{rules}
 use Rattle.wire.proofs.Parts.{rest-lent}
 use Rattle.utf8_shown.specs.Shown.{is_hidden, hidden_place}
-use Rattle.utf8_shown.proofs.Hidden.{hidden-here, hidden-later, hidden-end}
+use Rattle.utf8_shown.proofs.HiddenLemmas.{hidden-here, hidden-later, hidden-end}
 use Rattle.utf8_shown.proofs.hidden_place.Statement.{statement}
 use Rattle.utf8_shown.proofs.hidden_place.Tie as tie
 

@@ -1,4 +1,4 @@
-use Rattle.utf8_shown.proofs.Hidden.{hidden-read}
+use Rattle.utf8_shown.proofs.HiddenLemmas.{hidden-read}
 use borrow.Author.Rules.{rules}
 use Rattle.utf8_shown.proofs.is_hidden.Statement.{statement}
 use Rattle.utf8_shown.proofs.is_hidden.Tie as tie
