@@ -75,7 +75,7 @@ def record_fields(w, names=None, typename=None):
             if names and {f for f, _, _ in fs} == names or (typename and n == typename):
                 out.append([(f, norm(tx)) for f, _, tx in fs])
     for k, fs in w.structs.items():
-        ff = [(f"«{f}»" if "_" in f else f, rust_type(t)) for f, t in fs]
+        ff = [(f, rust_type(t)) for f, t in fs]
         n = re.split("[./]", k)[-1]
         if names and {f for f, _ in ff} == names or (typename and n == typename):
             out.append(ff)
@@ -356,7 +356,7 @@ def changes(w, m, d):
                     t = dict(fs).get(n.b)
                     for f2, t2 in fs:
                         if t and f2 != n.b and (t2 == t):
-                            add("field", T(n), f"{T(n.a)} .{f2}", (n.c[0], n.c[1], "." + f2))
+                            add("field", T(n), f"{T(n.a)}.{f2}", (n.c[0], n.c[1], "." + f2))
             walk(n.a, env, head=True)
             return
         if k == "rec":
@@ -416,6 +416,13 @@ def changes(w, m, d):
                                 (q.s, q.e, T(p)),
                             )
             s = n.d
+            if o == "==":
+                x, y = pl(l), pl(r)
+                if y != "0":
+                    repl("comparison", n, f"leb {x} {y}")
+                if x != "0":
+                    repl("comparison", n, f"leb {y} {x}")
+                repl("off by one", n, f"leb {x} ({y} + 1)")
             if o in ("&&", "||"):
                 new = "||" if o == "&&" else "&&"
                 add("and/or", T(n), f"{T(l)} {new} {T(r)}", (n.s, n.e, f"({pl(l)} {new} {pl(r)})"))
@@ -443,7 +450,7 @@ def changes(w, m, d):
             return
 
     def pl(x):
-        return T(x) if x.k in ("par", "num", "var", "rec", "pair") else "(" + T(x) + ")"
+        return T(x) if x.k in ("par", "num", "var", "rec", "pair", "proj") else "(" + T(x) + ")"
 
     for pats, body, s, e in d.clauses:
         env = {}
@@ -478,7 +485,7 @@ def changed(x):
     out = []
     for pats, body, s, e in x.d.clauses:
         mine = [q for q in x.edits if s <= q[0] < e]
-        out.append(clause(edited(x.m.text, mine, s, e), s) if mine else (pats, body, s, e))
+        out.append(clause(edited(x.m.text, mine, s, e), s, x.m.alias) if mine else (pats, body, s, e))
     return out
 
 

@@ -45,6 +45,8 @@ def seen(w, root):
         if os.path.exists(c + "/src/main.rt"):
             for text in sources(c):
                 called |= {(q[1], q[2]) for q in re.finditer(r"\b(\w+)::(?:\w+::)*(\w+)[;(]", text)}
+                for q in re.finditer(r"\b(\w+)::(?:\w+::)*\{([^}]*)\}", text):
+                    called |= {(q[1], re.split(r"::| as ", name.strip())[0]) for name in q[2].split(",")}
     todo = []
     for c in crates:
         for text in sources(c):

@@ -19,7 +19,9 @@ class N:
 TOK = re.compile("[ \\t\\n]+|--[^\\n]*|([(){};,])|((?:«[^»]*»|[^\\s(){};,«])+)")
 
 
-def tokens(text, at):
+def tokens(text, at, heads=()):
+    """the words of a text with their places; a projection is a word of its own (`f.size`: `f`, `.size`), a qualified name is one word: its
+    head is a type or a module (in capitals), or one of the names that the file gave a module (`heads`)"""
     out, i, n = ([], 0, len(text))
     while i < n:
         m = TOK.match(text, i)
@@ -37,8 +39,21 @@ def tokens(text, at):
                 out.append(("λ", s, s + 1))
                 out.append((t[1:], s + 1, e))
             else:
-                out.append((t, s, e))
+                out += projections(t, s, heads)
         i = m.end()
+    return out
+
+
+def projections(t, s, heads):
+    first, dot, _ = t.partition(".")
+    if not dot or set(t) == {"."} or first and (first in heads or first[0].isupper() or first.isdigit()):
+        return [(t, s, s + len(t))]
+    out, at = [], s
+    for i, part in enumerate(t.split(".")):
+        word = part if i == 0 else "." + part
+        if word:
+            out.append((word, at, at + len(word)))
+        at += len(word)
     return out
 
 
@@ -48,6 +63,7 @@ OPS = {
     "⊎": (2, "r"),
     "≡": (4, "n"),
     "≢": (4, "n"),
+    "==": (50, "n"),
     "||": (30, "l"),
     "&&": (35, "l"),
     "≤": (50, "n"),
@@ -207,6 +223,14 @@ class P:
             args.append(self.atom())
 
     def atom(self):
+        x = self.simple()
+        # A projection stands right behind what it is of.
+        while self.i < len(self.t) and self.t[self.i][0][0] == "." and len(self.t[self.i][0]) > 1 and self.t[self.i][1] == x.e:
+            t, s, e = self.next()
+            x = N("proj", x.s, e, x, t[1:], (s, e))
+        return x
+
+    def simple(self):
         t, s, e = self.next()
         if t == "(":
             if self.peek() == ")":
@@ -314,12 +338,12 @@ def load(path, rel, text=None):
                 d.sigtext = " ".join(body.split())
                 m.defs[q[2]] = d
                 m.order.append(q[2])
-                d.sig = P(tokens(body, s + q.end()))
+                d.sig = P(tokens(body, s + q.end(), m.alias))
                 d.sig = d.sig.expr()
                 continue
             name = w
             if name in m.defs:
-                c = clause(it, s)
+                c = clause(it, s, m.alias)
                 m.defs[name].clauses.append(c)
         except (SyntaxError, IndexError) as x:
             m.bad.append((s, str(x), it[:60]))
@@ -328,8 +352,8 @@ def load(path, rel, text=None):
     return m
 
 
-def clause(it, s):
-    t = tokens(it, s)
+def clause(it, s, heads=()):
+    t = tokens(it, s, heads)
     d = 0
     for i, x in enumerate(t):
         d += (x[0] in "({") - (x[0] in ")}") if len(x[0]) == 1 else 0
@@ -359,7 +383,7 @@ def params(p):
 
 
 def declaration(m, it, s, kind):
-    t = tokens(it, s)
+    t = tokens(it, s, m.alias)
     i = next((i for i, x in enumerate(t) if x[0] == kind))
     name = t[i + 1][0]
     p = P(t[i + 2 :])
@@ -385,7 +409,7 @@ def declaration(m, it, s, kind):
     for pos, l in lines:
         q = re.match("  (?:pub )?(.*?) :\\s", l, re.S)
         body = l[q.end() :]
-        pp = P(tokens(body, pos + q.end()))
+        pp = P(tokens(body, pos + q.end(), m.alias))
         ty = pp.expr()
         for f in q[1].split():
             fields.append((f, ty, " ".join(body.split())))
@@ -447,7 +471,8 @@ def declared(crate_dir):
                 else:
                     cur += ch
             parts.append(cur)
-            parts = [x.strip() for x in parts if x.strip()]
+            parts = [re.sub(r"^(?:#\[[^\]]*\]\s*)*", "", x.strip()) for x in parts]
+            parts = [x for x in parts if x and not re.match(r"(?:pub(?:\([a-z]*\))? )?ghost ", x)]
             if q[1] == "struct":
                 structs[mod + q[2]] = [
                     (re.sub("^pub(\\([a-z]*\\))? ", "", x).split(":", 1)[0].strip(), x.split(":", 1)[1].strip()) for x in parts

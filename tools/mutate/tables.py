@@ -50,7 +50,7 @@ def rule(n):
     if n.k != "pi" or len(n.a) != 1 or len(n.a[0][0]) != 1 or n.b.k != "arr" or n.b.a.k != "app":
         return None
     f = bare(n.b.a.a)
-    return (n.a[0][0][0], n.b.a.b[1], n.b.b) if f.k == "var" and f.a == "List·Memᴰ" else None
+    return (n.a[0][0][0], n.b.a.b[1], n.b.b) if f.k == "var" and f.a == "Memᴰ" else None
 
 
 def statements(w, m, n, label, env=frozenset()):

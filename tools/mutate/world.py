@@ -200,7 +200,8 @@ BUILTIN = {
     "length": ("len", 1),
     "take": ("take", 2),
     "drop": ("drop", 2),
-    "getD": ("getD", 3),
+    "get_or": ("getD", 3),
+    "slice_index": ("at", 2),
     "set": ("setl", 3),
     "sets": ("sets", 3),
     "replicate": ("replicate", 2),
@@ -219,30 +220,32 @@ BUILTIN = {
     "some": ("some", 1),
     "pos": ("pos", 1),
     "negsuc": ("negsuc", 1),
-    "negℤ": ("negz", 1),
-    "toZ": ("toZ", 2),
-    "ofZ": ("ofZ", 2),
+    "neg_ℤ": ("negz", 1),
+    "to_z": ("toZ", 2),
+    "of_z": ("ofZ", 2),
     "w32": ("32", 0),
     "w64": ("64", 0),
     "SFits": ("sfits", 2),
-    "Option·getD": ("optD", 2),
+    "Option.get_or": ("optD", 2),
     "tt": ("('tt',)", 0),
     "⊥": ("False", 0),
     "Unit": ("True", 0),
-    "_+_": ("addf", 2),
-    "_*_": ("mulf", 2),
-    "_&&_": ("andf", 2),
-    "_||_": ("orf", 2),
-    "_∷_": ("consf", 2),
-    "_++_": ("catf", 2),
-    "_-_": ("sub", 2),
-    "_%_": ("mod", 2),
-    "_/_": ("div", 2),
+    "◌+◌": ("addf", 2),
+    "◌*◌": ("mulf", 2),
+    "◌&&◌": ("andf", 2),
+    "◌||◌": ("orf", 2),
+    "◌∷◌": ("consf", 2),
+    "◌++◌": ("catf", 2),
+    "◌-◌": ("sub", 2),
+    "◌%◌": ("mod", 2),
+    "◌/◌": ("div", 2),
+    "◌==◌": ("eqb", 2),
 }
 NS0 = dict(
     take=take,
     drop=drop,
     getD=getD,
+    at=lambda l, n: getD(l, n, 0),
     setl=setl,
     sets=sets,
     replicate=replicate,
@@ -338,14 +341,14 @@ class World:
         self.cache.clear()
 
     def module(self, path):
-        q = re.match("Rattle·([^.·]+)(?:·(?:specs|proofs))?\\.(specs|proofs)\\.(.*)$", path)
-        if not q:
+        q = re.match("Rattle\\.([^.]+)\\.(specs|proofs)\\.(.*)$", path)
+        if not q or q[1] == "std":
             return None
         c, kind, rest = (q[1], q[2], q[3])
         if rest.startswith("declared."):
             rest = rest[9:]
-            if rest.endswith(".the-variants"):
-                return ("variants", c + "/" + rest[:-13])
+            if rest.endswith(".TheVariants"):
+                return ("variants", c + "/" + rest[: -len(".TheVariants")])
             return ("type", c + "/" + rest)
         return ("mod", f"{c}/{kind}/{rest}")
 
@@ -378,6 +381,7 @@ class World:
     def inmod(self, path, x):
         k = self.module(path)
         if k is None:
+            x = "Option." + x if path.endswith(".Option") and "Option." + x in BUILTIN else x
             return ("builtin", x) if x in BUILTIN else ("type",)
         if k[0] == "variants":
             vs = dict(self.enums.get(k[1], []))
@@ -475,7 +479,7 @@ class World:
             return self.call(m, n, [], env)
         if k == "app":
             f = bare(n.a)
-            if f.k == "var" and f.a == "List·Memᴰ":
+            if f.k == "var" and f.a == "Memᴰ":
                 return "UNK"
             if f.k == "app":
                 return self.call(m, f.a, [C(x) for x in f.b] + [C(x) for x in n.b], env)
@@ -518,6 +522,8 @@ class World:
                 return f"({C(n.b)} and {C(n.c)})"
             if o == "||":
                 return f"({C(n.b)} or {C(n.c)})"
+            if o == "==":
+                return f"({C(n.b)} == {C(n.c)})"
             if o == "≡":
                 return f"eqp({C(n.b)}, {C(n.c)})"
             if o == "≢":
@@ -541,7 +547,7 @@ class World:
                 x = n.a[0][0][0]
                 if (
                     f.k == "var"
-                    and f.a == "List·Memᴰ"
+                    and f.a == "Memᴰ"
                     and (len(n.b.a.b) == 2)
                     and (bare(n.b.a.b[0]).k == "var")
                     and (bare(n.b.a.b[0]).a == x)

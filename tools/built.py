@@ -1,0 +1,103 @@
+"""What the kit has built of the crates, and whether it is of the files as they are now.
+
+`rt ci` leaves each program in crates/NAME/out/NAME and each library in crates/NAME/out/rlib, made anew in each run. A time before that of
+a file that it is made of says that it is of other files."""
+import os
+import re
+import subprocess
+
+ROOT = os.path.normpath(os.path.join(os.path.dirname(os.path.abspath(__file__)), ".."))
+# The crate of the exported functions, a static library.
+EXPORTS = "pitokaenge_c"
+
+
+def text(path):
+    with open(os.path.join(ROOT, path), encoding="utf-8") as file:
+        return file.read()
+
+
+def listed():
+    """The crates of crates.txt, each with the crates that it names and the libraries of the kit."""
+    lines = re.findall(r"^(\w+)[^:\n#]*:([^#\n]*)", text("crates.txt"), re.M)
+    crates = {name: words.split() for name, words in lines}
+    return {name: ([it for it in words if it in crates], [it for it in words if it not in crates]) for name, words in crates.items()}
+
+
+def below(name, crates):
+    """The crates that a crate stands on, each after those that it names itself."""
+    found = []
+    for other in crates[name][0]:
+        found += [it for it in [*below(other, crates), other] if it not in found]
+    return found
+
+
+def programs():
+    return [name for name in listed() if os.path.exists(os.path.join(ROOT, "crates", name, "src/main.rt"))]
+
+
+def changed(name, crates):
+    """When a file that a crate is made of last changed."""
+    latest = os.path.getmtime(os.path.join(ROOT, "crates.txt"))
+    for crate in [name, *below(name, crates)]:
+        for part in ("src", "specs", "proofs"):
+            for folder, _, files in os.walk(os.path.join(ROOT, "crates", crate, part)):
+                latest = max([latest, os.path.getmtime(folder), *(os.path.getmtime(os.path.join(folder, file)) for file in files)])
+    return latest
+
+
+def is_fresh(path, name, crates):
+    """Whether what stands there was built of the crate as it is now."""
+    path = os.path.join(ROOT, path)
+    return os.path.exists(path) and os.path.getmtime(path) > changed(name, crates)
+
+
+def rlib(name):
+    return os.path.join(ROOT, f"crates/{name}/out/rlib/{name}.rlib")
+
+
+def kit():
+    """The kit's folder."""
+    said = subprocess.run(["rt", "doc"], capture_output=True, text=True, check=True).stdout
+    return os.path.dirname(os.path.realpath(said.strip()))
+
+
+def libraries():
+    """Has the libraries below the exported functions built of the files as they are: by the last rt ci, or else by rt lib."""
+    crates = listed()
+    if not all(is_fresh(rlib(name), name, crates) for name in below(EXPORTS, crates)):
+        by_hand()
+
+
+def by_hand():
+    """`rt lib`, which builds each library anew that has changed, and those that rt ci has built."""
+    done = subprocess.run(["rt", "lib"], cwd=os.path.join(ROOT, "crates", EXPORTS), stdout=subprocess.PIPE, stderr=subprocess.STDOUT, text=True)
+    if done.returncode:
+        raise SystemExit(f"{done.stdout[-4000:]}\nrt lib: {EXPORTS} is not proved")
+
+
+def static_library(out, toolchain=None):
+    """Proves the exported functions over the libraries that are built, and compiles them, as `rt lib` does, into the archive `out`;
+    returns what the check says. `rt ci` proves a static library and builds none."""
+    crates, home = listed(), kit()
+    direct, of_kit = crates[EXPORTS]
+    words = [f"{home}/bin/rattle", "build", "--crate-name", EXPORTS, "src/lib.rt"]
+    for name in ("std", *of_kit):
+        words += ["--extern", f"{name}={home}/rlibs/{name}.rlib"]
+    words += ["-L", f"dependency={home}/rlibs"]
+    for name in direct:
+        words += ["--extern", f"{name}={rlib(name)}"]
+    for name in below(EXPORTS, crates):
+        words += ["-L", f"dependency={os.path.dirname(rlib(name))}"]
+    words += ["--antt-project", f"{home}/rattle/logic/antt-project.json", "--logic-built", f"{home}/logic_built", "--links", f"{EXPORTS}="]
+    words += ["--jobs", str(min(4, len(os.sched_getaffinity(0)))), "--crate-type", "staticlib"]
+    words += ["--toolchain", toolchain or f"{home}/toolchain", "--backend", "llvm", "-o", out]
+    how = {"cwd": os.path.join(ROOT, "crates", EXPORTS), "stdout": subprocess.PIPE, "stderr": subprocess.STDOUT, "text": True}
+    libraries()
+    done = subprocess.run(words, **how)
+    if done.returncode:
+        # What stands below may be of several runs that do not fit one another.
+        by_hand()
+        done = subprocess.run(words, **how)
+    if done.returncode or not re.search(r"^logic=proved ", done.stdout, re.M):
+        raise SystemExit(f"{done.stdout[-4000:]}\n{EXPORTS} is not proved, or not built")
+    return done.stdout
