@@ -1,4 +1,6 @@
 // The packet at the front of some bytes, as of a reply's joined packets: where it ends, and what it says.
+#![tactic(auto)]
+
 ghost use Rattle.std.specs.Prelude.{◌≡◌, ◌<◌};
 ghost use Rattle.ble_packet.specs.Reader.{length_at, told};
 ghost use Rattle.ble_packet_end.specs.End.{said_by, end_of, front_of};

@@ -1,4 +1,6 @@
 // Puts the messages of the three streams together from Low Energy packets: all rules, on a row of slots as a value.
+#![tactic(auto)]
+
 mod ack;
 mod buffer;
 

@@ -1,4 +1,6 @@
 // A slot: idle, or open with id, last sequence, whether an ACK is wanted, total and count held; and the law of a row of twelve.
+#![tactic(auto)]
+
 pub mod answer;
 
 ghost use Rattle.std.specs.Prelude.{◌≡◌, not, ◌&&◌, [], ◌∷◌, ◌+◌, ◌*◌, ◌<◌};

@@ -1,4 +1,6 @@
 // What a packet does to the slots of its stream.
+#![tactic(auto)]
+
 pub mod spot;
 
 ghost use Rattle.std.specs.Prelude.{◌≡◌, ◌+◌, ◌^◌, ◌≤◌, ◌<◌};

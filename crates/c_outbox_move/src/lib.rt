@@ -1,4 +1,6 @@
 // Outbox files written in another version, for C: into version 01, and into version 02.
+#![tactic(auto)]
+
 ghost use Rattle.std.specs.Prelude.{◌≡◌, []};
 ghost use Rattle.outbox.specs.Format.{version_one, version_two};
 ghost use Rattle.outbox_move.specs.Moves.{format_for, told};

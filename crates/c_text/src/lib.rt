@@ -1,2 +1,4 @@
 // Texts for C.
+#![tactic(auto)]
+
 pub mod calls;

@@ -1,4 +1,6 @@
 // Judges a sender by its packets: whether our writer would write them, for some transactions.
+#![tactic(auto)]
+
 pub mod capture;
 pub mod input;
 pub mod step;

@@ -1,4 +1,6 @@
 // What our writer would write next on a stream, by what is open there: what a packet that is not lawful is held to.
+#![tactic(auto)]
+
 ghost use Rattle.std.specs.Prelude.{◌≡◌};
 ghost use Rattle.capture_next.specs.NextPacket.{next_by, next_of};
 ghost use Rattle.capture_next.specs.Expected.{ExpectedIsTaken};

@@ -1,4 +1,6 @@
 // The packet at a place of a capture.
+#![tactic(auto)]
+
 ghost use Rattle.std.specs.Prelude.{◌≡◌};
 ghost use Rattle.capture_reader.specs.Capture.{number_in};
 ghost use Rattle.capture_packet.specs.Place.{bad_place, packet_at, standing_told};

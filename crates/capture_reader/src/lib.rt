@@ -1,4 +1,6 @@
 // A capture of one direction of a link, walked packet after packet.
+#![tactic(auto)]
+
 ghost use Rattle.std.specs.Prelude.{◌≡◌};
 ghost use Rattle.capture_reader.specs.Capture.{front_of, other_version, checked_of, number_of, front_told, soundness_told};
 

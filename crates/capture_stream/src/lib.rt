@@ -1,4 +1,6 @@
 // What is open on a stream of a sender that is judged, and whether our writer would write a packet there now.
+#![tactic(auto)]
+
 ghost use Rattle.std.specs.Prelude.{◌≡◌};
 ghost use Rattle.ble_packet.specs.declared.reader.Packet.TheVariants.{First, Next};
 ghost use Rattle.capture_stream.specs.Slot.{is_idle, same, fits_piece, slot_for, first_step, next_fits, next_step, slot_step, moved_to};

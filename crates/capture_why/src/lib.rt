@@ -1,4 +1,6 @@
 // Why a sender is not lawful: of the packet that decides what came and what was expected; of a capture that goes on what is open.
+#![tactic(auto)]
+
 ghost use Rattle.std.specs.Prelude.{◌≡◌, drop};
 ghost use Rattle.ble_packet.specs.Reader as packets;
 ghost use Rattle.capture_judge.specs.Capture.{trace_told};

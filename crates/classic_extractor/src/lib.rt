@@ -1,4 +1,6 @@
 // The extractor of Classic frames, one byte to a step.
+#![tactic(auto)]
+
 pub mod outcome;
 pub mod phase;
 pub mod state;

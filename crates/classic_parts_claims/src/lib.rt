@@ -1,4 +1,6 @@
 // The claims for frames that are written by parts, as contracts of functions that do nothing.
+#![tactic(auto)]
+
 ghost use Rattle.classic_parts_claims.specs.Joined.{PartsJoin};
 ghost use Rattle.classic_parts_claims.specs.Stopping.{PartsStop};
 ghost use Rattle.classic_parts_claims.specs.Premises.{PartFactsSuffice};

@@ -1,2 +1,4 @@
 // The writer of Classic frames.
+#![tactic(auto)]
+
 pub mod writer;

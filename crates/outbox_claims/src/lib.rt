@@ -1,4 +1,6 @@
 // What is appended is read back, also after a cut at any byte. Each claim holds for every format whose lengths fit their field.
+#![tactic(auto)]
+
 ghost use Rattle.outbox.specs.Format.{version_one, version_two};
 ghost use Rattle.outbox_claims.specs.Versions.{HoldInEachVersion};
 ghost use Rattle.outbox_claims.specs.Claims.{Lawful, RecordsReturn, CutsAreFound, AppendsAfterCut, AppendsAsAlone, ReadsAsAlone};

@@ -1,4 +1,6 @@
 // An outbox file written in a wished version. One pass judges the file, one counts, one writes.
+#![tactic(auto)]
+
 ghost use Rattle.std.specs.Prelude.{◌≡◌, ◌++◌};
 ghost use Rattle.outbox.specs.Format.{Known, format_of, new_bytes, first_place};
 ghost use Rattle.outbox.specs.Reader.{given, number_in, read_all, walk_of};

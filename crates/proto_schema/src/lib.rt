@@ -1,4 +1,6 @@
 // What each message makes of a field: the table of known fields.
+#![tactic(auto)]
+
 ghost use Rattle.std.specs.Prelude.{◌≡◌};
 ghost use Rattle.proto_schema.specs.Schema.{role_of, fits_role, is_member, is_repeated};
 

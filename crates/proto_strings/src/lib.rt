@@ -1,4 +1,6 @@
 // Strings that are written: the first that is not well formed, and what their writers answer.
+#![tactic(auto)]
+
 ghost use Rattle.std.specs.Prelude.{◌≡◌};
 ghost use Rattle.wire.specs.Told.{alone};
 ghost use Rattle.proto_writer.specs.Message.{told_wrote};

@@ -1,4 +1,6 @@
 // Which characters of a string are not shown as text: a terminal, or a page, would follow them.
+#![tactic(auto)]
+
 ghost use Rattle.std.specs.Prelude.{◌≡◌, ◌<◌, length};
 ghost use Rattle.utf8.specs.Table.{within};
 ghost use Rattle.utf8_shown.specs.Shown.{is_hidden, hidden_place, is_text, hidden_one, hidden_two, hidden_three, hidden_by};

@@ -1,0 +1,19 @@
+use borrow.Author.Tests.{eq-eqb, ne_eqb}
+use Rattle.c_packets.specs.Calls.{capture_packet_of}
+use Rattle.c_packets.proofs.calls.pito_capture_packet.Goals as goal
+
+pub returns-then-answer-ne-CAPTURE_ANSWER : goal.returns-then-answer-ne-CAPTURE_ANSWER
+unfolding capture_packet_of
+returns-then-answer-ne-CAPTURE_ANSWER c = rw (ne_eqb _ _ c.if-answer-ne-CAPTURE_ANSWER.true)
+
+pub returns : goal.returns
+unfolding capture_packet_of
+returns c =
+    rw (
+      eq-eqb _ _ c.if-answer-ne-CAPTURE_ANSWER.false,
+      ← c.read_at-standing.ensures,
+      c.put.ensures,
+      c.wide64-number.ensures.0,
+      c.number.ensures,
+      c.captured_row-row.ensures,
+    )

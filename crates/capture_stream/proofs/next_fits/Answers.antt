@@ -1,0 +1,7 @@
+use Rattle.capture_stream.specs.Slot.{next_fits}
+use Rattle.capture_stream.proofs.next_fits.Goals as goal
+
+pub returns : goal.returns
+unfolding next_fits
+returns c =
+    rw (c.both-2.ensures, c.both.ensures, c.both-whole.ensures, c.same.ensures, c.fits_piece-fits.ensures)

@@ -1,0 +1,31 @@
+use mathlib.Core.Path.{◌≡◌, sym, ap, ◌∙◌}
+use native.Mathlib.Omega.{arith}
+use Rattle.outbox.specs.Reader.{Answer, Item, given, record_at, refusal_or, walk_of, told_judged}
+use Rattle.wire.proofs.Parts.{rest-lent}
+use Rattle.outbox.proofs.Walk.{decided-end, decided-here}
+use Rattle.outbox.proofs.judging.walk_records.Goals.{After-judge}
+use Rattle.outbox.proofs.judging.walk_records.Goals as goal
+
+pub returns-then-place-file : goal.returns-then-place-file
+returns-then-place-file c =
+    let d = c.whole_up_to-place.ensures in
+    sym (decided-end c.args.fmt c.args.file.now c.requires.1 c.whole_up_to-place.result d.0 d.2 c.if-place-file.true)
+
+-- what was judged decides
+judged : (c : After-judge)
+    →
+    (a : Answer Item) → told_judged c.args.fmt c.whole_up_to-place.result c.judge.result ≡ a
+    → walk_of c.args.fmt c.args.file.now ≡ refusal_or a (given tt)
+judged c a e =
+    let place = c.whole_up_to-place.result in
+    let d = c.whole_up_to-place.ensures in
+    let there = c.judge.ensures place ∙ ap (record_at c.args.fmt place) (rest-lent c.args.file.now place) in
+    decided-here c.args.fmt c.args.file.now c.requires.1 place d.0 d.2 (omega (arith, d.1, c.if-place-file.false)) a (sym there ∙ e)
+
+pub returns-in-Record : goal.returns-in-Record
+returns-in-Record c =
+    sym (judged (goal.at.returns-in-Record c).After-judge _ (ap (told_judged c.args.fmt c.whole_up_to-place.result) c.in-Record.is))
+
+pub returns-in-Broken : goal.returns-in-Broken
+returns-in-Broken c =
+    sym (judged (goal.at.returns-in-Broken c).After-judge _ (ap (told_judged c.args.fmt c.whole_up_to-place.result) c.in-Broken.is))

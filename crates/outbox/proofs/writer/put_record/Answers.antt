@@ -1,0 +1,18 @@
+use Prim.Native.Nat.{◌+◌}
+use mathlib.Core.Path.{◌∙◌}
+use native.Mathlib.Omega.{arith}
+use lib.ListN.{length-set}
+use Rattle.outbox.proofs.Stored.{record-stored}
+use Rattle.outbox.proofs.writer.put_record.Goals as goal
+
+pub copy-requires : goal.copy-requires
+copy-requires c = simp length-set (omega arith)
+
+pub shape_of-buffer : goal.shape_of-buffer
+shape_of-buffer c =
+    c.copy.auto.out ∙ length-set c.put_length.new.buffer (c.args.at + c.args.fmt.width) c.args.stream ∙ c.put_length.auto.buffer
+
+pub returns : goal.returns
+returns c =
+    c.copy.ensures
+    ∙ rw c.put_length.ensures (record-stored c.args.fmt c.args.stream c.args.payload.now c.args.buffer.now c.args.at)

@@ -1,0 +1,11 @@
+-- The total so far and the sizes of the records from the place on are the moved file's size; a record that does not fit ends it.
+use Prim.Native.Nat.{◌-◌}
+use lib.ListN.{length}
+use Rattle.outbox_move.proofs.Passing.{Counting}
+use Rattle.outbox_move.proofs.passes.count.Given as goal
+
+abbrev pub invariant-loop-size : goal.invariant-loop-size
+invariant-loop-size l = Counting l.fmt l.own l.file l.place l.total
+
+abbrev pub decreases-loop-size : goal.decreases-loop-size
+decreases-loop-size l = length l.file - l.place
