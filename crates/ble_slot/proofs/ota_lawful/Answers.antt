@@ -5,7 +5,7 @@ use Rattle.ble_slot.proofs.ota_lawful.Goals as goal
 
 pub returns-then-are_idle : goal.returns-then-are_idle
 returns-then-are_idle c =
-    sym (idle-four c.args.limit 4 c.args.t2 (omega (arith, c.well_formed.1.0.1.0.1)) (sym c.are_idle.ensures ∙ c.if-are_idle.true))
+    sym (idle-four c.args.limit 4 c.args.slots (omega (arith, c.well_formed.1.0.1.0.1)) (sym c.are_idle.ensures ∙ c.if-are_idle.true))
 
 pub returns : goal.returns
 returns c = rw (← c.lane_of.ensures) c.lane_lawful.ensures

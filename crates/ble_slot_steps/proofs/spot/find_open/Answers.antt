@@ -5,7 +5,7 @@ use Rattle.ble_slot_steps.proofs.spot.find_open.Goals as goal
 pub returns-then-is_open : goal.returns-then-is_open
 returns-then-is_open c =
     rw (
-      where-four (is_open c.args.id) c.args.t1 c.well_formed.0.1.0.1,
+      where-four (is_open c.args.id) c.args.lane c.well_formed.0.1.0.1,
       ← c.is_open.ensures,
       c.if-is_open.true,
     )
@@ -13,7 +13,7 @@ returns-then-is_open c =
 pub returns-then-is_open-2 : goal.returns-then-is_open-2
 returns-then-is_open-2 c =
     rw (
-      where-four (is_open c.args.id) c.args.t1 c.well_formed.0.1.0.1,
+      where-four (is_open c.args.id) c.args.lane c.well_formed.0.1.0.1,
       ← c.is_open.ensures,
       c.if-is_open.false,
       ← c.is_open-2.ensures,
@@ -23,7 +23,7 @@ returns-then-is_open-2 c =
 pub returns-then-is_open-3 : goal.returns-then-is_open-3
 returns-then-is_open-3 c =
     rw (
-      where-four (is_open c.args.id) c.args.t1 c.well_formed.0.1.0.1,
+      where-four (is_open c.args.id) c.args.lane c.well_formed.0.1.0.1,
       ← c.is_open.ensures,
       c.if-is_open.false,
       ← c.is_open-2.ensures,
@@ -35,7 +35,7 @@ returns-then-is_open-3 c =
 pub returns-then-is_open-4 : goal.returns-then-is_open-4
 returns-then-is_open-4 c =
     rw (
-      where-four (is_open c.args.id) c.args.t1 c.well_formed.0.1.0.1,
+      where-four (is_open c.args.id) c.args.lane c.well_formed.0.1.0.1,
       ← c.is_open.ensures,
       c.if-is_open.false,
       ← c.is_open-2.ensures,
@@ -49,7 +49,7 @@ returns-then-is_open-4 c =
 pub returns : goal.returns
 returns c =
     rw (
-      where-four (is_open c.args.id) c.args.t1 c.well_formed.0.1.0.1,
+      where-four (is_open c.args.id) c.args.lane c.well_formed.0.1.0.1,
       ← c.is_open.ensures,
       c.if-is_open.false,
       ← c.is_open-2.ensures,
