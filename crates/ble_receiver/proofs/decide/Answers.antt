@@ -40,12 +40,11 @@ returns-then-out-lt-ACK_SIZE c =
     ∙ sym (told-by c.args.limit c.args.count row c.args.slots c.args.buffer.now (called (goal.at.returns-then-out-lt-ACK_SIZE c).Start) (refused 14) n e fit why)
 
 pub process-requires : goal.process-requires
-process-requires c =
-    (
-      and_right (eqb c.args.count slot_count) _ (sym c.is_ready.ensures ∙ not-false c.is_ready.result c.if-not-is_ready.false-raw),
-      c.if-sequence-ge-FOUR_BITS.false,
-      c.if-out-lt-ACK_SIZE.false,
-    )
+process-requires c = (
+  and_right (eqb c.args.count slot_count) _ (sym c.is_ready.ensures ∙ not-false c.is_ready.result c.if-not-is_ready.false-raw),
+  c.if-sequence-ge-FOUR_BITS.false,
+  c.if-out-lt-ACK_SIZE.false,
+)
 
 pub returns : goal.returns
 unfolding called

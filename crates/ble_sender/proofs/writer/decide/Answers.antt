@@ -13,26 +13,24 @@ returns-then-not-room_fits c = (rw (← c.room_fits.ensures, c.if-not-room_fits.
 
 pub returns-then-not-limit_fits : goal.returns-then-not-limit_fits
 unfolding decided
-returns-then-not-limit_fits c =
-    (
-      rw (← c.room_fits.ensures, c.if-not-room_fits.false-raw, ← c.limit_fits.ensures, c.if-not-limit_fits.true-raw),
-      tt,
-    )
+returns-then-not-limit_fits c = (
+  rw (← c.room_fits.ensures, c.if-not-room_fits.false-raw, ← c.limit_fits.ensures, c.if-not-limit_fits.true-raw),
+  tt,
+)
 
 pub returns-then-not-arguments_fit : goal.returns-then-not-arguments_fit
 unfolding decided
-returns-then-not-arguments_fit c =
-    (
-      rw (
-        ← c.room_fits.ensures,
-        c.if-not-room_fits.false-raw,
-        ← c.limit_fits.ensures,
-        c.if-not-limit_fits.false-raw,
-        ← c.arguments_fit.ensures,
-        not-true c.arguments_fit.result c.if-not-arguments_fit.true-raw,
-      ),
-      tt,
-    )
+returns-then-not-arguments_fit c = (
+  rw (
+    ← c.room_fits.ensures,
+    c.if-not-room_fits.false-raw,
+    ← c.limit_fits.ensures,
+    c.if-not-limit_fits.false-raw,
+    ← c.arguments_fit.ensures,
+    not-true c.arguments_fit.result c.if-not-arguments_fit.true-raw,
+  ),
+  tt,
+)
 
 pub piece_at-found-requires : goal.piece_at-found-requires
 piece_at-found-requires c =
@@ -40,38 +38,36 @@ piece_at-found-requires c =
 
 pub returns-then-space-room : goal.returns-then-space-room
 unfolding decided
-returns-then-space-room c =
-    (
-      rw (
-        ← c.room_fits.ensures,
-        c.if-not-room_fits.false-raw,
-        ← c.limit_fits.ensures,
-        c.if-not-limit_fits.false-raw,
-        ← c.arguments_fit.ensures,
-        not-false c.arguments_fit.result c.if-not-arguments_fit.false-raw,
-        ← c.piece_at-found.ensures,
-        c.in-At.is,
-        lt-ltb _ _ c.if-space-room.true,
-      ),
-      tt,
-    )
+returns-then-space-room c = (
+  rw (
+    ← c.room_fits.ensures,
+    c.if-not-room_fits.false-raw,
+    ← c.limit_fits.ensures,
+    c.if-not-limit_fits.false-raw,
+    ← c.arguments_fit.ensures,
+    not-false c.arguments_fit.result c.if-not-arguments_fit.false-raw,
+    ← c.piece_at-found.ensures,
+    c.in-At.is,
+    lt-ltb _ _ c.if-space-room.true,
+  ),
+  tt,
+)
 
 pub returns-in-Nowhere : goal.returns-in-Nowhere
 unfolding decided
-returns-in-Nowhere c =
-    (
-      rw (
-        ← c.room_fits.ensures,
-        c.if-not-room_fits.false-raw,
-        ← c.limit_fits.ensures,
-        c.if-not-limit_fits.false-raw,
-        ← c.arguments_fit.ensures,
-        not-false c.arguments_fit.result c.if-not-arguments_fit.false-raw,
-        ← c.piece_at-found.ensures,
-        c.in-Nowhere.is,
-      ),
-      tt,
-    )
+returns-in-Nowhere c = (
+  rw (
+    ← c.room_fits.ensures,
+    c.if-not-room_fits.false-raw,
+    ← c.limit_fits.ensures,
+    c.if-not-limit_fits.false-raw,
+    ← c.arguments_fit.ensures,
+    not-false c.arguments_fit.result c.if-not-arguments_fit.false-raw,
+    ← c.piece_at-found.ensures,
+    c.in-Nowhere.is,
+  ),
+  tt,
+)
 
 pub returns-else-space-room : goal.returns-else-space-room
 unfolding decided

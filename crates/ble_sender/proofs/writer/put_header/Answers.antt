@@ -20,10 +20,9 @@ put_length-requires c =
     (omega arith, omega (arith, c.requires.inside, c.requires.low-total))
 
 pub returns : goal.returns
-returns c =
-    (
-      rw (c.put_length.ensures, c.length_place.ensures.0, c.put_total.ensures, c.put_start.ensures)
-          (header-stored c.args.how c.args.total c.args.piece c.args.last c.args.out.now),
-      c.header_size.ensures.0,
-      c.header_size.ensures.1,
-    )
+returns c = (
+  rw (c.put_length.ensures, c.length_place.ensures.0, c.put_total.ensures, c.put_start.ensures)
+      (header-stored c.args.how c.args.total c.args.piece c.args.last c.args.out.now),
+  c.header_size.ensures.0,
+  c.header_size.ensures.1,
+)

@@ -38,12 +38,11 @@ pub shape_of-buffer-then-is_decided : goal.shape_of-buffer-then-is_decided
 shape_of-buffer-then-is_decided c = c.fast_step-done.auto.buffer ∙ (passed (goal.at.shape_of-buffer-then-is_decided c).After-rebuilt-state).same
 
 pub returns-then-is_decided : goal.returns-then-is_decided
-returns-then-is_decided c =
-    (
-      rw c.feed_outcome.ensures
-          (running-stop (passed (goal.at.returns-then-is_decided c).After-rebuilt-state) c.fast_step-done.ensures c.if-i-bytes.false c.rebuilt-state-in-loop-i.ensures (sym c.is_decided.ensures ∙ c.if-is_decided.true)),
-      refl,
-    )
+returns-then-is_decided c = (
+  rw c.feed_outcome.ensures
+      (running-stop (passed (goal.at.returns-then-is_decided c).After-rebuilt-state) c.fast_step-done.ensures c.if-i-bytes.false c.rebuilt-state-in-loop-i.ensures (sym c.is_decided.ensures ∙ c.if-is_decided.true)),
+  refl,
+)
 
 pub loop-i-smaller : goal.loop-i-smaller
 loop-i-smaller c = omega (arith, c.pass-passed.ensures.from)

@@ -60,8 +60,7 @@ loop-at-smaller c =
 
 pub loop-at-preserved : goal.loop-at-preserved
 loop-at-preserved c =
-    let on = left-then c.loop-at.invariant.1 c.put_plain-end.ensures in
-    (
+    let on = left-then c.loop-at.invariant.1 c.put_plain-end.ensures in (
       c.put_marks-i.auto.out ∙ c.put_escaped-place.auto.out ∙ c.put_plain-end.auto.out ∙ c.loop-at.invariant.0,
       left-then
           (left-then on

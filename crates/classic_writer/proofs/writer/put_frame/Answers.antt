@@ -35,17 +35,16 @@ shape_of-out c =
     length-set c.put_escaped-after_low.new.out c.put_escaped-after_low.result end_mark ∙ c.put_escaped-after_low.auto.out ∙ c.put_escaped-after_high.auto.out ∙ c.put_all-after_payload.auto.out ∙ c.put_header.auto.out
 
 pub returns : goal.returns
-returns c =
-    (
-      omega (arith, frame-length c.args.sequence c.args.payload.now c.args.high c.args.low),
-      rw (
-        c.put_escaped-after_low.ensures.1,
-        c.put_escaped-after_low.ensures.0,
-        c.put_escaped-after_high.ensures.1,
-        c.put_escaped-after_high.ensures.0,
-        c.put_all-after_payload.ensures.1,
-        c.put_all-after_payload.ensures.0,
-        c.put_header.ensures,
-      )
-          (sym (frame-sets c.args.sequence c.args.payload.now c.args.high c.args.low c.args.out.now)),
-    )
+returns c = (
+  omega (arith, frame-length c.args.sequence c.args.payload.now c.args.high c.args.low),
+  rw (
+    c.put_escaped-after_low.ensures.1,
+    c.put_escaped-after_low.ensures.0,
+    c.put_escaped-after_high.ensures.1,
+    c.put_escaped-after_high.ensures.0,
+    c.put_all-after_payload.ensures.1,
+    c.put_all-after_payload.ensures.0,
+    c.put_header.ensures,
+  )
+      (sym (frame-sets c.args.sequence c.args.payload.now c.args.high c.args.low c.args.out.now)),
+)

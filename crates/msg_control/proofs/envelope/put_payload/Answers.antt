@@ -34,8 +34,7 @@ put_head-start-requires c =
 pub put_response-requires : goal.put_response-requires
 put_response-requires c =
     let r = message_bytes (response_fields (extended c.in-Response.error_code) c.in-Response.payload c.args.body.now) in
-    let q = rw c.in-Response.is at c.requires in
-    (
+    let q = rw c.in-Response.is at c.requires in (
       q.0,
       rw (value (goal.at.put_response-requires c).After-sign_extended-code)
           (omega (

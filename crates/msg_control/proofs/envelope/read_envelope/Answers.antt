@@ -41,5 +41,8 @@ returns-in-Refused-read_payload c = record { result_value = rw (read (goal.at.re
 pub returns-in-Read : goal.returns-in-Read
 unfolding envelope_of
 returns-in-Read c =
-    let g = c.read_fields-kept.result.gathered in record { result_value = rw (read (goal.at.returns-in-Read c).In-Fine, sym c.read_payload.ensures.result_value ∙ ap told_payload c.in-Read.is)
-          (ap (commanded c.in-Read.payload) (signed-kept _ (get_or g.scalars first 0) c.low_signed.ensures)); tells_within = rw c.in-Read.is at c.read_payload.ensures.tells_within }
+    let g = c.read_fields-kept.result.gathered in record {
+      result_value = rw (read (goal.at.returns-in-Read c).In-Fine, sym c.read_payload.ensures.result_value ∙ ap told_payload c.in-Read.is)
+          (ap (commanded c.in-Read.payload) (signed-kept _ (get_or g.scalars first 0) c.low_signed.ensures));
+      tells_within = rw c.in-Read.is at c.read_payload.ensures.tells_within;
+    }

@@ -20,21 +20,27 @@ slice_bounds-response_from-end c =
 
 pub returns-in-Refused : goal.returns-in-Refused
 unfolding payload_of
-returns-in-Refused c = record { result_value = rw (
+returns-in-Refused c = record {
+  result_value = rw (
     ne_eqb _ _ c.if-field-eq-NO_FIELD.false,
     eq-eqb _ _ c.if-field-eq-RESPONSE.true,
     sym c.response_from.ensures.result_value ∙ ap told_response c.in-Refused.is,
-  ); tells_within = tt }
+  );
+  tells_within = tt;
+}
 
 pub returns-in-Read : goal.returns-in-Read
 unfolding payload_of
 returns-in-Read c =
     let p = c.args.gathered.part in
-    let s = c.args.message.now in record { result_value = rw (
+    let s = c.args.message.now in record {
+      result_value = rw (
         ne_eqb _ _ c.if-field-eq-NO_FIELD.false,
         eq-eqb _ _ c.if-field-eq-RESPONSE.true,
         sym c.response_from.ensures.result_value ∙ ap told_response c.in-Read.is,
-      ); tells_within = within-longer (take (p.start + p.len) s) s (c.in-Read.r.part ∷ []) (omega (arith, length-take-le (p.start + p.len) s c.requires)) (rw c.in-Read.is at c.response_from.ensures.tells_within) }
+      );
+      tells_within = within-longer (take (p.start + p.len) s) s (c.in-Read.r.part ∷ []) (omega (arith, length-take-le (p.start + p.len) s c.requires)) (rw c.in-Read.is at c.response_from.ensures.tells_within);
+    }
 
 pub returns : goal.returns
 unfolding payload_of

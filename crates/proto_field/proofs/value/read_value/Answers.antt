@@ -31,12 +31,15 @@ pub returns-then-wire-gt-LENGTH : goal.returns-then-wire-gt-LENGTH
 unfolding value_at
 returns-then-wire-gt-LENGTH c =
     let wire = c.args.wire in
-    let above = c.if-wire-gt-LENGTH.true in record { result_value = rw (
+    let above = c.if-wire-gt-LENGTH.true in record {
+      result_value = rw (
         ne_eqb wire 0 (λ e. omega (arith, above, e)),
         ne_eqb wire 2 (λ e. omega (arith, above, e)),
         ne_eqb wire 1 (λ e. omega (arith, above, e)),
         ne_eqb _ _ c.if-wire-eq-FIXED32.false,
-      ); tells_within = tt }
+      );
+      tells_within = tt;
+    }
 
 pub returns-then-wire-eq-FIXED64 : goal.returns-then-wire-eq-FIXED64
 unfolding value_at

@@ -1,6 +1,5 @@
 use Prim.Native.Nat.{◌-◌}
 use mathlib.Core.Path.{refl, sym, ◌∙◌}
-use mathlib.Core.Logic.{⊎_elim}
 use Rattle.wire.proofs.Runs.{seek_hit, seek-miss, seek-end}
 use borrow.Author.Rules.{rules}
 use Rattle.wire.proofs.scan.any_in_range.Goals.{then-in_range, else-in_range}

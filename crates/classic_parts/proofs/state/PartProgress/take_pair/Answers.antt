@@ -18,8 +18,7 @@ advanced-requires c =
 
 pub returns-then-both : goal.returns-then-both
 returns-then-both c =
-    let h = pair-facts c.byte_at-b.result c.args.self.taken c.args.self.total (length c.args.out.now - c.args.at) c.is_mark.ensures c.both-fits.ensures c.both.ensures c.if-both.true in
-    (
+    let h = pair-facts c.byte_at-b.result c.args.self.taken c.args.self.total (length c.args.out.now - c.args.at) c.is_mark.ensures c.both-fits.ensures c.both.ensures c.if-both.true in (
       rw (c.advanced.ensures.0, c.add_byte-sum.ensures, c.code_for.ensures)
           (onward-pair c.args.payload.now c.args.self c.args.out.now c.args.taken c.args.at c.requires.taken_in_bounds c.requires.at_in_bounds c.requires.self_value
           c.byte_at-b.result c.byte_at-b.ensures h.0 h.1 h.2),
