@@ -1,4 +1,6 @@
 // The claims about the judge of a sender, as contracts of functions that do nothing. Their words are in specs/.
+#![tactic(auto)]
+
 ghost use Rattle.capture_reader.specs.Captured.{CapturesHold, CapturesOnly};
 ghost use Rattle.capture_judge_claims.specs.Lawful.{WritableAll};
 ghost use Rattle.capture_judge_claims.specs.Right.{CaptureIsRight};

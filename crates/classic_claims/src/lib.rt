@@ -1,4 +1,6 @@
 // The claims for Classic, as contracts of functions that do nothing.
+#![tactic(auto)]
+
 ghost use Rattle.classic_claims.specs.Recovery.{DamageEnds, FrameReturns};
 ghost use Rattle.classic_claims.specs.Premises.{FactsSuffice};
 ghost use Rattle.classic_claims.specs.Example.{DamageExample};

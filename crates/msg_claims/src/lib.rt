@@ -1,4 +1,6 @@
 // Reading what a writer wrote gives back every value and the bytes of every part. These functions do nothing: their contracts are the claims.
+#![tactic(auto)]
+
 ghost use Rattle.msg_claims.specs.RoundTrip.{NoneRefused, EnvelopeRoundTrip, ResponseRoundTrip, InformationRoundTrip, FeaturesRoundTrip};
 ghost use Rattle.msg_claims.specs.Premises.{EnvelopesTaken, ResponsesTaken, InformationTaken, FeaturesTaken, OneOfEach};
 ghost use Rattle.msg_claims.specs.Worked.{WorkedInformation};

@@ -1,4 +1,6 @@
 // FirmwareComponent written, of parts of a lent text.
+#![tactic(auto)]
+
 ghost use Rattle.std.specs.Prelude.{◌≡◌, false, ◌+◌, ◌≤◌, ◌<◌, ◌^◌, length};
 ghost use Rattle.wire.specs.Put.{Put};
 ghost use Rattle.proto_field.specs.Tag.{last_field};

@@ -1,3 +1,5 @@
 // Device information and device features, read and written.
+#![tactic(auto)]
+
 pub mod features;
 pub mod information;

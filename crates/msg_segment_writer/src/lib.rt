@@ -1,4 +1,6 @@
 // UpdateComponentSegment written.
+#![tactic(auto)]
+
 ghost use Rattle.std.specs.Prelude.{◌≡◌, ◌≤◌, length};
 ghost use Rattle.wire.specs.Told.{written};
 ghost use Rattle.wire.specs.Put.{Put};

@@ -1,0 +1,19 @@
+use borrow.Author.Tests.{eq-eqb, ne_eqb}
+use Rattle.c_judge.specs.Calls.{capture_judge_of}
+use Rattle.c_judge.proofs.calls.pito_capture_judge.Goals as goal
+
+pub returns-then-answer-ne-JUDGE_ANSWER : goal.returns-then-answer-ne-JUDGE_ANSWER
+unfolding capture_judge_of
+returns-then-answer-ne-JUDGE_ANSWER c = rw (ne_eqb _ _ c.if-answer-ne-JUDGE_ANSWER.true)
+
+pub returns : goal.returns
+unfolding capture_judge_of
+returns c =
+    rw (
+      eq-eqb _ _ c.if-answer-ne-JUDGE_ANSWER.false,
+      ← c.judge_capture-judged.ensures,
+      c.put.ensures,
+      c.wide64-number.ensures.0,
+      c.number.ensures,
+      c.judged_row-row.ensures,
+    )
