@@ -1,4 +1,6 @@
 // The claims of Low Energy, from the writer to the receiver. Their words are in specs/; these functions do nothing.
+#![tactic(auto)]
+
 ghost use Rattle.ble_claims.specs.AcknowledgementsReturn.{TakesEveryAck, AcknowledgementsReturn};
 ghost use Rattle.ble_claims.specs.Answering.{AnsweredOnly};
 ghost use Rattle.ble_claims.specs.Delivery.{AnswerableAll, SlotEnough, MessagesArrive, RoundTrip, MessageAsked};

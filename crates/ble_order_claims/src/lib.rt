@@ -1,4 +1,6 @@
 // The claim that packets of different streams may come in either order. Its words are in specs/; these functions do nothing.
+#![tactic(auto)]
+
 ghost use Rattle.ble_order_claims.specs.Instance.{Computed, OneStream};
 ghost use Rattle.ble_order_claims.specs.Lanes.{HandedAll, EitherOrder, PartsApart};
 

@@ -1,4 +1,6 @@
 // What holds of every call.
+#![tactic(auto)]
+
 ghost use Rattle.c_claims.specs.OneLeavesAll.{OneLeavesAll};
 ghost use Rattle.c_claims.specs.NumbersJudged.{NumbersJudged};
 ghost use Rattle.c_claims.specs.RowsAgree.{RowsAgree};

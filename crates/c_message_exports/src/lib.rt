@@ -1,5 +1,7 @@
 // The messages for C: every capability on numbers and slices only, as its crates give it. include/pitokaenge.h describes
 // each function for its callers.
+#![tactic(auto)]
+
 ghost use Rattle.std.specs.Prelude.{◌≡◌, []};
 ghost use Rattle.c_rows.specs.Called.{called};
 ghost use Rattle.c_messages.specs.Calls.{envelope_read_of, envelope_write_of, response_read_of, response_write_of, information_read_of, information_write_of, features_read_of, features_write_of};

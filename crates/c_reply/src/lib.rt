@@ -1,3 +1,5 @@
 // The reply to the handshake for C.
+#![tactic(auto)]
+
 pub mod calls;
 mod convert;

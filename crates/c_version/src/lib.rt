@@ -1,5 +1,7 @@
 // The version of the C interface, for C. The function has the number in its name, so that a program does not link with an archive of
 // another version.
+#![tactic(auto)]
+
 ghost use Rattle.std.specs.Prelude.{◌≡◌};
 
 // The number that the header has as PITO_VERSION.

@@ -1,4 +1,5 @@
 // What the radio cost, over captures of links: a report, to which one capture after another is added.
+#![tactic(auto)]
 
 // What captures cost on one stream: first packets accepted; transactions finished, replaced, dropped and pending, which is left open at
 // a capture's end; payload bytes of the finished ones; bytes of all packets.

@@ -1,4 +1,6 @@
 // The claims about reports, as contracts of functions that do nothing. Their words are in specs/.
+#![tactic(auto)]
+
 ghost use Rattle.capture_report_claims.specs.Captures.{LeftOpenIsOpen, OpenIsAdded, ReportsBalance, OrderIsFree, FitsAll, FitsOnly};
 ghost use Rattle.capture_report_claims.specs.Added.{CapturesAdd, AnyCapture, BytesCount, NoneElsewhere};
 ghost use Rattle.capture_report_claims.specs.Sent.{MessageCosts};

@@ -1,3 +1,5 @@
 // ApplyFirmware written, with its nested messages.
+#![tactic(auto)]
+
 pub mod apply;
 pub mod information;

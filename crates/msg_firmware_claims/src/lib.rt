@@ -1,4 +1,6 @@
 // Reading a firmware message that was written gives back every number and the bytes of every string, and a writer takes what a reader tells. These functions do nothing: their contracts are the claims.
+#![tactic(auto)]
+
 ghost use Rattle.msg_firmware_claims.specs.RoundTrip.{NoFirmwareRefused, SegmentRoundTrip, ApplyRoundTrip, SegmentsToldTaken, AppliesToldTaken};
 ghost use Rattle.msg_firmware_claims.specs.Premises.{SegmentsTaken, AppliesTaken, OneFirmwareOfEach};
 ghost use Rattle.msg_firmware_claims.specs.Worked.{WorkedFirmware, ComponentsCounted};

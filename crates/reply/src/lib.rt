@@ -1,4 +1,6 @@
 // The reply to a finished control transaction, written as joined packets.
+#![tactic(auto)]
+
 ghost use Rattle.std.specs.Prelude.{◌≡◌, false, ◌++◌, ◌≤◌, length};
 ghost use Rattle.wire.specs.Told.{written};
 ghost use Rattle.ble_joined.specs.Joined.{joined_of};

@@ -1,4 +1,6 @@
 // The claims of the reply to the handshake. Their words are in specs/; these functions do nothing.
+#![tactic(auto)]
+
 ghost use Rattle.reply_claims.specs.Cut.{JoinedCutApart};
 ghost use Rattle.reply_claims.specs.Answers.{AnswersAll, ReplyWritten, ReplyArrives};
 ghost use Rattle.reply_claims.specs.ReadAgain.{ReplyReads};

@@ -1,4 +1,6 @@
 // The worked cases of docs/FORMATS.md, as contracts of functions that do nothing.
+#![tactic(auto)]
+
 ghost use Rattle.worked.specs.Cases.{WorkedCases};
 ghost use Rattle.worked.specs.LimitEnds.{LimitEnds};
 

@@ -1,4 +1,6 @@
 // Calls of the library worked out: rows that refuse each small change of a definition that a caller can see (tools/mutate).
+#![tactic(auto)]
+
 ghost use Rattle.worked_calls.specs.Classic.{ClassicCalls};
 ghost use Rattle.worked_calls.specs.Receiving.{ReceivingCalls};
 ghost use Rattle.worked_calls.specs.Sending.{SendingCalls};

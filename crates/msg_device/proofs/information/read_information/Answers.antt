@@ -32,7 +32,11 @@ unfolding information_of
 returns-in-Fine c =
     let texts = c.read_fields-kept.result.gathered.texts in
     let inside = fields_within Schema.Information _ 0 _ (read (goal.at.returns-in-Fine c).In-Fine) in
-    let each = inside.0.1 in record { result_value = rw (read (goal.at.returns-in-Fine c).In-Fine); strings = (
-          (within-get _ texts first no_part zero-le each, (within-get _ texts second no_part zero-le each, (within-get _ texts third no_part zero-le each, tt))),
-          (text-get _ texts first inside.2, (text-get _ texts second inside.2, (text-get _ texts third inside.2, tt))),
-        ); count_le_most_transports = inside.1 }
+    let each = inside.0.1 in record {
+      result_value = rw (read (goal.at.returns-in-Fine c).In-Fine);
+      strings = (
+        (within-get _ texts first no_part zero-le each, (within-get _ texts second no_part zero-le each, (within-get _ texts third no_part zero-le each, tt))),
+        (text-get _ texts first inside.2, (text-get _ texts second inside.2, (text-get _ texts third inside.2, tt))),
+      );
+      count_le_most_transports = inside.1;
+    }

@@ -1,9 +1,0 @@
-use Rattle.ble_claims.proofs.MessagesArrive.{round_trip}
-use Rattle.ble_claims.proofs.round_trip.Statement.{statement}
-use Rattle.ble_claims.proofs.round_trip.Tie as tie
-
-returns : tie.Need-returns
-returns c = round_trip
-
-pub round-trip-spec : {M : Type 1} → statement M
-round-trip-spec = tie.close (tie.spec returns)

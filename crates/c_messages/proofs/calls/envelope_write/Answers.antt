@@ -1,0 +1,21 @@
+use Rattle.proto_field.proofs.SignedNumbers.{signed-kept}
+use borrow.Author.Tests.{eq-eqb, ne_eqb}
+use Rattle.c_messages.specs.Calls.{envelope_write_of}
+use Rattle.c_messages.proofs.calls.envelope_write.Goals as goal
+
+pub returns-then-answer-ne-COUNT_ANSWER : goal.returns-then-answer-ne-COUNT_ANSWER
+unfolding envelope_write_of
+returns-then-answer-ne-COUNT_ANSWER c = rw (ne_eqb _ _ c.if-answer-ne-COUNT_ANSWER.true)
+
+pub returns : goal.returns
+unfolding envelope_write_of
+returns c =
+    rw (
+      eq-eqb _ _ c.if-answer-ne-COUNT_ANSWER.false,
+      ← c.payload_for-wanted.ensures,
+      ← (signed-kept _ c.args.command c.low_signed.ensures),
+      ← c.write_envelope-wrote.ensures,
+      c.tell.ensures.0,
+      c.tell.ensures.1,
+      c.count_of.ensures,
+    )

@@ -1,0 +1,17 @@
+use borrow.Author.Tests.{eq-eqb, ne_eqb}
+use Rattle.c_receiving.specs.Calls.{receiver_open_of}
+use Rattle.c_receiving.proofs.calls.pito_receiver_open.Goals as goal
+
+pub returns-then-state-ne-STATE : goal.returns-then-state-ne-STATE
+unfolding receiver_open_of
+returns-then-state-ne-STATE c = rw (ne_eqb _ _ c.if-state-ne-STATE.true)
+
+pub returns-in-Link : goal.returns-in-Link
+unfolding receiver_open_of
+returns-in-Link c =
+    rw (eq-eqb _ _ c.if-state-ne-STATE.false, ← c.open.ensures, c.in-Link.is, c.write_row.ensures)
+
+pub returns-in-BadLimit : goal.returns-in-BadLimit
+unfolding receiver_open_of
+returns-in-BadLimit c =
+    rw (eq-eqb _ _ c.if-state-ne-STATE.false, ← c.open.ensures, c.in-BadLimit.is)
