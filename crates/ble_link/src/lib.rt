@@ -1,4 +1,5 @@
 // A packet given to a link whose slots are lent as a row. All rules stand below; these functions only walk the row.
+#![tactic(auto)]
 ghost use Rattle.std.specs.Prelude.{◌≡◌, get_or, set};
 ghost use Rattle.ble_slot.specs.Answer.{told};
 ghost use Rattle.ble_slot.specs.Slot.{idle};

@@ -1,3 +1,4 @@
 // A report over captures for C: one capture added.
+#![tactic(auto)]
 pub mod calls;
 mod convert;
