@@ -12,6 +12,7 @@ ghost use Rattle.ble_slot.specs.Slot.{idles, slot_count};
 ghost use Rattle.ble_slot.specs.Answer as answer;
 ghost use Rattle.ble_receiver.specs.Receiver as receiver;
 ghost use Rattle.ble_receiver.specs.Receiver.{ready};
+ghost use Rattle.ble_link.specs.Row.{saved_row};
 ghost use Rattle.capture_report.specs.Report.{capture_added, taken_of, added_by, added_of};
 ghost use Rattle.capture_tally.specs.Tally.{told_sum, tallied, gave_of, turn_of, passed_of, number_of, told};
 ghost use Rattle.capture_tally.specs.declared.Answer.TheVariants.{Refused};
@@ -207,6 +208,13 @@ pub fn add_by_value(
     }
 }
 
+// Stores the slots that the link was left with: twelve, as an array of them has.
+fn store(row: &mut [Slot], slots: [Slot; 12])
+    ensures { (row.new ≡ saved_row row.old slots) × (length slots ≡ slot_count) }
+{
+    save(row, slots);
+}
+
 // Adds a capture, read by a fresh link of a limit, to a report. What is in the lent row and buffer before does not matter; afterwards
 // they are as the last packet left them, with 19 too, and every other refusal leaves them.
 pub fn add(
@@ -221,6 +229,6 @@ pub fn add(
     let count = row.len();
     let slots = load(&*row);
     let done = add_by_value(count, slots, report, limit, buffer, capture);
-    save(row, done.slots);
+    store(row, done.slots);
     done.answer
 }
