@@ -103,7 +103,8 @@ def static_library(out, toolchain=None):
     returns what the check says. `rt ci` proves a static library and builds none."""
     home = kit()
     jobs = str(min(4, len(os.sched_getaffinity(0))))
-    more = ["--jobs", jobs, "--toolchain", toolchain or f"{home}/toolchain", "--backend", "llvm", "-o", out]
+    # The code runs on every x86-64 processor; the kit's own choice wants a later one.
+    more = ["--jobs", jobs, "--cpu", "x86-64", "--toolchain", toolchain or f"{home}/toolchain", "--backend", "llvm", "-o", out]
     libraries()
     failed, said = rattle(home, "build", EXPORTS, more)
     if failed:
