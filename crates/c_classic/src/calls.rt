@@ -19,8 +19,7 @@ use classic_writer::writer::write_frame;
 use wire::bytes::wide64;
 
 // Opens an extractor for a link with a limit: its empty state.
-#[unsafe(no_mangle)]
-pub extern "C" fn pito_extractor_open(limit: u64, state: &mut [u64]) -> u64
+pub fn pito_extractor_open(limit: u64, state: &mut [u64]) -> u64
     ensures { called result state.new [] [] ≡ extractor_open_of limit state.old }
 {
     if state.len() != STATE {
@@ -37,8 +36,7 @@ pub extern "C" fn pito_extractor_open(limit: u64, state: &mut [u64]) -> u64
 }
 
 // One byte given to the extractor.
-#[unsafe(no_mangle)]
-pub extern "C" fn pito_extractor_step(
+pub fn pito_extractor_step(
     state: &mut [u64],
     buffer: &mut [u8],
     byte: u8,
@@ -88,8 +86,7 @@ fn unfit_feed(answer: &mut [u64]) -> u64
 
 // Many bytes given to the extractor. The answer row tells 0 used under 1, where it has its length. State and buffer are
 // judged here as well as in `feed`: the compiler then judges them once, and keeps nothing for 1 through the bytes.
-#[unsafe(no_mangle)]
-pub extern "C" fn pito_extractor_feed(
+pub fn pito_extractor_feed(
     state: &mut [u64],
     buffer: &mut [u8],
     bytes: &[u8],
@@ -149,8 +146,7 @@ fn feed_fitting(state: &mut [u64], buffer: &mut [u8], bytes: &[u8], answer: &mut
 }
 
 // Writes the frame of a payload, for a link with a limit.
-#[unsafe(no_mangle)]
-pub extern "C" fn pito_frame_write(
+pub fn pito_frame_write(
     sequence: u64,
     limit: u64,
     payload: &[u8],
@@ -169,8 +165,7 @@ pub extern "C" fn pito_frame_write(
 }
 
 // The sequence byte after a sequence byte.
-#[unsafe(no_mangle)]
-pub extern "C" fn pito_next_sequence(sequence: u8, answer: &mut [u64]) -> u64
+pub fn pito_next_sequence(sequence: u8, answer: &mut [u64]) -> u64
     ensures { called result [] [] answer.new ≡ next_sequence_of sequence answer.old }
 {
     if answer.len() != COUNT_ANSWER {

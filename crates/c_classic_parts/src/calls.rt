@@ -23,8 +23,7 @@ fn keep(state: &mut [u64], number: u64, row: &[u64])
 }
 
 // Begins a frame whose payload will have `total` bytes, for a link with a limit.
-#[unsafe(no_mangle)]
-pub extern "C" fn pito_frame_begin(sequence: u64, limit: u64, total: u64, state: &mut [u64]) -> u64
+pub fn pito_frame_begin(sequence: u64, limit: u64, total: u64, state: &mut [u64]) -> u64
     ensures { called result state.new [] [] ≡ frame_begin_of limit sequence total state.old }
 {
     if state.len() != STATE {
@@ -44,8 +43,7 @@ pub extern "C" fn pito_frame_begin(sequence: u64, limit: u64, total: u64, state:
 }
 
 // Takes payload and writes the frame on into an output.
-#[unsafe(no_mangle)]
-pub extern "C" fn pito_frame_part(
+pub fn pito_frame_part(
     state: &mut [u64],
     payload: &[u8],
     output: &mut [u8],

@@ -10,13 +10,7 @@ use capture_why::explain;
 use wire::bytes::wide64;
 
 // Judges a capture for a room and a limit.
-#[unsafe(no_mangle)]
-pub extern "C" fn pito_capture_judge(
-    capture: &[u8],
-    room: u64,
-    limit: u64,
-    answer: &mut [u64],
-) -> u64
+pub fn pito_capture_judge(capture: &[u8], room: u64, limit: u64, answer: &mut [u64]) -> u64
     ensures { called result [] [] answer.new
         ≡ capture_judge_of capture.now room limit answer.old }
 {
@@ -31,8 +25,7 @@ pub extern "C" fn pito_capture_judge(
 }
 
 // Judges it as pito_capture_judge does, and tells what is open, what came and what was expected.
-#[unsafe(no_mangle)]
-pub extern "C" fn pito_capture_why(capture: &[u8], room: u64, limit: u64, answer: &mut [u64]) -> u64
+pub fn pito_capture_why(capture: &[u8], room: u64, limit: u64, answer: &mut [u64]) -> u64
     ensures { called result [] [] answer.new
         ≡ capture_why_of capture.now room limit answer.old }
 {

@@ -15,8 +15,7 @@ use c_messages::calls::{
 // ---- control messages
 
 // Reads a control envelope.
-#[unsafe(no_mangle)]
-pub extern "C" fn pito_envelope_read(message: &[u8], answer: &mut [u64]) -> u64
+pub fn pito_envelope_read(message: &[u8], answer: &mut [u64]) -> u64
     ensures { called result [] [] answer.new
         ≡ envelope_read_of message.now answer.old }
 {
@@ -24,8 +23,7 @@ pub extern "C" fn pito_envelope_read(message: &[u8], answer: &mut [u64]) -> u64
 }
 
 // Writes a control envelope.
-#[unsafe(no_mangle)]
-pub extern "C" fn pito_envelope_write(
+pub fn pito_envelope_write(
     command: u64,
     payload: u64,
     error_code: u64,
@@ -42,8 +40,7 @@ pub extern "C" fn pito_envelope_write(
 }
 
 // Reads a response.
-#[unsafe(no_mangle)]
-pub extern "C" fn pito_response_read(message: &[u8], answer: &mut [u64]) -> u64
+pub fn pito_response_read(message: &[u8], answer: &mut [u64]) -> u64
     ensures { called result [] [] answer.new
         ≡ response_read_of message.now answer.old }
 {
@@ -51,8 +48,7 @@ pub extern "C" fn pito_response_read(message: &[u8], answer: &mut [u64]) -> u64
 }
 
 // Writes a response.
-#[unsafe(no_mangle)]
-pub extern "C" fn pito_response_write(
+pub fn pito_response_write(
     error_code: u64,
     field: u64,
     bytes: &[u8],
@@ -66,8 +62,7 @@ pub extern "C" fn pito_response_write(
 }
 
 // Reads device information.
-#[unsafe(no_mangle)]
-pub extern "C" fn pito_information_read(message: &[u8], answer: &mut [u64]) -> u64
+pub fn pito_information_read(message: &[u8], answer: &mut [u64]) -> u64
     ensures { called result [] [] answer.new
         ≡ information_read_of message.now answer.old }
 {
@@ -75,8 +70,7 @@ pub extern "C" fn pito_information_read(message: &[u8], answer: &mut [u64]) -> u
 }
 
 // Writes device information.
-#[unsafe(no_mangle)]
-pub extern "C" fn pito_information_write(
+pub fn pito_information_write(
     serial_number: &[u8],
     name: &[u8],
     device_type: &[u8],
@@ -92,8 +86,7 @@ pub extern "C" fn pito_information_write(
 }
 
 // Reads device features.
-#[unsafe(no_mangle)]
-pub extern "C" fn pito_features_read(message: &[u8], answer: &mut [u64]) -> u64
+pub fn pito_features_read(message: &[u8], answer: &mut [u64]) -> u64
     ensures { called result [] [] answer.new
         ≡ features_read_of message.now answer.old }
 {
@@ -101,8 +94,7 @@ pub extern "C" fn pito_features_read(message: &[u8], answer: &mut [u64]) -> u64
 }
 
 // Writes device features.
-#[unsafe(no_mangle)]
-pub extern "C" fn pito_features_write(
+pub fn pito_features_write(
     features: u64,
     device_attributes: u64,
     output: &mut [u8],
@@ -117,8 +109,7 @@ pub extern "C" fn pito_features_write(
 // ---- firmware messages
 
 // Reads an UpdateComponentSegment.
-#[unsafe(no_mangle)]
-pub extern "C" fn pito_segment_read(message: &[u8], answer: &mut [u64]) -> u64
+pub fn pito_segment_read(message: &[u8], answer: &mut [u64]) -> u64
     ensures { called result [] [] answer.new
         ≡ segment_read_of message.now answer.old }
 {
@@ -126,8 +117,7 @@ pub extern "C" fn pito_segment_read(message: &[u8], answer: &mut [u64]) -> u64
 }
 
 // Writes an UpdateComponentSegment.
-#[unsafe(no_mangle)]
-pub extern "C" fn pito_segment_write(
+pub fn pito_segment_write(
     name: &[u8],
     offset: u64,
     size: u64,
@@ -143,21 +133,14 @@ pub extern "C" fn pito_segment_write(
 }
 
 // Reads an ApplyFirmware.
-#[unsafe(no_mangle)]
-pub extern "C" fn pito_apply_read(message: &[u8], answer: &mut [u64]) -> u64
+pub fn pito_apply_read(message: &[u8], answer: &mut [u64]) -> u64
     ensures { called result [] [] answer.new ≡ apply_read_of message.now answer.old }
 {
     apply_read(message, answer)
 }
 
 // Writes an ApplyFirmware.
-#[unsafe(no_mangle)]
-pub extern "C" fn pito_apply_write(
-    row: &[u64],
-    texts: &[u8],
-    output: &mut [u8],
-    answer: &mut [u64],
-) -> u64
+pub fn pito_apply_write(row: &[u64], texts: &[u8], output: &mut [u8], answer: &mut [u64]) -> u64
     ensures { called result [] output.new answer.new
         ≡ apply_write_of row.now texts.now output.old answer.old }
 {
@@ -167,8 +150,7 @@ pub extern "C" fn pito_apply_write(
 // ---- any message, field by field
 
 // Reads the field at a place.
-#[unsafe(no_mangle)]
-pub extern "C" fn pito_field_read(message: &[u8], place: u64, answer: &mut [u64]) -> u64
+pub fn pito_field_read(message: &[u8], place: u64, answer: &mut [u64]) -> u64
     ensures { called result [] [] answer.new
         ≡ field_read_of message.now place answer.old }
 {

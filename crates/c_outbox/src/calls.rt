@@ -11,8 +11,7 @@ use outbox::{reader, writer};
 use wire::bytes::wide64;
 
 // Begins a new outbox.
-#[unsafe(no_mangle)]
-pub extern "C" fn pito_outbox_new(output: &mut [u8], answer: &mut [u64]) -> u64
+pub fn pito_outbox_new(output: &mut [u8], answer: &mut [u64]) -> u64
     ensures { called result [] output.new answer.new
         ≡ outbox_new_of output.old answer.old }
 {
@@ -24,8 +23,7 @@ pub extern "C" fn pito_outbox_new(output: &mut [u8], answer: &mut [u64]) -> u64
 }
 
 // Appends a record after the used bytes.
-#[unsafe(no_mangle)]
-pub extern "C" fn pito_outbox_append(
+pub fn pito_outbox_append(
     buffer: &mut [u8],
     used: u64,
     stream: u64,
@@ -44,8 +42,7 @@ pub extern "C" fn pito_outbox_append(
 }
 
 // Reads the record at a place.
-#[unsafe(no_mangle)]
-pub extern "C" fn pito_outbox_record(bytes: &[u8], place: u64, answer: &mut [u64]) -> u64
+pub fn pito_outbox_record(bytes: &[u8], place: u64, answer: &mut [u64]) -> u64
     ensures { called result [] [] answer.new
         ≡ outbox_record_of bytes.now place answer.old }
 {
@@ -57,8 +54,7 @@ pub extern "C" fn pito_outbox_record(bytes: &[u8], place: u64, answer: &mut [u64
 }
 
 // Whether an outbox is whole.
-#[unsafe(no_mangle)]
-pub extern "C" fn pito_outbox_whole(bytes: &[u8], answer: &mut [u64]) -> u64
+pub fn pito_outbox_whole(bytes: &[u8], answer: &mut [u64]) -> u64
     ensures { called result [] [] answer.new
         ≡ outbox_whole_of bytes.now answer.old }
 {

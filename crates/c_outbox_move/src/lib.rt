@@ -38,8 +38,7 @@ fn outbox_move(file: &[u8], wished: Wished, output: &mut [u8], answer: &mut [u64
 }
 
 // Writes a file as version 01.
-#[unsafe(no_mangle)]
-pub extern "C" fn pito_outbox_to_01(bytes: &[u8], output: &mut [u8], answer: &mut [u64]) -> u64
+pub fn pito_outbox_to_01(bytes: &[u8], output: &mut [u8], answer: &mut [u64]) -> u64
     ensures { called result [] output.new answer.new
         ≡ outbox_move_of version_one bytes.now output.old answer.old }
 {
@@ -47,8 +46,7 @@ pub extern "C" fn pito_outbox_to_01(bytes: &[u8], output: &mut [u8], answer: &mu
 }
 
 // Writes a file as version 02.
-#[unsafe(no_mangle)]
-pub extern "C" fn pito_outbox_to_02(bytes: &[u8], output: &mut [u8], answer: &mut [u64]) -> u64
+pub fn pito_outbox_to_02(bytes: &[u8], output: &mut [u8], answer: &mut [u64]) -> u64
     ensures { called result [] output.new answer.new
         ≡ outbox_move_of version_two bytes.now output.old answer.old }
 {

@@ -11,8 +11,7 @@ use capture_packet::read_at;
 use wire::bytes::{byte_at, wide64};
 
 // Reads the packet at the front of some bytes, for a link with a limit.
-#[unsafe(no_mangle)]
-pub extern "C" fn pito_packet_read(bytes: &[u8], limit: u64, answer: &mut [u64]) -> u64
+pub fn pito_packet_read(bytes: &[u8], limit: u64, answer: &mut [u64]) -> u64
     ensures { called result [] [] answer.new
         ≡ packet_read_of bytes.now limit answer.old }
 {
@@ -29,8 +28,7 @@ pub extern "C" fn pito_packet_read(bytes: &[u8], limit: u64, answer: &mut [u64])
 }
 
 // Reads the packet at a place of a capture.
-#[unsafe(no_mangle)]
-pub extern "C" fn pito_capture_packet(capture: &[u8], place: u64, answer: &mut [u64]) -> u64
+pub fn pito_capture_packet(capture: &[u8], place: u64, answer: &mut [u64]) -> u64
     ensures { called result [] [] answer.new
         ≡ capture_packet_of capture.now place answer.old }
 {

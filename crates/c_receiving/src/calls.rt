@@ -19,8 +19,7 @@ pub const STATE: usize = 1;
 const BAD_LIMIT: u64 = 17;
 
 // Opens a receiver for a link with a limit: its state.
-#[unsafe(no_mangle)]
-pub extern "C" fn pito_receiver_open(limit: u64, state: &mut [u64]) -> u64
+pub fn pito_receiver_open(limit: u64, state: &mut [u64]) -> u64
     ensures { called result state.new [] [] ≡ receiver_open_of limit state.old }
 {
     if state.len() != STATE {
@@ -64,8 +63,7 @@ pub fn tell_packet(answer: &mut [u64], done: Answer) -> u64
 }
 
 // One packet given to the receiver over a lent row of slots; the ACK that it may want is written in the answer buffer.
-#[unsafe(no_mangle)]
-pub extern "C" fn pito_receiver_accept(
+pub fn pito_receiver_accept(
     state: &[u64],
     row: &mut [Slot],
     buffer: &mut [u8],

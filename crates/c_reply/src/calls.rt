@@ -11,8 +11,7 @@ use reply::write_reply;
 
 // Writes the reply to a message. Transports that are too many or no signed numbers stand for nine, which is out of range
 // where the reply carries them.
-#[unsafe(no_mangle)]
-pub extern "C" fn pito_reply_write(
+pub fn pito_reply_write(
     message: &[u8],
     serial_number: &[u8],
     name: &[u8],

@@ -51,8 +51,7 @@ pub fn tell_added(report: &mut [u64], answer: &mut [u64], done: Answer) -> u64
 }
 
 // Adds what a capture cost, read by a fresh link of a limit, to a report.
-#[unsafe(no_mangle)]
-pub extern "C" fn pito_report_add(
+pub fn pito_report_add(
     report: &mut [u64],
     limit: u64,
     row: &mut [Slot],

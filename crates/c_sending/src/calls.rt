@@ -11,8 +11,7 @@ use ble_sender::writer::write_packet;
 use c_rows::row::{COUNT_ANSWER, OUT_OF_RANGE, UNFIT, byte_or, put, tell};
 
 // Writes the packet of a message whose piece begins at a place, for a link with a limit.
-#[unsafe(no_mangle)]
-pub extern "C" fn pito_packet_write(
+pub fn pito_packet_write(
     room: u64,
     limit: u64,
     stream: u64,
@@ -40,8 +39,7 @@ pub extern "C" fn pito_packet_write(
 }
 
 // Writes an ACK, or a NACK where positive is 0.
-#[unsafe(no_mangle)]
-pub extern "C" fn pito_ack_write(
+pub fn pito_ack_write(
     stream: u64,
     id: u64,
     sequence: u64,

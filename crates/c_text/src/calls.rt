@@ -20,8 +20,7 @@ fn number_by(place: usize, len: usize) -> u64
 }
 
 // Tells the place of the first sequence that is not well formed, and of the first character that is not shown as text.
-#[unsafe(no_mangle)]
-pub extern "C" fn pito_text(text: &[u8], answer: &mut [u64]) -> u64
+pub fn pito_text(text: &[u8], answer: &mut [u64]) -> u64
     ensures { called result [] [] answer.new ≡ text_of text.now answer.old }
 {
     if answer.len() != TEXT_ANSWER {

@@ -5,8 +5,7 @@ ghost use Rattle.std.specs.Prelude.{◌≡◌};
 // The number that the header has as PITO_VERSION.
 const VERSION: u64 = 6;
 
-#[unsafe(no_mangle)]
-pub extern "C" fn pito_version_6() -> u64
+pub fn pito_version_6() -> u64
     ensures { result ≡ 6 }
 {
     VERSION

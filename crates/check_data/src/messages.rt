@@ -4,68 +4,69 @@ use msg_control::envelope::{Envelope, EnvelopePayload, EnvelopeRead, Payload, wr
 use msg_control::response::ResponsePayload;
 use proto_field::signed::sign_extended;
 use proto_writer::message::Wrote;
+use std::io::Stdout;
 use std::num::wrapping_sub_u64;
 
 // The output lent to a writer: more than any case needs.
 const OUTPUT: usize = 32;
 
-fn write_response(label: &[u8], command: i32, error_code: i32) {
+fn write_response(to: Stdout, label: &[u8], command: i32, error_code: i32) {
     let mut out = [0u8; OUTPUT];
     let payload = EnvelopePayload::Response {
         error_code,
         payload: ResponsePayload::None,
     };
     let wrote = write_envelope(&mut out, command, payload, b"");
-    text(label);
+    text(to, label);
     match wrote {
-        Wrote::Done(n) => bytes(&out, n),
-        Wrote::Refused(why) => refused(why.number()),
+        Wrote::Done(n) => bytes(to, &out, n),
+        Wrote::Refused(why) => refused(to, why.number()),
     }
-    end();
+    end(to);
 }
 
-fn signed(n: i32) {
+fn signed(to: Stdout, n: i32) {
     let value = sign_extended(n);
     if n < 0 {
-        text(b" -");
-        digits(wrapping_sub_u64(0, value));
+        text(to, b" -");
+        digits(to, wrapping_sub_u64(0, value));
     } else {
-        text(b" ");
-        digits(value);
+        text(to, b" ");
+        digits(to, value);
     }
 }
 
-fn print_payload(payload: Payload) {
+fn print_payload(to: Stdout, payload: Payload) {
     match payload {
         Payload::None => {}
         Payload::Response(response) => {
-            text(b", error code");
-            signed(response.error_code);
+            text(to, b", error code");
+            signed(to, response.error_code);
         }
-        Payload::Member { field: _, part: _ } => text(b", another member"),
+        Payload::Member { field: _, part: _ } => text(to, b", another member"),
     }
 }
 
-fn print_envelope(envelope: Envelope) {
+fn print_envelope(to: Stdout, envelope: Envelope) {
     let payload = envelope.payload;
-    text(b" command");
-    signed(envelope.command);
-    print_payload(payload);
+    text(to, b" command");
+    signed(to, envelope.command);
+    print_payload(to, payload);
 }
 
-fn read_envelope(label: &[u8], message: &[u8]) {
-    text(label);
+fn read_envelope(to: Stdout, label: &[u8], message: &[u8]) {
+    text(to, label);
     match msg_control::envelope::read_envelope(message) {
-        EnvelopeRead::Read(envelope) => print_envelope(envelope),
-        EnvelopeRead::Refused(_) => text(b" refused"),
+        EnvelopeRead::Read(envelope) => print_envelope(to, envelope),
+        EnvelopeRead::Refused(_) => text(to, b" refused"),
     }
-    end();
+    end(to);
 }
 
-pub fn cases() {
-    write_response(b"P10", 94, 0);
-    read_envelope(b"P10", b"\x08\x5E\x4A\x00");
-    write_response(b"P10", 20, 3);
-    read_envelope(b"P10", b"\x08\x14\x4A\x02\x08\x03");
-    read_envelope(b"P11", b"\x08\xFF\xFF\xFF\xFF\xFF\xFF\xFF\xFF\xFF\x01");
+pub fn cases(to: Stdout) {
+    write_response(to, b"P10", 94, 0);
+    read_envelope(to, b"P10", b"\x08\x5E\x4A\x00");
+    write_response(to, b"P10", 20, 3);
+    read_envelope(to, b"P10", b"\x08\x14\x4A\x02\x08\x03");
+    read_envelope(to, b"P11", b"\x08\xFF\xFF\xFF\xFF\xFF\xFF\xFF\xFF\xFF\x01");
 }

@@ -3,29 +3,30 @@ use crate::{LIMIT, OUTPUT};
 use check_printing::{bytes, end, refused, text};
 use classic_frame::header::next_sequence;
 use classic_writer::writer::WriteOutcome;
+use std::io::Stdout;
 
-fn write_frame(label: &[u8], sequence: u8, payload: &[u8]) {
+fn write_frame(to: Stdout, label: &[u8], sequence: u8, payload: &[u8]) {
     let mut out = [0u8; OUTPUT];
     let outcome = classic_writer::writer::write_frame(sequence, LIMIT, payload, &mut out);
-    text(label);
+    text(to, label);
     match outcome {
-        WriteOutcome::Frame(n) => bytes(&out, n),
-        WriteOutcome::Refused(why) => refused(why.number()),
+        WriteOutcome::Frame(n) => bytes(to, &out, n),
+        WriteOutcome::Refused(why) => refused(to, why.number()),
     }
-    end();
+    end(to);
 }
 
-fn next_sequence_byte(label: &[u8], sequence: u8) {
+fn next_sequence_byte(to: Stdout, label: &[u8], sequence: u8) {
     let next = [next_sequence(sequence)];
-    text(label);
-    bytes(&next, 1);
-    end();
+    text(to, label);
+    bytes(to, &next, 1);
+    end(to);
 }
 
-pub fn cases() {
-    write_frame(b"P1", 0, b"");
-    write_frame(b"P2", 5, b"\xF0");
-    next_sequence_byte(b"P3", 0xEF);
-    next_sequence_byte(b"P3", 0xFF);
-    next_sequence_byte(b"P3", 0x00);
+pub fn cases(to: Stdout) {
+    write_frame(to, b"P1", 0, b"");
+    write_frame(to, b"P2", 5, b"\xF0");
+    next_sequence_byte(to, b"P3", 0xEF);
+    next_sequence_byte(to, b"P3", 0xFF);
+    next_sequence_byte(to, b"P3", 0x00);
 }

@@ -10,6 +10,7 @@ use ble_sender::writer::{Sending, write_packet};
 use ble_slot::Slot;
 use ble_slot::answer::{Accepted, Answer};
 use check_printing::{bytes, end, number, refused, text};
+use std::io::Stdout;
 use wire::bytes::{byte_at, smaller};
 
 // More packets than any case has.
@@ -22,19 +23,19 @@ enum Shown {
     Pieces,
 }
 
-fn print_packet(shown: Shown, packet: &[u8], start: usize, len: usize) {
+fn print_packet(to: Stdout, shown: Shown, packet: &[u8], start: usize, len: usize) {
     match shown {
-        Shown::Headers => bytes(packet, start),
+        Shown::Headers => bytes(to, packet, start),
         Shown::Pieces => {
-            number(len);
+            number(to, len);
             if extender_bit(byte_at(packet, 1)) {
-                text(b" (extended)");
+                text(to, b" (extended)");
             }
         }
     }
 }
 
-fn print_read(shown: Shown, packet: &[u8], read: Packet) {
+fn print_read(to: Stdout, shown: Shown, packet: &[u8], read: Packet) {
     match read {
         Packet::First {
             head: _,
@@ -42,74 +43,81 @@ fn print_read(shown: Shown, packet: &[u8], read: Packet) {
             total: _,
             start,
             len,
-        } => print_packet(shown, packet, start, len),
+        } => print_packet(to, shown, packet, start, len),
         Packet::Next {
             head: _,
             ack: _,
             last: _,
             start,
             len,
-        } => print_packet(shown, packet, start, len),
-        Packet::Ack(_) => text(b" ACK"),
-        Packet::Nack(_) => text(b" NACK"),
+        } => print_packet(to, shown, packet, start, len),
+        Packet::Ack(_) => text(to, b" ACK"),
+        Packet::Nack(_) => text(to, b" NACK"),
     }
 }
 
 // Prints the packet that stands first in the output, as it is read back.
-fn read_packet(shown: Shown, out: &[u8], length: usize) {
+fn read_packet(to: Stdout, shown: Shown, out: &[u8], length: usize) {
     let n = smaller(length, out.len());
     match reader::read(LIMIT, &out[0..n]) {
-        reader::Answer::Read(read) => print_read(shown, out, read),
-        reader::Answer::Refused(why) => refused(why.number()),
+        reader::Answer::Read(read) => print_read(to, shown, out, read),
+        reader::Answer::Refused(why) => refused(to, why.number()),
     }
 }
 
 // Prints the packet of a message at a place, and answers the next place, or 0 after the last.
-fn next_packet(shown: Shown, how: Sending, message: &[u8], place: usize, out: &mut [u8]) -> usize {
+fn next_packet(
+    to: Stdout,
+    shown: Shown,
+    how: Sending,
+    message: &[u8],
+    place: usize,
+    out: &mut [u8],
+) -> usize {
     match write_packet(how, LIMIT, message, place, out) {
         writer::Answer::More { length, next } => {
-            read_packet(shown, out, length);
-            text(b",");
+            read_packet(to, shown, out, length);
+            text(to, b",");
             next
         }
         writer::Answer::Last { length } => {
-            read_packet(shown, out, length);
+            read_packet(to, shown, out, length);
             0
         }
         writer::Answer::Refused(why) => {
-            refused(why.number());
+            refused(to, why.number());
             0
         }
     }
 }
 
-fn print_packets(shown: Shown, how: Sending, message: &[u8], out: &mut [u8]) {
+fn print_packets(to: Stdout, shown: Shown, how: Sending, message: &[u8], out: &mut [u8]) {
     let mut place = 0;
     let mut turns = MOST_PACKETS;
     while turns > 0 {
         turns -= 1;
-        place = next_packet(shown, how, message, place, out);
+        place = next_packet(to, shown, how, message, place, out);
         if place == 0 {
             return;
         }
     }
 }
 
-fn write_packets(label: &[u8], shown: Shown, how: Sending, message: &[u8]) {
+fn write_packets(to: Stdout, label: &[u8], shown: Shown, how: Sending, message: &[u8]) {
     let mut out = [0u8; LARGEST_ROOM];
-    text(label);
-    print_packets(shown, how, message, &mut out);
-    end();
+    text(to, label);
+    print_packets(to, shown, how, message, &mut out);
+    end(to);
 }
 
-fn print_accepted(accepted: Accepted) {
+fn print_accepted(to: Stdout, accepted: Accepted) {
     match accepted {
         Accepted::Taken {
             index: _,
             stream: _,
             id: _,
             replaced: _,
-        } => text(b" taken"),
+        } => text(to, b" taken"),
         Accepted::Finished {
             index: _,
             stream: _,
@@ -118,18 +126,18 @@ fn print_accepted(accepted: Accepted) {
             ack,
             replaced: _,
         } => {
-            text(b" finished");
+            text(to, b" finished");
             if ack {
-                text(b", ACK wanted");
+                text(to, b", ACK wanted");
             }
         }
-        Accepted::Acked(_) => text(b" ACK"),
-        Accepted::Nacked(_) => text(b" NACK"),
+        Accepted::Acked(_) => text(to, b" ACK"),
+        Accepted::Nacked(_) => text(to, b" NACK"),
     }
 }
 
 // A packet given to a link with this first control slot and this first Alexa slot, all others idle.
-fn accept_packet(label: &[u8], control: Slot, alexa: Slot, packet: &[u8]) {
+fn accept_packet(to: Stdout, label: &[u8], control: Slot, alexa: Slot, packet: &[u8]) {
     let mut buffer = [0u8; SLOT_COUNT * LIMIT];
     let none = Slot::idle();
     let slots = [
@@ -138,23 +146,30 @@ fn accept_packet(label: &[u8], control: Slot, alexa: Slot, packet: &[u8]) {
     let mut out = [0u8; OUTPUT];
     let outcome = decide(SLOT_COUNT, slots, LIMIT, &mut buffer, packet, 9, &mut out);
     let answer = outcome.answer;
-    text(label);
+    text(to, label);
     match answer {
-        Answer::Given(accepted) => print_accepted(accepted),
-        Answer::Refused(why) => refused(why.number()),
+        Answer::Given(accepted) => print_accepted(to, accepted),
+        Answer::Refused(why) => refused(to, why.number()),
     }
-    end();
+    end(to);
 }
 
-fn write_acknowledgement(label: &[u8], stream: u8, id: u8, sequence: u8, positive: bool) {
+fn write_acknowledgement(
+    to: Stdout,
+    label: &[u8],
+    stream: u8,
+    id: u8,
+    sequence: u8,
+    positive: bool,
+) {
     let mut out = [0u8; OUTPUT];
     let answer = ble_ack::write(stream, id, sequence, positive, &mut out);
-    text(label);
+    text(to, label);
     match answer {
-        ble_ack::Answer::Written(n) => bytes(&out, n),
-        ble_ack::Answer::Refused(why) => refused(why.number()),
+        ble_ack::Answer::Written(n) => bytes(to, &out, n),
+        ble_ack::Answer::Refused(why) => refused(to, why.number()),
     }
-    end();
+    end(to);
 }
 
 // How a message is sent at a room: stream, id and sequence 0, no ACK wanted.
@@ -192,7 +207,7 @@ fn asking() -> Slot {
     }
 }
 
-fn sent() {
+fn sent(to: Stdout) {
     let fourth = Sending {
         room: 20,
         stream: 6,
@@ -200,21 +215,21 @@ fn sent() {
         sequence: 0,
         ack: true,
     };
-    write_packets(b"P4", Shown::Headers, fourth, &[0u8; 35]);
-    write_packets(b"P5", Shown::Pieces, in_room(244), &[0u8; 490]);
-    write_packets(b"P6", Shown::Pieces, in_room(262), &[0u8; 300]);
-    write_packets(b"P6", Shown::Pieces, in_room(263), &[0u8; 300]);
+    write_packets(to, b"P4", Shown::Headers, fourth, &[0u8; 35]);
+    write_packets(to, b"P5", Shown::Pieces, in_room(244), &[0u8; 490]);
+    write_packets(to, b"P6", Shown::Pieces, in_room(262), &[0u8; 300]);
+    write_packets(to, b"P6", Shown::Pieces, in_room(263), &[0u8; 300]);
 }
 
-pub fn cases() {
-    sent();
+pub fn cases(to: Stdout) {
+    sent(to);
     let none = Slot::idle();
-    accept_packet(b"P7", open_after(15), none, b"\x00\x04\x01\x00");
-    accept_packet(b"P7", open_after(15), none, b"\x00\xA4\x01\x00");
-    write_acknowledgement(b"P8", 6, 1, 0, true);
-    write_acknowledgement(b"P8", 6, 1, 0, false);
-    write_packets(b"P9", Shown::Headers, in_room(20), b"");
-    accept_packet(b"P9", none, none, b"\x00\x00\x00\x00\x00\x00");
-    accept_packet(b"No. 2", none, none, b"\x61\x02\x00\x00\x02\x01\xAA");
-    accept_packet(b"No. 2", none, asking(), b"\x61\x18\x01\xBB");
+    accept_packet(to, b"P7", open_after(15), none, b"\x00\x04\x01\x00");
+    accept_packet(to, b"P7", open_after(15), none, b"\x00\xA4\x01\x00");
+    write_acknowledgement(to, b"P8", 6, 1, 0, true);
+    write_acknowledgement(to, b"P8", 6, 1, 0, false);
+    write_packets(to, b"P9", Shown::Headers, in_room(20), b"");
+    accept_packet(to, b"P9", none, none, b"\x00\x00\x00\x00\x00\x00");
+    accept_packet(to, b"No. 2", none, none, b"\x61\x02\x00\x00\x02\x01\xAA");
+    accept_packet(to, b"No. 2", none, asking(), b"\x61\x18\x01\xBB");
 }

@@ -1,8 +1,10 @@
 // Reads a control message and writes it again: for comparison with other makers' tools (tools/compare_protoc).
 // Standard input is a letter for the message's kind and the message. Standard output is the answer; 1 is for any other letter, 2 for an
 // input that is too long.
+#![tactic(auto)]
+
 use check_answering::{NO_KIND, TOO_LONG, bytes_of, refuse, show, show_text};
-use libc::STDIN_FILENO;
+use cli_console::read_quietly;
 use msg_control::envelope::{
     EnvelopePayload, EnvelopeRead, Payload, read_envelope, write_envelope,
 };
@@ -10,6 +12,7 @@ use msg_control::response::{ResponsePayload, ResponseRead, read_response, write_
 use msg_device::features::{FeaturesRead, read_features, write_features};
 use msg_device::information::{read_information, write_information};
 use proto_reader::refusal::WalkVerdict;
+use std::io::Stdout;
 
 const ENVELOPE: u8 = b'E';
 
@@ -28,16 +31,16 @@ fn inner(field: u64) -> ResponsePayload {
     ResponsePayload::Member(field)
 }
 
-fn envelope_again(message: &[u8], out: &mut [u8]) {
+fn envelope_again(to: Stdout, message: &[u8], out: &mut [u8]) {
     match read_envelope(message) {
-        EnvelopeRead::Refused(e) => refuse(e.number()),
+        EnvelopeRead::Refused(e) => refuse(to, e.number()),
         EnvelopeRead::Read(e) => {
             let command = e.command;
             let payload = e.payload;
             match payload {
                 Payload::None => {
                     let wrote = write_envelope(out, command, EnvelopePayload::None, message);
-                    show(wrote, out);
+                    show(to, wrote, out);
                 }
                 Payload::Response(r) => {
                     let part = r.part;
@@ -46,34 +49,34 @@ fn envelope_again(message: &[u8], out: &mut [u8]) {
                         payload: inner(r.field),
                     };
                     let wrote = write_envelope(out, command, carried, bytes_of(message, part));
-                    show(wrote, out);
+                    show(to, wrote, out);
                 }
                 Payload::Member { field, part } => {
                     let carried = EnvelopePayload::Member(field);
                     let wrote = write_envelope(out, command, carried, bytes_of(message, part));
-                    show(wrote, out);
+                    show(to, wrote, out);
                 }
             }
         }
     }
 }
 
-fn response_again(message: &[u8], out: &mut [u8]) {
+fn response_again(to: Stdout, message: &[u8], out: &mut [u8]) {
     match read_response(message) {
-        ResponseRead::Refused(e) => refuse(e.number()),
+        ResponseRead::Refused(e) => refuse(to, e.number()),
         ResponseRead::Read(r) => {
             let part = r.part;
             let wrote = write_response(out, r.error_code, inner(r.field), bytes_of(message, part));
-            show(wrote, out);
+            show(to, wrote, out);
         }
     }
 }
 
-fn information_again(message: &[u8], out: &mut [u8]) {
+fn information_again(to: Stdout, message: &[u8], out: &mut [u8]) {
     let read = read_information(message);
     let verdict = read.verdict;
     match verdict {
-        WalkVerdict::Refused(e) => refuse(e.number()),
+        WalkVerdict::Refused(e) => refuse(to, e.number()),
         WalkVerdict::Fine => {
             let i = read.information;
             let serial_number = i.serial_number;
@@ -88,46 +91,48 @@ fn information_again(message: &[u8], out: &mut [u8]) {
                 &transports[..count],
                 bytes_of(message, device_type),
             );
-            show_text(wrote, out);
+            show_text(to, wrote, out);
         }
     }
 }
 
-fn features_again(message: &[u8], out: &mut [u8]) {
+fn features_again(to: Stdout, message: &[u8], out: &mut [u8]) {
     match read_features(message) {
-        FeaturesRead::Refused(e) => refuse(e.number()),
+        FeaturesRead::Refused(e) => refuse(to, e.number()),
         FeaturesRead::Read(f) => {
             let wrote = write_features(out, f);
-            show(wrote, out);
+            show(to, wrote, out);
         }
     }
 }
 
-fn again(kind: u8, message: &[u8], out: &mut [u8]) {
+fn again(to: Stdout, kind: u8, message: &[u8], out: &mut [u8]) {
     if kind == ENVELOPE {
-        return envelope_again(message, out);
+        return envelope_again(to, message, out);
     }
     if kind == RESPONSE {
-        return response_again(message, out);
+        return response_again(to, message, out);
     }
     if kind == INFORMATION {
-        return information_again(message, out);
+        return information_again(to, message, out);
     }
     if kind == FEATURES {
-        return features_again(message, out);
+        return features_again(to, message, out);
     }
-    refuse(NO_KIND)
+    refuse(to, NO_KIND)
 }
 
-fn main() {
+fn main(rt: HostRuntime) {
+    let to = rt.stdout();
+    let mut from = rt.stdin();
     let mut input = [0u8; 8194];
-    let n = io::read_full(STDIN_FILENO, &mut input);
+    let n = read_quietly(&mut from, &mut input);
     if n == 0 {
-        return refuse(NO_KIND);
+        return refuse(to, NO_KIND);
     }
     if n == INPUT {
-        return refuse(TOO_LONG);
+        return refuse(to, TOO_LONG);
     }
     let mut out = [0u8; 8192];
-    again(input[0], &input[1..n], &mut out);
+    again(to, input[0], &input[1..n], &mut out);
 }

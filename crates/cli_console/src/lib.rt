@@ -1,32 +1,54 @@
 // Standard input and output, for the programs. What fails is said once on the error output.
+#![tactic(auto)]
+
 pub mod sentences;
 
-ghost use Rattle.std.specs.Prelude.{◌≡◌, true, false, not, ◌||◌, ◌≤◌, length};
+ghost use Rattle.std.specs.Prelude.{◌≡◌, true, false, ◌≤◌, length, OnOk, OnErr};
 
-use libc::{STDERR_FILENO, STDIN_FILENO, STDOUT_FILENO};
+use std::env::FillError;
+use std::io;
+use std::io::{Error, Read, Stderr, Stdout, Write};
+use std::rt::Env;
 use wire::bytes::byte_at;
+
+// Where a program writes: its output, and what it says to whoever runs it.
+#[derive(Clone, Copy)]
+pub struct Console {
+    pub output: Stdout,
+    pub errors: Stderr,
+}
 
 // Standard output, and whether a write to it has failed: nothing more is then written.
 #[derive(Clone, Copy)]
 pub struct Output {
+    pub console: Console,
     pub failed: bool,
 }
 
 impl Output {
-    pub fn new() -> Self
+    pub fn new(console: Console) -> Self
         ensures { result.failed ≡ false }
     {
-        Output { failed: false }
+        Output {
+            console,
+            failed: false,
+        }
     }
 
-    fn after(self, written: bool) -> Self
-        ensures { result.failed ≡ (not written || self.failed) }
+    fn after(self, written: io::Result<()>) -> Self
+        ensures ok { OnOk written (result.failed ≡ self.failed) }
+        ensures err { OnErr written (result.failed ≡ true) }
     {
-        if written {
-            return self;
+        match written {
+            Ok(()) => self,
+            Err(error) => {
+                fail(self.console, b"standard output", error);
+                Output {
+                    console: self.console,
+                    failed: true,
+                }
+            }
         }
-        os::fail(b"standard output");
-        Output { failed: true }
     }
 
     pub fn text(self, words: &[u8]) -> Self
@@ -35,7 +57,8 @@ impl Output {
         if self.failed {
             return self;
         }
-        self.after(io::write_all(STDOUT_FILENO, words))
+        let out = self.console.output;
+        self.after(Print::write_all(&out, words))
     }
 
     pub fn number(self, n: u64) -> Self
@@ -44,7 +67,8 @@ impl Output {
         if self.failed {
             return self;
         }
-        self.after(io::print_decimal(STDOUT_FILENO, n))
+        let out = self.console.output;
+        self.after(print!(out; "{n}"))
     }
 
     // A byte as two hexadecimal digits.
@@ -54,17 +78,41 @@ impl Output {
         if self.failed {
             return self;
         }
-        self.after(io::print_hex(STDOUT_FILENO, b as u64, 2))
+        let out = self.console.output;
+        self.after(print!(out; "{b:02x}"))
     }
 }
 
 // What is said to whoever runs the program, beside its output.
-pub fn complain(words: &[u8]) {
-    io::write_all(STDERR_FILENO, words);
+pub fn complain(console: Console, words: &[u8]) {
+    let _ = Print::write_all(&console.errors, words);
 }
 
-pub fn complain_number(n: u64) {
-    io::print_decimal(STDERR_FILENO, n);
+pub fn complain_number(console: Console, n: u64) {
+    let errors = console.errors;
+    let _ = print!(errors; "{n}");
+}
+
+// The system's words for an error, without its number.
+fn words_alone(text: &str) -> &str {
+    match text.split_once(" (os error ") {
+        Some((words, _)) => words,
+        None => text,
+    }
+}
+
+// A line on the error output: what failed, as the caller names it, and the system's words for why.
+pub fn fail(console: Console, what: &[u8], error: Error) {
+    let mut space = [0u8; 128];
+    let mut rest: &mut [u8] = &mut space;
+    let _ = write!(rest, "{error}");
+    complain(console, what);
+    complain(console, b": ");
+    match std::str::from_utf8(&space) {
+        Ok(text) => complain(console, words_alone(text.trim_end_matches('\0')).as_bytes()),
+        Err(_) => {}
+    }
+    complain(console, b"\n");
 }
 
 fn is_same(a: &[u8], b: &[u8]) -> bool {
@@ -79,19 +127,49 @@ fn is_same(a: &[u8], b: &[u8]) -> bool {
     true
 }
 
+// Puts the program's argument at an index at the start of the space, and tells how many bytes it has; 0 where it is missing or
+// does not fit.
+pub fn argument<E: Env>(rt: &E, i: usize, space: &mut [u8]) -> usize
+    ensures { result ≤ length space.new }
+{
+    match rt.arg(i, space) {
+        Ok(n) => n,
+        Err(_) => 0,
+    }
+}
+
 // Whether the program's argument at an index is these words.
-pub fn argument_is(i: usize, words: &[u8]) -> bool {
+pub fn argument_is<E: Env>(rt: &E, i: usize, words: &[u8]) -> bool {
     let mut space = [0u8; 64];
-    let n = os::arg(i, &mut space);
+    let n = argument(rt, i, &mut space);
     is_same(&space[..n], words)
 }
 
+fn has_argument<E: Env>(rt: &E, i: usize) -> bool {
+    let mut space = [0u8; 64];
+    match rt.arg(i, &mut space) {
+        Ok(_) => true,
+        Err(FillError::TooLong) => true,
+        Err(FillError::NotPresent) => false,
+    }
+}
+
+// How many arguments the program was started with, its own name among them.
+pub fn argument_count<E: Env>(rt: &E) -> usize {
+    for i in 0..usize::MAX {
+        if !has_argument(rt, i) {
+            return i;
+        }
+    }
+    usize::MAX
+}
+
 // Whether the program was started with no argument, as one that takes none must be; otherwise says how it is used.
-pub fn is_alone(usage: &[u8]) -> bool {
-    if os::arg_count() <= 1 {
+pub fn is_alone<E: Env>(rt: &E, console: Console, usage: &[u8]) -> bool {
+    if argument_count(rt) <= 1 {
         return true;
     }
-    complain(usage);
+    complain(console, usage);
     false
 }
 
@@ -102,31 +180,32 @@ pub struct Input {
     pub failed: bool,
 }
 
-// One read; 0 bytes are the end of the input.
-pub fn read_some(bytes: &mut [u8]) -> Input
+// One read of standard input; 0 bytes are the end of the input.
+pub fn read_some<R: Read>(console: Console, input: &mut R, bytes: &mut [u8]) -> Input
     ensures { result.held ≤ length bytes.new }
 {
-    let got = libc::read(STDIN_FILENO, bytes);
-    if got < 0 {
-        os::fail(b"standard input");
-        return Input {
-            held: 0,
-            failed: true,
-        };
-    }
-    Input {
-        held: io::count(got, bytes),
-        failed: false,
+    match input.read(bytes) {
+        Ok(held) => Input {
+            held,
+            failed: false,
+        },
+        Err(error) => {
+            fail(console, b"standard input", error);
+            Input {
+                held: 0,
+                failed: true,
+            }
+        }
     }
 }
 
 // Reads until the bytes are full or the input ends.
-pub fn read_full(bytes: &mut [u8]) -> Input
+pub fn read_full<R: Read>(console: Console, input: &mut R, bytes: &mut [u8]) -> Input
     ensures { result.held ≤ length bytes.new }
 {
     let mut held = 0;
     while held < bytes.len() {
-        let more = read_some(&mut bytes[held..]);
+        let more = read_some(console, input, &mut bytes[held..]);
         if more.failed {
             return Input { held, failed: true };
         }
@@ -140,4 +219,22 @@ pub fn read_full(bytes: &mut [u8]) -> Input
         held,
         failed: false,
     }
+}
+
+// Reads until the bytes are full, the input ends or a read fails, of which nothing is said, and tells how many bytes came.
+pub fn read_quietly<R: Read>(input: &mut R, bytes: &mut [u8]) -> usize
+    ensures { result ≤ length bytes.new }
+{
+    let mut held = 0;
+    while held < bytes.len() {
+        let n = match input.read(&mut bytes[held..]) {
+            Ok(n) => n,
+            Err(_) => 0,
+        };
+        if n == 0 {
+            break;
+        }
+        held += n;
+    }
+    held
 }

@@ -1,16 +1,19 @@
 // Lists the records of an outbox file on standard output, for the crew: what a box kept. The file may be of any size: it
 // passes through one buffer that holds the version byte and the bytes from a record's place on.
+#![tactic(auto)]
+
 ghost use Rattle.std.specs.Prelude.{◌≡◌, ◌≤◌, length, take, ◌==◌};
 ghost use Rattle.outbox.specs.Format.{format_of, first_place};
 ghost use Rattle.outbox.specs.Reader.{fault_number};
 ghost use Rattle.cli_listing.specs.Listing.{buffer_size, ends_by, listed, listed_of, carried, carry_of, ListsAsWhole};
 
 use cli_console::sentences::explain_outbox;
-use cli_console::{Output, read_some};
+use cli_console::{Console, Output, read_some};
 use cli_payloads::say_payload;
 use outbox::format::FIRST_PLACE;
 use outbox::reader::{Reading, read, walk};
 use outbox::verdict::{Fault, Walked};
+use std::io::Read;
 use std::num::wrapping_add_u64;
 use wire::bytes::smaller;
 use wire::logic::{both, either};
@@ -92,7 +95,7 @@ fn say_end(output: Output, gone: u64, place: usize) -> Output {
 fn say_refused(output: Output, number: u8, gone: u64, place: usize) -> Output {
     let refused = output.text(b"refused ").number(number as u64);
     let said = say_place(refused.text(b" at "), gone, place).text(b"\n");
-    explain_outbox(number);
+    explain_outbox(output.console, number);
     said
 }
 
@@ -220,27 +223,27 @@ pub fn carry_over(buffer: &mut [u8], place: usize, held: usize) -> usize
 }
 
 // One read of standard input behind the bytes that the buffer keeps: what has come is listed, though the stream stays open.
-pub fn refill(buffer: &mut [u8], kept: usize) -> Refilled
+pub fn refill<R: Read>(console: Console, input: &mut R, buffer: &mut [u8], kept: usize) -> Refilled
     requires { kept ≤ length buffer.old }
     ensures { (result.held ≤ length buffer.new)
         × (take kept buffer.new ≡ take kept buffer.old) }
 {
-    let input = read_some(&mut buffer[kept..]);
-    let read = input.held;
+    let came = read_some(console, input, &mut buffer[kept..]);
+    let read = came.held;
     let held = kept + read;
     Refilled {
         held,
         last: read == 0,
-        failed: input.failed,
+        failed: came.failed,
     }
 }
 
 // Lists what standard input holds, each record as it comes, up to a read or a write that fails. A part is never full before a read: a
 // full one is listed beyond its first record. Nothing says that the input ends, so the loop counts down from a number that no run uses up.
-pub fn list(buffer: &mut [u8], view: RecordView) {
-    let mut output = Output::new();
+pub fn list<R: Read>(console: Console, input: &mut R, buffer: &mut [u8], view: RecordView) {
+    let mut output = Output::new(console);
     let mut gone = 0;
-    let mut filled = refill(buffer, 0);
+    let mut filled = refill(console, input, buffer, 0);
     let mut turns = u64::MAX;
     while turns > 0 {
         turns -= 1;
@@ -257,7 +260,7 @@ pub fn list(buffer: &mut [u8], view: RecordView) {
         let place = listed.place;
         gone = wrapping_add_u64(gone, (place - FIRST_PLACE) as u64);
         let kept = carry_over(buffer, place, held);
-        filled = refill(buffer, kept);
+        filled = refill(console, input, buffer, kept);
     }
 }
 

@@ -1,4 +1,6 @@
 // The payload of a record for people: as text where it is text, as hexadecimal digits where it is not.
+#![tactic(auto)]
+
 ghost use Rattle.std.specs.Prelude.{◌≡◌, true};
 
 use cli_console::Output;

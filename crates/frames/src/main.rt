@@ -1,9 +1,12 @@
 // Lists the frames of a Classic byte stream from standard input.
+#![tactic(auto)]
+
 use classic_extractor::outcome::Refusal;
 use classic_extractor::state::{CHECKSUM, Extractor, Phase, Progress};
 use classic_feed::many::{Fed, FeedOutcome, feed};
 use classic_frame::mark::Mark;
-use cli_console::{Output, complain, is_alone, read_some};
+use cli_console::{Console, Output, complain, is_alone, read_some};
+use std::io::Read;
 use std::num::{wrapping_add_u64, wrapping_sub_u64};
 use wire::logic::both;
 
@@ -58,7 +61,10 @@ fn say_end(listing: Listing) {
         ended.text(b" inside\n");
     }
     if both(used != 0, skipped == used) {
-        complain(b"frames: no frame begins in these bytes: none of them is F0\n");
+        complain(
+            output.console,
+            b"frames: no frame begins in these bytes: none of them is F0\n",
+        );
     }
 }
 
@@ -126,19 +132,19 @@ fn list_block(listing: Listing, buffer: &mut [u8], bytes: &[u8]) -> Listing {
 
 // Lists what standard input holds, each read as it comes: a frame is told when its last byte is there, though the stream stays open.
 // Nothing says that it ends, so the loop counts down from a number that no run uses up.
-fn list_all(buffer: &mut [u8]) {
+fn list_all<R: Read>(console: Console, stream: &mut R, buffer: &mut [u8]) {
     let mut bytes = [0u8; BLOCK];
     let state = Extractor::outside(LIMIT);
     let mut listing = Listing {
         state,
         used: 0,
         skipped: 0,
-        output: Output::new(),
+        output: Output::new(console),
     };
     let mut turns = u64::MAX;
     while turns > 0 {
         turns -= 1;
-        let input = read_some(&mut bytes);
+        let input = read_some(console, stream, &mut bytes);
         if input.failed {
             return;
         }
@@ -155,10 +161,15 @@ fn list_all(buffer: &mut [u8]) {
     say_end(listing);
 }
 
-fn main() {
-    if !is_alone(b"usage: frames < BYTES\n") {
+fn main(rt: HostRuntime) {
+    let console = Console {
+        output: rt.stdout(),
+        errors: rt.stderr(),
+    };
+    if !is_alone(&rt, console, b"usage: frames < BYTES\n") {
         return;
     }
+    let mut input = rt.stdin();
     let mut buffer = [0u8; ROOM];
-    list_all(&mut buffer);
+    list_all(console, &mut input, &mut buffer);
 }

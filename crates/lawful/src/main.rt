@@ -1,21 +1,23 @@
 // Judges the sender of the capture on standard input: room and limit, two bytes each, then the capture.
+#![tactic(auto)]
+
 use capture_judge::capture::Answer;
 use capture_judge::input::{LARGEST_CAPTURE, SETTINGS, judge_input};
 use cli_console::sentences::explain_capture;
-use cli_console::{Output, is_alone, read_full};
+use cli_console::{Console, Output, is_alone, read_full};
 
 // Room, limit, the largest capture, and one byte more, by which a larger one is told.
 const SPACE: usize = SETTINGS + LARGEST_CAPTURE + 1;
 
-fn show(answer: Answer) {
-    let output = Output::new();
+fn show(console: Console, answer: Answer) {
+    let output = Output::new(console);
     match answer {
         Answer::Refused { why, at: _ } => {
             output
                 .text(b"refused ")
                 .number(why.number() as u64)
                 .text(b"\n");
-            explain_capture(why.number());
+            explain_capture(console, why.number());
         }
         Answer::Lawful => {
             output.text(b"lawful\n");
@@ -29,15 +31,24 @@ fn show(answer: Answer) {
     }
 }
 
-fn main() {
-    if !is_alone(b"usage: lawful < INPUT (room and limit, two bytes each, then a capture)\n") {
+fn main(rt: HostRuntime) {
+    let console = Console {
+        output: rt.stdout(),
+        errors: rt.stderr(),
+    };
+    if !is_alone(
+        &rt,
+        console,
+        b"usage: lawful < INPUT (room and limit, two bytes each, then a capture)\n",
+    ) {
         return;
     }
+    let mut input = rt.stdin();
     let mut space = [0u8; SPACE];
-    let input = read_full(&mut space);
-    if input.failed {
+    let came = read_full(console, &mut input, &mut space);
+    if came.failed {
         return;
     }
-    let n = input.held;
-    show(judge_input(&space[..n]));
+    let n = came.held;
+    show(console, judge_input(&space[..n]));
 }

@@ -1,20 +1,28 @@
 // Writes the outbox file given on standard input in the version that the argument names, 01 or 02, to standard output. Where
 // it refuses, standard output gets nothing, and the error output says why. The file may be of any size: one pass judges it, and
 // another writes, each through a buffer that holds the version byte and the bytes from a record's place on.
+#![tactic(auto)]
+
 ghost use Rattle.std.specs.Prelude.{◌≡◌, length};
 
 use cli_console::sentences::explain_outbox;
-use cli_console::{Output, argument_is, complain, complain_number};
+use cli_console::{Console, Output, argument_count, argument_is, complain, complain_number};
 use cli_listing::{carry_over, judge_part, refill};
-use libc::{SEEK_SET, STDIN_FILENO};
 use outbox::format::FIRST_PLACE;
 use outbox_move::{Moved, Wished, move_file};
+use std::fs;
+use std::io::{Read, Stdin};
 use std::num::wrapping_add_u64;
+use std::os::unix::fs::FileTypeExt;
+use std::rt::{Env, Files};
 use wire::bytes::smaller;
 use wire::logic::either;
 
 // In any version a part has less than twice its bytes.
 const MOVED_ROOM: usize = 131082;
+
+// Standard input as a file that can be opened again.
+const INPUT: &str = "/dev/stdin";
 
 // The argument.
 #[derive(Drop)]
@@ -47,23 +55,23 @@ fn moved_room() -> [u8; MOVED_ROOM]
     [0; MOVED_ROOM]
 }
 
-fn complain_at(number: u8, place: u64) {
-    complain(b"move_outbox: refused ");
-    complain_number(number as u64);
-    complain(b" at ");
-    complain_number(place);
-    complain(b"\n");
-    explain_outbox(number);
+fn complain_at(console: Console, number: u8, place: u64) {
+    complain(console, b"move_outbox: refused ");
+    complain_number(console, number as u64);
+    complain(console, b" at ");
+    complain_number(console, place);
+    complain(console, b"\n");
+    explain_outbox(console, number);
 }
 
-fn argument() -> Asked {
-    if os::arg_count() != 2 {
+fn argument<E: Env>(rt: &E) -> Asked {
+    if argument_count(rt) != 2 {
         return Asked::Neither;
     }
-    if argument_is(1, b"01") {
+    if argument_is(rt, 1, b"01") {
         return Asked::One;
     }
-    if argument_is(1, b"02") {
+    if argument_is(rt, 1, b"02") {
         return Asked::Two;
     }
     Asked::Neither
@@ -122,7 +130,8 @@ fn move_part(
 // The end of a pass over a whole file: whether nothing was refused.
 fn end_pass(passed: PassSoFar) -> bool {
     if passed.number != 0 {
-        complain_at(passed.number, passed.place);
+        let output = passed.output;
+        complain_at(output.console, passed.number, passed.place);
         return false;
     }
     true
@@ -130,15 +139,22 @@ fn end_pass(passed: PassSoFar) -> bool {
 
 // A pass over standard input, up to its end, a refusal, or a read or a write that fails; whether it came to the end and nothing was
 // refused. Nothing says that the input ends, so the loop counts down from a number that no run uses up.
-fn pass_over(pass: Pass, wished: Wished, buffer: &mut [u8], space: &mut [u8]) -> bool {
+fn pass_over<R: Read>(
+    console: Console,
+    input: &mut R,
+    pass: Pass,
+    wished: Wished,
+    buffer: &mut [u8],
+    space: &mut [u8],
+) -> bool {
     let mut passed = PassSoFar {
-        output: Output::new(),
+        output: Output::new(console),
         begun: false,
         number: 0,
         place: 0,
     };
     let mut gone = 0;
-    let mut filled = refill(buffer, 0);
+    let mut filled = refill(console, input, buffer, 0);
     let mut turns = u64::MAX;
     while turns > 0 {
         turns -= 1;
@@ -151,7 +167,7 @@ fn pass_over(pass: Pass, wished: Wished, buffer: &mut [u8], space: &mut [u8]) ->
         let listed = judged.listed;
         let place = listed.place;
         if judged.number != 0 {
-            complain_at(judged.number, wrapping_add_u64(gone, place as u64));
+            complain_at(console, judged.number, wrapping_add_u64(gone, place as u64));
             return false;
         }
         let end = smaller(held, place);
@@ -161,31 +177,66 @@ fn pass_over(pass: Pass, wished: Wished, buffer: &mut [u8], space: &mut [u8]) ->
         }
         gone = wrapping_add_u64(gone, (place - FIRST_PLACE) as u64);
         let kept = carry_over(buffer, place, held);
-        filled = refill(buffer, kept);
+        filled = refill(console, input, buffer, kept);
     }
     false
 }
 
-// Nothing is written before the whole file is judged.
-fn move_input(wished: Wished, buffer: &mut [u8], space: &mut [u8]) {
-    if !pass_over(Pass::Judging, wished, buffer, space) {
-        return;
+// Whether standard input has a first byte that can be gone back to, as a file or a disk has and a pipe has not.
+fn has_start<F: Files>(rt: &F) -> bool {
+    match fs::metadata(rt, INPUT) {
+        Ok(found) => {
+            let kind = found.file_type();
+            either(kind.is_file(), kind.is_block_device())
+        }
+        Err(_) => false,
     }
-    if libc::lseek(STDIN_FILENO, 0, SEEK_SET) != 0 {
-        complain(
-            b"move_outbox: this input cannot be read twice: give the file itself (move_outbox 02 < OUTBOX)\n",
-        );
-        return;
-    }
-    pass_over(Pass::Writing, wished, buffer, space);
 }
 
-fn main() {
+// Standard input from its first byte on.
+fn from_start<F: Files>(rt: &F) -> Option<F::File> {
+    if !has_start(rt) {
+        return None;
+    }
+    fs::open(rt, INPUT).ok()
+}
+
+// Nothing is written before the whole file is judged.
+fn move_input<F: Files>(
+    rt: &F,
+    console: Console,
+    input: Stdin,
+    wished: Wished,
+    buffer: &mut [u8],
+    space: &mut [u8],
+) {
+    let mut judged = input;
+    if !pass_over(console, &mut judged, Pass::Judging, wished, buffer, space) {
+        return;
+    }
+    match from_start(rt) {
+        Some(file) => {
+            let mut again = file;
+            pass_over(console, &mut again, Pass::Writing, wished, buffer, space);
+        }
+        None => complain(
+            console,
+            b"move_outbox: this input cannot be read twice: give the file itself (move_outbox 02 < OUTBOX)\n",
+        ),
+    }
+}
+
+fn main(rt: HostRuntime) {
+    let console = Console {
+        output: rt.stdout(),
+        errors: rt.stderr(),
+    };
+    let input = rt.stdin();
     let mut buffer = cli_listing::room();
     let mut space = moved_room();
-    match argument() {
-        Asked::One => move_input(Wished::One, &mut buffer, &mut space),
-        Asked::Two => move_input(Wished::Two, &mut buffer, &mut space),
-        Asked::Neither => complain(b"usage: move_outbox 01|02 < OUTBOX > NEW_OUTBOX\n"),
+    match argument(&rt) {
+        Asked::One => move_input(&rt, console, input, Wished::One, &mut buffer, &mut space),
+        Asked::Two => move_input(&rt, console, input, Wished::Two, &mut buffer, &mut space),
+        Asked::Neither => complain(console, b"usage: move_outbox 01|02 < OUTBOX > NEW_OUTBOX\n"),
     }
 }

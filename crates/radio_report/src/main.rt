@@ -1,13 +1,19 @@
 // Prints what the radio cost over some captures. Arguments: the limit of the links, then the names of the captures. A capture that is
 // refused is named on standard output, one that cannot be read on the error output, and the others are added all the same.
+#![tactic(auto)]
+
 ghost use Rattle.std.specs.Prelude.{◌≡◌, length};
 
 use ble_receiver::SLOT_COUNT;
 use ble_slot::Slot;
 use capture_report::{CostReport, Costs};
 use capture_tally::{Answer, add_by_value};
-use cli_console::{Output, complain};
+use cli_console::{Console, Output, argument, argument_count, complain, fail, read_quietly};
+use std::fs;
+use std::io::{Error, ErrorKind, Read, Result};
 use std::num::{wrapping_add_u64, wrapping_sub_u64};
+use std::rt::{Env, Files};
+use std::str::from_utf8;
 use wire::bytes::{byte_at, smaller};
 use wire::limit::limit_fits;
 
@@ -22,6 +28,9 @@ const NO_LIMIT: usize = 65536;
 
 // The digits of the largest limit, and a few more.
 const LIMIT_WORD: usize = 8;
+
+// The bytes of the longest file name.
+const LONGEST_NAME: usize = 4096;
 
 // The digits that a column of numbers has room for.
 const COLUMN: usize = 10;
@@ -47,10 +56,14 @@ fn buffer_room() -> [u8; LARGEST_BUFFER]
     [0; LARGEST_BUFFER]
 }
 
-fn usage() {
-    complain(b"usage: radio_report LIMIT CAPTURE..\n");
-    complain(b"  LIMIT    of the links that read the captures, 1 to 65535\n");
+fn usage(console: Console) {
+    complain(console, b"usage: radio_report LIMIT CAPTURE..\n");
     complain(
+        console,
+        b"  LIMIT    of the links that read the captures, 1 to 65535\n",
+    );
+    complain(
+        console,
         b"  CAPTURE  a file of up to 1048576 bytes: the byte 01, then each packet with its length of two bytes before it\n",
     );
 }
@@ -70,9 +83,9 @@ fn with_digit(value: usize, digit: u8) -> usize {
 }
 
 // The first argument as a number; 0 where there is none.
-fn limit_given() -> usize {
+fn limit_given<E: Env>(rt: &E) -> usize {
     let mut word = [0u8; LIMIT_WORD];
-    let n = os::arg(1, &mut word);
+    let n = argument(rt, 1, &mut word);
     let mut limit = 0;
     let mut i = 0;
     while i < n {
@@ -94,7 +107,7 @@ fn no_costs() -> Costs {
     }
 }
 
-fn nothing_yet() -> ReportSoFar {
+fn nothing_yet(console: Console) -> ReportSoFar {
     let report = CostReport {
         control: no_costs(),
         ota: no_costs(),
@@ -103,7 +116,7 @@ fn nothing_yet() -> ReportSoFar {
     ReportSoFar {
         report,
         captures: 0,
-        output: Output::new(),
+        output: Output::new(console),
     }
 }
 
@@ -139,80 +152,107 @@ fn add_capture(
 }
 
 // Whether a file was read to its end.
-fn is_at_end(fd: i32, name: &[u8]) -> bool {
+fn is_at_end<F: Read>(console: Console, file: &mut F, name: &[u8]) -> bool {
     let mut more = [0u8; 1];
-    let got = libc::read(fd, &mut more);
-    if got < 0 {
-        os::fail(name);
-        return false;
+    match file.read(&mut more) {
+        Ok(0) => true,
+        Ok(_) => {
+            complain(console, name);
+            complain(console, b": more than 1048576 bytes\n");
+            false
+        }
+        Err(error) => {
+            fail(console, name, error);
+            false
+        }
     }
-    if got > 0 {
-        complain(name);
-        complain(b": more than 1048576 bytes\n");
-        return false;
-    }
-    true
 }
 
-fn add_opened(
+fn add_opened<F: Read + Drop>(
     before: ReportSoFar,
-    fd: i32,
+    opened: F,
     name: &[u8],
     limit: usize,
     buffer: &mut [u8],
     space: &mut [u8],
 ) -> ReportSoFar {
-    let held = io::read_full(fd, space);
-    let whole = is_at_end(fd, name);
-    libc::close(fd);
-    if !whole {
+    let output = before.output;
+    let mut file = opened;
+    let held = read_quietly(&mut file, space);
+    if !is_at_end(output.console, &mut file, name) {
         return before;
     }
     add_capture(before, name, limit, buffer, &space[..held])
 }
 
-fn add_file(
+// A file's name is text.
+fn open_capture<R: Files>(rt: &R, name: &[u8]) -> Result<R::File> {
+    match from_utf8(name) {
+        Ok(path) => fs::open(rt, path),
+        Err(_) => Err(Error::from(ErrorKind::InvalidFilename)),
+    }
+}
+
+fn add_file<R: Files>(
+    rt: &R,
     before: ReportSoFar,
     name: &[u8],
     limit: usize,
     buffer: &mut [u8],
     space: &mut [u8],
 ) -> ReportSoFar {
-    let fd = os::open_read(name);
-    if fd < 0 {
-        os::fail(name);
-        return before;
+    match open_capture(rt, name) {
+        Ok(file) => add_opened(before, file, name, limit, buffer, space),
+        Err(error) => {
+            let output = before.output;
+            fail(output.console, name, error);
+            before
+        }
     }
-    add_opened(before, fd, name, limit, buffer, space)
 }
 
-fn add_argument(
+fn add_argument<R: Env + Files>(
+    rt: &R,
     before: ReportSoFar,
     i: usize,
     limit: usize,
     buffer: &mut [u8],
     space: &mut [u8],
 ) -> ReportSoFar {
-    let mut name = io::buffer();
-    let n = os::arg(i, &mut name);
-    add_file(before, &name[..n], limit, buffer, space)
+    let mut name = [0u8; LONGEST_NAME];
+    let n = argument(rt, i, &mut name);
+    add_file(rt, before, &name[..n], limit, buffer, space)
 }
 
 // Adds each file that an argument names, from the second one on.
-fn add_files(count: usize, limit: usize, buffer: &mut [u8], space: &mut [u8]) -> ReportSoFar {
-    let mut sums = nothing_yet();
+fn add_files<R: Env + Files>(
+    rt: &R,
+    console: Console,
+    count: usize,
+    limit: usize,
+    buffer: &mut [u8],
+    space: &mut [u8],
+) -> ReportSoFar {
+    let mut sums = nothing_yet(console);
     let mut i = 2;
     while i < count {
-        sums = add_argument(sums, i, limit, buffer, space);
+        sums = add_argument(rt, sums, i, limit, buffer, space);
         i += 1;
     }
     sums
 }
 
+// How many decimal digits a number has.
+fn digit_count(n: u64) -> usize {
+    match n.checked_ilog10() {
+        Some(k) => k as usize + 1,
+        None => 1,
+    }
+}
+
 // A number at the right of its column, with a blank before it.
 fn say_number(output: Output, n: u64) -> Output {
-    let mut digits = [0u8; 20];
-    let mut k = io::decimal(n, &mut digits);
+    let mut k = digit_count(n);
     let mut said = output.text(b" ");
     while k < COLUMN {
         said = said.text(b" ");
@@ -271,9 +311,17 @@ fn say_all(sums: ReportSoFar, count: usize) {
         .text(b" captures\n");
 }
 
-fn report_files(count: usize, limit: usize, size: usize, parts: &mut [u8], space: &mut [u8]) {
+fn report_files<R: Env + Files>(
+    rt: &R,
+    console: Console,
+    count: usize,
+    limit: usize,
+    size: usize,
+    parts: &mut [u8],
+    space: &mut [u8],
+) {
     let n = smaller(size, parts.len());
-    let sums = add_files(count, limit, &mut parts[0..n], space);
+    let sums = add_files(rt, console, count, limit, &mut parts[0..n], space);
     say_all(sums, count);
 }
 
@@ -286,19 +334,23 @@ fn buffer_size(limit: usize) -> usize {
     }
 }
 
-fn main() {
-    let count = os::arg_count();
-    let limit = limit_given();
+fn main(rt: HostRuntime) {
+    let console = Console {
+        output: rt.stdout(),
+        errors: rt.stderr(),
+    };
+    let count = argument_count(&rt);
+    let limit = limit_given(&rt);
     let size = buffer_size(limit);
     if size == 0 {
-        usage();
+        usage(console);
         return;
     }
     if count < 3 {
-        usage();
+        usage(console);
         return;
     }
     let mut space = capture_room();
     let mut parts = buffer_room();
-    report_files(count, limit, size, &mut parts, &mut space);
+    report_files(&rt, console, count, limit, size, &mut parts, &mut space);
 }

@@ -1,23 +1,32 @@
 // Lists the outbox file given on standard input; with --payloads what each record holds, too.
-use cli_console::{argument_is, complain};
-use cli_listing::RecordView;
+#![tactic(auto)]
 
-fn list(view: RecordView) {
+use cli_console::{Console, argument_count, argument_is, complain};
+use cli_listing::RecordView;
+use std::io::Stdin;
+
+fn list(console: Console, input: Stdin, view: RecordView) {
+    let mut outbox = input;
     let mut room = cli_listing::room();
-    cli_listing::list(&mut room, view);
+    cli_listing::list(console, &mut outbox, &mut room, view);
 }
 
-fn main() {
-    if os::arg_count() <= 1 {
-        list(RecordView::Lengths);
+fn main(rt: HostRuntime) {
+    let console = Console {
+        output: rt.stdout(),
+        errors: rt.stderr(),
+    };
+    let count = argument_count(&rt);
+    if count <= 1 {
+        list(console, rt.stdin(), RecordView::Lengths);
         return;
     }
-    let payloads = argument_is(1, b"--payloads");
-    if os::arg_count() == 2 {
+    let payloads = argument_is(&rt, 1, b"--payloads");
+    if count == 2 {
         if payloads {
-            list(RecordView::Payloads);
+            list(console, rt.stdin(), RecordView::Payloads);
             return;
         }
     }
-    complain(b"usage: records [--payloads] < OUTBOX\n");
+    complain(console, b"usage: records [--payloads] < OUTBOX\n");
 }

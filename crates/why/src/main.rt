@@ -1,5 +1,7 @@
 // Says why a sender is not lawful: the same input as `lawful`, its line, and then of 41 and 42 their place, of the packet that decides
 // what was expected and what came, or what is still open at the end.
+#![tactic(auto)]
+
 use ble_packet::header;
 use capture_judge::State;
 use capture_judge::capture::Refusal;
@@ -8,7 +10,7 @@ use capture_next::NextPacket;
 use capture_stream::SenderSlot;
 use capture_why::{Came, Expected, Explained, Why};
 use cli_console::sentences::explain_capture;
-use cli_console::{Output, is_alone, read_full};
+use cli_console::{Console, Output, is_alone, read_full};
 use wire::bytes::{smaller, wide};
 use wire::stream::Stream;
 
@@ -165,7 +167,7 @@ fn say_at(output: Output, at: usize) -> Output {
 fn say_refused(output: Output, why: Refusal, at: usize) -> Output {
     let refused = say_number(output, b"refused ", wide(why.number())).text(b"\n");
     let said = say_at(refused, at);
-    explain_capture(why.number());
+    explain_capture(output.console, why.number());
     said
 }
 
@@ -184,8 +186,8 @@ fn say_explained(output: Output, explained: Explained) -> Output {
     }
 }
 
-fn explain(input: &[u8]) -> Output {
-    let output = Output::new();
+fn explain(console: Console, input: &[u8]) -> Output {
+    let output = Output::new(console);
     let start = smaller(input.len(), SETTINGS);
     let traced = trace_input(input);
     let why = capture_why::explain(&input[start..], room_in(input), limit_in(input), traced);
@@ -195,15 +197,24 @@ fn explain(input: &[u8]) -> Output {
     }
 }
 
-fn main() {
-    if !is_alone(b"usage: why < INPUT (room and limit, two bytes each, then a capture)\n") {
+fn main(rt: HostRuntime) {
+    let console = Console {
+        output: rt.stdout(),
+        errors: rt.stderr(),
+    };
+    if !is_alone(
+        &rt,
+        console,
+        b"usage: why < INPUT (room and limit, two bytes each, then a capture)\n",
+    ) {
         return;
     }
+    let mut input = rt.stdin();
     let mut space = [0u8; SPACE];
-    let input = read_full(&mut space);
-    if input.failed {
+    let came = read_full(console, &mut input, &mut space);
+    if came.failed {
         return;
     }
-    let n = input.held;
-    explain(&space[..n]);
+    let n = came.held;
+    explain(console, &space[..n]);
 }
