@@ -75,29 +75,42 @@ def by_hand():
         raise SystemExit(f"{done.stdout[-4000:]}\nrt lib: {EXPORTS} is not proved")
 
 
+def words(name, crates, home):
+    """rattle's words for a crate over the libraries that are built, as rt has them."""
+    direct, of_kit = crates[name]
+    root = "main" if os.path.exists(os.path.join(ROOT, "crates", name, "src/main.rt")) else "lib"
+    found = ["--crate-name", name, f"src/{root}.rt"]
+    for library in ("std", *of_kit):
+        found += ["--extern", f"{library}={home}/rlibs/{library}.rlib"]
+    found += ["-L", f"dependency={home}/rlibs"]
+    for library in direct:
+        found += ["--extern", f"{library}={rlib(library)}"]
+    for library in below(name, crates):
+        found += ["-L", f"dependency={os.path.dirname(rlib(library))}"]
+    found += ["--antt-project", f"{home}/rattle/logic/antt-project.json", "--logic-built", f"{home}/logic_built", "--links", f"{name}="]
+    return found + ["--crate-type", "staticlib"] * (name == EXPORTS)
+
+
+def rattle(home, verb, name, more):
+    """Runs rattle in a crate's folder; returns its status and what it says."""
+    done = subprocess.run([f"{home}/bin/rattle", verb, *words(name, listed(), home), *more], cwd=os.path.join(ROOT, "crates", name),
+                          stdin=subprocess.DEVNULL, stdout=subprocess.PIPE, stderr=subprocess.STDOUT, text=True, errors="replace")
+    return done.returncode or not re.search(r"^logic=proved ", done.stdout, re.M), done.stdout
+
+
 def static_library(out, toolchain=None):
     """Proves the exported functions over the libraries that are built, and compiles them, as `rt lib` does, into the archive `out`;
     returns what the check says. `rt ci` proves a static library and builds none."""
-    crates, home = listed(), kit()
-    direct, of_kit = crates[EXPORTS]
-    words = [f"{home}/bin/rattle", "build", "--crate-name", EXPORTS, "src/lib.rt"]
-    for name in ("std", *of_kit):
-        words += ["--extern", f"{name}={home}/rlibs/{name}.rlib"]
-    words += ["-L", f"dependency={home}/rlibs"]
-    for name in direct:
-        words += ["--extern", f"{name}={rlib(name)}"]
-    for name in below(EXPORTS, crates):
-        words += ["-L", f"dependency={os.path.dirname(rlib(name))}"]
-    words += ["--antt-project", f"{home}/rattle/logic/antt-project.json", "--logic-built", f"{home}/logic_built", "--links", f"{EXPORTS}="]
-    words += ["--jobs", str(min(4, len(os.sched_getaffinity(0)))), "--crate-type", "staticlib"]
-    words += ["--toolchain", toolchain or f"{home}/toolchain", "--backend", "llvm", "-o", out]
-    how = {"cwd": os.path.join(ROOT, "crates", EXPORTS), "stdout": subprocess.PIPE, "stderr": subprocess.STDOUT, "text": True}
+    home = kit()
+    jobs = str(min(4, len(os.sched_getaffinity(0))))
+    # The code runs on every x86-64 processor; the kit's own choice wants a later one.
+    more = ["--jobs", jobs, "--cpu", "x86-64", "--toolchain", toolchain or f"{home}/toolchain", "--backend", "llvm", "-o", out]
     libraries()
-    done = subprocess.run(words, **how)
-    if done.returncode:
+    failed, said = rattle(home, "build", EXPORTS, more)
+    if failed:
         # What stands below may be of several runs that do not fit one another.
         by_hand()
-        done = subprocess.run(words, **how)
-    if done.returncode or not re.search(r"^logic=proved ", done.stdout, re.M):
-        raise SystemExit(f"{done.stdout[-4000:]}\n{EXPORTS} is not proved, or not built")
-    return done.stdout
+        failed, said = rattle(home, "build", EXPORTS, more)
+    if failed:
+        raise SystemExit(f"{said[-4000:]}\n{EXPORTS} is not proved, or not built")
+    return said
