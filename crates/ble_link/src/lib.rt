@@ -1,5 +1,6 @@
 // A packet given to a link whose slots are lent as a row. All rules stand below; these functions only walk the row.
 #![tactic(auto)]
+
 ghost use Rattle.std.specs.Prelude.{◌≡◌, get_or, set};
 ghost use Rattle.ble_slot.specs.Answer.{told};
 ghost use Rattle.ble_slot.specs.Slot.{idle};

@@ -1,5 +1,6 @@
 // Adds what a capture cost to a report: a fresh link reads its packets.
 #![tactic(auto)]
+
 pub mod count;
 pub mod sums;
 

@@ -1,5 +1,6 @@
 // Fields of Protocol Buffers messages: varints, 32-bit numbers, tags and values, read.
 #![tactic(auto)]
+
 pub mod fields;
 pub mod signed;
 pub mod tag;
