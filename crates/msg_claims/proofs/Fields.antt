@@ -141,7 +141,7 @@ reads-entries {s} {at} (t ∷ ts) g fs h a =
     let l = varints_bytes (map extended ts) in
     reads-next entry-forward (with_transports (t ∷ []) g, at + length v)
     (within a (omega (arith, length-append v l, varint-count (extended t)))) (entry-step t g fs.0 (omega arith) (front v l a))
-    (rw (one_more t ts g) at (reads-entries ts (with_transports (t ∷ []) g) fs.1 (omega arith) (behind v l a)))
+    (rw (one_more t ts g) at (reads-entries {s = s} {at = at + length v} ts (with_transports (t ∷ []) g) fs.1 (omega arith) (behind v l a)))
 
 module _ (schema : Schema) {s : List ℕ} {at : ℕ} {rest : List ℕ} {r : ToldMore Gathered} (g : Gathered) (f : ℕ) (low : 1 ≤ f) (high : f ≤ last_field) where
   pub reads-scalar : (i v : ℕ) → role_of schema f ≡ Scalar i → v < 2 ^ 64 → with_scalar i 0 g ≡ g → At s at (field_bytes (scalar f v)) rest

@@ -8,9 +8,6 @@ use lib.Dec.{ltb, eqb}
 use borrow.Author.Tests.{ltb-false}
 use Rattle.wire.specs.Told.{Told, given, refused}
 use Rattle.wire.proofs.Tests.{by_cond}
-use Rattle.proto_field.specs.declared.fields.Fields.{Fields}
-use Rattle.proto_field.specs.declared.fields.Found.{Found}
-use Rattle.proto_field.specs.declared.fields.NextField.{NextField}
 use Rattle.proto_field.specs.declared.tag.FieldHead.{FieldHead}
 use Rattle.proto_field.specs.declared.value.Part.{Part}
 use Rattle.proto_field.specs.declared.value.Value.{Value}
@@ -18,7 +15,6 @@ use Rattle.proto_field.specs.declared.value.Value.TheVariants.{Number, Skipped}
 use Rattle.proto_field.specs.Varint.{varint_at}
 use Rattle.proto_field.specs.Tag.{bad_tag, head_of, tag_at}
 use Rattle.proto_field.specs.Value.{skipped_at, part_of, value_at, Within, TellsWithin, value_parts, read_parts}
-use Rattle.proto_field.specs.Fields.{found_at, told_found, behind, standing_parts}
 use Rattle.proto_field.proofs.Told.{Sat, sat-then}
 use Rattle.proto_field.proofs.Varints.{Ends, varint-ends}
 
@@ -58,15 +54,6 @@ value-told s at wire t e = (e, go t (subst (Sat (Held s at)) (sym e) (value-held
     go : (r : Told (Value × ℕ)) → Sat (Held s at) r → TellsWithin s read_parts r
     go (given q) h = h.1
     go (refused n) h = tt
-
--- what is told of a place: what stands there, and its part lies within the message
-abbrev pub TellsField : List ℕ → ℕ → Found → Type 0
-TellsField s at r = (told_found r ≡ found_at s at) × TellsWithin s standing_parts (told_found r)
-
--- what `next` hands back at a reader: what is told of its place, and the reader with its place behind it
-abbrev pub TellsNext : Fields → NextField → Type 0
-TellsNext d x =
-    TellsField d.message.now d.at x.found × (x.rest.message ≡ d.message) × (x.rest.at ≡ behind d.at (told_found x.found))
 
 -- ---- parts within a message: in a longer one, with one of them replaced, and each by itself
 pub within-longer : (s t : List ℕ) (ps : List Part) → length s ≤ length t → Within s ps → Within t ps
