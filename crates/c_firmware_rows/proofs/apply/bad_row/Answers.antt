@@ -8,12 +8,12 @@ returns-then-number_at-gt1 c = rw (← c.number_at.ensures, lt-ltb _ _ c.if-numb
 
 pub returns-then-is_wide : goal.returns-then-is_wide
 unfolding bad_row
-returns-then-is_wide c = rw (← c.number_at.ensures, le-ltb _ _ c.if-number_at-gt1.false, ← c.number_at-2.ensures, ← c.is_IsWide.ensures, c.if-is_wide.true)
+returns-then-is_wide c = rw (← c.number_at.ensures, le-ltb _ _ c.if-number_at-gt1.false, ← c.number_at-2.ensures, ← c.is_wide.ensures, c.if-is_wide.true)
 
 pub returns-then-count-gt-MOST_REPEATED : goal.returns-then-count-gt-MOST_REPEATED
 unfolding bad_row
-returns-then-count-gt-MOST_REPEATED c = rw (← c.number_at.ensures, le-ltb _ _ c.if-number_at-gt1.false, ← c.number_at-2.ensures, ← c.is_IsWide.ensures, c.if-is_wide.false, ← c.number_at-count.ensures, lt-ltb _ _ c.if-count-gt-MOST_REPEATED.true)
+returns-then-count-gt-MOST_REPEATED c = rw (← c.number_at.ensures, le-ltb _ _ c.if-number_at-gt1.false, ← c.number_at-2.ensures, ← c.is_wide.ensures, c.if-is_wide.false, ← c.number_at-count.ensures, lt-ltb _ _ c.if-count-gt-MOST_REPEATED.true)
 
 pub returns : goal.returns
 unfolding bad_row
-returns c = rw (← c.number_at.ensures, le-ltb _ _ c.if-number_at-gt1.false, ← c.number_at-2.ensures, ← c.is_IsWide.ensures, c.if-is_wide.false, ← c.number_at-count.ensures, le-ltb _ _ c.if-count-gt-MOST_REPEATED.false) c.any_wide.ensures
+returns c = rw (← c.number_at.ensures, le-ltb _ _ c.if-number_at-gt1.false, ← c.number_at-2.ensures, ← c.is_wide.ensures, c.if-is_wide.false, ← c.number_at-count.ensures, le-ltb _ _ c.if-count-gt-MOST_REPEATED.false) c.any_wide.ensures

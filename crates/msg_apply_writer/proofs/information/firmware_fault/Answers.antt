@@ -11,7 +11,7 @@ use Rattle.msg_apply_writer.proofs.information.firmware_fault.Goals as goal
 
 pub returns-then-all_ascii : goal.returns-then-all_ascii
 returns-then-all_ascii c =
-    sym (ascii-firmware c.args.texts.now ((λ i. (c.shared_slice_known-1.given i).fits), c.all_IsAscii.ensures c.if-all_ascii.true) c.args.information)
+    sym (ascii-firmware c.args.texts.now ((λ i. (c.shared_slice_known-1.given i).fits), c.all_ascii.ensures c.if-all_ascii.true) c.args.information)
 
 pub text_part_fault-first-requires : goal.text_part_fault-first-requires
 text_part_fault-first-requires c = (firmware-fine c.args.texts.now c.args.information c.requires).name
