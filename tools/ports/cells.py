@@ -9,7 +9,7 @@ number's in another is one cell with both kinds, and is told."""
 class Cells:
     def __init__(self):
         self.block_of, self.fields, self.whole = [], [], []
-        self.cell_of, self.kinds, self.points_to, self.copies = [], [], {}, []
+        self.cell_of, self.kinds, self.points_to, self.copies, self.cleared = [], [], {}, [], []
 
     def block(self):
         self.block_of.append(len(self.block_of))
@@ -99,6 +99,10 @@ class Cells:
         """Settled at the end, since cells come later too."""
         self.copies.append((to, source, size))
 
+    def zeros(self, place, size):
+        """Bytes become 0: the number 0 and the null pointer alike, in 4 bytes and in 8, where no pointer is cut."""
+        self.cleared.append((place, size))
+
     def settle(self):
         changed = True
         while changed:
@@ -132,6 +136,10 @@ class Cells:
                 for at, where in self.pointers_of(block):
                     if at < start + size and start < at + 8 and not start <= at <= start + size - 8:
                         yield f"a copy of {size} bytes cuts a pointer\n  {where}"
+        for (block, start), size in self.cleared:
+            for at, where in self.pointers_of(block):
+                if at < start + size and start < at + 8 and not start <= at <= start + size - 8:
+                    yield f"{size} bytes of 0 cut a pointer\n  {where}"
 
     def overlaps(self, block):
         for at, where in self.pointers_of(block):
