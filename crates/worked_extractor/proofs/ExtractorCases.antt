@@ -16,4 +16,4 @@ unfolding answer_to cases steps_of feeds_of limit_fits kind_of sum_of code_of la
 holds = refl
 
 pub extractor-cases : ExtractorCases
-extractor-cases = agree (λ (c : ExtractorCase). answer_to c.question) (λ (c : ExtractorCase). c.expected) holds
+extractor-cases a = agree (λ (c : ExtractorCase). answer_to c.question) (λ (c : ExtractorCase). c.expected) a holds
