@@ -23,4 +23,4 @@ returns c =
       c.bit64-a.ensures.0,
       c.opens.ensures,
     )
-    (open-four c.args.t1 c.well_formed.0.1.0.1)
+    (open-four c.args.lane c.well_formed.0.1.0.1)

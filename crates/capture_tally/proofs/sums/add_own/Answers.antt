@@ -36,7 +36,7 @@ returns-then-number-eq0 c =
     let i = inside (goal.at.returns-then-number-eq0 c).After-alexa-1 in
     rw c.add_costs-sum.ensures
     (on-control c.args.report c.args.more i.control-fits i.ota-fits i.alexa-fits c.args.number c.if-number-eq0.true true
-    (add_costs-sum-requires (goal.at.returns-then-number-eq0 c).Else-not-costs_fit tt))
+    (sym c.costs_fit.ensures ∙ not-false c.costs_fit.result c.if-not-costs_fit.false-raw))
 
 pub returns-then-not-costs_fit-2 : goal.returns-then-not-costs_fit-2
 returns-then-not-costs_fit-2 c =
@@ -52,7 +52,7 @@ returns-then-number-eq2 c =
     let i = inside (goal.at.returns-then-number-eq2 c).After-alexa-1 in
     rw c.add_costs-sum-then-number-eq2.ensures
     (on-ota c.args.report c.args.more i.control-fits i.ota-fits i.alexa-fits c.args.number c.if-number-eq2.true true
-    (add_costs-sum-requires-then-number-eq2 (goal.at.returns-then-number-eq2 c).Else-not-costs_fit-2 tt))
+    (sym c.costs_fit-then-number-eq2.ensures ∙ not-false c.costs_fit-then-number-eq2.result c.if-not-costs_fit-2.false-raw))
 
 pub returns-then-not-costs_fit-3 : goal.returns-then-not-costs_fit-3
 returns-then-not-costs_fit-3 c =
@@ -68,7 +68,7 @@ returns-then-number-eq6 c =
     let i = inside (goal.at.returns-then-number-eq6 c).After-alexa-1 in
     rw c.add_costs-sum-then-number-eq6.ensures
     (on-alexa c.args.report c.args.more i.control-fits i.ota-fits i.alexa-fits c.args.number c.if-number-eq6.true true
-    (add_costs-sum-requires-then-number-eq6 (goal.at.returns-then-number-eq6 c).Else-not-costs_fit-3 tt))
+    (sym c.costs_fit-then-number-eq6.ensures ∙ not-false c.costs_fit-then-number-eq6.result c.if-not-costs_fit-3.false-raw))
 
 pub returns : goal.returns
 returns c =
