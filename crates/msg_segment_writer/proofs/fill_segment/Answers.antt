@@ -5,15 +5,15 @@ use Rattle.msg_segment_writer.proofs.fill_segment.Goals as goal
 
 pub returns-then-broken-ne-NO_FIELD : goal.returns-then-broken-ne-NO_FIELD
 returns-then-broken-ne-NO_FIELD c =
-    segment-broken c.args.component_name.now c.args.component_offset c.args.segment-size c.args.segment_signature.now c.args.out.now _ c.broken_field-broken.ensures c.if-broken-ne-NO_FIELD.true
+    segment-broken c.args.component_name.now c.args.component_offset c.args.segment_size c.args.segment_signature.now c.args.out.now _ c.broken_field-broken.ensures c.if-broken-ne-NO_FIELD.true
 
 pub put_segment-end-requires : goal.put_segment-end-requires
 put_segment-end-requires c = room-left _ _ _ (sym c.segment_room.ensures ∙ c.in-Left.is)
 
 pub returns-in-Short : goal.returns-in-Short
 returns-in-Short c =
-    segment-short c.args.component_name.now c.args.component_offset c.args.segment-size c.args.segment_signature.now c.args.out.now _ c.broken_field-broken.ensures c.if-broken-ne-NO_FIELD.false (room-short _ _ (sym c.segment_room.ensures ∙ c.in-Short.is))
+    segment-short c.args.component_name.now c.args.component_offset c.args.segment_size c.args.segment_signature.now c.args.out.now _ c.broken_field-broken.ensures c.if-broken-ne-NO_FIELD.false (room-short _ _ (sym c.segment_room.ensures ∙ c.in-Short.is))
 
 pub returns-in-Left : goal.returns-in-Left
 returns-in-Left c =
-    segment-wrote c.args.component_name.now c.args.component_offset c.args.segment-size c.args.segment_signature.now c.args.out.now _ c.broken_field-broken.ensures c.if-broken-ne-NO_FIELD.false (room-left _ _ _ (sym c.segment_room.ensures ∙ c.in-Left.is)) c.put_segment-end.ensures
+    segment-wrote c.args.component_name.now c.args.component_offset c.args.segment_size c.args.segment_signature.now c.args.out.now _ c.broken_field-broken.ensures c.if-broken-ne-NO_FIELD.false (room-left _ _ _ (sym c.segment_room.ensures ∙ c.in-Left.is)) c.put_segment-end.ensures

@@ -10,20 +10,20 @@ use borrow.Author.Rules.{rules}
 use Rattle.msg_segment_writer.proofs.put_segment.Goals as goal
 
 pub put_text-second-requires : goal.put_text-second-requires
-put_text-second-requires c = (search rules, omega (arith, c.requires, segment-length c.args.component_name.now c.args.segment-size c.args.segment_signature.now))
+put_text-second-requires c = (search rules, omega (arith, c.requires, segment-length c.args.component_name.now c.args.segment_size c.args.segment_signature.now))
 
 pub put_scalar-third-requires : goal.put_scalar-third-requires
 put_scalar-third-requires c =
-    (search rules, omega (arith, c.requires, segment-length c.args.component_name.now c.args.segment-size c.args.segment_signature.now, c.put_text-second.ensures.place, c.put_text-second.auto.out))
+    (search rules, omega (arith, c.requires, segment-length c.args.component_name.now c.args.segment_size c.args.segment_signature.now, c.put_text-second.ensures.place, c.put_text-second.auto.out))
 
 pub put_text-requires : goal.put_text-requires
 put_text-requires c =
-    (search rules, omega (arith, c.requires, segment-length c.args.component_name.now c.args.segment-size c.args.segment_signature.now, c.put_text-second.ensures.place, c.put_text-second.auto.out, c.put_scalar-third.ensures.place, c.put_scalar-third.auto.out))
+    (search rules, omega (arith, c.requires, segment-length c.args.component_name.now c.args.segment_size c.args.segment_signature.now, c.put_text-second.ensures.place, c.put_text-second.auto.out, c.put_scalar-third.ensures.place, c.put_scalar-third.auto.out))
 
 pub returns : goal.returns
 returns c =
     let f₁ = text component_name_field c.args.component_name.now in
     let f₂ = scalar component_offset_field 0 in
-    let f₃ = scalar segment_size_field c.args.segment-size in
+    let f₃ = scalar segment_size_field c.args.segment_size in
     let f₄ = text segment_signature_field c.args.segment_signature.now in
     put-field f₁ (f₂ ∷ f₃ ∷ f₄ ∷ []) c.put_text-second.ensures (put-skip f₂ (f₃ ∷ f₄ ∷ []) (scalar-none component_offset_field 0 refl) (put-field f₃ (f₄ ∷ []) c.put_scalar-third.ensures (put_last f₄ c.put_text.ensures)))

@@ -11,7 +11,7 @@ pub returns : goal.returns
 returns c =
     let f₁ = text component_name_field c.args.component_name.now in
     let f₂ = scalar component_offset_field 0 in
-    let f₃ = scalar segment_size_field c.args.segment-size in
+    let f₃ = scalar segment_size_field c.args.segment_size in
     let f₄ = text segment_signature_field c.args.segment_signature.now in
     room-more f₁ (f₂ ∷ f₃ ∷ f₄ ∷ []) (Left c.args.len) c.text_len.ensures.0 c.less.ensures
     (room-skip f₂ (f₃ ∷ f₄ ∷ []) c.less.result (scalar-none component_offset_field 0 refl)

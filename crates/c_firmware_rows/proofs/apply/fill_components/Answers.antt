@@ -22,10 +22,10 @@ loop-i-preserved c =
       omega arith,
       omega arith,
       rw (filled, length-sets) c.loop-i.invariant.2,
-      rw (filled, c.component_row-numbers.ensures, c.loop-i.invariant.3) (rows_more c.args.row.now c.args.t2 c.loop-i.i c.loop-i.at c.loop-i.invariant.1 (omega (arith, c.well_formed.1.0.1.0.1))),
+      rw (filled, c.component_row-numbers.ensures, c.loop-i.invariant.3) (rows_more c.args.row.now c.args.components c.loop-i.i c.loop-i.at c.loop-i.invariant.1 (omega (arith, c.well_formed.1.0.1.0.1))),
     )
 
 pub returns : goal.returns
 returns c =
     let eight = c.well_formed.1.0.1.0.1 in
-    let all = take_all c.loop-i.i c.args.t2 (omega (arith, eight)) in record { row_after = c.loop-i.invariant.3 ∙ ap (λ (cs : List FirmwareComponent). sets c.args.row.now 9 (component_rows cs)) all; components_len = eight }
+    let all = take_all c.loop-i.i c.args.components (omega (arith, eight)) in record { row_after = c.loop-i.invariant.3 ∙ ap (λ (cs : List FirmwareComponent). sets c.args.row.now 9 (component_rows cs)) all; components_len = eight }

@@ -18,7 +18,7 @@ use Rattle.msg_apply_writer.proofs.information.put_components.Goals.{Start}
 use Rattle.msg_apply_writer.proofs.information.put_components.Goals as goal
 
 -- there are no more than the array holds
-room : (c : Start) → c.args.count ≤ length c.args.t4
+room : (c : Start) → c.args.count ≤ length c.args.components
 room c = omega (arith, c.requires.0, c.well_formed.1.1.1.0.1.0.1)
 
 pub loop-i-init : goal.loop-i-init
@@ -32,11 +32,11 @@ bounds-components-i c = omega (arith, c.requires.0, c.loop-i-test.true)
 
 pub put_component-at-requires : goal.put_component-at-requires
 put_component-at-requires c =
-    let here = listed_here c.args.t4 c.args.count c.loop-i.i (room (goal.at.put_component-at-requires c).Start) c.loop-i-test.true in
-    let f = component_field c.args.texts.now (get_or c.args.t4 c.loop-i.i no_component) in
+    let here = listed_here c.args.components c.args.count c.loop-i.i (room (goal.at.put_component-at-requires c).Start) c.loop-i-test.true in
+    let f = component_field c.args.texts.now (get_or c.args.components c.loop-i.i no_component) in
     let e = ap (λ cs. length (message_bytes (map (component_field c.args.texts.now) cs))) here in (
-      (components-fine c.args.texts.now (get_or c.args.t4 c.loop-i.i no_component) (drop (c.loop-i.i + 1) (take c.args.count c.args.t4)) (rw here at c.loop-i.invariant.fine)).0,
-      omega (arith, c.requires.2, c.loop-i.invariant.place, c.loop-i.invariant.long, e, message-length f (fields_at c.args.texts.now c.args.t4 c.args.count (c.loop-i.i + 1))),
+      (components-fine c.args.texts.now (get_or c.args.components c.loop-i.i no_component) (drop (c.loop-i.i + 1) (take c.args.count c.args.components)) (rw here at c.loop-i.invariant.fine)).0,
+      omega (arith, c.requires.2, c.loop-i.invariant.place, c.loop-i.invariant.long, e, message-length f (fields_at c.args.texts.now c.args.components c.args.count (c.loop-i.i + 1))),
     )
 
 pub overflow_add-i : goal.overflow_add-i
@@ -47,13 +47,13 @@ loop-i-smaller c = omega (arith, c.loop-i-test.true)
 
 pub loop-i-preserved : goal.loop-i-preserved
 loop-i-preserved c =
-    let here = listed_here c.args.t4 c.args.count c.loop-i.i (room (goal.at.loop-i-preserved c).Start) c.loop-i-test.true in
-    let f = component_field c.args.texts.now (get_or c.args.t4 c.loop-i.i no_component) in
-    let fs = fields_at c.args.texts.now c.args.t4 c.args.count (c.loop-i.i + 1) in
+    let here = listed_here c.args.components c.args.count c.loop-i.i (room (goal.at.loop-i-preserved c).Start) c.loop-i-test.true in
+    let f = component_field c.args.texts.now (get_or c.args.components c.loop-i.i no_component) in
+    let fs = fields_at c.args.texts.now c.args.components c.args.count (c.loop-i.i + 1) in
     let e = ap (λ cs. message_bytes (map (component_field c.args.texts.now) cs)) here in
     record {
       inside = omega (arith, c.loop-i-test.true);
-      fine = (components-fine c.args.texts.now (get_or c.args.t4 c.loop-i.i no_component) (drop (c.loop-i.i + 1) (take c.args.count c.args.t4)) (rw here at c.loop-i.invariant.fine)).1;
+      fine = (components-fine c.args.texts.now (get_or c.args.components c.loop-i.i no_component) (drop (c.loop-i.i + 1) (take c.args.count c.args.components)) (rw here at c.loop-i.invariant.fine)).1;
       long = c.put_component-at.auto.out ∙ c.loop-i.invariant.long;
       place = omega (arith, c.loop-i.invariant.place, c.put_component-at.ensures.place, ap length e, message-length f fs);
       target =
@@ -66,5 +66,5 @@ shape_of-out c = c.loop-i.invariant.long
 
 pub returns : goal.returns
 returns c =
-    let e = ap (λ cs. message_bytes (map (component_field c.args.texts.now) cs)) (listed-end c.args.t4 c.args.count c.loop-i.i (room (goal.at.returns c).Start) c.loop-i-test.false) in
+    let e = ap (λ cs. message_bytes (map (component_field c.args.texts.now) cs)) (listed-end c.args.components c.args.count c.loop-i.i (room (goal.at.returns c).Start) c.loop-i-test.false) in
     record { place = omega (arith, c.loop-i.invariant.place, ap length e); stored = sym (c.loop-i.invariant.target ∙ ap (sets c.loop-i.out c.loop-i.at) e) }

@@ -10,7 +10,7 @@ use Rattle.msg_firmware.specs.declared.apply.ApplyFirmware.{ApplyFirmware}
 use Rattle.proto_reader.specs.declared.refusal.WalkVerdict.TheVariants.{Fine}
 use Rattle.msg_firmware.proofs.Steps.{firmware-told, apply-stops, apply-halts, apply-tells}
 use Rattle.msg_firmware.proofs.Insides.{told-inside, part-inside}
-use Rattle.msg_firmware.proofs.apply.read_apply.Goals.{In-Fine, In-Refused-2}
+use Rattle.msg_firmware.proofs.apply.read_apply.Goals.{In-Fine, In-Refused}
 use Rattle.msg_firmware.proofs.apply.read_apply.Goals as goal
 
 -- what read_fields told
@@ -18,7 +18,7 @@ read : (c : In-Fine) → fields_from Schema.Apply c.args.message.now 0 ≡ given
 read c =
     sym c.read_fields-kept.ensures ∙ ap (λ v. judged_as v c.read_fields-kept.result.gathered) c.in-Fine.is
 
-refuses : (c : In-Refused-2) → fields_from Schema.Apply c.args.message.now 0 ≡ refused (why_of c.in-Refused.e)
+refuses : (c : In-Refused) → fields_from Schema.Apply c.args.message.now 0 ≡ refused (why_of c.in-Refused.e)
 refuses c =
     sym c.read_fields-kept.ensures ∙ ap (λ v. judged_as v c.read_fields-kept.result.gathered) c.in-Refused.is
 
@@ -26,7 +26,7 @@ pub firmware_in-read-requires : goal.firmware_in-read-requires
 firmware_in-read-requires c = part-inside _ _ (read (goal.at.firmware_in-read-requires c).In-Fine)
 
 pub returns-in-Refused : goal.returns-in-Refused
-returns-in-Refused c = let both = told-inside _ c.refused_apply.result (ap told_apply c.refused_apply.ensures ∙ sym (ap with_apply (apply-stops _ _ (refuses (goal.at.returns-in-Refused c).In-Refused-2)))) in record { result_value = both.0; inside_message = both.1 }
+returns-in-Refused c = let both = told-inside _ c.refused_apply.result (ap told_apply c.refused_apply.ensures ∙ sym (ap with_apply (apply-stops _ _ (refuses (goal.at.returns-in-Refused c).In-Refused)))) in record { result_value = both.0; inside_message = both.1 }
 
 pub returns-in-Refused-judged : goal.returns-in-Refused-judged
 returns-in-Refused-judged c = let both = told-inside _ c.refused_apply-in-Refused-judged.result (ap told_apply c.refused_apply-in-Refused-judged.ensures

@@ -6,7 +6,7 @@ use Rattle.proto_reader.specs.Walk.{fields_from}
 use Rattle.msg_firmware.specs.Information.{firmware_made, told_firmware, with_firmware}
 use Rattle.msg_firmware.proofs.Parts.{parts-most}
 use Rattle.msg_firmware.proofs.Steps.{firmware-stops, firmware-halts, firmware-tells}
-use Rattle.msg_firmware.proofs.information.firmware_from.Goals.{In-Fine, In-Refused-2}
+use Rattle.msg_firmware.proofs.information.firmware_from.Goals.{In-Fine, In-Refused}
 use Rattle.msg_firmware.proofs.information.firmware_from.Goals as goal
 
 -- what read_fields told
@@ -14,7 +14,7 @@ read : (c : In-Fine) → fields_from Schema.Firmware c.args.message.now c.args.a
 read c =
     sym c.read_fields-kept.ensures ∙ ap (λ v. judged_as v c.read_fields-kept.result.gathered) c.in-Fine.is
 
-refuses : (c : In-Refused-2) → fields_from Schema.Firmware c.args.message.now c.args.at ≡ refused (why_of c.in-Refused.e)
+refuses : (c : In-Refused) → fields_from Schema.Firmware c.args.message.now c.args.at ≡ refused (why_of c.in-Refused.e)
 refuses c =
     sym c.read_fields-kept.ensures ∙ ap (λ v. judged_as v c.read_fields-kept.result.gathered) c.in-Refused.is
 
@@ -22,7 +22,7 @@ pub components_from-found-requires : goal.components_from-found-requires
 components_from-found-requires c = parts-most _ _ _ (read c)
 
 pub returns-in-Refused : goal.returns-in-Refused
-returns-in-Refused c = ap told_firmware c.refused_firmware.ensures ∙ sym (ap with_firmware (firmware-stops _ _ _ (refuses (goal.at.returns-in-Refused c).In-Refused-2)))
+returns-in-Refused c = ap told_firmware c.refused_firmware.ensures ∙ sym (ap with_firmware (firmware-stops _ _ _ (refuses (goal.at.returns-in-Refused c).In-Refused)))
 
 pub returns-in-Refused-judged : goal.returns-in-Refused-judged
 returns-in-Refused-judged c =

@@ -11,7 +11,7 @@ use Rattle.proto_reader.proofs.Strings.{text-get}
 use Rattle.proto_reader.proofs.Steps.{fields_within}
 use Rattle.msg_firmware.specs.Segment.{segment_of, segment_made, segment_parts}
 use Rattle.msg_firmware.proofs.Segments.{judged-within}
-use Rattle.msg_firmware.proofs.segment.read_segment.Goals.{In-Fine, In-Refused-2}
+use Rattle.msg_firmware.proofs.segment.read_segment.Goals.{In-Fine, In-Refused}
 use Rattle.msg_firmware.proofs.segment.read_segment.Goals as goal
 
 -- what read_fields told
@@ -19,7 +19,7 @@ read : (c : In-Fine) → fields_from Schema.Segment c.args.message.now 0 ≡ giv
 read c =
     sym c.read_fields-kept.ensures ∙ ap (λ v. judged_as v c.read_fields-kept.result.gathered) c.in-Fine.is
 
-refuses : (c : In-Refused-2) → fields_from Schema.Segment c.args.message.now 0 ≡ refused (why_of c.in-Refused.e)
+refuses : (c : In-Refused) → fields_from Schema.Segment c.args.message.now 0 ≡ refused (why_of c.in-Refused.e)
 refuses c =
     sym c.read_fields-kept.ensures ∙ ap (λ v. judged_as v c.read_fields-kept.result.gathered) c.in-Refused.is
 
@@ -36,7 +36,7 @@ judge_segment-requires c = rw c.segment_made-segment.ensures (inside (goal.at.ju
 
 pub returns-in-Refused : goal.returns-in-Refused
 unfolding segment_of
-returns-in-Refused c = record { result_value = rw (refuses (goal.at.returns-in-Refused c).In-Refused-2); tells_strings = tt }
+returns-in-Refused c = record { result_value = rw (refuses (goal.at.returns-in-Refused c).In-Refused); tells_strings = tt }
 
 pub returns-in-Fine : goal.returns-in-Fine
 unfolding segment_of
