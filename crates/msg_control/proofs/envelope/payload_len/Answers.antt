@@ -13,16 +13,12 @@ use Rattle.proto_writer.specs.Message.{bad_member}
 use Rattle.msg_control.specs.Response.{response_fields}
 use Rattle.proto_writer.proofs.Messages.{member-fits}
 use borrow.Author.Rules.{rules}
-use Rattle.msg_control.proofs.envelope.payload_len.Goals.{After-response_len-len, After-sign_extended}
+use Rattle.msg_control.proofs.envelope.payload_len.Goals.{After-sign_extended}
 use Rattle.msg_control.proofs.envelope.payload_len.Goals as goal
 
--- the varint's value of the error code, and what was counted of the response
+-- the varint's value of the error code
 value : (c : After-sign_extended) → c.sign_extended.result ≡ extended c.in-Response.error_code
 value c = c.sign_extended.ensures ∙ ap extended (to_z-of_z {w = w32} {z = c.in-Response.error_code} (search rules))
-
-counted : (c : After-response_len-len)
-    → c.response_len-len.result ≡ length (message_bytes (response_fields (extended c.in-Response.error_code) c.in-Response.payload c.args.body.now))
-counted c = rw (value (goal.at.head_len-requires c).After-sign_extended) at c.response_len-len.ensures.0
 
 pub part_len-requires : goal.part_len-requires
 part_len-requires c =
@@ -32,11 +28,12 @@ part_len-requires c =
 pub returns-in-Response : goal.returns-in-Response
 returns-in-Response c =
     let r = message_bytes (response_fields (extended c.in-Response.error_code) c.in-Response.payload c.args.body.now) in
+    let counted : c.response_len-len.result ≡ length r = rw (value (goal.at.returns-in-Response c).After-sign_extended) at c.response_len-len.ensures.0 in
     rw c.in-Response.is (
       omega (
         arith,
-        rw (counted (goal.at.returns-in-Response c).After-response_len-len) at c.head_len.ensures.0,
-        counted (goal.at.returns-in-Response c).After-response_len-len,
+        rw counted at c.head_len.ensures.0,
+        counted,
         joined_length (head_bytes response_field (length r)) r (part-is response_field r),
         ap length (nested-last response_field r),
       ),

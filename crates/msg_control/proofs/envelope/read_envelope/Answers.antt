@@ -1,7 +1,7 @@
 use mathlib.Core.Path.{◌≡◌, ap, sym, ◌∙◌}
-use Rattle.wire.specs.Told.{Told, given, refused}
+use Rattle.wire.specs.Told.{Told, given}
 use Rattle.proto_schema.specs.declared.Schema.TheVariants as Schema
-use Rattle.proto_reader.specs.Refusal.{why_of, judged_as}
+use Rattle.proto_reader.specs.Refusal.{judged_as}
 use Rattle.proto_reader.specs.Walk.{fields_from}
 use lib.IntN.{ℤ}
 use lib.ListN.{get_or}
@@ -11,17 +11,13 @@ use Rattle.msg_control.specs.declared.envelope.Envelope.{Envelope}
 use Rattle.proto_schema.specs.Schema.{first}
 use Rattle.msg_control.specs.Envelope.{told_payload, envelope_of}
 use Rattle.proto_reader.proofs.Steps.{fields_within}
-use Rattle.msg_control.proofs.envelope.read_envelope.Goals.{In-Fine, In-Refused-2}
+use Rattle.msg_control.proofs.envelope.read_envelope.Goals.{In-Fine}
 use Rattle.msg_control.proofs.envelope.read_envelope.Goals as goal
 
 -- what read_fields told
 read : (c : In-Fine) → fields_from Schema.Envelope c.args.message.now 0 ≡ given c.read_fields-kept.result.gathered
 read c =
     sym c.read_fields-kept.ensures ∙ ap (λ v. judged_as v c.read_fields-kept.result.gathered) c.in-Fine.is
-
-refuses : (c : In-Refused-2) → fields_from Schema.Envelope c.args.message.now 0 ≡ refused (why_of c.in-Refused.e)
-refuses c =
-    sym c.read_fields-kept.ensures ∙ ap (λ v. judged_as v c.read_fields-kept.result.gathered) c.in-Refused.is
 
 -- an envelope with a command
 abbrev commanded : Payload → ℤ → Told Envelope
@@ -32,7 +28,7 @@ read_payload-requires c = (fields_within Schema.Envelope _ 0 _ (read c)).0.0
 
 pub returns-in-Refused : goal.returns-in-Refused
 unfolding envelope_of
-returns-in-Refused c = record { result_value = rw (refuses (goal.at.returns-in-Refused c).In-Refused-2); tells_within = tt }
+returns-in-Refused c = record { result_value = rw (sym c.read_fields-kept.ensures ∙ ap (λ v. judged_as v c.read_fields-kept.result.gathered) c.in-Refused.is); tells_within = tt }
 
 pub returns-in-Refused-read_payload : goal.returns-in-Refused-read_payload
 unfolding envelope_of

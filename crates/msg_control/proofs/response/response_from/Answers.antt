@@ -1,7 +1,7 @@
 use mathlib.Core.Path.{◌≡◌, ap, sym, ◌∙◌}
-use Rattle.wire.specs.Told.{Told, given, refused}
+use Rattle.wire.specs.Told.{Told, given}
 use Rattle.proto_schema.specs.declared.Schema.TheVariants as Schema
-use Rattle.proto_reader.specs.Refusal.{why_of, judged_as}
+use Rattle.proto_reader.specs.Refusal.{judged_as}
 use Rattle.proto_reader.specs.Walk.{fields_from}
 use lib.IntN.{ℤ}
 use lib.ListN.{get_or}
@@ -11,7 +11,7 @@ use Rattle.msg_control.specs.declared.response.Response.{Response}
 use Rattle.proto_schema.specs.Schema.{first}
 use Rattle.msg_control.specs.Response.{response_from}
 use Rattle.proto_reader.proofs.Steps.{fields_within}
-use Rattle.msg_control.proofs.response.response_from.Goals.{In-Fine, In-Refused-2}
+use Rattle.msg_control.proofs.response.response_from.Goals.{In-Fine}
 use Rattle.msg_control.proofs.response.response_from.Goals as goal
 
 -- what read_fields told
@@ -20,18 +20,13 @@ read : (c : In-Fine) →
 read c =
     sym c.read_fields-kept.ensures ∙ ap (λ v. judged_as v c.read_fields-kept.result.gathered) c.in-Fine.is
 
-refuses : (c : In-Refused-2) →
-    fields_from Schema.Response c.args.message.now c.args.at ≡ refused (why_of c.in-Refused.e)
-refuses c =
-    sym c.read_fields-kept.ensures ∙ ap (λ v. judged_as v c.read_fields-kept.result.gathered) c.in-Refused.is
-
 -- a response with an error code
 abbrev coded : Gathered → ℤ → Told Response
 coded g z = given (record { error_code = z; field = g.field; part = g.part })
 
 pub returns-in-Refused : goal.returns-in-Refused
 unfolding response_from
-returns-in-Refused c = record { result_value = rw (refuses (goal.at.returns-in-Refused c).In-Refused-2); tells_within = tt }
+returns-in-Refused c = record { result_value = rw (sym c.read_fields-kept.ensures ∙ ap (λ v. judged_as v c.read_fields-kept.result.gathered) c.in-Refused.is); tells_within = tt }
 
 pub returns-in-Fine : goal.returns-in-Fine
 unfolding response_from

@@ -1,10 +1,10 @@
 use mathlib.Core.Path.{◌≡◌, ap, sym, ◌∙◌}
-use Rattle.wire.specs.Told.{given, refused}
+use Rattle.wire.specs.Told.{given}
 use Rattle.proto_schema.specs.declared.Schema.TheVariants as Schema
-use Rattle.proto_reader.specs.Refusal.{why_of, judged_as}
+use Rattle.proto_reader.specs.Refusal.{judged_as}
 use Rattle.proto_reader.specs.Walk.{fields_from}
 use Rattle.msg_device.specs.Features.{features_of}
-use Rattle.msg_device.proofs.features.read_features.Goals.{In-Fine, In-Refused-2}
+use Rattle.msg_device.proofs.features.read_features.Goals.{In-Fine}
 use Rattle.msg_device.proofs.features.read_features.Goals as goal
 
 -- what read_fields told
@@ -12,13 +12,9 @@ read : (c : In-Fine) → fields_from Schema.Features c.args.message.now 0 ≡ gi
 read c =
     sym c.read_fields-kept.ensures ∙ ap (λ v. judged_as v c.read_fields-kept.result.gathered) c.in-Fine.is
 
-refuses : (c : In-Refused-2) → fields_from Schema.Features c.args.message.now 0 ≡ refused (why_of c.in-Refused.e)
-refuses c =
-    sym c.read_fields-kept.ensures ∙ ap (λ v. judged_as v c.read_fields-kept.result.gathered) c.in-Refused.is
-
 pub returns-in-Refused : goal.returns-in-Refused
 unfolding features_of
-returns-in-Refused c = rw (refuses (goal.at.returns-in-Refused c).In-Refused-2)
+returns-in-Refused c = rw (sym c.read_fields-kept.ensures ∙ ap (λ v. judged_as v c.read_fields-kept.result.gathered) c.in-Refused.is)
 
 pub returns-in-Fine : goal.returns-in-Fine
 unfolding features_of

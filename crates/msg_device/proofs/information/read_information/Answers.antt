@@ -1,17 +1,17 @@
 use Prim.Native.Nat.{zero-le}
 use mathlib.Core.Path.{◌≡◌, ap, sym, ◌∙◌}
-use Rattle.wire.specs.Told.{given, refused}
+use Rattle.wire.specs.Told.{given}
 use Rattle.proto_schema.specs.declared.Schema.TheVariants as Schema
 use Rattle.proto_field.proofs.Places.{within-get}
 use Rattle.proto_schema.specs.Schema.{first, second, third}
 use Rattle.proto_reader.specs.Gathered.{no_part}
-use Rattle.proto_reader.specs.Refusal.{why_of, judged_as}
+use Rattle.proto_reader.specs.Refusal.{judged_as}
 use Rattle.proto_reader.specs.Walk.{fields_from}
 use Rattle.msg_device.specs.Information.{information_of}
 use Rattle.utf8.specs.WellFormed.{empty}
 use Rattle.proto_reader.proofs.Strings.{text-get}
 use Rattle.proto_reader.proofs.Steps.{fields_within}
-use Rattle.msg_device.proofs.information.read_information.Goals.{In-Fine, In-Refused-2}
+use Rattle.msg_device.proofs.information.read_information.Goals.{In-Fine}
 use Rattle.msg_device.proofs.information.read_information.Goals as goal
 
 -- what read_fields told
@@ -19,13 +19,9 @@ read : (c : In-Fine) → fields_from Schema.Information c.args.message.now 0 ≡
 read c =
     sym c.read_fields-kept.ensures ∙ ap (λ v. judged_as v c.read_fields-kept.result.gathered) c.in-Fine.is
 
-refuses : (c : In-Refused-2) → fields_from Schema.Information c.args.message.now 0 ≡ refused (why_of c.in-Refused.e)
-refuses c =
-    sym c.read_fields-kept.ensures ∙ ap (λ v. judged_as v c.read_fields-kept.result.gathered) c.in-Refused.is
-
 pub returns-in-Refused : goal.returns-in-Refused
 unfolding information_of
-returns-in-Refused c = record { result_value = rw (refuses (goal.at.returns-in-Refused c).In-Refused-2); strings = ((zero-le, (zero-le, (zero-le, tt))), (empty, (empty, (empty, tt)))); count_le_most_transports = zero-le }
+returns-in-Refused c = record { result_value = rw (sym c.read_fields-kept.ensures ∙ ap (λ v. judged_as v c.read_fields-kept.result.gathered) c.in-Refused.is); strings = ((zero-le, (zero-le, (zero-le, tt))), (empty, (empty, (empty, tt)))); count_le_most_transports = zero-le }
 
 pub returns-in-Fine : goal.returns-in-Fine
 unfolding information_of
