@@ -36,4 +36,4 @@ unfolding answer_to cases limit_fits is_stream stream_of kind_of escaped_of sum_
 holds = refl
 
 pub worked-cases : WorkedCases
-worked-cases = agree (λ (c : Case). answer_to c.question) (λ (c : Case). c.expected) holds
+worked-cases a = agree (λ (c : Case). answer_to c.question) (λ (c : Case). c.expected) a holds
