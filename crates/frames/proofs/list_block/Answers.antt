@@ -1,4 +1,4 @@
-use Rattle.std.proofs.Common.{arith, rules}
+use Rattle.std.proofs.Common.{arith}
 use Rattle.frames.proofs.Used.{used-fits}
 use Rattle.frames.proofs.list_block.Goals as goal
 

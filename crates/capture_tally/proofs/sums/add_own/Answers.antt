@@ -6,7 +6,7 @@ use borrow.Author.Rules.{rules}
 use Rattle.capture_report.specs.declared.CostReport.{CostReport}
 use Rattle.capture_report.specs.Report.{costs_fit}
 use Rattle.capture_tally.proofs.Fitting.{fits-already, on-control, on-ota, on-alexa, on_none}
-use Rattle.capture_tally.proofs.sums.add_own.Goals.{After-alexa-1, Else-not-costs_fit, Else-not-costs_fit-2, Else-not-costs_fit-3}
+use Rattle.capture_tally.proofs.sums.add_own.Goals.{After-alexa-1}
 use Rattle.capture_tally.proofs.sums.add_own.Goals as goal
 
 record Inside (r : CostReport) : Type 0 where

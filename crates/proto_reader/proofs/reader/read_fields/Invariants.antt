@@ -1,7 +1,6 @@
 -- Walking from the place on, from what was gathered so far, gives what walking all gives; one law for each way through a turn.
 use Prim.Native.Nat.{◌-◌}
 use lib.ListN.{length}
-use Rattle.proto_reader.specs.declared.reader.Added.TheVariants as Added
 use Rattle.proto_reader.specs.Walk.{field_at, fields_from}
 use Rattle.proto_reader.proofs.Walks.{Walks}
 use Rattle.proto_reader.proofs.reader.read_fields.Given as goal
