@@ -1,9 +1,9 @@
 -- Laws of a part of a file: how far its listing goes, and what is carried over.
-use Rattle.std.proofs.Common.{◌≡◌, ℕ, ◌+◌, ◌-◌, ◌<◌, ◌≤◌, Bool, true, false, not, ◌&&◌, eqb, List, [], ◌∷◌, ◌++◌, length, get_or, take, drop, set, sym, refl, ap, ◌∙◌, arith, length-append, length-drop, length-set, length-take-le, get_or-drop, get_or-take, take-take, drop-drop, drop-set-lt, eqb-true}
+use Rattle.std.proofs.Common.{◌≡◌, ℕ, ◌+◌, ◌-◌, ◌<◌, ◌≤◌, Bool, true, false, not, ◌&&◌, eqb, List, [], ◌∷◌, ◌++◌, length, take, drop, sym, refl, ap, ◌∙◌, arith, length-append, length-drop, length-take-le, take-take, eqb-true}
 use mathlib.Mathlib.Data.Bool.Basic.{or-eq-false-eq-eq-false-and-eq-false}
 use lib.Seq.{sets, take-append_seam, drop-append-le}
 use borrow.Author.Tests.{not-false}
-use Rattle.wire.proofs.Stores.{sets-step, sets_end, part-stored}
+use Rattle.wire.proofs.Stores.{part-stored}
 use Rattle.outbox.specs.declared.format.Format.{Format}
 use Rattle.outbox.specs.Format.{is_one, format_of, head_size, new_bytes, first_place}
 use Rattle.outbox.specs.Reader.{Answer, HandedRecord, given, refused, refused_at, other_version, read_all, first_refusal, walk_of}
@@ -144,28 +144,16 @@ version-byte fmt (b ∷ file) v =
     let same = ((or-eq-false-eq-eq-false-and-eq-false (eqb (length (b ∷ file)) 0) (not (eqb b fmt.version))).0 v).1 in
     rw (eqb-true b fmt.version (not-false _ same))
 
--- moving the bytes of a part, byte by byte: what is left to store, and that it is not stored over
-pub record Moving (buffer : List ℕ) (place held : ℕ) (now : List ℕ) (i : ℕ) : Type 0 where
-  pub inside : i ≤ held - place
-  pub long : length now ≡ length buffer
-  pub kept : drop (first_place + i) now ≡ drop (first_place + i) buffer
-  pub left : sets now (first_place + i) (drop i (drop place (take held buffer))) ≡ sets buffer first_place (drop place (take held buffer))
-
+-- the version byte stays, and behind it stand the bytes from the place on
 module _ (buffer : List ℕ) (place held : ℕ) (first : first_place ≤ place) (within : place ≤ held) (fits : held ≤ length buffer) where
-  run : List ℕ
-  run = drop place (take held buffer)
-
-  run_long : length run ≡ held - place
-  unfolding run
-  run_long = length-drop place (take held buffer) ∙ rw (length-take-le held buffer fits)
-
-  -- the version byte stays, and behind it stand the bytes from the place on
   carries : (fmt : Format) (more : List ℕ) → other_version fmt (take held buffer) ≡ false
       → let next = carry_of buffer place held in
       (next.held ≡ length (from_place fmt (take held buffer) place)) × (take next.held next.buffer ++ more ≡ from_place fmt (take held buffer ++ more) place)
-  unfolding run carry_of
+  unfolding carry_of
   carries fmt more v =
       let part = take held buffer in
+      let run = drop place part in
+      let run_long : length run ≡ held - place = length-drop place (take held buffer) ∙ rw (length-take-le held buffer fits) in
       let version : take first_place buffer ≡ new_bytes fmt = sym (take-take first_place held buffer (omega arith)) ∙ version-byte fmt part v in
       let stored : take (first_place + length run) (sets buffer first_place run) ≡ new_bytes fmt ++ run
       = part-stored buffer 0 first_place run (omega (arith, run_long)) ∙ ap (λ l. l ++ run) version in (
@@ -174,49 +162,6 @@ module _ (buffer : List ℕ) (place held : ℕ) (first : first_place ≤ place) 
             ∙ ap (λ l. l ++ more) stored
             ∙ ap (λ l. new_bytes fmt ++ l) (sym (drop-append-le place part more (omega (arith, length-take-le held buffer fits)))),
       )
-
-  pub moving-begins : Moving buffer place held buffer 0
-  moving-begins = record { inside = omega arith; long = refl; kept = refl; left = refl }
-
-  module _ {now : List ℕ} {i : ℕ} (m : Moving buffer place held now i) where
-    -- the byte that is moved next is still the part's
-    byte : i < held - place → get_or now (place + i) 0 ≡ get_or run i 0
-    unfolding run
-    byte h =
-        let at : first_place + i + (place - first_place) ≡ place + i = omega arith in
-        ap (λ n. get_or now n 0) (sym at)
-        ∙ sym (get_or-drop (first_place + i) now (place - first_place) 0)
-        ∙ ap (λ l. get_or l (place - first_place) 0) m.kept
-        ∙ get_or-drop (first_place + i) buffer (place - first_place) 0
-        ∙ ap (λ n. get_or buffer n 0) at
-        ∙ sym (get_or-drop place (take held buffer) i 0 ∙ get_or-take held buffer (place + i) 0 (omega arith))
-
-    pub moving-goes : i < held - place → Moving buffer place held (set now (first_place + i) (get_or now (place + i) 0)) (i + 1)
-    unfolding run
-    moving-goes h =
-        record {
-          inside = omega arith;
-          long = length-set now (first_place + i) (get_or now (place + i) 0) ∙ m.long;
-          kept = kept;
-          left =
-              ap (λ b. sets (set now (first_place + i) b) (first_place + (i + 1)) (drop (i + 1) run)) (byte h)
-              ∙ sets-step now run first_place i (omega (arith, run_long))
-              ∙ m.left;
-        }
-      where
-        next : (l : List ℕ) → drop (first_place + (i + 1)) l ≡ drop 1 (drop (first_place + i) l)
-        next l = let at : first_place + (i + 1) ≡ first_place + i + 1 = omega arith in ap (λ n. drop n l) at ∙ sym (drop-drop 1 (first_place + i) l)
-
-        kept : drop (first_place + (i + 1)) (set now (first_place + i) (get_or now (place + i) 0)) ≡ drop (first_place + (i + 1)) buffer
-        kept =
-            drop-set-lt (first_place + (i + 1)) now (first_place + i) (get_or now (place + i) 0) (omega arith)
-            ∙ next now
-            ∙ ap (drop 1) m.kept
-            ∙ sym (next buffer)
-
-    pub moving-ends : held - place ≤ i → carried (first_place + (held - place)) now ≡ carry_of buffer place held
-    unfolding run carry_of
-    moving-ends h = ap (carried (first_place + (held - place))) (sym (sets_end now run (first_place + i) i (omega (arith, run_long))) ∙ m.left)
 
 pub lists-as-whole : ListsAsWhole
 lists-as-whole =

@@ -1,4 +1,4 @@
-use Rattle.cli_listing.proofs.Parts.{moving-goes, moving-ends}
+use Rattle.cli_listing.proofs.Carrying.{moving-goes, moving-ends}
 use Rattle.cli_listing.proofs.carry_over.Goals as goal
 
 pub loop-i-preserved : goal.loop-i-preserved

@@ -1,5 +1,5 @@
 use Rattle.std.proofs.Common.{◌-◌}
-use Rattle.cli_listing.proofs.Parts.{Moving}
+use Rattle.cli_listing.proofs.Carrying.{Moving}
 use Rattle.cli_listing.proofs.carry_over.Given as goal
 
 abbrev pub invariant-loop-i : goal.invariant-loop-i
