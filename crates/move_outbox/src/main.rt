@@ -1,13 +1,16 @@
 // Writes the outbox file given on standard input in the version that the argument names, 01 or 02, to standard output. Where
 // it refuses, standard output gets nothing, and the error output says why. The file may be of any size: one pass judges it, and
-// another writes, each through a buffer that holds the version byte and the bytes from a record's place on.
+// another writes, each through a buffer that holds the version byte and the bytes from a record's place on. An input that the buffer
+// holds whole is not read again.
 #![tactic(auto)]
 
-ghost use Rattle.std.specs.Prelude.{◌≡◌, length};
+ghost use Rattle.std.specs.Prelude.{◌≡◌, ◌≤◌, length};
 
 use cli_console::sentences::explain_outbox;
-use cli_console::{Console, Output, argument_count, argument_is, complain, complain_number};
-use cli_listing::{carry_over, judge_part, refill};
+use cli_console::{
+    Console, Output, argument_count, argument_is, complain, complain_number, read_full,
+};
+use cli_listing::{Refilled, carry_over, judge_part, refill};
 use outbox::format::FIRST_PLACE;
 use outbox_move::{Moved, Wished, move_file};
 use std::fs;
@@ -137,16 +140,32 @@ fn end_pass(passed: PassSoFar) -> bool {
     true
 }
 
-// A pass over standard input, up to its end, a refusal, or a read or a write that fails; whether it came to the end and nothing was
+// What standard input begins with: all of it, where it ends before the buffer is full.
+fn first_part<R: Read>(console: Console, input: &mut R, buffer: &mut [u8]) -> Refilled
+    ensures { result.held ≤ length buffer.new }
+{
+    let came = read_full(console, input, buffer);
+    let held = came.held;
+    Refilled {
+        held,
+        last: held < buffer.len(),
+        failed: came.failed,
+    }
+}
+
+// A pass over standard input from its first part on, up to its end, a refusal, or a read or a write that fails; whether it came to the end and nothing was
 // refused. Nothing says that the input ends, so the loop counts down from a number that no run uses up.
 fn pass_over<R: Read>(
     console: Console,
     input: &mut R,
     pass: Pass,
     wished: Wished,
+    first: Refilled,
     buffer: &mut [u8],
     space: &mut [u8],
-) -> bool {
+) -> bool
+    requires { first.held ≤ length buffer.old }
+{
     let mut passed = PassSoFar {
         output: Output::new(console),
         begun: false,
@@ -154,7 +173,7 @@ fn pass_over<R: Read>(
         place: 0,
     };
     let mut gone = 0;
-    let mut filled = refill(console, input, buffer, 0);
+    let mut filled = first;
     let mut turns = u64::MAX;
     while turns > 0 {
         turns -= 1;
@@ -211,13 +230,50 @@ fn move_input<F: Files>(
     space: &mut [u8],
 ) {
     let mut judged = input;
-    if !pass_over(console, &mut judged, Pass::Judging, wished, buffer, space) {
+    let first = first_part(console, &mut judged, buffer);
+    let held = first.held;
+    let is_whole = first.last;
+    if !pass_over(
+        console,
+        &mut judged,
+        Pass::Judging,
+        wished,
+        first,
+        buffer,
+        space,
+    ) {
+        return;
+    }
+    if is_whole {
+        let same = Refilled {
+            held,
+            last: true,
+            failed: false,
+        };
+        pass_over(
+            console,
+            &mut judged,
+            Pass::Writing,
+            wished,
+            same,
+            buffer,
+            space,
+        );
         return;
     }
     match from_start(rt) {
         Some(file) => {
             let mut again = file;
-            pass_over(console, &mut again, Pass::Writing, wished, buffer, space);
+            let start = refill(console, &mut again, buffer, 0);
+            pass_over(
+                console,
+                &mut again,
+                Pass::Writing,
+                wished,
+                start,
+                buffer,
+                space,
+            );
         }
         None => complain(
             console,

@@ -15,8 +15,8 @@ carry_over-kept-requires g c =
     let within = told-within (format_of (take l.filled.held l.buffer)) _ l.buffer l.filled.held l.invariant.0 c.judge_part-judged.ensures c.if-listed.false in
     (within.0, within.1, l.invariant.0)
 
-pub refill-filled-requires-in-loop-turns : goal.refill-filled-requires-in-loop-turns
-refill-filled-requires-in-loop-turns g c =
+pub refill-filled-requires : goal.refill-filled-requires
+refill-filled-requires g c =
     let l = c.loop-turns in
     let within = told-within (format_of (take l.filled.held l.buffer)) _ l.buffer l.filled.held l.invariant.0 c.judge_part-judged.ensures c.if-listed.false in
     let kept = carried-within l.buffer c.judge_part-judged.result.listed.place l.filled.held c.carry_over-kept.ensures within.0 within.1 in
