@@ -4,7 +4,7 @@
 // holds whole is not read again.
 #![tactic(auto)]
 
-ghost use Rattle.std.specs.Prelude.{◌≡◌, ◌≤◌, length};
+ghost use Rattle.std.specs.Prelude.{◌≡◌, length};
 
 use cli_console::sentences::explain_outbox;
 use cli_console::{
@@ -141,9 +141,7 @@ fn end_pass(passed: PassSoFar) -> bool {
 }
 
 // What standard input begins with: all of it, where it ends before the buffer is full.
-fn first_part<R: Read>(console: Console, input: &mut R, buffer: &mut [u8]) -> Refilled
-    ensures { result.held ≤ length buffer.new }
-{
+fn first_part<R: Read>(console: Console, input: &mut R, buffer: &mut [u8]) -> Refilled {
     let came = read_full(console, input, buffer);
     let held = came.held;
     Refilled {
@@ -153,8 +151,8 @@ fn first_part<R: Read>(console: Console, input: &mut R, buffer: &mut [u8]) -> Re
     }
 }
 
-// A pass over standard input from its first part on, up to its end, a refusal, or a read or a write that fails; whether it came to the end and nothing was
-// refused. Nothing says that the input ends, so the loop counts down from a number that no run uses up.
+// A pass over standard input from its first part on, up to its end, a refusal, or a read or a write that fails; whether it came to
+// the end and nothing was refused. Nothing says that the input ends, so the loop counts down from a number that no run uses up.
 fn pass_over<R: Read>(
     console: Console,
     input: &mut R,
@@ -163,9 +161,7 @@ fn pass_over<R: Read>(
     first: Refilled,
     buffer: &mut [u8],
     space: &mut [u8],
-) -> bool
-    requires { first.held ≤ length buffer.old }
-{
+) -> bool {
     let mut passed = PassSoFar {
         output: Output::new(console),
         begun: false,
@@ -173,7 +169,12 @@ fn pass_over<R: Read>(
         place: 0,
     };
     let mut gone = 0;
-    let mut filled = first;
+    let begins = smaller(first.held, buffer.len());
+    let mut filled = Refilled {
+        held: begins,
+        last: first.last,
+        failed: first.failed,
+    };
     let mut turns = u64::MAX;
     while turns > 0 {
         turns -= 1;
