@@ -1,8 +1,10 @@
 // A row of numbers read and written; numbers of 64 bits where the library takes a byte.
 ghost use Rattle.std.specs.Prelude.{◌≡◌, [], ◌∷◌, ◌++◌, ◌+◌, ◌≤◌, length, get_or};
 ghost use Rattle.std.proofs.lemmas.List.Edits.{sets};
-ghost use Rattle.wire.specs.Told.{given, refused};
+ghost use Rattle.wire.specs.Told.{given, refused, told_by};
 ghost use Rattle.c_rows.specs.Row.{afterwards, byte_or, count_of};
+
+use wire::refusal::Numbered;
 
 // What is returned where nothing is refused.
 pub const DONE: u64 = 0;
@@ -26,6 +28,16 @@ pub struct Count {
 }
 
 impl Count {
+    // Of a writer that tells how many bytes it wrote.
+    pub fn told<E: Numbered>(wrote: Result<usize, E>) -> Self
+        ensures { result ≡ count_of (told_by E.number_of wrote) }
+    {
+        match wrote {
+            Ok(size) => Count::of(size),
+            Err(why) => Count::none(why.number()),
+        }
+    }
+
     pub fn of(size: usize) -> Self
         ensures { result ≡ count_of (given size) }
     {
