@@ -57,9 +57,9 @@ pub fn put_pair(out: &mut [u8], at: usize, n: usize)
     out[at + 1] = (n - high * 256) as u8;
 }
 
-// Writes a run of bytes from a place on.
+// Writes a run of bytes, or of numbers, from a place on.
 #[tactic(auto, using(crate::proofs::Stores::stored_mid))]
-pub fn copy(out: &mut [u8], at: usize, run: &[u8])
+pub fn copy<T: Copy>(out: &mut [T], at: usize, run: &[T])
     requires { at + length run.now ≤ length out.old }
     ensures { out.new ≡ sets out.old at run.now }
 {
