@@ -2,13 +2,13 @@
 // passes through one buffer that holds the version byte and the bytes from a record's place on.
 #![tactic(auto)]
 
-ghost use Rattle.std.specs.Prelude.{◌≡◌, ◌≤◌, length, take, ◌==◌};
+ghost use Rattle.std.specs.Prelude.{◌≡◌, ◌≤◌, length, take, ◌==◌, IfOk};
 ghost use Rattle.outbox.specs.Format.{format_of, first_place};
 ghost use Rattle.outbox.specs.Reader.{fault_number};
 ghost use Rattle.cli_listing.specs.Listing.{buffer_size, ends_by, listed, listed_of, carried, carry_of, ListsAsWhole};
 
 use cli_console::sentences::explain_outbox;
-use cli_console::{Console, Output, read_some};
+use cli_console::{Console, Failed, Output, read_some};
 use cli_payloads::say_payload;
 use outbox::format::FIRST_PLACE;
 use outbox::reader::{Reading, read, walk};
@@ -16,7 +16,7 @@ use outbox::verdict::{Fault, Walked};
 use std::io::Read;
 use std::num::wrapping_add_u64;
 use wire::bytes::smaller;
-use wire::logic::{both, either};
+use wire::logic::both;
 
 // The bytes of a part: the version byte and the longest record of any version.
 const ROOM: usize = 65541;
@@ -49,19 +49,18 @@ pub struct ShownPart {
     pub output: Output,
 }
 
-// The bytes that a part begins with, whether the input has ended, and whether a read failed.
+// Room for a part.
+pub fn room() -> [u8; ROOM]
+    ensures { buffer_size ≡ length result }
+{
+    cli_console::room()
+}
+
+// The bytes that a part begins with, and whether the input has ended.
 #[derive(Drop)]
 pub struct Refilled {
     pub held: usize,
     pub last: bool,
-    pub failed: bool,
-}
-
-// Room for a part. The `ensures` gives only the length, which lending the array as a slice needs.
-pub fn room() -> [u8; ROOM]
-    ensures { buffer_size ≡ length result }
-{
-    [0; ROOM]
 }
 
 // A place of the file, by how many bytes of it are gone from the part.
@@ -223,34 +222,37 @@ pub fn carry_over(buffer: &mut [u8], place: usize, held: usize) -> usize
 }
 
 // One read of standard input behind the bytes that the buffer keeps: what has come is listed, though the stream stays open.
-pub fn refill<R: Read>(console: Console, input: &mut R, buffer: &mut [u8], kept: usize) -> Refilled
+pub fn refill<R: Read>(
+    console: Console,
+    input: &mut R,
+    buffer: &mut [u8],
+    kept: usize,
+) -> Result<Refilled, Failed>
     requires { kept ≤ length buffer.old }
-    ensures { (result.held ≤ length buffer.new)
+    ensures { (IfOk result (λ part. part.held ≤ length buffer.new))
         × (take kept buffer.new ≡ take kept buffer.old) }
 {
-    let came = read_some(console, input, &mut buffer[kept..]);
-    let read = came.held;
-    let held = kept + read;
-    Refilled {
-        held,
+    let read = read_some(console, input, &mut buffer[kept..])?;
+    Ok(Refilled {
+        held: kept + read,
         last: read == 0,
-        failed: came.failed,
-    }
+    })
 }
 
 // Lists what standard input holds, each record as it comes, up to a read or a write that fails. A part is never full before a read: a
-// full one is listed beyond its first record. Nothing says that the input ends, so the loop counts down from a number that no run uses up.
+// full one is listed beyond its first record. Nothing says that the input ends, so the loop counts up to a number that no run comes to.
 pub fn list<R: Read>(console: Console, input: &mut R, buffer: &mut [u8], view: RecordView) {
     let mut output = Output::new(console);
     let mut gone = 0;
-    let mut filled = refill(console, input, buffer, 0);
-    let mut turns = u64::MAX;
-    while turns > 0 {
-        turns -= 1;
-        let held = filled.held;
-        if either(filled.failed, output.failed) {
+    let mut kept = 0;
+    for _turn in 0..u64::MAX {
+        let Ok(filled) = refill(console, input, buffer, kept) else {
+            return;
+        };
+        if output.failed {
             return;
         }
+        let held = filled.held;
         let shown = list_part(output, view, &buffer[..held], gone, filled.last);
         let listed = shown.listed;
         if listed.over {
@@ -259,8 +261,7 @@ pub fn list<R: Read>(console: Console, input: &mut R, buffer: &mut [u8], view: R
         output = shown.output;
         let place = listed.place;
         gone = wrapping_add_u64(gone, (place - FIRST_PLACE) as u64);
-        let kept = carry_over(buffer, place, held);
-        filled = refill(console, input, buffer, kept);
+        kept = carry_over(buffer, place, held);
     }
 }
 

@@ -15,7 +15,7 @@ fn show(console: Console, answer: Answer) {
         Answer::Refused { why, at: _ } => {
             output
                 .text(b"refused ")
-                .number(why.number() as u64)
+                .number(u64::from(why.number()))
                 .text(b"\n");
             explain_capture(console, why.number());
         }
@@ -32,10 +32,7 @@ fn show(console: Console, answer: Answer) {
 }
 
 fn main(rt: HostRuntime) {
-    let console = Console {
-        output: rt.stdout(),
-        errors: rt.stderr(),
-    };
+    let console = Console::of(&rt);
     if !is_alone(
         &rt,
         console,
@@ -45,10 +42,8 @@ fn main(rt: HostRuntime) {
     }
     let mut input = rt.stdin();
     let mut space = [0u8; SPACE];
-    let came = read_full(console, &mut input, &mut space);
-    if came.failed {
+    let Ok(n) = read_full(console, &mut input, &mut space) else {
         return;
-    }
-    let n = came.held;
+    };
     show(console, judge_input(&space[..n]));
 }

@@ -4,11 +4,10 @@
 // holds whole is not read again.
 #![tactic(auto)]
 
-ghost use Rattle.std.specs.Prelude.{◌≡◌, length};
-
 use cli_console::sentences::explain_outbox;
 use cli_console::{
-    Console, Output, argument_count, argument_is, complain, complain_number, read_full,
+    Console, Failed, Output, argument_count, argument_is, complain, complain_number, read_full,
+    room,
 };
 use cli_listing::{Refilled, carry_over, judge_part, refill};
 use outbox::format::FIRST_PLACE;
@@ -19,21 +18,12 @@ use std::num::wrapping_add_u64;
 use std::os::unix::fs::FileTypeExt;
 use std::rt::{Env, Files};
 use wire::bytes::smaller;
-use wire::logic::either;
 
 // In any version a part has less than twice its bytes.
 const MOVED_ROOM: usize = 131082;
 
 // Standard input as a file that can be opened again.
 const INPUT: &str = "/dev/stdin";
-
-// The argument.
-#[derive(Drop)]
-enum Asked {
-    One,
-    Two,
-    Neither,
-}
 
 // The two passes.
 #[derive(Clone, Copy)]
@@ -42,42 +32,42 @@ enum Pass {
     Writing,
 }
 
+// A refusal: its number, and its place in the file.
+#[derive(Clone, Copy)]
+struct Refused {
+    number: u8,
+    place: u64,
+}
+
 // What a pass has come to: what is written, and whether that has the version byte; the first refusal of a part that is whole, if any.
 #[derive(Drop)]
 struct PassSoFar {
     output: Output,
     begun: bool,
-    number: u8,
-    place: u64,
+    refused: Option<Refused>,
 }
 
-// Room for a part as it is moved. The `ensures` gives only the length, which lending the array as a slice needs.
-fn moved_room() -> [u8; MOVED_ROOM]
-    ensures { 131082 ≡ length result }
-{
-    [0; MOVED_ROOM]
-}
-
-fn complain_at(console: Console, number: u8, place: u64) {
+fn complain_at(console: Console, refused: Refused) {
     complain(console, b"move_outbox: refused ");
-    complain_number(console, number as u64);
+    complain_number(console, u64::from(refused.number));
     complain(console, b" at ");
-    complain_number(console, place);
+    complain_number(console, refused.place);
     complain(console, b"\n");
-    explain_outbox(console, number);
+    explain_outbox(console, refused.number);
 }
 
-fn argument<E: Env>(rt: &E) -> Asked {
+// The version that the argument names, where it names one.
+fn argument<E: Env>(rt: &E) -> Option<Wished> {
     if argument_count(rt) != 2 {
-        return Asked::Neither;
+        return None;
     }
     if argument_is(rt, 1, b"01") {
-        return Asked::One;
+        return Some(Wished::One);
     }
     if argument_is(rt, 1, b"02") {
-        return Asked::Two;
+        return Some(Wished::Two);
     }
-    Asked::Neither
+    None
 }
 
 fn first_place(begun: bool) -> usize {
@@ -91,21 +81,16 @@ fn write_part(before: PassSoFar, moved: &[u8]) -> PassSoFar {
     PassSoFar {
         output: output.text(&moved[from..]),
         begun: true,
-        number: before.number,
-        place: before.place,
+        refused: before.refused,
     }
 }
 
 fn refuse(before: PassSoFar, number: u8, gone: u64, place: usize) -> PassSoFar {
-    if before.number != 0 {
-        return before;
-    }
-    let output = before.output;
+    let place = wrapping_add_u64(gone, place as u64);
     PassSoFar {
-        output,
+        output: before.output,
         begun: before.begun,
-        number,
-        place: wrapping_add_u64(gone, place as u64),
+        refused: before.refused.or(Some(Refused { number, place })),
     }
 }
 
@@ -132,27 +117,31 @@ fn move_part(
 
 // The end of a pass over a whole file: whether nothing was refused.
 fn end_pass(passed: PassSoFar) -> bool {
-    if passed.number != 0 {
-        let output = passed.output;
-        complain_at(output.console, passed.number, passed.place);
-        return false;
+    let output = passed.output;
+    match passed.refused {
+        Some(refused) => {
+            complain_at(output.console, refused);
+            false
+        }
+        None => true,
     }
-    true
 }
 
 // What standard input begins with: all of it, where it ends before the buffer is full.
-fn first_part<R: Read>(console: Console, input: &mut R, buffer: &mut [u8]) -> Refilled {
-    let came = read_full(console, input, buffer);
-    let held = came.held;
-    Refilled {
+fn first_part<R: Read>(
+    console: Console,
+    input: &mut R,
+    buffer: &mut [u8],
+) -> Result<Refilled, Failed> {
+    let held = read_full(console, input, buffer)?;
+    Ok(Refilled {
         held,
         last: held < buffer.len(),
-        failed: came.failed,
-    }
+    })
 }
 
 // A pass over standard input from its first part on, up to its end, a refusal, or a read or a write that fails; whether it came to
-// the end and nothing was refused. Nothing says that the input ends, so the loop counts down from a number that no run uses up.
+// the end and nothing was refused. Nothing says that the input ends, so the loop counts up to a number that no run comes to.
 fn pass_over<R: Read>(
     console: Console,
     input: &mut R,
@@ -165,29 +154,24 @@ fn pass_over<R: Read>(
     let mut passed = PassSoFar {
         output: Output::new(console),
         begun: false,
-        number: 0,
-        place: 0,
+        refused: None,
     };
     let mut gone = 0;
-    let begins = smaller(first.held, buffer.len());
-    let mut filled = Refilled {
-        held: begins,
-        last: first.last,
-        failed: first.failed,
-    };
-    let mut turns = u64::MAX;
-    while turns > 0 {
-        turns -= 1;
-        let held = filled.held;
-        let output = passed.output;
-        if either(filled.failed, output.failed) {
-            return false;
-        }
-        let judged = judge_part(&buffer[..held], filled.last);
+    let mut held = first.held.min(buffer.len());
+    let mut last = first.last;
+    for _turn in 0..u64::MAX {
+        let judged = judge_part(&buffer[..held], last);
         let listed = judged.listed;
         let place = listed.place;
         if judged.number != 0 {
-            complain_at(console, judged.number, wrapping_add_u64(gone, place as u64));
+            let place = wrapping_add_u64(gone, place as u64);
+            complain_at(
+                console,
+                Refused {
+                    number: judged.number,
+                    place,
+                },
+            );
             return false;
         }
         let end = smaller(held, place);
@@ -197,20 +181,25 @@ fn pass_over<R: Read>(
         }
         gone = wrapping_add_u64(gone, (place - FIRST_PLACE) as u64);
         let kept = carry_over(buffer, place, held);
-        filled = refill(console, input, buffer, kept);
+        let Ok(filled) = refill(console, input, buffer, kept) else {
+            return false;
+        };
+        let output = passed.output;
+        if output.failed {
+            return false;
+        }
+        held = filled.held;
+        last = filled.last;
     }
     false
 }
 
 // Whether standard input has a first byte that can be gone back to, as a file or a disk has and a pipe has not.
 fn has_start<F: Files>(rt: &F) -> bool {
-    match fs::metadata(rt, INPUT) {
-        Ok(found) => {
-            let kind = found.file_type();
-            either(kind.is_file(), kind.is_block_device())
-        }
-        Err(_) => false,
-    }
+    fs::metadata(rt, INPUT).is_ok_and(|found| {
+        let kind = found.file_type();
+        kind.is_file() || kind.is_block_device()
+    })
 }
 
 // Standard input from its first byte on.
@@ -231,7 +220,9 @@ fn move_input<F: Files>(
     space: &mut [u8],
 ) {
     let mut judged = input;
-    let first = first_part(console, &mut judged, buffer);
+    let Ok(first) = first_part(console, &mut judged, buffer) else {
+        return;
+    };
     let held = first.held;
     let is_whole = first.last;
     if !pass_over(
@@ -246,11 +237,7 @@ fn move_input<F: Files>(
         return;
     }
     if is_whole {
-        let same = Refilled {
-            held,
-            last: true,
-            failed: false,
-        };
+        let same = Refilled { held, last: true };
         pass_over(
             console,
             &mut judged,
@@ -265,7 +252,9 @@ fn move_input<F: Files>(
     match from_start(rt) {
         Some(file) => {
             let mut again = file;
-            let start = refill(console, &mut again, buffer, 0);
+            let Ok(start) = refill(console, &mut again, buffer, 0) else {
+                return;
+            };
             pass_over(
                 console,
                 &mut again,
@@ -284,16 +273,12 @@ fn move_input<F: Files>(
 }
 
 fn main(rt: HostRuntime) {
-    let console = Console {
-        output: rt.stdout(),
-        errors: rt.stderr(),
-    };
+    let console = Console::of(&rt);
     let input = rt.stdin();
     let mut buffer = cli_listing::room();
-    let mut space = moved_room();
+    let mut space = room::<MOVED_ROOM>();
     match argument(&rt) {
-        Asked::One => move_input(&rt, console, input, Wished::One, &mut buffer, &mut space),
-        Asked::Two => move_input(&rt, console, input, Wished::Two, &mut buffer, &mut space),
-        Asked::Neither => complain(console, b"usage: move_outbox 01|02 < OUTBOX > NEW_OUTBOX\n"),
+        Some(wished) => move_input(&rt, console, input, wished, &mut buffer, &mut space),
+        None => complain(console, b"usage: move_outbox 01|02 < OUTBOX > NEW_OUTBOX\n"),
     }
 }

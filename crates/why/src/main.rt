@@ -22,12 +22,7 @@ fn say_number(output: Output, text: &[u8], n: usize) -> Output {
 }
 
 fn say_bit(output: Output, text: &[u8], set: bool) -> Output {
-    let said = output.text(text);
-    if set {
-        said.text(b"1")
-    } else {
-        said.text(b"0")
-    }
+    output.text(text).number(u64::from(set))
 }
 
 // The id and the sequence that a packet must have; a first one may have any.
@@ -198,10 +193,7 @@ fn explain(console: Console, input: &[u8]) -> Output {
 }
 
 fn main(rt: HostRuntime) {
-    let console = Console {
-        output: rt.stdout(),
-        errors: rt.stderr(),
-    };
+    let console = Console::of(&rt);
     if !is_alone(
         &rt,
         console,
@@ -211,10 +203,8 @@ fn main(rt: HostRuntime) {
     }
     let mut input = rt.stdin();
     let mut space = [0u8; SPACE];
-    let came = read_full(console, &mut input, &mut space);
-    if came.failed {
+    let Ok(n) = read_full(console, &mut input, &mut space) else {
         return;
-    }
-    let n = came.held;
+    };
     explain(console, &space[..n]);
 }

@@ -1,5 +1,5 @@
 use Rattle.std.proofs.Common.{◌≡◌, ◌≤◌, ◌-◌, length}
-use Rattle.cli_console.proofs.read_quietly.Given as goal
+use Rattle.cli_console.proofs.fill.Given as goal
 
 abbrev pub invariant-loop-held : goal.invariant-loop-held
 invariant-loop-held _ l = (l.held ≤ length l.bytes) × (length l.bytes ≡ length l.fn.bytes)
