@@ -116,7 +116,7 @@ impl Numbered for Refusal {
 }
 
 // The payload length: one byte, or two with the extender.
-fn length_at(packet: &[u8], at: usize, extended: bool) -> usize
+pub fn length_at(packet: &[u8], at: usize, extended: bool) -> usize
     requires { at < 6 }
     ensures { (result ≡ length_at packet.now at extended) × (result < 65536) }
 {
