@@ -86,9 +86,16 @@ lines limit w length found space =
 
 -- ---- what is told, and the output afterwards
 
--- the length of the packet, and the place of the next piece where it was not the last
+-- the length of the packet, and the place of the next piece
+abbrev pub more : ℕ → ℕ → Sent
+more n next = record { length = n; next = Some next }
+
+-- or that it was the last
+abbrev pub last : ℕ → Sent
+last n = record { length = n; next = None }
+
 abbrev pub sent_for : Bool → ℕ → ℕ → Sent
-sent_for final n next = record { length = n; next = cond final None (Some next) }
+sent_for final n next = cond final (last n) (more n next)
 
 -- what is told of the packet of a piece
 abbrev pub sent_of : Sending → List ℕ → Piece → Sent

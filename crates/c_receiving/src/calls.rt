@@ -9,7 +9,9 @@ use ble_link::accept;
 use ble_receiver::Receiver;
 use ble_slot::Slot;
 use ble_slot::answer::{Accepted, Refusal};
-use c_rows::row::{DONE, OUT_OF_RANGE, UNFIT, byte_or, number_at, number_of_result, put, write_row};
+use c_rows::row::{
+    DONE, OUT_OF_RANGE, UNFIT, byte_or, number_at, number_of_result, put, write_row,
+};
 use wire::bytes::wide64;
 use wire::logic::both;
 use wire::refusal::Numbered;
