@@ -4,7 +4,8 @@ use Rattle.std.specs.Prelude.{ℕ, ◌+◌, ◌*◌, List, [], ◌∷◌, Bool, 
 use Rattle.std.specs.Prelude
 use Rattle.std.proofs.lemmas.List.Edits.{sets}
 use Rattle.wire.specs.Told.{Told, told_by, given, refused, Line, line, table}
-use Rattle.wire.specs.Limit.{limit_fits}
+use Rattle.wire.specs.declared.limit.BadLimit.{BadLimit}
+use Rattle.wire.specs.Limit.{limit_fits, limit_number}
 use Rattle.wire.specs.Stream.{stream_number}
 use Rattle.ble_packet.specs.declared.reader.Packet.{Packet}
 use Rattle.ble_packet.specs.Header.{four_bits, first_byte}
@@ -16,7 +17,6 @@ use Rattle.ble_slot.specs.declared.answer.Accepted.TheVariants.{Taken, Finished,
 use Rattle.ble_slot.specs.Slot.{slot_count, lane_start, lane_of, lawful}
 use Rattle.ble_slot_steps.specs.Step.{Act, still, step, act_of}
 use Rattle.ble_receiver.specs.declared.Receiver.{Receiver}
-use Rattle.ble_receiver.specs.declared.BadLimit.{BadLimit}
 use Rattle.ble_receiver.specs.Buffer.{stored}
 
 -- the state of a link: its limit
@@ -28,11 +28,8 @@ unfoldable pub open_of : ℕ → Told Receiver
 open_of limit = table (line 17 (not (limit_fits limit)) ∷ []) refused (given (link_of limit))
 
 -- what an opening tells
-abbrev pub bad_limit : BadLimit → ℕ
-bad_limit why = 17
-
 abbrev pub told_open : Prelude.Result Receiver BadLimit → Told Receiver
-told_open = told_by bad_limit
+told_open = told_by limit_number
 
 -- ---- one packet
 

@@ -10,7 +10,7 @@ ghost use Rattle.ble_packet.specs.Reader.{read_of};
 ghost use Rattle.ble_slot.specs.declared.Slot.{Slot};
 ghost use Rattle.ble_slot.specs.Slot.{idle, slot_count};
 ghost use Rattle.ble_slot.specs.Answer.{number_of};
-ghost use Rattle.ble_receiver.specs.Receiver.{open_of, bad_limit, told_open, acted, ready, call, left, leaves, accept_of};
+ghost use Rattle.ble_receiver.specs.Receiver.{open_of, told_open, acted, ready, call, left, leaves, accept_of};
 ghost use Rattle.ble_receiver.specs.Outcome.{left_by, first_twelve};
 
 use ble_packet::reader::Packet;
@@ -18,26 +18,13 @@ use ble_packet::{control, header, reader};
 use ble_slot::answer::Refusal;
 use ble_slot::{Slot, are_lawful, lane_of};
 use ble_slot_steps::{PayloadPlace, Step, act_on};
-use wire::limit::limit_fits;
+use wire::limit::{BadLimit, limit_fits};
 use wire::logic::both;
-use wire::refusal::Numbered;
 
 // The state of a link: its limit. Its slots are lent as a row of twelve, four for each stream: control, OTA, Alexa.
 #[derive(Drop)]
 pub struct Receiver {
     pub limit: usize,
-}
-
-// Refusal 17: a limit out of its range.
-#[derive(Clone, Copy, Debug, PartialEq, Eq)]
-pub struct BadLimit;
-
-impl Numbered for BadLimit {
-    ghost number_of = { bad_limit };
-
-    fn number(&self) -> u8 {
-        17
-    }
 }
 
 // The lent buffer has a part as long as the limit for each slot.
