@@ -58,9 +58,5 @@ fn find_idle(lane: [Slot; 4]) -> Option<usize>
 pub fn find_first(lane: [Slot; 4], id: u8) -> Option<usize>
     ensures { result ≡ first_spot lane id }
 {
-    let open = find_open(lane, id);
-    match open {
-        None => find_idle(lane),
-        Some(spot) => Some(spot),
-    }
+    find_open(lane, id).or_else(|| find_idle(lane))
 }
