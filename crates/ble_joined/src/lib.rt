@@ -23,11 +23,7 @@ fn move_down(out: &mut [u8], to: usize, from: usize, n: usize)
     requires { (to ≤ from) × (from + n ≤ length out.old) }
     ensures { out.new ≡ sets out.old to (take n (drop from out.old)) }
 {
-    let mut i = 0;
-    while i < n {
-        out[to + i] = out[from + i];
-        i += 1;
-    }
+    out.copy_within(from..from + n, to);
 }
 
 // The size of the piece of this index, where this many bytes are left.

@@ -73,7 +73,7 @@ pub(crate) fn judge_packet(packet: &[u8], room: usize, limit: usize, state: Stat
 {
     let answer = reader::read(limit, packet);
     match answer {
-        reader::Answer::Refused(_) => StateAfter::Stopped,
-        reader::Answer::Read(read) => step(room, state, read),
+        Err(_) => StateAfter::Stopped,
+        Ok(read) => step(room, state, read),
     }
 }

@@ -13,11 +13,12 @@ ghost use Rattle.capture_tally.specs.Tally.{told_sum};
 
 use crate::sums::{Sum, add_own};
 use ble_packet::header;
-use ble_slot::answer::{Accepted, Answer};
+use ble_slot::answer::{Accepted, Refusal};
 use ble_slot::{Slot, lane_of};
 use capture_report::{CostReport, Costs};
 use wire::bytes::{bit64, byte_at};
 use wire::logic::{both, either};
+use wire::refusal::Numbered;
 use wire::stream::Stream;
 
 // No stream's number.
@@ -81,15 +82,15 @@ fn marks_accepted(accepted: Accepted) -> Marks
     }
 }
 
-fn marks_of(answer: Answer) -> Marks
+fn marks_of(answer: Result<Accepted, Refusal>) -> Marks
     ensures { result ≡ marks_of (told answer) }
 {
     match answer {
-        Answer::Refused(why) => {
+        Err(why) => {
             let drops = is_drop(why.number());
             noted(false, false, false, drops, 0)
         }
-        Answer::Given(accepted) => marks_accepted(accepted),
+        Ok(accepted) => marks_accepted(accepted),
     }
 }
 
@@ -132,7 +133,7 @@ fn costs_of(first: bool, marks: Marks, size: u64) -> Costs
 }
 
 // What a packet and what was told of it add to its own stream.
-fn costs_with(packet: &[u8], answer: Answer) -> Costs
+fn costs_with(packet: &[u8], answer: Result<Accepted, Refusal>) -> Costs
     ensures { result ≡ costs_by true (begins (heard packet.now (told answer))) (finishes (told answer))
         (replaces (told answer)) (drops (told answer)) (payload_in (told answer)) (length packet.now) }
 {
@@ -142,7 +143,7 @@ fn costs_with(packet: &[u8], answer: Answer) -> Costs
 }
 
 // The sums with a packet and what was told of it; what is over stays over.
-pub fn count_packet(sum: Sum, packet: &[u8], answer: Answer) -> Sum
+pub fn count_packet(sum: Sum, packet: &[u8], answer: Result<Accepted, Refusal>) -> Sum
     ensures { told_sum result ≡ on_top (told_sum sum) (report_with (heard packet.now (told answer))) }
 {
     match sum {

@@ -15,6 +15,7 @@ use capture_next::{NextPacket, next_packet};
 use capture_reader::WIDTH;
 use capture_stream::SenderSlot;
 use wire::bytes::{byte_at, pair, smaller};
+use wire::refusal::Numbered;
 use wire::stream::{is_stream, stream_of};
 
 // What our reader says of a packet: the number of its refusal, or 0; whether it is a first one; its total and the length of its payload.
@@ -111,12 +112,12 @@ fn packet_numbers(packet: Packet) -> ReadNumbers
     }
 }
 
-fn read_numbers(answer: reader::Answer) -> ReadNumbers
+fn read_numbers(answer: Result<Packet, reader::Refusal>) -> ReadNumbers
     ensures { result ≡ numbers_in (packets.told answer) }
 {
     match answer {
-        reader::Answer::Refused(why) => numbers(why.number(), false, 0, 0),
-        reader::Answer::Read(packet) => packet_numbers(packet),
+        Err(why) => numbers(why.number(), false, 0, 0),
+        Ok(packet) => packet_numbers(packet),
     }
 }
 

@@ -7,7 +7,7 @@ use crate::bytes::copy;
 
 // Bytes that are tested and copied at once, while a run has as many left. Blocks pay on chips without vector instructions
 // too: Cortex-M code takes fewer instructions a byte with them than byte by byte.
-const BLOCK: usize = 16;
+pub const BLOCK: usize = 16;
 
 fn in_range(b: u8, first: u8, last: u8) -> bool
     ensures { result ≡ in_range first last b }
@@ -64,7 +64,7 @@ pub fn clear_run(run: &[u8], first: u8, last: u8) -> usize
 }
 
 // Copies a block by way of a local one: all of it is read before any is written, which takes one load and one store.
-fn copy_block(out: &mut [u8], at: usize, run: &[u8])
+pub fn copy_block(out: &mut [u8], at: usize, run: &[u8])
     requires { (length run.now ≡ 16) × (at + length run.now ≤ length out.old) }
     ensures { out.new ≡ sets out.old at run.now }
 {
