@@ -1,5 +1,5 @@
 // Device information.
-ghost use Rattle.std.specs.Prelude.{◌≡◌, ◌≤◌, length, ltb};
+ghost use Rattle.std.specs.Prelude.{◌≡◌, ◌≤◌, length, ltb, Some};
 ghost use Rattle.wire.specs.Told.{written};
 ghost use Rattle.wire.specs.Put.{Put};
 ghost use Rattle.proto_writer.specs.Writer.{message_bytes};
@@ -14,9 +14,9 @@ use proto_reader::gathered::MOST_TRANSPORTS;
 use proto_reader::reader::read_fields;
 use proto_reader::refusal::WalkVerdict;
 use proto_schema::{DEVICE_TYPE, FIRST, NAME, SECOND, SERIAL_NUMBER, Schema, THIRD, TRANSPORTS};
-use proto_strings::{TextFault, TextWrote};
+use proto_strings::{TextFault, TextWriteRefusal, check_text};
 use proto_writer::fields::{packed_len, put_packed, put_text, text_len};
-use proto_writer::message::{Room, WriteRefusal, Wrote};
+use proto_writer::message::WriteRefusal;
 
 // Strings are parts of the lent message; of the transports the first count are there.
 #[derive(Clone, Copy)]
@@ -84,20 +84,19 @@ pub fn information_room(
     name: &[u8],
     transports: &[i32],
     device_type: &[u8],
-) -> Room
+) -> Option<usize>
     requires { length transports.now ≤ most_transports }
     ensures { result
         ≡ less_room
         (length
         (message_bytes
         (information_fields serial_number.now name.now transports.now
-        device_type.now))) (Room.Left len) }
+        device_type.now))) (Some len) }
 {
-    Room::Left(len)
-        .less(text_len(SERIAL_NUMBER, serial_number))
-        .less(text_len(NAME, name))
-        .less(packed_len(TRANSPORTS, transports))
-        .less(text_len(DEVICE_TYPE, device_type))
+    len.checked_sub(text_len(SERIAL_NUMBER, serial_number))?
+        .checked_sub(text_len(NAME, name))?
+        .checked_sub(packed_len(TRANSPORTS, transports))?
+        .checked_sub(text_len(DEVICE_TYPE, device_type))
 }
 
 // Device information, written from the first byte on; the answer is the place after it.
@@ -130,33 +129,33 @@ fn fill_information(
     name: &[u8],
     transports: &[i32],
     device_type: &[u8],
-) -> Wrote
+) -> Result<usize, WriteRefusal>
     ensures { written (told_wrote result) out.new
         ≡ writes_message (ltb most_transports (length transports.now))
         (information_fields serial_number.now name.now transports.now device_type.now)
         out.old }
 {
     if MOST_TRANSPORTS < transports.len() {
-        return Wrote::Refused(WriteRefusal::BadArgument);
+        return Err(WriteRefusal::BadArgument);
     }
-    match information_room(out.len(), serial_number, name, transports, device_type) {
-        Room::Short => Wrote::Refused(WriteRefusal::NoRoom),
-        Room::Left(_) => {
-            let end = put_information(out, serial_number, name, transports, device_type);
-            Wrote::Done(end)
-        }
+    if information_room(out.len(), serial_number, name, transports, device_type).is_none() {
+        return Err(WriteRefusal::NoRoom);
     }
+    Ok(put_information(out, serial_number, name, transports, device_type))
 }
 
 // The first string that is not well formed.
-pub fn information_fault(serial_number: &[u8], name: &[u8], device_type: &[u8]) -> TextFault
+pub fn information_fault(
+    serial_number: &[u8],
+    name: &[u8],
+    device_type: &[u8],
+) -> Result<(), TextFault>
     ensures { result
         ≡ first_fault (information_strings serial_number.now name.now device_type.now) }
 {
-    TextFault::None
-        .or_text(SERIAL_NUMBER, serial_number)
-        .or_text(NAME, name)
-        .or_text(DEVICE_TYPE, device_type)
+    check_text(SERIAL_NUMBER, serial_number)?;
+    check_text(NAME, name)?;
+    check_text(DEVICE_TYPE, device_type)
 }
 
 // Writes device information.
@@ -166,19 +165,14 @@ pub fn write_information(
     name: &[u8],
     transports: &[i32],
     device_type: &[u8],
-) -> TextWrote
+) -> Result<usize, TextWriteRefusal>
     ensures { written (told_text_wrote result) out.new
         ≡ information_written serial_number.now name.now transports.now
         device_type.now out.old }
 {
     if MOST_TRANSPORTS < transports.len() {
-        return TextWrote::Refused(WriteRefusal::BadArgument);
+        return Err(TextWriteRefusal::Refused(WriteRefusal::BadArgument));
     }
-    match information_fault(serial_number, name, device_type) {
-        TextFault::At { field, place } => TextWrote::BadText { field, place },
-        TextFault::None => {
-            let wrote = fill_information(out, serial_number, name, transports, device_type);
-            TextWrote::of(wrote)
-        }
-    }
+    information_fault(serial_number, name, device_type)?;
+    Ok(fill_information(out, serial_number, name, transports, device_type)?)
 }
