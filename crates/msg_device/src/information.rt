@@ -5,7 +5,7 @@ ghost use Rattle.wire.specs.Put.{Put};
 ghost use Rattle.proto_writer.specs.Writer.{message_bytes};
 ghost use Rattle.proto_reader.specs.Gathered.{most_transports};
 ghost use Rattle.proto_reader.specs.Refusal.{Strings};
-ghost use Rattle.msg_device.specs.Information.{information_of, told_information, with_information, information_parts, information_strings, information_fields, information_written};
+ghost use Rattle.msg_device.specs.Information.{information_of, told_information, with_information, information_parts, strings_to_write, fields_to_write, information_to_write};
 ghost use Rattle.proto_writer.specs.Message.{writes_message, told_wrote, less_room};
 ghost use Rattle.proto_strings.specs.Texts.{first_fault, told_text_wrote};
 
@@ -77,102 +77,83 @@ pub fn read_information(message: &[u8]) -> InformationRead
     }
 }
 
+// What device information is written of; its strings and transports are lent.
+#[derive(Clone, Copy)]
+pub struct InformationToWrite<'a> {
+    pub serial_number: &'a [u8],
+    pub name: &'a [u8],
+    pub transports: &'a [i32],
+    pub device_type: &'a [u8],
+}
+
 // The room that device information leaves in an output of this length.
-pub fn information_room(
-    len: usize,
-    serial_number: &[u8],
-    name: &[u8],
-    transports: &[i32],
-    device_type: &[u8],
-) -> Option<usize>
-    requires { length transports.now ≤ most_transports }
+pub fn information_room(len: usize, information: InformationToWrite) -> Option<usize>
+    requires { length information.transports.now ≤ most_transports }
     ensures { result
         ≡ less_room
         (length
         (message_bytes
-        (information_fields serial_number.now name.now transports.now
-        device_type.now))) (Some len) }
+        (fields_to_write information.entry))) (Some len) }
 {
-    len.checked_sub(text_len(SERIAL_NUMBER, serial_number))?
-        .checked_sub(text_len(NAME, name))?
-        .checked_sub(packed_len(TRANSPORTS, transports))?
-        .checked_sub(text_len(DEVICE_TYPE, device_type))
+    len.checked_sub(text_len(SERIAL_NUMBER, information.serial_number))?
+        .checked_sub(text_len(NAME, information.name))?
+        .checked_sub(packed_len(TRANSPORTS, information.transports))?
+        .checked_sub(text_len(DEVICE_TYPE, information.device_type))
 }
 
 // Device information, written from the first byte on; the answer is the place after it.
-pub fn put_information(
-    out: &mut [u8],
-    serial_number: &[u8],
-    name: &[u8],
-    transports: &[i32],
-    device_type: &[u8],
-) -> usize
-    requires { (length transports.now ≤ most_transports)
+pub fn put_information(out: &mut [u8], information: InformationToWrite) -> usize
+    requires { (length information.transports.now ≤ most_transports)
         × (length
-        (message_bytes (information_fields serial_number.now name.now transports.now device_type.now))
+        (message_bytes (fields_to_write information))
         ≤ length out.old) }
     ensures { Put out.old 0
         (message_bytes
-        (information_fields serial_number.now name.now transports.now
-        device_type.now)) result out.new }
+        (fields_to_write information.entry)) result out.new }
 {
-    let second = put_text(out, 0, SERIAL_NUMBER, serial_number);
-    let third = put_text(out, second, NAME, name);
-    let fourth = put_packed(out, third, TRANSPORTS, transports);
-    put_text(out, fourth, DEVICE_TYPE, device_type)
+    let second = put_text(out, 0, SERIAL_NUMBER, information.serial_number);
+    let third = put_text(out, second, NAME, information.name);
+    let fourth = put_packed(out, third, TRANSPORTS, information.transports);
+    put_text(out, fourth, DEVICE_TYPE, information.device_type)
 }
 
 // Device information whatever its strings are.
-fn fill_information(
-    out: &mut [u8],
-    serial_number: &[u8],
-    name: &[u8],
-    transports: &[i32],
-    device_type: &[u8],
-) -> Result<usize, WriteRefusal>
+fn fill_information(out: &mut [u8], information: InformationToWrite) -> Result<usize, WriteRefusal>
     ensures { written (told_wrote result) out.new
-        ≡ writes_message (ltb most_transports (length transports.now))
-        (information_fields serial_number.now name.now transports.now device_type.now)
+        ≡ writes_message (ltb most_transports (length information.entry.transports.now))
+        (fields_to_write information.entry)
         out.old }
 {
-    if MOST_TRANSPORTS < transports.len() {
+    if MOST_TRANSPORTS < information.transports.len() {
         return Err(WriteRefusal::BadArgument);
     }
-    if information_room(out.len(), serial_number, name, transports, device_type).is_none() {
+    if information_room(out.len(), information).is_none() {
         return Err(WriteRefusal::NoRoom);
     }
-    Ok(put_information(out, serial_number, name, transports, device_type))
+    Ok(put_information(out, information))
 }
 
 // The first string that is not well formed.
-pub fn information_fault(
-    serial_number: &[u8],
-    name: &[u8],
-    device_type: &[u8],
-) -> Result<(), TextFault>
+pub fn information_fault(information: InformationToWrite) -> Result<(), TextFault>
     ensures { result
-        ≡ first_fault (information_strings serial_number.now name.now device_type.now) }
+        ≡ first_fault (strings_to_write information.entry) }
 {
-    check_text(SERIAL_NUMBER, serial_number)?;
-    check_text(NAME, name)?;
-    check_text(DEVICE_TYPE, device_type)
+    check_text(SERIAL_NUMBER, information.serial_number)?;
+    check_text(NAME, information.name)?;
+    check_text(DEVICE_TYPE, information.device_type)
 }
 
 // Writes device information.
 pub fn write_information(
     out: &mut [u8],
-    serial_number: &[u8],
-    name: &[u8],
-    transports: &[i32],
-    device_type: &[u8],
+    information: InformationToWrite,
 ) -> Result<usize, TextWriteRefusal>
     ensures { written (told_text_wrote result) out.new
-        ≡ information_written serial_number.now name.now transports.now
-        device_type.now out.old }
+        ≡ information_to_write information.entry out.old }
 {
-    if MOST_TRANSPORTS < transports.len() {
+    if MOST_TRANSPORTS < information.transports.len() {
         return Err(TextWriteRefusal::Refused(WriteRefusal::BadArgument));
     }
-    information_fault(serial_number, name, device_type)?;
-    Ok(fill_information(out, serial_number, name, transports, device_type)?)
+    information_fault(information)?;
+    Ok(fill_information(out, information)?)
 }
