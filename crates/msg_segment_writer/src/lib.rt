@@ -6,13 +6,13 @@ ghost use Rattle.wire.specs.Told.{written};
 ghost use Rattle.wire.specs.Put.{Put};
 ghost use Rattle.proto_writer.specs.Writer.{message_bytes};
 ghost use Rattle.proto_writer.specs.Message.{less_room};
-ghost use Rattle.msg_segment_writer.specs.Segment.{segment_strings, segment_fields, segment_filled, segment_written, number_of, told_segment_wrote};
+ghost use Rattle.msg_segment_writer.specs.Segment.{segment_strings, segment_fields, segment_filled, segment_written, why_of, number_of, told_segment_wrote};
 ghost use Rattle.msg_segment_writer.specs.declared.SegmentWriteRefusal.TheVariants.{BadText};
 ghost use Rattle.proto_strings.specs.Texts.{first_fault};
 
 use msg_firmware::segment::broken_field;
 use proto_schema::{COMPONENT_NAME, NO_FIELD, SEGMENT_SIGNATURE, SEGMENT_SIZE};
-use proto_strings::{TextFault, check_text};
+use proto_strings::{BAD_TEXT, Faulted, TextFault, check_text};
 use proto_writer::fields::{put_scalar, put_text, scalar_len, text_len};
 use wire::refusal::Numbered;
 
@@ -40,9 +40,21 @@ impl Numbered for SegmentWriteRefusal {
 
     fn number(&self) -> u8 {
         match self {
-            SegmentWriteRefusal::BadText(_) => 36,
+            SegmentWriteRefusal::BadText(_) => BAD_TEXT,
             SegmentWriteRefusal::Profile(_) => 50,
             SegmentWriteRefusal::NoRoom => 14,
+        }
+    }
+}
+
+impl Faulted for SegmentWriteRefusal {
+    ghost goes_with = { λ why. (why_of why).1 };
+
+    fn fault(&self) -> [u64; 2] {
+        match self {
+            SegmentWriteRefusal::BadText(fault) => [fault.field, fault.place as u64],
+            SegmentWriteRefusal::Profile(field) => [*field, 0],
+            SegmentWriteRefusal::NoRoom => [0u64; 2],
         }
     }
 }

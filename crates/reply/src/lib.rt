@@ -10,7 +10,7 @@ ghost use Rattle.reply_parts.specs.Body.{body_lent};
 ghost use Rattle.reply.specs.Reply.{box_lent, sending_of, member_of, bad_carried, is_response, joined_in, carried_of, sent_of, replied_of};
 ghost use Rattle.reply_parts.specs.Body.{FewCarried};
 ghost use Rattle.reply.specs.declared.Refusal.TheVariants.{BadText};
-ghost use Rattle.reply.specs.Put.{number_of, told, told_sent, verdict_of, judged_of, FrontFor, MeasuredAs, PutsReply, Joinable, Carries};
+ghost use Rattle.reply.specs.Put.{why_of, number_of, told, told_sent, verdict_of, judged_of, FrontFor, MeasuredAs, PutsReply, Joinable, Carries};
 
 use ble_joined::{join, joined_len};
 use ble_packet::header;
@@ -19,7 +19,7 @@ use msg_control::envelope::{EnvelopeRead, Payload, read_envelope};
 use proto_field::signed::sign_extended;
 use proto_reader::gathered::MOST_TRANSPORTS;
 use proto_reader::refusal::MessageRefusal;
-use proto_strings::TextFault;
+use proto_strings::{BAD_TEXT, Faulted, TextFault};
 use proto_writer::message::bad_member;
 use reply_parts::body::{
     CommandKind, Members, OwnBox, body_room, code_of, fault_of, kind_of_command, put_body,
@@ -67,8 +67,23 @@ impl Numbered for Refusal {
             Refusal::Room => 13,
             Refusal::Limit => 17,
             Refusal::Argument => 15,
-            Refusal::BadText(_) => 36,
+            Refusal::BadText(_) => BAD_TEXT,
             Refusal::Output => 14,
+        }
+    }
+}
+
+impl Faulted for Refusal {
+    ghost goes_with = { λ why. (why_of why).1 };
+
+    fn fault(&self) -> [u64; 2] {
+        match self {
+            Refusal::Message(_) => [0u64; 2],
+            Refusal::Room => [0u64; 2],
+            Refusal::Limit => [0u64; 2],
+            Refusal::Argument => [0u64; 2],
+            Refusal::BadText(fault) => [fault.field, fault.place as u64],
+            Refusal::Output => [0u64; 2],
         }
     }
 }
