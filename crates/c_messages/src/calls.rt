@@ -6,9 +6,9 @@ ghost use Rattle.c_messages.specs.Calls.{envelope_read_of, envelope_write_of, re
 
 use c_message_rows::convert::{
     ENVELOPE_ANSWER, FEATURES_ANSWER, INFORMATION_ANSWER, RESPONSE_ANSWER, WROTE_ANSWER,
-    all_signed, envelope_number, envelope_row, features_number, features_row,
-    payload_for, put_information, response_number, response_payload, response_row, signed_list,
-    tell_wrote, verdict_number,
+    all_signed, envelope_number, envelope_row, features_number, features_row, payload_for,
+    put_information, response_number, response_payload, response_row, signed_list, tell_wrote,
+    verdict_number,
 };
 use c_rows::row::{COUNT_ANSWER, Count, UNFIT, put, tell};
 use msg_control::envelope::{read_envelope, write_envelope};
@@ -160,10 +160,16 @@ pub fn information_write(
         return UNFIT;
     }
     if MOST_TRANSPORTS < transports.len() {
-        return tell_wrote(answer, Err(TextWriteRefusal::Refused(WriteRefusal::BadArgument)));
+        return tell_wrote(
+            answer,
+            Err(TextWriteRefusal::Refused(WriteRefusal::BadArgument)),
+        );
     }
     if !all_signed(transports) {
-        return tell_wrote(answer, Err(TextWriteRefusal::Refused(WriteRefusal::BadArgument)));
+        return tell_wrote(
+            answer,
+            Err(TextWriteRefusal::Refused(WriteRefusal::BadArgument)),
+        );
     }
     let list = signed_list(transports);
     let wanted = InformationToWrite {
