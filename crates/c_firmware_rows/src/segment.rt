@@ -1,14 +1,12 @@
-// UpdateComponentSegment: what its reader and its writer tell, as rows.
+// UpdateComponentSegment: what its reader tells, as a row.
 ghost use Rattle.std.specs.Prelude.{◌≡◌, ◌++◌, replicate};
 ghost use Rattle.proto_reader.specs.Refusal.{why_of, number_more};
 ghost use Rattle.msg_firmware.specs.Segment.{told_segment};
-ghost use Rattle.msg_segment_writer.specs.Segment.{told_segment_wrote};
-ghost use Rattle.c_message_rows.specs.Convert.{fault_of, wrote_row};
+ghost use Rattle.c_message_rows.specs.Convert.{fault_of};
 ghost use Rattle.c_firmware_rows.specs.More.{is_wide};
 ghost use Rattle.c_firmware_rows.specs.Segment.{segment_row};
 
 use msg_firmware::segment::SegmentRead;
-use msg_segment_writer::SegmentWrote;
 use proto_reader::refusal::MessageRefusal;
 use wire::bytes::wide64;
 
@@ -60,22 +58,5 @@ pub fn segment_row(read: SegmentRead) -> [u64; 8]
                 0,
             ]
         }
-    }
-}
-
-pub fn wrote_number(wrote: SegmentWrote) -> u64
-    ensures { result ≡ number_more (told_segment_wrote wrote) }
-{
-    wide64(wrote.number())
-}
-
-pub fn wrote_row(wrote: SegmentWrote) -> [u64; 3]
-    ensures { result ≡ wrote_row (told_segment_wrote wrote) }
-{
-    match wrote {
-        SegmentWrote::Done(n) => [n as u64, 0, 0],
-        SegmentWrote::BadText { field, place } => [0, field, place as u64],
-        SegmentWrote::Profile(field) => [0, field, 0],
-        SegmentWrote::NoRoom => [0u64; 3],
     }
 }

@@ -3,14 +3,14 @@
 // input that is too long.
 #![tactic(auto)]
 
-use check_answering::{NO_KIND, TOO_LONG, bytes_of, refuse, show, show_text};
+use check_answering::{NO_KIND, TOO_LONG, bytes_of, refuse, show};
 use cli_console::read_quietly;
 use msg_control::envelope::{
     EnvelopePayload, EnvelopeRead, Payload, read_envelope, write_envelope,
 };
-use msg_control::response::{ResponsePayload, ResponseRead, read_response, write_response};
+use msg_control::response::{ResponseRead, read_response, write_response};
 use msg_device::features::{FeaturesRead, read_features, write_features};
-use msg_device::information::{read_information, write_information};
+use msg_device::information::{InformationToWrite, read_information, write_information};
 use proto_reader::refusal::WalkVerdict;
 use std::io::Stdout;
 
@@ -24,11 +24,11 @@ const FEATURES: u8 = b'F';
 // A letter, a message of at most 8,192 bytes, and one byte that is too many.
 const INPUT: usize = 8194;
 
-fn inner(field: u64) -> ResponsePayload {
+fn inner(field: u64) -> Option<u64> {
     if field == 0 {
-        return ResponsePayload::None;
+        return None;
     }
-    ResponsePayload::Member(field)
+    Some(field)
 }
 
 fn envelope_again(to: Stdout, message: &[u8], out: &mut [u8]) {
@@ -84,14 +84,14 @@ fn information_again(to: Stdout, message: &[u8], out: &mut [u8]) {
             let device_type = i.device_type;
             let transports = i.transports;
             let count = i.count;
-            let wrote = write_information(
-                out,
-                bytes_of(message, serial_number),
-                bytes_of(message, name),
-                &transports[..count],
-                bytes_of(message, device_type),
-            );
-            show_text(to, wrote, out);
+            let again = InformationToWrite {
+                serial_number: bytes_of(message, serial_number),
+                name: bytes_of(message, name),
+                transports: &transports[..count],
+                device_type: bytes_of(message, device_type),
+            };
+            let wrote = write_information(out, again);
+            show(to, wrote, out);
         }
     }
 }
