@@ -8,20 +8,21 @@ ghost use Rattle.c_rows.specs.Called.{called};
 ghost use Rattle.c_outbox_move.specs.Calls.{moved_row, outbox_move_of};
 
 use c_rows::row::{UNFIT, put};
-use outbox_move::{Moved, Wished, move_file};
+use outbox_move::{MoveRefusal, Wished, move_file};
 use wire::bytes::wide64;
+use wire::refusal::number_in;
 
 // The numbers of the answer row.
 pub const MOVE_ANSWER: usize = 2;
 
-fn moved_row(moved: Moved) -> [u64; 2]
+fn moved_row(moved: Result<usize, MoveRefusal>) -> [u64; 2]
     ensures { result ≡ moved_row (told moved) }
 {
     match moved {
-        Moved::Written(n) => [n as u64, 0],
-        Moved::NoRoom => [0, 0],
-        Moved::TooLong(place) => [0, place as u64],
-        Moved::Broken { fault: _, place } => [0, place as u64],
+        Ok(n) => [n as u64, 0],
+        Err(MoveRefusal::NoRoom) => [0, 0],
+        Err(MoveRefusal::TooLong(too_long)) => [0, too_long.place as u64],
+        Err(MoveRefusal::Broken(broken)) => [0, broken.place as u64],
     }
 }
 
@@ -33,7 +34,7 @@ fn outbox_move(file: &[u8], wished: Wished, output: &mut [u8], answer: &mut [u64
         return UNFIT;
     }
     let moved = move_file(file, wished, output);
-    let number = wide64(moved.number());
+    let number = wide64(number_in(&moved));
     let row = moved_row(moved);
     put(answer, number, &row);
     number

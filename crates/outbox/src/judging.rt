@@ -4,16 +4,16 @@ ghost use Rattle.outbox.specs.Format.{Known, first_place};
 ghost use Rattle.outbox.specs.Reader.{given, other_version, length_in, record_at, read_of, refusal_or, walk_of, told_judged, told_walk};
 
 use crate::format::{FIRST_PLACE, Format};
-use crate::verdict::{Fault, Walked};
+use crate::verdict::{Broken, Fault};
 use wire::bytes::pair;
 use wire::logic::either;
 use wire::stream::is_stream;
 
-// The record at the front of some bytes.
-#[derive(Drop)]
-pub enum Judged {
-    Record { stream: u8, size: usize },
-    Broken(Fault),
+// The record at the front of some bytes: its stream, and the length of its payload.
+#[derive(Clone, Copy, Debug, PartialEq, Eq)]
+pub struct Judged {
+    pub stream: u8,
+    pub size: usize,
 }
 
 // The length of the record at the front of some bytes: a field of two bytes, or of four.
@@ -30,27 +30,27 @@ fn length_in(rest: &[u8], fmt: Format) -> usize
 }
 
 // The length is judged once all its bytes are there; before that the record is cut short.
-pub fn judge(rest: &[u8], fmt: Format) -> Judged
+pub fn judge(rest: &[u8], fmt: Format) -> Result<Judged, Fault>
     requires { Known fmt }
     ensures { (place : ℕ) → told_judged fmt place result ≡ record_at fmt place rest.now }
 {
     let width = fmt.width;
     if rest.len() < width {
-        return Judged::Broken(Fault::Cut);
+        return Err(Fault::Cut);
     }
     let n = length_in(rest, fmt);
     if either(n == 0, fmt.limit + 1 < n) {
-        return Judged::Broken(Fault::Length);
+        return Err(Fault::Length);
     }
     if rest.len() - width < n {
-        return Judged::Broken(Fault::Cut);
+        return Err(Fault::Cut);
     }
     let stream = rest[width];
     if is_stream(stream) {
         let size = n - 1;
-        Judged::Record { stream, size }
+        Ok(Judged { stream, size })
     } else {
-        Judged::Broken(Fault::Stream)
+        Err(Fault::Stream)
     }
 }
 
@@ -65,11 +65,11 @@ fn whole_up_to(file: &[u8], fmt: Format) -> usize
     let mut place = FIRST_PLACE;
     while place < file.len() {
         match judge(&file[place..], fmt) {
-            Judged::Record { stream: _, size } => {
+            Ok(judged) => {
                 let head = fmt.width + 1;
-                place = place + head + size;
+                place = place + head + judged.size;
             }
-            Judged::Broken(_) => {
+            Err(_) => {
                 return place;
             }
         }
@@ -78,28 +78,28 @@ fn whole_up_to(file: &[u8], fmt: Format) -> usize
 }
 
 // Whether the records of an outbox are whole, or its first refusal.
-pub fn walk_records(file: &[u8], fmt: Format) -> Walked
+pub fn walk_records(file: &[u8], fmt: Format) -> Result<(), Broken>
     requires { Known fmt × (other_version fmt file.now ≡ false) }
     ensures { told_walk result ≡ walk_of fmt file.now }
 {
     let place = whole_up_to(file, fmt);
     if place == file.len() {
-        return Walked::Whole;
+        return Ok(());
     }
     match judge(&file[place..], fmt) {
-        Judged::Record { stream: _, size: _ } => Walked::Whole,
-        Judged::Broken(fault) => Walked::Broken { fault, place },
+        Ok(_) => Ok(()),
+        Err(fault) => Err(Broken { fault, place }),
     }
 }
 
 // The same before an append: an outbox that has its version byte alone, which is what a box appends to, is not walked.
 // Slice and format are built again, so that they are put into memory only where it is walked.
-pub fn walk_used(file: &[u8], fmt: Format) -> Walked
+pub fn walk_used(file: &[u8], fmt: Format) -> Result<(), Broken>
     requires { Known fmt × (other_version fmt file.now ≡ false) }
     ensures { told_walk result ≡ walk_of fmt file.now }
 {
     if file.len() == FIRST_PLACE {
-        return Walked::Whole;
+        return Ok(());
     }
     let anew = Format {
         version: fmt.version,

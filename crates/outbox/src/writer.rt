@@ -2,14 +2,16 @@
 ghost use Rattle.std.specs.Prelude.{◌≡◌, false, ◌+◌, ◌≤◌, length, take};
 ghost use Rattle.std.proofs.lemmas.List.Edits.{sets};
 ghost use Rattle.outbox.specs.Format.{version_two, Known, format_of, head_size, bytes_of, record_bytes};
-ghost use Rattle.outbox.specs.Reader.{number_in, other_version};
-ghost use Rattle.outbox.specs.Writer.{stored, new_of, bad_record, append_of, told_new, told};
+ghost use Rattle.outbox.specs.Reader.{other_version};
+ghost use Rattle.outbox.specs.Writer.{stored, new_of, bad_record, append_of, create_number, append_number, told_new, told};
+ghost use Rattle.outbox.specs.declared.writer.AppendRefusal.{AppendRefusal};
 
 use crate::format::{FIRST_PLACE, Format, is_one, other_version};
 use crate::judging::walk_used;
-use crate::verdict::{Fault, Walked};
+use crate::verdict::Broken;
 use wire::bytes::{copy, put_pair};
 use wire::logic::either;
+use wire::refusal::Numbered;
 use wire::stream::is_stream;
 
 // The bits of a pair of bytes, and how many numbers they have.
@@ -17,60 +19,58 @@ const PAIR_BITS: usize = 16;
 
 const PAIRS: usize = 65536;
 
-// The used bytes of a new outbox, or no room for it.
-#[derive(Drop)]
-pub enum Created {
-    Used(usize),
-    NoRoom,
-}
+// No room for a new outbox.
+#[derive(Clone, Copy, Debug, PartialEq, Eq)]
+pub struct NoRoom;
 
-impl Created {
-    // The refusal number, or 0 where nothing is refused.
-    pub fn number(self) -> u8
-        ensures { result ≡ number_in (told_new self) }
-    {
-        match self {
-            Created::Used(_) => 0,
-            Created::NoRoom => 14,
-        }
+impl Numbered for NoRoom {
+    ghost number_of = { create_number };
+
+    fn number(&self) -> u8 {
+        14
     }
 }
 
-// The used bytes after an append, or why nothing was written.
-#[derive(Drop)]
-pub enum Appended {
-    Used(usize),
+// Why nothing was appended.
+#[derive(Clone, Copy, Debug, PartialEq, Eq)]
+pub enum AppendRefusal {
     BeyondBuffer,
     BadRecord,
     NoRoom,
-    Broken { fault: Fault, place: usize },
+    Broken(Broken),
 }
 
-impl Appended {
-    // The refusal number, or 0 where nothing is refused.
-    pub fn number(self) -> u8
-        ensures { result ≡ number_in (told self) }
-    {
+impl Numbered for AppendRefusal {
+    ghost number_of = { append_number };
+
+    fn number(&self) -> u8 {
         match self {
-            Appended::Used(_) => 0,
-            Appended::BeyondBuffer => 1,
-            Appended::BadRecord => 15,
-            Appended::NoRoom => 14,
-            Appended::Broken { fault, place: _ } => fault.number(),
+            AppendRefusal::BeyondBuffer => 1,
+            AppendRefusal::BadRecord => 15,
+            AppendRefusal::NoRoom => 14,
+            AppendRefusal::Broken(broken) => broken.number(),
         }
     }
 }
 
-// Begins a new outbox in a lent buffer: of version 02.
-pub fn create(buffer: &mut [u8]) -> Created
+impl From<Broken> for AppendRefusal {
+    ghost from_gives = { λ broken why. why ≡ AppendRefusal.Broken broken };
+
+    fn from(broken: Broken) -> AppendRefusal {
+        AppendRefusal::Broken(broken)
+    }
+}
+
+// Begins a new outbox in a lent buffer, of version 02; the used bytes.
+pub fn create(buffer: &mut [u8]) -> Result<usize, NoRoom>
     ensures { stored (told_new result) buffer.new ≡ new_of version_two buffer.old }
 {
     if buffer.len() == 0 {
-        return Created::NoRoom;
+        return Err(NoRoom);
     }
     let fmt = Format::two();
     buffer[0] = fmt.version;
-    Created::Used(FIRST_PLACE)
+    Ok(FIRST_PLACE)
 }
 
 fn bad_record(fmt: Format, stream: u8, size: usize) -> bool
@@ -108,7 +108,7 @@ pub fn put_record(buffer: &mut [u8], at: usize, fmt: Format, stream: u8, payload
 }
 
 // Appends a record right after used bytes of a version.
-fn append_by(buffer: &mut [u8], used: usize, fmt: Format, stream: u8, payload: &[u8]) -> Appended
+fn append_by(buffer: &mut [u8], used: usize, fmt: Format, stream: u8, payload: &[u8]) -> Result<usize, AppendRefusal>
     requires { Known fmt
         × (used ≤ length buffer.old)
         × (other_version fmt (take used buffer.old) ≡ false) }
@@ -116,45 +116,38 @@ fn append_by(buffer: &mut [u8], used: usize, fmt: Format, stream: u8, payload: &
         ≡ append_of fmt buffer.old used stream payload.now }
 {
     if bad_record(fmt, stream, payload.len()) {
-        return Appended::BadRecord;
+        return Err(AppendRefusal::BadRecord);
     }
     let head = fmt.width + 1;
     let size = head + payload.len();
     if buffer.len() - used < size {
-        return Appended::NoRoom;
+        return Err(AppendRefusal::NoRoom);
     }
-    match walk_used(&buffer[..used], fmt) {
-        Walked::Whole => {
-            put_record(buffer, used, fmt, stream, payload);
-            let end = used + size;
-            Appended::Used(end)
-        }
-        Walked::Broken { fault, place } => Appended::Broken { fault, place },
-    }
+    walk_used(&buffer[..used], fmt)?;
+    put_record(buffer, used, fmt, stream, payload);
+    let end = used + size;
+    Ok(end)
 }
 
 // The same where the version is not judged yet.
-fn append_in(buffer: &mut [u8], used: usize, fmt: Format, stream: u8, payload: &[u8]) -> Appended
+fn append_in(buffer: &mut [u8], used: usize, fmt: Format, stream: u8, payload: &[u8]) -> Result<usize, AppendRefusal>
     requires { Known fmt × (used ≤ length buffer.old) }
     ensures { stored (told result) buffer.new
         ≡ append_of fmt buffer.old used stream payload.now }
 {
     if other_version(&buffer[..used], fmt) {
-        return Appended::Broken {
-            fault: Fault::Version,
-            place: 0,
-        };
+        return Err(AppendRefusal::Broken(Broken::version()));
     }
     append_by(buffer, used, fmt, stream, payload)
 }
 
-// Appends a record right after the used bytes of a lent buffer, which must be a whole outbox.
-pub fn append(buffer: &mut [u8], used: usize, stream: u8, payload: &[u8]) -> Appended
+// Appends a record right after the used bytes of a lent buffer, which must be a whole outbox; the used bytes afterwards.
+pub fn append(buffer: &mut [u8], used: usize, stream: u8, payload: &[u8]) -> Result<usize, AppendRefusal>
     ensures { stored (told result) buffer.new
         ≡ append_of (format_of (take used buffer.old)) buffer.old used stream payload.now }
 {
     if buffer.len() < used {
-        return Appended::BeyondBuffer;
+        return Err(AppendRefusal::BeyondBuffer);
     }
     if is_one(&buffer[..used]) {
         append_in(buffer, used, Format::one(), stream, payload)

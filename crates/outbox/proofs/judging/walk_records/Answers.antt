@@ -22,10 +22,10 @@ judged c a e =
     let there = c.judge.ensures place ∙ ap (record_at c.args.fmt place) (rest-lent c.args.file.now place) in
     decided-here c.args.fmt c.args.file.now c.requires.1 place d.0 d.2 (omega (arith, d.1, c.if-place-file.false)) a (sym there ∙ e)
 
-pub returns-in-Record : goal.returns-in-Record
-returns-in-Record c =
-    sym (judged (goal.at.returns-in-Record c).After-judge _ (ap (told_judged c.args.fmt c.whole_up_to-place.result) c.in-Record.is))
+pub returns-in-Ok : goal.returns-in-Ok
+returns-in-Ok c =
+    sym (judged (goal.at.returns-in-Ok c).After-judge _ (ap (told_judged c.args.fmt c.whole_up_to-place.result) c.in-Ok.is))
 
-pub returns-in-Broken : goal.returns-in-Broken
-returns-in-Broken c =
-    sym (judged (goal.at.returns-in-Broken c).After-judge _ (ap (told_judged c.args.fmt c.whole_up_to-place.result) c.in-Broken.is))
+pub returns-in-Err : goal.returns-in-Err
+returns-in-Err c =
+    sym (judged (goal.at.returns-in-Err c).After-judge _ (ap (told_judged c.args.fmt c.whole_up_to-place.result) c.in-Err.is))

@@ -4,6 +4,7 @@ use mathlib.Core.Path.{◌≡◌, sym, ◌∙◌}
 use native.Mathlib.Omega.{arith}
 use lib.ListN.{length}
 use lib.Seq.{length-take-le}
+use Rattle.std.proofs.lemmas.Result.{err_from_is_err_and}
 use Rattle.outbox.specs.Format.{record_bytes}
 use Rattle.outbox.specs.Reader.{told_walk}
 use Rattle.outbox.specs.Writer.{stored_at, if_whole, append_of}
@@ -80,15 +81,17 @@ pub put_record-requires : goal.put_record-requires
 put_record-requires c =
     (c.requires.0, omega (arith, c.if-buffer-used.false, c.requires.1), short (goal.at.put_record-requires c).Else-bad_record)
 
-pub returns-in-Whole : goal.returns-in-Whole
-returns-in-Whole c =
+pub returns : goal.returns
+returns c =
     sym
-    (decided (goal.at.returns-in-Whole c).After-walk_used
+    (decided (goal.at.returns c).After-walk_used
     ∙ rw (
-      c.in-Whole.is,
+      c.in_ok-walk_used.was,
       length-record c.args.fmt c.args.stream c.args.payload.now,
       sym c.put_record.ensures,
     ))
 
-pub returns-in-Broken : goal.returns-in-Broken
-returns-in-Broken c = sym (decided (goal.at.returns-in-Broken c).After-walk_used ∙ rw c.in-Broken.is)
+pub returns-in_err-walk_used : goal.returns-in_err-walk_used
+returns-in_err-walk_used c =
+    let p = err_from_is_err_and c.from_residual.result c.from_residual.ensures.1 in
+    rw (p.1, p.2) (sym (decided (goal.at.returns-in_err-walk_used c).After-walk_used ∙ rw c.in_err-walk_used.was))

@@ -8,7 +8,8 @@ slice_bounds-other_version-end-2 c = sym (length-take-le _ _ c.requires.1)
 
 pub returns-then-other_version : goal.returns-then-other_version
 returns-then-other_version c =
-    sym
+    rw c.version.ensures
+    (sym
     (append-other
     c.args.fmt
     c.args.stream
@@ -16,7 +17,7 @@ returns-then-other_version c =
     c.args.buffer.now
     c.args.used
     c.requires.1
-    (sym c.other_version.ensures ∙ c.if-other_version.true))
+    (sym c.other_version.ensures ∙ c.if-other_version.true)))
 
 pub append_by-requires : goal.append_by-requires
 append_by-requires c =
