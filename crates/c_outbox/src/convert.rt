@@ -24,14 +24,11 @@ pub const WHOLE_ANSWER: usize = 1;
 const RECORD: u64 = 1;
 
 // The place that goes with a record that is cut short; 0 for any other fault.
+#[tactic(auto, unfolding(crate::specs::Convert::cut_place))]
 fn cut_place(fault: Fault, place: usize) -> u64
     ensures { result ≡ cut_place (fault_number fault) place }
 {
-    if fault == Fault::Cut {
-        place as u64
-    } else {
-        0
-    }
+    if fault == Fault::Cut { place as u64 } else { 0 }
 }
 
 // Tells a refusal in an answer row, and returns its number.
@@ -46,6 +43,7 @@ fn refuse(answer: &mut [u64], why: u8, row: &[u64]) -> u64
 
 // Tells what was appended in an answer row, and returns its number. Each arm, and each fault, writes its own row: to choose
 // one first, or a place, costs more.
+#[tactic(auto, unfolding(crate::specs::Convert::cut_place))]
 pub fn tell_append(answer: &mut [u64], appended: Result<usize, AppendRefusal>) -> u64
     requires { length answer.old ≡ 2 }
     ensures { (result ≡ number_in (writings.told appended))
@@ -59,7 +57,11 @@ pub fn tell_append(answer: &mut [u64], appended: Result<usize, AppendRefusal>) -
             put(answer, DONE, &row);
             DONE
         }
-        Err(AppendRefusal::BeyondBuffer) => refuse(answer, AppendRefusal::BeyondBuffer.number(), &zeros),
+        Err(AppendRefusal::BeyondBuffer) => refuse(
+            answer,
+            AppendRefusal::BeyondBuffer.number(),
+            &zeros,
+        ),
         Err(AppendRefusal::BadRecord) => refuse(answer, AppendRefusal::BadRecord.number(), &zeros),
         Err(AppendRefusal::NoRoom) => refuse(answer, AppendRefusal::NoRoom.number(), &zeros),
         Err(AppendRefusal::Broken(broken)) => match broken.fault {
@@ -75,6 +77,7 @@ pub fn tell_append(answer: &mut [u64], appended: Result<usize, AppendRefusal>) -
 }
 
 // Tells what was read in an answer row, and returns its number. As in tell_append, each arm writes its own row.
+#[tactic(auto, unfolding(crate::specs::Convert::cut_place))]
 pub fn tell_record(answer: &mut [u64], reading: Result<Option<FoundRecord>, ReadRefusal>) -> u64
     requires { length answer.old ≡ 6 }
     ensures { (result ≡ number_in (readings.told reading))

@@ -12,7 +12,7 @@ use cli_console::{
 };
 use cli_listing::{Refilled, carry_over, judge_part, refill};
 use outbox::format::FIRST_PLACE;
-use outbox_move::{Moved, Wished, move_file};
+use outbox_move::{MoveRefusal, Wished, move_file};
 use std::fs;
 use std::io::{Read, Stdin};
 use std::num::wrapping_add_u64;
@@ -20,6 +20,7 @@ use std::os::unix::fs::FileTypeExt;
 use std::rt::{Env, Files};
 use wire::bytes::smaller;
 use wire::logic::either;
+use wire::refusal::Numbered;
 
 // In any version a part has less than twice its bytes.
 const MOVED_ROOM: usize = 131082;
@@ -42,13 +43,19 @@ enum Pass {
     Writing,
 }
 
+// A refusal of the file: its number, and its place in the whole file.
+#[derive(Clone, Copy, Debug, PartialEq, Eq)]
+struct RefusedAt {
+    number: u8,
+    place: u64,
+}
+
 // What a pass has come to: what is written, and whether that has the version byte; the first refusal of a part that is whole, if any.
 #[derive(Drop)]
 struct PassSoFar {
     output: Output,
     begun: bool,
-    number: u8,
-    place: u64,
+    refused: Option<RefusedAt>,
 }
 
 // Room for a part as it is moved. The `ensures` gives only the length, which lending the array as a slice needs.
@@ -58,13 +65,21 @@ fn moved_room() -> [u8; MOVED_ROOM]
     [0; MOVED_ROOM]
 }
 
-fn complain_at(console: Console, number: u8, place: u64) {
+fn complain_at(console: Console, refused: RefusedAt) {
     complain(console, b"move_outbox: refused ");
-    complain_number(console, number as u64);
+    complain_number(console, refused.number as u64);
     complain(console, b" at ");
-    complain_number(console, place);
+    complain_number(console, refused.place);
     complain(console, b"\n");
-    explain_outbox(console, number);
+    explain_outbox(console, refused.number);
+}
+
+// A refusal told by a place of a part, by how many bytes of the file are gone from that part.
+fn refused_at(number: u8, gone: u64, place: usize) -> RefusedAt {
+    RefusedAt {
+        number,
+        place: wrapping_add_u64(gone, place as u64),
+    }
 }
 
 fn argument<E: Env>(rt: &E) -> Asked {
@@ -91,21 +106,24 @@ fn write_part(before: PassSoFar, moved: &[u8]) -> PassSoFar {
     PassSoFar {
         output: output.text(&moved[from..]),
         begun: true,
-        number: before.number,
-        place: before.place,
+        refused: before.refused,
     }
 }
 
-fn refuse(before: PassSoFar, number: u8, gone: u64, place: usize) -> PassSoFar {
-    if before.number != 0 {
-        return before;
-    }
-    let output = before.output;
+// The first refusal stays.
+fn refuse(before: PassSoFar, why: MoveRefusal, gone: u64) -> PassSoFar {
+    let place = match why {
+        MoveRefusal::NoRoom => 0,
+        MoveRefusal::TooLong(too_long) => too_long.place,
+        MoveRefusal::Broken(broken) => broken.place,
+    };
+    let refused = before
+        .refused
+        .or(Some(refused_at(why.number(), gone, place)));
     PassSoFar {
-        output,
+        output: before.output,
         begun: before.begun,
-        number,
-        place: wrapping_add_u64(gone, place as u64),
+        refused,
     }
 }
 
@@ -118,23 +136,20 @@ fn move_part(
     wished: Wished,
     space: &mut [u8],
 ) -> PassSoFar {
-    let moved = move_file(part, wished, space);
-    match moved {
-        Moved::Written(n) => match pass {
+    match move_file(part, wished, space) {
+        Ok(n) => match pass {
             Pass::Judging => before,
             Pass::Writing => write_part(before, &space[..n]),
         },
-        Moved::NoRoom => refuse(before, moved.number(), gone, 0),
-        Moved::TooLong(place) => refuse(before, moved.number(), gone, place),
-        Moved::Broken { fault: _, place } => refuse(before, moved.number(), gone, place),
+        Err(why) => refuse(before, why, gone),
     }
 }
 
 // The end of a pass over a whole file: whether nothing was refused.
 fn end_pass(passed: PassSoFar) -> bool {
-    if passed.number != 0 {
+    if let Some(refused) = passed.refused {
         let output = passed.output;
-        complain_at(output.console, passed.number, passed.place);
+        complain_at(output.console, refused);
         return false;
     }
     true
@@ -165,8 +180,7 @@ fn pass_over<R: Read>(
     let mut passed = PassSoFar {
         output: Output::new(console),
         begun: false,
-        number: 0,
-        place: 0,
+        refused: None,
     };
     let mut gone = 0;
     let begins = smaller(first.held, buffer.len());
@@ -183,13 +197,14 @@ fn pass_over<R: Read>(
         if either(filled.failed, output.failed) {
             return false;
         }
-        let judged = judge_part(&buffer[..held], filled.last);
-        let listed = judged.listed;
+        let listed = match judge_part(&buffer[..held], filled.last) {
+            Ok(part) => part,
+            Err(broken) => {
+                complain_at(console, refused_at(broken.number(), gone, broken.place));
+                return false;
+            }
+        };
         let place = listed.place;
-        if judged.number != 0 {
-            complain_at(console, judged.number, wrapping_add_u64(gone, place as u64));
-            return false;
-        }
         let end = smaller(held, place);
         passed = move_part(passed, pass, &buffer[..end], gone, wished, space);
         if listed.over {

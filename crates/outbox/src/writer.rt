@@ -108,7 +108,13 @@ pub fn put_record(buffer: &mut [u8], at: usize, fmt: Format, stream: u8, payload
 }
 
 // Appends a record right after used bytes of a version.
-fn append_by(buffer: &mut [u8], used: usize, fmt: Format, stream: u8, payload: &[u8]) -> Result<usize, AppendRefusal>
+fn append_by(
+    buffer: &mut [u8],
+    used: usize,
+    fmt: Format,
+    stream: u8,
+    payload: &[u8],
+) -> Result<usize, AppendRefusal>
     requires { Known fmt
         × (used ≤ length buffer.old)
         × (other_version fmt (take used buffer.old) ≡ false) }
@@ -130,7 +136,13 @@ fn append_by(buffer: &mut [u8], used: usize, fmt: Format, stream: u8, payload: &
 }
 
 // The same where the version is not judged yet.
-fn append_in(buffer: &mut [u8], used: usize, fmt: Format, stream: u8, payload: &[u8]) -> Result<usize, AppendRefusal>
+fn append_in(
+    buffer: &mut [u8],
+    used: usize,
+    fmt: Format,
+    stream: u8,
+    payload: &[u8],
+) -> Result<usize, AppendRefusal>
     requires { Known fmt × (used ≤ length buffer.old) }
     ensures { stored (told result) buffer.new
         ≡ append_of fmt buffer.old used stream payload.now }
@@ -142,7 +154,12 @@ fn append_in(buffer: &mut [u8], used: usize, fmt: Format, stream: u8, payload: &
 }
 
 // Appends a record right after the used bytes of a lent buffer, which must be a whole outbox; the used bytes afterwards.
-pub fn append(buffer: &mut [u8], used: usize, stream: u8, payload: &[u8]) -> Result<usize, AppendRefusal>
+pub fn append(
+    buffer: &mut [u8],
+    used: usize,
+    stream: u8,
+    payload: &[u8],
+) -> Result<usize, AppendRefusal>
     ensures { stored (told result) buffer.new
         ≡ append_of (format_of (take used buffer.old)) buffer.old used stream payload.now }
 {

@@ -7,11 +7,11 @@ use Rattle.move_outbox.proofs.move_part.Goals as goal
 pub slice_bounds-write_part-end : goal.slice_bounds-write_part-end
 slice_bounds-write_part-end c =
     let inside =
-    written-fits (format_for c.args.wished) c.args.part.now c.args.space.now _ (ap (λ s. s.told) (sym c.move_file-moved.ensures) ∙ ap told c.in-Written.is) in
-    omega (arith, inside, c.move_file-moved.auto.out)
+    written-fits (format_for c.args.wished) c.args.part.now c.args.space.now _ (ap (λ s. s.told) (sym c.move_file.ensures) ∙ ap told c.in-Ok.is) in
+    omega (arith, inside, c.move_file.auto.out)
 
 pub slice_bounds-write_part-end-in-Writing : goal.slice_bounds-write_part-end-in-Writing
 slice_bounds-write_part-end-in-Writing c =
     let inside =
-    written-fits (format_for c.args.wished) c.args.part.now c.args.space.now _ (ap (λ s. s.told) (sym c.move_file-moved.ensures) ∙ ap told c.in-Written.is) in
-    sym (length-take-le _ _ (omega (arith, inside, c.move_file-moved.auto.out)))
+    written-fits (format_for c.args.wished) c.args.part.now c.args.space.now _ (ap (λ s. s.told) (sym c.move_file.ensures) ∙ ap told c.in-Ok.is) in
+    sym (length-take-le _ _ (omega (arith, inside, c.move_file.auto.out)))
