@@ -8,7 +8,7 @@ use Rattle.outbox.specs.Reader.{Answer, given, refused, refused_at, Item, found,
 use Rattle.outbox.specs.Writer.{Stored, stored, stored_at, if_whole}
 use Rattle.outbox_move.specs.declared.Wished.{Wished}
 use Rattle.outbox_move.specs.declared.MoveRefusal.{MoveRefusal}
-use Rattle.outbox_move.specs.declared.passes.TooLong.{TooLong}
+use Rattle.outbox_move.specs.declared.TooLong.{TooLong}
 
 abbrev pub format_for : Wished → Format
 format_for Wished.One = version_one

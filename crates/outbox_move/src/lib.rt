@@ -8,14 +8,14 @@ ghost use Rattle.outbox.specs.Writer.{stored, if_whole};
 ghost use Rattle.outbox_move.specs.Moves.{format_for, records_in, over_from, placed, move_of, move_number, told};
 ghost use Rattle.outbox_move.specs.declared.MoveRefusal.{MoveRefusal};
 
-use crate::passes::{TooLong, count, write_records};
+use crate::passes::{count, write_records};
 use outbox::format::Format;
 use outbox::reader::walk;
 use outbox::verdict::Broken;
 use wire::bytes::{byte_at, copy};
 use wire::refusal::Numbered;
 
-pub mod passes;
+mod passes;
 
 // The version that is wished for.
 #[derive(Clone, Copy)]
@@ -33,6 +33,12 @@ impl Wished {
             Wished::Two => Format::two(),
         }
     }
+}
+
+// A record that is too long for the wished version, by its place: the first one.
+#[derive(Clone, Copy, Debug, PartialEq, Eq)]
+pub struct TooLong {
+    pub place: usize,
 }
 
 // Why nothing was written: no room, a record too long for the wished version, or the file's own first refusal.

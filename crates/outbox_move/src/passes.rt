@@ -5,6 +5,7 @@ ghost use Rattle.outbox.specs.Format.{Known, new_bytes, first_place};
 ghost use Rattle.outbox.specs.Reader.{given, read_of, read_all};
 ghost use Rattle.outbox_move.specs.Moves.{record_only, records_in, over_from, count_of, told_next, told_count};
 
+use crate::TooLong;
 use outbox::format::{FIRST_PLACE, Format};
 use outbox::reader::{FoundRecord, read_by};
 use outbox::writer::put_record;
@@ -15,12 +16,6 @@ fn record_at(file: &[u8], place: usize, own: Format) -> Option<FoundRecord>
     ensures { told_next result ≡ record_only (read_of own file.now place) }
 {
     read_by(file, place, own).unwrap_or(None)
-}
-
-// The place of the first record that is too long for a version.
-#[derive(Clone, Copy, Debug, PartialEq, Eq)]
-pub struct TooLong {
-    pub place: usize,
 }
 
 // The size of a file in a version.
