@@ -2,13 +2,14 @@
 #![tactic(auto)]
 
 ghost use Rattle.std.specs.Prelude.{◌≡◌, []};
-ghost use Rattle.outbox.specs.Format.{version_one, version_two};
-ghost use Rattle.outbox_move.specs.Moves.{format_for, told};
+ghost use Rattle.outbox.specs.Format.{version_one, version_two, format_for};
+ghost use Rattle.outbox_move.specs.Moves.{told};
 ghost use Rattle.c_rows.specs.Called.{called};
 ghost use Rattle.c_outbox_move.specs.Calls.{moved_row, outbox_move_of};
 
 use c_rows::row::{UNFIT, put};
-use outbox_move::{MoveRefusal, Wished, move_file};
+use outbox::format::FileVersion;
+use outbox_move::{MoveRefusal, move_file};
 use wire::bytes::wide64;
 use wire::refusal::number_in;
 
@@ -26,7 +27,7 @@ fn moved_row(moved: Result<usize, MoveRefusal>) -> [u64; 2]
     }
 }
 
-fn outbox_move(file: &[u8], wished: Wished, output: &mut [u8], answer: &mut [u64]) -> u64
+fn outbox_move(file: &[u8], wished: FileVersion, output: &mut [u8], answer: &mut [u64]) -> u64
     ensures { called result [] output.new answer.new
         ≡ outbox_move_of (format_for wished) file.now output.old answer.old }
 {
@@ -45,7 +46,7 @@ pub fn pito_outbox_to_01(bytes: &[u8], output: &mut [u8], answer: &mut [u64]) ->
     ensures { called result [] output.new answer.new
         ≡ outbox_move_of version_one bytes.now output.old answer.old }
 {
-    outbox_move(bytes, Wished::One, output, answer)
+    outbox_move(bytes, FileVersion::One, output, answer)
 }
 
 // Writes a file as version 02.
@@ -53,5 +54,5 @@ pub fn pito_outbox_to_02(bytes: &[u8], output: &mut [u8], answer: &mut [u64]) ->
     ensures { called result [] output.new answer.new
         ≡ outbox_move_of version_two bytes.now output.old answer.old }
 {
-    outbox_move(bytes, Wished::Two, output, answer)
+    outbox_move(bytes, FileVersion::Two, output, answer)
 }

@@ -1,9 +1,8 @@
 -- Listing an outbox file part by part: a part is the version byte and the bytes from a place of the file on.
 use Rattle.std.specs.Prelude.{◌≡◌, ℕ, ◌+◌, ◌-◌, ◌<◌, ◌≤◌, Bool, true, false, not, ◌&&◌, List, ◌∷◌, ◌++◌, length, take, drop, ◌==◌, Result, Ok, Err}
 use Rattle.std.proofs.lemmas.List.Edits.{sets}
-use Rattle.outbox.specs.declared.format.Format.{Format}
 use Rattle.outbox.specs.declared.verdict.Broken.{Broken}
-use Rattle.outbox.specs.Format.{Known, format_of, head_size, first_place}
+use Rattle.outbox.specs.Format.{Format, Known, format_of, head_size, first_place}
 use Rattle.outbox.specs.Reader.{Answer, given, refused, refused_at, read_all, walk_of}
 use Rattle.outbox_claims.specs.Claims.{usable, records_of, all_moved, from_place}
 use Rattle.cli_listing.specs.declared.Listed.{Listed}

@@ -11,8 +11,8 @@ use cli_console::{
     Console, Output, argument_count, argument_is, complain, complain_number, read_full,
 };
 use cli_listing::{Refilled, carry_over, judge_part, refill};
-use outbox::format::FIRST_PLACE;
-use outbox_move::{MoveRefusal, Wished, move_file};
+use outbox::format::{FIRST_PLACE, FileVersion};
+use outbox_move::{MoveRefusal, move_file};
 use std::fs;
 use std::io::{Read, Stdin};
 use std::num::wrapping_add_u64;
@@ -133,7 +133,7 @@ fn move_part(
     pass: Pass,
     part: &[u8],
     gone: u64,
-    wished: Wished,
+    wished: FileVersion,
     space: &mut [u8],
 ) -> PassSoFar {
     match move_file(part, wished, space) {
@@ -172,7 +172,7 @@ fn pass_over<R: Read>(
     console: Console,
     input: &mut R,
     pass: Pass,
-    wished: Wished,
+    wished: FileVersion,
     first: Refilled,
     buffer: &mut [u8],
     space: &mut [u8],
@@ -241,7 +241,7 @@ fn move_input<F: Files>(
     rt: &F,
     console: Console,
     input: Stdin,
-    wished: Wished,
+    wished: FileVersion,
     buffer: &mut [u8],
     space: &mut [u8],
 ) {
@@ -307,8 +307,22 @@ fn main(rt: HostRuntime) {
     let mut buffer = cli_listing::room();
     let mut space = moved_room();
     match argument(&rt) {
-        Asked::One => move_input(&rt, console, input, Wished::One, &mut buffer, &mut space),
-        Asked::Two => move_input(&rt, console, input, Wished::Two, &mut buffer, &mut space),
+        Asked::One => move_input(
+            &rt,
+            console,
+            input,
+            FileVersion::One,
+            &mut buffer,
+            &mut space,
+        ),
+        Asked::Two => move_input(
+            &rt,
+            console,
+            input,
+            FileVersion::Two,
+            &mut buffer,
+            &mut space,
+        ),
         Asked::Neither => complain(console, b"usage: move_outbox 01|02 < OUTBOX > NEW_OUTBOX\n"),
     }
 }

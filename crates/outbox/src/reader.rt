@@ -1,10 +1,10 @@
 // Reading an outbox: the record at a place, and whether all is whole.
 ghost use Rattle.std.specs.Prelude.{◌≡◌};
-ghost use Rattle.outbox.specs.Format.{Known, format_of};
+ghost use Rattle.outbox.specs.Format.{format_of, format_for};
 ghost use Rattle.outbox.specs.Reader.{bad_place, read_of, walk_of};
 ghost use Rattle.outbox.specs.Reader.{read_number, told, told_walk};
 
-use crate::format::{Format, is_one, other_version};
+use crate::format::{FileVersion, other_version};
 use crate::judging::{judge, walk_records};
 use crate::verdict::Broken;
 use wire::logic::either;
@@ -44,11 +44,14 @@ fn bad_place(file: &[u8], place: usize) -> bool
 }
 
 // Reads by a version. For callers that go through a whole file: with them, `read` would no longer be compiled into its own callers.
-pub fn read_by(file: &[u8], place: usize, fmt: Format) -> Result<Option<FoundRecord>, ReadRefusal>
-    requires { Known fmt }
-    ensures { told result ≡ read_of fmt file.now place }
+pub fn read_by(
+    file: &[u8],
+    place: usize,
+    version: FileVersion,
+) -> Result<Option<FoundRecord>, ReadRefusal>
+    ensures { told result ≡ read_of (format_for version) file.now place }
 {
-    if other_version(file, fmt) {
+    if other_version(file, version) {
         return Err(ReadRefusal::Broken(Broken::version()));
     }
     if bad_place(file, place) {
@@ -57,10 +60,9 @@ pub fn read_by(file: &[u8], place: usize, fmt: Format) -> Result<Option<FoundRec
     if place == file.len() {
         return Ok(None);
     }
-    match judge(&file[place..], fmt) {
+    match judge(&file[place..], version) {
         Ok(judged) => {
-            let head = fmt.width + 1;
-            let start = place + head;
+            let start = place + version.head_size();
             let next = start + judged.size;
             Ok(Some(FoundRecord {
                 stream: judged.stream,
@@ -77,30 +79,27 @@ pub fn read_by(file: &[u8], place: usize, fmt: Format) -> Result<Option<FoundRec
 pub fn read(file: &[u8], place: usize) -> Result<Option<FoundRecord>, ReadRefusal>
     ensures { told result ≡ read_of (format_of file.now) file.now place }
 {
-    if is_one(file) {
-        read_by(file, place, Format::one())
-    } else {
-        read_by(file, place, Format::two())
+    match FileVersion::of(file) {
+        FileVersion::One => read_by(file, place, FileVersion::One),
+        FileVersion::Two => read_by(file, place, FileVersion::Two),
     }
 }
 
-fn walk_by(file: &[u8], fmt: Format) -> Result<(), Broken>
-    requires { Known fmt }
-    ensures { told_walk result ≡ walk_of fmt file.now }
+fn walk_by(file: &[u8], version: FileVersion) -> Result<(), Broken>
+    ensures { told_walk result ≡ walk_of (format_for version) file.now }
 {
-    if other_version(file, fmt) {
+    if other_version(file, version) {
         return Err(Broken::version());
     }
-    walk_records(file, fmt)
+    walk_records(file, version)
 }
 
 // Whether an outbox is whole from its first byte to its last, or its first refusal.
 pub fn walk(file: &[u8]) -> Result<(), Broken>
     ensures { told_walk result ≡ walk_of (format_of file.now) file.now }
 {
-    if is_one(file) {
-        walk_by(file, Format::one())
-    } else {
-        walk_by(file, Format::two())
+    match FileVersion::of(file) {
+        FileVersion::One => walk_by(file, FileVersion::One),
+        FileVersion::Two => walk_by(file, FileVersion::Two),
     }
 }

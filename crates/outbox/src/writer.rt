@@ -1,12 +1,12 @@
 // Writing an outbox into a lent buffer: a new one, and a record after the used bytes.
 ghost use Rattle.std.specs.Prelude.{◌≡◌, false, ◌+◌, ◌≤◌, length, take};
 ghost use Rattle.std.proofs.lemmas.List.Edits.{sets};
-ghost use Rattle.outbox.specs.Format.{version_two, Known, format_of, head_size, bytes_of, record_bytes};
+ghost use Rattle.outbox.specs.Format.{version_two, format_of, format_for, head_size, bytes_of, record_bytes};
 ghost use Rattle.outbox.specs.Reader.{other_version};
 ghost use Rattle.outbox.specs.Writer.{stored, new_of, bad_record, append_of, create_number, append_number, told_new, told};
 ghost use Rattle.outbox.specs.declared.writer.AppendRefusal.{AppendRefusal};
 
-use crate::format::{FIRST_PLACE, Format, is_one, other_version};
+use crate::format::{FIRST_PLACE, FileVersion, other_version};
 use crate::judging::walk_used;
 use crate::verdict::Broken;
 use wire::bytes::{copy, put_pair};
@@ -62,47 +62,48 @@ impl From<Broken> for AppendRefusal {
 }
 
 // Begins a new outbox in a lent buffer, of version 02; the used bytes.
+#[tactic(auto, unfolding(crate::specs::Writer::new_of))]
 pub fn create(buffer: &mut [u8]) -> Result<usize, NoRoom>
     ensures { stored (told_new result) buffer.new ≡ new_of version_two buffer.old }
 {
     if buffer.len() == 0 {
         return Err(NoRoom);
     }
-    let fmt = Format::two();
-    buffer[0] = fmt.version;
+    buffer[0] = FileVersion::Two.byte();
     Ok(FIRST_PLACE)
 }
 
-fn bad_record(fmt: Format, stream: u8, size: usize) -> bool
-    ensures { result ≡ bad_record fmt stream size }
+#[tactic(auto, unfolding(crate::specs::Writer::bad_record))]
+fn bad_record(version: FileVersion, stream: u8, size: usize) -> bool
+    ensures { result ≡ bad_record (format_for version) stream size }
 {
-    either(!is_stream(stream), fmt.limit < size)
+    either(!is_stream(stream), version.limit() < size)
 }
 
 // Writes a record's length at a place: a field of two bytes, or of four.
-fn put_length(buffer: &mut [u8], at: usize, fmt: Format, n: usize)
-    requires { Known fmt × (at + fmt.width ≤ length buffer.old) × (n ≤ fmt.limit + 1) }
-    ensures { buffer.new ≡ sets buffer.old at (bytes_of fmt.width n) }
+fn put_length(buffer: &mut [u8], at: usize, version: FileVersion, n: usize)
+    requires { (at + (format_for version).width ≤ length buffer.old) × (n ≤ (format_for version).limit + 1) }
+    ensures { buffer.new ≡ sets buffer.old at (bytes_of (format_for version).width n) }
 {
-    if fmt.width == 2 {
-        put_pair(buffer, at, n);
-    } else {
-        let high = n >> PAIR_BITS;
-        put_pair(buffer, at, high);
-        put_pair(buffer, at + 2, n - high * PAIRS);
+    match version {
+        FileVersion::One => put_pair(buffer, at, n),
+        FileVersion::Two => {
+            let high = n >> PAIR_BITS;
+            put_pair(buffer, at, high);
+            put_pair(buffer, at + 2, n - high * PAIRS);
+        }
     }
 }
 
 // Writes a record at a place.
-pub fn put_record(buffer: &mut [u8], at: usize, fmt: Format, stream: u8, payload: &[u8])
-    requires { Known fmt
-        × (at + (head_size fmt + length payload.now) ≤ length buffer.old)
-        × (length payload.now ≤ fmt.limit) }
+pub fn put_record(buffer: &mut [u8], at: usize, version: FileVersion, stream: u8, payload: &[u8])
+    requires { (at + (head_size (format_for version) + length payload.now) ≤ length buffer.old)
+        × (length payload.now ≤ (format_for version).limit) }
     ensures { buffer.new
-        ≡ sets buffer.old at (record_bytes fmt stream payload.now) }
+        ≡ sets buffer.old at (record_bytes (format_for version) stream payload.now) }
 {
-    let width = fmt.width;
-    put_length(buffer, at, fmt, payload.len() + 1);
+    let width = version.width();
+    put_length(buffer, at, version, payload.len() + 1);
     buffer[at + width] = stream;
     copy(buffer, at + (width + 1), payload);
 }
@@ -111,26 +112,24 @@ pub fn put_record(buffer: &mut [u8], at: usize, fmt: Format, stream: u8, payload
 fn append_by(
     buffer: &mut [u8],
     used: usize,
-    fmt: Format,
+    version: FileVersion,
     stream: u8,
     payload: &[u8],
 ) -> Result<usize, AppendRefusal>
-    requires { Known fmt
-        × (used ≤ length buffer.old)
-        × (other_version fmt (take used buffer.old) ≡ false) }
+    requires { (used ≤ length buffer.old)
+        × (other_version (format_for version) (take used buffer.old) ≡ false) }
     ensures { stored (told result) buffer.new
-        ≡ append_of fmt buffer.old used stream payload.now }
+        ≡ append_of (format_for version) buffer.old used stream payload.now }
 {
-    if bad_record(fmt, stream, payload.len()) {
+    if bad_record(version, stream, payload.len()) {
         return Err(AppendRefusal::BadRecord);
     }
-    let head = fmt.width + 1;
-    let size = head + payload.len();
+    let size = version.head_size() + payload.len();
     if buffer.len() - used < size {
         return Err(AppendRefusal::NoRoom);
     }
-    walk_used(&buffer[..used], fmt)?;
-    put_record(buffer, used, fmt, stream, payload);
+    walk_used(&buffer[..used], version)?;
+    put_record(buffer, used, version, stream, payload);
     let end = used + size;
     Ok(end)
 }
@@ -139,21 +138,22 @@ fn append_by(
 fn append_in(
     buffer: &mut [u8],
     used: usize,
-    fmt: Format,
+    version: FileVersion,
     stream: u8,
     payload: &[u8],
 ) -> Result<usize, AppendRefusal>
-    requires { Known fmt × (used ≤ length buffer.old) }
+    requires { used ≤ length buffer.old }
     ensures { stored (told result) buffer.new
-        ≡ append_of fmt buffer.old used stream payload.now }
+        ≡ append_of (format_for version) buffer.old used stream payload.now }
 {
-    if other_version(&buffer[..used], fmt) {
+    if other_version(&buffer[..used], version) {
         return Err(AppendRefusal::Broken(Broken::version()));
     }
-    append_by(buffer, used, fmt, stream, payload)
+    append_by(buffer, used, version, stream, payload)
 }
 
 // Appends a record right after the used bytes of a lent buffer, which must be a whole outbox; the used bytes afterwards.
+#[tactic(auto, unfolding(crate::specs::Writer::append_of))]
 pub fn append(
     buffer: &mut [u8],
     used: usize,
@@ -166,9 +166,8 @@ pub fn append(
     if buffer.len() < used {
         return Err(AppendRefusal::BeyondBuffer);
     }
-    if is_one(&buffer[..used]) {
-        append_in(buffer, used, Format::one(), stream, payload)
-    } else {
-        append_in(buffer, used, Format::two(), stream, payload)
+    match FileVersion::of(&buffer[..used]) {
+        FileVersion::One => append_in(buffer, used, FileVersion::One, stream, payload),
+        FileVersion::Two => append_in(buffer, used, FileVersion::Two, stream, payload),
     }
 }

@@ -1,18 +1,12 @@
 -- An outbox file written in a wished version.
 use Rattle.std.specs.Prelude.{ℕ, ◌+◌, cond, List, [], ◌∷◌, ◌++◌, eqb, ltb, length, Result, Ok, Err, Option, Some, None}
 use Rattle.wire.specs.Told.{line, table}
-use Rattle.outbox.specs.declared.format.Format.{Format}
-use Rattle.outbox.specs.Format.{version_one, version_two, format_of, record_bytes, new_bytes, first_place}
+use Rattle.outbox.specs.Format.{Format, format_of, record_bytes, new_bytes, first_place}
 use Rattle.outbox.specs.declared.reader.FoundRecord.{FoundRecord}
 use Rattle.outbox.specs.Reader.{Answer, given, refused, refused_at, Item, found, end, HandedRecord, read_all, walk_of, broken_number}
 use Rattle.outbox.specs.Writer.{Stored, stored, stored_at, if_whole}
-use Rattle.outbox_move.specs.declared.Wished.{Wished}
 use Rattle.outbox_move.specs.declared.MoveRefusal.{MoveRefusal}
 use Rattle.outbox_move.specs.declared.TooLong.{TooLong}
-
-abbrev pub format_for : Wished → Format
-format_for Wished.One = version_one
-format_for Wished.Two = version_two
 
 -- the bytes of a record that was read, in a format; no other reading has any
 abbrev pub record_in : Format → List ℕ → Answer Item → List ℕ

@@ -2,38 +2,20 @@
 #![tactic(auto)]
 
 ghost use Rattle.std.specs.Prelude.{◌≡◌, ◌++◌};
-ghost use Rattle.outbox.specs.Format.{Known, format_of, new_bytes, first_place};
+ghost use Rattle.outbox.specs.Format.{format_of, format_for, new_bytes, first_place};
 ghost use Rattle.outbox.specs.Reader.{given, read_all, walk_of};
 ghost use Rattle.outbox.specs.Writer.{stored, if_whole};
-ghost use Rattle.outbox_move.specs.Moves.{format_for, records_in, over_from, placed, move_of, move_number, told};
+ghost use Rattle.outbox_move.specs.Moves.{records_in, over_from, placed, move_of, move_number, told};
 ghost use Rattle.outbox_move.specs.declared.MoveRefusal.{MoveRefusal};
 
 use crate::passes::{count, write_records};
-use outbox::format::Format;
+use outbox::format::FileVersion;
 use outbox::reader::walk;
 use outbox::verdict::Broken;
-use wire::bytes::{byte_at, copy};
+use wire::bytes::copy;
 use wire::refusal::Numbered;
 
 mod passes;
-
-// The version that is wished for.
-#[derive(Clone, Copy)]
-pub enum Wished {
-    One,
-    Two,
-}
-
-impl Wished {
-    fn format(self) -> Format
-        ensures { result ≡ format_for self }
-    {
-        match self {
-            Wished::One => Format::one(),
-            Wished::Two => Format::two(),
-        }
-    }
-}
 
 // A record that is too long for the wished version, by its place: the first one.
 #[derive(Clone, Copy, Debug, PartialEq, Eq)]
@@ -90,38 +72,43 @@ fn copy_file(file: &[u8], out: &mut [u8]) -> Result<usize, MoveRefusal>
 }
 
 // Writes the records of a file in another version; the bytes written.
-fn rewrite(file: &[u8], own: Format, fmt: Format, out: &mut [u8]) -> Result<usize, MoveRefusal>
-    requires { Known own × Known fmt }
+fn rewrite(
+    file: &[u8],
+    own: FileVersion,
+    wished: FileVersion,
+    out: &mut [u8],
+) -> Result<usize, MoveRefusal>
     ensures { stored (told result) out.new
         ≡ if_whole
-        (over_from fmt.limit first_place (read_all own file.now))
+        (over_from (format_for wished).limit first_place (read_all (format_for own) file.now))
         out.old
-        (placed out.old (new_bytes fmt ++ records_in fmt (read_all own file.now))) }
+        (placed out.old (new_bytes (format_for wished) ++ records_in (format_for wished) (read_all (format_for own) file.now))) }
 {
-    let n = count(file, own, fmt)?;
+    let n = count(file, own, wished)?;
     if out.len() < n {
         return Err(MoveRefusal::NoRoom);
     }
-    write_records(file, own, fmt, out);
+    write_records(file, own, wished, out);
     Ok(n)
 }
 
-fn move_whole(file: &[u8], fmt: Format, out: &mut [u8]) -> Result<usize, MoveRefusal>
-    requires { Known fmt × (walk_of (format_of file.now) file.now ≡ given tt) }
-    ensures { stored (told result) out.new ≡ move_of fmt file.now out.old }
+fn move_whole(file: &[u8], wished: FileVersion, out: &mut [u8]) -> Result<usize, MoveRefusal>
+    requires { walk_of (format_of file.now) file.now ≡ given tt }
+    ensures { stored (told result) out.new ≡ move_of (format_for wished) file.now out.old }
 {
-    if byte_at(file, 0) == fmt.version {
+    let own = FileVersion::of(file);
+    if own == wished {
         copy_file(file, out)
     } else {
-        rewrite(file, Format::of(file), fmt, out)
+        rewrite(file, own, wished, out)
     }
 }
 
 // Writes a file in the wished version into a lent output; the bytes written.
-pub fn move_file(file: &[u8], wished: Wished, out: &mut [u8]) -> Result<usize, MoveRefusal>
+pub fn move_file(file: &[u8], wished: FileVersion, out: &mut [u8]) -> Result<usize, MoveRefusal>
     ensures { stored (told result) out.new
         ≡ move_of (format_for wished) file.now out.old }
 {
     walk(file)?;
-    move_whole(file, wished.format(), out)
+    move_whole(file, wished, out)
 }

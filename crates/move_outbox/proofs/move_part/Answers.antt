@@ -1,5 +1,6 @@
 use Rattle.std.proofs.Common.{sym, ap, ◌∙◌, arith, length-take-le}
-use Rattle.outbox_move.specs.Moves.{format_for, told}
+use Rattle.outbox.specs.Format.{format_for}
+use Rattle.outbox_move.specs.Moves.{told}
 use Rattle.outbox_move.proofs.Deciding.{written-fits}
 use Rattle.move_outbox.proofs.move_part.Goals as goal
 

@@ -1,17 +1,13 @@
 use mathlib.Core.Path.{sym, ap, ◌∙◌}
 use Rattle.std.proofs.lemmas.Result.{err_from_is_err_and}
 use Rattle.outbox.specs.Reader.{told_walk}
-use Rattle.outbox_move.specs.Moves.{format_for, move_of}
-use Rattle.outbox_move.proofs.Deciding.{broken, known-for}
+use Rattle.outbox.specs.Format.{format_for}
+use Rattle.outbox_move.proofs.Deciding.{broken}
 use Rattle.outbox_move.proofs.move_file.Goals as goal
 
 pub move_whole-requires : goal.move_whole-requires
 move_whole-requires c =
-    (rw c.format.ensures (known-for c.args.wished), sym c.walk.ensures ∙ ap told_walk c.in_ok-walk.was)
-
-pub returns : goal.returns
-returns c =
-    c.move_whole.ensures ∙ ap (λ w. move_of w c.args.file.now c.args.out.now) c.format.ensures
+    sym c.walk.ensures ∙ ap told_walk c.in_ok-walk.was
 
 pub returns-in_err-walk : goal.returns-in_err-walk
 returns-in_err-walk c =

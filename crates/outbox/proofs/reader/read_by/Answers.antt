@@ -4,7 +4,7 @@ use mathlib.Core.Path.{◌≡◌, sym, ap, ◌∙◌}
 use native.Mathlib.Omega.{arith}
 use lib.ListN.{length, drop}
 use borrow.Author.Tests.{eq-eqb}
-use Rattle.outbox.specs.Format.{head_size}
+use Rattle.outbox.specs.Format.{format_for, head_size}
 use Rattle.outbox.specs.Reader.{record_at, read_of, told_judged}
 use Rattle.wire.proofs.Parts.{rest-lent}
 use Rattle.outbox.proofs.Place.{place-within, read-inside, found_within}
@@ -40,10 +40,10 @@ slice_bounds-judge-start c = slice_bounds-judge-count c
 
 read-there : (c : Else-place-file)
     →
-    read_of c.args.fmt c.args.file.now c.args.place ≡ record_at c.args.fmt c.args.place (drop c.args.place c.args.file.now)
+    read_of (format_for c.args.version) c.args.file.now c.args.place ≡ record_at (format_for c.args.version) c.args.place (drop c.args.place c.args.file.now)
 read-there c =
     read-inside
-    c.args.fmt
+    (format_for c.args.version)
     c.args.file.now
     c.args.place
     (sym c.other_version.ensures ∙ c.if-other_version.false)
@@ -53,35 +53,33 @@ read-there c =
 -- what was judged is what stands there
 judged : (c : After-judge)
     →
-    told_judged c.args.fmt c.args.place c.judge.result ≡ record_at c.args.fmt c.args.place (drop c.args.place c.args.file.now)
+    told_judged (format_for c.args.version) c.args.place c.judge.result ≡ record_at (format_for c.args.version) c.args.place (drop c.args.place c.args.file.now)
 judged c =
-    c.judge.ensures c.args.place ∙ ap (record_at c.args.fmt c.args.place) (rest-lent c.args.file.now c.args.place)
+    c.judge.ensures c.args.place ∙ ap (record_at (format_for c.args.version) c.args.place) (rest-lent c.args.file.now c.args.place)
 
 -- a record ends within the file
 within : (c : In-Ok)
     →
-    c.args.place + head_size c.args.fmt + c.in-Ok.judged.size ≤ length c.args.file.now
+    c.args.place + head_size (format_for c.args.version) + c.in-Ok.judged.size ≤ length c.args.file.now
 within c =
     let place = c.args.place in
-    let there = c.judge.ensures place ∙ ap (record_at c.args.fmt place) (rest-lent c.args.file.now place) in
+    let there = c.judge.ensures place ∙ ap (record_at (format_for c.args.version) place) (rest-lent c.args.file.now place) in
     let right = (place-within c.args.file.now _ (sym c.bad_place.ensures ∙ c.if-bad_place.false)).1 in
-    (found_within c.args.fmt c.args.file.now place _ right (sym there ∙ ap (told_judged c.args.fmt place) c.in-Ok.is)).1
-
-pub overflow_add-head : goal.overflow_add-head
-overflow_add-head c = omega (arith, within (goal.at.overflow_add-head c).In-Ok)
+    (found_within (format_for c.args.version) c.args.file.now place _ right (sym there ∙ ap (told_judged (format_for c.args.version) place) c.in-Ok.is)).1
 
 pub overflow_add-start : goal.overflow_add-start
-overflow_add-start c = omega (arith, within (goal.at.overflow_add-start c).In-Ok)
+overflow_add-start c = omega (arith, c.head_size.ensures, within (goal.at.overflow_add-start c).In-Ok)
 
 pub overflow_add-next : goal.overflow_add-next
-overflow_add-next c = omega (arith, within (goal.at.overflow_add-next c).In-Ok)
+overflow_add-next c = omega (arith, c.head_size.ensures, within (goal.at.overflow_add-next c).In-Ok)
 
 pub returns-in-Ok : goal.returns-in-Ok
 returns-in-Ok c =
-    let told = told_judged c.args.fmt c.args.place in
-    sym (ap told c.in-Ok.is) ∙ judged (goal.at.returns-in-Ok c).After-judge ∙ sym (read-there (goal.at.returns-in-Ok c).Else-place-file)
+    let told = told_judged (format_for c.args.version) c.args.place in
+    rw c.head_size.ensures
+    (sym (ap told c.in-Ok.is) ∙ judged (goal.at.returns-in-Ok c).After-judge ∙ sym (read-there (goal.at.returns-in-Ok c).Else-place-file))
 
 pub returns-in-Err : goal.returns-in-Err
 returns-in-Err c =
-    let told = told_judged c.args.fmt c.args.place in
+    let told = told_judged (format_for c.args.version) c.args.place in
     sym (ap told c.in-Err.is) ∙ judged (goal.at.returns-in-Err c).After-judge ∙ sym (read-there (goal.at.returns-in-Err c).Else-place-file)
