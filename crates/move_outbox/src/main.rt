@@ -36,13 +36,6 @@ enum Asked {
     Neither,
 }
 
-// The two passes.
-#[derive(Clone, Copy)]
-enum Pass {
-    Judging,
-    Writing,
-}
-
 // A refusal of the file: its number, and its place in the whole file.
 #[derive(Clone, Copy, Debug, PartialEq, Eq)]
 struct RefusedAt {
@@ -99,7 +92,7 @@ fn first_place(begun: bool) -> usize {
     if begun { FIRST_PLACE } else { 0 }
 }
 
-// Writes a part that was moved. Each has the version byte, which the new file has once.
+// Writes a part that was moved, for the pass that writes. Each has the version byte, which the new file has once.
 fn write_part(before: PassSoFar, moved: &[u8]) -> PassSoFar {
     let from = smaller(moved.len(), first_place(before.begun));
     let output = before.output;
@@ -127,20 +120,19 @@ fn refuse(before: PassSoFar, why: MoveRefusal, gone: u64) -> PassSoFar {
     }
 }
 
-// The records of a part that is whole, as an outbox of their own.
-fn move_part(
+// The records of a part that is whole, as an outbox of their own, given to `keep` as they are moved.
+fn move_part<K: Fn(PassSoFar, &[u8]) -> PassSoFar>(
     before: PassSoFar,
-    pass: Pass,
+    keep: &K,
     part: &[u8],
     gone: u64,
     wished: FileVersion,
     space: &mut [u8],
-) -> PassSoFar {
+) -> PassSoFar
+    requires { K.IsAlwaysCallable keep.now }
+{
     match move_file(part, wished, space) {
-        Ok(n) => match pass {
-            Pass::Judging => before,
-            Pass::Writing => write_part(before, &space[..n]),
-        },
+        Ok(n) => keep(before, &space[..n]),
         Err(why) => refuse(before, why, gone),
     }
 }
@@ -168,15 +160,17 @@ fn first_part<R: Read>(console: Console, input: &mut R, buffer: &mut [u8]) -> Re
 
 // A pass over standard input from its first part on, up to its end, a refusal, or a read or a write that fails; whether it came to
 // the end and nothing was refused. Nothing says that the input ends, so the loop counts down from a number that no run uses up.
-fn pass_over<R: Read>(
+fn pass_over<R: Read, K: Fn(PassSoFar, &[u8]) -> PassSoFar>(
     console: Console,
     input: &mut R,
-    pass: Pass,
+    keep: &K,
     wished: FileVersion,
     first: Refilled,
     buffer: &mut [u8],
     space: &mut [u8],
-) -> bool {
+) -> bool
+    requires { K.IsAlwaysCallable keep.now }
+{
     let mut passed = PassSoFar {
         output: Output::new(console),
         begun: false,
@@ -206,7 +200,7 @@ fn pass_over<R: Read>(
         };
         let place = listed.place;
         let end = smaller(held, place);
-        passed = move_part(passed, pass, &buffer[..end], gone, wished, space);
+        passed = move_part(passed, keep, &buffer[..end], gone, wished, space);
         if listed.over {
             return end_pass(passed);
         }
@@ -252,7 +246,7 @@ fn move_input<F: Files>(
     if !pass_over(
         console,
         &mut judged,
-        Pass::Judging,
+        &|before, _| before,
         wished,
         first,
         buffer,
@@ -269,7 +263,7 @@ fn move_input<F: Files>(
         pass_over(
             console,
             &mut judged,
-            Pass::Writing,
+            &write_part,
             wished,
             same,
             buffer,
@@ -284,7 +278,7 @@ fn move_input<F: Files>(
             pass_over(
                 console,
                 &mut again,
-                Pass::Writing,
+                &write_part,
                 wished,
                 start,
                 buffer,
