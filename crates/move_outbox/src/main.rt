@@ -38,7 +38,7 @@ enum Asked {
 
 // A refusal of the file: its number, and its place in the whole file.
 #[derive(Clone, Copy, Debug, PartialEq, Eq)]
-struct RefusedAt {
+struct Complaint {
     number: u8,
     place: u64,
 }
@@ -48,7 +48,7 @@ struct RefusedAt {
 struct PassSoFar {
     output: Output,
     begun: bool,
-    refused: Option<RefusedAt>,
+    refused: Option<Complaint>,
 }
 
 // Room for a part as it is moved. The `ensures` gives only the length, which lending the array as a slice needs.
@@ -58,7 +58,7 @@ fn moved_room() -> [u8; MOVED_ROOM]
     [0; MOVED_ROOM]
 }
 
-fn complain_at(console: Console, refused: RefusedAt) {
+fn complain_at(console: Console, refused: Complaint) {
     complain(console, b"move_outbox: refused ");
     complain_number(console, refused.number as u64);
     complain(console, b" at ");
@@ -68,8 +68,8 @@ fn complain_at(console: Console, refused: RefusedAt) {
 }
 
 // A refusal told by a place of a part, by how many bytes of the file are gone from that part.
-fn refused_at(number: u8, gone: u64, place: usize) -> RefusedAt {
-    RefusedAt {
+fn complaint(number: u8, gone: u64, place: usize) -> Complaint {
+    Complaint {
         number,
         place: wrapping_add_u64(gone, place as u64),
     }
@@ -112,7 +112,7 @@ fn refuse(before: PassSoFar, why: MoveRefusal, gone: u64) -> PassSoFar {
     };
     let refused = before
         .refused
-        .or(Some(refused_at(why.number(), gone, place)));
+        .or(Some(complaint(why.number(), gone, place)));
     PassSoFar {
         output: before.output,
         begun: before.begun,
@@ -194,7 +194,7 @@ fn pass_over<R: Read, K: Fn(PassSoFar, &[u8]) -> PassSoFar>(
         let listed = match judge_part(&buffer[..held], filled.last) {
             Ok(part) => part,
             Err(broken) => {
-                complain_at(console, refused_at(broken.number(), gone, broken.place));
+                complain_at(console, complaint(broken.number(), gone, broken.place));
                 return false;
             }
         };

@@ -10,14 +10,12 @@ use lib.ListN.{length, get_or, drop}
 use lib.Seq.{sets}
 use borrow.Author.Tests.{le-ltb, ltb-false, eqb-true, eq-eqb, ne_eqb, not-false}
 use Rattle.wire.specs.Told.{line, table}
-use Rattle.outbox.specs.declared.format.FileVersion.{FileVersion}
-use Rattle.outbox.specs.Format.{Format, Known, one, two, format_of, format_for, new_bytes, first_place}
+use Rattle.outbox.specs.Format.{Format, Known, one, two, format_of, new_bytes, first_place}
 use Rattle.outbox.specs.Reader.{Answer, given, refused, refused_at, Item, found, end, HandedRecord, onward, other_version, read_of, readings, read_all, walk_of}
 use Rattle.outbox.specs.Writer.{Stored, stored, stored_at, if_whole}
 use Rattle.outbox.proofs.Record.{clash, found-stands}
 use Rattle.outbox.proofs.Place.{read-record}
 use Rattle.outbox.proofs.Walk.{whole-version}
-use Rattle.outbox.proofs.Versions.{format-known}
 use Rattle.outbox_move.specs.Moves.{records_in, over_by, over_from, moved_to, placed, size_unless, count_of, move_of}
 
 -- ---- a file's own records are within its own limit
@@ -54,13 +52,6 @@ known_same a b two two e = refl
 known_same a b one two e = absurd (omega (arith, e))
 known_same a b two one e = absurd (omega (arith, e))
 
--- a version is known by its byte
-pub by-byte : (a b : FileVersion) → (format_for a).version ≡ (format_for b).version → a ≡ b
-by-byte FileVersion.One FileVersion.One e = refl
-by-byte FileVersion.One FileVersion.Two e = absurd (omega (arith, e))
-by-byte FileVersion.Two FileVersion.One e = absurd (omega (arith, e))
-by-byte FileVersion.Two FileVersion.Two e = refl
-
 module _ (wished : Format) (file out : List ℕ) (w : walk_of (format_of file) file ≡ given tt) where
   pub copies : format_of file ≡ wished → move_of wished file out ≡ placed out file
   unfolding move_of moved_to
@@ -70,11 +61,11 @@ module _ (wished : Format) (file out : List ℕ) (w : walk_of (format_of file) f
       = ap (λ (x : Format). over_from x.limit first_place (read_all fmt file)) (sym e) ∙ all-within fmt file in
       rw (w, within, eq-eqb wished.version fmt.version (ap (λ (x : Format). x.version) (sym e)))
 
-  pub rewrites : (wished.version ≡ (format_of file).version → ⊥)
+  pub rewrites : (own : Format) → own ≡ format_of file → (wished.version ≡ own.version → ⊥)
       → move_of wished file out
-      ≡ if_whole (over_from wished.limit first_place (read_all (format_of file) file)) out (placed out (new_bytes wished ++ records_in wished (read_all (format_of file) file)))
+      ≡ if_whole (over_from wished.limit first_place (read_all own file)) out (placed out (new_bytes wished ++ records_in wished (read_all own file)))
   unfolding move_of moved_to
-  rewrites n = rw (w, ne_eqb wished.version (format_of file).version n)
+  rewrites own e n = rw (e, w, ne_eqb wished.version (format_of file).version (rw e at n))
 
 -- ---- the count decides
 

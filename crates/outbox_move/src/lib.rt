@@ -92,15 +92,20 @@ fn rewrite(
     Ok(n)
 }
 
+// Each way has its numbers as constants.
 fn move_whole(file: &[u8], wished: FileVersion, out: &mut [u8]) -> Result<usize, MoveRefusal>
     requires { walk_of (format_of file.now) file.now ≡ given tt }
     ensures { stored (told result) out.new ≡ move_of (format_for wished) file.now out.old }
 {
-    let own = FileVersion::of(file);
-    if own == wished {
-        copy_file(file, out)
-    } else {
-        rewrite(file, own, wished, out)
+    match FileVersion::of(file) {
+        FileVersion::One => match wished {
+            FileVersion::One => copy_file(file, out),
+            FileVersion::Two => rewrite(file, FileVersion::One, FileVersion::Two, out),
+        },
+        FileVersion::Two => match wished {
+            FileVersion::One => rewrite(file, FileVersion::Two, FileVersion::One, out),
+            FileVersion::Two => copy_file(file, out),
+        },
     }
 }
 

@@ -1,25 +1,31 @@
-use Rattle.std.proofs.Common.{rules}
-use mathlib.Core.Path.{◌≡◌, sym, ap, ◌∙◌}
-use mathlib.Core.List.{◌++◌}
-use Rattle.outbox.specs.Format.{Format, format_for, new_bytes, first_place}
-use Rattle.outbox.specs.Reader.{read_all}
-use Rattle.outbox.specs.Writer.{if_whole}
-use Rattle.outbox_move.specs.Moves.{records_in, over_from, placed}
-use Rattle.outbox_move.proofs.Deciding.{by-byte, copies, rewrites}
+use mathlib.Core.Path.{sym, ap, ◌∙◌}
+use native.Mathlib.Omega.{arith}
+use Rattle.outbox.specs.Format.{version_one, version_two, format_for}
+use Rattle.outbox_move.proofs.Deciding.{copies, rewrites}
 use Rattle.outbox_move.proofs.move_whole.Goals as goal
 
-pub returns-then-eq : goal.returns-then-eq
-returns-then-eq c =
+pub returns-in-One-wished : goal.returns-in-One-wished
+returns-in-One-wished c =
+    let same = c.in-One.is ∙ sym c.in-One-wished.is in
     c.copy_file.ensures
-    ∙ sym (copies (format_for c.args.wished) c.args.file.now c.args.out.now c.requires (sym c.of-own.ensures ∙ ap format_for (search rules)))
+    ∙ sym (copies (format_for c.args.wished) c.args.file.now c.args.out.now c.requires (sym c.of.ensures ∙ ap format_for same))
 
-pub returns-else-eq : goal.returns-else-eq
-returns-else-eq c =
-    let file = c.args.file.now in
-    let out = c.args.out.now in
-    let wished = format_for c.args.wished in
-    c.rewrite.ensures
-    ∙ ap (λ (own : Format). if_whole (over_from wished.limit first_place (read_all own file)) out (placed out (new_bytes wished ++ records_in wished (read_all own file)))) c.of-own.ensures
-    ∙ sym (rewrites wished file out c.requires (λ e.
-    let same : c.of-own.result ≡ c.args.wished = by-byte c.of-own.result c.args.wished (ap (λ (x : Format). x.version) c.of-own.ensures ∙ sym e) in
-    search rules))
+pub returns-in-Two-wished : goal.returns-in-Two-wished
+returns-in-Two-wished c =
+    let own = sym (ap format_for c.in-One.is) ∙ c.of.ensures in
+    rw c.in-Two-wished.is
+    (c.rewrite.ensures
+    ∙ sym (rewrites version_two c.args.file.now c.args.out.now c.requires version_one own (λ e. omega (arith, e))))
+
+pub returns-in-One-wished-2 : goal.returns-in-One-wished-2
+returns-in-One-wished-2 c =
+    let own = sym (ap format_for c.in-Two.is) ∙ c.of.ensures in
+    rw c.in-One-wished-2.is
+    (c.rewrite-in-One-wished-2.ensures
+    ∙ sym (rewrites version_one c.args.file.now c.args.out.now c.requires version_two own (λ e. omega (arith, e))))
+
+pub returns-in-Two-wished-2 : goal.returns-in-Two-wished-2
+returns-in-Two-wished-2 c =
+    let same = c.in-Two.is ∙ sym c.in-Two-wished-2.is in
+    c.copy_file-in-Two-wished-2.ensures
+    ∙ sym (copies (format_for c.args.wished) c.args.file.now c.args.out.now c.requires (sym c.of.ensures ∙ ap format_for same))

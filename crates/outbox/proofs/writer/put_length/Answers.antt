@@ -1,7 +1,6 @@
 -- Two bytes of the value, or its two halves as pairs.
 use Prim.Native.Nat.{ℕ, ◌-◌, ◌*◌, ◌/◌, ◌%◌}
 use mathlib.Core.Path.{◌≡◌, sym, ◌∙◌}
-use native.Mathlib.Nat.{mod-lt}
 use native.Mathlib.Omega.{arith}
 use Rattle.wire.specs.Bytes.{pair_bytes}
 use Rattle.wire.proofs.Stores.{sets-append}

@@ -3,7 +3,7 @@ use mathlib.Core.Path.{sym, ap, ◌∙◌}
 use native.Mathlib.Omega.{arith}
 use lib.ListN.{length}
 use Rattle.outbox.specs.Format.{format_for, head_size}
-use Rattle.outbox.proofs.Versions.{small, known-for}
+use Rattle.outbox.proofs.Versions.{known-for}
 use Rattle.outbox_move.specs.Moves.{told_next}
 use Rattle.outbox_move.proofs.Passing.{Counting, counting-begins, counting-ends, counting-over, counting-goes, ends}
 use Rattle.outbox_move.proofs.passes.count.Goals.{Else-limit-found}

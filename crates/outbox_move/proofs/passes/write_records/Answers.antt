@@ -4,7 +4,6 @@ use native.Mathlib.Omega.{arith}
 use lib.ListN.{length, length-set}
 use Rattle.outbox.specs.Format.{format_for, head_size}
 use Rattle.outbox.specs.Reader.{given, found, read_of}
-use Rattle.outbox.proofs.Versions.{small}
 use Rattle.outbox_move.specs.Moves.{record_only, told_next}
 use Rattle.outbox_move.proofs.Passing.{writing_begins, writing-ends, writing-goes, record-room, payload-short, payload-size, ends, spans}
 use Rattle.outbox_move.proofs.passes.write_records.Goals.{In-Some}
