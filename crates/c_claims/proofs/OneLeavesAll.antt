@@ -50,8 +50,7 @@ use Rattle.msg_firmware.specs.Segment.{broken_field}
 use Rattle.msg_segment_writer.specs.Segment.{segment_strings, segment_fields, segment_filled, segment_written}
 use Rattle.msg_apply_writer.specs.Information.{bad_firmware, firmware_strings}
 use Rattle.msg_apply_writer.specs.Apply.{apply_fields, apply_written}
-use Rattle.outbox.specs.declared.format.Format.{Format}
-use Rattle.outbox.specs.Format.{version_two, format_of, new_bytes, record_bytes, first_place}
+use Rattle.outbox.specs.Format.{Format, version_two, format_of, new_bytes, record_bytes, first_place}
 use Rattle.outbox.specs.Reader.{Answer, other_version, read_all, walk_of, number_in}
 use Rattle.outbox_move.specs.Moves.{over_from, moved_to, move_of}
 use Rattle.c_outbox_move.specs.Calls.{moved_row, outbox_move_of}

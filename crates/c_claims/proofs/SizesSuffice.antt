@@ -55,8 +55,7 @@ use Rattle.msg_firmware_claims.specs.RoundTrip.{Unsigned32}
 use Rattle.msg_firmware_claims.specs.Premises.{Digits}
 use Rattle.msg_firmware_claims.proofs.Premises.{signature, digits-well}
 use Rattle.msg_firmware_claims.proofs.Segments.{unsigned-trip}
-use Rattle.outbox.specs.declared.format.Format.{Format}
-use Rattle.outbox.specs.Format.{version_one, version_two, Known, one, two, is_one, format_of, head_size, record_bytes, first_place}
+use Rattle.outbox.specs.Format.{Format, version_one, version_two, Known, one, two, is_one, format_of, head_size, record_bytes, first_place}
 use Rattle.outbox.specs.Reader as outbox
 use Rattle.outbox.specs.Reader.{walk_of}
 use Rattle.outbox.specs.Writer.{new_of, bad_record, append_of}

@@ -1,8 +1,7 @@
 -- An instance of ListsAsWhole: a format of lengths of one byte and payloads of up to one, a file of two records that comes in two parts.
 use Rattle.std.proofs.Common.{◌≡◌, ℕ, ◌<◌, true, false, List, [], ◌∷◌, ◌++◌, take, refl, arith}
 use Rattle.wire.specs.Stream.{is_stream}
-use Rattle.outbox.specs.declared.format.Format.{Format}
-use Rattle.outbox.specs.Format.{number_of}
+use Rattle.outbox.specs.Format.{Format, number_of}
 use Rattle.outbox.specs.Reader.{other_version, bad_place, bad_length, cut_short, bad_stream, record_at, read_of, readings, read_all, walk_of}
 use Rattle.outbox_claims.specs.Claims.{records_of, all_moved, from_place}
 use Rattle.cli_listing.specs.Listing.{listed, listed_of, carried, carry_of}

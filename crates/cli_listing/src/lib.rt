@@ -4,19 +4,20 @@
 
 ghost use Rattle.std.specs.Prelude.{◌≡◌, ◌≤◌, length, take, ◌==◌, IfOk};
 ghost use Rattle.outbox.specs.Format.{format_of, first_place};
-ghost use Rattle.outbox.specs.Reader.{fault_number};
-ghost use Rattle.cli_listing.specs.Listing.{buffer_size, ends_by, listed, listed_of, carried, carry_of, ListsAsWhole};
+ghost use Rattle.outbox.specs.Reader.{broken_number};
+ghost use Rattle.cli_listing.specs.Listing.{buffer_size, ends_by, listed, listed_of, told_part, carried, carry_of, ListsAsWhole};
 
 use cli_console::sentences::explain_outbox;
 use cli_console::{Console, Failed, Output, read_some};
 use cli_payloads::say_payload;
 use outbox::format::FIRST_PLACE;
-use outbox::reader::{Reading, read, walk};
-use outbox::verdict::{Fault, Walked};
+use outbox::reader::{FoundRecord, ReadRefusal, read, walk};
+use outbox::verdict::{Broken, Fault};
 use std::io::Read;
 use std::num::wrapping_add_u64;
 use wire::bytes::smaller;
 use wire::logic::both;
+use wire::refusal::Numbered;
 
 // The bytes of a part: the version byte and the longest record of any version.
 const ROOM: usize = 65541;
@@ -29,17 +30,10 @@ pub enum RecordView {
 }
 
 // How far the listing of a part of a file went, and whether the listing is over: it is at the end of the file or at a refusal.
-#[derive(Drop)]
+#[derive(Clone, Copy, Debug, PartialEq, Eq)]
 pub struct Listed {
     pub over: bool,
     pub place: usize,
-}
-
-// How far a part is whole, and the number of the refusal that ends it there; 0 where none does.
-#[derive(Drop)]
-pub struct JudgedPart {
-    pub listed: Listed,
-    pub number: u8,
 }
 
 // What was listed, and what is written of it.
@@ -68,19 +62,19 @@ fn say_place(output: Output, gone: u64, place: usize) -> Output {
     output.number(wrapping_add_u64(gone, place as u64))
 }
 
-fn say_record(output: Output, gone: u64, place: usize, stream: u8, size: usize) -> Output {
+fn say_record(output: Output, gone: u64, place: usize, found: FoundRecord) -> Output {
     let placed = say_place(output.text(b"record "), gone, place);
     placed
         .text(b" ")
-        .number(stream as u64)
+        .number(found.stream as u64)
         .text(b" ")
-        .number(size as u64)
+        .number(found.size as u64)
 }
 
 // The payload, where it is to be shown, and the end of the record's line.
-fn say_rest(output: Output, view: RecordView, part: &[u8], start: usize, size: usize) -> Output {
-    let from = smaller(part.len(), start);
-    let len = smaller(part.len() - from, size);
+fn say_rest(output: Output, view: RecordView, part: &[u8], found: FoundRecord) -> Output {
+    let from = smaller(part.len(), found.start);
+    let len = smaller(part.len() - from, found.size);
     match view {
         RecordView::Lengths => output.text(b"\n"),
         RecordView::Payloads => say_payload(output, &part[from..from + len]).text(b"\n"),
@@ -98,17 +92,6 @@ fn say_refused(output: Output, number: u8, gone: u64, place: usize) -> Output {
     said
 }
 
-fn is_cut(fault: Fault) -> bool
-    ensures { result ≡ (fault_number fault == 41) }
-{
-    match fault {
-        Fault::Version => false,
-        Fault::Length => false,
-        Fault::Cut => true,
-        Fault::Stream => false,
-    }
-}
-
 // The end of a part: of the file only where the part is its last.
 fn list_end(output: Output, gone: u64, place: usize, last: bool) -> ShownPart
     ensures { result.listed ≡ listed last place }
@@ -124,49 +107,44 @@ fn list_end(output: Output, gone: u64, place: usize, last: bool) -> ShownPart
 }
 
 // A refusal in a part: a record that is cut short may go on in the next part.
-fn judge_refusal(fault: Fault, place: usize, last: bool) -> JudgedPart
-    ensures { result.listed ≡ listed (ends_by last (fault_number fault)) place }
+fn judge_refusal(broken: Broken, last: bool) -> Result<Listed, Broken>
+    ensures { told_part result ≡ listed (ends_by last (broken_number broken)) broken.place }
 {
-    if both(is_cut(fault), !last) {
-        return JudgedPart {
-            listed: Listed { over: false, place },
-            number: 0,
-        };
+    if both(broken.fault == Fault::Cut, !last) {
+        return Ok(Listed {
+            over: false,
+            place: broken.place,
+        });
     }
-    JudgedPart {
-        listed: Listed { over: true, place },
-        number: fault.number(),
-    }
+    Err(broken)
 }
 
-// A part looked through, and nothing written of it.
-pub fn judge_part(part: &[u8], last: bool) -> JudgedPart
-    ensures { result.listed ≡ listed_of (format_of part.now) last part.now }
+// A part looked through, and nothing written of it: how far it is whole, or the refusal that ends the listing there.
+pub fn judge_part(part: &[u8], last: bool) -> Result<Listed, Broken>
+    ensures { told_part result ≡ listed_of (format_of part.now) last part.now }
 {
     match walk(part) {
-        Walked::Whole => JudgedPart {
-            listed: Listed {
-                over: last,
-                place: part.len(),
-            },
-            number: 0,
-        },
-        Walked::Broken { fault, place } => judge_refusal(fault, place, last),
+        Ok(()) => Ok(Listed {
+            over: last,
+            place: part.len(),
+        }),
+        Err(broken) => judge_refusal(broken, last),
     }
 }
 
-fn list_refusal(output: Output, fault: Fault, gone: u64, place: usize, last: bool) -> ShownPart
-    ensures { result.listed ≡ listed (ends_by last (fault_number fault)) place }
+fn list_refusal(output: Output, broken: Broken, gone: u64, last: bool) -> ShownPart
+    ensures { result.listed ≡ listed (ends_by last (broken_number broken)) broken.place }
 {
-    let judged = judge_refusal(fault, place, last);
-    let listed = judged.listed;
-    if listed.over {
-        return ShownPart {
-            listed,
-            output: say_refused(output, judged.number, gone, place),
-        };
+    match judge_refusal(broken, last) {
+        Ok(listed) => ShownPart { listed, output },
+        Err(broken) => ShownPart {
+            listed: Listed {
+                over: true,
+                place: broken.place,
+            },
+            output: say_refused(output, broken.number(), gone, broken.place),
+        },
     }
-    ShownPart { listed, output }
 }
 
 // A line for each whole record of a part, and one for the end or the refusal where the listing is over.
@@ -176,32 +154,26 @@ pub fn list_part(output: Output, view: RecordView, part: &[u8], gone: u64, last:
     let mut said = output;
     let mut place = FIRST_PLACE;
     loop {
-        let reading = read(part, place);
-        match reading {
-            Reading::Record {
-                stream,
-                start,
-                size,
-                next,
-            } => {
-                said = say_record(said, gone, place, stream, size);
-                said = say_rest(said, view, part, start, size);
-                place = next;
+        match read(part, place) {
+            Ok(Some(found)) => {
+                said = say_record(said, gone, place, found);
+                said = say_rest(said, view, part, found);
+                place = found.next;
             }
-            Reading::End => {
+            Ok(None) => {
                 return list_end(said, gone, place, last);
             }
-            Reading::BadPlace => {
+            Err(ReadRefusal::BadPlace) => {
                 return ShownPart {
                     listed: Listed {
                         over: true,
                         place: 0,
                     },
-                    output: say_refused(said, reading.number(), gone, place),
+                    output: say_refused(said, ReadRefusal::BadPlace.number(), gone, place),
                 };
             }
-            Reading::Broken { fault, place: at } => {
-                return list_refusal(said, fault, gone, at, last);
+            Err(ReadRefusal::Broken(broken)) => {
+                return list_refusal(said, broken, gone, last);
             }
         }
     }
@@ -213,11 +185,7 @@ pub fn carry_over(buffer: &mut [u8], place: usize, held: usize) -> usize
     ensures { carried result buffer.new ≡ carry_of buffer.old place held }
 {
     let n = held - place;
-    let mut i = 0;
-    while i < n {
-        buffer[FIRST_PLACE + i] = buffer[place + i];
-        i += 1;
-    }
+    buffer.copy_within(place..held, FIRST_PLACE);
     FIRST_PLACE + n
 }
 

@@ -10,14 +10,15 @@ use cli_console::{
     room,
 };
 use cli_listing::{Refilled, carry_over, judge_part, refill};
-use outbox::format::FIRST_PLACE;
-use outbox_move::{Moved, Wished, move_file};
+use outbox::format::{FIRST_PLACE, FileVersion};
+use outbox_move::{MoveRefusal, move_file};
 use std::fs;
 use std::io::{Read, Stdin};
 use std::num::wrapping_add_u64;
 use std::os::unix::fs::FileTypeExt;
 use std::rt::{Env, Files};
 use wire::bytes::smaller;
+use wire::refusal::Numbered;
 
 // In any version a part has less than twice its bytes.
 const MOVED_ROOM: usize = 131082;
@@ -25,16 +26,9 @@ const MOVED_ROOM: usize = 131082;
 // Standard input as a file that can be opened again.
 const INPUT: &str = "/dev/stdin";
 
-// The two passes.
-#[derive(Clone, Copy)]
-enum Pass {
-    Judging,
-    Writing,
-}
-
-// A refusal: its number, and its place in the file.
-#[derive(Clone, Copy)]
-struct Refused {
+// A refusal of the file: its number, and its place in the whole file.
+#[derive(Clone, Copy, Debug, PartialEq, Eq)]
+struct Complaint {
     number: u8,
     place: u64,
 }
@@ -44,10 +38,10 @@ struct Refused {
 struct PassSoFar {
     output: Output,
     begun: bool,
-    refused: Option<Refused>,
+    refused: Option<Complaint>,
 }
 
-fn complain_at(console: Console, refused: Refused) {
+fn complain_at(console: Console, refused: Complaint) {
     complain(console, b"move_outbox: refused ");
     complain_number(console, u64::from(refused.number));
     complain(console, b" at ");
@@ -56,16 +50,24 @@ fn complain_at(console: Console, refused: Refused) {
     explain_outbox(console, refused.number);
 }
 
+// A refusal told by a place of a part, by how many bytes of the file are gone from that part.
+fn complaint(number: u8, gone: u64, place: usize) -> Complaint {
+    Complaint {
+        number,
+        place: wrapping_add_u64(gone, place as u64),
+    }
+}
+
 // The version that the argument names, where it names one.
-fn argument<E: Env>(rt: &E) -> Option<Wished> {
+fn argument<E: Env>(rt: &E) -> Option<FileVersion> {
     if argument_count(rt) != 2 {
         return None;
     }
     if argument_is(rt, 1, b"01") {
-        return Some(Wished::One);
+        return Some(FileVersion::One);
     }
     if argument_is(rt, 1, b"02") {
-        return Some(Wished::Two);
+        return Some(FileVersion::Two);
     }
     None
 }
@@ -74,7 +76,7 @@ fn first_place(begun: bool) -> usize {
     if begun { FIRST_PLACE } else { 0 }
 }
 
-// Writes a part that was moved. Each has the version byte, which the new file has once.
+// Writes a part that was moved, for the pass that writes. Each has the version byte, which the new file has once.
 fn write_part(before: PassSoFar, moved: &[u8]) -> PassSoFar {
     let from = smaller(moved.len(), first_place(before.begun));
     let output = before.output;
@@ -85,46 +87,48 @@ fn write_part(before: PassSoFar, moved: &[u8]) -> PassSoFar {
     }
 }
 
-fn refuse(before: PassSoFar, number: u8, gone: u64, place: usize) -> PassSoFar {
-    let place = wrapping_add_u64(gone, place as u64);
+// The first refusal stays.
+fn refuse(before: PassSoFar, why: MoveRefusal, gone: u64) -> PassSoFar {
+    let place = match why {
+        MoveRefusal::NoRoom => 0,
+        MoveRefusal::TooLong(too_long) => too_long.place,
+        MoveRefusal::Broken(broken) => broken.place,
+    };
+    let refused = before
+        .refused
+        .or(Some(complaint(why.number(), gone, place)));
     PassSoFar {
         output: before.output,
         begun: before.begun,
-        refused: before.refused.or(Some(Refused { number, place })),
+        refused,
     }
 }
 
-// The records of a part that is whole, as an outbox of their own.
-fn move_part(
+// The records of a part that is whole, as an outbox of their own, given to `keep` as they are moved.
+fn move_part<K: Fn(PassSoFar, &[u8]) -> PassSoFar>(
     before: PassSoFar,
-    pass: Pass,
+    keep: &K,
     part: &[u8],
     gone: u64,
-    wished: Wished,
+    wished: FileVersion,
     space: &mut [u8],
-) -> PassSoFar {
-    let moved = move_file(part, wished, space);
-    match moved {
-        Moved::Written(n) => match pass {
-            Pass::Judging => before,
-            Pass::Writing => write_part(before, &space[..n]),
-        },
-        Moved::NoRoom => refuse(before, moved.number(), gone, 0),
-        Moved::TooLong(place) => refuse(before, moved.number(), gone, place),
-        Moved::Broken { fault: _, place } => refuse(before, moved.number(), gone, place),
+) -> PassSoFar
+    requires { K.IsAlwaysCallable keep.now }
+{
+    match move_file(part, wished, space) {
+        Ok(n) => keep(before, &space[..n]),
+        Err(why) => refuse(before, why, gone),
     }
 }
 
 // The end of a pass over a whole file: whether nothing was refused.
 fn end_pass(passed: PassSoFar) -> bool {
-    let output = passed.output;
-    match passed.refused {
-        Some(refused) => {
-            complain_at(output.console, refused);
-            false
-        }
-        None => true,
+    if let Some(refused) = passed.refused {
+        let output = passed.output;
+        complain_at(output.console, refused);
+        return false;
     }
+    true
 }
 
 // What standard input begins with: all of it, where it ends before the buffer is full.
@@ -142,15 +146,17 @@ fn first_part<R: Read>(
 
 // A pass over standard input from its first part on, up to its end, a refusal, or a read or a write that fails; whether it came to
 // the end and nothing was refused. Nothing says that the input ends, so the loop counts up to a number that no run comes to.
-fn pass_over<R: Read>(
+fn pass_over<R: Read, K: Fn(PassSoFar, &[u8]) -> PassSoFar>(
     console: Console,
     input: &mut R,
-    pass: Pass,
-    wished: Wished,
+    keep: &K,
+    wished: FileVersion,
     first: Refilled,
     buffer: &mut [u8],
     space: &mut [u8],
-) -> bool {
+) -> bool
+    requires { K.IsAlwaysCallable keep.now }
+{
     let mut passed = PassSoFar {
         output: Output::new(console),
         begun: false,
@@ -160,22 +166,16 @@ fn pass_over<R: Read>(
     let mut held = first.held.min(buffer.len());
     let mut last = first.last;
     for _turn in 0..u64::MAX {
-        let judged = judge_part(&buffer[..held], last);
-        let listed = judged.listed;
+        let listed = match judge_part(&buffer[..held], last) {
+            Ok(part) => part,
+            Err(broken) => {
+                complain_at(console, complaint(broken.number(), gone, broken.place));
+                return false;
+            }
+        };
         let place = listed.place;
-        if judged.number != 0 {
-            let place = wrapping_add_u64(gone, place as u64);
-            complain_at(
-                console,
-                Refused {
-                    number: judged.number,
-                    place,
-                },
-            );
-            return false;
-        }
         let end = smaller(held, place);
-        passed = move_part(passed, pass, &buffer[..end], gone, wished, space);
+        passed = move_part(passed, keep, &buffer[..end], gone, wished, space);
         if listed.over {
             return end_pass(passed);
         }
@@ -215,7 +215,7 @@ fn move_input<F: Files>(
     rt: &F,
     console: Console,
     input: Stdin,
-    wished: Wished,
+    wished: FileVersion,
     buffer: &mut [u8],
     space: &mut [u8],
 ) {
@@ -228,7 +228,7 @@ fn move_input<F: Files>(
     if !pass_over(
         console,
         &mut judged,
-        Pass::Judging,
+        &|before, _| before,
         wished,
         first,
         buffer,
@@ -241,7 +241,7 @@ fn move_input<F: Files>(
         pass_over(
             console,
             &mut judged,
-            Pass::Writing,
+            &write_part,
             wished,
             same,
             buffer,
@@ -258,7 +258,7 @@ fn move_input<F: Files>(
             pass_over(
                 console,
                 &mut again,
-                Pass::Writing,
+                &write_part,
                 wished,
                 start,
                 buffer,
