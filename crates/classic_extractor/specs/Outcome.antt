@@ -1,9 +1,9 @@
 -- What a call reports, in the words and numbers of docs/FORMATS.md.
-use Rattle.std.specs.Prelude.{ℕ}
+use Rattle.std.specs.Prelude.{ℕ, Result, Ok, Err}
 use Rattle.classic_extractor.specs.declared.outcome.Refusal.{Refusal}
 use Rattle.classic_extractor.specs.declared.outcome.Refusal.TheVariants.{BadStateOrBuffer, StartInside, BadEscape, EarlyEnd, BadHeader, TooLong, BadChecksum}
-use Rattle.classic_extractor.specs.declared.outcome.StepOutcome.{StepOutcome}
-use Rattle.classic_extractor.specs.declared.outcome.StepOutcome.TheVariants.{Skipped, Taken, Frame, Refused}
+use Rattle.classic_extractor.specs.declared.outcome.Accepted.{Accepted}
+use Rattle.classic_extractor.specs.declared.outcome.Accepted.TheVariants.{Skipped, Taken, Frame}
 
 pub data Report : Type 0 where
   skipped taken all_used : Report
@@ -19,8 +19,8 @@ number_of BadHeader = 22
 number_of TooLong = 24
 number_of BadChecksum = 25
 
-abbrev pub told : StepOutcome → Report
-told Skipped = skipped
-told Taken = taken
-told (Frame sequence n) = frame sequence n
-told (Refused r) = refused (number_of r)
+abbrev pub told : Result Accepted Refusal → Report
+told (Ok Skipped) = skipped
+told (Ok Taken) = taken
+told (Ok (Frame f)) = frame f.sequence f.len
+told (Err r) = refused (number_of r)

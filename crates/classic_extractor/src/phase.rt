@@ -1,44 +1,44 @@
 // What a byte does in each phase: a function a phase, with an arm for each kind of byte, as the tables of docs/FORMATS.md.
-ghost use Rattle.std.specs.Prelude.{◌≡◌, List, ℕ, ◌+◌, ◌≤◌, length};
+ghost use Rattle.std.specs.Prelude.{◌≡◌, List, ℕ, ◌+◌, ◌≤◌, length, Ok, Err};
 ghost use Rattle.classic_frame.specs.declared.mark.Kind.TheVariants.{Plain};
 ghost use Rattle.classic_extractor.specs.declared.outcome.Refusal.TheVariants.{StartInside};
-ghost use Rattle.classic_extractor.specs.declared.outcome.StepOutcome.TheVariants.{Skipped, Taken, Refused};
+ghost use Rattle.classic_extractor.specs.declared.outcome.Accepted.TheVariants.{Skipped, Taken};
 ghost use Rattle.classic_extractor.specs.Outcome.{told};
 ghost use Rattle.classic_extractor.specs.State.{begun, outside};
 ghost use Rattle.classic_extractor.specs.Action.{outside_by, header_by, sequence_by, body_by, code_of, code_by};
 ghost use Rattle.classic_extractor.specs.Step.{step, store_of, end_of, perform_of};
 
-use crate::outcome::{Refusal, StepOutcome};
+use crate::outcome::{Accepted, Frame, Refusal};
 use crate::state::{Phase, Progress};
 use classic_frame::checksum::is_checked;
-use classic_frame::mark::{END_CODE, ESCAPE_CODE, Kind, Mark, START_CODE};
+use classic_frame::mark::{Kind, mark_for};
 
 // What a byte did, and the progress after it.
 #[derive(Drop)]
 pub struct Advanced {
-    pub outcome: StepOutcome,
+    pub outcome: Result<Accepted, Refusal>,
     pub next: Progress,
 }
 
 pub fn refuse(why: Refusal, next: Progress) -> Advanced
-    ensures { result ≡ record { outcome = Refused why; next = next } }
+    ensures { result ≡ record { outcome = Err why; next = next } }
 {
     Advanced {
-        outcome: StepOutcome::Refused(why),
+        outcome: Err(why),
         next,
     }
 }
 
 // A start mark within a frame: the next one begins.
 fn restart() -> Advanced
-    ensures { result ≡ record { outcome = Refused StartInside; next = begun } }
+    ensures { result ≡ record { outcome = Err StartInside; next = begun } }
 {
     refuse(Refusal::StartInside, Progress::begun())
 }
 
 // A byte that ends the frame by a refusal.
 fn drop_frame(why: Refusal) -> Advanced
-    ensures { result ≡ record { outcome = Refused why; next = outside } }
+    ensures { result ≡ record { outcome = Err why; next = outside } }
 {
     refuse(why, Progress::outside())
 }
@@ -46,10 +46,10 @@ fn drop_frame(why: Refusal) -> Advanced
 // The byte is taken, and leaves this state.
 fn go_on(phase: Phase, sequence: u8, held: usize) -> Advanced
     ensures { result
-        ≡ record { outcome = Taken; next = record { phase = phase; sequence = sequence; held = held } } }
+        ≡ record { outcome = Ok Taken; next = record { phase = phase; sequence = sequence; held = held } } }
 {
     Advanced {
-        outcome: StepOutcome::Taken,
+        outcome: Ok(Accepted::Taken),
         next: Progress {
             phase,
             sequence,
@@ -69,7 +69,7 @@ impl Progress {
             buffer[held] = x;
             let count = held + 1;
             Advanced {
-                outcome: StepOutcome::Taken,
+                outcome: Ok(Accepted::Taken),
                 next: Progress {
                     phase: Phase::Body,
                     sequence: self.sequence,
@@ -78,39 +78,38 @@ impl Progress {
             }
         } else {
             Advanced {
-                outcome: StepOutcome::Refused(Refusal::TooLong),
+                outcome: Err(Refusal::TooLong),
                 next: Progress::outside(),
             }
         }
     }
 
     // What the end mark answers to the bytes held.
-    pub fn end(self, buffer: &[u8]) -> StepOutcome
+    pub fn end(self, buffer: &[u8]) -> Result<Accepted, Refusal>
         requires { self.held ≤ length buffer.now }
         ensures { told result ≡ end_of self buffer.now }
     {
         let held = self.held;
         if held < 2 {
-            return StepOutcome::Refused(Refusal::EarlyEnd);
+            return Err(Refusal::EarlyEnd);
         }
         let len = held - 2;
-        if is_checked(buffer, len) {
-            StepOutcome::Frame {
-                sequence: self.sequence,
-                len,
-            }
-        } else {
-            StepOutcome::Refused(Refusal::BadChecksum)
+        if !is_checked(buffer, len) {
+            return Err(Refusal::BadChecksum);
         }
+        Ok(Accepted::Frame(Frame {
+            sequence: self.sequence,
+            len,
+        }))
     }
 
     // The byte is skipped. The state is made by its fields: one moved whole takes its padding along, through memory.
     fn skip(self) -> Advanced
-        ensures { result ≡ record { outcome = Skipped; next = self } }
+        ensures { result ≡ record { outcome = Ok Skipped; next = self } }
     {
         let phase = self.phase;
         Advanced {
-            outcome: StepOutcome::Skipped,
+            outcome: Ok(Accepted::Skipped),
             next: Progress {
                 phase,
                 sequence: self.sequence,
@@ -190,16 +189,10 @@ impl Progress {
             → step (told result.outcome) result.next buffer.new
             ≡ perform_of limit self buffer.old b (code_of b) }
     {
-        if b == START_CODE {
-            return self.store(buffer, Mark::START);
+        match mark_for(b) {
+            Some(mark) => self.store(buffer, mark),
+            None => drop_frame(Refusal::BadEscape),
         }
-        if b == END_CODE {
-            return self.store(buffer, Mark::END);
-        }
-        if b == ESCAPE_CODE {
-            return self.store(buffer, Mark::ESCAPE);
-        }
-        drop_frame(Refusal::BadEscape)
     }
 
     pub fn at_escaped(self, buffer: &mut [u8], kind: Kind, b: u8) -> Advanced
