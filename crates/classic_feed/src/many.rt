@@ -5,19 +5,14 @@ ghost use Rattle.classic_extractor.specs.State.{Fits};
 ghost use Rattle.classic_feed.specs.Feed.{told_feed, fed, decides, feed_report, feed_from, feed_of};
 
 use crate::fast_path::{fast_step, pass};
-use classic_extractor::outcome::{Refusal, StepOutcome};
+use classic_extractor::outcome::{Accepted, Frame, Refusal};
 use classic_extractor::state::{Extractor, Progress};
 
-#[derive(Drop)]
-pub enum FeedOutcome {
-    AllUsed,
-    Frame { sequence: u8, len: usize },
-    Refused(Refusal),
-}
-
+// What many bytes did, up to the first frame or refusal: no frame where all of them are used. The state after them is told
+// on a refusal too.
 #[derive(Drop)]
 pub struct Fed {
-    pub outcome: FeedOutcome,
+    pub outcome: Result<Option<Frame>, Refusal>,
     pub used: usize,
     pub next: Extractor,
 }
@@ -35,28 +30,18 @@ fn rebuilt(state: Progress) -> Progress
 }
 
 // Whether an outcome ends a call for many bytes.
-fn is_decided(outcome: StepOutcome) -> bool
+fn is_decided(outcome: Result<Accepted, Refusal>) -> bool
     ensures { result ≡ decides (told outcome) }
 {
-    match outcome {
-        StepOutcome::Skipped => false,
-        StepOutcome::Taken => false,
-        StepOutcome::Frame {
-            sequence: _,
-            len: _,
-        } => true,
-        StepOutcome::Refused(_) => true,
-    }
+    matches!(outcome, Ok(Accepted::Frame(_)) | Err(_))
 }
 
-fn feed_outcome(outcome: StepOutcome) -> FeedOutcome
+fn feed_outcome(outcome: Result<Accepted, Refusal>) -> Result<Option<Frame>, Refusal>
     ensures { told_feed result ≡ feed_report (told outcome) }
 {
-    match outcome {
-        StepOutcome::Skipped => FeedOutcome::AllUsed,
-        StepOutcome::Taken => FeedOutcome::AllUsed,
-        StepOutcome::Frame { sequence, len } => FeedOutcome::Frame { sequence, len },
-        StepOutcome::Refused(why) => FeedOutcome::Refused(why),
+    match outcome? {
+        Accepted::Skipped | Accepted::Taken => Ok(None),
+        Accepted::Frame(frame) => Ok(Some(frame)),
     }
 }
 
@@ -75,7 +60,7 @@ fn run(start: Progress, limit: usize, buffer: &mut [u8], bytes: &[u8]) -> Fed
         state = rebuilt(there);
         if i >= bytes.len() {
             return Fed {
-                outcome: FeedOutcome::AllUsed,
+                outcome: Ok(None),
                 used: i,
                 next: Extractor {
                     limit,
@@ -113,7 +98,7 @@ pub fn feed(state: Extractor, buffer: &mut [u8], bytes: &[u8]) -> Fed
         run(progress, limit, buffer, bytes)
     } else {
         Fed {
-            outcome: FeedOutcome::Refused(Refusal::BadStateOrBuffer),
+            outcome: Err(Refusal::BadStateOrBuffer),
             used: 0,
             next: state,
         }
