@@ -9,7 +9,7 @@ use Rattle.classic_parts.specs.declared.writer.Refusal.{Refusal}
 use Rattle.classic_parts.specs.declared.writer.Refusal.TheVariants.{Unlawful, TooMuch, NoRoom}
 use Rattle.classic_parts.specs.declared.writer.BadStart.{BadStart}
 use Rattle.classic_parts.specs.declared.writer.BadStart.TheVariants.{Limit, Argument}
-pub use Rattle.classic_parts.specs.declared.writer.PartCount.{PartCount}
+use Rattle.classic_parts.specs.declared.writer.PartCount.{PartCount}
 use Rattle.classic_parts.specs.State.{beginning, bad_start, lawful, missing, ended}
 use Rattle.classic_parts.specs.Fill.{Filled, fill_of}
 
