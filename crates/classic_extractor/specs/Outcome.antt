@@ -2,8 +2,8 @@
 use Rattle.std.specs.Prelude.{ℕ, Result, Ok, Err}
 use Rattle.classic_extractor.specs.declared.outcome.Refusal.{Refusal}
 use Rattle.classic_extractor.specs.declared.outcome.Refusal.TheVariants.{BadStateOrBuffer, StartInside, BadEscape, EarlyEnd, BadHeader, TooLong, BadChecksum}
-use Rattle.classic_extractor.specs.declared.outcome.Accepted.{Accepted}
-use Rattle.classic_extractor.specs.declared.outcome.Accepted.TheVariants.{Skipped, Taken, Frame}
+use Rattle.classic_extractor.specs.declared.outcome.Extraction.{Extraction}
+use Rattle.classic_extractor.specs.declared.outcome.Extraction.TheVariants.{Skipped, Taken, Frame}
 
 pub data Report : Type 0 where
   skipped taken all_used : Report
@@ -19,7 +19,7 @@ number_of BadHeader = 22
 number_of TooLong = 24
 number_of BadChecksum = 25
 
-abbrev pub told : Result Accepted Refusal → Report
+abbrev pub told : Result Extraction Refusal → Report
 told (Ok Skipped) = skipped
 told (Ok Taken) = taken
 told (Ok (Frame f)) = frame f.sequence f.len

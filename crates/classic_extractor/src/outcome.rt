@@ -41,7 +41,7 @@ pub struct Frame {
 
 // What a byte did that is not refused.
 #[derive(Clone, Copy, Debug, PartialEq, Eq)]
-pub enum Accepted {
+pub enum Extraction {
     Skipped,
     Taken,
     Frame(Frame),

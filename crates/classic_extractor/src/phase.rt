@@ -2,13 +2,13 @@
 ghost use Rattle.std.specs.Prelude.{◌≡◌, List, ℕ, ◌+◌, ◌≤◌, length, Ok, Err};
 ghost use Rattle.classic_frame.specs.declared.mark.Kind.TheVariants.{Plain};
 ghost use Rattle.classic_extractor.specs.declared.outcome.Refusal.TheVariants.{StartInside};
-ghost use Rattle.classic_extractor.specs.declared.outcome.Accepted.TheVariants.{Skipped, Taken};
+ghost use Rattle.classic_extractor.specs.declared.outcome.Extraction.TheVariants.{Skipped, Taken};
 ghost use Rattle.classic_extractor.specs.Outcome.{told};
 ghost use Rattle.classic_extractor.specs.State.{begun, outside};
 ghost use Rattle.classic_extractor.specs.Action.{outside_by, header_by, sequence_by, body_by, code_of, code_by};
 ghost use Rattle.classic_extractor.specs.Step.{step, store_of, end_of, perform_of};
 
-use crate::outcome::{Accepted, Frame, Refusal};
+use crate::outcome::{Extraction, Frame, Refusal};
 use crate::state::{Phase, Progress};
 use classic_frame::checksum::is_checked;
 use classic_frame::mark::{Kind, mark_for};
@@ -16,7 +16,7 @@ use classic_frame::mark::{Kind, mark_for};
 // What a byte did, and the progress after it.
 #[derive(Drop)]
 pub struct Advanced {
-    pub outcome: Result<Accepted, Refusal>,
+    pub outcome: Result<Extraction, Refusal>,
     pub next: Progress,
 }
 
@@ -49,7 +49,7 @@ fn go_on(phase: Phase, sequence: u8, held: usize) -> Advanced
         ≡ record { outcome = Ok Taken; next = record { phase = phase; sequence = sequence; held = held } } }
 {
     Advanced {
-        outcome: Ok(Accepted::Taken),
+        outcome: Ok(Extraction::Taken),
         next: Progress {
             phase,
             sequence,
@@ -69,7 +69,7 @@ impl Progress {
             buffer[held] = x;
             let count = held + 1;
             Advanced {
-                outcome: Ok(Accepted::Taken),
+                outcome: Ok(Extraction::Taken),
                 next: Progress {
                     phase: Phase::Body,
                     sequence: self.sequence,
@@ -85,7 +85,7 @@ impl Progress {
     }
 
     // What the end mark answers to the bytes held.
-    pub fn end(self, buffer: &[u8]) -> Result<Accepted, Refusal>
+    pub fn end(self, buffer: &[u8]) -> Result<Extraction, Refusal>
         requires { self.held ≤ length buffer.now }
         ensures { told result ≡ end_of self buffer.now }
     {
@@ -97,7 +97,7 @@ impl Progress {
         if !is_checked(buffer, len) {
             return Err(Refusal::BadChecksum);
         }
-        Ok(Accepted::Frame(Frame {
+        Ok(Extraction::Frame(Frame {
             sequence: self.sequence,
             len,
         }))
@@ -109,7 +109,7 @@ impl Progress {
     {
         let phase = self.phase;
         Advanced {
-            outcome: Ok(Accepted::Skipped),
+            outcome: Ok(Extraction::Skipped),
             next: Progress {
                 phase,
                 sequence: self.sequence,

@@ -8,7 +8,7 @@ ghost use Rattle.classic_extractor.specs.State.{Fits};
 ghost use Rattle.classic_extractor.specs.Step.{step, advance_of};
 ghost use Rattle.classic_feed.specs.FastPath.{mark_of, mark_at, start_report, is_header, header_at, Onward};
 
-use classic_extractor::outcome::{Accepted, Refusal};
+use classic_extractor::outcome::{Extraction, Refusal};
 use classic_extractor::phase::Advanced;
 use classic_extractor::state::{CHECKSUM, Phase, Progress};
 use classic_frame::header::{ERROR_ID, PACKET_ID};
@@ -232,11 +232,11 @@ fn header_at(bytes: &[u8], at: usize) -> bool
 }
 
 // What a start mark answers.
-fn at_start(phase: Phase) -> Result<Accepted, Refusal>
+fn at_start(phase: Phase) -> Result<Extraction, Refusal>
     ensures { told result ≡ start_report phase }
 {
     if phase == Phase::Outside {
-        Ok(Accepted::Taken)
+        Ok(Extraction::Taken)
     } else {
         Err(Refusal::StartInside)
     }

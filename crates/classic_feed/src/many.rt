@@ -5,7 +5,7 @@ ghost use Rattle.classic_extractor.specs.State.{Fits};
 ghost use Rattle.classic_feed.specs.Feed.{told_feed, fed, decides, feed_report, feed_from, feed_of};
 
 use crate::fast_path::{fast_step, pass};
-use classic_extractor::outcome::{Accepted, Frame, Refusal};
+use classic_extractor::outcome::{Extraction, Frame, Refusal};
 use classic_extractor::state::{Extractor, Progress};
 
 // What many bytes did, up to the first frame or refusal: no frame where all of them are used. The state after them is told
@@ -30,18 +30,18 @@ fn rebuilt(state: Progress) -> Progress
 }
 
 // Whether an outcome ends a call for many bytes.
-fn is_decided(outcome: Result<Accepted, Refusal>) -> bool
+fn is_decided(outcome: Result<Extraction, Refusal>) -> bool
     ensures { result ≡ decides (told outcome) }
 {
-    matches!(outcome, Ok(Accepted::Frame(_)) | Err(_))
+    matches!(outcome, Ok(Extraction::Frame(_)) | Err(_))
 }
 
-fn feed_outcome(outcome: Result<Accepted, Refusal>) -> Result<Option<Frame>, Refusal>
+fn feed_outcome(outcome: Result<Extraction, Refusal>) -> Result<Option<Frame>, Refusal>
     ensures { told_feed result ≡ feed_report (told outcome) }
 {
     match outcome? {
-        Accepted::Skipped | Accepted::Taken => Ok(None),
-        Accepted::Frame(frame) => Ok(Some(frame)),
+        Extraction::Skipped | Extraction::Taken => Ok(None),
+        Extraction::Frame(frame) => Ok(Some(frame)),
     }
 }
 
