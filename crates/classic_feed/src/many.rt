@@ -1,8 +1,7 @@
 // Many bytes given at once.
 ghost use Rattle.std.specs.Prelude.{◌≡◌};
-ghost use Rattle.classic_extractor.specs.Outcome.{told};
 ghost use Rattle.classic_extractor.specs.State.{Fits};
-ghost use Rattle.classic_feed.specs.Feed.{told_feed, fed, decides, feed_report, feed_from, feed_of};
+ghost use Rattle.classic_feed.specs.Feed.{told_feed, fed, feed_from, feed_of};
 
 use crate::fast_path::{fast_step, pass};
 use classic_extractor::outcome::{Extraction, Frame, Refusal};
@@ -26,22 +25,6 @@ fn rebuilt(state: Progress) -> Progress
         phase,
         sequence: state.sequence,
         held: state.held,
-    }
-}
-
-// Whether an outcome ends a call for many bytes.
-fn is_decided(outcome: Result<Extraction, Refusal>) -> bool
-    ensures { result ≡ decides (told outcome) }
-{
-    matches!(outcome, Ok(Extraction::Frame(_)) | Err(_))
-}
-
-fn feed_outcome(outcome: Result<Extraction, Refusal>) -> Result<Option<Frame>, Refusal>
-    ensures { told_feed result ≡ feed_report (told outcome) }
-{
-    match outcome? {
-        Extraction::Skipped | Extraction::Taken => Ok(None),
-        Extraction::Frame(frame) => Ok(Some(frame)),
     }
 }
 
@@ -72,16 +55,27 @@ fn run(start: Progress, limit: usize, buffer: &mut [u8], bytes: &[u8]) -> Fed
         i += 1;
         let then = done.next;
         state = rebuilt(then);
-        let outcome = done.outcome;
-        if is_decided(outcome) {
-            return Fed {
-                outcome: feed_outcome(outcome),
-                used: i,
-                next: Extractor {
-                    limit,
-                    progress: state,
-                },
-            };
+        let next = Extractor {
+            limit,
+            progress: state,
+        };
+        match done.outcome {
+            Ok(Extraction::Skipped) => {}
+            Ok(Extraction::Taken) => {}
+            Ok(Extraction::Frame(frame)) => {
+                return Fed {
+                    outcome: Ok(Some(frame)),
+                    used: i,
+                    next,
+                };
+            }
+            Err(why) => {
+                return Fed {
+                    outcome: Err(why),
+                    used: i,
+                    next,
+                };
+            }
         }
     }
 }

@@ -1,4 +1,4 @@
-use mathlib.Core.Path.{refl, sym, ◌∙◌}
+use mathlib.Core.Path.{refl}
 use native.Mathlib.Omega.{arith}
 use borrow.Author.Rules.{rules}
 use Rattle.classic_feed.proofs.Loop.{Running, running-end, running-stop, running_more}
@@ -33,19 +33,30 @@ overflow_add-i c =
     let on = running-on c.loop-i.invariant c.pass-passed.ensures c.pass-passed.auto.buffer c.rebuilt-state.ensures in
     omega (arith, on.within)
 
-pub shape_of-buffer-then-is_decided : goal.shape_of-buffer-then-is_decided
-shape_of-buffer-then-is_decided c = c.fast_step-done.auto.buffer ∙ (passed (goal.at.shape_of-buffer-then-is_decided c).After-rebuilt-state).same
+pub returns-in-Ok-Frame : goal.returns-in-Ok-Frame
+returns-in-Ok-Frame c =
+    let frame = rw c.in-Ok-Frame.is at c.in-Ok-Frame.field-0-is in (
+      rw (c.in-Ok-Frame.is, frame) at
+          (running-stop (passed (goal.at.returns-in-Ok-Frame c).After-rebuilt-state) c.fast_step-done.ensures c.if-i-bytes.false c.rebuilt-state-in-loop-i.ensures (rw (c.in-Ok-Frame.is, frame))),
+      refl,
+    )
 
-pub returns-then-is_decided : goal.returns-then-is_decided
-returns-then-is_decided c = (
-  rw c.feed_outcome.ensures
-      (running-stop (passed (goal.at.returns-then-is_decided c).After-rebuilt-state) c.fast_step-done.ensures c.if-i-bytes.false c.rebuilt-state-in-loop-i.ensures (sym c.is_decided.ensures ∙ c.if-is_decided.true)),
+pub returns-in-Err : goal.returns-in-Err
+returns-in-Err c = (
+  rw c.in-Err.is at
+      (running-stop (passed (goal.at.returns-in-Err c).After-rebuilt-state) c.fast_step-done.ensures c.if-i-bytes.false c.rebuilt-state-in-loop-i.ensures (rw c.in-Err.is)),
   refl,
 )
 
 pub loop-i-smaller : goal.loop-i-smaller
 loop-i-smaller c = omega (arith, c.pass-passed.ensures.from)
 
+pub loop-i-preserved-in-Ok-Skipped : goal.loop-i-preserved-in-Ok-Skipped
+loop-i-preserved-in-Ok-Skipped c =
+    let byte = rw c.in-Ok-Skipped.is at c.in-Ok-Skipped.field-0-is in
+    running_more (passed (goal.at.loop-i-preserved-in-Ok-Skipped c).After-rebuilt-state) c.fast_step-done.ensures (search rules) c.rebuilt-state-in-loop-i.ensures (rw (c.in-Ok-Skipped.is, byte)) c.fast_step-done.auto.buffer
+
 pub loop-i-preserved : goal.loop-i-preserved
 loop-i-preserved c =
-    running_more (passed (goal.at.loop-i-preserved c).After-rebuilt-state) c.fast_step-done.ensures (search rules) c.rebuilt-state-in-loop-i.ensures (sym c.is_decided.ensures ∙ c.if-is_decided.false) c.fast_step-done.auto.buffer
+    let byte = rw c.in-Ok-Taken.is at c.in-Ok-Taken.field-0-is in
+    running_more (passed (goal.at.loop-i-preserved c).After-rebuilt-state) c.fast_step-done.ensures (search rules) c.rebuilt-state-in-loop-i.ensures (rw (c.in-Ok-Taken.is, byte)) c.fast_step-done.auto.buffer
