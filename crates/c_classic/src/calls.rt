@@ -122,8 +122,7 @@ fn feed_fitting(state: &mut [u64], buffer: &mut [u8], bytes: &[u8], answer: &mut
     let next = done.next;
     let progress = next.progress;
     let used = done.used as u64;
-    let outcome = done.outcome;
-    match outcome {
+    match done.outcome {
         Ok(None) => {
             let row = [ALL_USED, used, 0, 0];
             write_row(answer, &row);

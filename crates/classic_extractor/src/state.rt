@@ -7,8 +7,8 @@ use wire::limit::limit_fits;
 use wire::logic::both;
 use wire::refusal::Numbered;
 
-// What the next byte is taken for.
-#[derive(Clone, Copy, Debug, PartialEq, Eq)]
+// What the next byte is taken for, in the order of a frame.
+#[derive(Clone, Copy, Debug, PartialEq, Eq, PartialOrd, Ord)]
 pub enum Phase {
     Outside,
     PacketId,
@@ -117,7 +117,7 @@ impl Extractor {
 fn sequence_read(phase: Phase) -> bool
     ensures { result ≡ sequence_read phase }
 {
-    matches!(phase, Phase::Body | Phase::Escaped)
+    phase >= Phase::Body
 }
 
 fn lawful_before(sequence: u8, held: usize) -> bool

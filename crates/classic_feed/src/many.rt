@@ -28,6 +28,24 @@ fn rebuilt(state: Progress) -> Progress
     }
 }
 
+// What a call leaves that ends in a state.
+fn ended(
+    outcome: Result<Option<Frame>, Refusal>,
+    used: usize,
+    limit: usize,
+    progress: Progress,
+) -> Fed
+    ensures { result
+        ≡ record { outcome = outcome; used = used; next = record { limit = limit; progress = progress } } }
+{
+    let next = Extractor { limit, progress };
+    Fed {
+        outcome,
+        used,
+        next,
+    }
+}
+
 // The bytes one after another, in a lawful state and over a buffer of the right size.
 fn run(start: Progress, limit: usize, buffer: &mut [u8], bytes: &[u8]) -> Fed
     requires { Fits limit start buffer.old }
@@ -42,40 +60,17 @@ fn run(start: Progress, limit: usize, buffer: &mut [u8], bytes: &[u8]) -> Fed
         let there = passed.next;
         state = rebuilt(there);
         if i >= bytes.len() {
-            return Fed {
-                outcome: Ok(None),
-                used: i,
-                next: Extractor {
-                    limit,
-                    progress: state,
-                },
-            };
+            return ended(Ok(None), i, limit, state);
         }
         let done = fast_step(state, limit, buffer, bytes[i]);
         i += 1;
         let then = done.next;
         state = rebuilt(then);
-        let next = Extractor {
-            limit,
-            progress: state,
-        };
         match done.outcome {
             Ok(Extraction::Skipped) => {}
             Ok(Extraction::Taken) => {}
-            Ok(Extraction::Frame(frame)) => {
-                return Fed {
-                    outcome: Ok(Some(frame)),
-                    used: i,
-                    next,
-                };
-            }
-            Err(why) => {
-                return Fed {
-                    outcome: Err(why),
-                    used: i,
-                    next,
-                };
-            }
+            Ok(Extraction::Frame(frame)) => return ended(Ok(Some(frame)), i, limit, state),
+            Err(why) => return ended(Err(why), i, limit, state),
         }
     }
 }

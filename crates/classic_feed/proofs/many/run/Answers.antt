@@ -23,7 +23,7 @@ pub shape_of-buffer-then-i-bytes : goal.shape_of-buffer-then-i-bytes
 shape_of-buffer-then-i-bytes c = (passed (goal.at.shape_of-buffer-then-i-bytes c).After-rebuilt-state).same
 
 pub returns-then-i-bytes : goal.returns-then-i-bytes
-returns-then-i-bytes c = (running-end (passed (goal.at.returns-then-i-bytes c).After-rebuilt-state) (search rules), refl)
+returns-then-i-bytes c = rw c.ended.ensures (running-end (passed (goal.at.returns-then-i-bytes c).After-rebuilt-state) (search rules), refl)
 
 pub fast_step-done-requires : goal.fast_step-done-requires
 fast_step-done-requires c = (passed (goal.at.fast_step-done-requires c).After-rebuilt-state).fits
@@ -35,18 +35,14 @@ overflow_add-i c =
 
 pub returns-in-Ok-Frame : goal.returns-in-Ok-Frame
 returns-in-Ok-Frame c =
-    let frame = rw c.in-Ok-Frame.is at c.in-Ok-Frame.field-0-is in (
-      rw (c.in-Ok-Frame.is, frame) at
-          (running-stop (passed (goal.at.returns-in-Ok-Frame c).After-rebuilt-state) c.fast_step-done.ensures c.if-i-bytes.false c.rebuilt-state-in-loop-i.ensures (rw (c.in-Ok-Frame.is, frame))),
-      refl,
-    )
+    let frame = rw c.in-Ok-Frame.is at c.in-Ok-Frame.field-0-is in
+    let stop = rw (c.in-Ok-Frame.is, frame) at (running-stop (passed (goal.at.returns-in-Ok-Frame c).After-rebuilt-state) c.fast_step-done.ensures c.if-i-bytes.false c.rebuilt-state-in-loop-i.ensures (rw (c.in-Ok-Frame.is, frame))) in
+    rw c.ended-in-Ok-Frame.ensures (stop, refl)
 
 pub returns-in-Err : goal.returns-in-Err
-returns-in-Err c = (
-  rw c.in-Err.is at
-      (running-stop (passed (goal.at.returns-in-Err c).After-rebuilt-state) c.fast_step-done.ensures c.if-i-bytes.false c.rebuilt-state-in-loop-i.ensures (rw c.in-Err.is)),
-  refl,
-)
+returns-in-Err c =
+    let stop = rw c.in-Err.is at (running-stop (passed (goal.at.returns-in-Err c).After-rebuilt-state) c.fast_step-done.ensures c.if-i-bytes.false c.rebuilt-state-in-loop-i.ensures (rw c.in-Err.is)) in
+    rw c.ended-in-Err.ensures (stop, refl)
 
 pub loop-i-smaller : goal.loop-i-smaller
 loop-i-smaller c = omega (arith, c.pass-passed.ensures.from)
