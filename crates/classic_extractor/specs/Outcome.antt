@@ -3,7 +3,8 @@ use Rattle.std.specs.Prelude.{ℕ, Result, Ok, Err}
 use Rattle.classic_extractor.specs.declared.outcome.Refusal.{Refusal}
 use Rattle.classic_extractor.specs.declared.outcome.Refusal.TheVariants.{BadStateOrBuffer, StartInside, BadEscape, EarlyEnd, BadHeader, TooLong, BadChecksum}
 use Rattle.classic_extractor.specs.declared.outcome.Extraction.{Extraction}
-use Rattle.classic_extractor.specs.declared.outcome.Extraction.TheVariants.{Skipped, Taken, Frame}
+use Rattle.classic_extractor.specs.declared.outcome.Extraction.TheVariants as extraction
+use Rattle.classic_extractor.specs.declared.outcome.Frame.{Frame}
 
 pub data Report : Type 0 where
   skipped taken all_used : Report
@@ -20,7 +21,12 @@ number_of TooLong = 24
 number_of BadChecksum = 25
 
 abbrev pub told : Result Extraction Refusal → Report
-told (Ok Skipped) = skipped
-told (Ok Taken) = taken
-told (Ok (Frame f)) = frame f.sequence f.len
+told (Ok extraction.Skipped) = skipped
+told (Ok extraction.Taken) = taken
+told (Ok (extraction.Frame f)) = frame f.sequence f.len
 told (Err r) = refused (number_of r)
+
+-- .. where the end mark stands
+abbrev pub told_end : Result Frame Refusal → Report
+told_end (Ok f) = frame f.sequence f.len
+told_end (Err r) = refused (number_of r)

@@ -3,7 +3,7 @@ ghost use Rattle.std.specs.Prelude.{◌≡◌, List, ℕ, ◌+◌, ◌≤◌, le
 ghost use Rattle.classic_frame.specs.declared.mark.Kind.TheVariants.{Plain};
 ghost use Rattle.classic_extractor.specs.declared.outcome.Refusal.TheVariants.{StartInside};
 ghost use Rattle.classic_extractor.specs.declared.outcome.Extraction.TheVariants.{Skipped, Taken};
-ghost use Rattle.classic_extractor.specs.Outcome.{told};
+ghost use Rattle.classic_extractor.specs.Outcome.{told, told_end};
 ghost use Rattle.classic_extractor.specs.State.{begun, outside};
 ghost use Rattle.classic_extractor.specs.Action.{outside_by, header_by, sequence_by, body_by, code_of, code_by};
 ghost use Rattle.classic_extractor.specs.Step.{step, store_of, end_of, perform_of};
@@ -84,10 +84,10 @@ impl Progress {
         }
     }
 
-    // What the end mark answers to the bytes held.
-    pub fn end(self, buffer: &[u8]) -> Result<Extraction, Refusal>
+    // The frame that the end mark ends, by the bytes held.
+    pub fn end(self, buffer: &[u8]) -> Result<Frame, Refusal>
         requires { self.held ≤ length buffer.now }
-        ensures { told result ≡ end_of self buffer.now }
+        ensures { told_end result ≡ end_of self buffer.now }
     {
         let held = self.held;
         if held < 2 {
@@ -97,10 +97,10 @@ impl Progress {
         if !is_checked(buffer, len) {
             return Err(Refusal::BadChecksum);
         }
-        Ok(Extraction::Frame(Frame {
+        Ok(Frame {
             sequence: self.sequence,
             len,
-        }))
+        })
     }
 
     // The byte is skipped. The state is made by its fields: one moved whole takes its padding along, through memory.
@@ -174,9 +174,12 @@ impl Progress {
     {
         match kind {
             Kind::Start => restart(),
-            Kind::End => Advanced {
-                outcome: self.end(buffer),
-                next: Progress::outside(),
+            Kind::End => match self.end(buffer) {
+                Ok(frame) => Advanced {
+                    outcome: Ok(Extraction::Frame(frame)),
+                    next: Progress::outside(),
+                },
+                Err(why) => drop_frame(why),
             },
             Kind::Escape => go_on(Phase::Escaped, self.sequence, self.held),
             Kind::Plain => self.store(buffer, b),

@@ -31,7 +31,7 @@ pub enum Kind {
 }
 
 impl Kind {
-    pub fn is_mark(self) -> bool
+    pub fn needs_code(self) -> bool
         ensures { result ≡ is_mark_kind self }
     {
         self != Kind::Plain
@@ -56,7 +56,7 @@ pub fn kind_of(b: u8) -> Kind
 pub fn is_mark(b: u8) -> bool
     ensures { result ≡ is_mark b }
 {
-    kind_of(b).is_mark()
+    kind_of(b).needs_code()
 }
 
 // What stands after F2 for a mark.

@@ -85,13 +85,13 @@ impl PartProgress {
     pub fn is_in_payload(self) -> bool
         ensures { result ≡ in_payload self }
     {
-        both(self.stage == Stage::Payload, !self.pending.is_mark())
+        both(self.stage == Stage::Payload, !self.pending.needs_code())
     }
 
     // Whether all of the frame is written.
     pub fn has_ended(self) -> bool
         ensures { result ≡ ended self }
     {
-        both(self.stage == Stage::Done, !self.pending.is_mark())
+        both(self.stage == Stage::Done, !self.pending.needs_code())
     }
 }
