@@ -145,8 +145,8 @@ impl ClassicAnswer {
     }
 }
 
-pub fn step_reply(outcome: Result<Extraction, Refusal>) -> ClassicAnswer
-    ensures { result ≡ reply_of (told outcome) }
+pub fn step_reply(outcome: &Result<Extraction, Refusal>) -> ClassicAnswer
+    ensures { result ≡ reply_of (told outcome.now) }
 {
     match outcome {
         Ok(Extraction::Skipped) => ClassicAnswer::new(DONE, SKIPPED, 0, 0),

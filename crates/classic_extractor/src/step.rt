@@ -56,10 +56,9 @@ impl Extractor {
     {
         let progress = self.progress;
         let done = progress.take(self.limit, buffer, b);
-        let outcome = done.outcome;
         let progress = done.next;
         Stepped {
-            outcome,
+            outcome: done.outcome,
             next: Extractor {
                 limit: self.limit,
                 progress,

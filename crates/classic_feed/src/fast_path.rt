@@ -4,7 +4,7 @@ ghost use Rattle.wire.specs.Scan.{Clear};
 ghost use Rattle.classic_frame.specs.Mark.{start_mark};
 ghost use Rattle.classic_extractor.specs.declared.state.Phase.TheVariants.{Outside, Body};
 ghost use Rattle.classic_extractor.specs.Outcome.{told};
-ghost use Rattle.classic_extractor.specs.State.{Fits};
+ghost use Rattle.classic_extractor.specs.State.{begun, Fits};
 ghost use Rattle.classic_extractor.specs.Step.{step, advance_of};
 ghost use Rattle.classic_feed.specs.FastPath.{mark_of, mark_at, start_report, is_header, header_at, Onward};
 
@@ -231,14 +231,20 @@ fn header_at(bytes: &[u8], at: usize) -> bool
     }
 }
 
-// What a start mark answers.
-fn at_start(phase: Phase) -> Result<Extraction, Refusal>
-    ensures { told result ≡ start_report phase }
+// A start mark in a phase: the frame begins, within another one by a refusal.
+fn at_start(phase: Phase) -> Advanced
+    ensures { (told result.outcome ≡ start_report phase) × (result.next ≡ begun) }
 {
     if phase == Phase::Outside {
-        Ok(Extraction::Taken)
+        Advanced {
+            outcome: Ok(Extraction::Taken),
+            next: Progress::begun(),
+        }
     } else {
-        Err(Refusal::StartInside)
+        Advanced {
+            outcome: Err(Refusal::StartInside),
+            next: Progress::begun(),
+        }
     }
 }
 
@@ -250,10 +256,7 @@ pub fn fast_step(state: Progress, limit: usize, buffer: &mut [u8], b: u8) -> Adv
 {
     let phase = state.phase;
     if b == Mark::START {
-        return Advanced {
-            outcome: at_start(phase),
-            next: Progress::begun(),
-        };
+        return at_start(phase);
     }
     let kind = kind_of(b);
     match phase {
