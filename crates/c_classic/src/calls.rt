@@ -64,7 +64,7 @@ fn step_fitting(state: &mut [u64], buffer: &mut [u8], byte: u8, answer: &mut [u6
         (byte_step_of x.limit x.progress buffer.old byte)) }
 {
     let done = extractor_of(state).step(buffer, byte);
-    let reply = step_reply(&done.outcome);
+    let reply = step_reply(done.outcome);
     let number = reply.number;
     let next = done.next;
     let progress = next.progress;

@@ -5,7 +5,7 @@ ghost use Rattle.c_rows.specs.Row.{afterwards};
 ghost use Rattle.c_classic.specs.Convert.{phase_number, phase_of, is_extractor, extractor_of, extractor_row, reply, reply_of};
 
 use c_rows::row::{BYTES, DONE, UNFIT, fill};
-use classic_extractor::outcome::{Extraction, Refusal};
+use classic_extractor::outcome::StepOutcome;
 use classic_extractor::state::{Extractor, Phase, Progress};
 use wire::bytes::wide64;
 use wire::logic::both;
@@ -145,13 +145,13 @@ impl ClassicAnswer {
     }
 }
 
-pub fn step_reply(outcome: &Result<Extraction, Refusal>) -> ClassicAnswer
-    ensures { result ≡ reply_of (told outcome.now) }
+pub fn step_reply(outcome: StepOutcome) -> ClassicAnswer
+    ensures { result ≡ reply_of (told outcome) }
 {
     match outcome {
-        Ok(Extraction::Skipped) => ClassicAnswer::new(DONE, SKIPPED, 0, 0),
-        Ok(Extraction::Taken) => ClassicAnswer::new(DONE, TAKEN, 0, 0),
-        Ok(Extraction::Frame(frame)) => ClassicAnswer::new(DONE, FRAME, frame.sequence, frame.len),
-        Err(why) => ClassicAnswer::new(wide64(why.number()), NOTHING, 0, 0),
+        StepOutcome::Skipped => ClassicAnswer::new(DONE, SKIPPED, 0, 0),
+        StepOutcome::Taken => ClassicAnswer::new(DONE, TAKEN, 0, 0),
+        StepOutcome::Frame(frame) => ClassicAnswer::new(DONE, FRAME, frame.sequence, frame.len),
+        StepOutcome::Refused(why) => ClassicAnswer::new(wide64(why.number()), NOTHING, 0, 0),
     }
 }

@@ -2,8 +2,8 @@
 use Rattle.std.specs.Prelude.{ℕ, Result, Ok, Err}
 use Rattle.classic_extractor.specs.declared.outcome.Refusal.{Refusal}
 use Rattle.classic_extractor.specs.declared.outcome.Refusal.TheVariants.{BadStateOrBuffer, StartInside, BadEscape, EarlyEnd, BadHeader, TooLong, BadChecksum}
-use Rattle.classic_extractor.specs.declared.outcome.Extraction.{Extraction}
-use Rattle.classic_extractor.specs.declared.outcome.Extraction.TheVariants as extraction
+use Rattle.classic_extractor.specs.declared.outcome.StepOutcome.{StepOutcome}
+use Rattle.classic_extractor.specs.declared.outcome.StepOutcome.TheVariants as outcome
 use Rattle.classic_extractor.specs.declared.outcome.Frame.{Frame}
 
 pub data Report : Type 0 where
@@ -20,11 +20,11 @@ number_of BadHeader = 22
 number_of TooLong = 24
 number_of BadChecksum = 25
 
-abbrev pub told : Result Extraction Refusal → Report
-told (Ok extraction.Skipped) = skipped
-told (Ok extraction.Taken) = taken
-told (Ok (extraction.Frame f)) = frame f.sequence f.len
-told (Err r) = refused (number_of r)
+abbrev pub told : StepOutcome → Report
+told outcome.Skipped = skipped
+told outcome.Taken = taken
+told (outcome.Frame f) = frame f.sequence f.len
+told (outcome.Refused r) = refused (number_of r)
 
 -- .. where the end mark stands
 abbrev pub told_end : Result Frame Refusal → Report

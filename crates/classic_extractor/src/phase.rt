@@ -1,14 +1,14 @@
 // What a byte does in each phase: a function a phase, with an arm for each kind of byte, as the tables of docs/FORMATS.md.
-ghost use Rattle.std.specs.Prelude.{◌≡◌, List, ℕ, ◌+◌, ◌≤◌, length, Ok, Err};
+ghost use Rattle.std.specs.Prelude.{◌≡◌, List, ℕ, ◌+◌, ◌≤◌, length};
 ghost use Rattle.classic_frame.specs.declared.mark.Kind.TheVariants.{Plain};
 ghost use Rattle.classic_extractor.specs.declared.outcome.Refusal.TheVariants.{StartInside};
-ghost use Rattle.classic_extractor.specs.declared.outcome.Extraction.TheVariants.{Skipped, Taken};
+ghost use Rattle.classic_extractor.specs.declared.outcome.StepOutcome.TheVariants.{Skipped, Taken, Refused};
 ghost use Rattle.classic_extractor.specs.Outcome.{told, told_end};
 ghost use Rattle.classic_extractor.specs.State.{begun, outside};
 ghost use Rattle.classic_extractor.specs.Action.{outside_by, header_by, sequence_by, body_by, code_of, code_by};
 ghost use Rattle.classic_extractor.specs.Step.{step, store_of, end_of, perform_of};
 
-use crate::outcome::{Extraction, Frame, Refusal};
+use crate::outcome::{Frame, Refusal, StepOutcome};
 use crate::state::{Phase, Progress};
 use classic_frame::checksum::is_checked;
 use classic_frame::mark::{Kind, mark_for};
@@ -16,29 +16,29 @@ use classic_frame::mark::{Kind, mark_for};
 // What a byte did, and the progress after it.
 #[derive(Drop)]
 pub struct Advanced {
-    pub outcome: Result<Extraction, Refusal>,
+    pub outcome: StepOutcome,
     pub next: Progress,
 }
 
 pub fn refuse(why: Refusal, next: Progress) -> Advanced
-    ensures { result ≡ record { outcome = Err why; next = next } }
+    ensures { result ≡ record { outcome = Refused why; next = next } }
 {
     Advanced {
-        outcome: Err(why),
+        outcome: StepOutcome::Refused(why),
         next,
     }
 }
 
 // A start mark within a frame: the next one begins.
 fn restart() -> Advanced
-    ensures { result ≡ record { outcome = Err StartInside; next = begun } }
+    ensures { result ≡ record { outcome = Refused StartInside; next = begun } }
 {
     refuse(Refusal::StartInside, Progress::begun())
 }
 
 // A byte that ends the frame by a refusal.
 fn drop_frame(why: Refusal) -> Advanced
-    ensures { result ≡ record { outcome = Err why; next = outside } }
+    ensures { result ≡ record { outcome = Refused why; next = outside } }
 {
     refuse(why, Progress::outside())
 }
@@ -46,10 +46,10 @@ fn drop_frame(why: Refusal) -> Advanced
 // The byte is taken, and leaves this state.
 fn go_on(phase: Phase, sequence: u8, held: usize) -> Advanced
     ensures { result
-        ≡ record { outcome = Ok Taken; next = record { phase = phase; sequence = sequence; held = held } } }
+        ≡ record { outcome = Taken; next = record { phase = phase; sequence = sequence; held = held } } }
 {
     Advanced {
-        outcome: Ok(Extraction::Taken),
+        outcome: StepOutcome::Taken,
         next: Progress {
             phase,
             sequence,
@@ -69,7 +69,7 @@ impl Progress {
             buffer[held] = x;
             let count = held + 1;
             Advanced {
-                outcome: Ok(Extraction::Taken),
+                outcome: StepOutcome::Taken,
                 next: Progress {
                     phase: Phase::Body,
                     sequence: self.sequence,
@@ -78,7 +78,7 @@ impl Progress {
             }
         } else {
             Advanced {
-                outcome: Err(Refusal::TooLong),
+                outcome: StepOutcome::Refused(Refusal::TooLong),
                 next: Progress::outside(),
             }
         }
@@ -105,11 +105,11 @@ impl Progress {
 
     // The byte is skipped. The state is made by its fields: one moved whole takes its padding along, through memory.
     fn skip(self) -> Advanced
-        ensures { result ≡ record { outcome = Ok Skipped; next = self } }
+        ensures { result ≡ record { outcome = Skipped; next = self } }
     {
         let phase = self.phase;
         Advanced {
-            outcome: Ok(Extraction::Skipped),
+            outcome: StepOutcome::Skipped,
             next: Progress {
                 phase,
                 sequence: self.sequence,
@@ -176,7 +176,7 @@ impl Progress {
             Kind::Start => restart(),
             Kind::End => match self.end(buffer) {
                 Ok(frame) => Advanced {
-                    outcome: Ok(Extraction::Frame(frame)),
+                    outcome: StepOutcome::Frame(frame),
                     next: Progress::outside(),
                 },
                 Err(why) => drop_frame(why),

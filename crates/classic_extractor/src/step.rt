@@ -3,7 +3,7 @@ ghost use Rattle.std.specs.Prelude.{◌≡◌, ℕ, ◌+◌, ◌≤◌, length};
 ghost use Rattle.classic_extractor.specs.Outcome.{told};
 ghost use Rattle.classic_extractor.specs.Step.{step, advance_of, byte_step_of};
 
-use crate::outcome::{Extraction, Refusal};
+use crate::outcome::{Refusal, StepOutcome};
 use crate::phase::{Advanced, refuse};
 use crate::state::{Extractor, Phase, Progress};
 use classic_frame::header::{ERROR_ID, PACKET_ID};
@@ -12,7 +12,7 @@ use classic_frame::mark::kind_of;
 // What a byte did, and the state after it, which a refusal leaves too.
 #[derive(Drop)]
 pub struct Stepped {
-    pub outcome: Result<Extraction, Refusal>,
+    pub outcome: StepOutcome,
     pub next: Extractor,
 }
 

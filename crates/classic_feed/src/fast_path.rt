@@ -8,7 +8,7 @@ ghost use Rattle.classic_extractor.specs.State.{begun, Fits};
 ghost use Rattle.classic_extractor.specs.Step.{step, advance_of};
 ghost use Rattle.classic_feed.specs.FastPath.{mark_of, mark_at, start_report, is_header, header_at, Onward};
 
-use classic_extractor::outcome::{Extraction, Refusal};
+use classic_extractor::outcome::{Refusal, StepOutcome};
 use classic_extractor::phase::Advanced;
 use classic_extractor::state::{CHECKSUM, Phase, Progress};
 use classic_frame::header::{ERROR_ID, PACKET_ID};
@@ -237,12 +237,12 @@ fn at_start(phase: Phase) -> Advanced
 {
     if phase == Phase::Outside {
         Advanced {
-            outcome: Ok(Extraction::Taken),
+            outcome: StepOutcome::Taken,
             next: Progress::begun(),
         }
     } else {
         Advanced {
-            outcome: Err(Refusal::StartInside),
+            outcome: StepOutcome::Refused(Refusal::StartInside),
             next: Progress::begun(),
         }
     }

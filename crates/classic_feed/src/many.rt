@@ -4,7 +4,7 @@ ghost use Rattle.classic_extractor.specs.State.{Fits};
 ghost use Rattle.classic_feed.specs.Feed.{told_feed, fed, feed_from, feed_of};
 
 use crate::fast_path::{fast_step, pass};
-use classic_extractor::outcome::{Extraction, Frame, Refusal};
+use classic_extractor::outcome::{Frame, Refusal, StepOutcome};
 use classic_extractor::state::{Extractor, Progress};
 
 // What many bytes did, up to the first frame or refusal: no frame where all of them are used. The state after them is told
@@ -67,10 +67,10 @@ fn run(start: Progress, limit: usize, buffer: &mut [u8], bytes: &[u8]) -> Fed
         let then = done.next;
         state = rebuilt(then);
         match done.outcome {
-            Ok(Extraction::Skipped) => {}
-            Ok(Extraction::Taken) => {}
-            Ok(Extraction::Frame(frame)) => return ended(Ok(Some(frame)), i, limit, state),
-            Err(why) => return ended(Err(why), i, limit, state),
+            StepOutcome::Skipped => {}
+            StepOutcome::Taken => {}
+            StepOutcome::Frame(frame) => return ended(Ok(Some(frame)), i, limit, state),
+            StepOutcome::Refused(why) => return ended(Err(why), i, limit, state),
         }
     }
 }

@@ -33,26 +33,23 @@ overflow_add-i c =
     let on = running-on c.loop-i.invariant c.pass-passed.ensures c.pass-passed.auto.buffer c.rebuilt-state.ensures in
     omega (arith, on.within)
 
-pub returns-in-Ok-Frame : goal.returns-in-Ok-Frame
-returns-in-Ok-Frame c =
-    let frame = rw c.in-Ok-Frame.is at c.in-Ok-Frame.field-0-is in
-    let stop = rw (c.in-Ok-Frame.is, frame) at (running-stop (passed (goal.at.returns-in-Ok-Frame c).After-rebuilt-state) c.fast_step-done.ensures c.if-i-bytes.false c.rebuilt-state-in-loop-i.ensures (rw (c.in-Ok-Frame.is, frame))) in
-    rw c.ended-in-Ok-Frame.ensures (stop, refl)
+pub returns-in-Frame : goal.returns-in-Frame
+returns-in-Frame c =
+    let stop = rw c.in-Frame.is at (running-stop (passed (goal.at.returns-in-Frame c).After-rebuilt-state) c.fast_step-done.ensures c.if-i-bytes.false c.rebuilt-state-in-loop-i.ensures (rw c.in-Frame.is)) in
+    rw c.ended-in-Frame.ensures (stop, refl)
 
-pub returns-in-Err : goal.returns-in-Err
-returns-in-Err c =
-    let stop = rw c.in-Err.is at (running-stop (passed (goal.at.returns-in-Err c).After-rebuilt-state) c.fast_step-done.ensures c.if-i-bytes.false c.rebuilt-state-in-loop-i.ensures (rw c.in-Err.is)) in
-    rw c.ended-in-Err.ensures (stop, refl)
+pub returns-in-Refused : goal.returns-in-Refused
+returns-in-Refused c =
+    let stop = rw c.in-Refused.is at (running-stop (passed (goal.at.returns-in-Refused c).After-rebuilt-state) c.fast_step-done.ensures c.if-i-bytes.false c.rebuilt-state-in-loop-i.ensures (rw c.in-Refused.is)) in
+    rw c.ended-in-Refused.ensures (stop, refl)
 
 pub loop-i-smaller : goal.loop-i-smaller
 loop-i-smaller c = omega (arith, c.pass-passed.ensures.from)
 
-pub loop-i-preserved-in-Ok-Skipped : goal.loop-i-preserved-in-Ok-Skipped
-loop-i-preserved-in-Ok-Skipped c =
-    let byte = rw c.in-Ok-Skipped.is at c.in-Ok-Skipped.field-0-is in
-    running_more (passed (goal.at.loop-i-preserved-in-Ok-Skipped c).After-rebuilt-state) c.fast_step-done.ensures (search rules) c.rebuilt-state-in-loop-i.ensures (rw (c.in-Ok-Skipped.is, byte)) c.fast_step-done.auto.buffer
+pub loop-i-preserved-in-Skipped : goal.loop-i-preserved-in-Skipped
+loop-i-preserved-in-Skipped c =
+    running_more (passed (goal.at.loop-i-preserved-in-Skipped c).After-rebuilt-state) c.fast_step-done.ensures (search rules) c.rebuilt-state-in-loop-i.ensures (rw c.in-Skipped.is) c.fast_step-done.auto.buffer
 
 pub loop-i-preserved : goal.loop-i-preserved
 loop-i-preserved c =
-    let byte = rw c.in-Ok-Taken.is at c.in-Ok-Taken.field-0-is in
-    running_more (passed (goal.at.loop-i-preserved c).After-rebuilt-state) c.fast_step-done.ensures (search rules) c.rebuilt-state-in-loop-i.ensures (rw (c.in-Ok-Taken.is, byte)) c.fast_step-done.auto.buffer
+    running_more (passed (goal.at.loop-i-preserved c).After-rebuilt-state) c.fast_step-done.ensures (search rules) c.rebuilt-state-in-loop-i.ensures (rw c.in-Taken.is) c.fast_step-done.auto.buffer
