@@ -1,13 +1,14 @@
 // The extractor's state: its link's limit, where in a frame it is, and what it holds of it.
 ghost use Rattle.std.specs.Prelude.{◌≡◌, ◌≤◌};
-ghost use Rattle.classic_extractor.specs.State.{outside, begun, sequence_read, lawful_before, lawful_after, lawful, ready, empty, open_of, told_open};
+ghost use Rattle.classic_extractor.specs.State.{outside, begun, sequence_read, lawful_before, lawful_after, lawful, ready, empty, open_of, limit_number, told_open};
 
 use classic_frame::mark::is_mark;
 use wire::limit::limit_fits;
 use wire::logic::both;
+use wire::refusal::Numbered;
 
-// What the next byte is taken for.
-#[derive(Clone, Copy)]
+// What the next byte is taken for, in the order of a frame.
+#[derive(Clone, Copy, Debug, PartialEq, Eq, PartialOrd, Ord)]
 pub enum Phase {
     Outside,
     PacketId,
@@ -31,11 +32,16 @@ pub struct Extractor {
     pub progress: Progress,
 }
 
-// An extractor in its empty state, or a limit out of its range: refusal 17.
-#[derive(Drop)]
-pub enum OpenedExtractor {
-    Empty(Extractor),
-    BadLimit,
+// A limit out of its range: refusal 17.
+#[derive(Clone, Copy, Debug, PartialEq, Eq)]
+pub struct BadLimit;
+
+impl Numbered for BadLimit {
+    ghost number_of = { limit_number };
+
+    fn number(&self) -> u8 {
+        17
+    }
 }
 
 // What the lent buffer has beside the limit: room for a checksum.
@@ -96,13 +102,13 @@ impl Extractor {
     }
 
     // An extractor for a link with a limit, in its empty state.
-    pub fn open(limit: usize) -> OpenedExtractor
+    pub fn open(limit: usize) -> Result<Self, BadLimit>
         ensures { told_open result ≡ open_of limit }
     {
         if limit_fits(limit) {
-            OpenedExtractor::Empty(Extractor::outside(limit))
+            Ok(Extractor::outside(limit))
         } else {
-            OpenedExtractor::BadLimit
+            Err(BadLimit)
         }
     }
 }
@@ -111,14 +117,7 @@ impl Extractor {
 fn sequence_read(phase: Phase) -> bool
     ensures { result ≡ sequence_read phase }
 {
-    match phase {
-        Phase::Outside => false,
-        Phase::PacketId => false,
-        Phase::ErrorId => false,
-        Phase::Sequence => false,
-        Phase::Body => true,
-        Phase::Escaped => true,
-    }
+    phase >= Phase::Body
 }
 
 fn lawful_before(sequence: u8, held: usize) -> bool

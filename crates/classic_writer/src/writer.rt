@@ -9,35 +9,29 @@ ghost use Rattle.classic_writer.specs.Writer.{number_of, told, write_of, Left};
 
 use classic_frame::checksum::checksum;
 use classic_frame::header::{ERROR_ID, PACKET_ID};
-use classic_frame::mark::{Kind, Mark, code_for, is_mark, kind_of};
+use classic_frame::mark::{Mark, code_for, is_mark};
 use wire::limit::limit_fits;
+use wire::refusal::Numbered;
 use wire::scan::copy_clear;
 
 // Refusals 17, 15 and 14.
-#[derive(Drop)]
+#[derive(Clone, Copy, Debug, PartialEq, Eq)]
 pub enum Refusal {
     BadLimit,
     BadArgument,
     NoRoom,
 }
 
-impl Refusal {
-    pub fn number(self) -> u8
-        ensures { result ≡ number_of self }
-    {
+impl Numbered for Refusal {
+    ghost number_of = { number_of };
+
+    fn number(&self) -> u8 {
         match self {
             Refusal::BadLimit => 17,
             Refusal::BadArgument => 15,
             Refusal::NoRoom => 14,
         }
     }
-}
-
-// The length of the frame written, or why none was.
-#[derive(Drop)]
-pub enum WriteOutcome {
-    Frame(usize),
-    Refused(Refusal),
 }
 
 // The bytes of a frame beside its payload, with each byte of the checksum escaped: header, checksum, end mark.
@@ -47,12 +41,7 @@ const LARGEST_FRAMING: usize = 9;
 fn extra(b: u8) -> u16
     ensures { (result + 1 ≡ length (escaped_by (kind_of b) b)) × (result ≤ 1) }
 {
-    match kind_of(b) {
-        Kind::Start => 1,
-        Kind::End => 1,
-        Kind::Escape => 1,
-        Kind::Plain => 0,
-    }
+    is_mark(b) as u16
 }
 
 // The bytes that one byte takes.
@@ -184,40 +173,48 @@ fn has_room(sequence: u8, payload: &[u8], high: u8, low: u8, room: usize) -> boo
     5 + escaped_size(payload) + width(high) + width(low) <= room
 }
 
-// Writes the frame of a payload, for a link with a limit in its range and a sequence that is no mark.
-fn write_within(sequence: u8, limit: usize, payload: &[u8], out: &mut [u8]) -> WriteOutcome
+// Writes the frame of a payload, for a link with a limit in its range and a sequence that is no mark, and returns its length.
+fn write_within(
+    sequence: u8,
+    limit: usize,
+    payload: &[u8],
+    out: &mut [u8],
+) -> Result<usize, Refusal>
     requires { (limit_fits limit ≡ true) × (is_mark sequence ≡ false) }
     ensures { written (told result) out.new
         ≡ write_of limit sequence payload.now out.old }
 {
     if limit < payload.len() {
-        return WriteOutcome::Refused(Refusal::BadArgument);
+        return Err(Refusal::BadArgument);
     }
     let sum = checksum(payload);
     let high = (sum / 256) as u8;
     let low = (sum % 256) as u8;
-    if has_room(sequence, payload, high, low, out.len()) {
-        WriteOutcome::Frame(put_frame(out, sequence, payload, high, low))
-    } else {
-        WriteOutcome::Refused(Refusal::NoRoom)
+    if !has_room(sequence, payload, high, low, out.len()) {
+        return Err(Refusal::NoRoom);
     }
+    Ok(put_frame(out, sequence, payload, high, low))
 }
 
-// Writes the frame of a payload, for a link with a limit. The sequence is looked at first: right before the payload's length
-// the compiler makes one test of both, which costs more.
-pub fn write_frame(sequence: u8, limit: usize, payload: &[u8], out: &mut [u8]) -> WriteOutcome
+// Writes the frame of a payload, for a link with a limit, and returns its length. The sequence is looked at first: right
+// before the payload's length the compiler makes one test of both, which costs more.
+pub fn write_frame(
+    sequence: u8,
+    limit: usize,
+    payload: &[u8],
+    out: &mut [u8],
+) -> Result<usize, Refusal>
     ensures { written (told result) out.new
         ≡ write_of limit sequence payload.now out.old }
 {
     if is_mark(sequence) {
         if limit_fits(limit) {
-            return WriteOutcome::Refused(Refusal::BadArgument);
+            return Err(Refusal::BadArgument);
         }
-        return WriteOutcome::Refused(Refusal::BadLimit);
+        return Err(Refusal::BadLimit);
     }
-    if limit_fits(limit) {
-        write_within(sequence, limit, payload, out)
-    } else {
-        WriteOutcome::Refused(Refusal::BadLimit)
+    if !limit_fits(limit) {
+        return Err(Refusal::BadLimit);
     }
+    write_within(sequence, limit, payload, out)
 }

@@ -1,14 +1,15 @@
 // Lists the frames of a Classic byte stream from standard input.
 #![tactic(auto)]
 
-use classic_extractor::outcome::Refusal;
+use classic_extractor::outcome::{Frame, Refusal};
 use classic_extractor::state::{CHECKSUM, Extractor, Phase, Progress};
-use classic_feed::many::{Fed, FeedOutcome, feed};
+use classic_feed::many::{Fed, feed};
 use classic_frame::mark::Mark;
 use cli_console::{Console, Output, complain, is_alone, read_some};
 use std::io::Read;
 use std::num::{wrapping_add_u64, wrapping_sub_u64};
 use wire::logic::both;
+use wire::refusal::Numbered;
 
 // The limit of the link that is listed.
 const LIMIT: usize = 4096;
@@ -28,10 +29,10 @@ struct Listing {
     output: Output,
 }
 
-fn say_frame(output: Output, place: u64, sequence: u8, len: usize) -> Output {
+fn say_frame(output: Output, place: u64, frame: Frame) -> Output {
     let placed = output.text(b"frame ").number(place);
-    let numbered = placed.text(b" ").number(u64::from(sequence));
-    numbered.text(b" ").number(len as u64).text(b"\n")
+    let numbered = placed.text(b" ").number(u64::from(frame.sequence));
+    numbered.text(b" ").number(frame.len as u64).text(b"\n")
 }
 
 fn say_refused(output: Output, place: u64, why: Refusal) -> Output {
@@ -39,11 +40,11 @@ fn say_refused(output: Output, place: u64, why: Refusal) -> Output {
     refused.text(b" at ").number(place).text(b"\n")
 }
 
-fn say_outcome(output: Output, place: u64, outcome: FeedOutcome) -> Output {
+fn say_outcome(output: Output, place: u64, outcome: Result<Option<Frame>, Refusal>) -> Output {
     match outcome {
-        FeedOutcome::AllUsed => output,
-        FeedOutcome::Frame { sequence, len } => say_frame(output, place, sequence, len),
-        FeedOutcome::Refused(why) => say_refused(output, place, why),
+        Ok(None) => output,
+        Ok(Some(frame)) => say_frame(output, place, frame),
+        Err(why) => say_refused(output, place, why),
     }
 }
 
@@ -69,7 +70,7 @@ fn say_end(listing: Listing) {
 }
 
 fn is_outside(progress: Progress) -> bool {
-    matches!(progress.phase, Phase::Outside)
+    progress.phase == Phase::Outside
 }
 
 // The bytes of one call that were skipped: outside of a frame, those before a start mark.
