@@ -1,10 +1,11 @@
 // A row of numbers read and written; numbers of 64 bits where the library takes a byte.
 ghost use Rattle.std.specs.Prelude.{◌≡◌, [], ◌∷◌, ◌++◌, ◌+◌, ◌≤◌, length, get_or};
 ghost use Rattle.std.proofs.lemmas.List.Edits.{sets};
-ghost use Rattle.wire.specs.Told.{given, refused, told_by};
+ghost use Rattle.wire.specs.Told.{given, refused, told_by, number_told};
 ghost use Rattle.c_rows.specs.Row.{afterwards, byte_or, count_of};
 
-use wire::refusal::Numbered;
+use wire::bytes::wide64;
+use wire::refusal::{Numbered, number_in};
 
 // What is returned where nothing is refused.
 pub const DONE: u64 = 0;
@@ -55,6 +56,13 @@ impl Count {
             size: 0,
         }
     }
+}
+
+// What is returned of a result: the number of its refusal, or 0.
+pub fn number_of_result<T, E: Numbered>(r: &Result<T, E>) -> u64
+    ensures { result ≡ number_told (told_by E.number_of r.now) }
+{
+    wide64(number_in(r))
 }
 
 // The number at a place of a row; 0 past the end.

@@ -1,5 +1,5 @@
 -- UpdateComponentSegment: two strings, two numbers of 32 bits, and the profile on top.
-use Rattle.std.specs.Prelude.{ℕ, Bool, true, cond, ◌&&◌, ◌||◌, not, List, [], ◌∷◌, length, get_or, leb, eqb, Option, Some, None, Result}
+use Rattle.std.specs.Prelude.{ℕ, zero, suc, Bool, true, cond, ◌&&◌, ◌||◌, not, List, [], ◌∷◌, length, get_or, leb, eqb, Option, Some, None, Result}
 use Rattle.wire.specs.Told.{ToldMore, told_by, given, refused, and_then}
 use Rattle.proto_field.specs.declared.value.Part.{Part}
 use Rattle.proto_field.specs.Unsigned.{unsigned_of}
@@ -43,7 +43,8 @@ profiled broken refuse rest = cond (eqb broken 0) rest (refuse (50, broken ∷ [
 
 -- that field, where there is one
 abbrev pub field_told : ℕ → Option ℕ
-field_told broken = cond (eqb broken 0) None (Some broken)
+field_told zero = None
+field_told (suc n) = Some (suc n)
 
 -- ---- reading
 -- what a refusal tells: the profile's 50 with the field of which a rule is broken

@@ -5,7 +5,6 @@ use Rattle.wire.specs.Told.{ToldMore, given, refused, line, table, WrittenOf, wr
 use Rattle.proto_writer.specs.Writer.{Field, scalar, text, message_bytes}
 use Rattle.proto_schema.specs.Schema.{component_name_field, component_offset_field, segment_size_field, segment_signature_field}
 use Rattle.msg_segment_writer.specs.declared.SegmentWrote.{SegmentWrote}
-use Rattle.msg_segment_writer.specs.declared.SegmentWrote.TheVariants as SegmentWrote
 use Rattle.proto_strings.specs.Texts.{first_fault, faulted}
 use Rattle.msg_firmware.specs.Segment.{broken_field, profiled}
 

@@ -11,7 +11,7 @@ ghost use Rattle.msg_segment_writer.specs.Segment.{segment_strings, segment_fiel
 ghost use Rattle.proto_strings.specs.Texts.{first_fault};
 
 use msg_firmware::segment::broken_field;
-use proto_schema::{COMPONENT_NAME, NO_FIELD, SEGMENT_SIGNATURE, SEGMENT_SIZE};
+use proto_schema::{COMPONENT_NAME, SEGMENT_SIGNATURE, SEGMENT_SIZE};
 use proto_strings::TextFault;
 use proto_writer::fields::{put_scalar, put_text, scalar_len, text_len};
 use proto_writer::message::Room;
@@ -93,9 +93,8 @@ fn fill_segment(
         ≡ segment_filled component_name.now component_offset segment_size
         segment_signature.now out.old }
 {
-    let broken = broken_field(component_offset, segment_signature);
-    if broken != NO_FIELD {
-        return SegmentWrote::Profile(broken);
+    if let Some(field) = broken_field(component_offset, segment_signature) {
+        return SegmentWrote::Profile(field);
     }
     match segment_room(out.len(), component_name, segment_size, segment_signature) {
         Room::Short => SegmentWrote::NoRoom,
