@@ -7,7 +7,7 @@ ghost use Rattle.c_rows.specs.Row.{afterwards};
 ghost use Rattle.c_firmware_rows.specs.Apply.{row_size, answer_size, first_component, component_row, component_rows, head_row, apply_row, part_at, component_at, components_at, apply_at, wide_at, any_wide, bad_row};
 
 use crate::segment::is_wide;
-use c_message_rows::convert::fault_in;
+use c_message_rows::convert::fault_of;
 use c_rows::row::{UNFIT, fill, number_at};
 use msg_firmware::apply::ApplyFirmware;
 use msg_firmware::component::FirmwareComponent;
@@ -84,13 +84,21 @@ pub fn put_apply(row: &mut [u64], number: u64, read: Result<ApplyFirmware, Messa
     requires { length row.old ≡ answer_size }
     ensures { row.new ≡ afterwards number row.old (apply_row (told_apply read)) }
 {
-    if number != UNFIT {
-        let fault = fault_in(&read);
-        let apply = read.unwrap_or(ApplyFirmware::none());
-        let head = head_row(apply);
-        fill(row, 0, &head);
-        fill_components(row, apply.firmware_information.components);
-        fill(row, APPLY_ROW, &fault);
+    if number == UNFIT {
+        return;
+    }
+    match read {
+        Ok(apply) => {
+            let head = head_row(apply);
+            fill(row, 0, &head);
+            fill_components(row, apply.firmware_information.components);
+            fill(row, APPLY_ROW, &[0u64; 2]);
+        }
+        Err(why) => {
+            fill(row, 0, &[0u64; 57]);
+            let fault = fault_of(why);
+            fill(row, APPLY_ROW, &fault);
+        }
     }
 }
 

@@ -2,12 +2,10 @@
 // message as our writers write it.
 #![tactic(auto)]
 
-ghost use Rattle.std.specs.Prelude.{◌≡◌, ◌+◌, ◌≤◌, length};
-ghost use Rattle.proto_field.specs.Value.{bytes_of};
+ghost use Rattle.std.specs.Prelude.{◌≤◌, length};
 ghost use Rattle.proto_writer.specs.Message.{wrote_size};
 ghost use Rattle.proto_strings.specs.Texts.{text_wrote_size};
 
-use proto_field::value::Part;
 use proto_strings::TextWrote;
 use proto_writer::message::Wrote;
 use std::io::Stdout;
@@ -46,14 +44,4 @@ pub fn show_text(to: Stdout, wrote: TextWrote, out: &[u8])
         TextWrote::BadText { field: _, place: _ } => refuse(to, BAD_TEXT),
         TextWrote::Done(n) => show(to, Wrote::Done(n), out),
     }
-}
-
-// The bytes of a part.
-pub fn bytes_of(message: &[u8], part: Part) -> &[u8]
-    requires { part.start + part.len ≤ length message.now }
-    ensures { result.now ≡ bytes_of message.now part }
-{
-    let start = part.start;
-    let end = start + part.len;
-    &message[start..end]
 }

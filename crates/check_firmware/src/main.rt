@@ -6,15 +6,15 @@
 ghost use Rattle.std.specs.Prelude.{◌≤◌, length};
 ghost use Rattle.msg_segment_writer.specs.Segment.{segment_wrote_size};
 
-use check_answering::{NO_KIND, TOO_LONG, bytes_of, refuse, show, show_text};
+use check_answering::{NO_KIND, TOO_LONG, refuse, show, show_text};
 use cli_console::read_quietly;
 use msg_apply_writer::apply::write_apply;
 use msg_firmware::apply::read_apply;
-use msg_firmware::segment::{SegmentRead, read_segment};
+use msg_firmware::segment::read_segment;
 use msg_segment_writer::{SegmentWrote, write_segment};
-use proto_reader::refusal::WalkVerdict;
 use proto_writer::message::Wrote;
 use std::io::Stdout;
+use wire::refusal::Numbered;
 
 const SEGMENT: u8 = b'S';
 
@@ -35,19 +35,15 @@ fn show_segment(to: Stdout, wrote: SegmentWrote, out: &[u8])
 }
 
 fn segment_again(to: Stdout, message: &[u8], out: &mut [u8]) {
-    let read = read_segment(message);
-    match read {
-        SegmentRead::Refused(e) => refuse(to, e.number()),
-        SegmentRead::Profile(_) => refuse(to, read.number()),
-        SegmentRead::Read(s) => {
-            let name = s.component_name;
-            let signature = s.segment_signature;
+    match read_segment(message) {
+        Err(why) => refuse(to, why.number()),
+        Ok(segment) => {
             let wrote = write_segment(
                 out,
-                bytes_of(message, name),
-                s.component_offset,
-                s.segment_size,
-                bytes_of(message, signature),
+                segment.component_name.of(message),
+                segment.component_offset,
+                segment.segment_size,
+                segment.segment_signature.of(message),
             );
             show_segment(to, wrote, out);
         }
@@ -55,12 +51,9 @@ fn segment_again(to: Stdout, message: &[u8], out: &mut [u8]) {
 }
 
 fn apply_again(to: Stdout, message: &[u8], out: &mut [u8]) {
-    let read = read_apply(message);
-    let verdict = read.verdict;
-    match verdict {
-        WalkVerdict::Refused(e) => refuse(to, e.number()),
-        WalkVerdict::Fine => {
-            let apply = read.apply;
+    match read_apply(message) {
+        Err(why) => refuse(to, why.number()),
+        Ok(apply) => {
             let wrote = write_apply(out, apply, message);
             show_text(to, wrote, out);
         }

@@ -1,7 +1,7 @@
 // ApplyFirmware: the firmware that is to be used, and whether to restart.
 ghost use Rattle.std.specs.Prelude.{◌≡◌, ◌+◌, ◌≤◌, length, IfOk};
 ghost use Rattle.msg_firmware.specs.Information.{told_firmware};
-ghost use Rattle.msg_firmware.specs.Apply.{firmware_in, apply_of, no_apply, told_apply, InsideMessage};
+ghost use Rattle.msg_firmware.specs.Apply.{firmware_in, apply_of, told_apply, InsideMessage};
 
 use crate::information::{FirmwareInformation, firmware_from};
 use proto_field::value::Part;
@@ -13,18 +13,6 @@ use proto_schema::{FIRST, Schema};
 pub struct ApplyFirmware {
     pub firmware_information: FirmwareInformation,
     pub restart_required: bool,
-}
-
-impl ApplyFirmware {
-    // The empty one: what rows tell of a message that is refused.
-    pub fn none() -> Self
-        ensures { result ≡ no_apply }
-    {
-        ApplyFirmware {
-            firmware_information: FirmwareInformation::none(),
-            restart_required: false,
-        }
-    }
 }
 
 // The firmware information within a part of the message.

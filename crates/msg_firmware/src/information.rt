@@ -3,7 +3,7 @@ ghost use Rattle.std.specs.Prelude.{◌≡◌, ◌+◌, ◌≤◌, length};
 ghost use Rattle.proto_field.specs.Fields.{told_found};
 ghost use Rattle.proto_reader.specs.Gathered.{most_repeated};
 ghost use Rattle.msg_firmware.specs.Component.{told_component};
-ghost use Rattle.msg_firmware.specs.Information.{part_of_component, part_told, parts_from, is_other, component_of, laid, ComponentOnward, component_in, components_from, firmware_made, firmware_from, no_firmware, told_components, told_firmware};
+ghost use Rattle.msg_firmware.specs.Information.{part_of_component, part_told, parts_from, is_other, component_of, laid, ComponentOnward, component_in, components_from, firmware_made, firmware_from, told_components, told_firmware};
 
 use crate::component::{FirmwareComponent, component_from};
 use proto_field::Refusal;
@@ -95,24 +95,6 @@ fn components_from(message: &[u8], from: usize) -> Result<[FirmwareComponent; 8]
         at = component.next;
     }
     Ok(components)
-}
-
-impl FirmwareInformation {
-    // An empty one.
-    pub(crate) fn none() -> FirmwareInformation
-        ensures { result ≡ no_firmware }
-    {
-        let part = Part { start: 0, len: 0 };
-        let component = FirmwareComponent::none();
-        FirmwareInformation {
-            version: 0,
-            name: part,
-            components: [component; 8],
-            count: 0,
-            locale: part,
-            version_name: part,
-        }
-    }
 }
 
 // The information that was gathered, with its components.
