@@ -14,7 +14,7 @@ ghost use Rattle.reply.specs.Put.{told, verdict_of, judged_of, FrontFor, Measure
 use ble_joined::{join, joined_len};
 use ble_packet::header;
 use ble_sender::writer::{Sending, room_fits};
-use msg_control::envelope::{EnvelopeRead, Payload, read_envelope};
+use msg_control::envelope::{Payload, read_envelope};
 use msg_control::response::ResponsePayload;
 use msg_device::features::DeviceFeatures;
 use proto_field::signed::sign_extended;
@@ -370,8 +370,8 @@ pub fn write_reply(
         members) link message.now out.old }
 {
     match read_envelope(&message[..]) {
-        EnvelopeRead::Refused(e) => Reply::Refused(Refusal::Message(e)),
-        EnvelopeRead::Read(envelope) => {
+        Err(e) => Reply::Refused(Refusal::Message(e)),
+        Ok(envelope) => {
             let payload = envelope.payload;
             if is_response(payload) {
                 return Reply::Silent;

@@ -12,22 +12,22 @@ unfolding replied_of
 returns-then-is_response c =
     rw (
       ← c.read_envelope.ensures.result_value,
-      c.in-Read.is,
+      c.in-Ok.is,
       ← c.is_response.ensures,
       c.if-is_response.true,
     )
 
-pub returns-in-Refused : goal.returns-in-Refused
+pub returns-in-Err : goal.returns-in-Err
 unfolding replied_of
-returns-in-Refused c = rw (← c.read_envelope.ensures.result_value, c.in-Refused.is)
+returns-in-Err c = rw (← c.read_envelope.ensures.result_value, c.in-Err.is)
 
 pub returns-else-is_response : goal.returns-else-is_response
 unfolding replied_of
 returns-else-is_response c =
-    let v = c.sign_extended-value.ensures ∙ ap extended (to_z-of_z {w = w32} {z = c.in-Read.envelope.command} (search rules)) in
+    let v = c.sign_extended-value.ensures ∙ ap extended (to_z-of_z {w = w32} {z = c.in-Ok.envelope.command} (search rules)) in
     rw (
       ← c.read_envelope.ensures.result_value,
-      c.in-Read.is,
+      c.in-Ok.is,
       ← c.is_response.ensures,
       c.if-is_response.false,
     )
