@@ -12,6 +12,7 @@ use proto_reader::gathered::MOST_TRANSPORTS;
 use reply::{Link, Refusal, Reply};
 use reply_parts::body::Members;
 use wire::bytes::wide64;
+use wire::refusal::Numbered;
 
 // A number above 255 counts as one that is out of range.
 pub fn link_for(room: u64, limit: u64, id: u64, sequence: u64) -> Link
