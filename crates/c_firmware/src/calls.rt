@@ -5,9 +5,9 @@ ghost use Rattle.c_firmware.specs.Calls.{segment_read_of, segment_write_of, appl
 
 use c_firmware_rows::apply::{APPLY_ANSWER, APPLY_ROW, apply_at, bad_row, put_apply};
 use c_firmware_rows::field_row::{FIELD_ANSWER, found_row};
-use c_firmware_rows::segment::{SEGMENT_ANSWER, is_wide, segment_number, segment_row};
-use c_message_rows::convert::{WROTE_ANSWER, tell_wrote, verdict_number};
-use c_rows::row::{UNFIT, put};
+use c_firmware_rows::segment::{SEGMENT_ANSWER, is_wide, segment_row};
+use c_message_rows::convert::{WROTE_ANSWER, tell_wrote};
+use c_rows::row::{UNFIT, number_of_result, put};
 use msg_apply_writer::apply::write_apply;
 use msg_firmware::apply::read_apply;
 use msg_firmware::segment::read_segment;
@@ -27,7 +27,7 @@ pub fn segment_read(message: &[u8], answer: &mut [u64]) -> u64
         return UNFIT;
     }
     let read = read_segment(message);
-    let number = segment_number(read);
+    let number = number_of_result(&read);
     let row = segment_row(read);
     put(answer, number, &row);
     number
@@ -73,10 +73,8 @@ pub fn apply_read(message: &[u8], answer: &mut [u64]) -> u64
         return UNFIT;
     }
     let read = read_apply(message);
-    let verdict = read.verdict;
-    let apply = read.apply;
-    let number = verdict_number(verdict);
-    put_apply(answer, number, verdict, apply);
+    let number = number_of_result(&read);
+    put_apply(answer, number, read);
     number
 }
 

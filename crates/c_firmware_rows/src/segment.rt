@@ -1,13 +1,12 @@
 // UpdateComponentSegment: what its reader tells, as a row.
-ghost use Rattle.std.specs.Prelude.{◌≡◌, ◌++◌, replicate};
-ghost use Rattle.proto_reader.specs.Refusal.{why_of, number_more};
-ghost use Rattle.msg_firmware.specs.Segment.{told_segment};
+ghost use Rattle.std.specs.Prelude.{◌≡◌};
+ghost use Rattle.msg_firmware.specs.Segment.{segment_why, told_segment};
 ghost use Rattle.c_message_rows.specs.Convert.{fault_of};
 ghost use Rattle.c_firmware_rows.specs.More.{is_wide};
 ghost use Rattle.c_firmware_rows.specs.Segment.{segment_row};
 
-use msg_firmware::segment::SegmentRead;
-use proto_reader::refusal::MessageRefusal;
+use c_message_rows::convert::fault_of;
+use msg_firmware::segment::{SegmentRefusal, UpdateComponentSegment};
 use wire::bytes::wide64;
 
 // The numbers of the answer row.
@@ -23,28 +22,21 @@ pub fn is_wide(n: u64) -> bool
     !(n < COUNT_32)
 }
 
-pub fn segment_number(read: SegmentRead) -> u64
-    ensures { result ≡ number_more (told_segment read) }
-{
-    wide64(read.number())
-}
-
-fn refused_row(why: MessageRefusal) -> [u64; 8]
-    ensures { result ≡ replicate 6 0 ++ fault_of (why_of why) }
+// The field and the place that go with a refusal.
+fn fault_of_segment(why: SegmentRefusal) -> [u64; 2]
+    ensures { result ≡ fault_of (segment_why why) }
 {
     match why {
-        MessageRefusal::Field(_) => [0u64; 8],
-        MessageRefusal::BadText { field, place } => [0, 0, 0, 0, 0, 0, field, place as u64],
+        SegmentRefusal::Message(why) => fault_of(why),
+        SegmentRefusal::Profile(field) => [field, 0],
     }
 }
 
-pub fn segment_row(read: SegmentRead) -> [u64; 8]
+pub fn segment_row(read: Result<UpdateComponentSegment, SegmentRefusal>) -> [u64; 8]
     ensures { result ≡ segment_row (told_segment read) }
 {
     match read {
-        SegmentRead::Refused(why) => refused_row(why),
-        SegmentRead::Profile(field) => [0, 0, 0, 0, 0, 0, field, 0],
-        SegmentRead::Read(segment) => {
+        Ok(segment) => {
             let name = segment.component_name;
             let signature = segment.segment_signature;
             [
@@ -57,6 +49,10 @@ pub fn segment_row(read: SegmentRead) -> [u64; 8]
                 0,
                 0,
             ]
+        }
+        Err(why) => {
+            let [field, place] = fault_of_segment(why);
+            [0, 0, 0, 0, 0, 0, field, place]
         }
     }
 }

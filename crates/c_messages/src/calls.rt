@@ -6,11 +6,10 @@ ghost use Rattle.c_messages.specs.Calls.{envelope_read_of, envelope_write_of, re
 
 use c_message_rows::convert::{
     ENVELOPE_ANSWER, FEATURES_ANSWER, INFORMATION_ANSWER, RESPONSE_ANSWER, WROTE_ANSWER,
-    all_signed, envelope_number, envelope_row, features_number, features_row, payload_for,
-    put_information, response_number, response_payload, response_row, signed_list, tell_wrote,
-    verdict_number,
+    all_signed, envelope_row, features_row, payload_for, put_information, response_payload,
+    response_row, signed_list, tell_wrote,
 };
-use c_rows::row::{COUNT_ANSWER, Count, UNFIT, put, tell};
+use c_rows::row::{COUNT_ANSWER, Count, UNFIT, number_of_result, put, tell};
 use msg_control::envelope::{read_envelope, write_envelope};
 use msg_control::response::{read_response, write_response};
 use msg_device::features::{DeviceFeatures, read_features, write_features};
@@ -29,7 +28,7 @@ pub fn envelope_read(message: &[u8], answer: &mut [u64]) -> u64
         return UNFIT;
     }
     let read = read_envelope(message);
-    let number = envelope_number(read);
+    let number = number_of_result(&read);
     let row = envelope_row(read);
     put(answer, number, &row);
     number
@@ -66,7 +65,7 @@ pub fn response_read(message: &[u8], answer: &mut [u64]) -> u64
         return UNFIT;
     }
     let read = read_response(message);
-    let number = response_number(read);
+    let number = number_of_result(&read);
     let row = response_row(read);
     put(answer, number, &row);
     number
@@ -100,7 +99,7 @@ pub fn features_read(message: &[u8], answer: &mut [u64]) -> u64
         return UNFIT;
     }
     let read = read_features(message);
-    let number = features_number(read);
+    let number = number_of_result(&read);
     let row = features_row(read);
     put(answer, number, &row);
     number
@@ -136,10 +135,8 @@ pub fn information_read(message: &[u8], answer: &mut [u64]) -> u64
         return UNFIT;
     }
     let read = read_information(message);
-    let verdict = read.verdict;
-    let information = read.information;
-    let number = verdict_number(verdict);
-    put_information(answer, number, verdict, information);
+    let number = number_of_result(&read);
+    put_information(answer, number, read);
     number
 }
 

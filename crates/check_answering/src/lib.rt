@@ -2,11 +2,9 @@
 // message as our writers write it.
 #![tactic(auto)]
 
-ghost use Rattle.std.specs.Prelude.{◌≡◌, ◌+◌, ◌≤◌, length};
-ghost use Rattle.proto_field.specs.Value.{bytes_of};
+ghost use Rattle.std.specs.Prelude.{◌≤◌, length};
 ghost use Rattle.proto_writer.specs.Message.{wrote_size};
 
-use proto_field::value::Part;
 use std::io::Stdout;
 use wire::refusal::Numbered;
 
@@ -32,12 +30,4 @@ pub fn show<E: Numbered>(to: Stdout, wrote: Result<usize, E>, out: &[u8])
     }
 }
 
-// The bytes of a part.
-pub fn bytes_of(message: &[u8], part: Part) -> &[u8]
-    requires { part.start + part.len ≤ length message.now }
-    ensures { result.now ≡ bytes_of message.now part }
-{
-    let start = part.start;
-    let end = start + part.len;
-    &message[start..end]
 }

@@ -1,6 +1,6 @@
 // The cases of control messages, P10 and P11.
 use check_printing::{bytes, digits, end, refused, text};
-use msg_control::envelope::{Envelope, EnvelopePayload, EnvelopeRead, Payload, write_envelope};
+use msg_control::envelope::{Envelope, EnvelopePayload, Payload, write_envelope};
 use proto_field::signed::sign_extended;
 use std::io::Stdout;
 use std::num::wrapping_sub_u64;
@@ -56,8 +56,8 @@ fn print_envelope(to: Stdout, envelope: Envelope) {
 fn read_envelope(to: Stdout, label: &[u8], message: &[u8]) {
     text(to, label);
     match msg_control::envelope::read_envelope(message) {
-        EnvelopeRead::Read(envelope) => print_envelope(to, envelope),
-        EnvelopeRead::Refused(_) => text(to, b" refused"),
+        Ok(envelope) => print_envelope(to, envelope),
+        Err(_) => text(to, b" refused"),
     }
     end(to);
 }

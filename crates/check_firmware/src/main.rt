@@ -3,14 +3,14 @@
 // input that is too long.
 #![tactic(auto)]
 
-use check_answering::{NO_KIND, TOO_LONG, bytes_of, refuse, show};
+use check_answering::{NO_KIND, TOO_LONG, refuse, show};
 use cli_console::read_quietly;
 use msg_apply_writer::apply::write_apply;
 use msg_firmware::apply::read_apply;
-use msg_firmware::segment::{SegmentRead, read_segment};
+use msg_firmware::segment::read_segment;
 use msg_segment_writer::write_segment;
-use proto_reader::refusal::WalkVerdict;
 use std::io::Stdout;
+use wire::refusal::Numbered;
 
 const SEGMENT: u8 = b'S';
 
@@ -19,19 +19,15 @@ const APPLY: u8 = b'A';
 const INPUT: usize = 8194;
 
 fn segment_again(to: Stdout, message: &[u8], out: &mut [u8]) {
-    let read = read_segment(message);
-    match read {
-        SegmentRead::Refused(e) => refuse(to, e.number()),
-        SegmentRead::Profile(_) => refuse(to, read.number()),
-        SegmentRead::Read(s) => {
-            let name = s.component_name;
-            let signature = s.segment_signature;
+    match read_segment(message) {
+        Err(why) => refuse(to, why.number()),
+        Ok(segment) => {
             let wrote = write_segment(
                 out,
-                bytes_of(message, name),
-                s.component_offset,
-                s.segment_size,
-                bytes_of(message, signature),
+                segment.component_name.of(message),
+                segment.component_offset,
+                segment.segment_size,
+                segment.segment_signature.of(message),
             );
             show(to, wrote, out);
         }
@@ -39,12 +35,9 @@ fn segment_again(to: Stdout, message: &[u8], out: &mut [u8]) {
 }
 
 fn apply_again(to: Stdout, message: &[u8], out: &mut [u8]) {
-    let read = read_apply(message);
-    let verdict = read.verdict;
-    match verdict {
-        WalkVerdict::Refused(e) => refuse(to, e.number()),
-        WalkVerdict::Fine => {
-            let apply = read.apply;
+    match read_apply(message) {
+        Err(why) => refuse(to, why.number()),
+        Ok(apply) => {
             let wrote = write_apply(out, apply, message);
             show(to, wrote, out);
         }

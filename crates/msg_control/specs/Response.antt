@@ -1,15 +1,14 @@
 -- The response: an error code, and any other length-delimited field as its optional payload.
-use Rattle.std.specs.Prelude.{ℕ, Bool, false, List, [], ◌∷◌, ℤ, get_or, Option, Some, None}
-use Rattle.wire.specs.Told.{Told, given, refused, and_then, Written}
+use Rattle.std.specs.Prelude.{ℕ, Bool, false, List, [], ◌∷◌, ℤ, get_or, Option, Some, None, Result}
+use Rattle.wire.specs.Told.{Told, told_by, given, and_then, Written}
 use Rattle.proto_field.specs.Signed.{signed_of, extended}
 use Rattle.proto_writer.specs.Writer.{Field, scalar, nested}
 use Rattle.proto_field.specs.declared.value.Part.{Part}
 use Rattle.proto_reader.specs.declared.gathered.Gathered.{Gathered}
 use Rattle.proto_schema.specs.declared.Schema.TheVariants as Schema
 use Rattle.msg_control.specs.declared.response.Response.{Response}
-use Rattle.msg_control.specs.declared.response.ResponseRead.{ResponseRead}
-use Rattle.msg_control.specs.declared.response.ResponseRead.TheVariants.{Read, Refused}
 use Rattle.proto_schema.specs.Schema.{error_code_field, first}
+use Rattle.proto_reader.specs.declared.refusal.MessageRefusal.{MessageRefusal}
 use Rattle.proto_reader.specs.Refusal.{message_number, numbered}
 use Rattle.proto_reader.specs.Walk.{fields_from}
 use Rattle.proto_writer.specs.Message.{writes_message, bad_member}
@@ -23,9 +22,8 @@ unfoldable pub response_from : List ℕ → ℕ → Told Response
 response_from s at = and_then (numbered (fields_from Schema.Response s at)) (λ g. given (response_made g))
 
 -- the answers of response_from and read_response
-abbrev pub told_response : ResponseRead → Told Response
-told_response (Read r) = given r
-told_response (Refused e) = refused (message_number e)
+abbrev pub told_response : Result Response MessageRefusal → Told Response
+told_response = told_by message_number
 
 -- the part that a response tells
 abbrev pub response_parts : Response → List Part

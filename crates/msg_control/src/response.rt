@@ -10,7 +10,7 @@ ghost use Rattle.proto_writer.specs.Message.{told_wrote};
 use proto_field::signed::{low_signed, sign_extended};
 use proto_field::value::Part;
 use proto_reader::reader::read_fields;
-use proto_reader::refusal::{MessageRefusal, WalkVerdict};
+use proto_reader::refusal::MessageRefusal;
 use proto_schema::{ERROR_CODE, FIRST, Schema};
 use proto_writer::fields::{part_len, put_part, put_scalar, scalar_len};
 use proto_writer::message::{WriteRefusal, bad_member};
@@ -23,35 +23,22 @@ pub struct Response {
     pub part: Part,
 }
 
-#[derive(Clone, Copy)]
-pub enum ResponseRead {
-    Read(Response),
-    Refused(MessageRefusal),
-}
-
 // The response from a place to the end.
-pub(crate) fn response_from(message: &[u8], at: usize) -> ResponseRead
+#[tactic(auto, unfolding(crate::specs::Response::response_from))]
+pub(crate) fn response_from(message: &[u8], at: usize) -> Result<Response, MessageRefusal>
     ensures result_value { told_response result ≡ response_from message.now at }
     ensures tells_within { TellsWithin message.now response_parts (told_response result) }
 {
-    let kept = read_fields(Schema::Response, message, at);
-    let verdict = kept.verdict;
-    let gathered = kept.gathered;
-    match verdict {
-        WalkVerdict::Refused(e) => ResponseRead::Refused(e),
-        WalkVerdict::Fine => {
-            let part = gathered.part;
-            ResponseRead::Read(Response {
-                error_code: low_signed(gathered.scalars[FIRST]),
-                field: gathered.field,
-                part,
-            })
-        }
-    }
+    let gathered = read_fields(Schema::Response, message, at)?;
+    Ok(Response {
+        error_code: low_signed(gathered.scalars[FIRST]),
+        field: gathered.field,
+        part: gathered.part,
+    })
 }
 
 // A response by itself.
-pub fn read_response(message: &[u8]) -> ResponseRead
+pub fn read_response(message: &[u8]) -> Result<Response, MessageRefusal>
     ensures result_value { told_response result ≡ response_from message.now 0 }
     ensures tells_within { TellsWithin message.now response_parts (told_response result) }
 {

@@ -1,18 +1,18 @@
 // Device information.
-ghost use Rattle.std.specs.Prelude.{◌≡◌, ◌≤◌, length, ltb, Some};
+ghost use Rattle.std.specs.Prelude.{◌≡◌, ◌≤◌, length, ltb, Some, IfOk};
 ghost use Rattle.wire.specs.Told.{written};
 ghost use Rattle.wire.specs.Put.{Put};
 ghost use Rattle.proto_writer.specs.Writer.{message_bytes};
 ghost use Rattle.proto_reader.specs.Gathered.{most_transports};
-ghost use Rattle.proto_reader.specs.Refusal.{Strings};
-ghost use Rattle.msg_device.specs.Information.{information_of, told_information, with_information, information_parts, strings_to_write, fields_to_write, information_to_write};
+ghost use Rattle.proto_reader.specs.Refusal.{TellsStrings};
+ghost use Rattle.msg_device.specs.Information.{no_information, information_of, told_information, information_parts, strings_to_write, fields_to_write, information_to_write};
 ghost use Rattle.proto_writer.specs.Message.{writes_message, told_wrote, less_room};
 ghost use Rattle.proto_strings.specs.Texts.{first_fault, told_text_wrote};
 
 use proto_field::value::Part;
 use proto_reader::gathered::MOST_TRANSPORTS;
 use proto_reader::reader::read_fields;
-use proto_reader::refusal::WalkVerdict;
+use proto_reader::refusal::MessageRefusal;
 use proto_schema::{DEVICE_TYPE, FIRST, NAME, SECOND, SERIAL_NUMBER, Schema, THIRD, TRANSPORTS};
 use proto_strings::{TextFault, TextWriteRefusal, check_text};
 use proto_writer::fields::{packed_len, put_packed, put_text, text_len};
@@ -28,53 +28,37 @@ pub struct DeviceInformation {
     pub device_type: Part,
 }
 
-// The information stands beside the verdict: an enum cannot hold an array.
-#[derive(Drop)]
-pub struct InformationRead {
-    pub verdict: WalkVerdict,
-    pub information: DeviceInformation,
+impl DeviceInformation {
+    // The empty one: what rows tell of information that is refused.
+    pub fn none() -> Self
+        ensures { result ≡ no_information }
+    {
+        let none = Part { start: 0, len: 0 };
+        DeviceInformation {
+            serial_number: none,
+            name: none,
+            transports: [0i32; 8],
+            count: 0,
+            device_type: none,
+        }
+    }
 }
 
 // Device information.
-pub fn read_information(message: &[u8]) -> InformationRead
-    ensures result_value { told_information result ≡ with_information (information_of message.now) }
-    ensures strings { Strings message.now (information_parts result.information) }
-    ensures count_le_most_transports { result.information.count ≤ most_transports }
+#[tactic(auto, unfolding(crate::specs::Information::information_of))]
+pub fn read_information(message: &[u8]) -> Result<DeviceInformation, MessageRefusal>
+    ensures result_value { told_information result ≡ information_of message.now }
+    ensures tells_strings { TellsStrings message.now information_parts (told_information result) }
+    ensures count_le_most_transports { IfOk result (λ i. i.count ≤ most_transports) }
 {
-    let kept = read_fields(Schema::Information, message, 0);
-    let verdict = kept.verdict;
-    match verdict {
-        WalkVerdict::Refused(e) => {
-            let none = Part { start: 0, len: 0 };
-            InformationRead {
-                verdict: WalkVerdict::Refused(e),
-                information: DeviceInformation {
-                    serial_number: none,
-                    name: none,
-                    transports: [0i32; 8],
-                    count: 0,
-                    device_type: none,
-                },
-            }
-        }
-        WalkVerdict::Fine => {
-            let gathered = kept.gathered;
-            let serial_number = gathered.texts[FIRST];
-            let name = gathered.texts[SECOND];
-            let transports = gathered.transports;
-            let device_type = gathered.texts[THIRD];
-            InformationRead {
-                verdict: WalkVerdict::Fine,
-                information: DeviceInformation {
-                    serial_number,
-                    name,
-                    transports,
-                    count: gathered.count,
-                    device_type,
-                },
-            }
-        }
-    }
+    let gathered = read_fields(Schema::Information, message, 0)?;
+    Ok(DeviceInformation {
+        serial_number: gathered.texts[FIRST],
+        name: gathered.texts[SECOND],
+        transports: gathered.transports,
+        count: gathered.count,
+        device_type: gathered.texts[THIRD],
+    })
 }
 
 // What device information is written of; its strings and transports are lent.

@@ -11,7 +11,7 @@ ghost use Rattle.msg_segment_writer.specs.declared.SegmentWriteRefusal.TheVarian
 ghost use Rattle.proto_strings.specs.Texts.{first_fault};
 
 use msg_firmware::segment::broken_field;
-use proto_schema::{COMPONENT_NAME, NO_FIELD, SEGMENT_SIGNATURE, SEGMENT_SIZE};
+use proto_schema::{COMPONENT_NAME, SEGMENT_SIGNATURE, SEGMENT_SIZE};
 use proto_strings::{BAD_TEXT, Faulted, TextFault, check_text};
 use proto_writer::fields::{put_scalar, put_text, scalar_len, text_len};
 use wire::refusal::Numbered;
@@ -109,9 +109,8 @@ fn fill_segment(
         ≡ segment_filled component_name.now component_offset segment_size
         segment_signature.now out.old }
 {
-    let broken = broken_field(component_offset, segment_signature);
-    if broken != NO_FIELD {
-        return Err(SegmentWriteRefusal::Profile(broken));
+    if let Some(field) = broken_field(component_offset, segment_signature) {
+        return Err(SegmentWriteRefusal::Profile(field));
     }
     if segment_room(out.len(), component_name, segment_size, segment_signature).is_none() {
         return Err(SegmentWriteRefusal::NoRoom);

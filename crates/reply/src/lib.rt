@@ -15,7 +15,7 @@ ghost use Rattle.reply.specs.Put.{why_of, number_of, told, told_sent, verdict_of
 use ble_joined::{join, joined_len};
 use ble_packet::header;
 use ble_sender::writer::{Sending, room_fits};
-use msg_control::envelope::{EnvelopeRead, Payload, read_envelope};
+use msg_control::envelope::{Payload, read_envelope};
 use proto_field::signed::sign_extended;
 use proto_reader::gathered::MOST_TRANSPORTS;
 use proto_reader::refusal::MessageRefusal;
@@ -264,8 +264,8 @@ pub fn write_reply(
         ≡ replied_of (box_lent own.entry) link message.now out.old }
 {
     match read_envelope(&message[..]) {
-        EnvelopeRead::Refused(e) => Err(Refusal::Message(e)),
-        EnvelopeRead::Read(envelope) => {
+        Err(e) => Err(Refusal::Message(e)),
+        Ok(envelope) => {
             let payload = envelope.payload;
             if is_response(payload) {
                 return Ok(None);

@@ -13,38 +13,38 @@ unfolding replied_of
 returns-then-is_response c =
     rw (
       ← c.read_envelope.ensures.result_value,
-      c.in-Read.is,
+      c.in-Ok.is,
       ← c.is_response.ensures,
       c.if-is_response.true,
     )
 
-pub returns-in-Refused : goal.returns-in-Refused
+pub returns-in-Err : goal.returns-in-Err
 unfolding replied_of
-returns-in-Refused c = rw (← c.read_envelope.ensures.result_value, c.in-Refused.is)
+returns-in-Err c = rw (← c.read_envelope.ensures.result_value, c.in-Err.is)
 
-pub returns-in_err-answer-in-Read : goal.returns-in_err-answer-in-Read
+pub returns-in_err-answer-in-Ok : goal.returns-in_err-answer-in-Ok
 unfolding replied_of
-returns-in_err-answer-in-Read c =
-    let v = c.sign_extended-value.ensures ∙ ap extended (to_z-of_z {w = w32} {z = c.in-Read.envelope.command} (search rules)) in
+returns-in_err-answer-in-Ok c =
+    let v = c.sign_extended-value.ensures ∙ ap extended (to_z-of_z {w = w32} {z = c.in-Ok.envelope.command} (search rules)) in
     let p = err_from_is_err_and c.from_residual.result c.from_residual.ensures.1 in
     rw (
       p.1,
       p.2,
       ← c.read_envelope.ensures.result_value,
-      c.in-Read.is,
+      c.in-Ok.is,
       ← c.is_response.ensures,
       c.if-is_response.false,
     )
-    (c.in_err-answer-in-Read.ensures ∙ ap (λ (n : ℕ). sent_of (box_lent c.args.own) c.args.link n c.args.out.now) v)
+    (c.in_err-answer-in-Ok.ensures ∙ ap (λ (n : ℕ). sent_of (box_lent c.args.own) c.args.link n c.args.out.now) v)
 
-pub returns-in_ok-answer-in-Read : goal.returns-in_ok-answer-in-Read
+pub returns-in_ok-answer-in-Ok : goal.returns-in_ok-answer-in-Ok
 unfolding replied_of
-returns-in_ok-answer-in-Read c =
-    let v = c.sign_extended-value.ensures ∙ ap extended (to_z-of_z {w = w32} {z = c.in-Read.envelope.command} (search rules)) in
+returns-in_ok-answer-in-Ok c =
+    let v = c.sign_extended-value.ensures ∙ ap extended (to_z-of_z {w = w32} {z = c.in-Ok.envelope.command} (search rules)) in
     rw (
       ← c.read_envelope.ensures.result_value,
-      c.in-Read.is,
+      c.in-Ok.is,
       ← c.is_response.ensures,
       c.if-is_response.false,
     )
-    (c.in_ok-answer-in-Read.ensures ∙ ap (λ (n : ℕ). sent_of (box_lent c.args.own) c.args.link n c.args.out.now) v)
+    (c.in_ok-answer-in-Ok.ensures ∙ ap (λ (n : ℕ). sent_of (box_lent c.args.own) c.args.link n c.args.out.now) v)
