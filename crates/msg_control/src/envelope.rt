@@ -7,9 +7,7 @@ ghost use Rattle.proto_writer.specs.Writer.{message_bytes};
 ghost use Rattle.msg_control.specs.Envelope.{payload_of, told_payload, envelope_of, told_envelope, payload_parts, envelope_parts, bad_payload, payload_fields, envelope_written};
 ghost use Rattle.proto_writer.specs.Message.{told_wrote};
 
-use crate::response::{
-    Response, bad_response_payload, put_response, response_from, response_len,
-};
+use crate::response::{Response, bad_response_payload, put_response, response_from, response_len};
 use proto_field::signed::{low_signed, sign_extended};
 use proto_field::value::Part;
 use proto_reader::gathered::Gathered;
