@@ -25,7 +25,8 @@ struct StartBits {
     extended: bool,
 }
 
-// What a packet says: start and len are its payload's place in the packet.
+// What a packet says: start and len are its payload's place in the packet. No struct beside each variant: `act_of` of ble_slot_steps,
+// `slot_step` of capture_stream and the claims above them name each value by the variant alone.
 #[derive(Clone, Copy)]
 pub enum Packet {
     First {
