@@ -2,7 +2,8 @@
 use Rattle.std.specs.Prelude.{ℕ, ◌+◌, List, [], ◌∷◌, Bool, true, false, not, cond, ◌&&◌, ◌||◌, length, get_or, drop, ltb, eqb, Result}
 use Rattle.wire.specs.Told.{Told, told_by, given, refused, Line, line, table}
 use Rattle.wire.specs.Bytes.{pair_of}
-use Rattle.wire.specs.Stream.{is_stream, stream_of}
+use Rattle.wire.specs.declared.stream.Stream.{Stream}
+use Rattle.wire.specs.Stream.{is_stream, stream_of, stream_number}
 use Rattle.ble_packet.specs.declared.reader.Head.{Head}
 use Rattle.ble_packet.specs.declared.reader.StartBits.{StartBits}
 use Rattle.ble_packet.specs.declared.reader.Packet.{Packet}
@@ -123,20 +124,15 @@ number_of AboveTotal = 8
 abbrev pub told : Result Packet Refusal → Told Packet
 told = told_by number_of
 
--- ---- what the code reads of bytes 0 and 1, but for the type
+-- ---- what the code reads of bytes 0 and 1 where the stream is known, but for the type
 
-abbrev pub start_bits_of : ℕ → ℕ → StartBits
-start_bits_of first second =
+abbrev pub start_bits_of : Stream → ℕ → ℕ → StartBits
+start_bits_of stream first second =
     record {
-      stream = stream_bits first;
-      id = id_bits first;
-      sequence = sequence_bits second;
+      head = record { stream = stream; id = id_bits first; sequence = sequence_bits second };
       ack = ack_bit second;
       extended = extender_bit second;
     }
 
-abbrev pub head_by : StartBits → Head
-head_by s = record { stream = stream_of s.stream; id = s.id; sequence = s.sequence }
-
 abbrev pub fields_by_start : List ℕ → ℕ → StartBits → PacketFields
-fields_by_start p kind s = fields_by p s.stream s.id s.sequence kind s.ack s.extended
+fields_by_start p kind s = fields_by p (stream_number s.head.stream) s.head.id s.head.sequence kind s.ack s.extended

@@ -13,7 +13,7 @@ use wire::bytes::pair;
 use wire::logic::{both, either};
 use wire::stream::Stream;
 
-// As C lays it out, in eight bytes. A flag is 0 or 1.
+// As C lays it out, in eight bytes (`pito_slot` of include/pitokaenge.h). A flag is 0 or 1.
 #[repr(C)]
 #[derive(Clone, Copy)]
 pub struct Slot {

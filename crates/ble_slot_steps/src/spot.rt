@@ -24,7 +24,7 @@ fn first_of(a: bool, b: bool, c: bool, d: bool) -> Option<usize>
     None
 }
 
-// Where an id is open.
+// Where an id is open. Not `iter().position`: the check found no proof that it is `spot_where`.
 pub fn find_open(lane: [Slot; 4], id: u8) -> Option<usize>
     ensures { result ≡ open_spot lane id }
 {
