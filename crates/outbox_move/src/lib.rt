@@ -71,7 +71,9 @@ fn copy_file(file: &[u8], out: &mut [u8]) -> Result<usize, MoveRefusal>
     Ok(n)
 }
 
-// Writes the records of a file in another version; the bytes written.
+// Writes the records of a file in another version; the bytes written. It is compiled into each of its calls, which give it
+// both versions as constants.
+#[inline(always)]
 fn rewrite(
     file: &[u8],
     own: FileVersion,
