@@ -119,7 +119,8 @@ fn put_marks(out: &mut [u8], place: usize, bytes: &[u8], i: usize) -> usize
     bytes.len()
 }
 
-// Writes a run, escaped, from a place, and returns the place after it.
+// Writes a run, escaped, from a place, and returns the place after it. A turn passes as many bytes as were plain and marks, so
+// no `for` fits.
 fn put_all(out: &mut [u8], at: usize, bytes: &[u8]) -> usize
     requires { at + length (escaped_of bytes.now) ≤ length out.old }
     ensures { (result ≡ at + length (escaped_of bytes.now))
