@@ -32,7 +32,7 @@ pub const ALL_USED: u64 = 0;
 
 pub const NOTHING: u64 = 0;
 
-// What a call answers: the number that it returns, and what the row tells.
+// What a call answers: the number that it returns, and what the row tells, both of the C interface.
 #[derive(Drop)]
 pub struct ClassicAnswer {
     pub number: u64,
@@ -41,6 +41,7 @@ pub struct ClassicAnswer {
     pub length: u64,
 }
 
+// The numbers of phases in the rows of the C interface. No impl of `From`: neither type is of this crate.
 fn phase_number(phase: Phase) -> u64
     ensures { result ≡ phase_number phase }
 {

@@ -23,7 +23,7 @@ const PENDING: u64 = 4;
 // The numbers of an answer row.
 pub const PART_ANSWER: usize = 3;
 
-// What a call answers: the number that it returns, and what the row tells.
+// What a call answers: the number that it returns, and what the row tells, both of the C interface.
 #[derive(Drop)]
 pub struct PartAnswer {
     pub number: u64,
@@ -32,6 +32,7 @@ pub struct PartAnswer {
     pub ended: u64,
 }
 
+// The numbers of stages and pending codes in the rows of the C interface. No impl of `From`: neither type is of this crate.
 fn stage_number(stage: Stage) -> u64
     ensures { result ≡ stage_number stage }
 {

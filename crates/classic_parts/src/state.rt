@@ -21,7 +21,8 @@ pub enum Stage {
 }
 
 // The frame's sequence, its payload's length, the payload bytes taken and their checksum, the stage, and the mark of which
-// only F2 is written (plain: none): its code comes before the stage's byte.
+// only F2 is written (plain: none): its code comes before the stage's byte. It is no option of a mark, since the states of the
+// theorem `PartsExample` have a `Kind` there.
 #[derive(Clone, Copy)]
 pub struct PartProgress {
     pub sequence: u8,

@@ -34,6 +34,13 @@ impl Numbered for Refusal {
     }
 }
 
+// The two bytes of a payload's checksum.
+#[derive(Clone, Copy)]
+struct Checksum {
+    high: u8,
+    low: u8,
+}
+
 // The bytes of a frame beside its payload, with each byte of the checksum escaped: header, checksum, end mark.
 const LARGEST_FRAMING: usize = 9;
 
@@ -57,10 +64,8 @@ fn escaped_size(bytes: &[u8]) -> usize
     ensures { (result ≡ length (escaped_of bytes.now)) × (result ≤ 131070) }
 {
     let mut marks: u16 = 0;
-    let mut i = 0;
-    while i < bytes.len() {
-        marks += extra(bytes[i]);
-        i += 1;
+    for b in bytes {
+        marks += extra(*b);
     }
     bytes.len() + marks as usize
 }
@@ -104,19 +109,18 @@ fn put_marks(out: &mut [u8], place: usize, bytes: &[u8], i: usize) -> usize
     ensures { Left bytes.now out.old place i out.new (place + 2 * (result - i)) result }
 {
     let mut at = place;
-    let mut end = i;
-    while end < bytes.len() {
+    for end in i..bytes.len() {
         let b = bytes[end];
         if !is_mark(b) {
             return end;
         }
         at = put_code(out, at, code_for(b));
-        end += 1;
     }
-    end
+    bytes.len()
 }
 
-// Writes a run, escaped, from a place, and returns the place after it.
+// Writes a run, escaped, from a place, and returns the place after it. A turn passes as many bytes as were plain and marks, so
+// no `for` fits.
 fn put_all(out: &mut [u8], at: usize, bytes: &[u8]) -> usize
     requires { at + length (escaped_of bytes.now) ≤ length out.old }
     ensures { (result ≡ at + length (escaped_of bytes.now))
@@ -149,28 +153,28 @@ fn put_header(out: &mut [u8], sequence: u8)
 }
 
 // Writes the frame of a payload and a checksum where there is room for it, and returns its length.
-fn put_frame(out: &mut [u8], sequence: u8, payload: &[u8], high: u8, low: u8) -> usize
-    requires { length (framed sequence (payload.now ++ (high ∷ low ∷ []))) ≤ length out.old }
-    ensures { (result ≡ length (framed sequence (payload.now ++ (high ∷ low ∷ []))))
-        × (out.new ≡ sets out.old 0 (framed sequence (payload.now ++ (high ∷ low ∷ [])))) }
+fn put_frame(out: &mut [u8], sequence: u8, payload: &[u8], sum: Checksum) -> usize
+    requires { length (framed sequence (payload.now ++ (sum.high ∷ sum.low ∷ []))) ≤ length out.old }
+    ensures { (result ≡ length (framed sequence (payload.now ++ (sum.high ∷ sum.low ∷ []))))
+        × (out.new ≡ sets out.old 0 (framed sequence (payload.now ++ (sum.high ∷ sum.low ∷ [])))) }
 {
     put_header(out, sequence);
     let after_payload = put_all(out, 4, payload);
-    let after_high = put_escaped(out, after_payload, high);
-    let after_low = put_escaped(out, after_high, low);
+    let after_high = put_escaped(out, after_payload, sum.high);
+    let after_low = put_escaped(out, after_high, sum.low);
     out[after_low] = Mark::END;
     after_low + 1
 }
 
 // Whether a frame fits: at once where there is room for it with each byte escaped, else by its size.
-fn has_room(sequence: u8, payload: &[u8], high: u8, low: u8, room: usize) -> bool
+fn has_room(sequence: u8, payload: &[u8], sum: Checksum, room: usize) -> bool
     requires { length payload.now ≤ 65535 }
-    ensures { result ≡ leb (length (framed sequence (payload.now ++ (high ∷ low ∷ [])))) room }
+    ensures { result ≡ leb (length (framed sequence (payload.now ++ (sum.high ∷ sum.low ∷ [])))) room }
 {
     if LARGEST_FRAMING + 2 * payload.len() <= room {
         return true;
     }
-    5 + escaped_size(payload) + width(high) + width(low) <= room
+    5 + escaped_size(payload) + width(sum.high) + width(sum.low) <= room
 }
 
 // Writes the frame of a payload, for a link with a limit in its range and a sequence that is no mark, and returns its length.
@@ -187,13 +191,15 @@ fn write_within(
     if limit < payload.len() {
         return Err(Refusal::BadArgument);
     }
-    let sum = checksum(payload);
-    let high = (sum / 256) as u8;
-    let low = (sum % 256) as u8;
-    if !has_room(sequence, payload, high, low, out.len()) {
+    let total = checksum(payload);
+    let sum = Checksum {
+        high: (total / 256) as u8,
+        low: (total % 256) as u8,
+    };
+    if !has_room(sequence, payload, sum, out.len()) {
         return Err(Refusal::NoRoom);
     }
-    Ok(put_frame(out, sequence, payload, high, low))
+    Ok(put_frame(out, sequence, payload, sum))
 }
 
 // Writes the frame of a payload, for a link with a limit, and returns its length. The sequence is looked at first: right

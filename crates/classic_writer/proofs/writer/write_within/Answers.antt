@@ -19,7 +19,7 @@ put_frame-requires c = leb-true _ _ (sym c.has_room.ensures ∙ c.if-not-has_roo
 
 pub returns : goal.returns
 returns c =
-    let fits : length (frame_of c.args.sequence c.args.payload.now) ≤ length c.args.out.now = rw (← c.checksum-sum.ensures.0) (leb-true _ _ (sym c.has_room.ensures ∙ c.if-not-has_room.false)) in
+    let fits : length (frame_of c.args.sequence c.args.payload.now) ≤ length c.args.out.now = rw (← c.checksum-total.ensures.0) (leb-true _ _ (sym c.has_room.ensures ∙ c.if-not-has_room.false)) in
     rw (
       c.requires.0,
       c.requires.1,
@@ -27,12 +27,12 @@ returns c =
       le-ltb _ _ fits,
       c.put_frame.ensures.0,
       c.put_frame.ensures.1,
-      c.checksum-sum.ensures.0,
+      c.checksum-total.ensures.0,
     )
 
 pub returns-then-not-has_room : goal.returns-then-not-has_room
 returns-then-not-has_room c =
-    let short : length c.args.out.now < length (frame_of c.args.sequence c.args.payload.now) = rw (← c.checksum-sum.ensures.0) (leb-false _ _ (sym c.has_room.ensures ∙ c.if-not-has_room.true)) in
+    let short : length c.args.out.now < length (frame_of c.args.sequence c.args.payload.now) = rw (← c.checksum-total.ensures.0) (leb-false _ _ (sym c.has_room.ensures ∙ c.if-not-has_room.true)) in
     rw (
       c.requires.0,
       c.requires.1,
