@@ -15,7 +15,6 @@ use outbox::reader::{Reading, read, walk};
 use outbox::verdict::{Fault, Walked};
 use std::io::Read;
 use std::num::wrapping_add_u64;
-use wire::bytes::smaller;
 use wire::logic::both;
 
 // The bytes of a part: the version byte and the longest record of any version.
@@ -72,15 +71,15 @@ fn say_record(output: Output, gone: u64, place: usize, stream: u8, size: usize) 
     let placed = say_place(output.text(b"record "), gone, place);
     placed
         .text(b" ")
-        .number(stream as u64)
+        .number(u64::from(stream))
         .text(b" ")
         .number(size as u64)
 }
 
 // The payload, where it is to be shown, and the end of the record's line.
 fn say_rest(output: Output, view: RecordView, part: &[u8], start: usize, size: usize) -> Output {
-    let from = smaller(part.len(), start);
-    let len = smaller(part.len() - from, size);
+    let from = start.min(part.len());
+    let len = size.min(part.len() - from);
     match view {
         RecordView::Lengths => output.text(b"\n"),
         RecordView::Payloads => say_payload(output, &part[from..from + len]).text(b"\n"),
@@ -92,7 +91,7 @@ fn say_end(output: Output, gone: u64, place: usize) -> Output {
 }
 
 fn say_refused(output: Output, number: u8, gone: u64, place: usize) -> Output {
-    let refused = output.text(b"refused ").number(number as u64);
+    let refused = output.text(b"refused ").number(u64::from(number));
     let said = say_place(refused.text(b" at "), gone, place).text(b"\n");
     explain_outbox(output.console, number);
     said
@@ -213,11 +212,7 @@ pub fn carry_over(buffer: &mut [u8], place: usize, held: usize) -> usize
     ensures { carried result buffer.new ≡ carry_of buffer.old place held }
 {
     let n = held - place;
-    let mut i = 0;
-    while i < n {
-        buffer[FIRST_PLACE + i] = buffer[place + i];
-        i += 1;
-    }
+    buffer.copy_within(place..held, FIRST_PLACE);
     FIRST_PLACE + n
 }
 
