@@ -30,7 +30,8 @@ impl Console {
 #[derive(Clone, Copy, Debug, PartialEq, Eq)]
 pub struct Failed;
 
-// Standard output, and whether a write to it has failed: nothing more is then written.
+// Standard output, and whether a write to it has failed: nothing more is then written. Kept beside the console and no error in its
+// place, since a listing goes on after a failed write: what refuses the input is still said on the error output, as programs must print.
 #[derive(Clone, Copy)]
 pub struct Output {
     pub console: Console,
@@ -191,7 +192,8 @@ pub fn read_some<R: Read>(
         .map_err(|error| read_failed(console, error))
 }
 
-// Reads until the bytes are full, the input ends or a read fails; `held` counts the bytes that came.
+// Reads until the bytes are full, the input ends or a read fails; `held` counts the bytes that came. The library's read_exact tells no
+// count where the input ends first, so the loop stays.
 fn fill<R: Read>(input: &mut R, bytes: &mut [u8], held: &mut usize) -> io::Result<()>
     requires { held.old ≡ 0 }
     ensures { held.new ≤ length bytes.new }

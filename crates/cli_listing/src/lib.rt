@@ -15,7 +15,6 @@ use outbox::reader::{FoundRecord, ReadRefusal, read, walk};
 use outbox::verdict::{Broken, Fault};
 use std::io::Read;
 use std::num::wrapping_add_u64;
-use wire::bytes::smaller;
 use wire::logic::both;
 use wire::refusal::Numbered;
 
@@ -66,15 +65,15 @@ fn say_record(output: Output, gone: u64, place: usize, found: FoundRecord) -> Ou
     let placed = say_place(output.text(b"record "), gone, place);
     placed
         .text(b" ")
-        .number(found.stream as u64)
+        .number(u64::from(found.stream))
         .text(b" ")
         .number(found.size as u64)
 }
 
 // The payload, where it is to be shown, and the end of the record's line.
 fn say_rest(output: Output, view: RecordView, part: &[u8], found: FoundRecord) -> Output {
-    let from = smaller(part.len(), found.start);
-    let len = smaller(part.len() - from, found.size);
+    let from = found.start.min(part.len());
+    let len = found.size.min(part.len() - from);
     match view {
         RecordView::Lengths => output.text(b"\n"),
         RecordView::Payloads => say_payload(output, &part[from..from + len]).text(b"\n"),
@@ -86,7 +85,7 @@ fn say_end(output: Output, gone: u64, place: usize) -> Output {
 }
 
 fn say_refused(output: Output, number: u8, gone: u64, place: usize) -> Output {
-    let refused = output.text(b"refused ").number(number as u64);
+    let refused = output.text(b"refused ").number(u64::from(number));
     let said = say_place(refused.text(b" at "), gone, place).text(b"\n");
     explain_outbox(output.console, number);
     said

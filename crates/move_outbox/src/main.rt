@@ -17,7 +17,6 @@ use std::io::{Read, Stdin};
 use std::num::wrapping_add_u64;
 use std::os::unix::fs::FileTypeExt;
 use std::rt::{Env, Files};
-use wire::bytes::smaller;
 use wire::refusal::Numbered;
 
 // In any version a part has less than twice its bytes.
@@ -78,7 +77,7 @@ fn first_place(begun: bool) -> usize {
 
 // Writes a part that was moved, for the pass that writes. Each has the version byte, which the new file has once.
 fn write_part(before: PassSoFar, moved: &[u8]) -> PassSoFar {
-    let from = smaller(moved.len(), first_place(before.begun));
+    let from = first_place(before.begun).min(moved.len());
     let output = before.output;
     PassSoFar {
         output: output.text(&moved[from..]),
@@ -174,7 +173,7 @@ fn pass_over<R: Read, K: Fn(PassSoFar, &[u8]) -> PassSoFar>(
             }
         };
         let place = listed.place;
-        let end = smaller(held, place);
+        let end = place.min(held);
         passed = move_part(passed, keep, &buffer[..end], gone, wished, space);
         if listed.over {
             return end_pass(passed);

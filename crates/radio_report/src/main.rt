@@ -15,7 +15,6 @@ use std::io::{Error, ErrorKind, Read, Result};
 use std::num::{wrapping_add_u64, wrapping_sub_u64};
 use std::rt::{Env, Files};
 use std::str::from_utf8;
-use wire::bytes::smaller;
 use wire::limit::limit_fits;
 
 // The longest capture that is read.
@@ -276,7 +275,7 @@ fn report_files<R: Env + Files>(
     parts: &mut [u8],
     space: &mut [u8],
 ) {
-    let n = smaller(size, parts.len());
+    let n = size.min(parts.len());
     let sums = add_files(rt, console, count, limit, &mut parts[0..n], space);
     say_all(sums, count);
 }

@@ -11,7 +11,7 @@ use capture_stream::SenderSlot;
 use capture_why::{Came, Expected, Explained, Why};
 use cli_console::sentences::explain_capture;
 use cli_console::{Console, Output, is_alone, read_full};
-use wire::bytes::{smaller, wide};
+use wire::bytes::wide;
 use wire::stream::Stream;
 
 // Room, limit, the largest capture, and one byte more, by which a larger one is told.
@@ -183,7 +183,7 @@ fn say_explained(output: Output, explained: Explained) -> Output {
 
 fn explain(console: Console, input: &[u8]) -> Output {
     let output = Output::new(console);
-    let start = smaller(input.len(), SETTINGS);
+    let start = input.len().min(SETTINGS);
     let traced = trace_input(input);
     let why = capture_why::explain(&input[start..], room_in(input), limit_in(input), traced);
     match why {

@@ -88,7 +88,8 @@ fn copy_bytes(out: &mut [u8], at: usize, run: &[u8], first: u8, last: u8) -> usi
     run.len()
 }
 
-// The same from a place on in a run that has a byte in the range, so that its end need not be looked for.
+// The same from a place on in a run that has a byte in the range, so that its end need not be looked for. Its loop counts by hand: a `for`
+// to the end of the run would look for it at each byte, and one over `from..` has no proof that it ends.
 fn copy_until(out: &mut [u8], at: usize, run: &[u8], from: usize, first: u8, last: u8) -> usize
     requires run_in_bounds { at + length run.now ≤ length out.old }
     requires run_value { any_in_range first last run.now ≡ true }

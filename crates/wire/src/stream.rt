@@ -47,7 +47,7 @@ impl TryFrom<u8> for Stream {
     }
 }
 
-// Whether a number is a stream's.
+// Whether a number is a stream's: by a test, where the stream itself is not asked for.
 #[tactic(auto, unfolding(crate::specs::Stream::is_stream))]
 pub fn is_stream(n: u8) -> bool
     ensures { result ≡ is_stream n }
