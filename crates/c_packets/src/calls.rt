@@ -9,6 +9,7 @@ use ble_packet_end::{end_of, read_front};
 use c_rows::row::{UNFIT, put};
 use capture_packet::read_at;
 use wire::bytes::{byte_at, wide64};
+use wire::refusal::number_in;
 
 // Reads the packet at the front of some bytes, for a link with a limit.
 pub fn pito_packet_read(bytes: &[u8], limit: u64, answer: &mut [u64]) -> u64
@@ -36,7 +37,7 @@ pub fn pito_capture_packet(capture: &[u8], place: u64, answer: &mut [u64]) -> u6
         return UNFIT;
     }
     let standing = read_at(capture, place as usize);
-    let number = wide64(standing.number());
+    let number = wide64(number_in(&standing));
     let row = captured_row(standing);
     put(answer, number, &row);
     number

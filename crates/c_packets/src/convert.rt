@@ -11,7 +11,8 @@ ghost use Rattle.c_packets.specs.Convert.{head_row, packet_row, front_row, captu
 use ble_packet::header::{TYPE_CONTINUATION, TYPE_CONTROL, TYPE_FIRST, TYPE_LAST};
 use ble_packet::reader::{Answer, Head, Packet};
 use c_rows::row::DONE;
-use capture_packet::PacketStanding;
+use capture_packet::{FoundPacket, Refusal};
+use capture_reader::RefusedAt;
 use wire::bytes::{bit64, wide64};
 use wire::stream::Stream;
 
@@ -104,15 +105,14 @@ pub fn front_row(end: usize, extended: bool, answer: Answer) -> [u64; 10]
     }
 }
 
-pub fn captured_row(standing: PacketStanding) -> [u64; 5]
+pub fn captured_row(standing: Result<Option<FoundPacket>, RefusedAt<Refusal>>) -> [u64; 5]
     ensures { result ≡ captured_row (standing_told standing) }
 {
     match standing {
-        PacketStanding::Packet { start, size, next } => {
+        Ok(Some(FoundPacket { start, size, next })) => {
             [PACKET, start as u64, size as u64, next as u64, 0]
         }
-        PacketStanding::End => [0u64; 5],
-        PacketStanding::BadPlace => [0u64; 5],
-        PacketStanding::Broken { why: _, at } => [0, 0, 0, 0, at as u64],
+        Ok(None) => [0u64; 5],
+        Err(RefusedAt { why: _, at }) => [0, 0, 0, 0, at as u64],
     }
 }
