@@ -8,6 +8,7 @@ use c_rows::row::{UNFIT, put};
 use capture_judge::capture::{judge_capture, trace};
 use capture_why::explain;
 use wire::bytes::wide64;
+use wire::refusal::number_in;
 
 // Judges a capture for a room and a limit.
 pub fn pito_capture_judge(capture: &[u8], room: u64, limit: u64, answer: &mut [u64]) -> u64
@@ -18,7 +19,7 @@ pub fn pito_capture_judge(capture: &[u8], room: u64, limit: u64, answer: &mut [u
         return UNFIT;
     }
     let judged = judge_capture(capture, room as usize, limit as usize);
-    let number = wide64(judged.number());
+    let number = wide64(number_in(&judged));
     let row = judged_row(judged);
     put(answer, number, &row);
     number
@@ -34,7 +35,7 @@ pub fn pito_capture_why(capture: &[u8], room: u64, limit: u64, answer: &mut [u64
     }
     let traced = trace(capture, room as usize, limit as usize);
     let why = explain(capture, room as usize, limit as usize, traced);
-    let number = wide64(why.number());
+    let number = wide64(number_in(&why));
     let row = why_row(why);
     put(answer, number, &row);
     number

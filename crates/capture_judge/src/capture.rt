@@ -42,7 +42,7 @@ impl Numbered for Refusal {
 
 // What the packets so far say: what is open after them; or the place of the length of the first one after which nothing could be
 // lawful, and what was open before it.
-#[derive(Drop)]
+#[derive(Clone, Copy, Debug, PartialEq, Eq)]
 pub enum Judgement {
     Going(State),
     Stopped { at: usize, state: State },

@@ -13,7 +13,7 @@ use wire::logic::both;
 use wire::stream::Stream;
 
 // A slot for each stream.
-#[derive(Clone, Copy)]
+#[derive(Clone, Copy, Debug, PartialEq, Eq)]
 pub struct State {
     pub control: SenderSlot,
     pub ota: SenderSlot,

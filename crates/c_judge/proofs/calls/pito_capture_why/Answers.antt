@@ -1,4 +1,6 @@
 use borrow.Author.Tests.{eq-eqb, ne_eqb}
+use Rattle.capture_reader.proofs.Placed.{number-at}
+use Rattle.capture_judge.specs.Capture.{number_of}
 use Rattle.c_judge.specs.Calls.{capture_why_of}
 use Rattle.c_judge.proofs.calls.pito_capture_why.Goals as goal
 
@@ -15,6 +17,7 @@ returns c =
       ← c.explain-why.ensures,
       c.put.ensures,
       c.wide64-number.ensures.0,
-      c.number.ensures,
+      c.number_in.ensures,
+      number-at number_of c.explain-why.result,
       c.why_row-row.ensures,
     )
