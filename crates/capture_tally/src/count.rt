@@ -2,16 +2,15 @@
 ghost use Rattle.std.specs.Prelude.{◌≡◌, true, cond, ◌&&◌, ◌||◌, eqb, length};
 ghost use Rattle.wire.specs.Told.{given};
 ghost use Rattle.wire.specs.Those.{those};
-ghost use Rattle.ble_packet.specs.Header as headers;
 ghost use Rattle.ble_packet.specs.Reader as reader;
 ghost use Rattle.ble_slot.specs.Slot.{opens};
 ghost use Rattle.ble_slot.specs.Answer.{told};
 ghost use Rattle.capture_report.specs.Costs.{heard, begins, finishes, replaces, drops, payload_in};
 ghost use Rattle.capture_report.specs.Turns.{costs_by, report_with, open_costs, open_report, on_top};
-ghost use Rattle.capture_tally.specs.Count.{marks_of};
+ghost use Rattle.capture_tally.specs.Count.{marks_of, stream_in};
 ghost use Rattle.capture_tally.specs.Tally.{told_sum};
 
-use crate::sums::{Sum, add_own};
+use crate::sums::add_own;
 use ble_packet::header;
 use ble_slot::answer::{Accepted, Answer};
 use ble_slot::{Slot, lane_of};
@@ -19,9 +18,6 @@ use capture_report::{CostReport, Costs};
 use wire::bytes::{bit64, byte_at};
 use wire::logic::{both, either};
 use wire::stream::Stream;
-
-// No stream's number.
-const NO_STREAM: u8 = 255;
 
 // What of an answer counts.
 #[derive(Drop)]
@@ -99,16 +95,12 @@ fn is_first(packet: &[u8]) -> bool
     header::type_bits(byte_at(packet, 1)) == 0
 }
 
-// The stream field of a packet; one without bytes is of no stream.
-fn stream_field(packet: &[u8]) -> u8
-    ensures { (headers.is_of 0 packet.now ≡ eqb result 0)
-        × (headers.is_of 2 packet.now ≡ eqb result 2)
-        × (headers.is_of 6 packet.now ≡ eqb result 6) }
+// The stream of a packet; one without bytes, or with another stream field, is of none.
+fn stream_field(packet: &[u8]) -> Option<Stream>
+    ensures { result ≡ stream_in packet.now }
 {
-    if packet.len() == 0 {
-        return NO_STREAM;
-    }
-    header::stream_bits(packet[0])
+    let first = packet.first()?;
+    Stream::try_from(header::stream_bits(*first)).ok()
 }
 
 fn costs_of(first: bool, marks: Marks, size: u64) -> Costs
@@ -142,17 +134,10 @@ fn costs_with(packet: &[u8], answer: Answer) -> Costs
 }
 
 // The sums with a packet and what was told of it; what is over stays over.
-pub fn count_packet(sum: Sum, packet: &[u8], answer: Answer) -> Sum
+pub fn count_packet(sum: Option<CostReport>, packet: &[u8], answer: Answer) -> Option<CostReport>
     ensures { told_sum result ≡ on_top (told_sum sum) (report_with (heard packet.now (told answer))) }
 {
-    match sum {
-        Sum::Over => Sum::Over,
-        Sum::Within(report) => {
-            let number = stream_field(packet);
-            let more = costs_with(packet, answer);
-            add_own(report, number, more)
-        }
-    }
+    add_own(sum?, stream_field(packet), costs_with(packet, answer))
 }
 
 // How many of a stream's slots are open.
