@@ -10,7 +10,7 @@ ghost use Rattle.ble_link.specs.Row.{saved_row};
 
 use ble_receiver::{Receiver, SLOT_COUNT, decide};
 use ble_slot::Slot;
-use ble_slot::answer::Answer;
+use ble_slot::answer::{Accepted, Refusal};
 
 // The slot at an index; idle past the end.
 pub fn slot_at(row: &[Slot], i: usize) -> Slot
@@ -90,7 +90,7 @@ pub fn accept(
     packet: &[u8],
     sequence: u8,
     out: &mut [u8],
-) -> Answer
+) -> Result<Accepted, Refusal>
     ensures { left (told result) row.new buffer.new out.new
         ≡ accept_of link.limit row.old buffer.old (call packet.now sequence out.old) }
 {

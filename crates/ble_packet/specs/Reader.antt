@@ -1,6 +1,6 @@
 -- One packet read: its fields, the table of refusals, and what is told of it.
-use Rattle.std.specs.Prelude.{ℕ, ◌+◌, List, [], ◌∷◌, Bool, true, false, not, cond, ◌&&◌, ◌||◌, length, get_or, drop, ltb, eqb}
-use Rattle.wire.specs.Told.{Told, given, refused, Line, line, table}
+use Rattle.std.specs.Prelude.{ℕ, ◌+◌, List, [], ◌∷◌, Bool, true, false, not, cond, ◌&&◌, ◌||◌, length, get_or, drop, ltb, eqb, Result}
+use Rattle.wire.specs.Told.{Told, told_by, given, refused, Line, line, table}
 use Rattle.wire.specs.Bytes.{pair_of}
 use Rattle.wire.specs.Stream.{is_stream, stream_of}
 use Rattle.ble_packet.specs.declared.reader.Head.{Head}
@@ -9,8 +9,6 @@ use Rattle.ble_packet.specs.declared.reader.Packet.{Packet}
 use Rattle.ble_packet.specs.declared.reader.Packet.TheVariants.{First, Next, Ack, Nack}
 use Rattle.ble_packet.specs.declared.reader.Refusal.{Refusal}
 use Rattle.ble_packet.specs.declared.reader.Refusal.TheVariants.{Short, UnknownStream, BadControl, Reserved, Length, TotalOver, Empty, AboveTotal}
-use Rattle.ble_packet.specs.declared.reader.Answer.{Answer}
-use Rattle.ble_packet.specs.declared.reader.Answer.TheVariants.{Refused, Read}
 use Rattle.ble_packet.specs.Header.{start_size, reserved_byte, type_first, type_last, type_control, header_size, length_place, stream_bits, id_bits, sequence_bits, type_bits, ack_bit, extender_bit}
 use Rattle.ble_packet.specs.Control.{ack_tail}
 
@@ -122,9 +120,8 @@ number_of Empty = 7
 number_of AboveTotal = 8
 
 -- the number of a refusal, or what the packet says
-abbrev pub told : Answer → Told Packet
-told (Refused why) = refused (number_of why)
-told (Read packet) = given packet
+abbrev pub told : Result Packet Refusal → Told Packet
+told = told_by number_of
 
 -- ---- what the code reads of bytes 0 and 1, but for the type
 

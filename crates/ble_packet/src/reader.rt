@@ -7,6 +7,7 @@ ghost use Rattle.ble_packet.specs.Reader.{length_at, is_acknowledgement, head_by
 use crate::{control, header};
 use wire::bytes::{byte_at, pair, wide};
 use wire::logic::both;
+use wire::refusal::Numbered;
 use wire::stream::{Stream, is_stream, stream_of};
 
 #[derive(Clone, Copy)]
@@ -85,7 +86,7 @@ impl Packet {
     }
 }
 
-#[derive(Clone, Copy)]
+#[derive(Clone, Copy, Debug, PartialEq, Eq)]
 pub enum Refusal {
     Short,
     UnknownStream,
@@ -97,11 +98,10 @@ pub enum Refusal {
     AboveTotal,
 }
 
-impl Refusal {
-    // The number in the table of refusals.
-    pub fn number(self) -> u8
-        ensures { result ≡ number_of self }
-    {
+impl Numbered for Refusal {
+    ghost number_of = { number_of };
+
+    fn number(&self) -> u8 {
         match self {
             Refusal::Short => 2,
             Refusal::UnknownStream => 3,
@@ -115,14 +115,8 @@ impl Refusal {
     }
 }
 
-#[derive(Clone, Copy)]
-pub enum Answer {
-    Refused(Refusal),
-    Read(Packet),
-}
-
 // The payload length: one byte, or two with the extender.
-fn length_at(packet: &[u8], at: usize, extended: bool) -> usize
+pub fn length_at(packet: &[u8], at: usize, extended: bool) -> usize
     requires { at < 6 }
     ensures { (result ≡ length_at packet.now at extended) × (result < 65536) }
 {
@@ -162,46 +156,46 @@ fn start_bits(first: u8, second: u8) -> StartBits
 
 // ---- the table of refusals, in its order: what is left of it for each type, where 2 and 3 were passed
 
-fn read_control(packet: &[u8], s: StartBits) -> Answer
+fn read_control(packet: &[u8], s: StartBits) -> Result<Packet, Refusal>
     requires { (2 ≤ length packet.now) × (is_stream s.stream ≡ true) }
     ensures { (limit : ℕ) → told result ≡ judged limit (fields_by_start packet.now 3 s) }
 {
     let exact = is_acknowledgement(packet, s.ack, s.extended);
     if !exact {
-        return Answer::Refused(Refusal::BadControl);
+        return Err(Refusal::BadControl);
     }
     let head = s.head();
     if s.ack {
-        return Answer::Read(Packet::Ack(head));
+        return Ok(Packet::Ack(head));
     }
-    Answer::Read(Packet::Nack(head))
+    Ok(Packet::Nack(head))
 }
 
-fn read_first(limit: usize, packet: &[u8], s: StartBits) -> Answer
+fn read_first(limit: usize, packet: &[u8], s: StartBits) -> Result<Packet, Refusal>
     requires { (header_size true s.extended ≤ length packet.now) × (is_stream s.stream ≡ true) }
     ensures { told result ≡ judged limit (fields_by_start packet.now 0 s) }
 {
     let reserved = byte_at(packet, 2);
     if reserved != header::RESERVED {
-        return Answer::Refused(Refusal::Reserved);
+        return Err(Refusal::Reserved);
     }
     let start = header::header_size(true, s.extended);
     let len = length_at(packet, header::length_place(true), s.extended);
     if packet.len() != start + len {
-        return Answer::Refused(Refusal::Length);
+        return Err(Refusal::Length);
     }
     let total = pair(byte_at(packet, 3), byte_at(packet, 4));
     if limit < total {
-        return Answer::Refused(Refusal::TotalOver);
+        return Err(Refusal::TotalOver);
     }
     if both(len == 0, total != 0) {
-        return Answer::Refused(Refusal::Empty);
+        return Err(Refusal::Empty);
     }
     if total < len {
-        return Answer::Refused(Refusal::AboveTotal);
+        return Err(Refusal::AboveTotal);
     }
     let head = s.head();
-    Answer::Read(Packet::First {
+    Ok(Packet::First {
         head,
         ack: s.ack,
         total,
@@ -211,20 +205,20 @@ fn read_first(limit: usize, packet: &[u8], s: StartBits) -> Answer
 }
 
 // Last, or a continuation.
-fn read_next(packet: &[u8], s: StartBits, last: bool) -> Answer
+fn read_next(packet: &[u8], s: StartBits, last: bool) -> Result<Packet, Refusal>
     requires { (header_size false s.extended ≤ length packet.now) × (is_stream s.stream ≡ true) }
     ensures { (limit : ℕ) → told result ≡ judged limit (fields_by_start packet.now (cond last 2 1) s) }
 {
     let start = header::header_size(false, s.extended);
     let len = length_at(packet, header::length_place(false), s.extended);
     if packet.len() != start + len {
-        return Answer::Refused(Refusal::Length);
+        return Err(Refusal::Length);
     }
     if len == 0 {
-        return Answer::Refused(Refusal::Empty);
+        return Err(Refusal::Empty);
     }
     let head = s.head();
-    Answer::Read(Packet::Next {
+    Ok(Packet::Next {
         head,
         ack: s.ack,
         last,
@@ -234,21 +228,21 @@ fn read_next(packet: &[u8], s: StartBits, last: bool) -> Answer
 }
 
 // What one packet says, or why it is refused; the limit is the largest total.
-pub fn read(limit: usize, packet: &[u8]) -> Answer
+pub fn read(limit: usize, packet: &[u8]) -> Result<Packet, Refusal>
     ensures { told result ≡ read_of limit packet.now }
 {
     if packet.len() < header::START_SIZE {
-        return Answer::Refused(Refusal::Short);
+        return Err(Refusal::Short);
     }
     let second = byte_at(packet, 1);
     let s = start_bits(byte_at(packet, 0), second);
     let kind = header::type_bits(second);
     let size = header::header_size(kind == header::TYPE_FIRST, s.extended);
     if both(kind != header::TYPE_CONTROL, packet.len() < size) {
-        return Answer::Refused(Refusal::Short);
+        return Err(Refusal::Short);
     }
     if !is_stream(s.stream) {
-        return Answer::Refused(Refusal::UnknownStream);
+        return Err(Refusal::UnknownStream);
     }
     if kind == header::TYPE_CONTROL {
         return read_control(packet, s);

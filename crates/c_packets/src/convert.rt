@@ -1,20 +1,18 @@
 // One packet: what the calls answer as rows.
 ghost use Rattle.std.specs.Prelude.{◌≡◌, cond};
 ghost use Rattle.wire.specs.Bytes.{bit};
-ghost use Rattle.wire.specs.Stream.{stream_number};
 ghost use Rattle.ble_packet.specs.Header.{type_continuation, type_last};
 ghost use Rattle.ble_packet.specs.Reader.{told};
 ghost use Rattle.capture_packet.specs.Place.{standing_told};
-ghost use Rattle.c_rows.specs.Row.{number_told};
 ghost use Rattle.c_packets.specs.Convert.{head_row, packet_row, front_row, captured_row};
 
 use ble_packet::header::{TYPE_CONTINUATION, TYPE_CONTROL, TYPE_FIRST, TYPE_LAST};
-use ble_packet::reader::{Answer, Head, Packet};
-use c_rows::row::DONE;
+use ble_packet::reader;
+use ble_packet::reader::{Head, Packet};
+use c_rows::row::stream_number;
 use capture_packet::{FoundPacket, Refusal};
 use capture_reader::RefusedAt;
 use wire::bytes::{bit64, wide64};
-use wire::stream::Stream;
 
 // The numbers of the answer rows.
 pub const READ_ANSWER: usize = 10;
@@ -23,21 +21,6 @@ pub const CAPTURE_ANSWER: usize = 5;
 
 // The outcome that is a packet.
 const PACKET: u64 = 1;
-
-pub fn front_number(answer: Answer) -> u64
-    ensures { result ≡ number_told (told answer) }
-{
-    match answer {
-        Answer::Refused(why) => wide64(why.number()),
-        Answer::Read(_) => DONE,
-    }
-}
-
-fn stream_number(stream: Stream) -> u64
-    ensures { result ≡ stream_number stream }
-{
-    wide64(stream.number())
-}
 
 fn kind_after(last: bool) -> u8
     ensures { result ≡ cond last type_last type_continuation }
@@ -96,12 +79,12 @@ fn packet_row(end: usize, extended: bool, packet: Packet) -> [u64; 10]
     }
 }
 
-pub fn front_row(end: usize, extended: bool, answer: Answer) -> [u64; 10]
+pub fn front_row(end: usize, extended: bool, answer: Result<Packet, reader::Refusal>) -> [u64; 10]
     ensures { result ≡ front_row end (bit extended) (told answer) }
 {
     match answer {
-        Answer::Refused(_) => [0u64; 10],
-        Answer::Read(packet) => packet_row(end, extended, packet),
+        Err(_) => [0u64; 10],
+        Ok(packet) => packet_row(end, extended, packet),
     }
 }
 

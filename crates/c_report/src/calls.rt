@@ -5,13 +5,11 @@ ghost use Rattle.c_report.specs.Calls.{adding_to, added, told_rows, report_calle
 
 use crate::convert::{ADD_ANSWER, REPORT, place_row, put_report, report_at};
 use ble_slot::Slot;
-use c_rows::row::{UNFIT, put};
+use c_rows::row::{UNFIT, number_of_result, put};
 use capture_reader::RefusedAt;
 use capture_report::CostReport;
 use capture_tally::{Refusal, add};
-use wire::bytes::wide64;
 use wire::logic::both;
-use wire::refusal::number_in;
 
 // What a capture is added to: a report, and the limit of the link that reads it.
 #[derive(Drop)]
@@ -49,7 +47,7 @@ pub fn tell_added(
     if !fits {
         return UNFIT;
     }
-    let number = wide64(number_in(&done));
+    let number = number_of_result(&done);
     put_report(report, done);
     let place = place_row(done);
     put(answer, number, &place);

@@ -63,7 +63,7 @@ pub(crate) fn judge_packet(packet: &[u8], room: usize, limit: usize, state: Stat
 {
     let answer = reader::read(limit, packet);
     match answer {
-        reader::Answer::Refused(_) => None,
-        reader::Answer::Read(read) => step(room, state, read),
+        Err(_) => None,
+        Ok(read) => step(room, state, read),
     }
 }

@@ -1,19 +1,12 @@
--- What of a packet and its answer counts.
+-- The stream that a packet counts on.
 use Rattle.std.specs.Prelude.{ℕ, cond, List, [], ◌∷◌, Option, Some, None}
-use Rattle.wire.specs.Told.{Told}
 use Rattle.wire.specs.Stream.{is_stream, stream_of}
 use Rattle.wire.specs.declared.stream.Stream.{Stream}
 use Rattle.wire.specs.declared.stream.Stream.TheVariants.{Control, Ota, Alexa}
 use Rattle.ble_packet.specs.Header.{stream_bits}
-use Rattle.ble_slot.specs.declared.answer.Accepted.{Accepted}
-use Rattle.capture_report.specs.Costs.{accepts, finishes, replaces, drops, payload_in}
 use Rattle.capture_report.specs.declared.Costs.{Costs}
 use Rattle.capture_report.specs.declared.CostReport.{CostReport}
 use Rattle.capture_report.specs.Report.{no_costs}
-use Rattle.capture_tally.specs.declared.count.Marks.{Marks}
-
-abbrev pub marks_of : Told Accepted → Marks
-marks_of t = record { accepts = accepts t; finishes = finishes t; replaces = replaces t; drops = drops t; payload = payload_in t }
 
 -- the stream of a packet; none without bytes, or with another stream field
 abbrev pub stream_in : List ℕ → Option Stream

@@ -14,6 +14,7 @@ use capture_next::{NextPacket, next_packet};
 use capture_reader::{RefusedAt, WIDTH};
 use capture_stream::SenderSlot;
 use wire::bytes::{byte_at, pair, smaller};
+use wire::refusal::Numbered;
 use wire::stream::{is_stream, stream_of};
 
 // What our reader says of a packet: the total of a first one, and the length of its payload.
@@ -85,12 +86,12 @@ fn packet_numbers(packet: Packet) -> ReadNumbers
     }
 }
 
-fn read_numbers(answer: reader::Answer) -> Result<ReadNumbers, u8>
+fn read_numbers(answer: Result<Packet, reader::Refusal>) -> Result<ReadNumbers, u8>
     ensures { result ≡ numbers_in (packets.told answer) }
 {
     match answer {
-        reader::Answer::Refused(why) => Err(why.number()),
-        reader::Answer::Read(packet) => Ok(packet_numbers(packet)),
+        Err(why) => Err(why.number()),
+        Ok(packet) => Ok(packet_numbers(packet)),
     }
 }
 

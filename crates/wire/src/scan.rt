@@ -5,12 +5,9 @@ ghost use Rattle.wire.specs.Scan.{in_range, any_in_range, Clear, Copied};
 
 use crate::bytes::copy;
 
-// Bytes that are tested and copied at once.
-const BLOCK: usize = 16;
-
-// What is left of a run goes block by block while it has this many bytes. Blocks pay on chips without vector instructions
+// Bytes that are tested and copied at once, while a run has as many left. Blocks pay on chips without vector instructions
 // too: Cortex-M code takes fewer instructions a byte with them than byte by byte.
-const SHORTEST: usize = 16;
+const BLOCK: usize = 16;
 
 fn in_range(b: u8, first: u8, last: u8) -> bool
     ensures { result ≡ in_range first last b }
@@ -23,12 +20,10 @@ fn any_in_range(run: &[u8], first: u8, last: u8) -> bool
     ensures { result ≡ any_in_range first last run.now }
 {
     let mut found = false;
-    let mut i = 0;
-    while i < run.len() {
-        if in_range(run[i], first, last) {
+    for b in run {
+        if in_range(*b, first, last) {
             found = true;
         }
-        i += 1;
     }
     found
 }
@@ -37,15 +32,15 @@ fn any_in_range(run: &[u8], first: u8, last: u8) -> bool
 fn clear_blocks(run: &[u8], first: u8, last: u8) -> usize
     ensures { Clear first last run.now result }
 {
-    let mut i = 0;
-    while SHORTEST <= run.len() - i {
-        let end = i + BLOCK;
-        if any_in_range(&run[i..end], first, last) {
-            return i;
+    let blocks = run.len() / BLOCK;
+    for n in 0..blocks {
+        let at = n * BLOCK;
+        let end = at + BLOCK;
+        if any_in_range(&run[at..end], first, last) {
+            return at;
         }
-        i = end;
     }
-    i
+    blocks * BLOCK
 }
 
 // The same byte by byte, once a count is known.
@@ -53,14 +48,12 @@ fn clear_from(run: &[u8], from: usize, first: u8, last: u8) -> usize
     requires { Clear first last run.now from }
     ensures { Clear first last run.now result }
 {
-    let mut i = from;
-    while i < run.len() {
+    for i in from..run.len() {
         if in_range(run[i], first, last) {
             return i;
         }
-        i += 1;
     }
-    i
+    run.len()
 }
 
 // A count of bytes before any byte in the range.
@@ -85,16 +78,14 @@ fn copy_bytes(out: &mut [u8], at: usize, run: &[u8], first: u8, last: u8) -> usi
     requires { at + length run.now ≤ length out.old }
     ensures { Copied first last run.now at out.old result out.new }
 {
-    let mut i = 0;
-    while i < run.len() {
+    for i in 0..run.len() {
         let b = run[i];
         if in_range(b, first, last) {
             return i;
         }
         out[at + i] = b;
-        i += 1;
     }
-    i
+    run.len()
 }
 
 // The same from a place on in a run that has a byte in the range, so that its end need not be looked for.
@@ -121,14 +112,15 @@ pub fn copy_clear(out: &mut [u8], at: usize, run: &[u8], first: u8, last: u8) ->
     requires { at + length run.now ≤ length out.old }
     ensures { Copied first last run.now at out.old result out.new }
 {
-    let mut i = 0;
-    while SHORTEST <= run.len() - i {
-        let end = i + BLOCK;
-        if any_in_range(&run[i..end], first, last) {
-            return copy_until(out, at, &run[..end], i, first, last);
+    let blocks = run.len() / BLOCK;
+    for n in 0..blocks {
+        let begin = n * BLOCK;
+        let end = begin + BLOCK;
+        if any_in_range(&run[begin..end], first, last) {
+            return copy_until(out, at, &run[..end], begin, first, last);
         }
-        copy_block(out, at + i, &run[i..end]);
-        i = end;
+        copy_block(out, at + begin, &run[begin..end]);
     }
-    i + copy_bytes(out, at + i, &run[i..], first, last)
+    let copied = blocks * BLOCK;
+    copied + copy_bytes(out, at + copied, &run[copied..], first, last)
 }

@@ -1,7 +1,7 @@
 use Rattle.ble_slot_steps.proofs.spot.find_first.Goals as goal
 
-pub returns-in-Nowhere : goal.returns-in-Nowhere
-returns-in-Nowhere c = rw (← c.find_open-open.ensures, c.in-Nowhere.is) c.find_idle.ensures
+pub returns-in-None : goal.returns-in-None
+returns-in-None c = rw (← c.find_open-open.ensures, c.in-None.is) c.find_idle.ensures
 
-pub returns-in-At : goal.returns-in-At
-returns-in-At c = rw (← c.find_open-open.ensures, c.in-At.is)
+pub returns-in-Some : goal.returns-in-Some
+returns-in-Some c = rw (← c.find_open-open.ensures, c.in-Some.is)

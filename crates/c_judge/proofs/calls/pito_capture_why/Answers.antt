@@ -16,8 +16,7 @@ returns c =
       ← c.trace-traced.ensures,
       ← c.explain-why.ensures,
       c.put.ensures,
-      c.wide64-number.ensures.0,
-      c.number_in.ensures,
+      c.number_of_result-number.ensures,
       number-at number_of c.explain-why.result,
       c.why_row-row.ensures,
     )

@@ -33,8 +33,7 @@ returns c =
       not-false c.both-fits.result c.if-not-fits.false-raw,
       c.put.ensures,
       c.put_report.ensures,
-      c.wide64-number.ensures.0,
-      c.number_in.ensures,
+      c.number_of_result-number.ensures,
       number-at number_of c.args.done,
       c.place_row-place.ensures,
     )

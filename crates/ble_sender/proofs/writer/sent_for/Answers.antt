@@ -1,4 +1,4 @@
-use Rattle.ble_sender.proofs.writer.answer_for.Goals as goal
+use Rattle.ble_sender.proofs.writer.sent_for.Goals as goal
 
 pub returns-then-last : goal.returns-then-last
 returns-then-last c = simp c.if-last.true
