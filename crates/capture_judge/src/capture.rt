@@ -3,8 +3,8 @@ ghost use Rattle.std.specs.Prelude.{◌≡◌};
 ghost use Rattle.capture_judge.specs.declared.capture.Refusal.TheVariants.{Capture};
 ghost use Rattle.capture_judge.specs.Capture.{gone_on, walked_of, traced_of, answer_in, answer_of, judged_of, number_of, trace_told, answer_told, told};
 
-use crate::State;
 use crate::step::judge_packet;
+use crate::{Settings, State};
 use ble_sender::writer::room_fits;
 use capture_reader::{RefusedAt, WIDTH, front_of, located, other_version};
 use wire::limit::limit_fits;
@@ -42,6 +42,7 @@ impl Numbered for Refusal {
 
 // What the packets so far say: what is open after them; or the place of the length of the first one after which nothing could be
 // lawful, and what was open before it.
+// No Result (reason d): a stop is no failure, and the walk goes on past it to the capture's own refusals, where `?` would end it.
 #[derive(Clone, Copy, Debug, PartialEq, Eq)]
 pub enum Judgement {
     Going(State),
@@ -57,12 +58,12 @@ pub enum Verdict {
 }
 
 // One packet more, whose length stands at a place.
-fn go_on(verdict: Judgement, packet: &[u8], room: usize, limit: usize, at: usize) -> Judgement
-    ensures { result ≡ gone_on room limit at verdict packet.now }
+fn go_on(verdict: Judgement, packet: &[u8], settings: Settings, at: usize) -> Judgement
+    ensures { result ≡ gone_on settings.room settings.limit at verdict packet.now }
 {
     match verdict {
         Judgement::Going(state) => {
-            match judge_packet(packet, room, limit, state) {
+            match judge_packet(packet, settings, state) {
                 None => Judgement::Stopped { at, state },
                 Some(next) => Judgement::Going(next),
             }
@@ -72,8 +73,8 @@ fn go_on(verdict: Judgement, packet: &[u8], room: usize, limit: usize, at: usize
 }
 
 // The capture, packet after packet.
-fn walk(capture: &[u8], room: usize, limit: usize) -> Result<Judgement, RefusedAt<Refusal>>
-    ensures { trace_told result ≡ walked_of room limit capture.now }
+fn walk(capture: &[u8], settings: Settings) -> Result<Judgement, RefusedAt<Refusal>>
+    ensures { trace_told result ≡ walked_of settings.room settings.limit capture.now }
 {
     if other_version(capture) {
         return Err(RefusedAt {
@@ -83,33 +84,34 @@ fn walk(capture: &[u8], room: usize, limit: usize) -> Result<Judgement, RefusedA
     }
     let mut at = 1;
     let mut verdict = Judgement::Going(State::new());
+    // From place to place, by lengths that are read there: no range or iterator says it (reason d).
     while at < capture.len() {
         let size = located(front_of(&capture[at..]), at)?;
         let start = at + WIDTH;
         let next = start + size;
-        verdict = go_on(verdict, &capture[start..next], room, limit, at);
+        verdict = go_on(verdict, &capture[start..next], settings, at);
         at = next;
     }
     Ok(verdict)
 }
 
 // What the packets of a capture say, at a room and a limit.
-pub fn trace(capture: &[u8], room: usize, limit: usize) -> Result<Judgement, RefusedAt<Refusal>>
-    ensures { trace_told result ≡ traced_of room limit capture.now }
+pub fn trace(capture: &[u8], settings: Settings) -> Result<Judgement, RefusedAt<Refusal>>
+    ensures { trace_told result ≡ traced_of settings.room settings.limit capture.now }
 {
-    if !room_fits(room) {
+    if !room_fits(settings.room) {
         return Err(RefusedAt {
             why: Refusal::Room,
             at: 0,
         });
     }
-    if !limit_fits(limit) {
+    if !limit_fits(settings.limit) {
         return Err(RefusedAt {
             why: Refusal::Limit,
             at: 0,
         });
     }
-    walk(capture, room, limit)
+    walk(capture, settings)
 }
 
 // The verdict at the end.
@@ -137,12 +139,8 @@ pub(crate) fn answer_of(
 }
 
 // Whether a capture is lawful for a room and a limit.
-pub fn judge_capture(
-    capture: &[u8],
-    room: usize,
-    limit: usize,
-) -> Result<Verdict, RefusedAt<Refusal>>
-    ensures { told result ≡ judged_of room limit capture.now }
+pub fn judge_capture(capture: &[u8], settings: Settings) -> Result<Verdict, RefusedAt<Refusal>>
+    ensures { told result ≡ judged_of settings.room settings.limit capture.now }
 {
-    answer_of(trace(capture, room, limit))
+    answer_of(trace(capture, settings))
 }

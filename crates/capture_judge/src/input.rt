@@ -3,6 +3,7 @@ ghost use Rattle.std.specs.Prelude.{◌≡◌};
 ghost use Rattle.capture_judge.specs.Capture.{trace_told, told};
 ghost use Rattle.capture_judge.specs.Input.{room_in, limit_in, input_traced, input_of};
 
+use crate::Settings;
 use crate::capture::{Judgement, Refusal, Verdict, answer_of, trace};
 use capture_reader::RefusedAt;
 use wire::bytes::{byte_at, pair, smaller};
@@ -24,6 +25,15 @@ pub fn limit_in(input: &[u8]) -> usize
     pair(byte_at(input, 2), byte_at(input, 3))
 }
 
+pub fn settings_in(input: &[u8]) -> Settings
+    ensures { result ≡ record { room = room_in input.now; limit = limit_in input.now } }
+{
+    Settings {
+        room: room_in(input),
+        limit: limit_in(input),
+    }
+}
+
 // What the packets of the capture say; first of all the refusal of a longer one.
 pub fn trace_input(input: &[u8]) -> Result<Judgement, RefusedAt<Refusal>>
     ensures { trace_told result ≡ input_traced input.now }
@@ -34,10 +44,8 @@ pub fn trace_input(input: &[u8]) -> Result<Judgement, RefusedAt<Refusal>>
             at: 0,
         });
     }
-    let room = room_in(input);
-    let limit = limit_in(input);
     let start = smaller(input.len(), SETTINGS);
-    trace(&input[start..], room, limit)
+    trace(&input[start..], settings_in(input))
 }
 
 pub fn judge_input(input: &[u8]) -> Result<Verdict, RefusedAt<Refusal>>

@@ -4,7 +4,7 @@ ghost use Rattle.wire.specs.Told.{given};
 ghost use Rattle.capture_stream.specs.Slot.{moved_to};
 ghost use Rattle.capture_judge.specs.Step.{placed, step_by, step_of, stepped};
 
-use crate::State;
+use crate::{Settings, State};
 use ble_packet::reader;
 use ble_packet::reader::Packet;
 use capture_stream::{SenderSlot, on_first, on_next};
@@ -58,12 +58,12 @@ fn step(room: usize, state: State, read: Packet) -> Option<State>
 }
 
 // The state after a packet, by what is open.
-pub(crate) fn judge_packet(packet: &[u8], room: usize, limit: usize, state: State) -> Option<State>
-    ensures { stepped result ≡ step_of room limit state packet.now }
+pub(crate) fn judge_packet(packet: &[u8], settings: Settings, state: State) -> Option<State>
+    ensures { stepped result ≡ step_of settings.room settings.limit state packet.now }
 {
-    let answer = reader::read(limit, packet);
+    let answer = reader::read(settings.limit, packet);
     match answer {
         Err(_) => None,
-        Ok(read) => step(room, state, read),
+        Ok(read) => step(settings.room, state, read),
     }
 }

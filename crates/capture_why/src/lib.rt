@@ -8,8 +8,8 @@ ghost use Rattle.capture_why.specs.Why.{numbers_by, packet_numbers, numbers_in, 
 
 use ble_packet::reader::Packet;
 use ble_packet::{header, reader};
-use capture_judge::State;
 use capture_judge::capture::{Judgement, Refusal};
+use capture_judge::{Settings, State};
 use capture_next::{NextPacket, next_packet};
 use capture_reader::{RefusedAt, WIDTH};
 use capture_stream::SenderSlot;
@@ -25,6 +25,7 @@ pub struct ReadNumbers {
 }
 
 // What came: its bytes in all, the fields of bytes 0 and 1, and what our reader says, or the number of its refusal.
+// The number and not the refusal (reason a): came_of takes it from read_of, which tells no more.
 #[derive(Clone, Copy, Debug, PartialEq, Eq)]
 pub struct Came {
     pub size: usize,
@@ -149,11 +150,11 @@ fn expected_of(room: usize, state: State, came: Came) -> Expected
     expect_in(room, slot, total_read(came.read))
 }
 
-fn stopped_of(packet: &[u8], room: usize, limit: usize, at: usize, state: State) -> Explained
-    ensures { result ≡ stopped_of room limit at state packet.now }
+fn stopped_of(packet: &[u8], settings: Settings, at: usize, state: State) -> Explained
+    ensures { result ≡ stopped_of settings.room settings.limit at state packet.now }
 {
-    let came = came_of(packet, limit);
-    let expected = expected_of(room, state, came);
+    let came = came_of(packet, settings.limit);
+    let expected = expected_of(settings.room, state, came);
     Explained::Stopped {
         at,
         state,
@@ -163,40 +164,39 @@ fn stopped_of(packet: &[u8], room: usize, limit: usize, at: usize, state: State)
 }
 
 // The packet whose length stands at the front of some bytes.
-fn stopped_in(rest: &[u8], room: usize, limit: usize, at: usize, state: State) -> Explained
-    ensures { result ≡ stopped_of room limit at state (packet_in rest.now) }
+fn stopped_in(rest: &[u8], settings: Settings, at: usize, state: State) -> Explained
+    ensures { result ≡ stopped_of settings.room settings.limit at state (packet_in rest.now) }
 {
     let n = pair(byte_at(rest, 0), byte_at(rest, 1));
     let start = smaller(rest.len(), WIDTH);
     let size = smaller(rest.len() - start, n);
     let end = start + size;
-    stopped_of(&rest[start..end], room, limit, at, state)
+    stopped_of(&rest[start..end], settings, at, state)
 }
 
-fn stopped_at(capture: &[u8], room: usize, limit: usize, at: usize, state: State) -> Explained
-    ensures { result ≡ stopped_of room limit at state (packet_in (drop at capture.now)) }
+fn stopped_at(capture: &[u8], settings: Settings, at: usize, state: State) -> Explained
+    ensures { result ≡ stopped_of settings.room settings.limit at state (packet_in (drop at capture.now)) }
 {
     let start = smaller(capture.len(), at);
-    stopped_in(&capture[start..], room, limit, at, state)
+    stopped_in(&capture[start..], settings, at, state)
 }
 
-fn explained_in(capture: &[u8], room: usize, limit: usize, verdict: Judgement) -> Explained
-    ensures { result ≡ explained_in room limit capture.now verdict }
+fn explained_in(capture: &[u8], settings: Settings, verdict: Judgement) -> Explained
+    ensures { result ≡ explained_in settings.room settings.limit capture.now verdict }
 {
     match verdict {
         Judgement::Going(state) => Explained::Ended(state),
-        Judgement::Stopped { at, state } => stopped_at(capture, room, limit, at, state),
+        Judgement::Stopped { at, state } => stopped_at(capture, settings, at, state),
     }
 }
 
-// By what the packets of the capture say, at this room and limit.
+// By what the packets of the capture say, at these settings.
 pub fn explain(
     capture: &[u8],
-    room: usize,
-    limit: usize,
+    settings: Settings,
     traced: Result<Judgement, RefusedAt<Refusal>>,
 ) -> Result<Explained, RefusedAt<Refusal>>
-    ensures { why_told result ≡ why_of room limit capture.now (trace_told traced) }
+    ensures { why_told result ≡ why_of settings.room settings.limit capture.now (trace_told traced) }
 {
-    Ok(explained_in(capture, room, limit, traced?))
+    Ok(explained_in(capture, settings, traced?))
 }

@@ -15,7 +15,7 @@ use std::io::{Error, ErrorKind, Read, Result};
 use std::num::{wrapping_add_u64, wrapping_sub_u64};
 use std::rt::{Env, Files};
 use std::str::from_utf8;
-use wire::bytes::{byte_at, smaller};
+use wire::bytes::smaller;
 use wire::limit::limit_fits;
 use wire::refusal::Numbered;
 
@@ -89,34 +89,15 @@ fn limit_given<E: Env>(rt: &E) -> usize {
     let mut word = [0u8; LIMIT_WORD];
     let n = argument(rt, 1, &mut word);
     let mut limit = 0;
-    let mut i = 0;
-    while i < n {
-        limit = with_digit(limit, byte_at(&word, i));
-        i += 1;
+    for digit in &word[..n] {
+        limit = with_digit(limit, *digit);
     }
     limit
 }
 
-fn no_costs() -> Costs {
-    Costs {
-        firsts: 0,
-        finished: 0,
-        replaced: 0,
-        dropped: 0,
-        pending: 0,
-        payload: 0,
-        bytes: 0,
-    }
-}
-
 fn nothing_yet(console: Console) -> ReportSoFar {
-    let report = CostReport {
-        control: no_costs(),
-        ota: no_costs(),
-        alexa: no_costs(),
-    };
     ReportSoFar {
-        report,
+        report: CostReport::default(),
         captures: 0,
         output: Output::new(console),
     }
@@ -235,10 +216,8 @@ fn add_files<R: Env + Files>(
     space: &mut [u8],
 ) -> ReportSoFar {
     let mut sums = nothing_yet(console);
-    let mut i = 2;
-    while i < count {
+    for i in 2..count {
         sums = add_argument(rt, sums, i, limit, buffer, space);
-        i += 1;
     }
     sums
 }
@@ -253,11 +232,9 @@ fn digit_count(n: u64) -> usize {
 
 // A number at the right of its column, with a blank before it.
 fn say_number(output: Output, n: u64) -> Output {
-    let mut k = digit_count(n);
     let mut said = output.text(b" ");
-    while k < COLUMN {
+    for _ in digit_count(n)..COLUMN {
         said = said.text(b" ");
-        k += 1;
     }
     said.number(n)
 }

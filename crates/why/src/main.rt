@@ -5,7 +5,7 @@
 use ble_packet::header;
 use capture_judge::State;
 use capture_judge::capture::Refusal;
-use capture_judge::input::{LARGEST_CAPTURE, SETTINGS, limit_in, room_in, trace_input};
+use capture_judge::input::{LARGEST_CAPTURE, SETTINGS, settings_in, trace_input};
 use capture_next::NextPacket;
 use capture_reader::RefusedAt;
 use capture_stream::SenderSlot;
@@ -188,7 +188,7 @@ fn explain(console: Console, input: &[u8]) -> Output {
     let output = Output::new(console);
     let start = smaller(input.len(), SETTINGS);
     let traced = trace_input(input);
-    let why = capture_why::explain(&input[start..], room_in(input), limit_in(input), traced);
+    let why = capture_why::explain(&input[start..], settings_in(input), traced);
     match why {
         Ok(explained) => say_explained(output, explained),
         Err(RefusedAt { why, at }) => say_refused(output, why, at),

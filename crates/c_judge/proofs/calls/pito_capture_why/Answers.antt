@@ -13,7 +13,7 @@ unfolding capture_why_of
 returns c =
     rw (
       eq-eqb _ _ c.if-answer-ne-WHY_ANSWER.false,
-      ← c.trace-traced.ensures,
+      ← c.trace.ensures,
       ← c.explain-why.ensures,
       c.put.ensures,
       c.number_of_result-number.ensures,
