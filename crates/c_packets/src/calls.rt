@@ -8,7 +8,7 @@ use ble_packet::header::extender_bit;
 use ble_packet_end::{end_of, read_front};
 use c_rows::row::{UNFIT, number_of_result, put};
 use capture_packet::read_at;
-use wire::bytes::{byte_at, wide64};
+use wire::bytes::byte_at;
 
 // Reads the packet at the front of some bytes, for a link with a limit.
 pub fn pito_packet_read(bytes: &[u8], limit: u64, answer: &mut [u64]) -> u64
@@ -36,7 +36,7 @@ pub fn pito_capture_packet(capture: &[u8], place: u64, answer: &mut [u64]) -> u6
         return UNFIT;
     }
     let standing = read_at(capture, place as usize);
-    let number = wide64(standing.number());
+    let number = number_of_result(&standing);
     let row = captured_row(standing);
     put(answer, number, &row);
     number

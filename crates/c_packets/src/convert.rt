@@ -7,9 +7,11 @@ ghost use Rattle.capture_packet.specs.Place.{standing_told};
 ghost use Rattle.c_packets.specs.Convert.{head_row, packet_row, front_row, captured_row};
 
 use ble_packet::header::{TYPE_CONTINUATION, TYPE_CONTROL, TYPE_FIRST, TYPE_LAST};
-use ble_packet::reader::{Head, Packet, Refusal};
+use ble_packet::reader;
+use ble_packet::reader::{Head, Packet};
 use c_rows::row::stream_number;
-use capture_packet::PacketStanding;
+use capture_packet::{FoundPacket, Refusal};
+use capture_reader::RefusedAt;
 use wire::bytes::{bit64, wide64};
 
 // The numbers of the answer rows.
@@ -77,7 +79,7 @@ fn packet_row(end: usize, extended: bool, packet: Packet) -> [u64; 10]
     }
 }
 
-pub fn front_row(end: usize, extended: bool, answer: Result<Packet, Refusal>) -> [u64; 10]
+pub fn front_row(end: usize, extended: bool, answer: Result<Packet, reader::Refusal>) -> [u64; 10]
     ensures { result ≡ front_row end (bit extended) (told answer) }
 {
     match answer {
@@ -86,15 +88,14 @@ pub fn front_row(end: usize, extended: bool, answer: Result<Packet, Refusal>) ->
     }
 }
 
-pub fn captured_row(standing: PacketStanding) -> [u64; 5]
+pub fn captured_row(standing: Result<Option<FoundPacket>, RefusedAt<Refusal>>) -> [u64; 5]
     ensures { result ≡ captured_row (standing_told standing) }
 {
     match standing {
-        PacketStanding::Packet { start, size, next } => {
+        Ok(Some(FoundPacket { start, size, next })) => {
             [PACKET, start as u64, size as u64, next as u64, 0]
         }
-        PacketStanding::End => [0u64; 5],
-        PacketStanding::BadPlace => [0u64; 5],
-        PacketStanding::Broken { why: _, at } => [0, 0, 0, 0, at as u64],
+        Ok(None) => [0u64; 5],
+        Err(RefusedAt { why: _, at }) => [0, 0, 0, 0, at as u64],
     }
 }

@@ -7,8 +7,9 @@ ghost use Rattle.wire.specs.Limit.{limit_fits};
 
 use ble_receiver::SLOT_COUNT;
 use ble_slot::Slot;
+use capture_reader::RefusedAt;
 use capture_report::{CostReport, Costs};
-use capture_tally::{Answer, add_by_value};
+use capture_tally::add_by_value;
 use cli_console::{Console, Output, argument, argument_count, complain, fail, read_quietly, room};
 use std::fs;
 use std::io::{Error, ErrorKind, Read, Result};
@@ -16,6 +17,7 @@ use std::num::{wrapping_add_u64, wrapping_sub_u64};
 use std::rt::{Env, Files};
 use std::str::from_utf8;
 use wire::limit::limit_fits;
+use wire::refusal::Numbered;
 
 // The longest capture that is read.
 const LONGEST: usize = 1048576;
@@ -63,26 +65,9 @@ fn limit_given<E: Env>(rt: &E) -> Option<usize>
     if limit_fits(limit) { Some(limit) } else { None }
 }
 
-fn no_costs() -> Costs {
-    Costs {
-        firsts: 0,
-        finished: 0,
-        replaced: 0,
-        dropped: 0,
-        pending: 0,
-        payload: 0,
-        bytes: 0,
-    }
-}
-
 fn nothing_yet(console: Console) -> ReportSoFar {
-    let report = CostReport {
-        control: no_costs(),
-        ota: no_costs(),
-        alexa: no_costs(),
-    };
     ReportSoFar {
-        report,
+        report: CostReport::default(),
         captures: 0,
         output: Output::new(console),
     }
@@ -107,17 +92,16 @@ fn add_capture(
     let output = before.output;
     let row = [Slot::idle(); SLOT_COUNT];
     let added = add_by_value(SLOT_COUNT, row, report, limit, buffer, capture);
-    let answer = added.answer;
-    match answer {
-        Answer::Refused { why, at } => ReportSoFar {
-            report,
-            captures: before.captures,
-            output: say_refused(output, name, why.number(), at),
-        },
-        Answer::Added(sums) => ReportSoFar {
+    match added.answer {
+        Ok(sums) => ReportSoFar {
             report: sums,
             captures: wrapping_add_u64(before.captures, 1),
             output,
+        },
+        Err(RefusedAt { why, at }) => ReportSoFar {
+            report,
+            captures: before.captures,
+            output: say_refused(output, name, why.number(), at),
         },
     }
 }
