@@ -5,7 +5,7 @@ ghost use Rattle.c_firmware.specs.Calls.{segment_read_of, segment_write_of, appl
 
 use c_firmware_rows::apply::{APPLY_ANSWER, APPLY_ROW, apply_at, bad_row, put_apply};
 use c_firmware_rows::field_row::{FIELD_ANSWER, found_row};
-use c_firmware_rows::segment::{SEGMENT_ANSWER, is_wide, segment_row, wrote_number, wrote_row};
+use c_firmware_rows::segment::{SEGMENT_ANSWER, is_wide, segment_row};
 use c_message_rows::convert::{WROTE_ANSWER, tell_wrote};
 use c_rows::row::{UNFIT, number_of_result, put};
 use msg_apply_writer::apply::write_apply;
@@ -14,9 +14,8 @@ use msg_firmware::segment::read_segment;
 use msg_segment_writer::write_segment;
 use proto_field::fields::found_at;
 use proto_field::unsigned::low_unsigned;
-use proto_strings::TextWrote;
+use proto_strings::TextWriteRefusal;
 use proto_writer::message::WriteRefusal;
-use wire::bytes::wide64;
 use wire::logic::either;
 
 // Reads an UpdateComponentSegment.
@@ -51,10 +50,7 @@ pub fn segment_write(
         return UNFIT;
     }
     if either(is_wide(offset), is_wide(size)) {
-        let number = wide64(WriteRefusal::BadArgument.number());
-        let row = [0u64; 3];
-        put(answer, number, &row);
-        return number;
+        return tell_wrote(answer, Err(TextWriteRefusal::Refused(WriteRefusal::BadArgument)));
     }
     let wrote = write_segment(
         output,
@@ -63,10 +59,7 @@ pub fn segment_write(
         low_unsigned(size),
         signature,
     );
-    let number = wrote_number(wrote);
-    let row = wrote_row(wrote);
-    put(answer, number, &row);
-    number
+    tell_wrote(answer, wrote)
 }
 
 // Reads an ApplyFirmware.
@@ -94,7 +87,7 @@ pub fn apply_write(row: &[u64], texts: &[u8], output: &mut [u8], answer: &mut [u
         return UNFIT;
     }
     if bad_row(row) {
-        return tell_wrote(answer, TextWrote::Refused(WriteRefusal::BadArgument));
+        return tell_wrote(answer, Err(TextWriteRefusal::Refused(WriteRefusal::BadArgument)));
     }
     let apply = apply_at(row);
     let wrote = write_apply(output, apply, texts);

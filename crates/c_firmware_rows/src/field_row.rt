@@ -5,7 +5,7 @@ ghost use Rattle.c_firmware_rows.specs.FieldRow.{fixed_kind, field_row, field_to
 
 use c_rows::row::number_of_result;
 use proto_field::Refusal;
-use proto_field::fields::Field;
+use proto_field::fields::FoundField;
 use proto_field::tag::{FIXED32, FIXED64, LENGTH, VARINT};
 use proto_field::value::Value;
 
@@ -63,7 +63,7 @@ fn field_row(number: u64, value: Value, next: usize) -> [u64; 7]
 }
 
 // What was found at a place; the row is all 0 at the end of the message.
-pub fn found_row(found: Result<Option<Field>, Refusal>) -> FieldTold
+pub fn found_row(found: Result<Option<FoundField>, Refusal>) -> FieldTold
     ensures { result ≡ field_told (told_found found) }
 {
     let number = number_of_result(&found);

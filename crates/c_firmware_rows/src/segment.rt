@@ -1,16 +1,12 @@
-// UpdateComponentSegment: what its reader and its writer tell, as rows.
+// UpdateComponentSegment: what its reader tells, as a row.
 ghost use Rattle.std.specs.Prelude.{◌≡◌};
-ghost use Rattle.proto_reader.specs.Refusal.{number_more};
 ghost use Rattle.msg_firmware.specs.Segment.{segment_why, told_segment};
-ghost use Rattle.msg_segment_writer.specs.Segment.{told_segment_wrote};
-ghost use Rattle.c_message_rows.specs.Convert.{fault_of, wrote_row};
+ghost use Rattle.c_message_rows.specs.Convert.{fault_of};
 ghost use Rattle.c_firmware_rows.specs.More.{is_wide};
 ghost use Rattle.c_firmware_rows.specs.Segment.{segment_row};
 
 use c_message_rows::convert::fault_of;
 use msg_firmware::segment::{SegmentRefusal, UpdateComponentSegment};
-use msg_segment_writer::SegmentWrote;
-use wire::bytes::wide64;
 
 // The numbers of the answer row.
 pub const SEGMENT_ANSWER: usize = 8;
@@ -57,22 +53,5 @@ pub fn segment_row(read: Result<UpdateComponentSegment, SegmentRefusal>) -> [u64
             let [field, place] = fault_of_segment(why);
             [0, 0, 0, 0, 0, 0, field, place]
         }
-    }
-}
-
-pub fn wrote_number(wrote: SegmentWrote) -> u64
-    ensures { result ≡ number_more (told_segment_wrote wrote) }
-{
-    wide64(wrote.number())
-}
-
-pub fn wrote_row(wrote: SegmentWrote) -> [u64; 3]
-    ensures { result ≡ wrote_row (told_segment_wrote wrote) }
-{
-    match wrote {
-        SegmentWrote::Done(n) => [n as u64, 0, 0],
-        SegmentWrote::BadText { field, place } => [0, field, place as u64],
-        SegmentWrote::Profile(field) => [0, field, 0],
-        SegmentWrote::NoRoom => [0u64; 3],
     }
 }

@@ -6,22 +6,22 @@ ghost use Rattle.msg_control.specs.Envelope.{told_envelope};
 ghost use Rattle.msg_control.specs.Response.{told_response};
 ghost use Rattle.msg_device.specs.Features.{told_features};
 ghost use Rattle.msg_device.specs.Information.{told_information};
-ghost use Rattle.proto_writer.specs.Message.{told_wrote};
-ghost use Rattle.proto_strings.specs.Texts.{told_text_wrote};
-ghost use Rattle.c_rows.specs.Row.{afterwards, count_of};
+ghost use Rattle.wire.specs.Told.{told_by};
+ghost use Rattle.c_rows.specs.Row.{afterwards};
 ghost use Rattle.c_message_rows.specs.Convert.{is_signed, all_signed, payload_row, envelope_row, response_payload_of, payload_for, response_row, parts_row, transports_row, fault_of, fault_row, information_row, wrote_row, features_row};
 
-use c_rows::row::{Count, DONE, UNFIT, fill, put};
+use c_rows::row::{DONE, UNFIT, fill, put};
 use msg_control::envelope::{Envelope, EnvelopePayload, Payload};
-use msg_control::response::{Response, ResponsePayload};
+use msg_control::response::Response;
 use msg_device::features::DeviceFeatures;
 use msg_device::information::DeviceInformation;
 use proto_field::signed::{low_signed, sign_extended};
 use proto_reader::gathered::MOST_TRANSPORTS;
 use proto_reader::refusal::MessageRefusal;
 use proto_schema::NO_FIELD;
-use proto_strings::TextWrote;
-use proto_writer::message::Wrote;
+use proto_strings::Faulted;
+use wire::bytes::wide64;
+use wire::refusal::Numbered;
 
 // The numbers of the answer rows.
 pub const ENVELOPE_ANSWER: usize = 6;
@@ -47,8 +47,6 @@ const RESPONSE: u64 = 1;
 
 const MEMBER: u64 = 2;
 
-// The refusal of a string that is not well formed.
-const BAD_TEXT: u64 = 36;
 
 // Whether a number is a signed one of 32 bits, extended to 64.
 fn is_signed(n: u64) -> bool
@@ -57,48 +55,30 @@ fn is_signed(n: u64) -> bool
     sign_extended(low_signed(n)) == n
 }
 
-pub fn count_of(wrote: Wrote) -> Count
-    ensures { result ≡ count_of (told_wrote wrote) }
-{
-    match wrote {
-        Wrote::Done(n) => Count::of(n),
-        Wrote::Refused(why) => Count::none(why.number()),
-    }
-}
-
 // ---- writers of strings
 
-fn text_number(wrote: TextWrote) -> u64
-    ensures { result ≡ number_more (told_text_wrote wrote) }
-{
-    match wrote {
-        TextWrote::Done(_) => DONE,
-        TextWrote::Refused(why) => why.number() as u64,
-        TextWrote::BadText { field: _, place: _ } => BAD_TEXT,
-    }
-}
-
-fn text_row(wrote: TextWrote) -> [u64; 3]
-    ensures { result ≡ wrote_row (told_text_wrote wrote) }
-{
-    match wrote {
-        TextWrote::Done(n) => [n as u64, 0, 0],
-        TextWrote::Refused(_) => [0u64; 3],
-        TextWrote::BadText { field, place } => [0, field, place as u64],
-    }
-}
-
 // Tells what such a writer wrote in an answer row, and returns its number.
-pub fn tell_wrote(answer: &mut [u64], wrote: TextWrote) -> u64
+pub fn tell_wrote<E: Faulted>(answer: &mut [u64], wrote: Result<usize, E>) -> u64
     requires { length answer.old ≡ 3 }
-    ensures { (result ≡ number_more (told_text_wrote wrote))
+    ensures { (result ≡ number_more (told_by (λ why. (E.number_of why, E.goes_with why)) wrote))
         × (answer.new
-        ≡ afterwards (number_more (told_text_wrote wrote)) answer.old (wrote_row (told_text_wrote wrote))) }
+        ≡ afterwards (number_more (told_by (λ why. (E.number_of why, E.goes_with why)) wrote)) answer.old
+        (wrote_row (told_by (λ why. (E.number_of why, E.goes_with why)) wrote))) }
 {
-    let number = text_number(wrote);
-    let row = text_row(wrote);
-    put(answer, number, &row);
-    number
+    match wrote {
+        Ok(size) => {
+            let row = [size as u64, 0, 0];
+            put(answer, DONE, &row);
+            DONE
+        }
+        Err(why) => {
+            let number = wide64(why.number());
+            let fault = why.fault();
+            let row = [0, fault[0], fault[1]];
+            put(answer, number, &row);
+            number
+        }
+    }
 }
 
 // ---- the envelope
@@ -141,16 +121,16 @@ pub fn envelope_row(read: Result<Envelope, MessageRefusal>) -> [u64; 6]
 }
 
 // The payload of a response: none where the field is 0, and out of range where its error code is no signed number.
-pub fn response_payload(error_code: u64, field: u64) -> ResponsePayload
+pub fn response_payload(error_code: u64, field: u64) -> Option<u64>
     ensures { result ≡ response_payload_of error_code field }
 {
     if !is_signed(error_code) {
-        return ResponsePayload::Member(NO_FIELD);
+        return Some(NO_FIELD);
     }
     if field == NO_FIELD {
-        return ResponsePayload::None;
+        return None;
     }
-    ResponsePayload::Member(field)
+    Some(field)
 }
 
 // The payload of an envelope: one that is none of the three, or beside a command that is no signed number, is out of range.

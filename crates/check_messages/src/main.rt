@@ -3,12 +3,12 @@
 // input that is too long.
 #![tactic(auto)]
 
-use check_answering::{NO_KIND, TOO_LONG, refuse, show, show_text};
+use check_answering::{NO_KIND, TOO_LONG, refuse, show};
 use cli_console::read_quietly;
 use msg_control::envelope::{EnvelopePayload, Payload, read_envelope, write_envelope};
-use msg_control::response::{ResponsePayload, read_response, write_response};
+use msg_control::response::{read_response, write_response};
 use msg_device::features::{read_features, write_features};
-use msg_device::information::{read_information, write_information};
+use msg_device::information::{InformationToWrite, read_information, write_information};
 use std::io::Stdout;
 use wire::refusal::Numbered;
 
@@ -22,11 +22,11 @@ const FEATURES: u8 = b'F';
 // A letter, a message of at most 8,192 bytes, and one byte that is too many.
 const INPUT: usize = 8194;
 
-fn inner(field: u64) -> ResponsePayload {
+fn inner(field: u64) -> Option<u64> {
     if field == 0 {
-        return ResponsePayload::None;
+        return None;
     }
-    ResponsePayload::Member(field)
+    Some(field)
 }
 
 fn envelope_again(to: Stdout, message: &[u8], out: &mut [u8]) {
@@ -71,14 +71,14 @@ fn information_again(to: Stdout, message: &[u8], out: &mut [u8]) {
     match read_information(message) {
         Err(why) => refuse(to, why.number()),
         Ok(i) => {
-            let wrote = write_information(
-                out,
-                i.serial_number.of(message),
-                i.name.of(message),
-                &i.transports[..i.count],
-                i.device_type.of(message),
-            );
-            show_text(to, wrote, out);
+            let again = InformationToWrite {
+                serial_number: i.serial_number.of(message),
+                name: i.name.of(message),
+                transports: &i.transports[..i.count],
+                device_type: i.device_type.of(message),
+            };
+            let wrote = write_information(out, again);
+            show(to, wrote, out);
         }
     }
 }

@@ -7,9 +7,7 @@ ghost use Rattle.proto_writer.specs.Writer.{message_bytes};
 ghost use Rattle.msg_control.specs.Envelope.{payload_of, told_payload, envelope_of, told_envelope, payload_parts, envelope_parts, bad_payload, payload_fields, envelope_written};
 ghost use Rattle.proto_writer.specs.Message.{told_wrote};
 
-use crate::response::{
-    Response, ResponsePayload, bad_response_payload, put_response, response_from, response_len,
-};
+use crate::response::{Response, bad_response_payload, put_response, response_from, response_len};
 use proto_field::signed::{low_signed, sign_extended};
 use proto_field::value::Part;
 use proto_reader::gathered::Gathered;
@@ -17,7 +15,7 @@ use proto_reader::reader::read_fields;
 use proto_reader::refusal::MessageRefusal;
 use proto_schema::{COMMAND, FIRST, NO_FIELD, RESPONSE, Schema};
 use proto_writer::fields::{head_len, part_len, put_head, put_part, put_scalar, scalar_len};
-use proto_writer::message::{WriteRefusal, Wrote, bad_member};
+use proto_writer::message::{WriteRefusal, bad_member};
 
 #[derive(Clone, Copy)]
 pub enum Payload {
@@ -32,13 +30,13 @@ pub struct Envelope {
     pub payload: Payload,
 }
 
-// The payload of an envelope that is written. The lent bytes are those of the member, also of the response's.
+// The payload of an envelope that is written. The lent bytes are those of the member, also of the response's, which is known by its number.
 #[derive(Clone, Copy)]
 pub enum EnvelopePayload {
     None,
     Response {
         error_code: i32,
-        payload: ResponsePayload,
+        payload: Option<u64>,
     },
     Member(u64),
 }
@@ -132,19 +130,23 @@ fn put_payload(out: &mut [u8], at: usize, payload: EnvelopePayload, body: &[u8])
 }
 
 // Writes a control envelope.
-pub fn write_envelope(out: &mut [u8], command: i32, payload: EnvelopePayload, body: &[u8]) -> Wrote
+pub fn write_envelope(
+    out: &mut [u8],
+    command: i32,
+    payload: EnvelopePayload,
+    body: &[u8],
+) -> Result<usize, WriteRefusal>
     ensures { written (told_wrote result) out.new
         ≡ envelope_written command payload body.now out.old }
 {
     if bad_payload(payload) {
-        return Wrote::Refused(WriteRefusal::BadArgument);
+        return Err(WriteRefusal::BadArgument);
     }
     let value = sign_extended(command);
     let len = scalar_len(COMMAND, value) + payload_len(payload, body);
     if out.len() < len {
-        return Wrote::Refused(WriteRefusal::NoRoom);
+        return Err(WriteRefusal::NoRoom);
     }
     let next = put_scalar(out, 0, COMMAND, value);
-    let end = put_payload(out, next, payload, body);
-    Wrote::Done(end)
+    Ok(put_payload(out, next, payload, body))
 }

@@ -7,6 +7,7 @@ use Rattle.proto_field.specs.declared.value.Part.{Part}
 use Rattle.proto_reader.specs.declared.gathered.Gathered.{Gathered}
 use Rattle.proto_schema.specs.declared.Schema.TheVariants as Schema
 use Rattle.msg_device.specs.declared.information.DeviceInformation.{DeviceInformation}
+use Rattle.msg_device.specs.declared.information.InformationToWrite.{InformationToWrite}
 use Rattle.proto_schema.specs.Schema.{serial_number_field, name_field, transports_field, device_type_field, first, second, third}
 use Rattle.proto_reader.specs.Gathered.{most_transports, no_part}
 use Rattle.proto_reader.specs.declared.refusal.MessageRefusal.{MessageRefusal}
@@ -53,3 +54,13 @@ information_strings serial_number name device_type = (serial_number_field, seria
 unfoldable pub information_written : List ℕ → List ℕ → List ℤ → List ℕ → List ℕ → WrittenOf (ℕ × List ℕ) ℕ
 information_written serial_number name transports device_type out =
     writes_texts (ltb most_transports (length transports)) (information_strings serial_number name device_type) (information_fields serial_number name transports device_type) out
+
+-- the same, of what the writer is lent
+abbrev pub fields_to_write : InformationToWrite → List Field
+fields_to_write i = information_fields i.serial_number.now i.name.now i.transports.now i.device_type.now
+
+abbrev pub strings_to_write : InformationToWrite → List (ℕ × List ℕ)
+strings_to_write i = information_strings i.serial_number.now i.name.now i.device_type.now
+
+abbrev pub information_to_write : InformationToWrite → List ℕ → WrittenOf (ℕ × List ℕ) ℕ
+information_to_write i out = information_written i.serial_number.now i.name.now i.transports.now i.device_type.now out

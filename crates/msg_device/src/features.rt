@@ -10,7 +10,7 @@ use proto_reader::reader::read_fields;
 use proto_reader::refusal::MessageRefusal;
 use proto_schema::{DEVICE_ATTRIBUTES, FEATURES, FIRST, SECOND, Schema};
 use proto_writer::fields::{put_scalar, scalar_len};
-use proto_writer::message::{WriteRefusal, Wrote};
+use proto_writer::message::WriteRefusal;
 
 #[derive(Clone, Copy)]
 pub struct DeviceFeatures {
@@ -48,11 +48,11 @@ pub fn put_features(out: &mut [u8], features: DeviceFeatures) -> usize
 }
 
 // Writes device features.
-pub fn write_features(out: &mut [u8], features: DeviceFeatures) -> Wrote
+pub fn write_features(out: &mut [u8], features: DeviceFeatures) -> Result<usize, WriteRefusal>
     ensures { written (told_wrote result) out.new ≡ features_written features out.old }
 {
     if out.len() < features_len(features) {
-        return Wrote::Refused(WriteRefusal::NoRoom);
+        return Err(WriteRefusal::NoRoom);
     }
-    Wrote::Done(put_features(out, features))
+    Ok(put_features(out, features))
 }

@@ -7,7 +7,7 @@ ghost use Rattle.msg_firmware.specs.Information.{part_of_component, part_told, p
 
 use crate::component::{FirmwareComponent, component_from};
 use proto_field::Refusal;
-use proto_field::fields::{Field, new, next};
+use proto_field::fields::{FoundField, new, next};
 use proto_field::unsigned::low_unsigned;
 use proto_field::value::{Part, Value};
 use proto_field::varint::Placed;
@@ -28,7 +28,7 @@ pub struct FirmwareInformation {
 }
 
 // The part of a component, if a field is one.
-fn component_part(field: Field) -> Option<Part>
+fn component_part(field: FoundField) -> Option<Part>
     ensures { part_told result ≡ part_of_component field.number field.value }
 {
     match field.value {
@@ -38,7 +38,7 @@ fn component_part(field: Field) -> Option<Part>
 }
 
 // Whether what was found is a field that is no component.
-fn is_other(found: Result<Option<Field>, Refusal>) -> bool
+fn is_other(found: Result<Option<FoundField>, Refusal>) -> bool
     ensures { result ≡ is_other (told_found found) }
 {
     match found {
@@ -48,7 +48,7 @@ fn is_other(found: Result<Option<Field>, Refusal>) -> bool
 }
 
 // What was found, if it is a component: its part and the place after it.
-fn component_found(found: Result<Option<Field>, Refusal>) -> Option<Placed<Part>>
+fn component_found(found: Result<Option<FoundField>, Refusal>) -> Option<Placed<Part>>
     ensures { result ≡ component_of (told_found found) }
 {
     let field = found.ok()??;

@@ -4,7 +4,7 @@ use Rattle.wire.specs.Told.{Told, given, refused, and_then}
 use Rattle.proto_field.specs.declared.value.Part.{Part}
 use Rattle.proto_field.specs.declared.value.Value.{Value}
 use Rattle.proto_field.specs.declared.Refusal.{Refusal}
-use Rattle.proto_field.specs.declared.fields.Field.{Field}
+use Rattle.proto_field.specs.declared.fields.FoundField.{FoundField}
 use Rattle.proto_field.specs.Refusal.{number_of}
 use Rattle.proto_field.specs.Tag.{tag_at}
 use Rattle.proto_field.specs.Value.{value_at, value_parts}
@@ -21,7 +21,7 @@ found_at s at =
     (and_then (tag_at s at) (λ h. and_then (value_at s h.next h.wire) (λ v. given (field h.field v.0 v.1))))
 
 -- the answers of field_at
-abbrev pub told_found : Result (Option Field) Refusal → Told Standing
+abbrev pub told_found : Result (Option FoundField) Refusal → Told Standing
 told_found (Ok (Some f)) = given (field f.number f.value f.next)
 told_found (Ok None) = given end
 told_found (Err e) = refused (number_of e)

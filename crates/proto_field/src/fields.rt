@@ -15,7 +15,7 @@ pub struct Fields<'a> {
 
 // A field's number and its value, and the place after it.
 #[derive(Clone, Copy)]
-pub struct Field {
+pub struct FoundField {
     pub number: u64,
     pub value: Value,
     pub next: usize,
@@ -24,12 +24,12 @@ pub struct Field {
 // What stands at the reader's place: a field, or none at the end of the message; and the reader behind it.
 #[derive(Drop)]
 pub struct NextField<'a> {
-    pub found: Result<Option<Field>, Refusal>,
+    pub found: Result<Option<FoundField>, Refusal>,
     pub rest: Fields<'a>,
 }
 
 // The field at a place of a message, or none at its end.
-fn field_at(message: &[u8], at: usize) -> Result<Option<Field>, Refusal>
+fn field_at(message: &[u8], at: usize) -> Result<Option<FoundField>, Refusal>
     ensures { (told_found result ≡ found_at message.now at)
         × TellsWithin message.now standing_parts (told_found result) }
 {
@@ -38,7 +38,7 @@ fn field_at(message: &[u8], at: usize) -> Result<Option<Field>, Refusal>
     }
     let head = read_tag(message, at)?;
     let read = read_value(message, head.next, head.wire)?;
-    Ok(Some(Field {
+    Ok(Some(FoundField {
         number: head.field,
         value: read.value,
         next: read.next,
@@ -46,7 +46,7 @@ fn field_at(message: &[u8], at: usize) -> Result<Option<Field>, Refusal>
 }
 
 // The place behind what was found at a place: a field's end, or the same place where there is none.
-fn place_behind(found: Result<Option<Field>, Refusal>, at: usize) -> usize
+fn place_behind(found: Result<Option<FoundField>, Refusal>, at: usize) -> usize
     ensures { result ≡ behind at (told_found found) }
 {
     match found {
@@ -84,7 +84,7 @@ pub fn next<'a>(r: Fields<'a>) -> NextField<'a>
 }
 
 // The field at a place, by the record. Its parameters are a plain slice and a place, so its callers need no walk by hand.
-pub fn found_at(message: &[u8], at: usize) -> Result<Option<Field>, Refusal>
+pub fn found_at(message: &[u8], at: usize) -> Result<Option<FoundField>, Refusal>
     ensures { (told_found result ≡ found_at message.now at)
         × TellsWithin message.now standing_parts (told_found result) }
 {

@@ -28,7 +28,7 @@ use Rattle.proto_reader.specs.declared.gathered.Gathered.{Gathered}
 use Rattle.proto_reader.specs.Gathered.{most_transports, most_repeated, nothing, parts_gathered, with_text, with_transport, AllText}
 use Rattle.proto_schema.specs.Schema.{role_of, fits_role, is_member, is_repeated}
 use Rattle.proto_reader.specs.declared.reader.Added.{Added}
-use Rattle.proto_reader.specs.Walk.{placed, entry_at, packed_from, judged, value_added, added_at, read_at, with_string, with_added, field_at, fields_from, added_parts, Counts, Fits}
+use Rattle.proto_reader.specs.Walk.{placed, entry_at, packed_from, judged, value_added, added_at, read_at, with_string, with_added, field_at, fields_from, added_parts, Counts, AddsWithin}
 use Rattle.proto_reader.proofs.Walks.{Forward, walk-keeps}
 use Rattle.proto_reader.proofs.Strings.{text-set}
 
@@ -91,7 +91,7 @@ value-counts count Unknown field (Bytes p) h = tt
 value-counts count role field (Skipped p) h = tt
 
 abbrev Adds : List ℕ → ℕ → ℕ → Added × ℕ → Type 0
-Adds s at count q = (at < q.1) × Fits s count q.0
+Adds s at count q = (at < q.1) × AddsWithin s count q.0
 
 read-adds : (schema : Schema) (s : List ℕ) (at member count : ℕ) → Sat (Adds s at count) (read_at schema s at member count)
 unfolding read_at added_at
@@ -104,7 +104,7 @@ read-adds schema s at member count =
     (λ v k. (omega arith, (value-within s (role_of schema h.field) h.field v.0 k.1, value-counts count (role_of schema h.field) h.field v.0 w)))))
 
 -- what a field adds can be gathered
-pub read-fits : (schema : Schema) (s : List ℕ) (at member count : ℕ) (q : Added × ℕ) → read_at schema s at member count ≡ given q → Fits s count q.0
+pub read-fits : (schema : Schema) (s : List ℕ) (at member count : ℕ) (q : Added × ℕ) → read_at schema s at member count ≡ given q → AddsWithin s count q.0
 read-fits schema s at member count q e =
     (sat-given (Adds s at count) (read_at schema s at member count) q (read-adds schema s at member count) e).1
 

@@ -130,5 +130,5 @@ Counts count Added.Repeated = count < most_repeated
 Counts count (Added.Transport v) = Unit {0}
 Counts count (Added.Packed p) = Unit {0}
 
-abbrev pub Fits : List ℕ → ℕ → Added → Type 0
-Fits s count a = Within s (added_parts a) × Counts count a
+abbrev pub AddsWithin : List ℕ → ℕ → Added → Type 0
+AddsWithin s count a = Within s (added_parts a) × Counts count a

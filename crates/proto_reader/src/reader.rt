@@ -4,7 +4,7 @@ ghost use Rattle.proto_field.specs.Value.{bytes_of};
 ghost use Rattle.utf8.specs.WellFormed.{bad_place};
 ghost use Rattle.proto_reader.specs.Gathered.{field_judged, told_field_verdict};
 ghost use Rattle.proto_reader.specs.Refusal.{judged_as, told_kept};
-ghost use Rattle.proto_reader.specs.Walk.{entry_at, packed_from, judged, number_added, part_added, value_added, added_at, read_at, with_string, with_added, fields_from, Fits, told_entry, told_field};
+ghost use Rattle.proto_reader.specs.Walk.{entry_at, packed_from, judged, number_added, part_added, value_added, added_at, read_at, with_string, with_added, fields_from, AddsWithin, told_entry, told_field};
 
 use crate::gathered::{Gathered, MOST_REPEATED};
 use crate::refusal::MessageRefusal;
@@ -161,7 +161,7 @@ fn add_text(
 
 // What a field adds is gathered.
 fn add(gathered: &mut Gathered, message: &[u8], added: Added) -> Result<(), MessageRefusal>
-    requires { Fits message.now gathered.old.count added }
+    requires { AddsWithin message.now gathered.old.count added }
     ensures { judged_as result gathered.new ≡ with_added message.now added gathered.old }
 {
     match added {
