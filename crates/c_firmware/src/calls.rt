@@ -50,7 +50,10 @@ pub fn segment_write(
         return UNFIT;
     }
     if either(is_wide(offset), is_wide(size)) {
-        return tell_wrote(answer, Err(TextWriteRefusal::Refused(WriteRefusal::BadArgument)));
+        return tell_wrote(
+            answer,
+            Err(TextWriteRefusal::Refused(WriteRefusal::BadArgument)),
+        );
     }
     let wrote = write_segment(
         output,
@@ -87,7 +90,10 @@ pub fn apply_write(row: &[u64], texts: &[u8], output: &mut [u8], answer: &mut [u
         return UNFIT;
     }
     if bad_row(row) {
-        return tell_wrote(answer, Err(TextWriteRefusal::Refused(WriteRefusal::BadArgument)));
+        return tell_wrote(
+            answer,
+            Err(TextWriteRefusal::Refused(WriteRefusal::BadArgument)),
+        );
     }
     let apply = apply_at(row);
     let wrote = write_apply(output, apply, texts);

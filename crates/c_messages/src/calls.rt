@@ -157,10 +157,16 @@ pub fn information_write(
         return UNFIT;
     }
     if MOST_TRANSPORTS < transports.len() {
-        return tell_wrote(answer, Err(TextWriteRefusal::Refused(WriteRefusal::BadArgument)));
+        return tell_wrote(
+            answer,
+            Err(TextWriteRefusal::Refused(WriteRefusal::BadArgument)),
+        );
     }
     if !all_signed(transports) {
-        return tell_wrote(answer, Err(TextWriteRefusal::Refused(WriteRefusal::BadArgument)));
+        return tell_wrote(
+            answer,
+            Err(TextWriteRefusal::Refused(WriteRefusal::BadArgument)),
+        );
     }
     let list = signed_list(transports);
     let wanted = InformationToWrite {
