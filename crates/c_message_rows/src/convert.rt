@@ -1,5 +1,5 @@
 // Control messages: what was read as rows, and what the writers are given by numbers.
-ghost use Rattle.std.specs.Prelude.{◌≡◌, ◌++◌, map, ◌≤◌, length, take};
+ghost use Rattle.std.specs.Prelude.{◌≡◌, map, ◌≤◌, length, take};
 ghost use Rattle.proto_field.specs.Signed.{signed_of};
 ghost use Rattle.proto_reader.specs.Refusal.{why_of, number_more, told_more};
 ghost use Rattle.msg_control.specs.Envelope.{told_envelope};
@@ -46,7 +46,6 @@ const NONE: u64 = 0;
 const RESPONSE: u64 = 1;
 
 const MEMBER: u64 = 2;
-
 
 // Whether a number is a signed one of 32 bits, extended to 64.
 fn is_signed(n: u64) -> bool
