@@ -13,7 +13,7 @@ use Rattle.proto_field.specs.Value.{bytes_of}
 use Rattle.proto_writer.specs.Writer.{scalar, text, nested, head_bytes, field_bytes, message_bytes}
 use Rattle.proto_writer.proofs.Runs.{message-length, joined_length}
 use Rattle.proto_strings.specs.declared.TextFault.{TextFault}
-use Rattle.std.specs.Prelude.{⊤, Result, Ok, Err}
+use Rattle.std.specs.Prelude.{⊤, Result, Ok}
 use Rattle.proto_strings.specs.Texts.{or_text, fault_from, first_fault}
 use Rattle.proto_schema.specs.Schema.{firmware_version_field, firmware_name_field, locale_field, version_name_field, firmware_information_field, restart_required_field}
 use Rattle.msg_firmware.specs.declared.component.FirmwareComponent.{FirmwareComponent}
@@ -75,11 +75,6 @@ apply-length texts a =
     omega (arith, message-length (nested firmware_information_field l) (f₂ ∷ []), message-length f₂ [], nested-length firmware_information_field l)
 
 -- ---- strings
--- a fault that was found stays
-pub fault-stays : (fault : TextFault) (xs : List (ℕ × List ℕ)) → Err fault ≡ fault_from (Err fault) xs
-fault-stays fault [] = refl
-fault-stays fault (t ∷ xs) = fault-stays fault xs
-
 -- some, and then others
 pub fault-append : (fault : Result ⊤ TextFault) (xs ys : List (ℕ × List ℕ)) → fault_from fault (xs ++ ys) ≡ fault_from (fault_from fault xs) ys
 fault-append fault [] ys = refl

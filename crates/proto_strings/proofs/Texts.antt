@@ -10,9 +10,9 @@ use Rattle.utf8.specs.WellFormed.{WellFormed, bad_place}
 use Rattle.utf8.proofs.Places.{well-formed-whole}
 use Rattle.proto_writer.specs.Writer.{Field}
 use Rattle.proto_writer.specs.Message.{writes_message}
-use Rattle.std.specs.Prelude.{⊤, Result, Ok, Err}
+use Rattle.std.specs.Prelude.{Ok, Err}
 use Rattle.proto_strings.specs.declared.TextFault.{TextFault}
-use Rattle.proto_strings.specs.Texts.{or_text, first_fault, AllWellFormed, why_of_fault, faulted, alone_written, writes_texts}
+use Rattle.proto_strings.specs.Texts.{or_text, fault_from, first_fault, AllWellFormed, why_of_fault, faulted, alone_written, writes_texts}
 
 -- no fault is found in strings that are well formed
 well-none : (field : ℕ) (s : List ℕ) → WellFormed s → or_text field s (Ok tt) ≡ Ok tt
@@ -21,6 +21,11 @@ well-none field s w = rw (eq-eqb (bad_place s) (length s) (well-formed-whole s w
 pub well-faultless : (strings : List (ℕ × List ℕ)) → AllWellFormed strings → first_fault strings ≡ Ok tt
 well-faultless [] w = refl
 well-faultless (t ∷ ts) w = rw (well-none t.0 t.1 w.0) (well-faultless ts w.1)
+
+-- a fault that was found stays, whatever strings come after it
+pub fault-stays : (fault : TextFault) (strings : List (ℕ × List ℕ)) → Err fault ≡ fault_from (Err fault) strings
+fault-stays fault [] = refl
+fault-stays fault (t ∷ ts) = fault-stays fault ts
 
 taken : {A : Type 0} (t : Bool) (x y : A) → t ≡ false → cond t x y ≡ y
 taken true x y e = absurd (true≢false e)

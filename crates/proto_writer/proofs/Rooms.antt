@@ -56,12 +56,6 @@ pub message-append : (fs gs : List Field) → message_bytes fs ++ message_bytes 
 message-append [] gs = refl
 message-append (f ∷ fs) gs = append_assoc (field_bytes f) (message_bytes fs) (message_bytes gs) ∙ ap (λ l. field_bytes f ++ l) (message-append fs gs)
 
-pub room-join : (fs gs : List Field) (r : Option ℕ) {r₁ r₂ : Option ℕ} → r₁ ≡ less_room (length (message_bytes fs)) r → r₂ ≡ less_room (length (message_bytes gs)) r₁
-    → r₂ ≡ less_room (length (message_bytes (fs ++ gs))) r
-room-join fs gs r e₁ e₂ =
-    e₂ ∙ ap (less_room (length (message_bytes gs))) e₁ ∙ less-less (length (message_bytes fs)) (length (message_bytes gs)) r
-    ∙ ap (λ k. less_room k r) (sym (joined_length (message_bytes fs) (message_bytes gs) (message-append fs gs)))
-
 pub put-join : {l l₁ l₂ : List ℕ} {at n m : ℕ} (fs gs : List Field) → Put l at (message_bytes fs) n l₁ → Put l₁ n (message_bytes gs) m l₂
     → Put l at (message_bytes (fs ++ gs)) m l₂
 put-join fs gs p q = put_then (message_bytes fs) (message_bytes gs) (message-append fs gs) p q
@@ -78,16 +72,7 @@ nested-length f l = joined_length (head_bytes f (length l)) l (nested_is f l)
 pub nested-short : (f k : ℕ) (l : List ℕ) → less_room (length l) (Some k) ≡ None → None ≡ less_room (length (field_bytes (nested f l))) (Some k)
 nested-short f k l e = sym (rw (lt-ltb k (length (field_bytes (nested f l))) (omega (arith, room-short k (length l) e, nested-length f l))))
 
-pub nested-left : (f k m : ℕ) (l : List ℕ) {h : ℕ} {r : Option ℕ} → less_room (length l) (Some k) ≡ Some m → h ≡ length (head_bytes f (length l)) → r ≡ less_room h (Some m)
-    → r ≡ less_room (length (field_bytes (nested f l))) (Some k)
-nested-left f k m l {h} e g q =
-    let sum : length l + h ≡ length (field_bytes (nested f l)) = omega (arith, nested-length f l) in
-    q ∙ ap (less_room h) (sym e) ∙ less-less (length l) h (Some k) ∙ ap (λ n. less_room n (Some k)) sum
-
 -- ---- a field that is left out
-pub room-skip : (f : Field) (fs : List Field) (r : Option ℕ) {r₁ : Option ℕ} → field_bytes f ≡ [] → r₁ ≡ less_room (length (message_bytes fs)) r → r₁ ≡ less_room (length (message_bytes (f ∷ fs))) r
-room-skip f fs r e q = rw e q
-
 pub put-skip : {l l₁ : List ℕ} {at n : ℕ} (f : Field) (fs : List Field) → field_bytes f ≡ [] → Put l at (message_bytes fs) n l₁ → Put l at (message_bytes (f ∷ fs)) n l₁
 put-skip f fs e p = rw e p
 

@@ -6,7 +6,8 @@ use Rattle.std.proofs.lemmas.Result.{err_from_is_err_and}
 use Rattle.proto_strings.specs.Texts.{fault_from, first_fault}
 use Rattle.msg_firmware.specs.Component.{no_component}
 use Rattle.msg_apply_writer.specs.Information.{components_strings}
-use Rattle.msg_apply_writer.proofs.Texts.{components-fine, fault-stays}
+use Rattle.proto_strings.proofs.Texts.{fault-stays}
+use Rattle.msg_apply_writer.proofs.Texts.{components-fine}
 use Rattle.msg_apply_writer.proofs.Listed.{listed_here, listed-end}
 use borrow.Author.Rules.{rules}
 use Rattle.msg_apply_writer.proofs.information.components_fault.Goals as goal

@@ -7,7 +7,8 @@ use Rattle.proto_field.specs.Value.{bytes_of}
 use Rattle.proto_schema.specs.Schema.{locale_field, version_name_field}
 use Rattle.proto_strings.specs.Texts.{or_text, fault_from}
 use Rattle.msg_apply_writer.specs.Information.{present, components_strings}
-use Rattle.msg_apply_writer.proofs.Texts.{firmware-fine, fault-stays, strings-rest}
+use Rattle.proto_strings.proofs.Texts.{fault-stays}
+use Rattle.msg_apply_writer.proofs.Texts.{firmware-fine, strings-rest}
 use Rattle.msg_apply_writer.proofs.Ascii.{ascii-firmware}
 use Rattle.msg_apply_writer.proofs.information.firmware_fault.Goals as goal
 
