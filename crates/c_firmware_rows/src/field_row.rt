@@ -18,7 +18,7 @@ const FIELD: u64 = 1;
 // The bytes of a field of the kind FIXED64.
 const EIGHT: usize = 8;
 
-// The number that a reading returns, and its row.
+// The number that a reading returns, and its row: C is told both, as `field_told` says.
 #[derive(Drop)]
 pub struct FieldTold {
     pub number: u64,

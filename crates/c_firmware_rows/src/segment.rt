@@ -7,7 +7,6 @@ ghost use Rattle.c_firmware_rows.specs.Segment.{segment_row};
 
 use c_message_rows::convert::fault_of;
 use msg_firmware::segment::{SegmentRefusal, UpdateComponentSegment};
-use wire::bytes::wide64;
 
 // The numbers of the answer row.
 pub const SEGMENT_ANSWER: usize = 8;

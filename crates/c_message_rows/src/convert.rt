@@ -1,5 +1,5 @@
 // Control messages: what was read as rows, and what the writers are given by numbers.
-ghost use Rattle.std.specs.Prelude.{◌≡◌, ◌++◌, map, ◌≤◌, length, take};
+ghost use Rattle.std.specs.Prelude.{◌≡◌, map, ◌≤◌, length, take};
 ghost use Rattle.proto_field.specs.Signed.{signed_of};
 ghost use Rattle.proto_reader.specs.Refusal.{why_of, number_more, told_more};
 ghost use Rattle.msg_control.specs.Envelope.{told_envelope};
@@ -7,7 +7,7 @@ ghost use Rattle.msg_control.specs.Response.{told_response};
 ghost use Rattle.msg_device.specs.Features.{told_features};
 ghost use Rattle.msg_device.specs.Information.{told_information};
 ghost use Rattle.wire.specs.Told.{told_by};
-ghost use Rattle.c_rows.specs.Row.{afterwards, number_told};
+ghost use Rattle.c_rows.specs.Row.{afterwards};
 ghost use Rattle.c_message_rows.specs.Convert.{is_signed, all_signed, payload_row, envelope_row, response_payload_of, payload_for, response_row, parts_row, transports_row, fault_of, fault_row, information_row, wrote_row, features_row};
 
 use c_rows::row::{DONE, UNFIT, fill, put};

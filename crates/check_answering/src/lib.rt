@@ -29,5 +29,3 @@ pub fn show<E: Numbered>(to: Stdout, wrote: Result<usize, E>, out: &[u8])
         }
     }
 }
-
-}

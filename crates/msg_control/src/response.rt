@@ -15,7 +15,7 @@ use proto_schema::{ERROR_CODE, FIRST, Schema};
 use proto_writer::fields::{part_len, put_part, put_scalar, scalar_len};
 use proto_writer::message::{WriteRefusal, bad_member};
 
-// A response: its error code, and the field and the part of its payload. Field 0 is no payload.
+// A response: its error code, and the field and the part of its payload; without one 0 and the empty part, as `response_row` tells them.
 #[derive(Clone, Copy)]
 pub struct Response {
     pub error_code: i32,

@@ -1,5 +1,5 @@
 // Device information.
-ghost use Rattle.std.specs.Prelude.{◌≡◌, ◌≤◌, length, ltb, Some, IfOk};
+ghost use Rattle.std.specs.Prelude.{◌≡◌, ◌≤◌, length, ltb, IfOk, Some};
 ghost use Rattle.wire.specs.Told.{written};
 ghost use Rattle.wire.specs.Put.{Put};
 ghost use Rattle.proto_writer.specs.Writer.{message_bytes};
@@ -18,7 +18,7 @@ use proto_strings::{TextFault, TextWriteRefusal, check_text};
 use proto_writer::fields::{packed_len, put_packed, put_text, text_len};
 use proto_writer::message::WriteRefusal;
 
-// Strings are parts of the lent message; of the transports the first count are there.
+// Strings are parts of the lent message. The memory is fixed: of the eight transports the first count are there, and `information_row` tells all.
 #[derive(Clone, Copy)]
 pub struct DeviceInformation {
     pub serial_number: Part,

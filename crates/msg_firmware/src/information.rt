@@ -16,7 +16,7 @@ use proto_reader::reader::read_fields;
 use proto_reader::refusal::MessageRefusal;
 use proto_schema::{COMPONENTS, FIRST, SECOND, Schema, THIRD};
 
-// Strings are parts of the lent message; of the components the first count are there.
+// Strings are parts of the lent message. The memory is fixed: of the eight components the first count are there; `bad_firmware` judges a larger count.
 #[derive(Clone, Copy)]
 pub struct FirmwareInformation {
     pub version: u32,

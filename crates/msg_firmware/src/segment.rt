@@ -1,5 +1,5 @@
 // UpdateComponentSegment: the piece of firmware that comes next.
-ghost use Rattle.std.specs.Prelude.{◌≡◌, cond, ◌+◌, ◌≤◌, length};
+ghost use Rattle.std.specs.Prelude.{◌≡◌, cond, ◌≤◌};
 ghost use Rattle.proto_reader.specs.Refusal.{TellsStrings};
 ghost use Rattle.msg_firmware.specs.declared.segment.SegmentRefusal.TheVariants.{Message};
 ghost use Rattle.msg_firmware.specs.Segment.{between, is_digit, all_digits, is_signature, broken_field, field_told, segment_number, segment_made, segment_of, told_segment, segment_parts};

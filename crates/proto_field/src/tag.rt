@@ -8,7 +8,7 @@ use wire::bytes::wide64;
 
 // The largest field number.
 pub const LAST_FIELD: u64 = 536870911;
-// The wire types: a varint, eight bytes, a length and as many bytes, four bytes.
+// The wire types: a varint, eight bytes, a length and as many bytes, four bytes. They stay numbers: `tag_at`, `value_at` and C's `field_row` tell them.
 pub const VARINT: u64 = 0;
 
 pub const FIXED64: u64 = 1;

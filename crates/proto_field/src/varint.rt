@@ -40,8 +40,7 @@ pub(crate) fn read_long(message: &[u8], at: usize) -> Result<Placed<u64>, Refusa
     let mut value: u64 = 0;
     let mut weight: u64 = 1;
     let mut left = MORE_BYTES;
-    let mut i = at;
-    while i < message.len() {
+    for i in at..message.len() {
         let byte = wide64(message[i]);
         if left == 0 {
             if LAST_BYTE < byte {
@@ -59,7 +58,6 @@ pub(crate) fn read_long(message: &[u8], at: usize) -> Result<Placed<u64>, Refusa
         value += weight * (byte - BASE);
         weight *= BASE;
         left -= 1;
-        i += 1;
     }
     Err(Refusal::Cut)
 }

@@ -5,7 +5,6 @@ ghost use Rattle.proto_reader.specs.Gathered.{most_repeated, nothing, with_scala
 use proto_field::Refusal;
 use proto_field::signed::low_signed;
 use proto_field::value::Part;
-use proto_schema::{FIRST, SECOND, THIRD};
 
 // The most transports that are read and written.
 pub const MOST_TRANSPORTS: usize = 8;
@@ -16,11 +15,11 @@ pub const MOST_REPEATED: usize = 8;
 pub struct Gathered {
     pub scalars: [u64; 2],
     pub texts: [Part; 3],
-    // The member's field and part. Field 0 is no member.
+    // The member's field and part; 0 and the empty part without one: `apply_of` reads that part as an empty message, and `response_row` tells both.
     pub field: u64,
     pub part: Part,
     pub transports: [i32; 8],
-    // Of the transports, or of the messages of a repeated field.
+    // Of the transports, or of the messages of a repeated field. The memory is fixed: the first count of eight are there.
     pub count: usize,
 }
 

@@ -1,7 +1,5 @@
 // The reader of fields, for every message.
-ghost use Rattle.std.specs.Prelude.{◌≡◌, ◌+◌, ◌≤◌, length, take};
-ghost use Rattle.proto_field.specs.Value.{bytes_of};
-ghost use Rattle.utf8.specs.WellFormed.{bad_place};
+ghost use Rattle.std.specs.Prelude.{◌≡◌, ◌+◌, ◌≤◌, length};
 ghost use Rattle.proto_reader.specs.Gathered.{field_judged, told_field_verdict};
 ghost use Rattle.proto_reader.specs.Refusal.{judged_as, told_kept};
 ghost use Rattle.proto_reader.specs.Walk.{entry_at, packed_from, judged, number_added, part_added, value_added, added_at, read_at, with_string, with_added, fields_from, AddsWithin, told_entry, told_field};
@@ -56,7 +54,7 @@ fn read_entry(message: &[u8], at: usize, gathered: &mut Gathered) -> Result<usiz
     Ok(entry.next)
 }
 
-// The entries of a packed list, from a place to the end.
+// The entries of a packed list, from a place to the end; each ends at a place of its own.
 fn read_packed(message: &[u8], from: usize, gathered: &mut Gathered) -> Result<(), Refusal>
     ensures { field_judged result gathered.new ≡ packed_from message.now from gathered.old }
 {

@@ -2,11 +2,6 @@ use Rattle.std.proofs.Common.{◌≡◌, sym, arith, rules, length, length-take-
 use Rattle.check_messages.proofs.Sizes.{information-size}
 use Rattle.check_messages.proofs.information_again.Goals as goal
 
-pub slice_bounds-transports-end : goal.slice_bounds-transports-end
-slice_bounds-transports-end c =
-    let long : length c.in-Ok.i.transports ≡ 8 = search rules in
-    omega (arith, c.in-Ok.ensures.count_le_most_transports)
-
 pub slice_bounds-again-end : goal.slice_bounds-again-end
 slice_bounds-again-end c =
     let long : length c.in-Ok.i.transports ≡ 8 = search rules in

@@ -14,6 +14,3 @@ pub record Here (s : List ℕ) (at value weight left i : ℕ) : Type 0 where
 
 abbrev pub invariant-loop-i : goal.invariant-loop-i
 invariant-loop-i l = Here l.message l.at l.value l.weight l.left l.i
-
-abbrev pub decreases-loop-i : goal.decreases-loop-i
-decreases-loop-i l = length l.message - l.i
