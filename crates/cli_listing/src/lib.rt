@@ -29,6 +29,7 @@ pub enum RecordView {
 }
 
 // How far the listing of a part of a file went, and whether the listing is over: it is at the end of the file or at a refusal.
+// Two fields, since `ListsAsWhole` speaks of both, and each place means something.
 #[derive(Clone, Copy, Debug, PartialEq, Eq)]
 pub struct Listed {
     pub over: bool,

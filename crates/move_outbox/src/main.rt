@@ -32,6 +32,16 @@ struct Complaint {
     place: u64,
 }
 
+impl Complaint {
+    // Told by a place of a part, and by how many bytes of the file are gone from that part.
+    fn at(number: u8, gone: u64, place: usize) -> Self {
+        Complaint {
+            number,
+            place: wrapping_add_u64(gone, place as u64),
+        }
+    }
+}
+
 // What a pass has come to: what is written, and whether that has the version byte; the first refusal of a part that is whole, if any.
 #[derive(Drop)]
 struct PassSoFar {
@@ -47,14 +57,6 @@ fn complain_at(console: Console, refused: Complaint) {
     complain_number(console, refused.place);
     complain(console, b"\n");
     explain_outbox(console, refused.number);
-}
-
-// A refusal told by a place of a part, by how many bytes of the file are gone from that part.
-fn complaint(number: u8, gone: u64, place: usize) -> Complaint {
-    Complaint {
-        number,
-        place: wrapping_add_u64(gone, place as u64),
-    }
 }
 
 // The version that the argument names, where it names one.
@@ -95,7 +97,7 @@ fn refuse(before: PassSoFar, why: MoveRefusal, gone: u64) -> PassSoFar {
     };
     let refused = before
         .refused
-        .or(Some(complaint(why.number(), gone, place)));
+        .or(Some(Complaint::at(why.number(), gone, place)));
     PassSoFar {
         output: before.output,
         begun: before.begun,
@@ -168,7 +170,7 @@ fn pass_over<R: Read, K: Fn(PassSoFar, &[u8]) -> PassSoFar>(
         let listed = match judge_part(&buffer[..held], last) {
             Ok(part) => part,
             Err(broken) => {
-                complain_at(console, complaint(broken.number(), gone, broken.place));
+                complain_at(console, Complaint::at(broken.number(), gone, broken.place));
                 return false;
             }
         };

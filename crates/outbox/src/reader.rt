@@ -37,6 +37,7 @@ impl Numbered for ReadRefusal {
     }
 }
 
+// One line, as in capture_packet: a shared one would be no plainer.
 fn bad_place(file: &[u8], place: usize) -> bool
     ensures { result ≡ bad_place file.now place }
 {
