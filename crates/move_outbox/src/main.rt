@@ -161,7 +161,7 @@ fn first_part<R: Read>(console: Console, input: &mut R, buffer: &mut [u8]) -> Re
 }
 
 // A pass over standard input from its first part on, up to its end, a refusal, or a read or a write that fails; whether it came to
-// the end and nothing was refused. Nothing says that the input ends, so the loop counts down from a number that no run uses up.
+// the end and nothing was refused. Nothing says that the input ends, so the loop has a number of turns that no run uses up.
 fn pass_over<R: Read, K: Fn(PassSoFar, &[u8]) -> PassSoFar>(
     console: Console,
     input: &mut R,
@@ -185,9 +185,7 @@ fn pass_over<R: Read, K: Fn(PassSoFar, &[u8]) -> PassSoFar>(
         last: first.last,
         failed: first.failed,
     };
-    let mut turns = u64::MAX;
-    while turns > 0 {
-        turns -= 1;
+    for _ in 0..u64::MAX {
         let held = filled.held;
         let output = passed.output;
         if either(filled.failed, output.failed) {

@@ -7,18 +7,18 @@ use Rattle.move_outbox.proofs.pass_over.Goals as goal
 
 pub overflow_sub-place : goal.overflow_sub-place
 overflow_sub-place g c =
-    let l = c.loop-turns in
+    let l = c.loop in
     (told-within (format_of (take l.filled.held l.buffer)) _ l.buffer l.filled.held l.invariant.0 (sym (ap told_part c.in-Ok.is) ∙ c.judge_part.ensures) c.if-listed.false).0
 
 pub carry_over-kept-requires : goal.carry_over-kept-requires
 carry_over-kept-requires g c =
-    let l = c.loop-turns in
+    let l = c.loop in
     let within = told-within (format_of (take l.filled.held l.buffer)) _ l.buffer l.filled.held l.invariant.0 (sym (ap told_part c.in-Ok.is) ∙ c.judge_part.ensures) c.if-listed.false in
     (within.0, within.1, l.invariant.0)
 
 pub refill-filled-requires : goal.refill-filled-requires
 refill-filled-requires g c =
-    let l = c.loop-turns in
+    let l = c.loop in
     let within = told-within (format_of (take l.filled.held l.buffer)) _ l.buffer l.filled.held l.invariant.0 (sym (ap told_part c.in-Ok.is) ∙ c.judge_part.ensures) c.if-listed.false in
     let kept = carried-within l.buffer c.in-Ok.part.place l.filled.held c.carry_over-kept.ensures within.0 within.1 in
     omega (arith, kept, c.carry_over-kept.auto.buffer, l.invariant.0)
