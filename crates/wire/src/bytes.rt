@@ -57,13 +57,14 @@ pub fn put_pair(out: &mut [u8], at: usize, n: usize)
     out[at + 1] = (n - high * 256) as u8;
 }
 
-// Writes a run of bytes, or of numbers, from a place on.
-#[tactic(auto, using(crate::proofs::Stores::stored_mid))]
-pub fn copy<T: Copy>(out: &mut [T], at: usize, run: &[T])
+// Writes a run of bytes from a place on. By a loop: copy_from_slice below copy_block of scan.rt costs more instructions for each block.
+pub fn copy(out: &mut [u8], at: usize, run: &[u8])
     requires { at + length run.now ≤ length out.old }
     ensures { out.new ≡ sets out.old at run.now }
 {
-    out[at..at + run.len()].copy_from_slice(run);
+    for i in 0..run.len() {
+        out[at + i] = run[i];
+    }
 }
 
 // The smaller of two numbers.

@@ -108,20 +108,20 @@ fn copy_until(out: &mut [u8], at: usize, run: &[u8], from: usize, first: u8, las
     }
 }
 
-// Copies what stands before any byte in the range, and returns how much.
+// Copies what stands before any byte in the range, and returns how much. Its place is counted by hand: with a `for` over the number of the
+// block, and copy_from_slice below, writing a frame of 4,000 bytes took a third more instructions.
 pub fn copy_clear(out: &mut [u8], at: usize, run: &[u8], first: u8, last: u8) -> usize
     requires { at + length run.now ≤ length out.old }
     ensures { Copied first last run.now at out.old result out.new }
 {
-    let blocks = run.len() / BLOCK;
-    for n in 0..blocks {
-        let begin = n * BLOCK;
-        let end = begin + BLOCK;
-        if any_in_range(&run[begin..end], first, last) {
-            return copy_until(out, at, &run[..end], begin, first, last);
+    let mut i = 0;
+    while BLOCK <= run.len() - i {
+        let end = i + BLOCK;
+        if any_in_range(&run[i..end], first, last) {
+            return copy_until(out, at, &run[..end], i, first, last);
         }
-        copy_block(out, at + begin, &run[begin..end]);
+        copy_block(out, at + i, &run[i..end]);
+        i = end;
     }
-    let copied = blocks * BLOCK;
-    copied + copy_bytes(out, at + copied, &run[copied..], first, last)
+    i + copy_bytes(out, at + i, &run[i..], first, last)
 }
