@@ -21,8 +21,8 @@ pub fn lane_start(stream: Stream) -> usize
     }
 }
 
-// Copies blocks from a place of a run on while more than one is left, and returns up to where. `copy_from_slice` over the whole run is a
-// call of memcpy, which the few bytes of a packet do not repay (docs/SPEED.md, 288).
+// Copies blocks from a place of a run on while more than one is left, and returns up to where. With another test of its end the loop takes
+// nine instructions more (docs/SPEED.md, 288).
 fn copy_blocks(out: &mut [u8], at: usize, run: &[u8], from: usize) -> usize
     requires { (from ≤ length run.now) × (at + length run.now ≤ length out.old) }
     ensures { ((l : List ℕ) → out.old ≡ sets l at (take from run.now)

@@ -24,7 +24,7 @@ fn first_of(a: bool, b: bool, c: bool, d: bool) -> Option<usize>
     None
 }
 
-// Where an id is open. Not `iter().position`: the check found no proof that it is `spot_where`.
+// Where an id is open, test by test (see `find_idle`).
 pub fn find_open(lane: [Slot; 4], id: u8) -> Option<usize>
     ensures { result ≡ open_spot lane id }
 {
@@ -43,7 +43,7 @@ pub fn find_open(lane: [Slot; 4], id: u8) -> Option<usize>
     None
 }
 
-// The lowest idle slot.
+// The lowest idle slot. Not `iter().position`: the check by itself found no proof that it is `spot_where`.
 fn find_idle(lane: [Slot; 4]) -> Option<usize>
     ensures { result ≡ spot_where is_idle lane }
 {
