@@ -6,7 +6,7 @@ ghost use Rattle.capture_why.specs.Why.{total_read, why_told};
 ghost use Rattle.c_judge.specs.Convert.{judged_row, slot_numbers, state_numbers, state_row, came_row, any_numbers, next_numbers, expected_numbers, expected_row, refusal_read, len_read, why_row};
 
 use capture_judge::State;
-use capture_judge::capture::{Refusal, Verdict};
+use capture_judge::capture::{Refusal, SenderVerdict};
 use capture_next::NextPacket;
 use capture_reader::RefusedAt;
 use capture_stream::SenderSlot;
@@ -33,14 +33,14 @@ const FIRST: u64 = 2;
 
 const NEXT: u64 = 3;
 
-pub fn judged_row(judged: Result<Verdict, RefusedAt<Refusal>>) -> [u64; 2]
+pub fn judged_row(judged: Result<SenderVerdict, RefusedAt<Refusal>>) -> [u64; 2]
     ensures { result ≡ judged_row (told judged) }
 {
     match judged {
         Err(RefusedAt { why: _, at }) => [0, at as u64],
-        Ok(Verdict::Lawful) => [LAWFUL, 0],
-        Ok(Verdict::Open) => [OPEN, 0],
-        Ok(Verdict::Unlawful(at)) => [UNLAWFUL, at as u64],
+        Ok(SenderVerdict::Lawful) => [LAWFUL, 0],
+        Ok(SenderVerdict::Open) => [OPEN, 0],
+        Ok(SenderVerdict::Unlawful(at)) => [UNLAWFUL, at as u64],
     }
 }
 

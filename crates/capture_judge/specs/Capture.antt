@@ -8,8 +8,8 @@ use Rattle.capture_reader.specs.declared.RefusedAt.{RefusedAt}
 use Rattle.ble_sender.specs.Writer.{room_fits}
 use Rattle.capture_judge.specs.declared.capture.Refusal.{Refusal}
 use Rattle.capture_judge.specs.declared.capture.Refusal.TheVariants.{Long, Room, Limit, Capture}
-use Rattle.capture_judge.specs.declared.capture.Verdict.{Verdict}
-use Rattle.capture_judge.specs.declared.capture.Verdict.TheVariants.{Lawful as IsLawful, Open as IsOpen, Unlawful as IsUnlawful}
+use Rattle.capture_judge.specs.declared.capture.SenderVerdict.{SenderVerdict}
+use Rattle.capture_judge.specs.declared.capture.SenderVerdict.TheVariants.{Lawful as IsLawful, Open as IsOpen, Unlawful as IsUnlawful}
 use Rattle.capture_judge.specs.declared.capture.Judgement.{Judgement}
 use Rattle.capture_judge.specs.declared.capture.Judgement.TheVariants.{Going, Stopped}
 use Rattle.capture_judge.specs.Step.{idle, all_idle, step_of, after}
@@ -67,10 +67,10 @@ number_of (Capture why) = captures.number_of why
 abbrev pub trace_told : Result Judgement (RefusedAt Refusal) → ToldAt Judgement
 trace_told = told_at number_of
 
-abbrev pub answer_told : Verdict → Answer
+abbrev pub answer_told : SenderVerdict → Answer
 answer_told IsLawful = lawful
 answer_told IsOpen = open·ended
 answer_told (IsUnlawful at) = unlawful at
 
-abbrev pub told : Result Verdict (RefusedAt Refusal) → ToldAt Answer
+abbrev pub told : Result SenderVerdict (RefusedAt Refusal) → ToldAt Answer
 told r = and_then (told_at number_of r) (λ verdict. given (answer_told verdict))

@@ -51,7 +51,7 @@ pub enum Judgement {
 
 // Lawful; or open, where the capture ends inside a transaction; or the place of that packet's length.
 #[derive(Clone, Copy, Debug, PartialEq, Eq)]
-pub enum Verdict {
+pub enum SenderVerdict {
     Lawful,
     Open,
     Unlawful(usize),
@@ -115,31 +115,34 @@ pub fn trace(capture: &[u8], settings: Settings) -> Result<Judgement, RefusedAt<
 }
 
 // The verdict at the end.
-fn answer_in(verdict: Judgement) -> Verdict
+fn answer_in(verdict: Judgement) -> SenderVerdict
     ensures { answer_told result ≡ answer_in verdict }
 {
     match verdict {
         Judgement::Going(state) => {
             if state.is_idle() {
-                Verdict::Lawful
+                SenderVerdict::Lawful
             } else {
-                Verdict::Open
+                SenderVerdict::Open
             }
         }
-        Judgement::Stopped { at, state: _ } => Verdict::Unlawful(at),
+        Judgement::Stopped { at, state: _ } => SenderVerdict::Unlawful(at),
     }
 }
 
 pub(crate) fn answer_of(
     traced: Result<Judgement, RefusedAt<Refusal>>,
-) -> Result<Verdict, RefusedAt<Refusal>>
+) -> Result<SenderVerdict, RefusedAt<Refusal>>
     ensures { told result ≡ answer_of (trace_told traced) }
 {
     Ok(answer_in(traced?))
 }
 
 // Whether a capture is lawful for a room and a limit.
-pub fn judge_capture(capture: &[u8], settings: Settings) -> Result<Verdict, RefusedAt<Refusal>>
+pub fn judge_capture(
+    capture: &[u8],
+    settings: Settings,
+) -> Result<SenderVerdict, RefusedAt<Refusal>>
     ensures { told result ≡ judged_of settings.room settings.limit capture.now }
 {
     answer_of(trace(capture, settings))

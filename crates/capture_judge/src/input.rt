@@ -4,7 +4,7 @@ ghost use Rattle.capture_judge.specs.Capture.{trace_told, told};
 ghost use Rattle.capture_judge.specs.Input.{room_in, limit_in, input_traced, input_of};
 
 use crate::Settings;
-use crate::capture::{Judgement, Refusal, Verdict, answer_of, trace};
+use crate::capture::{Judgement, Refusal, SenderVerdict, answer_of, trace};
 use capture_reader::RefusedAt;
 use wire::bytes::{byte_at, pair, smaller};
 
@@ -48,7 +48,7 @@ pub fn trace_input(input: &[u8]) -> Result<Judgement, RefusedAt<Refusal>>
     trace(&input[start..], settings_in(input))
 }
 
-pub fn judge_input(input: &[u8]) -> Result<Verdict, RefusedAt<Refusal>>
+pub fn judge_input(input: &[u8]) -> Result<SenderVerdict, RefusedAt<Refusal>>
     ensures { told result ≡ input_of input.now }
 {
     answer_of(trace_input(input))

@@ -1,7 +1,7 @@
 // Judges the sender of the capture on standard input: room and limit, two bytes each, then the capture.
 #![tactic(auto)]
 
-use capture_judge::capture::{Refusal, Verdict};
+use capture_judge::capture::{Refusal, SenderVerdict};
 use capture_judge::input::{LARGEST_CAPTURE, SETTINGS, judge_input};
 use capture_reader::RefusedAt;
 use cli_console::sentences::explain_capture;
@@ -11,7 +11,7 @@ use wire::refusal::Numbered;
 // Room, limit, the largest capture, and one byte more, by which a larger one is told.
 const SPACE: usize = SETTINGS + LARGEST_CAPTURE + 1;
 
-fn show(console: Console, judged: Result<Verdict, RefusedAt<Refusal>>) {
+fn show(console: Console, judged: Result<SenderVerdict, RefusedAt<Refusal>>) {
     let output = Output::new(console);
     match judged {
         Err(RefusedAt { why, at: _ }) => {
@@ -21,13 +21,13 @@ fn show(console: Console, judged: Result<Verdict, RefusedAt<Refusal>>) {
                 .text(b"\n");
             explain_capture(console, why.number());
         }
-        Ok(Verdict::Lawful) => {
+        Ok(SenderVerdict::Lawful) => {
             output.text(b"lawful\n");
         }
-        Ok(Verdict::Open) => {
+        Ok(SenderVerdict::Open) => {
             output.text(b"open\n");
         }
-        Ok(Verdict::Unlawful(at)) => {
+        Ok(SenderVerdict::Unlawful(at)) => {
             output.text(b"unlawful at ").number(at as u64).text(b"\n");
         }
     }
