@@ -37,7 +37,8 @@ fn fill_apply(out: &mut [u8], apply: ApplyFirmware, texts: &[u8]) -> Result<usiz
     Ok(put_scalar(out, next, RESTART_REQUIRED, restart))
 }
 
-// Writes ApplyFirmware. Its strings are parts of the lent texts.
+// Writes ApplyFirmware. Its strings are parts of the lent texts, which stand beside it: C lends the row and the texts apart
+// (pito_apply_write).
 pub fn write_apply(
     out: &mut [u8],
     apply: ApplyFirmware,

@@ -31,6 +31,7 @@ pub struct Envelope {
 }
 
 // The payload of an envelope that is written. The lent bytes are those of the member, also of the response's, which is known by its number.
+// Three cases that C numbers 0, 1 and 2 (payload_for): no Option.
 #[derive(Clone, Copy)]
 pub enum EnvelopePayload {
     None,

@@ -1,4 +1,5 @@
-// Fields written into a lent output, and the numbers of bytes that they take.
+// Fields written into a lent output, and the numbers of bytes that they take. Of each kind of field one function counts and one writes:
+// one generic over both would name the same steps a third time.
 ghost use Rattle.std.specs.Prelude.{◌≡◌, map, ◌+◌, ◌*◌, ◌≤◌, ◌<◌, ◌^◌, length};
 ghost use Rattle.wire.specs.Put.{Put};
 ghost use Rattle.proto_field.specs.Signed.{extended};
