@@ -1,11 +1,10 @@
 // The extractor's state: its link's limit, where in a frame it is, and what it holds of it.
 ghost use Rattle.std.specs.Prelude.{◌≡◌, ◌≤◌};
-ghost use Rattle.classic_extractor.specs.State.{outside, begun, sequence_read, lawful_before, lawful_after, lawful, ready, empty, open_of, limit_number, told_open};
+ghost use Rattle.classic_extractor.specs.State.{outside, begun, sequence_read, lawful_before, lawful_after, lawful, ready, empty, open_of, told_open};
 
 use classic_frame::mark::is_mark;
-use wire::limit::limit_fits;
+use wire::limit::{BadLimit, limit_fits};
 use wire::logic::both;
-use wire::refusal::Numbered;
 
 // What the next byte is taken for, in the order of a frame.
 #[derive(Clone, Copy, Debug, PartialEq, Eq, PartialOrd, Ord)]
@@ -30,18 +29,6 @@ pub struct Progress {
 pub struct Extractor {
     pub limit: usize,
     pub progress: Progress,
-}
-
-// A limit out of its range: refusal 17.
-#[derive(Clone, Copy, Debug, PartialEq, Eq)]
-pub struct BadLimit;
-
-impl Numbered for BadLimit {
-    ghost number_of = { limit_number };
-
-    fn number(&self) -> u8 {
-        17
-    }
 }
 
 // What the lent buffer has beside the limit: room for a checksum.
