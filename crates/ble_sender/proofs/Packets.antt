@@ -6,13 +6,11 @@ use mathlib.Core.List.{List, ◌++◌}
 use mathlib.Core.Bool.{Bool, true, false}
 use lib.ListN.{length, take, drop, length-append}
 use lib.Seq.{sets}
-use Rattle.wire.specs.Told.{Written, given, written}
 use Rattle.wire.proofs.Stores.{sets_then}
 use Rattle.wire.proofs.Parts.{length_part}
 use Rattle.ble_packet.specs.Header.{start_size, length_place, header_size}
 use Rattle.ble_sender.specs.declared.piece.Piece.{Piece}
 use Rattle.ble_sender.specs.declared.writer.Sending.{Sending}
-use Rattle.ble_sender.specs.declared.writer.Sent.{Sent}
 use Rattle.ble_sender.specs.Piece.{extended, is_first}
 use Rattle.ble_sender.specs.Writer.{start_bytes, total_bytes, length_bytes, header_bytes, is_last, packet_of, sent_for, sent_of}
 

@@ -2,7 +2,7 @@
 use Prim.Native.Nat.{ℕ, ◌-◌, ◌*◌, ◌^◌, ◌<◌}
 use mathlib.Core.Path.{◌≡◌}
 use mathlib.Core.List.{List}
-use lib.ListN.{length, drop}
+use lib.ListN.{drop}
 use Rattle.proto_field.specs.Varint.{varint_from, varint_at}
 use Rattle.proto_field.proofs.Varints.{top, grown}
 use Rattle.proto_field.proofs.varint.read_long.Given as goal

@@ -5,7 +5,6 @@ use lib.ListN.{length}
 use Rattle.wire.specs.Scan.{Clear}
 use Rattle.wire.proofs.Runs.{clear_none, clear-block}
 use Rattle.utf8.proofs.Places.{place-start, place-whole, clear_whole}
-use Rattle.utf8.proofs.check.bad_place.Goals.{At-loop-n}
 use Rattle.utf8.proofs.check.bad_place.Goals as goal
 
 pub loop-n-init : goal.loop-n-init
