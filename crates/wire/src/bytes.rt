@@ -57,7 +57,7 @@ pub fn put_pair(out: &mut [u8], at: usize, n: usize)
     out[at + 1] = (n - high * 256) as u8;
 }
 
-// Writes a run of bytes from a place on. By a loop: copy_from_slice below copy_block of scan.rt costs more instructions for each block.
+// Writes a run of bytes from a place on. By a loop and not by copy_from_slice: what the two cost stands at copy_clear of scan.rt.
 pub fn copy(out: &mut [u8], at: usize, run: &[u8])
     requires { at + length run.now ≤ length out.old }
     ensures { out.new ≡ sets out.old at run.now }

@@ -109,7 +109,7 @@ fn copy_until(out: &mut [u8], at: usize, run: &[u8], from: usize, first: u8, las
 }
 
 // Copies what stands before any byte in the range, and returns how much. Its place is counted by hand: with a `for` over the number of the
-// block, and copy_from_slice below, writing a frame of 4,000 bytes took a third more instructions.
+// block here and copy_from_slice in `copy`, writing a frame of 4,000 bytes took 1.46 times the instructions.
 pub fn copy_clear(out: &mut [u8], at: usize, run: &[u8], first: u8, last: u8) -> usize
     requires { at + length run.now ≤ length out.old }
     ensures { Copied first last run.now at out.old result out.new }
