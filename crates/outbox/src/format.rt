@@ -1,6 +1,6 @@
 // The outbox file: a version byte, then records. A record is its length, a stream byte and a payload.
 ghost use Rattle.std.specs.Prelude.{◌≡◌};
-ghost use Rattle.outbox.specs.Format.{format_of, format_for, head_size};
+ghost use Rattle.outbox.specs.Format.{Format, format_of, format_for, head_size};
 ghost use Rattle.outbox.specs.Reader.{other_version};
 
 use wire::bytes::byte_at;
@@ -57,6 +57,13 @@ impl FileVersion {
         self.width() + 1
     }
 
+    // Whether a file is of another version, or of none.
+    pub fn is_other(self, file: &[u8]) -> bool
+        ensures { result ≡ other_version (format_for self) file.now }
+    {
+        other_version(file, self.byte())
+    }
+
     // The largest payload.
     pub fn limit(self) -> usize
         ensures { result ≡ (format_for self).limit }
@@ -68,9 +75,10 @@ impl FileVersion {
     }
 }
 
+// Whether a file's first byte is another than this one, or is not there. It says so of every format with this version byte.
 #[tactic(auto, unfolding(crate::specs::Reader::other_version))]
-pub fn other_version(file: &[u8], version: FileVersion) -> bool
-    ensures { result ≡ other_version (format_for version) file.now }
+pub fn other_version(file: &[u8], byte: u8) -> bool
+    ensures { (fmt : Format) → fmt.version ≡ byte → result ≡ other_version fmt file.now }
 {
-    either(file.len() == 0, byte_at(file, 0) != version.byte())
+    either(file.len() == 0, byte_at(file, 0) != byte)
 }

@@ -4,7 +4,7 @@ ghost use Rattle.outbox.specs.Format.{format_of, format_for};
 ghost use Rattle.outbox.specs.Reader.{bad_place, read_of, walk_of};
 ghost use Rattle.outbox.specs.Reader.{read_number, told, told_walk};
 
-use crate::format::{FileVersion, other_version};
+use crate::format::FileVersion;
 use crate::judging::{judge, walk_records};
 use crate::verdict::Broken;
 use wire::logic::either;
@@ -52,7 +52,7 @@ pub fn read_by(
 ) -> Result<Option<FoundRecord>, ReadRefusal>
     ensures { told result ≡ read_of (format_for version) file.now place }
 {
-    if other_version(file, version) {
+    if version.is_other(file) {
         return Err(ReadRefusal::Broken(Broken::version()));
     }
     if bad_place(file, place) {
@@ -89,7 +89,7 @@ pub fn read(file: &[u8], place: usize) -> Result<Option<FoundRecord>, ReadRefusa
 fn walk_by(file: &[u8], version: FileVersion) -> Result<(), Broken>
     ensures { told_walk result ≡ walk_of (format_for version) file.now }
 {
-    if other_version(file, version) {
+    if version.is_other(file) {
         return Err(Broken::version());
     }
     walk_records(file, version)

@@ -6,7 +6,7 @@ ghost use Rattle.outbox.specs.Reader.{other_version};
 ghost use Rattle.outbox.specs.Writer.{stored, new_of, bad_record, append_of, create_number, append_number, told_new, told};
 ghost use Rattle.outbox.specs.declared.writer.AppendRefusal.{AppendRefusal};
 
-use crate::format::{FIRST_PLACE, FileVersion, other_version};
+use crate::format::{FIRST_PLACE, FileVersion};
 use crate::judging::walk_used;
 use crate::verdict::Broken;
 use wire::bytes::{copy, put_pair};
@@ -146,7 +146,7 @@ fn append_in(
     ensures { stored (told result) buffer.new
         ≡ append_of (format_for version) buffer.old used stream payload.now }
 {
-    if other_version(&buffer[..used], version) {
+    if version.is_other(&buffer[..used]) {
         return Err(AppendRefusal::Broken(Broken::version()));
     }
     append_by(buffer, used, version, stream, payload)

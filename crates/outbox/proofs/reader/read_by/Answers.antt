@@ -11,15 +11,15 @@ use Rattle.outbox.proofs.Place.{place-within, read-inside, found_within}
 use Rattle.outbox.proofs.reader.read_by.Goals.{After-judge, In-Ok, Else-place-file}
 use Rattle.outbox.proofs.reader.read_by.Goals as goal
 
-pub returns-then-other_version : goal.returns-then-other_version
+pub returns-then-is_other : goal.returns-then-is_other
 unfolding read_of
-returns-then-other_version c = rw (c.version.ensures, sym c.other_version.ensures ∙ c.if-other_version.true)
+returns-then-is_other c = rw (c.version.ensures, sym c.is_other.ensures ∙ c.if-is_other.true)
 
 pub returns-then-bad_place : goal.returns-then-bad_place
 unfolding read_of
 returns-then-bad_place c =
     rw (
-      sym c.other_version.ensures ∙ c.if-other_version.false,
+      sym c.is_other.ensures ∙ c.if-is_other.false,
       sym c.bad_place.ensures ∙ c.if-bad_place.true,
     )
 
@@ -27,7 +27,7 @@ pub returns-then-place-file : goal.returns-then-place-file
 unfolding read_of
 returns-then-place-file c =
     rw (
-      sym c.other_version.ensures ∙ c.if-other_version.false,
+      sym c.is_other.ensures ∙ c.if-is_other.false,
       sym c.bad_place.ensures ∙ c.if-bad_place.false,
       eq-eqb _ _ c.if-place-file.true,
     )
@@ -46,7 +46,7 @@ read-there c =
     (format_for c.args.version)
     c.args.file.now
     c.args.place
-    (sym c.other_version.ensures ∙ c.if-other_version.false)
+    (sym c.is_other.ensures ∙ c.if-is_other.false)
     (sym c.bad_place.ensures ∙ c.if-bad_place.false)
     c.if-place-file.false
 
