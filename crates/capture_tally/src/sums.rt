@@ -34,7 +34,7 @@ fn add_reports(a: CostReport, b: CostReport) -> Option<CostReport>
 }
 
 // What a packet of a stream adds: the numbers of the other two stay. No stream, nothing.
-pub fn add_own(report: CostReport, stream: Option<Stream>, more: Costs) -> Option<CostReport>
+pub(crate) fn add_own(report: CostReport, stream: Option<Stream>, more: Costs) -> Option<CostReport>
     ensures { told_sum result ≡ summed (plus report (only stream more)) }
 {
     let Some(stream) = stream else {
