@@ -85,7 +85,7 @@ fn countable(room: usize, total: usize) -> bool
     both(LEAST_ROOM <= room, total < TOTALS)
 }
 
-// The length of all packets of a message together; 0 where it has none.
+// The length of all packets of a message together; 0 where it has none, as the definition joined_length has it.
 pub fn joined_len(room: usize, total: usize) -> usize
     ensures { result ≡ joined_length room total }
 {

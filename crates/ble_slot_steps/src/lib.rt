@@ -185,7 +185,8 @@ fn on_next(
     hold(index, head, wanted, total, false, payload)
 }
 
-// A first packet: what it does where there is a slot for it.
+// A first packet: what it does where there is a slot for it. `follow` has this shape too, but each of the two looks for another slot,
+// refuses by another number and goes on with another function: one function over the three would say less.
 fn begin(
     first: usize,
     lane: [Slot; 4],

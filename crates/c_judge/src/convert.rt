@@ -45,7 +45,7 @@ pub fn judged_row(judged: Result<SenderVerdict, RefusedAt<Refusal>>) -> [u64; 2]
 }
 
 // What is open on a stream, as numbers. This and the two below are parts of the row of pito_capture_why, so `opened` is a number beside
-// others (reason a).
+// others.
 #[derive(Drop)]
 struct SlotNumbers {
     opened: u64,

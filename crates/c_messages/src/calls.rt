@@ -19,7 +19,7 @@ use proto_reader::gathered::MOST_TRANSPORTS;
 use proto_strings::TextWriteRefusal;
 use proto_writer::message::WriteRefusal;
 
-// Reads a control envelope.
+// Reads a control envelope. The readers' calls here and in c_firmware are of one shape: each has its own row, length and definition in C.
 pub fn envelope_read(message: &[u8], answer: &mut [u64]) -> u64
     ensures { called result [] [] answer.new
         ≡ envelope_read_of message.now answer.old }

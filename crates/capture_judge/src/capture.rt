@@ -42,7 +42,7 @@ impl Numbered for Refusal {
 
 // What the packets so far say: what is open after them; or the place of the length of the first one after which nothing could be
 // lawful, and what was open before it.
-// No Result (reason d): a stop is no failure, and the walk goes on past it to the capture's own refusals, where `?` would end it.
+// No Result: a stop is no failure, and the walk goes on past it to the capture's own refusals, where `?` would end it.
 #[derive(Clone, Copy, Debug, PartialEq, Eq)]
 pub enum Judgement {
     Going(State),
@@ -84,7 +84,7 @@ fn walk(capture: &[u8], settings: Settings) -> Result<Judgement, RefusedAt<Refus
     }
     let mut at = 1;
     let mut verdict = Judgement::Going(State::new());
-    // From place to place, by lengths that are read there: no range or iterator says it (reason d).
+    // From place to place, by lengths that are read there: no range or iterator says it.
     while at < capture.len() {
         let size = located(front_of(&capture[at..]), at)?;
         let start = at + WIDTH;

@@ -19,7 +19,7 @@ pub struct Settings {
     pub limit: usize,
 }
 
-// A slot for each stream. Its fields are named, with no generic type for three of a kind (reason a): slot_in and the claims of
+// A slot for each stream. Its fields are named, with no generic type for three of a kind: slot_in and the claims of
 // capture_judge_claims name them.
 #[derive(Clone, Copy, Debug, PartialEq, Eq)]
 pub struct State {

@@ -96,7 +96,7 @@ pub fn check(capture: &[u8]) -> Result<(), RefusedAt<Refusal>>
         });
     }
     let mut at = 1;
-    // From place to place, by lengths that are read there: no range or iterator says it (reason d).
+    // From place to place, by lengths that are read there: no range or iterator says it.
     while at < capture.len() {
         let n = located(front_of(&capture[at..]), at)?;
         at = at + WIDTH + n;

@@ -14,7 +14,7 @@ pub struct Costs {
     pub bytes: u64,
 }
 
-// Of each stream. The fields are named, with no generic type for three of a kind (reason a): costs_for, report_of and the claims of
+// Of each stream. The fields are named, with no generic type for three of a kind: costs_for, report_of and the claims of
 // capture_report_claims name them.
 #[derive(Clone, Copy, Debug, Default, PartialEq, Eq)]
 pub struct CostReport {

@@ -11,7 +11,7 @@ use ble_sender::piece;
 use wire::logic::{both, either};
 
 // What is open on a stream: nothing, or a transaction with its id, the bytes still to come and the next sequence.
-// No Option of a transaction (reason d): on_first and on_next give an Option of a slot, and an Option in an Option hides which is none.
+// No Option of a transaction: on_first and on_next give an Option of a slot, and an Option in an Option hides which is none.
 #[derive(Clone, Copy, Debug, PartialEq, Eq)]
 pub enum SenderSlot {
     Idle,

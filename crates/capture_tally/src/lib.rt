@@ -115,7 +115,7 @@ fn pass(report: CostReport, limit: usize, buffer: &mut [u8], capture: &[u8]) -> 
         slots: idle_row(),
         sum: Some(report),
     };
-    // From place to place, by lengths that are read there: no range or iterator says it (reason d).
+    // From place to place, by lengths that are read there: no range or iterator says it.
     while at < capture.len() {
         let n = pair(capture[at], capture[at + 1]);
         let start = at + WIDTH;

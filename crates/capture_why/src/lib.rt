@@ -25,7 +25,7 @@ pub struct ReadNumbers {
 }
 
 // What came: its bytes in all, the fields of bytes 0 and 1, and what our reader says, or the number of its refusal.
-// The number and not the refusal (reason a): came_of takes it from read_of, which tells no more.
+// The number and not the refusal: came_of takes it from read_of, which tells no more.
 #[derive(Clone, Copy, Debug, PartialEq, Eq)]
 pub struct Came {
     pub size: usize,
@@ -46,7 +46,7 @@ pub enum Expected {
     This(NextPacket),
 }
 
-// What is open at the end; or the place of the length of the packet that decides, and what was open before it.
+// What is open at the end; or the place of the length of the packet that decides, and what was open before it. Neither is a refusal.
 #[derive(Clone, Copy, Debug, PartialEq, Eq)]
 pub enum Explained {
     Ended(State),

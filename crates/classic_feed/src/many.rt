@@ -46,7 +46,7 @@ fn ended(
     }
 }
 
-// The bytes one after another, in a lawful state and over a buffer of the right size.
+// The bytes one after another, in a lawful state and over a buffer of the right size. A turn passes a run of them and then one.
 fn run(start: Progress, limit: usize, buffer: &mut [u8], bytes: &[u8]) -> Fed
     requires { Fits limit start buffer.old }
     ensures { (fed (told_feed result.outcome) result.used result.next.progress buffer.new

@@ -93,7 +93,7 @@ fn stop(next: PartProgress, taken: usize, written: usize) -> PartAdvanced
 }
 
 impl PartProgress {
-    // Fills an output as far as the frame and the payload offered go.
+    // Fills an output as far as the frame and the payload offered go. A turn passes a run of bytes and then one, so no range counts them.
     fn fill(self, payload: &[u8], out: &mut [u8]) -> PartAdvanced
         ensures { wrote (told result.outcome) result.next out.new
             ≡ filled out.old (fill_of (length out.old) self payload.now) }

@@ -64,7 +64,7 @@ fn response_payload_len(payload: Option<u64>, body: &[u8]) -> usize
     }
 }
 
-// A response's payload, written at a place; the answer is the place after it.
+// A response's payload, written at a place; the answer is the place after it. put_member of reply_parts writes its head alone.
 fn put_response_payload(out: &mut [u8], at: usize, payload: Option<u64>, body: &[u8]) -> usize
     requires { (bad_response_payload payload ≡ false)
         × (at + length (message_bytes (response_payload_fields payload body.now)) ≤ length out.old) }

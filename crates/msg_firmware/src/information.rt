@@ -80,7 +80,7 @@ fn component_in(message: &[u8], part: Part) -> Result<FirmwareComponent, Message
     component_from(part.up_to_end(message), part.start)
 }
 
-// The components from a place to the end, one after another.
+// The components from a place to the end, one after another: how many come only the walk tells, so they are counted in it.
 fn components_from(message: &[u8], from: usize) -> Result<[FirmwareComponent; 8], MessageRefusal>
     requires { length (parts_from message.now from) ≤ most_repeated }
     ensures { told_components result ≡ components_from message.now from }

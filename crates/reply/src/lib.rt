@@ -38,7 +38,7 @@ pub struct Link {
     pub sequence: u8,
 }
 
-#[derive(Clone, Copy)]
+#[derive(Clone, Copy, Debug, PartialEq, Eq)]
 pub enum Refusal {
     // The message's own.
     Message(MessageRefusal),

@@ -89,7 +89,7 @@ fn any_above(run: &[u8]) -> bool
     FIRST_ABOVE <= joined
 }
 
-// The place of the first sequence that no row describes; the string's length if there is none. ASCII goes block by block, and what
+// The place of the first sequence that no row describes; the string's length if there is none, as FindsFirstBad has it. ASCII goes block by block, and what
 // is left of it by a last block that begins before. The table has a function of its own, with more callers than one: so the
 // compiler keeps it, and the registers that it takes, out of this one.
 pub fn bad_place(string: &[u8]) -> usize

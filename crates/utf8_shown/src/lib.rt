@@ -32,7 +32,7 @@ fn is_hidden(rest: &[u8]) -> bool
     hidden_by(byte_at(rest, 0), byte_at(rest, 1), byte_at(rest, 2))
 }
 
-// The place of the first character that is not shown; the string's length if there is none.
+// The place of the first character that is not shown; the string's length if there is none, as for bad_place, and C is told both.
 pub fn hidden_place(string: &[u8]) -> usize
     ensures { result ≡ hidden_place string.now }
 {
