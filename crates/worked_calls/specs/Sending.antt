@@ -1,5 +1,5 @@
 -- A receiver opened, packets and ACKs written, called from C: what is left, and one table whose rows all hold.
-use Rattle.std.specs.Prelude.{◌≡◌, List, [], ◌∷◌, ◌++◌, map, replicate, Ok, Err}
+use Rattle.std.specs.Prelude.{◌≡◌, List, [], ◌∷◌, ◌++◌, map, replicate, Ok, Err, Some, None}
 use Rattle.c_receiving.specs.Calls.{receiver_open_of}
 use Rattle.c_sending.specs.Calls.{packet_write_of, ack_write_of}
 use Rattle.c_sending.specs.Convert.{sending_of}
@@ -58,5 +58,5 @@ sending_rows =
 unfoldable pub SendingCalls : Type 0
 SendingCalls =
     (map (λ c. c.0) sending_rows ≡ map (λ c. c.1) sending_rows)
-    × (map told (Ok (more 1 2) ∷ Ok (last 1) ∷ Err Room ∷ Err Limit ∷ Err Argument ∷ Err Output ∷ [])
+    × (map told (Ok (record { length = 1; next = Some 2 }) ∷ Ok (record { length = 1; next = None }) ∷ Err Room ∷ Err Limit ∷ Err Argument ∷ Err Output ∷ [])
     ≡ given (more 1 2) ∷ given (last 1) ∷ refused 13 ∷ refused 17 ∷ refused 15 ∷ refused 14 ∷ [])
