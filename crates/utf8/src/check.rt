@@ -89,7 +89,8 @@ fn any_above(run: &[u8]) -> bool
     FIRST_ABOVE <= joined
 }
 
-// The place of the first sequence that no row describes; the string's length if there is none, as FindsFirstBad has it. ASCII goes block by block, and what
+// The place of the first sequence that no row describes; the string's length if there is none, as FindsFirstBad has it. ASCII goes block by block, counted by
+// hand since nothing that a writer of varints calls may divide (No. 10), and what
 // is left of it by a last block that begins before. The table has a function of its own, with more callers than one: so the
 // compiler keeps it, and the registers that it takes, out of this one.
 pub fn bad_place(string: &[u8]) -> usize
@@ -98,17 +99,17 @@ pub fn bad_place(string: &[u8]) -> usize
     if string.len() < BLOCK {
         return short_place(&string[..]);
     }
-    let blocks = string.len() / BLOCK;
-    for n in 0..blocks {
-        let at = n * BLOCK;
+    let mut at = 0;
+    while BLOCK <= string.len() - at {
         let end = at + BLOCK;
         if any_above(&string[at..end]) {
             return place_from(&string[..], at);
         }
+        at = end;
     }
     let last = string.len() - BLOCK;
     if any_above(&string[last..]) {
-        return place_from(&string[..], blocks * BLOCK);
+        return place_from(&string[..], at);
     }
     string.len()
 }

@@ -1,32 +1,28 @@
-use Prim.Native.Nat.{ℕ, ◌+◌, ◌-◌, ◌*◌, ◌/◌}
-use mathlib.Core.Path.{◌≡◌, sym, subst, ◌∙◌}
-use native.Mathlib.Omega.{arith}
+use Prim.Native.Nat.{◌-◌}
+use mathlib.Core.Path.{sym, ◌∙◌}
 use lib.ListN.{length}
-use Rattle.wire.specs.Scan.{Clear}
+use borrow.Author.Rules.{rules}
 use Rattle.wire.proofs.Runs.{clear_none, clear-block}
 use Rattle.utf8.proofs.Places.{place-start, place-whole, clear_whole}
 use Rattle.utf8.proofs.check.bad_place.Goals as goal
 
-pub loop-n-init : goal.loop-n-init
-loop-n-init c = clear_none
+pub loop-at-init : goal.loop-at-init
+loop-at-init c = clear_none
 
 pub place_from-requires : goal.place_from-requires
 place_from-requires c =
-    place-start c.args.string.now (c.loop-n.n * 16) (λ i. (c.type_inv.string i).fits) c.loop-n.invariant
+    place-start c.args.string.now c.loop-at.at (λ i. (c.shared_slice_known-1.given i).fits) c.loop-at.invariant
 
-pub loop-n-preserved : goal.loop-n-preserved
-loop-n-preserved c =
-    let end : c.loop-n.n * 16 + 16 ≡ (c.loop-n.n + 1) * 16 = omega arith in
-    subst (λ (n : ℕ). Clear 128 255 c.args.string.now n) end (clear-block c.loop-n.invariant (c.loop-n.n * 16 + 16) (omega arith) (omega arith) (sym c.any_above.ensures ∙ c.if-any_above.false))
+pub loop-at-preserved : goal.loop-at-preserved
+loop-at-preserved c =
+    clear-block c.loop-at.invariant _ (search rules) (search rules) (sym c.any_above.ensures ∙ c.if-any_above.false)
 
 pub place_from-requires-then-any_above-2 : goal.place_from-requires-then-any_above-2
 place_from-requires-then-any_above-2 c =
-    let all : c.loop-n.n ≡ length c.args.string.now / 16 = omega arith in
-    let clear = subst (λ (n : ℕ). Clear 128 255 c.args.string.now (n * 16)) all c.loop-n.invariant in
-    place-start c.args.string.now (length c.args.string.now / 16 * 16) (λ i. (c.type_inv.string i).fits) clear
+    place-start c.args.string.now c.loop-at.at (λ i. (c.shared_slice_known-1.given i).fits) c.loop-at.invariant
 
 pub returns : goal.returns
 returns c =
     let s = c.args.string.now in
-    let k = clear_whole s (c.loop-n.n * 16) (length s - 16) (omega arith) c.loop-n.invariant (sym c.any_above-2.ensures ∙ c.if-any_above-2.false) in
-    place-whole s (length s) (λ i. (c.type_inv.string i).fits) (omega arith) k
+    let k = clear_whole s c.loop-at.at (length s - 16) (search rules) c.loop-at.invariant (sym c.any_above-2.ensures ∙ c.if-any_above-2.false) in
+    place-whole s (length s) (λ i. (c.shared_slice_known-1.given i).fits) (search rules) k

@@ -1,6 +1,10 @@
-use Prim.Native.Nat.{◌*◌}
+use Prim.Native.Nat.{◌-◌}
+use lib.ListN.{length}
 use Rattle.wire.specs.Scan.{Clear}
 use Rattle.utf8.proofs.check.bad_place.Given as goal
 
-abbrev pub invariant-loop-n : goal.invariant-loop-n
-invariant-loop-n l = Clear 128 255 l.string (l.n * 16)
+abbrev pub invariant-loop-at : goal.invariant-loop-at
+invariant-loop-at l = Clear 128 255 l.string l.at
+
+abbrev pub decreases-loop-at : goal.decreases-loop-at
+decreases-loop-at l = length l.string - l.at
