@@ -39,7 +39,7 @@ def total(sizes, kind):
 def kept(archive, scratch, names):
     """Code and constants that stay when only these functions are called."""
     roots = [word for name in names for word in ("-u", name)]
-    run("ld", "--gc-sections", "-e", names[0], *roots, "-o", scratch, archive)
+    run("ld", "--gc-sections", "--defsym=memset=0", "-e", names[0], *roots, "-o", scratch, archive)
     sizes = sections(scratch)
     return total(sizes, ".text"), total(sizes, ".rodata")
 

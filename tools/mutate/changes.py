@@ -3,12 +3,12 @@
 A number one more or one less; a comparison turned, let through one more or one less; lines of a table exchanged or left out; a truth
 turned; one side of `and`, `or`, `++`; a condition's branches; arguments, fields, variables and constructors of one type exchanged;
 a guard left out, or two exchanged; a named number for another of its file; a call left out for an argument of its type, where that is no
-number."""
+number; `None` for `Some` of a value."""
 import re
 
 from reader import argtypes, bare, clause, result
 from tables import names
-from world import Unread
+from world import STD, Unread
 
 NUM = {"u8", "u16", "u32", "u64", "usize"}
 
@@ -90,6 +90,27 @@ def ctor_types(w, m, r):
     return [rust_type(x) for x in dict(w.enums[r[1]])[r[2]]]
 
 
+def held(w, m, r, t):
+    """the types of what a constructor holds, where the whole has the type t: those of the Prelude hold an argument of it"""
+    if r[1] not in STD:
+        return ctor_types(w, m, r)
+    at = 1 if r[2] == "Err" else 0
+    args = arguments(t)
+    return [norm(args[at]) if at < len(args) else "?"]
+
+
+def arguments(t):
+    """the arguments of a type, as they are written"""
+    out, d = [], 0
+    for word in t.split(" "):
+        if d:
+            out[-1] += " " + word
+        else:
+            out.append(word)
+        d += word.count("(") - word.count(")")
+    return out[1:]
+
+
 def siblings(w, r):
     """constructors of the same type with the same arguments"""
     if ":" in r[1]:
@@ -119,6 +140,11 @@ def local_name(w, m, r, name):
             return f"{al}.{name}"
         if k and k[0] == "mod" and r[1].startswith(k[1] + ":"):
             return f"{al}.{name}"
+        if path.endswith(".Prelude") and r[1] in STD:
+            return f"{al}.{name}"
+    for b, (path, a) in m.imports.items():
+        if w.module(path) == ("type", r[1]):
+            return f"{b}.{name}"
     return None
 
 
@@ -147,7 +173,7 @@ def pattern_env(w, m, p, t, env):
         except Unread:
             r = None
         if r and r[0] == "ctor":
-            for x, tt in zip(p.b, ctor_types(w, m, r)):
+            for x, tt in zip(p.b, held(w, m, r, t)):
                 pattern_env(w, m, x, tt, env)
 
 
@@ -337,6 +363,9 @@ def changes(w, m, d):
                     ts = [ty(mm, x) for x in argtypes(mm.defs[r[2]].sig)] if mm.defs[r[2]].sig is not None else None
                 elif r and r[0] == "ctor":
                     ts = ctor_types(w, m, r)
+                    ln = local_name(w, m, (r[0], r[1], "None"), "None") if r[1:3] == ("std/Option", "Some") else None
+                    if ln and len(a) == 1:
+                        repl("constructor", n, ln)
                 if ts:
                     for i in range(min(len(a), len(ts))):
                         for j in range(i + 1, min(len(a), len(ts))):

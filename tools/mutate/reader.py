@@ -307,7 +307,8 @@ def load(path, rel, text=None):
     for s, e in items(text):
         it = text[s:e]
         w = it.split(None, 1)[0]
-        if w == "use":
+        if w == "use" or it.startswith("pub use "):
+            it = it.removeprefix("pub ")
             u = re.match("use (\\S+?)\\.\\{(.*?)\\}\\s*$", it.strip(), re.S)
             if u:
                 for x in u[2].split(","):

@@ -28,6 +28,8 @@ WRONG = {
     "ofZ": lambda w, z: abs(z),
     "eqp": lambda a, b: False,
     "power": lambda a, b: a * b,
+    "unwrap_or": lambda o, d: d,
+    "is_none": lambda o: o[0] == "Some",
 }
 
 

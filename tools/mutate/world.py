@@ -192,10 +192,15 @@ def sfits(w, z):
     return -(1 << w - 1) <= z < 1 << w - 1
 
 
-def optD(o, d):
-    return o[1] if o[0] == "some" else d
+def unwrap_or(o, d):
+    return o[1] if o[0] == "Some" else d
 
 
+# the types of the Prelude with their constructors
+STD = {
+    "std/Option": [("None", []), ("Some", ["T"])],
+    "std/Result": [("Ok", ["T"]), ("Err", ["E"])],
+}
 BUILTIN = {
     "length": ("len", 1),
     "take": ("take", 2),
@@ -226,7 +231,9 @@ BUILTIN = {
     "w32": ("32", 0),
     "w64": ("64", 0),
     "SFits": ("sfits", 2),
-    "Option.get_or": ("optD", 2),
+    "unwrap_or": ("unwrap_or", 2),
+    "is_none": ("is_none", 1),
+    "is_ok": ("is_ok", 1),
     "tt": ("('tt',)", 0),
     "⊥": ("False", 0),
     "Unit": ("True", 0),
@@ -263,7 +270,9 @@ NS0 = dict(
     toZ=toZ,
     ofZ=ofZ,
     sfits=sfits,
-    optD=optD,
+    unwrap_or=unwrap_or,
+    is_none=lambda o: o[0] == "None",
+    is_ok=lambda r: r[0] == "Ok",
     part=part,
     conj=conj,
     disj=disj,
@@ -295,7 +304,7 @@ class World:
     def __init__(self, root):
         self.root = root
         self.mods = {}
-        self.enums, self.structs = ({}, {})
+        self.enums, self.structs = (dict(STD), {})
         for d in sorted(glob.glob(root + "/crates/*")):
             c = os.path.basename(d)
             e, s = declared(d)
@@ -381,7 +390,9 @@ class World:
     def inmod(self, path, x):
         k = self.module(path)
         if k is None:
-            x = "Option." + x if path.endswith(".Option") and "Option." + x in BUILTIN else x
+            for t, vs in STD.items():
+                if path.startswith("Rattle.std.") and x in dict(vs):
+                    return ("ctor", t, x, len(dict(vs)[x]))
             return ("builtin", x) if x in BUILTIN else ("type",)
         if k[0] == "variants":
             vs = dict(self.enums.get(k[1], []))

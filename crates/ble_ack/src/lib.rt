@@ -8,29 +8,23 @@ ghost use Rattle.ble_packet.specs.Control.{ack_bytes};
 ghost use Rattle.ble_ack.specs.Acknowledgement.{ack_of, number_of, told};
 
 use ble_packet::{control, header};
+use wire::refusal::Numbered;
 
-#[derive(Drop)]
+#[derive(Clone, Copy, Debug, PartialEq, Eq)]
 pub enum Refusal {
     Argument,
     Output,
 }
 
-impl Refusal {
-    // The number in the table of refusals.
-    pub fn number(self) -> u8
-        ensures { result ≡ number_of self }
-    {
+impl Numbered for Refusal {
+    ghost number_of = { number_of };
+
+    fn number(&self) -> u8 {
         match self {
             Refusal::Argument => 15,
             Refusal::Output => 14,
         }
     }
-}
-
-#[derive(Drop)]
-pub enum Answer {
-    Refused(Refusal),
-    Written(usize),
 }
 
 // The six bytes, first in the output.
@@ -46,16 +40,22 @@ pub fn put(out: &mut [u8], stream: u8, id: u8, sequence: u8, positive: bool)
     out[5] = control::ack_code(positive);
 }
 
-// Writes an ACK, or a NACK where positive is false, for the request of a stream and an id.
-pub fn write(stream: u8, id: u8, sequence: u8, positive: bool, out: &mut [u8]) -> Answer
+// Writes an ACK, or a NACK where positive is false, for the request of a stream and an id; how many bytes were written.
+pub fn write(
+    stream: u8,
+    id: u8,
+    sequence: u8,
+    positive: bool,
+    out: &mut [u8],
+) -> Result<usize, Refusal>
     ensures { written (told result) out.new ≡ ack_of stream id sequence positive out.old }
 {
     if !header::in_range(stream, id, sequence) {
-        return Answer::Refused(Refusal::Argument);
+        return Err(Refusal::Argument);
     }
     if out.len() < control::ACK_SIZE {
-        return Answer::Refused(Refusal::Output);
+        return Err(Refusal::Output);
     }
     put(out, stream, id, sequence, positive);
-    Answer::Written(control::ACK_SIZE)
+    Ok(control::ACK_SIZE)
 }

@@ -3,6 +3,7 @@ use Prim.Native.Nat.{ℕ, zero, suc, ◌+◌, ◌-◌, ◌≤◌, ◌<◌}
 use native.Mathlib.Omega.{arith}
 use mathlib.Core.Path.{◌≡◌, refl, sym, ap, ◌∙◌}
 use mathlib.Core.Option.{none, some}
+use Rattle.std.specs.Prelude.{Some}
 use mathlib.Core.Logic.{inl, inr}
 use mathlib.Core.List.{List, [], ◌∷◌, ◌++◌, map, append_assoc}
 use mathlib.Core.Bool.{Bool, true, false, cond, ◌&&◌}
@@ -16,7 +17,7 @@ use Rattle.ble_slot.specs.declared.Slot.{Slot}
 use Rattle.ble_slot.specs.Slot.{idle, is_idle, any_open, any_idle}
 use Rattle.ble_slot_steps.specs.Step.{first_spot}
 use Rattle.ble_slot.proofs.Slots.{any_at}
-use Rattle.ble_slot_steps.proofs.Steps.{Some, first_found}
+use Rattle.ble_slot_steps.proofs.Steps.{SpotIn, first_found}
 use Rattle.ble_receiver.specs.Receiver.{PacketCall, call, PacketLeft, accept_of}
 use Rattle.ble_receiver.proofs.Accepting.{SlotsFit, ready-next}
 use Rattle.ble_sender.specs.declared.piece.Piece.{Piece}
@@ -176,7 +177,7 @@ module _ (limit : ℕ) (w : Sending) (m : List ℕ) (room : least_room ≤ w.roo
       rest-by q ds (rest-shown ds) (ours w q) refl fuel index start rest slots bytes h t f s e each
 
   -- the first packet comes, and later the others
-  all_shown : (first : PacketCall) (later : List PacketCall) (slots : List Slot) (bytes : List ℕ) → SlotsFit limit slots bytes → first_spot (lane_for w slots) w.id ≡ some i
+  all_shown : (first : PacketCall) (later : List PacketCall) (slots : List Slot) (bytes : List ℕ) → SlotsFit limit slots bytes → first_spot (lane_for w slots) w.id ≡ Some i
       → first.packet ≡ get_or (packets_of w m) 0 [] → packets_in (those (ours w) later) ≡ drop 1 (packets_of w m)
       → all_answerable (first ∷ those (ours w) later) ≡ true
       → shown_to limit w (run_of limit slots bytes (first ∷ later)) ≡ at_last at-index w m first (those (ours w) later)
@@ -215,7 +216,7 @@ run-cut limit slots bytes (q ∷ ds) after = rw (run-cut limit (accept_of limit 
 during-shown : (limit : ℕ) (slots : List Slot) (first : PacketCall) (later after : List PacketCall) (w : Sending) (m : List ℕ) (replies : List PacketReply)
     → least_room ≤ w.room → SendingInRange limit w (length m) → first.packet ≡ get_or (packets_of w m) 0 []
     → packets_in (those (ours w) later) ≡ drop 1 (packets_of w m) → all_answerable (first ∷ those (ours w) later) ≡ true
-    → Later limit slots replies ((first ∷ later) ++ after) → Some (first_spot (lane_for w slots) w.id)
+    → Later limit slots replies ((first ∷ later) ++ after) → SpotIn (first_spot (lane_for w slots) w.id)
     → Arrived w m first (those (ours w) later) (shown_to limit w (take (length (first ∷ later)) replies))
 during-shown limit slots first later after w m replies room ok begins e each l s =
     record {

@@ -3,6 +3,7 @@ use Prim.Native.Nat.{ℕ, suc, ◌+◌, ◌≤◌, ◌<◌}
 use native.Mathlib.Omega.{arith}
 use mathlib.Core.Path.{◌≡◌, refl, ap, ◌∙◌}
 use mathlib.Core.Option.{Option, none, some}
+use Rattle.std.specs.Prelude.{Some}
 use mathlib.Core.List.{List}
 use mathlib.Core.Bool.{Bool, true, false, cond, ◌&&◌, ◌||◌}
 use lib.ListN.{length, get_or, set, take, drop, length-take}
@@ -161,7 +162,7 @@ module _ (limit : ℕ) (w : Sending) (m : List ℕ) (ok : SendingInRange limit w
 -- ---- the first packet
 
 module _ (limit : ℕ) (w : Sending) (m : List ℕ) (ok : SendingInRange limit w (length m)) (slots : List Slot) (bytes : List ℕ) (o : SlotsFit limit slots bytes)
-    (i : ℕ) (taken : first_spot (lane_for w slots) w.id ≡ some i) (n : ℕ) (small : n ≤ length m) (filled : n ≡ 0 → length m ≡ 0) (sequence : ℕ) (out : List ℕ) where
+    (i : ℕ) (taken : first_spot (lane_for w slots) w.id ≡ Some i) (n : ℕ) (small : n ≤ length m) (filled : n ≡ 0 → length m ≡ 0) (sequence : ℕ) (out : List ℕ) where
   abbrev piece : Piece
   piece = piece_for 0 0 n
 
@@ -221,7 +222,7 @@ module _ (limit : ℕ) (w : Sending) (m : List ℕ) (ok : SendingInRange limit w
   not_first = ne_eqb (suc index) 0 (λ e. omega arith)
 
   -- the message's slot is found
-  found_at : open_spot (lane_for w slots) w.id ≡ some i
+  found_at : open_spot (lane_for w slots) w.id ≡ Some i
   found_at =
       open-found w.id (lane_for w slots) i ((lawful-says limit slots h.is-ready.law).apart (stream_for w))
       (ap (is_open w.id) h.slot ∙ eq-eqb w.id w.id refl)
@@ -255,7 +256,7 @@ module _ (limit : ℕ) (w : Sending) (m : List ℕ) (ok : SendingInRange limit w
 -- The next packet of the message is the one with this index, and its piece begins at this start: nothing is known but that the receiver
 -- is ready and which slot the first one takes, or it holds what came before.
 pub data Awaits (limit : ℕ) (w : Sending) (m : List ℕ) (i : ℕ) (slots : List Slot) (bytes : List ℕ) : ℕ → ℕ → Type 0 where
-  opening : SlotsFit limit slots bytes → first_spot (lane_for w slots) w.id ≡ some i → Awaits limit w m i slots bytes 0 0
+  opening : SlotsFit limit slots bytes → first_spot (lane_for w slots) w.id ≡ Some i → Awaits limit w m i slots bytes 0 0
   within : {index start : ℕ} → Holding limit w m i index start slots bytes → start < length m → Awaits limit w m i slots bytes (suc index) start
 
 -- packets of other streams and other ids change nothing of what is held

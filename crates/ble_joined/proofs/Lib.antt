@@ -1,4 +1,3 @@
-pub mod Moving
 pub mod Pieces
 pub mod Counting
 pub mod Joining

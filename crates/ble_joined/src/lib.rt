@@ -23,11 +23,7 @@ fn move_down(out: &mut [u8], to: usize, from: usize, n: usize)
     requires { (to ≤ from) × (from + n ≤ length out.old) }
     ensures { out.new ≡ sets out.old to (take n (drop from out.old)) }
 {
-    let mut i = 0;
-    while i < n {
-        out[to + i] = out[from + i];
-        i += 1;
-    }
+    out.copy_within(from..from + n, to);
 }
 
 // The size of the piece of this index, where this many bytes are left.
@@ -61,7 +57,7 @@ fn put_packet(
     start + size
 }
 
-// Counts the bytes of all packets of a message together.
+// Counts the bytes of all packets of a message together. No `for`: where a piece begins, and whether it is the last, its size says.
 fn count_bytes(room: usize, total: usize) -> usize
     requires { (least_room ≤ room) × (total < 65536) }
     ensures { result ≡ sizes (pieces_of room total) }
@@ -89,7 +85,7 @@ fn countable(room: usize, total: usize) -> bool
     both(LEAST_ROOM <= room, total < TOTALS)
 }
 
-// The length of all packets of a message together; 0 where it has none.
+// The length of all packets of a message together; 0 where it has none, as the definition joined_length has it.
 pub fn joined_len(room: usize, total: usize) -> usize
     ensures { result ≡ joined_length room total }
 {
@@ -112,7 +108,7 @@ fn is_exact(how: Sending, total: usize, space: usize) -> bool
 }
 
 // The packets of the message that stands at the end of the output. A packet's end never passes the bytes that are
-// still to be moved: each packet behind it has at least as many bytes as it carries.
+// still to be moved: each packet behind it has at least as many bytes as it carries. No `for`, as in `count_bytes`.
 fn put_packets(out: &mut [u8], how: Sending, total: usize)
     requires { JoinsExactly how total out.old }
     ensures { out.new ≡ joined_of how (message_in total out.old) }

@@ -10,24 +10,13 @@ ghost use Rattle.ble_link.specs.Row.{saved_row};
 
 use ble_receiver::{Receiver, SLOT_COUNT, decide};
 use ble_slot::Slot;
-use ble_slot::answer::Answer;
+use ble_slot::answer::{Accepted, Refusal};
 
 // The slot at an index; idle past the end.
 pub fn slot_at(row: &[Slot], i: usize) -> Slot
     ensures { result ≡ get_or row.now i idle }
 {
-    if i < row.len() {
-        row[i]
-    } else {
-        Slot {
-            opened: 0,
-            id: 0,
-            sequence: 0,
-            wanted: 0,
-            total: 0,
-            held: 0,
-        }
-    }
+    row.get(i).copied().unwrap_or(Slot::idle())
 }
 
 // Stores a slot; past the end nothing is stored.
@@ -59,25 +48,12 @@ pub fn load(row: &[Slot]) -> [Slot; 12]
     ]
 }
 
-// The slot at an index of a row as a value; idle past the end.
-fn slot_in(slots: [Slot; 12], i: usize) -> Slot
-    ensures { result ≡ get_or slots i idle }
-{
-    if i < SLOT_COUNT {
-        slots[i]
-    } else {
-        Slot::idle()
-    }
-}
-
 // Stores all twelve slots; past the end nothing is stored.
 pub fn save(row: &mut [Slot], slots: [Slot; 12])
     ensures { row.new ≡ saved_row row.old slots }
 {
-    let mut i = 0;
-    while i < SLOT_COUNT {
-        set_slot(row, i, slot_in(slots, i));
-        i = i + 1;
+    for i in 0..SLOT_COUNT {
+        set_slot(row, i, slots[i]);
     }
 }
 
@@ -90,7 +66,7 @@ pub fn accept(
     packet: &[u8],
     sequence: u8,
     out: &mut [u8],
-) -> Answer
+) -> Result<Accepted, Refusal>
     ensures { left (told result) row.new buffer.new out.new
         ≡ accept_of link.limit row.old buffer.old (call packet.now sequence out.old) }
 {

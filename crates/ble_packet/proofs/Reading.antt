@@ -12,14 +12,15 @@ use borrow.Author.Tests.{eq-eqb, ne_eqb, lt-ltb, le-ltb, eqb-true, eqb-false, lt
 use Rattle.wire.specs.Told.{Told, given, refused, line, table}
 use Rattle.wire.specs.Bytes.{pair_of, pair_bytes}
 use Rattle.wire.specs.Stream.{is_stream, stream_of}
+use Rattle.wire.proofs.Streams.{number-back, stream-known, stream-back as known-back}
 use Rattle.wire.proofs.Tables.{by-table}
 use Rattle.ble_packet.specs.declared.reader.Head.{Head}
 use Rattle.ble_packet.specs.declared.reader.StartBits.{StartBits}
 use Rattle.ble_packet.specs.declared.reader.Packet.{Packet}
 use Rattle.ble_packet.specs.declared.reader.Packet.TheVariants.{First, Next, Ack, Nack}
-use Rattle.ble_packet.specs.Header.{reserved_byte, type_first, type_continuation, type_last, type_control, header_size, length_place, first_byte, second_byte, stream_bits, type_bits}
+use Rattle.ble_packet.specs.Header.{reserved_byte, type_first, type_continuation, type_last, type_control, header_size, length_place, first_byte, second_byte, stream_bits, type_bits, extender_bit}
 use Rattle.ble_packet.specs.Control.{ack_bytes}
-use Rattle.ble_packet.specs.Reader.{PacketFields, fields_by, fields_of, is_acknowledgement, length_at, is_first, is_control, head_in, content_of, lines, judged, read_of, start_bits_of, head_by, fields_by_start}
+use Rattle.ble_packet.specs.Reader.{PacketFields, fields_by, fields_of, is_acknowledgement, length_at, is_first, is_control, head_in, content_of, lines, judged, read_of, start_bits_of, fields_by_start}
 use Rattle.ble_packet.proofs.Headers.{stream-back, id-back, sequence-back, type-back, ack-back, extender-back}
 
 -- ---- a packet that passes
@@ -124,14 +125,15 @@ judged-next limit f false k known h n = simp (k, known, and-true, le-ltb f.size 
 
 -- ---- the same on what the code reads
 
-pub control-judged : (limit : ℕ) (p : List ℕ) (s : StartBits) → 2 ≤ length p → is_stream s.stream ≡ true
+pub control-judged : (limit : ℕ) (p : List ℕ) (s : StartBits) → 2 ≤ length p
     → judged limit (fields_by_start p type_control s)
-    ≡ table (line 12 (not (is_acknowledgement p s.ack s.extended)) ∷ []) refused (given (cond s.ack (Ack (head_by s)) (Nack (head_by s))))
-control-judged limit p s n known = judged-control limit (fields_by_start p type_control s) refl known n
+    ≡ table (line 12 (not (is_acknowledgement p s.ack s.extended)) ∷ []) refused (given (cond s.ack (Ack s.head) (Nack s.head)))
+control-judged limit p s n =
+    judged-control limit (fields_by_start p type_control s) refl (stream-known s.head.stream) n ∙ rw (known-back s.head.stream)
 
 pub first-judged : (limit : ℕ) (p : List ℕ) (s : StartBits) {reserved start len total : ℕ}
     → reserved ≡ get_or p 2 0 → start ≡ header_size true s.extended → len ≡ length_at p (length_place true) s.extended → total ≡ pair_of (get_or p 3 0) (get_or p 4 0)
-    → header_size true s.extended ≤ length p → is_stream s.stream ≡ true
+    → header_size true s.extended ≤ length p
     → judged limit (fields_by_start p type_first s)
     ≡ table
     (line 4 (not (eqb reserved reserved_byte))
@@ -141,45 +143,49 @@ pub first-judged : (limit : ℕ) (p : List ℕ) (s : StartBits) {reserved start 
     ∷ line 8 (ltb total len)
     ∷ [])
     refused
-    (given (First (head_by s) s.ack total start len))
-first-judged limit p s er es el et n known = judged-first limit (fields_by_start p type_first s) refl known (omega arith) n ∙ rw (er, es, el, et)
+    (given (First s.head s.ack total start len))
+first-judged limit p s er es el et n =
+    judged-first limit (fields_by_start p type_first s) refl (stream-known s.head.stream) (omega arith) n ∙ rw (known-back s.head.stream, er, es, el, et)
 
 pub next-judged : (limit : ℕ) (p : List ℕ) (s : StartBits) (last : Bool) {start len : ℕ}
     → start ≡ header_size false s.extended → len ≡ length_at p (length_place false) s.extended
-    → header_size false s.extended ≤ length p → is_stream s.stream ≡ true
+    → header_size false s.extended ≤ length p
     → judged limit (fields_by_start p (cond last type_last type_continuation) s)
-    ≡ table (line 5 (not (eqb (length p) (start + len))) ∷ line 7 (eqb len 0) ∷ []) refused (given (Next (head_by s) s.ack last start len))
-next-judged limit p s true es el n known = judged-next limit (fields_by_start p type_last s) true refl known (omega arith) n ∙ rw (es, el)
-next-judged limit p s false es el n known = judged-next limit (fields_by_start p type_continuation s) false refl known (omega arith) n ∙ rw (es, el)
+    ≡ table (line 5 (not (eqb (length p) (start + len))) ∷ line 7 (eqb len 0) ∷ []) refused (given (Next s.head s.ack last start len))
+next-judged limit p s true es el n =
+    judged-next limit (fields_by_start p type_last s) true refl (stream-known s.head.stream) (omega arith) n ∙ rw (known-back s.head.stream, es, el)
+next-judged limit p s false es el n =
+    judged-next limit (fields_by_start p type_continuation s) false refl (stream-known s.head.stream) (omega arith) n ∙ rw (known-back s.head.stream, es, el)
 
--- two bytes say which fields are read
-pub read-from : (limit : ℕ) (p : List ℕ) (kind : ℕ) (s : StartBits) → kind ≡ type_bits (get_or p 1 0) → s ≡ start_bits_of (get_or p 0 0) (get_or p 1 0)
+-- two bytes say which fields are read, where the stream is known
+pub read-from : (limit : ℕ) (p : List ℕ) (kind : ℕ) (s : StartBits) → kind ≡ type_bits (get_or p 1 0) → is_stream (stream_bits (get_or p 0 0)) ≡ true
+    → s ≡ start_bits_of (stream_of (stream_bits (get_or p 0 0))) (get_or p 0 0) (get_or p 1 0)
     → read_of limit p ≡ judged limit (fields_by_start p kind s)
 unfolding read_of fields_of
-read-from limit p kind s ek es = rw (ek, es)
+read-from limit p kind s ek known es = rw (ek, es, number-back (stream_bits (get_or p 0 0)) known)
 
 pub no_start : (limit : ℕ) (p : List ℕ) → length p < 2 → read_of limit p ≡ refused 2
 unfolding read_of fields_of lines
 no_start limit p l = rw (lt-ltb (length p) 2 l)
 
 -- too short for its header
-abbrev pub headless : ℕ → ℕ → StartBits → Bool
-headless size kind s = not (eqb kind type_control) && ltb size (header_size (eqb kind type_first) s.extended)
+abbrev pub headless : ℕ → ℕ → Bool → Bool
+headless size kind extended = not (eqb kind type_control) && ltb size (header_size (eqb kind type_first) extended)
 
-pub no_header : (limit : ℕ) (p : List ℕ) (kind : ℕ) (s : StartBits) → 2 ≤ length p → headless (length p) kind s ≡ true → judged limit (fields_by_start p kind s) ≡ refused 2
-unfolding lines
-no_header limit p kind s n h = rw (le-ltb (length p) 2 n, h)
+module _ (limit : ℕ) (p : List ℕ) (kind : ℕ) (extended : Bool) (ek : kind ≡ type_bits (get_or p 1 0)) (ee : extended ≡ extender_bit (get_or p 1 0)) (n : 2 ≤ length p) where
+  pub no_header : headless (length p) kind extended ≡ true → read_of limit p ≡ refused 2
+  unfolding read_of fields_of lines
+  no_header h = rw (le-ltb (length p) 2 n, rw (ek, ee) at h)
 
-pub no_stream : (limit : ℕ) (p : List ℕ) (kind : ℕ) (s : StartBits) → 2 ≤ length p → headless (length p) kind s ≡ false → is_stream s.stream ≡ false
-    → judged limit (fields_by_start p kind s) ≡ refused 3
-unfolding lines
-no_stream limit p kind s n h u = rw (le-ltb (length p) 2 n, h, u)
+  pub no_stream : headless (length p) kind extended ≡ false → is_stream (stream_bits (get_or p 0 0)) ≡ false → read_of limit p ≡ refused 3
+  unfolding read_of fields_of lines
+  no_stream h u = rw (le-ltb (length p) 2 n, rw (ek, ee) at h, u)
 
-pub first-long : (size kind : ℕ) (s : StartBits) → kind ≡ type_first → headless size kind s ≡ false → header_size true s.extended ≤ size
-first-long size kind s k h = ltb-false size (header_size true s.extended) (rw k at h)
+pub first-long : (size kind : ℕ) (extended : Bool) → kind ≡ type_first → headless size kind extended ≡ false → header_size true extended ≤ size
+first-long size kind extended k h = ltb-false size (header_size true extended) (rw k at h)
 
-pub next-long : (size kind : ℕ) (s : StartBits) → kind ≢ type_control → kind ≢ type_first → headless size kind s ≡ false → header_size false s.extended ≤ size
-next-long size kind s c f h = ltb-false size (header_size false s.extended) (rw (ne_eqb kind type_control c, ne_eqb kind type_first f) at h)
+pub next-long : (size kind : ℕ) (extended : Bool) → kind ≢ type_control → kind ≢ type_first → headless size kind extended ≡ false → header_size false extended ≤ size
+next-long size kind extended c f h = ltb-false size (header_size false extended) (rw (ne_eqb kind type_control c, ne_eqb kind type_first f) at h)
 
 kind-by : (kind : ℕ) (b : Bool) → eqb kind type_last ≡ b → kind < 4 → kind ≢ type_control → kind ≢ type_first → cond b type_last type_continuation ≡ kind
 kind-by kind true e l c f = omega (arith, eqb-true kind type_last e)

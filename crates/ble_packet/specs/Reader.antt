@@ -1,16 +1,15 @@
 -- One packet read: its fields, the table of refusals, and what is told of it.
-use Rattle.std.specs.Prelude.{ℕ, ◌+◌, List, [], ◌∷◌, Bool, true, false, not, cond, ◌&&◌, ◌||◌, length, get_or, drop, ltb, eqb}
-use Rattle.wire.specs.Told.{Told, given, refused, Line, line, table}
+use Rattle.std.specs.Prelude.{ℕ, ◌+◌, List, [], ◌∷◌, Bool, true, false, not, cond, ◌&&◌, ◌||◌, length, get_or, drop, ltb, eqb, Result}
+use Rattle.wire.specs.Told.{Told, told_by, given, refused, Line, line, table}
 use Rattle.wire.specs.Bytes.{pair_of}
-use Rattle.wire.specs.Stream.{is_stream, stream_of}
+use Rattle.wire.specs.declared.stream.Stream.{Stream}
+use Rattle.wire.specs.Stream.{is_stream, stream_of, stream_number}
 use Rattle.ble_packet.specs.declared.reader.Head.{Head}
 use Rattle.ble_packet.specs.declared.reader.StartBits.{StartBits}
 use Rattle.ble_packet.specs.declared.reader.Packet.{Packet}
 use Rattle.ble_packet.specs.declared.reader.Packet.TheVariants.{First, Next, Ack, Nack}
 use Rattle.ble_packet.specs.declared.reader.Refusal.{Refusal}
 use Rattle.ble_packet.specs.declared.reader.Refusal.TheVariants.{Short, UnknownStream, BadControl, Reserved, Length, TotalOver, Empty, AboveTotal}
-use Rattle.ble_packet.specs.declared.reader.Answer.{Answer}
-use Rattle.ble_packet.specs.declared.reader.Answer.TheVariants.{Refused, Read}
 use Rattle.ble_packet.specs.Header.{start_size, reserved_byte, type_first, type_last, type_control, header_size, length_place, stream_bits, id_bits, sequence_bits, type_bits, ack_bit, extender_bit}
 use Rattle.ble_packet.specs.Control.{ack_tail}
 
@@ -122,24 +121,18 @@ number_of Empty = 7
 number_of AboveTotal = 8
 
 -- the number of a refusal, or what the packet says
-abbrev pub told : Answer → Told Packet
-told (Refused why) = refused (number_of why)
-told (Read packet) = given packet
+abbrev pub told : Result Packet Refusal → Told Packet
+told = told_by number_of
 
--- ---- what the code reads of bytes 0 and 1, but for the type
+-- ---- what the code reads of bytes 0 and 1 where the stream is known, but for the type
 
-abbrev pub start_bits_of : ℕ → ℕ → StartBits
-start_bits_of first second =
+abbrev pub start_bits_of : Stream → ℕ → ℕ → StartBits
+start_bits_of stream first second =
     record {
-      stream = stream_bits first;
-      id = id_bits first;
-      sequence = sequence_bits second;
+      head = record { stream = stream; id = id_bits first; sequence = sequence_bits second };
       ack = ack_bit second;
       extended = extender_bit second;
     }
 
-abbrev pub head_by : StartBits → Head
-head_by s = record { stream = stream_of s.stream; id = s.id; sequence = s.sequence }
-
 abbrev pub fields_by_start : List ℕ → ℕ → StartBits → PacketFields
-fields_by_start p kind s = fields_by p s.stream s.id s.sequence kind s.ack s.extended
+fields_by_start p kind s = fields_by p (stream_number s.head.stream) s.head.id s.head.sequence kind s.ack s.extended

@@ -20,7 +20,7 @@ pub fn in_range(stream: u8, id: u8, sequence: u8) -> bool
 // Byte 2 of a first packet.
 pub const RESERVED: u8 = 0;
 
-// The types: first or only, continuation, last, control.
+// The types: first or only, continuation, last, control. They stay numbers: byte 1 is made of them (second_byte), and C is told them.
 pub const TYPE_FIRST: u8 = 0;
 
 pub const TYPE_CONTINUATION: u8 = 1;

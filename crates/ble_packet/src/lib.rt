@@ -1,4 +1,4 @@
-// Low Energy packets: one packet read, an ACK or NACK written.
+// Low Energy packets: one packet read; the layout of headers, ACK and NACK packets, for the reader and the writers.
 #![tactic(auto)]
 
 pub mod control;

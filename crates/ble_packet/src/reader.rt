@@ -1,13 +1,14 @@
 // Reads one packet, by the table of refusals from the top.
 ghost use Rattle.std.specs.Prelude.{◌≡◌, true, false, cond, ℕ, ◌≤◌, ◌<◌, length};
-ghost use Rattle.wire.specs.Stream.{is_stream};
+ghost use Rattle.ble_packet.specs.declared.reader.Refusal.TheVariants.{UnknownStream};
 ghost use Rattle.ble_packet.specs.Header.{header_size};
-ghost use Rattle.ble_packet.specs.Reader.{length_at, is_acknowledgement, head_by, start_bits_of, fields_by_start, head_in, judged, read_of, number_of, told};
+ghost use Rattle.ble_packet.specs.Reader.{length_at, is_acknowledgement, start_bits_of, fields_by_start, head_in, judged, read_of, number_of, told};
 
 use crate::{control, header};
 use wire::bytes::{byte_at, pair, wide};
 use wire::logic::both;
-use wire::stream::{Stream, is_stream, stream_of};
+use wire::refusal::Numbered;
+use wire::stream::{NoStream, Stream};
 
 #[derive(Clone, Copy)]
 pub struct Head {
@@ -16,30 +17,16 @@ pub struct Head {
     pub sequence: u8,
 }
 
-// What bytes 0 and 1 say of a packet, but for its type.
+// What bytes 0 and 1 say of a packet whose stream is known, but for its type.
 #[derive(Clone, Copy)]
 struct StartBits {
-    stream: u8,
-    id: u8,
-    sequence: u8,
+    head: Head,
     ack: bool,
     extended: bool,
 }
 
-impl StartBits {
-    fn head(self) -> Head
-        ensures { result ≡ head_by self }
-    {
-        let stream = stream_of(self.stream);
-        Head {
-            stream,
-            id: self.id,
-            sequence: self.sequence,
-        }
-    }
-}
-
-// What a packet says: start and len are its payload's place in the packet.
+// What a packet says: start and len are its payload's place in the packet. No struct beside each variant: `act_of` of ble_slot_steps,
+// `slot_step` of capture_stream and the claims above them name each value by the variant alone.
 #[derive(Clone, Copy)]
 pub enum Packet {
     First {
@@ -85,7 +72,7 @@ impl Packet {
     }
 }
 
-#[derive(Clone, Copy)]
+#[derive(Clone, Copy, Debug, PartialEq, Eq)]
 pub enum Refusal {
     Short,
     UnknownStream,
@@ -97,11 +84,10 @@ pub enum Refusal {
     AboveTotal,
 }
 
-impl Refusal {
-    // The number in the table of refusals.
-    pub fn number(self) -> u8
-        ensures { result ≡ number_of self }
-    {
+impl Numbered for Refusal {
+    ghost number_of = { number_of };
+
+    fn number(&self) -> u8 {
         match self {
             Refusal::Short => 2,
             Refusal::UnknownStream => 3,
@@ -115,14 +101,16 @@ impl Refusal {
     }
 }
 
-#[derive(Clone, Copy)]
-pub enum Answer {
-    Refused(Refusal),
-    Read(Packet),
+impl From<NoStream> for Refusal {
+    ghost from_gives = { λ why given. given ≡ UnknownStream };
+
+    fn from(_why: NoStream) -> Self {
+        Refusal::UnknownStream
+    }
 }
 
 // The payload length: one byte, or two with the extender.
-fn length_at(packet: &[u8], at: usize, extended: bool) -> usize
+pub fn length_at(packet: &[u8], at: usize, extended: bool) -> usize
     requires { at < 6 }
     ensures { (result ≡ length_at packet.now at extended) × (result < 65536) }
 {
@@ -148,13 +136,15 @@ fn is_acknowledgement(packet: &[u8], ack: bool, extended: bool) -> bool
     both(!extended, exact)
 }
 
-fn start_bits(first: u8, second: u8) -> StartBits
-    ensures { result ≡ start_bits_of first second }
+fn start_bits(stream: Stream, first: u8, second: u8) -> StartBits
+    ensures { result ≡ start_bits_of stream first second }
 {
     StartBits {
-        stream: header::stream_bits(first),
-        id: header::id_bits(first),
-        sequence: header::sequence_bits(second),
+        head: Head {
+            stream,
+            id: header::id_bits(first),
+            sequence: header::sequence_bits(second),
+        },
         ack: header::ack_bit(second),
         extended: header::extender_bit(second),
     }
@@ -162,47 +152,45 @@ fn start_bits(first: u8, second: u8) -> StartBits
 
 // ---- the table of refusals, in its order: what is left of it for each type, where 2 and 3 were passed
 
-fn read_control(packet: &[u8], s: StartBits) -> Answer
-    requires { (2 ≤ length packet.now) × (is_stream s.stream ≡ true) }
+fn read_control(packet: &[u8], s: StartBits) -> Result<Packet, Refusal>
+    requires { 2 ≤ length packet.now }
     ensures { (limit : ℕ) → told result ≡ judged limit (fields_by_start packet.now 3 s) }
 {
     let exact = is_acknowledgement(packet, s.ack, s.extended);
     if !exact {
-        return Answer::Refused(Refusal::BadControl);
+        return Err(Refusal::BadControl);
     }
-    let head = s.head();
     if s.ack {
-        return Answer::Read(Packet::Ack(head));
+        return Ok(Packet::Ack(s.head));
     }
-    Answer::Read(Packet::Nack(head))
+    Ok(Packet::Nack(s.head))
 }
 
-fn read_first(limit: usize, packet: &[u8], s: StartBits) -> Answer
-    requires { (header_size true s.extended ≤ length packet.now) × (is_stream s.stream ≡ true) }
+fn read_first(limit: usize, packet: &[u8], s: StartBits) -> Result<Packet, Refusal>
+    requires { header_size true s.extended ≤ length packet.now }
     ensures { told result ≡ judged limit (fields_by_start packet.now 0 s) }
 {
     let reserved = byte_at(packet, 2);
     if reserved != header::RESERVED {
-        return Answer::Refused(Refusal::Reserved);
+        return Err(Refusal::Reserved);
     }
     let start = header::header_size(true, s.extended);
     let len = length_at(packet, header::length_place(true), s.extended);
     if packet.len() != start + len {
-        return Answer::Refused(Refusal::Length);
+        return Err(Refusal::Length);
     }
     let total = pair(byte_at(packet, 3), byte_at(packet, 4));
     if limit < total {
-        return Answer::Refused(Refusal::TotalOver);
+        return Err(Refusal::TotalOver);
     }
     if both(len == 0, total != 0) {
-        return Answer::Refused(Refusal::Empty);
+        return Err(Refusal::Empty);
     }
     if total < len {
-        return Answer::Refused(Refusal::AboveTotal);
+        return Err(Refusal::AboveTotal);
     }
-    let head = s.head();
-    Answer::Read(Packet::First {
-        head,
+    Ok(Packet::First {
+        head: s.head,
         ack: s.ack,
         total,
         start,
@@ -211,21 +199,20 @@ fn read_first(limit: usize, packet: &[u8], s: StartBits) -> Answer
 }
 
 // Last, or a continuation.
-fn read_next(packet: &[u8], s: StartBits, last: bool) -> Answer
-    requires { (header_size false s.extended ≤ length packet.now) × (is_stream s.stream ≡ true) }
+fn read_next(packet: &[u8], s: StartBits, last: bool) -> Result<Packet, Refusal>
+    requires { header_size false s.extended ≤ length packet.now }
     ensures { (limit : ℕ) → told result ≡ judged limit (fields_by_start packet.now (cond last 2 1) s) }
 {
     let start = header::header_size(false, s.extended);
     let len = length_at(packet, header::length_place(false), s.extended);
     if packet.len() != start + len {
-        return Answer::Refused(Refusal::Length);
+        return Err(Refusal::Length);
     }
     if len == 0 {
-        return Answer::Refused(Refusal::Empty);
+        return Err(Refusal::Empty);
     }
-    let head = s.head();
-    Answer::Read(Packet::Next {
-        head,
+    Ok(Packet::Next {
+        head: s.head,
         ack: s.ack,
         last,
         start,
@@ -234,22 +221,22 @@ fn read_next(packet: &[u8], s: StartBits, last: bool) -> Answer
 }
 
 // What one packet says, or why it is refused; the limit is the largest total.
-pub fn read(limit: usize, packet: &[u8]) -> Answer
+pub fn read(limit: usize, packet: &[u8]) -> Result<Packet, Refusal>
     ensures { told result ≡ read_of limit packet.now }
 {
     if packet.len() < header::START_SIZE {
-        return Answer::Refused(Refusal::Short);
+        return Err(Refusal::Short);
     }
+    let first = byte_at(packet, 0);
     let second = byte_at(packet, 1);
-    let s = start_bits(byte_at(packet, 0), second);
     let kind = header::type_bits(second);
-    let size = header::header_size(kind == header::TYPE_FIRST, s.extended);
+    let extended = header::extender_bit(second);
+    let size = header::header_size(kind == header::TYPE_FIRST, extended);
     if both(kind != header::TYPE_CONTROL, packet.len() < size) {
-        return Answer::Refused(Refusal::Short);
+        return Err(Refusal::Short);
     }
-    if !is_stream(s.stream) {
-        return Answer::Refused(Refusal::UnknownStream);
-    }
+    let stream = Stream::try_from(header::stream_bits(first))?;
+    let s = start_bits(stream, first, second);
     if kind == header::TYPE_CONTROL {
         return read_control(packet, s);
     }

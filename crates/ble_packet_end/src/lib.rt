@@ -1,26 +1,14 @@
 // The packet at the front of some bytes, as of a reply's joined packets: where it ends, and what it says.
 #![tactic(auto)]
 
-ghost use Rattle.std.specs.Prelude.{◌≡◌, ◌<◌};
-ghost use Rattle.ble_packet.specs.Reader.{length_at, told};
+ghost use Rattle.std.specs.Prelude.{◌≡◌};
+ghost use Rattle.ble_packet.specs.Reader.{told};
 ghost use Rattle.ble_packet_end.specs.End.{said_by, end_of, front_of};
 
 use ble_packet::control::ACK_SIZE;
 use ble_packet::header;
-use ble_packet::reader::{Answer, read};
-use wire::bytes::{byte_at, pair, wide};
-
-// The payload length: one byte, or two with the extender.
-fn length_at(bytes: &[u8], at: usize, extended: bool) -> usize
-    requires { at < 6 }
-    ensures { (result ≡ length_at bytes.now at extended) × (result < 65536) }
-{
-    let high = byte_at(bytes, at);
-    if extended {
-        return pair(high, byte_at(bytes, at + 1));
-    }
-    wide(high)
-}
+use ble_packet::reader::{Packet, Refusal, length_at, read};
+use wire::bytes::byte_at;
 
 // The length that a packet of a message says.
 fn said_length(bytes: &[u8], first: bool, extended: bool) -> usize
@@ -48,7 +36,7 @@ pub fn end_of(bytes: &[u8]) -> usize
 }
 
 // The packet at the front of some bytes read, for a link with a limit.
-pub fn read_front(limit: usize, bytes: &[u8]) -> Answer
+pub fn read_front(limit: usize, bytes: &[u8]) -> Result<Packet, Refusal>
     ensures { told result ≡ front_of limit bytes.now }
 {
     let end = end_of(bytes);

@@ -1,9 +1,11 @@
 -- The receiver of Low Energy: its opening, and one packet given to it over a lent row of slots, with a sequence and a buffer for the ACK
 -- that it may want: what is told, the row, the lent buffer and the answer buffer afterwards.
 use Rattle.std.specs.Prelude.{ℕ, ◌+◌, ◌*◌, List, [], ◌∷◌, Bool, true, false, not, cond, ◌&&◌, length, set, ltb, eqb}
+use Rattle.std.specs.Prelude
 use Rattle.std.proofs.lemmas.List.Edits.{sets}
-use Rattle.wire.specs.Told.{Told, given, refused, Line, line, table}
-use Rattle.wire.specs.Limit.{limit_fits}
+use Rattle.wire.specs.Told.{Told, told_by, given, refused, Line, line, table}
+use Rattle.wire.specs.declared.limit.BadLimit.{BadLimit}
+use Rattle.wire.specs.Limit.{limit_fits, limit_number}
 use Rattle.wire.specs.Stream.{stream_number}
 use Rattle.ble_packet.specs.declared.reader.Packet.{Packet}
 use Rattle.ble_packet.specs.Header.{four_bits, first_byte}
@@ -15,7 +17,6 @@ use Rattle.ble_slot.specs.declared.answer.Accepted.TheVariants.{Taken, Finished,
 use Rattle.ble_slot.specs.Slot.{slot_count, lane_start, lane_of, lawful}
 use Rattle.ble_slot_steps.specs.Step.{Act, still, step, act_of}
 use Rattle.ble_receiver.specs.declared.Receiver.{Receiver}
-use Rattle.ble_receiver.specs.declared.OpenedReceiver.{OpenedReceiver}
 use Rattle.ble_receiver.specs.Buffer.{stored}
 
 -- the state of a link: its limit
@@ -27,9 +28,8 @@ unfoldable pub open_of : ℕ → Told Receiver
 open_of limit = table (line 17 (not (limit_fits limit)) ∷ []) refused (given (link_of limit))
 
 -- what an opening tells
-abbrev pub told_open : OpenedReceiver → Told Receiver
-told_open (OpenedReceiver.Link s) = given s
-told_open OpenedReceiver.BadLimit = refused 17
+abbrev pub told_open : Prelude.Result Receiver BadLimit → Told Receiver
+told_open = told_by limit_number
 
 -- ---- one packet
 

@@ -8,7 +8,7 @@ ghost use Rattle.ble_slot.specs.Answer.{told};
 ghost use Rattle.ble_receiver.specs.Receiver.{answered};
 ghost use Rattle.ble_receiver.specs.Ack.{IdLow};
 
-use ble_slot::answer::{Accepted, Answer};
+use ble_slot::answer::{Accepted, Refusal};
 use wire::stream::Stream;
 
 // Writes the ACK where it is wanted.
@@ -48,12 +48,12 @@ fn confirm_accepted(accepted: Accepted, sequence: u8, out: &mut [u8])
 }
 
 // Writes the ACK of an answer that finishes a transaction, first in the answer buffer.
-pub fn acknowledge(answer: Answer, sequence: u8, out: &mut [u8])
+pub fn acknowledge(answer: Result<Accepted, Refusal>, sequence: u8, out: &mut [u8])
     requires { IdLow (told answer) × (sequence < 16) × (6 ≤ length out.old) }
     ensures { out.new ≡ answered sequence (told answer) out.old }
 {
     match answer {
-        Answer::Refused(_) => {}
-        Answer::Given(accepted) => confirm_accepted(accepted, sequence, out),
+        Err(_) => {}
+        Ok(accepted) => confirm_accepted(accepted, sequence, out),
     }
 }

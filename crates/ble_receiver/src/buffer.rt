@@ -7,10 +7,8 @@ ghost use Rattle.ble_receiver.specs.Buffer.{stored};
 
 use ble_slot_steps::PayloadPlace;
 use wire::bytes::copy;
+use wire::scan::{BLOCK, copy_block};
 use wire::stream::Stream;
-
-// The bytes that are copied at once.
-const BLOCK: usize = 16;
 
 // The index of a stream's first slot and part.
 pub fn lane_start(stream: Stream) -> usize
@@ -23,17 +21,8 @@ pub fn lane_start(stream: Stream) -> usize
     }
 }
 
-// Copies a block by way of a local one: all of it is read before any is written, which takes one load and one store.
-fn copy_block(out: &mut [u8], at: usize, run: &[u8])
-    requires { (length run.now ≡ 16) × (at + length run.now ≤ length out.old) }
-    ensures { out.new ≡ sets out.old at run.now }
-{
-    let mut block: [u8; BLOCK] = [0; BLOCK];
-    copy(&mut block, 0, run);
-    copy(out, at, &block);
-}
-
-// Copies blocks from a place of a run on while more than one is left, and returns up to where.
+// Copies blocks from a place of a run on while more than one is left, and returns up to where. With another test of its end the loop takes
+// nine instructions more (docs/SPEED.md, 288).
 fn copy_blocks(out: &mut [u8], at: usize, run: &[u8], from: usize) -> usize
     requires { (from ≤ length run.now) × (at + length run.now ≤ length out.old) }
     ensures { ((l : List ℕ) → out.old ≡ sets l at (take from run.now)

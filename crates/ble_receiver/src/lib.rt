@@ -15,10 +15,10 @@ ghost use Rattle.ble_receiver.specs.Outcome.{left_by, first_twelve};
 
 use ble_packet::reader::Packet;
 use ble_packet::{control, header, reader};
-use ble_slot::answer::{Answer, Refusal};
+use ble_slot::answer::Refusal;
 use ble_slot::{Slot, are_lawful, lane_of};
 use ble_slot_steps::{PayloadPlace, Step, act_on};
-use wire::limit::limit_fits;
+use wire::limit::{BadLimit, limit_fits};
 use wire::logic::both;
 
 // The state of a link: its limit. Its slots are lent as a row of twelve, four for each stream: control, OTA, Alexa.
@@ -27,25 +27,18 @@ pub struct Receiver {
     pub limit: usize,
 }
 
-// A link's state, or refusal 17 for a limit out of its range.
-#[derive(Drop)]
-pub enum OpenedReceiver {
-    Link(Receiver),
-    BadLimit,
-}
-
 // The lent buffer has a part as long as the limit for each slot.
 pub const SLOT_COUNT: usize = 12;
 
 impl Receiver {
     // A receiver for a link with a limit.
-    pub fn open(limit: usize) -> OpenedReceiver
+    pub fn open(limit: usize) -> Result<Receiver, BadLimit>
         ensures { told_open result ≡ open_of limit }
     {
         if limit_fits(limit) {
-            OpenedReceiver::Link(Receiver { limit })
+            Ok(Receiver { limit })
         } else {
-            OpenedReceiver::BadLimit
+            Err(BadLimit)
         }
     }
 }
@@ -107,12 +100,9 @@ pub fn process(
         ≡ leaves sequence out.old
         (acted limit slots buffer.old packet.now (read_of limit packet.now)) }
 {
-    let answer = reader::read(limit, packet);
-    match answer {
-        reader::Answer::Refused(why) => refuse(slots, Refusal::OfPacket(why)),
-        reader::Answer::Read(read) => {
-            accept_read(limit, slots, buffer, packet, read, sequence, out)
-        }
+    match reader::read(limit, packet) {
+        Err(why) => refuse(slots, Refusal::from(why)),
+        Ok(read) => accept_read(limit, slots, buffer, packet, read, sequence, out),
     }
 }
 
@@ -123,7 +113,7 @@ fn refuse(slots: [Slot; 12], why: Refusal) -> Step
 {
     let slot = slots[0];
     Step {
-        answer: Answer::Refused(why),
+        answer: Err(why),
         index: 0,
         slot,
         payload: PayloadPlace {

@@ -4,11 +4,11 @@ use native.Mathlib.Omega.{arith}
 use mathlib.Core.Path.{◌≡◌}
 use mathlib.Core.List.{List, []}
 use mathlib.Core.Bool.{Bool, true, false, cond}
-use mathlib.Core.Option.{Option, none, some}
 use lib.Dec.{leb, eqb}
 use lib.ListN.{length}
 use lib.Seq.{sets}
 use borrow.Author.Tests.{leb-true}
+use Rattle.std.specs.Prelude.{Option, None, Some}
 use Rattle.wire.specs.Stream.{is_stream}
 use Rattle.wire.specs.Told.{Told, given, refused, Written, written}
 use Rattle.wire.proofs.Tests.{and_left, and_right}
@@ -17,8 +17,9 @@ use Rattle.ble_packet.specs.Header.{four_bits, in_range}
 use Rattle.ble_packet.proofs.Headers.{in-range-low}
 use Rattle.ble_sender.specs.declared.piece.Piece.{Piece}
 use Rattle.ble_sender.specs.declared.writer.Sending.{Sending}
+use Rattle.ble_sender.specs.declared.writer.Sent.{Sent}
 use Rattle.ble_sender.specs.Piece.{least_room, is_first, size_for, pieces_from, piece_at}
-use Rattle.ble_sender.specs.Writer.{packet_of, room_fits, arguments_fit, found_at, lines, Sent, sent_of, piece_of, written_of, decided, Writes}
+use Rattle.ble_sender.specs.Writer.{packet_of, room_fits, arguments_fit, found_at, lines, sent_of, piece_of, written_of, decided, Writes}
 use Rattle.ble_sender.proofs.Largest.{size-le, size_fits}
 
 -- ---- the tests as facts
@@ -48,8 +49,8 @@ range-facts limit w length e =
 -- ---- every piece of a message in range can be written
 
 abbrev WritesFound : Sending → ℕ → ℕ → Option Piece → Type 0
-WritesFound w length space none = Unit {0}
-WritesFound w length space (some p) = Writes w length space p
+WritesFound w length space None = Unit {0}
+WritesFound w length space (Some p) = Writes w length space p
 
 module _ (limit : ℕ) (w : Sending) (length space : ℕ) (small : limit < 65536) (room : least_room ≤ w.room) (range : SendingInRange limit w length)
     (enough : w.room ≤ space) where
@@ -71,7 +72,7 @@ module _ (limit : ℕ) (w : Sending) (length space : ℕ) (small : limit < 65536
   tail-by true q ps h = tt
   tail-by false q ps h = h
 
-  pieces-by : (b : Bool) (p : Piece) (o : Option Piece) → Writes w length space p → WritesFound w length space o → WritesFound w length space (cond b (some p) o)
+  pieces-by : (b : Bool) (p : Piece) (o : Option Piece) → Writes w length space p → WritesFound w length space o → WritesFound w length space (cond b (Some p) o)
   pieces-by true p o h g = h
   pieces-by false p o h g = g
 
@@ -83,7 +84,7 @@ module _ (limit : ℕ) (w : Sending) (length space : ℕ) (small : limit < 65536
       pieces-by (eqb start q) _ _ (head-writes index start rest h)
       (tail-by (eqb n rest) q _ (pieces-write fuel (suc index) (start + n) (rest - n) q (omega arith)))
 
-  pub found-writes : (place : ℕ) (p : Piece) → found_at w length place ≡ some p → Writes w length space p
+  pub found-writes : (place : ℕ) (p : Piece) → found_at w length place ≡ Some p → Writes w length space p
   found-writes place p e = rw e at (pieces-write (suc length) 0 0 length place (omega arith))
 
 -- ---- the table decides, and then one thing is done

@@ -6,14 +6,13 @@ use mathlib.Core.List.{List, ◌++◌}
 use mathlib.Core.Bool.{Bool, true, false}
 use lib.ListN.{length, take, drop, length-append}
 use lib.Seq.{sets}
-use Rattle.wire.specs.Told.{Written, given, written}
 use Rattle.wire.proofs.Stores.{sets_then}
 use Rattle.wire.proofs.Parts.{length_part}
 use Rattle.ble_packet.specs.Header.{start_size, length_place, header_size}
 use Rattle.ble_sender.specs.declared.piece.Piece.{Piece}
 use Rattle.ble_sender.specs.declared.writer.Sending.{Sending}
 use Rattle.ble_sender.specs.Piece.{extended, is_first}
-use Rattle.ble_sender.specs.Writer.{start_bytes, total_bytes, length_bytes, header_bytes, is_last, packet_of, Sent, sent_for, sent_of}
+use Rattle.ble_sender.specs.Writer.{start_bytes, total_bytes, length_bytes, header_bytes, is_last, packet_of, sent_for, sent_of}
 
 -- the total ends where the payload length stands, and that ends where the payload begins
 length-total : (first : Bool) (total : ℕ) → start_size + length (total_bytes first total) ≡ length_place first
@@ -69,14 +68,12 @@ module _ (w : Sending) (m : List ℕ) (p : Piece) (inside : p.start + p.size ≤
 
   -- the payload copied behind the header, and what is told
   pub packet-stored : (out : List ℕ) (at : ℕ) → at ≡ header_size (is_first p.index) (extended p.size)
-      → ◌≡◌ {A = Written Sent}
-      (written (given (sent_for (is_last (length m) p) (at + p.size) (p.start + p.size)))
-      (sets (sets out 0 header) at (take (p.start + p.size - p.start) (drop p.start m))))
-      (written (given (sent_of w m p)) (sets out 0 (packet_of w m p)))
+      → (sent_for (is_last (length m) p) (at + p.size) (p.start + p.size) ≡ sent_of w m p)
+      × (sets (sets out 0 header) at (take (p.start + p.size - p.start) (drop p.start m)) ≡ sets out 0 (packet_of w m p))
   unfolding packet_of
   packet-stored out at e =
       let z : p.start + p.size - p.start ≡ p.size = omega arith in
       let h = header-length w (length m) p (is_last (length m) p) in
       let payload : List ℕ = take p.size (drop p.start m) in
       let l : length (header ++ payload) ≡ at + p.size = packet-length ∙ ap (λ (n : ℕ). n + p.size) (sym e) in
-      rw (z, sets_then out 0 at header payload (omega arith), l)
+      (rw l, rw (z, sets_then out 0 at header payload (omega arith)))

@@ -5,9 +5,9 @@ use native.Mathlib.Nat.{mod-eq-sub-mod, suc-mul, div-add-mod', zero-mod, zero-mu
 use mathlib.Core.Path.{◌≡◌, refl, sym, ap, ◌∙◌}
 use mathlib.Core.List.{[]}
 use mathlib.Core.Bool.{Bool, true, false, cond}
-use mathlib.Core.Option.{none, some}
 use lib.Dec.{ltb, eqb}
 use borrow.Author.Tests.{eq-eqb, ne_eqb, ltb-true, ltb-false, eqb-false}
+use Rattle.std.specs.Prelude.{None, Some}
 use Rattle.ble_sender.specs.Piece.{least_room, size_for, full_size, is_first, pieces_from, pieces_of, piece_at}
 use Rattle.ble_sender.proofs.Largest.{full-some, size_is}
 
@@ -23,13 +23,13 @@ module _ (room c : ℕ) (enough : least_room ≤ room) (full : c ≡ full_size r
   -- one turn, with the size in closed form
   turn : (q fuel index start rest : ℕ)
       → piece_at q (pieces_from (suc fuel) room (suc index) start rest)
-      ≡ cond (eqb start q) (some (record { index = suc index; start = start; size = min rest c }))
+      ≡ cond (eqb start q) (Some (record { index = suc index; start = start; size = min rest c }))
       (piece_at q (cond (eqb (min rest c) rest) [] (pieces_from fuel room (suc (suc index)) (start + min rest c) (rest - min rest c))))
   turn q fuel index start rest = rw (later-size index rest)
 
   -- k full pieces on, one begins
   hit : (k fuel index start rest q : ℕ) → q ≡ start + k * c → q < start + rest → rest ≤ fuel
-      → piece_at q (pieces_from fuel room (suc index) start rest) ≡ some (record { index = suc index + k; start = q; size = min (start + rest - q) c })
+      → piece_at q (pieces_from fuel room (suc index) start rest) ≡ Some (record { index = suc index + k; start = q; size = min (start + rest - q) c })
   hit k zero index start rest q e l f = absurd (omega arith)
   hit zero (suc fuel) index start rest q e l f =
       let z : q ≡ start = omega (arith, zero-mul c) in
@@ -71,8 +71,8 @@ module _ (room c : ℕ) (enough : least_room ≤ room) (full : c ≡ full_size r
   missing-next {start} {rest} {q} l (between d) = between_next start (rest - c) q (ltb q (start + c)) refl d
 
   miss-by : (fuel index start rest q : ℕ) (b : Bool) → eqb (min rest c) rest ≡ b
-      → (c < rest → piece_at q (pieces_from fuel room (suc (suc index)) (start + c) (rest - c)) ≡ none)
-      → piece_at q (cond b [] (pieces_from fuel room (suc (suc index)) (start + min rest c) (rest - min rest c))) ≡ none
+      → (c < rest → piece_at q (pieces_from fuel room (suc (suc index)) (start + c) (rest - c)) ≡ None)
+      → piece_at q (cond b [] (pieces_from fuel room (suc (suc index)) (start + min rest c) (rest - min rest c))) ≡ None
   miss-by fuel index start rest q true e later = refl
   miss-by fuel index start rest q false e later =
       let d : (min rest c ≡ rest → ⊥) = eqb-false (min rest c) rest e in
@@ -80,7 +80,7 @@ module _ (room c : ℕ) (enough : least_room ≤ room) (full : c ≡ full_size r
       let m : min rest c ≡ c = omega arith in
       rw m (later l)
 
-  miss : (fuel index start rest q : ℕ) → 1 ≤ rest → Missing start rest q → piece_at q (pieces_from fuel room (suc index) start rest) ≡ none
+  miss : (fuel index start rest q : ℕ) → 1 ≤ rest → Missing start rest q → piece_at q (pieces_from fuel room (suc index) start rest) ≡ None
   miss zero index start rest q l h = refl
   miss (suc fuel) index start rest q l h =
       turn q fuel index start rest
@@ -92,16 +92,16 @@ module _ (room c : ℕ) (enough : least_room ≤ room) (full : c ≡ full_size r
 
 module _ (room length q f : ℕ) (enough : least_room ≤ room) (fullf : f ≡ full_size room true) where
   begin : piece_at q (pieces_of room length)
-      ≡ cond (eqb 0 q) (some (record { index = 0; start = 0; size = min length f }))
+      ≡ cond (eqb 0 q) (Some (record { index = 0; start = 0; size = min length f }))
       (piece_at q (cond (eqb (min length f) length) [] (pieces_from length room 1 (0 + min length f) (length - min length f))))
   begin = let e : size_for room true length ≡ min length f = rw fullf (size_is room true enough length) in rw e
 
-  pub place-first : q ≡ 0 → piece_at q (pieces_of room length) ≡ some (record { index = 0; start = 0; size = min length f })
+  pub place-first : q ≡ 0 → piece_at q (pieces_of room length) ≡ Some (record { index = 0; start = 0; size = min length f })
   place-first z = begin ∙ rw (eq-eqb 0 q (sym z))
 
   module _ (c : ℕ) (fullc : c ≡ full_size room false) (some-place : q ≡ 0 → ⊥) where
     none-by : (b : Bool) → eqb (min length f) length ≡ b → (f < length → Missing room c enough fullc (0 + f) (length - f) q)
-        → piece_at q (cond b [] (pieces_from length room 1 (0 + min length f) (length - min length f))) ≡ none
+        → piece_at q (cond b [] (pieces_from length room 1 (0 + min length f) (length - min length f))) ≡ None
     none-by true e h = refl
     none-by false e h =
         let d : (min length f ≡ length → ⊥) = eqb-false (min length f) length e in
@@ -109,11 +109,11 @@ module _ (room length q f : ℕ) (enough : least_room ≤ room) (fullf : f ≡ f
         let m : min length f ≡ f = omega arith in
         rw m (miss room c enough fullc length 0 (0 + f) (length - f) q (omega arith) (h l))
 
-    place_none : (f < length → Missing room c enough fullc (0 + f) (length - f) q) → piece_at q (pieces_of room length) ≡ none
+    place_none : (f < length → Missing room c enough fullc (0 + f) (length - f) q) → piece_at q (pieces_of room length) ≡ None
     place_none h = begin ∙ rw (ne_eqb 0 q (λ e. some-place (sym e))) (none-by (eqb (min length f) length) refl h)
 
     pub place-hit : f ≤ q → q < length → (q - f) % c ≡ 0
-        → piece_at q (pieces_of room length) ≡ some (record { index = (q - f) / c + 1; start = q; size = min (length - q) c })
+        → piece_at q (pieces_of room length) ≡ Some (record { index = (q - f) / c + 1; start = q; size = min (length - q) c })
     place-hit g l z =
         let w : 0 < f = rw fullf (full-some room true enough) in
         let k : ℕ = (q - f) / c in
@@ -125,11 +125,11 @@ module _ (room length q f : ℕ) (enough : least_room ≤ room) (fullf : f ≡ f
         ∙ rw (ne_eqb 0 q (λ d. some-place (sym d)), m, ne_eqb f length (λ d. omega arith))
         (hit room c enough fullc k length 0 (0 + f) (length - f) q (omega arith) (omega arith) (omega arith) ∙ rw (i, s))
 
-    pub place-beyond : length ≤ q → piece_at q (pieces_of room length) ≡ none
+    pub place-beyond : length ≤ q → piece_at q (pieces_of room length) ≡ None
     place-beyond h = place_none (λ l. beyond (omega arith))
 
-    pub place-before : q < f → piece_at q (pieces_of room length) ≡ none
+    pub place-before : q < f → piece_at q (pieces_of room length) ≡ None
     place-before h = place_none (λ l. below (omega arith))
 
-    pub place-between : ((q - f) % c ≡ 0 → ⊥) → piece_at q (pieces_of room length) ≡ none
+    pub place-between : ((q - f) % c ≡ 0 → ⊥) → piece_at q (pieces_of room length) ≡ None
     place-between d = let z : 0 + f ≡ f = omega arith in place_none (λ l. between (rw z d))

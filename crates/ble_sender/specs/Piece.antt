@@ -1,10 +1,7 @@
 -- The pieces of a message: each packet of it carries one.
-use Rattle.std.specs.Prelude.{ℕ, zero, suc, ◌+◌, ◌-◌, List, [], ◌∷◌, Bool, cond, ltb, leb, eqb}
-use Rattle.std.proofs.Math.Option.{Option, none, some}
+use Rattle.std.specs.Prelude.{ℕ, zero, suc, ◌+◌, ◌-◌, List, [], ◌∷◌, Bool, cond, ltb, leb, eqb, Option, None, Some}
 use Rattle.ble_packet.specs.Header.{header_size}
 use Rattle.ble_sender.specs.declared.piece.Piece.{Piece}
-use Rattle.ble_sender.specs.declared.piece.Found.{Found}
-use Rattle.ble_sender.specs.declared.piece.Found.TheVariants.{Nowhere, At}
 
 -- n bytes from a place on
 abbrev pub piece_for : ℕ → ℕ → ℕ → Piece
@@ -60,10 +57,5 @@ pieces_of room length = pieces_from (suc length) room 0 0 length
 
 -- the piece that begins at a place
 abbrev pub piece_at : ℕ → List Piece → Option Piece
-piece_at start [] = none
-piece_at start (p ∷ ps) = cond (eqb p.start start) (some p) (piece_at start ps)
-
--- what the code found
-abbrev pub found_of : Found → Option Piece
-found_of Nowhere = none
-found_of (At p) = some p
+piece_at start [] = None
+piece_at start (p ∷ ps) = cond (eqb p.start start) (Some p) (piece_at start ps)

@@ -1,19 +1,15 @@
 -- One packet of a message, written at a place.
-use Rattle.std.specs.Prelude.{ℕ, ◌+◌, ◌≤◌, ◌<◌, List, [], ◌∷◌, ◌++◌, map, Bool, true, false, cond, not, ◌&&◌, length, take, drop, ltb, leb, eqb}
-use Rattle.std.proofs.Math.Option.{Option, none, some, get_or}
+use Rattle.std.specs.Prelude.{ℕ, ◌+◌, ◌≤◌, ◌<◌, List, [], ◌∷◌, ◌++◌, map, Bool, true, false, cond, not, ◌&&◌, length, take, drop, ltb, leb, eqb, Option, None, Some, unwrap_or, Result}
 use Rattle.std.proofs.lemmas.List.Edits.{sets}
 use Rattle.wire.specs.Bytes.{pair_bytes}
 use Rattle.wire.specs.Limit.{limit_fits}
-use Rattle.wire.specs.Told.{Told, given, refused, Line, line, table, Written, writes}
+use Rattle.wire.specs.Told.{Told, told_by, given, refused, Line, line, table, Written, writes}
 use Rattle.ble_packet.specs.Header.{four_bits, in_range, reserved_byte, type_first, type_continuation, type_last, header_size, first_byte, second_byte, sequence_after}
 use Rattle.ble_sender.specs.declared.piece.Piece.{Piece}
 use Rattle.ble_sender.specs.declared.writer.Sending.{Sending}
 use Rattle.ble_sender.specs.declared.writer.Refusal.{Refusal}
 use Rattle.ble_sender.specs.declared.writer.Refusal.TheVariants.{Room, Limit, Argument, Output}
-use Rattle.ble_sender.specs.declared.writer.Answer.{Answer}
-use Rattle.ble_sender.specs.declared.writer.Answer.TheVariants.{Refused, More, Last}
-use Rattle.ble_sender.specs.declared.writer.Decision.{Decision}
-use Rattle.ble_sender.specs.declared.writer.Decision.TheVariants.{Refuse, Write}
+use Rattle.ble_sender.specs.declared.writer.Sent.{Sent}
 use Rattle.ble_sender.specs.Piece.{least_room, largest_room, extended, is_first, pieces_of, piece_at}
 
 -- ---- the packet of a piece
@@ -72,8 +68,8 @@ arguments_fit limit w length = in_range w.stream w.id w.sequence && leb length l
 
 -- whether a piece begins at the place
 abbrev pub begins : Option Piece → Bool
-begins none = false
-begins (some p) = true
+begins None = false
+begins (Some p) = true
 
 -- the piece of a message of that length which begins at the place
 abbrev pub found_at : Sending → ℕ → ℕ → Option Piece
@@ -90,12 +86,14 @@ lines limit w length found space =
 
 -- ---- what is told, and the output afterwards
 
--- the length of the packet, and the place of the next piece, or that it was the last
-pub data Sent : Type 0 where
-  more : ℕ → ℕ → Sent
-  last : ℕ → Sent
+-- the length of the packet, and the place of the next piece
+abbrev pub more : ℕ → ℕ → Sent
+more n next = record { length = n; next = Some next }
 
--- by whether it was the last
+-- or that it was the last
+abbrev pub last : ℕ → Sent
+last n = record { length = n; next = None }
+
 abbrev pub sent_for : Bool → ℕ → ℕ → Sent
 sent_for final n next = cond final (last n) (more n next)
 
@@ -104,14 +102,12 @@ abbrev pub sent_of : Sending → List ℕ → Piece → Sent
 sent_of w m p = sent_for (is_last (length m) p) (length (packet_of w m p)) (p.start + p.size)
 
 -- the number of a refusal, or what was sent
-abbrev pub told : Answer → Told Sent
-told (Refused r) = refused (number_of r)
-told (More n next) = given (more n next)
-told (Last n) = given (last n)
+abbrev pub told : Result Sent Refusal → Told Sent
+told = told_by number_of
 
 -- the piece that is written, where one begins
 abbrev pub piece_of : Option Piece → Piece
-piece_of found = get_or found (record { index = 0; start = 0; size = 0 })
+piece_of found = unwrap_or found (record { index = 0; start = 0; size = 0 })
 
 -- the packet of the piece that begins at the place stands first in the output, and nothing else changes
 unfoldable pub written_of : ℕ → Sending → List ℕ → ℕ → List ℕ → Written Sent
@@ -124,9 +120,8 @@ written_of limit w m place out =
 -- ---- below the guard
 
 -- the number of a refusal, or the piece to write
-abbrev pub decision_of : Decision → Told Piece
-decision_of (Refuse r) = refused (number_of r)
-decision_of (Write p) = given p
+abbrev pub decision_of : Result Piece Refusal → Told Piece
+decision_of = told_by number_of
 
 -- the first line of the table that holds, or the piece that begins at the place
 unfoldable pub decided : ℕ → Sending → ℕ → ℕ → ℕ → Told Piece

@@ -1,6 +1,6 @@
 // The pieces of a message: which one begins at a place.
 ghost use Rattle.std.specs.Prelude.{◌≡◌, ◌≤◌, ◌<◌};
-ghost use Rattle.ble_sender.specs.Piece.{least_room, size_for, full_size, pieces_of, piece_at, found_of};
+ghost use Rattle.ble_sender.specs.Piece.{least_room, size_for, full_size, pieces_of, piece_at};
 
 use ble_packet::header;
 use wire::bytes::smaller;
@@ -19,12 +19,6 @@ pub struct Piece {
     pub index: usize,
     pub start: usize,
     pub size: usize,
-}
-
-#[derive(Drop)]
-pub(crate) enum Found {
-    Nowhere,
-    At(Piece),
 }
 
 // The size of a piece of the bytes that are left: as many as fit the room together with the header.
@@ -51,36 +45,36 @@ pub fn full_size(room: usize, first: bool) -> usize
 }
 
 // The piece of a message of that length which begins at the place, if one does: the pieces before it are full.
-pub(crate) fn piece_at(room: usize, length: usize, start: usize) -> Found
+pub(crate) fn piece_at(room: usize, length: usize, start: usize) -> Option<Piece>
     requires { least_room ≤ room }
-    ensures { found_of result ≡ piece_at start (pieces_of room length) }
+    ensures { result ≡ piece_at start (pieces_of room length) }
 {
     let first = full_size(room, true);
     if start == 0 {
         let size = smaller(length, first);
-        return Found::At(Piece {
+        return Some(Piece {
             index: 0,
             start: 0,
             size,
         });
     }
     if length < start {
-        return Found::Nowhere;
+        return None;
     }
     let rest = length - start;
     if rest == 0 {
-        return Found::Nowhere;
+        return None;
     }
     if start < first {
-        return Found::Nowhere;
+        return None;
     }
     let next = full_size(room, false);
     let past = start - first;
     let over = past % next;
     if over != 0 {
-        return Found::Nowhere;
+        return None;
     }
     let index = past / next + 1;
     let size = smaller(rest, next);
-    Found::At(Piece { index, start, size })
+    Some(Piece { index, start, size })
 }

@@ -6,11 +6,12 @@ ghost use Rattle.ble_packet.specs.Header.{four_bits, start_size, length_place, h
 ghost use Rattle.ble_sender.specs.Piece.{extended, is_first};
 ghost use Rattle.ble_sender.specs.Writer.{type_for, start_bytes, total_bytes, length_bytes, header_bytes, packet_of, number_of, room_fits, arguments_fit, sent_for, sent_of, told, decision_of, decided, written_of, Writes, WritesGiven};
 
-use crate::piece::{Found, LARGEST_ROOM, LEAST_ROOM, ONE_BYTE_LENGTH, Piece, piece_at};
+use crate::piece::{LARGEST_ROOM, LEAST_ROOM, ONE_BYTE_LENGTH, Piece, piece_at};
 use ble_packet::header;
 use wire::bytes::{copy, put_pair};
 use wire::limit::limit_fits;
 use wire::logic::both;
+use wire::refusal::Numbered;
 
 // How a message is sent. The sequence is the first packet's.
 #[derive(Clone, Copy)]
@@ -22,7 +23,7 @@ pub struct Sending {
     pub ack: bool,
 }
 
-#[derive(Clone, Copy)]
+#[derive(Clone, Copy, Debug, PartialEq, Eq)]
 pub enum Refusal {
     Room,
     Limit,
@@ -30,10 +31,10 @@ pub enum Refusal {
     Output,
 }
 
-impl Refusal {
-    pub fn number(self) -> u8
-        ensures { result ≡ number_of self }
-    {
+impl Numbered for Refusal {
+    ghost number_of = { number_of };
+
+    fn number(&self) -> u8 {
         match self {
             Refusal::Room => 13,
             Refusal::Limit => 17,
@@ -43,19 +44,11 @@ impl Refusal {
     }
 }
 
-// The length of the packet that was written, and the place of the next piece, or that it was the last.
+// The length of the packet that was written, and the place of the next piece; none after the last.
 #[derive(Clone, Copy)]
-pub enum Answer {
-    Refused(Refusal),
-    More { length: usize, next: usize },
-    Last { length: usize },
-}
-
-// What is to be done: the first line of the table that holds, or the piece to write.
-#[derive(Drop)]
-enum Decision {
-    Refuse(Refusal),
-    Write(Piece),
+pub struct Sent {
+    pub length: usize,
+    pub next: Option<usize>,
 }
 
 pub fn room_fits(room: usize) -> bool
@@ -71,31 +64,34 @@ fn arguments_fit(how: Sending, limit: usize, length: usize) -> bool
     both(in_range, length <= limit)
 }
 
-// The table of refusals, from the top.
-fn decide(how: Sending, limit: usize, length: usize, place: usize, space: usize) -> Decision
+// The table of refusals, from the top; where no line of it holds, the piece to write.
+fn decide(
+    how: Sending,
+    limit: usize,
+    length: usize,
+    place: usize,
+    space: usize,
+) -> Result<Piece, Refusal>
     ensures { (decision_of result ≡ decided limit how length place space)
         × WritesGiven how length space (decision_of result) }
 {
     let room = how.room;
     if !room_fits(room) {
-        return Decision::Refuse(Refusal::Room);
+        return Err(Refusal::Room);
     }
     if !limit_fits(limit) {
-        return Decision::Refuse(Refusal::Limit);
+        return Err(Refusal::Limit);
     }
     if !arguments_fit(how, limit, length) {
-        return Decision::Refuse(Refusal::Argument);
+        return Err(Refusal::Argument);
     }
-    let found = piece_at(room, length, place);
-    match found {
-        Found::Nowhere => Decision::Refuse(Refusal::Argument),
-        Found::At(piece) => {
-            if space < room {
-                return Decision::Refuse(Refusal::Output);
-            }
-            Decision::Write(piece)
-        }
+    let Some(piece) = piece_at(room, length, place) else {
+        return Err(Refusal::Argument);
+    };
+    if space < room {
+        return Err(Refusal::Output);
     }
+    Ok(piece)
 }
 
 // The type of a packet.
@@ -164,22 +160,18 @@ pub fn put_header(out: &mut [u8], how: Sending, total: usize, piece: Piece, last
     header::header_size(first, ONE_BYTE_LENGTH < size)
 }
 
-fn answer_for(last: bool, length: usize, next: usize) -> Answer
-    ensures { told result ≡ given (sent_for last length next) }
+fn sent_for(last: bool, length: usize, next: usize) -> Sent
+    ensures { result ≡ sent_for last length next }
 {
-    if last {
-        Answer::Last { length }
-    } else {
-        Answer::More { length, next }
-    }
+    let next = if last { None } else { Some(next) };
+    Sent { length, next }
 }
 
 // The packet of a piece, first in the output.
-fn write_piece(how: Sending, message: &[u8], piece: Piece, out: &mut [u8]) -> Answer
+fn write_piece(how: Sending, message: &[u8], piece: Piece, out: &mut [u8]) -> Sent
     requires { Writes how (length message.now) (length out.old) piece }
-    ensures { written (told result) out.new
-        ≡ written (given (sent_of how message.now piece))
-        (sets out.old 0 (packet_of how message.now piece)) }
+    ensures { (result ≡ sent_of how message.now piece)
+        × (out.new ≡ sets out.old 0 (packet_of how message.now piece)) }
 {
     let start = piece.start;
     let size = piece.size;
@@ -187,7 +179,7 @@ fn write_piece(how: Sending, message: &[u8], piece: Piece, out: &mut [u8]) -> An
     let last = end == message.len();
     let header = put_header(out, how, message.len(), piece, last);
     copy(out, header, &message[start..end]);
-    answer_for(last, header + size, end)
+    sent_for(last, header + size, end)
 }
 
 // Writes the packet of the message whose piece begins at the place, for a link with a limit.
@@ -197,13 +189,10 @@ pub fn write_packet(
     message: &[u8],
     place: usize,
     out: &mut [u8],
-) -> Answer
+) -> Result<Sent, Refusal>
     ensures { written (told result) out.new
         ≡ written_of limit how message.now place out.old }
 {
-    let decision = decide(how, limit, message.len(), place, out.len());
-    match decision {
-        Decision::Refuse(why) => Answer::Refused(why),
-        Decision::Write(piece) => write_piece(how, message, piece, out),
-    }
+    let piece = decide(how, limit, message.len(), place, out.len())?;
+    Ok(write_piece(how, message, piece, out))
 }

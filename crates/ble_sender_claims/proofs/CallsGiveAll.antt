@@ -4,11 +4,11 @@ use native.Mathlib.Omega.{arith}
 use mathlib.Core.Path.{◌≡◌, refl, ap, ◌∙◌}
 use mathlib.Core.List.{List, [], ◌∷◌, map}
 use mathlib.Core.Bool.{Bool, true, false, cond}
-use mathlib.Core.Option.{some}
 use lib.ListN.{length, take}
 use lib.Seq.{sets, length-sets}
 use lib.Dec.{eqb}
 use borrow.Author.Tests.{eq-eqb, ne_eqb, eqb-false, le-ltb, le-leb}
+use Rattle.std.specs.Prelude.{Some}
 use Rattle.wire.specs.Limit.{limit_fits}
 use Rattle.wire.specs.Told.{given}
 use Rattle.wire.proofs.Limits.{range-limit}
@@ -40,14 +40,14 @@ module _ (limit : ℕ) (w : Sending) (m : List ℕ) (range : limit_fits limit �
   low : least_room ≤ w.room
   low = room-low w.room fits
 
-  call : (out : List ℕ) (place : ℕ) (p : Piece) → w.room ≤ length out → found_at w (length m) place ≡ some p
+  call : (out : List ℕ) (place : ℕ) (p : Piece) → w.room ≤ length out → found_at w (length m) place ≡ Some p
       → written_of limit w m place out ≡ done w m out (given p)
   unfolding written_of
   call out place p o e = simp (fits, range, fit, e, le-ltb (length out) w.room o)
 
   -- a call where a piece begins gives its packet, and after it, unless it is the last, what the calls from the next place on give
   gives : (calls index start rest : ℕ) (out : List ℕ) → start + rest ≡ length m → w.room ≤ length out
-      → found_at w (length m) start ≡ some (piece index start rest)
+      → found_at w (length m) start ≡ Some (piece index start rest)
       → calls_from (suc calls) limit w m out start
       ≡ packet_of w m (piece index start rest)
       ∷ cond (eqb (size index rest) rest) [] (calls_from calls limit w m (sets out 0 (packet_of w m (piece index start rest))) (start + size index rest))

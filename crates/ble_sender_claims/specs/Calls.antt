@@ -1,15 +1,20 @@
 -- The packets that calls of the writer give for a message, place after place, over one reused output.
-use Rattle.std.specs.Prelude.{ℕ, zero, suc, ◌≤◌, ◌≡◌, ◌⊎◌, List, [], ◌∷◌, true, length, take}
+use Rattle.std.specs.Prelude.{ℕ, zero, suc, ◌≤◌, ◌≡◌, ◌⊎◌, List, [], ◌∷◌, true, length, take, Option, None, Some}
 use Rattle.wire.specs.Limit.{limit_fits}
 use Rattle.wire.specs.Told.{Told, given, refused}
 use Rattle.ble_sender.specs.declared.writer.Sending.{Sending}
-use Rattle.ble_sender.specs.Writer.{packets_of, room_fits, arguments_fit, Sent, more, last, written_of}
+use Rattle.ble_sender.specs.declared.writer.Sent.{Sent}
+use Rattle.ble_sender.specs.Writer.{packets_of, room_fits, arguments_fit, written_of}
+
+-- those from the next place on, where there is one
+abbrev pub packets_after : (ℕ → List (List ℕ)) → Option ℕ → List (List ℕ)
+packets_after later None = []
+packets_after later (Some next) = later next
 
 -- what a call told, over the output that it left: the packet, and those of the calls from the next place on
 abbrev pub packets_by : List ℕ → (ℕ → List (List ℕ)) → Told Sent → List (List ℕ)
 packets_by out later (refused n) = []
-packets_by out later (given (more n next)) = take n out ∷ later next
-packets_by out later (given (last n)) = take n out ∷ []
+packets_by out later (given s) = take s.length out ∷ packets_after later s.next
 
 -- the packets of at most `calls` calls, each at the place that the one before it told, until one tells that it was the last
 unfoldable pub calls_from : ℕ → ℕ → Sending → List ℕ → List ℕ → ℕ → List (List ℕ)

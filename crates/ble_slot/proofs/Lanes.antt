@@ -122,11 +122,14 @@ LawFour limit lane =
 pub law-four : (limit : ℕ) (lane : List Slot) → length lane ≡ slots_each → LawFour limit lane
 law-four limit = by-four (LawFour limit) (λ a b c d. simp (and-true, and-false))
 
--- four idle slots of a row from an index on
-pub idle-four : (limit at : ℕ) (l : List Slot) → at + slots_each ≤ length l
-    → (idle_law (get_or l at idle) && (idle_law (get_or l (suc at) idle) && (idle_law (get_or l (suc (suc at)) idle) && idle_law (get_or l (suc (suc (suc at))) idle)))) ≡ true
-    → lane_law limit (take slots_each (drop at l)) ≡ true
-idle-four limit at l h e = rw (lane-four at l h) (idle-lane limit (get_or l at idle ∷ get_or l (suc at) idle ∷ get_or l (suc (suc at)) idle ∷ get_or l (suc (suc (suc at))) idle ∷ []) (simp (and-true) e))
+-- four idle slots
+abbrev IdleFour : ℕ → List Slot → Type 0
+IdleFour limit lane =
+    (idle_law (get_or lane 0 idle) && (idle_law (get_or lane 1 idle) && (idle_law (get_or lane 2 idle) && idle_law (get_or lane 3 idle)))) ≡ true
+    → lane_law limit lane ≡ true
+
+pub idle-four : (limit : ℕ) (lane : List Slot) → length lane ≡ slots_each → IdleFour limit lane
+idle-four limit = by-four (IdleFour limit) (λ a b c d e. idle-lane limit (a ∷ b ∷ c ∷ d ∷ []) (simp (and-true) e))
 
 all_split : (limit n : ℕ) (l : List Slot) → all_lawful limit l ≡ (all_lawful limit (take n l) && all_lawful limit (drop n l))
 all_split limit zero l = refl

@@ -1,12 +1,10 @@
 -- What is told of a packet that was given to the receiver.
-use Rattle.std.specs.Prelude.{ℕ}
-use Rattle.wire.specs.Told.{Told, given, refused}
+use Rattle.std.specs.Prelude.{ℕ, Result}
+use Rattle.wire.specs.Told.{Told, told_by}
 use Rattle.ble_packet.specs.Reader as reader
 use Rattle.ble_slot.specs.declared.answer.Accepted.{Accepted}
 use Rattle.ble_slot.specs.declared.answer.Refusal.{Refusal}
 use Rattle.ble_slot.specs.declared.answer.Refusal.TheVariants.{BadStateOrBuffer, Argument, Output, OfPacket, NoSlot, NoTransaction, Sequence, Amount}
-use Rattle.ble_slot.specs.declared.answer.Answer.{Answer}
-use Rattle.ble_slot.specs.declared.answer.Answer.TheVariants.{Refused, Given}
 
 abbrev pub number_of : Refusal → ℕ
 number_of BadStateOrBuffer = 1
@@ -19,6 +17,5 @@ number_of Sequence = 10
 number_of Amount = 11
 
 -- the number of a refusal, or what was accepted
-abbrev pub told : Answer → Told Accepted
-told (Refused why) = refused (number_of why)
-told (Given accepted) = given accepted
+abbrev pub told : Result Accepted Refusal → Told Accepted
+told = told_by number_of

@@ -1,9 +1,11 @@
 // What is told of a packet that was given to the receiver.
 ghost use Rattle.std.specs.Prelude.{◌≡◌};
+ghost use Rattle.ble_slot.specs.declared.answer.Refusal.TheVariants.{OfPacket};
 ghost use Rattle.ble_slot.specs.Answer.{number_of};
 
 use ble_packet::reader;
 use ble_packet::reader::Head;
+use wire::refusal::Numbered;
 use wire::stream::Stream;
 
 // A packet that is not refused: a piece of a transaction with more to come, its last piece, an ACK or a NACK. Index: of its slot in the
@@ -30,7 +32,7 @@ pub enum Accepted {
 
 // BadStateOrBuffer: the lent row or buffer has another size, or the state is unlawful. Argument: the answer sequence is above 15.
 // Output: the answer buffer has under six bytes. NoSlot: no slot for a first packet.
-#[derive(Clone, Copy)]
+#[derive(Clone, Copy, Debug, PartialEq, Eq)]
 pub enum Refusal {
     BadStateOrBuffer,
     Argument,
@@ -42,11 +44,10 @@ pub enum Refusal {
     Amount,
 }
 
-impl Refusal {
-    // The number in the table of refusals.
-    pub fn number(self) -> u8
-        ensures { result ≡ number_of self }
-    {
+impl Numbered for Refusal {
+    ghost number_of = { number_of };
+
+    fn number(&self) -> u8 {
         match self {
             Refusal::BadStateOrBuffer => 1,
             Refusal::Argument => 15,
@@ -60,8 +61,10 @@ impl Refusal {
     }
 }
 
-#[derive(Clone, Copy)]
-pub enum Answer {
-    Refused(Refusal),
-    Given(Accepted),
+impl From<reader::Refusal> for Refusal {
+    ghost from_gives = { λ why given. given ≡ OfPacket why };
+
+    fn from(why: reader::Refusal) -> Self {
+        Refusal::OfPacket(why)
+    }
 }

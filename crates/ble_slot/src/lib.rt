@@ -13,7 +13,7 @@ use wire::bytes::pair;
 use wire::logic::{both, either};
 use wire::stream::Stream;
 
-// As C lays it out, in eight bytes. A flag is 0 or 1.
+// As C lays it out, in eight bytes (`pito_slot` of include/pitokaenge.h). A flag is 0 or 1.
 #[repr(C)]
 #[derive(Clone, Copy)]
 pub struct Slot {
@@ -127,22 +127,15 @@ impl Slot {
     pub fn is_lawful(self, limit: usize) -> bool
         ensures { result ≡ lawful_slot limit self }
     {
-        if self.idle_law() {
-            return true;
-        }
-        self.open_law(limit)
+        self.idle_law() || self.open_law(limit)
     }
 
     // Whether none of three slots is open with the id of one that is.
     fn stands_alone(self, a: Slot, b: Slot, c: Slot) -> bool
         ensures { result ≡ not (opens self && any_open self.id (a ∷ b ∷ c ∷ [])) }
     {
-        if self.opens() {
-            let later = either(b.is_open(self.id), c.is_open(self.id));
-            !either(a.is_open(self.id), later)
-        } else {
-            true
-        }
+        let later = either(b.is_open(self.id), c.is_open(self.id));
+        !(self.opens() && either(a.is_open(self.id), later))
     }
 }
 
@@ -151,16 +144,7 @@ fn each_lawful(limit: usize, a: Slot, b: Slot, c: Slot, d: Slot) -> bool
     ensures { result
         ≡ (lawful_slot limit a && (lawful_slot limit b && (lawful_slot limit c && lawful_slot limit d))) }
 {
-    if !a.is_lawful(limit) {
-        return false;
-    }
-    if !b.is_lawful(limit) {
-        return false;
-    }
-    if !c.is_lawful(limit) {
-        return false;
-    }
-    d.is_lawful(limit)
+    a.is_lawful(limit) && b.is_lawful(limit) && c.is_lawful(limit) && d.is_lawful(limit)
 }
 
 // Whether no two open slots of a stream have one id.
@@ -184,18 +168,15 @@ fn are_idle(a: Slot, b: Slot, c: Slot, d: Slot) -> bool
     both(a.idle_law(), both(b.idle_law(), last))
 }
 
-// Whether the slots of a stream are lawful.
+// Whether the slots of a stream are lawful. Four idle ones are, at one look.
 fn lane_lawful(limit: usize, lane: [Slot; 4]) -> bool
     ensures { result ≡ lane_law limit lane }
 {
-    let a = lane[0];
-    let b = lane[1];
-    let c = lane[2];
-    let d = lane[3];
-    if !each_lawful(limit, a, b, c, d) {
-        return false;
+    let [a, b, c, d] = lane;
+    if are_idle(a, b, c, d) {
+        return true;
     }
-    are_distinct(a, b, c, d)
+    each_lawful(limit, a, b, c, d) && are_distinct(a, b, c, d)
 }
 
 // The slots of a stream in a row of twelve.
@@ -209,45 +190,11 @@ pub fn lane_of(slots: [Slot; 12], stream: Stream) -> [Slot; 4]
     }
 }
 
-// Whether the slots of the control stream are lawful. Four idle ones are, at one look.
-fn control_lawful(limit: usize, slots: [Slot; 12]) -> bool
-    ensures { result ≡ lane_law limit (lane_of Control slots) }
-{
-    if are_idle(slots[0], slots[1], slots[2], slots[3]) {
-        return true;
-    }
-    lane_lawful(limit, lane_of(slots, Stream::Control))
-}
-
-// Whether those of OTA are.
-fn ota_lawful(limit: usize, slots: [Slot; 12]) -> bool
-    ensures { result ≡ lane_law limit (lane_of Ota slots) }
-{
-    if are_idle(slots[4], slots[5], slots[6], slots[7]) {
-        return true;
-    }
-    lane_lawful(limit, lane_of(slots, Stream::Ota))
-}
-
-// Whether those of Alexa are.
-fn alexa_lawful(limit: usize, slots: [Slot; 12]) -> bool
-    ensures { result ≡ lane_law limit (lane_of Alexa slots) }
-{
-    if are_idle(slots[8], slots[9], slots[10], slots[11]) {
-        return true;
-    }
-    lane_lawful(limit, lane_of(slots, Stream::Alexa))
-}
-
 // Whether a row is lawful for a limit: the slots of each stream are.
 pub fn are_lawful(limit: usize, slots: [Slot; 12]) -> bool
     ensures { result ≡ lawful limit slots }
 {
-    if !control_lawful(limit, slots) {
-        return false;
-    }
-    if !ota_lawful(limit, slots) {
-        return false;
-    }
-    alexa_lawful(limit, slots)
+    lane_lawful(limit, lane_of(slots, Stream::Control))
+        && (lane_lawful(limit, lane_of(slots, Stream::Ota))
+            && lane_lawful(limit, lane_of(slots, Stream::Alexa)))
 }

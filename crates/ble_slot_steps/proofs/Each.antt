@@ -1,9 +1,9 @@
 -- What holds of each step that a packet can make holds of the one that it makes.
 use Prim.Native.Nat.{ℕ, ◌+◌}
 use mathlib.Core.Path.{◌≡◌, refl}
-use mathlib.Core.Option.{Option, none, some}
 use mathlib.Core.Bool.{Bool, not}
 use lib.Dec.{eqb}
+use Rattle.std.specs.Prelude.{Option, None, Some}
 use Rattle.wire.specs.Told.{refused}
 use Rattle.wire.proofs.Tests.{by_cond}
 use Rattle.ble_packet.specs.declared.reader.Head.{Head}
@@ -33,7 +33,7 @@ module _ {h : Head} (P : Step → Type 0) (each : EachStep h P) (at : ℕ) (s : 
       by_cond P last _ _ (λ _. each.finished at _ s.total _ _) (λ _. each.held at _ s.total _ _)))
 
 -- a step at the spot that was found, or a refusal
-pub at_each : (Q : Act → Type 0) (n : ℕ) (f : ℕ → Step) (o : Option ℕ) → Q (still (refused n)) → ((spot : ℕ) → o ≡ some spot → Q (step spot (f spot)))
+pub at_each : (Q : Act → Type 0) (n : ℕ) (f : ℕ → Step) (o : Option ℕ) → Q (still (refused n)) → ((spot : ℕ) → o ≡ Some spot → Q (step spot (f spot)))
     → Q (at_spot n f o)
-at_each Q n f none r h = r
-at_each Q n f (some spot) r h = h spot refl
+at_each Q n f None r h = r
+at_each Q n f (Some spot) r h = h spot refl

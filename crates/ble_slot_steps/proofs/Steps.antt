@@ -3,12 +3,12 @@ use Prim.Native.Nat.{ℕ, zero, suc, ◌+◌, ◌^◌, ◌≤◌, ◌<◌}
 use native.Mathlib.Omega.{arith}
 use mathlib.Core.Path.{◌≡◌, refl, sym, ap, ◌∙◌}
 use mathlib.Core.Logic.{◌≢◌}
-use mathlib.Core.Option.{Option, none, some}
 use mathlib.Core.List.{List, [], ◌∷◌}
 use mathlib.Core.Bool.{Bool, true, false, cond, ◌||◌, false≢true}
 use lib.ListN.{length, get_or, set}
 use lib.Dec.{eqb}
 use borrow.Author.Tests.{eqb-true, eqb-false, leb-false, not-true, not-false}
+use Rattle.std.specs.Prelude.{Option, None, Some}
 use Rattle.wire.specs.Those.{any}
 use Rattle.wire.specs.declared.stream.Stream.{Stream}
 use Rattle.wire.proofs.Tests.{and_left, and_right}
@@ -43,8 +43,8 @@ further-cond false o q = refl
 abbrev WhereFour : (Slot → Bool) → List Slot → Type 0
 WhereFour test lane =
     spot_where test lane
-    ≡ cond (test (get_or lane 0 idle)) (some 0)
-    (cond (test (get_or lane 1 idle)) (some 1) (cond (test (get_or lane 2 idle)) (some 2) (cond (test (get_or lane 3 idle)) (some 3) none)))
+    ≡ cond (test (get_or lane 0 idle)) (Some 0)
+    (cond (test (get_or lane 1 idle)) (Some 1) (cond (test (get_or lane 2 idle)) (Some 2) (cond (test (get_or lane 3 idle)) (Some 3) None)))
 
 pub where-four : (test : Slot → Bool) (lane : List Slot) → length lane ≡ slots_each → WhereFour test lane
 where-four test = by-four (WhereFour test) (λ a b c d. simp further-cond)
@@ -52,45 +52,45 @@ where-four test = by-four (WhereFour test) (λ a b c d. simp further-cond)
 -- ---- the spot that is found
 
 abbrev is_some : Option ℕ → Bool
-is_some none = false
-is_some (some spot) = true
+is_some None = false
+is_some (Some spot) = true
 
 -- a spot that is found is one of the list's, and its slot passes the test
 pub record FoundSlot (test : Slot → Bool) (l : List Slot) (spot : ℕ) : Type 0 where
   pub below : spot < length l
   pub passes : test (get_or l spot idle) ≡ true
 
-found-further : (test : Slot → Bool) (x : Slot) (l : List Slot) (spot : ℕ) (o : Option ℕ) → ((k : ℕ) → o ≡ some k → FoundSlot test l k)
-    → further o ≡ some spot → FoundSlot test (x ∷ l) spot
-found-further test x l spot none later e = absurd (false≢true (ap is_some e))
-found-further test x l spot (some k) later e =
+found-further : (test : Slot → Bool) (x : Slot) (l : List Slot) (spot : ℕ) (o : Option ℕ) → ((k : ℕ) → o ≡ Some k → FoundSlot test l k)
+    → further o ≡ Some spot → FoundSlot test (x ∷ l) spot
+found-further test x l spot None later e = absurd (false≢true (ap is_some e))
+found-further test x l spot (Some k) later e =
     let f = later k refl in
     let same : suc k ≡ spot = cc in
     rw (← same) (record { below = omega (arith, f.below); passes = f.passes })
 
 found-by : (test : Slot → Bool) (x : Slot) (l : List Slot) (spot : ℕ) (b : Bool) → test x ≡ b
-    → ((k : ℕ) → spot_where test l ≡ some k → FoundSlot test l k)
-    → cond b (some 0) (further (spot_where test l)) ≡ some spot → FoundSlot test (x ∷ l) spot
+    → ((k : ℕ) → spot_where test l ≡ Some k → FoundSlot test l k)
+    → cond b (Some 0) (further (spot_where test l)) ≡ Some spot → FoundSlot test (x ∷ l) spot
 found-by test x l spot true t later e =
     let same : 0 ≡ spot = cc in
     rw (← same) (record { below = omega arith; passes = t })
 found-by test x l spot false t later e = found-further test x l spot (spot_where test l) later e
 
-pub found : (test : Slot → Bool) (l : List Slot) (spot : ℕ) → spot_where test l ≡ some spot → FoundSlot test l spot
+pub found : (test : Slot → Bool) (l : List Slot) (spot : ℕ) → spot_where test l ≡ Some spot → FoundSlot test l spot
 found test [] spot e = absurd (false≢true (ap is_some e))
 found test (x ∷ l) spot e = found-by test x l spot (test x) refl (found test l) e
 
 -- where no slot is open with an id
-where-none : (test : Slot → Bool) (x : Slot) (l : List Slot) (b : Bool) → test x ≡ b → spot_where test (x ∷ l) ≡ none
-    → (test x ≡ false) × (spot_where test l ≡ none)
+where-none : (test : Slot → Bool) (x : Slot) (l : List Slot) (b : Bool) → test x ≡ b → spot_where test (x ∷ l) ≡ None
+    → (test x ≡ false) × (spot_where test l ≡ None)
 where-none test x l true t e = absurd (false≢true (sym (ap is_some (rw t at e))))
 where-none test x l false t e = (t, further-none (spot_where test l) (rw t at e))
   where
-    further-none : (o : Option ℕ) → further o ≡ none → o ≡ none
-    further-none none e = refl
-    further-none (some k) e = absurd (false≢true (sym (ap is_some e)))
+    further-none : (o : Option ℕ) → further o ≡ None → o ≡ None
+    further-none None e = refl
+    further-none (Some k) e = absurd (false≢true (sym (ap is_some e)))
 
-none_open : (id : ℕ) (l : List Slot) → spot_where (is_open id) l ≡ none → any_open id l ≡ false
+none_open : (id : ℕ) (l : List Slot) → spot_where (is_open id) l ≡ None → any_open id l ≡ false
 none_open id [] e = refl
 none_open id (x ∷ l) e =
     let f = where-none (is_open id) x l (is_open id x) refl e in
@@ -101,12 +101,12 @@ pub data FirstSlot (lane : List Slot) (id : ℕ) : ℕ → Type 0 where
   again : {spot : ℕ} → FoundSlot (is_open id) lane spot → FirstSlot lane id spot
   fresh : {spot : ℕ} → FoundSlot is_idle lane spot → any_open id lane ≡ false → FirstSlot lane id spot
 
-chosen_by : (lane : List Slot) (id spot : ℕ) (o : Option ℕ) → open_spot lane id ≡ o → or_else o (spot_where is_idle lane) ≡ some spot
+chosen_by : (lane : List Slot) (id spot : ℕ) (o : Option ℕ) → open_spot lane id ≡ o → or_else o (spot_where is_idle lane) ≡ Some spot
     → FirstSlot lane id spot
-chosen_by lane id spot none eo e = fresh (found is_idle lane spot e) (none_open id lane eo)
-chosen_by lane id spot (some j) eo e = again (found (is_open id) lane spot (eo ∙ e))
+chosen_by lane id spot None eo e = fresh (found is_idle lane spot e) (none_open id lane eo)
+chosen_by lane id spot (Some j) eo e = again (found (is_open id) lane spot (eo ∙ e))
 
-pub chosen : (lane : List Slot) (id spot : ℕ) → first_spot lane id ≡ some spot → FirstSlot lane id spot
+pub chosen : (lane : List Slot) (id spot : ℕ) → first_spot lane id ≡ Some spot → FirstSlot lane id spot
 chosen lane id spot e = chosen_by lane id spot (open_spot lane id) refl e
 
 pub chosen-low : (lane : List Slot) (id spot : ℕ) → FirstSlot lane id spot → spot < length lane
@@ -114,10 +114,10 @@ chosen-low lane id spot (again f) = f.below
 chosen-low lane id spot (fresh f n) = f.below
 
 -- as the code has them
-pub chosen-below : (lane : List Slot) (id spot : ℕ) → length lane ≡ slots_each → some spot ≡ first_spot lane id → spot < slots_each
+pub chosen-below : (lane : List Slot) (id spot : ℕ) → length lane ≡ slots_each → Some spot ≡ first_spot lane id → spot < slots_each
 chosen-below lane id spot n e = omega (arith, n, chosen-low lane id spot (chosen lane id spot (sym e)))
 
-pub open-below : (lane : List Slot) (id spot : ℕ) → length lane ≡ slots_each → some spot ≡ open_spot lane id → spot < slots_each
+pub open-below : (lane : List Slot) (id spot : ℕ) → length lane ≡ slots_each → Some spot ≡ open_spot lane id → spot < slots_each
 open-below lane id spot n e = omega (arith, n, (found (is_open id) lane spot (sym e)).below)
 
 -- ---- each step fits
@@ -237,7 +237,7 @@ act-owns first lane (Nack h) law = tt
 -- ---- a spot that is to be found
 
 -- the only slot that is open with an id
-pub open-found : (id : ℕ) (l : List Slot) (i : ℕ) → distinct l ≡ true → is_open id (get_or l i idle) ≡ true → open_spot l id ≡ some i
+pub open-found : (id : ℕ) (l : List Slot) (i : ℕ) → distinct l ≡ true → is_open id (get_or l i idle) ≡ true → open_spot l id ≡ Some i
 open-found id [] i e o = absurd (false≢true o)
 open-found id (x ∷ l) zero e o = rw o
 open-found id (x ∷ l) (suc i) e o =
@@ -245,34 +245,34 @@ open-found id (x ∷ l) (suc i) e o =
     (ap further (open-found id l i (and_right (unlike x l) _ e) o))
 
 -- some spot
-pub record Some (o : Option ℕ) : Type 0 where
+pub record SpotIn (o : Option ℕ) : Type 0 where
   pub spot : ℕ
-  pub is : o ≡ some spot
+  pub is : o ≡ Some spot
 
-some-further : (o : Option ℕ) → Some o → Some (further o)
+some-further : (o : Option ℕ) → SpotIn o → SpotIn (further o)
 some-further o k = record { spot = suc k.spot; is = ap further k.is }
 
-some-by : (test : Slot → Bool) (x : Slot) (l : List Slot) (b : Bool) → test x ≡ b → (b ≡ false → Some (spot_where test l)) → Some (spot_where test (x ∷ l))
+some-by : (test : Slot → Bool) (x : Slot) (l : List Slot) (b : Bool) → test x ≡ b → (b ≡ false → SpotIn (spot_where test l)) → SpotIn (spot_where test (x ∷ l))
 some-by test x l true e later = record { spot = 0; is = rw e }
 some-by test x l false e later = rw e (some-further (spot_where test l) (later refl))
 
-some-where : (test : Slot → Bool) (l : List Slot) → any test l ≡ true → Some (spot_where test l)
+some-where : (test : Slot → Bool) (l : List Slot) → any test l ≡ true → SpotIn (spot_where test l)
 some-where test [] e = absurd (false≢true e)
 some-where test (x ∷ l) e = some-by test x l (test x) refl (λ n. some-where test l (rw n at e))
 
-or-first : (o q : Option ℕ) → Some o → Some (or_else o q)
+or-first : (o q : Option ℕ) → SpotIn o → SpotIn (or_else o q)
 or-first o q k = record { spot = k.spot; is = ap (λ (x : Option ℕ). or_else x q) k.is }
 
-or-else : (o q : Option ℕ) → Some q → Some (or_else o q)
-or-else none q k = k
-or-else (some spot) q k = record { spot = spot; is = refl }
+or-else : (o q : Option ℕ) → SpotIn q → SpotIn (or_else o q)
+or-else None q k = k
+or-else (Some spot) q k = record { spot = spot; is = refl }
 
-first_by : (lane : List Slot) (id : ℕ) (b : Bool) → any_open id lane ≡ b → (any_open id lane || any_idle lane) ≡ true → Some (first_spot lane id)
+first_by : (lane : List Slot) (id : ℕ) (b : Bool) → any_open id lane ≡ b → (any_open id lane || any_idle lane) ≡ true → SpotIn (first_spot lane id)
 first_by lane id true e h = or-first (open_spot lane id) (spot_where is_idle lane) (some-where (is_open id) lane e)
 first_by lane id false e h = or-else (open_spot lane id) (spot_where is_idle lane) (some-where is_idle lane (rw e at h))
 
 -- a first packet finds a slot where its id is open or one is idle
-pub first_found : (lane : List Slot) (id : ℕ) → (any_open id lane || any_idle lane) ≡ true → Some (first_spot lane id)
+pub first_found : (lane : List Slot) (id : ℕ) → (any_open id lane || any_idle lane) ≡ true → SpotIn (first_spot lane id)
 first_found lane id h = first_by lane id (any_open id lane) refl h
 
 -- numbers of a packet that was read

@@ -1,6 +1,5 @@
 -- What a packet does to the slots of its stream: nothing but an answer, or a step of one slot.
-use Rattle.std.specs.Prelude.{ℕ, suc, ◌+◌, List, [], ◌∷◌, Bool, false, not, cond, ◌||◌, get_or, leb, eqb}
-use Rattle.std.proofs.Math.Option.{Option, none, some}
+use Rattle.std.specs.Prelude.{ℕ, suc, ◌+◌, List, [], ◌∷◌, Bool, false, not, cond, ◌||◌, get_or, leb, eqb, Option, None, Some}
 use Rattle.wire.specs.Bytes.{bit}
 use Rattle.wire.specs.Told.{Told, given, refused, Line, line, table}
 use Rattle.ble_packet.specs.declared.reader.Head.{Head}
@@ -12,8 +11,6 @@ use Rattle.ble_slot_steps.specs.declared.PayloadPlace.{PayloadPlace}
 use Rattle.ble_slot.specs.declared.answer.Accepted.{Accepted}
 use Rattle.ble_slot.specs.declared.answer.Accepted.TheVariants.{Taken, Finished, Acked, Nacked}
 use Rattle.ble_slot_steps.specs.declared.Step as code
-use Rattle.ble_slot_steps.specs.declared.spot.Spot.{Spot}
-use Rattle.ble_slot_steps.specs.declared.spot.Spot.TheVariants.{Nowhere, At}
 use Rattle.ble_slot.specs.Slot.{opens, wants, idle, is_open, is_idle}
 use Rattle.ble_slot.specs.Answer as answer
 
@@ -80,22 +77,22 @@ next_step index s head ack last start len =
 
 -- one spot further
 abbrev pub further : Option ℕ → Option ℕ
-further none = none
-further (some spot) = some (suc spot)
+further None = None
+further (Some spot) = Some (suc spot)
 
 abbrev pub or_else : Option ℕ → Option ℕ → Option ℕ
-or_else none other = other
-or_else (some spot) other = some spot
+or_else None other = other
+or_else (Some spot) other = Some spot
 
 -- the spot of the first slot that passes a test
 abbrev pub spot_where : (Slot → Bool) → List Slot → Option ℕ
-spot_where test [] = none
-spot_where test (s ∷ ss) = cond (test s) (some 0) (further (spot_where test ss))
+spot_where test [] = None
+spot_where test (s ∷ ss) = cond (test s) (Some 0) (further (spot_where test ss))
 
 -- a step at the spot that was found, or a refusal that leaves all
 abbrev pub at_spot : ℕ → (ℕ → Step) → Option ℕ → Act
-at_spot n f none = still (refused n)
-at_spot n f (some spot) = step spot (f spot)
+at_spot n f None = still (refused n)
+at_spot n f (Some spot) = step spot (f spot)
 
 -- where the id of a packet is open
 abbrev pub open_spot : List Slot → ℕ → Option ℕ
@@ -116,10 +113,6 @@ act_of first lane (Ack head) = still (given (Acked head))
 act_of first lane (Nack head) = still (given (Nacked head))
 
 -- ---- what the code decides
-
-abbrev pub spot_of : Spot → Option ℕ
-spot_of Nowhere = none
-spot_of (At spot) = some spot
 
 -- a step with the index of its slot in the row
 pub record StepAt : Type 0 where

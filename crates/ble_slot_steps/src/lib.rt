@@ -9,10 +9,9 @@ ghost use Rattle.ble_slot.specs.Answer.{number_of, told};
 ghost use Rattle.ble_slot_steps.specs.Step.{step_of, step_at, act_at, still, nothing, finish, hold, drop_by, first_step, off_total, next_step, act_of};
 ghost use Rattle.ble_slot_steps.specs.Fit.{Small};
 
-use crate::spot::Spot;
 use ble_packet::header;
 use ble_packet::reader::{Head, Packet};
-use ble_slot::answer::{Accepted, Answer, Refusal};
+use ble_slot::answer::{Accepted, Refusal};
 use ble_slot::{Slot, narrow, wide};
 use wire::bytes::bit;
 use wire::logic::either;
@@ -28,7 +27,7 @@ pub struct PayloadPlace {
 // The answer, the one slot that is stored, at an index of the row, and the payload that is written in its part.
 #[derive(Drop)]
 pub struct Step {
-    pub answer: Answer,
+    pub answer: Result<Accepted, Refusal>,
     pub index: usize,
     pub slot: Slot,
     pub payload: PayloadPlace,
@@ -48,7 +47,7 @@ fn finish(
     let stream = head.stream;
     let slot = Slot::idle();
     Step {
-        answer: Answer::Given(Accepted::Finished {
+        answer: Ok(Accepted::Finished {
             index,
             stream,
             id: head.id,
@@ -79,7 +78,7 @@ fn hold(
     let whole = narrow(total);
     let held = narrow(payload.at + payload.len);
     Step {
-        answer: Answer::Given(Accepted::Taken {
+        answer: Ok(Accepted::Taken {
             index,
             stream,
             id: head.id,
@@ -99,7 +98,7 @@ fn hold(
 }
 
 // Nothing is written: a transaction is dropped, or a slot is stored as it was.
-fn put_slot(index: usize, slot: Slot, answer: Answer) -> Step
+fn put_slot(index: usize, slot: Slot, answer: Result<Accepted, Refusal>) -> Step
     ensures { step_of result ≡ step_at index (record { told = told answer; slot = slot; payload = nothing }) }
 {
     Step {
@@ -118,11 +117,11 @@ fn put_slot(index: usize, slot: Slot, answer: Answer) -> Step
 fn drop_by(index: usize, why: Refusal) -> Step
     ensures { step_of result ≡ step_at index (drop_by (number_of why)) }
 {
-    put_slot(index, Slot::idle(), Answer::Refused(why))
+    put_slot(index, Slot::idle(), Err(why))
 }
 
 // What leaves all: the first of the stream's slots is stored as it was.
-fn stay(first: usize, lane: [Slot; 4], answer: Answer) -> Step
+fn stay(first: usize, lane: [Slot; 4], answer: Result<Accepted, Refusal>) -> Step
     ensures { step_of result ≡ act_at first lane (still (told answer)) }
 {
     put_slot(first, lane[0], answer)
@@ -186,7 +185,8 @@ fn on_next(
     hold(index, head, wanted, total, false, payload)
 }
 
-// A first packet: what it does where there is a slot for it.
+// A first packet: what it does where there is a slot for it. `follow` has this shape too, but each of the two looks for another slot,
+// refuses by another number and goes on with another function: one function over the three would say less.
 fn begin(
     first: usize,
     lane: [Slot; 4],
@@ -201,8 +201,8 @@ fn begin(
 {
     let found = spot::find_first(lane, head.id);
     match found {
-        Spot::Nowhere => stay(first, lane, Answer::Refused(Refusal::NoSlot)),
-        Spot::At(spot) => {
+        None => stay(first, lane, Err(Refusal::NoSlot)),
+        Some(spot) => {
             let slot = lane[spot];
             on_first(first + spot, slot, head, ack, total, start, len)
         }
@@ -224,8 +224,8 @@ fn follow(
 {
     let found = spot::find_open(lane, head.id);
     match found {
-        Spot::Nowhere => stay(first, lane, Answer::Refused(Refusal::NoTransaction)),
-        Spot::At(spot) => {
+        None => stay(first, lane, Err(Refusal::NoTransaction)),
+        Some(spot) => {
             let slot = lane[spot];
             on_next(first + spot, slot, head, ack, last, start, len)
         }
@@ -252,7 +252,7 @@ pub fn act_on(first: usize, lane: [Slot; 4], packet: Packet) -> Step
             start,
             len,
         } => follow(first, lane, head, ack, last, start, len),
-        Packet::Ack(head) => stay(first, lane, Answer::Given(Accepted::Acked(head))),
-        Packet::Nack(head) => stay(first, lane, Answer::Given(Accepted::Nacked(head))),
+        Packet::Ack(head) => stay(first, lane, Ok(Accepted::Acked(head))),
+        Packet::Nack(head) => stay(first, lane, Ok(Accepted::Nacked(head))),
     }
 }

@@ -40,7 +40,7 @@ use Rattle.msg_control.specs.Envelope.{bad_payload, envelope_of, envelope_fields
 use Rattle.msg_control.specs.Response.{bad_response_payload, response_fields, response_written}
 use Rattle.proto_reader.specs.Refusal.{number_more}
 use Rattle.proto_strings.specs.declared.TextFault.{TextFault}
-use Rattle.proto_strings.specs.declared.TextFault.TheVariants.{None, At}
+use Rattle.std.specs.Prelude.{⊤, Result, Ok, Err}
 use Rattle.proto_strings.specs.Texts.{first_fault, faulted, alone_written, writes_texts}
 use Rattle.msg_device.specs.Information.{information_strings, information_fields, information_written}
 use Rattle.msg_device.specs.Features.{features_fields, features_written}
@@ -50,8 +50,7 @@ use Rattle.msg_firmware.specs.Segment.{broken_field}
 use Rattle.msg_segment_writer.specs.Segment.{segment_strings, segment_fields, segment_filled, segment_written}
 use Rattle.msg_apply_writer.specs.Information.{bad_firmware, firmware_strings}
 use Rattle.msg_apply_writer.specs.Apply.{apply_fields, apply_written}
-use Rattle.outbox.specs.declared.format.Format.{Format}
-use Rattle.outbox.specs.Format.{version_two, format_of, new_bytes, record_bytes, first_place}
+use Rattle.outbox.specs.Format.{Format, version_two, format_of, new_bytes, record_bytes, first_place}
 use Rattle.outbox.specs.Reader.{Answer, other_version, read_all, walk_of, number_in}
 use Rattle.outbox_move.specs.Moves.{over_from, moved_to, move_of}
 use Rattle.c_outbox_move.specs.Calls.{moved_row, outbox_move_of}
@@ -243,15 +242,15 @@ features-keeps features attributes out answer =
     keeps-writer out answer (features_written f out) (message-keeps false (features_fields f) out)
 
 -- .. and of messages with strings
-texts-kept : (bad short : Bool) (fault : TextFault) (n : ℕ) (out after : List ℕ)
+texts-kept : (bad short : Bool) (fault : Result ⊤ TextFault) (n : ℕ) (out after : List ℕ)
     → let w : WrittenOf (ℕ × List ℕ) ℕ =
     cond bad (written (refused (15, [])) out)
     (faulted fault out (alone_written (cond bad (written (refused 15) out) (cond short (written (refused 14) out) (written (given n) after))))) in
     number_more w.told ≡ 1 → w.out ≡ out
 texts-kept true short fault n out after = λ e. refl
-texts-kept false short (At field place) n out after = λ e. refl
-texts-kept false true None n out after = λ e. refl
-texts-kept false false None n out after = never
+texts-kept false short (Err why) n out after = λ e. refl
+texts-kept false true (Ok u) n out after = λ e. refl
+texts-kept false false (Ok u) n out after = never
 
 texts-keep : (bad : Bool) (strings : List (ℕ × List ℕ)) (fields : List Field) (out : List ℕ)
     → number_more (writes_texts bad strings fields out).told ≡ 1 → (writes_texts bad strings fields out).out ≡ out
@@ -285,16 +284,16 @@ reply-keeps message serial_number name device_type transports features members l
     keeps-answers 3 (number_more w.told) out answer w.out (reply_row w.told) (replied-left b link out (envelope_of message))
 
 -- writers of firmware messages
-segment-kept : (wide fine short : Bool) (fault : TextFault) (field size : ℕ) (out after : List ℕ)
+segment-kept : (wide fine short : Bool) (fault : Result ⊤ TextFault) (field size : ℕ) (out after : List ℕ)
     → let w : WrittenOf (ℕ × List ℕ) ℕ =
     cond wide (written (refused (15, [])) out)
     (faulted fault out (cond fine (cond short (written (refused (14, [])) out) (written (given size) after)) (written (refused (50, field ∷ [])) out))) in
     number_more w.told ≡ 1 → w.out ≡ out
 segment-kept true fine short fault field size out after = λ e. refl
-segment-kept false fine short (At at place) field size out after = λ e. refl
-segment-kept false false short None field size out after = λ e. refl
-segment-kept false true true None field size out after = λ e. refl
-segment-kept false true false None field size out after = never
+segment-kept false fine short (Err why) field size out after = λ e. refl
+segment-kept false false short (Ok u) field size out after = λ e. refl
+segment-kept false true true (Ok u) field size out after = λ e. refl
+segment-kept false true false (Ok u) field size out after = never
 
 segment-keeps : (offset size : ℕ) (name signature out answer : List ℕ)
     → Keeps [] out answer (segment_write_of name offset size signature out answer)

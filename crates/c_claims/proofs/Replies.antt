@@ -18,7 +18,7 @@ use Rattle.ble_sender.proofs.Largest.{size_is, size-le}
 use Rattle.proto_field.specs.Signed as signed
 use Rattle.proto_reader.specs.Refusal.{number_more}
 use Rattle.proto_strings.specs.declared.TextFault.{TextFault}
-use Rattle.proto_strings.specs.declared.TextFault.TheVariants.{None, At}
+use Rattle.std.specs.Prelude.{⊤, Result, Ok, Err}
 use Rattle.proto_strings.specs.Texts.{first_fault, faulted}
 use Rattle.msg_control.specs.declared.envelope.Envelope.{Envelope}
 use Rattle.ble_joined.specs.Joined.{joined_of, sizes}
@@ -32,12 +32,12 @@ use Rattle.reply.specs.Reply.{Box, sending_of, reply_of, link_lines, strings_of,
 abbrev Left : List ℕ → WrittenOf (ℕ × List ℕ) Replied → Type 0
 Left out w = number_more w.told ≡ 1 → w.out ≡ out
 
-carried-left : (long short : Bool) (fault : TextFault) (n : ℕ) (out after : List ℕ)
+carried-left : (long short : Bool) (fault : Result ⊤ TextFault) (n : ℕ) (out after : List ℕ)
     → Left out (cond long (refusing out 15) (faulted fault out (cond short (refusing out 14) (written (given (sent n)) after))))
 carried-left true short fault n out after = λ e. refl
-carried-left false short (At field place) n out after = λ e. refl
-carried-left false true None n out after = λ e. refl
-carried-left false false None n out after = λ e. absurd (omega (arith, e))
+carried-left false short (Err why) n out after = λ e. refl
+carried-left false true (Ok u) n out after = λ e. refl
+carried-left false false (Ok u) n out after = λ e. absurd (omega (arith, e))
 
 sent-left : (b : Box) (l : Link) (v : ℕ) (out : List ℕ) → Left out (sent_of b l v out)
 unfolding sent_of carried_of joined_in

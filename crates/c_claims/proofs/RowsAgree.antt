@@ -31,7 +31,8 @@ use Rattle.c_classic.proofs.States as classic
 use Rattle.c_classic_parts.proofs.States as writing
 use Rattle.wire.specs.Limit.{limit_fits}
 use Rattle.ble_sender.specs.declared.writer.Sending.{Sending}
-use Rattle.ble_sender.specs.Writer.{packet_of, packets_of, room_fits, arguments_fit, begins, piece_of, Sent, sent_for, written_of}
+use Rattle.ble_sender.specs.declared.writer.Sent.{Sent}
+use Rattle.ble_sender.specs.Writer.{packet_of, packets_of, room_fits, arguments_fit, begins, piece_of, sent_for, written_of}
 use Rattle.ble_sender.specs.Writer as sender
 use Rattle.ble_sender_claims.specs.Calls.{packets_by, calls_from, SendableMessage}
 use Rattle.ble_sender_claims.proofs.CallsGiveAll.{calls-give-all}

@@ -32,8 +32,7 @@ use Rattle.ble_sender.specs.Piece.{least_room, largest_room}
 use Rattle.ble_sender.specs.Writer.{found_at, begins, arguments_fit, written_of, room_fits}
 use Rattle.msg_control.specs.declared.envelope.EnvelopePayload.{EnvelopePayload}
 use Rattle.msg_control.specs.declared.envelope.EnvelopePayload.TheVariants as envelope
-use Rattle.msg_control.specs.declared.response.ResponsePayload.{ResponsePayload}
-use Rattle.msg_control.specs.declared.response.ResponsePayload.TheVariants as Inner
+use Rattle.std.specs.Prelude.{Option, Some, None}
 use Rattle.msg_device.specs.declared.features.DeviceFeatures.{DeviceFeatures}
 use Rattle.proto_reader.specs.Gathered.{most_transports}
 use Rattle.proto_schema.specs.Schema.{command_field, response_field, error_code_field, serial_number_field, name_field, transports_field, device_type_field, features_field, device_attributes_field, component_name_field, segment_size_field, segment_signature_field}
@@ -56,8 +55,7 @@ use Rattle.msg_firmware_claims.specs.RoundTrip.{Unsigned32}
 use Rattle.msg_firmware_claims.specs.Premises.{Digits}
 use Rattle.msg_firmware_claims.proofs.Premises.{signature, digits-well}
 use Rattle.msg_firmware_claims.proofs.Segments.{unsigned-trip}
-use Rattle.outbox.specs.declared.format.Format.{Format}
-use Rattle.outbox.specs.Format.{version_one, version_two, Known, one, two, is_one, format_of, head_size, record_bytes, first_place}
+use Rattle.outbox.specs.Format.{Format, version_one, version_two, Known, one, two, is_one, format_of, head_size, record_bytes, first_place}
 use Rattle.outbox.specs.Reader as outbox
 use Rattle.outbox.specs.Reader.{walk_of}
 use Rattle.outbox.specs.Writer.{new_of, bad_record, append_of}
@@ -195,11 +193,11 @@ ack-done stream id sequence positive out answer l s i q p h =
 
 -- ---- messages
 
-response-most : (code : ℕ) (payload : ResponsePayload) (bytes : List ℕ)
+response-most : (code : ℕ) (payload : Option ℕ) (bytes : List ℕ)
     → length (message_bytes (response_fields code payload bytes)) ≤ response_size (length bytes)
-response-most code Inner.None bytes =
+response-most code None bytes =
     rw length-append (omega (arith, scalar-most error_code_field code, tag_small error_code_field varint_type refl))
-response-most code (Inner.Member field) bytes =
+response-most code (Some field) bytes =
     rw (length-append, length-append)
     (omega (arith, scalar-most error_code_field code, tag_small error_code_field varint_type refl, nested-most field bytes, tag-most field length_type))
 

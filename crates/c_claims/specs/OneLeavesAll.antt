@@ -19,7 +19,7 @@ use Rattle.c_messages.specs.Calls.{envelope_read_of, envelope_write_of, response
 use Rattle.c_reply.specs.Calls.{reply_write_of}
 use Rattle.c_firmware.specs.Calls.{segment_read_of, segment_write_of, apply_read_of, apply_write_of, field_read_of}
 use Rattle.c_outbox.specs.Calls.{outbox_new_of, outbox_append_of, outbox_record_of, outbox_whole_of}
-use Rattle.outbox.specs.declared.format.Format.{Format}
+use Rattle.outbox.specs.Format.{Format}
 use Rattle.c_outbox_move.specs.Calls.{outbox_move_of}
 use Rattle.c_text.specs.Calls.{text_of}
 

@@ -12,8 +12,7 @@ use Rattle.msg_control.specs.declared.envelope.Envelope.{Envelope}
 use Rattle.msg_control.specs.Envelope.{envelope_of}
 use Rattle.msg_device.specs.declared.features.DeviceFeatures.{DeviceFeatures}
 use Rattle.reply_parts.specs.declared.body.Members.{Members}
-use Rattle.outbox.specs.declared.format.Format.{Format}
-use Rattle.outbox.specs.Format.{version_one, version_two, Known, format_of, head_size, first_place}
+use Rattle.outbox.specs.Format.{Format, version_one, version_two, Known, format_of, head_size, first_place}
 use Rattle.outbox.specs.Reader.{given, read_all, walk_of}
 use Rattle.outbox_move.specs.Moves.{over_from}
 use Rattle.msg_claims.specs.RoundTrip.{MemberNumber}

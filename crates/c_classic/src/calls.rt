@@ -7,16 +7,17 @@ ghost use Rattle.c_classic.specs.Convert.{is_extractor, extractor_of};
 ghost use Rattle.c_classic.specs.Calls.{extractor_open_of, stepped, extractor_step_of, fed_call, none_used, extractor_feed_of, frame_write_of, next_sequence_of};
 
 use crate::convert::{
-    ALL_USED, BAD_LIMIT, FEED_ANSWER, FRAME, NOTHING, STATE, STEP_ANSWER, extractor_of,
-    extractor_row, frame_count, is_extractor, put_progress, step_reply,
+    ALL_USED, FEED_ANSWER, FRAME, NOTHING, STATE, STEP_ANSWER, extractor_of, extractor_row,
+    is_extractor, put_progress, step_reply,
 };
 use c_rows::row::{COUNT_ANSWER, Count, DONE, UNFIT, byte_or, put, tell, write_row};
-use classic_extractor::state::{Extractor, OpenedExtractor};
-use classic_feed::many::{FeedOutcome, feed};
+use classic_extractor::state::Extractor;
+use classic_feed::many::feed;
 use classic_frame::header;
 use classic_frame::mark::Mark;
 use classic_writer::writer::write_frame;
 use wire::bytes::wide64;
+use wire::refusal::Numbered;
 
 // Opens an extractor for a link with a limit: its empty state.
 pub fn pito_extractor_open(limit: u64, state: &mut [u64]) -> u64
@@ -26,12 +27,12 @@ pub fn pito_extractor_open(limit: u64, state: &mut [u64]) -> u64
         return UNFIT;
     }
     match Extractor::open(limit as usize) {
-        OpenedExtractor::Empty(next) => {
+        Ok(next) => {
             let row = extractor_row(next);
             write_row(state, &row);
             DONE
         }
-        OpenedExtractor::BadLimit => BAD_LIMIT,
+        Err(why) => wide64(why.number()),
     }
 }
 
@@ -63,8 +64,7 @@ fn step_fitting(state: &mut [u64], buffer: &mut [u8], byte: u8, answer: &mut [u6
         (byte_step_of x.limit x.progress buffer.old byte)) }
 {
     let done = extractor_of(state).step(buffer, byte);
-    let outcome = done.outcome;
-    let reply = step_reply(outcome);
+    let reply = step_reply(done.outcome);
     let number = reply.number;
     let next = done.next;
     let progress = next.progress;
@@ -121,21 +121,20 @@ fn feed_fitting(state: &mut [u64], buffer: &mut [u8], bytes: &[u8], answer: &mut
     let next = done.next;
     let progress = next.progress;
     let used = done.used as u64;
-    let outcome = done.outcome;
-    match outcome {
-        FeedOutcome::AllUsed => {
+    match done.outcome {
+        Ok(None) => {
             let row = [ALL_USED, used, 0, 0];
             write_row(answer, &row);
             put_progress(state, DONE, progress);
             DONE
         }
-        FeedOutcome::Frame { sequence, len } => {
-            let row = [FRAME, used, wide64(sequence), len as u64];
+        Ok(Some(frame)) => {
+            let row = [FRAME, used, wide64(frame.sequence), frame.len as u64];
             write_row(answer, &row);
             put_progress(state, DONE, progress);
             DONE
         }
-        FeedOutcome::Refused(why) => {
+        Err(why) => {
             let number = wide64(why.number());
             let row = [NOTHING, used, 0, 0];
             write_row(answer, &row);
@@ -161,7 +160,7 @@ pub fn pito_frame_write(
     }
     let sequence = byte_or(Mark::START, sequence);
     let outcome = write_frame(sequence, limit as usize, payload, output);
-    tell(answer, frame_count(outcome))
+    tell(answer, Count::told(outcome))
 }
 
 // The sequence byte after a sequence byte.

@@ -1,24 +1,20 @@
 // Classic: the extractor's state and what its calls answer as rows, and what the frame writer answers.
 ghost use Rattle.std.specs.Prelude.{◌≡◌, true, [], ◌∷◌, length, get_or};
 ghost use Rattle.classic_extractor.specs.Outcome.{told};
-ghost use Rattle.classic_writer.specs.Writer as writer;
-ghost use Rattle.c_rows.specs.Row.{afterwards, count_of};
+ghost use Rattle.c_rows.specs.Row.{afterwards};
 ghost use Rattle.c_classic.specs.Convert.{phase_number, phase_of, is_extractor, extractor_of, extractor_row, reply, reply_of};
 
-use c_rows::row::{BYTES, Count, DONE, UNFIT, fill};
+use c_rows::row::{BYTES, DONE, UNFIT, fill};
 use classic_extractor::outcome::StepOutcome;
 use classic_extractor::state::{Extractor, Phase, Progress};
-use classic_writer::writer::WriteOutcome;
 use wire::bytes::wide64;
 use wire::logic::both;
+use wire::refusal::Numbered;
 
 // The numbers of a state row, and how many phases there are.
 pub const STATE: usize = 4;
 
 const PHASES: u64 = 6;
-
-// What an opening answers to a limit out of its range.
-pub const BAD_LIMIT: u64 = 17;
 
 // The numbers of the answer rows of a step and of a feed.
 pub const STEP_ANSWER: usize = 3;
@@ -36,7 +32,7 @@ pub const ALL_USED: u64 = 0;
 
 pub const NOTHING: u64 = 0;
 
-// What a call answers: the number that it returns, and what the row tells.
+// What a call answers: the number that it returns, and what the row tells, both of the C interface.
 #[derive(Drop)]
 pub struct ClassicAnswer {
     pub number: u64,
@@ -45,6 +41,7 @@ pub struct ClassicAnswer {
     pub length: u64,
 }
 
+// The numbers of phases in the rows of the C interface. No impl of `From`: neither type is of this crate.
 fn phase_number(phase: Phase) -> u64
     ensures { result ≡ phase_number phase }
 {
@@ -61,22 +58,14 @@ fn phase_number(phase: Phase) -> u64
 fn phase_of(n: u64) -> Phase
     ensures { result ≡ phase_of n }
 {
-    if n == 0 {
-        return Phase::Outside;
+    match n {
+        0 => Phase::Outside,
+        1 => Phase::PacketId,
+        2 => Phase::ErrorId,
+        3 => Phase::Sequence,
+        4 => Phase::Body,
+        _ => Phase::Escaped,
     }
-    if n == 1 {
-        return Phase::PacketId;
-    }
-    if n == 2 {
-        return Phase::ErrorId;
-    }
-    if n == 3 {
-        return Phase::Sequence;
-    }
-    if n == 4 {
-        return Phase::Body;
-    }
-    Phase::Escaped
 }
 
 // Whether a row has numbers that a state can have. Its length first: otherwise each number is read by a test of its own.
@@ -163,16 +152,7 @@ pub fn step_reply(outcome: StepOutcome) -> ClassicAnswer
     match outcome {
         StepOutcome::Skipped => ClassicAnswer::new(DONE, SKIPPED, 0, 0),
         StepOutcome::Taken => ClassicAnswer::new(DONE, TAKEN, 0, 0),
-        StepOutcome::Frame { sequence, len } => ClassicAnswer::new(DONE, FRAME, sequence, len),
+        StepOutcome::Frame(frame) => ClassicAnswer::new(DONE, FRAME, frame.sequence, frame.len),
         StepOutcome::Refused(why) => ClassicAnswer::new(wide64(why.number()), NOTHING, 0, 0),
-    }
-}
-
-pub fn frame_count(outcome: WriteOutcome) -> Count
-    ensures { result ≡ count_of (writer.told outcome) }
-{
-    match outcome {
-        WriteOutcome::Frame(n) => Count::of(n),
-        WriteOutcome::Refused(why) => Count::none(why.number()),
     }
 }

@@ -8,7 +8,7 @@ use Rattle.classic_parts.specs.declared.state.Stage.{Stage}
 use Rattle.classic_parts.specs.declared.state.Stage.TheVariants.{Start, PacketId, ErrorId, Sequence, Payload, Low, End, Done}
 use Rattle.classic_parts.specs.declared.state.PartProgress.{PartProgress}
 use Rattle.classic_parts.specs.declared.state.PartWriter.{PartWriter}
-use Rattle.classic_parts.specs.Writer.{PartCount}
+use Rattle.classic_parts.specs.declared.writer.PartCount.{PartCount}
 use Rattle.c_classic_parts.specs.declared.convert.PartAnswer.{PartAnswer}
 
 -- ---- the state row: limit, sequence, total, taken, sum, stage, pending

@@ -9,8 +9,8 @@ use crate::convert::{PART_ANSWER, STATE, is_state, part_reply, state_of, state_r
 use c_rows::row::{DONE, UNFIT, byte_or, put, write_row};
 use classic_frame::mark::Mark;
 use classic_parts::state::PartWriter;
-use classic_parts::writer::Begun;
 use wire::bytes::wide64;
+use wire::refusal::Numbered;
 
 // Writes a state row, unless the call is refused.
 fn keep(state: &mut [u64], number: u64, row: &[u64])
@@ -30,15 +30,13 @@ pub fn pito_frame_begin(sequence: u64, limit: u64, total: u64, state: &mut [u64]
         return UNFIT;
     }
     let sequence = byte_or(Mark::START, sequence);
-    let begun = PartWriter::begin(sequence, limit as usize, total as usize);
-    match begun {
-        Begun::Ready(next) => {
+    match PartWriter::begin(sequence, limit as usize, total as usize) {
+        Ok(next) => {
             let row = state_row(next);
             write_row(state, &row);
             DONE
         }
-        Begun::BadLimit => wide64(begun.number()),
-        Begun::BadArgument => wide64(begun.number()),
+        Err(why) => wide64(why.number()),
     }
 }
 

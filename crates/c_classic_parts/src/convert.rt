@@ -6,9 +6,10 @@ ghost use Rattle.c_classic_parts.specs.Convert.{stage_number, stage_of, pending_
 use c_rows::row::{BYTES, DONE};
 use classic_frame::mark::Kind;
 use classic_parts::state::{PartProgress, PartWriter, Stage};
-use classic_parts::writer::PartOutcome;
+use classic_parts::writer::{PartCount, Refusal};
 use wire::bytes::{bit64, wide64};
 use wire::logic::both;
+use wire::refusal::Numbered;
 
 // The numbers of a state row; how many sums, stages and pending marks there are.
 pub const STATE: usize = 7;
@@ -22,7 +23,7 @@ const PENDING: u64 = 4;
 // The numbers of an answer row.
 pub const PART_ANSWER: usize = 3;
 
-// What a call answers: the number that it returns, and what the row tells.
+// What a call answers: the number that it returns, and what the row tells, both of the C interface.
 #[derive(Drop)]
 pub struct PartAnswer {
     pub number: u64,
@@ -31,6 +32,7 @@ pub struct PartAnswer {
     pub ended: u64,
 }
 
+// The numbers of stages and pending codes in the rows of the C interface. No impl of `From`: neither type is of this crate.
 fn stage_number(stage: Stage) -> u64
     ensures { result ≡ stage_number stage }
 {
@@ -49,28 +51,16 @@ fn stage_number(stage: Stage) -> u64
 fn stage_of(n: u64) -> Stage
     ensures { result ≡ stage_of n }
 {
-    if n == 0 {
-        return Stage::Start;
+    match n {
+        0 => Stage::Start,
+        1 => Stage::PacketId,
+        2 => Stage::ErrorId,
+        3 => Stage::Sequence,
+        4 => Stage::Payload,
+        5 => Stage::Low,
+        6 => Stage::End,
+        _ => Stage::Done,
     }
-    if n == 1 {
-        return Stage::PacketId;
-    }
-    if n == 2 {
-        return Stage::ErrorId;
-    }
-    if n == 3 {
-        return Stage::Sequence;
-    }
-    if n == 4 {
-        return Stage::Payload;
-    }
-    if n == 5 {
-        return Stage::Low;
-    }
-    if n == 6 {
-        return Stage::End;
-    }
-    Stage::Done
 }
 
 fn pending_number(kind: Kind) -> u64
@@ -87,16 +77,12 @@ fn pending_number(kind: Kind) -> u64
 fn pending_of(n: u64) -> Kind
     ensures { result ≡ pending_of n }
 {
-    if n == 1 {
-        return Kind::Start;
+    match n {
+        1 => Kind::Start,
+        2 => Kind::End,
+        3 => Kind::Escape,
+        _ => Kind::Plain,
     }
-    if n == 2 {
-        return Kind::End;
-    }
-    if n == 3 {
-        return Kind::Escape;
-    }
-    Kind::Plain
 }
 
 // Whether a row has numbers that a state can have. Its length first: otherwise each number is read by a test of its own.
@@ -152,21 +138,17 @@ pub fn state_row(state: PartWriter) -> [u64; 7]
     ]
 }
 
-pub fn part_reply(outcome: PartOutcome) -> PartAnswer
+pub fn part_reply(outcome: Result<PartCount, Refusal>) -> PartAnswer
     ensures { result ≡ reply_of (told outcome) }
 {
     match outcome {
-        PartOutcome::Wrote {
-            taken,
-            written,
-            ended,
-        } => PartAnswer {
+        Ok(count) => PartAnswer {
             number: DONE,
-            taken: taken as u64,
-            written: written as u64,
-            ended: bit64(ended),
+            taken: count.taken as u64,
+            written: count.written as u64,
+            ended: bit64(count.ended),
         },
-        PartOutcome::Refused(why) => PartAnswer {
+        Err(why) => PartAnswer {
             number: wide64(why.number()),
             taken: 0,
             written: 0,

@@ -5,20 +5,17 @@ ghost use Rattle.c_firmware.specs.Calls.{segment_read_of, segment_write_of, appl
 
 use c_firmware_rows::apply::{APPLY_ANSWER, APPLY_ROW, apply_at, bad_row, put_apply};
 use c_firmware_rows::field_row::{FIELD_ANSWER, found_row};
-use c_firmware_rows::segment::{
-    SEGMENT_ANSWER, is_wide, segment_number, segment_row, wrote_number, wrote_row,
-};
-use c_message_rows::convert::{WROTE_ANSWER, tell_wrote, verdict_number};
-use c_rows::row::{UNFIT, put};
+use c_firmware_rows::segment::{SEGMENT_ANSWER, is_wide, segment_row};
+use c_message_rows::convert::{WROTE_ANSWER, tell_wrote};
+use c_rows::row::{UNFIT, number_of_result, put};
 use msg_apply_writer::apply::write_apply;
 use msg_firmware::apply::read_apply;
 use msg_firmware::segment::read_segment;
 use msg_segment_writer::write_segment;
 use proto_field::fields::found_at;
 use proto_field::unsigned::low_unsigned;
-use proto_strings::TextWrote;
+use proto_strings::TextWriteRefusal;
 use proto_writer::message::WriteRefusal;
-use wire::bytes::wide64;
 use wire::logic::either;
 
 // Reads an UpdateComponentSegment.
@@ -30,7 +27,7 @@ pub fn segment_read(message: &[u8], answer: &mut [u64]) -> u64
         return UNFIT;
     }
     let read = read_segment(message);
-    let number = segment_number(read);
+    let number = number_of_result(&read);
     let row = segment_row(read);
     put(answer, number, &row);
     number
@@ -53,10 +50,10 @@ pub fn segment_write(
         return UNFIT;
     }
     if either(is_wide(offset), is_wide(size)) {
-        let number = wide64(WriteRefusal::BadArgument.number());
-        let row = [0u64; 3];
-        put(answer, number, &row);
-        return number;
+        return tell_wrote(
+            answer,
+            Err(TextWriteRefusal::Refused(WriteRefusal::BadArgument)),
+        );
     }
     let wrote = write_segment(
         output,
@@ -65,10 +62,7 @@ pub fn segment_write(
         low_unsigned(size),
         signature,
     );
-    let number = wrote_number(wrote);
-    let row = wrote_row(wrote);
-    put(answer, number, &row);
-    number
+    tell_wrote(answer, wrote)
 }
 
 // Reads an ApplyFirmware.
@@ -79,10 +73,8 @@ pub fn apply_read(message: &[u8], answer: &mut [u64]) -> u64
         return UNFIT;
     }
     let read = read_apply(message);
-    let verdict = read.verdict;
-    let apply = read.apply;
-    let number = verdict_number(verdict);
-    put_apply(answer, number, verdict, apply);
+    let number = number_of_result(&read);
+    put_apply(answer, number, read);
     number
 }
 
@@ -98,7 +90,10 @@ pub fn apply_write(row: &[u64], texts: &[u8], output: &mut [u8], answer: &mut [u
         return UNFIT;
     }
     if bad_row(row) {
-        return tell_wrote(answer, TextWrote::Refused(WriteRefusal::BadArgument));
+        return tell_wrote(
+            answer,
+            Err(TextWriteRefusal::Refused(WriteRefusal::BadArgument)),
+        );
     }
     let apply = apply_at(row);
     let wrote = write_apply(output, apply, texts);

@@ -1,3 +1,2 @@
 pub mod Components
-pub mod Readings
 pub mod Fields

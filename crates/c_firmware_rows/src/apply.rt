@@ -1,14 +1,13 @@
 // ApplyFirmware as a row: what its reader tells, and what its writer is given.
-ghost use Rattle.std.specs.Prelude.{◌≡◌, ◌++◌, ◌+◌, ◌≤◌, length};
+ghost use Rattle.std.specs.Prelude.{◌≡◌, ◌+◌, ◌≤◌, length};
 ghost use Rattle.std.proofs.lemmas.List.Edits.{sets};
 ghost use Rattle.proto_reader.specs.Gathered.{most_repeated};
-ghost use Rattle.proto_reader.specs.Refusal.{told_verdict};
+ghost use Rattle.msg_firmware.specs.Apply.{told_apply};
 ghost use Rattle.c_rows.specs.Row.{afterwards};
-ghost use Rattle.c_message_rows.specs.Convert.{fault_row};
-ghost use Rattle.c_firmware_rows.specs.Apply.{row_size, answer_size, first_component, component_row, component_rows, head_row, whole_row, part_at, component_at, components_at, apply_at, wide_at, any_wide, bad_row};
+ghost use Rattle.c_firmware_rows.specs.Apply.{row_size, answer_size, first_component, component_row, component_rows, head_row, apply_row, part_at, component_at, components_at, apply_at, wide_at, any_wide, bad_row};
 
 use crate::segment::is_wide;
-use c_message_rows::convert::verdict_fault;
+use c_message_rows::convert::fault_of;
 use c_rows::row::{UNFIT, fill, number_at};
 use msg_firmware::apply::ApplyFirmware;
 use msg_firmware::component::FirmwareComponent;
@@ -16,7 +15,7 @@ use msg_firmware::information::FirmwareInformation;
 use proto_field::unsigned::low_unsigned;
 use proto_field::value::Part;
 use proto_reader::gathered::MOST_REPEATED;
-use proto_reader::refusal::WalkVerdict;
+use proto_reader::refusal::MessageRefusal;
 use wire::bytes::bit64;
 use wire::logic::either;
 
@@ -74,31 +73,32 @@ fn fill_components(row: &mut [u64], components: [FirmwareComponent; 8])
     ensures row_after { row.new ≡ sets row.old first_component (component_rows components) }
     ensures components_len { length components ≡ most_repeated }
 {
-    let mut at = FIRST_COMPONENT;
-    let mut i = 0;
-    while i < MOST_REPEATED {
-        let component = components[i];
-        let numbers = component_row(component);
-        fill(row, at, &numbers);
-        at += COMPONENT_NUMBERS;
-        i += 1;
+    for i in 0..MOST_REPEATED {
+        let numbers = component_row(components[i]);
+        fill(row, FIRST_COMPONENT + COMPONENT_NUMBERS * i, &numbers);
     }
 }
 
 // Writes the whole row, part by part, unless the call is refused by 1.
-pub fn put_apply(row: &mut [u64], number: u64, verdict: WalkVerdict, apply: ApplyFirmware)
+pub fn put_apply(row: &mut [u64], number: u64, read: Result<ApplyFirmware, MessageRefusal>)
     requires { length row.old ≡ answer_size }
-    ensures { row.new
-        ≡ afterwards number row.old (whole_row apply ++ fault_row (told_verdict verdict)) }
+    ensures { row.new ≡ afterwards number row.old (apply_row (told_apply read)) }
 {
-    if number != UNFIT {
-        let head = head_row(apply);
-        fill(row, 0, &head);
-        let information = apply.firmware_information;
-        let components = information.components;
-        fill_components(row, components);
-        let fault = verdict_fault(verdict);
-        fill(row, APPLY_ROW, &fault);
+    if number == UNFIT {
+        return;
+    }
+    match read {
+        Ok(apply) => {
+            let head = head_row(apply);
+            fill(row, 0, &head);
+            fill_components(row, apply.firmware_information.components);
+            fill(row, APPLY_ROW, &[0u64; 2]);
+        }
+        Err(why) => {
+            fill(row, 0, &[0u64; 57]);
+            let fault = fault_of(why);
+            fill(row, APPLY_ROW, &fault);
+        }
     }
 }
 
@@ -138,12 +138,8 @@ fn components_at(row: &[u64]) -> [FirmwareComponent; 8]
 {
     let first = component_at(row, FIRST_COMPONENT);
     let mut components = [first; 8];
-    let mut at = FIRST_COMPONENT;
-    let mut i = 0;
-    while i < MOST_REPEATED {
-        components[i] = component_at(row, at);
-        at += COMPONENT_NUMBERS;
-        i += 1;
+    for i in 0..MOST_REPEATED {
+        components[i] = component_at(row, FIRST_COMPONENT + COMPONENT_NUMBERS * i);
     }
     components
 }
@@ -183,14 +179,10 @@ fn any_wide(row: &[u64], count: usize) -> bool
     requires { count ≤ most_repeated }
     ensures { result ≡ any_wide count row.now first_component }
 {
-    let mut at = FIRST_COMPONENT;
-    let mut i = 0;
-    while i < count {
-        if wide_at(row, at) {
+    for i in 0..count {
+        if wide_at(row, FIRST_COMPONENT + COMPONENT_NUMBERS * i) {
             return true;
         }
-        at += COMPONENT_NUMBERS;
-        i += 1;
     }
     false
 }

@@ -1,16 +1,13 @@
 // What stands at a place of any message, as a row.
 ghost use Rattle.std.specs.Prelude.{◌≡◌};
-ghost use Rattle.wire.specs.Told.{refused};
-ghost use Rattle.proto_field.specs.Refusal.{number_of};
 ghost use Rattle.proto_field.specs.Fields.{told_found};
 ghost use Rattle.c_firmware_rows.specs.FieldRow.{fixed_kind, field_row, field_told};
 
-use c_rows::row::DONE;
+use c_rows::row::number_of_result;
 use proto_field::Refusal;
-use proto_field::fields::Found;
+use proto_field::fields::FoundField;
 use proto_field::tag::{FIXED32, FIXED64, LENGTH, VARINT};
 use proto_field::value::Value;
-use wire::bytes::wide64;
 
 // The numbers of the answer row.
 pub const FIELD_ANSWER: usize = 7;
@@ -21,20 +18,11 @@ const FIELD: u64 = 1;
 // The bytes of a field of the kind FIXED64.
 const EIGHT: usize = 8;
 
-// The number that a reading returns, and its row.
+// The number that a reading returns, and its row: C is told both, as `field_told` says.
 #[derive(Drop)]
 pub struct FieldTold {
     pub number: u64,
     pub row: [u64; 7],
-}
-
-fn refused_field(why: Refusal) -> FieldTold
-    ensures { result ≡ field_told (refused (number_of why)) }
-{
-    FieldTold {
-        number: wide64(why.number()),
-        row: [0u64; 7],
-    }
 }
 
 // The kind of a field whose bytes, of this number, are passed over.
@@ -75,22 +63,13 @@ fn field_row(number: u64, value: Value, next: usize) -> [u64; 7]
 }
 
 // What was found at a place; the row is all 0 at the end of the message.
-pub fn found_row(found: Found) -> FieldTold
+pub fn found_row(found: Result<Option<FoundField>, Refusal>) -> FieldTold
     ensures { result ≡ field_told (told_found found) }
 {
-    match found {
-        Found::Field {
-            number,
-            value,
-            next,
-        } => FieldTold {
-            number: DONE,
-            row: field_row(number, value, next),
-        },
-        Found::End => FieldTold {
-            number: DONE,
-            row: [0u64; 7],
-        },
-        Found::Refused(why) => refused_field(why),
-    }
+    let number = number_of_result(&found);
+    let row = match found {
+        Ok(Some(field)) => field_row(field.number, field.value, field.next),
+        Ok(None) | Err(_) => [0u64; 7],
+    };
+    FieldTold { number, row }
 }

@@ -1,16 +1,12 @@
-// UpdateComponentSegment: what its reader and its writer tell, as rows.
-ghost use Rattle.std.specs.Prelude.{◌≡◌, ◌++◌, replicate};
-ghost use Rattle.proto_reader.specs.Refusal.{why_of, number_more};
-ghost use Rattle.msg_firmware.specs.Segment.{told_segment};
-ghost use Rattle.msg_segment_writer.specs.Segment.{told_segment_wrote};
-ghost use Rattle.c_message_rows.specs.Convert.{fault_of, wrote_row};
+// UpdateComponentSegment: what its reader tells, as a row.
+ghost use Rattle.std.specs.Prelude.{◌≡◌};
+ghost use Rattle.msg_firmware.specs.Segment.{segment_why, told_segment};
+ghost use Rattle.c_message_rows.specs.Convert.{fault_of};
 ghost use Rattle.c_firmware_rows.specs.More.{is_wide};
 ghost use Rattle.c_firmware_rows.specs.Segment.{segment_row};
 
-use msg_firmware::segment::SegmentRead;
-use msg_segment_writer::SegmentWrote;
-use proto_reader::refusal::MessageRefusal;
-use wire::bytes::wide64;
+use c_message_rows::convert::fault_of;
+use msg_firmware::segment::{SegmentRefusal, UpdateComponentSegment};
 
 // The numbers of the answer row.
 pub const SEGMENT_ANSWER: usize = 8;
@@ -25,28 +21,21 @@ pub fn is_wide(n: u64) -> bool
     !(n < COUNT_32)
 }
 
-pub fn segment_number(read: SegmentRead) -> u64
-    ensures { result ≡ number_more (told_segment read) }
-{
-    wide64(read.number())
-}
-
-fn refused_row(why: MessageRefusal) -> [u64; 8]
-    ensures { result ≡ replicate 6 0 ++ fault_of (why_of why) }
+// The field and the place that go with a refusal.
+fn fault_of_segment(why: SegmentRefusal) -> [u64; 2]
+    ensures { result ≡ fault_of (segment_why why) }
 {
     match why {
-        MessageRefusal::Field(_) => [0u64; 8],
-        MessageRefusal::BadText { field, place } => [0, 0, 0, 0, 0, 0, field, place as u64],
+        SegmentRefusal::Message(why) => fault_of(why),
+        SegmentRefusal::Profile(field) => [field, 0],
     }
 }
 
-pub fn segment_row(read: SegmentRead) -> [u64; 8]
+pub fn segment_row(read: Result<UpdateComponentSegment, SegmentRefusal>) -> [u64; 8]
     ensures { result ≡ segment_row (told_segment read) }
 {
     match read {
-        SegmentRead::Refused(why) => refused_row(why),
-        SegmentRead::Profile(field) => [0, 0, 0, 0, 0, 0, field, 0],
-        SegmentRead::Read(segment) => {
+        Ok(segment) => {
             let name = segment.component_name;
             let signature = segment.segment_signature;
             [
@@ -60,22 +49,9 @@ pub fn segment_row(read: SegmentRead) -> [u64; 8]
                 0,
             ]
         }
-    }
-}
-
-pub fn wrote_number(wrote: SegmentWrote) -> u64
-    ensures { result ≡ number_more (told_segment_wrote wrote) }
-{
-    wide64(wrote.number())
-}
-
-pub fn wrote_row(wrote: SegmentWrote) -> [u64; 3]
-    ensures { result ≡ wrote_row (told_segment_wrote wrote) }
-{
-    match wrote {
-        SegmentWrote::Done(n) => [n as u64, 0, 0],
-        SegmentWrote::BadText { field, place } => [0, field, place as u64],
-        SegmentWrote::Profile(field) => [0, field, 0],
-        SegmentWrote::NoRoom => [0u64; 3],
+        Err(why) => {
+            let [field, place] = fault_of_segment(why);
+            [0, 0, 0, 0, 0, 0, field, place]
+        }
     }
 }

@@ -1,5 +1,5 @@
 -- Captures: what their calls answer as rows.
-use Rattle.std.specs.Prelude.{ℕ, ◌+◌, cond, List, [], ◌∷◌, ◌++◌, replicate}
+use Rattle.std.specs.Prelude.{ℕ, cond, List, [], ◌∷◌, ◌++◌, replicate, Option, Some, None, unwrap_or, Result, Ok, Err}
 use Rattle.wire.specs.Told.{given, refused}
 use Rattle.wire.specs.Bytes.{bit}
 use Rattle.capture_reader.specs.Capture.{ToldAt}
@@ -8,6 +8,10 @@ use Rattle.capture_stream.specs.declared.SenderSlot.TheVariants.{Idle, Open}
 use Rattle.capture_judge.specs.declared.State.{State}
 use Rattle.capture_judge.specs.Step.{all_idle}
 use Rattle.capture_judge.specs.Capture.{Answer, lawful, open·ended, unlawful}
+use Rattle.capture_next.specs.declared.ExpectedHead.{ExpectedHead}
+use Rattle.capture_next.specs.declared.NextPacket.{NextPacket}
+use Rattle.capture_why.specs.Why.{total_read}
+use Rattle.capture_why.specs.declared.ReadNumbers.{ReadNumbers}
 use Rattle.capture_why.specs.declared.Came.{Came}
 use Rattle.capture_why.specs.declared.Expected.{Expected}
 use Rattle.capture_why.specs.declared.Expected.TheVariants.{Nothing, AnyFirst, This}
@@ -39,10 +43,19 @@ slot_row n = n.opened ∷ n.id ∷ n.left ∷ n.sequence ∷ []
 abbrev pub state_row : StateNumbers → List ℕ
 state_row s = slot_row s.control ++ slot_row s.ota ++ slot_row s.alexa
 
+-- the number of our reader's refusal, or 0
+abbrev pub refusal_read : Result ReadNumbers ℕ → ℕ
+refusal_read (Ok numbers) = 0
+refusal_read (Err n) = n
+
+abbrev pub len_read : Result ReadNumbers ℕ → ℕ
+len_read (Ok numbers) = numbers.len
+len_read (Err n) = 0
+
 -- what came; first the number by which our reader refuses it
 abbrev pub came_row : Came → List ℕ
 came_row c =
-    c.read.number
+    refusal_read c.read
     ∷ c.size
     ∷ c.stream
     ∷ c.id
@@ -50,27 +63,36 @@ came_row c =
     ∷ c.kind
     ∷ bit c.ack
     ∷ bit c.extended
-    ∷ c.read.total
-    ∷ c.read.len
+    ∷ unwrap_or (total_read c.read) 0
+    ∷ len_read c.read
     ∷ []
 
 abbrev pub any_numbers : ℕ → ExpectedNumbers
 any_numbers expected = record { expected = expected; id = 0; sequence = 0; kind = 0; len = 0; extended = 0; last = 0 }
 
--- what was expected: nothing, a first packet of any message, the first one of this total (2), or the next one of what is open (3)
-abbrev pub expected_numbers : Expected → ExpectedNumbers
-expected_numbers Nothing = any_numbers 0
-expected_numbers AnyFirst = any_numbers 1
-expected_numbers (This n) =
+-- the first packet of this total (2), or the next one of what is open (3)
+abbrev pub numbers_by : Option ExpectedHead → NextPacket → ExpectedNumbers
+numbers_by None n =
+    record { expected = 2; id = 0; sequence = 0; kind = n.kind; len = n.len; extended = bit n.extended; last = bit n.last }
+numbers_by (Some head) n =
     record {
-      expected = 2 + bit n.opened;
-      id = n.id;
-      sequence = n.sequence;
+      expected = 3;
+      id = head.id;
+      sequence = head.sequence;
       kind = n.kind;
       len = n.len;
       extended = bit n.extended;
       last = bit n.last;
     }
+
+abbrev pub next_numbers : NextPacket → ExpectedNumbers
+next_numbers n = numbers_by n.head n
+
+-- what was expected: nothing, a first packet of any message, or just this one
+abbrev pub expected_numbers : Expected → ExpectedNumbers
+expected_numbers Nothing = any_numbers 0
+expected_numbers AnyFirst = any_numbers 1
+expected_numbers (This n) = next_numbers n
 
 abbrev pub expected_row : ExpectedNumbers → List ℕ
 expected_row n = n.expected ∷ n.id ∷ n.sequence ∷ n.kind ∷ n.len ∷ n.extended ∷ n.last ∷ []

@@ -4,10 +4,10 @@ ghost use Rattle.c_rows.specs.Called.{called};
 ghost use Rattle.c_judge.specs.Calls.{capture_judge_of, capture_why_of};
 
 use crate::convert::{JUDGE_ANSWER, WHY_ANSWER, judged_row, why_row};
-use c_rows::row::{UNFIT, put};
+use c_rows::row::{UNFIT, number_of_result, put};
+use capture_judge::Settings;
 use capture_judge::capture::{judge_capture, trace};
 use capture_why::explain;
-use wire::bytes::wide64;
 
 // Judges a capture for a room and a limit.
 pub fn pito_capture_judge(capture: &[u8], room: u64, limit: u64, answer: &mut [u64]) -> u64
@@ -17,8 +17,12 @@ pub fn pito_capture_judge(capture: &[u8], room: u64, limit: u64, answer: &mut [u
     if answer.len() != JUDGE_ANSWER {
         return UNFIT;
     }
-    let judged = judge_capture(capture, room as usize, limit as usize);
-    let number = wide64(judged.number());
+    let settings = Settings {
+        room: room as usize,
+        limit: limit as usize,
+    };
+    let judged = judge_capture(capture, settings);
+    let number = number_of_result(&judged);
     let row = judged_row(judged);
     put(answer, number, &row);
     number
@@ -32,9 +36,12 @@ pub fn pito_capture_why(capture: &[u8], room: u64, limit: u64, answer: &mut [u64
     if answer.len() != WHY_ANSWER {
         return UNFIT;
     }
-    let traced = trace(capture, room as usize, limit as usize);
-    let why = explain(capture, room as usize, limit as usize, traced);
-    let number = wide64(why.number());
+    let settings = Settings {
+        room: room as usize,
+        limit: limit as usize,
+    };
+    let why = explain(capture, settings, trace(capture, settings));
+    let number = number_of_result(&why);
     let row = why_row(why);
     put(answer, number, &row);
     number

@@ -1,16 +1,16 @@
 // Captures: what their calls answer as rows.
-ghost use Rattle.std.specs.Prelude.{◌≡◌, cond, ◌∷◌, ◌++◌, replicate};
+ghost use Rattle.std.specs.Prelude.{◌≡◌, cond, ◌∷◌, ◌++◌, replicate, unwrap_or};
 ghost use Rattle.wire.specs.Told.{given};
 ghost use Rattle.capture_judge.specs.Capture.{told};
-ghost use Rattle.capture_why.specs.declared.Expected.TheVariants.{This};
-ghost use Rattle.capture_why.specs.Why.{why_told};
-ghost use Rattle.c_judge.specs.Convert.{judged_row, slot_numbers, state_numbers, state_row, came_row, any_numbers, expected_numbers, expected_row, why_row};
+ghost use Rattle.capture_why.specs.Why.{total_read, why_told};
+ghost use Rattle.c_judge.specs.Convert.{judged_row, slot_numbers, state_numbers, state_row, came_row, any_numbers, next_numbers, expected_numbers, expected_row, refusal_read, len_read, why_row};
 
 use capture_judge::State;
-use capture_judge::capture::Answer;
+use capture_judge::capture::{Refusal, SenderVerdict};
 use capture_next::NextPacket;
+use capture_reader::RefusedAt;
 use capture_stream::SenderSlot;
-use capture_why::{Came, Expected, Explained, Why};
+use capture_why::{Came, Expected, Explained, ReadNumbers};
 use wire::bytes::bit64;
 
 // The numbers of the answer row: outcome and place.
@@ -31,18 +31,21 @@ const ANY_FIRST: u64 = 1;
 
 const FIRST: u64 = 2;
 
-pub fn judged_row(answer: Answer) -> [u64; 2]
-    ensures { result ≡ judged_row (told answer) }
+const NEXT: u64 = 3;
+
+pub fn judged_row(judged: Result<SenderVerdict, RefusedAt<Refusal>>) -> [u64; 2]
+    ensures { result ≡ judged_row (told judged) }
 {
-    match answer {
-        Answer::Refused { why: _, at } => [0, at as u64],
-        Answer::Lawful => [LAWFUL, 0],
-        Answer::Open => [OPEN, 0],
-        Answer::Unlawful(at) => [UNLAWFUL, at as u64],
+    match judged {
+        Err(RefusedAt { why: _, at }) => [0, at as u64],
+        Ok(SenderVerdict::Lawful) => [LAWFUL, 0],
+        Ok(SenderVerdict::Open) => [OPEN, 0],
+        Ok(SenderVerdict::Unlawful(at)) => [UNLAWFUL, at as u64],
     }
 }
 
-// What is open on a stream, as numbers.
+// What is open on a stream, as numbers. This and the two below are parts of the row of pito_capture_why, so `opened` is a number beside
+// others.
 #[derive(Drop)]
 struct SlotNumbers {
     opened: u64,
@@ -106,19 +109,27 @@ fn state_numbers(state: State) -> StateNumbers
 }
 
 fn next_numbers(next: NextPacket) -> ExpectedNumbers
-    ensures { result ≡ expected_numbers (This next) }
+    ensures { result ≡ next_numbers next }
 {
-    let opened = bit64(next.opened);
     let extended = bit64(next.extended);
     let last = bit64(next.last);
-    ExpectedNumbers {
-        expected: FIRST + opened,
-        id: next.id as u64,
-        sequence: next.sequence as u64,
+    let first = ExpectedNumbers {
+        expected: FIRST,
+        id: 0,
+        sequence: 0,
         kind: next.kind as u64,
         len: next.len as u64,
         extended,
         last,
+    };
+    match next.head {
+        None => first,
+        Some(head) => ExpectedNumbers {
+            expected: NEXT,
+            id: head.id as u64,
+            sequence: head.sequence as u64,
+            ..first
+        },
     }
 }
 
@@ -147,13 +158,23 @@ fn expected_numbers(expected: Expected) -> ExpectedNumbers
     }
 }
 
+// The number of our reader's refusal, the total and the length of the payload; 0 where there is no such number.
+fn read_numbers(read: Result<ReadNumbers, u8>) -> (u64, u64, u64)
+    ensures { result ≡ (refusal_read read, unwrap_or (total_read read) 0, len_read read) }
+{
+    match read {
+        Ok(numbers) => (0, numbers.total.unwrap_or(0) as u64, numbers.len as u64),
+        Err(number) => (number as u64, 0, 0),
+    }
+}
+
 fn stopped_row(at: usize, state: StateNumbers, came: Came, expected: ExpectedNumbers) -> [u64; 31]
     ensures { result ≡ 3 ∷ at ∷ state_row state ++ came_row came ++ expected_row expected }
 {
     let control = state.control;
     let ota = state.ota;
     let alexa = state.alexa;
-    let read = came.read;
+    let (refusal, total, len) = read_numbers(came.read);
     let ack = bit64(came.ack);
     let extended = bit64(came.extended);
     [
@@ -171,7 +192,7 @@ fn stopped_row(at: usize, state: StateNumbers, came: Came, expected: ExpectedNum
         alexa.id,
         alexa.left,
         alexa.sequence,
-        read.number as u64,
+        refusal,
         came.size as u64,
         came.stream as u64,
         came.id as u64,
@@ -179,8 +200,8 @@ fn stopped_row(at: usize, state: StateNumbers, came: Came, expected: ExpectedNum
         came.kind as u64,
         ack,
         extended,
-        read.total as u64,
-        read.len as u64,
+        total,
+        len,
         expected.expected,
         expected.id,
         expected.sequence,
@@ -246,11 +267,11 @@ fn explained_row(explained: Explained) -> [u64; 31]
     }
 }
 
-pub fn why_row(why: Why) -> [u64; 31]
+pub fn why_row(why: Result<Explained, RefusedAt<Refusal>>) -> [u64; 31]
     ensures { result ≡ why_row (why_told why) }
 {
     match why {
-        Why::Barred { why: _, at } => refused_row(at),
-        Why::Told(explained) => explained_row(explained),
+        Err(RefusedAt { why: _, at }) => refused_row(at),
+        Ok(explained) => explained_row(explained),
     }
 }

@@ -1,5 +1,5 @@
 -- Control messages: the rows that tell what was read, and what the writers are given by numbers.
-use Rattle.std.specs.Prelude.{ℕ, Bool, true, cond, not, ◌&&◌, List, [], ◌∷◌, ◌++◌, map, ℤ, get_or, replicate, eqb}
+use Rattle.std.specs.Prelude.{ℕ, Bool, true, cond, not, ◌&&◌, List, [], ◌∷◌, ◌++◌, map, ℤ, get_or, replicate, eqb, Option, Some, None as absent}
 use Rattle.wire.specs.Told.{Told, ToldMore, WrittenOf, given, refused}
 use Rattle.proto_field.specs.declared.value.Part.{Part}
 use Rattle.proto_field.specs.Signed.{signed_of, extended}
@@ -10,8 +10,6 @@ use Rattle.msg_control.specs.declared.envelope.Payload.TheVariants.{None, Respon
 use Rattle.msg_control.specs.declared.envelope.EnvelopePayload.{EnvelopePayload}
 use Rattle.msg_control.specs.declared.envelope.EnvelopePayload.TheVariants as envelope
 use Rattle.msg_control.specs.declared.response.Response as response
-use Rattle.msg_control.specs.declared.response.ResponsePayload.{ResponsePayload}
-use Rattle.msg_control.specs.declared.response.ResponsePayload.TheVariants as within
 use Rattle.msg_device.specs.declared.features.DeviceFeatures.{DeviceFeatures}
 use Rattle.msg_device.specs.declared.information.DeviceInformation.{DeviceInformation}
 use Rattle.c_rows.specs.Called.{Called, answers}
@@ -82,10 +80,10 @@ text_call out answer w = answers 3 answer out (number_more w.told) w.out (wrote_
 -- ---- what the writers are given; what no parameter of the library holds stands for member 0, which is out of range
 
 -- field 0 is no payload
-unfoldable pub response_payload_of : ℕ → ℕ → ResponsePayload
+unfoldable pub response_payload_of : ℕ → ℕ → Option ℕ
 response_payload_of code field =
-    cond (not (is_signed code)) (within.Member 0)
-    (cond (eqb field 0) within.None (within.Member field))
+    cond (not (is_signed code)) (Some 0)
+    (cond (eqb field 0) absent (Some field))
 
 unfoldable pub payload_for : ℕ → ℕ → ℕ → ℕ → EnvelopePayload
 payload_for command payload code field =

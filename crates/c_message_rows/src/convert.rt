@@ -1,26 +1,27 @@
 // Control messages: what was read as rows, and what the writers are given by numbers.
-ghost use Rattle.std.specs.Prelude.{◌≡◌, ◌++◌, map, ◌≤◌, length, take};
+ghost use Rattle.std.specs.Prelude.{◌≡◌, map, ◌≤◌, length, take};
 ghost use Rattle.proto_field.specs.Signed.{signed_of};
-ghost use Rattle.proto_reader.specs.Refusal.{message_number, why_of, number_more, told_verdict};
+ghost use Rattle.proto_reader.specs.Refusal.{why_of, number_more, told_more};
 ghost use Rattle.msg_control.specs.Envelope.{told_envelope};
 ghost use Rattle.msg_control.specs.Response.{told_response};
 ghost use Rattle.msg_device.specs.Features.{told_features};
-ghost use Rattle.proto_writer.specs.Message.{told_wrote};
-ghost use Rattle.proto_strings.specs.Texts.{told_text_wrote};
-ghost use Rattle.c_rows.specs.Row.{afterwards, number_told, count_of};
-ghost use Rattle.c_message_rows.specs.Convert.{is_signed, all_signed, payload_row, envelope_row, response_payload_of, payload_for, response_row, parts_row, transports_row, fault_of, fault_row, wrote_row, features_row};
+ghost use Rattle.msg_device.specs.Information.{told_information};
+ghost use Rattle.wire.specs.Told.{told_by};
+ghost use Rattle.c_rows.specs.Row.{afterwards};
+ghost use Rattle.c_message_rows.specs.Convert.{is_signed, all_signed, payload_row, envelope_row, response_payload_of, payload_for, response_row, parts_row, transports_row, fault_of, fault_row, information_row, wrote_row, features_row};
 
-use c_rows::row::{Count, DONE, UNFIT, fill, put};
-use msg_control::envelope::{EnvelopePayload, EnvelopeRead, Payload};
-use msg_control::response::{ResponsePayload, ResponseRead};
-use msg_device::features::FeaturesRead;
+use c_rows::row::{DONE, UNFIT, fill, put};
+use msg_control::envelope::{Envelope, EnvelopePayload, Payload};
+use msg_control::response::Response;
+use msg_device::features::DeviceFeatures;
 use msg_device::information::DeviceInformation;
 use proto_field::signed::{low_signed, sign_extended};
 use proto_reader::gathered::MOST_TRANSPORTS;
-use proto_reader::refusal::{MessageRefusal, WalkVerdict};
+use proto_reader::refusal::MessageRefusal;
 use proto_schema::NO_FIELD;
-use proto_strings::TextWrote;
-use proto_writer::message::Wrote;
+use proto_strings::Faulted;
+use wire::bytes::wide64;
+use wire::refusal::Numbered;
 
 // The numbers of the answer rows.
 pub const ENVELOPE_ANSWER: usize = 6;
@@ -46,15 +47,6 @@ const RESPONSE: u64 = 1;
 
 const MEMBER: u64 = 2;
 
-// The refusal of a string that is not well formed.
-const BAD_TEXT: u64 = 36;
-
-fn refusal_number(why: MessageRefusal) -> u64
-    ensures { result ≡ message_number why }
-{
-    why.number() as u64
-}
-
 // Whether a number is a signed one of 32 bits, extended to 64.
 fn is_signed(n: u64) -> bool
     ensures { result ≡ is_signed n }
@@ -62,60 +54,33 @@ fn is_signed(n: u64) -> bool
     sign_extended(low_signed(n)) == n
 }
 
-pub fn count_of(wrote: Wrote) -> Count
-    ensures { result ≡ count_of (told_wrote wrote) }
-{
-    match wrote {
-        Wrote::Done(n) => Count::of(n),
-        Wrote::Refused(why) => Count::none(why.number()),
-    }
-}
-
 // ---- writers of strings
 
-fn text_number(wrote: TextWrote) -> u64
-    ensures { result ≡ number_more (told_text_wrote wrote) }
-{
-    match wrote {
-        TextWrote::Done(_) => DONE,
-        TextWrote::Refused(why) => why.number() as u64,
-        TextWrote::BadText { field: _, place: _ } => BAD_TEXT,
-    }
-}
-
-fn text_row(wrote: TextWrote) -> [u64; 3]
-    ensures { result ≡ wrote_row (told_text_wrote wrote) }
-{
-    match wrote {
-        TextWrote::Done(n) => [n as u64, 0, 0],
-        TextWrote::Refused(_) => [0u64; 3],
-        TextWrote::BadText { field, place } => [0, field, place as u64],
-    }
-}
-
 // Tells what such a writer wrote in an answer row, and returns its number.
-pub fn tell_wrote(answer: &mut [u64], wrote: TextWrote) -> u64
+pub fn tell_wrote<E: Faulted>(answer: &mut [u64], wrote: Result<usize, E>) -> u64
     requires { length answer.old ≡ 3 }
-    ensures { (result ≡ number_more (told_text_wrote wrote))
+    ensures { (result ≡ number_more (told_by (λ why. (E.number_of why, E.goes_with why)) wrote))
         × (answer.new
-        ≡ afterwards (number_more (told_text_wrote wrote)) answer.old (wrote_row (told_text_wrote wrote))) }
+        ≡ afterwards (number_more (told_by (λ why. (E.number_of why, E.goes_with why)) wrote)) answer.old
+        (wrote_row (told_by (λ why. (E.number_of why, E.goes_with why)) wrote))) }
 {
-    let number = text_number(wrote);
-    let row = text_row(wrote);
-    put(answer, number, &row);
-    number
+    match wrote {
+        Ok(size) => {
+            let row = [size as u64, 0, 0];
+            put(answer, DONE, &row);
+            DONE
+        }
+        Err(why) => {
+            let number = wide64(why.number());
+            let fault = why.fault();
+            let row = [0, fault[0], fault[1]];
+            put(answer, number, &row);
+            number
+        }
+    }
 }
 
 // ---- the envelope
-
-pub fn envelope_number(read: EnvelopeRead) -> u64
-    ensures { result ≡ number_told (told_envelope read) }
-{
-    match read {
-        EnvelopeRead::Read(_) => DONE,
-        EnvelopeRead::Refused(why) => refusal_number(why),
-    }
-}
 
 // What the row tells of a payload, after the command.
 fn payload_row(command: u64, payload: Payload) -> [u64; 6]
@@ -145,29 +110,26 @@ fn payload_row(command: u64, payload: Payload) -> [u64; 6]
     }
 }
 
-pub fn envelope_row(read: EnvelopeRead) -> [u64; 6]
+pub fn envelope_row(read: Result<Envelope, MessageRefusal>) -> [u64; 6]
     ensures { result ≡ envelope_row (told_envelope read) }
 {
     match read {
-        EnvelopeRead::Refused(_) => [0u64; 6],
-        EnvelopeRead::Read(envelope) => {
-            let payload = envelope.payload;
-            payload_row(sign_extended(envelope.command), payload)
-        }
+        Ok(envelope) => payload_row(sign_extended(envelope.command), envelope.payload),
+        Err(_) => [0u64; 6],
     }
 }
 
 // The payload of a response: none where the field is 0, and out of range where its error code is no signed number.
-pub fn response_payload(error_code: u64, field: u64) -> ResponsePayload
+pub fn response_payload(error_code: u64, field: u64) -> Option<u64>
     ensures { result ≡ response_payload_of error_code field }
 {
     if !is_signed(error_code) {
-        return ResponsePayload::Member(NO_FIELD);
+        return Some(NO_FIELD);
     }
     if field == NO_FIELD {
-        return ResponsePayload::None;
+        return None;
     }
-    ResponsePayload::Member(field)
+    Some(field)
 }
 
 // The payload of an envelope: one that is none of the three, or beside a command that is no signed number, is out of range.
@@ -195,62 +157,32 @@ pub fn payload_for(command: u64, payload: u64, error_code: u64, field: u64) -> E
 
 // ---- the response
 
-pub fn response_number(read: ResponseRead) -> u64
-    ensures { result ≡ number_told (told_response read) }
-{
-    match read {
-        ResponseRead::Read(_) => DONE,
-        ResponseRead::Refused(why) => refusal_number(why),
-    }
-}
-
-pub fn response_row(read: ResponseRead) -> [u64; 4]
+pub fn response_row(read: Result<Response, MessageRefusal>) -> [u64; 4]
     ensures { result ≡ response_row (told_response read) }
 {
     match read {
-        ResponseRead::Refused(_) => [0u64; 4],
-        ResponseRead::Read(response) => {
-            let part = response.part;
-            [
-                sign_extended(response.error_code),
-                response.field,
-                part.start as u64,
-                part.len as u64,
-            ]
-        }
+        Ok(response) => [
+            sign_extended(response.error_code),
+            response.field,
+            response.part.start as u64,
+            response.part.len as u64,
+        ],
+        Err(_) => [0u64; 4],
     }
 }
 
 // ---- device features
 
-pub fn features_number(read: FeaturesRead) -> u64
-    ensures { result ≡ number_told (told_features read) }
-{
-    match read {
-        FeaturesRead::Read(_) => DONE,
-        FeaturesRead::Refused(why) => refusal_number(why),
-    }
-}
-
-pub fn features_row(read: FeaturesRead) -> [u64; 2]
+pub fn features_row(read: Result<DeviceFeatures, MessageRefusal>) -> [u64; 2]
     ensures { result ≡ features_row (told_features read) }
 {
     match read {
-        FeaturesRead::Refused(_) => [0u64; 2],
-        FeaturesRead::Read(features) => [features.features, features.device_attributes],
+        Ok(features) => [features.features, features.device_attributes],
+        Err(_) => [0u64; 2],
     }
 }
 
 // ---- device information
-
-pub fn verdict_number(verdict: WalkVerdict) -> u64
-    ensures { result ≡ number_more (told_verdict verdict) }
-{
-    match verdict {
-        WalkVerdict::Fine => DONE,
-        WalkVerdict::Refused(why) => refusal_number(why),
-    }
-}
 
 // The field and the place that go with a refusal.
 pub fn fault_of(why: MessageRefusal) -> [u64; 2]
@@ -262,12 +194,13 @@ pub fn fault_of(why: MessageRefusal) -> [u64; 2]
     }
 }
 
-pub fn verdict_fault(verdict: WalkVerdict) -> [u64; 2]
-    ensures { result ≡ fault_row (told_verdict verdict) }
+// .. with a refusal of a result; 0 where nothing is refused.
+pub fn fault_in<T>(read: &Result<T, MessageRefusal>) -> [u64; 2]
+    ensures { result ≡ fault_row (told_more read.now) }
 {
-    match verdict {
-        WalkVerdict::Fine => [0u64; 2],
-        WalkVerdict::Refused(why) => fault_of(why),
+    match read {
+        Ok(_) => [0u64; 2],
+        Err(why) => fault_of(*why),
     }
 }
 
@@ -295,11 +228,8 @@ fn transports_row(list: &[i32]) -> [u64; 8]
     ensures { result ≡ transports_row list.now }
 {
     let mut row = [0u64; 8];
-    let mut i = 0;
-    while i < MOST_TRANSPORTS {
-        let value = sign_extended(list[i]);
-        row[i] = value;
-        i += 1;
+    for i in 0..MOST_TRANSPORTS {
+        row[i] = sign_extended(list[i]);
     }
     row
 }
@@ -308,21 +238,19 @@ fn transports_row(list: &[i32]) -> [u64; 8]
 pub fn put_information(
     row: &mut [u64],
     number: u64,
-    verdict: WalkVerdict,
-    information: DeviceInformation,
+    read: Result<DeviceInformation, MessageRefusal>,
 )
     requires { length row.old ≡ 17 }
     ensures { row.new
-        ≡ afterwards number row.old
-        (parts_row information ++ (transports_row information.transports ++ fault_row (told_verdict verdict))) }
+        ≡ afterwards number row.old (information_row (told_information read)) }
 {
     if number != UNFIT {
+        let fault = fault_in(&read);
+        let information = read.unwrap_or(DeviceInformation::none());
         let parts = parts_row(information);
         fill(row, 0, &parts);
-        let listed = information.transports;
-        let transports = transports_row(&listed);
+        let transports = transports_row(&information.transports);
         fill(row, FIRST_TRANSPORT, &transports);
-        let fault = verdict_fault(verdict);
         fill(row, FAULT, &fault);
     }
 }
@@ -331,12 +259,10 @@ pub fn put_information(
 pub fn all_signed(row: &[u64]) -> bool
     ensures { result ≡ all_signed row.now }
 {
-    let mut i = 0;
-    while i < row.len() {
-        if !is_signed(row[i]) {
+    for n in row {
+        if !is_signed(*n) {
             return false;
         }
-        i += 1;
     }
     true
 }
@@ -347,11 +273,8 @@ pub fn signed_list(row: &[u64]) -> [i32; 8]
     ensures { take (length row.now) result ≡ map signed_of row.now }
 {
     let mut list = [0i32; 8];
-    let mut i = 0;
-    while i < row.len() {
-        let value = low_signed(row[i]);
-        list[i] = value;
-        i += 1;
+    for i in 0..row.len() {
+        list[i] = low_signed(row[i]);
     }
     list
 }

@@ -6,21 +6,20 @@ ghost use Rattle.c_messages.specs.Calls.{envelope_read_of, envelope_write_of, re
 
 use c_message_rows::convert::{
     ENVELOPE_ANSWER, FEATURES_ANSWER, INFORMATION_ANSWER, RESPONSE_ANSWER, WROTE_ANSWER,
-    all_signed, count_of, envelope_number, envelope_row, features_number, features_row,
-    payload_for, put_information, response_number, response_payload, response_row, signed_list,
-    tell_wrote, verdict_number,
+    all_signed, envelope_row, features_row, payload_for, put_information, response_payload,
+    response_row, signed_list, tell_wrote,
 };
-use c_rows::row::{COUNT_ANSWER, UNFIT, put, tell};
+use c_rows::row::{COUNT_ANSWER, Count, UNFIT, number_of_result, put, tell};
 use msg_control::envelope::{read_envelope, write_envelope};
 use msg_control::response::{read_response, write_response};
 use msg_device::features::{DeviceFeatures, read_features, write_features};
-use msg_device::information::{read_information, write_information};
+use msg_device::information::{InformationToWrite, read_information, write_information};
 use proto_field::signed::low_signed;
 use proto_reader::gathered::MOST_TRANSPORTS;
-use proto_strings::TextWrote;
+use proto_strings::TextWriteRefusal;
 use proto_writer::message::WriteRefusal;
 
-// Reads a control envelope.
+// Reads a control envelope. The readers' calls here and in c_firmware are of one shape: each has its own row, length and definition in C.
 pub fn envelope_read(message: &[u8], answer: &mut [u64]) -> u64
     ensures { called result [] [] answer.new
         ≡ envelope_read_of message.now answer.old }
@@ -29,7 +28,7 @@ pub fn envelope_read(message: &[u8], answer: &mut [u64]) -> u64
         return UNFIT;
     }
     let read = read_envelope(message);
-    let number = envelope_number(read);
+    let number = number_of_result(&read);
     let row = envelope_row(read);
     put(answer, number, &row);
     number
@@ -54,7 +53,7 @@ pub fn envelope_write(
     }
     let wanted = payload_for(command, payload, error_code, field);
     let wrote = write_envelope(output, low_signed(command), wanted, bytes);
-    tell(answer, count_of(wrote))
+    tell(answer, Count::told(wrote))
 }
 
 // Reads a response.
@@ -66,7 +65,7 @@ pub fn response_read(message: &[u8], answer: &mut [u64]) -> u64
         return UNFIT;
     }
     let read = read_response(message);
-    let number = response_number(read);
+    let number = number_of_result(&read);
     let row = response_row(read);
     put(answer, number, &row);
     number
@@ -88,7 +87,7 @@ pub fn response_write(
     }
     let wanted = response_payload(error_code, field);
     let wrote = write_response(output, low_signed(error_code), wanted, bytes);
-    tell(answer, count_of(wrote))
+    tell(answer, Count::told(wrote))
 }
 
 // Reads device features.
@@ -100,7 +99,7 @@ pub fn features_read(message: &[u8], answer: &mut [u64]) -> u64
         return UNFIT;
     }
     let read = read_features(message);
-    let number = features_number(read);
+    let number = number_of_result(&read);
     let row = features_row(read);
     put(answer, number, &row);
     number
@@ -124,7 +123,7 @@ pub fn features_write(
         device_attributes,
     };
     let wrote = write_features(output, wanted);
-    tell(answer, count_of(wrote))
+    tell(answer, Count::told(wrote))
 }
 
 // Reads device information.
@@ -136,10 +135,8 @@ pub fn information_read(message: &[u8], answer: &mut [u64]) -> u64
         return UNFIT;
     }
     let read = read_information(message);
-    let verdict = read.verdict;
-    let information = read.information;
-    let number = verdict_number(verdict);
-    put_information(answer, number, verdict, information);
+    let number = number_of_result(&read);
+    put_information(answer, number, read);
     number
 }
 
@@ -160,13 +157,24 @@ pub fn information_write(
         return UNFIT;
     }
     if MOST_TRANSPORTS < transports.len() {
-        return tell_wrote(answer, TextWrote::Refused(WriteRefusal::BadArgument));
+        return tell_wrote(
+            answer,
+            Err(TextWriteRefusal::Refused(WriteRefusal::BadArgument)),
+        );
     }
     if !all_signed(transports) {
-        return tell_wrote(answer, TextWrote::Refused(WriteRefusal::BadArgument));
+        return tell_wrote(
+            answer,
+            Err(TextWriteRefusal::Refused(WriteRefusal::BadArgument)),
+        );
     }
     let list = signed_list(transports);
-    let count = transports.len();
-    let wrote = write_information(output, serial_number, name, &list[..count], device_type);
+    let wanted = InformationToWrite {
+        serial_number,
+        name,
+        transports: &list[..transports.len()],
+        device_type,
+    };
+    let wrote = write_information(output, wanted);
     tell_wrote(answer, wrote)
 }

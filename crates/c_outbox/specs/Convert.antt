@@ -1,7 +1,6 @@
 -- The outbox: what its calls answer as rows.
 use Rattle.std.specs.Prelude.{ℕ, cond, List, [], ◌∷◌, replicate, eqb}
-use Rattle.outbox.specs.Reader.{Answer, given, refused, refused_at, Item, found, end, number_in}
-use Rattle.c_rows.specs.declared.row.Count.{Count}
+use Rattle.outbox.specs.Reader.{Answer, given, refused, refused_at, Item, found, end}
 
 -- the place that goes with 41; 0 with any other number
 unfoldable pub cut_place : ℕ → ℕ → ℕ
@@ -17,9 +16,6 @@ abbrev pub cut_in : {A : Type 0} → Answer A → ℕ
 cut_in (given a) = 0
 cut_in (refused n) = 0
 cut_in (refused_at n place) = cut_place n place
-
-abbrev pub created_count : Answer ℕ → Count
-created_count a = record { number = number_in a; size = used_in a }
 
 -- used, cut place
 abbrev pub used_row : Answer ℕ → List ℕ

@@ -4,11 +4,12 @@ ghost use Rattle.c_rows.specs.Called.{called};
 ghost use Rattle.c_outbox.specs.Calls.{outbox_new_of, outbox_append_of, outbox_record_of, outbox_whole_of};
 
 use crate::convert::{
-    APPEND_ANSWER, RECORD_ANSWER, WHOLE_ANSWER, created_count, tell_append, tell_record, whole_row,
+    APPEND_ANSWER, RECORD_ANSWER, WHOLE_ANSWER, tell_append, tell_record, whole_row,
 };
-use c_rows::row::{COUNT_ANSWER, OUT_OF_RANGE, UNFIT, byte_or, put, tell};
+use c_rows::row::{COUNT_ANSWER, Count, OUT_OF_RANGE, UNFIT, byte_or, put, tell};
 use outbox::{reader, writer};
 use wire::bytes::wide64;
+use wire::refusal::number_in;
 
 // Begins a new outbox.
 pub fn pito_outbox_new(output: &mut [u8], answer: &mut [u64]) -> u64
@@ -19,7 +20,7 @@ pub fn pito_outbox_new(output: &mut [u8], answer: &mut [u64]) -> u64
         return UNFIT;
     }
     let created = writer::create(output);
-    tell(answer, created_count(created))
+    tell(answer, Count::told(created))
 }
 
 // Appends a record after the used bytes.
@@ -62,7 +63,7 @@ pub fn pito_outbox_whole(bytes: &[u8], answer: &mut [u64]) -> u64
         return UNFIT;
     }
     let walked = reader::walk(bytes);
-    let number = wide64(walked.number());
+    let number = wide64(number_in(&walked));
     let row = whole_row(walked);
     put(answer, number, &row);
     number

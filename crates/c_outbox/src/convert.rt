@@ -2,16 +2,16 @@
 ghost use Rattle.std.specs.Prelude.{◌≡◌, length};
 ghost use Rattle.outbox.specs.Reader.{fault_number, number_in, told_walk};
 ghost use Rattle.outbox.specs.Reader as readings;
-ghost use Rattle.outbox.specs.Writer.{told_new};
 ghost use Rattle.outbox.specs.Writer as writings;
 ghost use Rattle.c_rows.specs.Row.{afterwards};
-ghost use Rattle.c_outbox.specs.Convert.{cut_place, used_row, created_count, record_row, whole_row};
+ghost use Rattle.c_outbox.specs.Convert.{cut_place, used_row, record_row, whole_row};
 
-use c_rows::row::{Count, DONE, put};
-use outbox::reader::Reading;
-use outbox::verdict::{Fault, Walked};
-use outbox::writer::{Appended, Created};
+use c_rows::row::{DONE, put};
+use outbox::reader::{FoundRecord, ReadRefusal};
+use outbox::verdict::{Broken, Fault};
+use outbox::writer::AppendRefusal;
 use wire::bytes::wide64;
+use wire::refusal::Numbered;
 
 // The numbers of the answer rows.
 pub const APPEND_ANSWER: usize = 2;
@@ -24,24 +24,11 @@ pub const WHOLE_ANSWER: usize = 1;
 const RECORD: u64 = 1;
 
 // The place that goes with a record that is cut short; 0 for any other fault.
+#[tactic(auto, unfolding(crate::specs::Convert::cut_place))]
 fn cut_place(fault: Fault, place: usize) -> u64
     ensures { result ≡ cut_place (fault_number fault) place }
 {
-    match fault {
-        Fault::Version => 0,
-        Fault::Length => 0,
-        Fault::Cut => place as u64,
-        Fault::Stream => 0,
-    }
-}
-
-pub fn created_count(created: Created) -> Count
-    ensures { result ≡ created_count (told_new created) }
-{
-    match created {
-        Created::Used(n) => Count::of(n),
-        Created::NoRoom => Count::none(created.number()),
-    }
+    if fault == Fault::Cut { place as u64 } else { 0 }
 }
 
 // Tells a refusal in an answer row, and returns its number.
@@ -56,7 +43,8 @@ fn refuse(answer: &mut [u64], why: u8, row: &[u64]) -> u64
 
 // Tells what was appended in an answer row, and returns its number. Each arm, and each fault, writes its own row: to choose
 // one first, or a place, costs more.
-pub fn tell_append(answer: &mut [u64], appended: Appended) -> u64
+#[tactic(auto, unfolding(crate::specs::Convert::cut_place))]
+pub fn tell_append(answer: &mut [u64], appended: Result<usize, AppendRefusal>) -> u64
     requires { length answer.old ≡ 2 }
     ensures { (result ≡ number_in (writings.told appended))
         × (answer.new
@@ -64,28 +52,33 @@ pub fn tell_append(answer: &mut [u64], appended: Appended) -> u64
 {
     let zeros = [0u64; 2];
     match appended {
-        Appended::Used(n) => {
+        Ok(n) => {
             let row = [n as u64, 0];
             put(answer, DONE, &row);
             DONE
         }
-        Appended::BeyondBuffer => refuse(answer, appended.number(), &zeros),
-        Appended::BadRecord => refuse(answer, appended.number(), &zeros),
-        Appended::NoRoom => refuse(answer, appended.number(), &zeros),
-        Appended::Broken { fault, place } => match fault {
-            Fault::Version => refuse(answer, fault.number(), &zeros),
-            Fault::Length => refuse(answer, fault.number(), &zeros),
+        Err(AppendRefusal::BeyondBuffer) => refuse(
+            answer,
+            AppendRefusal::BeyondBuffer.number(),
+            &zeros,
+        ),
+        Err(AppendRefusal::BadRecord) => refuse(answer, AppendRefusal::BadRecord.number(), &zeros),
+        Err(AppendRefusal::NoRoom) => refuse(answer, AppendRefusal::NoRoom.number(), &zeros),
+        Err(AppendRefusal::Broken(broken)) => match broken.fault {
+            Fault::Version => refuse(answer, broken.number(), &zeros),
+            Fault::Length => refuse(answer, broken.number(), &zeros),
             Fault::Cut => {
-                let row = [0, place as u64];
-                refuse(answer, fault.number(), &row)
+                let row = [0, broken.place as u64];
+                refuse(answer, broken.number(), &row)
             }
-            Fault::Stream => refuse(answer, fault.number(), &zeros),
+            Fault::Stream => refuse(answer, broken.number(), &zeros),
         }
     }
 }
 
 // Tells what was read in an answer row, and returns its number. As in tell_append, each arm writes its own row.
-pub fn tell_record(answer: &mut [u64], reading: Reading) -> u64
+#[tactic(auto, unfolding(crate::specs::Convert::cut_place))]
+pub fn tell_record(answer: &mut [u64], reading: Result<Option<FoundRecord>, ReadRefusal>) -> u64
     requires { length answer.old ≡ 6 }
     ensures { (result ≡ number_in (readings.told reading))
         × (answer.new
@@ -93,39 +86,40 @@ pub fn tell_record(answer: &mut [u64], reading: Reading) -> u64
 {
     let zeros = [0u64; 6];
     match reading {
-        Reading::Record {
-            stream,
-            start,
-            size,
-            next,
-        } => {
+        Ok(Some(found)) => {
+            let FoundRecord {
+                stream,
+                start,
+                size,
+                next,
+            } = found;
             let wide = wide64(stream);
             let row = [RECORD, wide, start as u64, size as u64, next as u64, 0];
             put(answer, DONE, &row);
             DONE
         }
-        Reading::End => {
+        Ok(None) => {
             put(answer, DONE, &zeros);
             DONE
         }
-        Reading::BadPlace => refuse(answer, reading.number(), &zeros),
-        Reading::Broken { fault, place } => match fault {
-            Fault::Version => refuse(answer, fault.number(), &zeros),
-            Fault::Length => refuse(answer, fault.number(), &zeros),
+        Err(ReadRefusal::BadPlace) => refuse(answer, ReadRefusal::BadPlace.number(), &zeros),
+        Err(ReadRefusal::Broken(broken)) => match broken.fault {
+            Fault::Version => refuse(answer, broken.number(), &zeros),
+            Fault::Length => refuse(answer, broken.number(), &zeros),
             Fault::Cut => {
-                let row = [0, 0, 0, 0, 0, place as u64];
-                refuse(answer, fault.number(), &row)
+                let row = [0, 0, 0, 0, 0, broken.place as u64];
+                refuse(answer, broken.number(), &row)
             }
-            Fault::Stream => refuse(answer, fault.number(), &zeros),
+            Fault::Stream => refuse(answer, broken.number(), &zeros),
         }
     }
 }
 
-pub fn whole_row(walked: Walked) -> [u64; 1]
+pub fn whole_row(walked: Result<(), Broken>) -> [u64; 1]
     ensures { result ≡ whole_row (told_walk walked) }
 {
     match walked {
-        Walked::Whole => [0],
-        Walked::Broken { fault, place } => [cut_place(fault, place)],
+        Ok(()) => [0],
+        Err(broken) => [cut_place(broken.fault, broken.place)],
     }
 }

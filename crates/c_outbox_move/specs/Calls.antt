@@ -1,6 +1,6 @@
 -- Outbox files written in another version, for C.
 use Rattle.std.specs.Prelude.{ℕ, List, [], ◌∷◌}
-use Rattle.outbox.specs.declared.format.Format.{Format}
+use Rattle.outbox.specs.Format.{Format}
 use Rattle.outbox.specs.Reader.{Answer, given, refused, refused_at, number_in}
 use Rattle.c_rows.specs.Called.{Called, answers}
 use Rattle.outbox_move.specs.Moves.{move_of}

@@ -3,12 +3,12 @@ ghost use Rattle.std.specs.Prelude.{◌≡◌, []};
 ghost use Rattle.c_rows.specs.Called.{called};
 ghost use Rattle.c_packets.specs.Calls.{packet_read_of, capture_packet_of};
 
-use crate::convert::{CAPTURE_ANSWER, READ_ANSWER, captured_row, front_number, front_row};
+use crate::convert::{CAPTURE_ANSWER, READ_ANSWER, captured_row, front_row};
 use ble_packet::header::extender_bit;
 use ble_packet_end::{end_of, read_front};
-use c_rows::row::{UNFIT, put};
+use c_rows::row::{UNFIT, number_of_result, put};
 use capture_packet::read_at;
-use wire::bytes::{byte_at, wide64};
+use wire::bytes::byte_at;
 
 // Reads the packet at the front of some bytes, for a link with a limit.
 pub fn pito_packet_read(bytes: &[u8], limit: u64, answer: &mut [u64]) -> u64
@@ -21,7 +21,7 @@ pub fn pito_packet_read(bytes: &[u8], limit: u64, answer: &mut [u64]) -> u64
     let end = end_of(bytes);
     let extended = extender_bit(byte_at(bytes, 1));
     let front = read_front(limit as usize, bytes);
-    let number = front_number(front);
+    let number = number_of_result(&front);
     let row = front_row(end, extended, front);
     put(answer, number, &row);
     number
@@ -36,7 +36,7 @@ pub fn pito_capture_packet(capture: &[u8], place: u64, answer: &mut [u64]) -> u6
         return UNFIT;
     }
     let standing = read_at(capture, place as usize);
-    let number = wide64(standing.number());
+    let number = number_of_result(&standing);
     let row = captured_row(standing);
     put(answer, number, &row);
     number

@@ -1,19 +1,18 @@
 // One packet: what the calls answer as rows.
 ghost use Rattle.std.specs.Prelude.{◌≡◌, cond};
 ghost use Rattle.wire.specs.Bytes.{bit};
-ghost use Rattle.wire.specs.Stream.{stream_number};
 ghost use Rattle.ble_packet.specs.Header.{type_continuation, type_last};
 ghost use Rattle.ble_packet.specs.Reader.{told};
 ghost use Rattle.capture_packet.specs.Place.{standing_told};
-ghost use Rattle.c_rows.specs.Row.{number_told};
 ghost use Rattle.c_packets.specs.Convert.{head_row, packet_row, front_row, captured_row};
 
 use ble_packet::header::{TYPE_CONTINUATION, TYPE_CONTROL, TYPE_FIRST, TYPE_LAST};
-use ble_packet::reader::{Answer, Head, Packet};
-use c_rows::row::DONE;
-use capture_packet::PacketStanding;
+use ble_packet::reader;
+use ble_packet::reader::{Head, Packet};
+use c_rows::row::stream_number;
+use capture_packet::{FoundPacket, Refusal};
+use capture_reader::RefusedAt;
 use wire::bytes::{bit64, wide64};
-use wire::stream::Stream;
 
 // The numbers of the answer rows.
 pub const READ_ANSWER: usize = 10;
@@ -22,21 +21,6 @@ pub const CAPTURE_ANSWER: usize = 5;
 
 // The outcome that is a packet.
 const PACKET: u64 = 1;
-
-pub fn front_number(answer: Answer) -> u64
-    ensures { result ≡ number_told (told answer) }
-{
-    match answer {
-        Answer::Refused(why) => wide64(why.number()),
-        Answer::Read(_) => DONE,
-    }
-}
-
-fn stream_number(stream: Stream) -> u64
-    ensures { result ≡ stream_number stream }
-{
-    wide64(stream.number())
-}
 
 fn kind_after(last: bool) -> u8
     ensures { result ≡ cond last type_last type_continuation }
@@ -95,24 +79,23 @@ fn packet_row(end: usize, extended: bool, packet: Packet) -> [u64; 10]
     }
 }
 
-pub fn front_row(end: usize, extended: bool, answer: Answer) -> [u64; 10]
+pub fn front_row(end: usize, extended: bool, answer: Result<Packet, reader::Refusal>) -> [u64; 10]
     ensures { result ≡ front_row end (bit extended) (told answer) }
 {
     match answer {
-        Answer::Refused(_) => [0u64; 10],
-        Answer::Read(packet) => packet_row(end, extended, packet),
+        Err(_) => [0u64; 10],
+        Ok(packet) => packet_row(end, extended, packet),
     }
 }
 
-pub fn captured_row(standing: PacketStanding) -> [u64; 5]
+pub fn captured_row(standing: Result<Option<FoundPacket>, RefusedAt<Refusal>>) -> [u64; 5]
     ensures { result ≡ captured_row (standing_told standing) }
 {
     match standing {
-        PacketStanding::Packet { start, size, next } => {
+        Ok(Some(FoundPacket { start, size, next })) => {
             [PACKET, start as u64, size as u64, next as u64, 0]
         }
-        PacketStanding::End => [0u64; 5],
-        PacketStanding::BadPlace => [0u64; 5],
-        PacketStanding::Broken { why: _, at } => [0, 0, 0, 0, at as u64],
+        Ok(None) => [0u64; 5],
+        Err(RefusedAt { why: _, at }) => [0, 0, 0, 0, at as u64],
     }
 }

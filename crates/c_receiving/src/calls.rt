@@ -4,19 +4,20 @@ ghost use Rattle.c_rows.specs.Called.{called};
 ghost use Rattle.ble_slot.specs.Answer.{told};
 ghost use Rattle.c_receiving.specs.Calls.{receiver_open_of, link_at, told_row, replied, receiver_accept_of};
 
-use crate::convert::{ANSWER, answer_number, answer_row};
+use crate::convert::{ANSWER, answer_row};
 use ble_link::accept;
-use ble_receiver::{OpenedReceiver, Receiver};
+use ble_receiver::Receiver;
 use ble_slot::Slot;
-use ble_slot::answer::Answer;
-use c_rows::row::{DONE, OUT_OF_RANGE, UNFIT, byte_or, number_at, put, write_row};
+use ble_slot::answer::{Accepted, Refusal};
+use c_rows::row::{
+    DONE, OUT_OF_RANGE, UNFIT, byte_or, number_at, number_of_result, put, write_row,
+};
+use wire::bytes::wide64;
 use wire::logic::both;
+use wire::refusal::Numbered;
 
 // The numbers of the state row: the limit.
 pub const STATE: usize = 1;
-
-// The refusal of a limit out of its range.
-const BAD_LIMIT: u64 = 17;
 
 // Opens a receiver for a link with a limit: its state.
 pub fn pito_receiver_open(limit: u64, state: &mut [u64]) -> u64
@@ -26,12 +27,12 @@ pub fn pito_receiver_open(limit: u64, state: &mut [u64]) -> u64
         return UNFIT;
     }
     match Receiver::open(limit as usize) {
-        OpenedReceiver::Link(link) => {
+        Ok(link) => {
             let row = [link.limit as u64];
             write_row(state, &row);
             DONE
         }
-        OpenedReceiver::BadLimit => BAD_LIMIT,
+        Err(why) => wide64(why.number()),
     }
 }
 
@@ -51,10 +52,10 @@ pub fn link_at(state: &[u64], size: usize) -> Receiver
 }
 
 // Tells what was answered to a packet in the answer row, where that has its length, and returns its number.
-pub fn tell_packet(answer: &mut [u64], done: Answer) -> u64
+pub fn tell_packet(answer: &mut [u64], done: Result<Accepted, Refusal>) -> u64
     ensures { called result [] [] answer.new ≡ told_row answer.old (told done) }
 {
-    let number = answer_number(done);
+    let number = number_of_result(&done);
     if answer.len() == ANSWER {
         let row = answer_row(done);
         put(answer, number, &row);

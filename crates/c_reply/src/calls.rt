@@ -7,7 +7,9 @@ ghost use Rattle.c_reply.specs.Calls.{reply_write_of};
 use crate::convert::{features_for, few_signed, link_for, members_for, tell_reply};
 use c_message_rows::convert::{WROTE_ANSWER, signed_list};
 use c_rows::row::UNFIT;
+use msg_device::information::InformationToWrite;
 use reply::write_reply;
+use reply_parts::body::OwnBox;
 
 // Writes the reply to a message. Transports that are too many or no signed numbers stand for nine, which is out of range
 // where the reply carries them.
@@ -36,36 +38,37 @@ pub fn pito_reply_write(
     if answer.len() != WROTE_ANSWER {
         return UNFIT;
     }
-    let own = features_for(features, device_attributes);
+    let features = features_for(features, device_attributes);
     let members = members_for(information_member, features_member);
     let link = link_for(room, limit, id, sequence);
     if few_signed(transports) {
         let list = signed_list(transports);
-        let few = &list[..transports.len()];
-        let reply = write_reply(
-            output,
-            message,
+        let information = InformationToWrite {
             serial_number,
             name,
-            few,
+            transports: &list[..transports.len()],
             device_type,
-            own,
+        };
+        let own = OwnBox {
+            information,
+            features,
             members,
-            link,
-        );
+        };
+        let reply = write_reply(output, message, own, link);
         return tell_reply(answer, reply);
     }
     let nine = [0i32; 9];
-    let reply = write_reply(
-        output,
-        message,
+    let information = InformationToWrite {
         serial_number,
         name,
-        &nine,
+        transports: &nine,
         device_type,
-        own,
+    };
+    let own = OwnBox {
+        information,
+        features,
         members,
-        link,
-    );
+    };
+    let reply = write_reply(output, message, own, link);
     tell_reply(answer, reply)
 }

@@ -1,17 +1,16 @@
 // The reply: what its writer is given by numbers, and what it answers.
 ghost use Rattle.std.specs.Prelude.{◌≡◌, length};
 ghost use Rattle.proto_reader.specs.Refusal.{number_more};
-ghost use Rattle.reply.specs.Put.{why_of, told};
+ghost use Rattle.reply.specs.Put.{told};
 ghost use Rattle.c_rows.specs.Row.{afterwards};
 ghost use Rattle.c_reply.specs.Convert.{link_of, features_of, members_of, few_signed, reply_row};
 
-use c_message_rows::convert::all_signed;
-use c_rows::row::{DONE, OUT_OF_RANGE, byte_or, put};
+use c_message_rows::convert::{all_signed, tell_wrote};
+use c_rows::row::{OUT_OF_RANGE, byte_or};
 use msg_device::features::DeviceFeatures;
 use proto_reader::gathered::MOST_TRANSPORTS;
-use reply::{Link, Refusal, Reply};
+use reply::{Link, Refusal};
 use reply_parts::body::Members;
-use wire::bytes::wide64;
 
 // A number above 255 counts as one that is out of range.
 pub fn link_for(room: u64, limit: u64, id: u64, sequence: u64) -> Link
@@ -53,61 +52,14 @@ pub fn few_signed(row: &[u64]) -> bool
     all_signed(row)
 }
 
-fn refusal_number(why: Refusal) -> u64
-    ensures { result ≡ (why_of why).0 }
-{
-    match why {
-        Refusal::Message(own) => wide64(own.number()),
-        Refusal::Room => 13,
-        Refusal::Limit => 17,
-        Refusal::Argument => 15,
-        Refusal::BadText { field: _, place: _ } => 36,
-        Refusal::Output => 14,
-    }
-}
-
-fn reply_number(reply: Reply) -> u64
-    ensures { result ≡ number_more (told reply) }
-{
-    match reply {
-        Reply::Refused(why) => refusal_number(why),
-        Reply::Silent => DONE,
-        Reply::Sent(_) => DONE,
-    }
-}
-
-// The field and the place that go with a refusal.
-fn refusal_row(why: Refusal) -> [u64; 3]
-    ensures { result ≡ reply_row (told (Reply.Refused why)) }
-{
-    match why {
-        Refusal::Message(_) => [0u64; 3],
-        Refusal::Room => [0u64; 3],
-        Refusal::Limit => [0u64; 3],
-        Refusal::Argument => [0u64; 3],
-        Refusal::BadText { field, place } => [0, field, place as u64],
-        Refusal::Output => [0u64; 3],
-    }
-}
-
-fn reply_row(reply: Reply) -> [u64; 3]
-    ensures { result ≡ reply_row (told reply) }
-{
-    match reply {
-        Reply::Refused(why) => refusal_row(why),
-        Reply::Silent => [0u64; 3],
-        Reply::Sent(n) => [n as u64, 0, 0],
-    }
-}
-
-// Tells of a reply in an answer row, and returns its number.
-pub fn tell_reply(answer: &mut [u64], reply: Reply) -> u64
+// Tells of a reply in an answer row, and returns its number. No reply has no bytes.
+pub fn tell_reply(answer: &mut [u64], reply: Result<Option<usize>, Refusal>) -> u64
     requires { length answer.old ≡ 3 }
     ensures { (result ≡ number_more (told reply))
         × (answer.new ≡ afterwards (number_more (told reply)) answer.old (reply_row (told reply))) }
 {
-    let number = reply_number(reply);
-    let row = reply_row(reply);
-    put(answer, number, &row);
-    number
+    match reply {
+        Ok(sent) => tell_wrote(answer, Ok::<usize, Refusal>(sent.unwrap_or(0))),
+        Err(why) => tell_wrote(answer, Err::<usize, Refusal>(why)),
+    }
 }

@@ -5,10 +5,10 @@ ghost use Rattle.c_report.specs.Calls.{adding_to, added, told_rows, report_calle
 
 use crate::convert::{ADD_ANSWER, REPORT, place_row, put_report, report_at};
 use ble_slot::Slot;
-use c_rows::row::{UNFIT, put};
+use c_rows::row::{UNFIT, number_of_result, put};
+use capture_reader::RefusedAt;
 use capture_report::CostReport;
-use capture_tally::{Answer, add};
-use wire::bytes::wide64;
+use capture_tally::{Refusal, add};
 use wire::logic::both;
 
 // What a capture is added to: a report, and the limit of the link that reads it.
@@ -35,7 +35,11 @@ pub fn adding_to(report: &[u64], limit: u64, size: usize) -> AddingTo
 }
 
 // Tells what came of a capture in the report and the answer row, and returns its number; 1 where one of them has another length.
-pub fn tell_added(report: &mut [u64], answer: &mut [u64], done: Answer) -> u64
+pub fn tell_added(
+    report: &mut [u64],
+    answer: &mut [u64],
+    done: Result<CostReport, RefusedAt<Refusal>>,
+) -> u64
     ensures { added result report.new answer.new
         ≡ told_rows report.old answer.old (told done) }
 {
@@ -43,7 +47,7 @@ pub fn tell_added(report: &mut [u64], answer: &mut [u64], done: Answer) -> u64
     if !fits {
         return UNFIT;
     }
-    let number = wide64(done.number());
+    let number = number_of_result(&done);
     put_report(report, done);
     let place = place_row(done);
     put(answer, number, &place);

@@ -4,8 +4,9 @@ ghost use Rattle.capture_tally.specs.Tally.{told};
 ghost use Rattle.c_report.specs.Convert.{report_row, costs_at, report_at, report_after, place_row};
 
 use c_rows::row::{number_at, write_row};
+use capture_reader::RefusedAt;
 use capture_report::{CostReport, Costs};
-use capture_tally::Answer;
+use capture_tally::Refusal;
 
 // The numbers of a report: seven for each stream, in the order control, OTA, Alexa.
 pub const REPORT: usize = 21;
@@ -80,24 +81,21 @@ fn report_row(report: CostReport) -> [u64; 21]
 }
 
 // Writes the report where one is told.
-pub fn put_report(row: &mut [u64], answer: Answer)
+pub fn put_report(row: &mut [u64], added: Result<CostReport, RefusedAt<Refusal>>)
     requires { length row.old ≡ 21 }
-    ensures { row.new ≡ report_after row.old (told answer) }
+    ensures { row.new ≡ report_after row.old (told added) }
 {
-    match answer {
-        Answer::Refused { why: _, at: _ } => {}
-        Answer::Added(report) => {
-            let numbers = report_row(report);
-            write_row(row, &numbers);
-        }
+    if let Ok(report) = added {
+        let numbers = report_row(report);
+        write_row(row, &numbers);
     }
 }
 
-pub fn place_row(answer: Answer) -> [u64; 1]
-    ensures { result ≡ place_row (told answer) }
+pub fn place_row(added: Result<CostReport, RefusedAt<Refusal>>) -> [u64; 1]
+    ensures { result ≡ place_row (told added) }
 {
-    match answer {
-        Answer::Refused { why: _, at } => [at as u64],
-        Answer::Added(_) => [0],
+    match added {
+        Ok(_) => [0],
+        Err(RefusedAt { why: _, at }) => [at as u64],
     }
 }

@@ -1,16 +1,12 @@
 -- Rows of numbers: what the library tells, as a number and a row.
 use Rattle.std.specs.Prelude.{ℕ, cond, List, ltb, eqb}
 use Rattle.wire.specs.Told.{Told, given, refused}
+pub use Rattle.wire.specs.Told.{number_told}
 use Rattle.c_rows.specs.declared.row.Count.{Count}
 
 -- a row after a call that returns a number: it stays as it was where that is 1
 abbrev pub afterwards : ℕ → List ℕ → List ℕ → List ℕ
 afterwards number before row = cond (eqb number 1) before row
-
--- 0, or the number of the refusal
-abbrev pub number_told : {A : Type 0} → Told A → ℕ
-number_told (given a) = 0
-number_told (refused n) = n
 
 -- how many bytes a writer wrote
 abbrev pub size_told : Told ℕ → ℕ

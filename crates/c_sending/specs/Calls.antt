@@ -3,7 +3,8 @@ use Rattle.std.specs.Prelude.{ℕ, List, length, eqb}
 use Rattle.wire.specs.Told.{Written}
 use Rattle.ble_ack.specs.Acknowledgement.{ack_of}
 use Rattle.ble_sender.specs.declared.writer.Sending.{Sending}
-use Rattle.ble_sender.specs.Writer.{Sent, written_of}
+use Rattle.ble_sender.specs.declared.writer.Sent.{Sent}
+use Rattle.ble_sender.specs.Writer.{written_of}
 use Rattle.c_rows.specs.Row.{number_told, byte_or, out_of_range}
 use Rattle.c_sending.specs.Convert.{stream_with, packet_row}
 use Rattle.c_rows.specs.Called.{Called, answers, writer_call}

@@ -1,8 +1,8 @@
 -- Sending over Low Energy: what the writers are given by numbers, and what they answer.
-use Rattle.std.specs.Prelude.{ℕ, cond, List, [], ◌∷◌, ltb, eqb}
+use Rattle.std.specs.Prelude.{ℕ, cond, List, [], ◌∷◌, ltb, eqb, unwrap_or}
 use Rattle.wire.specs.Told.{Told, given, refused}
 use Rattle.ble_sender.specs.declared.writer.Sending.{Sending}
-use Rattle.ble_sender.specs.Writer.{Sent, more, last}
+use Rattle.ble_sender.specs.declared.writer.Sent.{Sent}
 use Rattle.c_rows.specs.Row.{byte_or, out_of_range}
 
 -- a stream, where the wish beside it is 0 or 1; with any other wish it stands for no stream, which is out of range: 15 in the library's order
@@ -22,6 +22,5 @@ sending_of room stream id sequence ack =
 
 -- written, next place; where it was the last packet, the next place is the message's end
 abbrev pub packet_row : ℕ → Told Sent → List ℕ
-packet_row end (given (more n next)) = n ∷ next ∷ []
-packet_row end (given (last n)) = n ∷ end ∷ []
+packet_row end (given s) = s.length ∷ unwrap_or s.next end ∷ []
 packet_row end (refused n) = 0 ∷ 0 ∷ []

@@ -4,11 +4,9 @@ ghost use Rattle.c_sending.specs.Convert.{sending_of};
 ghost use Rattle.c_rows.specs.Called.{called};
 ghost use Rattle.c_sending.specs.Calls.{packet_write_of, ack_write_of};
 
-use crate::convert::{
-    PACKET_ANSWER, WISHED, ack_count, packet_number, packet_row, sending, stream_with,
-};
+use crate::convert::{PACKET_ANSWER, WISHED, packet_row, sending, stream_with};
 use ble_sender::writer::write_packet;
-use c_rows::row::{COUNT_ANSWER, OUT_OF_RANGE, UNFIT, byte_or, put, tell};
+use c_rows::row::{COUNT_ANSWER, Count, OUT_OF_RANGE, UNFIT, byte_or, number_of_result, put, tell};
 
 // Writes the packet of a message whose piece begins at a place, for a link with a limit.
 pub fn pito_packet_write(
@@ -32,7 +30,7 @@ pub fn pito_packet_write(
     }
     let how = sending(room, stream, id, sequence, ack);
     let outcome = write_packet(how, limit as usize, message, place as usize, output);
-    let number = packet_number(outcome);
+    let number = number_of_result(&outcome);
     let row = packet_row(outcome, message.len());
     put(answer, number, &row);
     number
@@ -57,5 +55,5 @@ pub fn pito_ack_write(
     let low_id = byte_or(OUT_OF_RANGE, id);
     let low_sequence = byte_or(OUT_OF_RANGE, sequence);
     let outcome = ble_ack::write(known, low_id, low_sequence, positive == WISHED, output);
-    tell(answer, ack_count(outcome))
+    tell(answer, Count::told(outcome))
 }

@@ -1,14 +1,11 @@
 // Sending over Low Energy: what the writers are given by numbers, and what they answer.
 
 ghost use Rattle.std.specs.Prelude.{◌≡◌};
-ghost use Rattle.ble_ack.specs.Acknowledgement as acknowledgements;
 ghost use Rattle.ble_sender.specs.Writer.{told};
-ghost use Rattle.c_rows.specs.Row.{number_told, count_of};
 ghost use Rattle.c_sending.specs.Convert.{stream_with, sending_of, packet_row};
 
-use ble_sender::writer::{Answer, Sending};
-use c_rows::row::{Count, DONE, OUT_OF_RANGE, byte_or};
-use wire::bytes::wide64;
+use ble_sender::writer::{Refusal, Sending, Sent};
+use c_rows::row::{OUT_OF_RANGE, byte_or};
 
 // The numbers of the answer row of a packet.
 pub const PACKET_ANSWER: usize = 2;
@@ -41,32 +38,15 @@ pub fn sending(room: u64, stream: u64, id: u64, sequence: u64, ack: u64) -> Send
     }
 }
 
-pub fn packet_number(answer: Answer) -> u64
-    ensures { result ≡ number_told (told answer) }
-{
-    match answer {
-        Answer::Refused(why) => wide64(why.number()),
-        Answer::More { length: _, next: _ } => DONE,
-        Answer::Last { length: _ } => DONE,
-    }
-}
-
 // Where it was the last packet, the next place is the message's end.
-pub fn packet_row(answer: Answer, end: usize) -> [u64; 2]
+pub fn packet_row(answer: Result<Sent, Refusal>, end: usize) -> [u64; 2]
     ensures { result ≡ packet_row end (told answer) }
 {
     match answer {
-        Answer::Refused(_) => [0, 0],
-        Answer::More { length, next } => [length as u64, next as u64],
-        Answer::Last { length } => [length as u64, end as u64],
-    }
-}
-
-pub fn ack_count(answer: ble_ack::Answer) -> Count
-    ensures { result ≡ count_of (acknowledgements.told answer) }
-{
-    match answer {
-        ble_ack::Answer::Written(n) => Count::of(n),
-        ble_ack::Answer::Refused(why) => Count::none(why.number()),
+        Err(_) => [0, 0],
+        Ok(sent) => {
+            let next = sent.next.unwrap_or(end);
+            [sent.length as u64, next as u64]
+        }
     }
 }

@@ -8,7 +8,7 @@ use lib.ListN.{length, take, drop, length-take, length-drop, drop_of_length-le}
 use lib.Dec.{ltb}
 use borrow.Author.Tests.{ltb-true, ltb-false}
 use Rattle.wire.specs.Told.{given, refused}
-use Rattle.capture_reader.specs.Capture.{width, front_of, other_version}
+use Rattle.capture_reader.specs.Capture.{width, located, front_of, other_version}
 use Rattle.capture_reader.proofs.Walking as captures
 use Rattle.capture_reader.proofs.Walking.{front-within, PacketWalk, walk_begins, walk_ends, walk-stops, walk-goes}
 use Rattle.capture_judge.specs.declared.State.{State}
@@ -47,8 +47,8 @@ module _ (room limit : ℕ) (bytes : List ℕ) where
     judging-ends h = walk_ends bytes j.walk h
 
     module _ (h : at < length bytes) where
-      pub judging-stops : (n : ℕ) → front_of (drop at bytes) ≡ refused n → walked_of room limit bytes ≡ refused (n, at)
-      judging-stops n e = walk-stops bytes j.walk h n e
+      pub judging-stops : (why : ℕ × ℕ) → located at (front_of (drop at bytes)) ≡ refused why → walked_of room limit bytes ≡ refused why
+      judging-stops why e = walk-stops bytes j.walk h why e
 
       -- one packet more
       step_is : (p : List ℕ) (ps : List (List ℕ)) → verdict_from room limit at v (p ∷ ps) ≡ verdict_from room limit (at + width + length p) (gone_on room limit at v p) ps

@@ -1,18 +1,17 @@
 -- A capture judged: its packets, one after another.
-use Rattle.std.specs.Prelude.{ℕ, ◌+◌, List, [], ◌∷◌, cond, not, length}
+use Rattle.std.specs.Prelude.{ℕ, ◌+◌, List, [], ◌∷◌, cond, not, length, Result}
 use Rattle.wire.specs.Limit.{limit_fits}
 use Rattle.wire.specs.Told.{given, refused, and_then, line, table}
 use Rattle.capture_reader.specs.Capture as captures
-use Rattle.capture_reader.specs.Capture.{width, ToldAt, packets_of}
+use Rattle.capture_reader.specs.Capture.{width, ToldAt, told_at, packets_of}
+use Rattle.capture_reader.specs.declared.RefusedAt.{RefusedAt}
 use Rattle.ble_sender.specs.Writer.{room_fits}
 use Rattle.capture_judge.specs.declared.capture.Refusal.{Refusal}
 use Rattle.capture_judge.specs.declared.capture.Refusal.TheVariants.{Long, Room, Limit, Capture}
-use Rattle.capture_judge.specs.declared.capture.Answer as code
-use Rattle.capture_judge.specs.declared.capture.Answer.TheVariants.{Refused, Lawful as IsLawful, Open as IsOpen, Unlawful as IsUnlawful}
+use Rattle.capture_judge.specs.declared.capture.SenderVerdict.{SenderVerdict}
+use Rattle.capture_judge.specs.declared.capture.SenderVerdict.TheVariants.{Lawful as IsLawful, Open as IsOpen, Unlawful as IsUnlawful}
 use Rattle.capture_judge.specs.declared.capture.Judgement.{Judgement}
 use Rattle.capture_judge.specs.declared.capture.Judgement.TheVariants.{Going, Stopped}
-use Rattle.capture_judge.specs.declared.capture.Traced.{Traced}
-use Rattle.capture_judge.specs.declared.capture.Traced.TheVariants.{Barred, Ended}
 use Rattle.capture_judge.specs.Step.{idle, all_idle, step_of, after}
 
 -- ---- the packets, one after another
@@ -65,12 +64,13 @@ number_of Room = 13
 number_of Limit = 17
 number_of (Capture why) = captures.number_of why
 
-abbrev pub trace_told : Traced → ToldAt Judgement
-trace_told (Barred why at) = refused (number_of why, at)
-trace_told (Ended v) = given v
+abbrev pub trace_told : Result Judgement (RefusedAt Refusal) → ToldAt Judgement
+trace_told = told_at number_of
 
-abbrev pub told : code.Answer → ToldAt Answer
-told (Refused why at) = refused (number_of why, at)
-told IsLawful = given lawful
-told IsOpen = given open·ended
-told (IsUnlawful at) = given (unlawful at)
+abbrev pub answer_told : SenderVerdict → Answer
+answer_told IsLawful = lawful
+answer_told IsOpen = open·ended
+answer_told (IsUnlawful at) = unlawful at
+
+abbrev pub told : Result SenderVerdict (RefusedAt Refusal) → ToldAt Answer
+told r = and_then (told_at number_of r) (λ verdict. given (answer_told verdict))

@@ -1,5 +1,6 @@
 -- One packet judged: a small state for each stream, and a pure step over it.
-use Rattle.std.specs.Prelude.{ℕ, List, Bool, ◌&&◌}
+use Rattle.std.specs.Prelude.{ℕ, List, Bool, ◌&&◌, Some, None}
+use Rattle.std.specs.Prelude as code
 use Rattle.std.proofs.Math.Option.{Option, none, some}
 use Rattle.wire.specs.Told.{Told, given, refused}
 use Rattle.wire.specs.declared.stream.Stream.{Stream}
@@ -11,8 +12,6 @@ use Rattle.capture_stream.specs.declared.SenderSlot.{SenderSlot}
 use Rattle.capture_stream.specs.declared.SenderSlot.TheVariants.{Idle}
 use Rattle.capture_stream.specs.Slot.{is_idle, slot_step}
 use Rattle.capture_judge.specs.declared.State.{State}
-use Rattle.capture_judge.specs.declared.step.StateAfter.{StateAfter}
-use Rattle.capture_judge.specs.declared.step.StateAfter.TheVariants.{Stopped, Goes}
 
 -- ---- the three streams
 
@@ -56,6 +55,6 @@ after (some s) no-state go = go s
 
 -- ---- what the code tells
 
-abbrev pub stepped : StateAfter → Option State
-stepped Stopped = none
-stepped (Goes s) = some s
+abbrev pub stepped : code.Option State → Option State
+stepped None = none
+stepped (Some s) = some s

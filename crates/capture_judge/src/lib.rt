@@ -12,8 +12,16 @@ use capture_stream::SenderSlot;
 use wire::logic::both;
 use wire::stream::Stream;
 
-// A slot for each stream.
-#[derive(Clone, Copy)]
+// The room of a link's packets and the limit of its transactions.
+#[derive(Clone, Copy, Debug, PartialEq, Eq)]
+pub struct Settings {
+    pub room: usize,
+    pub limit: usize,
+}
+
+// A slot for each stream. Its fields are named, with no generic type for three of a kind: slot_in and the claims of
+// capture_judge_claims name them.
+#[derive(Clone, Copy, Debug, PartialEq, Eq)]
 pub struct State {
     pub control: SenderSlot,
     pub ota: SenderSlot,
@@ -44,24 +52,15 @@ impl State {
     fn with_slot(self, stream: Stream, slot: SenderSlot) -> Self
         ensures { result ≡ with_slot self stream slot }
     {
-        let control = self.control;
-        let ota = self.ota;
-        let alexa = self.alexa;
         match stream {
             Stream::Control => State {
                 control: slot,
-                ota,
-                alexa,
+                ..self
             },
-            Stream::Ota => State {
-                control,
-                ota: slot,
-                alexa,
-            },
+            Stream::Ota => State { ota: slot, ..self },
             Stream::Alexa => State {
-                control,
-                ota,
                 alexa: slot,
+                ..self
             },
         }
     }
@@ -70,9 +69,9 @@ impl State {
     pub fn is_idle(self) -> bool
         ensures { result ≡ all_idle self }
     {
-        let control = self.control;
-        let ota = self.ota;
-        let alexa = self.alexa;
-        both(control.is_idle(), both(ota.is_idle(), alexa.is_idle()))
+        both(
+            self.control.is_idle(),
+            both(self.ota.is_idle(), self.alexa.is_idle()),
+        )
     }
 }

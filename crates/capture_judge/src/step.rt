@@ -4,31 +4,21 @@ ghost use Rattle.wire.specs.Told.{given};
 ghost use Rattle.capture_stream.specs.Slot.{moved_to};
 ghost use Rattle.capture_judge.specs.Step.{placed, step_by, step_of, stepped};
 
-use crate::State;
+use crate::{Settings, State};
 use ble_packet::reader;
 use ble_packet::reader::Packet;
-use capture_stream::{SlotAfter, on_first, on_next};
+use capture_stream::{SenderSlot, on_first, on_next};
 use wire::stream::Stream;
 
-// The state after a packet, where our writer would write it now.
-#[derive(Drop)]
-pub(crate) enum StateAfter {
-    Stopped,
-    Goes(State),
-}
-
-// A slot put back.
-fn placed(state: State, stream: Stream, moved: SlotAfter) -> StateAfter
+// A slot put back; none where our writer would not write the packet now.
+fn placed(state: State, stream: Stream, moved: Option<SenderSlot>) -> Option<State>
     ensures { stepped result ≡ placed state stream (moved_to moved) }
 {
-    match moved {
-        SlotAfter::Nowhere => StateAfter::Stopped,
-        SlotAfter::To(slot) => StateAfter::Goes(state.with_slot(stream, slot)),
-    }
+    Some(state.with_slot(stream, moved?))
 }
 
-// What was read, judged.
-fn step(room: usize, state: State, read: Packet) -> StateAfter
+// The state after what was read, where our writer would write it now.
+fn step(room: usize, state: State, read: Packet) -> Option<State>
     ensures { stepped result ≡ step_by room state (given read) }
 {
     match read {
@@ -62,18 +52,18 @@ fn step(room: usize, state: State, read: Packet) -> StateAfter
                 on_next(room, slot, head, ack, last, start, len),
             )
         }
-        Packet::Ack(_) => StateAfter::Goes(state),
-        Packet::Nack(_) => StateAfter::Goes(state),
+        Packet::Ack(_) => Some(state),
+        Packet::Nack(_) => Some(state),
     }
 }
 
-// A packet judged by what is open.
-pub(crate) fn judge_packet(packet: &[u8], room: usize, limit: usize, state: State) -> StateAfter
-    ensures { stepped result ≡ step_of room limit state packet.now }
+// The state after a packet, by what is open.
+pub(crate) fn judge_packet(packet: &[u8], settings: Settings, state: State) -> Option<State>
+    ensures { stepped result ≡ step_of settings.room settings.limit state packet.now }
 {
-    let answer = reader::read(limit, packet);
+    let answer = reader::read(settings.limit, packet);
     match answer {
-        reader::Answer::Refused(_) => StateAfter::Stopped,
-        reader::Answer::Read(read) => step(room, state, read),
+        Err(_) => None,
+        Ok(read) => step(settings.room, state, read),
     }
 }

@@ -1,5 +1,6 @@
 -- What is expected is what the judge takes.
-use Rattle.std.specs.Prelude.{ℕ, ◌≡◌, Bool, true, false, cond, not, ◌&&◌, ◌||◌, eqb}
+use Rattle.std.specs.Prelude.{ℕ, ◌≡◌, Bool, true, false, cond, not, ◌&&◌, ◌||◌, eqb, Some, None}
+use Rattle.std.specs.Prelude as code
 use Rattle.std.proofs.Math.Option.{Option, none, some}
 use Rattle.ble_packet.specs.declared.reader.Head.{Head}
 use Rattle.ble_packet.specs.declared.reader.Packet.{Packet}
@@ -8,14 +9,20 @@ use Rattle.ble_packet.specs.Header.{header_size}
 use Rattle.ble_sender.specs.Writer.{room_fits}
 use Rattle.capture_stream.specs.declared.SenderSlot.{SenderSlot}
 use Rattle.capture_stream.specs.Slot.{slot_step}
+use Rattle.capture_next.specs.declared.ExpectedHead.{ExpectedHead}
 use Rattle.capture_next.specs.declared.NextPacket.{NextPacket}
 use Rattle.capture_next.specs.NextPacket.{next_of}
+
+-- a number that a packet must have where a transaction is open
+abbrev pub is_named : code.Option ExpectedHead → (ExpectedHead → ℕ) → ℕ → Bool
+is_named None number came = true
+is_named (Some head) number came = eqb came (number head)
 
 -- a packet has what is expected: id and sequence where a transaction is open, length, extender, ACK flag on the last only, type
 abbrev pub held_to : NextPacket → ℕ → Head → Bool → ℕ → ℕ → Bool
 held_to n kind head ack start len =
-    (not n.opened || eqb head.id n.id)
-    && ((not n.opened || eqb head.sequence n.sequence)
+    is_named n.head (λ h. h.id) head.id
+    && (is_named n.head (λ h. h.sequence) head.sequence
     && ((eqb len n.len && (eqb start (header_size (eqb kind 0) n.extended) && (not ack || n.last))) && eqb kind n.kind))
 
 -- a packet that was read is the one that is expected, where ACKs may always come

@@ -9,28 +9,32 @@ use ble_sender::piece;
 use ble_sender::writer::{room_fits, type_for};
 use capture_stream::SenderSlot;
 
-// Where nothing is open, any id and sequence will do. Last: it takes all that is left, and only then may the ACK flag stand.
-#[derive(Clone, Copy)]
-pub struct NextPacket {
-    pub opened: bool,
+// The id and the sequence that a packet must have where a transaction is open.
+#[derive(Clone, Copy, Debug, PartialEq, Eq)]
+pub struct ExpectedHead {
     pub id: u8,
     pub sequence: u8,
+}
+
+// Where nothing is open there is no head, and any id and sequence will do. Last: it takes all that is left, and only then may the ACK
+// flag stand.
+#[derive(Clone, Copy, Debug, PartialEq, Eq)]
+pub struct NextPacket {
+    pub head: Option<ExpectedHead>,
     pub kind: u8,
     pub len: usize,
     pub extended: bool,
     pub last: bool,
 }
 
-fn next_by(opened: bool, id: u8, sequence: u8, left: usize, len: usize) -> NextPacket
-    ensures { result ≡ next_by opened id sequence left len }
+fn next_by(head: Option<ExpectedHead>, left: usize, len: usize) -> NextPacket
+    ensures { result ≡ next_by head left len }
 {
     let last = len == left;
-    let kind = type_for(!opened, last);
+    let kind = type_for(head.is_none(), last);
     let extended = piece::ONE_BYTE_LENGTH < len;
     NextPacket {
-        opened,
-        id,
-        sequence,
+        head,
         kind,
         len,
         extended,
@@ -43,17 +47,14 @@ pub fn next_packet(room: usize, slot: SenderSlot, total: usize) -> NextPacket
     ensures { result ≡ next_of room slot total }
 {
     if !room_fits(room) {
-        return next_by(false, 0, 0, 0, 0);
+        return next_by(None, 0, 0);
     }
     match slot {
-        SenderSlot::Idle => next_by(false, 0, 0, total, piece::size_for(room, true, total)),
-        SenderSlot::Open { id, left, sequence } => next_by(
-            true,
-            id,
-            sequence,
-            left,
-            piece::size_for(room, false, left),
-        ),
+        SenderSlot::Idle => next_by(None, total, piece::size_for(room, true, total)),
+        SenderSlot::Open { id, left, sequence } => {
+            let head = ExpectedHead { id, sequence };
+            next_by(Some(head), left, piece::size_for(room, false, left))
+        }
     }
 }
 

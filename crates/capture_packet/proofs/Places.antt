@@ -1,5 +1,5 @@
 -- Laws of reading at a place: what stands inside a capture, and that place after place all its packets are read.
-use Prim.Native.Nat.{ℕ, zero, suc, ◌+◌, ◌-◌, ◌≤◌, ◌<◌}
+use Prim.Native.Nat.{ℕ, zero, suc, ◌+◌, ◌≤◌, ◌<◌}
 use native.Mathlib.Omega.{arith}
 use mathlib.Core.Path.{◌≡◌, refl, sym, ap, ◌∙◌}
 use mathlib.Core.Bool.{Bool, true, false}
@@ -38,8 +38,9 @@ module _ (bytes : List ℕ) (place : ℕ) where
     unfolding packet_at
     at-packet more = rw (version, fits, ne_eqb place (length bytes) more)
 
-    pub at-refused : (place ≡ length bytes → ⊥) → (n : ℕ) → front_of (drop place bytes) ≡ refused n → packet_at bytes place ≡ refused (n, place)
-    at-refused more n e = at-packet more ∙ rw e
+    pub at-refused : (place ≡ length bytes → ⊥) → (why : ℕ × ℕ) → located place (front_of (drop place bytes)) ≡ refused why
+        → packet_at bytes place ≡ refused why
+    at-refused more why e = at-packet more ∙ rw e
 
     pub at-given : (place ≡ length bytes → ⊥) → (n : ℕ) → front_of (drop place bytes) ≡ given n → packet_at bytes place ≡ given (found (found_at place n))
     at-given more n e = at-packet more ∙ rw e

@@ -2,45 +2,45 @@
 #![tactic(auto)]
 
 ghost use Rattle.std.specs.Prelude.{◌≡◌};
-ghost use Rattle.capture_reader.specs.Capture.{number_in};
-ghost use Rattle.capture_packet.specs.Place.{bad_place, packet_at, standing_told};
+ghost use Rattle.capture_packet.specs.declared.Refusal.TheVariants.{Capture};
+ghost use Rattle.capture_packet.specs.Place.{bad_place, packet_at, number_of, standing_told};
 
-use capture_reader::{Front, Refusal, WIDTH, front_of, other_version};
+use capture_reader::{RefusedAt, WIDTH, front_of, located, other_version};
 use wire::logic::either;
+use wire::refusal::Numbered;
 
-// What stands at a place: a packet (where it starts, how long it is, the next place), the end of the capture, a place out of
-// range, or what is wrong and where.
-#[derive(Clone, Copy)]
-pub enum PacketStanding {
-    Packet {
-        start: usize,
-        size: usize,
-        next: usize,
-    },
-    End,
-    BadPlace,
-    Broken {
-        why: Refusal,
-        at: usize,
-    },
+// Place: one that is 0 or beyond the bytes.
+#[derive(Clone, Copy, Debug, PartialEq, Eq)]
+pub enum Refusal {
+    Place,
+    Capture(capture_reader::Refusal),
 }
 
-impl PacketStanding {
-    // The refusal number, or 0 where nothing is refused.
-    pub fn number(self) -> u8
-        ensures { result ≡ number_in (standing_told self) }
-    {
+impl From<capture_reader::Refusal> for Refusal {
+    ghost from_gives = { λ why refusal. refusal ≡ Capture why };
+
+    fn from(why: capture_reader::Refusal) -> Refusal {
+        Refusal::Capture(why)
+    }
+}
+
+impl Numbered for Refusal {
+    ghost number_of = { number_of };
+
+    fn number(&self) -> u8 {
         match self {
-            PacketStanding::Packet {
-                start: _,
-                size: _,
-                next: _,
-            } => 0,
-            PacketStanding::End => 0,
-            PacketStanding::BadPlace => 15,
-            PacketStanding::Broken { why, at: _ } => why.number(),
+            Refusal::Place => 15,
+            Refusal::Capture(why) => why.number(),
         }
     }
+}
+
+// A packet at a place: where it starts, how long it is, the place of the next one's length.
+#[derive(Clone, Copy, Debug, PartialEq, Eq)]
+pub struct FoundPacket {
+    pub start: usize,
+    pub size: usize,
+    pub next: usize,
 }
 
 fn bad_place(capture: &[u8], place: usize) -> bool
@@ -49,28 +49,27 @@ fn bad_place(capture: &[u8], place: usize) -> bool
     either(place == 0, capture.len() < place)
 }
 
-// Reads the packet at a place of a capture: 1, or a place told before.
-pub fn read_at(capture: &[u8], place: usize) -> PacketStanding
+// Reads the packet at a place of a capture: 1, or a place told before. At the capture's end there is none.
+pub fn read_at(capture: &[u8], place: usize) -> Result<Option<FoundPacket>, RefusedAt<Refusal>>
     ensures { standing_told result ≡ packet_at capture.now place }
 {
     if other_version(capture) {
-        return PacketStanding::Broken {
-            why: Refusal::Version,
+        return Err(RefusedAt {
+            why: Refusal::Capture(capture_reader::Refusal::Version),
             at: 0,
-        };
+        });
     }
     if bad_place(capture, place) {
-        return PacketStanding::BadPlace;
+        return Err(RefusedAt {
+            why: Refusal::Place,
+            at: 0,
+        });
     }
     if place == capture.len() {
-        return PacketStanding::End;
+        return Ok(None);
     }
-    match front_of(&capture[place..]) {
-        Front::Broken(why) => PacketStanding::Broken { why, at: place },
-        Front::Whole(size) => {
-            let start = place + WIDTH;
-            let next = start + size;
-            PacketStanding::Packet { start, size, next }
-        }
-    }
+    let size = located(front_of(&capture[place..]), place)?;
+    let start = place + WIDTH;
+    let next = start + size;
+    Ok(Some(FoundPacket { start, size, next }))
 }

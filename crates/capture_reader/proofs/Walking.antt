@@ -119,8 +119,8 @@ module _ {A : Type 0} (bytes : List ℕ) where
           ∙ ap (λ (n : ℕ). and_then (packets_from n at (drop at bytes)) f) count
           ∙ rw (packets-cons (w.turns - 1) at (drop at bytes) some_left)
 
-      pub walk-stops : (n : ℕ) → front_of (drop at bytes) ≡ refused n → all ≡ refused (n, at)
-      walk-stops n e = turn ∙ rw e
+      pub walk-stops : (why : ℕ × ℕ) → located at (front_of (drop at bytes)) ≡ refused why → all ≡ refused why
+      walk-stops why e = turn ∙ rw e
 
       pub walk-goes : (n : ℕ) (p : List ℕ) (g : List (List ℕ) → ToldAt A) → front_of (drop at bytes) ≡ given n → p ≡ take n (drop (at + width) bytes)
           → ((ps : List (List ℕ)) → f (p ∷ ps) ≡ g ps) → PacketWalk bytes all (at + width + n) g
@@ -142,7 +142,7 @@ module _ {A : Type 0} (bytes : List ℕ) where
 
       front_by : (t : Told ℕ) → front_of (drop at bytes) ≡ t → (x : A) → all ≡ given x → front_of (drop at bytes) ≡ given (length_in (drop at bytes))
       front_by (given n) e x a = e ∙ ap given (front-within (drop at bytes) n e).1
-      front_by (refused n) e x a = cc (walk-stops n e)
+      front_by (refused n) e x a = cc (walk-stops (n, at) (ap (located at) e))
 
       -- where all can be read, so can the packet at the front
       pub walk-front : (x : A) → all ≡ given x → front_of (drop at bytes) ≡ given (length_in (drop at bytes))

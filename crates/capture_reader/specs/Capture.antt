@@ -1,13 +1,10 @@
 -- A capture of one direction of a link: a version byte, then each packet behind its length of two bytes.
-use Rattle.std.specs.Prelude.{ℕ, zero, suc, ◌+◌, List, [], ◌∷◌, Bool, not, ◌&&◌, ◌||◌, length, get_or, take, drop, eqb, leb, ltb}
-use Rattle.wire.specs.Told.{ToldOf, Told, given, refused, and_then, Line, line, table}
+use Rattle.std.specs.Prelude.{ℕ, zero, suc, ◌+◌, List, [], ◌∷◌, Bool, not, ◌&&◌, ◌||◌, length, get_or, take, drop, eqb, leb, ltb, Result}
+use Rattle.wire.specs.Told.{ToldOf, Told, given, refused, told_by, and_then, Line, line, table}
 use Rattle.wire.specs.Bytes.{pair_of, AllBytes}
 use Rattle.capture_reader.specs.declared.Refusal.{Refusal}
 use Rattle.capture_reader.specs.declared.Refusal.TheVariants.{Version, Length, Cut}
-use Rattle.capture_reader.specs.declared.Front.{Front}
-use Rattle.capture_reader.specs.declared.Front.TheVariants.{Broken, Whole}
-use Rattle.capture_reader.specs.declared.Soundness.{Soundness}
-use Rattle.capture_reader.specs.declared.Soundness.TheVariants.{Sound, Unsound}
+use Rattle.capture_reader.specs.declared.RefusedAt.{RefusedAt}
 
 abbrev pub version : ℕ
 version = 1
@@ -85,11 +82,14 @@ number_of Version = 40
 number_of Length = 42
 number_of Cut = 41
 
--- what the code tells
-abbrev pub front_told : Front → Told ℕ
-front_told (Broken why) = refused (number_of why)
-front_told (Whole n) = given n
+-- ---- what the code tells
 
-abbrev pub soundness_told : Soundness → ToldAt (Unit {0})
-soundness_told Sound = given tt
-soundness_told (Unsound why at) = refused (number_of why, at)
+-- a refusal by its number, and its place
+abbrev pub told_at : {A R : Type 0} → (R → ℕ) → Result A (RefusedAt R) → ToldAt A
+told_at tells = told_by (λ e. (tells e.why, e.at))
+
+abbrev pub front_told : Result ℕ Refusal → Told ℕ
+front_told = told_by number_of
+
+abbrev pub soundness_told : Result (Unit {0}) (RefusedAt Refusal) → ToldAt (Unit {0})
+soundness_told = told_at number_of

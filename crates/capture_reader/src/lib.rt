@@ -1,28 +1,30 @@
 // A capture of one direction of a link, walked packet after packet.
 #![tactic(auto)]
 
-ghost use Rattle.std.specs.Prelude.{◌≡◌};
+ghost use Rattle.std.specs.Prelude.{◌≡◌, Ok, IsErrAnd};
+ghost use Rattle.std.specs.Result.{MatchResult};
 ghost use Rattle.capture_reader.specs.Capture.{front_of, other_version, checked_of, number_of, front_told, soundness_told};
 
 use wire::bytes::{byte_at, pair};
 use wire::logic::either;
+use wire::refusal::Numbered;
 
 pub const VERSION: u8 = 1;
 
 // The bytes of a packet's length.
 pub const WIDTH: usize = 2;
 
-#[derive(Clone, Copy)]
+#[derive(Clone, Copy, Debug, PartialEq, Eq)]
 pub enum Refusal {
     Version,
     Length,
     Cut,
 }
 
-impl Refusal {
-    pub fn number(self) -> u8
-        ensures { result ≡ number_of self }
-    {
+impl Numbered for Refusal {
+    ghost number_of = { number_of };
+
+    fn number(&self) -> u8 {
         match self {
             Refusal::Version => 40,
             Refusal::Length => 42,
@@ -31,18 +33,32 @@ impl Refusal {
     }
 }
 
-// The packet at the front of some bytes: its length.
-#[derive(Drop)]
-pub enum Front {
-    Broken(Refusal),
-    Whole(usize),
+// A refusal, and the place in the capture that it is about: that of a packet's length, and otherwise 0.
+#[derive(Clone, Copy, Debug, PartialEq, Eq)]
+pub struct RefusedAt<R> {
+    pub why: R,
+    pub at: usize,
 }
 
-// Whether every packet of a capture can be read. A refusal tells the place of the packet's length; of the version, 0.
-#[derive(Drop)]
-pub enum Soundness {
-    Sound,
-    Unsound { why: Refusal, at: usize },
+impl<R: Numbered> Numbered for RefusedAt<R> {
+    ghost number_of = { λ e. R.number_of e.why };
+
+    fn number(&self) -> u8 {
+        self.why.number()
+    }
+}
+
+// What was found, a refusal with its place.
+pub fn located<T, E: Drop, R: From<E>>(found: Result<T, E>, at: usize) -> Result<T, RefusedAt<R>>
+    ensures { MatchResult found (λ x. result ≡ Ok x) (λ e. IsErrAnd result (λ r. (R.from_gives e r.why) × (r.at ≡ at))) }
+{
+    match found {
+        Ok(x) => Ok(x),
+        Err(why) => Err(RefusedAt {
+            why: R::from(why),
+            at,
+        }),
+    }
 }
 
 // Refusal 40, if it holds.
@@ -52,44 +68,38 @@ pub fn other_version(capture: &[u8]) -> bool
     either(capture.len() == 0, byte_at(capture, 0) != VERSION)
 }
 
-// The length is judged once all its bytes are there; before that the packet is cut short.
-pub fn front_of(rest: &[u8]) -> Front
+// The length of the packet at the front of some bytes. It is judged once all its bytes are there; before that the packet is cut short.
+pub fn front_of(rest: &[u8]) -> Result<usize, Refusal>
     ensures { front_told result ≡ front_of rest.now }
 {
     if rest.len() < WIDTH {
-        return Front::Broken(Refusal::Cut);
+        return Err(Refusal::Cut);
     }
     let n = pair(rest[0], rest[1]);
     if n == 0 {
-        return Front::Broken(Refusal::Length);
+        return Err(Refusal::Length);
     }
     if rest.len() - WIDTH < n {
-        return Front::Broken(Refusal::Cut);
+        return Err(Refusal::Cut);
     }
-    Front::Whole(n)
+    Ok(n)
 }
 
-// The capture's own refusals, to its end.
-pub fn check(capture: &[u8]) -> Soundness
+// Whether every packet of a capture can be read: the capture's own refusals, to its end.
+pub fn check(capture: &[u8]) -> Result<(), RefusedAt<Refusal>>
     ensures { soundness_told result ≡ checked_of capture.now }
 {
     if other_version(capture) {
-        return Soundness::Unsound {
+        return Err(RefusedAt {
             why: Refusal::Version,
             at: 0,
-        };
+        });
     }
     let mut at = 1;
+    // From place to place, by lengths that are read there: no range or iterator says it.
     while at < capture.len() {
-        let found = front_of(&capture[at..]);
-        match found {
-            Front::Broken(why) => {
-                return Soundness::Unsound { why, at };
-            }
-            Front::Whole(n) => {
-                at = at + WIDTH + n;
-            }
-        }
+        let n = located(front_of(&capture[at..]), at)?;
+        at = at + WIDTH + n;
     }
-    Soundness::Sound
+    Ok(())
 }

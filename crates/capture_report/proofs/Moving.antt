@@ -3,11 +3,11 @@ use Prim.Native.Nat.{ℕ, ◌+◌, ◌<◌}
 use native.Mathlib.Omega.{arith}
 use mathlib.Core.Path.{◌≡◌, refl, sym, ◌∙◌}
 use mathlib.Core.List.{List}
-use mathlib.Core.Option.{Option, none, some}
 use mathlib.Core.Bool.{Bool, true, false, cond, ◌||◌, false≢true}
 use lib.ListN.{length, get_or, set}
 use lib.Dec.{eqb}
 use borrow.Author.Tests.{eqb-true, not-true}
+use Rattle.std.specs.Prelude.{Option, None, Some}
 use Rattle.wire.specs.Bytes.{bit}
 use Rattle.wire.specs.Told.{Told, given, refused}
 use Rattle.wire.specs.declared.stream.Stream.{Stream}
@@ -102,10 +102,10 @@ abbrev ResultDid : List Slot → List ℕ → Result → Type 0
 ResultDid slots p r = Did slots r.slots (heard p r.told)
 
 at-did : (limit : ℕ) (slots : List Slot) (bytes p : List ℕ) (t : Stream) (n : ℕ) (f : ℕ → Step) (o : Option ℕ) → DropsNone n
-    → ((spot : ℕ) → o ≡ some spot → SlotMove t slots spot (f spot).slot (heard p (f spot).told))
+    → ((spot : ℕ) → o ≡ Some spot → SlotMove t slots spot (f spot).slot (heard p (f spot).told))
     → ResultDid slots p (applied limit slots bytes p (lane_start t) (at_spot n f o))
-at-did limit slots bytes p t n f none q h = quiet refl (refused-quiet n q)
-at-did limit slots bytes p t n f (some spot) q h = moved t spot (f spot).slot refl (h spot refl)
+at-did limit slots bytes p t n f None q h = quiet refl (refused-quiet n q)
+at-did limit slots bytes p t n f (Some spot) q h = moved t spot (f spot).slot refl (h spot refl)
 
 module _ (limit : ℕ) (slots : List Slot) (law : LawfulRow limit slots) (bytes p : List ℕ) where
   abbrev at : Stream → ℕ → Slot

@@ -3,7 +3,7 @@
 
 // What captures cost on one stream: first packets accepted; transactions finished, replaced, dropped and pending, which is left open at
 // a capture's end; payload bytes of the finished ones; bytes of all packets.
-#[derive(Clone, Copy)]
+#[derive(Clone, Copy, Debug, Default, PartialEq, Eq)]
 pub struct Costs {
     pub firsts: u64,
     pub finished: u64,
@@ -14,7 +14,9 @@ pub struct Costs {
     pub bytes: u64,
 }
 
-#[derive(Clone, Copy)]
+// Of each stream. The fields are named, with no generic type for three of a kind: costs_for, report_of and the claims of
+// capture_report_claims name them.
+#[derive(Clone, Copy, Debug, Default, PartialEq, Eq)]
 pub struct CostReport {
     pub control: Costs,
     pub ota: Costs,

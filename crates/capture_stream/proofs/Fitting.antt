@@ -1,14 +1,14 @@
--- A piece that fits is no more than what is left.
+-- A piece that fits is no more than what is left; two tests that say the same.
 use Prim.Native.Nat.{ℕ, ◌≤◌}
-use mathlib.Core.Path.{◌≡◌}
-use mathlib.Core.Bool.{Bool, true, false}
+use mathlib.Core.Path.{◌≡◌, refl}
+use mathlib.Core.Bool.{Bool, true, false, beq}
 use lib.Dec.{eqb}
 use borrow.Author.Tests.{eqb-true}
 use Rattle.wire.proofs.Tests.{and_left, and_right}
 use Rattle.ble_packet.specs.declared.reader.Head.{Head}
 use Rattle.ble_sender.specs.Piece.{fits, size_for}
 use Rattle.ble_sender.proofs.Largest.{largest-le}
-use Rattle.capture_stream.specs.Slot.{fits_piece, next_fits}
+use Rattle.capture_stream.specs.Slot.{same, fits_piece, next_fits}
 
 pub fits-small : (room left start len : ℕ) (first ack : Bool) → fits_piece room first left ack start len ≡ true → len ≤ left
 unfolding fits_piece size_for
@@ -22,3 +22,9 @@ unfolding next_fits
 next_small room id left sequence head ack last start len e =
     fits-small room left start len false ack
     (and_left (fits_piece room false left ack start len) _ (and_right (eqb head.sequence sequence) _ (and_right (eqb head.id id) _ e)))
+
+pub equal-same : (a b : Bool) → beq a b ≡ same a b
+equal-same true true = refl
+equal-same true false = refl
+equal-same false true = refl
+equal-same false false = refl

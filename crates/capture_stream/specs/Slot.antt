@@ -1,5 +1,6 @@
 -- What is open on a stream of a sender that is judged, and a packet of it.
-use Rattle.std.specs.Prelude.{ℕ, ◌-◌, Bool, true, false, cond, not, ◌&&◌, ◌||◌, eqb}
+use Rattle.std.specs.Prelude.{ℕ, ◌-◌, Bool, true, false, cond, not, ◌&&◌, ◌||◌, eqb, Some, None}
+use Rattle.std.specs.Prelude as code
 use Rattle.std.proofs.Math.Option.{Option, none, some}
 use Rattle.ble_packet.specs.declared.reader.Head.{Head}
 use Rattle.ble_packet.specs.declared.reader.Packet.{Packet}
@@ -8,8 +9,6 @@ use Rattle.ble_packet.specs.Header.{header_size, sequence_after}
 use Rattle.ble_sender.specs.Piece.{extended, size_for}
 use Rattle.capture_stream.specs.declared.SenderSlot.{SenderSlot}
 use Rattle.capture_stream.specs.declared.SenderSlot.TheVariants.{Idle, Open}
-use Rattle.capture_stream.specs.declared.SlotAfter.{SlotAfter}
-use Rattle.capture_stream.specs.declared.SlotAfter.TheVariants.{Nowhere, To}
 
 abbrev pub is_idle : SenderSlot → Bool
 is_idle Idle = true
@@ -56,6 +55,6 @@ slot_step room (Open id left sequence) (Nack head) = some (Open id left sequence
 
 -- ---- what the code tells
 
-abbrev pub moved_to : SlotAfter → Option SenderSlot
-moved_to Nowhere = none
-moved_to (To slot) = some slot
+abbrev pub moved_to : code.Option SenderSlot → Option SenderSlot
+moved_to None = none
+moved_to (Some slot) = some slot

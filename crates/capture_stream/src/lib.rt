@@ -3,7 +3,7 @@
 
 ghost use Rattle.std.specs.Prelude.{◌≡◌};
 ghost use Rattle.ble_packet.specs.declared.reader.Packet.TheVariants.{First, Next};
-ghost use Rattle.capture_stream.specs.Slot.{is_idle, same, fits_piece, slot_for, first_step, next_fits, next_step, slot_step, moved_to};
+ghost use Rattle.capture_stream.specs.Slot.{is_idle, fits_piece, slot_for, first_step, next_fits, next_step, slot_step, moved_to};
 
 use ble_packet::header;
 use ble_packet::reader::Head;
@@ -11,7 +11,8 @@ use ble_sender::piece;
 use wire::logic::{both, either};
 
 // What is open on a stream: nothing, or a transaction with its id, the bytes still to come and the next sequence.
-#[derive(Clone, Copy)]
+// No Option of a transaction: on_first and on_next give an Option of a slot, and an Option in an Option hides which is none.
+#[derive(Clone, Copy, Debug, PartialEq, Eq)]
 pub enum SenderSlot {
     Idle,
     Open { id: u8, left: usize, sequence: u8 },
@@ -21,29 +22,8 @@ impl SenderSlot {
     pub fn is_idle(self) -> bool
         ensures { result ≡ is_idle self }
     {
-        match self {
-            SenderSlot::Idle => true,
-            SenderSlot::Open {
-                id: _,
-                left: _,
-                sequence: _,
-            } => false,
-        }
+        matches!(self, SenderSlot::Idle)
     }
-}
-
-// The slot of a stream after a packet, where our writer would write it now.
-#[derive(Drop)]
-pub enum SlotAfter {
-    Nowhere,
-    To(SenderSlot),
-}
-
-// Whether two tests say the same.
-fn same(a: bool, b: bool) -> bool
-    ensures { result ≡ same a b }
-{
-    if a { b } else { !b }
 }
 
 // Whether a piece is the writer's, with the extender only where it must stand, and the ACK flag only on the last packet.
@@ -65,16 +45,23 @@ fn slot_for(id: u8, left: usize, sequence: u8) -> SenderSlot
     SenderSlot::Open { id, left, sequence }
 }
 
-// A first packet where nothing is open.
-fn begin(room: usize, head: Head, ack: bool, total: usize, start: usize, len: usize) -> SlotAfter
+// The slot after a first packet where nothing is open; none where our writer would not write it now.
+fn begin(
+    room: usize,
+    head: Head,
+    ack: bool,
+    total: usize,
+    start: usize,
+    len: usize,
+) -> Option<SenderSlot>
     ensures { moved_to result ≡ first_step room head ack total start len }
 {
     if !fits_piece(room, true, total, ack, start, len) {
-        return SlotAfter::Nowhere;
+        return None;
     }
     let sequence = header::sequence_after(head.sequence, 1);
     let left = total - len;
-    SlotAfter::To(slot_for(head.id, left, sequence))
+    Some(slot_for(head.id, left, sequence))
 }
 
 // Whether a packet that follows is the next of what is open.
@@ -92,10 +79,11 @@ fn next_fits(
     ensures { result ≡ next_fits room id left sequence head ack last start len }
 {
     let fits = fits_piece(room, false, left, ack, start, len);
-    let whole = both(fits, same(last, len == left));
+    let whole = both(fits, last == (len == left));
     both(head.id == id, both(head.sequence == sequence, whole))
 }
 
+// The slot after a packet that follows.
 fn follow(
     room: usize,
     id: u8,
@@ -106,15 +94,15 @@ fn follow(
     last: bool,
     start: usize,
     len: usize,
-) -> SlotAfter
+) -> Option<SenderSlot>
     ensures { moved_to result ≡ next_step room id left sequence head ack last start len }
 {
     if !next_fits(room, id, left, sequence, head, ack, last, start, len) {
-        return SlotAfter::Nowhere;
+        return None;
     }
     let after = header::sequence_after(sequence, 1);
     let rest = left - len;
-    SlotAfter::To(slot_for(id, rest, after))
+    Some(slot_for(id, rest, after))
 }
 
 pub fn on_first(
@@ -125,7 +113,7 @@ pub fn on_first(
     total: usize,
     start: usize,
     len: usize,
-) -> SlotAfter
+) -> Option<SenderSlot>
     ensures { moved_to result ≡ slot_step room slot (First head ack total start len) }
 {
     match slot {
@@ -134,7 +122,7 @@ pub fn on_first(
             id: _,
             left: _,
             sequence: _,
-        } => SlotAfter::Nowhere,
+        } => None,
     }
 }
 
@@ -146,11 +134,11 @@ pub fn on_next(
     last: bool,
     start: usize,
     len: usize,
-) -> SlotAfter
+) -> Option<SenderSlot>
     ensures { moved_to result ≡ slot_step room slot (Next head ack last start len) }
 {
     match slot {
-        SenderSlot::Idle => SlotAfter::Nowhere,
+        SenderSlot::Idle => None,
         SenderSlot::Open { id, left, sequence } => follow(
             room, id, left, sequence, head, ack, last, start, len,
         ),

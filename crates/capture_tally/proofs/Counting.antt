@@ -1,24 +1,14 @@
--- The stream field of a packet and the open slots of a stream, as the code finds them.
-use Prim.Native.Nat.{ℕ, ◌+◌}
+-- The open slots of a stream, as the code counts them.
+use Prim.Native.Nat.{◌+◌}
 use native.Mathlib.Omega.{arith}
-use mathlib.Core.Path.{◌≡◌, refl, ◌∙◌}
+use mathlib.Core.Path.{◌≡◌, ◌∙◌}
 use mathlib.Core.List.{List, [], ◌∷◌}
 use mathlib.Core.Bool.{Bool, true, false, cond}
 use lib.ListN.{length, get_or}
-use lib.Dec.{eqb}
 use Rattle.wire.specs.Bytes.{bit}
 use Rattle.wire.specs.Those.{those}
-use Rattle.ble_packet.specs.Header.{stream_bits, is_of}
 use Rattle.ble_slot.specs.declared.Slot.{Slot}
 use Rattle.ble_slot.specs.Slot.{opens, idle, slots_each}
-
-pub of_none : (n : ℕ) (p : List ℕ) → length p ≡ 0 → is_of n p ≡ false
-of_none n [] e = refl
-of_none n (b ∷ p) e = absurd (omega (arith, e))
-
-pub of_some : (n : ℕ) (p : List ℕ) → (length p ≡ 0 → ⊥) → is_of n p ≡ eqb (stream_bits (get_or p 0 0)) n
-of_some n [] d = absurd (d refl)
-of_some n (b ∷ p) d = refl
 
 one_more : (b : Bool) (x : Slot) (l : List Slot) → length (cond b (x ∷ l) l) ≡ bit b + length l
 one_more true x l = omega arith

@@ -1,64 +1,24 @@
 -- Sums of 64 bits.
-use Prim.Native.Nat.{ℕ, ◌+◌, ◌-◌, ◌≤◌, ◌<◌}
+use Prim.Native.Nat.{ℕ, ◌+◌, ◌≤◌}
 use native.Mathlib.Omega.{arith}
 use mathlib.Core.Path.{◌≡◌, refl}
 use mathlib.Core.Bool.{Bool, true, false, cond}
 use Rattle.wire.specs.Told.{given, refused}
-use Rattle.ble_packet.specs.Header.{is_of}
+use Rattle.ble_packet.specs.Header.{stream_bits, is_of}
+use Rattle.wire.specs.Stream.{is_stream, stream_of}
+use Rattle.wire.specs.declared.stream.Stream.TheVariants.{Control, Ota, Alexa}
+use Rattle.std.specs.Prelude.{Option, Some, None}
+use mathlib.Core.List.{List, [], ◌∷◌}
 use Rattle.capture_reader.specs.Capture.{ToldAt}
-use lib.Dec.{ltb, leb, eqb}
+use lib.Dec.{eqb}
 use lib.ListN.{length}
-use borrow.Author.Tests.{ltb-true, ltb-false, lt-ltb, le-leb, lt-leb, ne_eqb}
-use Rattle.wire.proofs.Tests.{and_left, and_right}
+use borrow.Author.Tests.{lt-ltb, eqb-true}
 use Rattle.capture_report.specs.declared.Costs.{Costs}
 use Rattle.capture_report.specs.declared.CostReport.{CostReport}
-use Rattle.capture_report.specs.Report.{costs_plus, plus, past64, costs_fit, report_fits, no_costs, summed}
+use Rattle.capture_report.specs.Report.{costs_plus, plus, past64, costs_fit, no_costs, summed}
 use Rattle.capture_report.specs.Costs.{Heard, begins, finishes, replaces, drops, payload_in}
 use Rattle.capture_report.specs.Turns.{costs_by, report_with}
-use Rattle.capture_tally.specs.Count.{only}
-
-fit-by : (most a b : ℕ) (t : Bool) → ltb (a + b) (most + 1) ≡ t → a ≤ most → leb b (most - a) ≡ t
-fit-by most a b true e h = let u = ltb-true (a + b) (most + 1) e in le-leb b (most - a) (omega (arith, u))
-fit-by most a b false e h = let u = ltb-false (a + b) (most + 1) e in lt-leb b (most - a) (omega (arith, u))
-
-pub fit_is : (a b : ℕ) → a ≤ 18446744073709551615 → leb b (18446744073709551615 - a) ≡ ltb (a + b) past64
-fit_is a b h = fit-by 18446744073709551615 a b (ltb (a + b) past64) refl h
-
-pub record SumsFit (a b : Costs) : Type 0 where
-  pub firsts-fit : a.firsts + b.firsts < past64
-  pub finished-fit : a.finished + b.finished < past64
-  pub replaced-fit : a.replaced + b.replaced < past64
-  pub dropped-fit : a.dropped + b.dropped < past64
-  pub pending-fit : a.pending + b.pending < past64
-  pub payload-fits : a.payload + b.payload < past64
-  pub bytes_fit : a.bytes + b.bytes < past64
-
-pub sums-fit : (a b : Costs) → costs_fit (costs_plus a b) ≡ true → SumsFit a b
-unfolding costs_plus costs_fit
-sums-fit a b e =
-    let e1 = and_right (ltb (a.firsts + b.firsts) past64) _ e in
-    let e2 = and_right (ltb (a.finished + b.finished) past64) _ e1 in
-    let e3 = and_right (ltb (a.replaced + b.replaced) past64) _ e2 in
-    let e4 = and_right (ltb (a.dropped + b.dropped) past64) _ e3 in
-    let e5 = and_right (ltb (a.pending + b.pending) past64) _ e4 in
-    record {
-      firsts-fit = ltb-true (a.firsts + b.firsts) past64 (and_left (ltb (a.firsts + b.firsts) past64) _ e);
-      finished-fit = ltb-true (a.finished + b.finished) past64 (and_left (ltb (a.finished + b.finished) past64) _ e1);
-      replaced-fit = ltb-true (a.replaced + b.replaced) past64 (and_left (ltb (a.replaced + b.replaced) past64) _ e2);
-      dropped-fit = ltb-true (a.dropped + b.dropped) past64 (and_left (ltb (a.dropped + b.dropped) past64) _ e3);
-      pending-fit = ltb-true (a.pending + b.pending) past64 (and_left (ltb (a.pending + b.pending) past64) _ e4);
-      payload-fits = ltb-true (a.payload + b.payload) past64 (and_left (ltb (a.payload + b.payload) past64) _ e5);
-      bytes_fit = ltb-true (a.bytes + b.bytes) past64 (and_right (ltb (a.payload + b.payload) past64) _ e5);
-    }
-
-pub control-fits : (a b : CostReport) → report_fits (plus a b) ≡ true → costs_fit (costs_plus a.control b.control) ≡ true
-control-fits a b e = and_left (costs_fit (costs_plus a.control b.control)) _ e
-
-pub ota-fits : (a b : CostReport) → report_fits (plus a b) ≡ true → costs_fit (costs_plus a.ota b.ota) ≡ true
-ota-fits a b e = and_left (costs_fit (costs_plus a.ota b.ota)) _ (and_right (costs_fit (costs_plus a.control b.control)) _ e)
-
-pub alexa-fits : (a b : CostReport) → report_fits (plus a b) ≡ true → costs_fit (costs_plus a.alexa b.alexa) ≡ true
-alexa-fits a b e = and_right (costs_fit (costs_plus a.ota b.ota)) _ (and_right (costs_fit (costs_plus a.control b.control)) _ e)
+use Rattle.capture_tally.specs.Count.{stream_in, only}
 
 -- ---- one stream's numbers added alone
 
@@ -90,28 +50,33 @@ fits-already a f g r d p y b =
       lt-ltb a.bytes past64 (omega arith),
     )
 
+-- a sum that is there fits
+pub sum-fits : (b : Bool) (x y : Costs) (r : Option Costs) → r ≡ cond b (Some x) None → r ≡ Some y → (b ≡ true) × (y ≡ x)
+sum-fits true x y r e f = let z : y ≡ x = cc in (refl, z)
+sum-fits false x y r e f = cc
+
 -- what is told where one stream's sums decide
 abbrev pub told_by : Bool → CostReport → ToldAt CostReport
 told_by t r = cond t (given r) (refused (19, 0))
 
 module _ (r : CostReport) (more : Costs) (c : costs_fit r.control ≡ true) (o : costs_fit r.ota ≡ true) (a : costs_fit r.alexa ≡ true) where
-  pub on-control : (n : ℕ) → n ≡ 0 → (t : Bool) → costs_fit (costs_plus r.control more) ≡ t
-      → told_by t (record { control = costs_plus r.control more; ota = r.ota; alexa = r.alexa }) ≡ summed (plus r (only n more))
-  on-control n e true f = rw (e, none_more r.ota, none_more r.alexa, f, o, a)
-  on-control n e false f = rw (e, none_more r.ota, none_more r.alexa, f)
+  pub on-control : (t : Bool) → costs_fit (costs_plus r.control more) ≡ t
+      → told_by t (record { control = costs_plus r.control more; ota = r.ota; alexa = r.alexa }) ≡ summed (plus r (only (Some Control) more))
+  on-control true f = rw (none_more r.ota, none_more r.alexa, f, o, a)
+  on-control false f = rw (none_more r.ota, none_more r.alexa, f)
 
-  pub on-ota : (n : ℕ) → n ≡ 2 → (t : Bool) → costs_fit (costs_plus r.ota more) ≡ t
-      → told_by t (record { control = r.control; ota = costs_plus r.ota more; alexa = r.alexa }) ≡ summed (plus r (only n more))
-  on-ota n e true f = rw (e, none_more r.control, none_more r.alexa, f, c, a)
-  on-ota n e false f = rw (e, none_more r.control, none_more r.alexa, f, c)
+  pub on-ota : (t : Bool) → costs_fit (costs_plus r.ota more) ≡ t
+      → told_by t (record { control = r.control; ota = costs_plus r.ota more; alexa = r.alexa }) ≡ summed (plus r (only (Some Ota) more))
+  on-ota true f = rw (none_more r.control, none_more r.alexa, f, c, a)
+  on-ota false f = rw (none_more r.control, none_more r.alexa, f, c)
 
-  pub on-alexa : (n : ℕ) → n ≡ 6 → (t : Bool) → costs_fit (costs_plus r.alexa more) ≡ t
-      → told_by t (record { control = r.control; ota = r.ota; alexa = costs_plus r.alexa more }) ≡ summed (plus r (only n more))
-  on-alexa n e true f = rw (e, none_more r.control, none_more r.ota, f, c, o)
-  on-alexa n e false f = rw (e, none_more r.control, none_more r.ota, f, c, o)
+  pub on-alexa : (t : Bool) → costs_fit (costs_plus r.alexa more) ≡ t
+      → told_by t (record { control = r.control; ota = r.ota; alexa = costs_plus r.alexa more }) ≡ summed (plus r (only (Some Alexa) more))
+  on-alexa true f = rw (none_more r.control, none_more r.ota, f, c, o)
+  on-alexa false f = rw (none_more r.control, none_more r.ota, f, c, o)
 
-  pub on_none : (n : ℕ) → (n ≡ 0 → ⊥) → (n ≡ 2 → ⊥) → (n ≡ 6 → ⊥) → given r ≡ summed (plus r (only n more))
-  on_none n x y z = rw (ne_eqb n 0 x, ne_eqb n 2 y, ne_eqb n 6 z, none_more r.control, none_more r.ota, none_more r.alexa, c, o, a)
+  pub on_none : given r ≡ summed (plus r (only None more))
+  on_none = rw (none_more r.control, none_more r.ota, none_more r.alexa, c, o, a)
 
 -- ---- what a packet adds is its own stream's
 
@@ -128,8 +93,25 @@ alone : (h : Heard) (mine : Bool)
     → costs_by mine (begins h) (finishes h.told) (replaces h.told) (drops h.told) (payload_in h.told) (length h.packet) ≡ cond mine (own h) no_costs
 alone h mine = mine-alone mine (begins h) (finishes h.told) (replaces h.told) (drops h.told) (payload_in h.told) (length h.packet)
 
-pub own_alone : (h : Heard) (n : ℕ) → is_of 0 h.packet ≡ eqb n 0 → is_of 2 h.packet ≡ eqb n 2 → is_of 6 h.packet ≡ eqb n 6
-    → report_with h ≡ only n (costs_by true (begins h) (finishes h.told) (replaces h.told) (drops h.told) (payload_in h.told) (length h.packet))
+by-streams : (n : ℕ) (c : Costs) (zero two six : Bool) → eqb n 0 ≡ zero → eqb n 2 ≡ two → eqb n 6 ≡ six
+    → ◌≡◌ {A = CostReport} (record { control = cond (eqb n 0) c no_costs; ota = cond (eqb n 2) c no_costs; alexa = cond (eqb n 6) c no_costs })
+    (only (cond (is_stream n) (Some (stream_of n)) None) c)
+unfolding is_stream stream_of
+by-streams n c true two six z t s = let e : n ≡ 0 = eqb-true n 0 z in rw e
+by-streams n c false true six z t s = let e : n ≡ 2 = eqb-true n 2 t in rw e
+by-streams n c false false true z t s = let e : n ≡ 6 = eqb-true n 6 s in rw e
+by-streams n c false false false z t s = rw (z, t, s)
+
+of-packet : (p : List ℕ) (c : Costs)
+    → ◌≡◌ {A = CostReport} (record { control = cond (is_of 0 p) c no_costs; ota = cond (is_of 2 p) c no_costs; alexa = cond (is_of 6 p) c no_costs })
+    (only (stream_in p) c)
+of-packet [] c = refl
+of-packet (b ∷ p) c =
+    by-streams (stream_bits b) c (eqb (stream_bits b) 0) (eqb (stream_bits b) 2) (eqb (stream_bits b) 6) refl refl refl
+
+pub own_alone : (h : Heard)
+    → report_with h
+    ≡ only (stream_in h.packet) (costs_by true (begins h) (finishes h.told) (replaces h.told) (drops h.told) (payload_in h.told) (length h.packet))
 unfolding report_with
-own_alone h n x y z =
-    rw (x, y, z, alone h (eqb n 0), alone h (eqb n 2), alone h (eqb n 6))
+own_alone h =
+    rw (alone h (is_of 0 h.packet), alone h (is_of 2 h.packet), alone h (is_of 6 h.packet)) (of-packet h.packet (own h))

@@ -1,25 +1,24 @@
 -- A capture added, as the code goes about it.
-use Rattle.std.specs.Prelude.{ℕ, List}
+use Rattle.std.specs.Prelude as code
+use Rattle.std.specs.Prelude.{ℕ, List, Option, Some, None}
 use Rattle.wire.specs.Told.{given, refused, and_then}
 use Rattle.capture_reader.specs.Capture as captures
-use Rattle.capture_reader.specs.Capture.{ToldAt, packets_of}
+use Rattle.capture_reader.specs.Capture.{ToldAt, told_at, packets_of}
+use Rattle.capture_reader.specs.declared.RefusedAt.{RefusedAt}
 use Rattle.ble_slot.specs.declared.Slot.{Slot}
 use Rattle.ble_receiver.specs.Receiver.{Result, result, PacketLeft, accept_of}
 use Rattle.capture_report.specs.declared.CostReport.{CostReport}
 use Rattle.capture_report.specs.Costs.{heard}
 use Rattle.capture_report.specs.Report.{call_for, CaptureAdded, capture_added}
 use Rattle.capture_report.specs.Turns.{report_with, on_top, added_from}
-use Rattle.capture_tally.specs.declared.sums.Sum.{Sum}
-use Rattle.capture_tally.specs.declared.sums.Sum.TheVariants.{Over, Within}
 use Rattle.capture_tally.specs.declared.Tally.{Tally}
 use Rattle.capture_tally.specs.declared.Refusal.{Refusal}
 use Rattle.capture_tally.specs.declared.Refusal.TheVariants.{Limit, Lent, Capture, Sum as TooMuch}
-use Rattle.capture_tally.specs.declared.Answer.{Answer}
-use Rattle.capture_tally.specs.declared.Answer.TheVariants.{Refused, Added}
 
-abbrev pub told_sum : Sum → ToldAt CostReport
-told_sum Over = refused (19, 0)
-told_sum (Within r) = given r
+-- the sums, or that one of them would have more than 64 bits
+abbrev pub told_sum : Option CostReport → ToldAt CostReport
+told_sum None = refused (19, 0)
+told_sum (Some r) = given r
 
 -- the sums so far, the row and the buffer
 abbrev pub tallied : Tally → List ℕ → CaptureAdded
@@ -49,6 +48,5 @@ number_of Lent = 1
 number_of (Capture why) = captures.number_of why
 number_of TooMuch = 19
 
-abbrev pub told : Answer → ToldAt CostReport
-told (Refused why at) = refused (number_of why, at)
-told (Added r) = given r
+abbrev pub told : code.Result CostReport (RefusedAt Refusal) → ToldAt CostReport
+told = told_at number_of

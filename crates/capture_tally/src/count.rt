@@ -2,95 +2,27 @@
 ghost use Rattle.std.specs.Prelude.{◌≡◌, true, cond, ◌&&◌, ◌||◌, eqb, length};
 ghost use Rattle.wire.specs.Told.{given};
 ghost use Rattle.wire.specs.Those.{those};
-ghost use Rattle.ble_packet.specs.Header as headers;
 ghost use Rattle.ble_packet.specs.Reader as reader;
 ghost use Rattle.ble_slot.specs.Slot.{opens};
-ghost use Rattle.ble_slot.specs.Answer.{told};
+ghost use Rattle.ble_slot.specs.Answer.{number_of, told};
 ghost use Rattle.capture_report.specs.Costs.{heard, begins, finishes, replaces, drops, payload_in};
 ghost use Rattle.capture_report.specs.Turns.{costs_by, report_with, open_costs, open_report, on_top};
-ghost use Rattle.capture_tally.specs.Count.{marks_of};
+ghost use Rattle.capture_tally.specs.Count.{stream_in};
 ghost use Rattle.capture_tally.specs.Tally.{told_sum};
 
-use crate::sums::{Sum, add_own};
+use crate::sums::add_own;
 use ble_packet::header;
-use ble_slot::answer::{Accepted, Answer};
+use ble_slot::answer::{Accepted, Refusal};
 use ble_slot::{Slot, lane_of};
 use capture_report::{CostReport, Costs};
 use wire::bytes::{bit64, byte_at};
-use wire::logic::{both, either};
 use wire::stream::Stream;
 
-// No stream's number.
-const NO_STREAM: u8 = 255;
-
-// What of an answer counts.
-#[derive(Drop)]
-struct Marks {
-    accepts: bool,
-    finishes: bool,
-    replaces: bool,
-    drops: bool,
-    payload: u64,
-}
-
-fn amount_if(b: bool, n: u64) -> u64
-    ensures { result ≡ cond b n 0 }
-{
-    if b { n } else { 0 }
-}
-
 // Whether a refusal drops a transaction.
-fn is_drop(number: u8) -> bool
-    ensures { result ≡ (eqb number 10 || eqb number 11) }
+fn is_drop(why: Refusal) -> bool
+    ensures { result ≡ (eqb (number_of why) 10 || eqb (number_of why) 11) }
 {
-    either(number == 10, number == 11)
-}
-
-fn noted(accepts: bool, finishes: bool, replaces: bool, drops: bool, payload: u64) -> Marks
-    ensures { result ≡ record { accepts = accepts; finishes = finishes; replaces = replaces; drops = drops; payload = payload } }
-{
-    Marks {
-        accepts,
-        finishes,
-        replaces,
-        drops,
-        payload,
-    }
-}
-
-fn marks_accepted(accepted: Accepted) -> Marks
-    ensures { result ≡ marks_of (given accepted) }
-{
-    match accepted {
-        Accepted::Taken {
-            index: _,
-            stream: _,
-            id: _,
-            replaced,
-        } => noted(true, false, replaced, false, 0),
-        Accepted::Finished {
-            index: _,
-            stream: _,
-            id: _,
-            total,
-            ack: _,
-            replaced,
-        } => noted(true, true, replaced, false, total as u64),
-        Accepted::Acked(_) => noted(false, false, false, false, 0),
-        Accepted::Nacked(_) => noted(false, false, false, false, 0),
-    }
-}
-
-fn marks_of(answer: Answer) -> Marks
-    ensures { result ≡ marks_of (told answer) }
-{
-    match answer {
-        Answer::Refused(why) => {
-            let drops = is_drop(why.number());
-            noted(false, false, false, drops, 0)
-        }
-        Answer::Given(accepted) => marks_accepted(accepted),
-    }
+    matches!(why, Refusal::Sequence | Refusal::Amount)
 }
 
 fn is_first(packet: &[u8]) -> bool
@@ -99,60 +31,70 @@ fn is_first(packet: &[u8]) -> bool
     header::type_bits(byte_at(packet, 1)) == 0
 }
 
-// The stream field of a packet; one without bytes is of no stream.
-fn stream_field(packet: &[u8]) -> u8
-    ensures { (headers.is_of 0 packet.now ≡ eqb result 0)
-        × (headers.is_of 2 packet.now ≡ eqb result 2)
-        × (headers.is_of 6 packet.now ≡ eqb result 6) }
+// The stream of a packet; one without bytes, or with another stream field, is of none.
+fn stream_field(packet: &[u8]) -> Option<Stream>
+    ensures { result ≡ stream_in packet.now }
 {
-    if packet.len() == 0 {
-        return NO_STREAM;
-    }
-    header::stream_bits(packet[0])
-}
-
-fn costs_of(first: bool, marks: Marks, size: u64) -> Costs
-    ensures { result
-        ≡ costs_by true (marks.accepts && first) marks.finishes marks.replaces marks.drops marks.payload size }
-{
-    let firsts = bit64(both(marks.accepts, first));
-    let finished = bit64(marks.finishes);
-    let replaced = bit64(marks.replaces);
-    let dropped = bit64(marks.drops);
-    let payload = amount_if(marks.finishes, marks.payload);
-    Costs {
-        firsts,
-        finished,
-        replaced,
-        dropped,
-        pending: 0,
-        payload,
-        bytes: size,
-    }
+    let first = packet.first()?;
+    Stream::try_from(header::stream_bits(*first)).ok()
 }
 
 // What a packet and what was told of it add to its own stream.
-fn costs_with(packet: &[u8], answer: Answer) -> Costs
+fn costs_with(packet: &[u8], answer: Result<Accepted, Refusal>) -> Costs
     ensures { result ≡ costs_by true (begins (heard packet.now (told answer))) (finishes (told answer))
         (replaces (told answer)) (drops (told answer)) (payload_in (told answer)) (length packet.now) }
 {
-    let marks = marks_of(answer);
-    let first = is_first(packet);
-    costs_of(first, marks, packet.len() as u64)
+    let firsts = bit64(is_first(packet));
+    let came = Costs {
+        bytes: packet.len() as u64,
+        ..Costs::default()
+    };
+    match answer {
+        Ok(
+            Accepted::Taken {
+                index: _,
+                stream: _,
+                id: _,
+                replaced,
+            },
+        ) => Costs {
+            firsts,
+            replaced: bit64(replaced),
+            ..came
+        },
+        Ok(
+            Accepted::Finished {
+                index: _,
+                stream: _,
+                id: _,
+                total,
+                ack: _,
+                replaced,
+            },
+        ) => Costs {
+            firsts,
+            finished: 1,
+            replaced: bit64(replaced),
+            payload: total as u64,
+            ..came
+        },
+        Ok(Accepted::Acked(_) | Accepted::Nacked(_)) => came,
+        Err(why) => Costs {
+            dropped: bit64(is_drop(why)),
+            ..came
+        },
+    }
 }
 
 // The sums with a packet and what was told of it; what is over stays over.
-pub fn count_packet(sum: Sum, packet: &[u8], answer: Answer) -> Sum
+pub fn count_packet(
+    sum: Option<CostReport>,
+    packet: &[u8],
+    answer: Result<Accepted, Refusal>,
+) -> Option<CostReport>
     ensures { told_sum result ≡ on_top (told_sum sum) (report_with (heard packet.now (told answer))) }
 {
-    match sum {
-        Sum::Over => Sum::Over,
-        Sum::Within(report) => {
-            let number = stream_field(packet);
-            let more = costs_with(packet, answer);
-            add_own(report, number, more)
-        }
-    }
+    add_own(sum?, stream_field(packet), costs_with(packet, answer))
 }
 
 // How many of a stream's slots are open.
@@ -170,13 +112,8 @@ fn open_costs(pending: u64) -> Costs
     ensures { result ≡ open_costs pending }
 {
     Costs {
-        firsts: 0,
-        finished: 0,
-        replaced: 0,
-        dropped: 0,
         pending,
-        payload: 0,
-        bytes: 0,
+        ..Costs::default()
     }
 }
 

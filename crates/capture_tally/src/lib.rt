@@ -4,10 +4,10 @@
 pub mod count;
 pub mod sums;
 
-ghost use Rattle.std.specs.Prelude.{◌≡◌, true, ◌&&◌, eqb, length, set, ◌*◌};
+ghost use Rattle.std.specs.Prelude.{◌≡◌, Err, true, ◌&&◌, eqb, length, set, ◌*◌};
 ghost use Rattle.wire.specs.Told.{given};
 ghost use Rattle.wire.specs.Limit.{limit_fits};
-ghost use Rattle.capture_reader.specs.Capture.{number_in, checked_of};
+ghost use Rattle.capture_reader.specs.Capture.{checked_of};
 ghost use Rattle.ble_slot.specs.Slot.{idles, slot_count};
 ghost use Rattle.ble_slot.specs.Answer as answer;
 ghost use Rattle.ble_receiver.specs.Receiver as receiver;
@@ -15,24 +15,24 @@ ghost use Rattle.ble_receiver.specs.Receiver.{ready};
 ghost use Rattle.ble_link.specs.Row.{saved_row};
 ghost use Rattle.capture_report.specs.Report.{capture_added, taken_of, added_by, added_of};
 ghost use Rattle.capture_tally.specs.Tally.{told_sum, tallied, gave_of, turn_of, passed_of, number_of, told};
-ghost use Rattle.capture_tally.specs.declared.Answer.TheVariants.{Refused};
 
 use crate::count::{count_packet, open_report};
-use crate::sums::Sum;
+use crate::sums::add_more;
 use ble_link::{load, save};
 use ble_packet::control::ACK_SIZE;
 use ble_receiver::{SLOT_COUNT, process};
 use ble_slot::Slot;
 use ble_slot_steps::Step;
-use capture_reader::{Soundness, WIDTH, check};
+use capture_reader::{RefusedAt, WIDTH, check};
 use capture_report::CostReport;
 use wire::bytes::pair;
 use wire::limit::limit_fits;
 use wire::logic::both;
+use wire::refusal::Numbered;
 
 // Lent: a row of other than twelve slots, or a buffer of other than twelve times the limit. Sum: a number of the report would have more
 // than 64 bits.
-#[derive(Clone, Copy)]
+#[derive(Clone, Copy, Debug, PartialEq, Eq)]
 pub enum Refusal {
     Limit,
     Lent,
@@ -40,11 +40,10 @@ pub enum Refusal {
     Sum,
 }
 
-impl Refusal {
-    // The number in the table of refusals.
-    pub fn number(self) -> u8
-        ensures { result ≡ number_of self }
-    {
+impl Numbered for Refusal {
+    ghost number_of = { number_of };
+
+    fn number(&self) -> u8 {
         match self {
             Refusal::Limit => 17,
             Refusal::Lent => 1,
@@ -54,36 +53,17 @@ impl Refusal {
     }
 }
 
-// A refusal tells a place in the capture: that of the length of the packet which it is about, and otherwise 0.
-#[derive(Clone, Copy)]
-pub enum Answer {
-    Refused { why: Refusal, at: usize },
-    Added(CostReport),
-}
-
-impl Answer {
-    // The number of the refusal; 0 where nothing is refused.
-    pub fn number(self) -> u8
-        ensures { result ≡ number_in (told self) }
-    {
-        match self {
-            Answer::Refused { why, at: _ } => why.number(),
-            Answer::Added(_) => 0,
-        }
-    }
-}
-
-// The link's slots and the sums so far.
+// The link's slots and the sums so far; none where one of them would have more than 64 bits.
 #[derive(Drop)]
 struct Tally {
     slots: [Slot; 12],
-    sum: Sum,
+    sum: Option<CostReport>,
 }
 
 // What is told, and the row afterwards.
 #[derive(Drop)]
 pub struct RowAdded {
-    pub answer: Answer,
+    pub answer: Result<CostReport, RefusedAt<Refusal>>,
     pub slots: [Slot; 12],
 }
 
@@ -120,9 +100,7 @@ fn take(limit: usize, tally: Tally, buffer: &mut [u8], packet: &[u8]) -> Tally
 {
     let slots = tally.slots;
     let done = give(limit, slots, buffer, packet);
-    let answer = done.answer;
-    let so_far = tally.sum;
-    let sum = count_packet(so_far, packet, answer);
+    let sum = count_packet(tally.sum, packet, done.answer);
     let row = with_slot(slots, done.index, done.slot);
     Tally { slots: row, sum }
 }
@@ -135,8 +113,9 @@ fn pass(report: CostReport, limit: usize, buffer: &mut [u8], capture: &[u8]) -> 
     let mut at = 1;
     let mut tally = Tally {
         slots: idle_row(),
-        sum: Sum::Within(report),
+        sum: Some(report),
     };
+    // From place to place, by lengths that are read there: no range or iterator says it.
     while at < capture.len() {
         let n = pair(capture[at], capture[at + 1]);
         let start = at + WIDTH;
@@ -145,9 +124,7 @@ fn pass(report: CostReport, limit: usize, buffer: &mut [u8], capture: &[u8]) -> 
         at = next;
     }
     let slots = tally.slots;
-    let open = open_report(slots);
-    let so_far = tally.sum;
-    let sum = so_far.with(open);
+    let sum = add_more(tally.sum, open_report(slots));
     Tally { slots, sum }
 }
 
@@ -160,22 +137,21 @@ fn lent_fits(count: usize, size: usize, limit: usize) -> bool
 }
 
 fn refuse(why: Refusal, at: usize, slots: [Slot; 12]) -> RowAdded
-    ensures { result ≡ record { answer = Refused why at; slots = slots } }
+    ensures { result ≡ record { answer = Err (record { why = why; at = at }); slots = slots } }
 {
-    let answer = Answer::Refused { why, at };
-    RowAdded { answer, slots }
+    RowAdded {
+        answer: Err(RefusedAt { why, at }),
+        slots,
+    }
 }
 
-fn answer_of(sum: Sum) -> Answer
+fn answer_of(sum: Option<CostReport>) -> Result<CostReport, RefusedAt<Refusal>>
     ensures { told result ≡ told_sum sum }
 {
-    match sum {
-        Sum::Over => Answer::Refused {
-            why: Refusal::Sum,
-            at: 0,
-        },
-        Sum::Within(report) => Answer::Added(report),
-    }
+    sum.ok_or(RefusedAt {
+        why: Refusal::Sum,
+        at: 0,
+    })
 }
 
 // A capture added, by the row's length and its first twelve slots.
@@ -195,15 +171,15 @@ pub fn add_by_value(
     if !lent_fits(count, buffer.len(), limit) {
         return refuse(Refusal::Lent, 0, slots);
     }
-    let checked = check(capture);
-    match checked {
-        Soundness::Unsound { why, at } => refuse(Refusal::Capture(why), at, slots),
-        Soundness::Sound => {
+    match check(capture) {
+        Err(RefusedAt { why, at }) => refuse(Refusal::Capture(why), at, slots),
+        Ok(()) => {
             let tally = pass(report, limit, buffer, capture);
-            let sum = tally.sum;
-            let answer = answer_of(sum);
-            let row = tally.slots;
-            RowAdded { answer, slots: row }
+            let slots = tally.slots;
+            RowAdded {
+                answer: answer_of(tally.sum),
+                slots,
+            }
         }
     }
 }
@@ -223,7 +199,7 @@ pub fn add(
     row: &mut [Slot],
     buffer: &mut [u8],
     capture: &[u8],
-) -> Answer
+) -> Result<CostReport, RefusedAt<Refusal>>
     ensures { capture_added (told result) row.new buffer.new ≡ added_of report limit row.old buffer.old capture.now }
 {
     let count = row.len();

@@ -1,15 +1,17 @@
 -- Why a sender is not lawful: of the packet that decides what came and what was expected; of a capture that goes on what is open.
-use Rattle.std.specs.Prelude.{ℕ, Bool, true, false, cond, List, length, get_or, take, drop}
+use Rattle.std.specs.Prelude.{ℕ, cond, List, length, get_or, take, drop, Option, Some, None, unwrap_or, Result, Ok, Err}
 use Rattle.wire.specs.Told.{Told, given, refused, and_then}
 use Rattle.wire.specs.Stream.{is_stream, stream_of}
 use Rattle.ble_packet.specs.Header.{stream_bits, id_bits, sequence_bits, type_bits, ack_bit, extender_bit}
 use Rattle.ble_packet.specs.declared.reader.Packet.{Packet}
 use Rattle.ble_packet.specs.declared.reader.Packet.TheVariants.{First, Next, Ack, Nack}
 use Rattle.ble_packet.specs.Reader.{read_of}
-use Rattle.capture_reader.specs.Capture.{width, length_in, ToldAt}
+use Rattle.capture_reader.specs.Capture.{width, length_in, ToldAt, told_at}
+use Rattle.capture_reader.specs.declared.RefusedAt.{RefusedAt}
 use Rattle.capture_stream.specs.declared.SenderSlot.{SenderSlot}
 use Rattle.capture_stream.specs.declared.SenderSlot.TheVariants.{Idle, Open}
 use Rattle.capture_judge.specs.declared.State.{State}
+use Rattle.capture_judge.specs.declared.capture.Refusal.{Refusal}
 use Rattle.capture_judge.specs.declared.capture.Judgement.{Judgement}
 use Rattle.capture_judge.specs.declared.capture.Judgement.TheVariants.{Going, Stopped as StoppedAt}
 use Rattle.capture_judge.specs.Step.{slot_in}
@@ -21,27 +23,25 @@ use Rattle.capture_why.specs.declared.Expected.{Expected}
 use Rattle.capture_why.specs.declared.Expected.TheVariants.{Nothing, AnyFirst, This}
 use Rattle.capture_why.specs.declared.Explained.{Explained}
 use Rattle.capture_why.specs.declared.Explained.TheVariants.{Ended, Stopped}
-use Rattle.capture_why.specs.declared.Why.{Why}
-use Rattle.capture_why.specs.declared.Why.TheVariants.{Barred, Told as IsTold}
 
 -- ---- what came
-abbrev pub numbers_by : ℕ → Bool → ℕ → ℕ → ReadNumbers
-numbers_by number first total len = record { number = number; first = first; total = total; len = len }
+abbrev pub numbers_by : Option ℕ → ℕ → ReadNumbers
+numbers_by total len = record { total = total; len = len }
 
 -- only a first packet has a total
 abbrev pub packet_numbers : Packet → ReadNumbers
-packet_numbers (First head ack total start len) = numbers_by 0 true total len
-packet_numbers (Next head ack last start len) = numbers_by 0 false 0 len
-packet_numbers (Ack head) = numbers_by 0 false 0 0
-packet_numbers (Nack head) = numbers_by 0 false 0 0
+packet_numbers (First head ack total start len) = numbers_by (Some total) len
+packet_numbers (Next head ack last start len) = numbers_by None len
+packet_numbers (Ack head) = numbers_by None 0
+packet_numbers (Nack head) = numbers_by None 0
 
 -- the reader's refusal, or what it says
-abbrev pub numbers_in : Told Packet → ReadNumbers
-numbers_in (refused n) = numbers_by n false 0 0
-numbers_in (given packet) = packet_numbers packet
+abbrev pub numbers_in : Told Packet → Result ReadNumbers ℕ
+numbers_in (refused n) = Err n
+numbers_in (given packet) = Ok (packet_numbers packet)
 
 -- by its bytes 0 and 1, and by what was read
-abbrev pub came_by : ℕ → ℕ → ℕ → ReadNumbers → Came
+abbrev pub came_by : ℕ → ℕ → ℕ → Result ReadNumbers ℕ → Came
 came_by size first second r =
     record {
       size = size;
@@ -60,14 +60,19 @@ came_of limit p = came_by (length p) (get_or p 0 0) (get_or p 1 0) (numbers_in (
 
 -- ---- what was expected
 -- where nothing is open, the length depends on a total, which only a first packet has
-abbrev pub expect_in : ℕ → SenderSlot → Bool → ℕ → Expected
-expect_in room Idle first total = cond first (This (next_of room Idle total)) AnyFirst
-expect_in room (Open id left sequence) first total = This (next_of room (Open id left sequence) total)
+abbrev pub expect_in : ℕ → SenderSlot → Option ℕ → Expected
+expect_in room Idle None = AnyFirst
+expect_in room Idle (Some total) = This (next_of room Idle total)
+expect_in room (Open id left sequence) total = This (next_of room (Open id left sequence) (unwrap_or total 0))
+
+abbrev pub total_read : Result ReadNumbers ℕ → Option ℕ
+total_read (Ok numbers) = numbers.total
+total_read (Err n) = None
 
 -- a packet of no stream is held to nothing
 unfoldable pub expected_of : ℕ → State → Came → Expected
 expected_of room s came =
-    cond (is_stream came.stream) (expect_in room (slot_in s (stream_of came.stream)) came.read.first came.read.total) Nothing
+    cond (is_stream came.stream) (expect_in room (slot_in s (stream_of came.stream)) (total_read came.read)) Nothing
 
 -- ---- a capture
 -- the packet whose length stands at the front of some bytes
@@ -86,6 +91,5 @@ unfoldable pub why_of : ℕ → ℕ → List ℕ → ToldAt Judgement → ToldAt
 why_of room limit bytes t = and_then t (λ v. given (explained_in room limit bytes v))
 
 -- ---- what the code tells
-abbrev pub why_told : Why → ToldAt Explained
-why_told (Barred why at) = refused (number_of why, at)
-why_told (IsTold e) = given e
+abbrev pub why_told : Result Explained (RefusedAt Refusal) → ToldAt Explained
+why_told = told_at number_of

@@ -4,30 +4,29 @@
 ghost use Rattle.std.specs.Prelude.{◌≡◌, drop};
 ghost use Rattle.ble_packet.specs.Reader as packets;
 ghost use Rattle.capture_judge.specs.Capture.{trace_told};
-ghost use Rattle.capture_reader.specs.Capture.{number_in};
-ghost use Rattle.capture_why.specs.Why.{numbers_by, packet_numbers, numbers_in, came_by, came_of, expect_in, expected_of, packet_in, stopped_of, explained_in, why_of, why_told};
+ghost use Rattle.capture_why.specs.Why.{numbers_by, packet_numbers, numbers_in, came_by, came_of, expect_in, total_read, expected_of, packet_in, stopped_of, explained_in, why_of, why_told};
 
 use ble_packet::reader::Packet;
 use ble_packet::{header, reader};
-use capture_judge::State;
-use capture_judge::capture::{Judgement, Refusal, Traced};
+use capture_judge::capture::{Judgement, Refusal};
+use capture_judge::{Settings, State};
 use capture_next::{NextPacket, next_packet};
-use capture_reader::WIDTH;
+use capture_reader::{RefusedAt, WIDTH};
 use capture_stream::SenderSlot;
 use wire::bytes::{byte_at, pair, smaller};
+use wire::refusal::Numbered;
 use wire::stream::{is_stream, stream_of};
 
-// What our reader says of a packet: the number of its refusal, or 0; whether it is a first one; its total and the length of its payload.
-#[derive(Clone, Copy)]
+// What our reader says of a packet: the total of a first one, and the length of its payload.
+#[derive(Clone, Copy, Debug, PartialEq, Eq)]
 pub struct ReadNumbers {
-    pub number: u8,
-    pub first: bool,
-    pub total: usize,
+    pub total: Option<usize>,
     pub len: usize,
 }
 
-// What came: its bytes in all, the fields of bytes 0 and 1, and what our reader says.
-#[derive(Clone, Copy)]
+// What came: its bytes in all, the fields of bytes 0 and 1, and what our reader says, or the number of its refusal.
+// The number and not the refusal: came_of takes it from read_of, which tells no more.
+#[derive(Clone, Copy, Debug, PartialEq, Eq)]
 pub struct Came {
     pub size: usize,
     pub stream: u8,
@@ -36,19 +35,19 @@ pub struct Came {
     pub kind: u8,
     pub ack: bool,
     pub extended: bool,
-    pub read: ReadNumbers,
+    pub read: Result<ReadNumbers, u8>,
 }
 
 // What was expected: nothing where the stream field is no stream's; a first packet of any message, where nothing is open; or just this packet.
-#[derive(Clone, Copy)]
+#[derive(Clone, Copy, Debug, PartialEq, Eq)]
 pub enum Expected {
     Nothing,
     AnyFirst,
     This(NextPacket),
 }
 
-// What is open at the end; or the place of the length of the packet that decides, and what was open before it.
-#[derive(Clone, Copy)]
+// What is open at the end; or the place of the length of the packet that decides, and what was open before it. Neither is a refusal.
+#[derive(Clone, Copy, Debug, PartialEq, Eq)]
 pub enum Explained {
     Ended(State),
     Stopped {
@@ -59,33 +58,10 @@ pub enum Explained {
     },
 }
 
-#[derive(Clone, Copy)]
-pub enum Why {
-    Barred { why: Refusal, at: usize },
-    Told(Explained),
-}
-
-impl Why {
-    // The number of the refusal; 0 where nothing is refused.
-    pub fn number(self) -> u8
-        ensures { result ≡ number_in (why_told self) }
-    {
-        match self {
-            Why::Barred { why, at: _ } => why.number(),
-            Why::Told(_) => 0,
-        }
-    }
-}
-
-fn numbers(number: u8, first: bool, total: usize, len: usize) -> ReadNumbers
-    ensures { result ≡ numbers_by number first total len }
+fn numbers(total: Option<usize>, len: usize) -> ReadNumbers
+    ensures { result ≡ numbers_by total len }
 {
-    ReadNumbers {
-        number,
-        first,
-        total,
-        len,
-    }
+    ReadNumbers { total, len }
 }
 
 fn packet_numbers(packet: Packet) -> ReadNumbers
@@ -98,29 +74,29 @@ fn packet_numbers(packet: Packet) -> ReadNumbers
             total,
             start: _,
             len,
-        } => numbers(0, true, total, len),
+        } => numbers(Some(total), len),
         Packet::Next {
             head: _,
             ack: _,
             last: _,
             start: _,
             len,
-        } => numbers(0, false, 0, len),
-        Packet::Ack(_) => numbers(0, false, 0, 0),
-        Packet::Nack(_) => numbers(0, false, 0, 0),
+        } => numbers(None, len),
+        Packet::Ack(_) => numbers(None, 0),
+        Packet::Nack(_) => numbers(None, 0),
     }
 }
 
-fn read_numbers(answer: reader::Answer) -> ReadNumbers
+fn read_numbers(answer: Result<Packet, reader::Refusal>) -> Result<ReadNumbers, u8>
     ensures { result ≡ numbers_in (packets.told answer) }
 {
     match answer {
-        reader::Answer::Refused(why) => numbers(why.number(), false, 0, 0),
-        reader::Answer::Read(packet) => packet_numbers(packet),
+        Err(why) => Err(why.number()),
+        Ok(packet) => Ok(packet_numbers(packet)),
     }
 }
 
-fn came_by(size: usize, first: u8, second: u8, read: ReadNumbers) -> Came
+fn came_by(size: usize, first: u8, second: u8, read: Result<ReadNumbers, u8>) -> Came
     ensures { result ≡ came_by size first second read }
 {
     let stream = header::stream_bits(first);
@@ -148,41 +124,37 @@ fn came_of(packet: &[u8], limit: usize) -> Came
     came_by(packet.len(), byte_at(packet, 0), byte_at(packet, 1), read)
 }
 
-fn expect_in(room: usize, slot: SenderSlot, first: bool, total: usize) -> Expected
-    ensures { result ≡ expect_in room slot first total }
+fn expect_in(room: usize, slot: SenderSlot, total: Option<usize>) -> Expected
+    ensures { result ≡ expect_in room slot total }
 {
-    match slot {
-        SenderSlot::Idle => {
-            if first {
-                Expected::This(next_packet(room, slot, total))
-            } else {
-                Expected::AnyFirst
-            }
-        }
-        SenderSlot::Open {
-            id: _,
-            left: _,
-            sequence: _,
-        } => Expected::This(next_packet(room, slot, total)),
+    match (slot, total) {
+        (SenderSlot::Idle, None) => Expected::AnyFirst,
+        _ => Expected::This(next_packet(room, slot, total.unwrap_or(0))),
     }
+}
+
+// The total of a first packet.
+fn total_read(read: Result<ReadNumbers, u8>) -> Option<usize>
+    ensures { result ≡ total_read read }
+{
+    read.ok()?.total
 }
 
 fn expected_of(room: usize, state: State, came: Came) -> Expected
     ensures { result ≡ expected_of room state came }
 {
-    let read = came.read;
     if !is_stream(came.stream) {
         return Expected::Nothing;
     }
     let slot = state.slot(stream_of(came.stream));
-    expect_in(room, slot, read.first, read.total)
+    expect_in(room, slot, total_read(came.read))
 }
 
-fn stopped_of(packet: &[u8], room: usize, limit: usize, at: usize, state: State) -> Explained
-    ensures { result ≡ stopped_of room limit at state packet.now }
+fn stopped_of(packet: &[u8], settings: Settings, at: usize, state: State) -> Explained
+    ensures { result ≡ stopped_of settings.room settings.limit at state packet.now }
 {
-    let came = came_of(packet, limit);
-    let expected = expected_of(room, state, came);
+    let came = came_of(packet, settings.limit);
+    let expected = expected_of(settings.room, state, came);
     Explained::Stopped {
         at,
         state,
@@ -192,38 +164,39 @@ fn stopped_of(packet: &[u8], room: usize, limit: usize, at: usize, state: State)
 }
 
 // The packet whose length stands at the front of some bytes.
-fn stopped_in(rest: &[u8], room: usize, limit: usize, at: usize, state: State) -> Explained
-    ensures { result ≡ stopped_of room limit at state (packet_in rest.now) }
+fn stopped_in(rest: &[u8], settings: Settings, at: usize, state: State) -> Explained
+    ensures { result ≡ stopped_of settings.room settings.limit at state (packet_in rest.now) }
 {
     let n = pair(byte_at(rest, 0), byte_at(rest, 1));
     let start = smaller(rest.len(), WIDTH);
     let size = smaller(rest.len() - start, n);
     let end = start + size;
-    stopped_of(&rest[start..end], room, limit, at, state)
+    stopped_of(&rest[start..end], settings, at, state)
 }
 
-fn stopped_at(capture: &[u8], room: usize, limit: usize, at: usize, state: State) -> Explained
-    ensures { result ≡ stopped_of room limit at state (packet_in (drop at capture.now)) }
+fn stopped_at(capture: &[u8], settings: Settings, at: usize, state: State) -> Explained
+    ensures { result ≡ stopped_of settings.room settings.limit at state (packet_in (drop at capture.now)) }
 {
     let start = smaller(capture.len(), at);
-    stopped_in(&capture[start..], room, limit, at, state)
+    stopped_in(&capture[start..], settings, at, state)
 }
 
-fn explained_in(capture: &[u8], room: usize, limit: usize, verdict: Judgement) -> Explained
-    ensures { result ≡ explained_in room limit capture.now verdict }
+fn explained_in(capture: &[u8], settings: Settings, verdict: Judgement) -> Explained
+    ensures { result ≡ explained_in settings.room settings.limit capture.now verdict }
 {
     match verdict {
         Judgement::Going(state) => Explained::Ended(state),
-        Judgement::Stopped { at, state } => stopped_at(capture, room, limit, at, state),
+        Judgement::Stopped { at, state } => stopped_at(capture, settings, at, state),
     }
 }
 
-// By what the packets of the capture say, at this room and limit.
-pub fn explain(capture: &[u8], room: usize, limit: usize, traced: Traced) -> Why
-    ensures { why_told result ≡ why_of room limit capture.now (trace_told traced) }
+// By what the packets of the capture say, at these settings.
+pub fn explain(
+    capture: &[u8],
+    settings: Settings,
+    traced: Result<Judgement, RefusedAt<Refusal>>,
+) -> Result<Explained, RefusedAt<Refusal>>
+    ensures { why_told result ≡ why_of settings.room settings.limit capture.now (trace_told traced) }
 {
-    match traced {
-        Traced::Barred { why, at } => Why::Barred { why, at },
-        Traced::Ended(verdict) => Why::Told(explained_in(capture, room, limit, verdict)),
-    }
+    Ok(explained_in(capture, settings, traced?))
 }

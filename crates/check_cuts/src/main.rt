@@ -5,10 +5,7 @@ use cli_console::{Console, Output, read_quietly};
 use cli_listing::RecordView;
 
 fn main(rt: HostRuntime) {
-    let console = Console {
-        output: rt.stdout(),
-        errors: rt.stderr(),
-    };
+    let console = Console::of(&rt);
     let mut input = rt.stdin();
     let mut room = cli_listing::room();
     let n = read_quietly(&mut input, &mut room);

@@ -1,39 +1,34 @@
 // The cases of the outbox, P12.
 use check_printing::{end, number, refused, text};
-use outbox::reader::{Reading, read};
-use outbox::verdict::Fault;
+use outbox::reader::{FoundRecord, ReadRefusal, read};
+use outbox::verdict::Broken;
 use std::io::Stdout;
+use wire::refusal::Numbered;
 
-fn print_record(to: Stdout, stream: u8, start: usize, size: usize, next: usize) {
+fn print_record(to: Stdout, found: FoundRecord) {
     text(to, b" record of stream");
-    number(to, stream as usize);
+    number(to, found.stream as usize);
     text(to, b", payload at");
-    number(to, start);
+    number(to, found.start);
     text(to, b" of length");
-    number(to, size);
+    number(to, found.size);
     text(to, b", next place");
-    number(to, next);
+    number(to, found.next);
 }
 
-fn print_broken(to: Stdout, fault: Fault, place: usize) {
-    refused(to, fault.number());
+fn print_broken(to: Stdout, broken: Broken) {
+    refused(to, broken.number());
     text(to, b" at");
-    number(to, place);
+    number(to, broken.place);
 }
 
 fn read_record(to: Stdout, label: &[u8], file: &[u8], place: usize) {
     text(to, label);
-    let reading = read(file, place);
-    match reading {
-        Reading::Record {
-            stream,
-            start,
-            size,
-            next,
-        } => print_record(to, stream, start, size, next),
-        Reading::End => text(to, b" end"),
-        Reading::BadPlace => refused(to, reading.number()),
-        Reading::Broken { fault, place: at } => print_broken(to, fault, at),
+    match read(file, place) {
+        Ok(Some(found)) => print_record(to, found),
+        Ok(None) => text(to, b" end"),
+        Err(ReadRefusal::BadPlace) => refused(to, ReadRefusal::BadPlace.number()),
+        Err(ReadRefusal::Broken(broken)) => print_broken(to, broken),
     }
     end(to);
 }

@@ -1,11 +1,10 @@
 // The cases of control messages, P10 and P11.
 use check_printing::{bytes, digits, end, refused, text};
-use msg_control::envelope::{Envelope, EnvelopePayload, EnvelopeRead, Payload, write_envelope};
-use msg_control::response::ResponsePayload;
+use msg_control::envelope::{Envelope, EnvelopePayload, Payload, write_envelope};
 use proto_field::signed::sign_extended;
-use proto_writer::message::Wrote;
 use std::io::Stdout;
 use std::num::wrapping_sub_u64;
+use wire::refusal::Numbered;
 
 // The output lent to a writer: more than any case needs.
 const OUTPUT: usize = 32;
@@ -14,13 +13,13 @@ fn write_response(to: Stdout, label: &[u8], command: i32, error_code: i32) {
     let mut out = [0u8; OUTPUT];
     let payload = EnvelopePayload::Response {
         error_code,
-        payload: ResponsePayload::None,
+        payload: None,
     };
     let wrote = write_envelope(&mut out, command, payload, b"");
     text(to, label);
     match wrote {
-        Wrote::Done(n) => bytes(to, &out, n),
-        Wrote::Refused(why) => refused(to, why.number()),
+        Ok(n) => bytes(to, &out, n),
+        Err(why) => refused(to, why.number()),
     }
     end(to);
 }
@@ -57,8 +56,8 @@ fn print_envelope(to: Stdout, envelope: Envelope) {
 fn read_envelope(to: Stdout, label: &[u8], message: &[u8]) {
     text(to, label);
     match msg_control::envelope::read_envelope(message) {
-        EnvelopeRead::Read(envelope) => print_envelope(to, envelope),
-        EnvelopeRead::Refused(_) => text(to, b" refused"),
+        Ok(envelope) => print_envelope(to, envelope),
+        Err(_) => text(to, b" refused"),
     }
     end(to);
 }

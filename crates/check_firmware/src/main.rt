@@ -3,18 +3,14 @@
 // input that is too long.
 #![tactic(auto)]
 
-ghost use Rattle.std.specs.Prelude.{◌≤◌, length};
-ghost use Rattle.msg_segment_writer.specs.Segment.{segment_wrote_size};
-
-use check_answering::{NO_KIND, TOO_LONG, bytes_of, refuse, show, show_text};
+use check_answering::{NO_KIND, TOO_LONG, refuse, show};
 use cli_console::read_quietly;
 use msg_apply_writer::apply::write_apply;
 use msg_firmware::apply::read_apply;
-use msg_firmware::segment::{SegmentRead, read_segment};
-use msg_segment_writer::{SegmentWrote, write_segment};
-use proto_reader::refusal::WalkVerdict;
-use proto_writer::message::Wrote;
+use msg_firmware::segment::read_segment;
+use msg_segment_writer::write_segment;
 use std::io::Stdout;
+use wire::refusal::Numbered;
 
 const SEGMENT: u8 = b'S';
 
@@ -22,47 +18,28 @@ const APPLY: u8 = b'A';
 // A letter, a message of at most 8,192 bytes, and one byte that is too many.
 const INPUT: usize = 8194;
 
-// What was written of a segment.
-fn show_segment(to: Stdout, wrote: SegmentWrote, out: &[u8])
-    requires { segment_wrote_size wrote ≤ length out.now }
-{
-    match wrote {
-        SegmentWrote::BadText { field: _, place: _ } => refuse(to, wrote.number()),
-        SegmentWrote::Profile(_) => refuse(to, wrote.number()),
-        SegmentWrote::NoRoom => refuse(to, wrote.number()),
-        SegmentWrote::Done(n) => show(to, Wrote::Done(n), out),
-    }
-}
-
 fn segment_again(to: Stdout, message: &[u8], out: &mut [u8]) {
-    let read = read_segment(message);
-    match read {
-        SegmentRead::Refused(e) => refuse(to, e.number()),
-        SegmentRead::Profile(_) => refuse(to, read.number()),
-        SegmentRead::Read(s) => {
-            let name = s.component_name;
-            let signature = s.segment_signature;
+    match read_segment(message) {
+        Err(why) => refuse(to, why.number()),
+        Ok(segment) => {
             let wrote = write_segment(
                 out,
-                bytes_of(message, name),
-                s.component_offset,
-                s.segment_size,
-                bytes_of(message, signature),
+                segment.component_name.of(message),
+                segment.component_offset,
+                segment.segment_size,
+                segment.segment_signature.of(message),
             );
-            show_segment(to, wrote, out);
+            show(to, wrote, out);
         }
     }
 }
 
 fn apply_again(to: Stdout, message: &[u8], out: &mut [u8]) {
-    let read = read_apply(message);
-    let verdict = read.verdict;
-    match verdict {
-        WalkVerdict::Refused(e) => refuse(to, e.number()),
-        WalkVerdict::Fine => {
-            let apply = read.apply;
+    match read_apply(message) {
+        Err(why) => refuse(to, why.number()),
+        Ok(apply) => {
             let wrote = write_apply(out, apply, message);
-            show_text(to, wrote, out);
+            show(to, wrote, out);
         }
     }
 }

@@ -2,16 +2,16 @@
 use crate::{LIMIT, OUTPUT};
 use check_printing::{bytes, end, refused, text};
 use classic_frame::header::next_sequence;
-use classic_writer::writer::WriteOutcome;
 use std::io::Stdout;
+use wire::refusal::Numbered;
 
 fn write_frame(to: Stdout, label: &[u8], sequence: u8, payload: &[u8]) {
     let mut out = [0u8; OUTPUT];
     let outcome = classic_writer::writer::write_frame(sequence, LIMIT, payload, &mut out);
     text(to, label);
     match outcome {
-        WriteOutcome::Frame(n) => bytes(to, &out, n),
-        WriteOutcome::Refused(why) => refused(to, why.number()),
+        Ok(n) => bytes(to, &out, n),
+        Err(why) => refused(to, why.number()),
     }
     end(to);
 }

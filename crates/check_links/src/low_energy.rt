@@ -5,13 +5,13 @@ use ble_packet::reader;
 use ble_packet::reader::Packet;
 use ble_receiver::{SLOT_COUNT, decide};
 use ble_sender::piece::LARGEST_ROOM;
-use ble_sender::writer;
 use ble_sender::writer::{Sending, write_packet};
 use ble_slot::Slot;
-use ble_slot::answer::{Accepted, Answer};
+use ble_slot::answer::Accepted;
 use check_printing::{bytes, end, number, refused, text};
 use std::io::Stdout;
 use wire::bytes::{byte_at, smaller};
+use wire::refusal::Numbered;
 
 // More packets than any case has.
 const MOST_PACKETS: usize = 8;
@@ -60,12 +60,12 @@ fn print_read(to: Stdout, shown: Shown, packet: &[u8], read: Packet) {
 fn read_packet(to: Stdout, shown: Shown, out: &[u8], length: usize) {
     let n = smaller(length, out.len());
     match reader::read(LIMIT, &out[0..n]) {
-        reader::Answer::Read(read) => print_read(to, shown, out, read),
-        reader::Answer::Refused(why) => refused(to, why.number()),
+        Ok(read) => print_read(to, shown, out, read),
+        Err(why) => refused(to, why.number()),
     }
 }
 
-// Prints the packet of a message at a place, and answers the next place, or 0 after the last.
+// Prints the packet of a message at a place, and answers the next place; none after the last.
 fn next_packet(
     to: Stdout,
     shown: Shown,
@@ -73,33 +73,29 @@ fn next_packet(
     message: &[u8],
     place: usize,
     out: &mut [u8],
-) -> usize {
+) -> Option<usize> {
     match write_packet(how, LIMIT, message, place, out) {
-        writer::Answer::More { length, next } => {
-            read_packet(to, shown, out, length);
-            text(to, b",");
-            next
+        Ok(sent) => {
+            read_packet(to, shown, out, sent.length);
+            if sent.next.is_some() {
+                text(to, b",");
+            }
+            sent.next
         }
-        writer::Answer::Last { length } => {
-            read_packet(to, shown, out, length);
-            0
-        }
-        writer::Answer::Refused(why) => {
+        Err(why) => {
             refused(to, why.number());
-            0
+            None
         }
     }
 }
 
 fn print_packets(to: Stdout, shown: Shown, how: Sending, message: &[u8], out: &mut [u8]) {
     let mut place = 0;
-    let mut turns = MOST_PACKETS;
-    while turns > 0 {
-        turns -= 1;
-        place = next_packet(to, shown, how, message, place, out);
-        if place == 0 {
+    for _ in 0..MOST_PACKETS {
+        let Some(next) = next_packet(to, shown, how, message, place, out) else {
             return;
-        }
+        };
+        place = next;
     }
 }
 
@@ -148,8 +144,8 @@ fn accept_packet(to: Stdout, label: &[u8], control: Slot, alexa: Slot, packet: &
     let answer = outcome.answer;
     text(to, label);
     match answer {
-        Answer::Given(accepted) => print_accepted(to, accepted),
-        Answer::Refused(why) => refused(to, why.number()),
+        Ok(accepted) => print_accepted(to, accepted),
+        Err(why) => refused(to, why.number()),
     }
     end(to);
 }
@@ -166,8 +162,8 @@ fn write_acknowledgement(
     let answer = ble_ack::write(stream, id, sequence, positive, &mut out);
     text(to, label);
     match answer {
-        ble_ack::Answer::Written(n) => bytes(to, &out, n),
-        ble_ack::Answer::Refused(why) => refused(to, why.number()),
+        Ok(n) => bytes(to, &out, n),
+        Err(why) => refused(to, why.number()),
     }
     end(to);
 }

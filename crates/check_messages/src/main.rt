@@ -3,16 +3,14 @@
 // input that is too long.
 #![tactic(auto)]
 
-use check_answering::{NO_KIND, TOO_LONG, bytes_of, refuse, show, show_text};
+use check_answering::{NO_KIND, TOO_LONG, refuse, show};
 use cli_console::read_quietly;
-use msg_control::envelope::{
-    EnvelopePayload, EnvelopeRead, Payload, read_envelope, write_envelope,
-};
-use msg_control::response::{ResponsePayload, ResponseRead, read_response, write_response};
-use msg_device::features::{FeaturesRead, read_features, write_features};
-use msg_device::information::{read_information, write_information};
-use proto_reader::refusal::WalkVerdict;
+use msg_control::envelope::{EnvelopePayload, Payload, read_envelope, write_envelope};
+use msg_control::response::{read_response, write_response};
+use msg_device::features::{read_features, write_features};
+use msg_device::information::{InformationToWrite, read_information, write_information};
 use std::io::Stdout;
+use wire::refusal::Numbered;
 
 const ENVELOPE: u8 = b'E';
 
@@ -24,36 +22,34 @@ const FEATURES: u8 = b'F';
 // A letter, a message of at most 8,192 bytes, and one byte that is too many.
 const INPUT: usize = 8194;
 
-fn inner(field: u64) -> ResponsePayload {
+fn inner(field: u64) -> Option<u64> {
     if field == 0 {
-        return ResponsePayload::None;
+        return None;
     }
-    ResponsePayload::Member(field)
+    Some(field)
 }
 
 fn envelope_again(to: Stdout, message: &[u8], out: &mut [u8]) {
     match read_envelope(message) {
-        EnvelopeRead::Refused(e) => refuse(to, e.number()),
-        EnvelopeRead::Read(e) => {
-            let command = e.command;
-            let payload = e.payload;
-            match payload {
+        Err(why) => refuse(to, why.number()),
+        Ok(envelope) => {
+            let command = envelope.command;
+            match envelope.payload {
                 Payload::None => {
                     let wrote = write_envelope(out, command, EnvelopePayload::None, message);
                     show(to, wrote, out);
                 }
                 Payload::Response(r) => {
-                    let part = r.part;
                     let carried = EnvelopePayload::Response {
                         error_code: r.error_code,
                         payload: inner(r.field),
                     };
-                    let wrote = write_envelope(out, command, carried, bytes_of(message, part));
+                    let wrote = write_envelope(out, command, carried, r.part.of(message));
                     show(to, wrote, out);
                 }
                 Payload::Member { field, part } => {
                     let carried = EnvelopePayload::Member(field);
-                    let wrote = write_envelope(out, command, carried, bytes_of(message, part));
+                    let wrote = write_envelope(out, command, carried, part.of(message));
                     show(to, wrote, out);
                 }
             }
@@ -63,44 +59,35 @@ fn envelope_again(to: Stdout, message: &[u8], out: &mut [u8]) {
 
 fn response_again(to: Stdout, message: &[u8], out: &mut [u8]) {
     match read_response(message) {
-        ResponseRead::Refused(e) => refuse(to, e.number()),
-        ResponseRead::Read(r) => {
-            let part = r.part;
-            let wrote = write_response(out, r.error_code, inner(r.field), bytes_of(message, part));
+        Err(why) => refuse(to, why.number()),
+        Ok(r) => {
+            let wrote = write_response(out, r.error_code, inner(r.field), r.part.of(message));
             show(to, wrote, out);
         }
     }
 }
 
 fn information_again(to: Stdout, message: &[u8], out: &mut [u8]) {
-    let read = read_information(message);
-    let verdict = read.verdict;
-    match verdict {
-        WalkVerdict::Refused(e) => refuse(to, e.number()),
-        WalkVerdict::Fine => {
-            let i = read.information;
-            let serial_number = i.serial_number;
-            let name = i.name;
-            let device_type = i.device_type;
-            let transports = i.transports;
-            let count = i.count;
-            let wrote = write_information(
-                out,
-                bytes_of(message, serial_number),
-                bytes_of(message, name),
-                &transports[..count],
-                bytes_of(message, device_type),
-            );
-            show_text(to, wrote, out);
+    match read_information(message) {
+        Err(why) => refuse(to, why.number()),
+        Ok(i) => {
+            let again = InformationToWrite {
+                serial_number: i.serial_number.of(message),
+                name: i.name.of(message),
+                transports: &i.transports[..i.count],
+                device_type: i.device_type.of(message),
+            };
+            let wrote = write_information(out, again);
+            show(to, wrote, out);
         }
     }
 }
 
 fn features_again(to: Stdout, message: &[u8], out: &mut [u8]) {
     match read_features(message) {
-        FeaturesRead::Refused(e) => refuse(to, e.number()),
-        FeaturesRead::Read(f) => {
-            let wrote = write_features(out, f);
+        Err(why) => refuse(to, why.number()),
+        Ok(features) => {
+            let wrote = write_features(out, features);
             show(to, wrote, out);
         }
     }

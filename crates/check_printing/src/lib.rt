@@ -18,32 +18,23 @@ pub fn digits(out: Stdout, n: u64) {
 }
 
 pub fn number(out: Stdout, n: usize) {
-    text(out, b" ");
-    digits(out, n as u64);
+    let _ = print!(out; " {n}");
 }
 
 // A byte as two digits of base 16.
 fn byte(out: Stdout, b: u8) {
-    let digits = b"0123456789ABCDEF";
-    let pair = [
-        byte_at(digits, (b / 16) as usize),
-        byte_at(digits, (b % 16) as usize),
-    ];
-    text(out, b" ");
-    text(out, &pair);
+    let _ = print!(out; " {b:02X}");
 }
 
 // The first n of some bytes.
 pub fn bytes(out: Stdout, all: &[u8], n: usize) {
-    let mut i = 0;
-    while i < n {
+    for i in 0..n {
         byte(out, byte_at(all, i));
-        i += 1;
     }
 }
 
 // A refusal by its number.
 pub fn refused(out: Stdout, by: u8) {
     text(out, b" refused");
-    number(out, by as usize);
+    number(out, usize::from(by));
 }

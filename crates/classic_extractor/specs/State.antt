@@ -1,13 +1,13 @@
 -- The extractor's states: its link's limit, which is the largest payload, and its progress. The lent buffer has limit + 2 bytes.
-use Rattle.std.specs.Prelude.{ℕ, ◌+◌, ◌≤◌, ◌≡◌, List, [], ◌∷◌, Bool, true, false, cond, not, ◌&&◌, length, leb, eqb}
-use Rattle.wire.specs.Told.{Told, given, refused, line, table}
-use Rattle.wire.specs.Limit.{limit_fits}
+use Rattle.std.specs.Prelude.{ℕ, ◌+◌, ◌≤◌, ◌≡◌, List, [], ◌∷◌, Bool, true, false, cond, not, ◌&&◌, length, leb, eqb, Result}
+use Rattle.wire.specs.Told.{Told, given, refused, told_by, line, table}
+use Rattle.wire.specs.Limit.{limit_fits, limit_number}
+use Rattle.wire.specs.declared.limit.BadLimit.{BadLimit}
 use Rattle.classic_frame.specs.Mark.{is_mark}
 use Rattle.classic_extractor.specs.declared.state.Phase.{Phase}
 use Rattle.classic_extractor.specs.declared.state.Phase.TheVariants.{Outside, PacketId, ErrorId, Sequence, Body, Escaped}
 use Rattle.classic_extractor.specs.declared.state.Progress.{Progress}
 use Rattle.classic_extractor.specs.declared.state.Extractor.{Extractor}
-use Rattle.classic_extractor.specs.declared.state.OpenedExtractor.{OpenedExtractor}
 
 -- outside a frame, after F0, and in the body
 abbrev pub outside : Progress
@@ -58,6 +58,5 @@ unfoldable pub open_of : ℕ → Told Extractor
 open_of limit = table (line 17 (not (limit_fits limit)) ∷ []) refused (given (empty limit))
 
 -- what an opening tells
-abbrev pub told_open : OpenedExtractor → Told Extractor
-told_open (OpenedExtractor.Empty s) = given s
-told_open OpenedExtractor.BadLimit = refused 17
+abbrev pub told_open : Result Extractor BadLimit → Told Extractor
+told_open = told_by limit_number

@@ -2,8 +2,10 @@
 ghost use Rattle.std.specs.Prelude.{◌≡◌};
 ghost use Rattle.classic_extractor.specs.Outcome.{number_of};
 
+use wire::refusal::Numbered;
+
 // Refusals 1, 20, 23, 21, 22, 24, 25, in the order in which they are judged.
-#[derive(Clone, Copy)]
+#[derive(Clone, Copy, Debug, PartialEq, Eq)]
 pub enum Refusal {
     BadStateOrBuffer,
     StartInside,
@@ -14,10 +16,10 @@ pub enum Refusal {
     BadChecksum,
 }
 
-impl Refusal {
-    pub fn number(self) -> u8
-        ensures { result ≡ number_of self }
-    {
+impl Numbered for Refusal {
+    ghost number_of = { number_of };
+
+    fn number(&self) -> u8 {
         match self {
             Refusal::BadStateOrBuffer => 1,
             Refusal::StartInside => 20,
@@ -30,10 +32,19 @@ impl Refusal {
     }
 }
 
-#[derive(Clone, Copy)]
+// A frame that has ended: its sequence and its payload's length. The payload stands first in the buffer.
+#[derive(Clone, Copy, Debug, PartialEq, Eq)]
+pub struct Frame {
+    pub sequence: u8,
+    pub len: usize,
+}
+
+// What a byte did. Not a `Result` of the first three: with one `pito_extractor_step`, and `pito_extractor_feed` where it
+// refuses, take 5 to 12 instructions in 100 more.
+#[derive(Clone, Copy, Debug, PartialEq, Eq)]
 pub enum StepOutcome {
     Skipped,
     Taken,
-    Frame { sequence: u8, len: usize },
+    Frame(Frame),
     Refused(Refusal),
 }

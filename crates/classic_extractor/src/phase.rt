@@ -3,15 +3,15 @@ ghost use Rattle.std.specs.Prelude.{◌≡◌, List, ℕ, ◌+◌, ◌≤◌, le
 ghost use Rattle.classic_frame.specs.declared.mark.Kind.TheVariants.{Plain};
 ghost use Rattle.classic_extractor.specs.declared.outcome.Refusal.TheVariants.{StartInside};
 ghost use Rattle.classic_extractor.specs.declared.outcome.StepOutcome.TheVariants.{Skipped, Taken, Refused};
-ghost use Rattle.classic_extractor.specs.Outcome.{told};
+ghost use Rattle.classic_extractor.specs.Outcome.{told, told_end};
 ghost use Rattle.classic_extractor.specs.State.{begun, outside};
 ghost use Rattle.classic_extractor.specs.Action.{outside_by, header_by, sequence_by, body_by, code_of, code_by};
 ghost use Rattle.classic_extractor.specs.Step.{step, store_of, end_of, perform_of};
 
-use crate::outcome::{Refusal, StepOutcome};
+use crate::outcome::{Frame, Refusal, StepOutcome};
 use crate::state::{Phase, Progress};
 use classic_frame::checksum::is_checked;
-use classic_frame::mark::{END_CODE, ESCAPE_CODE, Kind, Mark, START_CODE};
+use classic_frame::mark::{Kind, mark_for};
 
 // What a byte did, and the progress after it.
 #[derive(Drop)]
@@ -84,24 +84,23 @@ impl Progress {
         }
     }
 
-    // What the end mark answers to the bytes held.
-    pub fn end(self, buffer: &[u8]) -> StepOutcome
+    // The frame that the end mark ends, by the bytes held.
+    pub fn end(self, buffer: &[u8]) -> Result<Frame, Refusal>
         requires { self.held ≤ length buffer.now }
-        ensures { told result ≡ end_of self buffer.now }
+        ensures { told_end result ≡ end_of self buffer.now }
     {
         let held = self.held;
         if held < 2 {
-            return StepOutcome::Refused(Refusal::EarlyEnd);
+            return Err(Refusal::EarlyEnd);
         }
         let len = held - 2;
-        if is_checked(buffer, len) {
-            StepOutcome::Frame {
-                sequence: self.sequence,
-                len,
-            }
-        } else {
-            StepOutcome::Refused(Refusal::BadChecksum)
+        if !is_checked(buffer, len) {
+            return Err(Refusal::BadChecksum);
         }
+        Ok(Frame {
+            sequence: self.sequence,
+            len,
+        })
     }
 
     // The byte is skipped. The state is made by its fields: one moved whole takes its padding along, through memory.
@@ -175,9 +174,12 @@ impl Progress {
     {
         match kind {
             Kind::Start => restart(),
-            Kind::End => Advanced {
-                outcome: self.end(buffer),
-                next: Progress::outside(),
+            Kind::End => match self.end(buffer) {
+                Ok(frame) => Advanced {
+                    outcome: StepOutcome::Frame(frame),
+                    next: Progress::outside(),
+                },
+                Err(why) => drop_frame(why),
             },
             Kind::Escape => go_on(Phase::Escaped, self.sequence, self.held),
             Kind::Plain => self.store(buffer, b),
@@ -190,16 +192,10 @@ impl Progress {
             → step (told result.outcome) result.next buffer.new
             ≡ perform_of limit self buffer.old b (code_of b) }
     {
-        if b == START_CODE {
-            return self.store(buffer, Mark::START);
+        match mark_for(b) {
+            Some(mark) => self.store(buffer, mark),
+            None => drop_frame(Refusal::BadEscape),
         }
-        if b == END_CODE {
-            return self.store(buffer, Mark::END);
-        }
-        if b == ESCAPE_CODE {
-            return self.store(buffer, Mark::ESCAPE);
-        }
-        drop_frame(Refusal::BadEscape)
     }
 
     pub fn at_escaped(self, buffer: &mut [u8], kind: Kind, b: u8) -> Advanced

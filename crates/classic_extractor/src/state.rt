@@ -3,11 +3,11 @@ ghost use Rattle.std.specs.Prelude.{◌≡◌, ◌≤◌};
 ghost use Rattle.classic_extractor.specs.State.{outside, begun, sequence_read, lawful_before, lawful_after, lawful, ready, empty, open_of, told_open};
 
 use classic_frame::mark::is_mark;
-use wire::limit::limit_fits;
+use wire::limit::{BadLimit, limit_fits};
 use wire::logic::both;
 
-// What the next byte is taken for.
-#[derive(Clone, Copy)]
+// What the next byte is taken for, in the order of a frame.
+#[derive(Clone, Copy, Debug, PartialEq, Eq, PartialOrd, Ord)]
 pub enum Phase {
     Outside,
     PacketId,
@@ -29,13 +29,6 @@ pub struct Progress {
 pub struct Extractor {
     pub limit: usize,
     pub progress: Progress,
-}
-
-// An extractor in its empty state, or a limit out of its range: refusal 17.
-#[derive(Drop)]
-pub enum OpenedExtractor {
-    Empty(Extractor),
-    BadLimit,
 }
 
 // What the lent buffer has beside the limit: room for a checksum.
@@ -96,13 +89,13 @@ impl Extractor {
     }
 
     // An extractor for a link with a limit, in its empty state.
-    pub fn open(limit: usize) -> OpenedExtractor
+    pub fn open(limit: usize) -> Result<Self, BadLimit>
         ensures { told_open result ≡ open_of limit }
     {
         if limit_fits(limit) {
-            OpenedExtractor::Empty(Extractor::outside(limit))
+            Ok(Extractor::outside(limit))
         } else {
-            OpenedExtractor::BadLimit
+            Err(BadLimit)
         }
     }
 }
@@ -111,14 +104,7 @@ impl Extractor {
 fn sequence_read(phase: Phase) -> bool
     ensures { result ≡ sequence_read phase }
 {
-    match phase {
-        Phase::Outside => false,
-        Phase::PacketId => false,
-        Phase::ErrorId => false,
-        Phase::Sequence => false,
-        Phase::Body => true,
-        Phase::Escaped => true,
-    }
+    phase >= Phase::Body
 }
 
 fn lawful_before(sequence: u8, held: usize) -> bool

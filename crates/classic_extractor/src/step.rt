@@ -9,6 +9,7 @@ use crate::state::{Extractor, Phase, Progress};
 use classic_frame::header::{ERROR_ID, PACKET_ID};
 use classic_frame::mark::kind_of;
 
+// What a byte did, and the state after it, which a refusal leaves too.
 #[derive(Drop)]
 pub struct Stepped {
     pub outcome: StepOutcome,
@@ -55,10 +56,9 @@ impl Extractor {
     {
         let progress = self.progress;
         let done = progress.take(self.limit, buffer, b);
-        let outcome = done.outcome;
         let progress = done.next;
         Stepped {
-            outcome,
+            outcome: done.outcome,
             next: Extractor {
                 limit: self.limit,
                 progress,

@@ -10,13 +10,15 @@ use lib.ListN.{length, take, drop, get_or, set, take-append-drop, length-set}
 use lib.Seq.{drop-cons, drop-drop, sets}
 use lib.Dec.{eqb, ltb, lit≤}
 use borrow.Author.Tests.{eqb-true, ltb-false, lt-ltb, not-true}
+use Rattle.std.proofs.Common.{Some, None}
+use Rattle.std.proofs.lemmas.Option.{none-some}
 use Rattle.wire.specs.Scan.{any_in_range, Clear, Copied}
 use Rattle.wire.proofs.Runs.{out_of_range, any-first, copied-length, part-long, part_none, part_length, part-stored}
 use Rattle.wire.proofs.Tests.{and_left, and_right}
 use Rattle.classic_frame.specs.declared.mark.Kind.{Kind}
 use Rattle.classic_frame.specs.declared.mark.Kind.TheVariants.{Start, End, Escape, Plain}
 use Rattle.classic_frame.specs.Mark.{start_mark, end_mark, escape_mark, kind_of, is_mark}
-use Rattle.classic_frame.specs.Frame.{packet_id, error_id, start_code, end_code, escape_code}
+use Rattle.classic_frame.specs.Frame.{packet_id, error_id, start_code, end_code, escape_code, mark_for}
 use Rattle.classic_frame.proofs.Marks.{clear-plain, unmarked-plain, start-kind, escape-kind, packet-kind, error_kind}
 use Rattle.classic_extractor.specs.declared.state.Progress.{Progress}
 use Rattle.classic_extractor.specs.declared.state.Phase.{Phase}
@@ -25,6 +27,7 @@ use Rattle.classic_extractor.specs.Action.{Store, code_of}
 use Rattle.classic_extractor.specs.Outcome.{taken}
 use Rattle.classic_extractor.specs.State.{begun, body, Fits}
 use Rattle.classic_extractor.specs.Step.{step, store_of, advance_of}
+use Rattle.classic_extractor.proofs.States.{by_mark, code-by-mark}
 use Rattle.classic_feed.specs.Feed.{feed_from}
 use Rattle.classic_feed.specs.FastPath.{mark_of, mark_at, is_header, header_at, Onward}
 use Rattle.classic_feed.proofs.Loop.{Running}
@@ -164,18 +167,26 @@ pair_step : (limit n q h : ℕ) (l : List ℕ) (c x : ℕ) (ys : List ℕ) → h
 unfolding feed_from advance_of
 pair_step limit n q h l c x ys f p e = rw (escape-kind, p, e, store-fits limit (record { phase = Escaped; sequence = q; held = h }) l x f, add_assoc)
 
-pair-two : (limit n q h : ℕ) (l : List ℕ) (b c : ℕ) (ys : List ℕ) → h < limit + 2 → (mark_of b c ≡ 0 → ⊥)
-    → feed_from limit n (body q h) l (b ∷ c ∷ ys) ≡ feed_from limit (n + 2) (body q (h + 1)) (set l h (mark_of b c)) ys
-unfolding kind_of code_of
-pair-two limit n q h l b c ys f nz = go (eqb b escape_mark) refl (eqb c start_code) refl (eqb c end_code) refl (eqb c escape_code) refl
+-- a code is no mark
+code-plain : (c x : ℕ) → mark_for c ≡ Some x → kind_of c ≡ Plain
+unfolding mark_for kind_of
+code-plain c x e = go (eqb c start_code) refl (eqb c end_code) refl (eqb c escape_code) refl e
   where
-    go : (t : Bool) → eqb b escape_mark ≡ t → (t₀ : Bool) → eqb c start_code ≡ t₀ → (t₁ : Bool) → eqb c end_code ≡ t₁ → (t₂ : Bool) → eqb c escape_code ≡ t₂
-        → feed_from limit n (body q h) l (b ∷ c ∷ ys) ≡ feed_from limit (n + 2) (body q (h + 1)) (set l h (mark_of b c)) ys
-    go false e t₀ e₀ t₁ e₁ t₂ e₂ = absurd (nz (rw e))
-    go true e true e₀ t₁ e₁ t₂ e₂ = rw (eqb-true b escape_mark e, eqb-true c start_code e₀) (pair_step limit n q h l start_code start_mark ys f refl refl)
-    go true e false e₀ true e₁ t₂ e₂ = rw (eqb-true b escape_mark e, eqb-true c end_code e₁) (pair_step limit n q h l end_code end_mark ys f refl refl)
-    go true e false e₀ false e₁ true e₂ = rw (eqb-true b escape_mark e, eqb-true c escape_code e₂) (pair_step limit n q h l escape_code escape_mark ys f refl refl)
-    go true e false e₀ false e₁ false e₂ = absurd (nz (rw (e, e₀, e₁, e₂)))
+    go : (s : Bool) → eqb c start_code ≡ s → (t : Bool) → eqb c end_code ≡ t → (u : Bool) → eqb c escape_code ≡ u
+        → cond s (Some start_mark) (cond t (Some end_mark) (cond u (Some escape_mark) None)) ≡ Some x → kind_of c ≡ Plain
+    go true s t e u f g = rw (eqb-true c start_code s)
+    go false s true e u f g = rw (eqb-true c end_code e)
+    go false s false e true f g = rw (eqb-true c escape_code f)
+    go false s false e false f g = absurd (none-some x g)
+
+pair-two : (limit n q h : ℕ) (l : List ℕ) (b c x : ℕ) (ys : List ℕ) → h < limit + 2 → mark_of b c ≡ Some x
+    → feed_from limit n (body q h) l (b ∷ c ∷ ys) ≡ feed_from limit (n + 2) (body q (h + 1)) (set l h x) ys
+pair-two limit n q h l b c x ys f e = go (eqb b escape_mark) refl e
+  where
+    go : (t : Bool) → eqb b escape_mark ≡ t → cond t (mark_for c) None ≡ Some x
+        → feed_from limit n (body q h) l (b ∷ c ∷ ys) ≡ feed_from limit (n + 2) (body q (h + 1)) (set l h x) ys
+    go false t k = absurd (none-some x k)
+    go true t k = rw (eqb-true b escape_mark t) (pair_step limit n q h l c x ys f (code-plain c x k) (sym (code-by-mark c) ∙ ap by_mark k))
 
 drop-two : (l : List ℕ) (i : ℕ) → i + 2 ≤ length l → drop i l ≡ get_or l i 0 ∷ get_or l (i + 1) 0 ∷ drop (i + 2) l
 drop-two l i h =
@@ -184,22 +195,21 @@ drop-two l i h =
     rw (one, two, drop-cons l i 0 (omega arith), drop-cons l (suc i) 0 (omega arith))
 
 pub onward-pair : {limit : ℕ} {s : Progress} {l : List ℕ} (bytes : List ℕ) (i x : ℕ) → Fits limit s l → s.phase ≡ Body → i ≤ length bytes
-    → x ≡ mark_at bytes i → (x ≡ 0 → ⊥) → s.held < limit + 2
+    → mark_at bytes i ≡ Some x → s.held < limit + 2
     → Onward limit bytes s l i (body s.sequence (s.held + 1)) (set l s.held x) (i + 2)
-onward-pair {limit} {s} {l} bytes i x fits p w e nz f = go (ltb (length bytes - i) 2) refl
+onward-pair {limit} {s} {l} bytes i x fits p w e f = go (ltb (length bytes - i) 2) refl
   where
     go : (t : Bool) → ltb (length bytes - i) 2 ≡ t → Onward limit bytes s l i (body s.sequence (s.held + 1)) (set l s.held x) (i + 2)
-    go true t = absurd (nz (rw t at e))
+    go true t = absurd (none-some x (rw t at e))
     go false t =
         let two : i + 2 ≤ length bytes = omega (arith, ltb-false (length bytes - i) 2 t) in
-        let x≡ : x ≡ mark_of (get_or bytes i 0) (get_or bytes (i + 1) 0) = rw t at e in
         record {
           from = omega arith;
           within = two;
           fits = record { room = omega arith; size = length-set l s.held x ∙ fits.size };
           rest =
-              rw (as-body s p, drop-two bytes i two, x≡)
-              (sym (pair-two limit i s.sequence s.held l (get_or bytes i 0) (get_or bytes (i + 1) 0) (drop (i + 2) bytes) f (λ z. nz (x≡ ∙ z))));
+              rw (as-body s p, drop-two bytes i two)
+              (sym (pair-two limit i s.sequence s.held l (get_or bytes i 0) (get_or bytes (i + 1) 0) x (drop (i + 2) bytes) f (rw t at e)));
         }
 
 -- ---- a header

@@ -1,7 +1,7 @@
 -- The fast path over many bytes: bytes that are passed at once.
-use Rattle.std.specs.Prelude.{ℕ, ◌+◌, ◌-◌, ◌≤◌, ◌≡◌, List, Bool, not, cond, false, ◌&&◌, length, drop, get_or, ltb, eqb}
-use Rattle.classic_frame.specs.Mark.{start_mark, end_mark, escape_mark, is_mark}
-use Rattle.classic_frame.specs.Frame.{packet_id, error_id, start_code, end_code, escape_code}
+use Rattle.std.specs.Prelude.{ℕ, ◌+◌, ◌-◌, ◌≤◌, ◌≡◌, List, Bool, not, cond, false, ◌&&◌, length, drop, get_or, ltb, eqb, Option, None}
+use Rattle.classic_frame.specs.Mark.{start_mark, escape_mark, is_mark}
+use Rattle.classic_frame.specs.Frame.{packet_id, error_id, mark_for}
 use Rattle.classic_extractor.specs.declared.state.Phase.{Phase}
 use Rattle.classic_extractor.specs.declared.state.Phase.TheVariants.{Outside, PacketId, ErrorId, Sequence, Body, Escaped}
 use Rattle.classic_extractor.specs.declared.state.Progress.{Progress}
@@ -9,16 +9,13 @@ use Rattle.classic_extractor.specs.Outcome.{Report, taken, refused}
 use Rattle.classic_extractor.specs.State.{Fits}
 use Rattle.classic_feed.specs.Feed.{feed_from}
 
--- the mark that an escape mark and a code stand for; 0 for any other two bytes
-abbrev pub mark_of : ℕ → ℕ → ℕ
-mark_of b code =
-    cond (eqb b escape_mark)
-    (cond (eqb code start_code) start_mark (cond (eqb code end_code) end_mark (cond (eqb code escape_code) escape_mark 0)))
-    0
+-- the mark that an escape mark and a code stand for
+abbrev pub mark_of : ℕ → ℕ → Option ℕ
+mark_of b code = cond (eqb b escape_mark) (mark_for code) None
 
 -- the same of the two bytes at a place
-abbrev pub mark_at : List ℕ → ℕ → ℕ
-mark_at l i = cond (ltb (length l - i) 2) 0 (mark_of (get_or l i 0) (get_or l (i + 1) 0))
+abbrev pub mark_at : List ℕ → ℕ → Option ℕ
+mark_at l i = cond (ltb (length l - i) 2) None (mark_of (get_or l i 0) (get_or l (i + 1) 0))
 
 -- what F0 reports, whatever stands before it
 abbrev pub start_report : Phase → Report

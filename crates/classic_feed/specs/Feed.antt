@@ -1,18 +1,18 @@
 -- Many bytes given at once: up to the first frame or refusal, or to their end.
-use Rattle.std.specs.Prelude.{ℕ, ◌+◌, List, [], ◌∷◌, Bool, true, false, cond, not, length}
+use Rattle.std.specs.Prelude.{ℕ, ◌+◌, List, [], ◌∷◌, Bool, true, false, cond, not, length, Option, Some, None, Result, Ok, Err}
 use Rattle.wire.specs.Told.{line, table}
 use Rattle.classic_extractor.specs.declared.state.Progress.{Progress}
+use Rattle.classic_extractor.specs.declared.outcome.Frame.{Frame}
+use Rattle.classic_extractor.specs.declared.outcome.Refusal.{Refusal}
 use Rattle.classic_extractor.specs.Outcome.{Report, skipped, taken, all_used, frame, refused, number_of}
 use Rattle.classic_extractor.specs.State.{ready}
 use Rattle.classic_extractor.specs.Step.{advance_of}
-use Rattle.classic_feed.specs.declared.many.FeedOutcome.{FeedOutcome}
-use Rattle.classic_feed.specs.declared.many.FeedOutcome.TheVariants.{AllUsed, Frame, Refused}
 
 -- many bytes tell all used where nothing was decided
-abbrev pub told_feed : FeedOutcome → Report
-told_feed AllUsed = all_used
-told_feed (Frame sequence n) = frame sequence n
-told_feed (Refused r) = refused (number_of r)
+abbrev pub told_feed : Result (Option Frame) Refusal → Report
+told_feed (Ok None) = all_used
+told_feed (Ok (Some f)) = frame f.sequence f.len
+told_feed (Err r) = refused (number_of r)
 
 -- what many bytes leave: besides a step's, the number of bytes used
 pub record Feed : Type 0 where

@@ -4,7 +4,7 @@ ghost use Rattle.wire.specs.Scan.{Clear};
 ghost use Rattle.classic_frame.specs.Mark.{start_mark};
 ghost use Rattle.classic_extractor.specs.declared.state.Phase.TheVariants.{Outside, Body};
 ghost use Rattle.classic_extractor.specs.Outcome.{told};
-ghost use Rattle.classic_extractor.specs.State.{Fits};
+ghost use Rattle.classic_extractor.specs.State.{begun, Fits};
 ghost use Rattle.classic_extractor.specs.Step.{step, advance_of};
 ghost use Rattle.classic_feed.specs.FastPath.{mark_of, mark_at, start_report, is_header, header_at, Onward};
 
@@ -12,7 +12,7 @@ use classic_extractor::outcome::{Refusal, StepOutcome};
 use classic_extractor::phase::Advanced;
 use classic_extractor::state::{CHECKSUM, Phase, Progress};
 use classic_frame::header::{ERROR_ID, PACKET_ID};
-use classic_frame::mark::{END_CODE, ESCAPE_CODE, Mark, START_CODE, is_mark, kind_of};
+use classic_frame::mark::{Mark, is_mark, kind_of, mark_for};
 use wire::bytes::{byte_at, smaller};
 use wire::logic::both;
 use wire::scan::{clear_run, copy_clear};
@@ -167,11 +167,10 @@ fn take_pair(state: Progress, limit: usize, buffer: &mut [u8], bytes: &[u8], i: 
         × (result.next.phase ≡ Body) }
 {
     let held = state.held;
-    let mark = mark_at(bytes, i);
-    if mark == 0 {
-        return Passed { next: state, at: i };
-    }
     let room = limit + CHECKSUM;
+    let Some(mark) = mark_at(bytes, i) else {
+        return Passed { next: state, at: i };
+    };
     if held < room {
         buffer[held] = mark;
         let count = held + 1;
@@ -189,31 +188,24 @@ fn take_pair(state: Progress, limit: usize, buffer: &mut [u8], bytes: &[u8], i: 
     }
 }
 
-// The mark that two bytes stand for, or 0.
-fn mark_of(b: u8, code: u8) -> u8
+// The mark that an escape mark and a code stand for.
+fn mark_of(b: u8, code: u8) -> Option<u8>
     ensures { result ≡ mark_of b code }
 {
     if b == Mark::ESCAPE {
-        if code == START_CODE {
-            return Mark::START;
-        }
-        if code == END_CODE {
-            return Mark::END;
-        }
-        if code == ESCAPE_CODE {
-            return Mark::ESCAPE;
-        }
+        mark_for(code)
+    } else {
+        None
     }
-    0
 }
 
-// The same of the two bytes at a place; 0 where they are not both there.
-fn mark_at(bytes: &[u8], at: usize) -> u8
+// The same of the two bytes at a place, where both are there.
+fn mark_at(bytes: &[u8], at: usize) -> Option<u8>
     requires { at ≤ length bytes.now }
     ensures { result ≡ mark_at bytes.now at }
 {
     if bytes.len() - at < 2 {
-        0
+        None
     } else {
         mark_of(bytes[at], bytes[at + 1])
     }
@@ -239,17 +231,20 @@ fn header_at(bytes: &[u8], at: usize) -> bool
     }
 }
 
-// What a start mark answers.
-fn at_start(phase: Phase) -> StepOutcome
-    ensures { told result ≡ start_report phase }
+// A start mark in a phase: the frame begins, within another one by a refusal.
+fn at_start(phase: Phase) -> Advanced
+    ensures { (told result.outcome ≡ start_report phase) × (result.next ≡ begun) }
 {
-    match phase {
-        Phase::Outside => StepOutcome::Taken,
-        Phase::PacketId => StepOutcome::Refused(Refusal::StartInside),
-        Phase::ErrorId => StepOutcome::Refused(Refusal::StartInside),
-        Phase::Sequence => StepOutcome::Refused(Refusal::StartInside),
-        Phase::Body => StepOutcome::Refused(Refusal::StartInside),
-        Phase::Escaped => StepOutcome::Refused(Refusal::StartInside),
+    if phase == Phase::Outside {
+        Advanced {
+            outcome: StepOutcome::Taken,
+            next: Progress::begun(),
+        }
+    } else {
+        Advanced {
+            outcome: StepOutcome::Refused(Refusal::StartInside),
+            next: Progress::begun(),
+        }
     }
 }
 
@@ -261,10 +256,7 @@ pub fn fast_step(state: Progress, limit: usize, buffer: &mut [u8], b: u8) -> Adv
 {
     let phase = state.phase;
     if b == Mark::START {
-        return Advanced {
-            outcome: at_start(phase),
-            next: Progress::begun(),
-        };
+        return at_start(phase);
     }
     let kind = kind_of(b);
     match phase {

@@ -1,23 +1,17 @@
 // Many bytes given at once.
 ghost use Rattle.std.specs.Prelude.{◌≡◌};
-ghost use Rattle.classic_extractor.specs.Outcome.{told};
 ghost use Rattle.classic_extractor.specs.State.{Fits};
-ghost use Rattle.classic_feed.specs.Feed.{told_feed, fed, decides, feed_report, feed_from, feed_of};
+ghost use Rattle.classic_feed.specs.Feed.{told_feed, fed, feed_from, feed_of};
 
 use crate::fast_path::{fast_step, pass};
-use classic_extractor::outcome::{Refusal, StepOutcome};
+use classic_extractor::outcome::{Frame, Refusal, StepOutcome};
 use classic_extractor::state::{Extractor, Progress};
 
-#[derive(Drop)]
-pub enum FeedOutcome {
-    AllUsed,
-    Frame { sequence: u8, len: usize },
-    Refused(Refusal),
-}
-
+// What many bytes did, up to the first frame or refusal: no frame where all of them are used. The state after them is told
+// on a refusal too.
 #[derive(Drop)]
 pub struct Fed {
-    pub outcome: FeedOutcome,
+    pub outcome: Result<Option<Frame>, Refusal>,
     pub used: usize,
     pub next: Extractor,
 }
@@ -34,33 +28,25 @@ fn rebuilt(state: Progress) -> Progress
     }
 }
 
-// Whether an outcome ends a call for many bytes.
-fn is_decided(outcome: StepOutcome) -> bool
-    ensures { result ≡ decides (told outcome) }
+// What a call leaves that ends in a state.
+fn ended(
+    outcome: Result<Option<Frame>, Refusal>,
+    used: usize,
+    limit: usize,
+    progress: Progress,
+) -> Fed
+    ensures { result
+        ≡ record { outcome = outcome; used = used; next = record { limit = limit; progress = progress } } }
 {
-    match outcome {
-        StepOutcome::Skipped => false,
-        StepOutcome::Taken => false,
-        StepOutcome::Frame {
-            sequence: _,
-            len: _,
-        } => true,
-        StepOutcome::Refused(_) => true,
+    let next = Extractor { limit, progress };
+    Fed {
+        outcome,
+        used,
+        next,
     }
 }
 
-fn feed_outcome(outcome: StepOutcome) -> FeedOutcome
-    ensures { told_feed result ≡ feed_report (told outcome) }
-{
-    match outcome {
-        StepOutcome::Skipped => FeedOutcome::AllUsed,
-        StepOutcome::Taken => FeedOutcome::AllUsed,
-        StepOutcome::Frame { sequence, len } => FeedOutcome::Frame { sequence, len },
-        StepOutcome::Refused(why) => FeedOutcome::Refused(why),
-    }
-}
-
-// The bytes one after another, in a lawful state and over a buffer of the right size.
+// The bytes one after another, in a lawful state and over a buffer of the right size. A turn passes a run of them and then one.
 fn run(start: Progress, limit: usize, buffer: &mut [u8], bytes: &[u8]) -> Fed
     requires { Fits limit start buffer.old }
     ensures { (fed (told_feed result.outcome) result.used result.next.progress buffer.new
@@ -74,29 +60,17 @@ fn run(start: Progress, limit: usize, buffer: &mut [u8], bytes: &[u8]) -> Fed
         let there = passed.next;
         state = rebuilt(there);
         if i >= bytes.len() {
-            return Fed {
-                outcome: FeedOutcome::AllUsed,
-                used: i,
-                next: Extractor {
-                    limit,
-                    progress: state,
-                },
-            };
+            return ended(Ok(None), i, limit, state);
         }
         let done = fast_step(state, limit, buffer, bytes[i]);
         i += 1;
         let then = done.next;
         state = rebuilt(then);
-        let outcome = done.outcome;
-        if is_decided(outcome) {
-            return Fed {
-                outcome: feed_outcome(outcome),
-                used: i,
-                next: Extractor {
-                    limit,
-                    progress: state,
-                },
-            };
+        match done.outcome {
+            StepOutcome::Skipped => {}
+            StepOutcome::Taken => {}
+            StepOutcome::Frame(frame) => return ended(Ok(Some(frame)), i, limit, state),
+            StepOutcome::Refused(why) => return ended(Err(why), i, limit, state),
         }
     }
 }
@@ -113,7 +87,7 @@ pub fn feed(state: Extractor, buffer: &mut [u8], bytes: &[u8]) -> Fed
         run(progress, limit, buffer, bytes)
     } else {
         Fed {
-            outcome: FeedOutcome::Refused(Refusal::BadStateOrBuffer),
+            outcome: Err(Refusal::BadStateOrBuffer),
             used: 0,
             next: state,
         }

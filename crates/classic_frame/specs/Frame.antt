@@ -1,5 +1,5 @@
 -- The frame of Classic: F0, 02, 00, sequence, payload and checksum escaped, F1.
-use Rattle.std.specs.Prelude.{ℕ, ◌+◌, ◌%◌, Bool, cond, List, [], ◌∷◌, ◌++◌, take, ◌==◌, bit_xor, slice_index}
+use Rattle.std.specs.Prelude.{ℕ, ◌+◌, ◌%◌, Bool, cond, List, [], ◌∷◌, ◌++◌, take, ◌==◌, bit_xor, slice_index, eqb, Option, Some, None}
 use Rattle.wire.specs.Bytes.{pair_of, pair_bytes}
 use Rattle.classic_frame.specs.declared.mark.Kind.{Kind}
 use Rattle.classic_frame.specs.declared.mark.Kind.TheVariants.{Start, End, Escape, Plain}
@@ -24,6 +24,12 @@ end_code = 0x03
 
 abbrev pub escape_code : ℕ
 escape_code = 0x00
+
+-- the mark that a code after F2 stands for
+unfoldable pub mark_for : ℕ → Option ℕ
+mark_for code =
+    cond (eqb code start_code) (Some start_mark)
+    (cond (eqb code end_code) (Some end_mark) (cond (eqb code escape_code) (Some escape_mark) None))
 
 -- a byte of payload or checksum as it stands in a frame
 abbrev pub escaped_by : Kind → ℕ → List ℕ

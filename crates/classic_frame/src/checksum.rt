@@ -16,10 +16,8 @@ pub fn add_all(sum: u16, bytes: &[u8]) -> u16
     ensures { result ≡ (sum + sum_of bytes.now) % 65536 }
 {
     let mut after = sum;
-    let mut i = 0;
-    while i < bytes.len() {
-        after = add_byte(after, bytes[i]);
-        i += 1;
+    for b in bytes {
+        after = add_byte(after, *b);
     }
     after
 }

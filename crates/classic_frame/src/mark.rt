@@ -1,7 +1,7 @@
 // The marks of a frame, and what stands for them within it.
 ghost use Rattle.std.specs.Prelude.{◌≡◌};
-ghost use Rattle.classic_frame.specs.Mark.{kind_of, is_mark};
-ghost use Rattle.classic_frame.specs.Frame.{code_for};
+ghost use Rattle.classic_frame.specs.Mark.{kind_of, is_mark_kind, is_mark};
+ghost use Rattle.classic_frame.specs.Frame.{code_for, mark_for};
 
 // The bytes that start a frame, end it and escape a byte.
 #[derive(Drop)]
@@ -22,12 +22,20 @@ pub const END_CODE: u8 = 0x03;
 
 pub const ESCAPE_CODE: u8 = 0x00;
 
-#[derive(Clone, Copy)]
+#[derive(Clone, Copy, Debug, PartialEq, Eq)]
 pub enum Kind {
     Start,
     End,
     Escape,
     Plain,
+}
+
+impl Kind {
+    pub fn needs_code(self) -> bool
+        ensures { result ≡ is_mark_kind self }
+    {
+        self != Kind::Plain
+    }
 }
 
 pub fn kind_of(b: u8) -> Kind
@@ -48,12 +56,7 @@ pub fn kind_of(b: u8) -> Kind
 pub fn is_mark(b: u8) -> bool
     ensures { result ≡ is_mark b }
 {
-    match kind_of(b) {
-        Kind::Start => true,
-        Kind::End => true,
-        Kind::Escape => true,
-        Kind::Plain => false,
-    }
+    kind_of(b).needs_code()
 }
 
 // What stands after F2 for a mark.
@@ -61,4 +64,16 @@ pub fn code_for(mark: u8) -> u8
     ensures { result ≡ code_for mark }
 {
     Mark::ESCAPE ^ mark
+}
+
+// The mark that a code after F2 stands for.
+pub fn mark_for(code: u8) -> Option<u8>
+    ensures { result ≡ mark_for code }
+{
+    match code {
+        START_CODE => Some(Mark::START),
+        END_CODE => Some(Mark::END),
+        ESCAPE_CODE => Some(Mark::ESCAPE),
+        _ => None,
+    }
 }

@@ -6,10 +6,11 @@ use mathlib.Core.Bool.{Bool, true, false, cond}
 use native.Mathlib.Nat.{add-zero, zero-add, add_assoc, add-suc, suc-add, sub-zero}
 use native.Mathlib.Numerals.{add-one}
 use native.Mathlib.Omega.{arith}
-use lib.ListN.{length, drop, set, length-set, length-drop}
+use lib.ListN.{length, take, drop, set, length-set, length-drop}
 use lib.Seq.{drop-drop}
 use lib.Dec.{ltb}
 use Rattle.wire.specs.Told.{given}
+use Rattle.wire.proofs.Parts.{rest-lent}
 use Rattle.classic_frame.specs.declared.mark.Kind.{Kind}
 use Rattle.classic_frame.specs.declared.mark.Kind.TheVariants.{Start, End, Escape, Plain}
 use Rattle.classic_parts.specs.declared.state.Stage.{Stage}
@@ -66,6 +67,10 @@ pending-takes Plain s l = stage-takes s.stage s l
 pub byte-takes : (s : PartProgress) (l : List ℕ) {b : ℕ} {next : PartProgress} {k : ℕ} → byte b next k ≡ byte_of s l → k ≤ length l
 unfolding byte_of
 byte-takes s l e = rw (← e) at (pending-takes s.pending s l)
+
+-- all that is left of the payload is offered
+pub offered-rest : (s : PartProgress) (payload : List ℕ) (taken : ℕ) → byte_of s (take (length payload - taken) (drop taken payload)) ≡ byte_of s (drop taken payload)
+offered-rest s payload taken = ap (λ (l : List ℕ). byte_of s l) (rest-lent payload taken)
 
 -- ---- one turn
 

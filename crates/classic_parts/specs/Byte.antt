@@ -1,5 +1,5 @@
 -- One output byte of a frame that is written by parts.
-use Rattle.std.specs.Prelude.{ℕ, ◌+◌, ◌/◌, ◌%◌, cond, List, [], ◌∷◌, ltb}
+use Rattle.std.specs.Prelude.{ℕ, ◌+◌, ◌/◌, ◌%◌, cond, List, [], ◌∷◌, ltb, Option, Some, None}
 use Rattle.classic_frame.specs.declared.mark.Kind.{Kind}
 use Rattle.classic_frame.specs.declared.mark.Kind.TheVariants.{Start, End, Escape, Plain}
 use Rattle.classic_frame.specs.Mark.{start_mark, end_mark, escape_mark, kind_of}
@@ -67,6 +67,6 @@ pending_byte Plain s offered = stage_byte s.stage s offered
 unfoldable pub byte_of : PartProgress → List ℕ → Byte
 byte_of s offered = pending_byte s.pending s offered
 
-abbrev pub told_byte : Emitted → Byte
-told_byte Emitted.Nothing = nothing
-told_byte (Emitted.Byte b next k) = byte b next k
+abbrev pub told_byte : Option Emitted → Byte
+told_byte None = nothing
+told_byte (Some e) = byte e.value e.next e.taken

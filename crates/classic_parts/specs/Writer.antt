@@ -1,23 +1,19 @@
 -- The calls of the frame writer by parts, on all inputs. `limit` is the largest payload.
-use Rattle.std.specs.Prelude.{ℕ, Bool, not, List, [], ◌∷◌, length, eqb, ltb}
+use Rattle.std.specs.Prelude.{ℕ, Bool, not, List, [], ◌∷◌, length, eqb, ltb, Result}
 use Rattle.std.proofs.lemmas.List.Edits.{sets}
-use Rattle.wire.specs.Told.{Told, given, refused, line, table}
+use Rattle.wire.specs.Told.{Told, given, refused, told_by, line, table}
 use Rattle.wire.specs.Limit.{limit_fits}
 use Rattle.classic_parts.specs.declared.state.PartProgress.{PartProgress}
 use Rattle.classic_parts.specs.declared.state.PartWriter.{PartWriter}
 use Rattle.classic_parts.specs.declared.writer.Refusal.{Refusal}
 use Rattle.classic_parts.specs.declared.writer.Refusal.TheVariants.{Unlawful, TooMuch, NoRoom}
-use Rattle.classic_parts.specs.declared.writer.Begun.{Begun}
-use Rattle.classic_parts.specs.declared.writer.PartOutcome.{PartOutcome}
+use Rattle.classic_parts.specs.declared.writer.BadStart.{BadStart}
+use Rattle.classic_parts.specs.declared.writer.BadStart.TheVariants.{Limit, Argument}
+use Rattle.classic_parts.specs.declared.writer.PartCount.{PartCount}
 use Rattle.classic_parts.specs.State.{beginning, bad_start, lawful, missing, ended}
 use Rattle.classic_parts.specs.Fill.{Filled, fill_of}
 
 -- payload bytes taken, output bytes written, and whether the frame has ended
-pub record PartCount : Type 0 where
-  pub taken : ℕ
-  pub written : ℕ
-  pub ended : Bool
-
 abbrev pub count : ℕ → ℕ → Bool → PartCount
 count taken written over = record { taken = taken; written = written; ended = over }
 
@@ -60,17 +56,13 @@ number_of Unlawful = 1
 number_of TooMuch = 26
 number_of NoRoom = 14
 
-abbrev pub told_begun : Begun → Told PartWriter
-told_begun (Begun.Ready s) = given s
-told_begun Begun.BadLimit = refused 17
-told_begun Begun.BadArgument = refused 15
+abbrev pub told : Result PartCount Refusal → Told PartCount
+told = told_by number_of
 
--- 0 where the frame is begun
-abbrev pub begun_number : Begun → ℕ
-begun_number (Begun.Ready s) = 0
-begun_number Begun.BadLimit = 17
-begun_number Begun.BadArgument = 15
+-- .. of a frame that is not begun
+abbrev pub begun_number : BadStart → ℕ
+begun_number Limit = 17
+begun_number Argument = 15
 
-abbrev pub told : PartOutcome → Told PartCount
-told (PartOutcome.Wrote taken written over) = given (count taken written over)
-told (PartOutcome.Refused r) = refused (number_of r)
+abbrev pub told_begun : Result PartWriter BadStart → Told PartWriter
+told_begun = told_by begun_number

@@ -1,15 +1,14 @@
 // The state of a frame that is written by parts: its link's limit, and its progress. Every value has a meaning, that of what
 // is still to be written.
 ghost use Rattle.std.specs.Prelude.{◌≡◌};
-ghost use Rattle.classic_frame.specs.Mark.{is_mark_kind};
-ghost use Rattle.classic_parts.specs.State.{start_of, bad_start, lawful, missing, is_payload, is_done, in_payload, ended};
+ghost use Rattle.classic_parts.specs.State.{start_of, bad_start, lawful, missing, in_payload, ended};
 
 use classic_frame::mark::{Kind, is_mark};
 use wire::limit::limit_fits;
 use wire::logic::{both, either};
 
 // What is written next. Payload: a payload byte or, after the last one, the high byte of the checksum.
-#[derive(Clone, Copy)]
+#[derive(Clone, Copy, Debug, PartialEq, Eq)]
 pub enum Stage {
     Start,
     PacketId,
@@ -22,7 +21,8 @@ pub enum Stage {
 }
 
 // The frame's sequence, its payload's length, the payload bytes taken and their checksum, the stage, and the mark of which
-// only F2 is written (plain: none): its code comes before the stage's byte.
+// only F2 is written (plain: none): its code comes before the stage's byte. It is no option of a mark, since the states of the
+// theorem `PartsExample` have a `Kind` there.
 #[derive(Clone, Copy)]
 pub struct PartProgress {
     pub sequence: u8,
@@ -43,47 +43,6 @@ pub fn bad_start(limit: usize, sequence: u8, total: usize) -> bool
     ensures { result ≡ bad_start limit sequence total }
 {
     either(is_mark(sequence), limit < total)
-}
-
-fn is_payload(stage: Stage) -> bool
-    ensures { result ≡ is_payload stage }
-{
-    match stage {
-        Stage::Start => false,
-        Stage::PacketId => false,
-        Stage::ErrorId => false,
-        Stage::Sequence => false,
-        Stage::Payload => true,
-        Stage::Low => false,
-        Stage::End => false,
-        Stage::Done => false,
-    }
-}
-
-fn is_done(stage: Stage) -> bool
-    ensures { result ≡ is_done stage }
-{
-    match stage {
-        Stage::Start => false,
-        Stage::PacketId => false,
-        Stage::ErrorId => false,
-        Stage::Sequence => false,
-        Stage::Payload => false,
-        Stage::Low => false,
-        Stage::End => false,
-        Stage::Done => true,
-    }
-}
-
-fn is_pending(kind: Kind) -> bool
-    ensures { result ≡ is_mark_kind kind }
-{
-    match kind {
-        Kind::Start => true,
-        Kind::End => true,
-        Kind::Escape => true,
-        Kind::Plain => false,
-    }
 }
 
 impl PartProgress {
@@ -127,17 +86,13 @@ impl PartProgress {
     pub fn is_in_payload(self) -> bool
         ensures { result ≡ in_payload self }
     {
-        let stage = self.stage;
-        let pending = self.pending;
-        both(is_payload(stage), !is_pending(pending))
+        both(self.stage == Stage::Payload, !self.pending.needs_code())
     }
 
     // Whether all of the frame is written.
     pub fn has_ended(self) -> bool
         ensures { result ≡ ended self }
     {
-        let stage = self.stage;
-        let pending = self.pending;
-        both(is_done(stage), !is_pending(pending))
+        both(self.stage == Stage::Done, !self.pending.needs_code())
     }
 }

@@ -1,71 +1,25 @@
 // The calls: a frame begun, and each part of it.
-ghost use Rattle.std.specs.Prelude.{◌≡◌, length};
-ghost use Rattle.classic_parts.specs.declared.writer.PartOutcome.{PartOutcome};
+ghost use Rattle.std.specs.Prelude.{◌≡◌, length, Ok, Err};
 ghost use Rattle.classic_parts.specs.State.{ended};
 ghost use Rattle.classic_parts.specs.Fill.{fill_of};
-ghost use Rattle.classic_parts.specs.Writer.{filled, wrote, begin_of, part_of, number_of, told_begun, told, begun_number};
+ghost use Rattle.classic_parts.specs.Writer.{count, filled, wrote, begin_of, part_of, number_of, told_begun, told, begun_number};
 
-use crate::byte::Emitted;
 use crate::state::{PartProgress, PartWriter, bad_start};
 use wire::limit::limit_fits;
+use wire::refusal::Numbered;
 
 // Refusals 1, 26 and 14, in the order in which they are judged.
-#[derive(Drop)]
+#[derive(Clone, Copy, Debug, PartialEq, Eq)]
 pub enum Refusal {
     Unlawful,
     TooMuch,
     NoRoom,
 }
 
-// A writer before its first byte, or refusal 17 or 15.
-#[derive(Drop)]
-pub enum Begun {
-    Ready(PartWriter),
-    BadLimit,
-    BadArgument,
-}
+impl Numbered for Refusal {
+    ghost number_of = { number_of };
 
-impl Begun {
-    // 0 where the frame is begun.
-    pub fn number(self) -> u8
-        ensures { result ≡ begun_number self }
-    {
-        match self {
-            Begun::Ready(_) => 0,
-            Begun::BadLimit => 17,
-            Begun::BadArgument => 15,
-        }
-    }
-}
-
-// The payload bytes taken, the bytes written and whether the frame has ended, or why nothing was done.
-#[derive(Drop)]
-pub enum PartOutcome {
-    Wrote {
-        taken: usize,
-        written: usize,
-        ended: bool,
-    },
-    Refused(Refusal),
-}
-
-#[derive(Drop)]
-pub struct PartWritten {
-    pub outcome: PartOutcome,
-    pub next: PartWriter,
-}
-
-// The same of the progress alone.
-#[derive(Drop)]
-struct PartAdvanced {
-    outcome: PartOutcome,
-    next: PartProgress,
-}
-
-impl Refusal {
-    pub fn number(self) -> u8
-        ensures { result ≡ number_of self }
-    {
+    fn number(&self) -> u8 {
         match self {
             Refusal::Unlawful => 1,
             Refusal::TooMuch => 26,
@@ -74,32 +28,72 @@ impl Refusal {
     }
 }
 
+// Why no frame is begun: refusals 17 and 15, in the order in which they are judged.
+#[derive(Clone, Copy, Debug, PartialEq, Eq)]
+pub enum BadStart {
+    Limit,
+    Argument,
+}
+
+impl Numbered for BadStart {
+    ghost number_of = { begun_number };
+
+    fn number(&self) -> u8 {
+        match self {
+            BadStart::Limit => 17,
+            BadStart::Argument => 15,
+        }
+    }
+}
+
+// The payload bytes taken, the bytes written and whether the frame has ended.
+#[derive(Clone, Copy, Debug, PartialEq, Eq)]
+pub struct PartCount {
+    pub taken: usize,
+    pub written: usize,
+    pub ended: bool,
+}
+
+// What a call answers, and the state after it, which a refusal leaves too.
+#[derive(Drop)]
+pub struct PartWritten {
+    pub outcome: Result<PartCount, Refusal>,
+    pub next: PartWriter,
+}
+
+// The same of the progress alone.
+#[derive(Drop)]
+struct PartAdvanced {
+    outcome: Result<PartCount, Refusal>,
+    next: PartProgress,
+}
+
 // What a call answers that is refused.
 fn refuse(why: Refusal, next: PartProgress) -> PartAdvanced
-    ensures { result ≡ record { outcome = PartOutcome.Refused why; next = next } }
+    ensures { result ≡ record { outcome = Err why; next = next } }
 {
     PartAdvanced {
-        outcome: PartOutcome::Refused(why),
+        outcome: Err(why),
         next,
     }
 }
 
 // What a call answers that stops in a state.
 fn stop(next: PartProgress, taken: usize, written: usize) -> PartAdvanced
-    ensures { result ≡ record { outcome = PartOutcome.Wrote taken written (ended next); next = next } }
+    ensures { result ≡ record { outcome = Ok (count taken written (ended next)); next = next } }
 {
     PartAdvanced {
-        outcome: PartOutcome::Wrote {
+        outcome: Ok(PartCount {
             taken,
             written,
             ended: next.has_ended(),
-        },
+        }),
         next,
     }
 }
 
 impl PartProgress {
-    // Fills an output as far as the frame and the payload offered go.
+    // Fills an output as far as the frame and the payload offered go. A turn passes a run of bytes and then one, so no range counts them.
     fn fill(self, payload: &[u8], out: &mut [u8]) -> PartAdvanced
         ensures { wrote (told result.outcome) result.next out.new
             ≡ filled out.old (fill_of (length out.old) self payload.now) }
@@ -115,21 +109,13 @@ impl PartProgress {
             if i >= out.len() {
                 return stop(state, taken, i);
             }
-            match state.emit(payload, taken) {
-                Emitted::Nothing => {
-                    return stop(state, taken, i);
-                }
-                Emitted::Byte {
-                    value,
-                    next,
-                    taken: more,
-                } => {
-                    out[i] = value;
-                    state = next;
-                    taken += more;
-                    i += 1;
-                }
-            }
+            let Some(emitted) = state.emit(&payload[taken..]) else {
+                return stop(state, taken, i);
+            };
+            out[i] = emitted.value;
+            state = emitted.next;
+            taken += emitted.taken;
+            i += 1;
         }
     }
 
@@ -153,17 +139,17 @@ impl PartProgress {
 
 impl PartWriter {
     // Begins a frame whose payload will have `total` bytes, for a link with a limit.
-    pub fn begin(sequence: u8, limit: usize, total: usize) -> Begun
+    pub fn begin(sequence: u8, limit: usize, total: usize) -> Result<Self, BadStart>
         ensures { told_begun result ≡ begin_of limit sequence total }
     {
         if !limit_fits(limit) {
-            return Begun::BadLimit;
+            return Err(BadStart::Limit);
         }
         if bad_start(limit, sequence, total) {
-            return Begun::BadArgument;
+            return Err(BadStart::Argument);
         }
         let progress = PartProgress::start(sequence, total);
-        Begun::Ready(PartWriter { limit, progress })
+        Ok(PartWriter { limit, progress })
     }
 
     // Takes payload and writes the frame on into an output.

@@ -16,7 +16,8 @@ use Rattle.classic_parts.specs.declared.state.PartProgress.{PartProgress}
 use Rattle.classic_parts.specs.State.{is_payload, is_done, in_payload, ended}
 use Rattle.classic_parts.specs.Byte.{Byte, nothing, byte, payload_byte, body_byte, closing, stage_byte, pending_byte, byte_of}
 use Rattle.classic_parts.specs.Fill.{Filled, stopped, and_on, fill_of}
-use Rattle.classic_parts.specs.Writer.{PartCount, count}
+use Rattle.classic_parts.specs.declared.writer.PartCount.{PartCount}
+use Rattle.classic_parts.specs.Writer.{count}
 use Rattle.classic_parts.proofs.Filling.{byte-takes}
 use Rattle.classic_parts_claims.specs.Stopping.{Stops, full, over, wants, PartsStop}
 use Rattle.classic_parts_claims.proofs.Filled.{call-filled}

@@ -7,7 +7,8 @@ use Rattle.classic_writer.specs.Sending.{FrameToSend, Sendable, sent}
 use Rattle.classic_parts.specs.declared.state.Stage.{Stage}
 use Rattle.classic_parts.specs.declared.state.Stage.TheVariants as stage
 use Rattle.classic_parts.specs.declared.state.PartProgress.{PartProgress}
-use Rattle.classic_parts.specs.Writer.{PartCount, count, wrote, begin_of, part_of}
+use Rattle.classic_parts.specs.declared.writer.PartCount.{PartCount}
+use Rattle.classic_parts.specs.Writer.{count, wrote, begin_of, part_of}
 use Rattle.classic_parts_claims.specs.Run.{PartCall, part, beyond, PartRun, run_of}
 
 abbrev limit : ℕ

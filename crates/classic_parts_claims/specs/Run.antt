@@ -2,7 +2,8 @@
 use Rattle.std.specs.Prelude.{ℕ, ◌+◌, Bool, false, cond, ◌&&◌, List, [], ◌∷◌, ◌++◌, length, take, drop, leb}
 use Rattle.wire.specs.Told.{Told, given, refused}
 use Rattle.classic_parts.specs.declared.state.PartProgress.{PartProgress}
-use Rattle.classic_parts.specs.Writer.{PartCount, part_of}
+use Rattle.classic_parts.specs.declared.writer.PartCount.{PartCount}
+use Rattle.classic_parts.specs.Writer.{part_of}
 
 -- a call and the output that is lent to it: the next n payload bytes are offered, or as many as are left; or all that are left and more
 -- bytes, one at least, behind them

@@ -5,7 +5,8 @@ use Rattle.wire.specs.Limit.{limit_fits}
 use Rattle.classic_frame.specs.Mark.{is_mark}
 use Rattle.classic_parts.specs.declared.state.PartProgress.{PartProgress}
 use Rattle.classic_parts.specs.State.{in_payload, ended}
-use Rattle.classic_parts.specs.Writer.{PartCount, part_of}
+use Rattle.classic_parts.specs.declared.writer.PartCount.{PartCount}
+use Rattle.classic_parts.specs.Writer.{part_of}
 
 -- what a call has to take: a lawful state, no more payload than is missing, and an output of one byte or more
 pub record Offering (limit : ℕ) (s : PartProgress) (offered out : List ℕ) : Type 0 where

@@ -1,14 +1,12 @@
 -- The frame writer: what it tells and leaves.
-use Rattle.std.specs.Prelude.{ℕ, ◌+◌, ◌≤◌, ◌≡◌, List, [], ◌∷◌, not, ◌||◌, length, drop, ltb}
+use Rattle.std.specs.Prelude.{ℕ, ◌+◌, ◌≤◌, ◌≡◌, List, [], ◌∷◌, not, ◌||◌, length, drop, ltb, Result}
 use Rattle.std.proofs.lemmas.List.Edits.{sets}
-use Rattle.wire.specs.Told.{Told, given, refused, line, Written, writes}
+use Rattle.wire.specs.Told.{Told, told_by, line, Written, writes}
 use Rattle.wire.specs.Limit.{limit_fits}
 use Rattle.classic_frame.specs.Mark.{is_mark}
 use Rattle.classic_frame.specs.Frame.{escaped_of, frame_of}
 use Rattle.classic_writer.specs.declared.writer.Refusal.{Refusal}
 use Rattle.classic_writer.specs.declared.writer.Refusal.TheVariants.{BadLimit, BadArgument, NoRoom}
-use Rattle.classic_writer.specs.declared.writer.WriteOutcome.{WriteOutcome}
-use Rattle.classic_writer.specs.declared.writer.WriteOutcome.TheVariants.{Frame, Refused}
 
 abbrev pub number_of : Refusal → ℕ
 number_of BadLimit = 17
@@ -16,9 +14,8 @@ number_of BadArgument = 15
 number_of NoRoom = 14
 
 -- the frame's length
-abbrev pub told : WriteOutcome → Told ℕ
-told (Frame n) = given n
-told (Refused r) = refused (number_of r)
+abbrev pub told : Result ℕ Refusal → Told ℕ
+told = told_by number_of
 
 -- the writer, on all inputs
 abbrev pub write_of : ℕ → ℕ → List ℕ → List ℕ → Written ℕ

@@ -9,22 +9,23 @@ ghost use Rattle.classic_writer.specs.Writer.{number_of, told, write_of, Left};
 
 use classic_frame::checksum::checksum;
 use classic_frame::header::{ERROR_ID, PACKET_ID};
-use classic_frame::mark::{Kind, Mark, code_for, is_mark, kind_of};
+use classic_frame::mark::{Mark, code_for, is_mark};
 use wire::limit::limit_fits;
+use wire::refusal::Numbered;
 use wire::scan::copy_clear;
 
 // Refusals 17, 15 and 14.
-#[derive(Drop)]
+#[derive(Clone, Copy, Debug, PartialEq, Eq)]
 pub enum Refusal {
     BadLimit,
     BadArgument,
     NoRoom,
 }
 
-impl Refusal {
-    pub fn number(self) -> u8
-        ensures { result ≡ number_of self }
-    {
+impl Numbered for Refusal {
+    ghost number_of = { number_of };
+
+    fn number(&self) -> u8 {
         match self {
             Refusal::BadLimit => 17,
             Refusal::BadArgument => 15,
@@ -33,11 +34,11 @@ impl Refusal {
     }
 }
 
-// The length of the frame written, or why none was.
-#[derive(Drop)]
-pub enum WriteOutcome {
-    Frame(usize),
-    Refused(Refusal),
+// The two bytes of a payload's checksum.
+#[derive(Clone, Copy)]
+struct Checksum {
+    high: u8,
+    low: u8,
 }
 
 // The bytes of a frame beside its payload, with each byte of the checksum escaped: header, checksum, end mark.
@@ -47,12 +48,7 @@ const LARGEST_FRAMING: usize = 9;
 fn extra(b: u8) -> u16
     ensures { (result + 1 ≡ length (escaped_by (kind_of b) b)) × (result ≤ 1) }
 {
-    match kind_of(b) {
-        Kind::Start => 1,
-        Kind::End => 1,
-        Kind::Escape => 1,
-        Kind::Plain => 0,
-    }
+    is_mark(b) as u16
 }
 
 // The bytes that one byte takes.
@@ -68,10 +64,8 @@ fn escaped_size(bytes: &[u8]) -> usize
     ensures { (result ≡ length (escaped_of bytes.now)) × (result ≤ 131070) }
 {
     let mut marks: u16 = 0;
-    let mut i = 0;
-    while i < bytes.len() {
-        marks += extra(bytes[i]);
-        i += 1;
+    for b in bytes {
+        marks += extra(*b);
     }
     bytes.len() + marks as usize
 }
@@ -115,19 +109,18 @@ fn put_marks(out: &mut [u8], place: usize, bytes: &[u8], i: usize) -> usize
     ensures { Left bytes.now out.old place i out.new (place + 2 * (result - i)) result }
 {
     let mut at = place;
-    let mut end = i;
-    while end < bytes.len() {
+    for end in i..bytes.len() {
         let b = bytes[end];
         if !is_mark(b) {
             return end;
         }
         at = put_code(out, at, code_for(b));
-        end += 1;
     }
-    end
+    bytes.len()
 }
 
-// Writes a run, escaped, from a place, and returns the place after it.
+// Writes a run, escaped, from a place, and returns the place after it. A turn passes as many bytes as were plain and marks, so
+// no `for` fits.
 fn put_all(out: &mut [u8], at: usize, bytes: &[u8]) -> usize
     requires { at + length (escaped_of bytes.now) ≤ length out.old }
     ensures { (result ≡ at + length (escaped_of bytes.now))
@@ -160,64 +153,74 @@ fn put_header(out: &mut [u8], sequence: u8)
 }
 
 // Writes the frame of a payload and a checksum where there is room for it, and returns its length.
-fn put_frame(out: &mut [u8], sequence: u8, payload: &[u8], high: u8, low: u8) -> usize
-    requires { length (framed sequence (payload.now ++ (high ∷ low ∷ []))) ≤ length out.old }
-    ensures { (result ≡ length (framed sequence (payload.now ++ (high ∷ low ∷ []))))
-        × (out.new ≡ sets out.old 0 (framed sequence (payload.now ++ (high ∷ low ∷ [])))) }
+fn put_frame(out: &mut [u8], sequence: u8, payload: &[u8], sum: Checksum) -> usize
+    requires { length (framed sequence (payload.now ++ (sum.high ∷ sum.low ∷ []))) ≤ length out.old }
+    ensures { (result ≡ length (framed sequence (payload.now ++ (sum.high ∷ sum.low ∷ []))))
+        × (out.new ≡ sets out.old 0 (framed sequence (payload.now ++ (sum.high ∷ sum.low ∷ [])))) }
 {
     put_header(out, sequence);
     let after_payload = put_all(out, 4, payload);
-    let after_high = put_escaped(out, after_payload, high);
-    let after_low = put_escaped(out, after_high, low);
+    let after_high = put_escaped(out, after_payload, sum.high);
+    let after_low = put_escaped(out, after_high, sum.low);
     out[after_low] = Mark::END;
     after_low + 1
 }
 
 // Whether a frame fits: at once where there is room for it with each byte escaped, else by its size.
-fn has_room(sequence: u8, payload: &[u8], high: u8, low: u8, room: usize) -> bool
+fn has_room(sequence: u8, payload: &[u8], sum: Checksum, room: usize) -> bool
     requires { length payload.now ≤ 65535 }
-    ensures { result ≡ leb (length (framed sequence (payload.now ++ (high ∷ low ∷ [])))) room }
+    ensures { result ≡ leb (length (framed sequence (payload.now ++ (sum.high ∷ sum.low ∷ [])))) room }
 {
     if LARGEST_FRAMING + 2 * payload.len() <= room {
         return true;
     }
-    5 + escaped_size(payload) + width(high) + width(low) <= room
+    5 + escaped_size(payload) + width(sum.high) + width(sum.low) <= room
 }
 
-// Writes the frame of a payload, for a link with a limit in its range and a sequence that is no mark.
-fn write_within(sequence: u8, limit: usize, payload: &[u8], out: &mut [u8]) -> WriteOutcome
+// Writes the frame of a payload, for a link with a limit in its range and a sequence that is no mark, and returns its length.
+fn write_within(
+    sequence: u8,
+    limit: usize,
+    payload: &[u8],
+    out: &mut [u8],
+) -> Result<usize, Refusal>
     requires { (limit_fits limit ≡ true) × (is_mark sequence ≡ false) }
     ensures { written (told result) out.new
         ≡ write_of limit sequence payload.now out.old }
 {
     if limit < payload.len() {
-        return WriteOutcome::Refused(Refusal::BadArgument);
+        return Err(Refusal::BadArgument);
     }
-    let sum = checksum(payload);
-    let high = (sum / 256) as u8;
-    let low = (sum % 256) as u8;
-    if has_room(sequence, payload, high, low, out.len()) {
-        WriteOutcome::Frame(put_frame(out, sequence, payload, high, low))
-    } else {
-        WriteOutcome::Refused(Refusal::NoRoom)
+    let total = checksum(payload);
+    let sum = Checksum {
+        high: (total / 256) as u8,
+        low: (total % 256) as u8,
+    };
+    if !has_room(sequence, payload, sum, out.len()) {
+        return Err(Refusal::NoRoom);
     }
+    Ok(put_frame(out, sequence, payload, sum))
 }
 
-// Writes the frame of a payload, for a link with a limit. The sequence is looked at first: right before the payload's length
-// the compiler makes one test of both, which costs more.
-pub fn write_frame(sequence: u8, limit: usize, payload: &[u8], out: &mut [u8]) -> WriteOutcome
+// Writes the frame of a payload, for a link with a limit, and returns its length. The sequence is looked at first: right
+// before the payload's length the compiler makes one test of both, which costs more.
+pub fn write_frame(
+    sequence: u8,
+    limit: usize,
+    payload: &[u8],
+    out: &mut [u8],
+) -> Result<usize, Refusal>
     ensures { written (told result) out.new
         ≡ write_of limit sequence payload.now out.old }
 {
     if is_mark(sequence) {
         if limit_fits(limit) {
-            return WriteOutcome::Refused(Refusal::BadArgument);
+            return Err(Refusal::BadArgument);
         }
-        return WriteOutcome::Refused(Refusal::BadLimit);
+        return Err(Refusal::BadLimit);
     }
-    if limit_fits(limit) {
-        write_within(sequence, limit, payload, out)
-    } else {
-        WriteOutcome::Refused(Refusal::BadLimit)
+    if !limit_fits(limit) {
+        return Err(Refusal::BadLimit);
     }
+    write_within(sequence, limit, payload, out)
 }

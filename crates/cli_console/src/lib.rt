@@ -3,13 +3,12 @@
 
 pub mod sentences;
 
-ghost use Rattle.std.specs.Prelude.{◌≡◌, true, false, ◌≤◌, length, OnOk, OnErr};
+ghost use Rattle.std.specs.Prelude.{◌≡◌, true, false, ◌≤◌, length, IfOk, IfSome, OnOk, OnErr};
 
 use std::env::FillError;
 use std::io;
 use std::io::{Error, Read, Stderr, Stdout, Write};
 use std::rt::Env;
-use wire::bytes::byte_at;
 
 // Where a program writes: its output, and what it says to whoever runs it.
 #[derive(Clone, Copy)]
@@ -18,7 +17,21 @@ pub struct Console {
     pub errors: Stderr,
 }
 
-// Standard output, and whether a write to it has failed: nothing more is then written.
+impl Console {
+    pub fn of(rt: &HostRuntime) -> Self {
+        Console {
+            output: rt.stdout(),
+            errors: rt.stderr(),
+        }
+    }
+}
+
+// A read that failed: what failed is said already.
+#[derive(Clone, Copy, Debug, PartialEq, Eq)]
+pub struct Failed;
+
+// Standard output, and whether a write to it has failed: nothing more is then written. Kept beside the console and no error in its
+// place, since a listing goes on after a failed write: what refuses the input is still said on the error output, as programs must print.
 #[derive(Clone, Copy)]
 pub struct Output {
     pub console: Console,
@@ -35,16 +48,21 @@ impl Output {
         }
     }
 
-    fn after(self, written: io::Result<()>) -> Self
-        ensures ok { OnOk written (result.failed ≡ self.failed) }
-        ensures err { OnErr written (result.failed ≡ true) }
+    // Writes, unless a write has failed.
+    fn write<F: FnOnce(Stdout) -> io::Result<()> + Drop>(self, write: F) -> Self
+        requires { F.pre write self.console.output }
+        ensures { self.failed ≡ true → result.failed ≡ true }
     {
-        match written {
+        let console = self.console;
+        if self.failed {
+            return self;
+        }
+        match write(console.output) {
             Ok(()) => self,
             Err(error) => {
-                fail(self.console, b"standard output", error);
+                fail(console, b"standard output", error);
                 Output {
-                    console: self.console,
+                    console,
                     failed: true,
                 }
             }
@@ -54,32 +72,27 @@ impl Output {
     pub fn text(self, words: &[u8]) -> Self
         ensures { self.failed ≡ true → result.failed ≡ true }
     {
-        if self.failed {
-            return self;
-        }
-        let out = self.console.output;
-        self.after(Print::write_all(&out, words))
+        self.write(|out| Print::write_all(&out, words))
     }
 
     pub fn number(self, n: u64) -> Self
         ensures { self.failed ≡ true → result.failed ≡ true }
     {
-        if self.failed {
-            return self;
-        }
-        let out = self.console.output;
-        self.after(print!(out; "{n}"))
+        self.write(|out| print!(out; "{n}"))
+    }
+
+    // A number at the right of a column of ten digits.
+    pub fn column(self, n: u64) -> Self
+        ensures { self.failed ≡ true → result.failed ≡ true }
+    {
+        self.write(|out| print!(out; "{n:>10}"))
     }
 
     // A byte as two hexadecimal digits.
     pub fn byte(self, b: u8) -> Self
         ensures { self.failed ≡ true → result.failed ≡ true }
     {
-        if self.failed {
-            return self;
-        }
-        let out = self.console.output;
-        self.after(print!(out; "{b:02x}"))
+        self.write(|out| print!(out; "{b:02x}"))
     }
 }
 
@@ -108,50 +121,31 @@ pub fn fail(console: Console, what: &[u8], error: Error) {
     let _ = write!(rest, "{error}");
     complain(console, what);
     complain(console, b": ");
-    match std::str::from_utf8(&space) {
-        Ok(text) => complain(console, words_alone(text.trim_end_matches('\0')).as_bytes()),
-        Err(_) => {}
+    if let Ok(text) = std::str::from_utf8(&space) {
+        complain(console, words_alone(text.trim_end_matches('\0')).as_bytes());
     }
     complain(console, b"\n");
 }
 
-fn is_same(a: &[u8], b: &[u8]) -> bool {
-    if a.len() != b.len() {
-        return false;
-    }
-    for i in 0..a.len() {
-        if byte_at(a, i) != byte_at(b, i) {
-            return false;
-        }
-    }
-    true
-}
-
-// Puts the program's argument at an index at the start of the space, and tells how many bytes it has; 0 where it is missing or
-// does not fit.
-pub fn argument<E: Env>(rt: &E, i: usize, space: &mut [u8]) -> usize
-    ensures { result ≤ length space.new }
+// Puts the program's argument at an index at the start of the space, and tells how many bytes it has, where it is there and fits.
+pub fn argument<E: Env>(rt: &E, i: usize, space: &mut [u8]) -> Option<usize>
+    ensures { IfSome result (λ n. n ≤ length space.new) }
 {
-    match rt.arg(i, space) {
-        Ok(n) => n,
-        Err(_) => 0,
-    }
+    rt.arg(i, space).ok()
 }
 
 // Whether the program's argument at an index is these words.
 pub fn argument_is<E: Env>(rt: &E, i: usize, words: &[u8]) -> bool {
     let mut space = [0u8; 64];
-    let n = argument(rt, i, &mut space);
-    is_same(&space[..n], words)
+    match argument(rt, i, &mut space) {
+        Some(n) => &space[..n] == words,
+        None => false,
+    }
 }
 
 fn has_argument<E: Env>(rt: &E, i: usize) -> bool {
     let mut space = [0u8; 64];
-    match rt.arg(i, &mut space) {
-        Ok(_) => true,
-        Err(FillError::TooLong) => true,
-        Err(FillError::NotPresent) => false,
-    }
+    !matches!(rt.arg(i, &mut space), Err(FillError::NotPresent))
 }
 
 // How many arguments the program was started with, its own name among them.
@@ -173,52 +167,58 @@ pub fn is_alone<E: Env>(rt: &E, console: Console, usage: &[u8]) -> bool {
     false
 }
 
-// What was read of standard input: how many bytes, and whether a read failed.
-#[derive(Drop)]
-pub struct Input {
-    pub held: usize,
-    pub failed: bool,
+// Zeroed bytes. The `ensures` gives only the length, which lending the array as a slice needs.
+pub fn room<const N: usize>() -> [u8; N]
+    ensures { N ≡ length result }
+{
+    [0; N]
+}
+
+fn read_failed(console: Console, error: Error) -> Failed {
+    fail(console, b"standard input", error);
+    Failed
 }
 
 // One read of standard input; 0 bytes are the end of the input.
-pub fn read_some<R: Read>(console: Console, input: &mut R, bytes: &mut [u8]) -> Input
-    ensures { result.held ≤ length bytes.new }
+pub fn read_some<R: Read>(
+    console: Console,
+    input: &mut R,
+    bytes: &mut [u8],
+) -> Result<usize, Failed>
+    ensures { IfOk result (λ n. n ≤ length bytes.new) }
 {
-    match input.read(bytes) {
-        Ok(held) => Input {
-            held,
-            failed: false,
-        },
-        Err(error) => {
-            fail(console, b"standard input", error);
-            Input {
-                held: 0,
-                failed: true,
-            }
-        }
-    }
+    input
+        .read(bytes)
+        .map_err(|error| read_failed(console, error))
 }
 
-// Reads until the bytes are full or the input ends.
-pub fn read_full<R: Read>(console: Console, input: &mut R, bytes: &mut [u8]) -> Input
-    ensures { result.held ≤ length bytes.new }
+// Reads until the bytes are full, the input ends or a read fails; `held` counts the bytes that came. The library's read_exact tells no
+// count where the input ends first, so the loop stays.
+fn fill<R: Read>(input: &mut R, bytes: &mut [u8], held: &mut usize) -> io::Result<()>
+    requires { held.old ≡ 0 }
+    ensures { held.new ≤ length bytes.new }
 {
-    let mut held = 0;
-    while held < bytes.len() {
-        let more = read_some(console, input, &mut bytes[held..]);
-        if more.failed {
-            return Input { held, failed: true };
-        }
-        let n = more.held;
+    while *held < bytes.len() {
+        let n = input.read(&mut bytes[*held..])?;
         if n == 0 {
             break;
         }
-        held += n;
+        *held += n;
     }
-    Input {
-        held,
-        failed: false,
-    }
+    Ok(())
+}
+
+// Reads until the bytes are full or the input ends.
+pub fn read_full<R: Read>(
+    console: Console,
+    input: &mut R,
+    bytes: &mut [u8],
+) -> Result<usize, Failed>
+    ensures { IfOk result (λ n. n ≤ length bytes.new) }
+{
+    let mut held = 0;
+    fill(input, bytes, &mut held).map_err(|error| read_failed(console, error))?;
+    Ok(held)
 }
 
 // Reads until the bytes are full, the input ends or a read fails, of which nothing is said, and tells how many bytes came.
@@ -226,15 +226,6 @@ pub fn read_quietly<R: Read>(input: &mut R, bytes: &mut [u8]) -> usize
     ensures { result ≤ length bytes.new }
 {
     let mut held = 0;
-    while held < bytes.len() {
-        let n = match input.read(&mut bytes[held..]) {
-            Ok(n) => n,
-            Err(_) => 0,
-        };
-        if n == 0 {
-            break;
-        }
-        held += n;
-    }
+    let _ = fill(input, bytes, &mut held);
     held
 }

@@ -1,4 +1,5 @@
-// What a refusal says of a program's input, to whoever runs it.
+// What a refusal says of a program's input, to whoever runs it. By number and by no enum: refusals of five enums of four crates meet here,
+// and an enum of them all would be no plainer.
 use crate::{Console, complain};
 
 // Of an outbox file.

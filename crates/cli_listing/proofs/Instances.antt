@@ -1,11 +1,11 @@
 -- An instance of ListsAsWhole: a format of lengths of one byte and payloads of up to one, a file of two records that comes in two parts.
-use Rattle.std.proofs.Common.{◌≡◌, ℕ, ◌<◌, true, false, List, [], ◌∷◌, ◌++◌, take, refl, arith}
+use Rattle.std.proofs.Common.{◌≡◌, ℕ, ◌<◌, true, false, List, [], ◌∷◌, ◌++◌, take, refl, arith, Err}
 use Rattle.wire.specs.Stream.{is_stream}
-use Rattle.outbox.specs.declared.format.Format.{Format}
-use Rattle.outbox.specs.Format.{number_of}
+use Rattle.outbox.specs.Format.{Format, number_of}
 use Rattle.outbox.specs.Reader.{other_version, bad_place, bad_length, cut_short, bad_stream, record_at, read_of, readings, read_all, walk_of}
 use Rattle.outbox_claims.specs.Claims.{records_of, all_moved, from_place}
-use Rattle.cli_listing.specs.Listing.{listed, listed_of, carried, carry_of}
+use Rattle.outbox.specs.declared.verdict.Fault.TheVariants.{Cut}
+use Rattle.cli_listing.specs.Listing.{listed, listed_of, told_part, carried, carry_of}
 use Rattle.cli_listing.proofs.Parts.{lists-as-whole}
 
 abbrev tiny : Format
@@ -27,6 +27,10 @@ stops = refl
 ends : (listed_of tiny true (take 5 buffer) ≡ listed true 4) × (listed_of tiny false (1 ∷ 0 ∷ []) ≡ listed true 1) × (listed_of tiny false (2 ∷ []) ≡ listed true 0)
 unfolding listed_of is_stream walk_of read_all readings read_of other_version bad_place record_at bad_length cut_short bad_stream number_of
 ends = (refl, refl, refl)
+
+-- a refusal is the end of the listing, at its place
+told : told_part (Err (record { fault = Cut; place = 5 })) ≡ listed true 5
+told = refl
 
 carries : (carry_of buffer 4 5 ≡ carried 2 (1 ∷ 1 ∷ 6 ∷ 65 ∷ 1 ∷ 9 ∷ [])) × (from_place tiny (take 5 buffer ++ more) 4 ≡ 1 ∷ 1 ∷ 2 ∷ [])
 unfolding carry_of

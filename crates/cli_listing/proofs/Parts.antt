@@ -4,8 +4,7 @@ use mathlib.Mathlib.Data.Bool.Basic.{or-eq-false-eq-eq-false-and-eq-false}
 use lib.Seq.{sets, take-append_seam, drop-append-le}
 use borrow.Author.Tests.{not-false}
 use Rattle.wire.proofs.Stores.{part-stored}
-use Rattle.outbox.specs.declared.format.Format.{Format}
-use Rattle.outbox.specs.Format.{is_one, format_of, head_size, new_bytes, first_place}
+use Rattle.outbox.specs.Format.{Format, is_one, format_of, head_size, new_bytes, first_place}
 use Rattle.outbox.specs.Reader.{Answer, HandedRecord, given, refused, refused_at, other_version, read_all, first_refusal, walk_of}
 use Rattle.outbox_claims.specs.Claims.{usable, records_of, all_moved, from_place, ReadsAsAlone}
 use Rattle.outbox.proofs.Versions.{known_small}

@@ -1,8 +1,8 @@
 -- Listing an outbox file part by part: a part is the version byte and the bytes from a place of the file on.
-use Rattle.std.specs.Prelude.{◌≡◌, ℕ, ◌+◌, ◌-◌, ◌<◌, ◌≤◌, Bool, true, false, not, ◌&&◌, List, ◌∷◌, ◌++◌, length, take, drop, ◌==◌}
+use Rattle.std.specs.Prelude.{◌≡◌, ℕ, ◌+◌, ◌-◌, ◌<◌, ◌≤◌, Bool, true, false, not, ◌&&◌, List, ◌∷◌, ◌++◌, length, take, drop, ◌==◌, Result, Ok, Err}
 use Rattle.std.proofs.lemmas.List.Edits.{sets}
-use Rattle.outbox.specs.declared.format.Format.{Format}
-use Rattle.outbox.specs.Format.{Known, format_of, head_size, first_place}
+use Rattle.outbox.specs.declared.verdict.Broken.{Broken}
+use Rattle.outbox.specs.Format.{Format, Known, format_of, head_size, first_place}
 use Rattle.outbox.specs.Reader.{Answer, given, refused, refused_at, read_all, walk_of}
 use Rattle.outbox_claims.specs.Claims.{usable, records_of, all_moved, from_place}
 use Rattle.cli_listing.specs.declared.Listed.{Listed}
@@ -27,6 +27,11 @@ listed over place = record { over = over; place = place }
 -- a part is listed to its end, or to the place of its first refusal
 unfoldable pub listed_of : Format → Bool → List ℕ → Listed
 listed_of fmt last part = listed (is_over last (walk_of fmt part)) (usable (walk_of fmt part) part)
+
+-- a part looked through: a refusal ends the listing at its place
+abbrev pub told_part : Result Listed Broken → Listed
+told_part (Ok part) = part
+told_part (Err broken) = listed true broken.place
 
 -- how many bytes a part has, and the buffer that it begins
 pub record Carried : Type 0 where

@@ -2,21 +2,21 @@
 // passes through one buffer that holds the version byte and the bytes from a record's place on.
 #![tactic(auto)]
 
-ghost use Rattle.std.specs.Prelude.{◌≡◌, ◌≤◌, length, take, ◌==◌};
+ghost use Rattle.std.specs.Prelude.{◌≡◌, ◌≤◌, length, take, ◌==◌, IfOk};
 ghost use Rattle.outbox.specs.Format.{format_of, first_place};
-ghost use Rattle.outbox.specs.Reader.{fault_number};
-ghost use Rattle.cli_listing.specs.Listing.{buffer_size, ends_by, listed, listed_of, carried, carry_of, ListsAsWhole};
+ghost use Rattle.outbox.specs.Reader.{broken_number};
+ghost use Rattle.cli_listing.specs.Listing.{buffer_size, ends_by, listed, listed_of, told_part, carried, carry_of, ListsAsWhole};
 
 use cli_console::sentences::explain_outbox;
-use cli_console::{Console, Output, read_some};
+use cli_console::{Console, Failed, Output, read_some};
 use cli_payloads::say_payload;
 use outbox::format::FIRST_PLACE;
-use outbox::reader::{Reading, read, walk};
-use outbox::verdict::{Fault, Walked};
+use outbox::reader::{FoundRecord, ReadRefusal, read, walk};
+use outbox::verdict::{Broken, Fault};
 use std::io::Read;
 use std::num::wrapping_add_u64;
-use wire::bytes::smaller;
-use wire::logic::{both, either};
+use wire::logic::both;
+use wire::refusal::Numbered;
 
 // The bytes of a part: the version byte and the longest record of any version.
 const ROOM: usize = 65541;
@@ -29,17 +29,11 @@ pub enum RecordView {
 }
 
 // How far the listing of a part of a file went, and whether the listing is over: it is at the end of the file or at a refusal.
-#[derive(Drop)]
+// Two fields, since `ListsAsWhole` speaks of both, and each place means something.
+#[derive(Clone, Copy, Debug, PartialEq, Eq)]
 pub struct Listed {
     pub over: bool,
     pub place: usize,
-}
-
-// How far a part is whole, and the number of the refusal that ends it there; 0 where none does.
-#[derive(Drop)]
-pub struct JudgedPart {
-    pub listed: Listed,
-    pub number: u8,
 }
 
 // What was listed, and what is written of it.
@@ -49,19 +43,18 @@ pub struct ShownPart {
     pub output: Output,
 }
 
-// The bytes that a part begins with, whether the input has ended, and whether a read failed.
+// Room for a part.
+pub fn room() -> [u8; ROOM]
+    ensures { buffer_size ≡ length result }
+{
+    cli_console::room()
+}
+
+// The bytes that a part begins with, and whether the input has ended.
 #[derive(Drop)]
 pub struct Refilled {
     pub held: usize,
     pub last: bool,
-    pub failed: bool,
-}
-
-// Room for a part. The `ensures` gives only the length, which lending the array as a slice needs.
-pub fn room() -> [u8; ROOM]
-    ensures { buffer_size ≡ length result }
-{
-    [0; ROOM]
 }
 
 // A place of the file, by how many bytes of it are gone from the part.
@@ -69,19 +62,19 @@ fn say_place(output: Output, gone: u64, place: usize) -> Output {
     output.number(wrapping_add_u64(gone, place as u64))
 }
 
-fn say_record(output: Output, gone: u64, place: usize, stream: u8, size: usize) -> Output {
+fn say_record(output: Output, gone: u64, place: usize, found: FoundRecord) -> Output {
     let placed = say_place(output.text(b"record "), gone, place);
     placed
         .text(b" ")
-        .number(stream as u64)
+        .number(u64::from(found.stream))
         .text(b" ")
-        .number(size as u64)
+        .number(found.size as u64)
 }
 
 // The payload, where it is to be shown, and the end of the record's line.
-fn say_rest(output: Output, view: RecordView, part: &[u8], start: usize, size: usize) -> Output {
-    let from = smaller(part.len(), start);
-    let len = smaller(part.len() - from, size);
+fn say_rest(output: Output, view: RecordView, part: &[u8], found: FoundRecord) -> Output {
+    let from = found.start.min(part.len());
+    let len = found.size.min(part.len() - from);
     match view {
         RecordView::Lengths => output.text(b"\n"),
         RecordView::Payloads => say_payload(output, &part[from..from + len]).text(b"\n"),
@@ -93,21 +86,10 @@ fn say_end(output: Output, gone: u64, place: usize) -> Output {
 }
 
 fn say_refused(output: Output, number: u8, gone: u64, place: usize) -> Output {
-    let refused = output.text(b"refused ").number(number as u64);
+    let refused = output.text(b"refused ").number(u64::from(number));
     let said = say_place(refused.text(b" at "), gone, place).text(b"\n");
     explain_outbox(output.console, number);
     said
-}
-
-fn is_cut(fault: Fault) -> bool
-    ensures { result ≡ (fault_number fault == 41) }
-{
-    match fault {
-        Fault::Version => false,
-        Fault::Length => false,
-        Fault::Cut => true,
-        Fault::Stream => false,
-    }
 }
 
 // The end of a part: of the file only where the part is its last.
@@ -125,49 +107,44 @@ fn list_end(output: Output, gone: u64, place: usize, last: bool) -> ShownPart
 }
 
 // A refusal in a part: a record that is cut short may go on in the next part.
-fn judge_refusal(fault: Fault, place: usize, last: bool) -> JudgedPart
-    ensures { result.listed ≡ listed (ends_by last (fault_number fault)) place }
+fn judge_refusal(broken: Broken, last: bool) -> Result<Listed, Broken>
+    ensures { told_part result ≡ listed (ends_by last (broken_number broken)) broken.place }
 {
-    if both(is_cut(fault), !last) {
-        return JudgedPart {
-            listed: Listed { over: false, place },
-            number: 0,
-        };
+    if both(broken.fault == Fault::Cut, !last) {
+        return Ok(Listed {
+            over: false,
+            place: broken.place,
+        });
     }
-    JudgedPart {
-        listed: Listed { over: true, place },
-        number: fault.number(),
-    }
+    Err(broken)
 }
 
-// A part looked through, and nothing written of it.
-pub fn judge_part(part: &[u8], last: bool) -> JudgedPart
-    ensures { result.listed ≡ listed_of (format_of part.now) last part.now }
+// A part looked through, and nothing written of it: how far it is whole, or the refusal that ends the listing there.
+pub fn judge_part(part: &[u8], last: bool) -> Result<Listed, Broken>
+    ensures { told_part result ≡ listed_of (format_of part.now) last part.now }
 {
     match walk(part) {
-        Walked::Whole => JudgedPart {
-            listed: Listed {
-                over: last,
-                place: part.len(),
-            },
-            number: 0,
-        },
-        Walked::Broken { fault, place } => judge_refusal(fault, place, last),
+        Ok(()) => Ok(Listed {
+            over: last,
+            place: part.len(),
+        }),
+        Err(broken) => judge_refusal(broken, last),
     }
 }
 
-fn list_refusal(output: Output, fault: Fault, gone: u64, place: usize, last: bool) -> ShownPart
-    ensures { result.listed ≡ listed (ends_by last (fault_number fault)) place }
+fn list_refusal(output: Output, broken: Broken, gone: u64, last: bool) -> ShownPart
+    ensures { result.listed ≡ listed (ends_by last (broken_number broken)) broken.place }
 {
-    let judged = judge_refusal(fault, place, last);
-    let listed = judged.listed;
-    if listed.over {
-        return ShownPart {
-            listed,
-            output: say_refused(output, judged.number, gone, place),
-        };
+    match judge_refusal(broken, last) {
+        Ok(listed) => ShownPart { listed, output },
+        Err(broken) => ShownPart {
+            listed: Listed {
+                over: true,
+                place: broken.place,
+            },
+            output: say_refused(output, broken.number(), gone, broken.place),
+        },
     }
-    ShownPart { listed, output }
 }
 
 // A line for each whole record of a part, and one for the end or the refusal where the listing is over.
@@ -177,32 +154,26 @@ pub fn list_part(output: Output, view: RecordView, part: &[u8], gone: u64, last:
     let mut said = output;
     let mut place = FIRST_PLACE;
     loop {
-        let reading = read(part, place);
-        match reading {
-            Reading::Record {
-                stream,
-                start,
-                size,
-                next,
-            } => {
-                said = say_record(said, gone, place, stream, size);
-                said = say_rest(said, view, part, start, size);
-                place = next;
+        match read(part, place) {
+            Ok(Some(found)) => {
+                said = say_record(said, gone, place, found);
+                said = say_rest(said, view, part, found);
+                place = found.next;
             }
-            Reading::End => {
+            Ok(None) => {
                 return list_end(said, gone, place, last);
             }
-            Reading::BadPlace => {
+            Err(ReadRefusal::BadPlace) => {
                 return ShownPart {
                     listed: Listed {
                         over: true,
                         place: 0,
                     },
-                    output: say_refused(said, reading.number(), gone, place),
+                    output: say_refused(said, ReadRefusal::BadPlace.number(), gone, place),
                 };
             }
-            Reading::Broken { fault, place: at } => {
-                return list_refusal(said, fault, gone, at, last);
+            Err(ReadRefusal::Broken(broken)) => {
+                return list_refusal(said, broken, gone, last);
             }
         }
     }
@@ -214,43 +185,42 @@ pub fn carry_over(buffer: &mut [u8], place: usize, held: usize) -> usize
     ensures { carried result buffer.new ≡ carry_of buffer.old place held }
 {
     let n = held - place;
-    let mut i = 0;
-    while i < n {
-        buffer[FIRST_PLACE + i] = buffer[place + i];
-        i += 1;
-    }
+    buffer.copy_within(place..held, FIRST_PLACE);
     FIRST_PLACE + n
 }
 
 // One read of standard input behind the bytes that the buffer keeps: what has come is listed, though the stream stays open.
-pub fn refill<R: Read>(console: Console, input: &mut R, buffer: &mut [u8], kept: usize) -> Refilled
+pub fn refill<R: Read>(
+    console: Console,
+    input: &mut R,
+    buffer: &mut [u8],
+    kept: usize,
+) -> Result<Refilled, Failed>
     requires { kept ≤ length buffer.old }
-    ensures { (result.held ≤ length buffer.new)
+    ensures { (IfOk result (λ part. part.held ≤ length buffer.new))
         × (take kept buffer.new ≡ take kept buffer.old) }
 {
-    let came = read_some(console, input, &mut buffer[kept..]);
-    let read = came.held;
-    let held = kept + read;
-    Refilled {
-        held,
+    let read = read_some(console, input, &mut buffer[kept..])?;
+    Ok(Refilled {
+        held: kept + read,
         last: read == 0,
-        failed: came.failed,
-    }
+    })
 }
 
 // Lists what standard input holds, each record as it comes, up to a read or a write that fails. A part is never full before a read: a
-// full one is listed beyond its first record. Nothing says that the input ends, so the loop counts down from a number that no run uses up.
+// full one is listed beyond its first record. Nothing says that the input ends, so the loop counts up to a number that no run comes to.
 pub fn list<R: Read>(console: Console, input: &mut R, buffer: &mut [u8], view: RecordView) {
     let mut output = Output::new(console);
     let mut gone = 0;
-    let mut filled = refill(console, input, buffer, 0);
-    let mut turns = u64::MAX;
-    while turns > 0 {
-        turns -= 1;
-        let held = filled.held;
-        if either(filled.failed, output.failed) {
+    let mut kept = 0;
+    for _turn in 0..u64::MAX {
+        let Ok(filled) = refill(console, input, buffer, kept) else {
+            return;
+        };
+        if output.failed {
             return;
         }
+        let held = filled.held;
         let shown = list_part(output, view, &buffer[..held], gone, filled.last);
         let listed = shown.listed;
         if listed.over {
@@ -259,8 +229,7 @@ pub fn list<R: Read>(console: Console, input: &mut R, buffer: &mut [u8], view: R
         output = shown.output;
         let place = listed.place;
         gone = wrapping_add_u64(gone, (place - FIRST_PLACE) as u64);
-        let kept = carry_over(buffer, place, held);
-        filled = refill(console, input, buffer, kept);
+        kept = carry_over(buffer, place, held);
     }
 }
 

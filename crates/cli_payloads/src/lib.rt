@@ -5,14 +5,13 @@ ghost use Rattle.std.specs.Prelude.{◌≡◌, true};
 
 use cli_console::Output;
 use utf8_shown::is_text;
-use wire::bytes::byte_at;
 
 fn say_bytes(output: Output, payload: &[u8]) -> Output
     ensures { output.failed ≡ true → result.failed ≡ true }
 {
     let mut said = output;
-    for i in 0..payload.len() {
-        said = said.text(b" ").byte(byte_at(payload, i));
+    for b in payload {
+        said = said.text(b" ").byte(*b);
     }
     said
 }
@@ -21,7 +20,7 @@ fn say_bytes(output: Output, payload: &[u8]) -> Output
 pub fn say_payload(output: Output, payload: &[u8]) -> Output
     ensures { output.failed ≡ true → result.failed ≡ true }
 {
-    if payload.len() == 0 {
+    if payload.is_empty() {
         return output.text(b" empty");
     }
     if is_text(payload) {

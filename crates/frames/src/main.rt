@@ -1,14 +1,15 @@
 // Lists the frames of a Classic byte stream from standard input.
 #![tactic(auto)]
 
-use classic_extractor::outcome::Refusal;
+use classic_extractor::outcome::{Frame, Refusal};
 use classic_extractor::state::{CHECKSUM, Extractor, Phase, Progress};
-use classic_feed::many::{Fed, FeedOutcome, feed};
+use classic_feed::many::{Fed, feed};
 use classic_frame::mark::Mark;
 use cli_console::{Console, Output, complain, is_alone, read_some};
 use std::io::Read;
 use std::num::{wrapping_add_u64, wrapping_sub_u64};
 use wire::logic::both;
+use wire::refusal::Numbered;
 
 // The limit of the link that is listed.
 const LIMIT: usize = 4096;
@@ -28,22 +29,22 @@ struct Listing {
     output: Output,
 }
 
-fn say_frame(output: Output, place: u64, sequence: u8, len: usize) -> Output {
+fn say_frame(output: Output, place: u64, frame: Frame) -> Output {
     let placed = output.text(b"frame ").number(place);
-    let numbered = placed.text(b" ").number(sequence as u64);
-    numbered.text(b" ").number(len as u64).text(b"\n")
+    let numbered = placed.text(b" ").number(u64::from(frame.sequence));
+    numbered.text(b" ").number(frame.len as u64).text(b"\n")
 }
 
 fn say_refused(output: Output, place: u64, why: Refusal) -> Output {
-    let refused = output.text(b"refused ").number(why.number() as u64);
+    let refused = output.text(b"refused ").number(u64::from(why.number()));
     refused.text(b" at ").number(place).text(b"\n")
 }
 
-fn say_outcome(output: Output, place: u64, outcome: FeedOutcome) -> Output {
+fn say_outcome(output: Output, place: u64, outcome: Result<Option<Frame>, Refusal>) -> Output {
     match outcome {
-        FeedOutcome::AllUsed => output,
-        FeedOutcome::Frame { sequence, len } => say_frame(output, place, sequence, len),
-        FeedOutcome::Refused(why) => say_refused(output, place, why),
+        Ok(None) => output,
+        Ok(Some(frame)) => say_frame(output, place, frame),
+        Err(why) => say_refused(output, place, why),
     }
 }
 
@@ -69,15 +70,7 @@ fn say_end(listing: Listing) {
 }
 
 fn is_outside(progress: Progress) -> bool {
-    let phase = progress.phase;
-    match phase {
-        Phase::Outside => true,
-        Phase::PacketId => false,
-        Phase::ErrorId => false,
-        Phase::Sequence => false,
-        Phase::Body => false,
-        Phase::Escaped => false,
-    }
+    progress.phase == Phase::Outside
 }
 
 // The bytes of one call that were skipped: outside of a frame, those before a start mark.
@@ -86,14 +79,10 @@ fn skipped_in(state: Extractor, bytes: &[u8]) -> usize {
     if !is_outside(progress) {
         return 0;
     }
-    let mut i = 0;
-    while i < bytes.len() {
-        if bytes[i] == Mark::START {
-            return i;
-        }
-        i += 1;
-    }
-    i
+    bytes
+        .iter()
+        .position(|b| *b == Mark::START)
+        .unwrap_or(bytes.len())
 }
 
 // Lists what one call did with the bytes that it used.
@@ -131,7 +120,7 @@ fn list_block(listing: Listing, buffer: &mut [u8], bytes: &[u8]) -> Listing {
 }
 
 // Lists what standard input holds, each read as it comes: a frame is told when its last byte is there, though the stream stays open.
-// Nothing says that it ends, so the loop counts down from a number that no run uses up.
+// Nothing says that it ends, so the loop counts up to a number that no run comes to.
 fn list_all<R: Read>(console: Console, stream: &mut R, buffer: &mut [u8]) {
     let mut bytes = [0u8; BLOCK];
     let state = Extractor::outside(LIMIT);
@@ -141,14 +130,10 @@ fn list_all<R: Read>(console: Console, stream: &mut R, buffer: &mut [u8]) {
         skipped: 0,
         output: Output::new(console),
     };
-    let mut turns = u64::MAX;
-    while turns > 0 {
-        turns -= 1;
-        let input = read_some(console, stream, &mut bytes);
-        if input.failed {
+    for _turn in 0..u64::MAX {
+        let Ok(got) = read_some(console, stream, &mut bytes) else {
             return;
-        }
-        let got = input.held;
+        };
         if got == 0 {
             break;
         }
@@ -162,10 +147,7 @@ fn list_all<R: Read>(console: Console, stream: &mut R, buffer: &mut [u8]) {
 }
 
 fn main(rt: HostRuntime) {
-    let console = Console {
-        output: rt.stdout(),
-        errors: rt.stderr(),
-    };
+    let console = Console::of(&rt);
     if !is_alone(&rt, console, b"usage: frames < BYTES\n") {
         return;
     }

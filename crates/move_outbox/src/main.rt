@@ -4,22 +4,20 @@
 // holds whole is not read again.
 #![tactic(auto)]
 
-ghost use Rattle.std.specs.Prelude.{◌≡◌, length};
-
 use cli_console::sentences::explain_outbox;
 use cli_console::{
-    Console, Output, argument_count, argument_is, complain, complain_number, read_full,
+    Console, Failed, Output, argument_count, argument_is, complain, complain_number, read_full,
+    room,
 };
 use cli_listing::{Refilled, carry_over, judge_part, refill};
-use outbox::format::FIRST_PLACE;
-use outbox_move::{Moved, Wished, move_file};
+use outbox::format::{FIRST_PLACE, FileVersion};
+use outbox_move::{MoveRefusal, move_file};
 use std::fs;
 use std::io::{Read, Stdin};
 use std::num::wrapping_add_u64;
 use std::os::unix::fs::FileTypeExt;
 use std::rt::{Env, Files};
-use wire::bytes::smaller;
-use wire::logic::either;
+use wire::refusal::Numbered;
 
 // In any version a part has less than twice its bytes.
 const MOVED_ROOM: usize = 131082;
@@ -27,19 +25,21 @@ const MOVED_ROOM: usize = 131082;
 // Standard input as a file that can be opened again.
 const INPUT: &str = "/dev/stdin";
 
-// The argument.
-#[derive(Drop)]
-enum Asked {
-    One,
-    Two,
-    Neither,
+// A refusal of the file: its number, and its place in the whole file.
+#[derive(Clone, Copy, Debug, PartialEq, Eq)]
+struct Complaint {
+    number: u8,
+    place: u64,
 }
 
-// The two passes.
-#[derive(Clone, Copy)]
-enum Pass {
-    Judging,
-    Writing,
+impl Complaint {
+    // Told by a place of a part, and by how many bytes of the file are gone from that part.
+    fn at(number: u8, gone: u64, place: usize) -> Self {
+        Complaint {
+            number,
+            place: wrapping_add_u64(gone, place as u64),
+        }
+    }
 }
 
 // What a pass has come to: what is written, and whether that has the version byte; the first refusal of a part that is whole, if any.
@@ -47,170 +47,160 @@ enum Pass {
 struct PassSoFar {
     output: Output,
     begun: bool,
-    number: u8,
-    place: u64,
+    refused: Option<Complaint>,
 }
 
-// Room for a part as it is moved. The `ensures` gives only the length, which lending the array as a slice needs.
-fn moved_room() -> [u8; MOVED_ROOM]
-    ensures { 131082 ≡ length result }
-{
-    [0; MOVED_ROOM]
-}
-
-fn complain_at(console: Console, number: u8, place: u64) {
+fn complain_at(console: Console, refused: Complaint) {
     complain(console, b"move_outbox: refused ");
-    complain_number(console, number as u64);
+    complain_number(console, u64::from(refused.number));
     complain(console, b" at ");
-    complain_number(console, place);
+    complain_number(console, refused.place);
     complain(console, b"\n");
-    explain_outbox(console, number);
+    explain_outbox(console, refused.number);
 }
 
-fn argument<E: Env>(rt: &E) -> Asked {
+// The version that the argument names, where it names one.
+fn argument<E: Env>(rt: &E) -> Option<FileVersion> {
     if argument_count(rt) != 2 {
-        return Asked::Neither;
+        return None;
     }
     if argument_is(rt, 1, b"01") {
-        return Asked::One;
+        return Some(FileVersion::One);
     }
     if argument_is(rt, 1, b"02") {
-        return Asked::Two;
+        return Some(FileVersion::Two);
     }
-    Asked::Neither
+    None
 }
 
 fn first_place(begun: bool) -> usize {
     if begun { FIRST_PLACE } else { 0 }
 }
 
-// Writes a part that was moved. Each has the version byte, which the new file has once.
+// Writes a part that was moved, for the pass that writes. Each has the version byte, which the new file has once.
 fn write_part(before: PassSoFar, moved: &[u8]) -> PassSoFar {
-    let from = smaller(moved.len(), first_place(before.begun));
+    let from = first_place(before.begun).min(moved.len());
     let output = before.output;
     PassSoFar {
         output: output.text(&moved[from..]),
         begun: true,
-        number: before.number,
-        place: before.place,
+        refused: before.refused,
     }
 }
 
-fn refuse(before: PassSoFar, number: u8, gone: u64, place: usize) -> PassSoFar {
-    if before.number != 0 {
-        return before;
-    }
-    let output = before.output;
+// The first refusal stays.
+fn refuse(before: PassSoFar, why: MoveRefusal, gone: u64) -> PassSoFar {
+    let place = match why {
+        MoveRefusal::NoRoom => 0,
+        MoveRefusal::TooLong(too_long) => too_long.place,
+        MoveRefusal::Broken(broken) => broken.place,
+    };
+    let refused = before
+        .refused
+        .or(Some(Complaint::at(why.number(), gone, place)));
     PassSoFar {
-        output,
+        output: before.output,
         begun: before.begun,
-        number,
-        place: wrapping_add_u64(gone, place as u64),
+        refused,
     }
 }
 
-// The records of a part that is whole, as an outbox of their own.
-fn move_part(
+// The records of a part that is whole, as an outbox of their own, given to `keep` as they are moved.
+fn move_part<K: Fn(PassSoFar, &[u8]) -> PassSoFar>(
     before: PassSoFar,
-    pass: Pass,
+    keep: &K,
     part: &[u8],
     gone: u64,
-    wished: Wished,
+    wished: FileVersion,
     space: &mut [u8],
-) -> PassSoFar {
-    let moved = move_file(part, wished, space);
-    match moved {
-        Moved::Written(n) => match pass {
-            Pass::Judging => before,
-            Pass::Writing => write_part(before, &space[..n]),
-        },
-        Moved::NoRoom => refuse(before, moved.number(), gone, 0),
-        Moved::TooLong(place) => refuse(before, moved.number(), gone, place),
-        Moved::Broken { fault: _, place } => refuse(before, moved.number(), gone, place),
+) -> PassSoFar
+    requires { K.IsAlwaysCallable keep.now }
+{
+    match move_file(part, wished, space) {
+        Ok(n) => keep(before, &space[..n]),
+        Err(why) => refuse(before, why, gone),
     }
 }
 
 // The end of a pass over a whole file: whether nothing was refused.
 fn end_pass(passed: PassSoFar) -> bool {
-    if passed.number != 0 {
+    if let Some(refused) = passed.refused {
         let output = passed.output;
-        complain_at(output.console, passed.number, passed.place);
+        complain_at(output.console, refused);
         return false;
     }
     true
 }
 
 // What standard input begins with: all of it, where it ends before the buffer is full.
-fn first_part<R: Read>(console: Console, input: &mut R, buffer: &mut [u8]) -> Refilled {
-    let came = read_full(console, input, buffer);
-    let held = came.held;
-    Refilled {
+fn first_part<R: Read>(
+    console: Console,
+    input: &mut R,
+    buffer: &mut [u8],
+) -> Result<Refilled, Failed> {
+    let held = read_full(console, input, buffer)?;
+    Ok(Refilled {
         held,
         last: held < buffer.len(),
-        failed: came.failed,
-    }
+    })
 }
 
 // A pass over standard input from its first part on, up to its end, a refusal, or a read or a write that fails; whether it came to
-// the end and nothing was refused. Nothing says that the input ends, so the loop counts down from a number that no run uses up.
-fn pass_over<R: Read>(
+// the end and nothing was refused. Nothing says that the input ends, so the loop counts up to a number that no run comes to.
+fn pass_over<R: Read, K: Fn(PassSoFar, &[u8]) -> PassSoFar>(
     console: Console,
     input: &mut R,
-    pass: Pass,
-    wished: Wished,
+    keep: &K,
+    wished: FileVersion,
     first: Refilled,
     buffer: &mut [u8],
     space: &mut [u8],
-) -> bool {
+) -> bool
+    requires { K.IsAlwaysCallable keep.now }
+{
     let mut passed = PassSoFar {
         output: Output::new(console),
         begun: false,
-        number: 0,
-        place: 0,
+        refused: None,
     };
     let mut gone = 0;
-    let begins = smaller(first.held, buffer.len());
-    let mut filled = Refilled {
-        held: begins,
-        last: first.last,
-        failed: first.failed,
-    };
-    let mut turns = u64::MAX;
-    while turns > 0 {
-        turns -= 1;
-        let held = filled.held;
-        let output = passed.output;
-        if either(filled.failed, output.failed) {
-            return false;
-        }
-        let judged = judge_part(&buffer[..held], filled.last);
-        let listed = judged.listed;
+    let mut held = first.held.min(buffer.len());
+    let mut last = first.last;
+    for _turn in 0..u64::MAX {
+        let listed = match judge_part(&buffer[..held], last) {
+            Ok(part) => part,
+            Err(broken) => {
+                complain_at(console, Complaint::at(broken.number(), gone, broken.place));
+                return false;
+            }
+        };
         let place = listed.place;
-        if judged.number != 0 {
-            complain_at(console, judged.number, wrapping_add_u64(gone, place as u64));
-            return false;
-        }
-        let end = smaller(held, place);
-        passed = move_part(passed, pass, &buffer[..end], gone, wished, space);
+        let end = place.min(held);
+        passed = move_part(passed, keep, &buffer[..end], gone, wished, space);
         if listed.over {
             return end_pass(passed);
         }
         gone = wrapping_add_u64(gone, (place - FIRST_PLACE) as u64);
         let kept = carry_over(buffer, place, held);
-        filled = refill(console, input, buffer, kept);
+        let Ok(filled) = refill(console, input, buffer, kept) else {
+            return false;
+        };
+        let output = passed.output;
+        if output.failed {
+            return false;
+        }
+        held = filled.held;
+        last = filled.last;
     }
     false
 }
 
 // Whether standard input has a first byte that can be gone back to, as a file or a disk has and a pipe has not.
 fn has_start<F: Files>(rt: &F) -> bool {
-    match fs::metadata(rt, INPUT) {
-        Ok(found) => {
-            let kind = found.file_type();
-            either(kind.is_file(), kind.is_block_device())
-        }
-        Err(_) => false,
-    }
+    fs::metadata(rt, INPUT).is_ok_and(|found| {
+        let kind = found.file_type();
+        kind.is_file() || kind.is_block_device()
+    })
 }
 
 // Standard input from its first byte on.
@@ -226,18 +216,20 @@ fn move_input<F: Files>(
     rt: &F,
     console: Console,
     input: Stdin,
-    wished: Wished,
+    wished: FileVersion,
     buffer: &mut [u8],
     space: &mut [u8],
 ) {
     let mut judged = input;
-    let first = first_part(console, &mut judged, buffer);
+    let Ok(first) = first_part(console, &mut judged, buffer) else {
+        return;
+    };
     let held = first.held;
     let is_whole = first.last;
     if !pass_over(
         console,
         &mut judged,
-        Pass::Judging,
+        &|before, _| before,
         wished,
         first,
         buffer,
@@ -246,15 +238,11 @@ fn move_input<F: Files>(
         return;
     }
     if is_whole {
-        let same = Refilled {
-            held,
-            last: true,
-            failed: false,
-        };
+        let same = Refilled { held, last: true };
         pass_over(
             console,
             &mut judged,
-            Pass::Writing,
+            &write_part,
             wished,
             same,
             buffer,
@@ -265,11 +253,13 @@ fn move_input<F: Files>(
     match from_start(rt) {
         Some(file) => {
             let mut again = file;
-            let start = refill(console, &mut again, buffer, 0);
+            let Ok(start) = refill(console, &mut again, buffer, 0) else {
+                return;
+            };
             pass_over(
                 console,
                 &mut again,
-                Pass::Writing,
+                &write_part,
                 wished,
                 start,
                 buffer,
@@ -284,16 +274,12 @@ fn move_input<F: Files>(
 }
 
 fn main(rt: HostRuntime) {
-    let console = Console {
-        output: rt.stdout(),
-        errors: rt.stderr(),
-    };
+    let console = Console::of(&rt);
     let input = rt.stdin();
     let mut buffer = cli_listing::room();
-    let mut space = moved_room();
+    let mut space = room::<MOVED_ROOM>();
     match argument(&rt) {
-        Asked::One => move_input(&rt, console, input, Wished::One, &mut buffer, &mut space),
-        Asked::Two => move_input(&rt, console, input, Wished::Two, &mut buffer, &mut space),
-        Asked::Neither => complain(console, b"usage: move_outbox 01|02 < OUTBOX > NEW_OUTBOX\n"),
+        Some(wished) => move_input(&rt, console, input, wished, &mut buffer, &mut space),
+        None => complain(console, b"usage: move_outbox 01|02 < OUTBOX > NEW_OUTBOX\n"),
     }
 }

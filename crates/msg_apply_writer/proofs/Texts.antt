@@ -1,6 +1,6 @@
 -- Laws of what is written of a lent text: where its parts lie, and how many bytes there are.
 use Prim.Native.Nat.{ℕ, ◌+◌, ◌≤◌}
-use mathlib.Core.Path.{◌≡◌, refl}
+use mathlib.Core.Path.{◌≡◌, refl, sym, ap, ◌∙◌}
 use mathlib.Core.Bool.{false}
 use mathlib.Core.List.{List, [], ◌∷◌, ◌++◌, map}
 use native.Mathlib.Omega.{arith}
@@ -13,12 +13,13 @@ use Rattle.proto_field.specs.Value.{bytes_of}
 use Rattle.proto_writer.specs.Writer.{scalar, text, nested, head_bytes, field_bytes, message_bytes}
 use Rattle.proto_writer.proofs.Runs.{message-length, joined_length}
 use Rattle.proto_strings.specs.declared.TextFault.{TextFault}
-use Rattle.proto_strings.specs.Texts.{or_text, fault_from}
+use Rattle.std.specs.Prelude.{⊤, Result, Ok}
+use Rattle.proto_strings.specs.Texts.{or_text, fault_from, first_fault}
 use Rattle.proto_schema.specs.Schema.{firmware_version_field, firmware_name_field, locale_field, version_name_field, firmware_information_field, restart_required_field}
 use Rattle.msg_firmware.specs.declared.component.FirmwareComponent.{FirmwareComponent}
 use Rattle.msg_firmware.specs.declared.information.FirmwareInformation.{FirmwareInformation}
 use Rattle.msg_component_writer.specs.Component.{outside, bad_component, component_field}
-use Rattle.msg_apply_writer.specs.Information.{bad_components, bad_firmware, present, firmware_fields}
+use Rattle.msg_apply_writer.specs.Information.{bad_components, bad_firmware, present, components_strings, firmware_strings, firmware_fields}
 use Rattle.msg_firmware.specs.declared.apply.ApplyFirmware.{ApplyFirmware}
 use Rattle.msg_apply_writer.specs.Apply.{apply_fields}
 use Rattle.proto_writer.proofs.Rooms.{message-append, nested-length}
@@ -73,7 +74,17 @@ apply-length texts a =
     let f₂ = scalar restart_required_field (bit a.restart_required) in
     omega (arith, message-length (nested firmware_information_field l) (f₂ ∷ []), message-length f₂ [], nested-length firmware_information_field l)
 
--- ---- strings: some, and then others
-pub fault-append : (fault : TextFault) (xs ys : List (ℕ × List ℕ)) → fault_from fault (xs ++ ys) ≡ fault_from (fault_from fault xs) ys
+-- ---- strings
+-- some, and then others
+pub fault-append : (fault : Result ⊤ TextFault) (xs ys : List (ℕ × List ℕ)) → fault_from fault (xs ++ ys) ≡ fault_from (fault_from fault xs) ys
 fault-append fault [] ys = refl
 fault-append fault (t ∷ xs) ys = fault-append (or_text t.0 t.1 fault) xs ys
+
+-- the strings of firmware information, of which the name is well formed and those of the components are judged
+pub strings-rest : (texts : List ℕ) (f : FirmwareInformation) (r : Result ⊤ TextFault) → Ok tt ≡ or_text firmware_name_field (bytes_of texts f.name) (Ok tt)
+    → r ≡ first_fault (components_strings texts (present f))
+    → fault_from r ((locale_field, bytes_of texts f.locale) ∷ (version_name_field, bytes_of texts f.version_name) ∷ []) ≡ first_fault (firmware_strings texts f)
+strings-rest texts f r fine e =
+    let cs = components_strings texts (present f) in
+    let ends : List (ℕ × List ℕ) = (locale_field, bytes_of texts f.locale) ∷ (version_name_field, bytes_of texts f.version_name) ∷ [] in
+    ap (λ x. fault_from x ends) e ∙ sym (fault-append (Ok tt) cs ends) ∙ ap (λ x. fault_from x (cs ++ ends)) fine

@@ -1,5 +1,5 @@
 -- FirmwareInformation: a number of 32 bits, three strings and at most eight components, written.
-use Rattle.std.specs.Prelude.{ℕ, ◌+◌, Bool, false, ◌||◌, List, [], ◌∷◌, ◌++◌, map, take, ltb}
+use Rattle.std.specs.Prelude.{ℕ, Bool, false, ◌||◌, List, [], ◌∷◌, ◌++◌, map, take, ltb}
 use Rattle.proto_field.specs.Value.{bytes_of}
 use Rattle.proto_writer.specs.Writer.{Field, scalar, text}
 use Rattle.proto_schema.specs.Schema.{firmware_version_field, firmware_name_field, locale_field, version_name_field}

@@ -24,8 +24,7 @@ use Rattle.proto_schema.specs.declared.Schema.TheVariants as Schema
 use Rattle.proto_schema.specs.declared.Role.{Role}
 use Rattle.proto_schema.specs.declared.Role.TheVariants as Role
 use Rattle.msg_device.specs.declared.features.DeviceFeatures.{DeviceFeatures}
-use Rattle.msg_control.specs.declared.response.ResponsePayload.{ResponsePayload}
-use Rattle.msg_control.specs.declared.response.ResponsePayload.TheVariants as Inner
+use Rattle.std.specs.Prelude.{Option, Some, None}
 use Rattle.msg_control.specs.declared.response.Response.{Response}
 use Rattle.msg_control.specs.declared.envelope.Envelope.{Envelope}
 use Rattle.msg_control.specs.declared.envelope.Payload.{Payload}
@@ -151,13 +150,13 @@ unfolding field_bytes
 member-there v f l a = part-there f l (front (part_bytes f l) [] (behind (field_bytes (scalar 1 v)) (part_bytes f l ++ []) a))
 
 -- ---- the response
-response-read : (code : ℤ) (payload : ResponsePayload) (body s : List ℕ) (at : ℕ) → Signed32 code → bad_response_payload payload ≡ false → length s < 2 ^ 64
+response-read : (code : ℤ) (payload : Option ℕ) (body s : List ℕ) (at : ℕ) → Signed32 code → bad_response_payload payload ≡ false → length s < 2 ^ 64
     → At s at (message_bytes (response_fields (extended code) payload body)) []
     → and_then (response_from s at) (λ r. given (response_contents s r)) ≡ given (code, payload, inner_bytes payload body)
 unfolding response_from role_of judged
-response-read code Inner.None body s at fz b lent a =
+response-read code None body s at fz b lent a =
     rw (scalar-alone Schema.Response (extended code) (extended_fits code fz) refl a, signed-trip code fz)
-response-read code (Inner.Member f) body s at fz b lent a =
+response-read code (Some f) body s at fz b lent a =
     let h : 2 ≤ f = member-above f b in
     let n : f ≡ 1 → ⊥ = λ e. omega arith in
     rw (
@@ -171,9 +170,9 @@ response-read code (Inner.Member f) body s at fz b lent a =
 pub member-fine : (f : ℕ) → MemberNumber f → bad_member f ≡ false
 member-fine f h = rw (le-ltb f 2 (omega arith), le-ltb last_field f (omega arith))
 
-inner-fine : (payload : ResponsePayload) → InnerNumbered payload → bad_response_payload payload ≡ false
-inner-fine Inner.None h = refl
-inner-fine (Inner.Member f) h = member-fine f h
+inner-fine : (payload : Option ℕ) → InnerNumbered payload → bad_response_payload payload ≡ false
+inner-fine None h = refl
+inner-fine (Some f) h = member-fine f h
 
 pub response-round-trip : ResponseRoundTrip
 unfolding ResponseRoundTrip response_written
@@ -189,12 +188,12 @@ abbrev opened : ℤ → Payload → Told Envelope
 opened z p = given (record { command = z; payload = p })
 
 -- a response that is read within an envelope
-within-envelope : (z : ℤ) (s : List ℕ) (r : Told Response) (code : ℤ) (payload : ResponsePayload) (l : List ℕ)
+within-envelope : (z : ℤ) (s : List ℕ) (r : Told Response) (code : ℤ) (payload : Option ℕ) (l : List ℕ)
     → and_then r (λ x. given (response_contents s x)) ≡ given (code, payload, l)
     → and_then (and_then (and_then r (λ x. given (Payload.Response x))) (λ p. opened z p)) (λ e. given (envelope_contents s e)) ≡ given (z, (Sent.Response code payload, l))
 within-envelope z s (given x) code payload l e =
     let h : response_contents s x ≡ (code, payload, l) = cc in
-    ap (λ (y : ℤ × ResponsePayload × List ℕ). given (z, (Sent.Response y.0 y.1, y.2))) h
+    ap (λ (y : ℤ × Option ℕ × List ℕ). given (z, (Sent.Response y.0 y.1, y.2))) h
 within-envelope z s (refused n) code payload l e = absurd (let o : ◌≡◌ {A = ℕ} 0 1 = cc in omega arith)
 
 pub envelope-read : (z : ℤ) (payload : EnvelopePayload) (body s : List ℕ) → Signed32 z → CodeSigned32 payload → bad_payload payload ≡ false → length s < 2 ^ 64

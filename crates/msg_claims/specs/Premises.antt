@@ -2,7 +2,7 @@
 use Rattle.std.specs.Prelude.{ℕ, ◌≤◌, ◌≡◌, List, [], ◌∷◌, ℤ, pos, negsuc, length, replicate}
 use Rattle.proto_field.specs.Signed.{extended}
 use Rattle.proto_writer.specs.Writer.{message_bytes}
-use Rattle.msg_control.specs.declared.response.ResponsePayload.TheVariants as Inner
+use Rattle.std.specs.Prelude.{Some, None}
 use Rattle.msg_control.specs.declared.envelope.EnvelopePayload.TheVariants as Sent
 use Rattle.utf8.specs.WellFormed.{WellFormed}
 use Rattle.msg_device.specs.declared.features.DeviceFeatures.{DeviceFeatures}
@@ -27,21 +27,21 @@ Lendable out = length out ≤ 18446744073709551615
 
 -- a response with no payload, and with a member's number of 2 to 536,870,911
 pub record ResponsesTaken : Type 0 where
-  pub none : (code : ℤ) (body out : List ℕ) → InSigned32 code → Lendable out → length (message_bytes (response_fields (extended code) Inner.None body)) ≤ length out
-      → ResponseWritable code Inner.None body out
+  pub none : (code : ℤ) (body out : List ℕ) → InSigned32 code → Lendable out → length (message_bytes (response_fields (extended code) None body)) ≤ length out
+      → ResponseWritable code None body out
   pub member : (code : ℤ) (field : ℕ) (body out : List ℕ) → InSigned32 code → 2 ≤ field → field ≤ 536870911 → Lendable out
-      → length (message_bytes (response_fields (extended code) (Inner.Member field) body)) ≤ length out → ResponseWritable code (Inner.Member field) body out
+      → length (message_bytes (response_fields (extended code) (Some field) body)) ≤ length out → ResponseWritable code (Some field) body out
 
 -- an envelope with no payload, with each response, and with another member's number, which is not 9
 pub record EnvelopesTaken : Type 0 where
   pub none : (command : ℤ) (body out : List ℕ) → InSigned32 command → Lendable out
       → length (message_bytes (envelope_fields (extended command) Sent.None body)) ≤ length out → EnvelopeWritable command Sent.None body out
   pub response : (command code : ℤ) (body out : List ℕ) → InSigned32 command → InSigned32 code → Lendable out
-      → length (message_bytes (envelope_fields (extended command) (Sent.Response code Inner.None) body)) ≤ length out
-      → EnvelopeWritable command (Sent.Response code Inner.None) body out
+      → length (message_bytes (envelope_fields (extended command) (Sent.Response code None) body)) ≤ length out
+      → EnvelopeWritable command (Sent.Response code None) body out
   pub response-member : (command code : ℤ) (field : ℕ) (body out : List ℕ) → InSigned32 command → InSigned32 code → 2 ≤ field → field ≤ 536870911 → Lendable out
-      → length (message_bytes (envelope_fields (extended command) (Sent.Response code (Inner.Member field)) body)) ≤ length out
-      → EnvelopeWritable command (Sent.Response code (Inner.Member field)) body out
+      → length (message_bytes (envelope_fields (extended command) (Sent.Response code (Some field)) body)) ≤ length out
+      → EnvelopeWritable command (Sent.Response code (Some field)) body out
   pub member : (command : ℤ) (field : ℕ) (body out : List ℕ) → InSigned32 command → 2 ≤ field → field ≤ 536870911 → (field ≡ 9 → ⊥) → Lendable out
       → length (message_bytes (envelope_fields (extended command) (Sent.Member field) body)) ≤ length out → EnvelopeWritable command (Sent.Member field) body out
 
@@ -69,8 +69,8 @@ some_features = record { features = 300; device_attributes = 1 }
 
 -- each into an output of exactly its size: `08 FF .. FF 01 12 02 F0 F1`, `08 5E 4A 07 08 03 12 03 41 42 43`, `0A 01 58 1A 02 00 04`, `08 Ac 02 10 01`
 pub record OneOfEach : Type 0 where
-  pub response : ReadsBack (response_written (negsuc 0) (Inner.Member 2) (240 ∷ 241 ∷ []) (output 15)) response_again (negsuc 0, Inner.Member 2, 240 ∷ 241 ∷ [])
-  pub envelope : ReadsBack (envelope_written (pos 94) (Sent.Response (pos 3) (Inner.Member 2)) (65 ∷ 66 ∷ 67 ∷ []) (output 11)) envelope_again
-      (pos 94, (Sent.Response (pos 3) (Inner.Member 2), 65 ∷ 66 ∷ 67 ∷ []))
+  pub response : ReadsBack (response_written (negsuc 0) (Some 2) (240 ∷ 241 ∷ []) (output 15)) response_again (negsuc 0, Some 2, 240 ∷ 241 ∷ [])
+  pub envelope : ReadsBack (envelope_written (pos 94) (Sent.Response (pos 3) (Some 2)) (65 ∷ 66 ∷ 67 ∷ []) (output 11)) envelope_again
+      (pos 94, (Sent.Response (pos 3) (Some 2), 65 ∷ 66 ∷ 67 ∷ []))
   pub information : ReadsBack (information_written (88 ∷ []) [] (pos 0 ∷ pos 4 ∷ []) [] (output 7)) information_again (88 ∷ [], [], pos 0 ∷ pos 4 ∷ [], [])
   pub features : ReadsBack (features_written some_features (output 5)) features_of some_features

@@ -8,8 +8,7 @@ use Rattle.proto_field.specs.Tag.{last_field}
 use Rattle.proto_field.specs.Value.{bytes_of}
 use Rattle.proto_writer.specs.Writer.{message_bytes}
 use Rattle.msg_control.specs.declared.response.Response.{Response}
-use Rattle.msg_control.specs.declared.response.ResponsePayload.{ResponsePayload}
-use Rattle.msg_control.specs.declared.response.ResponsePayload.TheVariants as Inner
+use Rattle.std.specs.Prelude.{Option, Some, None}
 use Rattle.msg_control.specs.declared.envelope.Envelope.{Envelope}
 use Rattle.msg_control.specs.declared.envelope.Payload.{Payload}
 use Rattle.msg_control.specs.declared.envelope.Payload.TheVariants as Payload
@@ -56,26 +55,26 @@ NoneRefused =
     × ((w : Written ℕ) (n : ℕ) (a : List ℕ) → ReadsBack w (λ s. refused n) a → ⊥)
 
 -- ---- the response: error code, payload and the payload's bytes
-abbrev pub inner_payload : ℕ → ResponsePayload
-inner_payload field = cond (eqb field 0) Inner.None (Inner.Member field)
+abbrev pub inner_payload : ℕ → Option ℕ
+inner_payload field = cond (eqb field 0) None (Some field)
 
 -- the bytes that are written of those that are lent
-abbrev pub inner_bytes : ResponsePayload → List ℕ → List ℕ
-inner_bytes Inner.None body = []
-inner_bytes (Inner.Member field) body = body
+abbrev pub inner_bytes : Option ℕ → List ℕ → List ℕ
+inner_bytes None body = []
+inner_bytes (Some field) body = body
 
-abbrev pub response_contents : List ℕ → Response → ℤ × ResponsePayload × List ℕ
+abbrev pub response_contents : List ℕ → Response → ℤ × Option ℕ × List ℕ
 response_contents s r = (r.error_code, inner_payload r.field, bytes_of s r.part)
 
-abbrev pub response_again : List ℕ → Told (ℤ × ResponsePayload × List ℕ)
+abbrev pub response_again : List ℕ → Told (ℤ × Option ℕ × List ℕ)
 response_again s = and_then (response_from s 0) (λ r. given (response_contents s r))
 
-abbrev pub InnerNumbered : ResponsePayload → Type 0
-InnerNumbered Inner.None = Unit {0}
-InnerNumbered (Inner.Member field) = MemberNumber field
+abbrev pub InnerNumbered : Option ℕ → Type 0
+InnerNumbered None = Unit {0}
+InnerNumbered (Some field) = MemberNumber field
 
 -- what a response is written of
-pub record ResponseWritable (code : ℤ) (payload : ResponsePayload) (body out : List ℕ) : Type 0 where
+pub record ResponseWritable (code : ℤ) (payload : Option ℕ) (body out : List ℕ) : Type 0 where
   pub signed : Signed32 code
   pub numbered : InnerNumbered payload
   pub lent : Lent out
@@ -83,7 +82,7 @@ pub record ResponseWritable (code : ℤ) (payload : ResponsePayload) (body out :
 
 unfoldable pub ResponseRoundTrip : Type 0
 ResponseRoundTrip =
-    (code : ℤ) (payload : ResponsePayload) (body out : List ℕ) → ResponseWritable code payload body out
+    (code : ℤ) (payload : Option ℕ) (body out : List ℕ) → ResponseWritable code payload body out
     → ReadsBack (response_written code payload body out) response_again (code, payload, inner_bytes payload body)
 
 -- ---- the envelope: command, payload and the payload's bytes

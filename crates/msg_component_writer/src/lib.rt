@@ -1,14 +1,14 @@
 // FirmwareComponent written, of parts of a lent text.
 #![tactic(auto)]
 
-ghost use Rattle.std.specs.Prelude.{◌≡◌, false, ◌+◌, ◌≤◌, ◌<◌, ◌^◌, length};
+ghost use Rattle.std.specs.Prelude.{◌≡◌, false, ◌+◌, ◌≤◌, ◌<◌, ◌^◌, length, Some, Ok};
 ghost use Rattle.wire.specs.Put.{Put};
 ghost use Rattle.proto_field.specs.Tag.{last_field};
 ghost use Rattle.proto_field.specs.Value.{bytes_of};
 ghost use Rattle.proto_writer.specs.Writer.{text, field_bytes, message_bytes};
 ghost use Rattle.proto_writer.specs.Message.{less_room};
 ghost use Rattle.msg_component_writer.specs.Component.{outside, bad_component, component_strings, component_fields, component_field};
-ghost use Rattle.proto_strings.specs.Texts.{or_text, fault_from};
+ghost use Rattle.proto_strings.specs.Texts.{or_text, first_fault};
 
 use msg_firmware::component::FirmwareComponent;
 use proto_field::value::Part;
@@ -16,9 +16,8 @@ use proto_schema::{
     COMPONENTS, FIRMWARE_COMPONENT_NAME, FIRMWARE_COMPONENT_SIGNATURE, FIRMWARE_COMPONENT_SIZE,
     FIRMWARE_COMPONENT_VERSION,
 };
-use proto_strings::TextFault;
+use proto_strings::{TextFault, check_text};
 use proto_writer::fields::{head_len, put_head, put_scalar, put_text, scalar_len, text_len};
-use proto_writer::message::Room;
 
 // Whether a part does not lie within the texts.
 pub fn is_outside(texts: &[u8], part: Part) -> bool
@@ -35,9 +34,20 @@ pub fn is_outside(texts: &[u8], part: Part) -> bool
 pub fn bad_component(texts: &[u8], component: FirmwareComponent) -> bool
     ensures { result ≡ bad_component texts.now component }
 {
-    let name = component.name;
-    let signature = component.signature;
-    wire::logic::either(is_outside(texts, name), is_outside(texts, signature))
+    wire::logic::either(
+        is_outside(texts, component.name),
+        is_outside(texts, component.signature),
+    )
+}
+
+// The bytes of a part of the texts.
+fn part_of(texts: &[u8], part: Part) -> &[u8]
+    requires { outside texts.now part ≡ false }
+    ensures { result.now ≡ bytes_of texts.now part }
+{
+    let start = part.start;
+    let end = start + part.len;
+    &texts[start..end]
 }
 
 // The number of bytes of a string that is a part of the texts.
@@ -45,9 +55,7 @@ pub fn text_part_len(texts: &[u8], field: u64, part: Part) -> usize
     requires { (field ≤ last_field) × (outside texts.now part ≡ false) }
     ensures { result ≡ length (field_bytes (text field (bytes_of texts.now part))) }
 {
-    let start = part.start;
-    let end = start + part.len;
-    text_len(field, &texts[start..end])
+    text_len(field, part_of(texts, part))
 }
 
 // A string that is a part of the texts, written at a place; the answer is the place after it.
@@ -58,62 +66,45 @@ pub fn put_text_part(out: &mut [u8], at: usize, texts: &[u8], field: u64, part: 
     ensures { Put out.old at (field_bytes (text field (bytes_of texts.now part))) result
         out.new }
 {
-    let start = part.start;
-    let end = start + part.len;
-    put_text(out, at, field, &texts[start..end])
+    put_text(out, at, field, part_of(texts, part))
 }
 
-// A string that is a part of the texts is judged, unless a fault was found before.
-pub fn text_part_fault(fault: TextFault, texts: &[u8], field: u64, part: Part) -> TextFault
+// Whether a string that is a part of the texts is well formed.
+pub fn check_text_part(texts: &[u8], field: u64, part: Part) -> Result<(), TextFault>
     requires { outside texts.now part ≡ false }
-    ensures { result ≡ or_text field (bytes_of texts.now part) fault }
+    ensures { result ≡ or_text field (bytes_of texts.now part) (Ok tt) }
 {
-    let start = part.start;
-    let end = start + part.len;
-    fault.or_text(field, &texts[start..end])
+    check_text(field, part_of(texts, part))
 }
 
-// A component's strings are judged, unless a fault was found before.
-pub fn component_fault(fault: TextFault, texts: &[u8], component: FirmwareComponent) -> TextFault
+// Whether a component's strings are well formed.
+pub fn check_component(texts: &[u8], component: FirmwareComponent) -> Result<(), TextFault>
     requires { bad_component texts.now component ≡ false }
-    ensures { result ≡ fault_from fault (component_strings texts.now component) }
+    ensures { result ≡ first_fault (component_strings texts.now component) }
 {
-    let name = component.name;
-    let signature = component.signature;
-    let first = text_part_fault(fault, texts, FIRMWARE_COMPONENT_NAME, name);
-    text_part_fault(first, texts, FIRMWARE_COMPONENT_SIGNATURE, signature)
+    check_text_part(texts, FIRMWARE_COMPONENT_NAME, component.name)?;
+    check_text_part(texts, FIRMWARE_COMPONENT_SIGNATURE, component.signature)
 }
 
 // The room that a component's fields leave.
-fn component_room(len: usize, texts: &[u8], component: FirmwareComponent) -> Room
+fn component_room(len: usize, texts: &[u8], component: FirmwareComponent) -> Option<usize>
     requires { bad_component texts.now component ≡ false }
     ensures { result
-        ≡ less_room (length (message_bytes (component_fields texts.now component))) (Room.Left len) }
+        ≡ less_room (length (message_bytes (component_fields texts.now component))) (Some len) }
 {
-    let name = component.name;
-    let signature = component.signature;
-    Room::Left(len)
-        .less(scalar_len(FIRMWARE_COMPONENT_VERSION, component.version as u64))
-        .less(text_part_len(texts, FIRMWARE_COMPONENT_NAME, name))
-        .less(scalar_len(FIRMWARE_COMPONENT_SIZE, component.size as u64))
-        .less(text_part_len(texts, FIRMWARE_COMPONENT_SIGNATURE, signature))
+    len.checked_sub(scalar_len(FIRMWARE_COMPONENT_VERSION, component.version as u64))?
+        .checked_sub(text_part_len(texts, FIRMWARE_COMPONENT_NAME, component.name))?
+        .checked_sub(scalar_len(FIRMWARE_COMPONENT_SIZE, component.size as u64))?
+        .checked_sub(text_part_len(texts, FIRMWARE_COMPONENT_SIGNATURE, component.signature))
 }
 
 // The room that a component leaves as a field of firmware information.
-pub fn component_field_room(room: Room, texts: &[u8], component: FirmwareComponent) -> Room
+pub fn room_after_component(len: usize, texts: &[u8], component: FirmwareComponent) -> Option<usize>
     requires { bad_component texts.now component ≡ false }
-    ensures { result ≡ less_room (length (field_bytes (component_field texts.now component))) room }
+    ensures { result ≡ less_room (length (field_bytes (component_field texts.now component))) (Some len) }
 {
-    match room {
-        Room::Short => Room::Short,
-        Room::Left(len) => match component_room(len, texts, component) {
-            Room::Short => Room::Short,
-            Room::Left(rest) => {
-                let head = head_len(COMPONENTS, len - rest);
-                Room::Left(rest).less(head)
-            }
-        },
-    }
+    let rest = component_room(len, texts, component)?;
+    rest.checked_sub(head_len(COMPONENTS, len - rest))
 }
 
 // The number of bytes of a component's fields.
@@ -122,12 +113,10 @@ fn component_len(texts: &[u8], component: FirmwareComponent) -> usize
         × (length (message_bytes (component_fields texts.now component)) < 2 ^ 64) }
     ensures { result ≡ length (message_bytes (component_fields texts.now component)) }
 {
-    let name = component.name;
-    let signature = component.signature;
     let first = scalar_len(FIRMWARE_COMPONENT_VERSION, component.version as u64);
-    let second = text_part_len(texts, FIRMWARE_COMPONENT_NAME, name);
+    let second = text_part_len(texts, FIRMWARE_COMPONENT_NAME, component.name);
     let third = scalar_len(FIRMWARE_COMPONENT_SIZE, component.size as u64);
-    let fourth = text_part_len(texts, FIRMWARE_COMPONENT_SIGNATURE, signature);
+    let fourth = text_part_len(texts, FIRMWARE_COMPONENT_SIGNATURE, component.signature);
     first + second + third + fourth
 }
 
@@ -143,17 +132,21 @@ fn put_component_fields(
     ensures { Put out.old at (message_bytes (component_fields texts.now component)) result
         out.new }
 {
-    let name = component.name;
-    let signature = component.signature;
     let second = put_scalar(
         out,
         at,
         FIRMWARE_COMPONENT_VERSION,
         component.version as u64,
     );
-    let third = put_text_part(out, second, texts, FIRMWARE_COMPONENT_NAME, name);
+    let third = put_text_part(out, second, texts, FIRMWARE_COMPONENT_NAME, component.name);
     let fourth = put_scalar(out, third, FIRMWARE_COMPONENT_SIZE, component.size as u64);
-    put_text_part(out, fourth, texts, FIRMWARE_COMPONENT_SIGNATURE, signature)
+    put_text_part(
+        out,
+        fourth,
+        texts,
+        FIRMWARE_COMPONENT_SIGNATURE,
+        component.signature,
+    )
 }
 
 // A component as a field of firmware information, written at a place; the answer is the place after it.

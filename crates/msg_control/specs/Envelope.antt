@@ -1,6 +1,6 @@
 -- The control envelope: a command and its payload: none, a response, or another member.
-use Rattle.std.specs.Prelude.{ℕ, ◌+◌, Bool, false, cond, ◌||◌, List, [], ◌∷◌, ℤ, get_or, take, eqb}
-use Rattle.wire.specs.Told.{Told, given, refused, and_then, Written}
+use Rattle.std.specs.Prelude.{ℕ, ◌+◌, Bool, false, cond, ◌||◌, List, [], ◌∷◌, ℤ, get_or, take, eqb, Result}
+use Rattle.wire.specs.Told.{Told, told_by, given, and_then, Written}
 use Rattle.proto_field.specs.Signed.{signed_of, extended}
 use Rattle.proto_writer.specs.Writer.{Field, scalar, nested, message_bytes}
 use Rattle.proto_field.specs.declared.value.Part.{Part}
@@ -8,14 +8,10 @@ use Rattle.proto_reader.specs.declared.gathered.Gathered.{Gathered}
 use Rattle.proto_schema.specs.declared.Schema.TheVariants as Schema
 use Rattle.msg_control.specs.declared.envelope.Envelope.{Envelope}
 use Rattle.msg_control.specs.declared.envelope.Payload.{Payload}
-use Rattle.msg_control.specs.declared.envelope.Payload.TheVariants as Payload
-use Rattle.msg_control.specs.declared.envelope.PayloadRead.{PayloadRead}
-use Rattle.msg_control.specs.declared.envelope.PayloadRead.TheVariants as PayloadRead
-use Rattle.msg_control.specs.declared.envelope.EnvelopeRead.{EnvelopeRead}
-use Rattle.msg_control.specs.declared.envelope.EnvelopeRead.TheVariants as EnvelopeRead
 use Rattle.msg_control.specs.declared.envelope.EnvelopePayload.{EnvelopePayload}
 use Rattle.msg_control.specs.declared.envelope.EnvelopePayload.TheVariants as Sent
 use Rattle.proto_schema.specs.Schema.{command_field, response_field, first}
+use Rattle.proto_reader.specs.declared.refusal.MessageRefusal.{MessageRefusal}
 use Rattle.proto_reader.specs.Refusal.{message_number, numbered}
 use Rattle.proto_reader.specs.Walk.{fields_from}
 use Rattle.proto_writer.specs.Message.{writes_message, bad_member}
@@ -36,13 +32,11 @@ envelope_of s =
     and_then (payload_of s g) (λ p. given (record { command = signed_of (get_or g.scalars first 0); payload = p })))
 
 -- the answers of read_payload and read_envelope
-abbrev pub told_payload : PayloadRead → Told Payload
-told_payload (PayloadRead.Read p) = given p
-told_payload (PayloadRead.Refused e) = refused (message_number e)
+abbrev pub told_payload : Result Payload MessageRefusal → Told Payload
+told_payload = told_by message_number
 
-abbrev pub told_envelope : EnvelopeRead → Told Envelope
-told_envelope (EnvelopeRead.Read e) = given e
-told_envelope (EnvelopeRead.Refused e) = refused (message_number e)
+abbrev pub told_envelope : Result Envelope MessageRefusal → Told Envelope
+told_envelope = told_by message_number
 
 -- the parts that a payload and an envelope tell
 abbrev pub payload_parts : Payload → List Part

@@ -7,18 +7,15 @@ ghost use Rattle.proto_writer.specs.Writer.{message_bytes};
 ghost use Rattle.msg_control.specs.Envelope.{payload_of, told_payload, envelope_of, told_envelope, payload_parts, envelope_parts, bad_payload, payload_fields, envelope_written};
 ghost use Rattle.proto_writer.specs.Message.{told_wrote};
 
-use crate::response::{
-    Response, ResponsePayload, ResponseRead, bad_response_payload, put_response, response_from,
-    response_len,
-};
+use crate::response::{Response, bad_response_payload, put_response, response_from, response_len};
 use proto_field::signed::{low_signed, sign_extended};
 use proto_field::value::Part;
 use proto_reader::gathered::Gathered;
 use proto_reader::reader::read_fields;
-use proto_reader::refusal::{MessageRefusal, WalkVerdict};
+use proto_reader::refusal::MessageRefusal;
 use proto_schema::{COMMAND, FIRST, NO_FIELD, RESPONSE, Schema};
 use proto_writer::fields::{head_len, part_len, put_head, put_part, put_scalar, scalar_len};
-use proto_writer::message::{WriteRefusal, Wrote, bad_member};
+use proto_writer::message::{WriteRefusal, bad_member};
 
 #[derive(Clone, Copy)]
 pub enum Payload {
@@ -33,31 +30,21 @@ pub struct Envelope {
     pub payload: Payload,
 }
 
-#[derive(Drop)]
-pub enum PayloadRead {
-    Read(Payload),
-    Refused(MessageRefusal),
-}
-
-#[derive(Clone, Copy)]
-pub enum EnvelopeRead {
-    Read(Envelope),
-    Refused(MessageRefusal),
-}
-
-// The payload of an envelope that is written. The lent bytes are those of the member, also of the response's.
+// The payload of an envelope that is written. The lent bytes are those of the member, also of the response's, which is known by its number.
+// Three cases that C numbers 0, 1 and 2 (payload_for): no Option.
 #[derive(Clone, Copy)]
 pub enum EnvelopePayload {
     None,
     Response {
         error_code: i32,
-        payload: ResponsePayload,
+        payload: Option<u64>,
     },
     Member(u64),
 }
 
 // The payload by the member that was gathered.
-fn read_payload(message: &[u8], gathered: Gathered) -> PayloadRead
+#[tactic(auto, unfolding(crate::specs::Envelope::payload_of))]
+fn read_payload(message: &[u8], gathered: Gathered) -> Result<Payload, MessageRefusal>
     requires { gathered.part.start + gathered.part.len ≤ length message.now }
     ensures result_value { told_payload result ≡ payload_of message.now gathered }
     ensures tells_within { TellsWithin message.now payload_parts (told_payload result) }
@@ -65,37 +52,27 @@ fn read_payload(message: &[u8], gathered: Gathered) -> PayloadRead
     let field = gathered.field;
     let part = gathered.part;
     if field == NO_FIELD {
-        return PayloadRead::Read(Payload::None);
+        return Ok(Payload::None);
     }
     if field == RESPONSE {
-        let start = part.start;
-        let end = start + part.len;
-        return match response_from(&message[..end], start) {
-            ResponseRead::Refused(e) => PayloadRead::Refused(e),
-            ResponseRead::Read(r) => PayloadRead::Read(Payload::Response(r)),
-        };
+        let response = response_from(part.up_to_end(message), part.start)?;
+        return Ok(Payload::Response(response));
     }
-    PayloadRead::Read(Payload::Member { field, part })
+    Ok(Payload::Member { field, part })
 }
 
 // A control envelope.
-pub fn read_envelope(message: &[u8]) -> EnvelopeRead
+#[tactic(auto, unfolding(crate::specs::Envelope::envelope_of))]
+pub fn read_envelope(message: &[u8]) -> Result<Envelope, MessageRefusal>
     ensures result_value { told_envelope result ≡ envelope_of message.now }
     ensures tells_within { TellsWithin message.now envelope_parts (told_envelope result) }
 {
-    let kept = read_fields(Schema::Envelope, message, 0);
-    let verdict = kept.verdict;
-    let gathered = kept.gathered;
-    match verdict {
-        WalkVerdict::Refused(e) => EnvelopeRead::Refused(e),
-        WalkVerdict::Fine => match read_payload(message, gathered) {
-            PayloadRead::Refused(e) => EnvelopeRead::Refused(e),
-            PayloadRead::Read(payload) => EnvelopeRead::Read(Envelope {
-                command: low_signed(gathered.scalars[FIRST]),
-                payload,
-            }),
-        },
-    }
+    let gathered = read_fields(Schema::Envelope, message, 0)?;
+    let payload = read_payload(message, gathered)?;
+    Ok(Envelope {
+        command: low_signed(gathered.scalars[FIRST]),
+        payload,
+    })
 }
 
 // Whether no envelope is written with this payload.
@@ -154,19 +131,23 @@ fn put_payload(out: &mut [u8], at: usize, payload: EnvelopePayload, body: &[u8])
 }
 
 // Writes a control envelope.
-pub fn write_envelope(out: &mut [u8], command: i32, payload: EnvelopePayload, body: &[u8]) -> Wrote
+pub fn write_envelope(
+    out: &mut [u8],
+    command: i32,
+    payload: EnvelopePayload,
+    body: &[u8],
+) -> Result<usize, WriteRefusal>
     ensures { written (told_wrote result) out.new
         ≡ envelope_written command payload body.now out.old }
 {
     if bad_payload(payload) {
-        return Wrote::Refused(WriteRefusal::BadArgument);
+        return Err(WriteRefusal::BadArgument);
     }
     let value = sign_extended(command);
     let len = scalar_len(COMMAND, value) + payload_len(payload, body);
     if out.len() < len {
-        return Wrote::Refused(WriteRefusal::NoRoom);
+        return Err(WriteRefusal::NoRoom);
     }
     let next = put_scalar(out, 0, COMMAND, value);
-    let end = put_payload(out, next, payload, body);
-    Wrote::Done(end)
+    Ok(put_payload(out, next, payload, body))
 }

@@ -1,13 +1,12 @@
 -- Device features: two numbers of 64 bits.
-use Rattle.std.specs.Prelude.{ℕ, false, List, [], ◌∷◌, get_or}
-use Rattle.wire.specs.Told.{Told, given, refused, and_then, Written}
+use Rattle.std.specs.Prelude.{ℕ, false, List, [], ◌∷◌, get_or, Result}
+use Rattle.wire.specs.Told.{Told, told_by, given, and_then, Written}
 use Rattle.proto_writer.specs.Writer.{Field, scalar}
 use Rattle.proto_reader.specs.declared.gathered.Gathered.{Gathered}
 use Rattle.proto_schema.specs.declared.Schema.TheVariants as Schema
 use Rattle.msg_device.specs.declared.features.DeviceFeatures.{DeviceFeatures}
-use Rattle.msg_device.specs.declared.features.FeaturesRead.{FeaturesRead}
-use Rattle.msg_device.specs.declared.features.FeaturesRead.TheVariants.{Read, Refused}
 use Rattle.proto_schema.specs.Schema.{features_field, device_attributes_field, first, second}
+use Rattle.proto_reader.specs.declared.refusal.MessageRefusal.{MessageRefusal}
 use Rattle.proto_reader.specs.Refusal.{message_number, numbered}
 use Rattle.proto_reader.specs.Walk.{fields_from}
 use Rattle.proto_writer.specs.Message.{writes_message}
@@ -20,9 +19,8 @@ unfoldable pub features_of : List ℕ → Told DeviceFeatures
 features_of s = and_then (numbered (fields_from Schema.Features s 0)) (λ g. given (features_made g))
 
 -- the answers of read_features
-abbrev pub told_features : FeaturesRead → Told DeviceFeatures
-told_features (Read f) = given f
-told_features (Refused e) = refused (message_number e)
+abbrev pub told_features : Result DeviceFeatures MessageRefusal → Told DeviceFeatures
+told_features = told_by message_number
 
 -- the fields of device features
 abbrev pub features_fields : DeviceFeatures → List Field

@@ -1,16 +1,17 @@
 -- Device information: three strings and at most eight transports.
-use Rattle.std.specs.Prelude.{ℕ, List, [], ◌∷◌, map, ℤ, pos, length, get_or, replicate, ltb}
-use Rattle.wire.specs.Told.{ToldMore, given, refused, and_then, WrittenOf}
+use Rattle.std.specs.Prelude.{ℕ, List, [], ◌∷◌, map, ℤ, pos, length, get_or, replicate, ltb, Result}
+use Rattle.wire.specs.Told.{ToldMore, given, and_then, WrittenOf}
 use Rattle.proto_field.specs.Signed.{extended}
 use Rattle.proto_writer.specs.Writer.{Field, text, packed}
 use Rattle.proto_field.specs.declared.value.Part.{Part}
 use Rattle.proto_reader.specs.declared.gathered.Gathered.{Gathered}
 use Rattle.proto_schema.specs.declared.Schema.TheVariants as Schema
 use Rattle.msg_device.specs.declared.information.DeviceInformation.{DeviceInformation}
-use Rattle.msg_device.specs.declared.information.InformationRead.{InformationRead}
+use Rattle.msg_device.specs.declared.information.InformationToWrite.{InformationToWrite}
 use Rattle.proto_schema.specs.Schema.{serial_number_field, name_field, transports_field, device_type_field, first, second, third}
 use Rattle.proto_reader.specs.Gathered.{most_transports, no_part}
-use Rattle.proto_reader.specs.Refusal.{judged_as}
+use Rattle.proto_reader.specs.declared.refusal.MessageRefusal.{MessageRefusal}
+use Rattle.proto_reader.specs.Refusal.{told_more}
 use Rattle.proto_reader.specs.Walk.{fields_from}
 use Rattle.proto_strings.specs.Texts.{writes_texts}
 
@@ -32,13 +33,9 @@ no_information =
 unfoldable pub information_of : List ℕ → ToldMore DeviceInformation
 information_of s = and_then (fields_from Schema.Information s 0) (λ g. given (information_made g))
 
--- an answer of read_information: what it tells, and the information beside it, which is empty where it is refused
-abbrev pub told_information : InformationRead → ToldMore DeviceInformation × DeviceInformation
-told_information r = (judged_as r.verdict r.information, r.information)
-
-abbrev pub with_information : ToldMore DeviceInformation → ToldMore DeviceInformation × DeviceInformation
-with_information (given i) = (given i, i)
-with_information (refused n) = (refused n, no_information)
+-- the answers of read_information
+abbrev pub told_information : Result DeviceInformation MessageRefusal → ToldMore DeviceInformation
+told_information = told_more
 
 -- the parts that it tells
 abbrev pub information_parts : DeviceInformation → List Part
@@ -57,3 +54,13 @@ information_strings serial_number name device_type = (serial_number_field, seria
 unfoldable pub information_written : List ℕ → List ℕ → List ℤ → List ℕ → List ℕ → WrittenOf (ℕ × List ℕ) ℕ
 information_written serial_number name transports device_type out =
     writes_texts (ltb most_transports (length transports)) (information_strings serial_number name device_type) (information_fields serial_number name transports device_type) out
+
+-- the same, of what the writer is lent
+abbrev pub fields_to_write : InformationToWrite → List Field
+fields_to_write i = information_fields i.serial_number.now i.name.now i.transports.now i.device_type.now
+
+abbrev pub strings_to_write : InformationToWrite → List (ℕ × List ℕ)
+strings_to_write i = information_strings i.serial_number.now i.name.now i.device_type.now
+
+abbrev pub information_to_write : InformationToWrite → List ℕ → WrittenOf (ℕ × List ℕ) ℕ
+information_to_write i out = information_written i.serial_number.now i.name.now i.transports.now i.device_type.now out

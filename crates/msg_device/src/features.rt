@@ -7,10 +7,10 @@ ghost use Rattle.msg_device.specs.Features.{features_of, told_features, features
 ghost use Rattle.proto_writer.specs.Message.{told_wrote};
 
 use proto_reader::reader::read_fields;
-use proto_reader::refusal::{MessageRefusal, WalkVerdict};
+use proto_reader::refusal::MessageRefusal;
 use proto_schema::{DEVICE_ATTRIBUTES, FEATURES, FIRST, SECOND, Schema};
 use proto_writer::fields::{put_scalar, scalar_len};
-use proto_writer::message::{WriteRefusal, Wrote};
+use proto_writer::message::WriteRefusal;
 
 #[derive(Clone, Copy)]
 pub struct DeviceFeatures {
@@ -18,26 +18,16 @@ pub struct DeviceFeatures {
     pub device_attributes: u64,
 }
 
-#[derive(Clone, Copy)]
-pub enum FeaturesRead {
-    Read(DeviceFeatures),
-    Refused(MessageRefusal),
-}
-
 // Device features.
-pub fn read_features(message: &[u8]) -> FeaturesRead
+#[tactic(auto, unfolding(crate::specs::Features::features_of))]
+pub fn read_features(message: &[u8]) -> Result<DeviceFeatures, MessageRefusal>
     ensures { told_features result ≡ features_of message.now }
 {
-    let kept = read_fields(Schema::Features, message, 0);
-    let verdict = kept.verdict;
-    let gathered = kept.gathered;
-    match verdict {
-        WalkVerdict::Refused(e) => FeaturesRead::Refused(e),
-        WalkVerdict::Fine => FeaturesRead::Read(DeviceFeatures {
-            features: gathered.scalars[FIRST],
-            device_attributes: gathered.scalars[SECOND],
-        }),
-    }
+    let gathered = read_fields(Schema::Features, message, 0)?;
+    Ok(DeviceFeatures {
+        features: gathered.scalars[FIRST],
+        device_attributes: gathered.scalars[SECOND],
+    })
 }
 
 // The number of bytes of device features.
@@ -58,11 +48,11 @@ pub fn put_features(out: &mut [u8], features: DeviceFeatures) -> usize
 }
 
 // Writes device features.
-pub fn write_features(out: &mut [u8], features: DeviceFeatures) -> Wrote
+pub fn write_features(out: &mut [u8], features: DeviceFeatures) -> Result<usize, WriteRefusal>
     ensures { written (told_wrote result) out.new ≡ features_written features out.old }
 {
     if out.len() < features_len(features) {
-        return Wrote::Refused(WriteRefusal::NoRoom);
+        return Err(WriteRefusal::NoRoom);
     }
-    Wrote::Done(put_features(out, features))
+    Ok(put_features(out, features))
 }

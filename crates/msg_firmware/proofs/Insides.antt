@@ -1,6 +1,6 @@
 -- Laws of what is told of ApplyFirmware: all strings lie within the message and are well formed, and there are at most eight components.
 use Prim.Native.Nat.{ℕ, zero, suc, ◌+◌, ◌≤◌, zero-le}
-use mathlib.Core.Path.{◌≡◌, refl, ap}
+use mathlib.Core.Path.{◌≡◌, refl}
 use mathlib.Core.List.{List, [], ◌∷◌}
 use lib.ListN.{length, take, set, get_or, replicate}
 use lib.Seq.{sets}
@@ -11,7 +11,6 @@ use Rattle.proto_field.proofs.Told.{Sat, sat-then, sat_weaken}
 use Rattle.proto_field.proofs.Places.{within-get}
 use Rattle.proto_reader.specs.declared.gathered.Gathered.{Gathered}
 use Rattle.proto_schema.specs.declared.Schema.{Schema}
-use Rattle.proto_schema.specs.declared.Schema.TheVariants as Schema
 use Rattle.proto_schema.specs.Schema.{first, second, third}
 use Rattle.proto_reader.specs.Gathered.{most_repeated, no_part, parts_gathered, AllText}
 use Rattle.proto_reader.specs.Refusal.{Strings}
@@ -21,12 +20,9 @@ use Rattle.proto_reader.proofs.Strings.{text-get, strings-first}
 use Rattle.proto_reader.proofs.Steps.{fields_within}
 use Rattle.msg_firmware.specs.declared.component.FirmwareComponent.{FirmwareComponent}
 use Rattle.msg_firmware.specs.declared.information.FirmwareInformation.{FirmwareInformation}
-use Rattle.msg_firmware.specs.declared.apply.ApplyFirmware.{ApplyFirmware}
-use Rattle.msg_firmware.specs.declared.apply.ApplyRead.{ApplyRead}
 use Rattle.msg_firmware.specs.Component.{no_component, component_from, component_parts}
 use Rattle.msg_firmware.specs.Information.{parts_from, component_in, components_in, components_from, firmware_from, own_parts, Each}
-use Rattle.msg_firmware.proofs.Steps.{component-cut}
-use Rattle.msg_firmware.specs.Apply.{firmware_in, apply_of, told_apply, with_apply, InsideMessage}
+use Rattle.msg_firmware.specs.Apply.{firmware_in, apply_of, InsideMessage}
 
 -- ---- what was gathered
 pub record Gathers (s : List ℕ) (g : Gathered) : Type 0 where
@@ -52,11 +48,11 @@ component-within s at =
     (λ g w. ((text-within s g first w, (text-within s g second w, tt)), (text-get s g.texts first w.texts, (text-get s g.texts second w.texts, tt))))
 
 component-in-within : (s : List ℕ) (p : Part) → Sat (λ (c : FirmwareComponent). Strings s (component_parts c)) (component_in s p)
+unfolding component_in
 component-in-within s p =
     let t = take (p.start + p.len) s in
-    rw (component-cut s p)
-    (sat_weaken (λ (c : FirmwareComponent). Strings t (component_parts c)) (λ (c : FirmwareComponent). Strings s (component_parts c)) (component_from t p.start) (component-within t p.start)
-    (λ c h. strings-first (p.start + p.len) s (component_parts c) h))
+    sat_weaken (λ (c : FirmwareComponent). Strings t (component_parts c)) (λ (c : FirmwareComponent). Strings s (component_parts c)) (component_from t p.start) (component-within t p.start)
+    (λ c h. strings-first (p.start + p.len) s (component_parts c) h)
 
 -- ---- what holds of each component that is read holds of all eight places, if it holds of the empty one
 module _ (P : FirmwareComponent → Type 0) where
@@ -124,14 +120,6 @@ unfolding apply_of
 apply-within s =
     sat-then (Gathers s) (InsideMessage s) (fields_from Schema.Apply s 0) _ (gathers Schema.Apply s 0)
     (λ g w. sat-then (Firm s) (InsideMessage s) (firmware_in s g.part) _ (firmware-in-within s g.part) (λ f h. record { own = h.0; each = h.1; most = h.2 }))
-
--- what is told, and what stands beside it
-pub told-inside : (s : List ℕ) (r : ApplyRead) → told_apply r ≡ with_apply (apply_of s) → (told_apply r ≡ with_apply (apply_of s)) × InsideMessage s r.apply
-told-inside s r e = (e, rw (ap (λ q. q.1) e) (beside (apply_of s) (apply-within s)))
-  where
-    beside : (t : ToldMore ApplyFirmware) → Sat (InsideMessage s) t → InsideMessage s (with_apply t).1
-    beside (given a) h = h
-    beside (refused n) h = record { own = ((zero-le, (zero-le, (zero-le, tt))), (empty, (empty, (empty, tt)))); each = each_none (Held s) (none-held s) most_repeated; most = zero-le }
 
 -- the part of the firmware information lies within the message
 pub part-inside : (s : List ℕ) (g : Gathered) → fields_from Schema.Apply s 0 ≡ given g → g.part.start + g.part.len ≤ length s

@@ -23,7 +23,6 @@ use Rattle.proto_field.proofs.Places.{tag-ends, Held, value-held}
 use Rattle.proto_reader.specs.declared.gathered.Gathered.{Gathered}
 use Rattle.proto_schema.specs.declared.Schema.TheVariants as Schema
 use Rattle.proto_schema.specs.declared.Role.{Role}
-use Rattle.proto_schema.specs.declared.Role.TheVariants as Role
 use Rattle.proto_schema.specs.Schema.{role_of}
 use Rattle.proto_reader.specs.Gathered.{nothing, with_text}
 use Rattle.proto_reader.specs.declared.reader.Added.{Added}

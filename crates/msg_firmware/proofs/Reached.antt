@@ -1,11 +1,11 @@
 -- The fields that next_component passes over: the place that it has reached, and what was found there.
-use Rattle.std.proofs.Common.{◌≡◌, ℕ, ◌+◌, ◌-◌, ◌≤◌, ◌<◌, List, length, Bool, true, false, refl, sym, ◌∙◌, arith}
+use Rattle.std.proofs.Common.{◌≡◌, ℕ, ◌+◌, ◌-◌, ◌≤◌, ◌<◌, List, length, Bool, true, false, refl, sym, ◌∙◌, arith, Option, Some, None}
 use Rattle.wire.specs.Bytes.{bit}
 use Rattle.wire.specs.Told.{Told, given, refused}
 use Rattle.proto_field.specs.Fields.{Standing, field, end, found_at, behind}
 use Rattle.msg_firmware.specs.Information.{parts_from, is_other, component_of, laid, ComponentOnward}
-use Rattle.msg_firmware.specs.declared.information.NextComponent.{NextComponent}
-use Rattle.msg_firmware.specs.declared.information.NextComponent.TheVariants as NextComponent
+use Rattle.proto_field.specs.declared.value.Part.{Part}
+use Rattle.proto_field.specs.declared.varint.Placed.{Placed}
 use Rattle.msg_firmware.proofs.Parts.{found-field, passed_over, stopped-at}
 
 -- t was found at a place, with `after` behind it, and no field between `start` and that place is a component
@@ -45,9 +45,9 @@ pub reached_less : (s : List ℕ) (t : Told Standing) (after : ℕ) (t' : Told S
     → t' ≡ found_at s after → after' ≡ behind after t' → left_of s t' after' < left_of s t after
 reached_less s t after t' after' o e b = rw o (less_by s after t' after' (is_other t') refl (sym e) b)
 
-onward_from : (s : List ℕ) (start at : ℕ) → start ≤ at → (c : NextComponent) → ComponentOnward s at c → ComponentOnward s start c
-onward_from s start at l (NextComponent.At p next) h = (omega (arith, h.0), h.1)
-onward_from s start at l NextComponent.None h = tt
+onward_from : (s : List ℕ) (start at : ℕ) → start ≤ at → (c : Option (Placed Part)) → ComponentOnward s at c → ComponentOnward s start c
+onward_from s start at l (Some c) h = (omega (arith, h.0), h.1)
+onward_from s start at l None h = tt
 
 pub reached_found : (s : List ℕ) (start : ℕ) (t : Told Standing) (after : ℕ) → Reached s start t after → is_other t ≡ false
     → (parts_from s start ≡ laid s (component_of t)) × ComponentOnward s start (component_of t)

@@ -1,5 +1,6 @@
 -- Laws of a segment: its digits one by one, and what is told of it.
-use Prim.Native.Nat.{ℕ, ◌+◌, ◌≤◌, ◌<◌}
+use Prim.Native.Nat.{ℕ, zero, suc, ◌+◌, ◌≤◌, ◌<◌}
+use Rattle.std.specs.Prelude.{Option, Some, None}
 use mathlib.Core.Path.{◌≡◌, refl, sym, ◌∙◌}
 use mathlib.Core.Bool.{Bool, true, false, cond, ◌&&◌, ◌||◌, not}
 use mathlib.Core.List.{List, [], ◌∷◌}
@@ -15,7 +16,7 @@ use Rattle.proto_field.specs.Value.{Within, bytes_of}
 use Rattle.proto_reader.specs.Gathered.{AllText}
 use Rattle.proto_reader.specs.Refusal.{TellsStrings}
 use Rattle.msg_firmware.specs.declared.segment.UpdateComponentSegment.{UpdateComponentSegment}
-use Rattle.msg_firmware.specs.Segment.{is_digit, all_digits, broken_field, segment_judged, segment_parts}
+use Rattle.msg_firmware.specs.Segment.{is_digit, all_digits, broken_field, field_told, segment_judged, segment_parts}
 
 -- the ranges that a byte lies in, counted
 pub ranges-counted : (a b c : Bool) → not (eqb (cond a 1 0 + cond b 1 0 + cond c 1 0) 0) ≡ (a || (b || c))
@@ -82,3 +83,14 @@ judged-within s m h k = by-test (eqb (broken_field m.component_offset (bytes_of 
     by-test : (b : Bool) → TellsStrings s segment_parts (cond b (given m) (refused (50, broken_field m.component_offset (bytes_of s m.segment_signature) ∷ [])))
     by-test true = (h, k)
     by-test false = tt
+
+-- the field that is told
+pub told-none : (n : ℕ) → None ≡ field_told n → n ≡ 0
+told-none zero e = refl
+told-none (suc n) e = let k : ◌≡◌ {A = Option ℕ} None (Some (suc n)) = e in cc
+
+pub told-some : (n f : ℕ) → Some f ≡ field_told n → (f ≡ n) × (f ≡ 0 → ⊥)
+told-some zero f e = let k : ◌≡◌ {A = Option ℕ} (Some f) None = e in cc
+told-some (suc n) f e =
+    let k : ◌≡◌ {A = Option ℕ} (Some f) (Some (suc n)) = e in
+    let same : f ≡ suc n = cc in (same, λ z. omega (arith, same, z))

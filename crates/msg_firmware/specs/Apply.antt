@@ -1,15 +1,15 @@
 -- ApplyFirmware: firmware information, and a bool.
-use Rattle.std.specs.Prelude.{ℕ, ◌+◌, ◌≤◌, Bool, false, not, List, get_or, take, eqb}
-use Rattle.wire.specs.Told.{ToldMore, given, refused, and_then}
+use Rattle.std.specs.Prelude.{ℕ, ◌+◌, ◌≤◌, Bool, false, not, List, get_or, take, eqb, Result}
+use Rattle.wire.specs.Told.{ToldMore, given, and_then}
 use Rattle.proto_field.specs.declared.value.Part.{Part}
 use Rattle.proto_schema.specs.declared.Schema.TheVariants as Schema
 use Rattle.proto_schema.specs.Schema.{first}
 use Rattle.proto_reader.specs.Gathered.{most_repeated}
-use Rattle.proto_reader.specs.Refusal.{Strings, judged_as}
+use Rattle.proto_reader.specs.declared.refusal.MessageRefusal.{MessageRefusal}
+use Rattle.proto_reader.specs.Refusal.{Strings, told_more}
 use Rattle.proto_reader.specs.Walk.{fields_from}
 use Rattle.msg_firmware.specs.declared.information.FirmwareInformation.{FirmwareInformation}
 use Rattle.msg_firmware.specs.declared.apply.ApplyFirmware.{ApplyFirmware}
-use Rattle.msg_firmware.specs.declared.apply.ApplyRead.{ApplyRead}
 use Rattle.msg_firmware.specs.Component.{component_parts}
 use Rattle.msg_firmware.specs.Information.{no_firmware, firmware_from, own_parts, Each}
 
@@ -30,13 +30,9 @@ apply_of s =
 abbrev pub no_apply : ApplyFirmware
 no_apply = record { firmware_information = no_firmware; restart_required = false }
 
--- an answer of read_apply: what it tells, and the message beside it, which is empty where it is refused
-abbrev pub told_apply : ApplyRead → ToldMore ApplyFirmware × ApplyFirmware
-told_apply r = (judged_as r.verdict r.apply, r.apply)
-
-abbrev pub with_apply : ToldMore ApplyFirmware → ToldMore ApplyFirmware × ApplyFirmware
-with_apply (given a) = (given a, a)
-with_apply (refused n) = (refused n, no_apply)
+-- the answers of read_apply
+abbrev pub told_apply : Result ApplyFirmware MessageRefusal → ToldMore ApplyFirmware
+told_apply = told_more
 
 -- all strings lie within the message and are well formed, and there are at most eight components
 pub record InsideMessage (s : List ℕ) (a : ApplyFirmware) : Type 0 where

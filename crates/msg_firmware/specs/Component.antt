@@ -1,17 +1,16 @@
 -- FirmwareComponent: two strings and two numbers of 32 bits.
-use Rattle.std.specs.Prelude.{ℕ, List, [], ◌∷◌, get_or}
-use Rattle.wire.specs.Told.{ToldMore, given, refused, and_then}
+use Rattle.std.specs.Prelude.{ℕ, List, [], ◌∷◌, get_or, Result}
+use Rattle.wire.specs.Told.{ToldMore, given, and_then}
 use Rattle.proto_field.specs.declared.value.Part.{Part}
 use Rattle.proto_field.specs.Unsigned.{unsigned_of}
 use Rattle.proto_reader.specs.declared.gathered.Gathered.{Gathered}
 use Rattle.proto_schema.specs.declared.Schema.TheVariants as Schema
 use Rattle.proto_schema.specs.Schema.{first, second}
 use Rattle.proto_reader.specs.Gathered.{no_part}
-use Rattle.proto_reader.specs.Refusal.{why_of}
+use Rattle.proto_reader.specs.declared.refusal.MessageRefusal.{MessageRefusal}
+use Rattle.proto_reader.specs.Refusal.{told_more}
 use Rattle.proto_reader.specs.Walk.{fields_from}
 use Rattle.msg_firmware.specs.declared.component.FirmwareComponent.{FirmwareComponent}
-use Rattle.msg_firmware.specs.declared.component.ComponentRead.{ComponentRead}
-use Rattle.msg_firmware.specs.declared.component.ComponentRead.TheVariants as ComponentRead
 
 -- no component: an empty one
 abbrev pub no_component : FirmwareComponent
@@ -32,9 +31,8 @@ unfoldable pub component_from : List ℕ → ℕ → ToldMore FirmwareComponent
 component_from s at = and_then (fields_from Schema.Component s at) (λ g. given (component_made g))
 
 -- the answers of component_from
-abbrev pub told_component : ComponentRead → ToldMore FirmwareComponent
-told_component (ComponentRead.Read c) = given c
-told_component (ComponentRead.Refused e) = refused (why_of e)
+abbrev pub told_component : Result FirmwareComponent MessageRefusal → ToldMore FirmwareComponent
+told_component = told_more
 
 -- the parts that a component tells
 abbrev pub component_parts : FirmwareComponent → List Part

@@ -1,9 +1,10 @@
 -- FirmwareInformation: a number of 32 bits, three strings and at most eight components.
-use Rattle.std.specs.Prelude.{ℕ, zero, suc, ◌+◌, ◌≤◌, ◌<◌, Bool, true, false, cond, List, [], ◌∷◌, ◌++◌, length, get_or, take, replicate, eqb}
+use Rattle.std.specs.Prelude.{ℕ, zero, suc, ◌+◌, ◌≤◌, ◌<◌, Bool, true, false, cond, List, [], ◌∷◌, ◌++◌, length, get_or, take, replicate, eqb, Option, Some, None, Result}
 use Rattle.std.proofs.lemmas.List.Edits.{sets}
 use Rattle.wire.specs.Told.{Told, ToldMore, given, refused, and_then}
 use Rattle.proto_field.specs.declared.value.Part.{Part}
 use Rattle.proto_field.specs.declared.value.Value.{Value}
+use Rattle.proto_field.specs.declared.varint.Placed.{Placed}
 use Rattle.proto_field.specs.Fields.{Standing, field, end, found_at}
 use Rattle.proto_field.specs.Unsigned.{unsigned_of}
 use Rattle.proto_field.specs.Value.{value_parts}
@@ -11,16 +12,11 @@ use Rattle.proto_reader.specs.declared.gathered.Gathered.{Gathered}
 use Rattle.proto_schema.specs.declared.Schema.TheVariants as Schema
 use Rattle.proto_schema.specs.Schema.{components_field, first, second, third}
 use Rattle.proto_reader.specs.Gathered.{most_repeated, no_part}
-use Rattle.proto_reader.specs.Refusal.{judged_as}
+use Rattle.proto_reader.specs.declared.refusal.MessageRefusal.{MessageRefusal}
+use Rattle.proto_reader.specs.Refusal.{told_more}
 use Rattle.proto_reader.specs.Walk.{fields_from}
 use Rattle.msg_firmware.specs.declared.component.FirmwareComponent.{FirmwareComponent}
 use Rattle.msg_firmware.specs.declared.information.FirmwareInformation.{FirmwareInformation}
-use Rattle.msg_firmware.specs.declared.information.ComponentPart.{ComponentPart}
-use Rattle.msg_firmware.specs.declared.information.ComponentPart.TheVariants as ComponentPart
-use Rattle.msg_firmware.specs.declared.information.NextComponent.{NextComponent}
-use Rattle.msg_firmware.specs.declared.information.NextComponent.TheVariants as NextComponent
-use Rattle.msg_firmware.specs.declared.information.ComponentsRead.{ComponentsRead}
-use Rattle.msg_firmware.specs.declared.information.FirmwareRead.{FirmwareRead}
 use Rattle.msg_firmware.specs.Component.{no_component, component_from}
 
 -- ---- the components: where they stand, and what each one holds
@@ -42,9 +38,9 @@ unfoldable pub parts_from : List ℕ → ℕ → List Part
 parts_from s at = parts_walked (length s) s at
 
 -- the answers of component_part and next_component
-abbrev pub part_told : ComponentPart → List Part
-part_told (ComponentPart.At p) = p ∷ []
-part_told ComponentPart.None = []
+abbrev pub part_told : Option Part → List Part
+part_told (Some p) = p ∷ []
+part_told None = []
 
 abbrev pub is_none : List Part → Bool
 is_none [] = true
@@ -56,24 +52,24 @@ is_other (given (field number value next)) = is_none (part_of_component number v
 is_other (given end) = false
 is_other (refused n) = false
 
-abbrev pub component_by : ℕ → List Part → NextComponent
-component_by next [] = NextComponent.None
-component_by next (p ∷ ps) = NextComponent.At p next
+abbrev pub component_by : ℕ → List Part → Option (Placed Part)
+component_by next [] = None
+component_by next (p ∷ ps) = Some (record { value = p; next = next })
 
 -- what was found, if it is a component
-abbrev pub component_of : Told Standing → NextComponent
+abbrev pub component_of : Told Standing → Option (Placed Part)
 component_of (given (field number value next)) = component_by next (part_of_component number value)
-component_of (given end) = NextComponent.None
-component_of (refused n) = NextComponent.None
+component_of (given end) = None
+component_of (refused n) = None
 
-abbrev pub laid : List ℕ → NextComponent → List Part
-laid s (NextComponent.At p next) = p ∷ parts_from s next
-laid s NextComponent.None = []
+abbrev pub laid : List ℕ → Option (Placed Part) → List Part
+laid s (Some c) = c.value ∷ parts_from s c.next
+laid s None = []
 
 -- the next component ends after the place, within the message
-abbrev pub ComponentOnward : List ℕ → ℕ → NextComponent → Type 0
-ComponentOnward s at (NextComponent.At p next) = (at < next) × (p.start + p.len ≤ length s)
-ComponentOnward s at NextComponent.None = Unit {0}
+abbrev pub ComponentOnward : List ℕ → ℕ → Option (Placed Part) → Type 0
+ComponentOnward s at (Some c) = (at < c.next) × (c.value.start + c.value.len ≤ length s)
+ComponentOnward s at None = Unit {0}
 
 -- a component within its part: what follows it in the message is not seen
 unfoldable pub component_in : List ℕ → Part → ToldMore FirmwareComponent
@@ -112,16 +108,12 @@ unfoldable pub firmware_from : List ℕ → ℕ → ToldMore FirmwareInformation
 firmware_from s at = and_then (fields_from Schema.Firmware s at) (λ g. and_then (components_from s at) (λ cs. given (firmware_made g cs)))
 
 -- the answers of components_from
-abbrev pub told_components : ComponentsRead → ToldMore (List FirmwareComponent)
-told_components r = judged_as r.verdict r.components
+abbrev pub told_components : Result (List FirmwareComponent) MessageRefusal → ToldMore (List FirmwareComponent)
+told_components = told_more
 
--- the answers of firmware_from: what is told, and the information beside it, which is empty where it is refused
-abbrev pub told_firmware : FirmwareRead → ToldMore FirmwareInformation × FirmwareInformation
-told_firmware r = (judged_as r.verdict r.information, r.information)
-
-abbrev pub with_firmware : ToldMore FirmwareInformation → ToldMore FirmwareInformation × FirmwareInformation
-with_firmware (given f) = (given f, f)
-with_firmware (refused n) = (refused n, no_firmware)
+-- the answers of firmware_from
+abbrev pub told_firmware : Result FirmwareInformation MessageRefusal → ToldMore FirmwareInformation
+told_firmware = told_more
 
 -- the strings that it tells of itself
 abbrev pub own_parts : FirmwareInformation → List Part

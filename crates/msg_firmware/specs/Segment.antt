@@ -1,6 +1,6 @@
 -- UpdateComponentSegment: two strings, two numbers of 32 bits, and the profile on top.
-use Rattle.std.specs.Prelude.{ℕ, Bool, true, cond, ◌&&◌, ◌||◌, not, List, [], ◌∷◌, length, get_or, leb, eqb}
-use Rattle.wire.specs.Told.{ToldMore, given, refused, and_then}
+use Rattle.std.specs.Prelude.{ℕ, zero, suc, Bool, true, cond, ◌&&◌, ◌||◌, not, List, [], ◌∷◌, length, get_or, leb, eqb, Option, Some, None, Result}
+use Rattle.wire.specs.Told.{ToldMore, told_by, given, refused, and_then}
 use Rattle.proto_field.specs.declared.value.Part.{Part}
 use Rattle.proto_field.specs.Unsigned.{unsigned_of}
 use Rattle.proto_field.specs.Value.{bytes_of}
@@ -11,8 +11,8 @@ use Rattle.proto_reader.specs.Gathered.{no_part}
 use Rattle.proto_reader.specs.Refusal.{why_of}
 use Rattle.proto_reader.specs.Walk.{fields_from}
 use Rattle.msg_firmware.specs.declared.segment.UpdateComponentSegment.{UpdateComponentSegment}
-use Rattle.msg_firmware.specs.declared.segment.SegmentRead.{SegmentRead}
-use Rattle.msg_firmware.specs.declared.segment.SegmentRead.TheVariants as SegmentRead
+use Rattle.msg_firmware.specs.declared.segment.SegmentRefusal.{SegmentRefusal}
+use Rattle.msg_firmware.specs.declared.segment.SegmentRefusal.TheVariants.{Message, Profile}
 
 -- ---- the profile
 -- a SHA-256 hash in base 16
@@ -41,7 +41,20 @@ broken_field offset signature = cond (not (eqb offset 0)) component_offset_field
 abbrev pub profiled : {A : Type 0} → ℕ → (ℕ × List ℕ → A) → A → A
 profiled broken refuse rest = cond (eqb broken 0) rest (refuse (50, broken ∷ []))
 
+-- that field, where there is one
+abbrev pub field_told : ℕ → Option ℕ
+field_told zero = None
+field_told (suc n) = Some (suc n)
+
 -- ---- reading
+-- what a refusal tells: the profile's 50 with the field of which a rule is broken
+abbrev pub segment_why : SegmentRefusal → ℕ × List ℕ
+segment_why (Message e) = why_of e
+segment_why (Profile field) = (50, field ∷ [])
+
+abbrev pub segment_number : SegmentRefusal → ℕ
+segment_number e = (segment_why e).0
+
 -- the segment that was gathered
 abbrev pub segment_made : Gathered → UpdateComponentSegment
 segment_made g =
@@ -60,10 +73,8 @@ unfoldable pub segment_of : List ℕ → ToldMore UpdateComponentSegment
 segment_of s = and_then (fields_from Schema.Segment s 0) (λ g. segment_judged s (segment_made g))
 
 -- the answers of read_segment
-abbrev pub told_segment : SegmentRead → ToldMore UpdateComponentSegment
-told_segment (SegmentRead.Read m) = given m
-told_segment (SegmentRead.Refused e) = refused (why_of e)
-told_segment (SegmentRead.Profile field) = refused (50, field ∷ [])
+abbrev pub told_segment : Result UpdateComponentSegment SegmentRefusal → ToldMore UpdateComponentSegment
+told_segment = told_by segment_why
 
 -- the parts that it tells
 abbrev pub segment_parts : UpdateComponentSegment → List Part

@@ -1,12 +1,12 @@
 // ApplyFirmware: the firmware that is to be used, and whether to restart.
-ghost use Rattle.std.specs.Prelude.{◌≡◌, ◌+◌, ◌≤◌, length};
-ghost use Rattle.msg_firmware.specs.Information.{told_firmware, with_firmware};
-ghost use Rattle.msg_firmware.specs.Apply.{firmware_in, apply_of, no_apply, told_apply, with_apply, InsideMessage};
+ghost use Rattle.std.specs.Prelude.{◌≡◌, ◌+◌, ◌≤◌, length, IfOk};
+ghost use Rattle.msg_firmware.specs.Information.{told_firmware};
+ghost use Rattle.msg_firmware.specs.Apply.{firmware_in, apply_of, told_apply, InsideMessage};
 
-use crate::information::{FirmwareInformation, FirmwareRead, firmware_from};
+use crate::information::{FirmwareInformation, firmware_from};
 use proto_field::value::Part;
 use proto_reader::reader::read_fields;
-use proto_reader::refusal::{MessageRefusal, WalkVerdict};
+use proto_reader::refusal::MessageRefusal;
 use proto_schema::{FIRST, Schema};
 
 #[derive(Clone, Copy)]
@@ -15,64 +15,25 @@ pub struct ApplyFirmware {
     pub restart_required: bool,
 }
 
-// The message stands beside the verdict, and is the empty one where it is refused.
-#[derive(Drop)]
-pub struct ApplyRead {
-    pub verdict: WalkVerdict,
-    pub apply: ApplyFirmware,
-}
-
 // The firmware information within a part of the message.
-fn firmware_in(message: &[u8], part: Part) -> FirmwareRead
+#[tactic(auto, unfolding(crate::specs::Apply::firmware_in))]
+fn firmware_in(message: &[u8], part: Part) -> Result<FirmwareInformation, MessageRefusal>
     requires { part.start + part.len ≤ length message.now }
-    ensures { told_firmware result ≡ with_firmware (firmware_in message.now part) }
+    ensures { told_firmware result ≡ firmware_in message.now part }
 {
-    let start = part.start;
-    let end = start + part.len;
-    firmware_from(&message[..end], start)
+    firmware_from(part.up_to_end(message), part.start)
 }
 
 // ApplyFirmware. It is read through before its firmware information.
-pub fn read_apply(message: &[u8]) -> ApplyRead
-    ensures result_value { told_apply result ≡ with_apply (apply_of message.now) }
-    ensures inside_message { InsideMessage message.now result.apply }
+#[tactic(auto, unfolding(crate::specs::Apply::apply_of))]
+pub fn read_apply(message: &[u8]) -> Result<ApplyFirmware, MessageRefusal>
+    ensures result_value { told_apply result ≡ apply_of message.now }
+    ensures inside_message { IfOk result (λ a. InsideMessage message.now a) }
 {
-    let kept = read_fields(Schema::Apply, message, 0);
-    let verdict = kept.verdict;
-    let gathered = kept.gathered;
-    match verdict {
-        WalkVerdict::Refused(e) => refused_apply(e),
-        WalkVerdict::Fine => {
-            let part = gathered.part;
-            let read = firmware_in(message, part);
-            let judged = read.verdict;
-            match judged {
-                WalkVerdict::Refused(e) => refused_apply(e),
-                WalkVerdict::Fine => {
-                    let firmware_information = read.information;
-                    ApplyRead {
-                        verdict: WalkVerdict::Fine,
-                        apply: ApplyFirmware {
-                            firmware_information,
-                            restart_required: gathered.scalars[FIRST] != 0,
-                        },
-                    }
-                }
-            }
-        }
-    }
-}
-
-// A message that is refused is the empty one.
-fn refused_apply(e: MessageRefusal) -> ApplyRead
-    ensures { result ≡ record { verdict = WalkVerdict.Refused e; apply = no_apply } }
-{
-    let firmware_information = FirmwareInformation::none();
-    ApplyRead {
-        verdict: WalkVerdict::Refused(e),
-        apply: ApplyFirmware {
-            firmware_information,
-            restart_required: false,
-        },
-    }
+    let gathered = read_fields(Schema::Apply, message, 0)?;
+    let firmware_information = firmware_in(message, gathered.part)?;
+    Ok(ApplyFirmware {
+        firmware_information,
+        restart_required: gathered.scalars[FIRST] != 0,
+    })
 }

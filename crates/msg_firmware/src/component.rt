@@ -5,7 +5,7 @@ ghost use Rattle.msg_firmware.specs.Component.{no_component, component_from, tol
 use proto_field::unsigned::low_unsigned;
 use proto_field::value::Part;
 use proto_reader::reader::read_fields;
-use proto_reader::refusal::{MessageRefusal, WalkVerdict};
+use proto_reader::refusal::MessageRefusal;
 use proto_schema::{FIRST, SECOND, Schema};
 
 // Strings are parts of the lent message.
@@ -15,12 +15,6 @@ pub struct FirmwareComponent {
     pub name: Part,
     pub size: u32,
     pub signature: Part,
-}
-
-#[derive(Drop)]
-pub enum ComponentRead {
-    Read(FirmwareComponent),
-    Refused(MessageRefusal),
 }
 
 impl FirmwareComponent {
@@ -39,23 +33,15 @@ impl FirmwareComponent {
 }
 
 // The component from a place to the end.
-pub(crate) fn component_from(message: &[u8], at: usize) -> ComponentRead
+#[tactic(auto, unfolding(crate::specs::Component::component_from))]
+pub(crate) fn component_from(message: &[u8], at: usize) -> Result<FirmwareComponent, MessageRefusal>
     ensures { told_component result ≡ component_from message.now at }
 {
-    let kept = read_fields(Schema::Component, message, at);
-    let verdict = kept.verdict;
-    let gathered = kept.gathered;
-    match verdict {
-        WalkVerdict::Refused(e) => ComponentRead::Refused(e),
-        WalkVerdict::Fine => {
-            let name = gathered.texts[FIRST];
-            let signature = gathered.texts[SECOND];
-            ComponentRead::Read(FirmwareComponent {
-                version: low_unsigned(gathered.scalars[FIRST]),
-                name,
-                size: low_unsigned(gathered.scalars[SECOND]),
-                signature,
-            })
-        }
-    }
+    let gathered = read_fields(Schema::Component, message, at)?;
+    Ok(FirmwareComponent {
+        version: low_unsigned(gathered.scalars[FIRST]),
+        name: gathered.texts[FIRST],
+        size: low_unsigned(gathered.scalars[SECOND]),
+        signature: gathered.texts[SECOND],
+    })
 }

@@ -1,15 +1,17 @@
 // UpdateComponentSegment: the piece of firmware that comes next.
-ghost use Rattle.std.specs.Prelude.{◌≡◌, cond, ◌+◌, ◌≤◌, length};
-ghost use Rattle.proto_reader.specs.Refusal.{number_more, TellsStrings};
-ghost use Rattle.msg_firmware.specs.Segment.{between, is_digit, all_digits, is_signature, broken_field, segment_made, segment_judged, segment_of, told_segment, segment_parts};
+ghost use Rattle.std.specs.Prelude.{◌≡◌, cond, ◌≤◌};
+ghost use Rattle.proto_reader.specs.Refusal.{TellsStrings};
+ghost use Rattle.msg_firmware.specs.declared.segment.SegmentRefusal.TheVariants.{Message};
+ghost use Rattle.msg_firmware.specs.Segment.{between, is_digit, all_digits, is_signature, broken_field, field_told, segment_number, segment_made, segment_of, told_segment, segment_parts};
 
 use proto_field::unsigned::low_unsigned;
 use proto_field::value::Part;
 use proto_reader::gathered::Gathered;
 use proto_reader::reader::read_fields;
-use proto_reader::refusal::{MessageRefusal, WalkVerdict};
-use proto_schema::{COMPONENT_OFFSET, FIRST, NO_FIELD, SECOND, SEGMENT_SIGNATURE, Schema};
+use proto_reader::refusal::MessageRefusal;
+use proto_schema::{COMPONENT_OFFSET, FIRST, SECOND, SEGMENT_SIGNATURE, Schema};
 use wire::logic::both;
+use wire::refusal::Numbered;
 
 // The hexadecimal digits of a signature.
 const SIGNATURE_DIGITS: usize = 64;
@@ -23,23 +25,29 @@ pub struct UpdateComponentSegment {
     pub segment_signature: Part,
 }
 
-#[derive(Clone, Copy)]
-pub enum SegmentRead {
-    Read(UpdateComponentSegment),
-    Refused(MessageRefusal),
+// Why a segment is refused.
+#[derive(Clone, Copy, Debug, PartialEq, Eq)]
+pub enum SegmentRefusal {
+    Message(MessageRefusal),
     // A rule of the profile is broken, in this field.
     Profile(u64),
 }
 
-impl SegmentRead {
-    // 0 where the segment is read.
-    pub fn number(self) -> u8
-        ensures { result ≡ number_more (told_segment self) }
-    {
+impl From<MessageRefusal> for SegmentRefusal {
+    ghost from_gives = { λ why e. e ≡ Message why };
+
+    fn from(why: MessageRefusal) -> Self {
+        SegmentRefusal::Message(why)
+    }
+}
+
+impl Numbered for SegmentRefusal {
+    ghost number_of = { segment_number };
+
+    fn number(&self) -> u8 {
         match self {
-            SegmentRead::Read(_) => 0,
-            SegmentRead::Refused(why) => why.number(),
-            SegmentRead::Profile(_) => 50,
+            SegmentRefusal::Message(why) => why.number(),
+            SegmentRefusal::Profile(_) => 50,
         }
     }
 }
@@ -71,12 +79,10 @@ fn all_digits(bytes: &[u8]) -> bool
     ensures { result ≡ all_digits bytes.now }
 {
     let mut all = true;
-    let mut i = 0;
-    while i < bytes.len() {
-        if !is_digit(bytes[i]) {
+    for byte in bytes {
+        if !is_digit(*byte) {
             all = false;
         }
-        i += 1;
     }
     all
 }
@@ -90,17 +96,18 @@ fn is_signature(bytes: &[u8]) -> bool
     all_digits(bytes)
 }
 
-// The lowest field of which the profile's rule is broken, or none.
-pub fn broken_field(offset: u32, signature: &[u8]) -> u64
-    ensures { result ≡ broken_field offset signature.now }
+// The lowest field of which the profile's rule is broken.
+#[tactic(auto, unfolding(crate::specs::Segment::broken_field))]
+pub fn broken_field(offset: u32, signature: &[u8]) -> Option<u64>
+    ensures { result ≡ field_told (broken_field offset signature.now) }
 {
     if offset != 0 {
-        return COMPONENT_OFFSET;
+        return Some(COMPONENT_OFFSET);
     }
     if !is_signature(signature) {
-        return SEGMENT_SIGNATURE;
+        return Some(SEGMENT_SIGNATURE);
     }
-    NO_FIELD
+    None
 }
 
 // The segment that was gathered.
@@ -117,34 +124,17 @@ fn segment_made(gathered: Gathered) -> UpdateComponentSegment
     }
 }
 
-// A segment that was read through, by the profile.
-fn judge_segment(message: &[u8], segment: UpdateComponentSegment) -> SegmentRead
-    requires { segment.segment_signature.start + segment.segment_signature.len ≤ length message.now }
-    ensures { told_segment result ≡ segment_judged message.now segment }
-{
-    let signature = segment.segment_signature;
-    let start = signature.start;
-    let end = start + signature.len;
-    let broken = broken_field(segment.component_offset, &message[start..end]);
-    if broken != NO_FIELD {
-        return SegmentRead::Profile(broken);
-    }
-    SegmentRead::Read(segment)
-}
-
 // A segment.
-pub fn read_segment(message: &[u8]) -> SegmentRead
+#[tactic(auto, unfolding(crate::specs::Segment::segment_of))]
+pub fn read_segment(message: &[u8]) -> Result<UpdateComponentSegment, SegmentRefusal>
     ensures result_value { told_segment result ≡ segment_of message.now }
     ensures tells_strings { TellsStrings message.now segment_parts (told_segment result) }
 {
-    let kept = read_fields(Schema::Segment, message, 0);
-    let verdict = kept.verdict;
-    let gathered = kept.gathered;
-    match verdict {
-        WalkVerdict::Refused(e) => SegmentRead::Refused(e),
-        WalkVerdict::Fine => {
-            let segment = segment_made(gathered);
-            judge_segment(message, segment)
-        }
+    let gathered = read_fields(Schema::Segment, message, 0)?;
+    let segment = segment_made(gathered);
+    let signature = segment.segment_signature.of(message);
+    match broken_field(segment.component_offset, signature) {
+        Some(field) => Err(SegmentRefusal::Profile(field)),
+        None => Ok(segment),
     }
 }

@@ -8,8 +8,8 @@ use lib.Seq.{sets}
 use borrow.Author.Tests.{lt-ltb, le-ltb, eq-eqb, ne_eqb}
 use Rattle.wire.specs.Told.{given, refused, written, WrittenOf}
 use Rattle.proto_strings.specs.declared.TextFault.{TextFault}
-use Rattle.proto_strings.specs.declared.TextFault.TheVariants.{None, At}
-use Rattle.proto_strings.specs.Texts.{first_fault, faulted}
+use Rattle.std.specs.Prelude.{⊤, Result, Ok, Err}
+use Rattle.proto_strings.specs.Texts.{why_of_fault, first_fault, faulted}
 use Rattle.wire.specs.Put.{Put}
 use Rattle.proto_writer.specs.Writer.{scalar, text, field_bytes, message_bytes}
 use Rattle.proto_writer.proofs.Runs.{four-length, scalar-none}
@@ -51,12 +51,12 @@ module _ (name : List ℕ) (offset size : ℕ) (signature out : List ℕ) (n : �
 
 -- ---- the writer, by its strings
 module _ (name : List ℕ) (offset size : ℕ) (signature out : List ℕ) where
-  by-fault : (f : TextFault) → first_fault (segment_strings name signature) ≡ f → segment_written name offset size signature out ≡ faulted f out (segment_filled name offset size signature out)
+  by-fault : (f : Result ⊤ TextFault) → first_fault (segment_strings name signature) ≡ f → segment_written name offset size signature out ≡ faulted f out (segment_filled name offset size signature out)
   unfolding segment_written
   by-fault f e = ap (λ x. faulted x out (segment_filled name offset size signature out)) e
 
-  pub segment-faulted : (field place : ℕ) → first_fault (segment_strings name signature) ≡ At field place → written {A = ℕ} (refused (36, field ∷ place ∷ [])) out ≡ segment_written name offset size signature out
-  segment-faulted field place e = sym (by-fault (At field place) e)
+  pub segment-faulted : (fault : TextFault) → first_fault (segment_strings name signature) ≡ Err fault → written {A = ℕ} (refused (why_of_fault fault)) out ≡ segment_written name offset size signature out
+  segment-faulted fault e = sym (by-fault (Err fault) e)
 
-  pub segment-clean : first_fault (segment_strings name signature) ≡ None → {w : WrittenOf (ℕ × List ℕ) ℕ} → w ≡ segment_filled name offset size signature out → w ≡ segment_written name offset size signature out
-  segment-clean e k = k ∙ sym (by-fault None e)
+  pub segment-clean : first_fault (segment_strings name signature) ≡ Ok tt → {w : WrittenOf (ℕ × List ℕ) ℕ} → w ≡ segment_filled name offset size signature out → w ≡ segment_written name offset size signature out
+  segment-clean e k = k ∙ sym (by-fault (Ok tt) e)

@@ -1,12 +1,12 @@
 -- UpdateComponentSegment: two strings, two numbers of 32 bits, and the profile on top, written.
-use Rattle.std.specs.Prelude.{ℕ, List, [], ◌∷◌, length, ltb}
+use Rattle.std.specs.Prelude.{ℕ, List, [], ◌∷◌, length, ltb, Result}
 use Rattle.std.proofs.lemmas.List.Edits.{sets}
-use Rattle.wire.specs.Told.{ToldMore, given, refused, line, table, WrittenOf, written}
+use Rattle.wire.specs.Told.{ToldMore, told_by, given, refused, line, table, WrittenOf, written}
 use Rattle.proto_writer.specs.Writer.{Field, scalar, text, message_bytes}
 use Rattle.proto_schema.specs.Schema.{component_name_field, component_offset_field, segment_size_field, segment_signature_field}
-use Rattle.msg_segment_writer.specs.declared.SegmentWrote.{SegmentWrote}
-use Rattle.msg_segment_writer.specs.declared.SegmentWrote.TheVariants as SegmentWrote
-use Rattle.proto_strings.specs.Texts.{first_fault, faulted}
+use Rattle.msg_segment_writer.specs.declared.SegmentWriteRefusal.{SegmentWriteRefusal}
+use Rattle.msg_segment_writer.specs.declared.SegmentWriteRefusal.TheVariants as Why
+use Rattle.proto_strings.specs.Texts.{why_of_fault, first_fault, faulted}
 use Rattle.msg_firmware.specs.Segment.{broken_field, profiled}
 
 -- ---- writing
@@ -29,16 +29,15 @@ segment_filled name offset size signature out =
 unfoldable pub segment_written : List ℕ → ℕ → ℕ → List ℕ → List ℕ → WrittenOf (ℕ × List ℕ) ℕ
 segment_written name offset size signature out = faulted (first_fault (segment_strings name signature)) out (segment_filled name offset size signature out)
 
--- the answers of write_segment
-abbrev pub told_segment_wrote : SegmentWrote → ToldMore ℕ
-told_segment_wrote (SegmentWrote.Done n) = given n
-told_segment_wrote (SegmentWrote.BadText field place) = refused (36, field ∷ place ∷ [])
-told_segment_wrote (SegmentWrote.Profile field) = refused (50, field ∷ [])
-told_segment_wrote SegmentWrote.NoRoom = refused (14, [])
+-- the number of a refusal, and what goes with it
+abbrev pub why_of : SegmentWriteRefusal → ℕ × List ℕ
+why_of (Why.BadText fault) = why_of_fault fault
+why_of (Why.Profile field) = (50, field ∷ [])
+why_of Why.NoRoom = (14, [])
 
--- the number of bytes that were written
-abbrev pub segment_wrote_size : SegmentWrote → ℕ
-segment_wrote_size (SegmentWrote.Done n) = n
-segment_wrote_size (SegmentWrote.BadText field place) = 0
-segment_wrote_size (SegmentWrote.Profile field) = 0
-segment_wrote_size SegmentWrote.NoRoom = 0
+abbrev pub number_of : SegmentWriteRefusal → ℕ
+number_of why = (why_of why).0
+
+-- the answers of write_segment
+abbrev pub told_segment_wrote : Result ℕ SegmentWriteRefusal → ToldMore ℕ
+told_segment_wrote = told_by why_of

@@ -1,43 +1,60 @@
 // UpdateComponentSegment written.
 #![tactic(auto)]
 
-ghost use Rattle.std.specs.Prelude.{◌≡◌, ◌≤◌, length};
+ghost use Rattle.std.specs.Prelude.{◌≡◌, ◌≤◌, length, Some};
 ghost use Rattle.wire.specs.Told.{written};
 ghost use Rattle.wire.specs.Put.{Put};
 ghost use Rattle.proto_writer.specs.Writer.{message_bytes};
 ghost use Rattle.proto_writer.specs.Message.{less_room};
-ghost use Rattle.proto_reader.specs.Refusal.{number_more};
-ghost use Rattle.msg_segment_writer.specs.Segment.{segment_strings, segment_fields, segment_filled, segment_written, told_segment_wrote};
+ghost use Rattle.msg_segment_writer.specs.Segment.{segment_strings, segment_fields, segment_filled, segment_written, why_of, number_of, told_segment_wrote};
+ghost use Rattle.msg_segment_writer.specs.declared.SegmentWriteRefusal.TheVariants.{BadText};
 ghost use Rattle.proto_strings.specs.Texts.{first_fault};
 
 use msg_firmware::segment::broken_field;
-use proto_schema::{COMPONENT_NAME, NO_FIELD, SEGMENT_SIGNATURE, SEGMENT_SIZE};
-use proto_strings::TextFault;
+use proto_schema::{COMPONENT_NAME, SEGMENT_SIGNATURE, SEGMENT_SIZE};
+use proto_strings::{BAD_TEXT, Faulted, TextFault, check_text};
 use proto_writer::fields::{put_scalar, put_text, scalar_len, text_len};
-use proto_writer::message::Room;
+use wire::refusal::Numbered;
 
-#[derive(Clone, Copy)]
-pub enum SegmentWrote {
-    // The number of bytes written.
-    Done(usize),
-    // A string is not well formed: its field, and the place in it.
-    BadText { field: u64, place: usize },
+// Why no segment is written.
+#[derive(Clone, Copy, Debug, PartialEq, Eq)]
+pub enum SegmentWriteRefusal {
+    // A string is not well formed.
+    BadText(TextFault),
     // A rule of the profile is broken, in this field.
     Profile(u64),
     // The output is smaller than the message.
     NoRoom,
 }
 
-impl SegmentWrote {
-    // 0 where the segment is written.
-    pub fn number(self) -> u8
-        ensures { result ≡ number_more (told_segment_wrote self) }
-    {
+impl From<TextFault> for SegmentWriteRefusal {
+    ghost from_gives = { λ fault r. r ≡ BadText fault };
+
+    fn from(fault: TextFault) -> SegmentWriteRefusal {
+        SegmentWriteRefusal::BadText(fault)
+    }
+}
+
+impl Numbered for SegmentWriteRefusal {
+    ghost number_of = { number_of };
+
+    fn number(&self) -> u8 {
         match self {
-            SegmentWrote::Done(_) => 0,
-            SegmentWrote::BadText { field: _, place: _ } => 36,
-            SegmentWrote::Profile(_) => 50,
-            SegmentWrote::NoRoom => 14,
+            SegmentWriteRefusal::BadText(_) => BAD_TEXT,
+            SegmentWriteRefusal::Profile(_) => 50,
+            SegmentWriteRefusal::NoRoom => 14,
+        }
+    }
+}
+
+impl Faulted for SegmentWriteRefusal {
+    ghost goes_with = { λ why. (why_of why).1 };
+
+    fn fault(&self) -> [u64; 2] {
+        match self {
+            SegmentWriteRefusal::BadText(fault) => [fault.field, fault.place as u64],
+            SegmentWriteRefusal::Profile(field) => [*field, 0],
+            SegmentWriteRefusal::NoRoom => [0u64; 2],
         }
     }
 }
@@ -48,18 +65,17 @@ fn segment_room(
     component_name: &[u8],
     segment_size: u32,
     segment_signature: &[u8],
-) -> Room
+) -> Option<usize>
     ensures { result
         ≡ less_room
         (length
         (message_bytes
         (segment_fields component_name.now 0 segment_size segment_signature.now)))
-        (Room.Left len) }
+        (Some len) }
 {
-    Room::Left(len)
-        .less(text_len(COMPONENT_NAME, component_name))
-        .less(scalar_len(SEGMENT_SIZE, segment_size as u64))
-        .less(text_len(SEGMENT_SIGNATURE, segment_signature))
+    len.checked_sub(text_len(COMPONENT_NAME, component_name))?
+        .checked_sub(scalar_len(SEGMENT_SIZE, segment_size as u64))?
+        .checked_sub(text_len(SEGMENT_SIGNATURE, segment_signature))
 }
 
 // A segment, written from the first byte on; the answer is the place after it.
@@ -88,32 +104,27 @@ fn fill_segment(
     component_offset: u32,
     segment_size: u32,
     segment_signature: &[u8],
-) -> SegmentWrote
+) -> Result<usize, SegmentWriteRefusal>
     ensures { written (told_segment_wrote result) out.new
         ≡ segment_filled component_name.now component_offset segment_size
         segment_signature.now out.old }
 {
-    let broken = broken_field(component_offset, segment_signature);
-    if broken != NO_FIELD {
-        return SegmentWrote::Profile(broken);
+    if let Some(field) = broken_field(component_offset, segment_signature) {
+        return Err(SegmentWriteRefusal::Profile(field));
     }
-    match segment_room(out.len(), component_name, segment_size, segment_signature) {
-        Room::Short => SegmentWrote::NoRoom,
-        Room::Left(_) => {
-            let end = put_segment(out, component_name, segment_size, segment_signature);
-            SegmentWrote::Done(end)
-        }
+    if segment_room(out.len(), component_name, segment_size, segment_signature).is_none() {
+        return Err(SegmentWriteRefusal::NoRoom);
     }
+    Ok(put_segment(out, component_name, segment_size, segment_signature))
 }
 
 // The first string that is not well formed.
-fn segment_fault(component_name: &[u8], segment_signature: &[u8]) -> TextFault
+fn segment_fault(component_name: &[u8], segment_signature: &[u8]) -> Result<(), TextFault>
     ensures { result
         ≡ first_fault (segment_strings component_name.now segment_signature.now) }
 {
-    TextFault::None
-        .or_text(COMPONENT_NAME, component_name)
-        .or_text(SEGMENT_SIGNATURE, segment_signature)
+    check_text(COMPONENT_NAME, component_name)?;
+    check_text(SEGMENT_SIGNATURE, segment_signature)
 }
 
 // Writes a segment.
@@ -123,19 +134,17 @@ pub fn write_segment(
     component_offset: u32,
     segment_size: u32,
     segment_signature: &[u8],
-) -> SegmentWrote
+) -> Result<usize, SegmentWriteRefusal>
     ensures { written (told_segment_wrote result) out.new
         ≡ segment_written component_name.now component_offset segment_size
         segment_signature.now out.old }
 {
-    match segment_fault(component_name, segment_signature) {
-        TextFault::At { field, place } => SegmentWrote::BadText { field, place },
-        TextFault::None => fill_segment(
-            out,
-            component_name,
-            component_offset,
-            segment_size,
-            segment_signature,
-        ),
-    }
+    segment_fault(component_name, segment_signature)?;
+    fill_segment(
+        out,
+        component_name,
+        component_offset,
+        segment_size,
+        segment_signature,
+    )
 }

@@ -1,6 +1,12 @@
 -- The outbox file of docs/FORMATS.md: a version byte, then records. A record is its length, a stream byte and a payload.
 use Rattle.std.specs.Prelude.{ℕ, zero, suc, ◌+◌, ◌*◌, ◌/◌, ◌%◌, ◌^◌, Bool, cond, List, [], ◌∷◌, ◌++◌, eqb, length, get_or}
-pub use Rattle.outbox.specs.declared.format.Format.{Format}
+use Rattle.outbox.specs.declared.format.FileVersion.{FileVersion}
+
+-- a version: its byte, how many bytes a record's length has, the largest payload
+pub record Format : Type 0 where
+  pub version : ℕ
+  pub width : ℕ
+  pub limit : ℕ
 
 -- version 01: lengths of two bytes, payloads of up to 4,096
 abbrev pub version_one : Format
@@ -9,6 +15,10 @@ version_one = record { version = 1; width = 2; limit = 4096 }
 -- version 02: lengths of four bytes, payloads of up to 65,535
 abbrev pub version_two : Format
 version_two = record { version = 2; width = 4; limit = 65535 }
+
+abbrev pub format_for : FileVersion → Format
+format_for FileVersion.One = version_one
+format_for FileVersion.Two = version_two
 
 -- the versions that there are
 pub data Known : Format → Type 0 where

@@ -1,22 +1,16 @@
 -- Reading an outbox: the record at a place, place after place, and whether all is whole.
-use Rattle.std.specs.Prelude.{ℕ, zero, suc, ◌+◌, ◌-◌, Bool, cond, not, ◌&&◌, ◌||◌, List, [], ◌∷◌, eqb, leb, ltb, length, get_or, take, drop}
+use Rattle.std.specs.Prelude.{ℕ, zero, suc, ◌+◌, ◌-◌, Bool, cond, not, ◌&&◌, ◌||◌, List, [], ◌∷◌, eqb, leb, ltb, length, get_or, take, drop, Result, Ok, Err, Option, Some, None}
 use Rattle.wire.specs.Told.{line, table}
 use Rattle.wire.specs.Stream.{is_stream}
 use Rattle.outbox.specs.Format.{Format, number_of, head_size, first_place}
 use Rattle.outbox.specs.declared.verdict.Fault.{Fault}
 use Rattle.outbox.specs.declared.verdict.Fault.TheVariants.{Version, Length, Cut, Stream}
+use Rattle.outbox.specs.declared.verdict.Broken.{Broken}
 use Rattle.outbox.specs.declared.judging.Judged.{Judged}
-use Rattle.outbox.specs.declared.reader.Reading.{Reading}
-use Rattle.outbox.specs.declared.verdict.Walked.{Walked}
+use Rattle.outbox.specs.declared.reader.ReadRefusal.{ReadRefusal}
+pub use Rattle.outbox.specs.declared.reader.FoundRecord.{FoundRecord}
 
--- a record at a place: its stream, where its payload starts and how long that is, the next record's place
-pub record FoundRecord : Type 0 where
-  pub stream : ℕ
-  pub start : ℕ
-  pub size : ℕ
-  pub next : ℕ
-
--- .. by its place, its stream and its payload's length
+-- a record at a place, by its place, its stream and its payload's length
 abbrev pub found_at : Format → ℕ → ℕ → ℕ → FoundRecord
 found_at fmt place stream size = record {
   stream = stream;
@@ -141,16 +135,23 @@ fault_number Length = 42
 fault_number Cut = 41
 fault_number Stream = 43
 
-abbrev pub told_judged : Format → ℕ → Judged → Answer Item
-told_judged fmt place (Judged.Record stream size) = given (found (found_at fmt place stream size))
-told_judged fmt place (Judged.Broken fault) = refused_at (fault_number fault) place
+abbrev pub broken_number : Broken → ℕ
+broken_number broken = fault_number broken.fault
 
-abbrev pub told : Reading → Answer Item
-told (Reading.Record stream start size next) = given (found (record { stream = stream; start = start; size = size; next = next }))
-told Reading.End = given end
-told Reading.BadPlace = refused 15
-told (Reading.Broken fault place) = refused_at (fault_number fault) place
+abbrev pub read_number : ReadRefusal → ℕ
+read_number ReadRefusal.BadPlace = 15
+read_number (ReadRefusal.Broken broken) = broken_number broken
 
-abbrev pub told_walk : Walked → Answer (Unit {0})
-told_walk Walked.Whole = given tt
-told_walk (Walked.Broken fault place) = refused_at (fault_number fault) place
+abbrev pub told_judged : Format → ℕ → Result Judged Fault → Answer Item
+told_judged fmt place (Ok judged) = given (found (found_at fmt place judged.stream judged.size))
+told_judged fmt place (Err fault) = refused_at (fault_number fault) place
+
+abbrev pub told : Result (Option FoundRecord) ReadRefusal → Answer Item
+told (Ok (Some f)) = given (found f)
+told (Ok None) = given end
+told (Err ReadRefusal.BadPlace) = refused 15
+told (Err (ReadRefusal.Broken broken)) = refused_at (broken_number broken) broken.place
+
+abbrev pub told_walk : Result (Unit {0}) Broken → Answer (Unit {0})
+told_walk (Ok whole) = given tt
+told_walk (Err broken) = refused_at (broken_number broken) broken.place

@@ -1,12 +1,12 @@
 -- Writing an outbox into a lent buffer: a new one, and a record after the used bytes.
-use Rattle.std.specs.Prelude.{ℕ, ◌+◌, ◌-◌, Bool, not, ◌||◌, List, [], ◌∷◌, ltb, length, take}
+use Rattle.std.specs.Prelude.{ℕ, ◌+◌, ◌-◌, Bool, not, ◌||◌, List, [], ◌∷◌, ltb, length, take, Result, Ok, Err}
 use Rattle.std.proofs.lemmas.List.Edits.{sets}
 use Rattle.wire.specs.Told.{line, table}
 use Rattle.wire.specs.Stream.{is_stream}
 use Rattle.outbox.specs.Format.{Format, record_bytes, new_bytes}
-use Rattle.outbox.specs.Reader.{Answer, given, refused, refused_at, fault_number, other_version, walk_of}
-use Rattle.outbox.specs.declared.writer.Created.{Created}
-use Rattle.outbox.specs.declared.writer.Appended.{Appended}
+use Rattle.outbox.specs.Reader.{Answer, given, refused, refused_at, broken_number, other_version, walk_of}
+use Rattle.outbox.specs.declared.writer.NoRoom.{NoRoom}
+use Rattle.outbox.specs.declared.writer.AppendRefusal.{AppendRefusal}
 
 -- what a writer tells (the number of used bytes), and the lent buffer afterwards
 pub record Stored : Type 0 where
@@ -56,13 +56,22 @@ append_of fmt buffer used stream payload =
 
 -- ---- what the code's answers tell, in the numbers of docs/FORMATS.md
 
-abbrev pub told_new : Created → Answer ℕ
-told_new (Created.Used n) = given n
-told_new Created.NoRoom = refused 14
+abbrev pub create_number : NoRoom → ℕ
+create_number why = 14
 
-abbrev pub told : Appended → Answer ℕ
-told (Appended.Used n) = given n
-told Appended.BeyondBuffer = refused 1
-told Appended.BadRecord = refused 15
-told Appended.NoRoom = refused 14
-told (Appended.Broken fault place) = refused_at (fault_number fault) place
+abbrev pub append_number : AppendRefusal → ℕ
+append_number AppendRefusal.BeyondBuffer = 1
+append_number AppendRefusal.BadRecord = 15
+append_number AppendRefusal.NoRoom = 14
+append_number (AppendRefusal.Broken broken) = broken_number broken
+
+abbrev pub told_new : Result ℕ NoRoom → Answer ℕ
+told_new (Ok n) = given n
+told_new (Err why) = refused (create_number why)
+
+abbrev pub told : Result ℕ AppendRefusal → Answer ℕ
+told (Ok n) = given n
+told (Err AppendRefusal.BeyondBuffer) = refused 1
+told (Err AppendRefusal.BadRecord) = refused 15
+told (Err AppendRefusal.NoRoom) = refused 14
+told (Err (AppendRefusal.Broken broken)) = refused_at (broken_number broken) broken.place

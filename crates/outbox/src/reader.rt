@@ -1,51 +1,43 @@
 // Reading an outbox: the record at a place, and whether all is whole.
 ghost use Rattle.std.specs.Prelude.{◌≡◌};
-ghost use Rattle.outbox.specs.Format.{Known, format_of};
+ghost use Rattle.outbox.specs.Format.{format_of, format_for};
 ghost use Rattle.outbox.specs.Reader.{bad_place, read_of, walk_of};
-ghost use Rattle.outbox.specs.Reader.{number_in, told, told_walk};
+ghost use Rattle.outbox.specs.Reader.{read_number, told, told_walk};
 
-use crate::format::{Format, is_one, other_version};
-use crate::judging::{Judged, judge, walk_records};
-use crate::verdict::{Fault, Walked};
+use crate::format::FileVersion;
+use crate::judging::{judge, walk_records};
+use crate::verdict::Broken;
 use wire::logic::either;
+use wire::refusal::Numbered;
 
-// What stands at a place: a record (its stream, where its payload starts and how long that is, the next place), the end
-// of the outbox, a place out of range, or what is wrong and where.
-#[derive(Drop)]
-pub enum Reading {
-    Record {
-        stream: u8,
-        start: usize,
-        size: usize,
-        next: usize,
-    },
-    End,
-    BadPlace,
-    Broken {
-        fault: Fault,
-        place: usize,
-    },
+// A record at a place: its stream, where its payload starts and how long that is, the next place.
+#[derive(Clone, Copy, Debug, PartialEq, Eq)]
+pub struct FoundRecord {
+    pub stream: u8,
+    pub start: usize,
+    pub size: usize,
+    pub next: usize,
 }
 
-impl Reading {
-    // The refusal number, or 0 where nothing is refused.
-    pub fn number(self) -> u8
-        ensures { result ≡ number_in (told self) }
-    {
+// A place out of range, or what is wrong and where.
+#[derive(Clone, Copy, Debug, PartialEq, Eq)]
+pub enum ReadRefusal {
+    BadPlace,
+    Broken(Broken),
+}
+
+impl Numbered for ReadRefusal {
+    ghost number_of = { read_number };
+
+    fn number(&self) -> u8 {
         match self {
-            Reading::Record {
-                stream: _,
-                start: _,
-                size: _,
-                next: _,
-            } => 0,
-            Reading::End => 0,
-            Reading::BadPlace => 15,
-            Reading::Broken { fault, place: _ } => fault.number(),
+            ReadRefusal::BadPlace => 15,
+            ReadRefusal::Broken(broken) => broken.number(),
         }
     }
 }
 
+// One line, as in capture_packet: a shared one would be no plainer.
 fn bad_place(file: &[u8], place: usize) -> bool
     ensures { result ≡ bad_place file.now place }
 {
@@ -53,69 +45,62 @@ fn bad_place(file: &[u8], place: usize) -> bool
 }
 
 // Reads by a version. For callers that go through a whole file: with them, `read` would no longer be compiled into its own callers.
-pub fn read_by(file: &[u8], place: usize, fmt: Format) -> Reading
-    requires { Known fmt }
-    ensures { told result ≡ read_of fmt file.now place }
+pub fn read_by(
+    file: &[u8],
+    place: usize,
+    version: FileVersion,
+) -> Result<Option<FoundRecord>, ReadRefusal>
+    ensures { told result ≡ read_of (format_for version) file.now place }
 {
-    if other_version(file, fmt) {
-        return Reading::Broken {
-            fault: Fault::Version,
-            place: 0,
-        };
+    if version.is_other(file) {
+        return Err(ReadRefusal::Broken(Broken::version()));
     }
     if bad_place(file, place) {
-        return Reading::BadPlace;
+        return Err(ReadRefusal::BadPlace);
     }
     if place == file.len() {
-        return Reading::End;
+        return Ok(None);
     }
-    match judge(&file[place..], fmt) {
-        Judged::Record { stream, size } => {
-            let head = fmt.width + 1;
-            let start = place + head;
-            let next = start + size;
-            Reading::Record {
-                stream,
+    match judge(&file[place..], version) {
+        Ok(judged) => {
+            let start = place + version.head_size();
+            let next = start + judged.size;
+            Ok(Some(FoundRecord {
+                stream: judged.stream,
                 start,
-                size,
+                size: judged.size,
                 next,
-            }
+            }))
         }
-        Judged::Broken(fault) => Reading::Broken { fault, place },
+        Err(fault) => Err(ReadRefusal::Broken(Broken { fault, place })),
     }
 }
 
 // Reads the record at a place of an outbox: 1, or a place told before.
-pub fn read(file: &[u8], place: usize) -> Reading
+pub fn read(file: &[u8], place: usize) -> Result<Option<FoundRecord>, ReadRefusal>
     ensures { told result ≡ read_of (format_of file.now) file.now place }
 {
-    if is_one(file) {
-        read_by(file, place, Format::one())
-    } else {
-        read_by(file, place, Format::two())
+    match FileVersion::of(file) {
+        FileVersion::One => read_by(file, place, FileVersion::One),
+        FileVersion::Two => read_by(file, place, FileVersion::Two),
     }
 }
 
-fn walk_by(file: &[u8], fmt: Format) -> Walked
-    requires { Known fmt }
-    ensures { told_walk result ≡ walk_of fmt file.now }
+fn walk_by(file: &[u8], version: FileVersion) -> Result<(), Broken>
+    ensures { told_walk result ≡ walk_of (format_for version) file.now }
 {
-    if other_version(file, fmt) {
-        return Walked::Broken {
-            fault: Fault::Version,
-            place: 0,
-        };
+    if version.is_other(file) {
+        return Err(Broken::version());
     }
-    walk_records(file, fmt)
+    walk_records(file, version)
 }
 
 // Whether an outbox is whole from its first byte to its last, or its first refusal.
-pub fn walk(file: &[u8]) -> Walked
+pub fn walk(file: &[u8]) -> Result<(), Broken>
     ensures { told_walk result ≡ walk_of (format_of file.now) file.now }
 {
-    if is_one(file) {
-        walk_by(file, Format::one())
-    } else {
-        walk_by(file, Format::two())
+    match FileVersion::of(file) {
+        FileVersion::One => walk_by(file, FileVersion::One),
+        FileVersion::Two => walk_by(file, FileVersion::Two),
     }
 }

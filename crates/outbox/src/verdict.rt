@@ -1,9 +1,12 @@
-// What is wrong with an outbox, and whether all of it is whole.
+// What is wrong with an outbox, and where.
 ghost use Rattle.std.specs.Prelude.{◌≡◌};
-ghost use Rattle.outbox.specs.Reader.{fault_number, number_in, told_walk};
+ghost use Rattle.outbox.specs.Reader.{fault_number, broken_number};
+ghost use Rattle.outbox.specs.declared.verdict.Fault.TheVariants.{Version};
+
+use wire::refusal::Numbered;
 
 // What is wrong with an outbox's bytes.
-#[derive(Clone, Copy)]
+#[derive(Clone, Copy, Debug, PartialEq, Eq)]
 pub enum Fault {
     Version,
     Length,
@@ -11,11 +14,10 @@ pub enum Fault {
     Stream,
 }
 
-impl Fault {
-    // The refusal number of docs/FORMATS.md.
-    pub fn number(self) -> u8
-        ensures { result ≡ fault_number self }
-    {
+impl Numbered for Fault {
+    ghost number_of = { fault_number };
+
+    fn number(&self) -> u8 {
         match self {
             Fault::Version => 40,
             Fault::Length => 42,
@@ -25,21 +27,29 @@ impl Fault {
     }
 }
 
-// Whether all of an outbox is whole, or what is wrong first and where.
-#[derive(Clone, Copy)]
-pub enum Walked {
-    Whole,
-    Broken { fault: Fault, place: usize },
+// What is wrong first, and the place of the record where it is; 0 for the version.
+#[derive(Clone, Copy, Debug, PartialEq, Eq)]
+pub struct Broken {
+    pub fault: Fault,
+    pub place: usize,
 }
 
-impl Walked {
-    // The refusal number, or 0 where nothing is refused.
-    pub fn number(self) -> u8
-        ensures { result ≡ number_in (told_walk self) }
+impl Broken {
+    // Of a file that has another version, or no byte at all.
+    pub fn version() -> Self
+        ensures { result ≡ record { fault = Version; place = 0 } }
     {
-        match self {
-            Walked::Whole => 0,
-            Walked::Broken { fault, place: _ } => fault.number(),
+        Broken {
+            fault: Fault::Version,
+            place: 0,
         }
+    }
+}
+
+impl Numbered for Broken {
+    ghost number_of = { broken_number };
+
+    fn number(&self) -> u8 {
+        self.fault.number()
     }
 }

@@ -7,7 +7,7 @@ use native.Mathlib.Omega.{arith}
 use lib.ListN.{length, take, drop, length-append, take-append-drop}
 use lib.Seq.{sets, sets-eq, take_at, take-append-le, length-take-le}
 use borrow.Author.Tests.{le-ltb}
-use Rattle.outbox.specs.declared.format.Format.{Format}
+use Rattle.outbox.specs.Format.{Format}
 use Rattle.outbox.specs.Reader.{HandedRecord, given, other_version, read_all, first_refusal, walk_of}
 use Rattle.outbox.specs.Writer.{stored_at, bad_record, append_of}
 use Rattle.outbox_claims.specs.Claims.{Lawful, Entry, EntryTaken, after, expected, usable, records_of, Resumed}

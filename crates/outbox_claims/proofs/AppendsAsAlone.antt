@@ -5,8 +5,7 @@ use mathlib.Core.List.{List, [], ◌∷◌, ◌++◌}
 use native.Mathlib.Omega.{arith}
 use lib.ListN.{length, take, drop}
 use lib.Seq.{take_at}
-use Rattle.outbox.specs.declared.format.Format.{Format}
-use Rattle.outbox.specs.Format.{new_bytes}
+use Rattle.outbox.specs.Format.{Format, new_bytes}
 use Rattle.outbox.specs.Reader.{given, walk_of}
 use Rattle.outbox.specs.Writer.{append_of}
 use Rattle.outbox_claims.specs.Claims.{Entry, EntryTaken, after, AppendsAsAlone}

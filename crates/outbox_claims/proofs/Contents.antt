@@ -5,8 +5,7 @@ use mathlib.Core.List.{List, [], ◌∷◌, ◌++◌, append_assoc, append-nil}
 use native.Mathlib.Omega.{arith}
 use lib.ListN.{length, get_or, take, drop, length-append}
 use lib.Seq.{get_or_at, drop_at, take_at, drop-append_seam, drop-append-add, drop-append-le}
-use Rattle.outbox.specs.declared.format.Format.{Format}
-use Rattle.outbox.specs.Format.{head_size, bytes_of, record_bytes}
+use Rattle.outbox.specs.Format.{Format, head_size, bytes_of, record_bytes}
 use Rattle.outbox.specs.Reader.{given, found, found_at, length_in, record_at}
 use Rattle.outbox_claims.specs.Claims.{Lawful, Entry, EntryTaken, AllTaken, after, expected}
 use Rattle.outbox.proofs.Number.{length-bytes, number-bytes}

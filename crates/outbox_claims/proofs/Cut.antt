@@ -8,7 +8,7 @@ use lib.Dec.{eqb, leb}
 use lib.ListN.{length, take, drop, length-append, length-drop}
 use lib.Seq.{take-append-le, drop-append-le}
 use borrow.Author.Tests.{leb-true, leb-false, eqb-true, eqb-false}
-use Rattle.outbox.specs.declared.format.Format.{Format}
+use Rattle.outbox.specs.Format.{Format}
 use Rattle.outbox.specs.Reader.{Answer, Item, HandedRecord, given, refused, refused_at, found, end, handed, record_at, first_refusal}
 use Rattle.outbox_claims.specs.Claims.{cut_from, usable, record_of, records_of}
 use Rattle.outbox.proofs.Record.{clash, found-spans, record-more, record-kept, record-cut}

@@ -4,7 +4,7 @@ use mathlib.Core.Path.{◌≡◌, refl, sym, ap, ◌∙◌}
 use mathlib.Core.List.{List, [], ◌∷◌, ◌++◌}
 use native.Mathlib.Omega.{arith}
 use lib.ListN.{length, take, drop, length-append, length-take, take-append-drop}
-use Rattle.outbox.specs.declared.format.Format.{Format}
+use Rattle.outbox.specs.Format.{Format}
 use Rattle.outbox.specs.Reader.{given, refused_at, handed, other_version, read_of, readings, read_all, first_refusal, walk_of}
 use Rattle.outbox.specs.Writer.{new_of}
 use Rattle.outbox_claims.specs.Claims.{Entry, after, expected, after_all, append_all, RecordsReturn, cut_from, cut_at, CutsAreFound}

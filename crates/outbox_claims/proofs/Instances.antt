@@ -4,8 +4,7 @@ use mathlib.Core.List.{List, [], ◌∷◌, ◌++◌}
 use Prim.Native.Nat.{ℕ}
 use lib.ListN.{take, drop}
 use Rattle.wire.specs.Stream.{is_stream}
-use Rattle.outbox.specs.declared.format.Format.{Format}
-use Rattle.outbox.specs.Format.{number_of, bytes_of, record_bytes}
+use Rattle.outbox.specs.Format.{Format, number_of, bytes_of, record_bytes}
 use Rattle.outbox.specs.Reader.{HandedRecord, given, refused_at, found, end, handed, other_version, bad_place, bad_length, cut_short, bad_stream, record_at, read_of, readings, read_all, walk_of}
 use Rattle.outbox.specs.Writer.{stored, new_of, bad_record, append_of}
 use Rattle.outbox_claims.specs.Claims.{Entry, expected, append_all, cut_at, usable, moved, read_at}

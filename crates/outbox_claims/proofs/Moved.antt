@@ -10,9 +10,9 @@ use lib.ListN.{length, get_or, take, drop, length-append, get_or-append, take-ap
 use lib.Seq.{take_all, length-take-le, drop-append-add}
 use Rattle.wire.specs.Stream.{is_stream}
 use Rattle.wire.specs.Told.{line, table}
-use Rattle.outbox.specs.declared.format.Format.{Format}
-use Rattle.outbox.specs.Format.{head_size}
-use Rattle.outbox.specs.Reader.{FoundRecord, HandedRecord, given, refused_at, found, found_at, length_in, bad_length, cut_short, bad_stream, record_at}
+use Rattle.outbox.specs.Format.{Format, head_size}
+use Rattle.outbox.specs.declared.reader.FoundRecord.{FoundRecord}
+use Rattle.outbox.specs.Reader.{HandedRecord, given, refused_at, found, found_at, length_in, bad_length, cut_short, bad_stream, record_at}
 use Rattle.outbox_claims.specs.Claims.{moved_found, moved_answer, all_moved}
 use Rattle.outbox.proofs.Number.{number_append}
 use Rattle.outbox.proofs.Record.{clash, found-starts, range-passed, wrong-read, strange-read, whole-read}

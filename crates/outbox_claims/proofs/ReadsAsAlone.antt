@@ -7,8 +7,7 @@ use native.Mathlib.Decide.{dec_lt}
 use native.Mathlib.Omega.{arith}
 use lib.ListN.{length, take, drop, length-append, length-drop, length-take, take-append-drop}
 use lib.Seq.{length-take-le, take-take}
-use Rattle.outbox.specs.declared.format.Format.{Format}
-use Rattle.outbox.specs.Format.{head_size, record_bytes, new_bytes}
+use Rattle.outbox.specs.Format.{Format, head_size, record_bytes, new_bytes}
 use Rattle.outbox.specs.Reader.{Answer, Item, given, found, found_at, handed, payload_in, other_version, length_in, record_at, read_of, read_all, walk_of}
 use Rattle.outbox_claims.specs.Claims.{Lawful, Entry, EntryTaken, usable, records_of, moved_answer, moved, all_moved, read_at, from_place, ReadsAsAlone}
 use Rattle.outbox.proofs.Record.{View, whole, broken, view}

@@ -7,8 +7,7 @@ use native.Mathlib.Omega.{arith}
 use lib.ListN.{length, drop, length-append, length-drop}
 use lib.Seq.{sets-eq, take-length, take-append_seam, drop-append-add, drop-drop}
 use borrow.Author.Tests.{le-ltb, eq-eqb}
-use Rattle.outbox.specs.declared.format.Format.{Format}
-use Rattle.outbox.specs.Format.{new_bytes}
+use Rattle.outbox.specs.Format.{Format, new_bytes}
 use Rattle.outbox.specs.Reader.{given, other_version, read_all, walk_of}
 use Rattle.outbox.specs.Writer.{Stored, stored, new_of, append_of}
 use Rattle.outbox_claims.specs.Claims.{Lawful, Entry, EntryTaken, AllTaken, after, after_all, expected, usable, append_all, Returned, RecordsReturn}

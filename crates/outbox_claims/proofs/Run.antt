@@ -6,8 +6,9 @@ use mathlib.Core.List.{List, [], ◌∷◌}
 use native.Mathlib.Decide.{dec_lt}
 use native.Mathlib.Omega.{arith}
 use lib.ListN.{length, take, drop}
-use Rattle.outbox.specs.declared.format.Format.{Format}
-use Rattle.outbox.specs.Reader.{Answer, Item, FoundRecord, HandedRecord, given, refused_at, found, end, handed, payload_in, onward, other_version, record_at, read_of, readings, read_all, first_refusal, walk_of}
+use Rattle.outbox.specs.Format.{Format}
+use Rattle.outbox.specs.declared.reader.FoundRecord.{FoundRecord}
+use Rattle.outbox.specs.Reader.{Answer, Item, HandedRecord, given, refused_at, found, end, handed, payload_in, onward, other_version, record_at, read_of, readings, read_all, first_refusal, walk_of}
 use Rattle.outbox.proofs.Record.{View, whole, broken, view, front}
 use Rattle.outbox.proofs.Place.{opened, right-place, read-inside, read-end, found_within}
 

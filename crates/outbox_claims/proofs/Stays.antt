@@ -10,7 +10,7 @@ use lib.ListN.{length, get_or, drop, length-append, get_or-append}
 use lib.Seq.{drop-append-le}
 use borrow.Author.Tests.{eqb-false, ne_eqb}
 use Rattle.wire.specs.Stream.{is_stream}
-use Rattle.outbox.specs.declared.format.Format.{Format}
+use Rattle.outbox.specs.Format.{Format}
 use Rattle.outbox.specs.Reader.{HandedRecord, refused_at, handed, length_in, other_version, record_at, read_of, readings, read_all, first_refusal}
 use Rattle.outbox.proofs.Number.{number_append}
 use Rattle.outbox.proofs.Record.{clash, found-spans, range-passed, field-cut-read, wrong-read, cut-read, strange-read, whole-read, record-more}

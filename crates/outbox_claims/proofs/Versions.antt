@@ -6,8 +6,7 @@ use mathlib.Core.List.{List, [], ◌∷◌, ◌++◌}
 use native.Mathlib.Omega.{arith}
 use lib.ListN.{length, take, length-take}
 use Rattle.wire.specs.Stream.{is_stream}
-use Rattle.outbox.specs.declared.format.Format.{Format}
-use Rattle.outbox.specs.Format.{version_one, version_two, is_one, format_of, head_size, record_bytes}
+use Rattle.outbox.specs.Format.{Format, version_one, version_two, is_one, format_of, head_size, record_bytes}
 use Rattle.outbox.specs.Reader.{given, read_all, first_refusal, walk_of}
 use Rattle.outbox.specs.Writer.{new_of}
 use Rattle.outbox_claims.specs.Claims.{Lawful, Entry, EntryTaken, AllTaken, after, after_all, expected, append_all, Returned, cut_at, usable, RecordsReturn, AppendsAfterCut, AppendsAsAlone, ReadsAsAlone}

@@ -1,9 +1,9 @@
 -- The claims about the outbox: what is appended is read back, also after a cut at any byte.
 use Rattle.std.specs.Prelude.{ℕ, zero, suc, ◌+◌, ◌-◌, ◌^◌, ◌≤◌, ◌<◌, ◌≡◌, true, false, cond, List, [], ◌∷◌, ◌++◌, eqb, leb, length, take, drop}
 use Rattle.wire.specs.Stream.{is_stream}
-use Rattle.outbox.specs.declared.format.Format.{Format}
-use Rattle.outbox.specs.Format.{head_size, record_bytes, new_bytes, first_place}
-use Rattle.outbox.specs.Reader.{Answer, given, refused, refused_at, Item, FoundRecord, found, end, found_at, other_version, HandedRecord, handed, payload_in, read_of, read_all, walk_of}
+use Rattle.outbox.specs.Format.{Format, head_size, record_bytes, new_bytes, first_place}
+use Rattle.outbox.specs.declared.reader.FoundRecord.{FoundRecord}
+use Rattle.outbox.specs.Reader.{Answer, given, refused, refused_at, Item, found, end, found_at, other_version, HandedRecord, handed, payload_in, read_of, read_all, walk_of}
 use Rattle.outbox.specs.Writer.{Stored, stored, new_of, append_of}
 
 -- every record's length fits its field

@@ -1,7 +1,6 @@
 -- The claims for the two versions, with every premise written out in the words of docs/FORMATS.md: one made stronger in Claims is not met here.
 use Rattle.std.specs.Prelude.{ℕ, ◌+◌, ◌-◌, ◌^◌, ◌≤◌, ◌<◌, ◌≡◌, List, [], ◌∷◌, ◌++◌, length, take, drop}
-use Rattle.outbox.specs.declared.format.Format.{Format}
-use Rattle.outbox.specs.Format.{version_one, version_two, format_of, record_bytes}
+use Rattle.outbox.specs.Format.{Format, version_one, version_two, format_of, record_bytes}
 use Rattle.outbox.specs.Reader.{given, found, found_at, handed, read_all, walk_of}
 use Rattle.outbox.specs.Writer.{new_of, append_of}
 use Rattle.outbox_claims.specs.Claims.{Lawful, Entry, EntryTaken, expected, append_all, Returned, cut_at, usable, records_of, Resumed, SameBytes, moved, all_moved, read_at}

@@ -10,16 +10,13 @@ use lib.ListN.{length, get_or, drop}
 use lib.Seq.{sets}
 use borrow.Author.Tests.{le-ltb, ltb-false, eqb-true, eq-eqb, ne_eqb, not-false}
 use Rattle.wire.specs.Told.{line, table}
-use Rattle.outbox.specs.declared.format.Format.{Format}
-use Rattle.outbox.specs.Format.{Known, one, two, format_of, new_bytes, first_place}
+use Rattle.outbox.specs.Format.{Format, Known, one, two, format_of, new_bytes, first_place}
 use Rattle.outbox.specs.Reader.{Answer, given, refused, refused_at, Item, found, end, HandedRecord, onward, other_version, read_of, readings, read_all, walk_of}
 use Rattle.outbox.specs.Writer.{Stored, stored, stored_at, if_whole}
 use Rattle.outbox.proofs.Record.{clash, found-stands}
 use Rattle.outbox.proofs.Place.{read-record}
 use Rattle.outbox.proofs.Walk.{whole-version}
-use Rattle.outbox.proofs.Versions.{format-known}
-use Rattle.outbox_move.specs.Moves.{format_for, records_in, over_by, over_from, moved_to, placed, size_unless, count_of, move_of}
-use Rattle.outbox_move.specs.declared.Wished.{Wished}
+use Rattle.outbox_move.specs.Moves.{records_in, over_by, over_from, moved_to, placed, size_unless, count_of, move_of}
 
 -- ---- a file's own records are within its own limit
 
@@ -56,23 +53,19 @@ known_same a b one two e = absurd (omega (arith, e))
 known_same a b two one e = absurd (omega (arith, e))
 
 module _ (wished : Format) (file out : List ℕ) (w : walk_of (format_of file) file ≡ given tt) where
-  pub copies : Known wished → get_or file 0 0 ≡ wished.version → move_of wished file out ≡ placed out file
+  pub copies : format_of file ≡ wished → move_of wished file out ≡ placed out file
   unfolding move_of moved_to
-  copies k v =
+  copies e =
       let fmt = format_of file in
-      let same : wished.version ≡ fmt.version = sym v ∙ first-is fmt file w in
       let within : over_from wished.limit first_place (read_all fmt file) ≡ given tt
-      = ap (λ (x : Format). over_from x.limit first_place (read_all fmt file)) (known_same wished fmt k (format-known file) same) ∙ all-within fmt file in
-      rw (w, within, eq-eqb wished.version fmt.version same)
+      = ap (λ (x : Format). over_from x.limit first_place (read_all fmt file)) (sym e) ∙ all-within fmt file in
+      rw (w, within, eq-eqb wished.version fmt.version (ap (λ (x : Format). x.version) (sym e)))
 
-  pub rewrites : (get_or file 0 0 ≡ wished.version → ⊥)
+  pub rewrites : (own : Format) → own ≡ format_of file → (wished.version ≡ own.version → ⊥)
       → move_of wished file out
-      ≡ if_whole (over_from wished.limit first_place (read_all (format_of file) file)) out (placed out (new_bytes wished ++ records_in wished (read_all (format_of file) file)))
+      ≡ if_whole (over_from wished.limit first_place (read_all own file)) out (placed out (new_bytes wished ++ records_in wished (read_all own file)))
   unfolding move_of moved_to
-  rewrites n =
-      let fmt = format_of file in
-      let other : wished.version ≡ fmt.version → ⊥ = λ e. n (first-is fmt file w ∙ sym e) in
-      rw (w, ne_eqb wished.version fmt.version other)
+  rewrites own e n = rw (e, w, ne_eqb wished.version (format_of file).version (rw e at n))
 
 -- ---- the count decides
 
@@ -134,7 +127,3 @@ written-fits wished file out n e =
 pub broken : (wished : Format) (file out : List ℕ) (n place : ℕ) → walk_of (format_of file) file ≡ refused_at n place → move_of wished file out ≡ stored (refused_at n place) out
 unfolding move_of
 broken wished file out n place e = rw e
-
-pub known-for : (w : Wished) → Known (format_for w)
-known-for Wished.One = one
-known-for Wished.Two = two

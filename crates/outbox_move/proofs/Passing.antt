@@ -9,9 +9,9 @@ use lib.ListN.{length, take, drop, length-append, length-drop}
 use lib.Seq.{sets, length-take-le, length-sets}
 use borrow.Author.Tests.{lt-ltb, le-ltb, ltb-false}
 use Rattle.wire.proofs.Stores.{sets-append}
-use Rattle.outbox.specs.declared.format.Format.{Format}
-use Rattle.outbox.specs.Format.{Known, head_size, record_bytes, first_place}
-use Rattle.outbox.specs.Reader.{Answer, given, refused, refused_at, Item, FoundRecord, found, end, HandedRecord, handed, payload_in, onward, record_at, read_of, readings, read_all}
+use Rattle.outbox.specs.Format.{Format, Known, head_size, record_bytes, first_place}
+use Rattle.outbox.specs.declared.reader.FoundRecord.{FoundRecord}
+use Rattle.outbox.specs.Reader.{Answer, given, refused, refused_at, Item, found, end, HandedRecord, handed, payload_in, onward, record_at, read_of, readings, read_all}
 use Rattle.outbox.proofs.Record.{clash, found-stands, found-spans}
 use Rattle.outbox.proofs.Place.{read-within, read-record}
 use Rattle.outbox.proofs.Stored.{length-record}

@@ -1,18 +1,12 @@
 -- An outbox file written in a wished version.
-use Rattle.std.specs.Prelude.{ℕ, ◌+◌, cond, List, [], ◌∷◌, ◌++◌, eqb, ltb, length}
+use Rattle.std.specs.Prelude.{ℕ, ◌+◌, cond, List, [], ◌∷◌, ◌++◌, eqb, ltb, length, Result, Ok, Err, Option, Some, None}
 use Rattle.wire.specs.Told.{line, table}
-use Rattle.outbox.specs.declared.format.Format.{Format}
-use Rattle.outbox.specs.Format.{version_one, version_two, format_of, record_bytes, new_bytes, first_place}
-use Rattle.outbox.specs.Reader.{Answer, given, refused, refused_at, Item, found, end, HandedRecord, read_all, walk_of, fault_number}
+use Rattle.outbox.specs.Format.{Format, format_of, record_bytes, new_bytes, first_place}
+use Rattle.outbox.specs.declared.reader.FoundRecord.{FoundRecord}
+use Rattle.outbox.specs.Reader.{Answer, given, refused, refused_at, Item, found, end, HandedRecord, read_all, walk_of, broken_number}
 use Rattle.outbox.specs.Writer.{Stored, stored, stored_at, if_whole}
-use Rattle.outbox_move.specs.declared.Wished.{Wished}
-use Rattle.outbox_move.specs.declared.Moved.{Moved}
-use Rattle.outbox_move.specs.declared.passes.Next.{Next}
-use Rattle.outbox_move.specs.declared.passes.Counted.{Counted}
-
-abbrev pub format_for : Wished → Format
-format_for Wished.One = version_one
-format_for Wished.Two = version_two
+use Rattle.outbox_move.specs.declared.MoveRefusal.{MoveRefusal}
+use Rattle.outbox_move.specs.declared.TooLong.{TooLong}
 
 -- the bytes of a record that was read, in a format; no other reading has any
 abbrev pub record_in : Format → List ℕ → Answer Item → List ℕ
@@ -74,16 +68,21 @@ count_of wished place n hs = size_unless (over_from wished.limit place hs) (n + 
 
 -- ---- what the code's answers tell, in the numbers of docs/FORMATS.md
 
-abbrev pub told_next : Next → Answer Item
-told_next (Next.Record stream start size next) = given (found (record { stream = stream; start = start; size = size; next = next }))
-told_next Next.Nothing = given end
+abbrev pub told_next : Option FoundRecord → Answer Item
+told_next (Some f) = given (found f)
+told_next None = given end
 
-abbrev pub told_count : Counted → Answer ℕ
-told_count (Counted.Size n) = given n
-told_count (Counted.TooLong place) = refused_at 46 place
+abbrev pub told_count : Result ℕ TooLong → Answer ℕ
+told_count (Ok n) = given n
+told_count (Err too_long) = refused_at 46 too_long.place
 
-abbrev pub told : Moved → Answer ℕ
-told (Moved.Written n) = given n
-told Moved.NoRoom = refused 14
-told (Moved.TooLong place) = refused_at 46 place
-told (Moved.Broken fault place) = refused_at (fault_number fault) place
+abbrev pub move_number : MoveRefusal → ℕ
+move_number MoveRefusal.NoRoom = 14
+move_number (MoveRefusal.TooLong too_long) = 46
+move_number (MoveRefusal.Broken broken) = broken_number broken
+
+abbrev pub told : Result ℕ MoveRefusal → Answer ℕ
+told (Ok n) = given n
+told (Err MoveRefusal.NoRoom) = refused 14
+told (Err (MoveRefusal.TooLong too_long)) = refused_at 46 too_long.place
+told (Err (MoveRefusal.Broken broken)) = refused_at (broken_number broken) broken.place

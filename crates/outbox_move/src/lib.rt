@@ -2,111 +2,120 @@
 #![tactic(auto)]
 
 ghost use Rattle.std.specs.Prelude.{◌≡◌, ◌++◌};
-ghost use Rattle.outbox.specs.Format.{Known, format_of, new_bytes, first_place};
-ghost use Rattle.outbox.specs.Reader.{given, number_in, read_all, walk_of};
+ghost use Rattle.outbox.specs.Format.{format_of, format_for, new_bytes, first_place};
+ghost use Rattle.outbox.specs.Reader.{given, read_all, walk_of};
 ghost use Rattle.outbox.specs.Writer.{stored, if_whole};
-ghost use Rattle.outbox_move.specs.Moves.{format_for, records_in, over_from, placed, move_of, told};
+ghost use Rattle.outbox_move.specs.Moves.{records_in, over_from, placed, move_of, move_number, told};
+ghost use Rattle.outbox_move.specs.declared.MoveRefusal.{MoveRefusal};
 
-use crate::passes::{Counted, count, write_records};
-use outbox::format::Format;
+use crate::passes::{count, write_records};
+use outbox::format::FileVersion;
 use outbox::reader::walk;
-use outbox::verdict::{Fault, Walked};
-use wire::bytes::{byte_at, copy};
+use outbox::verdict::Broken;
+use wire::bytes::copy;
+use wire::refusal::Numbered;
 
 mod passes;
 
-// The version that is wished for.
-#[derive(Clone, Copy)]
-pub enum Wished {
-    One,
-    Two,
+// A record that is too long for the wished version, by its place: the first one.
+#[derive(Clone, Copy, Debug, PartialEq, Eq)]
+pub struct TooLong {
+    pub place: usize,
 }
 
-impl Wished {
-    fn format(self) -> Format
-        ensures { result ≡ format_for self }
-    {
-        match self {
-            Wished::One => Format::one(),
-            Wished::Two => Format::two(),
-        }
-    }
-}
-
-// The bytes written, or why nothing was written: no room, a record too long for the wished version, or the file's own first refusal.
-#[derive(Clone, Copy)]
-pub enum Moved {
-    Written(usize),
+// Why nothing was written: no room, a record too long for the wished version, or the file's own first refusal.
+#[derive(Clone, Copy, Debug, PartialEq, Eq)]
+pub enum MoveRefusal {
     NoRoom,
-    TooLong(usize),
-    Broken { fault: Fault, place: usize },
+    TooLong(TooLong),
+    Broken(Broken),
 }
 
-impl Moved {
-    // The refusal number, or 0 where nothing is refused.
-    pub fn number(self) -> u8
-        ensures { result ≡ number_in (told self) }
-    {
+impl Numbered for MoveRefusal {
+    ghost number_of = { move_number };
+
+    fn number(&self) -> u8 {
         match self {
-            Moved::Written(_) => 0,
-            Moved::NoRoom => 14,
-            Moved::TooLong(_) => 46,
-            Moved::Broken { fault, place: _ } => fault.number(),
+            MoveRefusal::NoRoom => 14,
+            MoveRefusal::TooLong(_) => 46,
+            MoveRefusal::Broken(broken) => broken.number(),
         }
     }
 }
 
-// Copies a file.
-fn copy_file(file: &[u8], out: &mut [u8]) -> Moved
+impl From<TooLong> for MoveRefusal {
+    ghost from_gives = { λ too_long why. why ≡ MoveRefusal.TooLong too_long };
+
+    fn from(too_long: TooLong) -> MoveRefusal {
+        MoveRefusal::TooLong(too_long)
+    }
+}
+
+impl From<Broken> for MoveRefusal {
+    ghost from_gives = { λ broken why. why ≡ MoveRefusal.Broken broken };
+
+    fn from(broken: Broken) -> MoveRefusal {
+        MoveRefusal::Broken(broken)
+    }
+}
+
+// Copies a file; the bytes written.
+fn copy_file(file: &[u8], out: &mut [u8]) -> Result<usize, MoveRefusal>
     ensures { stored (told result) out.new ≡ placed out.old file.now }
 {
     let n = file.len();
     if out.len() < n {
-        return Moved::NoRoom;
+        return Err(MoveRefusal::NoRoom);
     }
     copy(out, 0, file);
-    Moved::Written(n)
+    Ok(n)
 }
 
-// Writes the records of a file in another version.
-fn rewrite(file: &[u8], own: Format, fmt: Format, out: &mut [u8]) -> Moved
-    requires { Known own × Known fmt }
+// Writes the records of a file in another version; the bytes written. It is compiled into each of its calls, which give it
+// both versions as constants.
+#[inline(always)]
+fn rewrite(
+    file: &[u8],
+    own: FileVersion,
+    wished: FileVersion,
+    out: &mut [u8],
+) -> Result<usize, MoveRefusal>
     ensures { stored (told result) out.new
         ≡ if_whole
-        (over_from fmt.limit first_place (read_all own file.now))
+        (over_from (format_for wished).limit first_place (read_all (format_for own) file.now))
         out.old
-        (placed out.old (new_bytes fmt ++ records_in fmt (read_all own file.now))) }
+        (placed out.old (new_bytes (format_for wished) ++ records_in (format_for wished) (read_all (format_for own) file.now))) }
 {
-    match count(file, own, fmt) {
-        Counted::TooLong(place) => Moved::TooLong(place),
-        Counted::Size(n) => {
-            if out.len() < n {
-                return Moved::NoRoom;
-            }
-            write_records(file, own, fmt, out);
-            Moved::Written(n)
-        }
+    let n = count(file, own, wished)?;
+    if out.len() < n {
+        return Err(MoveRefusal::NoRoom);
+    }
+    write_records(file, own, wished, out);
+    Ok(n)
+}
+
+// Each way has its numbers as constants.
+fn move_whole(file: &[u8], wished: FileVersion, out: &mut [u8]) -> Result<usize, MoveRefusal>
+    requires { walk_of (format_of file.now) file.now ≡ given tt }
+    ensures { stored (told result) out.new ≡ move_of (format_for wished) file.now out.old }
+{
+    match FileVersion::of(file) {
+        FileVersion::One => match wished {
+            FileVersion::One => copy_file(file, out),
+            FileVersion::Two => rewrite(file, FileVersion::One, FileVersion::Two, out),
+        },
+        FileVersion::Two => match wished {
+            FileVersion::One => rewrite(file, FileVersion::Two, FileVersion::One, out),
+            FileVersion::Two => copy_file(file, out),
+        },
     }
 }
 
-fn move_whole(file: &[u8], fmt: Format, out: &mut [u8]) -> Moved
-    requires { Known fmt × (walk_of (format_of file.now) file.now ≡ given tt) }
-    ensures { stored (told result) out.new ≡ move_of fmt file.now out.old }
-{
-    if byte_at(file, 0) == fmt.version {
-        copy_file(file, out)
-    } else {
-        rewrite(file, Format::of(file), fmt, out)
-    }
-}
-
-// Writes a file in the wished version into a lent output.
-pub fn move_file(file: &[u8], wished: Wished, out: &mut [u8]) -> Moved
+// Writes a file in the wished version into a lent output; the bytes written.
+pub fn move_file(file: &[u8], wished: FileVersion, out: &mut [u8]) -> Result<usize, MoveRefusal>
     ensures { stored (told result) out.new
         ≡ move_of (format_for wished) file.now out.old }
 {
-    match walk(file) {
-        Walked::Whole => move_whole(file, wished.format(), out),
-        Walked::Broken { fault, place } => Moved::Broken { fault, place },
-    }
+    walk(file)?;
+    move_whole(file, wished, out)
 }

@@ -10,8 +10,7 @@ use lib.Seq.{sets}
 use borrow.Author.Tests.{le-ltb, eqb-true}
 use Rattle.wire.specs.Bytes.{AllBytes}
 use Rattle.wire.proofs.Stores.{first-bytes}
-use Rattle.outbox.specs.declared.format.Format.{Format}
-use Rattle.outbox.specs.Format.{version_one, version_two, Known, is_one, format_of, head_size, new_bytes, first_place}
+use Rattle.outbox.specs.Format.{Format, version_one, version_two, Known, is_one, format_of, head_size, new_bytes, first_place}
 use Rattle.outbox.specs.Format as format
 use Rattle.outbox.specs.Reader.{given, read_all, walk_of}
 use Rattle.outbox.specs.Writer.{stored_at}

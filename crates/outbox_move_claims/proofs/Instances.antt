@@ -5,8 +5,7 @@ use mathlib.Core.List.{List, [], ◌∷◌}
 use native.Mathlib.Omega.{arith}
 use lib.ListN.{replicate}
 use Rattle.wire.specs.Stream.{is_stream}
-use Rattle.outbox.specs.declared.format.Format.{Format}
-use Rattle.outbox.specs.Format.{version_one, version_two, is_one, format_of, number_of, bytes_of, record_bytes}
+use Rattle.outbox.specs.Format.{Format, version_one, version_two, is_one, format_of, number_of, bytes_of, record_bytes}
 use Rattle.outbox.specs.Reader.{given, refused, refused_at, other_version, bad_place, bad_length, cut_short, bad_stream, record_at, read_of, readings, read_all, walk_of}
 use Rattle.outbox.specs.Writer.{stored, stored_at}
 use Rattle.outbox_claims.specs.Versions.{two}

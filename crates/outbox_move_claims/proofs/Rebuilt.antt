@@ -9,8 +9,7 @@ use borrow.Author.Tests.{le-ltb, ltb-false}
 use mathlib.Core.Bool.{Bool, true, false, cond}
 use lib.Dec.{ltb}
 use Rattle.wire.specs.Bytes.{AllBytes}
-use Rattle.outbox.specs.declared.format.Format.{Format}
-use Rattle.outbox.specs.Format.{head_size, bytes_of, record_bytes, new_bytes}
+use Rattle.outbox.specs.Format.{Format, head_size, bytes_of, record_bytes, new_bytes}
 use Rattle.outbox.specs.Reader.{Answer, Item, given, refused, refused_at, found, end, HandedRecord, length_in, read_all, first_refusal, walk_of}
 use Rattle.outbox_claims.specs.Claims.{Lawful, Entry, AllTaken, after, expected}
 use Rattle.outbox_claims.specs.Versions.{size_of}

@@ -7,8 +7,7 @@ use native.Mathlib.Nat.{le_of_lt, mul-add, mul-le-mul_left, mul-le-mul_right}
 use native.Mathlib.Omega.{arith}
 use lib.ListN.{length, take, drop, length-append}
 use lib.Dec.{eqb}
-use Rattle.outbox.specs.declared.format.Format.{Format}
-use Rattle.outbox.specs.Format.{head_size, record_bytes, new_bytes}
+use Rattle.outbox.specs.Format.{Format, head_size, record_bytes, new_bytes}
 use Rattle.outbox.specs.Reader.{HandedRecord, given, read_all, walk_of}
 use Rattle.outbox.proofs.Record.{found-stands}
 use Rattle.outbox.proofs.Stored.{length-record}

@@ -1,8 +1,7 @@
 -- The claim about moving: records, streams and order stay, and the way back gives the same bytes.
 use Rattle.std.specs.Prelude.{ℕ, ◌+◌, ◌-◌, ◌≤◌, ◌≡◌, List, [], ◌∷◌, ◌++◌, length, take}
 use Rattle.wire.specs.Bytes.{AllBytes}
-use Rattle.outbox.specs.declared.format.Format.{Format}
-use Rattle.outbox.specs.Format.{version_one, format_of, first_place}
+use Rattle.outbox.specs.Format.{Format, version_one, format_of, first_place}
 use Rattle.outbox.specs.Reader.{Answer, given, refused, refused_at, Item, found, end, HandedRecord, read_all, walk_of}
 use Rattle.outbox.specs.Writer.{Stored, stored_at}
 use Rattle.outbox_claims.specs.Claims.{Entry}

@@ -1,10 +1,10 @@
 -- The fields of a message, one after another, whatever message it is.
-use Rattle.std.specs.Prelude.{ℕ, cond, List, [], length, leb}
+use Rattle.std.specs.Prelude.{ℕ, cond, List, [], length, leb, Result, Ok, Err, Option, Some, None}
 use Rattle.wire.specs.Told.{Told, given, refused, and_then}
 use Rattle.proto_field.specs.declared.value.Part.{Part}
 use Rattle.proto_field.specs.declared.value.Value.{Value}
-use Rattle.proto_field.specs.declared.fields.Found.{Found}
-use Rattle.proto_field.specs.declared.fields.Found.TheVariants.{Field, End, Refused}
+use Rattle.proto_field.specs.declared.Refusal.{Refusal}
+use Rattle.proto_field.specs.declared.fields.FoundField.{FoundField}
 use Rattle.proto_field.specs.Refusal.{number_of}
 use Rattle.proto_field.specs.Tag.{tag_at}
 use Rattle.proto_field.specs.Value.{value_at, value_parts}
@@ -21,10 +21,10 @@ found_at s at =
     (and_then (tag_at s at) (λ h. and_then (value_at s h.next h.wire) (λ v. given (field h.field v.0 v.1))))
 
 -- the answers of field_at
-abbrev pub told_found : Found → Told Standing
-told_found (Field number value next) = given (field number value next)
-told_found End = given end
-told_found (Refused e) = refused (number_of e)
+abbrev pub told_found : Result (Option FoundField) Refusal → Told Standing
+told_found (Ok (Some f)) = given (field f.number f.value f.next)
+told_found (Ok None) = given end
+told_found (Err e) = refused (number_of e)
 
 -- the place behind what stands at a place: that of a field's end, or the same place where there is none
 abbrev pub behind : ℕ → Told Standing → ℕ

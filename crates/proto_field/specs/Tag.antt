@@ -1,9 +1,8 @@
 -- A field's tag: its number and its wire type.
-use Rattle.std.specs.Prelude.{ℕ, ◌/◌, ◌%◌, Bool, ◌||◌, not, List, [], ◌∷◌, ltb, leb, eqb}
-use Rattle.wire.specs.Told.{Told, given, refused, and_then, line, table}
+use Rattle.std.specs.Prelude.{ℕ, ◌/◌, ◌%◌, Bool, ◌||◌, not, List, [], ◌∷◌, ltb, leb, eqb, Result}
+use Rattle.wire.specs.Told.{Told, told_by, given, refused, and_then, line, table}
 use Rattle.proto_field.specs.declared.tag.FieldHead.{FieldHead}
-use Rattle.proto_field.specs.declared.tag.Tag.{Tag}
-use Rattle.proto_field.specs.declared.tag.Tag.TheVariants.{Tagged, Refused}
+use Rattle.proto_field.specs.declared.Refusal.{Refusal}
 use Rattle.proto_field.specs.Refusal.{number_of}
 use Rattle.proto_field.specs.Varint.{varint_at}
 
@@ -43,6 +42,5 @@ unfoldable pub tag_at : List ℕ → ℕ → Told FieldHead
 tag_at s at = and_then (varint_at s at) head_of
 
 -- the answers of read_tag
-abbrev pub told_tag : Tag → Told FieldHead
-told_tag (Tagged h) = given h
-told_tag (Refused e) = refused (number_of e)
+abbrev pub told_tag : Result FieldHead Refusal → Told FieldHead
+told_tag = told_by number_of

@@ -1,13 +1,12 @@
 -- A field's value, as its wire type says.
-use Rattle.std.specs.Prelude.{ℕ, ◌+◌, ◌≤◌, cond, List, [], ◌∷◌, length, take, drop, ltb, eqb}
+use Rattle.std.specs.Prelude.{ℕ, ◌+◌, ◌≤◌, cond, List, [], ◌∷◌, length, take, drop, ltb, eqb, Result}
 use Rattle.wire.specs.Told.{Told, ToldOf, given, refused, and_then, line, table}
 use Rattle.proto_field.specs.declared.value.Part.{Part}
 use Rattle.proto_field.specs.declared.value.Value.{Value}
 use Rattle.proto_field.specs.declared.value.Value.TheVariants.{Number, Bytes, Skipped}
-use Rattle.proto_field.specs.declared.value.ValueRead.{ValueRead}
-use Rattle.proto_field.specs.declared.value.ValueRead.TheVariants.{Read, Refused}
-use Rattle.proto_field.specs.Refusal.{number_of}
-use Rattle.proto_field.specs.Varint.{varint_at}
+use Rattle.proto_field.specs.declared.Refusal.{Refusal}
+use Rattle.proto_field.specs.declared.varint.Placed.{Placed}
+use Rattle.proto_field.specs.Varint.{varint_at, told_placed}
 use Rattle.proto_field.specs.Tag.{varint_type, fixed64_type, length_type, fixed32_type}
 
 -- n bytes that are passed over
@@ -28,9 +27,8 @@ value_at s at wire =
     (cond (eqb wire fixed32_type) (skipped_at s at 4) (refused 32))))
 
 -- the answers of read_value
-abbrev pub told_value : ValueRead → Told (Value × ℕ)
-told_value (Read v n) = given (v, n)
-told_value (Refused e) = refused (number_of e)
+abbrev pub told_value : Result (Placed Value) Refusal → Told (Value × ℕ)
+told_value = told_placed
 
 -- the bytes of a part of a message
 abbrev pub bytes_of : List ℕ → Part → List ℕ

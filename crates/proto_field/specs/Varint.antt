@@ -1,8 +1,8 @@
 -- Base 128 varints: what stands at a place of a message.
-use Rattle.std.specs.Prelude.{ℕ, zero, suc, ◌+◌, ◌-◌, ◌*◌, cond, List, [], ◌∷◌, drop, ltb}
+use Rattle.std.specs.Prelude.{ℕ, zero, suc, ◌+◌, ◌-◌, ◌*◌, cond, List, [], ◌∷◌, drop, ltb, Result, Ok, Err}
 use Rattle.wire.specs.Told.{Told, given, refused, line, table}
-use Rattle.proto_field.specs.declared.varint.Varint.{Varint}
-use Rattle.proto_field.specs.declared.varint.Varint.TheVariants.{Value, Refused}
+use Rattle.proto_field.specs.declared.Refusal.{Refusal}
+use Rattle.proto_field.specs.declared.varint.Placed.{Placed}
 use Rattle.proto_field.specs.Refusal.{number_of}
 
 -- the base of the digits, and what a byte adds to its digit to say that more follow
@@ -32,7 +32,11 @@ varint_from (suc k) at (b ∷ s) = cond (ltb b base) (given (b, at + 1)) (more b
 unfoldable pub varint_at : List ℕ → ℕ → Told (ℕ × ℕ)
 varint_at s at = varint_from more_bytes at (drop at s)
 
+-- what was read and the place after it, as a pair
+abbrev pub told_placed : {A : Type 0} → Result (Placed A) Refusal → Told (A × ℕ)
+told_placed (Ok p) = given (p.value, p.next)
+told_placed (Err e) = refused (number_of e)
+
 -- the answers of read_varint
-abbrev pub told_varint : Varint → Told (ℕ × ℕ)
-told_varint (Value v n) = given (v, n)
-told_varint (Refused e) = refused (number_of e)
+abbrev pub told_varint : Result (Placed ℕ) Refusal → Told (ℕ × ℕ)
+told_varint = told_placed

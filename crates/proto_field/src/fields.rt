@@ -4,8 +4,8 @@ ghost use Rattle.proto_field.specs.Value.{TellsWithin};
 ghost use Rattle.proto_field.specs.Fields.{found_at, told_found, behind, standing_parts};
 
 use crate::Refusal;
-use crate::tag::{Tag, read_tag};
-use crate::value::{Value, ValueRead, read_value};
+use crate::tag::read_tag;
+use crate::value::{Value, read_value};
 
 #[derive(Drop)]
 pub struct Fields<'a> {
@@ -13,61 +13,46 @@ pub struct Fields<'a> {
     pub at: usize,
 }
 
-// What stands at a place: a field and the place after it, the end of the message, or why there is none.
+// A field's number and its value, and the place after it.
 #[derive(Clone, Copy)]
-pub enum Found {
-    Field {
-        number: u64,
-        value: Value,
-        next: usize,
-    },
-    End,
-    Refused(Refusal),
+pub struct FoundField {
+    pub number: u64,
+    pub value: Value,
+    pub next: usize,
 }
 
-// A field, and the reader behind it.
+// What stands at the reader's place: a field, or none at the end of the message; and the reader behind it.
 #[derive(Drop)]
 pub struct NextField<'a> {
-    pub found: Found,
+    pub found: Result<Option<FoundField>, Refusal>,
     pub rest: Fields<'a>,
 }
 
-// The field at a place of a message.
-fn field_at(message: &[u8], at: usize) -> Found
+// The field at a place of a message, or none at its end.
+fn field_at(message: &[u8], at: usize) -> Result<Option<FoundField>, Refusal>
     ensures { (told_found result ≡ found_at message.now at)
         × TellsWithin message.now standing_parts (told_found result) }
 {
     if message.len() <= at {
-        return Found::End;
+        return Ok(None);
     }
-    match read_tag(message, at) {
-        Tag::Refused(e) => Found::Refused(e),
-        Tag::Tagged(head) => {
-            let start = head.next;
-            match read_value(message, start, head.wire) {
-                ValueRead::Refused(e) => Found::Refused(e),
-                ValueRead::Read { value, next } => Found::Field {
-                    number: head.field,
-                    value,
-                    next,
-                },
-            }
-        }
-    }
+    let head = read_tag(message, at)?;
+    let read = read_value(message, head.next, head.wire)?;
+    Ok(Some(FoundField {
+        number: head.field,
+        value: read.value,
+        next: read.next,
+    }))
 }
 
 // The place behind what was found at a place: a field's end, or the same place where there is none.
-fn place_behind(found: Found, at: usize) -> usize
+fn place_behind(found: Result<Option<FoundField>, Refusal>, at: usize) -> usize
     ensures { result ≡ behind at (told_found found) }
 {
     match found {
-        Found::Field {
-            number: _,
-            value: _,
-            next,
-        } => next,
-        Found::End => at,
-        Found::Refused(_) => at,
+        Ok(Some(field)) => field.next,
+        Ok(None) => at,
+        Err(_) => at,
     }
 }
 
@@ -99,7 +84,7 @@ pub fn next<'a>(r: Fields<'a>) -> NextField<'a>
 }
 
 // The field at a place, by the record. Its parameters are a plain slice and a place, so its callers need no walk by hand.
-pub fn found_at(message: &[u8], at: usize) -> Found
+pub fn found_at(message: &[u8], at: usize) -> Result<Option<FoundField>, Refusal>
     ensures { (told_found result ≡ found_at message.now at)
         × TellsWithin message.now standing_parts (told_found result) }
 {

@@ -8,11 +8,12 @@ pub mod unsigned;
 pub mod value;
 pub mod varint;
 
-ghost use Rattle.std.specs.Prelude.{◌≡◌};
 ghost use Rattle.proto_field.specs.Refusal.{number_of};
 
+use wire::refusal::Numbered;
+
 // Why a message is refused.
-#[derive(Clone, Copy)]
+#[derive(Clone, Copy, Debug, PartialEq, Eq)]
 pub enum Refusal {
     // The message ends inside a field.
     Cut,
@@ -26,11 +27,10 @@ pub enum Refusal {
     TooMany,
 }
 
-impl Refusal {
-    // The number in the table of refusals.
-    pub fn number(self) -> u8
-        ensures { result ≡ number_of self }
-    {
+impl Numbered for Refusal {
+    ghost number_of = { number_of };
+
+    fn number(&self) -> u8 {
         match self {
             Refusal::Cut => 30,
             Refusal::TooLong => 31,

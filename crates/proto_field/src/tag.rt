@@ -3,12 +3,12 @@ ghost use Rattle.std.specs.Prelude.{◌≡◌};
 ghost use Rattle.proto_field.specs.Tag.{bad_tag, head_of, tag_at, told_tag};
 
 use crate::Refusal;
-use crate::varint::{BASE, Varint, read_long};
+use crate::varint::{BASE, read_long};
 use wire::bytes::wide64;
 
 // The largest field number.
 pub const LAST_FIELD: u64 = 536870911;
-// The wire types: a varint, eight bytes, a length and as many bytes, four bytes.
+// The wire types: a varint, eight bytes, a length and as many bytes, four bytes. They stay numbers: `tag_at`, `value_at` and C's `field_row` tell them.
 pub const VARINT: u64 = 0;
 
 pub const FIXED64: u64 = 1;
@@ -22,17 +22,11 @@ pub const WIRE_TYPES: u64 = 8;
 const WIRE_BITS: u64 = 3;
 
 // A field's number, its wire type and the place after its tag.
-#[derive(Drop)]
+#[derive(Clone, Copy)]
 pub struct FieldHead {
     pub field: u64,
     pub wire: u64,
     pub next: usize,
-}
-
-#[derive(Drop)]
-pub enum Tag {
-    Tagged(FieldHead),
-    Refused(Refusal),
 }
 
 // Whether a tag has a field number or a wire type that does not exist.
@@ -52,19 +46,19 @@ fn bad_tag(field: u64, wire: u64) -> bool
 }
 
 // The tag of a varint's value, with the place after it.
-fn tag_of(value: u64, next: usize) -> Tag
+fn tag_of(value: u64, next: usize) -> Result<FieldHead, Refusal>
     ensures { told_tag result ≡ head_of (value, next) }
 {
     let field = value >> WIRE_BITS;
     let wire = value - field * WIRE_TYPES;
     if bad_tag(field, wire) {
-        return Tag::Refused(Refusal::BadTag);
+        return Err(Refusal::BadTag);
     }
-    Tag::Tagged(FieldHead { field, wire, next })
+    Ok(FieldHead { field, wire, next })
 }
 
 // The tag at a place. Most have one byte, as in read_varint.
-pub fn read_tag(message: &[u8], at: usize) -> Tag
+pub fn read_tag(message: &[u8], at: usize) -> Result<FieldHead, Refusal>
     ensures { told_tag result ≡ tag_at message.now at }
 {
     if at < message.len() {
@@ -74,8 +68,6 @@ pub fn read_tag(message: &[u8], at: usize) -> Tag
             return tag_of(value, next);
         }
     }
-    match read_long(message, at) {
-        Varint::Refused(e) => Tag::Refused(e),
-        Varint::Value { value, next } => tag_of(value, next),
-    }
+    let long = read_long(message, at)?;
+    tag_of(long.value, long.next)
 }

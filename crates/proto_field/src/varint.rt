@@ -12,54 +12,52 @@ const LAST_BYTE: u64 = 1;
 // The base of the digits, and what a byte adds to its digit to say that more follow.
 pub const BASE: u64 = 128;
 
-// A varint's value and the place after it, or why there is none.
-#[derive(Drop)]
-pub enum Varint {
-    Value { value: u64, next: usize },
-    Refused(Refusal),
+// What was read at a place of a message, and the place after it.
+#[derive(Clone, Copy)]
+pub struct Placed<T> {
+    pub value: T,
+    pub next: usize,
 }
 
 // The varint at a place. Most have one byte: this function is small enough that those are read in the caller's own code.
-pub fn read_varint(message: &[u8], at: usize) -> Varint
+pub fn read_varint(message: &[u8], at: usize) -> Result<Placed<u64>, Refusal>
     ensures { told_varint result ≡ varint_at message.now at }
 {
     if at < message.len() {
         let value = wide64(message[at]);
         if value < BASE {
             let next = at + 1;
-            return Varint::Value { value, next };
+            return Ok(Placed { value, next });
         }
     }
     read_long(message, at)
 }
 
 // The varint at a place, byte by byte. With two callers, read_varint and read_tag, the compiler keeps it out of line.
-pub(crate) fn read_long(message: &[u8], at: usize) -> Varint
+pub(crate) fn read_long(message: &[u8], at: usize) -> Result<Placed<u64>, Refusal>
     ensures { told_varint result ≡ varint_at message.now at }
 {
     let mut value: u64 = 0;
     let mut weight: u64 = 1;
     let mut left = MORE_BYTES;
-    let mut i = at;
-    while i < message.len() {
+    for i in at..message.len() {
         let byte = wide64(message[i]);
         if left == 0 {
             if LAST_BYTE < byte {
-                return Varint::Refused(Refusal::TooLong);
+                return Err(Refusal::TooLong);
             }
             let whole = value + weight * byte;
             let next = i + 1;
-            return Varint::Value { value: whole, next };
+            return Ok(Placed { value: whole, next });
         }
         if byte < BASE {
             let whole = value + weight * byte;
             let next = i + 1;
-            return Varint::Value { value: whole, next };
+            return Ok(Placed { value: whole, next });
         }
         value += weight * (byte - BASE);
         weight *= BASE;
         left -= 1;
-        i += 1;
     }
-    Varint::Refused(Refusal::Cut)
+    Err(Refusal::Cut)
 }

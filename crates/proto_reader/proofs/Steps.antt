@@ -2,7 +2,7 @@
 use Prim.Native.Nat.{ℕ, ◌+◌, ◌≤◌, ◌<◌, zero-le}
 use mathlib.Core.Path.{◌≡◌, refl, sym, ap, ◌∙◌}
 use mathlib.Core.Bool.{true, ◌&&◌, not}
-use mathlib.Core.List.{List, [], ◌∷◌}
+use mathlib.Core.List.{List}
 use native.Mathlib.Omega.{arith}
 use lib.Dec.{leb, eqb}
 use lib.ListN.{length, take}
@@ -25,20 +25,12 @@ use Rattle.proto_schema.specs.declared.Schema.{Schema}
 use Rattle.proto_schema.specs.declared.Role.{Role}
 use Rattle.proto_schema.specs.declared.Role.TheVariants.{Scalar, Text, Transports, Nested, Repeated, Member, Unknown}
 use Rattle.proto_reader.specs.declared.gathered.Gathered.{Gathered}
-use Rattle.proto_reader.specs.declared.gathered.FieldVerdict.{FieldVerdict}
-use Rattle.proto_reader.specs.declared.gathered.FieldVerdict.TheVariants.{Fine, Refused}
-use Rattle.proto_reader.specs.Gathered.{most_transports, most_repeated, nothing, parts_gathered, with_text, with_transport, field_judged, AllText}
+use Rattle.proto_reader.specs.Gathered.{most_transports, most_repeated, nothing, parts_gathered, with_text, with_transport, AllText}
 use Rattle.proto_schema.specs.Schema.{role_of, fits_role, is_member, is_repeated}
 use Rattle.proto_reader.specs.declared.reader.Added.{Added}
-use Rattle.proto_reader.specs.declared.reader.Added.TheVariants as Added
-use Rattle.proto_reader.specs.Walk.{placed, entry_at, packed_from, judged, value_added, added_at, read_at, with_string, with_added, field_at, fields_from}
+use Rattle.proto_reader.specs.Walk.{placed, entry_at, packed_from, judged, value_added, added_at, read_at, with_string, with_added, field_at, fields_from, added_parts, Counts, AddsWithin}
 use Rattle.proto_reader.proofs.Walks.{Forward, walk-keeps}
 use Rattle.proto_reader.proofs.Strings.{text-set}
-
--- a verdict on what was gathered, and the place after it
-pub judged-then : (v : FieldVerdict) (g : Gathered) (n : ℕ) → field_judged {A = Gathered × ℕ} v (g, n) ≡ and_then (field_judged v g) (placed n)
-judged-then Fine g n = refl
-judged-then (Refused e) g n = refl
 
 -- nothing goes with the number
 sat-alone : {A : Type 0} (P : A → Type 0) (r : Told A) → Sat P r → Sat P (alone r)
@@ -55,15 +47,6 @@ entry-forward s at g q e =
     e
 
 -- ---- what a field adds: it ends after its place, and its parts lie within the message
-abbrev added_parts : Added → List Part
-added_parts Added.Nothing = []
-added_parts (Added.Scalar slot v) = []
-added_parts (Added.Text field slot p) = p ∷ []
-added_parts (Added.Member field p) = p ∷ []
-added_parts Added.Repeated = []
-added_parts (Added.Transport v) = []
-added_parts (Added.Packed p) = p ∷ []
-
 value-within : (s : List ℕ) (role : Role) (field : ℕ) (v : Value) → Within s (value_parts v) → Within s (added_parts (value_added role field v))
 value-within s (Scalar i) field (Number v) h = tt
 value-within s (Text i) field (Number v) h = tt
@@ -80,16 +63,6 @@ value-within s Repeated field (Bytes p) h = tt
 value-within s Member field (Bytes p) h = h
 value-within s Unknown field (Bytes p) h = tt
 value-within s role field (Skipped p) h = tt
-
--- there is room for one message more of a repeated field
-abbrev Counts : ℕ → Added → Type 0
-Counts count Added.Nothing = Unit {0}
-Counts count (Added.Scalar slot v) = Unit {0}
-Counts count (Added.Text field slot p) = Unit {0}
-Counts count (Added.Member field p) = Unit {0}
-Counts count Added.Repeated = count < most_repeated
-Counts count (Added.Transport v) = Unit {0}
-Counts count (Added.Packed p) = Unit {0}
 
 judged-counts : (role : Role) (wire member count : ℕ) → Sat (λ (u : Unit {0}). is_repeated role ≡ true → count < most_repeated) (judged role wire member count)
 unfolding judged
@@ -118,7 +91,7 @@ value-counts count Unknown field (Bytes p) h = tt
 value-counts count role field (Skipped p) h = tt
 
 abbrev Adds : List ℕ → ℕ → ℕ → Added × ℕ → Type 0
-Adds s at count q = (at < q.1) × Within s (added_parts q.0) × Counts count q.0
+Adds s at count q = (at < q.1) × AddsWithin s count q.0
 
 read-adds : (schema : Schema) (s : List ℕ) (at member count : ℕ) → Sat (Adds s at count) (read_at schema s at member count)
 unfolding read_at added_at
@@ -128,17 +101,12 @@ read-adds schema s at member count =
     (λ h l. sat-then (λ (u : Unit {0}). is_repeated (role_of schema h.field) ≡ true → count < most_repeated) Q (judged (role_of schema h.field) h.wire member count) _
     (judged-counts (role_of schema h.field) h.wire member count)
     (λ u w. sat-then (Held s h.next) Q (value_at s h.next h.wire) _ (value-held s h.next h.wire)
-    (λ v k. (omega arith, value-within s (role_of schema h.field) h.field v.0 k.1, value-counts count (role_of schema h.field) h.field v.0 w))))
+    (λ v k. (omega arith, (value-within s (role_of schema h.field) h.field v.0 k.1, value-counts count (role_of schema h.field) h.field v.0 w)))))
 
-module _ (schema : Schema) (s : List ℕ) (at member count : ℕ) where
-  pub packed-within : (p : Part) (n : ℕ) → read_at schema s at member count ≡ given (Added.Packed p, n) → p.start + p.len ≤ length s
-  packed-within p n e = (sat-given (Adds s at count) (read_at schema s at member count) (Added.Packed p, n) (read-adds schema s at member count) e).1.0
-
-  pub text-within : (f slot : ℕ) (p : Part) (n : ℕ) → read_at schema s at member count ≡ given (Added.Text f slot p, n) → p.start + p.len ≤ length s
-  text-within f slot p n e = (sat-given (Adds s at count) (read_at schema s at member count) (Added.Text f slot p, n) (read-adds schema s at member count) e).1.0
-
-  pub repeated-room : (n : ℕ) → read_at schema s at member count ≡ given (Added.Repeated, n) → count < most_repeated
-  repeated-room n e = (sat-given (Adds s at count) (read_at schema s at member count) (Added.Repeated, n) (read-adds schema s at member count) e).2
+-- what a field adds can be gathered
+pub read-fits : (schema : Schema) (s : List ℕ) (at member count : ℕ) (q : Added × ℕ) → read_at schema s at member count ≡ given q → AddsWithin s count q.0
+read-fits schema s at member count q e =
+    (sat-given (Adds s at count) (read_at schema s at member count) q (read-adds schema s at member count) e).1
 
 -- a field, by what it adds
 pub field-by : (schema : Schema) (s : List ℕ) (at : ℕ) (g : Gathered) {r : Told (Added × ℕ)} → read_at schema s at g.field g.count ≡ r
@@ -196,6 +164,6 @@ fields_within schema s at g e =
     sat-given (Inside s) (fields_from schema s at) g
     (walk-keeps (field_at schema) (Inside s) s
     (λ a x w. sat-then (Adds s a x.count) Q (alone (read_at schema s a x.field x.count)) _ (sat-alone (Adds s a x.count) (read_at schema s a x.field x.count) (read-adds schema s a x.field x.count))
-    (λ d h. sat-then (Inside s) Q (with_added s d.0 x) _ (added-inside s d.0 x h.1 h.2 w) (λ y k. k)))
+    (λ d h. sat-then (Inside s) Q (with_added s d.0 x) _ (added-inside s d.0 x h.1.0 h.1.1 w) (λ y k. k)))
     (length s) at nothing ((zero-le, (zero-le, (zero-le, (zero-le, tt)))), zero-le, (empty, (empty, (empty, tt)))))
     e

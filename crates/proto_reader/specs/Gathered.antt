@@ -1,15 +1,13 @@
 -- What is gathered of a message, field by field.
-use Rattle.std.specs.Prelude.{ℕ, ◌+◌, List, [], ◌∷◌, set, replicate, pos, leb}
+use Rattle.std.specs.Prelude.{ℕ, ◌+◌, List, [], ◌∷◌, set, replicate, pos, leb, Result, Ok, Err}
 use Rattle.wire.specs.Told.{Told, given, refused, line, table}
+use Rattle.proto_field.specs.declared.Refusal.{Refusal}
 use Rattle.proto_field.specs.Refusal.{number_of}
 use Rattle.proto_field.specs.Signed.{signed_of}
 use Rattle.proto_field.specs.Value.{bytes_of}
 use Rattle.utf8.specs.WellFormed.{WellFormed}
 use Rattle.proto_field.specs.declared.value.Part.{Part}
 use Rattle.proto_reader.specs.declared.gathered.Gathered.{Gathered}
-use Rattle.proto_reader.specs.declared.gathered.FieldVerdict.{FieldVerdict}
-use Rattle.proto_reader.specs.declared.gathered.FieldVerdict.TheVariants.{Fine, Refused}
-use Rattle.proto_reader.specs.declared.gathered.Grown.{Grown}
 
 -- the most transports
 abbrev pub most_transports : ℕ
@@ -63,12 +61,9 @@ with_transport v g =
     (given (record { scalars = g.scalars; texts = g.texts; field = g.field; part = g.part; transports = set g.transports g.count (signed_of v); count = g.count + 1 }))
 
 -- a verdict on a, by the numbers
-abbrev pub field_judged : {A : Type 0} → FieldVerdict → A → Told A
-field_judged Fine a = given a
-field_judged (Refused e) a = refused (number_of e)
+abbrev pub field_judged : {A : Type 0} → Result (Unit {0}) Refusal → A → Told A
+field_judged (Ok u) a = given a
+field_judged (Err e) a = refused (number_of e)
 
-abbrev pub told_field_verdict : FieldVerdict → Told (Unit {0})
+abbrev pub told_field_verdict : Result (Unit {0}) Refusal → Told (Unit {0})
 told_field_verdict v = field_judged v tt
-
-abbrev pub told_grown : Grown → Told Gathered
-told_grown k = field_judged k.verdict k.gathered

@@ -1,6 +1,6 @@
 -- The refusals of messages: the number, and what is told beside it.
-use Rattle.std.specs.Prelude.{ℕ, List, [], ◌∷◌}
-use Rattle.wire.specs.Told.{Told, ToldMore, given, refused}
+use Rattle.std.specs.Prelude.{ℕ, List, [], ◌∷◌, Result, Ok, Err}
+use Rattle.wire.specs.Told.{Told, ToldMore, told_by, given, refused}
 use Rattle.proto_field.specs.Refusal.{number_of}
 use Rattle.proto_field.specs.declared.value.Part.{Part}
 use Rattle.proto_field.specs.Value.{Within}
@@ -8,9 +8,6 @@ use Rattle.proto_reader.specs.declared.gathered.Gathered.{Gathered}
 use Rattle.proto_reader.specs.Gathered.{AllText}
 use Rattle.proto_reader.specs.declared.refusal.MessageRefusal.{MessageRefusal}
 use Rattle.proto_reader.specs.declared.refusal.MessageRefusal.TheVariants.{Field, BadText}
-use Rattle.proto_reader.specs.declared.refusal.WalkVerdict.{WalkVerdict}
-use Rattle.proto_reader.specs.declared.refusal.WalkVerdict.TheVariants.{Fine, Refused}
-use Rattle.proto_reader.specs.declared.refusal.Kept.{Kept}
 
 -- 36 goes with the string's field and the place in it
 abbrev pub why_of : MessageRefusal → ℕ × List ℕ
@@ -39,12 +36,14 @@ TellsStrings s parts (given a) = Strings s (parts a)
 TellsStrings s parts (refused why) = Unit {0}
 
 -- a verdict on a
-abbrev pub judged_as : {A : Type 0} → WalkVerdict → A → ToldMore A
-judged_as Fine a = given a
-judged_as (Refused e) a = refused (why_of e)
+abbrev pub judged_as : {A : Type 0} → Result (Unit {0}) MessageRefusal → A → ToldMore A
+judged_as (Ok u) a = given a
+judged_as (Err e) a = refused (why_of e)
 
-abbrev pub told_verdict : WalkVerdict → ToldMore (Unit {0})
-told_verdict v = judged_as v tt
+-- what is read of a message, or what its refusal tells
+abbrev pub told_more : {A : Type 0} → Result A MessageRefusal → ToldMore A
+told_more = told_by why_of
 
-abbrev pub told_kept : Kept → ToldMore Gathered
-told_kept k = judged_as k.verdict k.gathered
+-- the answers of read_fields
+abbrev pub told_kept : Result Gathered MessageRefusal → ToldMore Gathered
+told_kept = told_more

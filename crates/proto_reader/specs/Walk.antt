@@ -1,10 +1,12 @@
 -- The walk over the fields of a message, whichever it is.
-use Rattle.std.specs.Prelude.{ℕ, zero, suc, ◌+◌, cond, ◌&&◌, not, List, [], ◌∷◌, length, take, leb, eqb}
+use Rattle.std.specs.Prelude.{ℕ, zero, suc, ◌+◌, cond, ◌&&◌, not, List, [], ◌∷◌, length, take, leb, eqb, ◌<◌, Result, Ok, Err}
 use Rattle.wire.specs.Told.{ToldOf, Told, ToldMore, alone, given, refused, and_then, line, table}
 use Rattle.proto_field.specs.Refusal.{number_of}
-use Rattle.proto_field.specs.Varint.{varint_at}
+use Rattle.proto_field.specs.declared.Refusal.{Refusal}
+use Rattle.proto_field.specs.declared.varint.Placed.{Placed}
+use Rattle.proto_field.specs.Varint.{varint_at, told_placed}
 use Rattle.proto_field.specs.Tag.{tag_at}
-use Rattle.proto_field.specs.Value.{value_at, bytes_of}
+use Rattle.proto_field.specs.Value.{value_at, bytes_of, Within}
 use Rattle.utf8.specs.WellFormed.{bad_place}
 use Rattle.proto_field.specs.declared.value.Part.{Part}
 use Rattle.proto_field.specs.declared.value.Value.{Value}
@@ -13,13 +15,9 @@ use Rattle.proto_schema.specs.declared.Schema.{Schema}
 use Rattle.proto_schema.specs.declared.Role.{Role}
 use Rattle.proto_schema.specs.declared.Role.TheVariants.{Scalar, Text, Transports, Nested, Repeated, Member, Unknown}
 use Rattle.proto_reader.specs.declared.gathered.Gathered.{Gathered}
-use Rattle.proto_reader.specs.declared.reader.EntryRead.{EntryRead}
 use Rattle.proto_reader.specs.declared.reader.Added.{Added}
-use Rattle.proto_reader.specs.declared.reader.Added.TheVariants as Added
-use Rattle.proto_reader.specs.declared.reader.FieldRead.{FieldRead}
-use Rattle.proto_reader.specs.declared.reader.FieldRead.TheVariants as FieldRead
 use Rattle.proto_schema.specs.Schema.{role_of, fits_role, is_member, is_repeated}
-use Rattle.proto_reader.specs.Gathered.{most_repeated, nothing, with_scalar, with_text, with_member, with_repeated, with_transport, field_judged}
+use Rattle.proto_reader.specs.Gathered.{most_repeated, nothing, with_scalar, with_text, with_member, with_repeated, with_transport}
 
 -- steps from a place to the end of the bytes, each one with the place after it; fuel bounds their number, and as many as there are bytes is enough
 abbrev pub walk : {N : Type 0} → (List ℕ → ℕ → Gathered → ToldOf N (Gathered × ℕ)) → ℕ → List ℕ → ℕ → Gathered → ToldOf N Gathered
@@ -104,11 +102,33 @@ field_at schema s at g = and_then (alone (read_at schema s at g.field g.count)) 
 unfoldable pub fields_from : Schema → List ℕ → ℕ → ToldMore Gathered
 fields_from schema s at = walk (field_at schema) (length s) s at nothing
 
--- the answers of read_entry
-abbrev pub told_entry : EntryRead → Told (Gathered × ℕ)
-told_entry r = field_judged r.verdict (r.gathered, r.next)
+-- the answers of read_entry, beside what is gathered
+abbrev pub told_entry : Result ℕ Refusal → Gathered → Told (Gathered × ℕ)
+told_entry (Ok n) g = given (g, n)
+told_entry (Err e) g = refused (number_of e)
 
 -- the answers of take_value and read_field
-abbrev pub told_field : FieldRead → Told (Added × ℕ)
-told_field (FieldRead.Read a n) = given (a, n)
-told_field (FieldRead.Refused e) = refused (number_of e)
+abbrev pub told_field : Result (Placed Added) Refusal → Told (Added × ℕ)
+told_field = told_placed
+
+-- what a field adds lies within the message, and there is room for one message more of a repeated field
+abbrev pub added_parts : Added → List Part
+added_parts Added.Nothing = []
+added_parts (Added.Scalar slot v) = []
+added_parts (Added.Text field slot p) = p ∷ []
+added_parts (Added.Member field p) = p ∷ []
+added_parts Added.Repeated = []
+added_parts (Added.Transport v) = []
+added_parts (Added.Packed p) = p ∷ []
+
+abbrev pub Counts : ℕ → Added → Type 0
+Counts count Added.Nothing = Unit {0}
+Counts count (Added.Scalar slot v) = Unit {0}
+Counts count (Added.Text field slot p) = Unit {0}
+Counts count (Added.Member field p) = Unit {0}
+Counts count Added.Repeated = count < most_repeated
+Counts count (Added.Transport v) = Unit {0}
+Counts count (Added.Packed p) = Unit {0}
+
+abbrev pub AddsWithin : List ℕ → ℕ → Added → Type 0
+AddsWithin s count a = Within s (added_parts a) × Counts count a

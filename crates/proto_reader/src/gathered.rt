@@ -1,11 +1,10 @@
 // What is gathered of a message, field by field.
 ghost use Rattle.std.specs.Prelude.{◌≡◌, ◌<◌};
-ghost use Rattle.proto_reader.specs.Gathered.{most_repeated, nothing, with_scalar, with_text, with_member, with_repeated, with_transport, told_grown};
+ghost use Rattle.proto_reader.specs.Gathered.{most_repeated, nothing, with_scalar, with_text, with_member, with_repeated, with_transport, field_judged};
 
 use proto_field::Refusal;
 use proto_field::signed::low_signed;
 use proto_field::value::Part;
-use proto_schema::{FIRST, SECOND, THIRD};
 
 // The most transports that are read and written.
 pub const MOST_TRANSPORTS: usize = 8;
@@ -16,25 +15,12 @@ pub const MOST_REPEATED: usize = 8;
 pub struct Gathered {
     pub scalars: [u64; 2],
     pub texts: [Part; 3],
-    // The member's field and part. Field 0 is no member.
+    // The member's field and part; 0 and the empty part without one: `apply_of` reads that part as an empty message, and `response_row` tells both.
     pub field: u64,
     pub part: Part,
     pub transports: [i32; 8],
-    // Of the transports, or of the messages of a repeated field.
+    // Of the transports, or of the messages of a repeated field. The memory is fixed: the first count of eight are there.
     pub count: usize,
-}
-
-#[derive(Drop)]
-pub enum FieldVerdict {
-    Fine,
-    Refused(Refusal),
-}
-
-// What was gathered stands beside the verdict: an enum cannot hold an array.
-#[derive(Drop)]
-pub struct Grown {
-    pub verdict: FieldVerdict,
-    pub gathered: Gathered,
 }
 
 impl Gathered {
@@ -53,80 +39,50 @@ impl Gathered {
         }
     }
 
-    // A scalar: the last one counts. The places are written out, here and below: a store at a computed one copies all that is gathered.
-    pub(crate) fn with_scalar(self, slot: usize, value: u64) -> Gathered
-        ensures { result ≡ with_scalar slot value self }
+    // A scalar: the last one counts.
+    pub(crate) fn set_scalar(&mut self, slot: usize, value: u64)
+        ensures { self.new ≡ with_scalar slot value self.old }
     {
-        let mut next = self;
-        if slot == FIRST {
-            next.scalars[FIRST] = value;
-            return next;
+        if slot < self.scalars.len() {
+            self.scalars[slot] = value;
         }
-        if slot == SECOND {
-            next.scalars[SECOND] = value;
-            return next;
-        }
-        next
     }
 
     // A string: the last one counts.
-    pub(crate) fn with_text(self, slot: usize, part: Part) -> Gathered
-        ensures { result ≡ with_text slot part self }
+    pub(crate) fn set_text(&mut self, slot: usize, part: Part)
+        ensures { self.new ≡ with_text slot part self.old }
     {
-        let mut next = self;
-        if slot == FIRST {
-            next.texts[FIRST] = part;
-            return next;
+        if slot < self.texts.len() {
+            self.texts[slot] = part;
         }
-        if slot == SECOND {
-            next.texts[SECOND] = part;
-            return next;
-        }
-        if slot == THIRD {
-            next.texts[THIRD] = part;
-            return next;
-        }
-        next
     }
 
     // The member.
-    pub(crate) fn with_member(self, field: u64, part: Part) -> Gathered
-        ensures { result ≡ with_member field part self }
+    pub(crate) fn set_member(&mut self, field: u64, part: Part)
+        ensures { self.new ≡ with_member field part self.old }
     {
-        let mut next = self;
-        next.field = field;
-        next.part = part;
-        next
+        self.field = field;
+        self.part = part;
     }
 
     // One message more of a repeated field.
-    pub(crate) fn with_repeated(self) -> Gathered
-        requires { self.count < most_repeated }
-        ensures { result ≡ with_repeated self }
+    pub(crate) fn count_message(&mut self)
+        requires { self.old.count < most_repeated }
+        ensures { self.new ≡ with_repeated self.old }
     {
-        let mut next = self;
-        next.count = next.count + 1;
-        next
+        self.count += 1;
     }
 
     // One transport more, unless there are too many.
-    pub(crate) fn with_transport(self, value: u64) -> Grown
-        ensures { told_grown result ≡ with_transport value self }
+    #[tactic(auto, unfolding(crate::specs::Gathered::with_transport))]
+    pub(crate) fn add_transport(&mut self, value: u64) -> Result<(), Refusal>
+        ensures { field_judged result self.new ≡ with_transport value self.old }
     {
-        let n = self.count;
-        if n < MOST_TRANSPORTS {
-            let transport = low_signed(value);
-            let mut next = self;
-            next.transports[n] = transport;
-            next.count = n + 1;
-            return Grown {
-                verdict: FieldVerdict::Fine,
-                gathered: next,
-            };
+        if MOST_TRANSPORTS <= self.count {
+            return Err(Refusal::TooMany);
         }
-        Grown {
-            verdict: FieldVerdict::Refused(Refusal::TooMany),
-            gathered: self,
-        }
+        self.transports[self.count] = low_signed(value);
+        self.count += 1;
+        Ok(())
     }
 }

@@ -1,11 +1,12 @@
 // Why a message is refused, and what is told beside the number.
 ghost use Rattle.std.specs.Prelude.{◌≡◌};
+ghost use Rattle.proto_reader.specs.declared.refusal.MessageRefusal.TheVariants.{Field};
 ghost use Rattle.proto_reader.specs.Refusal.{message_number};
 
-use crate::gathered::Gathered;
 use proto_field::Refusal;
+use wire::refusal::Numbered;
 
-#[derive(Clone, Copy)]
+#[derive(Clone, Copy, Debug, PartialEq, Eq)]
 pub enum MessageRefusal {
     // A field is not read.
     Field(Refusal),
@@ -13,27 +14,21 @@ pub enum MessageRefusal {
     BadText { field: u64, place: usize },
 }
 
-impl MessageRefusal {
-    // The number in the table of refusals.
-    pub fn number(self) -> u8
-        ensures { result ≡ message_number self }
-    {
-        match self {
-            MessageRefusal::Field(why) => why.number(),
-            MessageRefusal::BadText { field: _, place: _ } => 36,
-        }
+impl From<Refusal> for MessageRefusal {
+    ghost from_gives = { λ why e. e ≡ Field why };
+
+    fn from(why: Refusal) -> Self {
+        MessageRefusal::Field(why)
     }
 }
 
-#[derive(Clone, Copy)]
-pub enum WalkVerdict {
-    Fine,
-    Refused(MessageRefusal),
-}
+impl Numbered for MessageRefusal {
+    ghost number_of = { message_number };
 
-// What was gathered stands beside the verdict: an enum cannot hold an array.
-#[derive(Drop)]
-pub struct Kept {
-    pub verdict: WalkVerdict,
-    pub gathered: Gathered,
+    fn number(&self) -> u8 {
+        match self {
+            MessageRefusal::Field(why) => why.number(),
+            MessageRefusal::BadText { .. } => 36,
+        }
+    }
 }

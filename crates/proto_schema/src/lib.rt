@@ -1,5 +1,5 @@
 // What each message makes of a field: the table of known fields.
-#![tactic(auto)]
+#![tactic(auto, unfolding(crate::specs::Schema::role_of))]
 
 ghost use Rattle.std.specs.Prelude.{◌≡◌};
 ghost use Rattle.proto_schema.specs.Schema.{role_of, fits_role, is_member, is_repeated};
@@ -64,7 +64,7 @@ pub const SECOND: usize = 1;
 
 pub const THIRD: usize = 2;
 
-#[derive(Clone, Copy)]
+#[derive(Clone, Copy, Debug, PartialEq, Eq)]
 pub enum Schema {
     Envelope,
     Response,
@@ -77,7 +77,7 @@ pub enum Schema {
 }
 
 // What a field is to its message.
-#[derive(Clone, Copy)]
+#[derive(Clone, Copy, Debug, PartialEq, Eq)]
 pub enum Role {
     // A scalar, kept at an index among the scalars.
     Scalar(usize),
@@ -98,121 +98,89 @@ pub enum Role {
 fn envelope_role(field: u64) -> Role
     ensures { result ≡ role_of Schema.Envelope field }
 {
-    if field == COMMAND {
-        return Role::Scalar(FIRST);
+    match field {
+        COMMAND => Role::Scalar(FIRST),
+        RESPONSE => Role::Nested,
+        _ => Role::Member,
     }
-    if field == RESPONSE {
-        return Role::Nested;
-    }
-    Role::Member
 }
 
 fn response_role(field: u64) -> Role
     ensures { result ≡ role_of Schema.Response field }
 {
-    if field == ERROR_CODE {
-        return Role::Scalar(FIRST);
+    match field {
+        ERROR_CODE => Role::Scalar(FIRST),
+        _ => Role::Member,
     }
-    Role::Member
 }
 
 fn information_role(field: u64) -> Role
     ensures { result ≡ role_of Schema.Information field }
 {
-    if field == SERIAL_NUMBER {
-        return Role::Text(FIRST);
+    match field {
+        SERIAL_NUMBER => Role::Text(FIRST),
+        NAME => Role::Text(SECOND),
+        TRANSPORTS => Role::Transports,
+        DEVICE_TYPE => Role::Text(THIRD),
+        _ => Role::Unknown,
     }
-    if field == NAME {
-        return Role::Text(SECOND);
-    }
-    if field == TRANSPORTS {
-        return Role::Transports;
-    }
-    if field == DEVICE_TYPE {
-        return Role::Text(THIRD);
-    }
-    Role::Unknown
 }
 
 fn features_role(field: u64) -> Role
     ensures { result ≡ role_of Schema.Features field }
 {
-    if field == FEATURES {
-        return Role::Scalar(FIRST);
+    match field {
+        FEATURES => Role::Scalar(FIRST),
+        DEVICE_ATTRIBUTES => Role::Scalar(SECOND),
+        _ => Role::Unknown,
     }
-    if field == DEVICE_ATTRIBUTES {
-        return Role::Scalar(SECOND);
-    }
-    Role::Unknown
 }
 
 fn segment_role(field: u64) -> Role
     ensures { result ≡ role_of Schema.Segment field }
 {
-    if field == COMPONENT_NAME {
-        return Role::Text(FIRST);
+    match field {
+        COMPONENT_NAME => Role::Text(FIRST),
+        COMPONENT_OFFSET => Role::Scalar(FIRST),
+        SEGMENT_SIZE => Role::Scalar(SECOND),
+        SEGMENT_SIGNATURE => Role::Text(SECOND),
+        _ => Role::Unknown,
     }
-    if field == COMPONENT_OFFSET {
-        return Role::Scalar(FIRST);
-    }
-    if field == SEGMENT_SIZE {
-        return Role::Scalar(SECOND);
-    }
-    if field == SEGMENT_SIGNATURE {
-        return Role::Text(SECOND);
-    }
-    Role::Unknown
 }
 
 fn apply_role(field: u64) -> Role
     ensures { result ≡ role_of Schema.Apply field }
 {
-    if field == FIRMWARE_INFORMATION {
-        return Role::Nested;
+    match field {
+        FIRMWARE_INFORMATION => Role::Nested,
+        RESTART_REQUIRED => Role::Scalar(FIRST),
+        _ => Role::Unknown,
     }
-    if field == RESTART_REQUIRED {
-        return Role::Scalar(FIRST);
-    }
-    Role::Unknown
 }
 
 fn firmware_role(field: u64) -> Role
     ensures { result ≡ role_of Schema.Firmware field }
 {
-    if field == FIRMWARE_VERSION {
-        return Role::Scalar(FIRST);
+    match field {
+        FIRMWARE_VERSION => Role::Scalar(FIRST),
+        FIRMWARE_NAME => Role::Text(FIRST),
+        COMPONENTS => Role::Repeated,
+        LOCALE => Role::Text(SECOND),
+        VERSION_NAME => Role::Text(THIRD),
+        _ => Role::Unknown,
     }
-    if field == FIRMWARE_NAME {
-        return Role::Text(FIRST);
-    }
-    if field == COMPONENTS {
-        return Role::Repeated;
-    }
-    if field == LOCALE {
-        return Role::Text(SECOND);
-    }
-    if field == VERSION_NAME {
-        return Role::Text(THIRD);
-    }
-    Role::Unknown
 }
 
 fn component_role(field: u64) -> Role
     ensures { result ≡ role_of Schema.Component field }
 {
-    if field == FIRMWARE_COMPONENT_VERSION {
-        return Role::Scalar(FIRST);
+    match field {
+        FIRMWARE_COMPONENT_VERSION => Role::Scalar(FIRST),
+        FIRMWARE_COMPONENT_NAME => Role::Text(FIRST),
+        FIRMWARE_COMPONENT_SIZE => Role::Scalar(SECOND),
+        FIRMWARE_COMPONENT_SIGNATURE => Role::Text(SECOND),
+        _ => Role::Unknown,
     }
-    if field == FIRMWARE_COMPONENT_NAME {
-        return Role::Text(FIRST);
-    }
-    if field == FIRMWARE_COMPONENT_SIZE {
-        return Role::Scalar(SECOND);
-    }
-    if field == FIRMWARE_COMPONENT_SIGNATURE {
-        return Role::Text(SECOND);
-    }
-    Role::Unknown
 }
 
 // What a field is to a message.
@@ -237,12 +205,9 @@ pub fn fits_role(role: Role, wire: u64) -> bool
 {
     match role {
         Role::Scalar(_) => wire == VARINT,
-        Role::Text(_) => wire == LENGTH,
-        Role::Transports => wire::logic::either(wire == VARINT, wire == LENGTH),
-        Role::Nested => wire == LENGTH,
-        Role::Repeated => wire == LENGTH,
-        Role::Member => true,
-        Role::Unknown => true,
+        Role::Transports => matches!(wire, VARINT | LENGTH),
+        Role::Text(_) | Role::Nested | Role::Repeated => wire == LENGTH,
+        Role::Member | Role::Unknown => true,
     }
 }
 
@@ -250,28 +215,12 @@ pub fn fits_role(role: Role, wire: u64) -> bool
 pub fn is_member(role: Role, wire: u64) -> bool
     ensures { result ≡ is_member role wire }
 {
-    match role {
-        Role::Scalar(_) => false,
-        Role::Text(_) => false,
-        Role::Transports => false,
-        Role::Nested => wire == LENGTH,
-        Role::Repeated => false,
-        Role::Member => wire == LENGTH,
-        Role::Unknown => false,
-    }
+    matches!(role, Role::Nested | Role::Member) && wire == LENGTH
 }
 
 // Whether a field of this role is counted.
 pub fn is_repeated(role: Role) -> bool
     ensures { result ≡ is_repeated role }
 {
-    match role {
-        Role::Scalar(_) => false,
-        Role::Text(_) => false,
-        Role::Transports => false,
-        Role::Nested => false,
-        Role::Repeated => true,
-        Role::Member => false,
-        Role::Unknown => false,
-    }
+    role == Role::Repeated
 }

@@ -14,10 +14,8 @@ use Rattle.wire.specs.Put.{Put}
 use Rattle.wire.proofs.Tests.{or-false}
 use Rattle.proto_field.specs.Tag.{last_field}
 use Rattle.proto_writer.specs.Writer.{Field, message_bytes}
-use Rattle.proto_writer.specs.declared.message.Room.{Room}
-use Rattle.proto_writer.specs.declared.message.Room.TheVariants.{Left, Short}
-use Rattle.proto_writer.specs.declared.message.Wrote.{Wrote}
-use Rattle.proto_writer.specs.declared.message.Wrote.TheVariants.{Done, Refused}
+use Rattle.std.specs.Prelude.{Option, Some, None, Result, Ok, Err}
+use Rattle.proto_writer.specs.declared.message.WriteRefusal.{WriteRefusal}
 use Rattle.proto_writer.specs.Message.{writes_message, bad_member, told_wrote, wrote_size, less_room}
 
 -- ---- the lines of the table, and what is written where none holds
@@ -35,10 +33,10 @@ module _ (bad : Bool) (fields : List Field) (out : List ℕ) where
       rw (b, le-ltb (length out) (length (message_bytes fields)) h, e, p.stored)
 
 -- what was written lies within the output
-pub size-within : (w : Wrote) (bad : Bool) (fields : List Field) (out l : List ℕ) → written (told_wrote w) l ≡ writes_message bad fields out → wrote_size w ≤ length l
-size-within (Refused r) bad fields out l e = zero-le
-size-within (Done n) true fields out l e = absurd (let t : given n ≡ refused 15 = ap (λ (w : Written ℕ). w.told) e in let z : ◌≡◌ {A = ℕ} 0 1 = cc in omega arith)
-size-within (Done n) false fields out l e = by-room (dec_lt (length out) (length (message_bytes fields)))
+pub size-within : (w : Result ℕ WriteRefusal) (bad : Bool) (fields : List Field) (out l : List ℕ) → written (told_wrote w) l ≡ writes_message bad fields out → wrote_size w ≤ length l
+size-within (Err r) bad fields out l e = zero-le
+size-within (Ok n) true fields out l e = absurd (let t : given n ≡ refused 15 = ap (λ (w : Written ℕ). w.told) e in let z : ◌≡◌ {A = ℕ} 0 1 = cc in omega arith)
+size-within (Ok n) false fields out l e = by-room (dec_lt (length out) (length (message_bytes fields)))
   where
     by-room : Dec (length out < length (message_bytes fields)) → n ≤ length l
     by-room (yes h) =
@@ -64,30 +62,30 @@ member-fits field e = ltb-false last_field field (or-false (ltb field 2) (ltb la
 
 -- ---- room
 -- bytes after bytes
-pub less-less : (a b : ℕ) (r : Room) → less_room b (less_room a r) ≡ less_room (a + b) r
-less-less a b Short = refl
-less-less a b (Left k) = by_first (dec_lt k a)
+pub less-less : (a b : ℕ) (r : Option ℕ) → less_room b (less_room a r) ≡ less_room (a + b) r
+less-less a b None = refl
+less-less a b (Some k) = by_first (dec_lt k a)
   where
-    by-second : a ≤ k → Dec (k - a < b) → less_room b (less_room a (Left k)) ≡ less_room (a + b) (Left k)
+    by-second : a ≤ k → Dec (k - a < b) → less_room b (less_room a (Some k)) ≡ less_room (a + b) (Some k)
     by-second h (yes l) = rw (le-ltb k a h, lt-ltb (k - a) b l, lt-ltb k (a + b) (omega arith))
     by-second h (no n) =
         let e : k - a - b ≡ k - (a + b) = omega arith in
         rw (le-ltb k a h, le-ltb (k - a) b (omega arith), le-ltb k (a + b) (omega arith), e)
 
-    by_first : Dec (k < a) → less_room b (less_room a (Left k)) ≡ less_room (a + b) (Left k)
+    by_first : Dec (k < a) → less_room b (less_room a (Some k)) ≡ less_room (a + b) (Some k)
     by_first (yes l) = rw (lt-ltb k a l, lt-ltb k (a + b) (omega arith))
     by_first (no n) = by-second (omega arith) (dec_lt (k - a) b)
 
-pub room-short : (k n : ℕ) → less_room n (Left k) ≡ Short → k < n
+pub room-short : (k n : ℕ) → less_room n (Some k) ≡ None → k < n
 room-short k n e = by-test (dec_lt k n)
   where
     by-test : Dec (k < n) → k < n
     by-test (yes l) = l
-    by-test (no h) = absurd (let z : ◌≡◌ {A = ℕ} 0 1 = (let f : less_room n (Left k) ≡ Left (k - n) = rw (le-ltb k n (omega arith)) in cc) in omega arith)
+    by-test (no h) = absurd (let z : ◌≡◌ {A = ℕ} 0 1 = (let f : less_room n (Some k) ≡ Some (k - n) = rw (le-ltb k n (omega arith)) in cc) in omega arith)
 
-pub room-left : (k n m : ℕ) → less_room n (Left k) ≡ Left m → n ≤ k
+pub room-left : (k n m : ℕ) → less_room n (Some k) ≡ Some m → n ≤ k
 room-left k n m e = by-test (dec_lt k n)
   where
     by-test : Dec (k < n) → n ≤ k
-    by-test (yes l) = absurd (let z : ◌≡◌ {A = ℕ} 0 1 = (let f : less_room n (Left k) ≡ Short = rw (lt-ltb k n l) in cc) in omega arith)
+    by-test (yes l) = absurd (let z : ◌≡◌ {A = ℕ} 0 1 = (let f : less_room n (Some k) ≡ None = rw (lt-ltb k n l) in cc) in omega arith)
     by-test (no h) = omega arith

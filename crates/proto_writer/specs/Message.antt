@@ -1,15 +1,11 @@
 -- What every message writer tells and leaves.
-use Rattle.std.specs.Prelude.{ℕ, ◌-◌, Bool, cond, ◌||◌, List, [], ◌∷◌, length, ltb}
+use Rattle.std.specs.Prelude.{ℕ, ◌-◌, Bool, cond, ◌||◌, List, [], ◌∷◌, length, ltb, Option, Some, None, Result, Ok, Err}
 use Rattle.std.proofs.lemmas.List.Edits.{sets}
-use Rattle.wire.specs.Told.{Told, given, refused, line, Written, writes}
+use Rattle.wire.specs.Told.{Told, told_by, line, Written, writes}
 use Rattle.proto_field.specs.Tag.{last_field}
 use Rattle.proto_writer.specs.Writer.{Field, message_bytes}
-use Rattle.proto_writer.specs.declared.message.Room.{Room}
-use Rattle.proto_writer.specs.declared.message.Room.TheVariants.{Left, Short}
 use Rattle.proto_writer.specs.declared.message.WriteRefusal.{WriteRefusal}
 use Rattle.proto_writer.specs.declared.message.WriteRefusal.TheVariants.{BadArgument, NoRoom}
-use Rattle.proto_writer.specs.declared.message.Wrote.{Wrote}
-use Rattle.proto_writer.specs.declared.message.Wrote.TheVariants.{Done, Refused}
 
 -- the message of these fields, from the first byte on: the number of its bytes, and the output afterwards
 abbrev pub writes_message : Bool → List Field → List ℕ → Written ℕ
@@ -26,16 +22,15 @@ abbrev pub number_of : WriteRefusal → ℕ
 number_of BadArgument = 15
 number_of NoRoom = 14
 
-abbrev pub told_wrote : Wrote → Told ℕ
-told_wrote (Done n) = given n
-told_wrote (Refused e) = refused (number_of e)
+abbrev pub told_wrote : Result ℕ WriteRefusal → Told ℕ
+told_wrote = told_by number_of
 
 -- the number of bytes that were written
-abbrev pub wrote_size : Wrote → ℕ
-wrote_size (Done n) = n
-wrote_size (Refused e) = 0
+abbrev pub wrote_size : {E : Type 0} → Result ℕ E → ℕ
+wrote_size (Ok n) = n
+wrote_size (Err e) = 0
 
--- the room that n bytes leave
-abbrev pub less_room : ℕ → Room → Room
-less_room n Short = Short
-less_room n (Left k) = cond (ltb k n) Short (Left (k - n))
+-- the room that n bytes leave, if they fit
+abbrev pub less_room : ℕ → Option ℕ → Option ℕ
+less_room n None = None
+less_room n (Some k) = cond (ltb k n) None (Some (k - n))

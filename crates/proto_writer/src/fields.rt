@@ -1,4 +1,5 @@
-// Fields written into a lent output, and the numbers of bytes that they take.
+// Fields written into a lent output, and the numbers of bytes that they take. Of each kind of field one function counts and one writes:
+// one generic over both would name the same steps a third time.
 ghost use Rattle.std.specs.Prelude.{◌≡◌, map, ◌+◌, ◌*◌, ◌≤◌, ◌<◌, ◌^◌, length};
 ghost use Rattle.wire.specs.Put.{Put};
 ghost use Rattle.proto_field.specs.Signed.{extended};
@@ -102,10 +103,8 @@ fn varints_len(list: &[i32]) -> usize
         × (result ≤ 10 * length list.now) }
 {
     let mut n: usize = 0;
-    let mut i = 0;
-    while i < list.len() {
-        n += varint_len(sign_extended(list[i]));
-        i += 1;
+    for value in list {
+        n += varint_len(sign_extended(*value));
     }
     n
 }
@@ -116,10 +115,8 @@ fn put_varints(out: &mut [u8], at: usize, list: &[i32]) -> usize
     ensures { Put out.old at (varints_bytes (map extended list.now)) result out.new }
 {
     let mut next = at;
-    let mut i = 0;
-    while i < list.len() {
-        next = put_varint(out, next, sign_extended(list[i]));
-        i += 1;
+    for value in list {
+        next = put_varint(out, next, sign_extended(*value));
     }
     next
 }

@@ -1,4 +1,4 @@
-// Fields of Protocol Buffers messages, written; and what every message writer answers.
+// Fields of Protocol Buffers messages, written; and why a message writer refuses.
 #![tactic(auto)]
 
 pub mod fields;

@@ -8,7 +8,7 @@ use proto_field::varint::BASE;
 // The bits of a digit.
 const DIGIT_BITS: u64 = 7;
 
-// The number of bytes of the shortest varint of a value.
+// The number of bytes of the shortest varint of a value. The loops here end by what is left of the value, and not by a count.
 pub fn varint_len(value: u64) -> usize
     ensures { (result ≡ length (varint_bytes value)) × (result ≤ 10) }
 {

@@ -2,20 +2,22 @@
 // refused is named on standard output, one that cannot be read on the error output, and the others are added all the same.
 #![tactic(auto)]
 
-ghost use Rattle.std.specs.Prelude.{◌≡◌, length};
+ghost use Rattle.std.specs.Prelude.{◌≡◌, true, IfSome};
+ghost use Rattle.wire.specs.Limit.{limit_fits};
 
 use ble_receiver::SLOT_COUNT;
 use ble_slot::Slot;
+use capture_reader::RefusedAt;
 use capture_report::{CostReport, Costs};
-use capture_tally::{Answer, add_by_value};
-use cli_console::{Console, Output, argument, argument_count, complain, fail, read_quietly};
+use capture_tally::add_by_value;
+use cli_console::{Console, Output, argument, argument_count, complain, fail, read_quietly, room};
 use std::fs;
 use std::io::{Error, ErrorKind, Read, Result};
 use std::num::{wrapping_add_u64, wrapping_sub_u64};
 use std::rt::{Env, Files};
 use std::str::from_utf8;
-use wire::bytes::{byte_at, smaller};
 use wire::limit::limit_fits;
+use wire::refusal::Numbered;
 
 // The longest capture that is read.
 const LONGEST: usize = 1048576;
@@ -23,17 +25,11 @@ const LONGEST: usize = 1048576;
 // The buffer of a link of the largest limit.
 const LARGEST_BUFFER: usize = 786420;
 
-// More than any limit.
-const NO_LIMIT: usize = 65536;
-
 // The digits of the largest limit, and a few more.
 const LIMIT_WORD: usize = 8;
 
 // The bytes of the longest file name.
 const LONGEST_NAME: usize = 4096;
-
-// The digits that a column of numbers has room for.
-const COLUMN: usize = 10;
 
 // The report so far, how many captures it has, and what is written.
 #[derive(Drop)]
@@ -41,19 +37,6 @@ struct ReportSoFar {
     report: CostReport,
     captures: u64,
     output: Output,
-}
-
-// Room for a capture. The `ensures` gives only the length, which lending the array as a slice needs.
-fn capture_room() -> [u8; LONGEST]
-    ensures { 1048576 ≡ length result }
-{
-    [0; LONGEST]
-}
-
-fn buffer_room() -> [u8; LARGEST_BUFFER]
-    ensures { 786420 ≡ length result }
-{
-    [0; LARGEST_BUFFER]
 }
 
 fn usage(console: Console) {
@@ -68,60 +51,33 @@ fn usage(console: Console) {
     );
 }
 
-// A number with one digit more; a number above every limit if the byte is no digit or the number too large.
-fn with_digit(value: usize, digit: u8) -> usize {
-    if digit < b'0' {
-        return NO_LIMIT;
-    }
-    if digit > b'9' {
-        return NO_LIMIT;
-    }
-    if value >= NO_LIMIT {
-        return NO_LIMIT;
-    }
-    value * 10 + (digit - b'0') as usize
-}
-
-// The first argument as a number; 0 where there is none.
-fn limit_given<E: Env>(rt: &E) -> usize {
+// The first argument as the limit of a link, where it is one: decimal digits alone.
+fn limit_given<E: Env>(rt: &E) -> Option<usize>
+    ensures { IfSome result (λ limit. limit_fits limit ≡ true) }
+{
     let mut word = [0u8; LIMIT_WORD];
-    let n = argument(rt, 1, &mut word);
-    let mut limit = 0;
-    let mut i = 0;
-    while i < n {
-        limit = with_digit(limit, byte_at(&word, i));
-        i += 1;
+    let n = argument(rt, 1, &mut word)?;
+    let digits = &word[..n];
+    if !digits.iter().all(|b| b.is_ascii_digit()) {
+        return None;
     }
-    limit
-}
-
-fn no_costs() -> Costs {
-    Costs {
-        firsts: 0,
-        finished: 0,
-        replaced: 0,
-        dropped: 0,
-        pending: 0,
-        payload: 0,
-        bytes: 0,
-    }
+    let limit = from_utf8(digits).ok()?.parse().ok()?;
+    if limit_fits(limit) { Some(limit) } else { None }
 }
 
 fn nothing_yet(console: Console) -> ReportSoFar {
-    let report = CostReport {
-        control: no_costs(),
-        ota: no_costs(),
-        alexa: no_costs(),
-    };
     ReportSoFar {
-        report,
+        report: CostReport::default(),
         captures: 0,
         output: Output::new(console),
     }
 }
 
 fn say_refused(output: Output, name: &[u8], number: u8, place: usize) -> Output {
-    let refused = output.text(name).text(b": refused ").number(number as u64);
+    let refused = output
+        .text(name)
+        .text(b": refused ")
+        .number(u64::from(number));
     refused.text(b" at ").number(place as u64).text(b"\n")
 }
 
@@ -136,17 +92,16 @@ fn add_capture(
     let output = before.output;
     let row = [Slot::idle(); SLOT_COUNT];
     let added = add_by_value(SLOT_COUNT, row, report, limit, buffer, capture);
-    let answer = added.answer;
-    match answer {
-        Answer::Refused { why, at } => ReportSoFar {
-            report,
-            captures: before.captures,
-            output: say_refused(output, name, why.number(), at),
-        },
-        Answer::Added(sums) => ReportSoFar {
+    match added.answer {
+        Ok(sums) => ReportSoFar {
             report: sums,
             captures: wrapping_add_u64(before.captures, 1),
             output,
+        },
+        Err(RefusedAt { why, at }) => ReportSoFar {
+            report,
+            captures: before.captures,
+            output: say_refused(output, name, why.number(), at),
         },
     }
 }
@@ -220,7 +175,7 @@ fn add_argument<R: Env + Files>(
     space: &mut [u8],
 ) -> ReportSoFar {
     let mut name = [0u8; LONGEST_NAME];
-    let n = argument(rt, i, &mut name);
+    let n = argument(rt, i, &mut name).unwrap_or(0);
     add_file(rt, before, &name[..n], limit, buffer, space)
 }
 
@@ -234,31 +189,15 @@ fn add_files<R: Env + Files>(
     space: &mut [u8],
 ) -> ReportSoFar {
     let mut sums = nothing_yet(console);
-    let mut i = 2;
-    while i < count {
+    for i in 2..count {
         sums = add_argument(rt, sums, i, limit, buffer, space);
-        i += 1;
     }
     sums
 }
 
-// How many decimal digits a number has.
-fn digit_count(n: u64) -> usize {
-    match n.checked_ilog10() {
-        Some(k) => k as usize + 1,
-        None => 1,
-    }
-}
-
 // A number at the right of its column, with a blank before it.
 fn say_number(output: Output, n: u64) -> Output {
-    let mut k = digit_count(n);
-    let mut said = output.text(b" ");
-    while k < COLUMN {
-        said = said.text(b" ");
-        k += 1;
-    }
-    said.number(n)
+    output.text(b" ").column(n)
 }
 
 fn say_costs(output: Output, label: &[u8], costs: Costs) -> Output {
@@ -320,37 +259,31 @@ fn report_files<R: Env + Files>(
     parts: &mut [u8],
     space: &mut [u8],
 ) {
-    let n = smaller(size, parts.len());
+    let n = size.min(parts.len());
     let sums = add_files(rt, console, count, limit, &mut parts[0..n], space);
     say_all(sums, count);
 }
 
 // The bytes of a link's buffer.
-fn buffer_size(limit: usize) -> usize {
-    if limit_fits(limit) {
-        SLOT_COUNT * limit
-    } else {
-        0
-    }
+fn buffer_size(limit: usize) -> usize
+    requires { limit_fits limit ≡ true }
+{
+    SLOT_COUNT * limit
 }
 
 fn main(rt: HostRuntime) {
-    let console = Console {
-        output: rt.stdout(),
-        errors: rt.stderr(),
-    };
+    let console = Console::of(&rt);
     let count = argument_count(&rt);
-    let limit = limit_given(&rt);
-    let size = buffer_size(limit);
-    if size == 0 {
+    let Some(limit) = limit_given(&rt) else {
         usage(console);
         return;
-    }
+    };
     if count < 3 {
         usage(console);
         return;
     }
-    let mut space = capture_room();
-    let mut parts = buffer_room();
+    let size = buffer_size(limit);
+    let mut space = room::<LONGEST>();
+    let mut parts = room::<LARGEST_BUFFER>();
     report_files(&rt, console, count, limit, size, &mut parts, &mut space);
 }

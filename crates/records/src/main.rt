@@ -12,21 +12,15 @@ fn list(console: Console, input: Stdin, view: RecordView) {
 }
 
 fn main(rt: HostRuntime) {
-    let console = Console {
-        output: rt.stdout(),
-        errors: rt.stderr(),
-    };
+    let console = Console::of(&rt);
     let count = argument_count(&rt);
     if count <= 1 {
         list(console, rt.stdin(), RecordView::Lengths);
         return;
     }
-    let payloads = argument_is(&rt, 1, b"--payloads");
-    if count == 2 {
-        if payloads {
-            list(console, rt.stdin(), RecordView::Payloads);
-            return;
-        }
+    if count == 2 && argument_is(&rt, 1, b"--payloads") {
+        list(console, rt.stdin(), RecordView::Payloads);
+        return;
     }
     complain(console, b"usage: records [--payloads] < OUTBOX\n");
 }

@@ -15,11 +15,10 @@ use Rattle.wire.proofs.Tests.{or-false}
 use Rattle.ble_packet.specs.Header.{in_range}
 use Rattle.ble_sender.specs.Writer.{room_fits}
 use Rattle.proto_field.specs.Signed.{extended}
-use Rattle.proto_writer.specs.declared.message.Room.TheVariants.{Left}
+use Rattle.std.specs.Prelude.{Option, Some}
 use Rattle.proto_writer.specs.Message.{bad_member, less_room}
 use Rattle.proto_writer.proofs.Rooms.{room-rest}
 use Rattle.proto_reader.specs.Gathered.{most_transports}
-use Rattle.msg_control.specs.declared.response.ResponsePayload.{ResponsePayload}
 use Rattle.msg_control.specs.Response.{bad_response_payload}
 use Rattle.msg_device.specs.declared.features.DeviceFeatures.{DeviceFeatures}
 use Rattle.reply_parts.specs.declared.body.CommandKind.{CommandKind}
@@ -44,7 +43,7 @@ whole_by serial_number name transports device_type features m Features = tt
 whole_by serial_number name transports device_type features m Bare = refl
 whole_by serial_number name transports device_type features m Other = refl
 
-abbrev front_of : ℕ → ℕ → ResponsePayload → ℕ → ReplyFront
+abbrev front_of : ℕ → ℕ → Option ℕ → ℕ → ReplyFront
 front_of v c m n = record { value = v; code = c; member = m; body = n }
 
 reply-is : (v : ℕ) (k : CommandKind) (m : Members) (body : List ℕ) (f : ReplyFront) → FrontFor v k m (length body) f → Whole (member_of m k) body
@@ -54,7 +53,7 @@ reply-is v k m body f h none =
     let e : f ≡ front_of v (extended (code_of k)) (member_of m k) (length body) =
     ap (λ (x : ℕ). front_of x f.code f.member f.body) h.value
     ∙ ap (λ (x : ℕ). front_of v x f.member f.body) h.code
-    ∙ ap (λ (x : ResponsePayload). front_of v (extended (code_of k)) x f.body) h.member
+    ∙ ap (λ (x : Option ℕ). front_of v (extended (code_of k)) x f.body) h.member
     ∙ ap (λ (x : ℕ). front_of v (extended (code_of k)) (member_of m k) x) h.body in
     rw e (front-is v (code_of k) (member_of m k) body none)
 
@@ -76,7 +75,7 @@ pub record CountedReply (v : ℕ) (k : CommandKind) (m : Members) (body : List �
   pub total : length (reply_by v k m body) ≡ length (front_bytes f) + (limit - left)
 
 pub counted : (v : ℕ) (k : CommandKind) (m : Members) (body : List ℕ) (limit left : ℕ) (f : ReplyFront) → Whole (member_of m k) body
-    → less_room (length body) (Left limit) ≡ Left left → FrontFor v k m (limit - left) f → CountedReply v k m body limit left f
+    → less_room (length body) (Some limit) ≡ Some left → FrontFor v k m (limit - left) f → CountedReply v k m body limit left f
 counted v k m body limit left f none er h =
     let q = room-rest limit (length body) left er in
     let n : f.body ≡ length body = omega (arith, q.0, q.1, h.body) in

@@ -6,8 +6,9 @@ use mathlib.Core.List.{List, [], ◌∷◌}
 use lib.ListN.{length}
 use borrow.Author.Tests.{lt-ltb, le-ltb}
 use Rattle.wire.specs.Told.{ToldMore, given, refused, Line, table, WrittenOf, written}
-use Rattle.proto_strings.specs.declared.TextFault.TheVariants.{None, At}
-use Rattle.proto_strings.specs.Texts.{first_fault}
+use Rattle.std.specs.Prelude.{Ok, Err}
+use Rattle.proto_strings.specs.declared.TextFault.{TextFault}
+use Rattle.proto_strings.specs.Texts.{first_fault, why_of_fault}
 use Rattle.reply_parts.specs.declared.body.CommandKind.{CommandKind}
 use Rattle.reply.specs.declared.Link.{Link}
 use Rattle.reply_parts.specs.Body.{kind_of_command}
@@ -25,11 +26,11 @@ module _ (b : Box) (l : Link) (v : ℕ) (k : CommandKind) (out : List ℕ) where
   too_long h = rw (lt-ltb l.limit (length reply) h)
 
   module _ (within : length reply ≤ l.limit) where
-    pub bad-text : (field place : ℕ) → first_fault (strings_of b k) ≡ At field place → written (refused (36, field ∷ place ∷ [])) out ≡ carried_of b l v k out
+    pub bad-text : (fault : TextFault) → first_fault (strings_of b k) ≡ Err fault → written (refused (why_of_fault fault)) out ≡ carried_of b l v k out
     unfolding carried_of
-    bad-text field place e = rw (le-ltb l.limit (length reply) within, e)
+    bad-text fault e = rw (le-ltb l.limit (length reply) within, e)
 
-    pub carried : first_fault (strings_of b k) ≡ None → joined_in (sending_of l) reply out ≡ carried_of b l v k out
+    pub carried : first_fault (strings_of b k) ≡ Ok tt → joined_in (sending_of l) reply out ≡ carried_of b l v k out
     unfolding carried_of
     carried e = rw (le-ltb l.limit (length reply) within, e)
 

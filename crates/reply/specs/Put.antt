@@ -1,7 +1,7 @@
 -- What the code of the reply is held to, below its guard.
-use Rattle.std.specs.Prelude.{ℕ, ◌+◌, ◌≤◌, ◌<◌, ◌≡◌, true, false, List, [], ◌∷◌, ◌++◌, ℤ, length}
+use Rattle.std.specs.Prelude.{ℕ, ◌+◌, ◌≤◌, ◌<◌, ◌≡◌, true, false, List, [], ◌++◌, ℤ, length, ⊤, Option, Some, None, Result, Ok, Err}
 use Rattle.wire.specs.Limit.{limit_fits}
-use Rattle.wire.specs.Told.{ToldMore, given, refused, table}
+use Rattle.wire.specs.Told.{ToldMore, told_by, given, refused, table}
 use Rattle.ble_packet.specs.Header.{four_bits, in_range}
 use Rattle.ble_sender.specs.declared.writer.Sending.{Sending}
 use Rattle.ble_sender.specs.Piece.{least_room, pieces_of}
@@ -15,12 +15,7 @@ use Rattle.reply_parts.specs.declared.front.ReplyFront.{ReplyFront}
 use Rattle.reply.specs.declared.Link.{Link}
 use Rattle.reply.specs.declared.Refusal.{Refusal}
 use Rattle.reply.specs.declared.Refusal.TheVariants.{Message, Room, Limit, Argument, BadText, Output}
-use Rattle.reply.specs.declared.Reply.{Reply}
-use Rattle.reply.specs.declared.Reply.TheVariants.{Refused, Silent, Sent}
-use Rattle.reply.specs.declared.Verdict.{Verdict}
-use Rattle.reply.specs.declared.Verdict.TheVariants as Verdict
-use Rattle.reply.specs.declared.Measured.{Measured}
-use Rattle.reply.specs.declared.Measured.TheVariants.{TooLong, Fits}
+use Rattle.proto_strings.specs.Texts.{why_of_fault}
 use Rattle.reply_parts.specs.Front.{front_bytes, FrontFits}
 use Rattle.reply_parts.specs.Body.{code_of}
 use Rattle.reply.specs.Reply.{member_of, reply_by, bad_carried, link_lines, Replied, silent, sent}
@@ -33,22 +28,29 @@ why_of (Message e) = (message_number e, [])
 why_of Room = (13, [])
 why_of Limit = (17, [])
 why_of Argument = (15, [])
-why_of (BadText field place) = (36, field ∷ place ∷ [])
+why_of (BadText fault) = why_of_fault fault
 why_of Output = (14, [])
 
-abbrev pub told : Reply → ToldMore Replied
-told (Refused why) = refused (why_of why)
-told Silent = given silent
-told (Sent n) = given (sent n)
+abbrev pub number_of : Refusal → ℕ
+number_of why = (why_of why).0
+
+-- the number of bytes of a reply
+abbrev pub told_sent : Result ℕ Refusal → ToldMore Replied
+told_sent (Ok n) = given (sent n)
+told_sent (Err why) = refused (why_of why)
+
+abbrev pub told : Result (Option ℕ) Refusal → ToldMore Replied
+told (Ok None) = given silent
+told (Ok (Some n)) = given (sent n)
+told (Err why) = refused (why_of why)
 
 -- ---- the table up to the reply
 
 -- no line holds, or the first that does
-abbrev pub verdict_of : Verdict → ToldMore (Unit {0})
-verdict_of Verdict.Fine = given tt
-verdict_of (Verdict.Refused why) = refused (why_of why)
+abbrev pub verdict_of : Result ⊤ Refusal → ToldMore ⊤
+verdict_of = told_by why_of
 
-unfoldable pub judged_of : Link → Members → ℕ → CommandKind → ToldMore (Unit {0})
+unfoldable pub judged_of : Link → Members → ℕ → CommandKind → ToldMore ⊤
 judged_of l m count kind = table (link_lines l m count kind) (λ n. refused (n, [])) (given tt)
 
 -- ---- the reply, counted
@@ -68,9 +70,9 @@ pub record ReplyWithin (f : ReplyFront) (body reply : List ℕ) (limit : ℕ) : 
   pub within : length reply ≤ limit
 
 -- a reply whose member has these bytes is above the limit, or has this front
-abbrev pub MeasuredAs : ℕ → CommandKind → Members → List ℕ → ℕ → Measured → Type 0
-MeasuredAs v kind m body limit TooLong = limit < length (reply_by v kind m body)
-MeasuredAs v kind m body limit (Fits f) = ReplyWithin f body (reply_by v kind m body) limit
+abbrev pub MeasuredAs : ℕ → CommandKind → Members → List ℕ → ℕ → Option ReplyFront → Type 0
+MeasuredAs v kind m body limit None = limit < length (reply_by v kind m body)
+MeasuredAs v kind m body limit (Some f) = ReplyWithin f body (reply_by v kind m body) limit
 
 -- ---- the reply, written
 

@@ -1,5 +1,5 @@
 -- The reply to a finished control transaction, and what writing it tells and leaves.
-use Rattle.std.specs.Prelude.{ℕ, Bool, true, false, cond, not, ◌||◌, List, [], ◌∷◌, ℤ, length, ltb}
+use Rattle.std.specs.Prelude.{ℕ, Bool, true, false, cond, not, ◌||◌, List, [], ◌∷◌, ℤ, length, ltb, Option, Some, None}
 use Rattle.std.proofs.lemmas.List.Edits.{sets}
 use Rattle.wire.specs.Limit.{limit_fits}
 use Rattle.wire.specs.Told.{Told, given, refused, Line, line, table, WrittenOf, written}
@@ -10,20 +10,17 @@ use Rattle.ble_joined.specs.Joined.{joined_of}
 use Rattle.proto_field.specs.Signed.{extended}
 use Rattle.proto_writer.specs.Writer.{message_bytes}
 use Rattle.proto_writer.specs.Message.{bad_member}
-use Rattle.proto_strings.specs.declared.TextFault.TheVariants.{None}
 use Rattle.proto_strings.specs.Texts.{first_fault, faulted}
 use Rattle.proto_reader.specs.Gathered.{most_transports}
-use Rattle.msg_control.specs.declared.response.ResponsePayload.{ResponsePayload}
-use Rattle.msg_control.specs.declared.response.ResponsePayload.TheVariants as Inner
 use Rattle.msg_control.specs.declared.envelope.Envelope.{Envelope}
 use Rattle.msg_control.specs.declared.envelope.Payload.{Payload}
-use Rattle.msg_control.specs.declared.envelope.Payload.TheVariants as Payload
 use Rattle.msg_control.specs.declared.envelope.EnvelopePayload.TheVariants as Sent
 use Rattle.msg_control.specs.Envelope.{envelope_of, envelope_fields}
 use Rattle.msg_device.specs.declared.features.DeviceFeatures.{DeviceFeatures}
 use Rattle.reply_parts.specs.declared.body.CommandKind.{CommandKind}
 use Rattle.reply_parts.specs.declared.body.CommandKind.TheVariants.{Information, Features, Bare, Other}
 use Rattle.reply_parts.specs.declared.body.Members.{Members}
+use Rattle.reply_parts.specs.declared.body.OwnBox.{OwnBox}
 use Rattle.reply_parts.specs.Body.{kind_of_command, code_of, body_by, strings_by}
 use Rattle.reply.specs.declared.Link.{Link}
 
@@ -42,18 +39,23 @@ abbrev pub box_of : List ℕ → List ℕ → List ℤ → List ℕ → DeviceFe
 box_of serial_number name transports device_type features members =
     record { serial_number = serial_number; name = name; transports = transports; device_type = device_type; features = features; members = members }
 
+-- the same, of what is lent
+abbrev pub box_lent : OwnBox → Box
+box_lent b =
+    box_of b.information.serial_number.now b.information.name.now b.information.transports.now b.information.device_type.now b.features b.members
+
 -- the control stream is stream 0; no ACK is wanted
 abbrev pub sending_of : Link → Sending
 sending_of l = record { room = l.room; stream = 0; id = l.id; sequence = l.sequence; ack = false }
 
 -- ---- the reply to a command
 
--- the response's payload
-abbrev pub member_of : Members → CommandKind → ResponsePayload
-member_of m Information = Inner.Member m.information
-member_of m Features = Inner.Member m.features
-member_of m Bare = Inner.None
-member_of m Other = Inner.None
+-- the number of the response's member
+abbrev pub member_of : Members → CommandKind → Option ℕ
+member_of m Information = Some m.information
+member_of m Features = Some m.features
+member_of m Bare = None
+member_of m Other = None
 
 -- the bytes of its member
 abbrev pub body_of : Box → CommandKind → List ℕ

@@ -6,28 +6,28 @@ ghost use Rattle.wire.specs.Told.{written};
 ghost use Rattle.ble_joined.specs.Joined.{joined_of};
 ghost use Rattle.msg_control.specs.Response.{bad_response_payload};
 ghost use Rattle.reply_parts.specs.Front.{front_bytes};
-ghost use Rattle.reply_parts.specs.Body.{body_by};
-ghost use Rattle.reply.specs.Reply.{box_of, sending_of, member_of, bad_carried, is_response, joined_in, carried_of, sent_of, replied_of};
+ghost use Rattle.reply_parts.specs.Body.{body_lent};
+ghost use Rattle.reply.specs.Reply.{box_lent, sending_of, member_of, bad_carried, is_response, joined_in, carried_of, sent_of, replied_of};
 ghost use Rattle.reply_parts.specs.Body.{FewCarried};
-ghost use Rattle.reply.specs.Put.{told, verdict_of, judged_of, FrontFor, MeasuredAs, PutsReply, Joinable, Carries};
+ghost use Rattle.reply.specs.declared.Refusal.TheVariants.{BadText};
+ghost use Rattle.reply.specs.Put.{why_of, number_of, told, told_sent, verdict_of, judged_of, FrontFor, MeasuredAs, PutsReply, Joinable, Carries};
 
 use ble_joined::{join, joined_len};
 use ble_packet::header;
 use ble_sender::writer::{Sending, room_fits};
-use msg_control::envelope::{EnvelopeRead, Payload, read_envelope};
-use msg_control::response::ResponsePayload;
-use msg_device::features::DeviceFeatures;
+use msg_control::envelope::{Payload, read_envelope};
 use proto_field::signed::sign_extended;
 use proto_reader::gathered::MOST_TRANSPORTS;
 use proto_reader::refusal::MessageRefusal;
-use proto_strings::TextFault;
-use proto_writer::message::{Room, bad_member};
+use proto_strings::{BAD_TEXT, Faulted, TextFault};
+use proto_writer::message::bad_member;
 use reply_parts::body::{
-    CommandKind, Members, body_room, code_of, fault_of, kind_of_command, put_body,
+    CommandKind, Members, OwnBox, body_room, code_of, fault_of, kind_of_command, put_body,
 };
 use reply_parts::front::{ReplyFront, front_len, put_front};
 use wire::limit::limit_fits;
 use wire::logic::either;
+use wire::refusal::Numbered;
 
 // Where the reply goes: the room, the limit, the transaction's id, and the sequence of its first packet.
 #[derive(Clone, Copy)]
@@ -38,48 +38,65 @@ pub struct Link {
     pub sequence: u8,
 }
 
-#[derive(Clone, Copy)]
+#[derive(Clone, Copy, Debug, PartialEq, Eq)]
 pub enum Refusal {
     // The message's own.
     Message(MessageRefusal),
     Room,
     Limit,
     Argument,
-    // A string is not well formed: its field, and the place in it where the first bad sequence begins.
-    BadText { field: u64, place: usize },
+    // A string is not well formed.
+    BadText(TextFault),
     Output,
 }
 
-#[derive(Clone, Copy)]
-pub enum Reply {
-    Refused(Refusal),
-    // The message is itself a response.
-    Silent,
-    // The number of bytes of the packets.
-    Sent(usize),
+impl From<TextFault> for Refusal {
+    ghost from_gives = { λ fault r. r ≡ BadText fault };
+
+    fn from(fault: TextFault) -> Refusal {
+        Refusal::BadText(fault)
+    }
 }
 
-// The lines of the table that do not look at the reply.
-#[derive(Drop)]
-enum Verdict {
-    Fine,
-    Refused(Refusal),
+impl Numbered for Refusal {
+    ghost number_of = { number_of };
+
+    fn number(&self) -> u8 {
+        match self {
+            Refusal::Message(why) => why.number(),
+            Refusal::Room => 13,
+            Refusal::Limit => 17,
+            Refusal::Argument => 15,
+            Refusal::BadText(_) => BAD_TEXT,
+            Refusal::Output => 14,
+        }
+    }
 }
 
-#[derive(Drop)]
-enum Measured {
-    TooLong,
-    Fits(ReplyFront),
+impl Faulted for Refusal {
+    ghost goes_with = { λ why. (why_of why).1 };
+
+    fn fault(&self) -> [u64; 2] {
+        match self {
+            Refusal::Message(_) => [0u64; 2],
+            Refusal::Room => [0u64; 2],
+            Refusal::Limit => [0u64; 2],
+            Refusal::Argument => [0u64; 2],
+            Refusal::BadText(fault) => [fault.field, fault.place as u64],
+            Refusal::Output => [0u64; 2],
+        }
+    }
 }
 
-fn member_of(kind: CommandKind, members: Members) -> ResponsePayload
+// The number of the response's member.
+fn member_of(kind: CommandKind, members: Members) -> Option<u64>
     ensures { result ≡ member_of members kind }
 {
     match kind {
-        CommandKind::Information => ResponsePayload::Member(members.information),
-        CommandKind::Features => ResponsePayload::Member(members.features),
-        CommandKind::Bare => ResponsePayload::None,
-        CommandKind::Other => ResponsePayload::None,
+        CommandKind::Information => Some(members.information),
+        CommandKind::Features => Some(members.features),
+        CommandKind::Bare => None,
+        CommandKind::Other => None,
     }
 }
 
@@ -99,22 +116,23 @@ fn bad_carried(kind: CommandKind, members: Members, count: usize) -> bool
 }
 
 // The table, from the top, up to what the reply's bytes decide.
-fn judge(link: Link, members: Members, count: usize, kind: CommandKind) -> Verdict
-    ensures { verdict_of result ≡ judged_of link members count kind }
+fn judge(link: Link, own: OwnBox, kind: CommandKind) -> Result<(), Refusal>
+    ensures { verdict_of result
+        ≡ judged_of link own.entry.members (length own.entry.information.transports.now) kind }
 {
     if !room_fits(link.room) {
-        return Verdict::Refused(Refusal::Room);
+        return Err(Refusal::Room);
     }
     if !limit_fits(link.limit) {
-        return Verdict::Refused(Refusal::Limit);
+        return Err(Refusal::Limit);
     }
     if !header::in_range(0, link.id, link.sequence) {
-        return Verdict::Refused(Refusal::Argument);
+        return Err(Refusal::Argument);
     }
-    if bad_carried(kind, members, count) {
-        return Verdict::Refused(Refusal::Argument);
+    if bad_carried(kind, own.members, own.information.transports.len()) {
+        return Err(Refusal::Argument);
     }
-    Verdict::Fine
+    Ok(())
 }
 
 // What stands before the member's bytes.
@@ -132,44 +150,20 @@ fn front_for(value: u64, kind: CommandKind, members: Members, body: usize) -> Re
 }
 
 // The front of the reply, if all of it is within the limit.
-fn measure(
-    value: u64,
-    kind: CommandKind,
-    limit: usize,
-    serial_number: &[u8],
-    name: &[u8],
-    transports: &[i32],
-    device_type: &[u8],
-    features: DeviceFeatures,
-    members: Members,
-) -> Measured
+fn measure(value: u64, kind: CommandKind, limit: usize, own: OwnBox) -> Option<ReplyFront>
     requires { (limit ≤ 65535)
-        × FewCarried kind transports.now
-        × (bad_response_payload (member_of members kind) ≡ false) }
-    ensures { MeasuredAs value kind members
-        (body_by serial_number.now name.now transports.now device_type.now features
-        kind) limit result }
+        × FewCarried kind own.information.transports.now
+        × (bad_response_payload (member_of own.members kind) ≡ false) }
+    ensures { MeasuredAs value kind own.entry.members (body_lent own.entry kind) limit result }
 {
-    match body_room(
-        limit,
-        kind,
-        serial_number,
-        name,
-        transports,
-        device_type,
-        features,
-    ) {
-        Room::Short => Measured::TooLong,
-        Room::Left(left) => {
-            let body = limit - left;
-            let front = front_for(value, kind, members, body);
-            let head = front_len(front);
-            if left < head {
-                return Measured::TooLong;
-            }
-            Measured::Fits(front)
-        }
+    let left = body_room(limit, kind, own)?;
+    let body = limit - left;
+    let front = front_for(value, kind, own.members, body);
+    let head = front_len(front);
+    if left < head {
+        return None;
     }
+    Some(front)
 }
 
 // The reply at the end of an output that is exactly as long as its packets, then joined.
@@ -179,62 +173,38 @@ fn put_reply(
     total: usize,
     how: Sending,
     kind: CommandKind,
-    serial_number: &[u8],
-    name: &[u8],
-    transports: &[i32],
-    device_type: &[u8],
-    features: DeviceFeatures,
+    own: OwnBox,
 )
-    requires { FewCarried kind transports.now
-        × PutsReply front total how
-        (body_by serial_number.now name.now transports.now device_type.now features kind) out.old }
-    ensures { out.new
-        ≡ joined_of how
-        (front_bytes front
-        ++ body_by serial_number.now name.now transports.now device_type.now features
-        kind) }
+    requires { FewCarried kind own.information.transports.now
+        × PutsReply front total how (body_lent own kind) out.old }
+    ensures { out.new ≡ joined_of how (front_bytes front ++ body_lent own.entry kind) }
 {
     let end = out.len();
     let start = end - total;
     let middle = end - front.body;
     put_front(&mut out[start..end], front);
-    put_body(
-        &mut out[middle..end],
-        kind,
-        serial_number,
-        name,
-        transports,
-        device_type,
-        features,
-    );
+    put_body(&mut out[middle..end], kind, own);
     join(out, how, total);
 }
 
-// The reply, if the output holds all of its packets.
+// The reply, if the output holds all of its packets: how many bytes they have.
 fn fill(
     out: &mut [u8],
     front: ReplyFront,
     link: Link,
     kind: CommandKind,
-    serial_number: &[u8],
-    name: &[u8],
-    transports: &[i32],
-    device_type: &[u8],
-    features: DeviceFeatures,
-) -> Reply
-    requires { FewCarried kind transports.now
-        × Joinable front (body_by serial_number.now name.now transports.now device_type.now features kind) link }
-    ensures { written (told result) out.new
-        ≡ joined_in (sending_of link)
-        (front_bytes front
-        ++ body_by serial_number.now name.now transports.now device_type.now features
-        kind) out.old }
+    own: OwnBox,
+) -> Result<usize, Refusal>
+    requires { FewCarried kind own.information.transports.now
+        × Joinable front (body_lent own kind) link }
+    ensures { written (told_sent result) out.new
+        ≡ joined_in (sending_of link) (front_bytes front ++ body_lent own.entry kind) out.old }
 {
     let room = link.room;
     let total = front_len(front) + front.body;
     let joined = joined_len(room, total);
     if out.len() < joined {
-        return Reply::Refused(Refusal::Output);
+        return Err(Refusal::Output);
     }
     let how = Sending {
         room,
@@ -243,19 +213,8 @@ fn fill(
         sequence: link.sequence,
         ack: false,
     };
-    put_reply(
-        &mut out[0..joined],
-        front,
-        total,
-        how,
-        kind,
-        serial_number,
-        name,
-        transports,
-        device_type,
-        features,
-    );
-    Reply::Sent(joined)
+    put_reply(&mut out[0..joined], front, total, how, kind, own);
+    Ok(joined)
 }
 
 // The reply to a command, by the varint's value of it, where no line of the table has held so far.
@@ -263,131 +222,56 @@ fn carry(
     out: &mut [u8],
     value: u64,
     kind: CommandKind,
-    serial_number: &[u8],
-    name: &[u8],
-    transports: &[i32],
-    device_type: &[u8],
-    features: DeviceFeatures,
-    members: Members,
+    own: OwnBox,
     link: Link,
-) -> Reply
-    requires { Carries kind members transports.now link }
-    ensures { written (told result) out.new
-        ≡ carried_of
-        (box_of serial_number.now name.now transports.now device_type.now features
-        members) link value kind out.old }
+) -> Result<usize, Refusal>
+    requires { Carries kind own.members own.information.transports.now link }
+    ensures { written (told_sent result) out.new
+        ≡ carried_of (box_lent own.entry) link value kind out.old }
 {
-    match measure(
-        value,
-        kind,
-        link.limit,
-        serial_number,
-        name,
-        transports,
-        device_type,
-        features,
-        members,
-    ) {
-        Measured::TooLong => Reply::Refused(Refusal::Argument),
-        Measured::Fits(front) => match fault_of(kind, serial_number, name, device_type) {
-            TextFault::At { field, place } => Reply::Refused(Refusal::BadText { field, place }),
-            TextFault::None => fill(
-                out,
-                front,
-                link,
-                kind,
-                serial_number,
-                name,
-                transports,
-                device_type,
-                features,
-            ),
-        },
-    }
+    let Some(front) = measure(value, kind, link.limit, own) else {
+        return Err(Refusal::Argument);
+    };
+    fault_of(kind, own)?;
+    fill(out, front, link, kind, own)
 }
 
 // The reply to a command.
-fn answer(
-    out: &mut [u8],
-    value: u64,
-    serial_number: &[u8],
-    name: &[u8],
-    transports: &[i32],
-    device_type: &[u8],
-    features: DeviceFeatures,
-    members: Members,
-    link: Link,
-) -> Reply
-    ensures { written (told result) out.new
-        ≡ sent_of
-        (box_of serial_number.now name.now transports.now device_type.now features
-        members) link value out.old }
+fn answer(out: &mut [u8], value: u64, own: OwnBox, link: Link) -> Result<usize, Refusal>
+    ensures { written (told_sent result) out.new ≡ sent_of (box_lent own.entry) link value out.old }
 {
     let kind = kind_of_command(value);
-    match judge(link, members, transports.len(), kind) {
-        Verdict::Refused(why) => Reply::Refused(why),
-        Verdict::Fine => carry(
-            out,
-            value,
-            kind,
-            serial_number,
-            name,
-            transports,
-            device_type,
-            features,
-            members,
-            link,
-        ),
-    }
+    judge(link, own, kind)?;
+    carry(out, value, kind, own, link)
 }
 
 // Whether a message is itself a response.
 fn is_response(payload: Payload) -> bool
     ensures { result ≡ is_response payload }
 {
-    match payload {
-        Payload::None => false,
-        Payload::Response(_) => true,
-        Payload::Member { field: _, part: _ } => false,
-    }
+    matches!(payload, Payload::Response(_))
 }
 
-// Writes the reply to a finished control transaction, joined, from the first byte on.
+// Writes the reply to a finished control transaction, joined, from the first byte on: the number of bytes of its packets, or none
+// where the message is itself a response.
 pub fn write_reply(
     out: &mut [u8],
     message: &[u8],
-    serial_number: &[u8],
-    name: &[u8],
-    transports: &[i32],
-    device_type: &[u8],
-    features: DeviceFeatures,
-    members: Members,
+    own: OwnBox,
     link: Link,
-) -> Reply
+) -> Result<Option<usize>, Refusal>
     ensures { written (told result) out.new
-        ≡ replied_of
-        (box_of serial_number.now name.now transports.now device_type.now features
-        members) link message.now out.old }
+        ≡ replied_of (box_lent own.entry) link message.now out.old }
 {
     match read_envelope(&message[..]) {
-        EnvelopeRead::Refused(e) => Reply::Refused(Refusal::Message(e)),
-        EnvelopeRead::Read(envelope) => {
+        Err(e) => Err(Refusal::Message(e)),
+        Ok(envelope) => {
             let payload = envelope.payload;
             if is_response(payload) {
-                return Reply::Silent;
+                return Ok(None);
             }
             let value = sign_extended(envelope.command);
-            answer(
-                out,
-                value,
-                serial_number,
-                name,
-                transports,
-                device_type,
-                features,
-                members,
-                link,
-            )
+            Ok(Some(answer(out, value, own, link)?))
         }
     }
 }

@@ -35,7 +35,7 @@ use Rattle.reply_parts.specs.Body.{kind_of_command}
 use Rattle.wire.specs.Told.{given}
 use Rattle.msg_device.specs.Features.{features_of}
 use Rattle.msg_claims.specs.RoundTrip.{information_again}
-use Rattle.msg_control.specs.declared.response.ResponsePayload.TheVariants as Inner
+use Rattle.std.specs.Prelude.{Some}
 use Rattle.reply.specs.Reply.{Box, reply_of, sending_of, reply_by, joined_in, carried_of, sent_of, replied_of}
 use Rattle.ble_packet_end.specs.End.{said_length}
 use Rattle.reply_claims.specs.Cut.{cut_apart}
@@ -123,7 +123,7 @@ unfolding reply_by kind_of_command limit_fits is_stream in_range size_for header
 information-asked =
     record { payload = Payload.None; reads = refl; question = refl; room = refl; limit = refl; range = refl; carried = refl; strings = (empty, (empty, (empty, tt))); within = omega arith; space = omega arith }
 
-information-ends : ResponseReads (reply_of ends 20) (pos 20) (pos 0) (Inner.Member 2) (λ body. information_again body ≡ given ([], [], ends.transports, []))
+information-ends : ResponseReads (reply_of ends 20) (pos 20) (pos 0) (Some 2) (λ body. information_again body ≡ given ([], [], ends.transports, []))
 information-ends = reply-reads.information ends (link 64 64) information (replicate 64 0xEE) information-asked (omega arith, (omega arith, tt))
 
 features-asked : Answers ends (link 64 64) (0x08 ∷ 0x1C ∷ []) (pos 28) (replicate 64 0xEE)
@@ -131,5 +131,5 @@ unfolding reply_by kind_of_command limit_fits is_stream in_range size_for header
 features-asked =
     record { payload = Payload.None; reads = refl; question = refl; room = refl; limit = refl; range = refl; carried = refl; strings = tt; within = omega arith; space = omega arith }
 
-features-ends : ResponseReads (reply_of ends 28) (pos 28) (pos 0) (Inner.Member 536870911) (λ body. features_of body ≡ given ends.features)
+features-ends : ResponseReads (reply_of ends 28) (pos 28) (pos 0) (Some 536870911) (λ body. features_of body ≡ given ends.features)
 features-ends = reply-reads.features ends (link 64 64) (0x08 ∷ 0x1C ∷ []) (replicate 64 0xEE) features-asked (omega arith) (omega arith)

@@ -19,8 +19,7 @@ use Rattle.proto_schema.specs.Schema.{response_field, first}
 use Rattle.proto_reader.specs.declared.gathered.Gathered.{Gathered}
 use Rattle.proto_reader.specs.Refusal.{numbered}
 use Rattle.proto_reader.specs.Walk.{fields_from}
-use Rattle.msg_control.specs.declared.response.ResponsePayload.{ResponsePayload}
-use Rattle.msg_control.specs.declared.response.ResponsePayload.TheVariants as Inner
+use Rattle.std.specs.Prelude.{Option, Some, None}
 use Rattle.msg_control.specs.declared.envelope.EnvelopePayload.TheVariants as Sent
 use Rattle.msg_control.specs.Response.{bad_response_payload}
 use Rattle.msg_control.specs.declared.envelope.Envelope.{Envelope}
@@ -60,7 +59,7 @@ inside v field l =
       length-append (part_bytes field l) [],
     )
 
-module _ (c code : ℤ) (payload : ResponsePayload) (body : List ℕ) where
+module _ (c code : ℤ) (payload : Option ℕ) (body : List ℕ) where
   abbrev bytes : List ℕ
   bytes = message_bytes (envelope_fields (extended c) (Sent.Response code payload) body)
 
@@ -106,7 +105,7 @@ OtherReads b c kind =
 
 other-reads : (b : Box) (c : ℤ) → InSigned32 c → OtherReads b c Other
 unfolding reply_by
-other-reads b c z short = read c (pos 3) Inner.None [] (λ body. body ≡ []) z (omega arith) refl short refl
+other-reads b c z short = read c (pos 3) None [] (λ body. body ≡ []) z (omega arith) refl short refl
 
 -- a reply that is within the limit is no longer than any message
 short : (b : Box) (l : Link) (message : List ℕ) (c : ℤ) (out : List ℕ) → Answers b l message c out → length (reply_of b (extended c)) ≤ 65535
@@ -132,17 +131,17 @@ reply-reads =
           let small = short b l message (pos 20) out a in
           let k : length body ≤ 65535 = body-short 20 0 b.members.information body small in
           let fine = carries b a.carried in
-          read (pos 20) (pos 0) (Inner.Member b.members.information) body
+          read (pos 20) (pos 0) (Some b.members.information) body
           (λ body. information_again body ≡ given (b.serial_number, b.name, b.transports, b.device_type))
           (omega arith) (omega arith) fine.0 small
           (information-read b.serial_number b.name b.transports b.device_type body a.strings (all-signed b.transports zs) fine.1 (omega arith) (whole body));
       features = λ b l message out a f d.
           let body : List ℕ = message_bytes (features_fields b.features) in
-          read (pos 28) (pos 0) (Inner.Member b.members.features) body (λ body. features_of body ≡ given b.features)
+          read (pos 28) (pos 0) (Some b.members.features) body (λ body. features_of body ≡ given b.features)
           (omega arith) (omega arith) a.carried (short b l message (pos 28) out a)
           (features-read b.features body (omega arith) (omega arith) (whole body));
-      segment = λ b l message out a. read (pos 94) (pos 0) Inner.None [] (λ body. body ≡ []) (omega arith) (omega arith) refl (short b l message (pos 94) out a) refl;
-      apply = λ b l message out a. read (pos 95) (pos 0) Inner.None [] (λ body. body ≡ []) (omega arith) (omega arith) refl (short b l message (pos 95) out a) refl;
+      segment = λ b l message out a. read (pos 94) (pos 0) None [] (λ body. body ≡ []) (omega arith) (omega arith) refl (short b l message (pos 94) out a) refl;
+      apply = λ b l message out a. read (pos 95) (pos 0) None [] (λ body. body ≡ []) (omega arith) (omega arith) refl (short b l message (pos 95) out a) refl;
       other = λ b l message c out a n20 n28 n94 n95.
           let z = command-fits message (record { command = c; payload = a.payload }) a.reads in
           subst (OtherReads b c) (sym (other-command c z n20 n28 n94 n95)) (other-reads b c z) (short b l message c out a);

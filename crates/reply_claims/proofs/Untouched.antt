@@ -9,7 +9,7 @@ use lib.Seq.{sets}
 use lib.Dec.{ltb}
 use Rattle.wire.specs.Told.{Told, given, refused, Line, table, WrittenOf, written}
 use Rattle.proto_strings.specs.declared.TextFault.{TextFault}
-use Rattle.proto_strings.specs.declared.TextFault.TheVariants.{None, At}
+use Rattle.std.specs.Prelude.{⊤, Result, Ok, Err}
 use Rattle.proto_strings.specs.Texts.{first_fault, faulted}
 use Rattle.proto_field.specs.Signed.{extended}
 use Rattle.ble_sender.specs.declared.writer.Sending.{Sending}
@@ -41,9 +41,9 @@ module _ (out : List ℕ) where
   keeps-table [] rest k = k
   keeps-table (r ∷ rs) rest k = keeps-cond r.holds (refusing out r.number) (table rs (refusing out) rest) (keeps-refusing r.number) (keeps-table rs rest k)
 
-  keeps-faulted : (f : TextFault) (rest : WrittenOf (ℕ × List ℕ) Replied) → Keeps rest → Keeps (faulted f out rest)
-  keeps-faulted None rest k = k
-  keeps-faulted (At field place) rest k = λ why e. refl
+  keeps-faulted : (f : Result ⊤ TextFault) (rest : WrittenOf (ℕ × List ℕ) Replied) → Keeps rest → Keeps (faulted f out rest)
+  keeps-faulted (Ok u) rest k = k
+  keeps-faulted (Err fault) rest k = λ why e. refl
 
   keeps-joined : (w : Sending) (m : List ℕ) → Keeps (joined_in w m out)
   unfolding joined_in
@@ -57,7 +57,7 @@ module _ (out : List ℕ) where
   keeps-carried b l v kind =
       let reply : List ℕ = reply_by v kind b.members (body_of b kind) in
       let rest : WrittenOf (ℕ × List ℕ) Replied = joined_in (sending_of l) reply out in
-      let fault : TextFault = first_fault (strings_of b kind) in
+      let fault : Result ⊤ TextFault = first_fault (strings_of b kind) in
       keeps-cond (ltb l.limit (length reply)) (refusing out 15) (faulted fault out rest) (keeps-refusing 15)
       (keeps-faulted fault rest (keeps-joined (sending_of l) reply))
 

@@ -10,8 +10,7 @@ use Rattle.wire.specs.Put.{Put}
 use Rattle.proto_field.specs.Signed.{extended}
 use Rattle.proto_writer.specs.Writer.{scalar, head_bytes, part_bytes, field_bytes, message_bytes}
 use Rattle.proto_writer.proofs.Runs.{put_then}
-use Rattle.msg_control.specs.declared.response.ResponsePayload.{ResponsePayload}
-use Rattle.msg_control.specs.declared.response.ResponsePayload.TheVariants as Inner
+use Rattle.std.specs.Prelude.{Option, Some, None}
 use Rattle.msg_control.specs.declared.envelope.EnvelopePayload.TheVariants as Sent
 use Rattle.proto_schema.specs.Schema.{command_field, response_field, error_code_field}
 use Rattle.msg_control.specs.Envelope.{envelope_fields}
@@ -35,19 +34,19 @@ unfolding front_bytes
 front-put f p q r s = put_then _ _ refl (put_then _ _ refl (put_then _ _ refl p q) r) s
 
 -- a response with no member has no bytes
-abbrev pub Whole : ResponsePayload → List ℕ → Type 0
-Whole Inner.None body = body ≡ []
-Whole (Inner.Member field) body = Unit {0}
+abbrev pub Whole : Option ℕ → List ℕ → Type 0
+Whole None body = body ≡ []
+Whole (Some field) body = Unit {0}
 
 inner-is : (f : ReplyFront) → inner_length f ≡ length (field_bytes (scalar error_code_field f.code)) + (length (member_head f.member f.body) + f.body)
 unfolding inner_length
 inner-is f = omega arith
 
-pub front-is : (value : ℕ) (code : ℤ) (member : ResponsePayload) (body : List ℕ) → Whole member body
+pub front-is : (value : ℕ) (code : ℤ) (member : Option ℕ) (body : List ℕ) → Whole member body
     → front_bytes (record { value = value; code = extended code; member = member; body = length body }) ++ body
     ≡ message_bytes (envelope_fields value (Sent.Response code member) body)
 unfolding front_bytes field_bytes part_bytes
-front-is value code Inner.None body e =
-    rw (e, inner-is (record { value = value; code = extended code; member = Inner.None; body = 0 })) (simp (append_assoc, append-nil, add-zero))
-front-is value code (Inner.Member field) body e =
-    rw (inner-is (record { value = value; code = extended code; member = Inner.Member field; body = length body })) (simp (append_assoc, append-nil, length-append))
+front-is value code None body e =
+    rw (e, inner-is (record { value = value; code = extended code; member = None; body = 0 })) (simp (append_assoc, append-nil, add-zero))
+front-is value code (Some field) body e =
+    rw (inner-is (record { value = value; code = extended code; member = Some field; body = length body })) (simp (append_assoc, append-nil, length-append))

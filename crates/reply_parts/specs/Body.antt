@@ -5,6 +5,7 @@ use Rattle.proto_reader.specs.Gathered.{most_transports}
 use Rattle.msg_device.specs.declared.features.DeviceFeatures.{DeviceFeatures}
 use Rattle.msg_device.specs.Information.{information_fields, information_strings}
 use Rattle.msg_device.specs.Features.{features_fields}
+use Rattle.reply_parts.specs.declared.body.OwnBox.{OwnBox}
 use Rattle.reply_parts.specs.declared.body.CommandKind.{CommandKind}
 use Rattle.reply_parts.specs.declared.body.CommandKind.TheVariants.{Information, Features, Bare, Other}
 
@@ -36,6 +37,14 @@ strings_by serial_number name device_type Information = information_strings seri
 strings_by serial_number name device_type Features = []
 strings_by serial_number name device_type Bare = []
 strings_by serial_number name device_type Other = []
+
+-- the same, of what is lent
+abbrev pub body_lent : OwnBox → CommandKind → List ℕ
+body_lent b kind =
+    body_by b.information.serial_number.now b.information.name.now b.information.transports.now b.information.device_type.now b.features kind
+
+abbrev pub strings_lent : OwnBox → CommandKind → List (ℕ × List ℕ)
+strings_lent b kind = strings_by b.information.serial_number.now b.information.name.now b.information.device_type.now kind
 
 -- transports that are carried are at most eight
 abbrev pub FewCarried : CommandKind → List ℤ → Type 0

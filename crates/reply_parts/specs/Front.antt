@@ -1,16 +1,14 @@
 -- The reply in two runs: what stands before its member's bytes, and those.
-use Rattle.std.specs.Prelude.{ℕ, ◌+◌, ◌<◌, ◌≡◌, false, List, [], ◌++◌, length}
+use Rattle.std.specs.Prelude.{ℕ, ◌+◌, ◌<◌, ◌≡◌, false, List, [], ◌++◌, length, Option, Some, None}
 use Rattle.proto_writer.specs.Writer.{scalar, head_bytes, field_bytes}
 use Rattle.proto_schema.specs.Schema.{command_field, response_field, error_code_field}
-use Rattle.msg_control.specs.declared.response.ResponsePayload.{ResponsePayload}
-use Rattle.msg_control.specs.declared.response.ResponsePayload.TheVariants as Inner
 use Rattle.msg_control.specs.Response.{bad_response_payload}
 use Rattle.reply_parts.specs.declared.front.ReplyFront.{ReplyFront}
 
 -- the tag and the length of the response's member, which has n bytes
-abbrev pub member_head : ResponsePayload → ℕ → List ℕ
-member_head Inner.None n = []
-member_head (Inner.Member field) n = head_bytes field n
+abbrev pub member_head : Option ℕ → ℕ → List ℕ
+member_head None n = []
+member_head (Some field) n = head_bytes field n
 
 -- the length of the response
 unfoldable pub inner_length : ReplyFront → ℕ

@@ -4,38 +4,37 @@ ghost use Rattle.wire.specs.Put.{Put};
 ghost use Rattle.msg_control.specs.Response.{bad_response_payload};
 ghost use Rattle.reply_parts.specs.Front.{member_head, inner_length, front_bytes, FrontFits};
 
-use msg_control::response::ResponsePayload;
 use proto_schema::{COMMAND, ERROR_CODE, RESPONSE};
 use proto_writer::fields::{head_len, put_head, put_scalar, scalar_len};
 
-// The varints' values of command and error code, the member, and the number of its bytes.
+// The varints' values of command and error code, the number of the member, and the number of its bytes.
 #[derive(Clone, Copy)]
 pub struct ReplyFront {
     pub value: u64,
     pub code: u64,
-    pub member: ResponsePayload,
+    pub member: Option<u64>,
     pub body: usize,
 }
 
 // The number of bytes of the member's tag and length.
-fn member_len(member: ResponsePayload, n: usize) -> usize
+fn member_len(member: Option<u64>, n: usize) -> usize
     requires { bad_response_payload member ≡ false }
     ensures { (result ≡ length (member_head member n)) × (result ≤ 20) }
 {
     match member {
-        ResponsePayload::None => 0,
-        ResponsePayload::Member(field) => head_len(field, n),
+        None => 0,
+        Some(field) => head_len(field, n),
     }
 }
 
 // The member's tag and length, written at a place; the answer is the place after them.
-fn put_member(out: &mut [u8], at: usize, member: ResponsePayload, n: usize) -> usize
+fn put_member(out: &mut [u8], at: usize, member: Option<u64>, n: usize) -> usize
     requires { (bad_response_payload member ≡ false) × (at + length (member_head member n) ≤ length out.old) }
     ensures { Put out.old at (member_head member n) result out.new }
 {
     match member {
-        ResponsePayload::None => at,
-        ResponsePayload::Member(field) => put_head(out, at, field, n),
+        None => at,
+        Some(field) => put_head(out, at, field, n),
     }
 }
 

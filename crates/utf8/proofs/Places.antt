@@ -16,7 +16,8 @@ use Rattle.wire.proofs.ByteLists.{bytes_take}
 use Rattle.wire.proofs.Parts.{rest-lent}
 use Rattle.wire.proofs.Runs.{any-first, clear-block, Seeking, seek_hit, seek-miss}
 use Rattle.utf8.specs.Table.{described}
-use Rattle.utf8.specs.WellFormed.{WellFormed, empty, more, sequence_at, bad_in, bad_place, Passes}
+use Rattle.std.specs.Prelude.{Option, Some, None, MatchOption}
+use Rattle.utf8.specs.WellFormed.{WellFormed, empty, more, Tells, sequence_at, bad_in, bad_place, Passes}
 use Rattle.utf8.specs.Claims.{FirstBad, FindsFirstBad, OnlyOneFirstBad, WholeExactlyIfWellFormed}
 use Rattle.utf8.proofs.Sequences.{sequence-within, sequence-described, described-sequence, nothing-at-end, nothing-first, none-described, none-at, ascii-sequence}
 
@@ -191,11 +192,13 @@ all-bytes (b ∷ l) h = (h 0, all-bytes l (λ i. h (suc i)))
 bytes_after : (s : List ℕ) (at : ℕ) → ((i : ℕ) → get_or s i 0 < 256) → AllBytes (drop at s)
 bytes_after s at h = all-bytes (drop at s) (λ i. rw (get_or-drop at s i 0) (h (at + i)))
 
--- what stands at a place: a sequence, or a run of ASCII
-module _ (s : List ℕ) (at n : ℕ) where
-  pub passes-part : at < length s → n ≡ sequence_at (take (length s - at) (drop at s)) → Passes (drop at s) n
-  passes-part h e = passes-sequence (drop at s) n (e ∙ ap sequence_at (rest-lent s at))
+-- what stands at a place: a sequence that is told, or a run of ASCII
+pub passes-told : (s : List ℕ) (at : ℕ) (told : Option ℕ) → at < length s → Tells told (sequence_at (take (length s - at) (drop at s)))
+    → MatchOption told (bad_place (drop at s) ≡ 0) (λ n. Passes (drop at s) n × (0 < n))
+passes-told s at None h e = place_none (drop at s) (rw (rest-lent s at) at e)
+passes-told s at (Some n) h e = (passes-sequence (drop at s) n (e.0 ∙ ap sequence_at (rest-lent s at)), e.1)
 
+module _ (s : List ℕ) (at n : ℕ) where
   pub passes-run : ((i : ℕ) → get_or s i 0 < 256) → at < length s → get_or s at 0 < 128 → Clear 128 255 (take (length s - (at + 1)) (drop (at + 1) s)) n → Passes (drop at s) (1 + n)
   passes-run bytes h ascii k =
       let c : Clear 128 255 (drop (suc at) s) n = rw (rest-lent s (at + 1), add-one) at k in

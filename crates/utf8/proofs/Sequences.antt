@@ -1,18 +1,18 @@
 -- Laws of the table: what a row describes, and that a byte begins sequences of one row only.
-use Prim.Native.Nat.{ℕ, zero, suc, ◌+◌, ◌-◌, ◌≤◌, ◌<◌, zero-le}
+use Prim.Native.Nat.{ℕ, zero, suc, ◌+◌, ◌≤◌, ◌<◌, zero-le}
 use mathlib.Core.Path.{◌≡◌, refl, sym, ap, ◌∙◌}
 use mathlib.Core.Bool.{Bool, true, false, cond, ◌&&◌, ◌||◌, false≢true, and-false}
-use mathlib.Core.List.{List, [], ◌∷◌, ◌++◌}
+use mathlib.Core.List.{List, [], ◌∷◌, ◌++◌, map}
+use denote.Bor.{Bor}
 use native.Mathlib.Numerals.{add-one}
 use native.Mathlib.Omega.{arith}
-use lib.ListN.{length, get_or, take, drop, length-take, take-append-drop, drop_of_length-le, replicate, length-append, length-replicate}
-use lib.Seq.{take-nil, drop-cons, take-append_seam}
-use lib.Dec.{leb, eqb}
-use borrow.Author.Tests.{leb-true, le-leb, lt-leb, eqb-true, eqb-false}
+use lib.ListN.{length, get_or, get_or-map, take, drop, length-take, take-append-drop, drop_of_length-le}
+use lib.Seq.{take-nil, drop-cons}
+use lib.Dec.{leb, ltb, eqb}
+use borrow.Author.Tests.{ltb-true, leb-true, le-leb, lt-leb, eqb-true, eqb-false}
 use Rattle.wire.proofs.Tests.{and_left, and_right, or-true}
 use Rattle.utf8.specs.declared.table.Range.{Range}
-use Rattle.utf8.specs.declared.table.Row.{Row}
-use Rattle.utf8.specs.Table.{rows, within, row_describes, any_describes, described, begins, no_range, lead_row, row_of, padded}
+use Rattle.utf8.specs.Table.{rows, within, row_describes, any_describes, described, begins, no_range, lead_row, row_of}
 use Rattle.utf8.specs.WellFormed.{sequence_at}
 
 -- ---- bytes that begin with a sequence of a row
@@ -37,6 +37,11 @@ pub begins-within : (r : List Range) (s : List ℕ) → begins r s ≡ true → 
 begins-within [] s e = zero-le
 begins-within (a ∷ r) [] e = absurd (false≢true e)
 begins-within (a ∷ r) (b ∷ s) e = let h = begins-within r s (and_right (within a b) (begins r s) e) in omega arith
+
+pub begins-cut : (r : List Range) (s : List ℕ) → length s < length r → begins r s ≡ false
+begins-cut [] s h = absurd (omega arith)
+begins-cut (a ∷ r) [] h = refl
+begins-cut (a ∷ r) (b ∷ s) h = rw (begins-cut r s (omega arith)) (and-false (within a b))
 
 -- ---- the loop over the ranges of a row: what is left of it, and of the bytes
 module _ (r : List Range) (s : List ℕ) (i : ℕ) where
@@ -141,37 +146,24 @@ row-none b i h =
     let k : length rows ≤ i = omega (arith, nine) in
     rw (drop_of_length-le rows k)
 
--- what stands at a place is the same whatever would stand past the end
-pub get_or-same : {A : Type 0} (l : List A) (i : ℕ) (d e : A) → i < length l → get_or l i d ≡ get_or l i e
-get_or-same [] i d e h = absurd (let z : i < 0 = h in omega arith)
-get_or-same (x ∷ l) zero d e h = refl
-get_or-same (x ∷ l) (suc i) d e h = get_or-same l i d e (omega arith)
+-- a row of the table, as the code lends it
+pub row-at : (lent : List (Bor (List Range))) (i : ℕ) → map (λ r. r.now) lent ≡ rows → (get_or lent i (record { ref_ptr = (0, 0); now = [] })).now ≡ get_or rows i []
+row-at lent i e = sym (get_or-map (λ r. r.now) lent i (record { ref_ptr = (0, 0); now = [] })) ∙ ap (λ l. get_or l i []) e
 
-pub first-padded : (r : List Range) → get_or (r ++ replicate (4 - length r) no_range) 0 no_range ≡ first r
-first-padded [] = refl
-first-padded (a ∷ r) = refl
+-- no row is empty
+none_empty : List (List Range) → Bool
+none_empty [] = true
+none_empty (r ∷ rs) = ltb 0 (length r) && none_empty rs
 
-pub row-padded : (r : List Range) → length r ≤ 4 → length (r ++ replicate (4 - length r) no_range) ≡ 4
-row-padded r h = simp (length-append, length-replicate) (omega arith)
+long-each : (rs : List (List Range)) (i : ℕ) → none_empty rs ≡ true → i < length rs → 0 < length (get_or rs i [])
+unfolding none_empty
+long-each [] i e h = absurd (let z : i < 0 = h in omega arith)
+long-each (r ∷ rs) zero e h = ltb-true 0 (length r) (and_left (ltb 0 (length r)) (none_empty rs) e)
+long-each (r ∷ rs) (suc i) e h = long-each rs i (and_right (ltb 0 (length r)) (none_empty rs) e) (omega arith)
 
--- no row has more than four ranges
-at_most : ℕ → List (List Range) → Bool
-at_most n [] = true
-at_most n (r ∷ rs) = leb (length r) n && at_most n rs
-
-lead-at-most : (n : ℕ) (rs : List (List Range)) (b : ℕ) → at_most n rs ≡ true → length (lead_row rs b) ≤ n
-unfolding at_most
-lead-at-most n [] b e = zero-le
-lead-at-most n (r ∷ rs) b e =
-    by_first (within (first r) b) (leb-true (length r) n (and_left (leb (length r) n) (at_most n rs) e)) (lead-at-most n rs b (and_right (leb (length r) n) (at_most n rs) e))
-  where
-    by_first : (t : Bool) → length r ≤ n → length (lead_row rs b) ≤ n → length (cond t r (lead_row rs b)) ≤ n
-    by_first true h k = h
-    by_first false h k = k
-
-pub row-at-most : (b : ℕ) → length (row_of b) ≤ 4
-unfolding row_of rows at_most
-row-at-most b = lead-at-most 4 rows b refl
+pub row-long : (i : ℕ) → i < 9 → 0 < length (get_or rows i [])
+unfolding rows none_empty
+row-long i h = long-each rows i refl (omega arith)
 
 -- ---- the sequence that a string begins with
 by_cond : (t : Bool) (n : ℕ) → (cond t n 0 ≡ 0 → ⊥) → t ≡ true
@@ -246,13 +238,18 @@ pub ascii-sequence : (b : ℕ) (s : List ℕ) → b < 128 → sequence_at (b ∷
 unfolding sequence_at row_of rows
 ascii-sequence b s h = simp (ascii-within b h)
 
--- the sequence by the row of its first byte, as the code has it
-pub sequence-by : (s : List ℕ) (row : Row) (t : Bool) → row ≡ padded (row_of (get_or s 0 0)) → t ≡ begins (take row.0 row.1) s → cond t row.0 0 ≡ sequence_at s
+-- the sequence by the row of its first byte
+pub sequence-by : (s : List ℕ) (r : List Range) → r ≡ row_of (get_or s 0 0) → begins r s ≡ true → length r ≡ sequence_at s
 unfolding sequence_at
-sequence-by s row t e b =
-    let r = row_of (get_or s 0 0) in
-    let same : begins (take row.0 row.1) s ≡ begins r s = ap (λ (x : Row). begins (take x.0 x.1) s) e ∙ ap (λ (l : List Range). begins l s) (take-append_seam r (replicate (4 - length r) no_range)) in
-    rw (b ∙ same) (ap (λ (x : Row). cond (begins r s) x.0 0) e)
+sequence-by s r e b = rw (← e, b)
+
+pub sequence-none : (s : List ℕ) (r : List Range) → r ≡ row_of (get_or s 0 0) → begins r s ≡ false → sequence_at s ≡ 0
+unfolding sequence_at
+sequence-none s r e b = rw (← e, b)
+
+pub sequence-no_row : (s : List ℕ) → row_of (get_or s 0 0) ≡ [] → sequence_at s ≡ 0
+unfolding sequence_at
+sequence-no_row s e = rw e
 
 -- ---- a sequence of a row that is known by its place in the table
 
@@ -278,49 +275,21 @@ lead_is n (r ∷ rs) (suc i) b e h w =
     let l = lead-least (suc (first r).1) rs i b (rise-rest n r rs e) (omega arith) w in
     rw (over (first r) b (omega arith)) (lead_is (suc (first r).1) rs i b (rise-rest n r rs e) (omega arith) w)
 
-four-first : (s : List ℕ) → 4 ≤ length s → s ≡ get_or s 0 0 ∷ get_or s 1 0 ∷ get_or s 2 0 ∷ get_or s 3 0 ∷ drop 4 s
-four-first [] h = absurd (omega arith)
-four-first (a ∷ []) h = absurd (omega arith)
-four-first (a ∷ b ∷ []) h = absurd (omega arith)
-four-first (a ∷ b ∷ c ∷ []) h = absurd (omega arith)
-four-first (a ∷ b ∷ c ∷ d ∷ s) h = refl
+begins-first : (r : List Range) (s : List ℕ) → 0 < length r → begins r s ≡ true → within (first r) (get_or s 0 0) ≡ true
+begins-first [] s h e = absurd (omega arith)
+begins-first (a ∷ r) [] h e = absurd (false≢true e)
+begins-first (a ∷ r) (b ∷ s) h e = and_left (within a b) (begins r s) e
 
-module _ (i : ℕ) (h : i < 9) (s : List ℕ) (k : 4 ≤ length s) where
-  row_is : within (first (get_or rows i [])) (get_or s 0 0) ≡ true → row_of (get_or s 0 0) ≡ get_or rows i []
-  unfolding row_of
-  row_is w = lead_is 0 rows i (get_or s 0 0) rows-rise (omega (arith, nine)) w
+-- it begins with the sequence that the row describes
+pub row-decides : (i : ℕ) (r : List Range) (s : List ℕ) → i < 9 → r ≡ get_or rows i [] → 0 < length r → begins r s ≡ true → length r ≡ sequence_at s
+unfolding row_of
+row-decides i r s h e n b =
+    let w = begins-first r s n b in
+    sequence-by s r (e ∙ sym (lead_is 0 rows i (get_or s 0 0) rows-rise (omega (arith, nine)) (rw (← e) w))) b
 
-  -- where four bytes are there, those of the row decide
-  row-decides : (r : List Range) → get_or rows i [] ≡ r → within (first r) (get_or s 0 0) ≡ true
-      → begins r (get_or s 0 0 ∷ get_or s 1 0 ∷ get_or s 2 0 ∷ get_or s 3 0 ∷ drop 4 s) ≡ true → length r ≡ sequence_at s
-  unfolding sequence_at
-  row-decides r e w b =
-      let row : row_of (get_or s 0 0) ≡ r = row_is (rw (sym e) at w) ∙ e in
-      let all : begins r s ≡ true = ap (begins r) (four-first s k) ∙ b in
-      rw (row, all)
-
-  pub two-decide : (q r : Range) → get_or rows i [] ≡ q ∷ r ∷ [] → (within q (get_or s 0 0) && within r (get_or s 1 0)) ≡ true → 2 ≡ sequence_at s
-  two-decide q r e f =
-      let a = and_left (within q (get_or s 0 0)) _ f in
-      let b = and_right (within q (get_or s 0 0)) _ f in
-      row-decides (q ∷ r ∷ []) e a (rw (a, b))
-
-  pub three-decide : (q r t : Range) → get_or rows i [] ≡ q ∷ r ∷ t ∷ []
-      → ((within q (get_or s 0 0) && within r (get_or s 1 0)) && within t (get_or s 2 0)) ≡ true → 3 ≡ sequence_at s
-  three-decide q r t e f =
-      let g = and_left (within q (get_or s 0 0) && within r (get_or s 1 0)) _ f in
-      let a = and_left (within q (get_or s 0 0)) _ g in
-      let b = and_right (within q (get_or s 0 0)) _ g in
-      let c = and_right (within q (get_or s 0 0) && within r (get_or s 1 0)) _ f in
-      row-decides (q ∷ r ∷ t ∷ []) e a (rw (a, b, c))
-
-  pub four-decide : (q r t u : Range) → get_or rows i [] ≡ q ∷ r ∷ t ∷ u ∷ []
-      → (((within q (get_or s 0 0) && within r (get_or s 1 0)) && within t (get_or s 2 0)) && within u (get_or s 3 0)) ≡ true → 4 ≡ sequence_at s
-  four-decide q r t u e f =
-      let g = and_left ((within q (get_or s 0 0) && within r (get_or s 1 0)) && within t (get_or s 2 0)) _ f in
-      let j = and_left (within q (get_or s 0 0) && within r (get_or s 1 0)) _ g in
-      let a = and_left (within q (get_or s 0 0)) _ j in
-      let b = and_right (within q (get_or s 0 0)) _ j in
-      let c = and_right (within q (get_or s 0 0) && within r (get_or s 1 0)) _ g in
-      let d = and_right ((within q (get_or s 0 0) && within r (get_or s 1 0)) && within t (get_or s 2 0)) _ f in
-      row-decides (q ∷ r ∷ t ∷ u ∷ []) e a (rw (a, b, c, d))
+-- the same of a row that the code lends
+pub row-read : (lent : List (Bor (List Range))) (i n : ℕ) (s : List ℕ) → map (λ r. r.now) lent ≡ rows → i < 9 → length (get_or rows i []) ≡ n
+    → begins (get_or lent i (record { ref_ptr = (0, 0); now = [] })).now s ≡ true → (n ≡ sequence_at s) × (0 < n)
+row-read lent i n s e h l b =
+    let long = row-long i h in
+    (sym l ∙ row-decides i (get_or rows i []) s h refl long (rw (row-at lent i e) at b), omega (arith, l, long))

@@ -1,7 +1,6 @@
 -- Unicode's Table 3-7: the kinds of sequences that well-formed UTF-8 is made of.
-use Rattle.std.specs.Prelude.{ℕ, ◌-◌, Bool, true, false, cond, ◌&&◌, ◌||◌, List, [], ◌∷◌, ◌++◌, length, get_or, replicate, leb}
+use Rattle.std.specs.Prelude.{ℕ, Bool, true, false, cond, ◌&&◌, ◌||◌, List, [], ◌∷◌, get_or, leb}
 use Rattle.utf8.specs.declared.table.Range.{Range}
-use Rattle.utf8.specs.declared.table.Row.{Row}
 
 -- the bytes after the first, but for those second ones that a row narrows
 abbrev pub tail : Range
@@ -56,7 +55,3 @@ lead_row (r ∷ rs) b = cond (within (get_or r 0 no_range) b) r (lead_row rs b)
 -- the row of sequences that begin with a byte; one of no bytes where there is none
 unfoldable pub row_of : ℕ → List Range
 row_of b = lead_row rows b
-
--- a row as the code has it: how many bytes, and four ranges
-abbrev pub padded : List Range → Row
-padded r = (length r, r ++ replicate (4 - length r) no_range)

@@ -1,5 +1,5 @@
 -- Well-formed strings, and the place of the first sequence that no row describes.
-use Rattle.std.specs.Prelude.{ℕ, zero, suc, ◌+◌, ◌≤◌, ◌≡◌, true, cond, List, [], ◌++◌, length, get_or, drop, eqb}
+use Rattle.std.specs.Prelude.{ℕ, zero, suc, ◌+◌, ◌≤◌, ◌≡◌, true, cond, List, [], ◌++◌, length, get_or, drop, eqb, ◌<◌, Option, MatchOption}
 use Rattle.utf8.specs.Table.{described, begins, row_of}
 
 -- a string that is cut, from its first byte on, into sequences that rows describe
@@ -10,6 +10,10 @@ pub data WellFormed : List ℕ → Type 0 where
 -- how many bytes the sequence has that a string begins with; 0 where no row describes one
 unfoldable pub sequence_at : List ℕ → ℕ
 sequence_at s = cond (begins (row_of (get_or s 0 0)) s) (length (row_of (get_or s 0 0))) 0
+
+-- a length is told where it is not 0
+abbrev pub Tells : Option ℕ → ℕ → Type 0
+Tells told n = MatchOption told (n ≡ 0) (λ m. (m ≡ n) × (0 < m))
 
 -- sequence after sequence; fuel bounds their number, and as many as there are bytes is enough
 abbrev pub bad_in : ℕ → List ℕ → ℕ

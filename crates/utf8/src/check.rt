@@ -1,10 +1,9 @@
 // The check of a string.
-ghost use Rattle.std.specs.Prelude.{◌≡◌, ◌+◌, ◌<◌, ◌≤◌, length, take, drop};
+ghost use Rattle.std.specs.Prelude.{◌≡◌, ◌+◌, ◌<◌, ◌≤◌, length, drop, MatchOption};
 ghost use Rattle.wire.specs.Scan.{any_in_range};
-ghost use Rattle.utf8.specs.Table.{begins};
-ghost use Rattle.utf8.specs.WellFormed.{sequence_at, bad_place, Passes};
+ghost use Rattle.utf8.specs.WellFormed.{Tells, sequence_at, bad_place, Passes};
 
-use crate::table::{Row, is_within, row_of};
+use crate::table::{begins_with, row_of};
 use crate::usual::usual_len;
 use wire::bytes::byte_at;
 use wire::scan::clear_run;
@@ -17,50 +16,37 @@ pub const LAST_ABOVE: u8 = 0xFF;
 // Bytes that are tested at once.
 const BLOCK: usize = 16;
 
-// Whether the bytes begin with a sequence of this row.
-fn begins_with(bytes: &[u8], row: Row) -> bool
-    requires { (row.0 ≤ length row.1) × (row.0 ≤ 4) }
-    ensures { result ≡ begins (take row.0 row.1) bytes.now }
+// How many bytes the sequence has that they begin with, by a search through the table, where a row describes one.
+fn searched_len(bytes: &[u8]) -> Option<usize>
+    ensures { Tells result (sequence_at bytes.now) }
 {
-    let len = row.0;
-    let ranges = row.1;
-    let mut i = 0;
-    while i < len {
-        if bytes.len() <= i {
-            return false;
-        }
-        if !is_within(ranges[i], bytes[i]) {
-            return false;
-        }
-        i += 1;
+    let row = row_of(byte_at(bytes, 0))?;
+    if begins_with(bytes, row) {
+        Some(row.len())
+    } else {
+        None
     }
-    true
 }
 
-// How many bytes the sequence has that they begin with, by a search through the table; 0 where no row describes one.
-fn searched_len(bytes: &[u8]) -> usize
-    ensures { result ≡ sequence_at bytes.now }
+// How many bytes the sequence has that they begin with, where a row describes one.
+fn sequence_len(bytes: &[u8]) -> Option<usize>
+    ensures { Tells result (sequence_at bytes.now) }
 {
-    let row = row_of(byte_at(bytes, 0));
-    if begins_with(bytes, row) { row.0 } else { 0 }
+    match usual_len(bytes) {
+        Some(n) => Some(n),
+        None => searched_len(bytes),
+    }
 }
 
-// How many bytes the sequence has that they begin with; 0 where no row describes one.
-fn sequence_len(bytes: &[u8]) -> usize
-    ensures { result ≡ sequence_at bytes.now }
-{
-    let n = usual_len(bytes);
-    if n == 0 { searched_len(bytes) } else { n }
-}
-
-// How many bytes of whole sequences stand at a place: a run of ASCII, or one sequence. 0 where no row describes one.
-fn passed(string: &[u8], at: usize) -> usize
+// How many bytes of whole sequences stand at a place: a run of ASCII, or one sequence that a row describes.
+fn passed(string: &[u8], at: usize) -> Option<usize>
     requires { at < length string.now }
-    ensures { Passes (drop at string.now) result }
+    ensures { MatchOption result (bad_place (drop at string.now) ≡ 0)
+        (λ n. Passes (drop at string.now) n × (0 < n)) }
 {
     if string[at] < FIRST_ABOVE {
         let next = at + 1;
-        1 + clear_run(&string[next..], FIRST_ABOVE, LAST_ABOVE)
+        Some(1 + clear_run(&string[next..], FIRST_ABOVE, LAST_ABOVE))
     } else {
         sequence_len(&string[at..])
     }
@@ -73,11 +59,10 @@ fn place_from(string: &[u8], from: usize) -> usize
 {
     let mut at = from;
     while at < string.len() {
-        let n = passed(string, at);
-        if n == 0 {
-            return at;
+        match passed(string, at) {
+            Some(n) => at += n,
+            None => return at,
         }
-        at += n;
     }
     at
 }
@@ -98,15 +83,14 @@ fn any_above(run: &[u8]) -> bool
     ensures { result ≡ any_in_range 0x80 0xFF run.now }
 {
     let mut joined = 0u8;
-    let mut i = 0;
-    while i < run.len() {
-        joined = joined | run[i];
-        i += 1;
+    for b in run {
+        joined |= *b;
     }
     FIRST_ABOVE <= joined
 }
 
-// The place of the first sequence that no row describes; the string's length if there is none. ASCII goes block by block, and what
+// The place of the first sequence that no row describes; the string's length if there is none, as FindsFirstBad has it. ASCII goes block by block, counted by
+// hand since nothing that a writer of varints calls may divide (No. 10), and what
 // is left of it by a last block that begins before. The table has a function of its own, with more callers than one: so the
 // compiler keeps it, and the registers that it takes, out of this one.
 pub fn bad_place(string: &[u8]) -> usize

@@ -2,51 +2,27 @@
 #![tactic(auto)]
 
 ghost use Rattle.std.specs.Prelude.{◌≡◌, ◌<◌, length};
-ghost use Rattle.utf8.specs.Table.{within};
-ghost use Rattle.utf8_shown.specs.Shown.{is_hidden, hidden_place, is_text, hidden_one, hidden_two, hidden_three, hidden_by};
+ghost use Rattle.utf8_shown.specs.Shown.{is_hidden, hidden_place, is_text, hidden_by};
 ghost use Rattle.utf8_shown.specs.Claims.{HiddenBegins};
 
 use utf8::check::bad_place;
 use wire::bytes::byte_at;
-use wire::logic::{both, either};
+use wire::logic::both;
 
-fn between(low: u8, b: u8, high: u8) -> bool
-    ensures { result ≡ within (low, high) b }
-{
-    both(low <= b, b <= high)
-}
-
-// The control characters of ASCII.
-fn hidden_one(a: u8) -> bool
-    ensures { result ≡ hidden_one a }
-{
-    either(between(0x00, a, 0x1F), between(0x7F, a, 0x7F))
-}
-
-// The control characters that Unicode has besides, and U+061C.
-fn hidden_two(a: u8, b: u8) -> bool
-    ensures { result ≡ hidden_two a b }
-{
-    let control = both(between(0xC2, a, 0xC2), between(0x80, b, 0x9F));
-    let mark = both(between(0xD8, a, 0xD8), between(0x9C, b, 0x9C));
-    either(control, mark)
-}
-
-// The others that break a line or turn it round.
-fn hidden_three(a: u8, b: u8, c: u8) -> bool
-    ensures { result ≡ hidden_three a b c }
-{
-    let marks = either(between(0x8E, c, 0x8F), between(0xA8, c, 0xAE));
-    let first = both(between(0x80, b, 0x80), marks);
-    let second = both(between(0x81, b, 0x81), between(0xA6, c, 0xA9));
-    both(between(0xE2, a, 0xE2), either(first, second))
-}
-
+// By the first three bytes: the control characters of ASCII, those that Unicode has besides, U+061C, and the others that break a line
+// or turn it round.
+#[tactic(auto, unfolding(utf8::specs::Table::within))]
 fn hidden_by(a: u8, b: u8, c: u8) -> bool
     ensures { result ≡ hidden_by a b c }
 {
-    let long = either(hidden_two(a, b), hidden_three(a, b, c));
-    either(hidden_one(a), long)
+    matches!(
+        (a, b, c),
+        (0x00..=0x1F | 0x7F, _, _)
+            | (0xC2, 0x80..=0x9F, _)
+            | (0xD8, 0x9C, _)
+            | (0xE2, 0x80, 0x8E..=0x8F | 0xA8..=0xAE)
+            | (0xE2, 0x81, 0xA6..=0xA9)
+    )
 }
 
 fn is_hidden(rest: &[u8]) -> bool
@@ -56,18 +32,16 @@ fn is_hidden(rest: &[u8]) -> bool
     hidden_by(byte_at(rest, 0), byte_at(rest, 1), byte_at(rest, 2))
 }
 
-// The place of the first character that is not shown; the string's length if there is none.
+// The place of the first character that is not shown; the string's length if there is none, as for bad_place, and C is told both.
 pub fn hidden_place(string: &[u8]) -> usize
     ensures { result ≡ hidden_place string.now }
 {
-    let mut at = 0;
-    while at < string.len() {
+    for at in 0..string.len() {
         if is_hidden(&string[at..]) {
             return at;
         }
-        at += 1;
     }
-    at
+    string.len()
 }
 
 // Whether a string is text: well-formed UTF-8 in which each character is shown.

@@ -5,13 +5,15 @@
 use ble_packet::header;
 use capture_judge::State;
 use capture_judge::capture::Refusal;
-use capture_judge::input::{LARGEST_CAPTURE, SETTINGS, limit_in, room_in, trace_input};
+use capture_judge::input::{LARGEST_CAPTURE, SETTINGS, settings_in, trace_input};
 use capture_next::NextPacket;
+use capture_reader::RefusedAt;
 use capture_stream::SenderSlot;
-use capture_why::{Came, Expected, Explained, Why};
+use capture_why::{Came, Expected, Explained, ReadNumbers};
 use cli_console::sentences::explain_capture;
 use cli_console::{Console, Output, is_alone, read_full};
-use wire::bytes::{smaller, wide};
+use wire::bytes::wide;
+use wire::refusal::Numbered;
 use wire::stream::Stream;
 
 // Room, limit, the largest capture, and one byte more, by which a larger one is told.
@@ -22,21 +24,17 @@ fn say_number(output: Output, text: &[u8], n: usize) -> Output {
 }
 
 fn say_bit(output: Output, text: &[u8], set: bool) -> Output {
-    let said = output.text(text);
-    if set {
-        said.text(b"1")
-    } else {
-        said.text(b"0")
-    }
+    output.text(text).number(u64::from(set))
 }
 
 // The id and the sequence that a packet must have; a first one may have any.
 fn say_expected_head(output: Output, next: NextPacket) -> Output {
-    if next.opened {
-        let named = say_number(output, b"expected: id ", wide(next.id));
-        say_number(named, b", sequence ", wide(next.sequence))
-    } else {
-        output.text(b"expected: any id, any sequence")
+    match next.head {
+        Some(head) => {
+            let named = say_number(output, b"expected: id ", wide(head.id));
+            say_number(named, b", sequence ", wide(head.sequence))
+        }
+        None => output.text(b"expected: any id, any sequence"),
     }
 }
 
@@ -72,8 +70,7 @@ fn say_came(output: Output, came: Came) -> Output {
     say_number(numbered, b", type ", wide(came.kind))
 }
 
-fn say_payload(output: Output, came: Came) -> Output {
-    let read = came.read;
+fn say_payload(output: Output, came: Came, read: ReadNumbers) -> Output {
     let sized = say_number(say_came(output, came), b", ", read.len).text(b" bytes");
     let flagged = say_bit(sized, b", flag ", came.ack);
     say_bit(flagged, b", extender ", came.extended)
@@ -105,32 +102,28 @@ fn say_refused_size(output: Output, came: Came) -> Output {
     }
 }
 
-fn say_refused_packet(output: Output, came: Came) -> Output {
-    let read = came.read;
+fn say_refused_packet(output: Output, came: Came, number: u8) -> Output {
     let sized = say_refused_size(output, came);
-    let refused = say_number(sized, b"our reader refuses it: ", wide(read.number));
-    say_reason(refused, read.number)
+    let refused = say_number(sized, b"our reader refuses it: ", wide(number));
+    say_reason(refused, number)
 }
 
-fn say_read(output: Output, came: Came) -> Output {
-    let read = came.read;
-    let said = say_payload(output, came);
-    if read.first {
-        say_size(say_number(said, b", total ", read.total), b"; ", came.size)
-    } else {
-        say_size(said, b"; ", came.size)
+fn say_read(output: Output, came: Came, read: ReadNumbers) -> Output {
+    let said = say_payload(output, came, read);
+    match read.total {
+        Some(total) => say_size(say_number(said, b", total ", total), b"; ", came.size),
+        None => say_size(said, b"; ", came.size),
     }
 }
 
 // What was expected, and what came.
 fn say_packet(output: Output, came: Came, expected: Expected) -> Output {
-    let read = came.read;
     let named = say_number(output, b"stream ", wide(came.stream)).text(b"\n");
     let held = say_expected_by(named, expected);
-    if read.number != 0 {
-        return say_refused_packet(held, came);
+    match came.read {
+        Ok(read) => say_read(held, came, read),
+        Err(number) => say_refused_packet(held, came, number),
     }
-    say_read(held, came)
 }
 
 fn say_open(output: Output, state: State, stream: Stream) -> Output {
@@ -188,20 +181,17 @@ fn say_explained(output: Output, explained: Explained) -> Output {
 
 fn explain(console: Console, input: &[u8]) -> Output {
     let output = Output::new(console);
-    let start = smaller(input.len(), SETTINGS);
+    let start = input.len().min(SETTINGS);
     let traced = trace_input(input);
-    let why = capture_why::explain(&input[start..], room_in(input), limit_in(input), traced);
+    let why = capture_why::explain(&input[start..], settings_in(input), traced);
     match why {
-        Why::Barred { why, at } => say_refused(output, why, at),
-        Why::Told(explained) => say_explained(output, explained),
+        Ok(explained) => say_explained(output, explained),
+        Err(RefusedAt { why, at }) => say_refused(output, why, at),
     }
 }
 
 fn main(rt: HostRuntime) {
-    let console = Console {
-        output: rt.stdout(),
-        errors: rt.stderr(),
-    };
+    let console = Console::of(&rt);
     if !is_alone(
         &rt,
         console,
@@ -211,10 +201,8 @@ fn main(rt: HostRuntime) {
     }
     let mut input = rt.stdin();
     let mut space = [0u8; SPACE];
-    let came = read_full(console, &mut input, &mut space);
-    if came.failed {
+    let Ok(n) = read_full(console, &mut input, &mut space) else {
         return;
-    }
-    let n = came.held;
+    };
     explain(console, &space[..n]);
 }

@@ -68,6 +68,10 @@ module _ {first last : ℕ} {l : List ℕ} where
   clear_none = record { within = zero-le; none = refl }
 
   module _ {i : ℕ} (k : Clear first last l i) where
+    -- no byte is left
+    pub clear-all : length l ≤ i → Clear first last l (length l)
+    clear-all h = let e : i ≡ length l = omega (arith, k.within) in subst (λ (n : ℕ). Clear first last l n) e k
+
     -- one byte more
     pub clear-byte : i < length l → in_range first last (get_or l i 0) ≡ false → Clear first last l (i + 1)
     unfolding any_in_range
@@ -109,6 +113,10 @@ module _ {first last : ℕ} {run : List ℕ} {at : ℕ} {l : List ℕ} where
   copied-length {n} k = rw k.stored (length-sets l at (take n run))
 
   module _ {i : ℕ} {now : List ℕ} (k : Copied first last run at l i now) where
+    -- no byte is left
+    pub copied-all : length run ≤ i → Copied first last run at l (length run) now
+    copied-all h = let e : i ≡ length run = omega (arith, k.clear.within) in subst (λ (n : ℕ). Copied first last run at l n now) e k
+
     -- what follows, up to e, once it is stored too
     pub copied_more : (e : ℕ) → i ≤ e → Clear first last run e → {after : List ℕ} → after ≡ sets now (at + i) (take (e - i) (drop i run)) → Copied first last run at l e after
     copied_more e h c q =

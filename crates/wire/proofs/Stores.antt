@@ -6,7 +6,8 @@ use native.Mathlib.Nat.{add-zero, add-suc, suc-add}
 use native.Mathlib.Numerals.{add-one}
 use native.Mathlib.Omega.{arith}
 use lib.ListN.{length, take, drop, set, get_or, drop_of_length-le, length-append, length-take, length-drop}
-use lib.Seq.{sets, sets-eq, drop-cons, drop-set-lt, drop-set-add, take-set-le, take-add, take_at, drop_at, take-append_seam, length-take-le}
+use borrow.Rule.Slice.PartMut.{put_mid}
+use lib.Seq.{sets, drop-drop, sets-eq, drop-cons, drop-set-lt, drop-set-add, take-set-le, take-add, take_at, drop_at, take-append_seam, length-take-le}
 
 -- two runs, one after the other
 pub sets-append : {A : Type 0} (l : List A) (i : ℕ) (xs ys : List A) → sets l i (xs ++ ys) ≡ sets (sets l i xs) (i + length xs) ys
@@ -16,6 +17,10 @@ sets-append l i (x ∷ xs) ys = sets-append (set l i x) (suc i) xs ys ∙ rw (su
 -- the same, with the place where the second begins
 pub sets_then : {A : Type 0} (l : List A) (i j : ℕ) (xs ys : List A) → j ≡ i + length xs → sets (sets l i xs) j ys ≡ sets l i (xs ++ ys)
 sets_then l i j xs ys e = rw e (sym (sets-append l i xs ys))
+
+-- a run stored in the part of a list that it fills is a run stored at its place
+pub stored_mid : {A : Type 0} (l run : List A) (at n : ℕ) → n ≡ length run → at + length run ≤ length l → put_mid at n l run ≡ sets l at run
+stored_mid l run at n e h = rw (e, sets-eq run l at h, drop-drop (length run) at l) (sym (append_assoc (take at l) run (drop (at + length run) l)))
 
 -- a run copied byte by byte: what is left of it after one byte
 pub sets-step : (l run : List ℕ) (at i : ℕ) → i < length run

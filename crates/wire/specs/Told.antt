@@ -1,5 +1,5 @@
 -- What a call tells, and the table of refusals of docs/FORMATS.md.
-use Rattle.std.specs.Prelude.{ℕ, Bool, cond, List, [], ◌∷◌}
+use Rattle.std.specs.Prelude.{ℕ, Bool, cond, List, [], ◌∷◌, Result, Ok, Err}
 
 -- what was asked for, or what a refusal tells
 pub data ToldOf (N A : Type 0) : Type 0 where
@@ -13,6 +13,16 @@ Told A = ToldOf ℕ A
 -- a refusal tells its number, and the numbers that go with it
 abbrev pub ToldMore : Type 0 → Type 0
 ToldMore A = ToldOf (ℕ × List ℕ) A
+
+-- what a call gives, or what its refusal tells
+abbrev pub told_by : {N A E : Type 0} → (E → N) → Result A E → ToldOf N A
+told_by tells (Ok a) = given a
+told_by tells (Err why) = refused (tells why)
+
+-- 0, or the number of the refusal
+abbrev pub number_told : {A : Type 0} → Told A → ℕ
+number_told (given a) = 0
+number_told (refused n) = n
 
 -- go on with what was given, or stay refused
 abbrev pub and_then : {N A B : Type 0} → ToldOf N A → (A → ToldOf N B) → ToldOf N B

@@ -9,35 +9,35 @@ const BYTE_BITS: usize = 8;
 pub fn wide(b: u8) -> usize
     ensures { (result ≡ b) × (result < 256) }
 {
-    b as usize
+    usize::from(b)
 }
 
 // A byte as a number of 64 bits.
 pub fn wide64(b: u8) -> u64
     ensures { (result ≡ b) × (result < 256) }
 {
-    b as u64
+    u64::from(b)
 }
 
 // A flag as a number.
 pub fn bit(b: bool) -> u8
     ensures { (result ≡ bit b) × (result < 2) }
 {
-    if b { 1 } else { 0 }
+    u8::from(b)
 }
 
 // The same in 64 bits.
 pub fn bit64(b: bool) -> u64
     ensures { (result ≡ bit b) × (result < 2) }
 {
-    wide64(bit(b))
+    u64::from(b)
 }
 
 // The byte at a place; 0 past the end.
 pub fn byte_at(bytes: &[u8], at: usize) -> u8
     ensures { result ≡ get_or bytes.now at 0 }
 {
-    if at < bytes.len() { bytes[at] } else { 0 }
+    bytes.get(at).copied().unwrap_or(0)
 }
 
 // The number of two bytes, big-endian.
@@ -57,15 +57,13 @@ pub fn put_pair(out: &mut [u8], at: usize, n: usize)
     out[at + 1] = (n - high * 256) as u8;
 }
 
-// Writes a run of bytes from a place on.
+// Writes a run of bytes from a place on. By a loop and not by copy_from_slice: what the two cost stands at copy_clear of scan.rt.
 pub fn copy(out: &mut [u8], at: usize, run: &[u8])
     requires { at + length run.now ≤ length out.old }
     ensures { out.new ≡ sets out.old at run.now }
 {
-    let mut i = 0;
-    while i < run.len() {
+    for i in 0..run.len() {
         out[at + i] = run[i];
-        i += 1;
     }
 }
 
@@ -73,5 +71,5 @@ pub fn copy(out: &mut [u8], at: usize, run: &[u8])
 pub fn smaller(a: usize, b: usize) -> usize
     ensures { (result ≡ min a b) × (result ≤ a) × (result ≤ b) }
 {
-    if a <= b { a } else { b }
+    a.min(b)
 }

@@ -4,5 +4,6 @@
 pub mod bytes;
 pub mod limit;
 pub mod logic;
+pub mod refusal;
 pub mod scan;
 pub mod stream;

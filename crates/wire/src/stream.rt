@@ -1,13 +1,17 @@
 // The streams of the link and their numbers.
 ghost use Rattle.std.specs.Prelude.{◌≡◌, ◌<◌};
-ghost use Rattle.wire.specs.Stream.{stream_number, is_stream, stream_of};
+ghost use Rattle.wire.specs.Stream.{stream_number, is_stream, stream_of, stream_given};
 
-#[derive(Clone, Copy)]
+#[derive(Clone, Copy, Debug, PartialEq, Eq)]
 pub enum Stream {
     Control,
     Ota,
     Alexa,
 }
+
+// A number that is no stream's.
+#[derive(Clone, Copy, Debug, PartialEq, Eq)]
+pub struct NoStream(pub u8);
 
 impl Stream {
     pub const CONTROL: u8 = 0;
@@ -27,28 +31,38 @@ impl Stream {
     }
 }
 
-// Whether a number is a stream's.
+impl TryFrom<u8> for Stream {
+    type Error = NoStream;
+
+    ghost try_from_gives = { λ n r. r ≡ stream_given n };
+
+    #[tactic(auto, unfolding(crate::specs::Stream::is_stream, crate::specs::Stream::stream_of))]
+    fn try_from(n: u8) -> Result<Self, NoStream> {
+        match n {
+            Stream::CONTROL => Ok(Stream::Control),
+            Stream::OTA => Ok(Stream::Ota),
+            Stream::ALEXA => Ok(Stream::Alexa),
+            _ => Err(NoStream(n)),
+        }
+    }
+}
+
+// Whether a number is a stream's: by a test, where the stream itself is not asked for.
+#[tactic(auto, unfolding(crate::specs::Stream::is_stream))]
 pub fn is_stream(n: u8) -> bool
     ensures { result ≡ is_stream n }
 {
-    if n == Stream::CONTROL {
-        return true;
-    }
-    if n == Stream::OTA {
-        return true;
-    }
-    n == Stream::ALEXA
+    matches!(n, Stream::CONTROL | Stream::OTA | Stream::ALEXA)
 }
 
 // The stream of a number; one that is no stream's, which callers judge by is_stream, counts as Alexa.
+#[tactic(auto, unfolding(crate::specs::Stream::stream_of))]
 pub fn stream_of(n: u8) -> Stream
     ensures { result ≡ stream_of n }
 {
-    if n == Stream::CONTROL {
-        return Stream::Control;
+    match n {
+        Stream::CONTROL => Stream::Control,
+        Stream::OTA => Stream::Ota,
+        _ => Stream::Alexa,
     }
-    if n == Stream::OTA {
-        return Stream::Ota;
-    }
-    Stream::Alexa
 }

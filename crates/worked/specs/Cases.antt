@@ -12,7 +12,7 @@ use Rattle.ble_sender.specs.Writer.{last}
 use Rattle.msg_control.specs.declared.envelope.Envelope.{Envelope}
 use Rattle.msg_control.specs.declared.envelope.Payload.TheVariants as Payload
 use Rattle.msg_control.specs.declared.envelope.EnvelopePayload.TheVariants.{Response}
-use Rattle.msg_control.specs.declared.response.ResponsePayload.TheVariants.{None}
+use Rattle.std.specs.Prelude.{None}
 use Rattle.proto_reader.specs.Gathered.{no_part}
 use Rattle.outbox.specs.Reader as outbox
 use Rattle.outbox.specs.Writer.{stored}

@@ -7,7 +7,8 @@ use Rattle.ble_packet.specs.Header.{extender_bit}
 use Rattle.ble_packet.specs.Reader.{read_of, len_in}
 use Rattle.ble_ack.specs.Acknowledgement.{ack_of}
 use Rattle.ble_sender.specs.declared.writer.Sending.{Sending}
-use Rattle.ble_sender.specs.Writer.{Sent, written_of}
+use Rattle.ble_sender.specs.declared.writer.Sent.{Sent}
+use Rattle.ble_sender.specs.Writer.{written_of}
 use Rattle.ble_sender_claims.specs.Calls.{calls_of}
 use Rattle.ble_slot.specs.declared.Slot.{Slot}
 use Rattle.ble_slot.specs.declared.answer.Accepted.{Accepted}

@@ -1,5 +1,5 @@
 -- What the program why says is expected, and why it says a packet is refused: one table whose rows all hold.
-use Rattle.std.specs.Prelude.{ℕ, ◌≡◌, Bool, true, false, List, [], ◌∷◌, map}
+use Rattle.std.specs.Prelude.{ℕ, ◌≡◌, Bool, true, false, cond, Some, None, List, [], ◌∷◌, map}
 use Rattle.capture_next.specs.NextPacket.{next_of}
 use Rattle.capture_stream.specs.declared.SenderSlot.TheVariants.{Idle, Open}
 use Rattle.capture_next.specs.declared.NextPacket.{NextPacket}
@@ -9,7 +9,7 @@ use Rattle.ble_packet.specs.Reader.{number_of}
 -- open, id, sequence, type, length, extender, last
 abbrev expected : Bool → ℕ → ℕ → ℕ → ℕ → Bool → Bool → NextPacket
 expected opened id sequence kind len extended last =
-    record { opened = opened; id = id; sequence = sequence; kind = kind; len = len; extended = extended; last = last }
+    record { head = cond opened (Some (record { id = id; sequence = sequence })) None; kind = kind; len = len; extended = extended; last = last }
 
 unfoldable pub next_packets_rows : List (NextPacket × NextPacket)
 next_packets_rows =

@@ -1,12 +1,11 @@
 -- A receiver opened, packets and ACKs written, called from C: what is left, and one table whose rows all hold.
-use Rattle.std.specs.Prelude.{◌≡◌, List, [], ◌∷◌, ◌++◌, map, replicate}
+use Rattle.std.specs.Prelude.{◌≡◌, List, [], ◌∷◌, ◌++◌, map, replicate, Ok, Err, Some, None}
 use Rattle.c_receiving.specs.Calls.{receiver_open_of}
 use Rattle.c_sending.specs.Calls.{packet_write_of, ack_write_of}
 use Rattle.c_sending.specs.Convert.{sending_of}
 use Rattle.c_rows.specs.Called.{Called, called}
 use Rattle.wire.specs.Told.{given, refused}
 use Rattle.ble_sender.specs.declared.writer.Refusal.TheVariants.{Room, Limit, Argument, Output}
-use Rattle.ble_sender.specs.declared.writer.Answer.TheVariants.{Refused, More, Last}
 use Rattle.ble_sender.specs.Writer.{more, last, told}
 
 unfoldable pub sending_rows : List (Called × Called)
@@ -59,5 +58,5 @@ sending_rows =
 unfoldable pub SendingCalls : Type 0
 SendingCalls =
     (map (λ c. c.0) sending_rows ≡ map (λ c. c.1) sending_rows)
-    × (map told (More 1 2 ∷ Last 1 ∷ Refused Room ∷ Refused Limit ∷ Refused Argument ∷ Refused Output ∷ [])
+    × (map told (Ok (record { length = 1; next = Some 2 }) ∷ Ok (record { length = 1; next = None }) ∷ Err Room ∷ Err Limit ∷ Err Argument ∷ Err Output ∷ [])
     ≡ given (more 1 2) ∷ given (last 1) ∷ refused 13 ∷ refused 17 ∷ refused 15 ∷ refused 14 ∷ [])

@@ -1,25 +1,15 @@
-use Prim.Native.Nat.{◌-◌}
+use Prim.Native.Nat.{ℕ, ◌+◌, ◌-◌}
 use native.Mathlib.Omega.{arith}
-use Rattle.ble_joined.proofs.Moving.{moving-start, moving-next, moving-end}
+use mathlib.Core.Path.{◌≡◌}
+use mathlib.Core.List.{List}
+use lib.ListN.{length, take, drop, length-take, length-drop}
+use lib.Seq.{sets-eq}
 use Rattle.ble_joined.proofs.move_down.Goals as goal
-
-pub loop-i-init : goal.loop-i-init
-loop-i-init c = moving-start c.args.out.now c.args.to c.args.from c.args.n c.requires.0 c.requires.1
-
-pub bounds-out-from : goal.bounds-out-from
-bounds-out-from c = omega (arith, c.loop-i-test.true, c.loop-i.invariant.long, c.requires.1)
-
-pub bounds-out-to : goal.bounds-out-to
-bounds-out-to c =
-    omega (arith, c.loop-i-test.true, c.loop-i.invariant.long, c.requires.0, c.requires.1)
-
-pub loop-i-preserved : goal.loop-i-preserved
-loop-i-preserved c =
-    moving-next c.args.out.now c.args.to c.args.from c.args.n c.requires.0 c.requires.1 c.loop-i.out c.loop-i.i c.loop-i.invariant c.loop-i-test.true
-
-pub shape_of-out : goal.shape_of-out
-shape_of-out c = c.loop-i.invariant.long
 
 pub returns : goal.returns
 returns c =
-    moving-end c.args.out.now c.args.to c.args.from c.args.n c.requires.0 c.requires.1 c.loop-i.out c.loop-i.i c.loop-i.invariant c.loop-i-test.false
+    let l : List ℕ = c.args.out.now in
+    let run : List ℕ = take c.args.n (drop c.args.from l) in
+    let size : length run ≡ c.args.n = simp (length-take, length-drop) (omega arith) in
+    let moved : c.args.from + c.args.n - c.args.from ≡ c.args.n = omega arith in
+    rw (c.copy_within.ensures.after, sets-eq run l c.args.to (omega arith), size, moved)

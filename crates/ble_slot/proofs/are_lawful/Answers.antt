@@ -1,32 +1,37 @@
-use borrow.Author.Tests.{not-true, not-false}
 use Rattle.ble_slot.proofs.Lanes.{lawful-lanes}
 use Rattle.ble_slot.proofs.are_lawful.Goals as goal
 
-pub returns-then-not-control_lawful : goal.returns-then-not-control_lawful
-returns-then-not-control_lawful c =
+pub returns-else-lane_lawful : goal.returns-else-lane_lawful
+returns-else-lane_lawful c =
     rw (
       lawful-lanes c.args.limit c.args.slots c.well_formed.1.0.1.0.1,
-      ← c.control_lawful.ensures,
-      not-true c.control_lawful.result c.if-not-control_lawful.true-raw,
+      ← c.lane_of.ensures,
+      ← c.lane_lawful.ensures,
+      c.if-lane_lawful.false,
     )
 
-pub returns-then-not-ota_lawful : goal.returns-then-not-ota_lawful
-returns-then-not-ota_lawful c =
+pub returns-else-lane_lawful-2 : goal.returns-else-lane_lawful-2
+returns-else-lane_lawful-2 c =
     rw (
       lawful-lanes c.args.limit c.args.slots c.well_formed.1.0.1.0.1,
-      ← c.control_lawful.ensures,
-      not-false c.control_lawful.result c.if-not-control_lawful.false-raw,
-      ← c.ota_lawful.ensures,
-      not-true c.ota_lawful.result c.if-not-ota_lawful.true-raw,
+      ← c.lane_of.ensures,
+      ← c.lane_lawful.ensures,
+      c.if-lane_lawful.true,
+      ← c.lane_of-then-lane_lawful.ensures,
+      ← c.lane_lawful-then-lane_lawful.ensures,
+      c.if-lane_lawful-2.false,
     )
 
-pub returns : goal.returns
-returns c =
+pub returns-then-lane_lawful-2 : goal.returns-then-lane_lawful-2
+returns-then-lane_lawful-2 c =
     rw (
       lawful-lanes c.args.limit c.args.slots c.well_formed.1.0.1.0.1,
-      ← c.control_lawful.ensures,
-      not-false c.control_lawful.result c.if-not-control_lawful.false-raw,
-      ← c.ota_lawful.ensures,
-      not-false c.ota_lawful.result c.if-not-ota_lawful.false-raw,
+      ← c.lane_of.ensures,
+      ← c.lane_lawful.ensures,
+      c.if-lane_lawful.true,
+      ← c.lane_of-then-lane_lawful.ensures,
+      ← c.lane_lawful-then-lane_lawful.ensures,
+      c.if-lane_lawful-2.true,
+      ← c.lane_of-then-lane_lawful-2.ensures,
     )
-    c.alexa_lawful.ensures
+    c.lane_lawful-then-lane_lawful-2.ensures

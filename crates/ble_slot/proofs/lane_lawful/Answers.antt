@@ -1,16 +1,15 @@
-use borrow.Author.Tests.{not-true, not-false}
-use Rattle.ble_slot.proofs.Lanes.{law-four}
+use mathlib.Core.Path.{sym, ◌∙◌}
+use Rattle.ble_slot.proofs.Lanes.{law-four, idle-four}
 use Rattle.ble_slot.proofs.lane_lawful.Goals as goal
 
-pub returns-then-not-each_lawful : goal.returns-then-not-each_lawful
-returns-then-not-each_lawful c =
-    rw (law-four c.args.limit c.args.lane c.well_formed.1.0.1.0.1, ← c.each_lawful.ensures, not-true c.each_lawful.result c.if-not-each_lawful.true-raw)
+pub returns-then-are_idle : goal.returns-then-are_idle
+returns-then-are_idle c =
+    sym (idle-four c.args.limit c.args.lane c.well_formed.1.0.1.0.1 (sym c.are_idle.ensures ∙ c.if-are_idle.true))
 
-pub returns : goal.returns
-returns c =
-    rw (
-      law-four c.args.limit c.args.lane c.well_formed.1.0.1.0.1,
-      ← c.each_lawful.ensures,
-      not-false c.each_lawful.result c.if-not-each_lawful.false-raw,
-    )
-    c.are_distinct.ensures
+pub returns-then-each_lawful : goal.returns-then-each_lawful
+returns-then-each_lawful c =
+    rw (law-four c.args.limit c.args.lane c.well_formed.1.0.1.0.1, ← c.each_lawful.ensures, c.if-each_lawful.true) c.are_distinct.ensures
+
+pub returns-else-each_lawful : goal.returns-else-each_lawful
+returns-else-each_lawful c =
+    rw (law-four c.args.limit c.args.lane c.well_formed.1.0.1.0.1, ← c.each_lawful.ensures, c.if-each_lawful.false)

@@ -1,5 +1,6 @@
 use borrow.Author.Tests.{eq-eqb, ne_eqb}
 use Rattle.c_outbox_move.specs.Calls.{outbox_move_of}
+use Rattle.c_outbox_move.proofs.Told.{move-number}
 use Rattle.c_outbox_move.proofs.outbox_move.Goals as goal
 
 pub returns-then-answer-ne-MOVE_ANSWER : goal.returns-then-answer-ne-MOVE_ANSWER
@@ -14,6 +15,7 @@ returns c =
       ← c.move_file-moved.ensures,
       c.put.ensures,
       c.wide64-number.ensures.0,
-      c.number.ensures,
+      c.number_in.ensures,
+      move-number c.move_file-moved.result,
       c.moved_row-row.ensures,
     )

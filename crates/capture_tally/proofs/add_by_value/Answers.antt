@@ -23,25 +23,25 @@ returns-then-not-lent_fits c =
 
 pub pass-tally-requires : goal.pass-tally-requires
 pass-tally-requires c = (
-  sym c.check-checked.ensures ∙ ap soundness_told c.in-Sound.is,
+  sym c.check.ensures ∙ ap soundness_told c.in-Ok.is,
   fresh-ready c.args.limit c.args.count (length c.args.buffer.now) (sym c.limit_fits.ensures ∙ not-false c.limit_fits.result c.if-not-limit_fits.false-raw)
       (sym c.lent_fits.ensures ∙ not-false c.lent_fits.result c.if-not-lent_fits.false-raw),
 )
 
-pub returns-in-Unsound : goal.returns-in-Unsound
-returns-in-Unsound c =
-    let why = sym c.check-checked.ensures ∙ ap soundness_told c.in-Unsound.is in
+pub returns-in-Err : goal.returns-in-Err
+returns-in-Err c =
+    let why = sym c.check.ensures ∙ ap soundness_told c.in-Err.is in
     rw (
-      c.refuse-in-Unsound.ensures,
+      c.refuse-in-Err.ensures,
       taken_is c.args.limit c.args.count (length c.args.buffer.now) c.args.capture.now (sym c.limit_fits.ensures ∙ not-false c.limit_fits.result c.if-not-limit_fits.false-raw)
           (sym c.lent_fits.ensures ∙ not-false c.lent_fits.result c.if-not-lent_fits.false-raw),
       unsound c.args.capture.now _ why,
     )
 
-pub returns-in-Sound : goal.returns-in-Sound
-returns-in-Sound c =
+pub returns-in-Ok : goal.returns-in-Ok
+returns-in-Ok c =
     rw (
-      c.answer_of-answer.ensures,
+      c.answer_of.ensures,
       taken_is c.args.limit c.args.count (length c.args.buffer.now) c.args.capture.now (sym c.limit_fits.ensures ∙ not-false c.limit_fits.result c.if-not-limit_fits.false-raw)
           (sym c.lent_fits.ensures ∙ not-false c.lent_fits.result c.if-not-lent_fits.false-raw),
     )

@@ -64,7 +64,7 @@ shape_of-buffer c = c.loop-at.invariant.size
 
 pub returns : goal.returns
 returns c =
-    rw (c.with-sum.ensures, c.open_report-open.ensures)
+    rw (c.add_more-sum.ensures, c.open_report.ensures)
     (passing-ends _ _ _ _ c.requires.0 c.loop-at.invariant c.loop-at-test.false
     ∙ ap (λ (slots : List Slot). passed_of (given c.args.report) c.args.limit slots c.args.buffer.now c.args.capture.now)
     c.idle_row.ensures)

@@ -14,5 +14,6 @@ returns c =
       not-false c.is_stream.result c.if-not-is_stream.false-raw,
       ← c.stream_of.ensures,
       ← c.slot-slot.ensures,
+      ← c.total_read.ensures,
     )
     c.expect_in.ensures

@@ -2,15 +2,10 @@ use Rattle.std.proofs.Common.{◌≡◌, sym, arith, rules, length, length-take-
 use Rattle.check_messages.proofs.Sizes.{information-size}
 use Rattle.check_messages.proofs.information_again.Goals as goal
 
-pub slice_bounds-transports-end : goal.slice_bounds-transports-end
-slice_bounds-transports-end c =
-    let long : length c.read_information-read.result.information.transports ≡ 8 = search rules in
-    omega (arith, c.read_information-read.ensures.count_le_most_transports)
+pub slice_bounds-again-end : goal.slice_bounds-again-end
+slice_bounds-again-end c =
+    let long : length c.in-Ok.i.transports ≡ 8 = search rules in
+    sym (length-take-le _ c.in-Ok.i.transports (omega (arith, c.in-Ok.ensures.count_le_most_transports)))
 
-pub slice_bounds-write_information-end : goal.slice_bounds-write_information-end
-slice_bounds-write_information-end c =
-    let long : length c.read_information-read.result.information.transports ≡ 8 = search rules in
-    sym (length-take-le _ c.read_information-read.result.information.transports (omega (arith, c.read_information-read.ensures.count_le_most_transports)))
-
-pub show_text-requires : goal.show_text-requires
-show_text-requires c = information-size c.write_information-wrote.result _ _ _ _ _ _ c.write_information-wrote.ensures
+pub show-requires : goal.show-requires
+show-requires c = information-size c.write_information-wrote.result _ _ _ _ _ _ c.write_information-wrote.ensures

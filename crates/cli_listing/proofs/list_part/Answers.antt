@@ -1,5 +1,6 @@
 -- The walk reads whole records up to its place and never goes back.
 use Rattle.std.proofs.Common.{sym, ap, ◌∙◌, arith}
+use Rattle.std.specs.Prelude.{Ok, Err}
 use Rattle.outbox.specs.Format.{format_of}
 use Rattle.outbox.specs.Reader.{told}
 use Rattle.outbox.proofs.Place.{read-within, read-at-end}
@@ -7,30 +8,30 @@ use Rattle.outbox.proofs.Walk.{going-begins, read-decides, read_goes}
 use Rattle.cli_listing.specs.Listing.{listed, listed_of}
 use Rattle.cli_listing.proofs.list_part.Goals as goal
 
-pub loop-stream-init : goal.loop-stream-init
-loop-stream-init c = going-begins (format_of c.args.part.now) c.args.part.now
+pub loop-found-init : goal.loop-found-init
+loop-found-init c = going-begins (format_of c.args.part.now) c.args.part.now
 
-pub loop-stream-smaller : goal.loop-stream-smaller
-loop-stream-smaller c =
-    let ends = read-within _ _ c.loop-stream.place _ (sym c.read-reading.ensures ∙ ap told c.in-Record.is) in
+pub loop-found-smaller : goal.loop-found-smaller
+loop-found-smaller c =
+    let ends = read-within _ _ c.loop-found.place _ (sym c.read.ensures ∙ ap told (c.in-Ok-Some.is ∙ ap Ok c.in-Ok-Some.field-0-is)) in
     omega (arith, ends.0, ends.1)
 
-pub loop-stream-preserved : goal.loop-stream-preserved
-loop-stream-preserved c = read_goes _ _ c.loop-stream.invariant _ (sym c.read-reading.ensures ∙ ap told c.in-Record.is)
+pub loop-found-preserved : goal.loop-found-preserved
+loop-found-preserved c = read_goes _ _ c.loop-found.invariant _ (sym c.read.ensures ∙ ap told (c.in-Ok-Some.is ∙ ap Ok c.in-Ok-Some.field-0-is))
 
-pub returns-in-End : goal.returns-in-End
+pub returns-in-Ok-None : goal.returns-in-Ok-None
 unfolding listed_of
-returns-in-End c =
-    let e = sym c.read-reading.ensures ∙ ap told c.in-End.is in
+returns-in-Ok-None c =
+    let e = sym c.read.ensures ∙ ap told (c.in-Ok-None.is ∙ ap Ok c.in-Ok-None.field-0-is) in
     c.list_end.ensures
-    ∙ rw (read-decides _ _ c.loop-stream.invariant _ e) (ap (listed _) (read-at-end _ _ c.loop-stream.place e))
+    ∙ rw (read-decides _ _ c.loop-found.invariant _ e) (ap (listed _) (read-at-end _ _ c.loop-found.place e))
 
-pub returns-in-BadPlace : goal.returns-in-BadPlace
+pub returns-in-Err-BadPlace : goal.returns-in-Err-BadPlace
 unfolding listed_of
-returns-in-BadPlace c = rw (read-decides _ _ c.loop-stream.invariant _ (sym c.read-reading.ensures ∙ ap told c.in-BadPlace.is))
+returns-in-Err-BadPlace c = rw (read-decides _ _ c.loop-found.invariant _ (sym c.read.ensures ∙ ap told (c.in-Err-BadPlace.is ∙ ap Err c.in-Err-BadPlace.field-0-is)))
 
-pub returns-in-Broken : goal.returns-in-Broken
+pub returns-in-Err-Broken : goal.returns-in-Err-Broken
 unfolding listed_of
-returns-in-Broken c =
+returns-in-Err-Broken c =
     c.list_refusal.ensures
-    ∙ rw (read-decides _ _ c.loop-stream.invariant _ (sym c.read-reading.ensures ∙ ap told c.in-Broken.is))
+    ∙ rw (c.in-Err-Broken.broken-is, read-decides _ _ c.loop-found.invariant _ (sym c.read.ensures ∙ ap told (c.in-Err-Broken.is ∙ ap Err c.in-Err-Broken.field-0-is)))

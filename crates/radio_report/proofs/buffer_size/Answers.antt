@@ -1,7 +1,7 @@
-use Rattle.std.proofs.Common.{sym, ◌∙◌, arith}
+use Rattle.std.proofs.Common.{arith}
 use Rattle.wire.proofs.Limits.{limit-range}
 use Rattle.radio_report.proofs.buffer_size.Goals as goal
 
 -- twelve buffers of the largest limit fit a number
 pub overflow_mul-result : goal.overflow_mul-result
-overflow_mul-result c = omega (arith, (limit-range c.args.limit (sym c.limit_fits.ensures ∙ c.if-limit_fits.true)).1)
+overflow_mul-result c = omega (arith, (limit-range c.args.limit c.requires).1)

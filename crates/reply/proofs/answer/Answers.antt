@@ -1,21 +1,22 @@
-use mathlib.Core.Path.{sym, ap, ◌∙◌}
-use Rattle.reply.specs.Reply.{box_of}
-use Rattle.reply.specs.Put.{verdict_of}
+use mathlib.Core.Path.{sym, ◌∙◌}
+use Rattle.std.proofs.lemmas.Result.{err_from_is_err_and}
+use Rattle.reply.specs.Reply.{box_lent}
 use Rattle.reply.proofs.Replies.{fine-carries}
 use Rattle.reply.proofs.Tables.{is-refused, goes_on}
 use Rattle.reply.proofs.answer.Goals as goal
 
 pub carry-requires : goal.carry-requires
 carry-requires c =
-    fine-carries c.kind_of_command-kind.result c.args.members c.args.transports.now c.args.link (sym c.judge.ensures ∙ ap verdict_of c.in-Fine.is)
+    fine-carries c.kind_of_command-kind.result c.args.own.members c.args.own.information.transports.now c.args.link (sym c.in_ok-judge.ensures)
 
-pub returns-in-Refused : goal.returns-in-Refused
-returns-in-Refused c =
-    is-refused (box_of c.args.serial_number.now c.args.name.now c.args.transports.now c.args.device_type.now c.args.features c.args.members) c.args.link c.args.value c.kind_of_command-kind.result c.args.out.now c.kind_of_command-kind.ensures _
-    (sym c.judge.ensures ∙ ap verdict_of c.in-Refused.is)
+pub returns-in_err-judge : goal.returns-in_err-judge
+returns-in_err-judge c =
+    let p = err_from_is_err_and c.from_residual.result c.from_residual.ensures.1 in
+    rw (p.1, p.2)
+    (is-refused (box_lent c.args.own) c.args.link c.args.value c.kind_of_command-kind.result c.args.out.now c.kind_of_command-kind.ensures _ (sym c.in_err-judge.ensures))
 
-pub returns-in-Fine : goal.returns-in-Fine
-returns-in-Fine c =
+pub returns : goal.returns
+returns c =
     c.carry.ensures
-    ∙ goes_on (box_of c.args.serial_number.now c.args.name.now c.args.transports.now c.args.device_type.now c.args.features c.args.members) c.args.link c.args.value c.kind_of_command-kind.result c.args.out.now c.kind_of_command-kind.ensures
-    (sym c.judge.ensures ∙ ap verdict_of c.in-Fine.is)
+    ∙ goes_on (box_lent c.args.own) c.args.link c.args.value c.kind_of_command-kind.result c.args.out.now c.kind_of_command-kind.ensures
+    (sym c.in_ok-judge.ensures)

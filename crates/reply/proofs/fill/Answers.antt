@@ -12,7 +12,7 @@ use Rattle.ble_joined.specs.Joined.{joined_of, sizes}
 use Rattle.ble_joined.proofs.Pieces.{joined-long}
 use Rattle.ble_joined.proofs.Guards.{joined_length_lem}
 use Rattle.reply_parts.specs.Front.{front_bytes}
-use Rattle.reply_parts.specs.Body.{body_by}
+use Rattle.reply_parts.specs.Body.{body_lent}
 use Rattle.reply.specs.Reply.{sending_of, Replied, sent}
 use Rattle.reply.proofs.Puts.{over_first, no_output, is-joined}
 use Rattle.reply.proofs.fill.Goals as goal
@@ -27,7 +27,7 @@ pub returns-then-out-joined : goal.returns-then-out-joined
 returns-then-out-joined c =
     let l = c.args.link in
     let o = c.args.out.now in
-    let body = body_by c.args.serial_number.now c.args.name.now c.args.transports.now c.args.device_type.now c.args.features c.args.kind in
+    let body = body_lent c.args.own c.args.kind in
     let m = front_bytes c.args.front ++ body in
     let total : length m ≡ c.front_len.result + c.args.front.body =
     length-append (front_bytes c.args.front) body ∙ omega (arith, c.front_len.ensures.0, c.requires.1.long) in
@@ -58,7 +58,7 @@ pub returns : goal.returns
 returns c =
     let l = c.args.link in
     let o = c.args.out.now in
-    let body = body_by c.args.serial_number.now c.args.name.now c.args.transports.now c.args.device_type.now c.args.features c.args.kind in
+    let body = body_lent c.args.own c.args.kind in
     let m = front_bytes c.args.front ++ body in
     let total : length m ≡ c.front_len.result + c.args.front.body =
     length-append (front_bytes c.args.front) body ∙ omega (arith, c.front_len.ensures.0, c.requires.1.long) in

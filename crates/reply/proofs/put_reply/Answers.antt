@@ -7,7 +7,7 @@ use lib.Seq.{length-sets}
 use borrow.Rule.Slice.PartMut.{put_mid}
 use Rattle.wire.proofs.Parts.{sets-part}
 use Rattle.reply_parts.specs.Front.{front_bytes}
-use Rattle.reply_parts.specs.Body.{body_by}
+use Rattle.reply_parts.specs.Body.{body_lent}
 use Rattle.ble_joined.proofs.Pieces.{total-fits}
 use Rattle.reply.proofs.Puts.{reply-joined}
 use Rattle.reply.proofs.put_reply.Goals as goal
@@ -34,7 +34,7 @@ returns c =
     let o = c.args.out.now in
     let t = total-fits c.args.how.room c.args.total c.requires.1.room in
     let front = front_bytes c.args.front in
-    let body = body_by c.args.serial_number.now c.args.name.now c.args.transports.now c.args.device_type.now c.args.features c.args.kind in
+    let body = body_lent c.args.own c.args.kind in
     let start = length o - c.args.total in
     let middle = length o - c.args.front.body in
     let e₁ = ap (put_mid start (length o - start) o) c.put_front.ensures.stored ∙ sets-part o start (length o - start) 0 front (omega (arith, c.requires.1.long, t)) (omega (arith, c.requires.1.long, t, c.requires.1.long-total)) in

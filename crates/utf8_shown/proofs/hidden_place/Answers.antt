@@ -1,15 +1,13 @@
-use Prim.Native.Nat.{◌-◌}
-use mathlib.Core.Path.{sym, ap, ◌∙◌}
+use mathlib.Core.Path.{◌≡◌, sym, ap, ◌∙◌}
 use native.Mathlib.Omega.{arith}
 use lib.ListN.{length-drop}
-use borrow.Author.Rules.{rules}
 use Rattle.wire.proofs.Parts.{rest-lent}
-use Rattle.utf8_shown.specs.Shown.{is_hidden}
+use Rattle.utf8_shown.specs.Shown.{is_hidden, hidden_place}
 use Rattle.utf8_shown.proofs.HiddenLemmas.{hidden-here, hidden-later, hidden-end}
 use Rattle.utf8_shown.proofs.hidden_place.Goals as goal
 
 pub loop-at-init : goal.loop-at-init
-loop-at-init c = (search rules, omega arith)
+loop-at-init c = omega arith
 
 pub is_hidden-requires : goal.is_hidden-requires
 is_hidden-requires c =
@@ -20,14 +18,16 @@ pub returns-then-is_hidden : goal.returns-then-is_hidden
 returns-then-is_hidden c =
     let s = c.args.string.now in
     let hidden = ap is_hidden (sym (rest-lent s c.loop-at.at)) ∙ sym c.is_hidden.ensures ∙ c.if-is_hidden.true in
-    sym (c.loop-at.invariant.1 ∙ hidden-here s c.loop-at.at c.loop-at-test.true hidden)
+    sym (c.loop-at.invariant ∙ hidden-here s c.loop-at.at c.loop-at-test.true hidden)
 
 pub loop-at-preserved : goal.loop-at-preserved
 loop-at-preserved c =
     let s = c.args.string.now in
     let shown = ap is_hidden (sym (rest-lent s c.loop-at.at)) ∙ sym c.is_hidden.ensures ∙ c.if-is_hidden.false in
-    (search rules, c.loop-at.invariant.1 ∙ hidden-later s c.loop-at.at c.loop-at-test.true shown)
+    c.loop-at.invariant ∙ hidden-later s c.loop-at.at c.loop-at-test.true shown
 
 pub returns : goal.returns
 returns c =
-    sym (c.loop-at.invariant.1 ∙ hidden-end _ c.loop-at.at c.loop-at-test.false)
+    let s = c.args.string.now in
+    let e : hidden_place s ≡ c.loop-at.at = c.loop-at.invariant ∙ hidden-end s c.loop-at.at c.loop-at-test.false in
+    omega (arith, e)

@@ -6,20 +6,18 @@ use Rattle.ble_packet.proofs.reader.read_control.Goals as goal
 pub returns-then-not-exact : goal.returns-then-not-exact
 returns-then-not-exact c limit =
     sym (
-    control-judged limit c.args.packet.now c.args.s c.requires.0 c.requires.1
+    control-judged limit c.args.packet.now c.args.s c.requires
     ∙ rw (sym c.is_acknowledgement-exact.ensures ∙ not-true _ c.if-not-exact.true-raw)
     )
 
 pub returns-then-s : goal.returns-then-s
 returns-then-s c limit =
-    rw c.head-head.ensures
     (sym
-    (control-judged limit c.args.packet.now c.args.s c.requires.0 c.requires.1
+    (control-judged limit c.args.packet.now c.args.s c.requires
     ∙ rw (sym c.is_acknowledgement-exact.ensures ∙ not-false _ c.if-not-exact.false-raw, c.if-s.true)))
 
 pub returns : goal.returns
 returns c limit =
-    rw c.head-head.ensures
     (sym
-    (control-judged limit c.args.packet.now c.args.s c.requires.0 c.requires.1
+    (control-judged limit c.args.packet.now c.args.s c.requires
     ∙ rw (sym c.is_acknowledgement-exact.ensures ∙ not-false _ c.if-not-exact.false-raw, c.if-s.false)))

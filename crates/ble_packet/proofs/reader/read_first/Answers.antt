@@ -10,7 +10,7 @@ use Rattle.wire.specs.Bytes.{pair_of}
 use Rattle.wire.specs.Told.{given, refused, line, table}
 use Rattle.ble_packet.specs.declared.reader.Packet.TheVariants.{First}
 use Rattle.ble_packet.specs.Header.{reserved_byte, type_first}
-use Rattle.ble_packet.specs.Reader.{judged, head_by, fields_by_start}
+use Rattle.ble_packet.specs.Reader.{judged, fields_by_start}
 use Rattle.ble_packet.proofs.Reading.{first-judged}
 use Rattle.ble_packet.proofs.reader.read_first.Goals.{After-length_at-len, After-pair-total}
 use Rattle.ble_packet.proofs.reader.read_first.Goals as goal
@@ -27,9 +27,9 @@ table_at : (c : After-length_at-len) {total : ℕ}
     ∷ line 8 (ltb total c.length_at-len.result)
     ∷ [])
     refused
-    (given (First (head_by c.args.s) c.args.s.ack total c.header_size-start.result c.length_at-len.result)))
+    (given (First (c.args.s.head) c.args.s.ack total c.header_size-start.result c.length_at-len.result)))
 table_at c e =
-    first-judged c.args.limit c.args.packet.now c.args.s c.byte_at-reserved.ensures c.header_size-start.ensures.0 (rw c.length_place.ensures.0 at c.length_at-len.ensures.0) e c.requires.0 c.requires.1
+    first-judged c.args.limit c.args.packet.now c.args.s c.byte_at-reserved.ensures c.header_size-start.ensures.0 (rw c.length_place.ensures.0 at c.length_at-len.ensures.0) e c.requires
 
 total-at : (c : After-pair-total)
     → (c.pair-total.result ≡ pair_of (get_or c.args.packet.now 3 0) (get_or c.args.packet.now 4 0))
@@ -38,7 +38,7 @@ total-at c = rw (c.byte_at.ensures, c.byte_at-2.ensures) at c.pair-total.ensures
 pub returns-then-reserved-ne-RESERVED : goal.returns-then-reserved-ne-RESERVED
 returns-then-reserved-ne-RESERVED c =
     sym
-    (first-judged c.args.limit c.args.packet.now c.args.s c.byte_at-reserved.ensures refl refl refl c.requires.0 c.requires.1
+    (first-judged c.args.limit c.args.packet.now c.args.s c.byte_at-reserved.ensures refl refl refl c.requires
     ∙ rw (ne_eqb _ _ c.if-reserved-ne-RESERVED.true))
 
 pub returns-then-packet-start : goal.returns-then-packet-start
@@ -76,7 +76,6 @@ returns-then-total-len c =
 
 pub returns : goal.returns
 returns c =
-    rw c.head-head.ensures
     (sym
     (table_at (goal.at.returns c).After-length_at-len (total-at (goal.at.returns c).After-pair-total)
     ∙ rw (

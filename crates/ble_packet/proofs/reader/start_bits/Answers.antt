@@ -3,7 +3,6 @@ use Rattle.ble_packet.proofs.reader.start_bits.Goals as goal
 pub returns : goal.returns
 returns c =
     rw (
-      c.stream_bits.ensures,
       c.id_bits.ensures,
       c.sequence_bits.ensures,
       c.ack_bit.ensures,

@@ -32,8 +32,8 @@ returns-then-not-arguments_fit c = (
   tt,
 )
 
-pub piece_at-found-requires : goal.piece_at-found-requires
-piece_at-found-requires c =
+pub piece_at-requires : goal.piece_at-requires
+piece_at-requires c =
     room-low _ (sym c.room_fits.ensures ∙ not-false c.room_fits.result c.if-not-room_fits.false-raw)
 
 pub returns-then-space-room : goal.returns-then-space-room
@@ -46,16 +46,16 @@ returns-then-space-room c = (
     c.if-not-limit_fits.false-raw,
     ← c.arguments_fit.ensures,
     not-false c.arguments_fit.result c.if-not-arguments_fit.false-raw,
-    ← c.piece_at-found.ensures,
-    c.in-At.is,
+    ← c.piece_at.ensures,
+    c.in-Some.is,
     lt-ltb _ _ c.if-space-room.true,
   ),
   tt,
 )
 
-pub returns-in-Nowhere : goal.returns-in-Nowhere
+pub returns-in_default : goal.returns-in_default
 unfolding decided
-returns-in-Nowhere c = (
+returns-in_default c = (
   rw (
     ← c.room_fits.ensures,
     c.if-not-room_fits.false-raw,
@@ -63,15 +63,15 @@ returns-in-Nowhere c = (
     c.if-not-limit_fits.false-raw,
     ← c.arguments_fit.ensures,
     not-false c.arguments_fit.result c.if-not-arguments_fit.false-raw,
-    ← c.piece_at-found.ensures,
-    c.in-Nowhere.is,
+    ← c.piece_at.ensures,
+    c.in_default.is,
   ),
   tt,
 )
 
-pub returns-else-space-room : goal.returns-else-space-room
+pub returns : goal.returns
 unfolding decided
-returns-else-space-room c =
+returns c =
     let most = limit-range _ (sym c.limit_fits.ensures ∙ not-false c.limit_fits.result c.if-not-limit_fits.false-raw) in (
       rw (
         ← c.room_fits.ensures,
@@ -80,12 +80,12 @@ returns-else-space-room c =
         c.if-not-limit_fits.false-raw,
         ← c.arguments_fit.ensures,
         not-false c.arguments_fit.result c.if-not-arguments_fit.false-raw,
-        ← c.piece_at-found.ensures,
-        c.in-At.is,
+        ← c.piece_at.ensures,
+        c.in-Some.is,
         le-ltb _ _ c.if-space-room.false,
       ),
       found-writes c.args.limit c.args.how c.args.length c.args.space (omega (arith, most))
           (room-low _ (sym c.room_fits.ensures ∙ not-false c.room_fits.result c.if-not-room_fits.false-raw))
           (range-facts c.args.limit _ _ (sym c.arguments_fit.ensures ∙ not-false c.arguments_fit.result c.if-not-arguments_fit.false-raw))
-          c.if-space-room.false c.args.place _ (sym c.piece_at-found.ensures ∙ rw c.in-At.is),
+          c.if-space-room.false c.args.place _ (sym c.piece_at.ensures ∙ rw c.in-Some.is),
     )

@@ -8,5 +8,5 @@ copy-requires c = simp (length-take, length-drop) (omega arith)
 
 pub returns : goal.returns
 returns c =
-    rw (c.answer_for.ensures, c.copy.ensures, c.put_header-header.ensures.0)
+    rw (c.sent_for.ensures, c.copy.ensures, c.put_header-header.ensures.0)
     (packet-stored c.args.how c.args.message.now c.args.piece c.requires.inside c.args.out.now _ c.put_header-header.ensures.1)

@@ -6,18 +6,18 @@ pub returns-then-state-ne-STATE : goal.returns-then-state-ne-STATE
 unfolding extractor_open_of
 returns-then-state-ne-STATE c = rw (ne_eqb _ _ c.if-state-ne-STATE.true)
 
-pub returns-in-Empty : goal.returns-in-Empty
+pub returns-in-Ok : goal.returns-in-Ok
 unfolding extractor_open_of
-returns-in-Empty c =
+returns-in-Ok c =
     rw (
       eq-eqb _ _ c.if-state-ne-STATE.false,
       ← c.open.ensures,
-      c.in-Empty.is,
+      c.in-Ok.is,
       c.write_row.ensures,
       c.extractor_row-row.ensures,
     )
 
-pub returns-in-BadLimit : goal.returns-in-BadLimit
+pub returns-in-Err : goal.returns-in-Err
 unfolding extractor_open_of
-returns-in-BadLimit c =
-    rw (eq-eqb _ _ c.if-state-ne-STATE.false, ← c.open.ensures, c.in-BadLimit.is)
+returns-in-Err c =
+    rw (eq-eqb _ _ c.if-state-ne-STATE.false, ← c.open.ensures, c.wide64.ensures.0, c.number.ensures, c.in-Err.is)

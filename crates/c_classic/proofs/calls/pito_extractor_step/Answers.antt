@@ -1,5 +1,5 @@
 use mathlib.Core.Path.{sym, ◌∙◌}
-use borrow.Author.Tests.{eq-eqb, ne_eqb, not-true, not-false}
+use borrow.Author.Tests.{eq-eqb, ne_eqb}
 use Rattle.c_classic.specs.Calls.{extractor_step_of}
 use Rattle.c_classic.proofs.calls.pito_extractor_step.Goals as goal
 
@@ -13,12 +13,12 @@ returns-then-not-is_extractor c =
     rw (
       eq-eqb _ _ c.if-answer-ne-STEP_ANSWER.false,
       ← c.is_extractor.ensures,
-      not-true c.is_extractor.result c.if-not-is_extractor.true-raw,
+      c.if-not-is_extractor.true,
     )
 
 pub step_fitting-requires : goal.step_fitting-requires
 step_fitting-requires c =
-    (sym c.is_extractor.ensures ∙ not-false c.is_extractor.result c.if-not-is_extractor.false-raw, c.if-answer-ne-STEP_ANSWER.false)
+    (sym c.is_extractor.ensures ∙ c.if-not-is_extractor.false, c.if-answer-ne-STEP_ANSWER.false)
 
 pub returns : goal.returns
 unfolding extractor_step_of
@@ -26,6 +26,6 @@ returns c =
     rw (
       eq-eqb _ _ c.if-answer-ne-STEP_ANSWER.false,
       ← c.is_extractor.ensures,
-      not-false c.is_extractor.result c.if-not-is_extractor.false-raw,
+      c.if-not-is_extractor.false,
     )
     c.step_fitting.ensures

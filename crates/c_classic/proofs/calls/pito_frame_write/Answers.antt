@@ -15,5 +15,5 @@ returns c =
       ← c.write_frame-outcome.ensures,
       c.tell.ensures.0,
       c.tell.ensures.1,
-      c.frame_count.ensures,
+      c.told.ensures,
     )

@@ -6,38 +6,26 @@ pub returns-then-state-ne-STATE : goal.returns-then-state-ne-STATE
 unfolding frame_begin_of
 returns-then-state-ne-STATE c = rw (ne_eqb _ _ c.if-state-ne-STATE.true)
 
-pub returns-in-Ready : goal.returns-in-Ready
+pub returns-in-Ok : goal.returns-in-Ok
 unfolding frame_begin_of
-returns-in-Ready c =
+returns-in-Ok c =
     rw (
       eq-eqb _ _ c.if-state-ne-STATE.false,
       ← c.byte_or-sequence.ensures,
-      ← c.begin-begun.ensures,
-      c.in-Ready.is,
+      ← c.begin.ensures,
+      c.in-Ok.is,
       c.write_row.ensures,
       c.state_row-row.ensures,
     )
 
-pub returns-in-BadLimit : goal.returns-in-BadLimit
+pub returns-in-Err : goal.returns-in-Err
 unfolding frame_begin_of
-returns-in-BadLimit c =
+returns-in-Err c =
     rw (
       eq-eqb _ _ c.if-state-ne-STATE.false,
       ← c.byte_or-sequence.ensures,
-      ← c.begin-begun.ensures,
+      ← c.begin.ensures,
       c.wide64.ensures.0,
       c.number.ensures,
-      c.in-BadLimit.is,
-    )
-
-pub returns-in-BadArgument : goal.returns-in-BadArgument
-unfolding frame_begin_of
-returns-in-BadArgument c =
-    rw (
-      eq-eqb _ _ c.if-state-ne-STATE.false,
-      ← c.byte_or-sequence.ensures,
-      ← c.begin-begun.ensures,
-      c.wide64-in-BadArgument.ensures.0,
-      c.number-in-BadArgument.ensures,
-      c.in-BadArgument.is,
+      c.in-Err.is,
     )

@@ -1,5 +1,5 @@
 use mathlib.Core.Path.{sym, ◌∙◌}
-use borrow.Author.Tests.{eq-eqb, ne_eqb, not-true, not-false}
+use borrow.Author.Tests.{eq-eqb, ne_eqb}
 use Rattle.c_classic_parts.specs.Calls.{frame_part_of}
 use Rattle.c_classic_parts.proofs.calls.pito_frame_part.Goals as goal
 
@@ -9,11 +9,11 @@ returns-then-answer-ne-PART_ANSWER c = rw (ne_eqb _ _ c.if-answer-ne-PART_ANSWER
 
 pub returns-then-not-is_state : goal.returns-then-not-is_state
 unfolding frame_part_of
-returns-then-not-is_state c = rw (eq-eqb _ _ c.if-answer-ne-PART_ANSWER.false, ← c.is_state.ensures, not-true c.is_state.result c.if-not-is_state.true-raw)
+returns-then-not-is_state c = rw (eq-eqb _ _ c.if-answer-ne-PART_ANSWER.false, ← c.is_state.ensures, c.if-not-is_state.true)
 
 pub part_fitting-requires : goal.part_fitting-requires
 part_fitting-requires c =
-    (sym c.is_state.ensures ∙ not-false c.is_state.result c.if-not-is_state.false-raw, c.if-answer-ne-PART_ANSWER.false)
+    (sym c.is_state.ensures ∙ c.if-not-is_state.false, c.if-answer-ne-PART_ANSWER.false)
 
 pub returns : goal.returns
 unfolding frame_part_of
@@ -21,6 +21,6 @@ returns c =
     rw (
       eq-eqb _ _ c.if-answer-ne-PART_ANSWER.false,
       ← c.is_state.ensures,
-      not-false c.is_state.result c.if-not-is_state.false-raw,
+      c.if-not-is_state.false,
     )
     c.part_fitting.ensures

@@ -1,11 +1,7 @@
-use Prim.Native.Nat.{◌+◌, ◌*◌, ◌-◌, ◌≤◌}
 use mathlib.Core.Path.{◌≡◌}
 use lib.ListN.{length, take}
 use Rattle.c_firmware_rows.specs.Apply.{components_at}
 use Rattle.c_firmware_rows.proofs.apply.components_at.Given as goal
 
 abbrev pub invariant-loop-i : goal.invariant-loop-i
-invariant-loop-i l = (l.i ≤ 8) × (l.at ≡ 9 + 6 * l.i) × (length l.components ≡ 8) × (take l.i l.components ≡ components_at l.i l.row 9)
-
-abbrev pub decreases-loop-i : goal.decreases-loop-i
-decreases-loop-i l = 8 - l.i
+invariant-loop-i l = (length l.components ≡ 8) × (take l.i l.components ≡ components_at l.i l.row 9)

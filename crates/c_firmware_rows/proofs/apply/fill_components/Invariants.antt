@@ -1,4 +1,3 @@
-use Prim.Native.Nat.{◌+◌, ◌*◌, ◌-◌, ◌≤◌}
 use mathlib.Core.Path.{◌≡◌}
 use lib.ListN.{length, take}
 use lib.Seq.{sets}
@@ -6,7 +5,4 @@ use Rattle.c_firmware_rows.specs.Apply.{component_rows}
 use Rattle.c_firmware_rows.proofs.apply.fill_components.Given as goal
 
 abbrev pub invariant-loop-i : goal.invariant-loop-i
-invariant-loop-i l = (l.i ≤ 8) × (l.at ≡ 9 + 6 * l.i) × (length l.row ≡ length l.initial.row) × (l.row ≡ sets l.initial.row 9 (component_rows (take l.i l.components)))
-
-abbrev pub decreases-loop-i : goal.decreases-loop-i
-decreases-loop-i l = 8 - l.i
+invariant-loop-i l = (length l.row ≡ length l.initial.row) × (l.row ≡ sets l.initial.row 9 (component_rows (take l.i l.components)))

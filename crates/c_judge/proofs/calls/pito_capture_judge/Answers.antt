@@ -1,4 +1,7 @@
 use borrow.Author.Tests.{eq-eqb, ne_eqb}
+use Rattle.capture_reader.specs.Capture.{told_at}
+use Rattle.capture_reader.proofs.Placed.{number-at, number-then}
+use Rattle.capture_judge.specs.Capture.{number_of, answer_told}
 use Rattle.c_judge.specs.Calls.{capture_judge_of}
 use Rattle.c_judge.proofs.calls.pito_capture_judge.Goals as goal
 
@@ -13,7 +16,8 @@ returns c =
       eq-eqb _ _ c.if-answer-ne-JUDGE_ANSWER.false,
       ← c.judge_capture-judged.ensures,
       c.put.ensures,
-      c.wide64-number.ensures.0,
-      c.number.ensures,
+      c.number_of_result-number.ensures,
+      number-at number_of c.judge_capture-judged.result,
+      ← number-then (told_at number_of c.judge_capture-judged.result) (λ verdict. answer_told verdict),
       c.judged_row-row.ensures,
     )

@@ -1,4 +1,6 @@
 use borrow.Author.Tests.{eq-eqb, ne_eqb}
+use Rattle.capture_reader.proofs.Placed.{number-at}
+use Rattle.capture_judge.specs.Capture.{number_of}
 use Rattle.c_judge.specs.Calls.{capture_why_of}
 use Rattle.c_judge.proofs.calls.pito_capture_why.Goals as goal
 
@@ -11,10 +13,10 @@ unfolding capture_why_of
 returns c =
     rw (
       eq-eqb _ _ c.if-answer-ne-WHY_ANSWER.false,
-      ← c.trace-traced.ensures,
+      ← c.trace.ensures,
       ← c.explain-why.ensures,
       c.put.ensures,
-      c.wide64-number.ensures.0,
-      c.number.ensures,
+      c.number_of_result-number.ensures,
+      number-at number_of c.explain-why.result,
       c.why_row-row.ensures,
     )

@@ -1,4 +1,3 @@
-use Prim.Native.Nat.{◌-◌}
 use native.Mathlib.Omega.{arith}
 use mathlib.Core.Path.{◌≡◌, refl, ◌∙◌}
 use lib.ListN.{length, get_or, length-set}
@@ -16,7 +15,7 @@ loop-i-preserved c =
     let row = c.args.row.now in (
       omega arith,
       length-set c.loop-i.list c.loop-i.i _ ∙ c.loop-i.invariant.1,
-      rw (signed-kept _ (get_or row c.loop-i.i 0) c.low_signed-value.ensures)
+      rw (signed-kept _ (get_or row c.loop-i.i 0) c.low_signed.ensures)
           (mapped-more signed_of c.loop-i.list row c.loop-i.i c.loop-i.invariant.2 0 (search rules) (omega (arith, c.requires))),
     )
 

@@ -1,4 +1,3 @@
-use Prim.Native.Nat.{◌-◌}
 use native.Mathlib.Omega.{arith}
 use mathlib.Core.Path.{refl, sym, ◌∙◌}
 use lib.IntN.{pos}
@@ -16,9 +15,9 @@ loop-i-init c = (search rules, refl, refl)
 pub loop-i-preserved : goal.loop-i-preserved
 loop-i-preserved c =
     let list = c.args.list.now in
-    let value = c.sign_extended-value.ensures ∙ entry_read (get_or list c.loop-i.i (pos 0)) c.sign_extended-arg-1.given in (
+    let value = c.sign_extended.ensures ∙ entry_read (get_or list c.loop-i.i (pos 0)) c.sign_extended-arg-1.given in (
       omega arith,
-      length-set c.loop-i.row c.loop-i.i c.sign_extended-value.result ∙ c.loop-i.invariant.1,
+      length-set c.loop-i.row c.loop-i.i c.sign_extended.result ∙ c.loop-i.invariant.1,
       rw value (mapped-more extended c.loop-i.row list c.loop-i.i c.loop-i.invariant.2 (pos 0) (omega (arith, c.requires)) (omega arith)),
     )
 

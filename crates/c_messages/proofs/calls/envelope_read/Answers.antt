@@ -13,6 +13,6 @@ returns c =
       eq-eqb _ _ c.if-answer-ne-ENVELOPE_ANSWER.false,
       ← c.read_envelope-read.ensures.result_value,
       c.put.ensures,
-      c.envelope_number-number.ensures,
+      c.number_of_result-number.ensures,
       c.envelope_row-row.ensures,
     )

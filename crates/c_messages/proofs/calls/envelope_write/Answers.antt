@@ -17,5 +17,5 @@ returns c =
       ← c.write_envelope-wrote.ensures,
       c.tell.ensures.0,
       c.tell.ensures.1,
-      c.count_of.ensures,
+      c.told.ensures,
     )

@@ -13,6 +13,6 @@ returns c =
       eq-eqb _ _ c.if-answer-ne-FEATURES_ANSWER.false,
       ← c.read_features-read.ensures,
       c.put.ensures,
-      c.features_number-number.ensures,
+      c.number_of_result-number.ensures,
       c.features_row-row.ensures,
     )

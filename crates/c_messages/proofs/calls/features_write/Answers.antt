@@ -14,5 +14,5 @@ returns c =
       ← c.write_features-wrote.ensures,
       c.tell.ensures.0,
       c.tell.ensures.1,
-      c.count_of.ensures,
+      c.told.ensures,
     )

@@ -30,8 +30,8 @@ returns-then-not-all_signed c =
       c.tell_wrote-then-not-all_signed.ensures.1,
     )
 
-pub slice_bounds-write_information-end : goal.slice_bounds-write_information-end
-slice_bounds-write_information-end c = rw (c.signed_list-list.ensures, length-map)
+pub slice_bounds-wanted-end : goal.slice_bounds-wanted-end
+slice_bounds-wanted-end c = rw (c.signed_list-list.ensures, length-map)
 
 pub returns : goal.returns
 unfolding information_write_of

@@ -13,6 +13,6 @@ returns c =
       eq-eqb _ _ c.if-answer-ne-RESPONSE_ANSWER.false,
       ← c.read_response-read.ensures.result_value,
       c.put.ensures,
-      c.response_number-number.ensures,
+      c.number_of_result-number.ensures,
       c.response_row-row.ensures,
     )

@@ -1,5 +1,6 @@
 use borrow.Author.Tests.{eq-eqb, ne_eqb}
 use Rattle.c_outbox.specs.Calls.{outbox_new_of}
+use Rattle.c_outbox.proofs.Told.{new-number, new-size}
 use Rattle.c_outbox.proofs.calls.pito_outbox_new.Goals as goal
 
 pub returns-then-answer-ne-COUNT_ANSWER : goal.returns-then-answer-ne-COUNT_ANSWER
@@ -14,5 +15,7 @@ returns c =
       ← c.create-created.ensures,
       c.tell.ensures.0,
       c.tell.ensures.1,
-      c.created_count.ensures,
+      c.told.ensures,
+      new-number c.create-created.result,
+      new-size c.create-created.result,
     )

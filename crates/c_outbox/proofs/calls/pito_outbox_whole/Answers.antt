@@ -1,5 +1,6 @@
 use borrow.Author.Tests.{eq-eqb, ne_eqb}
 use Rattle.c_outbox.specs.Calls.{outbox_whole_of}
+use Rattle.c_outbox.proofs.Told.{walk-number}
 use Rattle.c_outbox.proofs.calls.pito_outbox_whole.Goals as goal
 
 pub returns-then-answer-ne-WHOLE_ANSWER : goal.returns-then-answer-ne-WHOLE_ANSWER
@@ -14,6 +15,7 @@ returns c =
       ← c.walk-walked.ensures,
       c.put.ensures,
       c.wide64-number.ensures.0,
-      c.number.ensures,
+      c.number_in.ensures,
+      walk-number c.walk-walked.result,
       c.whole_row-row.ensures,
     )

@@ -16,6 +16,6 @@ returns c =
       ← c.extender_bit-extended.ensures,
       ← c.read_front-front.ensures,
       c.put.ensures,
-      c.front_number-number.ensures,
+      c.number_of_result-number.ensures,
       c.front_row-row.ensures,
     )

@@ -1,4 +1,4 @@
 use Rattle.c_packets.proofs.convert.front_row.Goals as goal
 
-pub returns-in-Read : goal.returns-in-Read
-returns-in-Read c = rw c.in-Read.is c.packet_row.ensures
+pub returns-in-Ok : goal.returns-in-Ok
+returns-in-Ok c = rw c.in-Ok.is c.packet_row.ensures

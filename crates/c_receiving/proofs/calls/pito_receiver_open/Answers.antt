@@ -6,12 +6,12 @@ pub returns-then-state-ne-STATE : goal.returns-then-state-ne-STATE
 unfolding receiver_open_of
 returns-then-state-ne-STATE c = rw (ne_eqb _ _ c.if-state-ne-STATE.true)
 
-pub returns-in-Link : goal.returns-in-Link
+pub returns-in-Ok : goal.returns-in-Ok
 unfolding receiver_open_of
-returns-in-Link c =
-    rw (eq-eqb _ _ c.if-state-ne-STATE.false, ← c.open.ensures, c.in-Link.is, c.write_row.ensures)
+returns-in-Ok c =
+    rw (eq-eqb _ _ c.if-state-ne-STATE.false, ← c.open.ensures, c.in-Ok.is, c.write_row.ensures)
 
-pub returns-in-BadLimit : goal.returns-in-BadLimit
+pub returns-in-Err : goal.returns-in-Err
 unfolding receiver_open_of
-returns-in-BadLimit c =
-    rw (eq-eqb _ _ c.if-state-ne-STATE.false, ← c.open.ensures, c.in-BadLimit.is)
+returns-in-Err c =
+    rw (eq-eqb _ _ c.if-state-ne-STATE.false, ← c.open.ensures, c.in-Err.is, c.wide64.ensures.0, c.number.ensures)

@@ -8,10 +8,10 @@ returns-then-answer-eq-ANSWER c =
     rw (
       eq-eqb _ _ c.if-answer-eq-ANSWER.true,
       c.put.ensures,
-      c.answer_number-number.ensures,
+      c.number_of_result-number.ensures,
       c.answer_row-row.ensures,
     )
 
 pub returns-else-answer-eq-ANSWER : goal.returns-else-answer-eq-ANSWER
 unfolding told_row
-returns-else-answer-eq-ANSWER c = rw (ne_eqb _ _ c.if-answer-eq-ANSWER.false, c.answer_number-number.ensures)
+returns-else-answer-eq-ANSWER c = rw (ne_eqb _ _ c.if-answer-eq-ANSWER.false, c.number_of_result-number.ensures)

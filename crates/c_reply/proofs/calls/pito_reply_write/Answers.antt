@@ -19,8 +19,8 @@ pub slice_bounds-list-end : goal.slice_bounds-list-end
 slice_bounds-list-end c =
     let h = few-most c.args.transports.now (sym c.few_signed.ensures ∙ c.if-few_signed.true) in omega (arith, h)
 
-pub slice_bounds-few-end : goal.slice_bounds-few-end
-slice_bounds-few-end c = rw (c.signed_list-list.ensures, length-map)
+pub slice_bounds-information-end : goal.slice_bounds-information-end
+slice_bounds-information-end c = rw (c.signed_list-list.ensures, length-map)
 
 pub returns-then-few_signed : goal.returns-then-few_signed
 unfolding reply_write_of
@@ -32,7 +32,7 @@ returns-then-few_signed c =
       ← c.signed_list-list.ensures,
       ← c.link_for-link.ensures,
       ← c.members_for-members.ensures,
-      ← c.features_for-own.ensures,
+      ← c.features_for-features.ensures,
       ← c.write_reply-reply.ensures,
       c.tell_reply.ensures.0,
       c.tell_reply.ensures.1,
@@ -47,7 +47,7 @@ returns c =
       c.if-few_signed.false,
       ← c.link_for-link.ensures,
       ← c.members_for-members.ensures,
-      ← c.features_for-own.ensures,
+      ← c.features_for-features.ensures,
       ← c.write_reply-reply-2.ensures,
       c.tell_reply-2.ensures.0,
       c.tell_reply-2.ensures.1,

@@ -4,6 +4,8 @@ use lib.Dec.{eqb}
 use lib.ListN.{length}
 use borrow.Author.Tests.{eqb-true, not-true, not-false}
 use Rattle.wire.proofs.Tests.{and_left, and_right}
+use Rattle.capture_reader.proofs.Placed.{number-at}
+use Rattle.capture_tally.specs.Tally.{number_of}
 use Rattle.c_report.specs.Calls.{told_rows}
 use Rattle.c_report.proofs.calls.tell_added.Goals as goal
 
@@ -31,7 +33,7 @@ returns c =
       not-false c.both-fits.result c.if-not-fits.false-raw,
       c.put.ensures,
       c.put_report.ensures,
-      c.wide64-number.ensures.0,
-      c.number.ensures,
+      c.number_of_result-number.ensures,
+      number-at number_of c.args.done,
       c.place_row-place.ensures,
     )

@@ -17,5 +17,5 @@ returns c =
       ← c.write-outcome.ensures,
       c.tell.ensures.0,
       c.tell.ensures.1,
-      c.ack_count.ensures,
+      c.told.ensures,
     )

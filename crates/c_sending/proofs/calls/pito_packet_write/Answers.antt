@@ -14,6 +14,6 @@ returns c =
       ← c.sending-how.ensures,
       ← c.write_packet-outcome.ensures,
       c.put.ensures,
-      c.packet_number-number.ensures,
+      c.number_of_result-number.ensures,
       c.packet_row-row.ensures,
     )

@@ -22,7 +22,6 @@ returns c =
       rest-lent bytes c.smaller-start.result,
       c.smaller-start.ensures.0,
       drop-smaller bytes settings (ltb (length bytes) settings) refl,
-      c.limit_in-limit.ensures,
-      c.room_in-room.ensures,
+      c.settings_in.ensures,
       le-ltb (settings + largest_capture) (length bytes) c.if-input.false,
     )

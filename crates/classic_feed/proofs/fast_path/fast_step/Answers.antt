@@ -6,7 +6,7 @@ use Rattle.classic_feed.proofs.fast_path.fast_step.Goals as goal
 
 pub returns-then-b-eq-START : goal.returns-then-b-eq-START
 returns-then-b-eq-START c =
-    rw (c.if-b-eq-START.true, c.at_start.ensures, c.begun.ensures) (start-advance c.args.limit c.args.state c.args.buffer.now)
+    rw (c.if-b-eq-START.true, c.at_start.ensures.0, c.at_start.ensures.1) (start-advance c.args.limit c.args.state c.args.buffer.now)
 
 pub returns-in-Outside : goal.returns-in-Outside
 returns-in-Outside c =

@@ -11,8 +11,8 @@ use Rattle.classic_writer.proofs.writer.has_room.Goals as goal
 
 pub returns-then-payload-room : goal.returns-then-payload-room
 returns-then-payload-room c =
-    sym (le-leb (length (framed c.args.sequence (c.args.payload.now ++ (c.args.high ∷ c.args.low ∷ [])))) c.args.room (omega (arith, frame-most c.args.sequence c.args.payload.now c.args.high c.args.low)))
+    sym (le-leb (length (framed c.args.sequence (c.args.payload.now ++ (c.args.sum.high ∷ c.args.sum.low ∷ [])))) c.args.room (omega (arith, frame-most c.args.sequence c.args.payload.now c.args.sum.high c.args.sum.low)))
 
 pub returns : goal.returns
 returns c =
-    ap (λ (n : ℕ). leb n c.args.room) (omega (arith, frame-length c.args.sequence c.args.payload.now c.args.high c.args.low, c.width-2.ensures, c.width.ensures, c.escaped_size.ensures))
+    ap (λ (n : ℕ). leb n c.args.room) (omega (arith, frame-length c.args.sequence c.args.payload.now c.args.sum.high c.args.sum.low, c.width-2.ensures, c.width.ensures, c.escaped_size.ensures))

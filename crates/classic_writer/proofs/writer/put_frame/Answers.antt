@@ -8,27 +8,27 @@ use Rattle.classic_writer.proofs.writer.put_frame.Goals as goal
 
 pub put_header-requires : goal.put_header-requires
 put_header-requires c =
-    omega (arith, frame-length c.args.sequence c.args.payload.now c.args.high c.args.low)
+    omega (arith, frame-length c.args.sequence c.args.payload.now c.args.sum.high c.args.sum.low)
 
 pub put_all-after_payload-requires : goal.put_all-after_payload-requires
 put_all-after_payload-requires c =
-    omega (arith, frame-length c.args.sequence c.args.payload.now c.args.high c.args.low)
+    omega (arith, frame-length c.args.sequence c.args.payload.now c.args.sum.high c.args.sum.low)
 
 pub put_escaped-after_high-requires : goal.put_escaped-after_high-requires
 put_escaped-after_high-requires c =
-    omega (arith, frame-length c.args.sequence c.args.payload.now c.args.high c.args.low)
+    omega (arith, frame-length c.args.sequence c.args.payload.now c.args.sum.high c.args.sum.low)
 
 pub put_escaped-after_low-requires : goal.put_escaped-after_low-requires
 put_escaped-after_low-requires c =
-    omega (arith, frame-length c.args.sequence c.args.payload.now c.args.high c.args.low)
+    omega (arith, frame-length c.args.sequence c.args.payload.now c.args.sum.high c.args.sum.low)
 
 pub bounds-out-after_low : goal.bounds-out-after_low
 bounds-out-after_low c =
-    omega (arith, frame-length c.args.sequence c.args.payload.now c.args.high c.args.low)
+    omega (arith, frame-length c.args.sequence c.args.payload.now c.args.sum.high c.args.sum.low)
 
 pub overflow_add-result : goal.overflow_add-result
 overflow_add-result c =
-    omega (arith, frame-length c.args.sequence c.args.payload.now c.args.high c.args.low)
+    omega (arith, frame-length c.args.sequence c.args.payload.now c.args.sum.high c.args.sum.low)
 
 pub shape_of-out : goal.shape_of-out
 shape_of-out c =
@@ -36,7 +36,7 @@ shape_of-out c =
 
 pub returns : goal.returns
 returns c = (
-  omega (arith, frame-length c.args.sequence c.args.payload.now c.args.high c.args.low),
+  omega (arith, frame-length c.args.sequence c.args.payload.now c.args.sum.high c.args.sum.low),
   rw (
     c.put_escaped-after_low.ensures.1,
     c.put_escaped-after_low.ensures.0,
@@ -46,5 +46,5 @@ returns c = (
     c.put_all-after_payload.ensures.0,
     c.put_header.ensures,
   )
-      (sym (frame-sets c.args.sequence c.args.payload.now c.args.high c.args.low c.args.out.now)),
+      (sym (frame-sets c.args.sequence c.args.payload.now c.args.sum.high c.args.sum.low c.args.out.now)),
 )

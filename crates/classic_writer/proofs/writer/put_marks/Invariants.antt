@@ -8,6 +8,3 @@ use Rattle.classic_writer.proofs.writer.put_marks.Given as goal
 abbrev pub invariant-loop-end : goal.invariant-loop-end
 invariant-loop-end l =
     (length l.out ≡ length l.initial.out) × (l.at ≡ l.place + 2 * (l.end - l.i)) × Left l.bytes l.initial.out l.place l.i l.out l.at l.end
-
-abbrev pub decreases-loop-end : goal.decreases-loop-end
-decreases-loop-end l = length l.bytes - l.end

@@ -9,7 +9,7 @@ returns-then-is_mark c = rw (sym c.limit_fits.ensures ∙ c.if-limit_fits.false)
 
 pub write_within-requires : goal.write_within-requires
 write_within-requires c =
-    (sym c.limit_fits-2.ensures ∙ c.if-limit_fits-2.true, sym c.is_mark.ensures ∙ c.if-is_mark.false)
+    (sym c.limit_fits-2.ensures ∙ c.if-not-limit_fits.false, sym c.is_mark.ensures ∙ c.if-is_mark.false)
 
-pub returns-else-limit_fits-2 : goal.returns-else-limit_fits-2
-returns-else-limit_fits-2 c = rw (sym c.limit_fits-2.ensures ∙ c.if-limit_fits-2.false)
+pub returns-then-not-limit_fits : goal.returns-then-not-limit_fits
+returns-then-not-limit_fits c = rw (sym c.limit_fits-2.ensures ∙ c.if-not-limit_fits.true)

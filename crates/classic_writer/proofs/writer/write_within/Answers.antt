@@ -15,11 +15,11 @@ has_room-requires c =
     omega (arith, (limit-range c.args.limit c.requires.0).1, c.if-limit-payload.false)
 
 pub put_frame-requires : goal.put_frame-requires
-put_frame-requires c = leb-true _ _ (sym c.has_room.ensures ∙ c.if-has_room.true)
+put_frame-requires c = leb-true _ _ (sym c.has_room.ensures ∙ c.if-not-has_room.false)
 
-pub returns-then-has_room : goal.returns-then-has_room
-returns-then-has_room c =
-    let fits : length (frame_of c.args.sequence c.args.payload.now) ≤ length c.args.out.now = rw (← c.checksum-sum.ensures.0) (leb-true _ _ (sym c.has_room.ensures ∙ c.if-has_room.true)) in
+pub returns : goal.returns
+returns c =
+    let fits : length (frame_of c.args.sequence c.args.payload.now) ≤ length c.args.out.now = rw (← c.checksum-total.ensures.0) (leb-true _ _ (sym c.has_room.ensures ∙ c.if-not-has_room.false)) in
     rw (
       c.requires.0,
       c.requires.1,
@@ -27,12 +27,12 @@ returns-then-has_room c =
       le-ltb _ _ fits,
       c.put_frame.ensures.0,
       c.put_frame.ensures.1,
-      c.checksum-sum.ensures.0,
+      c.checksum-total.ensures.0,
     )
 
-pub returns-else-has_room : goal.returns-else-has_room
-returns-else-has_room c =
-    let short : length c.args.out.now < length (frame_of c.args.sequence c.args.payload.now) = rw (← c.checksum-sum.ensures.0) (leb-false _ _ (sym c.has_room.ensures ∙ c.if-has_room.false)) in
+pub returns-then-not-has_room : goal.returns-then-not-has_room
+returns-then-not-has_room c =
+    let short : length c.args.out.now < length (frame_of c.args.sequence c.args.payload.now) = rw (← c.checksum-total.ensures.0) (leb-false _ _ (sym c.has_room.ensures ∙ c.if-not-has_room.true)) in
     rw (
       c.requires.0,
       c.requires.1,

@@ -1,9 +1,9 @@
-use Prim.Native.Nat.{◌+◌, ◌-◌, ◌≤◌}
+use Prim.Native.Nat.{◌+◌}
 use mathlib.Core.Path.{refl, sym, ap, ◌∙◌}
 use mathlib.Core.List.{map}
-use mathlib.Core.Bool.{false}
 use native.Mathlib.Omega.{arith}
-use lib.ListN.{length, take, drop, get_or}
+use lib.ListN.{length, drop, get_or}
+use Rattle.std.specs.Prelude.{Some}
 use Rattle.proto_writer.specs.Writer.{message_bytes}
 use Rattle.proto_writer.specs.Message.{less_room}
 use Rattle.msg_firmware.specs.Component.{no_component}
@@ -12,29 +12,39 @@ use Rattle.proto_writer.proofs.Rooms.{room-end, room-more}
 use Rattle.msg_apply_writer.proofs.Texts.{components-fine}
 use Rattle.msg_apply_writer.proofs.Listed.{listed_here, listed-end}
 use borrow.Author.Rules.{rules}
-use Rattle.msg_apply_writer.proofs.information.components_room.Goals.{Start}
 use Rattle.msg_apply_writer.proofs.information.components_room.Goals as goal
 
--- there are no more than the array holds
-long : (c : Start) → c.args.count ≤ length c.args.components
-long c = omega (arith, c.requires.0, c.well_formed.1.1.0.1.0.1)
+pub loop-component-init : goal.loop-component-init
+loop-component-init c = (search rules, c.requires, refl)
 
-pub loop-i-init : goal.loop-i-init
-loop-i-init c = (search rules, c.requires.1, refl)
+pub room_after_component-requires : goal.room_after_component-requires
+room_after_component-requires c =
+    let i = c.loop-component.component-index in
+    let here = listed_here c.args.components.now i c.loop-component-test.true in
+    (components-fine c.args.texts.now (get_or c.args.components.now i no_component) (drop (i + 1) c.args.components.now) (rw here at c.loop-component.invariant.1)).0
 
-pub component_field_room-left-requires : goal.component_field_room-left-requires
-component_field_room-left-requires c =
-    (components-fine c.args.texts.now (get_or c.args.components c.loop-i.i no_component) (drop (c.loop-i.i + 1) (take c.args.count c.args.components)) (rw (listed_here c.args.components c.args.count c.loop-i.i (long (goal.at.component_field_room-left-requires c).Start) c.loop-i-test.true) at c.loop-i.invariant.1)).0
+pub returns-in_err-left : goal.returns-in_err-left
+returns-in_err-left c =
+    let i = c.loop-component.component-index in
+    let here = listed_here c.args.components.now i c.loop-component-test.true in
+    let one = get_or c.args.components.now i no_component in
+    let rest = drop (i + 1) c.args.components.now in
+    let more = room-more (component_field c.args.texts.now one) (map (component_field c.args.texts.now) rest) (Some c.loop-component.left) refl c.in_err-left.ensures refl in
+    rw c.from_residual.ensures
+    (more ∙ sym (c.loop-component.invariant.2 ∙ ap (λ cs. less_room (length (message_bytes (map (component_field c.args.texts.now) cs))) (Some c.loop-component.left)) here))
 
-pub loop-i-preserved : goal.loop-i-preserved
-loop-i-preserved c =
-    let here = listed_here c.args.components c.args.count c.loop-i.i (long (goal.at.loop-i-preserved c).Start) c.loop-i-test.true in
-    let more = room-more (component_field c.args.texts.now (get_or c.args.components c.loop-i.i no_component)) (map (component_field c.args.texts.now) (drop (c.loop-i.i + 1) (take c.args.count c.args.components))) c.loop-i.left refl c.component_field_room-left.ensures refl in (
+pub loop-component-preserved : goal.loop-component-preserved
+loop-component-preserved c =
+    let i = c.loop-component.component-index in
+    let here = listed_here c.args.components.now i c.loop-component-test.true in
+    let one = get_or c.args.components.now i no_component in
+    let rest = drop (i + 1) c.args.components.now in
+    let more = room-more (component_field c.args.texts.now one) (map (component_field c.args.texts.now) rest) (Some c.loop-component.left) refl c.in_ok-left.ensures refl in (
       omega arith,
-      (components-fine c.args.texts.now (get_or c.args.components c.loop-i.i no_component) (drop (c.loop-i.i + 1) (take c.args.count c.args.components)) (rw here at c.loop-i.invariant.1)).1,
-      c.loop-i.invariant.2 ∙ ap (λ cs. less_room (length (message_bytes (map (component_field c.args.texts.now) cs))) c.loop-i.left) here ∙ sym more,
+      (components-fine c.args.texts.now one rest (rw here at c.loop-component.invariant.1)).1,
+      c.loop-component.invariant.2 ∙ ap (λ cs. less_room (length (message_bytes (map (component_field c.args.texts.now) cs))) (Some c.loop-component.left)) here ∙ sym more,
     )
 
 pub returns : goal.returns
 returns c =
-    sym (c.loop-i.invariant.2 ∙ ap (λ cs. less_room (length (message_bytes (map (component_field c.args.texts.now) cs))) c.loop-i.left) (listed-end c.args.components c.args.count c.loop-i.i (long (goal.at.returns c).Start) c.loop-i-test.false) ∙ sym (room-end c.loop-i.left))
+    sym (c.loop-component.invariant.2 ∙ ap (λ cs. less_room (length (message_bytes (map (component_field c.args.texts.now) cs))) (Some c.loop-component.left)) (listed-end c.args.components.now c.loop-component.component-index c.loop-component-test.false) ∙ sym (room-end (Some c.loop-component.left)))

@@ -20,10 +20,13 @@ pub put_text_part-third-requires : goal.put_text_part-third-requires
 put_text_part-third-requires c =
     (search rules, (firmware-fine c.args.texts.now c.args.information c.requires.0).name, omega (arith, c.requires.1, firmware-length c.args.texts.now c.args.information, c.put_scalar-second.ensures.place, c.put_scalar-second.auto.out))
 
+pub shared_ref_as_front-put_components : goal.shared_ref_as_front-put_components
+shared_ref_as_front-put_components c = (firmware-fine c.args.texts.now c.args.information c.requires.0).most
+
 pub put_components-fourth-requires : goal.put_components-fourth-requires
 put_components-fourth-requires c =
     let f = firmware-fine c.args.texts.now c.args.information c.requires.0 in
-    (f.most, f.components, omega (arith, c.requires.1, firmware-length c.args.texts.now c.args.information, c.put_scalar-second.ensures.place, c.put_scalar-second.auto.out, c.put_text_part-third.ensures.place, c.put_text_part-third.auto.out))
+    (f.components, omega (arith, c.requires.1, firmware-length c.args.texts.now c.args.information, c.put_scalar-second.ensures.place, c.put_scalar-second.auto.out, c.put_text_part-third.ensures.place, c.put_text_part-third.auto.out))
 
 pub put_text_part-fifth-requires : goal.put_text_part-fifth-requires
 put_text_part-fifth-requires c =

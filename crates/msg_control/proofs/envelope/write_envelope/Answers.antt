@@ -44,9 +44,9 @@ returns-then-out-len c =
 pub put_scalar-next-requires : goal.put_scalar-next-requires
 put_scalar-next-requires c = (search rules, omega (arith, c.if-out-len.false, c.scalar_len.ensures.0))
 
-pub put_payload-end-requires : goal.put_payload-end-requires
-put_payload-end-requires c =
-    (fine (goal.at.put_payload-end-requires c).Else-bad_payload, omega (arith, c.if-out-len.false, c.scalar_len.ensures.0, c.payload_len.ensures.0, c.put_scalar-next.ensures.place, c.put_scalar-next.auto.out))
+pub put_payload-requires : goal.put_payload-requires
+put_payload-requires c =
+    (fine (goal.at.put_payload-requires c).Else-bad_payload, omega (arith, c.if-out-len.false, c.scalar_len.ensures.0, c.payload_len.ensures.0, c.put_scalar-next.ensures.place, c.put_scalar-next.auto.out))
 
 pub returns : goal.returns
 unfolding envelope_written
@@ -54,4 +54,4 @@ returns c =
     let fs = payload_fields c.args.payload c.args.body.now in
     let n = counted (extended c.args.command) c.args.payload c.args.body.now (rw (value (goal.at.returns c).After-sign_extended-value) at c.scalar_len.ensures.0) c.payload_len.ensures.0 in
     wrote _ (envelope_fields (extended c.args.command) c.args.payload c.args.body.now) c.args.out.now (fine (goal.at.returns c).Else-bad_payload) (omega (arith, n, c.if-out-len.false))
-    (put-field (scalar command_field (extended c.args.command)) fs (rw (value (goal.at.returns c).After-sign_extended-value) at c.put_scalar-next.ensures) c.put_payload-end.ensures)
+    (put-field (scalar command_field (extended c.args.command)) fs (rw (value (goal.at.returns c).After-sign_extended-value) at c.put_scalar-next.ensures) c.put_payload.ensures)

@@ -4,12 +4,12 @@ use Rattle.msg_control.proofs.response.put_response_payload.Goals as goal
 
 pub put_part-requires : goal.put_part-requires
 put_part-requires c =
-    let q = rw c.in-Member.is at c.requires in
-    (member-fits _ q.0, rw (nested-last c.in-Member.field c.args.body.now) q.1)
+    let q = rw c.in-Some.is at c.requires in
+    (member-fits _ q.0, rw (nested-last c.in-Some.field c.args.body.now) q.1)
 
 pub returns-in-None : goal.returns-in-None
 returns-in-None c = rw c.in-None.is (put-end c.args.out.now c.args.at)
 
-pub returns-in-Member : goal.returns-in-Member
-returns-in-Member c =
-    rw (c.in-Member.is, ← nested-last c.in-Member.field c.args.body.now) c.put_part.ensures
+pub returns-in-Some : goal.returns-in-Some
+returns-in-Some c =
+    rw (c.in-Some.is, ← nested-last c.in-Some.field c.args.body.now) c.put_part.ensures

@@ -29,4 +29,4 @@ pub returns : goal.returns
 unfolding response_written
 returns c =
     wrote _ (response_fields (extended c.args.error_code) c.args.payload c.args.body.now) c.args.out.now (fine (goal.at.returns c).Else-bad_response_payload) (omega (arith, rw (value (goal.at.returns c).After-sign_extended-code) at c.response_len-len.ensures.0, c.if-out-len.false))
-    (rw (value (goal.at.returns c).After-sign_extended-code) at c.put_response-end.ensures)
+    (rw (value (goal.at.returns c).After-sign_extended-code) at c.put_response.ensures)

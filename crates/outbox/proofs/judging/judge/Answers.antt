@@ -2,41 +2,42 @@
 use Prim.Native.Nat.{◌≤◌}
 use mathlib.Core.Path.{sym, ◌∙◌}
 use native.Mathlib.Omega.{arith}
-use Rattle.outbox.proofs.Versions.{known_small}
+use Rattle.outbox.specs.Format.{format_for}
+use Rattle.outbox.proofs.Versions.{small}
 use Rattle.outbox.proofs.Record.{range-passed, field-cut-read, wrong-read, cut-read, strange-read, whole-read}
 use Rattle.outbox.proofs.judging.judge.Goals.{Else-either}
 use Rattle.outbox.proofs.judging.judge.Goals as goal
 
 pub returns-then-rest-width : goal.returns-then-rest-width
-returns-then-rest-width c place = sym (field-cut-read c.args.fmt c.args.rest.now place c.if-rest-width.true)
+returns-then-rest-width c place = sym (field-cut-read (format_for c.args.version) c.args.rest.now place (rw c.width-width.ensures at c.if-rest-width.true))
 
-pub overflow_add-fmt : goal.overflow_add-fmt
-overflow_add-fmt c = omega (arith, (known_small c.args.fmt c.requires).2)
+pub overflow_add-limit : goal.overflow_add-limit
+overflow_add-limit c = omega (arith, (small c.args.version).2)
 
 pub returns-then-either : goal.returns-then-either
 returns-then-either c place =
     sym
     (wrong-read
-    c.args.fmt
+    (format_for c.args.version)
     c.args.rest.now
     c.length_in-n.result
     (sym c.length_in-n.ensures)
-    c.if-rest-width.false
+    (rw c.width-width.ensures at c.if-rest-width.false)
     place
-    (sym c.either.ensures ∙ c.if-either.true))
+    (rw c.limit.ensures at (sym c.either.ensures) ∙ c.if-either.true))
 
 pub returns-then-rest-width-2 : goal.returns-then-rest-width-2
 returns-then-rest-width-2 c place =
     sym
     (cut-read
-    c.args.fmt
+    (format_for c.args.version)
     c.args.rest.now
     c.length_in-n.result
     (sym c.length_in-n.ensures)
-    c.if-rest-width.false
-    (sym c.either.ensures ∙ c.if-either.false)
+    (rw c.width-width.ensures at c.if-rest-width.false)
+    (rw c.limit.ensures at (sym c.either.ensures) ∙ c.if-either.false)
     place
-    c.if-rest-width-2.true)
+    (rw c.width-width.ensures at c.if-rest-width-2.true))
 
 -- past its test the length counts a stream byte
 positive : (c : Else-either) → 1 ≤ c.length_in-n.result
@@ -50,28 +51,29 @@ overflow_sub-size c = positive (goal.at.overflow_sub-size c).Else-either
 
 pub returns-then-is_stream : goal.returns-then-is_stream
 returns-then-is_stream c place =
-    sym
+    rw c.width-width.ensures
+    (sym
     (whole-read
-    c.args.fmt
+    (format_for c.args.version)
     c.args.rest.now
     c.length_in-n.result
     (sym c.length_in-n.ensures)
-    c.if-rest-width.false
-    (sym c.either.ensures ∙ c.if-either.false)
-    c.if-rest-width-2.false
+    (rw c.width-width.ensures at c.if-rest-width.false)
+    (rw c.limit.ensures at (sym c.either.ensures) ∙ c.if-either.false)
+    (rw c.width-width.ensures at c.if-rest-width-2.false)
     place
-    (sym c.is_stream.ensures ∙ c.if-is_stream.true))
+    (rw c.width-width.ensures at (sym c.is_stream.ensures) ∙ c.if-is_stream.true)))
 
 pub returns-else-is_stream : goal.returns-else-is_stream
 returns-else-is_stream c place =
     sym
     (strange-read
-    c.args.fmt
+    (format_for c.args.version)
     c.args.rest.now
     c.length_in-n.result
     (sym c.length_in-n.ensures)
-    c.if-rest-width.false
-    (sym c.either.ensures ∙ c.if-either.false)
-    c.if-rest-width-2.false
+    (rw c.width-width.ensures at c.if-rest-width.false)
+    (rw c.limit.ensures at (sym c.either.ensures) ∙ c.if-either.false)
+    (rw c.width-width.ensures at c.if-rest-width-2.false)
     place
-    (sym c.is_stream.ensures ∙ c.if-is_stream.false))
+    (rw c.width-width.ensures at (sym c.is_stream.ensures) ∙ c.if-is_stream.false))

@@ -4,22 +4,22 @@ use mathlib.Core.Path.{◌≡◌, sym, ap, ◌∙◌}
 use native.Mathlib.Omega.{arith}
 use lib.ListN.{length, drop}
 use borrow.Author.Tests.{eq-eqb}
-use Rattle.outbox.specs.Format.{head_size}
+use Rattle.outbox.specs.Format.{format_for, head_size}
 use Rattle.outbox.specs.Reader.{record_at, read_of, told_judged}
 use Rattle.wire.proofs.Parts.{rest-lent}
 use Rattle.outbox.proofs.Place.{place-within, read-inside, found_within}
-use Rattle.outbox.proofs.reader.read_by.Goals.{After-judge, After-struct_known-1, Else-place-file}
+use Rattle.outbox.proofs.reader.read_by.Goals.{After-judge, In-Ok, Else-place-file}
 use Rattle.outbox.proofs.reader.read_by.Goals as goal
 
-pub returns-then-other_version : goal.returns-then-other_version
+pub returns-then-is_other : goal.returns-then-is_other
 unfolding read_of
-returns-then-other_version c = rw (sym c.other_version.ensures ∙ c.if-other_version.true)
+returns-then-is_other c = rw (c.version.ensures, sym c.is_other.ensures ∙ c.if-is_other.true)
 
 pub returns-then-bad_place : goal.returns-then-bad_place
 unfolding read_of
 returns-then-bad_place c =
     rw (
-      sym c.other_version.ensures ∙ c.if-other_version.false,
+      sym c.is_other.ensures ∙ c.if-is_other.false,
       sym c.bad_place.ensures ∙ c.if-bad_place.true,
     )
 
@@ -27,7 +27,7 @@ pub returns-then-place-file : goal.returns-then-place-file
 unfolding read_of
 returns-then-place-file c =
     rw (
-      sym c.other_version.ensures ∙ c.if-other_version.false,
+      sym c.is_other.ensures ∙ c.if-is_other.false,
       sym c.bad_place.ensures ∙ c.if-bad_place.false,
       eq-eqb _ _ c.if-place-file.true,
     )
@@ -38,48 +38,48 @@ slice_bounds-judge-count c = (place-within c.args.file.now _ (sym c.bad_place.en
 pub slice_bounds-judge-start : goal.slice_bounds-judge-start
 slice_bounds-judge-start c = slice_bounds-judge-count c
 
--- what was judged is what is read
-judged : (c : After-judge)
-    →
-    told_judged c.args.fmt c.args.place c.judge.result ≡ record_at c.args.fmt c.args.place (drop c.args.place c.args.file.now)
-judged c =
-    c.judge.ensures c.args.place ∙ ap (record_at c.args.fmt c.args.place) (rest-lent c.args.file.now c.args.place)
-
 read-there : (c : Else-place-file)
     →
-    read_of c.args.fmt c.args.file.now c.args.place ≡ record_at c.args.fmt c.args.place (drop c.args.place c.args.file.now)
+    read_of (format_for c.args.version) c.args.file.now c.args.place ≡ record_at (format_for c.args.version) c.args.place (drop c.args.place c.args.file.now)
 read-there c =
     read-inside
-    c.args.fmt
+    (format_for c.args.version)
     c.args.file.now
     c.args.place
-    (sym c.other_version.ensures ∙ c.if-other_version.false)
+    (sym c.is_other.ensures ∙ c.if-is_other.false)
     (sym c.bad_place.ensures ∙ c.if-bad_place.false)
     c.if-place-file.false
 
--- a record ends within the file
-within : (c : After-struct_known-1)
+-- what was judged is what stands there
+judged : (c : After-judge)
     →
-    c.args.place + head_size c.args.fmt + c.in-Record.size ≤ length c.args.file.now
-within c =
-    let told = told_judged c.args.fmt c.args.place in
-    (found_within c.args.fmt c.args.file.now c.args.place _ (slice_bounds-judge-count (goal.at.overflow_add-head c).Else-place-file) (sym (judged (goal.at.overflow_add-head c).After-judge) ∙ ap told c.in-Record.is)).1
+    told_judged (format_for c.args.version) c.args.place c.judge.result ≡ record_at (format_for c.args.version) c.args.place (drop c.args.place c.args.file.now)
+judged c =
+    c.judge.ensures c.args.place ∙ ap (record_at (format_for c.args.version) c.args.place) (rest-lent c.args.file.now c.args.place)
 
-pub overflow_add-head : goal.overflow_add-head
-overflow_add-head c = omega (arith, within c)
+-- a record ends within the file
+within : (c : In-Ok)
+    →
+    c.args.place + head_size (format_for c.args.version) + c.in-Ok.judged.size ≤ length c.args.file.now
+within c =
+    let place = c.args.place in
+    let there = c.judge.ensures place ∙ ap (record_at (format_for c.args.version) place) (rest-lent c.args.file.now place) in
+    let right = (place-within c.args.file.now _ (sym c.bad_place.ensures ∙ c.if-bad_place.false)).1 in
+    (found_within (format_for c.args.version) c.args.file.now place _ right (sym there ∙ ap (told_judged (format_for c.args.version) place) c.in-Ok.is)).1
 
 pub overflow_add-start : goal.overflow_add-start
-overflow_add-start c = omega (arith, within c)
+overflow_add-start c = omega (arith, c.head_size.ensures, within (goal.at.overflow_add-start c).In-Ok)
 
 pub overflow_add-next : goal.overflow_add-next
-overflow_add-next c = omega (arith, within c)
+overflow_add-next c = omega (arith, c.head_size.ensures, within (goal.at.overflow_add-next c).In-Ok)
 
-pub returns-in-Record : goal.returns-in-Record
-returns-in-Record c =
-    let told = told_judged c.args.fmt c.args.place in
-    sym (ap told c.in-Record.is) ∙ judged (goal.at.returns-in-Record c).After-judge ∙ sym (read-there (goal.at.returns-in-Record c).Else-place-file)
+pub returns-in-Ok : goal.returns-in-Ok
+returns-in-Ok c =
+    let told = told_judged (format_for c.args.version) c.args.place in
+    rw c.head_size.ensures
+    (sym (ap told c.in-Ok.is) ∙ judged (goal.at.returns-in-Ok c).After-judge ∙ sym (read-there (goal.at.returns-in-Ok c).Else-place-file))
 
-pub returns-in-Broken : goal.returns-in-Broken
-returns-in-Broken c =
-    let told = told_judged c.args.fmt c.args.place in
-    sym (ap told c.in-Broken.is) ∙ judged (goal.at.returns-in-Broken c).After-judge ∙ sym (read-there (goal.at.returns-in-Broken c).Else-place-file)
+pub returns-in-Err : goal.returns-in-Err
+returns-in-Err c =
+    let told = told_judged (format_for c.args.version) c.args.place in
+    sym (ap told c.in-Err.is) ∙ judged (goal.at.returns-in-Err c).After-judge ∙ sym (read-there (goal.at.returns-in-Err c).Else-place-file)

@@ -1,4 +1,5 @@
 use mathlib.Core.Path.{ap, sym, ◌∙◌}
+use Rattle.std.proofs.lemmas.Result.{err_from_is_err_and}
 use Rattle.proto_field.specs.Varint.{told_varint}
 use Rattle.proto_field.specs.Tag.{tag_at}
 use Rattle.proto_field.proofs.Varints.{varint-short}
@@ -10,10 +11,12 @@ returns-then-value-lt-BASE c =
     let short = c.wide64-value.ensures.0 in
     rw (varint-short _ c.args.at c.if-at-message.true (rw short at c.if-value-lt-BASE.true), ← short) c.tag_of.ensures
 
-pub returns-in-Refused : goal.returns-in-Refused
+pub returns-in_err-long : goal.returns-in_err-long
 unfolding tag_at
-returns-in-Refused c = rw (sym c.read_long.ensures ∙ ap told_varint c.in-Refused.is)
+returns-in_err-long c =
+    let p = err_from_is_err_and c.from_residual.result c.from_residual.ensures.1 in
+    rw (p.1, p.2, sym c.read_long.ensures ∙ ap told_varint c.in_err-long.was)
 
-pub returns-in-Value : goal.returns-in-Value
+pub returns : goal.returns
 unfolding tag_at
-returns-in-Value c = rw (sym c.read_long.ensures ∙ ap told_varint c.in-Value.is) c.tag_of-in-Value.ensures
+returns c = rw (sym c.read_long.ensures ∙ ap told_varint c.in_ok-long.was) c.tag_of-2.ensures

@@ -6,6 +6,7 @@ use mathlib.Core.List.{List}
 use native.Mathlib.Omega.{arith}
 use lib.Dec.{eqb}
 use borrow.Author.Tests.{ne_eqb}
+use Rattle.std.proofs.lemmas.Result.{err_from_is_err_and}
 use Rattle.wire.specs.Told.{given, and_then}
 use Rattle.proto_field.specs.declared.value.Value.TheVariants.{Number}
 use Rattle.proto_field.specs.Varint.{varint_at, told_varint}
@@ -47,14 +48,23 @@ returns-then-wire-eq-FIXED64 c = let both = value-told c.args.message.now c.args
 
 pub returns-then-wire-eq-VARINT : goal.returns-then-wire-eq-VARINT
 unfolding value_at
-returns-then-wire-eq-VARINT c = record { result_value = rw (c.if-wire-eq-VARINT.true, sym c.read_varint.ensures ∙ ap told_varint c.in-Value.is); tells_within = tt }
+returns-then-wire-eq-VARINT c = record { result_value = rw (c.if-wire-eq-VARINT.true, sym c.read_varint.ensures ∙ ap told_varint c.in_ok-varint.was); tells_within = tt }
 
 pub part_of-requires : goal.part_of-requires
-part_of-requires c = (varint-next _ _ _ _ (sym c.read_varint.ensures ∙ ap told_varint c.in-Value.is)).1
+part_of-requires c = (varint-next _ _ _ _ (sym c.read_varint.ensures ∙ ap told_varint c.in_ok-varint.was)).1
 
-pub returns-in-Refused : goal.returns-in-Refused
-returns-in-Refused c = record { result_value = rw (by-varint c.args.message.now c.args.at c.args.wire c.if-wire-gt-LENGTH.false c.if-wire-eq-FIXED64.false, sym c.read_varint.ensures ∙ ap told_varint c.in-Refused.is); tells_within = tt }
+pub returns-in_err-varint : goal.returns-in_err-varint
+returns-in_err-varint c =
+    let p = err_from_is_err_and c.from_residual.result c.from_residual.ensures.1 in record {
+      result_value = rw (
+        p.1,
+        p.2,
+        by-varint c.args.message.now c.args.at c.args.wire c.if-wire-gt-LENGTH.false c.if-wire-eq-FIXED64.false,
+        sym c.read_varint.ensures ∙ ap told_varint c.in_err-varint.was,
+      );
+      tells_within = rw p.1 tt;
+    }
 
-pub returns-else-wire-eq-VARINT : goal.returns-else-wire-eq-VARINT
-returns-else-wire-eq-VARINT c = let both = value-told c.args.message.now c.args.at c.args.wire (told_value c.part_of.result)
-    (rw (by-varint c.args.message.now c.args.at c.args.wire c.if-wire-gt-LENGTH.false c.if-wire-eq-FIXED64.false, sym c.read_varint.ensures ∙ ap told_varint c.in-Value.is, ne_eqb _ _ c.if-wire-eq-VARINT.false) c.part_of.ensures) in record { result_value = both.0; tells_within = both.1 }
+pub returns : goal.returns
+returns c = let both = value-told c.args.message.now c.args.at c.args.wire (told_value c.part_of.result)
+    (rw (by-varint c.args.message.now c.args.at c.args.wire c.if-wire-gt-LENGTH.false c.if-wire-eq-FIXED64.false, sym c.read_varint.ensures ∙ ap told_varint c.in_ok-varint.was, ne_eqb _ _ c.if-wire-eq-VARINT.false) c.part_of.ensures) in record { result_value = both.0; tells_within = both.1 }

@@ -2,7 +2,7 @@
 use Prim.Native.Nat.{ℕ, ◌-◌, ◌*◌, ◌^◌, ◌<◌}
 use mathlib.Core.Path.{◌≡◌}
 use mathlib.Core.List.{List}
-use lib.ListN.{length, drop}
+use lib.ListN.{drop}
 use Rattle.proto_field.specs.Varint.{varint_from, varint_at}
 use Rattle.proto_field.proofs.Varints.{top, grown}
 use Rattle.proto_field.proofs.varint.read_long.Given as goal
@@ -14,6 +14,3 @@ pub record Here (s : List ℕ) (at value weight left i : ℕ) : Type 0 where
 
 abbrev pub invariant-loop-i : goal.invariant-loop-i
 invariant-loop-i l = Here l.message l.at l.value l.weight l.left l.i
-
-abbrev pub decreases-loop-i : goal.decreases-loop-i
-decreases-loop-i l = length l.message - l.i

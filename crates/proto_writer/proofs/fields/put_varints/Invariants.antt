@@ -1,5 +1,5 @@
 -- What is written and what is left join to the whole list's bytes, at every turn.
-use Prim.Native.Nat.{ℕ, ◌+◌, ◌-◌, ◌≤◌}
+use Prim.Native.Nat.{ℕ, ◌+◌, ◌≤◌}
 use mathlib.Core.Path.{◌≡◌}
 use mathlib.Core.List.{List}
 use lib.IntN.{ℤ}
@@ -15,8 +15,5 @@ pub record Left (out₀ : List ℕ) (at : ℕ) (list : List ℤ) (out : List ℕ
   pub place : at + length (varints_from list 0) ≡ next + length (varints_from list i)
   pub target : sets out₀ at (varints_from list 0) ≡ sets out next (varints_from list i)
 
-abbrev pub invariant-loop-i : goal.invariant-loop-i
-invariant-loop-i l = Left l.initial.out l.at l.list l.out l.next l.i
-
-abbrev pub decreases-loop-i : goal.decreases-loop-i
-decreases-loop-i l = length l.list - l.i
+abbrev pub invariant-loop-value : goal.invariant-loop-value
+invariant-loop-value l = Left l.initial.out l.at l.list l.out l.next l.value-index

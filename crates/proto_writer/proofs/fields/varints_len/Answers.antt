@@ -1,4 +1,4 @@
-use Prim.Native.Nat.{◌+◌, ◌-◌}
+use Prim.Native.Nat.{◌+◌}
 use mathlib.Core.Path.{◌≡◌, sym, ap, ◌∙◌}
 use native.Mathlib.Omega.{arith}
 use borrow.Author.Rules.{rules}
@@ -11,21 +11,21 @@ use Rattle.proto_writer.proofs.Runs.{varints_from, varints-next, varints-end, jo
 use Rattle.proto_writer.proofs.fields.varints_len.Goals.{After-varint_len-n}
 use Rattle.proto_writer.proofs.fields.varints_len.Goals as goal
 
-pub loop-i-init : goal.loop-i-init
-loop-i-init c = (search rules, search rules, search rules)
+pub loop-value-init : goal.loop-value-init
+loop-value-init c = (search rules, search rules, search rules)
 
 -- what was counted: the varint of the entry
-counted : (c : After-varint_len-n) → c.varint_len-n.result ≡ length (varint_bytes (extended (get_or c.args.list.now c.loop-i.i (pos 0))))
+counted : (c : After-varint_len-n) → c.varint_len-n.result ≡ length (varint_bytes (extended (get_or c.args.list.now c.loop-value.value-index (pos 0))))
 counted c =
-    c.varint_len-n.ensures.0 ∙ ap (λ v. length (varint_bytes v)) (c.sign_extended.ensures ∙ entry_read (get_or c.args.list.now c.loop-i.i (pos 0)) c.sign_extended-arg-1.given)
+    c.varint_len-n.ensures.0 ∙ ap (λ v. length (varint_bytes v)) (c.sign_extended.ensures ∙ entry_read (get_or c.args.list.now c.loop-value.value-index (pos 0)) c.sign_extended-arg-1.given)
 
-pub loop-i-preserved : goal.loop-i-preserved
-loop-i-preserved c =
+pub loop-value-preserved : goal.loop-value-preserved
+loop-value-preserved c =
     let s = c.args.list.now in
-    let e = varints-next s c.loop-i.i (search rules) in
-    (omega arith, omega arith, omega (arith, c.loop-i.invariant.2, joined_length (varint_bytes (extended (get_or s c.loop-i.i (pos 0)))) (varints_from s (c.loop-i.i + 1)) (sym e), counted c))
+    let e = varints-next s c.loop-value.value-index (search rules) in
+    (omega arith, omega arith, omega (arith, c.loop-value.invariant.2, joined_length (varint_bytes (extended (get_or s c.loop-value.value-index (pos 0)))) (varints_from s (c.loop-value.value-index + 1)) (sym e), counted c))
 
 pub returns : goal.returns
 returns c =
-    let e = ap length (varints-end c.args.list.now c.loop-i.i c.loop-i-test.false) in
-    (omega (arith, c.loop-i.invariant.2, e), omega arith)
+    let e = ap length (varints-end c.args.list.now c.loop-value.value-index c.loop-value-test.false) in
+    (omega (arith, c.loop-value.invariant.2, e), omega arith)

@@ -1,4 +1,3 @@
-use Prim.Native.Nat.{◌-◌}
 use mathlib.Core.Path.{sym, ◌∙◌}
 use native.Mathlib.Omega.{arith}
 use lib.ListN.{length-drop}
@@ -8,19 +7,21 @@ use Rattle.utf8.proofs.check.place_from.Goals as goal
 pub loop-at-init : goal.loop-at-init
 loop-at-init c = c.requires
 
-pub returns-then-n-eq0 : goal.returns-then-n-eq0
-returns-then-n-eq0 c =
-    sym (c.loop-at.invariant.1 ∙ place-bad _ c.loop-at.at (c.passed-n.ensures.none c.if-n-eq0.true))
+pub returns-in-None : goal.returns-in-None
+returns-in-None c =
+    let h = c.in-None.ensures in
+    sym (c.loop-at.invariant.1 ∙ place-bad _ c.loop-at.at h)
 
 pub overflow_add-at : goal.overflow_add-at
 overflow_add-at c =
-    omega (arith, c.passed-n.ensures.inside, length-drop c.loop-at.at c.args.string.now)
+    let h = c.in-Some.ensures in
+    omega (arith, h.0.inside, length-drop c.loop-at.at c.args.string.now)
 
 pub loop-at-preserved : goal.loop-at-preserved
 loop-at-preserved c =
     let s = c.args.string.now in
-    let p = c.passed-n.ensures in
-    (omega (arith, p.inside, length-drop c.loop-at.at s), c.loop-at.invariant.1 ∙ place-passed s c.loop-at.at c.passed-n.result p)
+    let p = c.in-Some.ensures in
+    (omega (arith, p.0.inside, length-drop c.loop-at.at s), c.loop-at.invariant.1 ∙ place-passed s c.loop-at.at c.in-Some.n p.0)
 
 pub returns : goal.returns
 returns c =

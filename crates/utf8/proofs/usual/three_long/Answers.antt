@@ -1,33 +1,25 @@
 use mathlib.Core.Path.{refl, sym, ◌∙◌}
-use mathlib.Core.Bool.{true≢false}
 use native.Mathlib.Omega.{arith}
 use Rattle.utf8.specs.Table.{rows as table}
-use Rattle.utf8.proofs.Sequences.{three-decide}
+use Rattle.utf8.proofs.Sequences.{row-read}
 use Rattle.utf8.proofs.usual.three_long.Goals as goal
 
-pub returns-then-fits_three : goal.returns-then-fits_three
+pub returns-then-begins_with : goal.returns-then-begins_with
 unfolding table
-returns-then-fits_three c =
-    let r = c.all_rows-rows.ensures in
-    λ n. three-decide 3 (omega arith) c.args.bytes.now c.requires _ _ _ refl (rw r at (sym c.fits_three.ensures ∙ c.if-fits_three.true))
+returns-then-begins_with c =
+    row-read c.all_rows-rows.result 3 3 c.args.bytes.now c.all_rows-rows.ensures (omega arith) refl (sym c.begins_with.ensures ∙ c.if-begins_with.true)
 
-pub returns-then-fits_three-2 : goal.returns-then-fits_three-2
+pub returns-then-begins_with-2 : goal.returns-then-begins_with-2
 unfolding table
-returns-then-fits_three-2 c =
-    let r = c.all_rows-rows.ensures in
-    λ n. three-decide 5 (omega arith) c.args.bytes.now c.requires _ _ _ refl (rw r at (sym c.fits_three-2.ensures ∙ c.if-fits_three-2.true))
+returns-then-begins_with-2 c =
+    row-read c.all_rows-rows.result 5 3 c.args.bytes.now c.all_rows-rows.ensures (omega arith) refl (sym c.begins_with-2.ensures ∙ c.if-begins_with-2.true)
 
-pub returns-then-fits_three-3 : goal.returns-then-fits_three-3
+pub returns-then-begins_with-3 : goal.returns-then-begins_with-3
 unfolding table
-returns-then-fits_three-3 c =
-    let r = c.all_rows-rows.ensures in
-    λ n. three-decide 2 (omega arith) c.args.bytes.now c.requires _ _ _ refl (rw r at (sym c.fits_three-3.ensures ∙ c.if-fits_three-3.true))
+returns-then-begins_with-3 c =
+    row-read c.all_rows-rows.result 2 3 c.args.bytes.now c.all_rows-rows.ensures (omega arith) refl (sym c.begins_with-3.ensures ∙ c.if-begins_with-3.true)
 
-pub returns-then-fits_three-4 : goal.returns-then-fits_three-4
+pub returns-then-begins_with-4 : goal.returns-then-begins_with-4
 unfolding table
-returns-then-fits_three-4 c =
-    let r = c.all_rows-rows.ensures in
-    λ n. three-decide 4 (omega arith) c.args.bytes.now c.requires _ _ _ refl (rw r at (sym c.fits_three-4.ensures ∙ c.if-fits_three-4.true))
-
-pub returns-else-fits_three-4 : goal.returns-else-fits_three-4
-returns-else-fits_three-4 c = λ n. absurd (true≢false n)
+returns-then-begins_with-4 c =
+    row-read c.all_rows-rows.result 4 3 c.args.bytes.now c.all_rows-rows.ensures (omega arith) refl (sym c.begins_with-4.ensures ∙ c.if-begins_with-4.true)

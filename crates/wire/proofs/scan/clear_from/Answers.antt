@@ -1,6 +1,5 @@
-use Prim.Native.Nat.{◌-◌}
 use mathlib.Core.Path.{sym, ◌∙◌}
-use Rattle.wire.proofs.Runs.{clear-byte}
+use Rattle.wire.proofs.Runs.{clear-all, clear-byte}
 use borrow.Author.Rules.{rules}
 use Rattle.wire.proofs.scan.clear_from.Goals as goal
 
@@ -14,4 +13,4 @@ pub loop-i-preserved : goal.loop-i-preserved
 loop-i-preserved c = clear-byte c.loop-i.invariant (search rules) (sym c.in_range.ensures ∙ c.if-in_range.false)
 
 pub returns : goal.returns
-returns c = c.loop-i.invariant
+returns c = clear-all c.loop-i.invariant c.loop-i-test.false

@@ -7,10 +7,12 @@ pub returns-then-held-lt2 : goal.returns-then-held-lt2
 unfolding end_of
 returns-then-held-lt2 c = simp (lt-ltb _ _ c.if-held-lt2.true)
 
-pub returns-then-is_checked : goal.returns-then-is_checked
+pub returns-then-not-is_checked : goal.returns-then-not-is_checked
 unfolding end_of
-returns-then-is_checked c = simp (le-ltb _ _ c.if-held-lt2.false, sym c.is_checked.ensures ∙ c.if-is_checked.true)
+returns-then-not-is_checked c =
+    simp (le-ltb _ _ c.if-held-lt2.false, sym c.is_checked.ensures ∙ c.if-not-is_checked.true)
 
-pub returns-else-is_checked : goal.returns-else-is_checked
+pub returns : goal.returns
 unfolding end_of
-returns-else-is_checked c = simp (le-ltb _ _ c.if-held-lt2.false, sym c.is_checked.ensures ∙ c.if-is_checked.false)
+returns c =
+    simp (le-ltb _ _ c.if-held-lt2.false, sym c.is_checked.ensures ∙ c.if-not-is_checked.false)

@@ -1,4 +1,3 @@
-use Prim.Native.Nat.{◌-◌}
 use native.Mathlib.Omega.{arith}
 use Rattle.classic_parts.proofs.FastPath.{onward-here, onward_then}
 use Rattle.classic_parts.proofs.state.PartProgress.take_body.Goals as goal

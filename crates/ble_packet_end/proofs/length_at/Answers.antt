@@ -1,8 +1,0 @@
-use native.Mathlib.Omega.{arith}
-use Rattle.ble_packet_end.proofs.length_at.Goals as goal
-
-pub returns-then-extended : goal.returns-then-extended
-returns-then-extended c = (simp c.if-extended.true (cc), omega arith)
-
-pub returns : goal.returns
-returns c = (simp c.if-extended.false (cc), omega arith)

@@ -1,7 +1,0 @@
-use Rattle.ble_sender.proofs.writer.answer_for.Goals as goal
-
-pub returns-then-last : goal.returns-then-last
-returns-then-last c = simp c.if-last.true
-
-pub returns-else-last : goal.returns-else-last
-returns-else-last c = simp c.if-last.false

@@ -1,5 +1,0 @@
-use lib.ListN.{get_or-eq_default}
-use Rattle.c_rows.proofs.row.number_at.Goals as goal
-
-pub returns-else-at-row : goal.returns-else-at-row
-returns-else-at-row c = simp (get_or-eq_default c.args.row.now 0 c.if-at-row.false)

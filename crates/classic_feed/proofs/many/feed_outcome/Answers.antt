@@ -1,7 +1,0 @@
-use Rattle.classic_feed.proofs.many.feed_outcome.Goals as goal
-
-pub returns-in-Frame : goal.returns-in-Frame
-returns-in-Frame c = rw c.in-Frame.is
-
-pub returns-in-Refused : goal.returns-in-Refused
-returns-in-Refused c = rw c.in-Refused.is

@@ -1,7 +1,0 @@
-use Rattle.std.proofs.Common.{ℕ, sym}
-use Rattle.std.proofs.lemmas.List.{length-replicate}
-use Rattle.radio_report.proofs.capture_room.Goals as goal
-
--- too long a list to count
-pub returns : goal.returns
-returns c = sym (length-replicate {A = ℕ} 1048576 0)
