@@ -10,7 +10,7 @@ ghost use Rattle.capture_report.specs.Turns.{costs_by, report_with, open_costs, 
 ghost use Rattle.capture_tally.specs.Count.{stream_in};
 ghost use Rattle.capture_tally.specs.Tally.{told_sum};
 
-use crate::sums::add_own;
+use crate::sums::add_to;
 use ble_packet::header;
 use ble_slot::answer::{Accepted, Refusal};
 use ble_slot::{Slot, lane_of};
@@ -94,7 +94,7 @@ pub fn count_packet(
 ) -> Option<CostReport>
     ensures { told_sum result ≡ on_top (told_sum sum) (report_with (heard packet.now (told answer))) }
 {
-    add_own(sum?, stream_field(packet), costs_with(packet, answer))
+    add_to(sum?, stream_field(packet), costs_with(packet, answer))
 }
 
 // How many of a stream's slots are open.
